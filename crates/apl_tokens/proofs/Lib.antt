@@ -1,0 +1,6 @@
+pub mod Decimals
+pub mod Turns
+pub mod Walk
+pub mod Sound
+pub mod Complete
+pub mod Names

@@ -1,0 +1,6 @@
+pub mod Stored
+pub mod Lexemes
+pub mod Characters
+pub mod Scans
+pub mod Scanner
+pub mod Scanning

@@ -1,0 +1,14 @@
+//! Arrays of numbers or characters: a type, a shape and an item at each index list.
+#![tactic(auto)]
+
+mod array;
+mod fault;
+mod item;
+mod rule;
+mod shape;
+
+pub use array::Array;
+pub use fault::{ApplyFault, Fault};
+pub use item::{Item, ItemType, Kind};
+pub use rule::{ItemRule, collect};
+pub use shape::{Shape, advance, append_axes, index_of_position, position, shape_of, size};
