@@ -1,0 +1,42 @@
+//! Tokens.
+
+use crate::name::Name;
+use std::fmt;
+use std::fmt::{Display, Formatter, Write};
+
+/// The bytes of the line that a token takes: from `start`, up to and without `end`.
+#[derive(Clone, Copy, Debug, PartialEq, Eq)]
+pub struct Span {
+    /// Where it begins.
+    pub start: usize,
+    /// Where what follows it begins.
+    pub end: usize,
+}
+
+impl Display for Span {
+    fn fmt<W: Write>(&self, f: &mut Formatter<W>) -> fmt::Result {
+        write!(f, "{} to {}", self.start, self.end)
+    }
+}
+
+/// A token, a lexical unit of ISO 8485.
+#[derive(Debug, Drop)]
+pub enum Token {
+    /// A number literal: digits, with a high minus before them where it is negative.
+    Num(i64),
+    /// A text literal. No line has one yet.
+    Text(Vec<char>),
+    /// A name: an identifier of ISO 8485.
+    Word(Name),
+    /// One of the signs `+ - × ← ) [ ] ;`.
+    Mark(char),
+}
+
+/// A token with its place.
+#[derive(Debug, Drop)]
+pub struct Spanned {
+    /// What it says.
+    pub token: Token,
+    /// Where it stands.
+    pub span: Span,
+}

@@ -1,0 +1,50 @@
+-- An edit of one cell.
+use Rattle.std.specs.Prelude.{◌≡◌, ℕ, ℤ, pos, negsuc, ◌==◌, Bool, true, false, List, [], ◌∷◌, map, length, set, Option, Some, None, Result, Ok, Err, if◌then◌else◌}
+use Rattle.apl_expr.specs.Trees.{Constant, Numbers}
+use Rattle.arrays_core.specs.Arrays.{ArrayValue}
+use Rattle.arrays_core.specs.Items.{type_of}
+use Rattle.arrays_core.specs.Shapes.{is_index_of, places_before}
+use Rattle.arrays_core.specs.declared.item.Item.{Item}
+use Rattle.arrays_core.specs.declared.item.Item.TheVariants.{Num}
+use Rattle.arrays_core.specs.declared.item.ItemType.{ItemType}
+use Rattle.arrays_core.specs.declared.item.ItemType.TheVariants.{Nums, Chars}
+use Rattle.sheet_recalc.specs.Names.{Binding, Data, Formula}
+use Rattle.sheet_recalc.specs.declared.refusal.Refusal.{Refusal}
+use Rattle.sheet_recalc.specs.declared.refusal.Refusal.TheVariants.{NotFound, NotData, Rank, Index, Length, Domain}
+
+-- a number as an index, where 0 is one that no axis has
+abbrev pub index_of_number : ℤ → ℕ
+index_of_number (pos n) = n
+index_of_number (negsuc n) = 0
+
+abbrev pub index_of_numbers : List ℤ → List ℕ
+index_of_numbers places = map index_of_number places
+
+-- the items of a literal
+abbrev pub items_of : Constant → List Item
+items_of (Numbers ns) = map (λ n. Num n) ns
+
+abbrev pub is_type : ItemType → ItemType → Bool
+is_type Nums Nums = true
+is_type Chars Chars = true
+is_type Nums Chars = false
+is_type Chars Nums = false
+
+-- the array with this item at an index list
+abbrev pub with_item : ArrayValue → List ℕ → Item → ArrayValue
+with_item a index item = record a { items = set a.items (places_before a.shape index) item }
+
+-- a literal of one item of the array's type takes the place of the item there
+abbrev pub item_put : ArrayValue → List ℕ → List Item → Result ArrayValue Refusal
+item_put a index [] = Err Length
+item_put a index (item ∷ []) = if is_type (type_of item) a.item_type then Ok (with_item a index item) else Err Domain
+item_put a index (item ∷ other ∷ items) = Err Length
+
+-- the data with the literal in one cell, or why not: the positions are as many as the axes, then each lies on its axis
+abbrev pub cell_put : Option Binding → List ℤ → Constant → Result ArrayValue Refusal
+cell_put None places literal = Err NotFound
+cell_put (Some (Formula t)) places literal = Err NotData
+cell_put (Some (Data a)) places literal =
+    if length places == length a.shape
+    then (if is_index_of a.shape (index_of_numbers places) then item_put a (index_of_numbers places) (items_of literal) else Err Index)
+    else Err Rank

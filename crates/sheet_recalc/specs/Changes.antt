@@ -1,0 +1,50 @@
+-- What a change to a sheet gives, or why it is refused.
+use Rattle.std.specs.Prelude.{◌≡◌, ℕ, ◌<◌, ◌≤◌, ◌⊎◌, ℤ, List, [], ◌∷◌, Option, Some, None, Ok, Err, IsSome, length}
+use Rattle.dep_order.specs.Reach.{IsAcyclic, IsCycle}
+use Rattle.apl_expr.specs.Trees.{Tree, Constant}
+use Rattle.arrays_core.specs.Arrays.{ArrayValue}
+use Rattle.formula_core.specs.Meaning.{eval}
+use Rattle.sheet_recalc.specs.Names.{Names, Binding, Data, Formula, binding, put, Refers}
+use Rattle.sheet_recalc.specs.Meaning.{val}
+use Rattle.sheet_recalc.specs.Cells.{cell_put}
+use Rattle.sheet_recalc.specs.declared.refusal.Refusal.{Refusal}
+use Rattle.sheet_recalc.specs.declared.refusal.Refusal.TheVariants as why
+
+pub data Change : Type 0 where
+  -- bind a name to a formula
+  Define : List ℕ → Tree → Change
+  -- bind a name to the array that an expression has now
+  Store : List ℕ → Tree → Change
+  -- replace one item of data
+  SetCell : List ℕ → List ℤ → Constant → Change
+
+-- there is room for the name: it is present, or fewer than 1,024 names are
+abbrev pub HasRoom : Names → List ℕ → Type 0
+HasRoom names name = IsSome (binding names name) ⊎ (length names < 1024)
+
+-- the change takes old to new
+abbrev pub Accepts : Names → Change → Names → Type 0
+Accepts old (Define n t) new = (new ≡ put old n (Formula t)) × IsAcyclic (Refers new) × HasRoom old n
+Accepts old (Store n t) new = (a : ArrayValue) × (eval t (val old) ≡ Ok a) × (new ≡ put old n (Data a)) × HasRoom old n
+Accepts old (SetCell n places literal) new = (a : ArrayValue) × (cell_put (binding old n) places literal ≡ Ok a) × (new ≡ put old n (Data a))
+
+-- a cycle of names that begins with this one: each refers to the next, and the last to the first
+abbrev pub IsCycleFrom : (List ℕ → List ℕ → Type 0) → List ℕ → List (List ℕ) → Type 0
+IsCycleFrom Refers name [] = ⊥
+IsCycleFrom Refers name (first ∷ others) = (first ≡ name) × IsCycle Refers (first ∷ others)
+
+-- no room: the name is new, and 1,024 names are present
+abbrev pub IsFullFor : Names → List ℕ → Type 0
+IsFullFor names name = (binding names name ≡ None) × (1024 ≤ length names)
+
+-- the change is refused for this cause, or for want of memory, which may come at any time
+abbrev pub Refuses : Names → Change → Refusal → Type 0
+Refuses old change why.NoMemory = Unit {0}
+Refuses old (SetCell n places literal) cause = cell_put (binding old n) places literal ≡ Err cause
+Refuses old (Define n t) (why.Cycle names) = IsCycleFrom (Refers (put old n (Formula t))) n names.items
+Refuses old (Define n t) why.SheetFull = IsAcyclic (Refers (put old n (Formula t))) × IsFullFor old n
+Refuses old (Store n t) (why.Fault e) = eval t (val old) ≡ Err e
+Refuses old (Store n t) why.SheetFull = (a : ArrayValue) × (eval t (val old) ≡ Ok a) × IsFullFor old n
+-- and for no other cause
+Refuses old (Define n t) cause = ⊥
+Refuses old (Store n t) cause = ⊥

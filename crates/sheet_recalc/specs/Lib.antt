@@ -1,0 +1,9 @@
+pub mod Names
+pub mod Meaning
+pub mod Cells
+pub mod Entries
+pub mod Outline
+pub mod NameOrder
+pub mod Changes
+pub mod Live
+pub mod History

@@ -1,0 +1,35 @@
+-- What each name shows, worked out from scratch.
+use Rattle.std.specs.Prelude.{◌≡◌, ℕ, zero, suc, List, Option, Some, None, Ok, Err, is_some, length, if◌then◌else◌}
+use Rattle.apl_expr.specs.Trees.{Tree}
+use Rattle.arrays_core.specs.declared.fault.Fault.{Fault}
+use Rattle.arrays_core.specs.declared.item.Kind.TheVariants.{Value}
+use Rattle.formula_core.specs.Outcomes.{Outcome, fault}
+use Rattle.formula_core.specs.Meaning.{eval}
+use Rattle.sheet_recalc.specs.Names.{Names, Binding, Data, Formula, binding}
+
+-- an error that arose in the formula of a name gets its origin there, and keeps one that it has
+abbrev pub in_formula : List ℕ → Fault → Fault
+in_formula name e = record { kind = e.kind; origin = if is_some e.origin then e.origin else Some name }
+
+abbrev pub with_origin : List ℕ → Outcome → Outcome
+with_origin name (Ok a) = Ok a
+with_origin name (Err e) = Err (in_formula name e)
+
+-- what a name shows, where the other names show these: an absent name is a VALUE ERROR
+abbrev pub shown : List ℕ → Option Binding → (List ℕ → Outcome) → Outcome
+shown name None others = Err (fault Value)
+shown name (Some (Data a)) others = Ok a
+shown name (Some (Formula t)) others = with_origin name (eval t others)
+
+-- what a name shows, worked out to a depth
+abbrev pub val_at : ℕ → Names → List ℕ → Outcome
+val_at zero names name = Err (fault Value)
+val_at (suc depth) names name = shown name (binding names name) (val_at depth names)
+
+-- what a name shows from scratch: to the depth of the number of names
+abbrev pub val : Names → List ℕ → Outcome
+val names name = val_at (length names) names name
+
+-- what each name shows is one step from what all of them show
+abbrev pub IsSettled : Names → Type 0
+IsSettled names = (q : List ℕ) → val names q ≡ shown q (binding names q) (val names)
