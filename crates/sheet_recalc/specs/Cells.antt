@@ -10,7 +10,7 @@ use Rattle.arrays_core.specs.declared.item.ItemType.{ItemType}
 use Rattle.arrays_core.specs.declared.item.ItemType.TheVariants.{Nums, Chars}
 use Rattle.sheet_recalc.specs.Names.{Binding, Data, Formula}
 use Rattle.sheet_recalc.specs.declared.refusal.Refusal.{Refusal}
-use Rattle.sheet_recalc.specs.declared.refusal.Refusal.TheVariants.{NotFound, NotData, Rank, Index, Length, Domain}
+use Rattle.sheet_recalc.specs.declared.refusal.Refusal.TheVariants.{NotFound, NotData, Rank, Index, Length, Domain, NoMemory}
 
 -- a number as an index, where 0 is one that no axis has
 abbrev pub index_of_number : ℤ → ℕ
@@ -48,3 +48,14 @@ cell_put (Some (Data a)) places literal =
     if length places == length a.shape
     then (if is_index_of a.shape (index_of_numbers places) then item_put a (index_of_numbers places) (items_of literal) else Err Index)
     else Err Rank
+
+-- a call answers what was asked for, or want of memory
+abbrev pub IsCellAnswer : Result ArrayValue Refusal → Result ArrayValue Refusal → Type 0
+IsCellAnswer wanted (Ok a) = wanted ≡ Ok a
+IsCellAnswer wanted (Err NoMemory) = Unit {0}
+IsCellAnswer wanted (Err cause) = wanted ≡ Err cause
+
+-- the only item of a list that has one item, and none of any other
+abbrev pub IsOnlyItem : List Item → Option Item → Type 0
+IsOnlyItem items (Some item) = items ≡ item ∷ []
+IsOnlyItem items None = (item : Item) → items ≡ item ∷ [] → ⊥

@@ -37,14 +37,24 @@ IsCycleFrom Refers name (first ∷ others) = (first ≡ name) × IsCycle Refers 
 abbrev pub IsFullFor : Names → List ℕ → Type 0
 IsFullFor names name = (binding names name ≡ None) × (1024 ≤ length names)
 
+-- a cycle among these names, or want of memory, and nothing else
+abbrev pub IsCycleIn : Names → Refusal → Type 0
+IsCycleIn names (why.Cycle cycle) = IsCycle (Refers names) cycle.items
+IsCycleIn names why.NoMemory = Unit {0}
+IsCycleIn names cause = ⊥
+
+-- why a name cannot be bound so: it would reach itself, or there is no room for it, or want of memory
+abbrev pub CannotPut : Names → List ℕ → Binding → Refusal → Type 0
+CannotPut old name b (why.Cycle names) = IsCycleFrom (Refers (put old name b)) name names.items
+CannotPut old name b why.SheetFull = IsAcyclic (Refers (put old name b)) × IsFullFor old name
+CannotPut old name b why.NoMemory = Unit {0}
+CannotPut old name b cause = ⊥
+
 -- the change is refused for this cause, or for want of memory, which may come at any time
 abbrev pub Refuses : Names → Change → Refusal → Type 0
 Refuses old change why.NoMemory = Unit {0}
 Refuses old (SetCell n places literal) cause = cell_put (binding old n) places literal ≡ Err cause
-Refuses old (Define n t) (why.Cycle names) = IsCycleFrom (Refers (put old n (Formula t))) n names.items
-Refuses old (Define n t) why.SheetFull = IsAcyclic (Refers (put old n (Formula t))) × IsFullFor old n
+Refuses old (Define n t) cause = CannotPut old n (Formula t) cause
 Refuses old (Store n t) (why.Fault e) = eval t (val old) ≡ Err e
 Refuses old (Store n t) why.SheetFull = (a : ArrayValue) × (eval t (val old) ≡ Ok a) × IsFullFor old n
--- and for no other cause
-Refuses old (Define n t) cause = ⊥
 Refuses old (Store n t) cause = ⊥

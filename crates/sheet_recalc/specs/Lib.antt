@@ -5,5 +5,6 @@ pub mod Entries
 pub mod Outline
 pub mod NameOrder
 pub mod Changes
+pub mod Codes
 pub mod Live
 pub mod History

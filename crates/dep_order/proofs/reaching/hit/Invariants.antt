@@ -1,0 +1,6 @@
+use Rattle.std.proofs.Common.{◌≡◌, ℕ, ◌<◌, slice_index, slice_index_or, []}
+use Rattle.dep_order.specs.Order.{IsHit}
+use Rattle.dep_order.proofs.reaching.hit.Given as goal
+
+abbrev pub invariant-loop-next : goal.invariant-loop-next
+invariant-loop-next l = (k : ℕ) → k < l.next-index → IsHit l.marks l.node (slice_index l.next-items k) → ⊥

@@ -1,0 +1,23 @@
+-- What a list of changes is answered, and where it leads.
+use Rattle.std.specs.Prelude.{◌≡◌, List, [], ◌∷◌, Option, Some, None, Result, Ok, Err}
+use Rattle.sheet_recalc.specs.Names.{Names}
+use Rattle.apl_expr.specs.Trees.{tree_of, constant_of}
+use Rattle.sheet_recalc.specs.Changes.{Change, Define, Store, SetCell, Accepts, Refuses}
+use Rattle.sheet_recalc.specs.declared.history.Change as code
+use Rattle.sheet_recalc.specs.declared.history.Change.TheVariants as made
+use Rattle.sheet_recalc.specs.declared.refusal.Refusal.{Refusal}
+
+abbrev pub change_of : code.Change → Change
+change_of (made.Define name tree) = Define name (tree_of tree)
+change_of (made.Data name tree) = Store name (tree_of tree)
+change_of (made.Cell name places literal) = SetCell name places.items (constant_of literal)
+
+-- from old, the change may have this answer and lead to new
+abbrev pub Step : Names → Change → Result (Unit {0}) Refusal → Names → Type 0
+Step old change (Ok u) new = Accepts old change new
+Step old change (Err cause) new = Refuses old change cause × (new ≡ old)
+
+-- the changes may have these answers, one after another, and lead to new
+pub data Run : Names → List Change → List (Result (Unit {0}) Refusal) → Names → Type 0 where
+  done : {names : Names} → Run names [] [] names
+  step : {old mid new : Names} {change : Change} {changes : List Change} {answer : Result (Unit {0}) Refusal} {answers : List (Result (Unit {0}) Refusal)} → Step old change answer mid → Run mid changes answers new → Run old (change ∷ changes) (answer ∷ answers) new

@@ -1,0 +1,98 @@
+//! Edits of one cell of data.
+
+ghost use Rattle.std.specs.Prelude.{◌≡◌, ◌≢◌, IfOk, IfErr, IfSome, MatchOption, MatchResult, Ok, Err, Option, true, false, [], ◌∷◌};
+ghost use Rattle.std.specs.Str.{bytes_eq};
+ghost use Rattle.std.specs.Map.{lookup};
+ghost use Rattle.apl_expr.specs.Trees.{constant_of};
+ghost use Rattle.arrays_core.specs.Arrays.{IsArray};
+ghost use Rattle.arrays_core.specs.Items.{type_of};
+ghost use Rattle.arrays_core.specs.Shapes.{is_index_of};
+ghost use Rattle.sheet_recalc.specs.Names.{binding, Data};
+ghost use Rattle.sheet_recalc.specs.Entries.{names_of};
+ghost use Rattle.sheet_recalc.specs.Cells.{cell_put, index_of_numbers, items_of, item_put, IsCellAnswer, IsOnlyItem};
+
+use crate::entry::Entry;
+use crate::refusal::Refusal;
+use apl_expr::Literal;
+use apl_tokens::Name;
+use arrays_core::{Array, Item, Shape, position};
+use indexmap::IndexMap;
+use smallvec::SmallVec;
+
+/// The data of a name with a literal in one cell, or why not.
+pub(crate) fn data_with_cell(
+    entries: &IndexMap<Name, Entry>,
+    name: Name,
+    places: &[i64],
+    literal: &Literal,
+) -> Result<Array, Refusal>
+    ensures { IsCellAnswer (cell_put (binding (names_of entries.now.entries) name) places.now (constant_of literal.now)) result }
+{
+    match entries.get(&name) {
+        None => Err(Refusal::NotFound),
+        Some(Entry::Formula(_)) => Err(Refusal::NotData),
+        Some(Entry::Data(array)) => with_cell(array, places, literal),
+    }
+}
+
+/// The array with a literal in one cell, or why not.
+fn with_cell(array: &Array, places: &[i64], literal: &Literal) -> Result<Array, Refusal>
+    ensures { IsCellAnswer (cell_put (Some (Data array.now)) places.now (constant_of literal.now)) result }
+{
+    if places.len() != array.shape().len() {
+        return Err(Refusal::Rank);
+    }
+    let Some(index) = index_of(array.shape(), places) else {
+        return Err(Refusal::Index);
+    };
+    with_literal(array, &index, literal)
+}
+
+/// The array with a literal of one item of its type at an index list.
+fn with_literal(array: &Array, index: &Shape, literal: &Literal) -> Result<Array, Refusal>
+    requires { is_index_of array.now.shape index.now.items ≡ true }
+    ensures { IsCellAnswer (item_put array.now index.now.items (items_of (constant_of literal.now))) result }
+{
+    let Some(item) = only_item(literal) else {
+        return Err(Refusal::Length);
+    };
+    if item.item_type() != array.item_type() {
+        return Err(Refusal::Domain);
+    }
+    let mut copy = array.copy()?;
+    copy.write_at(position(array.shape(), index.as_slice()), item);
+    Ok(copy)
+}
+
+/// The item of a literal that has one item.
+fn only_item(literal: &Literal) -> Option<Item>
+    ensures { IsOnlyItem (items_of (constant_of literal.now)) result }
+{
+    match literal {
+        Literal::Num(number) => Some(Item::Num(*number)),
+        Literal::Nums(numbers) => {
+            if numbers.len() == 1 {
+                Some(Item::Num(numbers[0]))
+            } else {
+                None
+            }
+        }
+    }
+}
+
+/// Positions as an index list, where each lies on its axis.
+fn index_of(shape: &Shape, places: &[i64]) -> Option<Shape>
+    requires rank { length places.now ≡ length shape.now.items }
+    requires inline { length shape.now.items ≤ 4 }
+    ensures { MatchOption result (is_index_of shape.now.items (index_of_numbers places.now) ≡ false)
+        (λ index. (index.items ≡ index_of_numbers places.now) × (is_index_of shape.now.items (index_of_numbers places.now) ≡ true)) }
+{
+    let mut index: Shape = SmallVec::new(*shape.allocator());
+    for (axis, place) in places.iter().enumerate() {
+        if *place < 1 || *place > i64::from(shape[axis]) {
+            return None;
+        }
+        index.push_reserved(*place as u32);
+    }
+    Some(index)
+}

@@ -1,0 +1,55 @@
+//! What a name is bound to.
+
+ghost use Rattle.std.specs.Prelude.{◌≡◌};
+ghost use Rattle.formula_core.specs.Outcomes.{read};
+ghost use Rattle.sheet_recalc.specs.Entries.{binding_of, held, adopted};
+ghost use Rattle.sheet_recalc.specs.Outline.{bound};
+
+use arrays_core::{Array, Fault};
+use formula_core::Formula;
+
+/// Data, or a formula with its result.
+#[derive(Drop)]
+pub enum Entry {
+    Data(Array),
+    Formula(Formula),
+}
+
+/// What a name is bound to, lent.
+#[derive(Clone, Copy)]
+pub(crate) enum BindingRef<'a> {
+    Data(&'a Array),
+    Formula(&'a Formula),
+}
+
+impl Entry {
+    /// What it is, lent.
+    pub(crate) fn binding(&self) -> BindingRef<'_>
+        ensures { bound result ≡ binding_of self.now }
+    {
+        match self {
+            Entry::Data(array) => BindingRef::Data(array),
+            Entry::Formula(formula) => BindingRef::Formula(formula),
+        }
+    }
+
+    /// What it shows: its data, or its formula's result.
+    pub(crate) fn result(&self) -> Result<&Array, Fault>
+        ensures { read result ≡ held self.now }
+    {
+        match self {
+            Entry::Data(array) => Ok(array),
+            Entry::Formula(formula) => formula.result(),
+        }
+    }
+
+    /// Gives a formula its new result. Data stays.
+    pub(crate) fn adopt(&mut self, outcome: Result<Array, Fault>)
+        ensures { self.new ≡ adopted self.old outcome }
+    {
+        match self {
+            Entry::Data(_) => {}
+            Entry::Formula(formula) => formula.adopt(outcome),
+        }
+    }
+}

@@ -1,0 +1,51 @@
+//! Lists of changes.
+
+ghost use Rattle.std.specs.Prelude.{◌≡◌, IfOk, OnErr, map};
+ghost use Rattle.sheet_recalc.specs.History.{Run, Step, change_of};
+
+use crate::refusal::Refusal;
+use crate::sheet::Sheet;
+use apl_expr::{Expr, Literal};
+use apl_tokens::Name;
+use std::alloc::{AllocError, Global};
+use std::collections::VecDeque;
+
+/// A change to a sheet.
+#[derive(Debug, Drop)]
+pub enum Change {
+    /// Bind a name to a formula.
+    Define(Name, Expr),
+    /// Bind a name to the array that an expression has now.
+    Data(Name, Expr),
+    /// Replace one item of data.
+    Cell(Name, Vec<i64>, Literal),
+}
+
+impl Sheet {
+    /// Makes one change, or says why not.
+    pub fn apply(&mut self, change: Change) -> Result<(), Refusal>
+        ensures { Step self.old.names (change_of change) result self.new.names }
+    {
+        match change {
+            Change::Define(name, tree) => self.define(name, tree),
+            Change::Data(name, tree) => self.data(name, tree),
+            Change::Cell(name, places, literal) => self.set_cell(name, &places, &literal),
+        }
+    }
+
+    /// Makes changes in their order, and tells the answer to each. Where the answers themselves cannot be held, nothing is changed.
+    pub fn apply_all(
+        &mut self,
+        mut changes: VecDeque<Change>,
+    ) -> Result<Vec<Result<(), Refusal>>, AllocError>
+        ensures run { IfOk result (λ answers. Run self.old.names (map change_of changes.items) answers.items self.new.names) }
+        ensures err { OnErr result (self.new ≡ self.old) }
+    {
+        let mut answers = Vec::with_capacity(self.alloc(), changes.len())?;
+        while let Some(change) = changes.pop_front() {
+            let answer = self.apply(change);
+            answers.push(answer).unwrap();
+        }
+        Ok(answers)
+    }
+}

@@ -1,0 +1,15 @@
+//! The sheet: names bound to data or to formulas, where each formula's result is always current.
+#![tactic(auto)]
+
+mod cell;
+mod commit;
+mod entry;
+mod history;
+mod outline;
+mod recalculation;
+mod refusal;
+mod sheet;
+
+pub use history::{Change, apply_all};
+pub use refusal::Refusal;
+pub use sheet::Sheet;

@@ -1,0 +1,49 @@
+//! Why a change was refused.
+
+ghost use Rattle.std.specs.Prelude.{◌≡◌};
+ghost use Rattle.sheet_recalc.specs.declared.refusal.Refusal.TheVariants.{NoMemory};
+
+use apl_tokens::Name;
+use arrays_core::Fault;
+use std::alloc::{AllocError, AllocFailed};
+
+/// Why a change was refused. The sheet is then as it was.
+#[derive(Debug, Drop)]
+pub enum Refusal {
+    /// The name would reach itself: a cycle of names, the defined one first, each referring to the next, the last to the first.
+    Cycle(Vec<Name>),
+    /// The name is absent.
+    NotFound,
+    /// The name is bound to a formula.
+    NotData,
+    /// The positions are not as many as the axes.
+    Rank,
+    /// The literal has not one item.
+    Length,
+    /// A position is below 1 or above its axis.
+    Index,
+    /// The literal's item is of the other type.
+    Domain,
+    /// The name is new, and as many names are present as a sheet has at most.
+    SheetFull,
+    /// The expression gave an error.
+    Fault(Fault),
+    /// A growth was refused.
+    NoMemory,
+}
+
+impl From<AllocError> for Refusal {
+    ghost from_gives = { λ _ e. e ≡ NoMemory };
+
+    fn from(_error: AllocError) -> Refusal {
+        Refusal::NoMemory
+    }
+}
+
+impl<T: Drop> From<AllocFailed<T>> for Refusal {
+    ghost from_gives = { λ _ e. e ≡ NoMemory };
+
+    fn from(_refused: AllocFailed<T>) -> Refusal {
+        Refusal::NoMemory
+    }
+}

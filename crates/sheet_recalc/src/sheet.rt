@@ -1,0 +1,190 @@
+//! The sheet.
+
+ghost use Rattle.std.specs.Prelude.{◌≡◌, [], IfOk, IfErr, OnOk, OnErr, Some, None, is_some, if◌then◌else◌};
+ghost use Rattle.std.specs.Map.{keys_of};
+ghost use Rattle.std.specs.Option.{option_map};
+ghost use Rattle.apl_expr.specs.Trees.{tree_of, constant_of};
+ghost use Rattle.dep_order.specs.Reach.{IsAcyclic};
+ghost use Rattle.formula_core.specs.Outcomes.{read};
+ghost use Rattle.formula_core.specs.Meaning.{eval};
+ghost use Rattle.sheet_recalc.specs.Names.{Data as IsData, Formula as IsFormula, binding, put, Refers, IsSheet};
+ghost use Rattle.sheet_recalc.specs.Meaning.{val, IsSettled};
+ghost use Rattle.sheet_recalc.specs.Entries.{names_of};
+ghost use Rattle.sheet_recalc.specs.Outline.{bound, IsScratch};
+ghost use Rattle.sheet_recalc.specs.Changes.{Accepts, Refuses, Define, Store, SetCell, HasRoom, CannotPut};
+
+use crate::cell::data_with_cell;
+use crate::commit::commit;
+use crate::entry::{BindingRef, Entry};
+use crate::outline::outline_with;
+use crate::recalculation::{Results, absent, recalculated};
+use crate::refusal::Refusal;
+use apl_expr::{Expr, Literal};
+use apl_tokens::Name;
+use arrays_core::{Array, Fault};
+use formula_core::{Formula, Shows, evaluate};
+use indexmap::IndexMap;
+use indexmap::map::Keys;
+use std::alloc::{AllocError, Global};
+use std::marker::Model;
+
+/// The most names of a sheet.
+const MOST_NAMES: usize = 1024;
+
+/// Names bound to data or to formulas, in the order in which they were first bound. Each formula's result is current.
+#[derive(Drop)]
+pub struct Sheet {
+    alloc: Global,
+    entries: IndexMap<Name, Entry>,
+}
+
+impl Model for Sheet {
+    ghost use Rattle.sheet_recalc.specs.Live.{SheetValue};
+
+    ghost Value = { SheetValue };
+
+    ghost use Rattle.std.specs.Coded.{codes};
+    ghost use Rattle.formula_core.specs.Codes.{coded_tree};
+    ghost use Rattle.sheet_recalc.specs.Codes.{coded_binding};
+
+    ghost coded = { Prim.hlevel (codes, coded_tree, coded_binding) };
+
+    ghost use Rattle.sheet_recalc.specs.Entries.{names_of};
+    ghost use Rattle.sheet_recalc.specs.Live.{IsLive};
+
+    ghost view = { λ s. record { names = names_of s.entries.entries } };
+
+    ghost invariant = { λ s. IsLive s.entries.entries };
+}
+
+impl Shows for IndexMap<Name, Entry> {
+    ghost use Rattle.sheet_recalc.specs.Entries.{holding};
+
+    ghost shows = { λ m. holding m.entries };
+
+    fn result_of(&self, name: Name) -> Result<&Array, Fault> {
+        match self.get(&name) {
+            Some(entry) => entry.result(),
+            None => Err(absent()),
+        }
+    }
+}
+
+impl Sheet {
+    /// A sheet without names.
+    pub fn new(alloc: Global) -> Sheet
+        ensures { result.names ≡ [] }
+    {
+        Sheet {
+            alloc,
+            entries: IndexMap::new(alloc),
+        }
+    }
+
+    /// What a name shows: exactly what evaluating all the formulas from scratch gives for it, the array or the error with the
+    /// name where it arose. An absent name shows nothing.
+    pub fn value(&self, name: Name) -> Option<Result<&Array, Fault>>
+        ensures is { option_map read result ≡ (if is_some (binding self.now.names name) then Some (val self.now.names name) else None) }
+        ensures sound { IsSheet self.now.names }
+    {
+        match self.entries.get(&name) {
+            Some(entry) => Some(entry.result()),
+            None => None,
+        }
+    }
+
+    /// The names, in the order in which they were first bound.
+    pub fn names(&self) -> Keys<'_, Name, Entry>
+        ensures { result ≡ keys_of self.now.names }
+    {
+        self.entries.keys()
+    }
+
+    /// What an expression gives, where the names show what they show.
+    pub fn show(&self, tree: &Expr) -> Result<Result<Array, Fault>, AllocError>
+        ensures { IfOk result (λ outcome. outcome ≡ eval (tree_of tree.now) (val self.now.names)) }
+    {
+        evaluate(self.alloc, tree, &self.entries)
+    }
+
+    /// Binds a name to a formula.
+    pub fn define(&mut self, name: Name, tree: Expr) -> Result<(), Refusal>
+        ensures ok { OnOk result (Accepts self.old.names (Define name (tree_of tree)) self.new.names) }
+        ensures refused { IfErr result (Refuses self.old.names (Define name (tree_of tree))) }
+        ensures err { OnErr result (self.new ≡ self.old) }
+    {
+        let formula = Formula::build(self.alloc, tree)?;
+        let results = results_with(self.alloc, &self.entries, name, BindingRef::Formula(&formula))?;
+        self.entries.reserve(1)?;
+        commit(&mut self.entries, name, Entry::Formula(formula), results);
+        Ok(())
+    }
+
+    /// Binds a name to the array that an expression has now.
+    pub fn data(&mut self, name: Name, tree: Expr) -> Result<(), Refusal>
+        ensures ok { OnOk result (Accepts self.old.names (Store name (tree_of tree)) self.new.names) }
+        ensures refused { IfErr result (Refuses self.old.names (Store name (tree_of tree))) }
+        ensures err { OnErr result (self.new ≡ self.old) }
+    {
+        let array = match self.show(&tree)? {
+            Ok(array) => array,
+            Err(fault) => return Err(Refusal::Fault(fault)),
+        };
+        self.put_data(name, array)
+    }
+
+    /// Replaces one item of data.
+    pub fn set_cell(
+        &mut self,
+        name: Name,
+        places: &[i64],
+        literal: &Literal,
+    ) -> Result<(), Refusal>
+        ensures ok { OnOk result (Accepts self.old.names (SetCell name places.now (constant_of literal.now)) self.new.names) }
+        ensures refused { IfErr result (Refuses self.old.names (SetCell name places.now (constant_of literal.now))) }
+        ensures err { OnErr result (self.new ≡ self.old) }
+    {
+        let array = data_with_cell(&self.entries, name, places, literal)?;
+        self.put_data(name, array)
+    }
+
+    /// Binds a name to an array.
+    fn put_data(&mut self, name: Name, array: Array) -> Result<(), Refusal>
+        ensures names { OnOk result (self.new.names ≡ put self.old.names name (IsData array)) }
+        ensures room { OnOk result (HasRoom self.old.names name) }
+        ensures refused { IfErr result (CannotPut self.old.names name (IsData array)) }
+        ensures err { OnErr result (self.new ≡ self.old) }
+        ensures sound { IsSheet self.old.names }
+    {
+        let results = results_with(self.alloc, &self.entries, name, BindingRef::Data(&array))?;
+        self.entries.reserve(1)?;
+        commit(&mut self.entries, name, Entry::Data(array), results);
+        Ok(())
+    }
+
+    pub(crate) fn alloc(&self) -> Global {
+        self.alloc
+    }
+}
+
+/// The results after a name is bound anew, or why it cannot be.
+fn results_with<'a>(
+    alloc: Global,
+    entries: &'a IndexMap<Name, Entry>,
+    name: Name,
+    binding: BindingRef<'a>,
+) -> Result<Results, Refusal>
+    requires { IsSheet (names_of entries.entry.now.entries) }
+    ensures scratch { IfOk result (λ results. IsScratch (put (names_of entries.entry.now.entries) name (bound binding.entry)) results.entries) }
+    ensures settled { OnOk result (IsSettled (put (names_of entries.entry.now.entries) name (bound binding.entry))) }
+    ensures sheet { OnOk result (IsSheet (put (names_of entries.entry.now.entries) name (bound binding.entry))) }
+    ensures room { OnOk result (HasRoom (names_of entries.entry.now.entries) name) }
+    ensures refused { IfErr result (CannotPut (names_of entries.entry.now.entries) name (bound binding.entry)) }
+{
+    let outline = outline_with(alloc, entries, name, binding)?;
+    let results = recalculated(alloc, &outline)?;
+    if outline.len() > MOST_NAMES {
+        return Err(Refusal::SheetFull);
+    }
+    Ok(results)
+}
