@@ -6,9 +6,14 @@ mod fault;
 mod item;
 mod rule;
 mod shape;
+#[cfg(test)]
+mod tests;
 
 pub use array::Array;
 pub use fault::{ApplyFault, Fault};
 pub use item::{Item, ItemType, Kind};
 pub use rule::{ItemRule, collect};
-pub use shape::{Shape, advance, append_axes, index_of_position, position, shape_of, size};
+pub use shape::{
+    Shape, advance, append_axes, index_of_position, is_within_limits, law_of_row_major_order,
+    position, shape_of, size,
+};

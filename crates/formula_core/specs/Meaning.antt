@@ -1,16 +1,12 @@
 -- What an expression means, where the names show these arrays and errors.
-use Rattle.std.specs.Prelude.{ℕ, ◌+◌, ℤ, List, [], ◌∷◌, ◌++◌, map, length, nat_lt, if◌then◌else◌, Result, Ok, Err}
+use Rattle.std.specs.Prelude.{ℕ, List, [], ◌∷◌, ◌++◌, Result, Ok, Err}
 use Rattle.apl_expr.specs.Trees.{Tree, Literal, Variable, Applied1, Applied2, Constant, Numbers}
 use Rattle.apl_expr.specs.declared.expr.Monadic.{Monadic}
 use Rattle.apl_expr.specs.declared.expr.Monadic.TheVariants as monadic
 use Rattle.apl_expr.specs.declared.expr.Dyadic.{Dyadic}
 use Rattle.apl_expr.specs.declared.expr.Dyadic.TheVariants as dyadic
-use Rattle.arrays_core.specs.Arrays.{ArrayValue}
-use Rattle.arrays_core.specs.declared.item.Item.{Item}
-use Rattle.arrays_core.specs.declared.item.Item.TheVariants.{Num}
-use Rattle.arrays_core.specs.declared.item.ItemType.TheVariants.{Nums}
+use Rattle.arrays_core.specs.Arrays.{ArrayValue, scalar_of, vector_of}
 use Rattle.arrays_core.specs.declared.item.Kind.{Kind}
-use Rattle.arrays_core.specs.declared.item.Kind.TheVariants.{Limit}
 use Rattle.scalar_fns.specs.declared.function.Scalar1.{Scalar1}
 use Rattle.scalar_fns.specs.declared.function.Scalar1.TheVariants as one
 use Rattle.scalar_fns.specs.declared.function.Scalar2.{Scalar2}
@@ -18,20 +14,11 @@ use Rattle.scalar_fns.specs.declared.function.Scalar2.TheVariants as two
 use Rattle.scalar_fns.specs.Extension.{on_array, on_arrays}
 use Rattle.formula_core.specs.Outcomes.{Outcome, given}
 
-abbrev pub scalar : ℤ → ArrayValue
-scalar n = record { item_type = Nums; shape = []; items = Num n ∷ [] }
-
--- a vector, if it is not too long
-abbrev pub vector : List ℤ → Result ArrayValue Kind
-vector ns =
-    if nat_lt 1048576 (length ns) then Err Limit
-    else Ok (record { item_type = Nums; shape = length ns ∷ []; items = map (λ n. Num n) ns })
-
 -- one number is a scalar, several are a vector
 abbrev pub array_of : Constant → Result ArrayValue Kind
-array_of (Numbers []) = vector []
-array_of (Numbers (n ∷ [])) = Ok (scalar n)
-array_of (Numbers (n ∷ m ∷ ns)) = vector (n ∷ m ∷ ns)
+array_of (Numbers []) = vector_of []
+array_of (Numbers (n ∷ [])) = Ok (scalar_of n)
+array_of (Numbers (n ∷ m ∷ ns)) = vector_of (n ∷ m ∷ ns)
 
 abbrev pub scalar1_of : Monadic → Scalar1
 scalar1_of monadic.Conjugate = one.Conjugate

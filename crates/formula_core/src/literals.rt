@@ -1,21 +1,21 @@
 //! The arrays of literals, and the functions that signs stand for.
 
-ghost use Rattle.std.specs.Prelude.{◌≡◌, IfOk};
+ghost use Rattle.std.specs.Prelude.{◌≡◌};
 ghost use Rattle.apl_expr.specs.Trees.{constant_of, Numbers};
 ghost use Rattle.arrays_core.specs.Arrays.{IsAnswerTo};
-ghost use Rattle.formula_core.specs.Meaning.{array_of, scalar, vector, scalar1_of, scalar2_of};
+ghost use Rattle.formula_core.specs.Meaning.{array_of, scalar1_of, scalar2_of};
 
 use apl_expr::{Dyadic, Literal, Monadic};
-use arrays_core::{ApplyFault, Array, Kind, shape_of};
+use arrays_core::{ApplyFault, Array};
 use scalar_fns::{Scalar1, Scalar2};
-use std::alloc::{AllocError, Global};
+use std::alloc::Global;
 
 /// The array of a literal: one number is a scalar, several are a vector. More than 1,048,576 are LIMIT ERROR.
 pub fn array_of(alloc: Global, literal: &Literal) -> Result<Array, ApplyFault>
     ensures { IsAnswerTo (array_of (constant_of literal.now)) result }
 {
     match literal {
-        Literal::Num(number) => Ok(scalar(alloc, *number)?),
+        Literal::Num(number) => Ok(Array::scalar(alloc, *number)?),
         Literal::Nums(numbers) => array_of_numbers(alloc, numbers),
     }
 }
@@ -25,33 +25,10 @@ fn array_of_numbers(alloc: Global, numbers: &[i64]) -> Result<Array, ApplyFault>
     ensures { IsAnswerTo (array_of (Numbers numbers.now)) result }
 {
     if numbers.len() == 1 {
-        return Ok(scalar(alloc, numbers[0])?);
+        return Ok(Array::scalar(alloc, numbers[0])?);
     }
-    Ok(vector(alloc, numbers.to_vec(alloc)?)?)
+    Ok(Array::vector(alloc, numbers.to_vec(alloc)?)?)
 }
-
-/// The array of one number and no axes.
-fn scalar(alloc: Global, number: i64) -> Result<Array, AllocError>
-    ensures { IfOk result (λ array. array ≡ scalar number) }
-{
-    let mut numbers = Vec::with_capacity(alloc, 1)?;
-    numbers.push(number)?;
-    Ok(Array::from_numbers(&shape_of(alloc, &[]), numbers))
-}
-
-/// The array of these numbers along one axis, unless they are too many.
-fn vector(alloc: Global, numbers: Vec<i64>) -> Result<Array, Kind>
-    ensures { result ≡ vector numbers.items }
-{
-    if numbers.len() > MOST_ITEMS {
-        return Err(Kind::Limit);
-    }
-    let shape = shape_of(alloc, &[numbers.len() as u32]);
-    Ok(Array::from_numbers(&shape, numbers))
-}
-
-/// The most items of an array.
-const MOST_ITEMS: usize = 1_048_576;
 
 /// The scalar function of a sign before its argument.
 pub(crate) fn scalar1_of(function: Monadic) -> Scalar1

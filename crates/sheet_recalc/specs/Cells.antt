@@ -1,5 +1,5 @@
 -- An edit of one cell.
-use Rattle.std.specs.Prelude.{◌≡◌, ℕ, ℤ, pos, negsuc, ◌==◌, Bool, true, false, List, [], ◌∷◌, map, length, set, Option, Some, None, Result, Ok, Err, if◌then◌else◌}
+use Rattle.std.specs.Prelude.{◌≡◌, ℕ, ℤ, pos, negsuc, ◌==◌, ◌&&◌, nat_le, Bool, true, false, List, [], ◌∷◌, map, length, set, Option, Some, None, Result, Ok, Err, if◌then◌else◌}
 use Rattle.apl_expr.specs.Trees.{Constant, Numbers}
 use Rattle.arrays_core.specs.Arrays.{ArrayValue}
 use Rattle.arrays_core.specs.Items.{type_of}
@@ -19,6 +19,10 @@ index_of_number (negsuc n) = 0
 
 abbrev pub index_of_numbers : List ℤ → List ℕ
 index_of_numbers places = map index_of_number places
+
+-- an index lies on an axis of this length
+abbrev pub is_on_axis : ℕ → ℕ → Bool
+is_on_axis axis index = nat_le 1 index && nat_le index axis
 
 -- the items of a literal
 abbrev pub items_of : Constant → List Item

@@ -5,3 +5,18 @@ use Rattle.std.specs.Coded.{Coded, code_by, coded⊎}
 use Rattle.apl_expr.specs.Trees.{Tree}
 use Rattle.arrays_core.specs.Arrays.{ArrayValue}
 use Rattle.sheet_recalc.specs.Names.{Binding, Data, Formula}
+
+abbrev sides : Binding → ArrayValue ⊎ Tree
+sides (Data a) = inl a
+sides (Formula t) = inr t
+
+abbrev binding_from : ArrayValue ⊎ Tree → Binding
+binding_from (inl a) = Data a
+binding_from (inr t) = Formula t
+
+pub binding_again : (b : Binding) → binding_from (sides b) ≡ b
+binding_again (Data a) = refl
+binding_again (Formula t) = refl
+
+abbrev pub coded_binding : Coded ArrayValue → Coded Tree → Coded Binding
+coded_binding array tree = code_by (ArrayValue ⊎ Tree) (coded⊎ array tree) sides binding_from binding_again

@@ -18,6 +18,8 @@ Step old change (Ok u) new = Accepts old change new
 Step old change (Err cause) new = Refuses old change cause × (new ≡ old)
 
 -- the changes may have these answers, one after another, and lead to new
-pub data Run : Names → List Change → List (Result (Unit {0}) Refusal) → Names → Type 0 where
-  done : {names : Names} → Run names [] [] names
-  step : {old mid new : Names} {change : Change} {changes : List Change} {answer : Result (Unit {0}) Refusal} {answers : List (Result (Unit {0}) Refusal)} → Step old change answer mid → Run mid changes answers new → Run old (change ∷ changes) (answer ∷ answers) new
+abbrev pub Run : Names → List Change → List (Result (Unit {0}) Refusal) → Names → Type 0
+Run old [] [] new = new ≡ old
+Run old (change ∷ changes) (answer ∷ answers) new = (mid : Names) × Step old change answer mid × Run mid changes answers new
+Run old [] (answer ∷ answers) new = ⊥
+Run old (change ∷ changes) [] new = ⊥

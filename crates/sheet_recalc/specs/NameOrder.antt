@@ -1,10 +1,10 @@
 -- An order in which names can be worked out.
-use Rattle.std.specs.Prelude.{ℕ, ◌<◌, ◌≤◌, List, length, take, slice_index, IsSome}
+use Rattle.std.specs.Prelude.{ℕ, ◌<◌, ◌≤◌, List, length, take, slice_index_or, [], IsSome}
 use Rattle.std.specs.List.{Contains}
 use Rattle.sheet_recalc.specs.Names.{Names, binding, Refers}
 
 -- each present name, after all the present names that it refers to
 pub record IsNameOrder (names : Names) (order : List (List ℕ)) : Type 0 where
   pub all : (a : List ℕ) → IsSome (binding names a) → Contains order a
-  pub after : (i : ℕ) (b : List ℕ) → i < length order → Refers names (slice_index order i) b → IsSome (binding names b) → Contains (take i order) b
+  pub after : (i : ℕ) (b : List ℕ) → i < length order → Refers names (slice_index_or order i []) b → IsSome (binding names b) → Contains (take i order) b
   pub short : length order ≤ length names

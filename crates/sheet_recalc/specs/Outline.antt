@@ -1,5 +1,5 @@
 -- A sheet as it would be after a change: its names with what they are bound to, lent.
-use Rattle.std.specs.Prelude.{◌≡◌, ℕ, List, [], ◌∷◌, ◌++◌, Option, Some, None, Ok, Err, IsSome, map, slice_index}
+use Rattle.std.specs.Prelude.{◌≡◌, ℕ, List, [], ◌∷◌, ◌++◌, Option, Some, None, Ok, Err, IsSome, map, slice_index_or}
 use Rattle.std.specs.Str.{bytes_eq}
 use Rattle.std.specs.List.{position, flat_map}
 use Rattle.std.specs.Option.{option_to_list, unwrap_or}
@@ -8,7 +8,9 @@ use Rattle.apl_expr.specs.Trees.{Tree}
 use Rattle.arrays_core.specs.declared.item.Kind.TheVariants.{Value}
 use Rattle.formula_core.specs.Outcomes.{Outcome, fault}
 use Rattle.formula_core.specs.Meaning.{names_in}
-use Rattle.sheet_recalc.specs.Names.{Names, Binding, Data, Formula, binding}
+use Rattle.sheet_recalc.specs.Names.{Names, Binding, Data, Formula, binding, put}
+use Rattle.sheet_recalc.specs.Entries.{names_of}
+use Rattle.sheet_recalc.specs.declared.outline.Outline.{Outline}
 use Rattle.sheet_recalc.specs.Meaning.{val}
 use Rattle.sheet_recalc.specs.declared.entry.BindingRef.{BindingRef}
 use Rattle.sheet_recalc.specs.declared.entry.BindingRef.TheVariants as lent
@@ -18,8 +20,9 @@ abbrev pub bound : BindingRef → Binding
 bound (lent.Data a) = Data a.now
 bound (lent.Formula f) = Formula f.now.tree
 
-abbrev pub outlined : List (List ℕ × BindingRef) → Names
-outlined lines = map (λ l. (l.0, bound l.1)) lines
+-- the names of a sheet with one of them bound anew
+abbrev pub outlined : Outline → Names
+outlined o = put (names_of o.entries.now.entries) o.name (bound o.binding)
 
 -- the places of these names, but for those that are absent
 abbrev pub places_among : Names → List (List ℕ) → List ℕ
@@ -36,7 +39,7 @@ edges names = map (λ n. places_of names n.1) names
 
 -- the name at a place
 abbrev pub name_at : Names → ℕ → List ℕ
-name_at names place = slice_index (keys_of names) place
+name_at names place = slice_index_or (keys_of names) place []
 
 -- what a binding shows, where the formulas have this result
 abbrev pub showing : Option Binding → Option Outcome → Outcome

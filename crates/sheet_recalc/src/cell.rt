@@ -1,6 +1,6 @@
 //! Edits of one cell of data.
 
-ghost use Rattle.std.specs.Prelude.{◌≡◌, ◌≢◌, IfOk, IfErr, IfSome, MatchOption, MatchResult, Ok, Err, Option, true, false, [], ◌∷◌};
+ghost use Rattle.std.specs.Prelude.{◌≡◌, ◌≢◌, IfOk, IfErr, IfSome, MatchOption, MatchResult, Ok, Err, Option, true, false, [], ◌∷◌, ◌≤◌, length};
 ghost use Rattle.std.specs.Str.{bytes_eq};
 ghost use Rattle.std.specs.Map.{lookup};
 ghost use Rattle.apl_expr.specs.Trees.{constant_of};
@@ -9,7 +9,7 @@ ghost use Rattle.arrays_core.specs.Items.{type_of};
 ghost use Rattle.arrays_core.specs.Shapes.{is_index_of};
 ghost use Rattle.sheet_recalc.specs.Names.{binding, Data};
 ghost use Rattle.sheet_recalc.specs.Entries.{names_of};
-ghost use Rattle.sheet_recalc.specs.Cells.{cell_put, index_of_numbers, items_of, item_put, IsCellAnswer, IsOnlyItem};
+ghost use Rattle.sheet_recalc.specs.Cells.{cell_put, index_of_number, index_of_numbers, is_on_axis, items_of, item_put, IsCellAnswer, IsOnlyItem};
 
 use crate::entry::Entry;
 use crate::refusal::Refusal;
@@ -89,10 +89,21 @@ fn index_of(shape: &Shape, places: &[i64]) -> Option<Shape>
 {
     let mut index: Shape = SmallVec::new(*shape.allocator());
     for (axis, place) in places.iter().enumerate() {
-        if *place < 1 || *place > i64::from(shape[axis]) {
+        let Some(on_axis) = index_on_axis(*place, shape[axis]) else {
             return None;
-        }
-        index.push_reserved(*place as u32);
+        };
+        index.push_reserved(on_axis);
     }
     Some(index)
+}
+
+/// A position as an index, where it lies on an axis of this length.
+fn index_on_axis(place: i64, axis: u32) -> Option<u32>
+    ensures { MatchOption result (is_on_axis axis (index_of_number place) ≡ false)
+        (λ index. (index ≡ index_of_number place) × (is_on_axis axis (index_of_number place) ≡ true)) }
+{
+    if place < 1 || place > i64::from(axis) {
+        return None;
+    }
+    Some(place as u32)
 }

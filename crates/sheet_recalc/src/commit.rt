@@ -34,10 +34,10 @@ fn adopt_all(entries: &mut IndexMap<Name, Entry>, mut results: Results)
     ensures names { names_of entries.new.entries ≡ names_of entries.old.entries }
     ensures current { IsCurrent entries.new.entries }
 {
-    while let Some((name, outcome)) = results.pop() {
-        match entries.get_mut(&name) {
-            Some(entry) => entry.adopt(outcome),
-            None => drop(outcome),
+    while let Some(worked_out) = results.pop() {
+        match entries.get_mut(&worked_out.0) {
+            Some(entry) => entry.adopt(worked_out.1),
+            None => drop(worked_out),
         }
     }
 }

@@ -5,6 +5,7 @@ ghost use Rattle.formula_core.specs.Outcomes.{read};
 ghost use Rattle.sheet_recalc.specs.Entries.{binding_of, held, adopted};
 ghost use Rattle.sheet_recalc.specs.Outline.{bound};
 
+use apl_tokens::Name;
 use arrays_core::{Array, Fault};
 use formula_core::Formula;
 
@@ -20,6 +21,13 @@ pub enum Entry {
 pub(crate) enum BindingRef<'a> {
     Data(&'a Array),
     Formula(&'a Formula),
+}
+
+/// A name with what it is bound to, lent.
+#[derive(Clone, Copy)]
+pub(crate) struct Line<'a> {
+    pub(crate) name: Name,
+    pub(crate) binding: BindingRef<'a>,
 }
 
 impl Entry {

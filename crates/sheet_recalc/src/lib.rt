@@ -10,6 +10,6 @@ mod recalculation;
 mod refusal;
 mod sheet;
 
-pub use history::{Change, apply_all};
+pub use history::Change;
 pub use refusal::Refusal;
 pub use sheet::Sheet;

@@ -1,6 +1,8 @@
 //! The sheet.
 
-ghost use Rattle.std.specs.Prelude.{◌≡◌, [], IfOk, IfErr, OnOk, OnErr, Some, None, is_some, if◌then◌else◌};
+ghost use Rattle.std.specs.Prelude.{◌≡◌, [], ◌++◌, take, drop, IfOk, IfErr, OnOk, OnErr, Some, None, MatchOption, is_some, if◌then◌else◌};
+ghost use Rattle.std.specs.Str.{bytes_eq};
+ghost use Rattle.std.specs.List.{position};
 ghost use Rattle.std.specs.Map.{keys_of};
 ghost use Rattle.std.specs.Option.{option_map};
 ghost use Rattle.apl_expr.specs.Trees.{tree_of, constant_of};
@@ -16,7 +18,7 @@ ghost use Rattle.sheet_recalc.specs.Changes.{Accepts, Refuses, Define, Store, Se
 use crate::cell::data_with_cell;
 use crate::commit::commit;
 use crate::entry::{BindingRef, Entry};
-use crate::outline::outline_with;
+use crate::outline::Outline;
 use crate::recalculation::{Results, absent, recalculated};
 use crate::refusal::Refusal;
 use apl_expr::{Expr, Literal};
@@ -57,14 +59,14 @@ impl Model for Sheet {
     ghost invariant = { λ s. IsLive s.entries.entries };
 }
 
-impl Shows for IndexMap<Name, Entry> {
-    ghost use Rattle.sheet_recalc.specs.Entries.{holding};
+impl Shows for Sheet {
+    ghost use Rattle.sheet_recalc.specs.Meaning.{val};
 
-    ghost shows = { λ m. holding m.entries };
+    ghost shows = { λ s. val s.names };
 
     fn result_of(&self, name: Name) -> Result<&Array, Fault> {
-        match self.get(&name) {
-            Some(entry) => entry.result(),
+        match self.value(name) {
+            Some(result) => result,
             None => Err(absent()),
         }
     }
@@ -94,6 +96,7 @@ impl Sheet {
     }
 
     /// The names, in the order in which they were first bound.
+    #[tactic(auto, using(crate::proofs::Live::keys_of_names))]
     pub fn names(&self) -> Keys<'_, Name, Entry>
         ensures { result ≡ keys_of self.now.names }
     {
@@ -104,7 +107,7 @@ impl Sheet {
     pub fn show(&self, tree: &Expr) -> Result<Result<Array, Fault>, AllocError>
         ensures { IfOk result (λ outcome. outcome ≡ eval (tree_of tree.now) (val self.now.names)) }
     {
-        evaluate(self.alloc, tree, &self.entries)
+        evaluate(self.alloc, tree, self)
     }
 
     /// Binds a name to a formula.
@@ -114,7 +117,12 @@ impl Sheet {
         ensures err { OnErr result (self.new ≡ self.old) }
     {
         let formula = Formula::build(self.alloc, tree)?;
-        let results = results_with(self.alloc, &self.entries, name, BindingRef::Formula(&formula))?;
+        let results = results_with(
+            self.alloc,
+            &self.entries,
+            name,
+            BindingRef::Formula(&formula),
+        )?;
         self.entries.reserve(1)?;
         commit(&mut self.entries, name, Entry::Formula(formula), results);
         Ok(())
@@ -134,12 +142,7 @@ impl Sheet {
     }
 
     /// Replaces one item of data.
-    pub fn set_cell(
-        &mut self,
-        name: Name,
-        places: &[i64],
-        literal: &Literal,
-    ) -> Result<(), Refusal>
+    pub fn set_cell(&mut self, name: Name, places: &[i64], literal: &Literal) -> Result<(), Refusal>
         ensures ok { OnOk result (Accepts self.old.names (SetCell name places.now (constant_of literal.now)) self.new.names) }
         ensures refused { IfErr result (Refuses self.old.names (SetCell name places.now (constant_of literal.now))) }
         ensures err { OnErr result (self.new ≡ self.old) }
@@ -174,17 +177,50 @@ fn results_with<'a>(
     name: Name,
     binding: BindingRef<'a>,
 ) -> Result<Results, Refusal>
-    requires { IsSheet (names_of entries.entry.now.entries) }
+    requires { IsSheet (names_of entries.now.entries) }
     ensures scratch { IfOk result (λ results. IsScratch (put (names_of entries.entry.now.entries) name (bound binding.entry)) results.entries) }
     ensures settled { OnOk result (IsSettled (put (names_of entries.entry.now.entries) name (bound binding.entry))) }
     ensures sheet { OnOk result (IsSheet (put (names_of entries.entry.now.entries) name (bound binding.entry))) }
     ensures room { OnOk result (HasRoom (names_of entries.entry.now.entries) name) }
     ensures refused { IfErr result (CannotPut (names_of entries.entry.now.entries) name (bound binding.entry)) }
 {
-    let outline = outline_with(alloc, entries, name, binding)?;
-    let results = recalculated(alloc, &outline)?;
-    if outline.len() > MOST_NAMES {
-        return Err(Refusal::SheetFull);
+    let outline = Outline {
+        entries,
+        name,
+        binding,
+    };
+    match recalculated(alloc, &outline) {
+        Ok(results) => {
+            if outline.len() > MOST_NAMES {
+                return Err(Refusal::SheetFull);
+            }
+            Ok(results)
+        }
+        Err(Refusal::Cycle(cycle)) => Err(Refusal::Cycle(turned_to(cycle, name))),
+        Err(refusal) => Err(refusal),
     }
-    Ok(results)
+}
+
+/// A cycle, turned to where a name first stands in it.
+fn turned_to(cycle: Vec<Name>, name: Name) -> Vec<Name>
+    ensures { MatchOption (position (bytes_eq name) cycle.items) (result.items ≡ cycle.items) (λ start. result.items ≡ drop start cycle.items ++ take start cycle.items) }
+{
+    let mut cycle = cycle;
+    let Some(start) = place_in(&cycle, name) else {
+        return cycle;
+    };
+    cycle.rotate_left(start);
+    cycle
+}
+
+/// Where a name first stands among names.
+fn place_in(names: &[Name], name: Name) -> Option<usize>
+    ensures { result ≡ position (bytes_eq name) names.now }
+{
+    for (place, other) in names.iter().enumerate() {
+        if name == *other {
+            return Some(place);
+        }
+    }
+    None
 }

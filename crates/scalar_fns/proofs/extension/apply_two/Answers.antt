@@ -1,5 +1,4 @@
-use Rattle.std.proofs.Common.{◌≡◌, ◌∙◌, sym, Ok, ℤ, List}
-use Rattle.arrays_core.specs.Arrays.{IsAnswerTo}
+use Rattle.std.proofs.Common.{◌≡◌, Ok}
 use Rattle.scalar_fns.specs.Extension.{common}
 use Rattle.scalar_fns.proofs.Joint.{IsOfNumbers, plain_arrays, common_extends, as_long_as}
 use Rattle.scalar_fns.proofs.extension.apply_two.Goals as goal
@@ -10,7 +9,7 @@ apply_to_number_lists-requires-clause-right_long c =
     let b = c.args.right.now in
     let shape = c.in_ok-shape.shape.items in
     let is : IsOfNumbers b c.in-Some-numbers.others.now =
-    record { items = c.in-Some-numbers.ensures.1; long = c.shape-2.ensures.sound.one_item_a_place } in
+    record { items = c.in-Some-numbers.ensures.is.1; long = c.shape-2.ensures.sound.one_item_a_place } in
     let given : common a.shape b.shape ≡ Ok shape = rw (c.shape.ensures.is, c.shape-2.ensures.is) at c.in_ok-shape.ensures.0 in
     let fits = common_extends a.shape b.shape shape given in
     as_long_as b c.in-Some-numbers.others.now shape is fits.1
@@ -21,9 +20,9 @@ returns-in-Some-numbers c =
     let b = c.args.right.now in
     let shape = c.in_ok-shape.shape.items in
     let is_a : IsOfNumbers a c.in-Some.numbers.now =
-    record { items = c.in-Some.ensures.1; long = c.shape.ensures.sound.one_item_a_place } in
+    record { items = c.in-Some.ensures.is.1; long = c.shape.ensures.sound.one_item_a_place } in
     let is_b : IsOfNumbers b c.in-Some-numbers.others.now =
-    record { items = c.in-Some-numbers.ensures.1; long = c.shape-2.ensures.sound.one_item_a_place } in
+    record { items = c.in-Some-numbers.ensures.is.1; long = c.shape-2.ensures.sound.one_item_a_place } in
     let given : common a.shape b.shape ≡ Ok shape = rw (c.shape.ensures.is, c.shape-2.ensures.is) at c.in_ok-shape.ensures.0 in
     rw (plain_arrays c.args.function a b c.in-Some.numbers.now c.in-Some-numbers.others.now shape is_a is_b given)
     c.apply_to_number_lists.ensures

@@ -1,0 +1,10 @@
+pub mod NameEquality
+pub mod Scratch
+pub mod Putting
+pub mod Live
+pub mod Cycles
+pub mod Outlines
+pub mod Edges
+pub mod Working
+pub mod Refused
+pub mod Indices

@@ -1,0 +1,172 @@
+-- Entries, the names that they stand for, and what they show.
+use Rattle.std.proofs.Common.{◌≡◌, ℕ, zero, suc, ◌+◌, ◌<◌, ◌≤◌, ◌⊎◌, inl, inr, Bool, true, false, cond, List, [], ◌∷◌, ◌++◌, map, length, Option, Some, None, Ok, Err, IsSome, is_some, refl, sym, ap, ◌∙◌, subst, arith, if◌then◌else◌, ⊎_elim}
+use Rattle.std.specs.Str.{bytes_eq}
+use Rattle.std.specs.Map.{lookup, keys_of, set_value}
+use Rattle.std.specs.Option.{option_map, unwrap_or}
+use Rattle.std.specs.List.{IsDistinct}
+use Rattle.std.proofs.lemmas.Bool.{false≢true}
+use Rattle.std.proofs.lemmas.List.{length-map}
+use Rattle.indexmap.specs.IndexMap.{insert_entry}
+use Rattle.apl_expr.specs.Trees.{Tree}
+use Rattle.arrays_core.specs.Arrays.{ArrayValue}
+use Rattle.dep_order.specs.Reach.{Chain, IsAcyclic}
+use Rattle.formula_core.specs.Outcomes.{Outcome, fault}
+use Rattle.sheet_recalc.specs.Names.{Names, Binding, Data, Formula, binding, Refers, IsSheet}
+use Rattle.sheet_recalc.specs.Meaning.{shown, val, val_at}
+use Rattle.sheet_recalc.specs.Entries.{names_of, binding_of, held, adopted}
+use Rattle.sheet_recalc.specs.Outline.{IsScratch}
+use Rattle.sheet_recalc.specs.Live.{IsCurrent, IsLive, Adopting}
+use Rattle.sheet_recalc.specs.declared.entry.Entry.{Entry}
+use Rattle.sheet_recalc.specs.declared.entry.Entry.TheVariants as entry
+use Rattle.sheet_recalc.proofs.NameEquality.{equal-true, equal-same}
+use Rattle.sheet_recalc.proofs.Scratch.{val_absent}
+
+pub binding_of_name : (es : List (List ℕ × Entry)) (q : List ℕ) → binding (names_of es) q ≡ option_map binding_of (lookup (bytes_eq q) es)
+binding_of_name [] q = refl
+binding_of_name (e ∷ es) q = by (bytes_eq q e.0) refl (binding_of_name es q)
+  where
+    by : (b : Bool) → bytes_eq q e.0 ≡ b → binding (names_of es) q ≡ option_map binding_of (lookup (bytes_eq q) es) → binding (names_of (e ∷ es)) q ≡ option_map binding_of (lookup (bytes_eq q) (e ∷ es))
+    by true is rest = rw is refl
+    by false is rest = rw is rest
+
+pub keys_of_names : (es : List (List ℕ × Entry)) → keys_of (names_of es) ≡ keys_of es
+keys_of_names [] = refl
+keys_of_names (e ∷ es) = ap (λ ks. e.0 ∷ ks) (keys_of_names es)
+
+pub names_of_insert : (name : List ℕ) (v : Entry) (es : List (List ℕ × Entry)) → names_of (insert_entry bytes_eq es name v) ≡ insert_entry bytes_eq (names_of es) name (binding_of v)
+names_of_insert name v [] = refl
+names_of_insert name v (e ∷ es) = by (bytes_eq name e.0) refl (names_of_insert name v es)
+  where
+    by : (b : Bool) → bytes_eq name e.0 ≡ b → names_of (insert_entry bytes_eq es name v) ≡ insert_entry bytes_eq (names_of es) name (binding_of v)
+        → names_of (insert_entry bytes_eq (e ∷ es) name v) ≡ insert_entry bytes_eq (names_of (e ∷ es)) name (binding_of v)
+    by true is rest = rw is refl
+    by false is rest = rw is (ap (λ ns. (e.0, binding_of e.1) ∷ ns) rest)
+
+adopted_binding : (e : Entry) (o : Outcome) → binding_of (adopted e o) ≡ binding_of e
+adopted_binding (entry.Data a) o = refl
+adopted_binding (entry.Formula f) o = refl
+
+-- an entry that adopts a result keeps what it is bound to
+pub names_of_adopted : (name : List ℕ) (o : Outcome) (found : Entry) (es : List (List ℕ × Entry)) → lookup (bytes_eq name) es ≡ Some found → names_of (set_value (bytes_eq name) es (adopted found o)) ≡ names_of es
+names_of_adopted name o found [] h = refl
+names_of_adopted name o found (e ∷ es) h = by (bytes_eq name e.0) refl (names_of_adopted name o found es)
+  where
+    by : (b : Bool) → bytes_eq name e.0 ≡ b → (lookup (bytes_eq name) es ≡ Some found → names_of (set_value (bytes_eq name) es (adopted found o)) ≡ names_of es)
+        → names_of (set_value (bytes_eq name) (e ∷ es) (adopted found o)) ≡ names_of (e ∷ es)
+    by true is rest =
+        let same : Some e.1 ≡ Some found = rw is at h in
+        let this : e.1 ≡ found = cc in
+        rw is (ap (λ b. (e.0, b) ∷ names_of es) (adopted_binding found o ∙ ap binding_of (sym this)))
+    by false is rest =
+        let there : lookup (bytes_eq name) es ≡ Some found = rw is at h in
+        rw is (ap (λ ns. (e.0, binding_of e.1) ∷ ns) (rest there))
+
+-- a name bound to data shows it
+pub val_data : (names : Names) (q : List ℕ) (a : ArrayValue) → binding names q ≡ Some (Data a) → val names q ≡ Ok a
+val_data [] q a h = let never : None ≡ Some (Data a) = h in absurd cc
+val_data (e ∷ es) q a h = ap (λ b. shown q b (val_at (length es) (e ∷ es))) h
+
+-- what an entry shows once it has adopted the right result
+pub held_adopted : (names : Names) (q : List ℕ) (e : Entry) (o : Outcome) → binding names q ≡ Some (binding_of e) → o ≡ val names q → held (adopted e o) ≡ val names q
+held_adopted names q (entry.Data a) o is right = sym (val_data names q a is)
+held_adopted names q (entry.Formula f) o is right = right
+
+pub live_none : IsLive []
+unfolding IsDistinct
+live_none = record { sheet = record { distinct = tt; acyclic = never; few = omega arith }; settled = λ q. refl; current = λ q e h. absurd (false≢true (ap is_some h)) }
+  where
+    never : IsAcyclic (Refers [])
+    never a r = by r.0 r.1
+      where
+        by : (via : List (List ℕ)) → Chain (Refers []) a via a → ⊥
+        by [] c = false≢true (ap is_some c.1)
+        by (x ∷ xs) c = false≢true (ap is_some c.0.1)
+
+-- what `value` answers
+pub value_is : (es : List (List ℕ × Entry)) → IsCurrent es → (q : List ℕ) (o : Option Entry) → o ≡ lookup (bytes_eq q) es
+    → option_map held o ≡ (if is_some (binding (names_of es) q) then Some (val (names_of es) q) else None)
+value_is es current q (Some e) is = rw (binding_of_name es q, ← is) (ap Some (current q e (sym is)))
+value_is es current q None is = rw (binding_of_name es q, ← is) refl
+
+lookup_last : (q : List ℕ) (o : Outcome) (rs : List (List ℕ × Outcome)) → lookup (bytes_eq q) rs ≡ None → lookup (bytes_eq q) (rs ++ (q, o) ∷ []) ≡ Some o
+lookup_last q o [] h = rw (equal-same q q refl) refl
+lookup_last q o (r ∷ rs) h = by (bytes_eq q r.0) refl (lookup_last q o rs)
+  where
+    by : (b : Bool) → bytes_eq q r.0 ≡ b → (lookup (bytes_eq q) rs ≡ None → lookup (bytes_eq q) (rs ++ (q, o) ∷ []) ≡ Some o) → lookup (bytes_eq q) ((r ∷ rs) ++ (q, o) ∷ []) ≡ Some o
+    by true is rest = let never : Some r.1 ≡ None = rw is at h in absurd cc
+    by false is rest = let there : lookup (bytes_eq q) rs ≡ None = rw is at h in rw is (rest there)
+
+module _ (names : Names) (es es' : List (List ℕ × Entry)) (rs rs' : List (List ℕ × Outcome)) (name : List ℕ) (o : Outcome)
+    (all : rs ≡ rs' ++ (name, o) ∷ []) (taken : (q : List ℕ) → lookup (bytes_eq q) rs' ≡ cond (bytes_eq name q) None (lookup (bytes_eq q) rs)) (now : Adopting names es rs) where
+  gone : lookup (bytes_eq name) rs' ≡ None
+  gone = rw (equal-same name name refl) at (taken name)
+
+  right_now : o ≡ val names name
+  right_now = now.right name o (ap (λ xs. lookup (bytes_eq name) xs) all ∙ lookup_last name o rs' gone)
+
+  right_next : (q : List ℕ) (r : Outcome) → lookup (bytes_eq q) rs' ≡ Some r → r ≡ val names q
+  right_next q r h = by (bytes_eq name q) refl
+    where
+      by : (b : Bool) → bytes_eq name q ≡ b → r ≡ val names q
+      by true is = let never : None ≡ Some r = rw is at (sym (taken q) ∙ h) in absurd cc
+      by false is = now.right q r (rw is at (sym (taken q) ∙ h))
+
+  still_to_come : (q : List ℕ) → bytes_eq name q ≡ false → IsSome (lookup (bytes_eq q) rs) → IsSome (lookup (bytes_eq q) rs')
+  still_to_come q is h = rw (taken q, is) h
+
+  module _ (e : Entry) (found : lookup (bytes_eq name) es ≡ Some e) (written : es' ≡ set_value (bytes_eq name) es (adopted e o))
+      (changed : (q : List ℕ) → lookup (bytes_eq q) es' ≡ cond (bytes_eq name q) (Some (adopted e o)) (lookup (bytes_eq q) es)) where
+    pub adopting_some : Adopting names es' rs'
+    adopting_some = record {
+      names_are = ap names_of written ∙ names_of_adopted name o e es found ∙ now.names_are;
+      right = right_next;
+      done = done;
+    }
+      where
+        bound : binding names name ≡ Some (binding_of e)
+        bound = ap (λ ns. binding ns name) (sym now.names_are) ∙ binding_of_name es name ∙ ap (option_map binding_of) found
+
+        done : (q : List ℕ) → IsSome (binding names q) → IsSome (lookup (bytes_eq q) rs') ⊎ ((f : Entry) → lookup (bytes_eq q) es' ≡ Some f → held f ≡ val names q)
+        done q present = by (bytes_eq name q) refl
+          where
+            by : (b : Bool) → bytes_eq name q ≡ b → IsSome (lookup (bytes_eq q) rs') ⊎ ((f : Entry) → lookup (bytes_eq q) es' ≡ Some f → held f ≡ val names q)
+            by true is = inr (λ f h.
+                let same : Some (adopted e o) ≡ Some f = rw is at (sym (changed q) ∙ h) in
+                let this : adopted e o ≡ f = cc in
+                subst (λ (g : Entry). held g ≡ val names q) this (subst (λ n. held (adopted e o) ≡ val names n) (equal-true name q is) (held_adopted names name e o bound right_now)))
+            by false is = ⊎_elim (λ l. inl (still_to_come q is l)) (λ r. inr (λ f h. r f (rw is at (sym (changed q) ∙ h)))) (now.done q present)
+
+  module _ (absent : lookup (bytes_eq name) es ≡ None) (kept : es' ≡ es) where
+    pub adopting_none : Adopting names es' rs'
+    adopting_none = record { names_are = ap names_of kept ∙ now.names_are; right = right_next; done = done }
+      where
+        done : (q : List ℕ) → IsSome (binding names q) → IsSome (lookup (bytes_eq q) rs') ⊎ ((f : Entry) → lookup (bytes_eq q) es' ≡ Some f → held f ≡ val names q)
+        done q present = by (bytes_eq name q) refl
+          where
+            by : (b : Bool) → bytes_eq name q ≡ b → IsSome (lookup (bytes_eq q) rs') ⊎ ((f : Entry) → lookup (bytes_eq q) es' ≡ Some f → held f ≡ val names q)
+            by true is = inr (λ f h.
+                let none : lookup (bytes_eq q) es' ≡ None = subst (λ n. lookup (bytes_eq n) es' ≡ None) (equal-true name q is) (ap (λ xs. lookup (bytes_eq name) xs) kept ∙ absent) in
+                let never : Some f ≡ None = sym h ∙ none in absurd cc)
+            by false is = ⊎_elim (λ l. inl (still_to_come q is l)) (λ r. inr (λ f h. r f (ap (λ xs. lookup (bytes_eq q) xs) (sym kept) ∙ h))) (now.done q present)
+
+-- in the end each entry is right
+pub current_at_end : (names : Names) (es : List (List ℕ × Entry)) (rs : List (List ℕ × Outcome)) → Adopting names es rs → (0 < length rs → ⊥) → IsCurrent es
+current_at_end names es (r ∷ rs) now none = absurd (none (omega arith))
+current_at_end names es [] now none = λ q e h.
+    let present : IsSome (binding names q) = subst (λ ns. IsSome (binding ns q)) now.names_are (rw (binding_of_name es q, h) refl) in
+    ⊎_elim (λ l. absurd (false≢true l)) (λ r. subst (λ ns. held e ≡ val ns q) (sym now.names_are) (r e h)) (now.done q present)
+
+-- results of all the formulas can be adopted
+pub adopting_from_scratch : (es : List (List ℕ × Entry)) (rs : List (List ℕ × Outcome)) → IsScratch (names_of es) rs → Adopting (names_of es) es rs
+adopting_from_scratch es rs s = record { names_are = refl; right = s.right; done = λ q present. by q (lookup (bytes_eq q) es) refl }
+  where
+    bound : (q : List ℕ) (e : Entry) → lookup (bytes_eq q) es ≡ Some e → binding (names_of es) q ≡ Some (binding_of e)
+    bound q e is = binding_of_name es q ∙ ap (option_map binding_of) is
+
+    by : (q : List ℕ) (o : Option Entry) → lookup (bytes_eq q) es ≡ o → IsSome (lookup (bytes_eq q) rs) ⊎ ((e : Entry) → lookup (bytes_eq q) es ≡ Some e → held e ≡ val (names_of es) q)
+    by q None is = inr (λ e h. let never : None ≡ Some e = sym is ∙ h in absurd cc)
+    by q (Some (entry.Data a)) is = inr (λ e h.
+        let same : Some (entry.Data a) ≡ Some e = sym is ∙ h in
+        let this : entry.Data a ≡ e = cc in
+        subst (λ (f : Entry). held f ≡ val (names_of es) q) this (sym (val_data (names_of es) q a (bound q (entry.Data a) is))))
+    by q (Some (entry.Formula f)) is = inl (s.all q f.tree (bound q (entry.Formula f) is))

@@ -1,0 +1,109 @@
+-- Why a change was refused, from why a name could not be bound so.
+use Rattle.std.proofs.Common.{◌≡◌, ◌≤◌, ◌<◌, ◌+◌, ◌∙◌, ℕ, ℤ, inl, inr, List, [], ◌∷◌, length, Bool, true, false, is_some, IsSome, Option, Some, None, Result, Ok, Err, Vec, Global, sym, ap, subst, arith, refl}
+use Rattle.std.specs.Map.{keys_of}
+use Rattle.std.proofs.lemmas.Bool.{false≢true}
+use Rattle.std.proofs.lemmas.List.{length-map, length-append}
+use Rattle.dep_order.specs.Reach.{IsAcyclic, IsCycle}
+use Rattle.apl_expr.specs.Trees.{Tree, Constant}
+use Rattle.arrays_core.specs.Arrays.{ArrayValue}
+use Rattle.formula_core.specs.Meaning.{eval}
+use Rattle.sheet_recalc.specs.Names.{Names, Binding, Data, Formula, binding, put, Refers, IsSheet}
+use Rattle.sheet_recalc.specs.Meaning.{val}
+use Rattle.sheet_recalc.specs.Cells.{cell_put}
+use Rattle.sheet_recalc.specs.Changes.{Define, Store, SetCell, Refuses, CannotPut, IsCycleFrom, HasRoom, IsFullFor, IsCycleIn}
+use Rattle.sheet_recalc.specs.declared.refusal.Refusal.{Refusal}
+use Rattle.sheet_recalc.specs.declared.refusal.Refusal.TheVariants as why
+use Rattle.sheet_recalc.proofs.Cycles.{no_cycle_by_data}
+use Rattle.sheet_recalc.proofs.Putting.{keys_put, put_last}
+
+pub refused_define : (names : Names) (name : List ℕ) (t : Tree) (cause : Refusal) → CannotPut names name (Formula t) cause → Refuses names (Define name t) cause
+refused_define names name t (why.Cycle c) h = h
+refused_define names name t why.SheetFull h = h
+refused_define names name t why.NoMemory h = tt
+refused_define names name t why.NotFound h = h
+refused_define names name t why.NotData h = h
+refused_define names name t why.Rank h = h
+refused_define names name t why.Length h = h
+refused_define names name t why.Index h = h
+refused_define names name t why.Domain h = h
+refused_define names name t (why.Fault e) h = h
+
+-- a cause that is no cycle is want of memory
+pub not_cycle : (names : Names) (name : List ℕ) (b : Binding) (new : Names) (cause : Refusal) → IsCycleIn new cause → ((c : Vec (List ℕ) Global) → cause ≡ why.Cycle c → ⊥) → CannotPut names name b cause
+not_cycle names name b new (why.Cycle c) h none = absurd (none c refl)
+not_cycle names name b new why.SheetFull h none = absurd h
+not_cycle names name b new why.NoMemory h none = tt
+not_cycle names name b new why.NotFound h none = h
+not_cycle names name b new why.NotData h none = h
+not_cycle names name b new why.Rank h none = h
+not_cycle names name b new why.Length h none = h
+not_cycle names name b new why.Index h none = h
+not_cycle names name b new why.Domain h none = h
+not_cycle names name b new (why.Fault e) h none = h
+
+-- data makes no cycle
+pub refused_data : (names : Names) (name : List ℕ) (t : Tree) (a : ArrayValue) → IsAcyclic (Refers names) → eval t (val names) ≡ Ok a → (cause : Refusal) → CannotPut names name (Data a) cause → Refuses names (Store name t) cause
+refused_data names name t a acyclic is (why.Cycle c) h = never c.items h
+  where
+    never : (cycle : List (List ℕ)) → IsCycleFrom (Refers (put names name (Data a))) name cycle → ⊥
+    never [] h = h
+    never (x ∷ via) h = no_cycle_by_data names name a acyclic x (via, h.1)
+refused_data names name t a acyclic is why.SheetFull h = (a, is, h.1)
+refused_data names name t a acyclic is why.NoMemory h = tt
+refused_data names name t a acyclic is why.NotFound h = h
+refused_data names name t a acyclic is why.NotData h = h
+refused_data names name t a acyclic is why.Rank h = h
+refused_data names name t a acyclic is why.Length h = h
+refused_data names name t a acyclic is why.Index h = h
+refused_data names name t a acyclic is why.Domain h = h
+refused_data names name t a acyclic is (why.Fault e) h = absurd h
+
+-- a name that is present is bound to other data without a refusal but for want of memory
+pub only_memory : (names : Names) (name : List ℕ) (a : ArrayValue) → IsAcyclic (Refers names) → IsSome (binding names name) → (cause : Refusal) → CannotPut names name (Data a) cause → cause ≡ why.NoMemory
+only_memory names name a acyclic present (why.Cycle c) h = never c.items h
+  where
+    never : (cycle : List (List ℕ)) → IsCycleFrom (Refers (put names name (Data a))) name cycle → why.Cycle c ≡ why.NoMemory
+    never [] h = absurd h
+    never (x ∷ via) h = absurd (no_cycle_by_data names name a acyclic x (via, h.1))
+only_memory names name a acyclic present why.SheetFull h = absurd (false≢true (sym (ap is_some h.1.0) ∙ present))
+only_memory names name a acyclic present why.NoMemory h = refl
+only_memory names name a acyclic present why.NotFound h = absurd h
+only_memory names name a acyclic present why.NotData h = absurd h
+only_memory names name a acyclic present why.Rank h = absurd h
+only_memory names name a acyclic present why.Length h = absurd h
+only_memory names name a acyclic present why.Index h = absurd h
+only_memory names name a acyclic present why.Domain h = absurd h
+only_memory names name a acyclic present (why.Fault e) h = absurd h
+
+-- a cell was edited, so its name is present
+pub cell_present : (b : Option Binding) (places : List ℤ) (literal : Constant) (a : ArrayValue) → cell_put b places literal ≡ Ok a → IsSome b
+cell_present None places literal a h = let never : Err why.NotFound ≡ Ok a = h in absurd cc
+cell_present (Some b) places literal a h = refl
+
+pub refused_cell : (names : Names) (name : List ℕ) (places : List ℤ) (literal : Constant) (a : ArrayValue) → IsAcyclic (Refers names) → cell_put (binding names name) places literal ≡ Ok a
+    → (cause : Refusal) → CannotPut names name (Data a) cause → Refuses names (SetCell name places literal) cause
+refused_cell names name places literal a acyclic is cause h =
+    subst (λ (y : Refusal). Refuses names (SetCell name places literal) y) (sym (only_memory names name a acyclic (cell_present (binding names name) places literal a is) cause h)) tt
+
+-- how many names there are once one is bound anew
+module _ (names : Names) (name : List ℕ) (b : Binding) where
+  present_long : IsSome (binding names name) → length (put names name b) ≡ length names
+  present_long there =
+      sym (length-map (put names name b) (λ (e : List ℕ × Binding). e.0)) ∙ (ap length (keys_put name b names there) ∙ length-map names (λ (e : List ℕ × Binding). e.0))
+
+  absent_long : binding names name ≡ None → length (put names name b) ≡ length names + 1
+  absent_long none = ap length (put_last name b names none) ∙ length-append names ((name, b) ∷ [])
+
+  pub has_room : length (put names name b) ≤ 1024 → HasRoom names name
+  has_room few = by (binding names name) refl
+    where
+      by : (o : Option Binding) → binding names name ≡ o → HasRoom names name
+      by (Some c) is = inl (subst (λ o. IsSome o) (sym is) refl)
+      by None is = inr (omega (arith, few, absent_long is))
+
+  pub is_full : length names ≤ 1024 → 1024 < length (put names name b) → IsFullFor names name
+  is_full few many = by (binding names name) refl
+    where
+      by : (o : Option Binding) → binding names name ≡ o → IsFullFor names name
+      by (Some c) is = absurd (omega (arith, few, many, present_long (subst (λ o. IsSome o) (sym is) refl)))
+      by None is = (is, omega (arith, many, absent_long is))

@@ -1,0 +1,99 @@
+-- Where each name stands after all that it refers to, one step from what the names show gives what they show: a greater depth
+-- changes nothing. And then nothing reaches itself.
+use Rattle.std.proofs.Common.{◌≡◌, ℕ, zero, suc, ◌+◌, ◌<◌, ◌≤◌, ◌⊎◌, inl, inr, List, [], ◌∷◌, ◌++◌, take, length, get_or, slice_index_or, Option, Some, None, Ok, Err, IsSome, refl, sym, ap, ◌∙◌, subst, arith}
+use Rattle.std.specs.List.{Contains}
+use Rattle.std.proofs.lemmas.List.{get_or-take, get_or_default, length-take}
+use Rattle.std.proofs.lemmas.List.Elements.{Contains-append_left, Contains-append_right}
+use Rattle.dep_order.specs.Reach.{Chain, Reaches, IsAcyclic}
+use Rattle.apl_expr.specs.Trees.{Tree, Literal, Variable, Applied1, Applied2}
+use Rattle.arrays_core.specs.declared.item.Kind.TheVariants.{Value}
+use Rattle.formula_core.specs.Outcomes.{Outcome, fault}
+use Rattle.formula_core.specs.Meaning.{eval, applied1, applied2, names_in}
+use Rattle.sheet_recalc.specs.Names.{Names, Binding, Data, Formula, binding, Refers}
+use Rattle.sheet_recalc.specs.Meaning.{shown, with_origin, val_at, val}
+use Rattle.sheet_recalc.specs.NameOrder.{IsNameOrder}
+
+-- only the names that stand in an expression matter
+pub eval_same : (t : Tree) (f g : List ℕ → Outcome) → ((x : List ℕ) → Contains (names_in t) x → f x ≡ g x) → eval t f ≡ eval t g
+eval_same (Literal c) f g h = refl
+eval_same (Variable x) f g h = h x (0, omega arith, refl)
+eval_same (Applied1 k b) f g h = ap (applied1 k) (eval_same b f g h)
+eval_same (Applied2 k a b) f g h =
+    ap (λ r. applied2 k r (eval a f)) (eval_same b f g (λ x o. h x (Contains-append_right (names_in a) (names_in b) x o)))
+    ∙ ap (λ r. applied2 k (eval b g) r) (eval_same a f g (λ x o. h x (Contains-append_left (names_in a) (names_in b) x o)))
+
+pub shown_same : (name : List ℕ) (b : Option Binding) (f g : List ℕ → Outcome) → ((t : Tree) (x : List ℕ) → b ≡ Some (Formula t) → Contains (names_in t) x → f x ≡ g x) → shown name b f ≡ shown name b g
+shown_same name None f g h = refl
+shown_same name (Some (Data a)) f g h = refl
+shown_same name (Some (Formula t)) f g h = ap (with_origin name) (eval_same t f g (λ x o. h t x refl o))
+
+pub front : {A : Type 0} (d : A) (xs : List A) (i : ℕ) (x : A) → i < length xs → Contains (take i xs) x → (k : ℕ) × (k < i) × (slice_index_or xs k d ≡ x)
+front d xs i x h c =
+    let below : c.0 < i = omega (arith, c.1, length-take i xs) in
+    (c.0, below, get_or_default xs c.0 d x (omega arith) ∙ (sym (get_or-take i xs c.0 x below) ∙ c.2))
+
+module _ (names : Names) where
+  pub val_absent : (d : ℕ) (x : List ℕ) → binding names x ≡ None → val_at d names x ≡ Err (fault Value)
+  val_absent zero x e = refl
+  val_absent (suc d) x e = ap (λ b. shown x b (val_at d names)) e
+
+  -- a binding is there, or not
+  pub cases_binding : (P : Type 0) → (x : List ℕ) → (binding names x ≡ None → P) → (IsSome (binding names x) → P) → P
+  cases_binding P x absent present = by (binding names x) refl
+    where
+      by : (b : Option Binding) → binding names x ≡ b → P
+      by None e = absent e
+      by (Some b) e = present (subst (λ o. IsSome o) (sym e) refl)
+
+  module _ (order : List (List ℕ)) (o : IsNameOrder names order) where
+    abbrev at_place : ℕ → List ℕ
+    at_place i = slice_index_or order i []
+
+    -- past its place in the order, the depth does not matter
+    pub stable : (d e i : ℕ) → i < length order → i < d → i < e → val_at d names (at_place i) ≡ val_at e names (at_place i)
+    stable zero e i h p q = absurd (omega arith)
+    stable (suc d) zero i h p q = absurd (omega arith)
+    stable (suc d) (suc e) i h p q =
+        shown_same (at_place i) (binding names (at_place i)) (val_at d names) (val_at e names)
+        (λ t x is stands. cases_binding (val_at d names x ≡ val_at e names x) x
+        (λ none. val_absent d x none ∙ sym (val_absent e x none))
+        (λ present.
+        let k = front [] order i x h (o.after i x h (t, is, stands) present) in
+        subst (λ y. val_at d names y ≡ val_at e names y) k.2 (stable d e k.0 (omega (arith, k.1)) (omega (arith, k.1)) (omega (arith, k.1)))))
+
+    place_in : (name : List ℕ) → IsSome (binding names name) → (i : ℕ) × (i < length order) × (at_place i ≡ name)
+    place_in name present =
+        let at = o.all name present in
+        (at.0, at.1, get_or_default order at.0 [] name at.1 ∙ at.2)
+
+    -- what a name shows is one step from what all names show
+    pub val_is : (name : List ℕ) → val names name ≡ shown name (binding names name) (val names)
+    val_is name = cases_binding (val names name ≡ shown name (binding names name) (val names)) name
+        (λ none. val_absent (length names) name none ∙ sym (ap (λ b. shown name b (val names)) none))
+        (λ present.
+        let at = place_in name present in
+        subst (λ y. val_at (length names) names y ≡ val_at (suc (length names)) names y) at.2
+        (stable (length names) (suc (length names)) at.0 at.1 (omega (arith, at.1, o.short)) (omega (arith, at.1, o.short))))
+
+    present_of : (a : List ℕ) (via : List (List ℕ)) (b : List ℕ) → Chain (Refers names) a via b → IsSome (binding names a)
+    present_of a [] b r = subst (λ s. IsSome s) (sym r.1) refl
+    present_of a (x ∷ xs) b r = subst (λ s. IsSome s) (sym r.0.1) refl
+
+    -- a chain leads back in the order
+    down : (via : List (List ℕ)) (i : ℕ) (b : List ℕ) → i < length order → Chain (Refers names) (at_place i) via b → IsSome (binding names b) → (k : ℕ) × (k < i) × (at_place k ≡ b)
+    down [] i b h r present = front [] order i b h (o.after i b h r present)
+    down (x ∷ xs) i b h r present =
+        let k = front [] order i x h (o.after i x h r.0 (present_of x xs b r.1)) in
+        let m = down xs k.0 b (omega (arith, k.1)) (subst (λ y. Chain (Refers names) y xs b) (sym k.2) r.1) present in
+        (m.0, omega (arith, m.1, k.1), m.2)
+
+    never : (a : List ℕ) (via : List (List ℕ)) → Chain (Refers names) a via a → (n i : ℕ) → i < n → i < length order → at_place i ≡ a → ⊥
+    never a via r zero i p h e = absurd (omega arith)
+    never a via r (suc n) i p h e =
+        let k = down via i a h (subst (λ y. Chain (Refers names) y via a) (sym e) r) (present_of a via a r) in
+        never a via r n k.0 (omega (arith, k.1)) (omega (arith, k.1)) k.2
+
+    pub acyclic_from_order : IsAcyclic (Refers names)
+    acyclic_from_order a r =
+        let at = place_in a (present_of a r.0 a r.1) in
+        never a r.0 r.1 (suc at.0) at.0 (omega arith) at.1 at.2

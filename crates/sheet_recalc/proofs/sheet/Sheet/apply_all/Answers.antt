@@ -1,0 +1,18 @@
+use Rattle.std.proofs.Common.{◌≡◌, ◌<◌, ◌≤◌, ◌++◌, [], ◌∷◌, List, Result, map, length, refl, sym, ap, ◌∙◌, subst, arith}
+use Rattle.std.proofs.lemmas.List.{append-nil}
+use Rattle.std.proofs.lemmas.Bool.{false≢true}
+use Rattle.sheet_recalc.specs.declared.history.Change.{Change}
+use Rattle.sheet_recalc.specs.declared.refusal.Refusal.{Refusal}
+use Rattle.sheet_recalc.specs.History.{Run, change_of}
+use Rattle.sheet_recalc.proofs.sheet.Sheet.apply_all.Goals as goal
+
+none_left : (xs : List Change) → (0 < length xs → ⊥) → xs ≡ []
+none_left [] h = refl
+none_left (x ∷ xs) h = absurd (h (omega arith))
+
+pub returns-clause-run : goal.returns-clause-run
+returns-clause-run c =
+    let names = c.loop-change.self.names in
+    let empty = none_left c.loop-change.changes.items (λ l. false≢true (c.in_default.ensures.variant.1 (omega (arith, c.loop-change.changes.ok.0)))) in
+    subst (λ (told : List (Result (Unit {0}) Refusal)). Run c.args.self.now.names (map change_of c.args.changes.items) told names) (append-nil c.loop-change.answers.items)
+    (c.loop-change.invariant.run [] names (subst (λ (cs : List Change). Run names (map change_of cs) [] names) (sym empty) refl))

@@ -1,0 +1,12 @@
+use Rattle.std.proofs.Common.{◌≡◌, ◌∙◌, sym, Ok}
+use Rattle.std.proofs.lemmas.Result.{IfErr-weaker}
+use Rattle.apl_expr.specs.Trees.{tree_of}
+use Rattle.sheet_recalc.proofs.Refused.{refused_data}
+use Rattle.sheet_recalc.proofs.sheet.Sheet.data.Goals as goal
+
+pub returns-clause-refused : goal.returns-clause-refused
+returns-clause-refused c =
+    let names = c.args.self.now.names in
+    IfErr-weaker c.put_data.result _ _
+    (λ cause h. refused_data names c.args.name (tree_of c.args.tree) c.in-Ok.array c.put_data.ensures.sound.acyclic (sym c.in_ok-array.ensures ∙ c.in-Ok.is) cause h)
+    c.put_data.ensures.refused

@@ -1,0 +1,16 @@
+use Rattle.std.proofs.Common.{◌≡◌, subst, Ok}
+use Rattle.sheet_recalc.specs.Names.{binding}
+use Rattle.sheet_recalc.specs.Cells.{cell_put}
+use Rattle.sheet_recalc.specs.Live.{SheetValue}
+use Rattle.std.proofs.lemmas.Result.{IfErr-weaker}
+use Rattle.apl_expr.specs.Trees.{constant_of}
+use Rattle.sheet_recalc.proofs.Refused.{refused_cell}
+use Rattle.sheet_recalc.proofs.sheet.Sheet.set_cell.Goals as goal
+
+pub returns-clause-refused : goal.returns-clause-refused
+returns-clause-refused c =
+    let names = c.args.self.now.names in
+    let is = subst (λ (s : SheetValue). cell_put (binding s.names c.args.name) c.args.places.now (constant_of c.args.literal.now) ≡ Ok c.in_ok-array.array) c.self.view_is c.in_ok-array.ensures in
+    IfErr-weaker c.put_data.result _ _
+    (λ cause h. refused_cell names c.args.name c.args.places.now (constant_of c.args.literal.now) c.in_ok-array.array c.put_data.ensures.sound.acyclic is cause h)
+    c.put_data.ensures.refused
