@@ -1,7 +1,19 @@
 //! Lines: what each asks for.
 
+ghost use Rattle.std.specs.Prelude.{◌≡◌, ◌<◌, ◌≤◌, ◌∷◌, length, None, Some, MatchOption};
+ghost use Rattle.std.specs.Str.{chars};
+ghost use Rattle.apl_tokens.specs.Lexemes.{lexemes, Named, Sign};
+ghost use Rattle.apl_expr.specs.Lines.{data_word, IsCommand};
+ghost use Rattle.apl_expr.specs.Fronts.{name_before, behind_data};
+ghost use Rattle.apl_expr.specs.Answers.{IsAnswered};
+
+use crate::edit::edited;
 use crate::expr::{Expr, Literal};
-use apl_tokens::Name;
+use crate::fault::{LineFault, ParseFault};
+use crate::limits::MOST_TOKENS;
+use crate::parser::{literal, parse};
+use apl_tokens::{Name, Spanned, Token, TokenFault, tokens};
+use std::alloc::Global;
 
 /// What a line asks for.
 #[derive(Debug, Drop)]
@@ -16,4 +28,132 @@ pub enum Command {
     Cell(Name, Vec<i64>, Literal),
     /// `expr`: its value is shown.
     Show(Expr),
+}
+
+/// The name at the front that the sign follows, and what is behind them.
+fn name_before(tokens: &[Spanned], sign: char) -> Option<(Name, &[Spanned])>
+    ensures { MatchOption result (name_before sign (lexemes tokens.now) ≡ None) (λ x. name_before sign (lexemes tokens.now) ≡ Some (x.0, lexemes x.1.now)) }
+{
+    let (first, rest) = tokens.split_first()?;
+    let (second, rest) = rest.split_first()?;
+    match &first.token {
+        Token::Word(name) => match &second.token {
+            Token::Mark(mark) => {
+                if *mark == sign {
+                    Some((*name, rest))
+                } else {
+                    None
+                }
+            }
+            _ => None,
+        },
+        _ => None,
+    }
+}
+
+/// What is behind `) DATA`.
+fn behind_data(tokens: &[Spanned]) -> Option<&[Spanned]>
+    ensures { MatchOption result (behind_data (lexemes tokens.now) ≡ None) (λ x. behind_data (lexemes tokens.now) ≡ Some (lexemes x.now)) }
+{
+    let (first, rest) = tokens.split_first()?;
+    let (second, rest) = rest.split_first()?;
+    match &first.token {
+        Token::Mark(mark) => match &second.token {
+            Token::Word(word) => {
+                if *mark == ')' && word.text() == "DATA" {
+                    Some(rest)
+                } else {
+                    None
+                }
+            }
+            _ => None,
+        },
+        _ => None,
+    }
+}
+
+/// The definition with what is behind `NAME ←`.
+fn define(alloc: Global, name: Name, rest: &[Spanned]) -> Result<Command, ParseFault>
+    requires { length rest.now ≤ 4094 }
+    ensures { IsCommand (Named name ∷ Sign 0x2190 ∷ lexemes rest.now) result }
+{
+    let formula = parse(alloc, rest)?;
+    Ok(Command::Define(name, formula))
+}
+
+/// The data with what is behind `) DATA`.
+fn data(alloc: Global, rest: &[Spanned]) -> Result<Command, ParseFault>
+    requires { length rest.now ≤ 4094 }
+    ensures { IsCommand (Sign 0x29 ∷ Named data_word ∷ lexemes rest.now) result }
+{
+    let Some(found) = name_before(rest, '←') else {
+        return Err(ParseFault::Syntax);
+    };
+    let value = parse(alloc, found.1)?;
+    Ok(Command::Data(found.0, value))
+}
+
+/// The edit with what is behind `NAME [`.
+fn cell(alloc: Global, name: Name, rest: &[Spanned]) -> Result<Command, ParseFault>
+    requires { length rest.now ≤ 4094 }
+    ensures { IsCommand (Named name ∷ Sign 0x5b ∷ lexemes rest.now) result }
+{
+    let written = edited(alloc, rest)?;
+    Ok(Command::Cell(name, written.0, literal(written.1)))
+}
+
+/// The expression to show.
+fn show(alloc: Global, tokens: &[Spanned]) -> Result<Command, ParseFault>
+    requires some { 0 < length tokens.now }
+    requires short { length tokens.now ≤ 4096 }
+    requires no_definition { name_before 0x2190 (lexemes tokens.now) ≡ None }
+    requires no_data { behind_data (lexemes tokens.now) ≡ None }
+    requires no_cell { name_before 0x5b (lexemes tokens.now) ≡ None }
+    ensures { IsCommand (lexemes tokens.now) result }
+{
+    let shown = parse(alloc, tokens)?;
+    Ok(Command::Show(shown))
+}
+
+/// What a line of tokens asks for.
+fn command_of(alloc: Global, tokens: &[Spanned]) -> Result<Command, ParseFault>
+    ensures { IsCommand (lexemes tokens.now) result }
+{
+    if tokens.len() > MOST_TOKENS {
+        return Err(ParseFault::Limit);
+    }
+    if tokens.is_empty() {
+        return Ok(Command::Nothing);
+    }
+    if let Some(found) = name_before(tokens, '←') {
+        return define(alloc, found.0, found.1);
+    }
+    if let Some(rest) = behind_data(tokens) {
+        return data(alloc, rest);
+    }
+    if let Some(found) = name_before(tokens, '[') {
+        return cell(alloc, found.0, found.1);
+    }
+    show(alloc, tokens)
+}
+
+/// What a line of text asks for.
+///
+/// The first token fault from the left comes before all else. Then more than 4,096 tokens are `Limit`, whatever they are;
+/// then tokens that are no line of the grammar are `Syntax`; then an expression whose tree is more than 256 high or has
+/// more than 512 nodes is `Limit`. `DATA` is a word only behind `)`, and an ordinary name elsewhere.
+pub fn line(alloc: Global, text: &str) -> Result<Command, LineFault>
+    ensures { IsAnswered (chars text.now) result }
+{
+    match tokens(alloc, text) {
+        Ok(found) => match command_of(alloc, &found) {
+            Ok(command) => Ok(command),
+            Err(ParseFault::Syntax) => Err(LineFault::Syntax),
+            Err(ParseFault::Limit) => Err(LineFault::Limit),
+            Err(ParseFault::NoMemory) => Err(LineFault::NoMemory),
+        },
+        Err(TokenFault::Syntax(_)) => Err(LineFault::Syntax),
+        Err(TokenFault::Limit(_)) => Err(LineFault::Limit),
+        Err(TokenFault::NoMemory) => Err(LineFault::NoMemory),
+    }
 }

@@ -1,7 +1,7 @@
 -- The bytes of a name, and zeros up to the room.
-use Rattle.std.proofs.Common.{◌≡◌, ℕ, ◌+◌, ◌-◌, ◌≤◌, List, [], ◌∷◌, ◌++◌, length, take, drop, refl, sym, ap, ◌∙◌, arith, length-append, length-drop}
+use Rattle.std.proofs.Common.{◌≡◌, ℕ, ◌-◌, ◌≤◌, List, ◌++◌, length, drop, ap, ◌∙◌, arith, length-append, length-drop}
 use Rattle.std.specs.Prelude.{replicate}
-use Rattle.std.proofs.Math.Seq.{take-append_seam, drop-append_seam}
+use Rattle.std.proofs.Math.Seq.{drop-append_seam}
 use Rattle.std.proofs.lemmas.List.{length-replicate, drop-replicate}
 
 module _ (room : ℕ) (zeros bytes : List ℕ) (are_zeros : zeros ≡ replicate room 0) (fits : length bytes ≤ room) where

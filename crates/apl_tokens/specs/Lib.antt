@@ -4,3 +4,4 @@ pub mod Characters
 pub mod Scans
 pub mod Scanner
 pub mod Scanning
+pub mod Order

@@ -1,5 +1,5 @@
 -- A name is the bytes of its text.
-use Rattle.std.specs.Prelude.{◌≡◌, ℕ, ◌+◌, ◌-◌, ◌≤◌, true, List, [], ◌∷◌, ◌++◌, length, take, drop, replicate}
+use Rattle.std.specs.Prelude.{◌≡◌, ℕ, ◌-◌, ◌≤◌, true, List, ◌++◌, length, take, drop, replicate}
 use Rattle.std.specs.Str.{is_utf8}
 use Rattle.std.proofs.Common.{sym, ◌∙◌, ap, arith}
 use Rattle.std.proofs.lemmas.List.{length-take-le, take-append-drop}
@@ -16,5 +16,5 @@ pub stored_again : (a : Inside) → IsStored a → stored (take a.len a.bytes) �
 stored_again a h =
     let n : length (take a.len a.bytes) ≡ a.len = length-take-le a.len a.bytes (omega arith) in
     let b : take a.len a.bytes ++ replicate (63 - length (take a.len a.bytes)) 0 ≡ a.bytes =
-      ap (λ k. take a.len a.bytes ++ replicate (63 - k) 0) n ∙ (ap (λ ys. take a.len a.bytes ++ ys) (sym h.2) ∙ take-append-drop a.len a.bytes) in
+    ap (λ k. take a.len a.bytes ++ replicate (63 - k) 0) n ∙ (ap (λ ys. take a.len a.bytes ++ ys) (sym h.2) ∙ take-append-drop a.len a.bytes) in
     ap (λ (p : List ℕ × ℕ). record { bytes = p.0; len = p.1 }) (λ j. (b j, n j))

@@ -1,15 +1,17 @@
 //! Names.
 
 ghost use Rattle.std.specs.Prelude.{◌≡◌, ℕ, ◌<◌, ◌≤◌, true, List, length, IfSome, IfNone};
-ghost use Rattle.std.specs.Str.{is_utf8};
+ghost use Rattle.std.specs.Str.{is_utf8, chars};
+ghost use Rattle.apl_tokens.specs.Characters.{spells_name};
 
+use crate::characters::spells_name;
 use std::hash::{Hash, Hasher};
 use std::marker::Model;
 
 /// The most bytes of a name.
 pub const MOST_BYTES: usize = 63;
 
-/// A name: its text, at most 63 bytes of UTF-8.
+/// A name, an identifier of ISO 8485: its text, at most 63 bytes of UTF-8.
 #[derive(Clone, Copy, Debug)]
 pub struct Name {
     bytes: [u8; 63],
@@ -33,6 +35,18 @@ impl Model for Name {
 }
 
 impl Name {
+    /// The name that the whole text is, where it is one: a letter `A` to `Z`, `a` to `z`, `∆` or `⍙`, and then letters,
+    /// digits and `_`, at most 63 bytes in all. Any other text is none.
+    pub fn read(text: &str) -> Option<Name>
+        ensures some { IfSome result (λ n. (spells_name (chars text.now) ≡ true) × (length text.now ≤ 63) × (n ≡ text.now)) }
+        ensures none { IfNone result (spells_name (chars text.now) ≡ true → 63 < length text.now) }
+    {
+        if !spells_name(text) {
+            return None;
+        }
+        Name::of_letters(text)
+    }
+
     /// The name of these bytes, unless they are too many.
     pub(crate) fn of_letters(letters: &str) -> Option<Name>
         ensures found { IfSome result (λ n. n ≡ letters.now) }

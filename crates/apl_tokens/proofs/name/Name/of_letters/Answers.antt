@@ -1,4 +1,4 @@
-use Rattle.std.proofs.Common.{◌≡◌, ◌≤◌, ◌++◌, refl, arith, rules, length, take, subst, sym, ap, true, drop}
+use Rattle.std.proofs.Common.{refl, arith}
 use Rattle.std.proofs.Math.Seq.{take-append_seam}
 use Rattle.std.proofs.lemmas.Str.{is_utf8-from_IsUtf8}
 use Rattle.apl_tokens.proofs.Names.{name_room, name_zeros}

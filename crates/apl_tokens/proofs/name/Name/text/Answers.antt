@@ -1,4 +1,4 @@
-use Rattle.std.proofs.Common.{◌≡◌, List, ℕ, Result, Ok, Err, subst, sym, rules}
+use Rattle.std.proofs.Common.{List, ℕ, Result, Ok, Err, subst, sym, rules}
 use Rattle.std.specs.Result.{IsOk, MatchResult}
 use Rattle.std.specs.Str.{IsUtf8}
 use Rattle.std.proofs.lemmas.Str.{IsUtf8-from_is_utf8}
@@ -11,4 +11,4 @@ is_ok P Q U (Err e) given holds = absurd (given.0 holds)
 pub unwrap-requires : goal.unwrap-requires
 unwrap-requires c =
     is_ok _ _ (IsUtf8 c.bytes.result.now) c.from_utf8.result c.from_utf8.ensures.cases
-      (subst (λ (xs : List ℕ). IsUtf8 xs) (sym c.bytes.ensures.bytes) (IsUtf8-from_is_utf8 c.args.self.now c.bytes.ensures.utf8))
+    (subst (λ (xs : List ℕ). IsUtf8 xs) (sym c.bytes.ensures.bytes) (IsUtf8-from_is_utf8 c.args.self.now c.bytes.ensures.utf8))

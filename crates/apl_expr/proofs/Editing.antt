@@ -1,0 +1,34 @@
+-- One lexeme more of an edit.
+use Rattle.std.proofs.Common.{◌≡◌, ℕ, ◌+◌, ◌<◌, ◌≤◌, subst, Option, Some, None, Result, Err, List, [], ◌∷◌, length, drop, get_or, sym, ap, ◌∙◌, refl, drop-cons, add-one}
+use Rattle.std.specs.Prelude.{ℤ}
+use Rattle.std.specs.Global.{Vec}
+use Rattle.std.proofs.Math.ListN.{drop_of_length-le}
+use Rattle.apl_tokens.specs.declared.token.Spanned.{Spanned}
+use Rattle.apl_tokens.specs.Lexemes.{Lexeme, lexeme, lexemes}
+use Rattle.apl_expr.specs.declared.fault.ParseFault.{ParseFault}
+use Rattle.apl_expr.specs.declared.fault.ParseFault.TheVariants.{Syntax, Limit, NoMemory}
+use Rattle.apl_expr.specs.Edits.{Edit, Written, edit_step, edit_end, edits, EditSteps, EditGives}
+
+edits_next : (ts : List Spanned) (i : ℕ) (d : Spanned) (s : Edit) → i < length ts → edits (lexemes (drop i ts)) (Some s) ≡ edits (lexemes (drop (i + 1) ts)) (edit_step (lexeme (get_or ts i d).token) s)
+unfolding edits
+edits_next ts i d s h = ap (λ (xs : List Spanned). edits (lexemes xs) (Some s)) (drop-cons ts i d h) ∙ rw add-one refl
+
+edits_none : (ts : List Lexeme) → edits ts None ≡ None
+unfolding edits
+edits_none [] = refl
+edits_none (t ∷ ts) = refl
+
+pub kept : (ts : List Spanned) (i : ℕ) (x : Spanned) (s : Edit) (o : Option Edit) (w : Option Written) → i < length ts → x ≡ get_or ts i x → edits (lexemes (drop i ts)) (Some s) ≡ w → edit_step (lexeme x.token) s ≡ o → edits (lexemes (drop (i + 1) ts)) o ≡ w
+kept ts i x s o w h is so_far stepped =
+    ap (λ (p : Option Edit). edits (lexemes (drop (i + 1) ts)) p) (sym stepped ∙ ap (λ (y : Spanned). edit_step (lexeme y.token) s) is) ∙ sym (edits_next ts i x s h) ∙ so_far
+
+-- a fault of a step is that of the whole
+pub failed : (e : ParseFault) (ts : List Spanned) (i : ℕ) (x : Spanned) (s : Edit) (w : Option Written) → i < length ts → x ≡ get_or ts i x → edits (lexemes (drop i ts)) (Some s) ≡ w → EditSteps (Err e) (edit_step (lexeme x.token) s) → EditGives (Err e) w
+failed Syntax ts i x s w h is so_far fault = sym (kept ts i x s None w h is so_far fault) ∙ edits_none (lexemes (drop (i + 1) ts))
+failed Limit ts i x s w h is so_far fault = fault
+failed NoMemory ts i x s w h is so_far fault = tt
+
+-- the tokens are read
+pub finished : (result : Result (Vec ℤ × Vec ℤ) ParseFault) (ts : List Spanned) (i : ℕ) (s : Edit) (w : Option Written) → length ts ≤ i → edits (lexemes (drop i ts)) (Some s) ≡ w → EditGives result (edit_end s) → EditGives result w
+unfolding edits
+finished result ts i s w h so_far given = subst (λ (o : Option Written). EditGives result o) (sym (ap (λ (xs : List Spanned). edits (lexemes xs) (Some s)) (drop_of_length-le ts h)) ∙ so_far) given

@@ -1,0 +1,29 @@
+use Rattle.std.proofs.Common.{◌<◌, ◌≤◌, inl, inr, arith}
+use Rattle.std.proofs.lemmas.List.{length-map}
+use Rattle.std.proofs.lemmas.Grind.{common_steps}
+use Rattle.std.proofs.lemmas.Result.{err_from_is_err_and}
+use Rattle.apl_tokens.specs.Lexemes.{lexemes}
+use Rattle.apl_expr.specs.Trees.{tree_of, height, nodes}
+use Rattle.apl_expr.proofs.Parsed.{refused, too_large, read_tree}
+use Rattle.apl_expr.proofs.parser.parse.Goals as goal
+
+pub returns-in_err-expr : goal.returns-in_err-expr
+returns-in_err-expr c =
+    let p = err_from_is_err_and c.from_residual.result c.from_residual.ensures.1 in
+    refused c.in_err-expr.field-0.0 (lexemes c.args.tokens.now) c.from_residual.result (simp length-map (omega arith)) p.0 p.1 p.2 c.in_err-expr.ensures
+
+pub returns-then-not-is_within_height : goal.returns-then-not-is_within_height
+returns-then-not-is_within_height c =
+    let high : 256 < height (tree_of c.in_ok-expr.expr) = grind (arith, common_steps) in
+    too_large (lexemes c.args.tokens.now) (tree_of c.in_ok-expr.expr) c.in_ok-expr.ensures (inl high)
+
+pub returns-then-not-is_within_nodes : goal.returns-then-not-is_within_nodes
+returns-then-not-is_within_nodes c =
+    let many : 512 < nodes (tree_of c.in_ok-expr.expr) = grind (arith, common_steps) in
+    too_large (lexemes c.args.tokens.now) (tree_of c.in_ok-expr.expr) c.in_ok-expr.ensures (inr many)
+
+pub returns : goal.returns
+returns c =
+    let low : height (tree_of c.in_ok-expr.expr) ≤ 256 = grind (arith, common_steps) in
+    let few : nodes (tree_of c.in_ok-expr.expr) ≤ 512 = grind (arith, common_steps) in
+    (simp length-map (omega arith), read_tree (lexemes c.args.tokens.now) (tree_of c.in_ok-expr.expr) c.in_ok-expr.ensures, low, few)

@@ -1,0 +1,11 @@
+use Rattle.std.proofs.Common.{◌≡◌}
+use Rattle.apl_expr.specs.Machine.{settle}
+use Rattle.apl_expr.specs.Parsing.{stack}
+use Rattle.apl_expr.specs.Trees.{tree_of}
+use Rattle.apl_expr.proofs.parser.settled.Given as goal
+
+abbrev pub invariant-loop-frame : goal.invariant-loop-frame
+invariant-loop-frame l = settle (stack l.waiting.items) (tree_of l.value) ≡ settle (stack l.fn.waiting.items) (tree_of l.fn.value)
+
+abbrev pub decreases-loop-frame : goal.decreases-loop-frame
+decreases-loop-frame l = goal.left-loop-frame l

@@ -1,0 +1,77 @@
+-- The reader of a cell's edit as a machine: it reads the lexemes behind `NAME [`, one at a time.
+use Rattle.std.specs.Prelude.{◌≡◌, ℕ, ℤ, Option, Some, None, Result, Ok, Err, List, [], ◌∷◌, ◌++◌, if◌then◌else◌, ◌==◌}
+use Rattle.std.specs.Global.{Vec}
+use Rattle.apl_tokens.specs.Lexemes.{Lexeme, Number, Characters, Named, Sign}
+use Rattle.apl_expr.specs.declared.edit.Edit as code
+use Rattle.apl_expr.specs.declared.edit.Edit.TheVariants as edit
+use Rattle.apl_expr.specs.declared.fault.ParseFault.{ParseFault}
+use Rattle.apl_expr.specs.declared.fault.ParseFault.TheVariants.{Syntax, Limit, NoMemory}
+
+-- what was read last, with the positions so far: `[` or `;`, a position, `]`, or `←` and the items so far
+pub data Edit : Type 0 where
+  Open : List ℤ → Edit
+  Position : List ℤ → Edit
+  Closed : List ℤ → Edit
+  Items : List ℤ → List ℤ → Edit
+
+-- the place and the items of an edit
+pub data Written : Type 0 where
+  Write : List ℤ → List ℤ → Written
+
+abbrev pub after_position : List ℤ → ℕ → Option Edit
+after_position ps c = if c == 0x3b then Some (Open ps) else (if c == 0x5d then Some (Closed ps) else None)
+
+abbrev pub after_bracket : List ℤ → ℕ → Option Edit
+after_bracket ps c = if c == 0x2190 then Some (Items ps []) else None
+
+abbrev pub edit_number : ℤ → Edit → Option Edit
+edit_number n (Open ps) = Some (Position (ps ++ n ∷ []))
+edit_number n (Position ps) = None
+edit_number n (Closed ps) = None
+edit_number n (Items ps ns) = Some (Items ps (ns ++ n ∷ []))
+
+abbrev pub edit_sign : ℕ → Edit → Option Edit
+edit_sign c (Open ps) = None
+edit_sign c (Position ps) = after_position ps c
+edit_sign c (Closed ps) = after_bracket ps c
+edit_sign c (Items ps ns) = None
+
+abbrev pub edit_step : Lexeme → Edit → Option Edit
+edit_step (Number n) s = edit_number n s
+edit_step (Characters cs) s = None
+edit_step (Named n) s = None
+edit_step (Sign c) s = edit_sign c s
+
+-- the tokens end
+abbrev pub edit_end : Edit → Option Written
+edit_end (Open ps) = None
+edit_end (Position ps) = None
+edit_end (Closed ps) = None
+edit_end (Items ps []) = None
+edit_end (Items ps (n ∷ ns)) = Some (Write ps (n ∷ ns))
+
+unfoldable pub edits : List Lexeme → Option Edit → Option Written
+edits [] None = None
+edits [] (Some s) = edit_end s
+edits (t ∷ ts) None = None
+edits (t ∷ ts) (Some s) = edits ts (edit_step t s)
+
+abbrev pub edit_of : code.Edit → Edit
+edit_of (edit.Open ps) = Open ps.items
+edit_of (edit.Position ps) = Position ps.items
+edit_of (edit.Closed ps) = Closed ps.items
+edit_of (edit.Items ps ns) = Items ps.items ns.items
+
+-- a step of the code is that of the machine, unless memory runs out
+abbrev pub EditSteps : Result code.Edit ParseFault → Option Edit → Type 0
+EditSteps (Ok s) o = o ≡ Some (edit_of s)
+EditSteps (Err Syntax) o = o ≡ None
+EditSteps (Err Limit) o = ⊥
+EditSteps (Err NoMemory) o = Unit {0}
+
+-- the same for the whole
+abbrev pub EditGives : Result (Vec ℤ × Vec ℤ) ParseFault → Option Written → Type 0
+EditGives (Ok w) o = o ≡ Some (Write w.0.items w.1.items)
+EditGives (Err Syntax) o = o ≡ None
+EditGives (Err Limit) o = ⊥
+EditGives (Err NoMemory) o = Unit {0}

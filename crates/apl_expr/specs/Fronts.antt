@@ -1,0 +1,25 @@
+-- The first tokens of a line, by which it is told what it asks for.
+use Rattle.std.specs.Prelude.{ℕ, Option, Some, None, List, [], ◌∷◌, if◌then◌else◌, ◌==◌, ◌&&◌}
+use Rattle.std.specs.Str.{bytes_eq}
+use Rattle.apl_tokens.specs.Lexemes.{Lexeme, Named, Sign}
+use Rattle.apl_expr.specs.Lines.{data_word}
+
+abbrev pub name_and_sign : ℕ → Lexeme → Lexeme → List Lexeme → Option (List ℕ × List Lexeme)
+name_and_sign c (Named n) (Sign d) ts = if d == c then Some (n, ts) else None
+name_and_sign c t u ts = None
+
+-- the name at the front, which the sign c follows, and what is behind them
+abbrev pub name_before : ℕ → List Lexeme → Option (List ℕ × List Lexeme)
+name_before c [] = None
+name_before c (t ∷ []) = None
+name_before c (t ∷ u ∷ ts) = name_and_sign c t u ts
+
+abbrev pub sign_and_word : Lexeme → Lexeme → List Lexeme → Option (List Lexeme)
+sign_and_word (Sign c) (Named n) ts = if (c == 0x29) && bytes_eq n data_word then Some ts else None
+sign_and_word t u ts = None
+
+-- what is behind `) DATA`
+abbrev pub behind_data : List Lexeme → Option (List Lexeme)
+behind_data [] = None
+behind_data (t ∷ []) = None
+behind_data (t ∷ u ∷ ts) = sign_and_word t u ts

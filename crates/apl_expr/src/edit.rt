@@ -1,0 +1,81 @@
+//! The edit of a cell: its place and its items, behind `NAME [`.
+
+ghost use Rattle.std.specs.Prelude.{Some, []};
+ghost use Rattle.apl_tokens.specs.Lexemes.{lexeme, lexemes};
+ghost use Rattle.apl_expr.specs.Edits.{Open, edit_of, edit_sign, edit_step, edit_end, edits, EditSteps, EditGives};
+
+use crate::fault::ParseFault;
+use apl_tokens::{Spanned, Token};
+use std::alloc::Global;
+
+/// What was read last, with the positions so far: `[` or `;`, a position, `]`, or `←` and the items so far.
+#[derive(Drop)]
+enum Edit {
+    Open(Vec<i64>),
+    Position(Vec<i64>),
+    Closed(Vec<i64>),
+    Items(Vec<i64>, Vec<i64>),
+}
+
+/// Reads a sign.
+fn edit_sign(alloc: Global, sign: char, edit: Edit) -> Result<Edit, ParseFault>
+    ensures { EditSteps result (edit_sign sign (edit_of edit)) }
+{
+    match edit {
+        Edit::Position(place) => match sign {
+            ';' => Ok(Edit::Open(place)),
+            ']' => Ok(Edit::Closed(place)),
+            _ => Err(ParseFault::Syntax),
+        },
+        Edit::Closed(place) => match sign {
+            '←' => Ok(Edit::Items(place, Vec::new(alloc))),
+            _ => Err(ParseFault::Syntax),
+        },
+        _ => Err(ParseFault::Syntax),
+    }
+}
+
+/// Reads a token.
+fn edit_step(alloc: Global, token: &Token, edit: Edit) -> Result<Edit, ParseFault>
+    ensures { EditSteps result (edit_step (lexeme token.now) (edit_of edit)) }
+{
+    match token {
+        Token::Num(n) => match edit {
+            Edit::Open(mut place) => {
+                place.push(*n)?;
+                Ok(Edit::Position(place))
+            }
+            Edit::Items(place, mut items) => {
+                items.push(*n)?;
+                Ok(Edit::Items(place, items))
+            }
+            _ => Err(ParseFault::Syntax),
+        },
+        Token::Mark(sign) => edit_sign(alloc, *sign, edit),
+        _ => Err(ParseFault::Syntax),
+    }
+}
+
+/// The place and the items where the tokens end.
+fn edit_end(edit: Edit) -> Result<(Vec<i64>, Vec<i64>), ParseFault>
+    ensures { EditGives result (edit_end (edit_of edit)) }
+{
+    let Edit::Items(place, items) = edit else {
+        return Err(ParseFault::Syntax);
+    };
+    if items.is_empty() {
+        return Err(ParseFault::Syntax);
+    }
+    Ok((place, items))
+}
+
+/// The place and the items of the edit that the tokens are.
+pub(crate) fn edited(alloc: Global, tokens: &[Spanned]) -> Result<(Vec<i64>, Vec<i64>), ParseFault>
+    ensures { EditGives result (edits (lexemes tokens.now) (Some (Open []))) }
+{
+    let mut edit = Edit::Open(Vec::new(alloc));
+    for spanned in tokens {
+        edit = edit_step(alloc, &spanned.token, edit)?;
+    }
+    edit_end(edit)
+}

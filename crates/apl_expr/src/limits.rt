@@ -1,0 +1,59 @@
+//! How large a tree may be.
+
+ghost use Rattle.std.specs.Prelude.{MatchOption, ◌≡◌, ◌+◌, ◌<◌, ◌≤◌, ◌↔◌, IsTrue};
+ghost use Rattle.apl_expr.specs.Trees.{tree_of, height, nodes};
+
+use crate::expr::Expr;
+
+/// The most tokens of a line.
+pub(crate) const MOST_TOKENS: usize = 4096;
+
+/// The greatest height of a tree.
+pub(crate) const MOST_HEIGHT: u32 = 256;
+
+/// The most nodes of a tree.
+pub(crate) const MOST_NODES: u32 = 512;
+
+impl Expr {
+    /// Whether the tree is at most `limit` high. It looks no deeper.
+    #[tactic(auto, using(crate::proofs::Sizes::height_positive))]
+    pub(crate) fn is_within_height(&self, limit: u32) -> bool
+        ensures { IsTrue result ↔ (height (tree_of self.now) ≤ limit) }
+    {
+        if limit == 0 {
+            return false;
+        }
+        match self {
+            Expr::Const(_) => true,
+            Expr::Name(_) => true,
+            Expr::Monad(_, right) => right.is_within_height(limit - 1),
+            Expr::Dyad(_, left, right) => {
+                left.is_within_height(limit - 1) && right.is_within_height(limit - 1)
+            }
+        }
+    }
+
+    /// How many nodes more than the tree has are allowed.
+    #[tactic(auto, using(crate::proofs::Sizes::nodes_positive))]
+    fn nodes_left(&self, limit: u32) -> Option<u32>
+        ensures { MatchOption result (limit < nodes (tree_of self.now)) (λ left. left + nodes (tree_of self.now) ≡ limit) }
+    {
+        let below = limit.checked_sub(1)?;
+        match self {
+            Expr::Const(_) => Some(below),
+            Expr::Name(_) => Some(below),
+            Expr::Monad(_, right) => right.nodes_left(below),
+            Expr::Dyad(_, left, right) => {
+                let rest = left.nodes_left(below)?;
+                right.nodes_left(rest)
+            }
+        }
+    }
+
+    /// Whether the tree has at most `limit` nodes.
+    pub(crate) fn is_within_nodes(&self, limit: u32) -> bool
+        ensures { IsTrue result ↔ (nodes (tree_of self.now) ≤ limit) }
+    {
+        self.nodes_left(limit).is_some()
+    }
+}

@@ -1,0 +1,162 @@
+//! The parser: it reads the tokens from left to right, once, and keeps what waits for its right argument.
+
+ghost use Rattle.std.specs.Prelude.{◌≡◌, Some, [], ◌∷◌};
+ghost use Rattle.apl_tokens.specs.Lexemes.{lexeme, lexemes};
+ghost use Rattle.apl_expr.specs.Machine.{first, settle, next, step, finish, run, state, Nothing};
+ghost use Rattle.apl_expr.specs.Parsing.{stack, reading_of, Steps, Gives, IsParsed};
+ghost use Rattle.apl_expr.specs.Trees.{Numbers, constant_of, IsPlain, tree_of};
+ghost use Rattle.std.specs.Prelude.{IfOk};
+
+use crate::expr::{Dyadic, Expr, Literal, Monadic};
+use crate::fault::ParseFault;
+use crate::limits::{MOST_HEIGHT, MOST_NODES, MOST_TOKENS};
+use crate::symbols::{dyadic_of, monadic_of};
+use apl_tokens::{Spanned, Token};
+use std::alloc::{AllocError, Global};
+
+/// What waits for its right argument.
+#[derive(Drop)]
+enum Waiting {
+    Argument1(Monadic),
+    Argument2(Dyadic, Expr),
+}
+
+/// What was read last: a function or nothing, numbers, or an operand.
+#[derive(Drop)]
+enum Reading {
+    Nothing,
+    Strand(Vec<i64>),
+    Whole(Expr),
+}
+
+/// The literal of these numbers.
+pub(crate) fn literal(numbers: Vec<i64>) -> Literal
+    ensures numbers { constant_of result ≡ Numbers numbers.items }
+    ensures plain { IsPlain result }
+{
+    match numbers.as_slice() {
+        [number] => Literal::Num(*number),
+        _ => Literal::Nums(numbers),
+    }
+}
+
+/// Reads a token where an expression is to begin.
+fn first(alloc: Global, token: &Token, waiting: &mut Vec<Waiting>) -> Result<Reading, ParseFault>
+    ensures { Steps result waiting.new.items (first (lexeme token.now) (stack waiting.old.items)) }
+{
+    match token {
+        Token::Num(n) => {
+            let mut numbers = Vec::new(alloc);
+            numbers.push(*n)?;
+            Ok(Reading::Strand(numbers))
+        }
+        Token::Text(_) => Err(ParseFault::Syntax),
+        Token::Word(name) => Ok(Reading::Whole(Expr::Name(*name))),
+        Token::Mark(sign) => match monadic_of(*sign) {
+            Some(function) => {
+                waiting.push(Waiting::Argument1(function))?;
+                Ok(Reading::Nothing)
+            }
+            None => Err(ParseFault::Syntax),
+        },
+    }
+}
+
+/// Gives a value to all that waits for it.
+fn settled(alloc: Global, value: Expr, waiting: &mut Vec<Waiting>) -> Result<Expr, AllocError>
+    ensures { IfOk result (λ e. tree_of e ≡ settle (stack waiting.old.items) (tree_of value)) }
+{
+    let mut value = value;
+    while let Some(frame) = waiting.pop() {
+        match frame {
+            Waiting::Argument1(function) => value = Expr::Monad(function, Box::new(alloc, value)?),
+            Waiting::Argument2(function, left) => {
+                value = Expr::Dyad(function, Box::new(alloc, left)?, Box::new(alloc, value)?);
+            }
+        }
+    }
+    Ok(value)
+}
+
+/// Reads a token behind an operand.
+fn next(token: &Token, operand: Expr, waiting: &mut Vec<Waiting>) -> Result<Reading, ParseFault>
+    ensures { Steps result waiting.new.items (next (lexeme token.now) (stack waiting.old.items) (tree_of operand)) }
+{
+    let Token::Mark(sign) = token else {
+        return Err(ParseFault::Syntax);
+    };
+    match dyadic_of(*sign) {
+        Some(function) => {
+            waiting.push(Waiting::Argument2(function, operand))?;
+            Ok(Reading::Nothing)
+        }
+        None => Err(ParseFault::Syntax),
+    }
+}
+
+/// Reads a token.
+fn step(
+    alloc: Global,
+    token: &Token,
+    reading: Reading,
+    waiting: &mut Vec<Waiting>,
+) -> Result<Reading, ParseFault>
+    ensures { Steps result waiting.new.items (step (lexeme token.now) (stack waiting.old.items) (reading_of reading)) }
+{
+    match reading {
+        Reading::Nothing => first(alloc, token, waiting),
+        Reading::Strand(mut numbers) => match token {
+            Token::Num(n) => {
+                numbers.push(*n)?;
+                Ok(Reading::Strand(numbers))
+            }
+            _ => next(token, Expr::Const(literal(numbers)), waiting),
+        },
+        Reading::Whole(operand) => next(token, operand, waiting),
+    }
+}
+
+/// The tree where the tokens end.
+fn finish(alloc: Global, reading: Reading, waiting: &mut Vec<Waiting>) -> Result<Expr, ParseFault>
+    ensures { Gives result (finish (stack waiting.old.items) (reading_of reading)) }
+{
+    let operand = match reading {
+        Reading::Nothing => return Err(ParseFault::Syntax),
+        Reading::Strand(numbers) => Expr::Const(literal(numbers)),
+        Reading::Whole(operand) => operand,
+    };
+    let tree = settled(alloc, operand, waiting)?;
+    Ok(tree)
+}
+
+/// The tree of the tokens, of any size.
+fn tree(alloc: Global, tokens: &[Spanned]) -> Result<Expr, ParseFault>
+    ensures { Gives result (run (lexemes tokens.now) (Some (state [] Nothing))) }
+{
+    let mut waiting = Vec::new(alloc);
+    let mut reading = Reading::Nothing;
+    for spanned in tokens {
+        reading = step(alloc, &spanned.token, reading, &mut waiting)?;
+    }
+    finish(alloc, reading, &mut waiting)
+}
+
+/// The tree of the tokens, the expression of ISO 8485 that they are.
+///
+/// More than 4,096 tokens are `Limit`, whatever they are; then tokens that are no expression are `Syntax`; then a tree
+/// that is more than 256 high or has more than 512 nodes is `Limit`. A leaf is 1 high, and a list of numbers is one node.
+pub fn parse(alloc: Global, tokens: &[Spanned]) -> Result<Expr, ParseFault>
+    ensures { IsParsed (lexemes tokens.now) result }
+{
+    if tokens.len() > MOST_TOKENS {
+        return Err(ParseFault::Limit);
+    }
+    let expr = tree(alloc, tokens)?;
+    if !expr.is_within_height(MOST_HEIGHT) {
+        return Err(ParseFault::Limit);
+    }
+    if !expr.is_within_nodes(MOST_NODES) {
+        return Err(ParseFault::Limit);
+    }
+    Ok(expr)
+}

@@ -1,0 +1,149 @@
+//! Each form of line once, and the limits of trees.
+
+use super::*;
+use apl_tokens::{Span, Spanned, Token, tokens};
+use std::test::Fail;
+
+/// So many times the sign, and then the number 5.
+fn signs(rt: &HostRuntime, sign: char, count: usize) -> Result<Vec<Spanned>, Fail> {
+    let mut found = Vec::new(rt.alloc());
+    for _ in 0..count {
+        found.push(Spanned {
+            token: Token::Mark(sign),
+            span: Span { start: 0, end: 1 },
+        })?;
+    }
+    found.push(Spanned {
+        token: Token::Num(5),
+        span: Span { start: 0, end: 1 },
+    })?;
+    Ok(found)
+}
+
+/// So many numbers.
+fn numbers(rt: &HostRuntime, count: usize) -> Result<Vec<Spanned>, Fail> {
+    let mut found = Vec::new(rt.alloc());
+    for _ in 0..count {
+        found.push(Spanned {
+            token: Token::Num(7),
+            span: Span { start: 0, end: 1 },
+        })?;
+    }
+    Ok(found)
+}
+
+#[test]
+fn functions_take_all_at_their_right(rt: HostRuntime) -> Result<(), Fail> {
+    let found = tokens(rt.alloc(), "A-B×-1 2")?;
+    let tree = parse(rt.alloc(), &found)?;
+    let text = format!(in rt.alloc(); "{tree:?}")?;
+    assert!(rt; text.as_str().starts_with("Dyad(Minus, Name("));
+    assert!(rt;
+        text.as_str()
+            .ends_with("Monad(Negative, Const(Nums([1, 2])))))")
+    );
+    Ok(())
+}
+
+#[test]
+fn one_number_is_a_scalar(rt: HostRuntime) -> Result<(), Fail> {
+    let one = line(rt.alloc(), " ¯5 ")?;
+    assert!(rt; matches!(one, Command::Show(Expr::Const(Literal::Num(-5)))));
+    let two = line(rt.alloc(), "5 6 ⍝ two")?;
+    assert!(rt;
+        matches!(&two, Command::Show(Expr::Const(Literal::Nums(found))) if found.len() == 2)
+    );
+    Ok(())
+}
+
+#[test]
+fn reads_each_form_of_line(rt: HostRuntime) -> Result<(), Fail> {
+    assert!(rt; matches!(line(rt.alloc(), " ⍝ none")?, Command::Nothing));
+    let formula = line(rt.alloc(), "A1←B+C")?;
+    assert!(rt; matches!(&formula, Command::Define(name, _) if name.text() == "A1"));
+    let defined = line(rt.alloc(), "DATA←4")?;
+    assert!(rt; matches!(&defined, Command::Define(name, _) if name.text() == "DATA"));
+    let data = line(rt.alloc(), ") DATA DATA ←1 2")?;
+    assert!(rt; matches!(&data, Command::Data(name, _) if name.text() == "DATA"));
+    let cell = line(rt.alloc(), "D[¯1;2]←5")?;
+    match &cell {
+        Command::Cell(name, place, Literal::Num(5)) => {
+            assert!(rt; name.text() == "D");
+            assert!(rt; place.as_slice() == [-1, 2].as_slice());
+        }
+        _ => assert!(rt; false),
+    }
+    let row = line(rt.alloc(), "D[1]←5 6")?;
+    assert!(rt;
+        matches!(&row, Command::Cell(_, _, Literal::Nums(found)) if found.as_slice() == [5, 6].as_slice())
+    );
+    assert!(rt; matches!(line(rt.alloc(), "DATA")?, Command::Show(Expr::Name(_))));
+    Ok(())
+}
+
+#[test]
+fn refuses_what_is_no_line(rt: HostRuntime) -> Result<(), Fail> {
+    for text in [
+        "1+",
+        "×",
+        "A B",
+        "A 1",
+        "A←",
+        "←1",
+        "A←B←1",
+        ")DATAX A←1",
+        ")DATA A",
+        ")data A←1",
+        ")A←1",
+        "D[1←5",
+        "D[]←5",
+        "D[1;]←5",
+        "D[1 2]←5",
+        "D[1+1]←5",
+        "D[1]",
+        "D[1]←",
+        "D[1]←A",
+        "D[A]←5",
+        "D[1]+2",
+        "1)",
+        "A;B",
+        "(1)",
+        "A←⍴1",
+    ] {
+        assert!(rt; matches!(line(rt.alloc(), text), Err(LineFault::Syntax)));
+    }
+    assert!(rt;
+        matches!(
+            line(rt.alloc(), ") 9223372036854775808"),
+            Err(LineFault::Limit)
+        )
+    );
+    Ok(())
+}
+
+#[test]
+fn trees_have_limits(rt: HostRuntime) -> Result<(), Fail> {
+    let low = signs(&rt, '-', 255)?;
+    assert!(rt; parse(rt.alloc(), &low).is_ok());
+    let high = signs(&rt, '-', 256)?;
+    assert!(rt; matches!(parse(rt.alloc(), &high), Err(ParseFault::Limit)));
+    let highest = signs(&rt, '-', 4095)?;
+    assert!(rt; matches!(parse(rt.alloc(), &highest), Err(ParseFault::Limit)));
+    let most = numbers(&rt, 4096)?;
+    assert!(rt; parse(rt.alloc(), &most).is_ok());
+    let more = numbers(&rt, 4097)?;
+    assert!(rt; matches!(parse(rt.alloc(), &more), Err(ParseFault::Limit)));
+    Ok(())
+}
+
+#[test]
+fn a_long_line_that_is_none_is_syntax(rt: HostRuntime) -> Result<(), Fail> {
+    let mut text = String::new(rt.alloc());
+    for _ in 0..300 {
+        text.push('-')?;
+    }
+    assert!(rt; matches!(line(rt.alloc(), text.as_str()), Err(LineFault::Syntax)));
+    text.push('5')?;
+    assert!(rt; matches!(line(rt.alloc(), text.as_str()), Err(LineFault::Limit)));
+    Ok(())
+}

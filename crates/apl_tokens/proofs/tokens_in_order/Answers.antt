@@ -1,0 +1,5 @@
+use Rattle.apl_tokens.proofs.Places.{in_order}
+use Rattle.apl_tokens.proofs.tokens_in_order.Goals as goal
+
+pub returns : goal.returns
+returns c = in_order

@@ -1,0 +1,51 @@
+//! The kinds of characters of a line.
+
+ghost use Rattle.std.specs.Prelude.{◌≡◌};
+ghost use Rattle.apl_tokens.specs.Characters.{is_blank, is_sign, is_letter, is_name_part, joins_number, spells_name};
+ghost use Rattle.std.specs.Str.{chars};
+
+/// Whether it stands between tokens and is none.
+pub(crate) fn is_blank(c: char) -> bool
+    ensures { result ≡ is_blank c }
+{
+    c == ' ' || c == '\t'
+}
+
+/// Whether it is a token of its own.
+pub(crate) fn is_sign(c: char) -> bool
+    ensures { result ≡ is_sign c }
+{
+    c == '+' || c == '-' || c == '×' || c == '←' || c == ')' || c == '[' || c == ']' || c == ';'
+}
+
+/// Whether a name may begin with it.
+pub(crate) fn is_letter(c: char) -> bool
+    ensures { result ≡ is_letter c }
+{
+    c.is_ascii_alphabetic() || c == '∆' || c == '⍙'
+}
+
+/// Whether a name may go on with it.
+pub(crate) fn is_name_part(c: char) -> bool
+    ensures { result ≡ is_name_part c }
+{
+    is_letter(c) || c.is_ascii_digit() || c == '_'
+}
+
+/// Whether it may not follow a number directly.
+pub(crate) fn joins_number(c: char) -> bool
+    ensures { result ≡ joins_number c }
+{
+    is_letter(c) || c == '_' || c == '¯'
+}
+
+/// Whether the whole text is a name, of any length.
+pub(crate) fn spells_name(text: &str) -> bool
+    ensures { result ≡ spells_name (chars text.now) }
+{
+    let mut rest = text.chars();
+    let Some(first) = rest.next() else {
+        return false;
+    };
+    is_letter(first) && rest.all(is_name_part)
+}

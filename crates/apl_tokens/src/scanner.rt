@@ -1,0 +1,175 @@
+//! The scanner: it reads the characters of a line from left to right, once.
+
+ghost use Rattle.std.specs.Prelude.{◌≡◌, ◌+◌, ◌<◌, ◌^◌, length, IfOk, encode_utf8_all};
+ghost use Rattle.std.specs.Char.{len_utf8};
+ghost use Rattle.std.specs.Str.{chars};
+ghost use Rattle.apl_tokens.specs.Scans.{with_front};
+ghost use Rattle.apl_tokens.specs.Scanner.{begun, ended, turn, scan, Between};
+ghost use Rattle.apl_tokens.specs.Scanning.{scan_of, all_placed, prepended, Turns, Finds, Gives, AreTokensOf};
+
+use crate::characters::{is_blank, is_letter, is_name_part, is_sign, joins_number};
+use crate::fault::TokenFault;
+use crate::name::Name;
+use crate::numbers::number;
+use crate::token::{Span, Spanned, Token};
+use std::alloc::{AllocError, Global};
+
+/// What is being read, with the byte at which it began.
+#[derive(Drop)]
+enum Scan {
+    Between,
+    Comment,
+    Minus(Span),
+    Digits(usize, bool, Vec<char>),
+    Letters(usize, String),
+}
+
+/// Begins to read at a character that stands at byte `at`.
+fn begun(alloc: Global, at: usize, c: char, out: &mut Vec<Spanned>) -> Result<Scan, TokenFault>
+    requires { at + len_utf8 c < 2 ^ 64 }
+    ensures { Turns result out.new.items (prepended (all_placed out.old.items) (begun at c)) }
+{
+    let end = at + c.len_utf8();
+    if is_blank(c) {
+        Ok(Scan::Between)
+    } else if is_sign(c) {
+        out.push(Spanned {
+            token: Token::Mark(c),
+            span: Span { start: at, end },
+        })?;
+        Ok(Scan::Between)
+    } else if c.is_ascii_digit() {
+        let mut digits = Vec::new(alloc);
+        digits.push(c)?;
+        Ok(Scan::Digits(at, false, digits))
+    } else if is_letter(c) {
+        let mut letters = String::new(alloc);
+        letters.push(c)?;
+        Ok(Scan::Letters(at, letters))
+    } else if c == '¯' {
+        Ok(Scan::Minus(Span { start: at, end }))
+    } else if c == '⍝' {
+        Ok(Scan::Comment)
+    } else {
+        Err(TokenFault::Syntax(Span { start: at, end }))
+    }
+}
+
+/// Ends what is being read, before byte `at`.
+fn ended(at: usize, scan: Scan, out: &mut Vec<Spanned>) -> Result<(), TokenFault>
+    ensures { Finds result out.new.items (with_front (all_placed out.old.items) (ended at (scan_of scan))) }
+{
+    match scan {
+        Scan::Between => Ok(()),
+        Scan::Comment => Ok(()),
+        Scan::Minus(span) => Err(TokenFault::Syntax(span)),
+        Scan::Digits(start, is_negative, digits) => {
+            let span = Span { start, end: at };
+            match number(is_negative, &digits) {
+                Some(n) => {
+                    out.push(Spanned {
+                        token: Token::Num(n),
+                        span,
+                    })?;
+                    Ok(())
+                }
+                None => Err(TokenFault::Limit(span)),
+            }
+        }
+        Scan::Letters(start, letters) => {
+            let span = Span { start, end: at };
+            match Name::of_letters(letters.as_str()) {
+                Some(name) => {
+                    out.push(Spanned {
+                        token: Token::Word(name),
+                        span,
+                    })?;
+                    Ok(())
+                }
+                None => Err(TokenFault::Limit(span)),
+            }
+        }
+    }
+}
+
+/// Reads a character that stands at byte `at`.
+fn turn(
+    alloc: Global,
+    at: usize,
+    c: char,
+    scan: Scan,
+    out: &mut Vec<Spanned>,
+) -> Result<Scan, TokenFault>
+    requires { at + len_utf8 c < 2 ^ 64 }
+    ensures { Turns result out.new.items (prepended (all_placed out.old.items) (turn at c (scan_of scan))) }
+{
+    match scan {
+        Scan::Between => begun(alloc, at, c, out),
+        Scan::Comment => Ok(Scan::Comment),
+        Scan::Minus(span) => {
+            if !c.is_ascii_digit() {
+                return Err(TokenFault::Syntax(span));
+            }
+            let mut digits = Vec::new(alloc);
+            digits.push(c)?;
+            Ok(Scan::Digits(span.start, true, digits))
+        }
+        Scan::Digits(start, is_negative, mut digits) => {
+            if c.is_ascii_digit() {
+                digits.push(c)?;
+                return Ok(Scan::Digits(start, is_negative, digits));
+            }
+            if joins_number(c) {
+                return Err(TokenFault::Syntax(Span { start, end: at }));
+            }
+            ended(at, Scan::Digits(start, is_negative, digits), out)?;
+            begun(alloc, at, c, out)
+        }
+        Scan::Letters(start, mut letters) => {
+            if is_name_part(c) {
+                letters.push(c)?;
+                return Ok(Scan::Letters(start, letters));
+            }
+            ended(at, Scan::Letters(start, letters), out)?;
+            begun(alloc, at, c, out)
+        }
+    }
+}
+
+/// The tokens of these characters.
+fn scanned(alloc: Global, chars: &[char]) -> Result<Vec<Spanned>, TokenFault>
+    requires { length (encode_utf8_all chars.now) < 2 ^ 64 }
+    ensures { Gives result (scan chars.now 0 Between) }
+{
+    let mut out = Vec::new(alloc);
+    let mut reading = Scan::Between;
+    let mut at: usize = 0;
+    for c in chars {
+        reading = turn(alloc, at, *c, reading, &mut out)?;
+        at += c.len_utf8();
+    }
+    ended(at, reading, &mut out)?;
+    Ok(out)
+}
+
+/// The characters of a text.
+fn characters(alloc: Global, text: &str) -> Result<Vec<char>, AllocError>
+    ensures text { IfOk result (λ v. v.items ≡ chars text.now) }
+    ensures bytes { IfOk result (λ v. encode_utf8_all v.items ≡ text.now) }
+{
+    text.chars().collect(alloc)
+}
+
+/// The tokens of a text, the lexical units of ISO 8485; its comment, which `⍝` begins, and blanks between tokens are none.
+///
+/// A text that has no tokens is answered its first fault from the left: `Syntax` for a character that begins no token, for
+/// a high minus without a digit behind it, and for a number that a letter, `_` or a high minus follows directly; `Limit`
+/// for a number that is out of range and for a name of more than 63 bytes.
+#[tactic(auto, using(crate::proofs::Sound::are_tokens))]
+pub fn tokens(alloc: Global, text: &str) -> Result<Vec<Spanned>, TokenFault>
+    ensures { AreTokensOf (chars text.now) result }
+{
+    let _len = text.len();
+    let chars = characters(alloc, text)?;
+    scanned(alloc, &chars)
+}

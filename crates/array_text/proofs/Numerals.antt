@@ -1,0 +1,40 @@
+-- The text and the width of a number.
+use Rattle.std.proofs.Common.{◌≡◌, ℕ, ℤ, pos, negsuc, ◌+◌, ◌*◌, true, false, List, [], ◌∷◌, ◌++◌, length, get_or, map, refl, sym, ap, ◌∙◌, arith, add-one, w64}
+use Rattle.std.specs.Prelude.{decimal, encode_utf8, max}
+use Rattle.std.specs.List.{range_with_len, fold}
+use Rattle.std.specs.Int.Signed.{lt_z}
+use Rattle.std.proofs.Math.IntN.{nat_abs}
+use Rattle.std.proofs.lemmas.Int.{ints, to_z-of_z}
+use Rattle.std.proofs.lemmas.List.Sums.{fold-append}
+use Rattle.std.proofs.lemmas.List.FromFn.{map-range_with_len_more}
+use mir.Val.{to_z, of_z, SFits}
+use Rattle.array_text.specs.Text.{number_text, number_width, column_width, number_at}
+
+minus_text : (z : ℤ) (n : ℕ) → n ≡ nat_abs z → lt_z z (pos 0) ≡ true → (number_text z ≡ encode_utf8 175 ++ decimal n) × (number_width z ≡ length (decimal n) + 1)
+unfolding number_text number_width
+minus_text (pos k) n e h = absurd (grind (arith, ints))
+minus_text (negsuc k) n e h = rw (e, add-one) (refl, refl)
+
+plus_text : (z : ℤ) (n : ℕ) → n ≡ nat_abs z → lt_z z (pos 0) ≡ false → (number_text z ≡ decimal n) × (number_width z ≡ length (decimal n))
+unfolding number_text number_width
+plus_text (pos k) n e h = rw e (refl, refl)
+plus_text (negsuc k) n e h = absurd (grind (arith, ints))
+
+pub number_text-minus : (z : ℤ) (n : ℕ) → SFits w64 z → n ≡ nat_abs (to_z w64 (of_z w64 z)) → lt_z (to_z w64 (of_z w64 z)) (pos 0) ≡ true
+    → (number_text z ≡ encode_utf8 175 ++ decimal n) × (number_width z ≡ length (decimal n) + 1)
+number_text-minus z n f e h = let same = to_z-of_z w64 z f in minus_text z n (e ∙ ap nat_abs same) (sym (ap (λ (x : ℤ). lt_z x (pos 0)) same) ∙ h)
+
+pub number_text-plus : (z : ℤ) (n : ℕ) → SFits w64 z → n ≡ nat_abs (to_z w64 (of_z w64 z)) → lt_z (to_z w64 (of_z w64 z)) (pos 0) ≡ false
+    → (number_text z ≡ decimal n) × (number_width z ≡ length (decimal n))
+number_text-plus z n f e h = let same = to_z-of_z w64 z f in plus_text z n (e ∙ ap nat_abs same) (sym (ap (λ (x : ℤ). lt_z x (pos 0)) same) ∙ h)
+
+pub column_width-none : (columns : ℕ) (zs : List ℤ) (column : ℕ) → column_width 0 columns zs column ≡ 0
+unfolding column_width
+column_width-none columns zs column = refl
+
+pub column_width-more : (columns : ℕ) (zs : List ℤ) (column row : ℕ)
+    → column_width (row + 1) columns zs column ≡ max (column_width row columns zs column) (number_width (get_or zs (row * columns + column) (pos 0)))
+unfolding column_width
+column_width-more columns zs column row =
+    let width = λ (r : ℕ). number_width (number_at columns zs r column) in
+    ap (fold max 0) (map-range_with_len_more width 0 row row (omega arith)) ∙ fold-append max 0 (map width (range_with_len 0 row)) (width row ∷ [])

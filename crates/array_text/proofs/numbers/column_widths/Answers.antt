@@ -1,0 +1,17 @@
+use Rattle.std.proofs.Common.{◌≡◌, ◌∙◌, ap, refl, ℕ, map, arith}
+use Rattle.std.specs.List.{range_with_len}
+use Rattle.std.proofs.lemmas.List.FromFn.{map-range_with_len_more}
+use Rattle.array_text.specs.Text.{column_width, column_widths}
+use Rattle.array_text.proofs.numbers.column_widths.Goals as goal
+
+pub loop-column-preserved : goal.loop-column-preserved
+loop-column-preserved c =
+    let width = column_width c.args.rows c.args.columns c.args.numbers.now in
+    let k = c.loop-column.column in
+    rw (map-range_with_len_more width 0 k k (omega arith), c.in_ok-push.ensures.items, c.loop-column.invariant, c.width_of_column.ensures) refl
+
+pub returns : goal.returns
+unfolding column_widths
+returns c =
+    let end : c.loop-column.column ≡ c.args.columns = omega arith in
+    c.loop-column.invariant ∙ ap (λ (n : ℕ). map (column_width c.args.rows c.args.columns c.args.numbers.now) (range_with_len 0 n)) end

@@ -1,0 +1,8 @@
+use Rattle.std.proofs.Common.{◌≡◌, ◌++◌, take}
+use Rattle.std.specs.Prelude.{string_bytes}
+use Rattle.std.specs.List.{join_by}
+use Rattle.array_text.specs.Text.{number_text, blank}
+use Rattle.array_text.proofs.numbers.push_line.Given as goal
+
+abbrev pub invariant-loop-place : goal.invariant-loop-place
+invariant-loop-place l = string_bytes l.out ≡ string_bytes l.initial.out ++ join_by number_text blank (take l.place l.numbers)

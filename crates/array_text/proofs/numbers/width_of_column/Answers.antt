@@ -1,0 +1,19 @@
+use Rattle.std.proofs.Common.{◌≡◌, ◌+◌, ◌*◌, ◌∙◌, ap, sym, get_or, pos, rules, w64, arith}
+use Rattle.std.proofs.lemmas.Int.{to_z-of_z}
+use mir.Val.{SFits}
+use Rattle.array_text.specs.Text.{number_width}
+use Rattle.array_text.proofs.Numerals.{column_width-none, column_width-more}
+use Rattle.array_text.proofs.numbers.width_of_column.Goals as goal
+use Rattle.array_text.proofs.numbers.width_of_column.Goals.{then-width-widest, else-width-widest}
+
+pub loop-row-init : goal.loop-row-init
+loop-row-init c = sym (column_width-none c.args.columns c.args.numbers.now c.args.column)
+
+pub loop-row-preserved : goal.loop-row-preserved
+loop-row-preserved c =
+    let number = get_or c.args.numbers.now (c.loop-row.row * c.args.columns + c.args.column) (pos 0) in
+    let fits : SFits w64 number = search rules in
+    let width : c.width_of-width.result ≡ number_width number = c.width_of-width.ensures.value ∙ ap number_width (to_z-of_z w64 number fits) in
+    let inv = c.loop-row.invariant in
+    rw (column_width-more c.args.columns c.args.numbers.now c.args.column c.loop-row.row, ← width, ← inv)
+    (elim c.if-width-widest.branch [ then-width-widest w ↦ omega arith | else-width-widest w ↦ omega arith ])

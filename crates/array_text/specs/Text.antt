@@ -1,0 +1,126 @@
+-- The bytes that arrays and errors print. Each printed line ends with LF.
+use Rattle.std.specs.Prelude.{ℕ, ℤ, pos, negsuc, ◌+◌, ◌-◌, ◌*◌, ◌==◌, max, List, [], ◌∷◌, ◌++◌, if◌then◌else◌, Option, Some, None, length, map, get_or, take, drop, replicate, codes, decimal, encode_utf8, encode_utf8_all}
+use Rattle.std.specs.List.{flat_map, range_with_len, fold, join_by}
+use Rattle.arrays_core.specs.Arrays.{ArrayValue}
+use Rattle.arrays_core.specs.declared.item.Item.{Item}
+use Rattle.arrays_core.specs.declared.item.Item.TheVariants.{Num, Char}
+use Rattle.arrays_core.specs.declared.item.ItemType.{ItemType}
+use Rattle.arrays_core.specs.declared.item.ItemType.TheVariants.{Nums, Chars}
+use Rattle.arrays_core.specs.declared.item.Kind.{Kind}
+use Rattle.arrays_core.specs.declared.item.Kind.TheVariants.{Domain, Rank, Length, Index, Axis, Limit, Value}
+use Rattle.arrays_core.specs.declared.fault.Fault.{Fault}
+
+abbrev pub blank : List ℕ
+blank = 32 ∷ []
+
+abbrev pub line_end : List ℕ
+line_end = 10 ∷ []
+
+-- a number: its digits, after a high minus sign (U+00AF) where it is negative
+unfoldable pub number_text : ℤ → List ℕ
+number_text (pos n) = decimal n
+number_text (negsuc n) = encode_utf8 0xAF ++ decimal (n + 1)
+
+-- how many characters that is
+unfoldable pub number_width : ℤ → ℕ
+number_width (pos n) = length (decimal n)
+number_width (negsuc n) = length (decimal (n + 1)) + 1
+
+-- a number with so many blanks before it that it ends where its column ends
+unfoldable pub right_justified : (width : ℕ) → ℤ → List ℕ
+right_justified width z = replicate (width - number_width z) 32 ++ number_text z
+
+-- what stands before an item that has so many before it: what is put between two, or nothing before the first
+unfoldable pub gap : (between : List ℕ) → (place : ℕ) → List ℕ
+gap between place = if place == 0 then [] else between
+
+-- a scalar or vector of numbers: the numbers with one blank between
+unfoldable pub number_line : List ℤ → List ℕ
+number_line zs = join_by number_text blank zs ++ line_end
+
+-- a scalar or vector of characters, or a row of a matrix
+unfoldable pub character_line : List ℕ → List ℕ
+character_line cs = encode_utf8_all cs ++ line_end
+
+-- the number in a row and a column of a matrix, both counted from 0
+abbrev pub number_at : (columns : ℕ) → List ℤ → (row column : ℕ) → ℤ
+number_at columns zs row column = get_or zs (row * columns + column) (pos 0)
+
+-- the width of the widest number of a column
+unfoldable pub column_width : (rows columns : ℕ) → List ℤ → (column : ℕ) → ℕ
+column_width rows columns zs column = fold max 0 (map (λ row. number_width (number_at columns zs row column)) (range_with_len 0 rows))
+
+-- the items of one of the parts into which a list falls, each of so many items
+abbrev pub part_of : {X : Type 0} → (size part : ℕ) → List X → List X
+part_of size part xs = take size (drop (part * size) xs)
+
+-- the widths of the columns of a matrix
+unfoldable pub column_widths : (rows columns : ℕ) → List ℤ → List ℕ
+column_widths rows columns zs = map (column_width rows columns zs) (range_with_len 0 columns)
+
+-- a row of a matrix of numbers: each right-justified in its column, with one blank between
+unfoldable pub number_row : (widths : List ℕ) → (row : List ℤ) → List ℕ
+number_row widths row = join_by (λ column. right_justified (get_or widths column 0) (get_or row column (pos 0))) blank (range_with_len 0 (length row)) ++ line_end
+
+-- a matrix of numbers
+unfoldable pub number_plane : (rows columns : ℕ) → List ℤ → List ℕ
+number_plane rows columns zs = flat_map (λ row. number_row (column_widths rows columns zs) (part_of columns row zs)) (range_with_len 0 rows)
+
+-- a matrix of characters: its rows joined
+unfoldable pub character_plane : (rows columns : ℕ) → List ℕ → List ℕ
+character_plane rows columns cs = flat_map (λ row. character_line (part_of columns row cs)) (range_with_len 0 rows)
+
+-- so many planes, each a matrix of its own, with one empty line between; nothing where there are no items
+unfoldable pub planes : {X : Type 0} → (plane : List X → List ℕ) → (count size : ℕ) → List X → List ℕ
+planes plane count size xs = if length xs == 0 then [] else join_by (λ part. plane (part_of size part xs)) line_end (range_with_len 0 count)
+
+-- the items of a shape, by how a line and a matrix of them print. No array has more than four axes
+unfoldable pub text_by_rank : {X : Type 0} → (line : List X → List ℕ) → (plane : ℕ → ℕ → List X → List ℕ) → (shape : List ℕ) → List X → List ℕ
+text_by_rank line plane [] xs = line xs
+text_by_rank line plane (n ∷ []) xs = line xs
+text_by_rank line plane (rows ∷ columns ∷ []) xs = plane rows columns xs
+text_by_rank line plane (n ∷ rows ∷ columns ∷ []) xs = planes (plane rows columns) n (rows * columns) xs
+text_by_rank line plane (n ∷ m ∷ rows ∷ columns ∷ []) xs = planes (plane rows columns) (n * m) (rows * columns) xs
+text_by_rank line plane (a ∷ b ∷ c ∷ d ∷ e ∷ shape) xs = []
+
+abbrev pub numbers_text : (shape : List ℕ) → List ℤ → List ℕ
+numbers_text shape zs = text_by_rank number_line number_plane shape zs
+
+abbrev pub characters_text : (shape : List ℕ) → List ℕ → List ℕ
+characters_text shape cs = text_by_rank character_line character_plane shape cs
+
+-- an item of an array of numbers, and one of an array of characters
+abbrev pub number_of : Item → ℤ
+number_of (Num z) = z
+number_of (Char c) = pos 0
+
+abbrev pub character_of : Item → ℕ
+character_of (Num z) = 32
+character_of (Char c) = c
+
+-- an array
+abbrev pub items_text : ItemType → (shape : List ℕ) → List Item → List ℕ
+items_text Nums shape items = numbers_text shape (map number_of items)
+items_text Chars shape items = characters_text shape (map character_of items)
+
+abbrev pub array_text : ArrayValue → List ℕ
+array_text a = items_text a.item_type a.shape a.items
+
+-- the name of an error
+abbrev pub kind_text : Kind → List ℕ
+kind_text Domain = codes "DOMAIN"
+kind_text Rank = codes "RANK"
+kind_text Length = codes "LENGTH"
+kind_text Index = codes "INDEX"
+kind_text Axis = codes "AXIS"
+kind_text Limit = codes "LIMIT"
+kind_text Value = codes "VALUE"
+
+-- the name in whose formula it arose, if it arose in one
+abbrev pub origin_text : Option (List ℕ) → List ℕ
+origin_text None = []
+origin_text (Some name) = codes " IN " ++ name
+
+-- an error
+abbrev pub fault_text : Fault → List ℕ
+fault_text f = kind_text f.kind ++ codes " ERROR" ++ origin_text f.origin ++ line_end

@@ -1,0 +1,27 @@
+//! The text of an array.
+
+ghost use Rattle.std.specs.Prelude.{◌≡◌, IfOk, string_bytes};
+ghost use Rattle.array_text.specs.Text.{array_text};
+
+use crate::characters::push_characters;
+use crate::numbers::push_numbers;
+use arrays_core::Array;
+use std::alloc::{AllocError, Global};
+
+/// The printed text of an array. A scalar is its item; a vector of numbers its numbers with one blank
+/// between, a vector of characters its characters, and an empty vector an empty line. A matrix of
+/// numbers has each column right-justified to its widest number, with one blank between columns; one of
+/// characters has its rows joined. The planes of an array of more axes, which are its last two, are
+/// printed each as a matrix of its own with an empty line between; without items there is no text. A
+/// negative number begins with `¯`, and each line ends with LF.
+pub fn print(alloc: Global, array: &Array) -> Result<String, AllocError>
+    ensures { IfOk result (λ text. string_bytes text ≡ array_text array.now) }
+{
+    let mut text = String::new(alloc);
+    let axes = array.shape().as_slice();
+    match array.numbers() {
+        Some(numbers) => push_numbers(alloc, &mut text, axes, numbers)?,
+        None => push_characters(&mut text, axes, array.characters().unwrap())?,
+    }
+    Ok(text)
+}

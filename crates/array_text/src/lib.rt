@@ -1,0 +1,13 @@
+//! The printed text of arrays and of errors.
+#![tactic(auto)]
+
+mod arrays;
+mod characters;
+mod faults;
+mod numbers;
+mod pieces;
+#[cfg(test)]
+mod tests;
+
+pub use arrays::print;
+pub use faults::print_fault;

@@ -1,0 +1,38 @@
+//! What stands between the pieces of a text.
+
+ghost use Rattle.std.specs.Prelude.{◌≡◌, ◌++◌, OnOk, string_bytes, replicate};
+ghost use Rattle.array_text.specs.Text.{blank, line_end, gap};
+
+use std::alloc::AllocError;
+
+/// Adds the blank before each number of a line but the first.
+#[tactic(auto, unfolding(crate::specs::Text::gap))]
+pub(crate) fn push_blank_between(out: &mut String, place: usize) -> Result<(), AllocError>
+    ensures { OnOk result (string_bytes out.new ≡ string_bytes out.old ++ gap blank place) }
+{
+    if place == 0 {
+        return Ok(());
+    }
+    out.push(' ')
+}
+
+/// Adds the empty line before each plane but the first.
+#[tactic(auto, unfolding(crate::specs::Text::gap))]
+pub(crate) fn push_line_between(out: &mut String, place: usize) -> Result<(), AllocError>
+    ensures { OnOk result (string_bytes out.new ≡ string_bytes out.old ++ gap line_end place) }
+{
+    if place == 0 {
+        return Ok(());
+    }
+    out.push('\n')
+}
+
+/// Adds blanks.
+pub(crate) fn push_blanks(out: &mut String, count: usize) -> Result<(), AllocError>
+    ensures { OnOk result (string_bytes out.new ≡ string_bytes out.old ++ replicate count 32) }
+{
+    for _blank in 0..count {
+        out.push(' ')?;
+    }
+    Ok(())
+}

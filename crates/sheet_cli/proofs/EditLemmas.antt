@@ -1,0 +1,24 @@
+-- What is printed for what a line asks for.
+use Rattle.std.proofs.Common.{◌≡◌, ℕ, List, [], codes, Result, Ok, Err, IfOk, IfErr, OnOk, OnErr, refl, sym, ◌∙◌, ap}
+use Rattle.apl_expr.specs.declared.command.Command.{Command}
+use Rattle.apl_expr.specs.declared.fault.LineFault.TheVariants.{Syntax, Limit}
+use Rattle.apl_expr.specs.Lines.{Meaning, meaning}
+use Rattle.apl_expr.specs.Answers.{IsAnswered}
+use Rattle.sheet_recalc.specs.Changes.{Change, Accepts, Refuses}
+use Rattle.sheet_recalc.specs.declared.refusal.Refusal.{Refusal}
+use Rattle.sheet_cli.specs.Answer.{State, IsEdited, accepted, refused, IsCarriedOut, IsTextAnswer, no_line, too_large, carried_out}
+use Rattle.sheet_cli.specs.Edits.{IsEditText}
+
+pub edited : (outcome : Result (Unit {0}) Refusal) (old new : State) (edit : Change) (text : List ℕ) → OnOk outcome (Accepts old.names edit new.names) → IfErr outcome (λ cause. Refuses old.names edit cause) → OnErr outcome (new ≡ old) →
+    IsEditText outcome text → IsEdited old edit text new
+edited (Ok u) old new edit text a r k e = rw e (accepted a)
+edited (Err cause) old new edit text a r k e = rw (k, e.0) (refused cause r e.1)
+
+pub answered_no_line : (old : State) (cs answer : List ℕ) → IsAnswered cs (Err Syntax) → answer ≡ codes "SYNTAX ERROR\n" → IsTextAnswer old cs answer old
+answered_no_line old cs answer h e = rw e (no_line h)
+
+pub answered_too_large : (old : State) (cs answer : List ℕ) → IsAnswered cs (Err Limit) → answer ≡ codes "LIMIT ERROR\n" → IsTextAnswer old cs answer old
+answered_too_large old cs answer h e = rw e (too_large h)
+
+pub answered_carried_out : (old new : State) (cs answer : List ℕ) (c : Command) → IsAnswered cs (Ok c) → IsCarriedOut old (meaning c) answer new → IsTextAnswer old cs answer new
+answered_carried_out old new cs answer c h d = carried_out (meaning c) (h.0, h.1, h.2.1) h.2.2 d

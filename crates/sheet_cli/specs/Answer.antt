@@ -1,0 +1,65 @@
+-- What one line is answered.
+use Rattle.std.specs.Prelude.{◌≡◌, ◌≢◌, ℕ, ◌<◌, ◌≤◌, List, [], length, codes, Result, Ok, Err}
+use Rattle.std.specs.Str.{IsUtf8, chars}
+use Rattle.apl_expr.specs.declared.fault.LineFault.TheVariants.{Syntax, Limit}
+use Rattle.apl_expr.specs.Grammar.{IsTooLarge}
+use Rattle.apl_expr.specs.Lines.{Meaning, Nothing, Define, Data, Cell, Show, HasTree}
+use Rattle.apl_expr.specs.Answers.{IsAnswered, IsLineOf}
+use Rattle.arrays_core.specs.Arrays.{ArrayValue}
+use Rattle.arrays_core.specs.declared.fault.Fault.{Fault}
+use Rattle.array_text.specs.Text.{array_text, fault_text}
+use Rattle.sheet_recalc.specs.Live.{SheetValue}
+use Rattle.formula_core.specs.Meaning.{eval}
+use Rattle.sheet_recalc.specs.Meaning.{val}
+use Rattle.sheet_recalc.specs.Changes.{Change, Accepts, Refuses}
+use Rattle.sheet_recalc.specs.Changes as change
+use Rattle.sheet_recalc.specs.declared.refusal.Refusal.{Refusal}
+use Rattle.sheet_recalc.specs.declared.refusal.Refusal.TheVariants as why
+use Rattle.sheet_cli.specs.Lines.{strip_cr}
+
+-- what a run keeps from line to line
+abbrev pub State : Type 0
+State = SheetValue
+
+-- the line that a refusal prints
+abbrev pub refusal_text : Refusal → List ℕ
+refusal_text (why.Cycle names) = codes "CYCLE\n"
+refusal_text why.NotFound = codes "NOT FOUND\n"
+refusal_text why.NotData = codes "NOT DATA\n"
+refusal_text why.Rank = codes "RANK ERROR\n"
+refusal_text why.Length = codes "LENGTH ERROR\n"
+refusal_text why.Index = codes "INDEX ERROR\n"
+refusal_text why.Domain = codes "DOMAIN ERROR\n"
+refusal_text why.SheetFull = codes "SHEET FULL\n"
+refusal_text why.NoMemory = codes "NO MEMORY\n"
+refusal_text (why.Fault f) = fault_text f
+
+-- what a shown value prints, or the error in its place
+abbrev pub shown_text : Result ArrayValue Fault → List ℕ
+shown_text (Ok a) = array_text a
+shown_text (Err f) = fault_text f
+
+-- an edit is accepted and prints nothing; or it is refused, not for want of memory, prints why and changes nothing
+pub data IsEdited : State → Change → List ℕ → State → Type 0 where
+  accepted : {old new : State} {edit : Change} → Accepts old.names edit new.names → IsEdited old edit [] new
+  refused : {old : State} {edit : Change} (cause : Refusal) → Refuses old.names edit cause → cause ≢ why.NoMemory → IsEdited old edit (refusal_text cause) old
+
+-- what a line means is carried out
+abbrev pub IsCarriedOut : State → Meaning → List ℕ → State → Type 0
+IsCarriedOut old Nothing text new = (text ≡ []) × (new ≡ old)
+IsCarriedOut old (Define n t) text new = IsEdited old (change.Define n t) text new
+IsCarriedOut old (Data n t) text new = IsEdited old (change.Store n t) text new
+IsCarriedOut old (Cell n ps l) text new = IsEdited old (change.SetCell n ps l) text new
+IsCarriedOut old (Show t) text new = (text ≡ shown_text (eval t (val old.names))) × (new ≡ old)
+
+-- the answer to characters: they are no line, or too large a one, or what they mean is carried out
+pub data IsTextAnswer : State → List ℕ → List ℕ → State → Type 0 where
+  no_line : {old : State} {cs : List ℕ} → IsAnswered cs (Err Syntax) → IsTextAnswer old cs (codes "SYNTAX ERROR\n") old
+  too_large : {old : State} {cs : List ℕ} → IsAnswered cs (Err Limit) → IsTextAnswer old cs (codes "LIMIT ERROR\n") old
+  carried_out : {old new : State} {cs text : List ℕ} (m : Meaning) → IsLineOf cs m → (HasTree IsTooLarge m → ⊥) → IsCarriedOut old m text new → IsTextAnswer old cs text new
+
+-- the answer to a line, and the state after it
+pub data IsAnswer : State → List ℕ → List ℕ → State → Type 0 where
+  too_long : {old : State} {line : List ℕ} → 4096 < length (strip_cr line) → IsAnswer old line (codes "LINE TOO LONG\n") old
+  not_text : {old : State} {line : List ℕ} → length (strip_cr line) ≤ 4096 → (IsUtf8 (strip_cr line) → ⊥) → IsAnswer old line (codes "NOT TEXT\n") old
+  of_text : {old new : State} {line answer : List ℕ} → length (strip_cr line) ≤ 4096 → IsUtf8 (strip_cr line) → IsTextAnswer old (chars (strip_cr line)) answer new → IsAnswer old line answer new

@@ -1,0 +1,50 @@
+-- What lines are answered, one after the other.
+use Rattle.std.specs.Prelude.{◌≡◌, ℕ, Bool, true, false, List, [], ◌∷◌, ◌++◌, length, codes, count_by}
+use Rattle.sheet_cli.specs.Answer.{State, IsAnswer}
+
+-- a line is answered so, or where it is flagged it was refused memory and changed nothing
+abbrev pub IsFlaggedAnswer : Bool → State → List ℕ → List ℕ → State → Type 0
+IsFlaggedAnswer true old line text new = (text ≡ codes "NO MEMORY\n") × (new ≡ old)
+IsFlaggedAnswer false old line text new = IsAnswer old line text new
+
+-- lines, one flag a line, are answered this text, and lead from the first state to the last
+pub data Answers : State → List (List ℕ) → List Bool → List ℕ → State → Type 0 where
+  no_lines : {old : State} → Answers old [] [] [] old
+  line_first : {old mid new : State} {line : List ℕ} {lines : List (List ℕ)} {flag : Bool} {flags : List Bool} (now later : List ℕ) →
+      IsFlaggedAnswer flag old line now mid → Answers mid lines flags later new → Answers old (line ∷ lines) (flag ∷ flags) (now ++ later) new
+
+-- with some flags, `refused` of them set, the lines are answered this text
+pub record Answered (old : State) (lines : List (List ℕ)) (refused : ℕ) (text : List ℕ) (new : State) : Type 0 where
+  pub flags : List Bool
+  pub one_a_line : length flags ≡ length lines
+  pub refused_is : count_by (λ flag. flag) flags ≡ refused
+  pub answers : Answers old lines flags text new
+
+-- the earlier of the lines are answered whole, and of one more answer the first part is written
+pub record StoppedAt (old : State) (lines : List (List ℕ)) (written : List ℕ) (new : State) : Type 0 where
+  pub earlier : List (List ℕ)
+  pub last : List ℕ
+  pub later : List (List ℕ)
+  pub lines_are : lines ≡ earlier ++ last ∷ later
+  pub refused : ℕ
+  pub whole : List ℕ
+  pub state : State
+  pub answered : Answered old earlier refused whole state
+  pub flag : Bool
+  pub part : List ℕ
+  pub unwritten : List ℕ
+  pub last_answer : IsFlaggedAnswer flag state last (part ++ unwritten) new
+  pub written_is : written ≡ whole ++ part
+
+-- a line has one answer, and leads to one state
+abbrev pub EachLineHasOneAnswer : Type 0
+EachLineHasOneAnswer = (old : State) (line text₁ text₂ : List ℕ) (new₁ new₂ : State) → IsAnswer old line text₁ new₁ → IsAnswer old line text₂ new₂ → (text₁ ≡ text₂) × (new₁ ≡ new₂)
+
+-- then lines with these flags have one answer, and lead to one state
+abbrev pub LinesHaveOneAnswer : Type 0
+LinesHaveOneAnswer = EachLineHasOneAnswer → (old : State) (lines : List (List ℕ)) (flags : List Bool) (text₁ text₂ : List ℕ) (new₁ new₂ : State) →
+    Answers old lines flags text₁ new₁ → Answers old lines flags text₂ new₂ → (text₁ ≡ text₂) × (new₁ ≡ new₂)
+
+-- where no line is refused memory, nothing else answers the lines
+abbrev pub IsOnlyAnswer : State → List (List ℕ) → List ℕ → State → Type 0
+IsOnlyAnswer old lines text new = EachLineHasOneAnswer → (text' : List ℕ) (new' : State) → Answered old lines 0 text' new' → (text' ≡ text) × (new' ≡ new)

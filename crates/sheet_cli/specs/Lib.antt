@@ -1,0 +1,6 @@
+pub mod Lines
+pub mod Answer
+pub mod Answers
+pub mod Edits
+pub mod Progress
+pub mod Run

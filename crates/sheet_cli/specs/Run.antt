@@ -1,0 +1,38 @@
+-- What a run read, wrote and did. The bytes of a source and a sink are those they have left and have taken, where known.
+use Rattle.std.specs.Prelude.{◌≡◌, ℕ, ◌-◌, ◌^◌, Bool, true, List, length, Option, ◌⊎◌}
+use Rattle.std.specs.Io.KnownBytes.{Appends, Consumes, IsAtEnd}
+use Rattle.sheet_cli.specs.Lines.{lines_of, whole_lines_of}
+use Rattle.sheet_cli.specs.Answer.{State}
+use Rattle.sheet_cli.specs.Answers.{Answered, IsOnlyAnswer}
+use Rattle.sheet_cli.specs.Progress.{IsWrittenInPart}
+use Rattle.sheet_cli.specs.declared.session.Tally.{Tally}
+
+-- the whole input was read, and its lines answered
+pub record Completes (source₁ source₂ sink₁ sink₂ : Option (List ℕ)) (old new : State) (tally : Tally) : Type 0 where
+  pub input : List ℕ
+  pub text : List ℕ
+  pub read : Consumes source₁ source₂ input
+  pub at_end : IsAtEnd source₂
+  pub wrote : Appends sink₁ sink₂ text
+  pub answered : Answered old (lines_of input) tally.refused_for_memory text new
+  pub counted : tally.lines ≡ length (lines_of input)
+  pub only : tally.refused_for_memory ≡ 0 → IsOnlyAnswer old (lines_of input) text new
+
+-- the input broke off, or as many bytes were read as can be counted, and the lines that were whole are answered
+pub record BreaksOff (source₁ source₂ sink₁ sink₂ : Option (List ℕ)) (source_failed : Bool) (old new : State) : Type 0 where
+  pub input : List ℕ
+  pub text : List ℕ
+  pub read : Consumes source₁ source₂ input
+  pub why : (source_failed ≡ true) ⊎ (length input ≡ 2 ^ 64 - 1)
+  pub wrote : Appends sink₁ sink₂ text
+  pub refused : ℕ
+  pub answered : Answered old (whole_lines_of input) refused text new
+
+-- the sink failed: the answers to some of the lines that were read are carried out, and written but for a last part
+pub record IsCut (source₁ source₂ sink₁ sink₂ : Option (List ℕ)) (sink_failed : Bool) (old new : State) : Type 0 where
+  pub input : List ℕ
+  pub written : List ℕ
+  pub read : Consumes source₁ source₂ input
+  pub why : sink_failed ≡ true
+  pub wrote : Appends sink₁ sink₂ written
+  pub carried_out : IsWrittenInPart old (lines_of input) written new

@@ -1,0 +1,15 @@
+//! The run of the program: lines of bytes in, answers out.
+#![tactic(auto)]
+
+mod answer;
+mod device;
+mod laws;
+mod pending;
+mod session;
+
+pub use device::{Device, Failed, Sink, Source};
+pub use laws::lines_have_one_answer;
+pub use session::{RunFault, Tally, run};
+
+#[cfg(test)]
+mod tests;
