@@ -7,9 +7,10 @@ use Rattle.std.proofs.lemmas.List.{take_all, append-nil, length-take, length_pus
 use Rattle.sheet_cli.specs.Lines.{strip_cr, ended_lines, last_line}
 use Rattle.sheet_cli.specs.Answer.{State, IsTextAnswer, IsAnswer, too_long, not_text, of_text}
 use Rattle.std.specs.Str.{IsUtf8, chars}
-use Rattle.sheet_cli.specs.Answers.{IsFlaggedAnswer, Answers, no_lines, line_first, Answered, EachLineHasOneAnswer, LinesHaveOneAnswer, IsOnlyAnswer}
+use Rattle.sheet_cli.specs.Answers.{IsFlaggedAnswer, Answers, no_lines, line_first, Answered, LinesHaveOneAnswer, IsOnlyAnswer}
 use Rattle.sheet_cli.specs.Progress.{next_stripped, line_after, count_of, AnswersLine}
 use Rattle.sheet_cli.proofs.Cuts.{long_enough, kept_line}
+use Rattle.sheet_cli.proofs.OneAnswer.{line_one}
 
 -- a line of so many bytes is too long without its CR
 longer : (line : List ℕ) → 4098 ≤ length line → 4096 < length (strip_cr line)
@@ -73,9 +74,9 @@ pub Answered-none : (old : State) → Answered old [] 0 [] old
 Answered-none old = record { flags = []; one_a_line = refl; refused_is = refl; answers = no_lines }
 
 -- one line has one answer, flagged or not
-flagged_one : EachLineHasOneAnswer → (flag : Bool) (old : State) (line answer₁ answer₂ : List ℕ) (new₁ new₂ : State) → IsFlaggedAnswer flag old line answer₁ new₁ → IsFlaggedAnswer flag old line answer₂ new₂ → (answer₁ ≡ answer₂) × (new₁ ≡ new₂)
-flagged_one one true old line answer₁ answer₂ new₁ new₂ a b = (a.0 ∙ sym b.0, a.1 ∙ sym b.1)
-flagged_one one false old line answer₁ answer₂ new₁ new₂ a b = one old line answer₁ answer₂ new₁ new₂ a b
+flagged_one : (flag : Bool) (old : State) (line answer₁ answer₂ : List ℕ) (new₁ new₂ : State) → IsFlaggedAnswer flag old line answer₁ new₁ → IsFlaggedAnswer flag old line answer₂ new₂ → (answer₁ ≡ answer₂) × (new₁ ≡ new₂)
+flagged_one true old line answer₁ answer₂ new₁ new₂ a b = (a.0 ∙ sym b.0, a.1 ∙ sym b.1)
+flagged_one false old line answer₁ answer₂ new₁ new₂ a b = line_one old line answer₁ answer₂ new₁ new₂ a b
 
 -- what answers to these lines with these flags are made of
 abbrev Parts : State → List (List ℕ) → List Bool → List ℕ → State → Type 0
@@ -91,14 +92,14 @@ parts (line_first {mid = mid} now later f rest) = (mid, now, later, f, rest, ref
 
 -- lines with their flags have one answer
 pub answers_one : LinesHaveOneAnswer
-answers_one one old [] [] answer₁ answer₂ new₁ new₂ a b = let p = parts a in let q = parts b in (p.0 ∙ sym q.0, p.1 ∙ sym q.1)
-answers_one one old [] (flag ∷ flags) answer₁ answer₂ new₁ new₂ a b = absurd (parts a)
-answers_one one old (line ∷ lines) [] answer₁ answer₂ new₁ new₂ a b = absurd (parts a)
-answers_one one old (line ∷ lines) (flag ∷ flags) answer₁ answer₂ new₁ new₂ a b =
+answers_one old [] [] answer₁ answer₂ new₁ new₂ a b = let p = parts a in let q = parts b in (p.0 ∙ sym q.0, p.1 ∙ sym q.1)
+answers_one old [] (flag ∷ flags) answer₁ answer₂ new₁ new₂ a b = absurd (parts a)
+answers_one old (line ∷ lines) [] answer₁ answer₂ new₁ new₂ a b = absurd (parts a)
+answers_one old (line ∷ lines) (flag ∷ flags) answer₁ answer₂ new₁ new₂ a b =
     let p = parts a in
     let q = parts b in
-    let first = flagged_one one flag old line p.1 q.1 p.0 q.0 p.3 q.3 in
-    let rest = answers_one one q.0 lines flags p.2 q.2 new₁ new₂ (rw first.1 at p.4) q.4 in
+    let first = flagged_one flag old line p.1 q.1 p.0 q.0 p.3 q.3 in
+    let rest = answers_one q.0 lines flags p.2 q.2 new₁ new₂ (rw first.1 at p.4) q.4 in
     (p.5 ∙ rw (first.0, rest.0) refl ∙ sym q.5, rest.1)
 
 -- where no flag is set they are so many unset ones
@@ -109,9 +110,9 @@ no_flags (false ∷ flags) h = ap (λ (t : List Bool). false ∷ t) (no_flags fl
 
 -- where no line is refused memory, nothing else answers the lines
 pub only_answer : (old : State) (lines : List (List ℕ)) (refused : ℕ) (answer : List ℕ) (new : State) → Answered old lines refused answer new → refused ≡ 0 → IsOnlyAnswer old lines answer new
-only_answer old lines refused answer new a z = λ one answer' new' b.
+only_answer old lines refused answer new a z = λ answer' new' b.
     let same : b.flags ≡ a.flags = no_flags b.flags b.refused_is ∙ ap (λ (n : ℕ). replicate n false) (b.one_a_line ∙ sym a.one_a_line) ∙ sym (no_flags a.flags (a.refused_is ∙ z)) in
-    answers_one one old lines a.flags answer' answer new' new (rw same at b.answers) a.answers
+    answers_one old lines a.flags answer' answer new' new (rw same at b.answers) a.answers
 
 pub answered_too_long : (old : State) (line answer : List ℕ) → answer ≡ codes "LINE TOO LONG\n" → 4096 < length (strip_cr line) → IsAnswer old line answer old
 answered_too_long old line answer e h = rw e (too_long h)

@@ -1,4 +1,6 @@
 pub mod EditLemmas
+pub mod OneEdit
+pub mod OneAnswer
 pub mod AnswerLemmas
 pub mod Cuts
 pub mod Devices

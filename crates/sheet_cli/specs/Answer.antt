@@ -2,9 +2,8 @@
 use Rattle.std.specs.Prelude.{◌≡◌, ◌≢◌, ℕ, ◌<◌, ◌≤◌, List, [], length, codes, Result, Ok, Err}
 use Rattle.std.specs.Str.{IsUtf8, chars}
 use Rattle.apl_expr.specs.declared.fault.LineFault.TheVariants.{Syntax, Limit}
-use Rattle.apl_expr.specs.Grammar.{IsTooLarge}
-use Rattle.apl_expr.specs.Lines.{Meaning, Nothing, Define, Data, Cell, Show, HasTree}
-use Rattle.apl_expr.specs.Answers.{IsAnswered, IsLineOf}
+use Rattle.apl_expr.specs.Lines.{Meaning, Nothing, Define, Data, Cell, Show}
+use Rattle.apl_expr.specs.Answers.{IsAnswered, IsReadAs}
 use Rattle.arrays_core.specs.Arrays.{ArrayValue}
 use Rattle.arrays_core.specs.declared.fault.Fault.{Fault}
 use Rattle.array_text.specs.Text.{array_text, fault_text}
@@ -56,7 +55,7 @@ IsCarriedOut old (Show t) text new = (text ≡ shown_text (eval t (val old.names
 pub data IsTextAnswer : State → List ℕ → List ℕ → State → Type 0 where
   no_line : {old : State} {cs : List ℕ} → IsAnswered cs (Err Syntax) → IsTextAnswer old cs (codes "SYNTAX ERROR\n") old
   too_large : {old : State} {cs : List ℕ} → IsAnswered cs (Err Limit) → IsTextAnswer old cs (codes "LIMIT ERROR\n") old
-  carried_out : {old new : State} {cs text : List ℕ} (m : Meaning) → IsLineOf cs m → (HasTree IsTooLarge m → ⊥) → IsCarriedOut old m text new → IsTextAnswer old cs text new
+  carried_out : {old new : State} {cs text : List ℕ} (m : Meaning) → IsReadAs cs m → IsCarriedOut old m text new → IsTextAnswer old cs text new
 
 -- the answer to a line, and the state after it
 pub data IsAnswer : State → List ℕ → List ℕ → State → Type 0 where

@@ -40,11 +40,11 @@ pub record StoppedAt (old : State) (lines : List (List ℕ)) (written : List ℕ
 abbrev pub EachLineHasOneAnswer : Type 0
 EachLineHasOneAnswer = (old : State) (line text₁ text₂ : List ℕ) (new₁ new₂ : State) → IsAnswer old line text₁ new₁ → IsAnswer old line text₂ new₂ → (text₁ ≡ text₂) × (new₁ ≡ new₂)
 
--- then lines with these flags have one answer, and lead to one state
+-- lines with these flags have one answer, and lead to one state
 abbrev pub LinesHaveOneAnswer : Type 0
-LinesHaveOneAnswer = EachLineHasOneAnswer → (old : State) (lines : List (List ℕ)) (flags : List Bool) (text₁ text₂ : List ℕ) (new₁ new₂ : State) →
+LinesHaveOneAnswer = (old : State) (lines : List (List ℕ)) (flags : List Bool) (text₁ text₂ : List ℕ) (new₁ new₂ : State) →
     Answers old lines flags text₁ new₁ → Answers old lines flags text₂ new₂ → (text₁ ≡ text₂) × (new₁ ≡ new₂)
 
 -- where no line is refused memory, nothing else answers the lines
 abbrev pub IsOnlyAnswer : State → List (List ℕ) → List ℕ → State → Type 0
-IsOnlyAnswer old lines text new = EachLineHasOneAnswer → (text' : List ℕ) (new' : State) → Answered old lines 0 text' new' → (text' ≡ text) × (new' ≡ new)
+IsOnlyAnswer old lines text new = (text' : List ℕ) (new' : State) → Answered old lines 0 text' new' → (text' ≡ text) × (new' ≡ new)

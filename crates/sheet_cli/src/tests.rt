@@ -1,7 +1,9 @@
 // What no clause says: worked input and output, and devices that give or take a byte at a time, or fail.
 ghost use Rattle.std.specs.Prelude.{Some, drop};
 
-use crate::{Device, Failed, RunFault, Sink, Source, Tally, lines_have_one_answer, run};
+use crate::{
+    Device, Failed, RunFault, Sink, Source, Tally, line_has_one_answer, lines_have_one_answer, run,
+};
 use sheet_recalc::Sheet;
 use std::alloc::Global;
 use std::io::{self, ErrorKind, Write};
@@ -99,6 +101,7 @@ fn answers(rt: &impl Abort, alloc: Global, input: &[u8]) -> Vec<u8> {
 
 #[test]
 fn lines(rt: HostRuntime) {
+    line_has_one_answer();
     lines_have_one_answer();
     let rows: [(&[u8], &[u8]); 9] = [
         (b"", b""),
