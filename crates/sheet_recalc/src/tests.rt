@@ -25,17 +25,14 @@ fn edit_all(sheet: &mut Sheet, texts: &[&str]) -> Result<bool, Fail> {
     Ok(accepted)
 }
 
-/// What a line asks for, to be made later.
-fn push_change(changes: &mut VecDeque<Change>, alloc: Global, text: &str) -> Result<(), Fail> {
+/// The change that a line asks for.
+fn change(alloc: Global, text: &str) -> Result<Option<Change>, Fail> {
     match line(alloc, text)? {
-        Command::Define(name, tree) => changes.push_back(Change::Define(name, tree))?,
-        Command::Data(name, tree) => changes.push_back(Change::Data(name, tree))?,
-        Command::Cell(name, places, literal) => {
-            changes.push_back(Change::Cell(name, places, literal))?
-        }
-        _ => {}
+        Command::Define(name, tree) => Ok(Some(Change::Define(name, tree))),
+        Command::Data(name, tree) => Ok(Some(Change::Data(name, tree))),
+        Command::Cell(name, places, literal) => Ok(Some(Change::Cell(name, places, literal))),
+        _ => Ok(None),
     }
-    Ok(())
 }
 
 /// What an expression shows.
@@ -185,16 +182,17 @@ fn applies_changes_in_order(rt: HostRuntime) -> Result<(), Fail> {
     let mut sheet = Sheet::new(rt.alloc());
     let mut changes = VecDeque::new(rt.alloc());
     for text in [")DATA D←1 2 3", "T←D×2", "D←T", "D[3]←0"] {
-        push_change(&mut changes, rt.alloc(), text)?;
+        match change(rt.alloc(), text)? {
+            Some(change) => changes.push_back(change)?,
+            None => assert!(rt; false, "{text}"),
+        }
     }
     let answers = sheet.apply_all(changes)?;
     assert!(rt;
         matches!(answers.as_slice(), [Ok(()), Ok(()), Err(Refusal::Cycle(_)), Ok(())])
     );
     assert!(rt; has_numbers(&shown(&sheet, "T")?, &[2, 4, 0]));
-    let mut last = VecDeque::new(rt.alloc());
-    push_change(&mut last, rt.alloc(), "D[1]←9")?;
-    match last.pop_front() {
+    match change(rt.alloc(), "D[1]←9")? {
         Some(change) => assert!(rt; sheet.apply(change).is_ok()),
         None => assert!(rt; false),
     }
