@@ -86,11 +86,20 @@ fn evaluates(rt: HostRuntime) -> Result<(), Fail> {
         ("A", &[4][..]),
     ] {
         let tree = expression(rt.alloc(), text)?;
-        assert!(rt; has_numbers(&evaluate(rt.alloc(), &tree, &same)?, want), "{text}");
+        assert!(rt;
+            has_numbers(&evaluate(rt.alloc(), &tree, &same)?, want),
+            "{text}"
+        );
     }
     let lengths = expression(rt.alloc(), "1 2+1 2 3")?;
     assert!(rt;
-        matches!(evaluate(rt.alloc(), &lengths, &same)?, Err(Fault { kind: Kind::Length, origin: None }))
+        matches!(
+            evaluate(rt.alloc(), &lengths, &same)?,
+            Err(Fault {
+                kind: Kind::Length,
+                origin: None
+            })
+        )
     );
     Ok(())
 }
@@ -99,10 +108,12 @@ fn evaluates(rt: HostRuntime) -> Result<(), Fail> {
 fn errs_from_the_right(rt: HostRuntime) -> Result<(), Fail> {
     let tree = expression(rt.alloc(), "A+-B")?;
     match evaluate(rt.alloc(), &tree, &Faulty)? {
-        Err(Fault {
-            kind: Kind::Value,
-            origin: Some(name),
-        }) => assert_eq!(rt; name.text(), "B"),
+        Err(
+            Fault {
+                kind: Kind::Value,
+                origin: Some(name),
+            },
+        ) => assert_eq!(rt; name.text(), "B"),
         _ => assert!(rt; false),
     }
     Ok(())
@@ -118,7 +129,13 @@ fn keeps_its_result(rt: HostRuntime) -> Result<(), Fail> {
     }
     assert_eq!(rt; names.as_str(), "ABA");
     assert!(rt;
-        matches!(formula.result(), Err(Fault { kind: Kind::Value, origin: None }))
+        matches!(
+            formula.result(),
+            Err(Fault {
+                kind: Kind::Value,
+                origin: None
+            })
+        )
     );
     let same = Same {
         array: Array::scalar(rt.alloc(), 4)?,
