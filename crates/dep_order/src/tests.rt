@@ -22,6 +22,10 @@ fn ring(alloc: Global) -> Result<Graph, AllocError> {
 fn orders_nodes(rt: HostRuntime) -> Result<(), Fail> {
     let graph = chain(rt.alloc())?;
     assert_eq!(rt; graph.len(), 3);
+    if graph.len() == 3 {
+        assert!(rt; graph.references(0).is_empty());
+        assert!(rt; graph.references(2) == [1].as_slice());
+    }
     match order(rt.alloc(), &graph) {
         Ok(found) => assert!(rt; found.as_slice() == [0, 1, 2].as_slice()),
         Err(_) => assert!(rt; false),

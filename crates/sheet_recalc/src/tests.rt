@@ -126,7 +126,10 @@ fn refuses(rt: HostRuntime) -> Result<(), Fail> {
         ")DATA D←1 2+1 2 3",
         "D←D+1",
         "C←T+A",
-    ].iter().enumerate() {
+    ]
+    .iter()
+    .enumerate()
+    {
         match edit(&mut sheet, text)? {
             Err(refusal) => {
                 let is_wanted = match number {
@@ -135,7 +138,13 @@ fn refuses(rt: HostRuntime) -> Result<(), Fail> {
                     2 => matches!(refusal, Refusal::Rank),
                     3 | 4 | 5 => matches!(refusal, Refusal::Index),
                     6 => matches!(refusal, Refusal::Length),
-                    7 => matches!(refusal, Refusal::Fault(Fault { kind: Kind::Length, origin: None })),
+                    7 => matches!(
+                        refusal,
+                        Refusal::Fault(Fault {
+                            kind: Kind::Length,
+                            origin: None
+                        })
+                    ),
                     8 => matches!(refusal, Refusal::Cycle(_)),
                     _ => is_cycle(&refusal, &["C", "A", "B"]),
                 };
@@ -189,7 +198,10 @@ fn applies_changes_in_order(rt: HostRuntime) -> Result<(), Fail> {
     }
     let answers = sheet.apply_all(changes)?;
     assert!(rt;
-        matches!(answers.as_slice(), [Ok(()), Ok(()), Err(Refusal::Cycle(_)), Ok(())])
+        matches!(
+            answers.as_slice(),
+            [Ok(()), Ok(()), Err(Refusal::Cycle(_)), Ok(())]
+        )
     );
     assert!(rt; has_numbers(&shown(&sheet, "T")?, &[2, 4, 0]));
     match change(rt.alloc(), "D[1]←9")? {
