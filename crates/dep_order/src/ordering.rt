@@ -11,8 +11,9 @@ use std::alloc::{AllocError, AllocFailed, Global};
 /// Why there is no order.
 #[derive(Debug, Drop)]
 pub enum OrderFault {
-    /// A cycle: each refers to the next, and the last to the first.
+    /// A cycle, at least one node: each refers to the next, and the last to the first.
     Cycle(Vec<usize>),
+    /// The allocator refused memory.
     NoMemory,
 }
 
@@ -32,7 +33,10 @@ impl<T: Drop> From<AllocFailed<T>> for OrderFault {
     }
 }
 
-/// An order in which each node stands after all that it refers to, or a cycle.
+/// All nodes, each once, in an order in which each stands after all that it refers to.
+///
+/// Where there is none, `Cycle` names a cycle, which need not be the only one. `NoMemory` may come with any graph. The time
+/// grows as the number of nodes times that of nodes and references together.
 pub fn order(alloc: Global, graph: &Graph) -> Result<Vec<usize>, OrderFault>
     ensures order { IfOk result (λ order. IsOrder graph.now order.items) }
     ensures cycle { IfErr result (IsCycleOf graph.now) }

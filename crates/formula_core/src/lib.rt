@@ -5,6 +5,8 @@ mod evaluating;
 mod formula;
 mod literals;
 mod names;
+#[cfg(test)]
+mod tests;
 
 pub use evaluating::{Shows, evaluate};
 pub use formula::Formula;

@@ -1,5 +1,5 @@
 -- Positions, one axis after another.
-use Rattle.std.proofs.Common.{◌≡◌, ℕ, suc, ℤ, pos, ◌+◌, ◌<◌, List, [], ◌∷◌, drop, get_or, length, Bool, true, false, ◌&&◌, refl, sym, ap, ◌∙◌, drop-cons, add-one}
+use Rattle.std.proofs.Common.{◌≡◌, ℕ, suc, ℤ, pos, ◌+◌, ◌<◌, List, ◌∷◌, drop, get_or, length, ◌&&◌, refl, ap, ◌∙◌, drop-cons, add-one}
 use Rattle.arrays_core.specs.Shapes.{is_index_of}
 use Rattle.sheet_recalc.specs.Cells.{index_of_number, index_of_numbers, is_on_axis}
 

@@ -1,17 +1,15 @@
 -- Entries, the names that they stand for, and what they show.
-use Rattle.std.proofs.Common.{◌≡◌, ℕ, zero, suc, ◌+◌, ◌<◌, ◌≤◌, ◌⊎◌, inl, inr, Bool, true, false, cond, List, [], ◌∷◌, ◌++◌, map, length, Option, Some, None, Ok, Err, IsSome, is_some, refl, sym, ap, ◌∙◌, subst, arith, if◌then◌else◌, ⊎_elim}
+use Rattle.std.proofs.Common.{◌≡◌, ℕ, ◌<◌, ◌⊎◌, inl, inr, Bool, true, false, cond, List, [], ◌∷◌, ◌++◌, length, Option, Some, None, Ok, IsSome, is_some, refl, sym, ap, ◌∙◌, subst, arith, if◌then◌else◌, ⊎_elim}
 use Rattle.std.specs.Str.{bytes_eq}
 use Rattle.std.specs.Map.{lookup, keys_of, set_value}
-use Rattle.std.specs.Option.{option_map, unwrap_or}
+use Rattle.std.specs.Option.{option_map}
 use Rattle.std.specs.List.{IsDistinct}
 use Rattle.std.proofs.lemmas.Bool.{false≢true}
-use Rattle.std.proofs.lemmas.List.{length-map}
 use Rattle.indexmap.specs.IndexMap.{insert_entry}
-use Rattle.apl_expr.specs.Trees.{Tree}
 use Rattle.arrays_core.specs.Arrays.{ArrayValue}
 use Rattle.dep_order.specs.Reach.{Chain, IsAcyclic}
-use Rattle.formula_core.specs.Outcomes.{Outcome, fault}
-use Rattle.sheet_recalc.specs.Names.{Names, Binding, Data, Formula, binding, Refers, IsSheet}
+use Rattle.formula_core.specs.Outcomes.{Outcome}
+use Rattle.sheet_recalc.specs.Names.{Names, Data, binding, Refers}
 use Rattle.sheet_recalc.specs.Meaning.{shown, val, val_at}
 use Rattle.sheet_recalc.specs.Entries.{names_of, binding_of, held, adopted}
 use Rattle.sheet_recalc.specs.Outline.{IsScratch}
@@ -19,7 +17,6 @@ use Rattle.sheet_recalc.specs.Live.{IsCurrent, IsLive, Adopting}
 use Rattle.sheet_recalc.specs.declared.entry.Entry.{Entry}
 use Rattle.sheet_recalc.specs.declared.entry.Entry.TheVariants as entry
 use Rattle.sheet_recalc.proofs.NameEquality.{equal-true, equal-same}
-use Rattle.sheet_recalc.proofs.Scratch.{val_absent}
 
 pub binding_of_name : (es : List (List ℕ × Entry)) (q : List ℕ) → binding (names_of es) q ≡ option_map binding_of (lookup (bytes_eq q) es)
 binding_of_name [] q = refl

@@ -1,5 +1,5 @@
 -- Names are compared by their texts.
-use Rattle.std.proofs.Common.{◌≡◌, ℕ, List, true, sym, ◌∙◌}
+use Rattle.std.proofs.Common.{◌≡◌, ℕ, List, true}
 use Rattle.std.specs.Str.{bytes_eq}
 use Rattle.std.specs.Cmp.{IsEquivalence}
 use Rattle.std.proofs.lemmas.Cmp.{nat_list_eq_equiv}

@@ -1,13 +1,12 @@
 -- Why a change was refused, from why a name could not be bound so.
-use Rattle.std.proofs.Common.{◌≡◌, ◌≤◌, ◌<◌, ◌+◌, ◌∙◌, ℕ, ℤ, inl, inr, List, [], ◌∷◌, length, Bool, true, false, is_some, IsSome, Option, Some, None, Result, Ok, Err, Vec, Global, sym, ap, subst, arith, refl}
-use Rattle.std.specs.Map.{keys_of}
+use Rattle.std.proofs.Common.{◌≡◌, ◌≤◌, ◌<◌, ◌+◌, ◌∙◌, ℕ, ℤ, inl, inr, List, [], ◌∷◌, length, is_some, IsSome, Option, Some, None, Ok, Err, Vec, Global, sym, ap, subst, arith, refl}
 use Rattle.std.proofs.lemmas.Bool.{false≢true}
 use Rattle.std.proofs.lemmas.List.{length-map, length-append}
-use Rattle.dep_order.specs.Reach.{IsAcyclic, IsCycle}
+use Rattle.dep_order.specs.Reach.{IsAcyclic}
 use Rattle.apl_expr.specs.Trees.{Tree, Constant}
 use Rattle.arrays_core.specs.Arrays.{ArrayValue}
 use Rattle.formula_core.specs.Meaning.{eval}
-use Rattle.sheet_recalc.specs.Names.{Names, Binding, Data, Formula, binding, put, Refers, IsSheet}
+use Rattle.sheet_recalc.specs.Names.{Names, Binding, Data, Formula, binding, put, Refers}
 use Rattle.sheet_recalc.specs.Meaning.{val}
 use Rattle.sheet_recalc.specs.Cells.{cell_put}
 use Rattle.sheet_recalc.specs.Changes.{Define, Store, SetCell, Refuses, CannotPut, IsCycleFrom, HasRoom, IsFullFor, IsCycleIn}

@@ -1,10 +1,10 @@
 -- Where each name stands after all that it refers to, one step from what the names show gives what they show: a greater depth
 -- changes nothing. And then nothing reaches itself.
-use Rattle.std.proofs.Common.{◌≡◌, ℕ, zero, suc, ◌+◌, ◌<◌, ◌≤◌, ◌⊎◌, inl, inr, List, [], ◌∷◌, ◌++◌, take, length, get_or, slice_index_or, Option, Some, None, Ok, Err, IsSome, refl, sym, ap, ◌∙◌, subst, arith}
+use Rattle.std.proofs.Common.{◌≡◌, ℕ, zero, suc, ◌<◌, List, [], ◌∷◌, take, length, slice_index_or, Option, Some, None, Err, IsSome, refl, sym, ap, ◌∙◌, subst, arith}
 use Rattle.std.specs.List.{Contains}
 use Rattle.std.proofs.lemmas.List.{get_or-take, get_or_default, length-take}
 use Rattle.std.proofs.lemmas.List.Elements.{Contains-append_left, Contains-append_right}
-use Rattle.dep_order.specs.Reach.{Chain, Reaches, IsAcyclic}
+use Rattle.dep_order.specs.Reach.{Chain, IsAcyclic}
 use Rattle.apl_expr.specs.Trees.{Tree, Literal, Variable, Applied1, Applied2}
 use Rattle.arrays_core.specs.declared.item.Kind.TheVariants.{Value}
 use Rattle.formula_core.specs.Outcomes.{Outcome, fault}

@@ -1,5 +1,5 @@
 -- What a change to a sheet gives, or why it is refused.
-use Rattle.std.specs.Prelude.{◌≡◌, ℕ, ◌<◌, ◌≤◌, ◌⊎◌, ℤ, List, [], ◌∷◌, Option, Some, None, Ok, Err, IsSome, length}
+use Rattle.std.specs.Prelude.{◌≡◌, ℕ, ◌<◌, ◌≤◌, ◌⊎◌, ℤ, List, [], ◌∷◌, None, Ok, Err, IsSome, length}
 use Rattle.dep_order.specs.Reach.{IsAcyclic, IsCycle}
 use Rattle.apl_expr.specs.Trees.{Tree, Constant}
 use Rattle.arrays_core.specs.Arrays.{ArrayValue}

@@ -1,5 +1,5 @@
 -- The entries of a sheet, as the list of its names and as what they show.
-use Rattle.std.specs.Prelude.{◌≡◌, ℕ, List, Option, Some, None, Ok, Err, Result, map}
+use Rattle.std.specs.Prelude.{ℕ, List, Ok, Err, map}
 use Rattle.std.specs.Str.{bytes_eq}
 use Rattle.std.specs.Map.{lookup}
 use Rattle.std.specs.Option.{unwrap_or, option_map}

@@ -1,5 +1,5 @@
 -- What a list of changes is answered, and where it leads.
-use Rattle.std.specs.Prelude.{◌≡◌, List, [], ◌∷◌, Option, Some, None, Result, Ok, Err}
+use Rattle.std.specs.Prelude.{◌≡◌, List, [], ◌∷◌, Result, Ok, Err}
 use Rattle.sheet_recalc.specs.Names.{Names}
 use Rattle.apl_expr.specs.Trees.{tree_of, constant_of}
 use Rattle.sheet_recalc.specs.Changes.{Change, Define, Store, SetCell, Accepts, Refuses}

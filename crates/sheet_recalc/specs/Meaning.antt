@@ -1,6 +1,5 @@
 -- What each name shows, worked out from scratch.
 use Rattle.std.specs.Prelude.{◌≡◌, ℕ, zero, suc, List, Option, Some, None, Ok, Err, is_some, length, if◌then◌else◌}
-use Rattle.apl_expr.specs.Trees.{Tree}
 use Rattle.arrays_core.specs.declared.fault.Fault.{Fault}
 use Rattle.arrays_core.specs.declared.item.Kind.TheVariants.{Value}
 use Rattle.formula_core.specs.Outcomes.{Outcome, fault}

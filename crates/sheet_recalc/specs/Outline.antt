@@ -1,5 +1,5 @@
 -- A sheet as it would be after a change: its names with what they are bound to, lent.
-use Rattle.std.specs.Prelude.{◌≡◌, ℕ, List, [], ◌∷◌, ◌++◌, Option, Some, None, Ok, Err, IsSome, map, slice_index_or}
+use Rattle.std.specs.Prelude.{◌≡◌, ℕ, List, [], Option, Some, None, Ok, Err, IsSome, map, slice_index_or}
 use Rattle.std.specs.Str.{bytes_eq}
 use Rattle.std.specs.List.{position, flat_map}
 use Rattle.std.specs.Option.{option_to_list, unwrap_or}

@@ -95,10 +95,12 @@ impl Sheet {
         }
     }
 
-    /// The names, in the order in which they were first bound.
+    /// The names, in the order in which they were first bound: no two are one, none reaches itself by references, and there
+    /// are at most 1,024.
     #[tactic(auto, using(crate::proofs::Live::keys_of_names))]
     pub fn names(&self) -> Keys<'_, Name, Entry>
-        ensures { result ≡ keys_of self.now.names }
+        ensures names { result ≡ keys_of self.now.names }
+        ensures sound { IsSheet self.now.names }
     {
         self.entries.keys()
     }

@@ -1,8 +1,8 @@
-use Rattle.std.proofs.Common.{◌≡◌, ℕ, slice_index_or, [], ◌∷◌, ◌++◌, Some, true, false, List, length, get_or, subst, arith, sym, ap, drop, ◌<◌, ◌∙◌}
+use Rattle.std.proofs.Common.{◌≡◌, ℕ, true, List, length, get_or, subst, arith, sym, ap, drop, ◌<◌, ◌∙◌}
 use Rattle.std.specs.List.{Contains}
 use Rattle.std.proofs.lemmas.List.{length-set, get_or_default, take_rest}
 use Rattle.std.proofs.lemmas.Result.{IfOk-weaker}
-use Rattle.dep_order.specs.Order.{Points, IsPlaced, IsLeft}
+use Rattle.dep_order.specs.Order.{Points, IsLeft}
 use Rattle.dep_order.specs.Reach.{IsCycle, LeadsTo}
 use Rattle.dep_order.proofs.Marks.{IsSome-from_none, apart, now_listed}
 use Rattle.dep_order.proofs.Chains.{LeadsTo-push, cycle_from}
@@ -24,7 +24,7 @@ loop-seen-preserved c =
       left = rw c.unwrap-node.ensures at c.missing.ensures.left;
       seen = λ a p. subst (λ xs. Contains xs a) (sym c.in_ok-push.ensures.items) (now_listed seen c.loop-seen.node left c.loop-seen.path.items v.seen a p);
       leads = subst (λ xs. LeadsTo (Points c.args.graph.now) xs c.unwrap-node.result) (sym c.in_ok-push.ensures.items)
-        (LeadsTo-push (Points c.args.graph.now) c.loop-seen.path.items c.loop-seen.node c.unwrap-node.result v.leads (rw c.unwrap-node.ensures at c.missing.ensures.points));
+          (LeadsTo-push (Points c.args.graph.now) c.loop-seen.path.items c.loop-seen.node c.unwrap-node.result v.leads (rw c.unwrap-node.ensures at c.missing.ensures.points));
     }
 
 pub returns : goal.returns

@@ -1,4 +1,4 @@
-use Rattle.std.proofs.Common.{◌≡◌, ℕ, length, List, count_by, not}
+use Rattle.std.proofs.Common.{◌≡◌, ℕ, length, count_by, not}
 use Rattle.std.specs.List.{Contains}
 use Rattle.dep_order.specs.Order.{IsLeft, IsPlaced, Points}
 use Rattle.dep_order.specs.Reach.{LeadsTo}

@@ -1,4 +1,4 @@
-use Rattle.std.proofs.Common.{◌≡◌, ◌<◌, slice_index_or, [], true, false, length, get_or, subst, arith, sym, ◌∙◌}
+use Rattle.std.proofs.Common.{◌<◌, true, false, length, get_or, subst, arith, sym, ◌∙◌}
 use Rattle.std.specs.List.{Contains}
 use Rattle.std.proofs.lemmas.List.{get_or_default}
 use Rattle.std.proofs.lemmas.List.Elements.{Contains-get_or}

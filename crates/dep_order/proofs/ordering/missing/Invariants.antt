@@ -1,5 +1,5 @@
 use Rattle.std.proofs.Common.{◌≡◌, ℕ, ◌<◌, slice_index, slice_index_or, []}
-use Rattle.dep_order.specs.Order.{IsPlaced, IsInRange}
+use Rattle.dep_order.specs.Order.{IsPlaced}
 use Rattle.dep_order.proofs.ordering.missing.Given as goal
 
 abbrev pub invariant-loop-next : goal.invariant-loop-next

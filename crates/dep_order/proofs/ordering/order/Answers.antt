@@ -1,4 +1,4 @@
-use Rattle.std.proofs.Common.{◌≡◌, ℕ, ◌<◌, slice_index, slice_index_or, [], ◌∷◌, ◌++◌, Some, true, false, List, length, get_or, set, subst, arith, sym, ap, take, nat_eq, Bool, ◌∙◌}
+use Rattle.std.proofs.Common.{◌≡◌, ℕ, ◌<◌, slice_index, true, List, length, set, subst, arith, sym, ap, take, nat_eq, Bool, ◌∙◌}
 use Rattle.std.specs.List.{Contains, IsDistinct}
 use Rattle.std.proofs.lemmas.List.{length-set}
 use Rattle.dep_order.specs.Order.{Points, IsPlaced, IsLeft, IsStuck}

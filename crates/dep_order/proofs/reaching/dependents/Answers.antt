@@ -1,9 +1,7 @@
-use Rattle.std.proofs.Common.{◌≡◌, ◌≢◌, ℕ, ◌<◌, ◌⊎◌, inl, inr, ⊎_elim, slice_index, [], ◌∷◌, ◌++◌, Some, true, false, List, Bool, length, get_or, set, subst, arith, sym, ap, nat_eq, ◌∙◌}
+use Rattle.std.proofs.Common.{◌≡◌, ℕ, ◌<◌, slice_index, true, List, Bool, length, set, subst, arith, sym, ap, nat_eq, ◌∙◌}
 use Rattle.std.specs.List.{Contains, IsDistinct}
-use Rattle.std.proofs.lemmas.List.{length-set, get_or-set_other}
-use Rattle.std.proofs.lemmas.Bool.{cases_eq}
+use Rattle.std.proofs.lemmas.List.{length-set}
 use Rattle.dep_order.specs.Order.{Points, IsPlaced, IsLeft, IsHit}
-use Rattle.dep_order.specs.Reach.{Reaches, Chain}
 use Rattle.dep_order.proofs.Chains.{back_along}
 use Rattle.dep_order.proofs.Marks.{of_each, none_marked, now_listed, now_marked, still_once, IsDistinct-none, now_reach, points_from}
 use Rattle.dep_order.proofs.reaching.dependents.Goals as goal

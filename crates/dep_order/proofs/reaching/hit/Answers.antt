@@ -1,4 +1,4 @@
-use Rattle.std.proofs.Common.{◌≡◌, ◌<◌, ℕ, slice_index_or, [], length, get_or, subst, arith, sym}
+use Rattle.std.proofs.Common.{get_or, subst, arith, sym}
 use Rattle.std.specs.List.{Contains}
 use Rattle.std.proofs.lemmas.List.Elements.{Contains-get_or}
 use Rattle.dep_order.specs.Order.{Points, IsHit}

@@ -1,4 +1,4 @@
-use Rattle.std.proofs.Common.{◌≡◌, ℕ, ◌<◌, slice_index, slice_index_or, []}
+use Rattle.std.proofs.Common.{ℕ, ◌<◌, slice_index}
 use Rattle.dep_order.specs.Order.{IsHit}
 use Rattle.dep_order.proofs.reaching.hit.Given as goal
 

@@ -1,5 +1,4 @@
-use Rattle.std.proofs.Common.{◌≡◌, ◌<◌, ℕ, subst, arith, below_more}
-use Rattle.dep_order.specs.Order.{Points, IsHit, IsPlaced}
+use Rattle.std.proofs.Common.{arith, below_more}
 use Rattle.dep_order.proofs.Marks.{of_none}
 use Rattle.dep_order.proofs.reaching.next_dependent.Goals as goal
 

@@ -1,4 +1,4 @@
-use Rattle.std.proofs.Common.{◌≡◌, sym, subst, IfOk, Result, Ok, ap, ◌∙◌}
+use Rattle.std.proofs.Common.{◌≡◌, sym, subst, IfOk, Ok}
 use Rattle.arrays_core.specs.Arrays.{IsAnswerTo, ArrayValue}
 use Rattle.scalar_fns.specs.Extension.{on_arrays}
 use Rattle.scalar_fns.specs.declared.function.Scalar2.{Scalar2}

@@ -1,4 +1,4 @@
-use Rattle.std.proofs.Common.{◌≡◌, sym, subst, IfOk, Result, ap, ◌∙◌}
+use Rattle.std.proofs.Common.{◌≡◌, sym, subst, IfOk}
 use Rattle.arrays_core.specs.Arrays.{IsAnswerTo, ArrayValue}
 use Rattle.scalar_fns.specs.Extension.{on_array}
 use Rattle.scalar_fns.specs.declared.function.Scalar1.{Scalar1}

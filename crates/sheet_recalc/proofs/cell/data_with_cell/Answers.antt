@@ -1,7 +1,7 @@
 use Rattle.std.proofs.Common.{◌≡◌, ◌∙◌, sym, ap, subst, Option, Some, None}
 use Rattle.std.specs.Option.{option_map}
 use Rattle.apl_expr.specs.Trees.{constant_of}
-use Rattle.sheet_recalc.specs.Names.{Binding, Data, Formula, binding}
+use Rattle.sheet_recalc.specs.Names.{Binding, binding}
 use Rattle.sheet_recalc.specs.Entries.{names_of, binding_of}
 use Rattle.sheet_recalc.specs.Cells.{cell_put, IsCellAnswer}
 use Rattle.sheet_recalc.specs.declared.entry.Entry.{Entry}

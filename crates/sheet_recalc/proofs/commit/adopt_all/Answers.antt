@@ -1,8 +1,8 @@
-use Rattle.std.proofs.Common.{◌≡◌, ◌∙◌, sym, ap, subst, List, Some, None, IsSome, refl, inl, cond}
+use Rattle.std.proofs.Common.{◌≡◌, ◌∙◌, sym, ap, subst, Some, IsSome, refl, cond}
 use Rattle.std.specs.Str.{bytes_eq}
 use Rattle.std.specs.Map.{lookup, set_value}
 use Rattle.std.proofs.lemmas.Bool.{false≢true}
-use Rattle.sheet_recalc.specs.Entries.{names_of, adopted}
+use Rattle.sheet_recalc.specs.Entries.{names_of}
 use Rattle.sheet_recalc.proofs.Live.{adopting_some, adopting_none, current_at_end}
 use Rattle.sheet_recalc.proofs.commit.adopt_all.Goals as goal
 

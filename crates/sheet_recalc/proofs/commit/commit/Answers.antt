@@ -1,7 +1,7 @@
 use Rattle.std.proofs.Common.{◌≡◌, ◌∙◌, sym, ap, subst}
 use Rattle.std.specs.Str.{bytes_eq}
 use Rattle.indexmap.specs.IndexMap.{insert_entry}
-use Rattle.sheet_recalc.specs.Entries.{names_of, binding_of}
+use Rattle.sheet_recalc.specs.Entries.{names_of}
 use Rattle.sheet_recalc.specs.Outline.{IsScratch}
 use Rattle.sheet_recalc.proofs.Live.{names_of_insert, adopting_from_scratch}
 use Rattle.sheet_recalc.proofs.commit.commit.Goals as goal

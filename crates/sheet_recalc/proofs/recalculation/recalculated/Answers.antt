@@ -1,4 +1,4 @@
-use Rattle.std.proofs.Common.{◌≡◌, ◌∙◌, ℕ, ◌<◌, List, sym, ap, subst, map, length}
+use Rattle.std.proofs.Common.{◌∙◌, ℕ, ◌<◌, List, sym, ap, subst, map, length}
 use Rattle.std.specs.List.{All}
 use Rattle.dep_order.specs.Order.{IsOrder, Points}
 use Rattle.dep_order.specs.Reach.{IsCycle}

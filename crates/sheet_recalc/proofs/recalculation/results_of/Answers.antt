@@ -1,9 +1,8 @@
-use Rattle.std.proofs.Common.{◌≡◌, ◌∙◌, ◌<◌, ℕ, List, map, Some, IsSome, get_or, slice_get, slice_index, length, sym, ap, subst, refl, arith, below_more}
+use Rattle.std.proofs.Common.{◌≡◌, ◌∙◌, ◌<◌, Some, IsSome, get_or, slice_get, slice_index, length, sym, ap, subst, refl, arith, below_more}
 use Rattle.std.specs.Str.{bytes_eq}
 use Rattle.std.specs.Map.{lookup}
 use Rattle.std.proofs.lemmas.List.{get_or-map, length-map}
-use Rattle.apl_expr.specs.Trees.{Tree}
-use Rattle.sheet_recalc.specs.Names.{Names, Binding, Data, Formula, binding}
+use Rattle.sheet_recalc.specs.Names.{Data, Formula, binding}
 use Rattle.sheet_recalc.specs.Meaning.{val}
 use Rattle.sheet_recalc.specs.Outline.{outlined, bound, name_at}
 use Rattle.sheet_recalc.specs.declared.entry.BindingRef.{BindingRef}

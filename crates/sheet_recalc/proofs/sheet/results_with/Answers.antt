@@ -1,9 +1,9 @@
-use Rattle.std.proofs.Common.{◌≡◌, ◌∙◌, ◌<◌, ◌≤◌, sym, ap, subst, List, ℕ, length, arith}
+use Rattle.std.proofs.Common.{arith}
 use Rattle.dep_order.specs.Reach.{IsCycle}
 use Rattle.sheet_recalc.specs.Names.{put, Refers}
 use Rattle.sheet_recalc.specs.Entries.{names_of}
 use Rattle.sheet_recalc.specs.Outline.{bound}
-use Rattle.sheet_recalc.proofs.Refused.{has_room, is_full, not_cycle}
+use Rattle.sheet_recalc.proofs.Refused.{has_room, is_full}
 use Rattle.sheet_recalc.proofs.Cycles.{cycle_from}
 use Rattle.sheet_recalc.proofs.sheet.results_with.Goals as goal
 

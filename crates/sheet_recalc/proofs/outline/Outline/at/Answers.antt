@@ -1,4 +1,4 @@
-use Rattle.std.proofs.Common.{◌≡◌, ◌∙◌, sym, ap, Some, List, ℕ}
+use Rattle.std.proofs.Common.{◌∙◌, sym, ap, Some, List, ℕ}
 use Rattle.sheet_recalc.specs.Names.{Binding}
 use Rattle.sheet_recalc.specs.Outline.{bound}
 use Rattle.sheet_recalc.specs.declared.entry.BindingRef.{BindingRef}

@@ -1,4 +1,4 @@
-use Rattle.std.proofs.Common.{◌≡◌, ◌∙◌, sym, ap, Some, None}
+use Rattle.std.proofs.Common.{◌∙◌, sym, ap, Some, None}
 use Rattle.sheet_recalc.specs.Outline.{bound}
 use Rattle.sheet_recalc.proofs.Outlines.{bound_own, bound_other}
 use Rattle.sheet_recalc.proofs.outline.Outline.binding_of.Goals as goal

@@ -1,4 +1,4 @@
-use Rattle.std.proofs.Common.{◌≡◌, ◌∙◌, sym, ap, subst, List, ℕ, [], ◌∷◌, ◌++◌, map, take, arith, Vec, Global}
+use Rattle.std.proofs.Common.{◌∙◌, sym, ap, subst, List, ℕ, [], ◌∷◌, ◌++◌, map, take, arith, Vec, Global}
 use Rattle.std.proofs.lemmas.List.{map-append, take_all}
 use Rattle.dep_order.specs.Order.{IsInRange}
 use Rattle.sheet_recalc.specs.Names.{Binding}

@@ -1,4 +1,4 @@
-use Rattle.std.proofs.Common.{◌≡◌, ◌∙◌, sym, ap, Some, length}
+use Rattle.std.proofs.Common.{◌∙◌, sym, ap, Some}
 use Rattle.sheet_recalc.specs.Outline.{bound}
 use Rattle.sheet_recalc.proofs.Outlines.{place_found, place_last, place_none}
 use Rattle.sheet_recalc.proofs.outline.Outline.place_of.Goals as goal

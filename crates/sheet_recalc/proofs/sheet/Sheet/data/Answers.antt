@@ -1,4 +1,4 @@
-use Rattle.std.proofs.Common.{◌≡◌, ◌∙◌, sym, Ok}
+use Rattle.std.proofs.Common.{◌∙◌, sym}
 use Rattle.std.proofs.lemmas.Result.{IfErr-weaker}
 use Rattle.apl_expr.specs.Trees.{tree_of}
 use Rattle.sheet_recalc.proofs.Refused.{refused_data}

@@ -1,7 +1,6 @@
-use Rattle.std.proofs.Common.{◌≡◌, ◌∙◌, sym, ap, subst, List, ℕ}
+use Rattle.std.proofs.Common.{subst}
 use Rattle.std.proofs.lemmas.Result.{err_from_is_err_and}
-use Rattle.sheet_recalc.specs.Names.{Names, Data, put, IsSheet}
-use Rattle.sheet_recalc.specs.Entries.{names_of}
+use Rattle.sheet_recalc.specs.Names.{Data}
 use Rattle.sheet_recalc.specs.Live.{SheetValue}
 use Rattle.sheet_recalc.specs.Changes.{CannotPut}
 use Rattle.sheet_recalc.proofs.sheet.Sheet.put_data.Goals as goal

@@ -1,4 +1,4 @@
-use Rattle.std.proofs.Common.{◌≡◌, ◌∙◌, ap, Some, None, is_some, if◌then◌else◌}
+use Rattle.std.proofs.Common.{◌∙◌, ap, Some, None, is_some, if◌then◌else◌}
 use Rattle.sheet_recalc.specs.Names.{binding}
 use Rattle.sheet_recalc.specs.Meaning.{val}
 use Rattle.sheet_recalc.specs.Live.{SheetValue}
