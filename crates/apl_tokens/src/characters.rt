@@ -1,7 +1,7 @@
 //! The kinds of characters of a line.
 
 ghost use Rattle.std.specs.Prelude.{◌≡◌};
-ghost use Rattle.apl_tokens.specs.Characters.{is_blank, is_sign, is_letter, is_name_part, joins_number, spells_name};
+ghost use Rattle.apl_tokens.specs.Characters.{is_blank, sign_of, is_letter, is_name_part, joins_number, spells_name};
 ghost use Rattle.std.specs.Str.{chars};
 
 /// Whether it stands between tokens and is none.
@@ -11,11 +11,29 @@ pub(crate) fn is_blank(c: char) -> bool
     c == ' ' || c == '\t'
 }
 
-/// Whether it is a token of its own.
-pub(crate) fn is_sign(c: char) -> bool
-    ensures { result ≡ is_sign c }
+/// The first spelling of a sign, which is a token of its own; `None` for what is none.
+#[tactic(auto, unfolding(crate::specs::Characters::sign_of))]
+pub(crate) fn sign_of(c: char) -> Option<char>
+    ensures { result ≡ sign_of c }
 {
-    c == '+' || c == '-' || c == '×' || c == '←' || c == ')' || c == '[' || c == ']' || c == ';'
+    match c {
+        '+' | '-' | '×' | '÷' | '*' => Some(c),
+        '|' | '⌈' | '⌊' | '~' => Some(c),
+        '<' | '≤' | '=' | '≥' | '>' | '≠' => Some(c),
+        '∧' | '∨' | '⍲' | '⍱' => Some(c),
+        '⍴' | ',' | '⍪' | '↑' | '↓' => Some(c),
+        '⌽' | '⊖' | '⍉' => Some(c),
+        '/' | '⌿' | '\\' | '⍀' => Some(c),
+        '⍳' | '∊' | '⊤' | '⊥' => Some(c),
+        '∘' | '.' | '←' => Some(c),
+        '(' | ')' | '[' | ']' | ';' => Some(c),
+        '∣' => Some('|'),
+        '∼' => Some('~'),
+        '⋆' => Some('*'),
+        '^' => Some('∧'),
+        '∈' => Some('∊'),
+        _ => None,
+    }
 }
 
 /// Whether a name may begin with it.

@@ -10,8 +10,8 @@ use thiserror::Error;
 /// Why a text has no tokens: the first fault from the left, with the bytes where it is.
 #[derive(Clone, Copy, Debug, PartialEq, Eq, Error)]
 pub enum TokenFault {
-    /// A character that begins no token; a high minus without a digit behind it; or a number, directly followed by a
-    /// letter, `_` or a high minus.
+    /// A character that begins no token; a high minus without a digit behind it; a text that does not close; or a number,
+    /// directly followed by a letter, `_` or a high minus.
     #[error("no token at bytes {0}")]
     Syntax(Span),
     /// A number that is out of range, or a name of more than 63 bytes.

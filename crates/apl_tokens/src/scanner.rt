@@ -1,13 +1,14 @@
 //! The scanner: it reads the characters of a line from left to right, once.
 
-ghost use Rattle.std.specs.Prelude.{◌≡◌, ◌+◌, ◌<◌, ◌^◌, length, IfOk, encode_utf8_all};
+ghost use Rattle.std.specs.Prelude.{◌≡◌, ◌+◌, ◌<◌, ◌^◌, [], ◌∷◌, ◌++◌, Ok, length, IfOk, encode_utf8_all};
 ghost use Rattle.std.specs.Char.{len_utf8};
 ghost use Rattle.std.specs.Str.{chars};
-ghost use Rattle.apl_tokens.specs.Scans.{with_front};
-ghost use Rattle.apl_tokens.specs.Scanner.{begun, ended, turn, scan, Between};
+ghost use Rattle.apl_tokens.specs.Lexemes.{lexeme};
+ghost use Rattle.apl_tokens.specs.Scans.{with_front, placed};
+ghost use Rattle.apl_tokens.specs.Scanner.{begun, ended, then_begun, turn, scan, Between, Digits, Quoted, Goes};
 ghost use Rattle.apl_tokens.specs.Scanning.{scan_of, all_placed, prepended, Turns, Finds, Gives, AreTokensOf};
 
-use crate::characters::{is_blank, is_letter, is_name_part, is_sign, joins_number};
+use crate::characters::{is_blank, is_letter, is_name_part, joins_number, sign_of};
 use crate::fault::TokenFault;
 use crate::name::Name;
 use crate::numbers::number;
@@ -22,6 +23,25 @@ enum Scan {
     Minus(Span),
     Digits(usize, bool, Vec<char>),
     Letters(usize, String),
+    Quoted(usize, Vec<char>),
+    Quote(usize, Vec<char>),
+}
+
+/// Puts a token behind the others.
+fn put(out: &mut Vec<Spanned>, token: Token, span: Span) -> Result<(), TokenFault>
+    ensures { Finds result out.new.items (Ok (all_placed out.old.items ++ placed (lexeme token) span.start span.end ∷ [])) }
+{
+    out.push(Spanned { token, span })?;
+    Ok(())
+}
+
+/// Reads the first digit of a number.
+fn first_digit(alloc: Global, start: usize, is_negative: bool, c: char) -> Result<Scan, TokenFault>
+    ensures { Turns result [] (Goes [] (Digits start is_negative (c ∷ []))) }
+{
+    let mut digits = Vec::new(alloc);
+    digits.push(c)?;
+    Ok(Scan::Digits(start, is_negative, digits))
 }
 
 /// Begins to read at a character that stands at byte `at`.
@@ -31,17 +51,16 @@ fn begun(alloc: Global, at: usize, c: char, out: &mut Vec<Spanned>) -> Result<Sc
 {
     let end = at + c.len_utf8();
     if is_blank(c) {
-        Ok(Scan::Between)
-    } else if is_sign(c) {
-        out.push(Spanned {
-            token: Token::Mark(c),
-            span: Span { start: at, end },
-        })?;
-        Ok(Scan::Between)
+        return Ok(Scan::Between);
+    }
+    if let Some(sign) = sign_of(c) {
+        put(out, Token::Mark(sign), Span { start: at, end })?;
+        return Ok(Scan::Between);
+    }
+    if c == '\'' {
+        Ok(Scan::Quoted(at, Vec::new(alloc)))
     } else if c.is_ascii_digit() {
-        let mut digits = Vec::new(alloc);
-        digits.push(c)?;
-        Ok(Scan::Digits(at, false, digits))
+        first_digit(alloc, at, false, c)
     } else if is_letter(c) {
         let mut letters = String::new(alloc);
         letters.push(c)?;
@@ -66,30 +85,43 @@ fn ended(at: usize, scan: Scan, out: &mut Vec<Spanned>) -> Result<(), TokenFault
         Scan::Digits(start, is_negative, digits) => {
             let span = Span { start, end: at };
             match number(is_negative, &digits) {
-                Some(n) => {
-                    out.push(Spanned {
-                        token: Token::Num(n),
-                        span,
-                    })?;
-                    Ok(())
-                }
+                Some(n) => put(out, Token::Num(n), span),
                 None => Err(TokenFault::Limit(span)),
             }
         }
         Scan::Letters(start, letters) => {
             let span = Span { start, end: at };
             match Name::of_letters(letters.as_str()) {
-                Some(name) => {
-                    out.push(Spanned {
-                        token: Token::Word(name),
-                        span,
-                    })?;
-                    Ok(())
-                }
+                Some(name) => put(out, Token::Word(name), span),
                 None => Err(TokenFault::Limit(span)),
             }
         }
+        Scan::Quoted(start, _) => Err(TokenFault::Syntax(Span { start, end: at })),
+        Scan::Quote(start, chars) => put(out, Token::Text(chars), Span { start, end: at }),
     }
+}
+
+/// Ends what is being read, and begins to read at a character that stands at byte `at`.
+fn begun_behind(
+    alloc: Global,
+    at: usize,
+    c: char,
+    scan: Scan,
+    out: &mut Vec<Spanned>,
+) -> Result<Scan, TokenFault>
+    requires { at + len_utf8 c < 2 ^ 64 }
+    ensures { Turns result out.new.items (prepended (all_placed out.old.items) (then_begun (ended at (scan_of scan)) (begun at c))) }
+{
+    ended(at, scan, out)?;
+    begun(alloc, at, c, out)
+}
+
+/// Reads a character of a text.
+fn quoted(start: usize, mut chars: Vec<char>, c: char) -> Result<Scan, TokenFault>
+    ensures { Turns result [] (Goes [] (Quoted start (chars.items ++ c ∷ []))) }
+{
+    chars.push(c)?;
+    Ok(Scan::Quoted(start, chars))
 }
 
 /// Reads a character that stands at byte `at`.
@@ -107,12 +139,10 @@ fn turn(
         Scan::Between => begun(alloc, at, c, out),
         Scan::Comment => Ok(Scan::Comment),
         Scan::Minus(span) => {
-            if !c.is_ascii_digit() {
-                return Err(TokenFault::Syntax(span));
+            if c.is_ascii_digit() {
+                return first_digit(alloc, span.start, true, c);
             }
-            let mut digits = Vec::new(alloc);
-            digits.push(c)?;
-            Ok(Scan::Digits(span.start, true, digits))
+            Err(TokenFault::Syntax(span))
         }
         Scan::Digits(start, is_negative, mut digits) => {
             if c.is_ascii_digit() {
@@ -122,16 +152,26 @@ fn turn(
             if joins_number(c) {
                 return Err(TokenFault::Syntax(Span { start, end: at }));
             }
-            ended(at, Scan::Digits(start, is_negative, digits), out)?;
-            begun(alloc, at, c, out)
+            begun_behind(alloc, at, c, Scan::Digits(start, is_negative, digits), out)
         }
         Scan::Letters(start, mut letters) => {
             if is_name_part(c) {
                 letters.push(c)?;
                 return Ok(Scan::Letters(start, letters));
             }
-            ended(at, Scan::Letters(start, letters), out)?;
-            begun(alloc, at, c, out)
+            begun_behind(alloc, at, c, Scan::Letters(start, letters), out)
+        }
+        Scan::Quoted(start, chars) => {
+            if c == '\'' {
+                return Ok(Scan::Quote(start, chars));
+            }
+            quoted(start, chars, c)
+        }
+        Scan::Quote(start, chars) => {
+            if c == '\'' {
+                return quoted(start, chars, c);
+            }
+            begun_behind(alloc, at, c, Scan::Quote(start, chars), out)
         }
     }
 }
@@ -160,11 +200,13 @@ fn characters(alloc: Global, text: &str) -> Result<Vec<char>, AllocError>
     text.chars().collect(alloc)
 }
 
-/// The tokens of a text, the lexical units of ISO 8485; its comment, which `⍝` begins, and blanks between tokens are none.
+/// The tokens of a line, the lexical units of ISO 8485; its comment, which `⍝` begins, and blanks between tokens are none.
+/// A sign is told in its first spelling, and a text literal by the characters between its quotes, a doubled quote once.
 ///
-/// A text that has no tokens is answered its first fault from the left: `Syntax` for a character that begins no token, for
-/// a high minus without a digit behind it, and for a number that a letter, `_` or a high minus follows directly; `Limit`
-/// for a number that is out of range and for a name of more than 63 bytes.
+/// A line that has no tokens is answered its first fault from the left: `Syntax` for a character that begins no token, for
+/// a high minus without a digit behind it, for a text that does not close, from its quote to the end, and for a number that
+/// a letter, `_` or a high minus follows directly; `Limit` for a number that is out of range and for a name of more than 63
+/// bytes.
 #[tactic(auto, using(crate::proofs::Sound::are_tokens))]
 pub fn tokens(alloc: Global, text: &str) -> Result<Vec<Spanned>, TokenFault>
     ensures { AreTokensOf (chars text.now) result }

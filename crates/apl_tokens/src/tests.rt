@@ -34,8 +34,63 @@ fn finds_the_first_fault(rt: HostRuntime) -> Result<(), Fail> {
     assert!(rt; matches!(great, Err(TokenFault::Limit(Span { start: 2, end: 23 }))));
     let lone = tokens(rt.alloc(), "1+¯ 2");
     assert!(rt; matches!(lone, Err(TokenFault::Syntax(Span { start: 2, end: 4 }))));
-    let strange = tokens(rt.alloc(), "A⍴9223372036854775808");
+    let strange = tokens(rt.alloc(), "A⎕9223372036854775808");
     assert!(rt; matches!(strange, Err(TokenFault::Syntax(Span { start: 1, end: 4 }))));
+    let open = tokens(rt.alloc(), "⍴'ab");
+    assert!(rt; matches!(open, Err(TokenFault::Syntax(Span { start: 3, end: 6 }))));
+    let doubled = tokens(rt.alloc(), "'⍝×''");
+    assert!(rt; matches!(doubled, Err(TokenFault::Syntax(Span { start: 0, end: 8 }))));
+    Ok(())
+}
+
+/// Whether the line is this text alone.
+fn is_text(rt: &HostRuntime, line: &str, text: &str) -> Result<bool, Fail> {
+    let found = tokens(rt.alloc(), line)?;
+    let Some(only) = found.first() else {
+        return Ok(false);
+    };
+    let Token::Text(chars) = &only.token else {
+        return Ok(false);
+    };
+    let mut written = String::new(rt.alloc());
+    for c in chars {
+        written.push(*c)?;
+    }
+    let end = line.len();
+    Ok(found.len() == 1 && written.as_str() == text && only.span == Span { start: 0, end })
+}
+
+#[test]
+fn reads_texts(rt: HostRuntime) -> Result<(), Fail> {
+    assert!(rt; is_text(&rt, "'it''s'", "it's")?);
+    assert!(rt; is_text(&rt, "''", "")?);
+    assert!(rt; is_text(&rt, "''''", "'")?);
+    assert!(rt; is_text(&rt, "'⍝'", "⍝")?);
+    assert!(rt; is_text(&rt, "'∣ 7a'", "∣ 7a")?);
+    let found = tokens(rt.alloc(), "'a' 'b'7")?;
+    assert_eq!(rt; found.len(), 3);
+    assert!(rt; found[1].span == Span { start: 4, end: 7 });
+    assert!(rt; matches!(found[2].token, Token::Num(7)));
+    Ok(())
+}
+
+#[test]
+fn reads_signs(rt: HostRuntime) -> Result<(), Fail> {
+    let signs = "+-×÷*|⌈⌊~<≤=≥>≠∧∨⍲⍱⍴,⍪↑↓⌽⊖⍉/⌿\\⍀⍳∊⊤⊥∘.←()[];";
+    let found = tokens(rt.alloc(), signs)?;
+    assert_eq!(rt; found.len(), 43);
+    let mut place = 0;
+    for sign in signs.chars() {
+        assert!(rt; matches!(found[place].token, Token::Mark(mark) if mark == sign));
+        place += 1;
+    }
+    let second = tokens(rt.alloc(), "7∣9∼⋆^∈")?;
+    assert_eq!(rt; second.len(), 7);
+    for (place, sign) in [(1, '|'), (3, '~'), (4, '*'), (5, '∧'), (6, '∊')] {
+        assert!(rt; matches!(second[place].token, Token::Mark(mark) if mark == sign));
+    }
+    assert!(rt; second[1].span == Span { start: 1, end: 4 });
+    assert!(rt; second[5].span == Span { start: 11, end: 12 });
     Ok(())
 }
 

@@ -24,11 +24,11 @@ impl Display for Span {
 pub enum Token {
     /// A number literal: digits, with a high minus before them where it is negative.
     Num(i64),
-    /// A text literal. No line has one yet.
+    /// A text literal: the characters between its quotes, a doubled quote once.
     Text(Vec<char>),
     /// A name: an identifier of ISO 8485.
     Word(Name),
-    /// One of the signs `+ - × ← ) [ ] ;`.
+    /// A sign of a function or of the line, in its first spelling.
     Mark(char),
 }
 
