@@ -74,23 +74,29 @@ fn reads_texts(rt: HostRuntime) -> Result<(), Fail> {
     Ok(())
 }
 
+/// The signs among the tokens of the line.
+fn marks(rt: &HostRuntime, line: &str) -> Result<String, Fail> {
+    let found = tokens(rt.alloc(), line)?;
+    let mut signs = String::new(rt.alloc());
+    for one in &found {
+        if let Token::Mark(sign) = &one.token {
+            signs.push(*sign)?;
+        }
+    }
+    Ok(signs)
+}
+
 #[test]
 fn reads_signs(rt: HostRuntime) -> Result<(), Fail> {
     let signs = "+-×÷*|⌈⌊~<≤=≥>≠∧∨⍲⍱⍴,⍪↑↓⌽⊖⍉/⌿\\⍀⍳∊⊤⊥∘.←()[];";
-    let found = tokens(rt.alloc(), signs)?;
-    assert_eq!(rt; found.len(), 43);
-    let mut place = 0;
-    for sign in signs.chars() {
-        assert!(rt; matches!(found[place].token, Token::Mark(mark) if mark == sign));
-        place += 1;
-    }
-    let second = tokens(rt.alloc(), "7∣9∼⋆^∈")?;
-    assert_eq!(rt; second.len(), 7);
-    for (place, sign) in [(1, '|'), (3, '~'), (4, '*'), (5, '∧'), (6, '∊')] {
-        assert!(rt; matches!(second[place].token, Token::Mark(mark) if mark == sign));
-    }
-    assert!(rt; second[1].span == Span { start: 1, end: 4 });
-    assert!(rt; second[5].span == Span { start: 11, end: 12 });
+    assert_eq!(rt; marks(&rt, signs)?.as_str(), signs);
+    assert_eq!(rt; marks(&rt, "7∣9∼⋆^∈")?.as_str(), "|~*∧∊");
+    let found = tokens(rt.alloc(), "7∣9^⍴")?;
+    assert_eq!(rt; found.len(), 5);
+    assert!(rt; matches!(found[1].token, Token::Mark('|')));
+    assert!(rt; found[1].span == Span { start: 1, end: 4 });
+    assert!(rt; found[3].span == Span { start: 5, end: 6 });
+    assert!(rt; found[4].span == Span { start: 6, end: 9 });
     Ok(())
 }
 
