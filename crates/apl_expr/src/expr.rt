@@ -2,38 +2,96 @@
 
 use apl_tokens::Name;
 
-/// The functions of one argument, by the names of ISO 13751.
+/// The scalar functions of one argument, by the names of ISO/IEC 13751.
 #[derive(Clone, Copy, Debug, PartialEq, Eq)]
-pub enum Monadic {
+pub enum ScalarMonad {
     /// `+B`, B itself.
     Conjugate,
     /// `-B`, zero minus B.
     Negative,
     /// `×B`, the sign of B: `¯1`, `0` or `1`.
     Direction,
+    /// `÷B`, one divided by B.
+    Reciprocal,
+    /// `|B`, the magnitude of B.
+    Magnitude,
+    /// `⌈B`, the least whole number that is not below B.
+    Ceiling,
+    /// `⌊B`, the greatest whole number that is not above B.
+    Floor,
+    /// `~B`, `1` for `0` and `0` for `1`.
+    Not,
 }
 
-/// The functions of two arguments, by the names of ISO 13751.
+/// The scalar functions of two arguments, by the names of ISO/IEC 13751.
 #[derive(Clone, Copy, Debug, PartialEq, Eq)]
-pub enum Dyadic {
+pub enum ScalarDyad {
     /// `A+B`.
     Plus,
     /// `A-B`.
     Minus,
     /// `A×B`.
     Times,
+    /// `A÷B`.
+    Divide,
+    /// `A*B`, A to the power of B.
+    Power,
+    /// `A|B`, what is left of B by A.
+    Residue,
+    /// `A⌈B`, the greater.
+    Maximum,
+    /// `A⌊B`, the lesser.
+    Minimum,
+    /// `A<B`.
+    Less,
+    /// `A≤B`.
+    LessOrEqual,
+    /// `A=B`.
+    Equal,
+    /// `A≥B`.
+    GreaterOrEqual,
+    /// `A>B`.
+    Greater,
+    /// `A≠B`.
+    NotEqual,
+    /// `A∧B`.
+    And,
+    /// `A∨B`.
+    Or,
+    /// `A⍲B`, not and.
+    Nand,
+    /// `A⍱B`, not or.
+    Nor,
 }
 
-/// A list of number literals that stand side by side: the numeric literal of ISO 8485.
+/// The functions of one argument.
+#[derive(Clone, Copy, Debug, PartialEq, Eq)]
+pub enum Monadic {
+    /// A scalar function.
+    Scalar(ScalarMonad),
+}
+
+/// The functions of two arguments.
+#[derive(Clone, Copy, Debug, PartialEq, Eq)]
+pub enum Dyadic {
+    /// A scalar function.
+    Scalar(ScalarDyad),
+}
+
+/// A literal of ISO 8485: numbers that stand side by side, or a text.
 #[derive(Debug, Drop)]
 pub enum Literal {
     /// One number: a scalar.
     Num(i64),
     /// Several numbers: a vector.
     Nums(Vec<i64>),
+    /// A text of one character: a scalar.
+    Char(char),
+    /// A text of any other count of characters: a vector.
+    Text(Vec<char>),
 }
 
-/// An expression, as a tree. A function takes all that stands at its right.
+/// An expression, as a tree. A function takes all that stands at its right; parentheses leave no node.
 #[derive(Debug, Drop)]
 pub enum Expr {
     /// A literal.

@@ -2,9 +2,9 @@
 
 ghost use Rattle.std.specs.Prelude.{◌≡◌, Some, [], ◌∷◌};
 ghost use Rattle.apl_tokens.specs.Lexemes.{lexeme, lexemes};
-ghost use Rattle.apl_expr.specs.Machine.{first, settle, next, step, finish, run, state, Nothing};
-ghost use Rattle.apl_expr.specs.Parsing.{stack, reading_of, Steps, Gives, IsParsed};
-ghost use Rattle.apl_expr.specs.Trees.{Numbers, constant_of, IsPlain, tree_of};
+ghost use Rattle.apl_expr.specs.Machine.{first, settle, closed, next, step, finish, run, state, Nothing};
+ghost use Rattle.apl_expr.specs.Parsing.{stack, reading_of, Settles, Steps, Gives, IsParsed};
+ghost use Rattle.apl_expr.specs.Trees.{Numbers, Text as text_of, constant_of, IsPlain, tree_of};
 ghost use Rattle.std.specs.Prelude.{IfOk};
 
 use crate::expr::{Dyadic, Expr, Literal, Monadic};
@@ -14,14 +14,22 @@ use crate::symbols::{dyadic_of, monadic_of};
 use apl_tokens::{Spanned, Token};
 use std::alloc::{AllocError, Global};
 
-/// What waits for its right argument.
+/// What waits for a value at its right: a function, or an open parenthesis.
 #[derive(Drop)]
 enum Waiting {
     Argument1(Monadic),
     Argument2(Dyadic, Expr),
+    Parenthesis,
 }
 
-/// What was read last: a function or nothing, numbers, or an operand.
+/// A value that the functions took which waited for it, up to the innermost open parenthesis.
+#[derive(Drop)]
+struct Settled {
+    value: Expr,
+    in_parenthesis: bool,
+}
+
+/// What was read last: a function, `(` or nothing, numbers, or an operand.
 #[derive(Drop)]
 enum Reading {
     Nothing,
@@ -40,6 +48,17 @@ pub(crate) fn literal(numbers: Vec<i64>) -> Literal
     }
 }
 
+/// The literal of a text: one character is a scalar.
+pub(crate) fn text(alloc: Global, characters: &[char]) -> Result<Literal, AllocError>
+    ensures characters { IfOk result (λ l. constant_of l ≡ text_of characters.now) }
+    ensures plain { IfOk result (λ l. IsPlain l) }
+{
+    match characters {
+        [character] => Ok(Literal::Char(*character)),
+        _ => Ok(Literal::Text(characters.to_vec(alloc)?)),
+    }
+}
+
 /// Reads a token where an expression is to begin.
 fn first(alloc: Global, token: &Token, waiting: &mut Vec<Waiting>) -> Result<Reading, ParseFault>
     ensures { Steps result waiting.new.items (first (lexeme token.now) (stack waiting.old.items)) }
@@ -50,11 +69,15 @@ fn first(alloc: Global, token: &Token, waiting: &mut Vec<Waiting>) -> Result<Rea
             numbers.push(*n)?;
             Ok(Reading::Strand(numbers))
         }
-        Token::Text(_) => Err(ParseFault::Syntax),
+        Token::Text(characters) => Ok(Reading::Whole(Expr::Const(text(alloc, characters)?))),
         Token::Word(name) => Ok(Reading::Whole(Expr::Name(*name))),
         Token::Mark(sign) => match monadic_of(*sign) {
             Some(function) => {
                 waiting.push(Waiting::Argument1(function))?;
+                Ok(Reading::Nothing)
+            }
+            None if *sign == '(' => {
+                waiting.push(Waiting::Parenthesis)?;
                 Ok(Reading::Nothing)
             }
             None => Err(ParseFault::Syntax),
@@ -62,9 +85,9 @@ fn first(alloc: Global, token: &Token, waiting: &mut Vec<Waiting>) -> Result<Rea
     }
 }
 
-/// Gives a value to all that waits for it.
-fn settled(alloc: Global, value: Expr, waiting: &mut Vec<Waiting>) -> Result<Expr, AllocError>
-    ensures { IfOk result (λ e. tree_of e ≡ settle (stack waiting.old.items) (tree_of value)) }
+/// Gives a value to all that waits for it, up to the innermost open parenthesis, which is taken off.
+fn settle(alloc: Global, value: Expr, waiting: &mut Vec<Waiting>) -> Result<Settled, AllocError>
+    ensures { IfOk result (λ s. Settles s waiting.new.items (settle (stack waiting.old.items) (tree_of value))) }
 {
     let mut value = value;
     while let Some(frame) = waiting.pop() {
@@ -73,13 +96,39 @@ fn settled(alloc: Global, value: Expr, waiting: &mut Vec<Waiting>) -> Result<Exp
             Waiting::Argument2(function, left) => {
                 value = Expr::Dyad(function, Box::new(alloc, left)?, Box::new(alloc, value)?);
             }
+            Waiting::Parenthesis => {
+                return Ok(Settled {
+                    value,
+                    in_parenthesis: true,
+                });
+            }
         }
     }
-    Ok(value)
+    Ok(Settled {
+        value,
+        in_parenthesis: false,
+    })
+}
+
+/// Reads `)` behind an operand.
+fn closed(alloc: Global, operand: Expr, waiting: &mut Vec<Waiting>) -> Result<Reading, ParseFault>
+    ensures { Steps result waiting.new.items (closed (settle (stack waiting.old.items) (tree_of operand))) }
+{
+    let inside = settle(alloc, operand, waiting)?;
+    if inside.in_parenthesis {
+        Ok(Reading::Whole(inside.value))
+    } else {
+        Err(ParseFault::Syntax)
+    }
 }
 
 /// Reads a token behind an operand.
-fn next(token: &Token, operand: Expr, waiting: &mut Vec<Waiting>) -> Result<Reading, ParseFault>
+fn next(
+    alloc: Global,
+    token: &Token,
+    operand: Expr,
+    waiting: &mut Vec<Waiting>,
+) -> Result<Reading, ParseFault>
     ensures { Steps result waiting.new.items (next (lexeme token.now) (stack waiting.old.items) (tree_of operand)) }
 {
     let Token::Mark(sign) = token else {
@@ -90,6 +139,7 @@ fn next(token: &Token, operand: Expr, waiting: &mut Vec<Waiting>) -> Result<Read
             waiting.push(Waiting::Argument2(function, operand))?;
             Ok(Reading::Nothing)
         }
+        None if *sign == ')' => closed(alloc, operand, waiting),
         None => Err(ParseFault::Syntax),
     }
 }
@@ -110,9 +160,9 @@ fn step(
                 numbers.push(*n)?;
                 Ok(Reading::Strand(numbers))
             }
-            _ => next(token, Expr::Const(literal(numbers)), waiting),
+            _ => next(alloc, token, Expr::Const(literal(numbers)), waiting),
         },
-        Reading::Whole(operand) => next(token, operand, waiting),
+        Reading::Whole(operand) => next(alloc, token, operand, waiting),
     }
 }
 
@@ -125,8 +175,12 @@ fn finish(alloc: Global, reading: Reading, waiting: &mut Vec<Waiting>) -> Result
         Reading::Strand(numbers) => Expr::Const(literal(numbers)),
         Reading::Whole(operand) => operand,
     };
-    let tree = settled(alloc, operand, waiting)?;
-    Ok(tree)
+    let whole = settle(alloc, operand, waiting)?;
+    if whole.in_parenthesis {
+        Err(ParseFault::Syntax)
+    } else {
+        Ok(whole.value)
+    }
 }
 
 /// The tree of the tokens, of any size.
@@ -144,7 +198,8 @@ fn tree(alloc: Global, tokens: &[Spanned]) -> Result<Expr, ParseFault>
 /// The tree of the tokens, the expression of ISO 8485 that they are.
 ///
 /// More than 4,096 tokens are `Limit`, whatever they are; then tokens that are no expression are `Syntax`; then a tree
-/// that is more than 256 high or has more than 512 nodes is `Limit`. A leaf is 1 high, and a list of numbers is one node.
+/// that is more than 256 high or has more than 512 nodes is `Limit`. A leaf is 1 high, a list of numbers is one node, and
+/// parentheses are none.
 pub fn parse(alloc: Global, tokens: &[Spanned]) -> Result<Expr, ParseFault>
     ensures { IsParsed (lexemes tokens.now) result }
 {

@@ -1,19 +1,63 @@
 //! What each sign stands for. A later symbol is one line here.
 
 ghost use Rattle.std.specs.Prelude.{◌≡◌};
-ghost use Rattle.apl_expr.specs.Symbols.{monadic_of, dyadic_of};
+ghost use Rattle.apl_expr.specs.Symbols.{scalar_monad_of, scalar_dyad_of, monadic_of, dyadic_of};
 
-use crate::expr::{Dyadic, Monadic};
+use crate::expr::{Dyadic, Monadic, ScalarDyad, ScalarMonad};
+
+/// The scalar function of one argument that the sign stands for.
+#[tactic(auto, unfolding(crate::specs::Symbols::scalar_monad_of))]
+fn scalar_monad_of(sign: char) -> Option<ScalarMonad>
+    ensures { result ≡ scalar_monad_of sign }
+{
+    match sign {
+        '+' => Some(ScalarMonad::Conjugate),
+        '-' => Some(ScalarMonad::Negative),
+        '×' => Some(ScalarMonad::Direction),
+        '÷' => Some(ScalarMonad::Reciprocal),
+        '|' => Some(ScalarMonad::Magnitude),
+        '⌈' => Some(ScalarMonad::Ceiling),
+        '⌊' => Some(ScalarMonad::Floor),
+        '~' => Some(ScalarMonad::Not),
+        _ => None,
+    }
+}
+
+/// The scalar function of two arguments that the sign stands for.
+#[tactic(auto, unfolding(crate::specs::Symbols::scalar_dyad_of))]
+fn scalar_dyad_of(sign: char) -> Option<ScalarDyad>
+    ensures { result ≡ scalar_dyad_of sign }
+{
+    match sign {
+        '+' => Some(ScalarDyad::Plus),
+        '-' => Some(ScalarDyad::Minus),
+        '×' => Some(ScalarDyad::Times),
+        '÷' => Some(ScalarDyad::Divide),
+        '*' => Some(ScalarDyad::Power),
+        '|' => Some(ScalarDyad::Residue),
+        '⌈' => Some(ScalarDyad::Maximum),
+        '⌊' => Some(ScalarDyad::Minimum),
+        '<' => Some(ScalarDyad::Less),
+        '≤' => Some(ScalarDyad::LessOrEqual),
+        '=' => Some(ScalarDyad::Equal),
+        '≥' => Some(ScalarDyad::GreaterOrEqual),
+        '>' => Some(ScalarDyad::Greater),
+        '≠' => Some(ScalarDyad::NotEqual),
+        '∧' => Some(ScalarDyad::And),
+        '∨' => Some(ScalarDyad::Or),
+        '⍲' => Some(ScalarDyad::Nand),
+        '⍱' => Some(ScalarDyad::Nor),
+        _ => None,
+    }
+}
 
 /// The function of one argument that the sign stands for.
 pub(crate) fn monadic_of(sign: char) -> Option<Monadic>
     ensures { result ≡ monadic_of sign }
 {
-    match sign {
-        '+' => Some(Monadic::Conjugate),
-        '-' => Some(Monadic::Negative),
-        '×' => Some(Monadic::Direction),
-        _ => None,
+    match scalar_monad_of(sign) {
+        Some(function) => Some(Monadic::Scalar(function)),
+        None => None,
     }
 }
 
@@ -21,10 +65,8 @@ pub(crate) fn monadic_of(sign: char) -> Option<Monadic>
 pub(crate) fn dyadic_of(sign: char) -> Option<Dyadic>
     ensures { result ≡ dyadic_of sign }
 {
-    match sign {
-        '+' => Some(Dyadic::Plus),
-        '-' => Some(Dyadic::Minus),
-        '×' => Some(Dyadic::Times),
-        _ => None,
+    match scalar_dyad_of(sign) {
+        Some(function) => Some(Dyadic::Scalar(function)),
+        None => None,
     }
 }

@@ -2,7 +2,7 @@ use Rattle.std.proofs.Common.{◌≡◌}
 use Rattle.apl_expr.specs.Machine.{settle}
 use Rattle.apl_expr.specs.Parsing.{stack}
 use Rattle.apl_expr.specs.Trees.{tree_of}
-use Rattle.apl_expr.proofs.parser.settled.Given as goal
+use Rattle.apl_expr.proofs.parser.settle.Given as goal
 
 abbrev pub invariant-loop-frame : goal.invariant-loop-frame
 invariant-loop-frame l = settle (stack l.waiting.items) (tree_of l.value) ≡ settle (stack l.fn.waiting.items) (tree_of l.fn.value)
