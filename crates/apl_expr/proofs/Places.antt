@@ -5,8 +5,9 @@ use Rattle.std.proofs.lemmas.Bool.{eqb-true}
 use Rattle.std.specs.Prelude.{ℤ, ◌==◌}
 use Rattle.apl_tokens.specs.Lexemes.{Lexeme, Number, Characters, Named, Sign}
 use Rattle.apl_expr.specs.Grammar.{IsNums, one, more}
-use Rattle.apl_expr.specs.Lines.{IsPlace, last, further}
-use Rattle.apl_expr.specs.Edits.{Edit, Open, Position, Closed, Items, Written, Write, edit_end, after_position, after_bracket, edits}
+use Rattle.apl_expr.specs.Lines.{IsPlace, last, further, IsLit, nums_lit, text_lit}
+use Rattle.apl_expr.specs.Trees.{Constant, Numbers, Text}
+use Rattle.apl_expr.specs.Edits.{Edit, Open, Position, Closed, Items, Quoted, Written, Write, edit_text, edit_end, after_position, after_bracket, edits}
 use Rattle.apl_expr.proofs.Sound.{IsStrand, none, strand_nums}
 use Rattle.apl_expr.proofs.Sound as strand
 
@@ -15,18 +16,23 @@ unfolding edits
 place_reads last before = refl
 place_reads (further {n = n} {us = us} {ps = ps} p) before = place_reads p (before ++ n ∷ []) ∙ ap (λ (qs : List ℤ). edits us (Some (Position qs))) (append_assoc before (n ∷ []) ps)
 
-end_items : (ps ns : List ℤ) (n : ℤ) → edit_end (Items ps (ns ++ n ∷ [])) ≡ Some (Write ps (ns ++ n ∷ []))
+end_items : (ps ns : List ℤ) (n : ℤ) → edit_end (Items ps (ns ++ n ∷ [])) ≡ Some (Write ps (Numbers (ns ++ n ∷ [])))
 end_items ps [] n = refl
 end_items ps (m ∷ ns) n = refl
 
-items_read : {ts us : List Lexeme} {ns : List ℤ} → IsNums ts ns us → us ≡ [] → (ps before : List ℤ) → edits ts (Some (Items ps before)) ≡ Some (Write ps (before ++ ns))
+items_read : {ts us : List Lexeme} {ns : List ℤ} → IsNums ts ns us → us ≡ [] → (ps before : List ℤ) → edits ts (Some (Items ps before)) ≡ Some (Write ps (Numbers (before ++ ns)))
 unfolding edits
 items_read (one {n = n}) end ps before = ap (λ (xs : List Lexeme). edits xs (Some (Items ps (before ++ n ∷ [])))) end ∙ end_items ps before n
-items_read (more {n = n} {ns = ns} r) end ps before = items_read r end ps (before ++ n ∷ []) ∙ ap (λ (ms : List ℤ). Some (Write ps ms)) (append_assoc before (n ∷ []) ns)
+items_read (more {n = n} {ns = ns} r) end ps before = items_read r end ps (before ++ n ∷ []) ∙ ap (λ (ms : List ℤ). Some (Write ps (Numbers ms))) (append_assoc before (n ∷ []) ns)
 
-pub edit_read : {ts us : List Lexeme} {ps ns : List ℤ} → IsPlace ts ps (Sign 0x5d ∷ Sign 0x2190 ∷ us) → IsNums us ns [] → edits ts (Some (Open [])) ≡ Some (Write ps ns)
+literal_read : {ts : List Lexeme} {l : Constant} → IsLit ts l → (ps : List ℤ) → edits ts (Some (Items ps [])) ≡ Some (Write ps l)
 unfolding edits
-edit_read {ps = ps} p n = place_reads p [] ∙ items_read n refl ps []
+literal_read (nums_lit n) ps = items_read n refl ps []
+literal_read text_lit ps = refl
+
+pub edit_read : {ts us : List Lexeme} {ps : List ℤ} {l : Constant} → IsPlace ts ps (Sign 0x5d ∷ Sign 0x2190 ∷ us) → IsLit us l → edits ts (Some (Open [])) ≡ Some (Write ps l)
+unfolding edits
+edit_read {ps = ps} p is = place_reads p [] ∙ literal_read is ps
 
 -- behind a position, ts are the rest of the place with its bracket and the arrow, and us come after them
 data IsRest : List Lexeme → List ℤ → List Lexeme → Type 0 where
@@ -37,84 +43,105 @@ place_of : {ts us : List Lexeme} {ps : List ℤ} (n : ℤ) → IsRest ts ps us �
 place_of n ends = last
 place_of n (goes_on p) = further p
 
-abbrev IsSomething : List ℤ → Type 0
-IsSomething [] = ⊥
-IsSomething (n ∷ ns) = Unit {0}
-
-nums_of : {ts us : List Lexeme} {ns : List ℤ} → IsStrand ts ns us → IsSomething ns → IsNums ts ns us
-nums_of none some = absurd some
-nums_of (strand.further {n = n} s) some = strand_nums n s
+-- what is left of a literal behind these numbers
+data IsRestOf : List ℤ → List Lexeme → Constant → Type 0 where
+  rest_of_nums : {n : ℤ} {ns ms : List ℤ} {ts : List Lexeme} → IsStrand ts ms [] → IsRestOf (n ∷ ns) ts (Numbers (n ∷ ns ++ ms))
+  whole_lit : {ts : List Lexeme} {l : Constant} → IsLit ts l → IsRestOf [] ts l
 
 -- what the machine's reading in a state says of the grammar
-abbrev Explains : List Lexeme → Edit → List ℤ → List ℤ → Type 0
-Explains ts (Open before) ps ns = (qs : List ℤ) × (us : List Lexeme) × IsPlace ts qs (Sign 0x5d ∷ Sign 0x2190 ∷ us) × IsNums us ns [] × (before ++ qs ≡ ps)
-Explains ts (Position before) ps ns = (qs : List ℤ) × (us : List Lexeme) × IsRest ts qs us × IsNums us ns [] × (before ++ qs ≡ ps)
-Explains ts (Closed before) ps ns = (us : List Lexeme) × (ts ≡ Sign 0x2190 ∷ us) × IsNums us ns [] × (before ≡ ps)
-Explains ts (Items before items) ps ns = (ms : List ℤ) × IsStrand ts ms [] × (items ++ ms ≡ ns) × IsSomething ns × (before ≡ ps)
+abbrev Explains : List Lexeme → Edit → List ℤ → Constant → Type 0
+Explains ts (Open before) ps l = (qs : List ℤ) × (us : List Lexeme) × IsPlace ts qs (Sign 0x5d ∷ Sign 0x2190 ∷ us) × IsLit us l × (before ++ qs ≡ ps)
+Explains ts (Position before) ps l = (qs : List ℤ) × (us : List Lexeme) × IsRest ts qs us × IsLit us l × (before ++ qs ≡ ps)
+Explains ts (Closed before) ps l = (us : List Lexeme) × (ts ≡ Sign 0x2190 ∷ us) × IsLit us l × (before ≡ ps)
+Explains ts (Items before items) ps l = IsRestOf items ts l × (before ≡ ps)
+Explains ts (Quoted before cs) ps l = (ts ≡ []) × (Text cs ≡ l) × (before ≡ ps)
 
 edits_none : (ts : List Lexeme) (w : Written) → edits ts None ≡ Some w → ⊥
 unfolding edits
 edits_none [] w h = cc
 edits_none (t ∷ ts) w h = cc
 
+literal_of : {ts : List Lexeme} {l : Constant} (n : ℤ) → IsRestOf (n ∷ []) ts l → IsLit (Number n ∷ ts) l
+literal_of n (rest_of_nums s) = nums_lit (strand_nums n s)
+
+one_number_more : {ts : List Lexeme} {l : Constant} (n : ℤ) (ns : List ℤ) → IsRestOf (ns ++ n ∷ []) ts l → IsRestOf ns (Number n ∷ ts) l
+one_number_more n [] r = whole_lit (literal_of n r)
+one_number_more {ts = ts} n (m ∷ ns) (rest_of_nums {ms = ms} s) = subst (λ (xs : List ℤ). IsRestOf (m ∷ ns) (Number n ∷ ts) (Numbers (m ∷ xs))) (sym (append_assoc ns (n ∷ []) ms)) (rest_of_nums (strand.further s))
+
+lit_of_rest : {ts : List Lexeme} {l : Constant} → IsRestOf [] ts l → IsLit ts l
+lit_of_rest (whole_lit is) = is
+
 abbrev Sound : List Lexeme → Type 0
-Sound ts = (s : Edit) (ps ns : List ℤ) → edits ts (Some s) ≡ Some (Write ps ns) → Explains ts s ps ns
+Sound ts = (s : Edit) (ps : List ℤ) (l : Constant) → edits ts (Some s) ≡ Some (Write ps l) → Explains ts s ps l
 
 module _ (ts : List Lexeme) (sound : Sound ts) where
-  number_explains : (n : ℤ) (before ps ns : List ℤ) → edits ts (Some (Position (before ++ n ∷ []))) ≡ Some (Write ps ns) → Explains (Number n ∷ ts) (Open before) ps ns
-  number_explains n before ps ns h =
-      let x = sound (Position (before ++ n ∷ [])) ps ns h in
+  number_explains : (n : ℤ) (before ps : List ℤ) (l : Constant) → edits ts (Some (Position (before ++ n ∷ []))) ≡ Some (Write ps l) → Explains (Number n ∷ ts) (Open before) ps l
+  number_explains n before ps l h =
+      let x = sound (Position (before ++ n ∷ [])) ps l h in
       (n ∷ x.0, x.1, place_of n x.2, x.3, sym (append_assoc before (n ∷ []) x.0) ∙ x.4)
 
-  item_explains : (n : ℤ) (before items ps ns : List ℤ) → edits ts (Some (Items before (items ++ n ∷ []))) ≡ Some (Write ps ns) → Explains (Number n ∷ ts) (Items before items) ps ns
-  item_explains n before items ps ns h =
-      let x = sound (Items before (items ++ n ∷ [])) ps ns h in
-      (n ∷ x.0, strand.further x.1, sym (append_assoc items (n ∷ []) x.0) ∙ x.2, x.3, x.4)
+  item_explains : (n : ℤ) (before items ps : List ℤ) (l : Constant) → edits ts (Some (Items before (items ++ n ∷ []))) ≡ Some (Write ps l) → Explains (Number n ∷ ts) (Items before items) ps l
+  item_explains n before items ps l h = let x = sound (Items before (items ++ n ∷ [])) ps l h in (one_number_more n items x.0, x.1)
 
-  position_explains : (c : ℕ) (before ps ns : List ℤ) → edits ts (after_position before c) ≡ Some (Write ps ns) → Explains (Sign c ∷ ts) (Position before) ps ns
-  position_explains c before ps ns h = semicolon (c == 0x3b) refl h
+  text_explains : (cs : List ℕ) (before items ps : List ℤ) (l : Constant) → edits ts (edit_text cs (Items before items)) ≡ Some (Write ps l) → Explains (Characters cs ∷ ts) (Items before items) ps l
+  text_explains cs before [] ps l h =
+      let x = sound (Quoted before cs) ps l h in
+      let is : IsLit (Characters cs ∷ ts) l = subst (λ (xs : List Lexeme). IsLit (Characters cs ∷ xs) l) (sym x.0) (subst (λ (k : Constant). IsLit (Characters cs ∷ []) k) x.1 text_lit) in
+      (whole_lit is, x.2)
+  text_explains cs before (n ∷ items) ps l h = absurd (edits_none ts (Write ps l) h)
+
+  position_explains : (c : ℕ) (before ps : List ℤ) (l : Constant) → edits ts (after_position before c) ≡ Some (Write ps l) → Explains (Sign c ∷ ts) (Position before) ps l
+  position_explains c before ps l h = semicolon (c == 0x3b) refl h
     where
-      bracket : (b : Bool) → (c == 0x5d) ≡ b → edits ts (cond b (Some (Closed before)) None) ≡ Some (Write ps ns) → Explains (Sign c ∷ ts) (Position before) ps ns
+      bracket : (b : Bool) → (c == 0x5d) ≡ b → edits ts (cond b (Some (Closed before)) None) ≡ Some (Write ps l) → Explains (Sign c ∷ ts) (Position before) ps l
       bracket true is h =
-          let x = sound (Closed before) ps ns h in
+          let x = sound (Closed before) ps l h in
           let same : Sign c ∷ ts ≡ Sign 0x5d ∷ Sign 0x2190 ∷ x.0 = let e = eqb-true c 0x5d is in let e' = x.1 in cc in
           ([], x.0, subst (λ (xs : List Lexeme). IsRest xs [] x.0) (sym same) ends, x.2, append-nil before ∙ x.3)
-      bracket false is h = absurd (edits_none ts (Write ps ns) h)
+      bracket false is h = absurd (edits_none ts (Write ps l) h)
 
-      semicolon : (b : Bool) → (c == 0x3b) ≡ b → edits ts (cond b (Some (Open before)) (cond (c == 0x5d) (Some (Closed before)) None)) ≡ Some (Write ps ns) → Explains (Sign c ∷ ts) (Position before) ps ns
+      semicolon : (b : Bool) → (c == 0x3b) ≡ b → edits ts (cond b (Some (Open before)) (cond (c == 0x5d) (Some (Closed before)) None)) ≡ Some (Write ps l) → Explains (Sign c ∷ ts) (Position before) ps l
       semicolon true is h =
-          let x = sound (Open before) ps ns h in
+          let x = sound (Open before) ps l h in
           (x.0, x.1, subst (λ (n : ℕ). IsRest (Sign n ∷ ts) x.0 x.1) (sym (eqb-true c 0x3b is)) (goes_on x.2), x.3, x.4)
       semicolon false is h = bracket (c == 0x5d) refl h
 
-  arrow_explains : (c : ℕ) (before ps ns : List ℤ) → edits ts (after_bracket before c) ≡ Some (Write ps ns) → Explains (Sign c ∷ ts) (Closed before) ps ns
-  arrow_explains c before ps ns h = arrow (c == 0x2190) refl h
+  arrow_explains : (c : ℕ) (before ps : List ℤ) (l : Constant) → edits ts (after_bracket before c) ≡ Some (Write ps l) → Explains (Sign c ∷ ts) (Closed before) ps l
+  arrow_explains c before ps l h = arrow (c == 0x2190) refl h
     where
-      arrow : (b : Bool) → (c == 0x2190) ≡ b → edits ts (cond b (Some (Items before [])) None) ≡ Some (Write ps ns) → Explains (Sign c ∷ ts) (Closed before) ps ns
+      arrow : (b : Bool) → (c == 0x2190) ≡ b → edits ts (cond b (Some (Items before [])) None) ≡ Some (Write ps l) → Explains (Sign c ∷ ts) (Closed before) ps l
       arrow true is h =
-          let x = sound (Items before []) ps ns h in
-          (ts, ap (λ (n : ℕ). Sign n ∷ ts) (eqb-true c 0x2190 is), subst (λ (ms : List ℤ). IsNums ts ms []) x.2 (nums_of x.1 (subst IsSomething (sym x.2) x.3)), x.4)
-      arrow false is h = absurd (edits_none ts (Write ps ns) h)
+          let x = sound (Items before []) ps l h in
+          (ts, ap (λ (n : ℕ). Sign n ∷ ts) (eqb-true c 0x2190 is), lit_of_rest x.0, x.1)
+      arrow false is h = absurd (edits_none ts (Write ps l) h)
 
 sound_of : (ts : List Lexeme) → Sound ts
 unfolding edits
-sound_of [] (Open before) ps ns h = let no : ⊥ = cc in absurd no
-sound_of [] (Position before) ps ns h = let no : ⊥ = cc in absurd no
-sound_of [] (Closed before) ps ns h = let no : ⊥ = cc in absurd no
-sound_of [] (Items before []) ps ns h = let no : ⊥ = cc in absurd no
-sound_of [] (Items before (n ∷ items)) ps ns h =
-    let same : n ∷ items ≡ ns = cc in
-    ([], none, append-nil (n ∷ items) ∙ same, subst IsSomething same tt, cc)
-sound_of (Number n ∷ ts) (Open before) ps ns h = number_explains ts (sound_of ts) n before ps ns h
-sound_of (Number n ∷ ts) (Position before) ps ns h = absurd (edits_none ts (Write ps ns) h)
-sound_of (Number n ∷ ts) (Closed before) ps ns h = absurd (edits_none ts (Write ps ns) h)
-sound_of (Number n ∷ ts) (Items before items) ps ns h = item_explains ts (sound_of ts) n before items ps ns h
-sound_of (Characters cs ∷ ts) s ps ns h = absurd (edits_none ts (Write ps ns) h)
-sound_of (Named n ∷ ts) s ps ns h = absurd (edits_none ts (Write ps ns) h)
-sound_of (Sign c ∷ ts) (Open before) ps ns h = absurd (edits_none ts (Write ps ns) h)
-sound_of (Sign c ∷ ts) (Position before) ps ns h = position_explains ts (sound_of ts) c before ps ns h
-sound_of (Sign c ∷ ts) (Closed before) ps ns h = arrow_explains ts (sound_of ts) c before ps ns h
-sound_of (Sign c ∷ ts) (Items before items) ps ns h = absurd (edits_none ts (Write ps ns) h)
+sound_of [] (Open before) ps l h = let no : ⊥ = cc in absurd no
+sound_of [] (Position before) ps l h = let no : ⊥ = cc in absurd no
+sound_of [] (Closed before) ps l h = let no : ⊥ = cc in absurd no
+sound_of [] (Items before []) ps l h = let no : ⊥ = cc in absurd no
+sound_of [] (Items before (n ∷ items)) ps l h =
+    let same : Numbers (n ∷ items) ≡ l = cc in
+    let same_place : before ≡ ps = cc in
+    (subst (λ (k : Constant). IsRestOf (n ∷ items) [] k) (ap (λ (ms : List ℤ). Numbers ms) (append-nil (n ∷ items)) ∙ same) (rest_of_nums none), same_place)
+sound_of [] (Quoted before cs) ps l h = (refl, cc, cc)
+sound_of (Number n ∷ ts) (Open before) ps l h = number_explains ts (sound_of ts) n before ps l h
+sound_of (Number n ∷ ts) (Position before) ps l h = absurd (edits_none ts (Write ps l) h)
+sound_of (Number n ∷ ts) (Closed before) ps l h = absurd (edits_none ts (Write ps l) h)
+sound_of (Number n ∷ ts) (Items before items) ps l h = item_explains ts (sound_of ts) n before items ps l h
+sound_of (Number n ∷ ts) (Quoted before cs) ps l h = absurd (edits_none ts (Write ps l) h)
+sound_of (Characters cs ∷ ts) (Open before) ps l h = absurd (edits_none ts (Write ps l) h)
+sound_of (Characters cs ∷ ts) (Position before) ps l h = absurd (edits_none ts (Write ps l) h)
+sound_of (Characters cs ∷ ts) (Closed before) ps l h = absurd (edits_none ts (Write ps l) h)
+sound_of (Characters cs ∷ ts) (Items before items) ps l h = text_explains ts (sound_of ts) cs before items ps l h
+sound_of (Characters cs ∷ ts) (Quoted before ds) ps l h = absurd (edits_none ts (Write ps l) h)
+sound_of (Named n ∷ ts) s ps l h = absurd (edits_none ts (Write ps l) h)
+sound_of (Sign c ∷ ts) (Open before) ps l h = absurd (edits_none ts (Write ps l) h)
+sound_of (Sign c ∷ ts) (Position before) ps l h = position_explains ts (sound_of ts) c before ps l h
+sound_of (Sign c ∷ ts) (Closed before) ps l h = arrow_explains ts (sound_of ts) c before ps l h
+sound_of (Sign c ∷ ts) (Items before items) ps l h = absurd (edits_none ts (Write ps l) h)
+sound_of (Sign c ∷ ts) (Quoted before cs) ps l h = absurd (edits_none ts (Write ps l) h)
 
-pub edit_correct : (ts : List Lexeme) (ps ns : List ℤ) → edits ts (Some (Open [])) ≡ Some (Write ps ns) → (us : List Lexeme) × IsPlace ts ps (Sign 0x5d ∷ Sign 0x2190 ∷ us) × IsNums us ns []
-edit_correct ts ps ns h = let x = sound_of ts (Open []) ps ns h in (x.1, subst (λ (qs : List ℤ). IsPlace ts qs (Sign 0x5d ∷ Sign 0x2190 ∷ x.1)) x.4 x.2, x.3)
+pub edit_correct : (ts : List Lexeme) (ps : List ℤ) (l : Constant) → edits ts (Some (Open [])) ≡ Some (Write ps l) → (us : List Lexeme) × IsPlace ts ps (Sign 0x5d ∷ Sign 0x2190 ∷ us) × IsLit us l
+edit_correct ts ps l h = let x = sound_of ts (Open []) ps l h in (x.1, subst (λ (qs : List ℤ). IsPlace ts qs (Sign 0x5d ∷ Sign 0x2190 ∷ x.1)) x.4 x.2, x.3)

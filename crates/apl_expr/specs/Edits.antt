@@ -1,22 +1,25 @@
 -- The reader of a cell's edit as a machine: it reads the lexemes behind `NAME [`, one at a time.
 use Rattle.std.specs.Prelude.{◌≡◌, ℕ, ℤ, Option, Some, None, Result, Ok, Err, List, [], ◌∷◌, ◌++◌, if◌then◌else◌, ◌==◌}
 use Rattle.std.specs.Global.{Vec}
+use Rattle.apl_expr.specs.declared.expr.Literal as literal
+use Rattle.apl_expr.specs.Trees.{Constant, Numbers, Text, constant_of}
 use Rattle.apl_tokens.specs.Lexemes.{Lexeme, Number, Characters, Named, Sign}
 use Rattle.apl_expr.specs.declared.edit.Edit as code
 use Rattle.apl_expr.specs.declared.edit.Edit.TheVariants as edit
 use Rattle.apl_expr.specs.declared.fault.ParseFault.{ParseFault}
 use Rattle.apl_expr.specs.declared.fault.ParseFault.TheVariants.{Syntax, Limit, NoMemory}
 
--- what was read last, with the positions so far: `[` or `;`, a position, `]`, or `←` and the items so far
+-- what was read last, with the positions so far: `[` or `;`, a position, `]`, `←` and the numbers so far, or a text
 pub data Edit : Type 0 where
   Open : List ℤ → Edit
   Position : List ℤ → Edit
   Closed : List ℤ → Edit
   Items : List ℤ → List ℤ → Edit
+  Quoted : List ℤ → List ℕ → Edit
 
--- the place and the items of an edit
+-- the place and the literal of an edit
 pub data Written : Type 0 where
-  Write : List ℤ → List ℤ → Written
+  Write : List ℤ → Constant → Written
 
 abbrev pub after_position : List ℤ → ℕ → Option Edit
 after_position ps c = if c == 0x3b then Some (Open ps) else (if c == 0x5d then Some (Closed ps) else None)
@@ -29,16 +32,26 @@ edit_number n (Open ps) = Some (Position (ps ++ n ∷ []))
 edit_number n (Position ps) = None
 edit_number n (Closed ps) = None
 edit_number n (Items ps ns) = Some (Items ps (ns ++ n ∷ []))
+edit_number n (Quoted ps cs) = None
+
+abbrev pub edit_text : List ℕ → Edit → Option Edit
+edit_text cs (Open ps) = None
+edit_text cs (Position ps) = None
+edit_text cs (Closed ps) = None
+edit_text cs (Items ps []) = Some (Quoted ps cs)
+edit_text cs (Items ps (n ∷ ns)) = None
+edit_text cs (Quoted ps ds) = None
 
 abbrev pub edit_sign : ℕ → Edit → Option Edit
 edit_sign c (Open ps) = None
 edit_sign c (Position ps) = after_position ps c
 edit_sign c (Closed ps) = after_bracket ps c
 edit_sign c (Items ps ns) = None
+edit_sign c (Quoted ps cs) = None
 
 abbrev pub edit_step : Lexeme → Edit → Option Edit
 edit_step (Number n) s = edit_number n s
-edit_step (Characters cs) s = None
+edit_step (Characters cs) s = edit_text cs s
 edit_step (Named n) s = None
 edit_step (Sign c) s = edit_sign c s
 
@@ -48,7 +61,8 @@ edit_end (Open ps) = None
 edit_end (Position ps) = None
 edit_end (Closed ps) = None
 edit_end (Items ps []) = None
-edit_end (Items ps (n ∷ ns)) = Some (Write ps (n ∷ ns))
+edit_end (Items ps (n ∷ ns)) = Some (Write ps (Numbers (n ∷ ns)))
+edit_end (Quoted ps cs) = Some (Write ps (Text cs))
 
 unfoldable pub edits : List Lexeme → Option Edit → Option Written
 edits [] None = None
@@ -61,6 +75,7 @@ edit_of (edit.Open ps) = Open ps.items
 edit_of (edit.Position ps) = Position ps.items
 edit_of (edit.Closed ps) = Closed ps.items
 edit_of (edit.Items ps ns) = Items ps.items ns.items
+edit_of (edit.Quoted ps cs) = Quoted ps.items cs.items
 
 -- a step of the code is that of the machine, unless memory runs out
 abbrev pub EditSteps : Result code.Edit ParseFault → Option Edit → Type 0
@@ -70,8 +85,8 @@ EditSteps (Err Limit) o = ⊥
 EditSteps (Err NoMemory) o = Unit {0}
 
 -- the same for the whole
-abbrev pub EditGives : Result (Vec ℤ × Vec ℤ) ParseFault → Option Written → Type 0
-EditGives (Ok w) o = o ≡ Some (Write w.0.items w.1.items)
+abbrev pub EditGives : Result (Vec ℤ × literal.Literal) ParseFault → Option Written → Type 0
+EditGives (Ok w) o = o ≡ Some (Write w.0.items (constant_of w.1))
 EditGives (Err Syntax) o = o ≡ None
 EditGives (Err Limit) o = ⊥
 EditGives (Err NoMemory) o = Unit {0}

@@ -11,7 +11,7 @@ use crate::edit::edited;
 use crate::expr::{Expr, Literal};
 use crate::fault::{LineFault, ParseFault};
 use crate::limits::MOST_TOKENS;
-use crate::parser::{literal, parse};
+use crate::parser::parse;
 use apl_tokens::{Name, Spanned, Token, TokenFault, tokens};
 use std::alloc::Global;
 
@@ -24,7 +24,7 @@ pub enum Command {
     Define(Name, Expr),
     /// `) DATA NAME ← expr`: the name is given the value that the expression has now.
     Data(Name, Expr),
-    /// `NAME [ place ] ← literal`: the item at the place becomes the literal.
+    /// `NAME [ place ] ← literal`: the item at the place becomes the literal's.
     Cell(Name, Vec<i64>, Literal),
     /// `expr`: its value is shown.
     Show(Expr),
@@ -99,7 +99,7 @@ fn cell(alloc: Global, name: Name, rest: &[Spanned]) -> Result<Command, ParseFau
     ensures { IsCommand (Named name ∷ Sign 0x5b ∷ lexemes rest.now) result }
 {
     let written = edited(alloc, rest)?;
-    Ok(Command::Cell(name, written.0, literal(written.1)))
+    Ok(Command::Cell(name, written.0, written.1))
 }
 
 /// The expression to show.

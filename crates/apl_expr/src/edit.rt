@@ -1,20 +1,37 @@
-//! The edit of a cell: its place and its items, behind `NAME [`.
+//! The edit of a cell: its place and its literal, behind `NAME [`.
 
 ghost use Rattle.std.specs.Prelude.{Some, []};
 ghost use Rattle.apl_tokens.specs.Lexemes.{lexeme, lexemes};
-ghost use Rattle.apl_expr.specs.Edits.{Open, edit_of, edit_sign, edit_step, edit_end, edits, EditSteps, EditGives};
+ghost use Rattle.apl_expr.specs.Edits.{Open, edit_of, edit_text, edit_sign, edit_step, edit_end, edits, EditSteps, EditGives};
 
+use crate::expr::Literal;
 use crate::fault::ParseFault;
+use crate::parser::{literal, text_literal};
 use apl_tokens::{Spanned, Token};
 use std::alloc::Global;
 
-/// What was read last, with the positions so far: `[` or `;`, a position, `]`, or `←` and the items so far.
+/// What was read last, with the positions so far: `[` or `;`, a position, `]`, `←` and the numbers so far, or a text.
 #[derive(Drop)]
 enum Edit {
     Open(Vec<i64>),
     Position(Vec<i64>),
     Closed(Vec<i64>),
     Items(Vec<i64>, Vec<i64>),
+    Quoted(Vec<i64>, Vec<char>),
+}
+
+/// Reads a text.
+fn edit_text(alloc: Global, text: &[char], edit: Edit) -> Result<Edit, ParseFault>
+    ensures { EditSteps result (edit_text text.now (edit_of edit)) }
+{
+    let Edit::Items(place, items) = edit else {
+        return Err(ParseFault::Syntax);
+    };
+    if items.is_empty() {
+        Ok(Edit::Quoted(place, text.to_vec(alloc)?))
+    } else {
+        Err(ParseFault::Syntax)
+    }
 }
 
 /// Reads a sign.
@@ -51,26 +68,30 @@ fn edit_step(alloc: Global, token: &Token, edit: Edit) -> Result<Edit, ParseFaul
             }
             _ => Err(ParseFault::Syntax),
         },
+        Token::Text(text) => edit_text(alloc, text, edit),
+        Token::Word(_) => Err(ParseFault::Syntax),
         Token::Mark(sign) => edit_sign(alloc, *sign, edit),
+    }
+}
+
+/// The place and the literal where the tokens end.
+fn edit_end(edit: Edit) -> Result<(Vec<i64>, Literal), ParseFault>
+    ensures { EditGives result (edit_end (edit_of edit)) }
+{
+    match edit {
+        Edit::Items(place, items) => {
+            if items.is_empty() {
+                return Err(ParseFault::Syntax);
+            }
+            Ok((place, literal(items)))
+        }
+        Edit::Quoted(place, text) => Ok((place, text_literal(text))),
         _ => Err(ParseFault::Syntax),
     }
 }
 
-/// The place and the items where the tokens end.
-fn edit_end(edit: Edit) -> Result<(Vec<i64>, Vec<i64>), ParseFault>
-    ensures { EditGives result (edit_end (edit_of edit)) }
-{
-    let Edit::Items(place, items) = edit else {
-        return Err(ParseFault::Syntax);
-    };
-    if items.is_empty() {
-        return Err(ParseFault::Syntax);
-    }
-    Ok((place, items))
-}
-
-/// The place and the items of the edit that the tokens are.
-pub(crate) fn edited(alloc: Global, tokens: &[Spanned]) -> Result<(Vec<i64>, Vec<i64>), ParseFault>
+/// The place and the literal of the edit that the tokens are.
+pub(crate) fn edited(alloc: Global, tokens: &[Spanned]) -> Result<(Vec<i64>, Literal), ParseFault>
     ensures { EditGives result (edits (lexemes tokens.now) (Some (Open []))) }
 {
     let mut edit = Edit::Open(Vec::new(alloc));

@@ -4,7 +4,7 @@ ghost use Rattle.std.specs.Prelude.{◌≡◌, Some, [], ◌∷◌};
 ghost use Rattle.apl_tokens.specs.Lexemes.{lexeme, lexemes};
 ghost use Rattle.apl_expr.specs.Machine.{first, settle, closed, next, step, finish, run, state, Nothing};
 ghost use Rattle.apl_expr.specs.Parsing.{stack, reading_of, Settles, Steps, Gives, IsParsed};
-ghost use Rattle.apl_expr.specs.Trees.{Numbers, Text as text_of, constant_of, IsPlain, tree_of};
+ghost use Rattle.apl_expr.specs.Trees.{Numbers, Text, constant_of, IsPlain, tree_of};
 ghost use Rattle.std.specs.Prelude.{IfOk};
 
 use crate::expr::{Dyadic, Expr, Literal, Monadic};
@@ -37,7 +37,7 @@ enum Reading {
     Whole(Expr),
 }
 
-/// The literal of these numbers.
+/// The literal of these numbers: one number is a scalar.
 pub(crate) fn literal(numbers: Vec<i64>) -> Literal
     ensures numbers { constant_of result ≡ Numbers numbers.items }
     ensures plain { IsPlain result }
@@ -49,13 +49,13 @@ pub(crate) fn literal(numbers: Vec<i64>) -> Literal
 }
 
 /// The literal of a text: one character is a scalar.
-pub(crate) fn text(alloc: Global, characters: &[char]) -> Result<Literal, AllocError>
-    ensures characters { IfOk result (λ l. constant_of l ≡ text_of characters.now) }
-    ensures plain { IfOk result (λ l. IsPlain l) }
+pub(crate) fn text_literal(characters: Vec<char>) -> Literal
+    ensures characters { constant_of result ≡ Text characters.items }
+    ensures plain { IsPlain result }
 {
-    match characters {
-        [character] => Ok(Literal::Char(*character)),
-        _ => Ok(Literal::Text(characters.to_vec(alloc)?)),
+    match characters.as_slice() {
+        [character] => Literal::Char(*character),
+        _ => Literal::Text(characters),
     }
 }
 
@@ -69,7 +69,10 @@ fn first(alloc: Global, token: &Token, waiting: &mut Vec<Waiting>) -> Result<Rea
             numbers.push(*n)?;
             Ok(Reading::Strand(numbers))
         }
-        Token::Text(characters) => Ok(Reading::Whole(Expr::Const(text(alloc, characters)?))),
+        Token::Text(characters) => {
+            let characters = characters.to_vec(alloc)?;
+            Ok(Reading::Whole(Expr::Const(text_literal(characters))))
+        }
         Token::Word(name) => Ok(Reading::Whole(Expr::Name(*name))),
         Token::Mark(sign) => match monadic_of(*sign) {
             Some(function) => {

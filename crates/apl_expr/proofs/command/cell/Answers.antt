@@ -12,4 +12,4 @@ returns-in_err-written c =
     (cell_err c.args.name (lexemes c.args.rest.now) (simp length-map c.requires) c.in_err-written.field-0.0 c.in_err-written.ensures)
 
 pub returns : goal.returns
-returns c = cell_ok c.args.name (lexemes c.args.rest.now) (simp length-map c.requires) c.in_ok-written.written.0 c.in_ok-written.written.1 c.literal.result c.in_ok-written.ensures c.literal.ensures.numbers
+returns c = cell_ok c.args.name (lexemes c.args.rest.now) (simp length-map c.requires) c.in_ok-written.written.0 c.in_ok-written.written.1 c.in_ok-written.ensures
