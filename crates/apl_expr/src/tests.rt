@@ -20,6 +20,19 @@ fn signs(rt: &HostRuntime, sign: char, count: usize) -> Result<Vec<Spanned>, Fai
     Ok(found)
 }
 
+/// So many opening parentheses, the number 5, and so many closing ones.
+fn in_parentheses(rt: &HostRuntime, count: usize) -> Result<Vec<Spanned>, Fail> {
+    let mut text = String::new(rt.alloc());
+    for _ in 0..count {
+        text.push('(')?;
+    }
+    text.push('5')?;
+    for _ in 0..count {
+        text.push(')')?;
+    }
+    Ok(tokens(rt.alloc(), text.as_str())?)
+}
+
 /// So many numbers.
 fn numbers(rt: &HostRuntime, count: usize) -> Result<Vec<Spanned>, Fail> {
     let mut found = Vec::new(rt.alloc());
@@ -37,11 +50,76 @@ fn functions_take_all_at_their_right(rt: HostRuntime) -> Result<(), Fail> {
     let found = tokens(rt.alloc(), "A-B×-1 2")?;
     let tree = parse(rt.alloc(), &found)?;
     let text = format!(in rt.alloc(); "{tree:?}")?;
-    assert!(rt; text.as_str().starts_with("Dyad(Minus, Name("));
+    assert!(rt; text.as_str().starts_with("Dyad(Scalar(Minus), Name("));
     assert!(rt;
         text.as_str()
-            .ends_with("Monad(Negative, Const(Nums([1, 2])))))")
+            .ends_with("Monad(Scalar(Negative), Const(Nums([1, 2])))))")
     );
+    Ok(())
+}
+
+#[test]
+fn parentheses_make_an_operand(rt: HostRuntime) -> Result<(), Fail> {
+    for (written, want) in [
+        (
+            "(A-B)-C",
+            "Dyad(Scalar(Minus), Dyad(Scalar(Minus), Name(",
+        ),
+        ("((1)) 2", ""),
+        ("(-1)", "Monad(Scalar(Negative), Const(Num(1)))"),
+        ("((1 2))", "Const(Nums([1, 2]))"),
+        (
+            "-(1)×2",
+            "Monad(Scalar(Negative), Dyad(Scalar(Times), Const(Num(1)), Const(Num(2))))",
+        ),
+    ] {
+        let found = tokens(rt.alloc(), written)?;
+        match parse(rt.alloc(), &found) {
+            Ok(tree) => {
+                let text = format!(in rt.alloc(); "{tree:?}")?;
+                assert!(rt; !want.is_empty() && text.as_str().starts_with(want), "{written}");
+            }
+            Err(fault) => assert!(rt; want.is_empty() && fault == ParseFault::Syntax, "{written}"),
+        }
+    }
+    let most = in_parentheses(&rt, 2047)?;
+    assert!(rt; matches!(parse(rt.alloc(), &most), Ok(Expr::Const(Literal::Num(5)))));
+    let more = in_parentheses(&rt, 2048)?;
+    assert!(rt; matches!(parse(rt.alloc(), &more), Err(ParseFault::Limit)));
+    Ok(())
+}
+
+#[test]
+fn one_character_is_a_scalar(rt: HostRuntime) -> Result<(), Fail> {
+    assert!(rt;
+        matches!(
+            line(rt.alloc(), "'⍴'")?,
+            Command::Show(Expr::Const(Literal::Char('⍴')))
+        )
+    );
+    let quoted = line(rt.alloc(), "D[2]←'it''s'")?;
+    assert!(rt;
+        matches!(&quoted, Command::Cell(_, _, Literal::Text(found)) if found.as_slice() == ['i', 't', '\'', 's'].as_slice())
+    );
+    let empty = line(rt.alloc(), "''")?;
+    assert!(rt;
+        matches!(&empty, Command::Show(Expr::Const(Literal::Text(found))) if found.is_empty())
+    );
+    let item = line(rt.alloc(), "D[2]←'x'")?;
+    assert!(rt; matches!(&item, Command::Cell(_, _, Literal::Char('x'))));
+    Ok(())
+}
+
+#[test]
+fn reads_every_scalar_sign(rt: HostRuntime) -> Result<(), Fail> {
+    for sign in "+-×÷*|⌈⌊<≤=≥>≠∧∨⍲⍱".chars() {
+        let text = format!(in rt.alloc(); "A{sign}1")?;
+        assert!(rt; matches!(line(rt.alloc(), text.as_str())?, Command::Show(Expr::Dyad(_, _, _))));
+    }
+    for sign in "+-×÷|⌈⌊~".chars() {
+        let text = format!(in rt.alloc(); "{sign}A")?;
+        assert!(rt; matches!(line(rt.alloc(), text.as_str())?, Command::Show(Expr::Monad(_, _))));
+    }
     Ok(())
 }
 
@@ -107,8 +185,30 @@ fn refuses_what_is_no_line(rt: HostRuntime) -> Result<(), Fail> {
         "D[1]+2",
         "1)",
         "A;B",
-        "(1)",
+        "()",
+        "(1",
+        "(1))",
+        "(1)2",
+        "2(1)",
+        "'ab''c' 'd'",
+        "1 'a'",
+        "'a' 1",
+        "'ab",
+        "(1)[1]",
         "A←⍴1",
+        "*1",
+        "A~1",
+        "+/A",
+        "A∘.+B",
+        "A+.×B",
+        ")NAMES",
+        ")ERASE A",
+        ")ROW A 1",
+        ")OPEN 1 A←1",
+        "D[1]←'a' 'b'",
+        "D[1]←1 'b'",
+        "D[1]←'a' 1",
+        "D[1]←('a')",
     ] {
         assert!(rt; matches!(line(rt.alloc(), text), Err(LineFault::Syntax)));
     }
