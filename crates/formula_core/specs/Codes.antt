@@ -1,66 +1,134 @@
 -- A tree is told by its words in postfix order.
-use Rattle.std.specs.Prelude.{◌≡◌, ℕ, ℤ, List, [], ◌∷◌, ◌++◌, ◌⊎◌, refl}
+use Rattle.std.specs.Prelude.{◌≡◌, ℕ, ℤ, List, [], ◌∷◌, ◌++◌, get_or, ◌⊎◌, refl}
 use Rattle.std.proofs.Common.{sym, ◌∙◌, ap, inl, inr, append_assoc, append-nil}
 use Rattle.std.specs.Coded.{Coded, code_by, coded⊎, coded_list, coded_ℕ, coded_ℤ}
-use base.Stored.{coded_unit}
-use Rattle.apl_expr.specs.Trees.{Tree, Literal, Variable, Applied1, Applied2, Numbers}
+use Rattle.apl_expr.specs.Trees.{Tree, Literal, Variable, Applied1, Applied2, Numbers, Text}
+use Rattle.apl_expr.specs.declared.expr.ScalarMonad.{ScalarMonad}
+use Rattle.apl_expr.specs.declared.expr.ScalarMonad.TheVariants as scalar_monad
+use Rattle.apl_expr.specs.declared.expr.ScalarDyad.{ScalarDyad}
+use Rattle.apl_expr.specs.declared.expr.ScalarDyad.TheVariants as scalar_dyad
 use Rattle.apl_expr.specs.declared.expr.Monadic.{Monadic}
 use Rattle.apl_expr.specs.declared.expr.Monadic.TheVariants as monadic
 use Rattle.apl_expr.specs.declared.expr.Dyadic.{Dyadic}
 use Rattle.apl_expr.specs.declared.expr.Dyadic.TheVariants as dyadic
 
--- which of three
-abbrev Third : Type 0
-Third = Unit {0} ⊎ (Unit {0} ⊎ Unit {0})
+-- the number of a scalar function is its place here
+abbrev monads : List ScalarMonad
+monads =
+    scalar_monad.Conjugate ∷ scalar_monad.Negative ∷ scalar_monad.Direction ∷ scalar_monad.Reciprocal ∷
+    scalar_monad.Magnitude ∷ scalar_monad.Ceiling ∷ scalar_monad.Floor ∷ scalar_monad.Not ∷ []
 
-abbrev third_of_monadic : Monadic → Third
-third_of_monadic monadic.Conjugate = inl tt
-third_of_monadic monadic.Negative = inr (inl tt)
-third_of_monadic monadic.Direction = inr (inr tt)
+abbrev number_of_monad : ScalarMonad → ℕ
+number_of_monad scalar_monad.Conjugate = 0
+number_of_monad scalar_monad.Negative = 1
+number_of_monad scalar_monad.Direction = 2
+number_of_monad scalar_monad.Reciprocal = 3
+number_of_monad scalar_monad.Magnitude = 4
+number_of_monad scalar_monad.Ceiling = 5
+number_of_monad scalar_monad.Floor = 6
+number_of_monad scalar_monad.Not = 7
 
-abbrev monadic_of_third : Third → Monadic
-monadic_of_third (inl u) = monadic.Conjugate
-monadic_of_third (inr (inl u)) = monadic.Negative
-monadic_of_third (inr (inr u)) = monadic.Direction
+abbrev monad_of_number : ℕ → ScalarMonad
+monad_of_number n = get_or monads n scalar_monad.Not
 
-monadic_again : (f : Monadic) → monadic_of_third (third_of_monadic f) ≡ f
-monadic_again monadic.Conjugate = refl
-monadic_again monadic.Negative = refl
-monadic_again monadic.Direction = refl
+monad_again : (f : ScalarMonad) → monad_of_number (number_of_monad f) ≡ f
+monad_again scalar_monad.Conjugate = refl
+monad_again scalar_monad.Negative = refl
+monad_again scalar_monad.Direction = refl
+monad_again scalar_monad.Reciprocal = refl
+monad_again scalar_monad.Magnitude = refl
+monad_again scalar_monad.Ceiling = refl
+monad_again scalar_monad.Floor = refl
+monad_again scalar_monad.Not = refl
 
-abbrev third_of_dyadic : Dyadic → Third
-third_of_dyadic dyadic.Plus = inl tt
-third_of_dyadic dyadic.Minus = inr (inl tt)
-third_of_dyadic dyadic.Times = inr (inr tt)
+abbrev dyads : List ScalarDyad
+dyads =
+    scalar_dyad.Plus ∷ scalar_dyad.Minus ∷ scalar_dyad.Times ∷ scalar_dyad.Divide ∷ scalar_dyad.Power ∷
+    scalar_dyad.Residue ∷ scalar_dyad.Maximum ∷ scalar_dyad.Minimum ∷ scalar_dyad.Less ∷ scalar_dyad.LessOrEqual ∷
+    scalar_dyad.Equal ∷ scalar_dyad.GreaterOrEqual ∷ scalar_dyad.Greater ∷ scalar_dyad.NotEqual ∷ scalar_dyad.And ∷
+    scalar_dyad.Or ∷ scalar_dyad.Nand ∷ scalar_dyad.Nor ∷ []
 
-abbrev dyadic_of_third : Third → Dyadic
-dyadic_of_third (inl u) = dyadic.Plus
-dyadic_of_third (inr (inl u)) = dyadic.Minus
-dyadic_of_third (inr (inr u)) = dyadic.Times
+abbrev number_of_dyad : ScalarDyad → ℕ
+number_of_dyad scalar_dyad.Plus = 0
+number_of_dyad scalar_dyad.Minus = 1
+number_of_dyad scalar_dyad.Times = 2
+number_of_dyad scalar_dyad.Divide = 3
+number_of_dyad scalar_dyad.Power = 4
+number_of_dyad scalar_dyad.Residue = 5
+number_of_dyad scalar_dyad.Maximum = 6
+number_of_dyad scalar_dyad.Minimum = 7
+number_of_dyad scalar_dyad.Less = 8
+number_of_dyad scalar_dyad.LessOrEqual = 9
+number_of_dyad scalar_dyad.Equal = 10
+number_of_dyad scalar_dyad.GreaterOrEqual = 11
+number_of_dyad scalar_dyad.Greater = 12
+number_of_dyad scalar_dyad.NotEqual = 13
+number_of_dyad scalar_dyad.And = 14
+number_of_dyad scalar_dyad.Or = 15
+number_of_dyad scalar_dyad.Nand = 16
+number_of_dyad scalar_dyad.Nor = 17
 
-dyadic_again : (f : Dyadic) → dyadic_of_third (third_of_dyadic f) ≡ f
-dyadic_again dyadic.Plus = refl
-dyadic_again dyadic.Minus = refl
-dyadic_again dyadic.Times = refl
+abbrev dyad_of_number : ℕ → ScalarDyad
+dyad_of_number n = get_or dyads n scalar_dyad.Nor
 
--- a literal, a name, or a function of one or of two arguments
+dyad_again : (f : ScalarDyad) → dyad_of_number (number_of_dyad f) ≡ f
+dyad_again scalar_dyad.Plus = refl
+dyad_again scalar_dyad.Minus = refl
+dyad_again scalar_dyad.Times = refl
+dyad_again scalar_dyad.Divide = refl
+dyad_again scalar_dyad.Power = refl
+dyad_again scalar_dyad.Residue = refl
+dyad_again scalar_dyad.Maximum = refl
+dyad_again scalar_dyad.Minimum = refl
+dyad_again scalar_dyad.Less = refl
+dyad_again scalar_dyad.LessOrEqual = refl
+dyad_again scalar_dyad.Equal = refl
+dyad_again scalar_dyad.GreaterOrEqual = refl
+dyad_again scalar_dyad.Greater = refl
+dyad_again scalar_dyad.NotEqual = refl
+dyad_again scalar_dyad.And = refl
+dyad_again scalar_dyad.Or = refl
+dyad_again scalar_dyad.Nand = refl
+dyad_again scalar_dyad.Nor = refl
+
+abbrev code_of_monadic : Monadic → ℕ
+code_of_monadic (monadic.Scalar f) = number_of_monad f
+
+abbrev monadic_of_code : ℕ → Monadic
+monadic_of_code n = monadic.Scalar (monad_of_number n)
+
+monadic_again : (f : Monadic) → monadic_of_code (code_of_monadic f) ≡ f
+monadic_again (monadic.Scalar f) = ap (λ g. monadic.Scalar g) (monad_again f)
+
+abbrev code_of_dyadic : Dyadic → ℕ
+code_of_dyadic (dyadic.Scalar f) = number_of_dyad f
+
+abbrev dyadic_of_code : ℕ → Dyadic
+dyadic_of_code n = dyadic.Scalar (dyad_of_number n)
+
+dyadic_again : (f : Dyadic) → dyadic_of_code (code_of_dyadic f) ≡ f
+dyadic_again (dyadic.Scalar f) = ap (λ g. dyadic.Scalar g) (dyad_again f)
+
+-- numbers, characters, a name, or a function of one or of two arguments
 abbrev Word : Type 0
-Word = List ℤ ⊎ (List ℕ ⊎ (Third ⊎ Third))
+Word = List ℤ ⊎ (List ℕ ⊎ (List ℕ ⊎ (ℕ ⊎ ℕ)))
 
 abbrev words : Tree → List Word
 words (Literal (Numbers ns)) = inl ns ∷ []
-words (Variable x) = inr (inl x) ∷ []
-words (Applied1 f b) = words b ++ inr (inr (inl (third_of_monadic f))) ∷ []
-words (Applied2 f a b) = words a ++ (words b ++ inr (inr (inr (third_of_dyadic f))) ∷ [])
+words (Literal (Text cs)) = inr (inl cs) ∷ []
+words (Variable x) = inr (inr (inl x)) ∷ []
+words (Applied1 f b) = words b ++ inr (inr (inr (inl (code_of_monadic f)))) ∷ []
+words (Applied2 f a b) = words a ++ (words b ++ inr (inr (inr (inr (code_of_dyadic f)))) ∷ [])
 
 abbrev push : Word → List Tree → List Tree
 push (inl ns) stack = Literal (Numbers ns) ∷ stack
-push (inr (inl x)) stack = Variable x ∷ stack
-push (inr (inr (inl f))) [] = []
-push (inr (inr (inl f))) (b ∷ stack) = Applied1 (monadic_of_third f) b ∷ stack
-push (inr (inr (inr f))) [] = []
-push (inr (inr (inr f))) (b ∷ []) = b ∷ []
-push (inr (inr (inr f))) (b ∷ a ∷ stack) = Applied2 (dyadic_of_third f) a b ∷ stack
+push (inr (inl cs)) stack = Literal (Text cs) ∷ stack
+push (inr (inr (inl x))) stack = Variable x ∷ stack
+push (inr (inr (inr (inl f)))) [] = []
+push (inr (inr (inr (inl f)))) (b ∷ stack) = Applied1 (monadic_of_code f) b ∷ stack
+push (inr (inr (inr (inr f)))) [] = []
+push (inr (inr (inr (inr f)))) (b ∷ []) = b ∷ []
+push (inr (inr (inr (inr f)))) (b ∷ a ∷ stack) = Applied2 (dyadic_of_code f) a b ∷ stack
 
 abbrev build : List Word → List Tree → List Tree
 build [] stack = stack
@@ -72,13 +140,14 @@ top (t ∷ ts) = t
 
 again : (t : Tree) (ws : List Word) (stack : List Tree) → build (words t ++ ws) stack ≡ build ws (t ∷ stack)
 again (Literal (Numbers ns)) ws stack = refl
+again (Literal (Text cs)) ws stack = refl
 again (Variable x) ws stack = refl
 again (Applied1 f b) ws stack =
-    ap (λ vs. build vs stack) (append_assoc (words b) (inr (inr (inl (third_of_monadic f))) ∷ []) ws)
-    ∙ (again b (inr (inr (inl (third_of_monadic f))) ∷ ws) stack ∙ ap (λ g. build ws (Applied1 g b ∷ stack)) (monadic_again f))
+    ap (λ vs. build vs stack) (append_assoc (words b) (inr (inr (inr (inl (code_of_monadic f)))) ∷ []) ws)
+    ∙ (again b (inr (inr (inr (inl (code_of_monadic f)))) ∷ ws) stack ∙ ap (λ g. build ws (Applied1 g b ∷ stack)) (monadic_again f))
 again (Applied2 f a b) ws stack =
-    ap (λ vs. build vs stack) (append_assoc (words a) (words b ++ inr (inr (inr (third_of_dyadic f))) ∷ []) ws ∙ ap (λ vs. words a ++ vs) (append_assoc (words b) (inr (inr (inr (third_of_dyadic f))) ∷ []) ws))
-    ∙ (again a (words b ++ (inr (inr (inr (third_of_dyadic f))) ∷ ws)) stack ∙ (again b (inr (inr (inr (third_of_dyadic f))) ∷ ws) (a ∷ stack)
+    ap (λ vs. build vs stack) (append_assoc (words a) (words b ++ inr (inr (inr (inr (code_of_dyadic f)))) ∷ []) ws ∙ ap (λ vs. words a ++ vs) (append_assoc (words b) (inr (inr (inr (inr (code_of_dyadic f)))) ∷ []) ws))
+    ∙ (again a (words b ++ (inr (inr (inr (inr (code_of_dyadic f)))) ∷ ws)) stack ∙ (again b (inr (inr (inr (inr (code_of_dyadic f)))) ∷ ws) (a ∷ stack)
     ∙ ap (λ g. build ws (Applied2 g a b ∷ stack)) (dyadic_again f)))
 
 pub same_again : (t : Tree) → top (build (words t) []) ≡ t
@@ -86,5 +155,5 @@ same_again t = ap top (ap (λ ws. build ws []) (sym (append-nil (words t))) ∙ 
 
 abbrev pub coded_tree : Coded Tree
 coded_tree =
-    code_by (List Word) (coded_list (coded⊎ (coded_list coded_ℤ) (coded⊎ (coded_list coded_ℕ) (coded⊎ (coded⊎ coded_unit (coded⊎ coded_unit coded_unit)) (coded⊎ coded_unit (coded⊎ coded_unit coded_unit))))))
+    code_by (List Word) (coded_list (coded⊎ (coded_list coded_ℤ) (coded⊎ (coded_list coded_ℕ) (coded⊎ (coded_list coded_ℕ) (coded⊎ coded_ℕ coded_ℕ)))))
     words (λ ws. top (build ws [])) same_again

@@ -1,11 +1,15 @@
 -- What an expression means, where the names show these arrays and errors.
 use Rattle.std.specs.Prelude.{ℕ, List, [], ◌∷◌, ◌++◌, Result, Ok, Err}
-use Rattle.apl_expr.specs.Trees.{Tree, Literal, Variable, Applied1, Applied2, Constant, Numbers}
+use Rattle.apl_expr.specs.Trees.{Tree, Literal, Variable, Applied1, Applied2, Constant, Numbers, Text}
+use Rattle.apl_expr.specs.declared.expr.ScalarMonad.{ScalarMonad}
+use Rattle.apl_expr.specs.declared.expr.ScalarMonad.TheVariants as scalar_monad
+use Rattle.apl_expr.specs.declared.expr.ScalarDyad.{ScalarDyad}
+use Rattle.apl_expr.specs.declared.expr.ScalarDyad.TheVariants as scalar_dyad
 use Rattle.apl_expr.specs.declared.expr.Monadic.{Monadic}
 use Rattle.apl_expr.specs.declared.expr.Monadic.TheVariants as monadic
 use Rattle.apl_expr.specs.declared.expr.Dyadic.{Dyadic}
 use Rattle.apl_expr.specs.declared.expr.Dyadic.TheVariants as dyadic
-use Rattle.arrays_core.specs.Arrays.{ArrayValue, scalar_of, vector_of}
+use Rattle.arrays_core.specs.Arrays.{ArrayValue, scalar_of, vector_of, character_of, text_of}
 use Rattle.arrays_core.specs.declared.item.Kind.{Kind}
 use Rattle.scalar_fns.specs.declared.function.Scalar1.{Scalar1}
 use Rattle.scalar_fns.specs.declared.function.Scalar1.TheVariants as one
@@ -14,31 +18,62 @@ use Rattle.scalar_fns.specs.declared.function.Scalar2.TheVariants as two
 use Rattle.scalar_fns.specs.Extension.{on_array, on_arrays}
 use Rattle.formula_core.specs.Outcomes.{Outcome, given}
 
--- one number is a scalar, several are a vector
+-- one number is a scalar, several are a vector; so it is with the characters of a text
 abbrev pub array_of : Constant → Result ArrayValue Kind
 array_of (Numbers []) = vector_of []
 array_of (Numbers (n ∷ [])) = Ok (scalar_of n)
 array_of (Numbers (n ∷ m ∷ ns)) = vector_of (n ∷ m ∷ ns)
+array_of (Text []) = text_of []
+array_of (Text (c ∷ [])) = Ok (character_of c)
+array_of (Text (c ∷ d ∷ cs)) = text_of (c ∷ d ∷ cs)
 
-abbrev pub scalar1_of : Monadic → Scalar1
-scalar1_of monadic.Conjugate = one.Conjugate
-scalar1_of monadic.Negative = one.Negative
-scalar1_of monadic.Direction = one.Direction
+abbrev pub scalar1_of : ScalarMonad → Scalar1
+scalar1_of scalar_monad.Conjugate = one.Conjugate
+scalar1_of scalar_monad.Negative = one.Negative
+scalar1_of scalar_monad.Direction = one.Direction
+scalar1_of scalar_monad.Reciprocal = one.Reciprocal
+scalar1_of scalar_monad.Magnitude = one.Magnitude
+scalar1_of scalar_monad.Ceiling = one.Ceiling
+scalar1_of scalar_monad.Floor = one.Floor
+scalar1_of scalar_monad.Not = one.Not
 
-abbrev pub scalar2_of : Dyadic → Scalar2
-scalar2_of dyadic.Plus = two.Plus
-scalar2_of dyadic.Minus = two.Minus
-scalar2_of dyadic.Times = two.Times
+abbrev pub scalar2_of : ScalarDyad → Scalar2
+scalar2_of scalar_dyad.Plus = two.Plus
+scalar2_of scalar_dyad.Minus = two.Minus
+scalar2_of scalar_dyad.Times = two.Times
+scalar2_of scalar_dyad.Divide = two.Divide
+scalar2_of scalar_dyad.Power = two.Power
+scalar2_of scalar_dyad.Residue = two.Residue
+scalar2_of scalar_dyad.Maximum = two.Maximum
+scalar2_of scalar_dyad.Minimum = two.Minimum
+scalar2_of scalar_dyad.Less = two.Less
+scalar2_of scalar_dyad.LessOrEqual = two.LessOrEqual
+scalar2_of scalar_dyad.Equal = two.Equal
+scalar2_of scalar_dyad.GreaterOrEqual = two.GreaterOrEqual
+scalar2_of scalar_dyad.Greater = two.Greater
+scalar2_of scalar_dyad.NotEqual = two.NotEqual
+scalar2_of scalar_dyad.And = two.And
+scalar2_of scalar_dyad.Or = two.Or
+scalar2_of scalar_dyad.Nand = two.Nand
+scalar2_of scalar_dyad.Nor = two.Nor
+
+-- a function of one array
+abbrev pub of_right : Monadic → ArrayValue → Result ArrayValue Kind
+of_right (monadic.Scalar f) b = on_array (scalar1_of f) b
+
+-- a function of two arrays
+abbrev pub of_both : Dyadic → (left right : ArrayValue) → Result ArrayValue Kind
+of_both (dyadic.Scalar f) a b = on_arrays (scalar2_of f) a b
 
 abbrev pub applied1 : Monadic → Outcome → Outcome
 applied1 f (Err e) = Err e
-applied1 f (Ok b) = given (on_array (scalar1_of f) b)
+applied1 f (Ok b) = given (of_right f b)
 
 -- the right argument's error comes before the left's
 abbrev pub applied2 : Dyadic → (right left : Outcome) → Outcome
 applied2 f (Err e) left = Err e
 applied2 f (Ok b) (Err e) = Err e
-applied2 f (Ok b) (Ok a) = given (on_arrays (scalar2_of f) a b)
+applied2 f (Ok b) (Ok a) = given (of_both f a b)
 
 -- the value of an expression, where the names show these
 abbrev pub eval : Tree → (List ℕ → Outcome) → Outcome

@@ -6,7 +6,7 @@ ghost use Rattle.arrays_core.specs.Arrays.{ArrayValue, IsAnswerTo};
 ghost use Rattle.arrays_core.specs.declared.item.Kind.{Kind as AKind};
 ghost use Rattle.formula_core.specs.Outcomes.{read, given};
 ghost use Rattle.formula_core.specs.Operands.{outcome_of, array_in};
-ghost use Rattle.formula_core.specs.Meaning.{eval, applied1, applied2};
+ghost use Rattle.formula_core.specs.Meaning.{eval, of_right, of_both, applied1, applied2};
 
 use crate::literals::{array_of, scalar1_of, scalar2_of};
 use apl_expr::{Dyadic, Expr, Monadic};
@@ -96,6 +96,29 @@ fn argument<'a, S: Shows>(
     }
 }
 
+/// A function of one array.
+fn of_right(alloc: Global, function: Monadic, array: &Array) -> Result<Array, ApplyFault>
+    ensures { IsAnswerTo (of_right function array.now) result }
+{
+    match function {
+        Monadic::Scalar(scalar) => apply_one(alloc, scalar1_of(scalar), array),
+    }
+}
+
+/// A function of two arrays.
+fn of_both(
+    alloc: Global,
+    function: Dyadic,
+    left: &Array,
+    right: &Array,
+) -> Result<Array, ApplyFault>
+    ensures { IsAnswerTo (of_both function left.now right.now) result }
+{
+    match function {
+        Dyadic::Scalar(scalar) => apply_two(alloc, scalar2_of(scalar), left, right),
+    }
+}
+
 /// A function of its right argument, or the argument's error.
 fn apply_monad<'a>(
     alloc: Global,
@@ -105,7 +128,7 @@ fn apply_monad<'a>(
     ensures { IfOk result (λ operand. outcome_of operand ≡ applied1 function (outcome_of right.entry)) }
 {
     match right {
-        Ok(right) => made(apply_one(alloc, scalar1_of(function), right.array())),
+        Ok(right) => made(of_right(alloc, function, right.array())),
         Err(fault) => Ok(Err(fault)),
     }
 }
@@ -121,7 +144,7 @@ fn apply_dyad<'a>(
 {
     match right {
         Ok(right) => match left {
-            Ok(left) => made(apply_two(alloc, scalar2_of(function), left.array(), right.array())),
+            Ok(left) => made(of_both(alloc, function, left.array(), right.array())),
             Err(fault) => Ok(Err(fault)),
         },
         Err(fault) => Ok(Err(fault)),

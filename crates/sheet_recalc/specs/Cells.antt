@@ -1,11 +1,11 @@
 -- An edit of one cell.
 use Rattle.std.specs.Prelude.{◌≡◌, ℕ, ℤ, pos, negsuc, ◌==◌, ◌&&◌, nat_le, Bool, true, false, List, [], ◌∷◌, map, length, set, Option, Some, None, Result, Ok, Err, if◌then◌else◌}
-use Rattle.apl_expr.specs.Trees.{Constant, Numbers}
+use Rattle.apl_expr.specs.Trees.{Constant, Numbers, Text}
 use Rattle.arrays_core.specs.Arrays.{ArrayValue}
 use Rattle.arrays_core.specs.Items.{type_of}
 use Rattle.arrays_core.specs.Shapes.{is_index_of, places_before}
 use Rattle.arrays_core.specs.declared.item.Item.{Item}
-use Rattle.arrays_core.specs.declared.item.Item.TheVariants.{Num}
+use Rattle.arrays_core.specs.declared.item.Item.TheVariants.{Num, Char}
 use Rattle.arrays_core.specs.declared.item.ItemType.{ItemType}
 use Rattle.arrays_core.specs.declared.item.ItemType.TheVariants.{Nums, Chars}
 use Rattle.sheet_recalc.specs.Names.{Binding, Data, Formula}
@@ -27,6 +27,7 @@ is_on_axis axis index = nat_le 1 index && nat_le index axis
 -- the items of a literal
 abbrev pub items_of : Constant → List Item
 items_of (Numbers ns) = map (λ n. Num n) ns
+items_of (Text cs) = map (λ c. Char c) cs
 
 abbrev pub is_type : ItemType → ItemType → Bool
 is_type Nums Nums = true

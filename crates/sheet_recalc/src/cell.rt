@@ -77,6 +77,14 @@ fn only_item(literal: &Literal) -> Option<Item>
                 None
             }
         }
+        Literal::Char(character) => Some(Item::Char(*character)),
+        Literal::Text(characters) => {
+            if characters.len() == 1 {
+                Some(Item::Char(characters[0]))
+            } else {
+                None
+            }
+        }
     }
 }
 
