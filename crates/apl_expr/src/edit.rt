@@ -24,10 +24,10 @@ enum Edit {
 fn edit_text(alloc: Global, text: &[char], edit: Edit) -> Result<Edit, ParseFault>
     ensures { EditSteps result (edit_text text.now (edit_of edit)) }
 {
-    let Edit::Items(place, items) = edit else {
+    let Edit::Items(place, numbers) = edit else {
         return Err(ParseFault::Syntax);
     };
-    if items.is_empty() {
+    if numbers.is_empty() {
         Ok(Edit::Quoted(place, text.to_vec(alloc)?))
     } else {
         Err(ParseFault::Syntax)

@@ -8,3 +8,4 @@ pub mod Edges
 pub mod Working
 pub mod Refused
 pub mod Indices
+pub mod Examples

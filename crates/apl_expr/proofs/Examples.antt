@@ -1,0 +1,45 @@
+-- Worked examples of the grammar: what some lines ask for.
+use Rattle.std.proofs.Common.{◌≡◌, ℕ, Some, None, List, [], ◌∷◌, refl}
+use Rattle.std.specs.Prelude.{ℤ, pos, negsuc}
+use Rattle.apl_tokens.specs.Lexemes.{Lexeme, Number, Characters, Named, Sign}
+use Rattle.apl_expr.specs.declared.expr.ScalarMonad.TheVariants as monad
+use Rattle.apl_expr.specs.declared.expr.ScalarDyad.TheVariants as dyad
+use Rattle.apl_expr.specs.declared.expr.Monadic.TheVariants as monadic
+use Rattle.apl_expr.specs.declared.expr.Dyadic.TheVariants as dyadic
+use Rattle.apl_expr.specs.Symbols.{scalar_monad_of, scalar_dyad_of}
+use Rattle.apl_expr.specs.Trees.{Tree, Numbers, Text, Literal, Variable, Applied1, Applied2}
+use Rattle.apl_expr.specs.Machine.{run, state, Nothing}
+use Rattle.apl_expr.specs.Grammar.{IsTreeOf, one, more}
+use Rattle.apl_expr.specs.Lines.{IsLine, change, cell, define, show, nums_lit, text_lit, last, further, Define, Cell, Show}
+use Rattle.apl_expr.proofs.Complete.{complete}
+use Rattle.apl_expr.proofs.Sound.{correct, run_none}
+
+abbrev number : ℕ → Tree
+number n = Literal (Numbers (pos n ∷ []))
+
+abbrev minus : Tree → Tree → Tree
+minus a b = Applied2 (dyadic.Scalar dyad.Minus) a b
+
+-- 10-5-2: a function takes all that stands at its right
+to_the_right : IsTreeOf (Number (pos 10) ∷ Sign 0x2d ∷ Number (pos 5) ∷ Sign 0x2d ∷ Number (pos 2) ∷ []) (minus (number 10) (minus (number 5) (number 2)))
+unfolding run scalar_monad_of scalar_dyad_of
+to_the_right = correct _ _ refl
+
+-- (10-5)-2
+in_parentheses : IsTreeOf (Sign 0x28 ∷ Number (pos 10) ∷ Sign 0x2d ∷ Number (pos 5) ∷ Sign 0x29 ∷ Sign 0x2d ∷ Number (pos 2) ∷ []) (minus (minus (number 10) (number 5)) (number 2))
+unfolding run scalar_monad_of scalar_dyad_of
+in_parentheses = correct _ _ refl
+
+-- (1)2 is no expression
+side_by_side : (e : Tree) → IsTreeOf (Sign 0x28 ∷ Number (pos 1) ∷ Sign 0x29 ∷ Number (pos 2) ∷ []) e → ⊥
+unfolding run scalar_monad_of scalar_dyad_of
+side_by_side e is = run_none [] e (complete is)
+
+-- A←-B
+definition : IsLine (Named (0x41 ∷ []) ∷ Sign 0x2190 ∷ Sign 0x2d ∷ Named (0x42 ∷ []) ∷ []) (Define (0x41 ∷ []) (Applied1 (monadic.Scalar monad.Negative) (Variable (0x42 ∷ []))))
+unfolding run scalar_monad_of scalar_dyad_of
+definition = change (define (correct _ _ refl))
+
+-- M[2;3]←'x'
+cell_edit : IsLine (Named (0x4d ∷ []) ∷ Sign 0x5b ∷ Number (pos 2) ∷ Sign 0x3b ∷ Number (pos 3) ∷ Sign 0x5d ∷ Sign 0x2190 ∷ Characters (0x78 ∷ []) ∷ []) (Cell (0x4d ∷ []) (pos 2 ∷ pos 3 ∷ []) (Text (0x78 ∷ [])))
+cell_edit = change (cell (further last) text_lit)

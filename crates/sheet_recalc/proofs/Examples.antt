@@ -1,0 +1,103 @@
+-- Worked examples of the definitions, each true by computation.
+use Rattle.std.proofs.Common.{◌≡◌, ℕ, Some, Ok, Err, List, [], ◌∷◌, length, map, refl}
+use Rattle.std.specs.Prelude.{ℤ, pos, negsuc}
+use Rattle.arrays_core.specs.Arrays.{ArrayValue}
+use Rattle.arrays_core.specs.declared.item.Item.TheVariants.{Num}
+use Rattle.arrays_core.specs.declared.item.ItemType.TheVariants.{Nums}
+use Rattle.arrays_core.specs.declared.item.Kind.{Kind}
+use Rattle.arrays_core.specs.declared.item.Kind.TheVariants as kind
+use Rattle.apl_expr.specs.Trees.{Tree, Literal, Numbers, Text, Variable, Applied2}
+use Rattle.apl_expr.specs.declared.expr.ScalarDyad.{ScalarDyad}
+use Rattle.apl_expr.specs.declared.expr.ScalarDyad.TheVariants.{Plus, Times, Divide}
+use Rattle.apl_expr.specs.declared.expr.Dyadic.TheVariants.{Scalar}
+use Rattle.formula_core.specs.Outcomes.{Outcome, fault}
+use Rattle.formula_core.specs.Meaning.{eval}
+use Rattle.sheet_recalc.specs.Names.{Names, Data, Formula, binding, put}
+use Rattle.sheet_recalc.specs.Meaning.{val}
+use Rattle.sheet_recalc.specs.Cells.{cell_put}
+use Rattle.sheet_recalc.specs.declared.refusal.Refusal.TheVariants.{NotFound, NotData, Rank, Index, Length, Domain}
+
+abbrev numbers : List ℤ → ArrayValue
+numbers zs = record { item_type = Nums; shape = length zs ∷ []; items = map (λ (z : ℤ). Num z) zs }
+
+abbrev A : List ℕ
+A = 0x41 ∷ []
+
+abbrev B : List ℕ
+B = 0x42 ∷ []
+
+abbrev D : List ℕ
+D = 0x44 ∷ []
+
+abbrev T : List ℕ
+T = 0x54 ∷ []
+
+abbrev U : List ℕ
+U = 0x55 ∷ []
+
+abbrev both : ScalarDyad → Tree → Tree → Tree
+both f a b = Applied2 (Scalar f) a b
+
+abbrev number : ℕ → Tree
+number n = Literal (Numbers (pos n ∷ []))
+
+-- T←D×2 and U←T+D, over these data of D
+abbrev sheet : ArrayValue → Names
+sheet a = put (put (put [] D (Data a)) T (Formula (both Times (Variable D) (number 2)))) U (Formula (both Plus (Variable T) (Variable D)))
+
+u_shows_3_6_9 : val (sheet (numbers (pos 1 ∷ pos 2 ∷ pos 3 ∷ []))) U ≡ Ok (numbers (pos 3 ∷ pos 6 ∷ pos 9 ∷ []))
+u_shows_3_6_9 = refl
+
+-- D[2]←10
+second_replaced : cell_put (Some (Data (numbers (pos 1 ∷ pos 2 ∷ pos 3 ∷ [])))) (pos 2 ∷ []) (Numbers (pos 10 ∷ [])) ≡ Ok (numbers (pos 1 ∷ pos 10 ∷ pos 3 ∷ []))
+second_replaced = refl
+
+u_shows_3_30_9 : val (sheet (numbers (pos 1 ∷ pos 10 ∷ pos 3 ∷ []))) U ≡ Ok (numbers (pos 3 ∷ pos 30 ∷ pos 9 ∷ []))
+u_shows_3_30_9 = refl
+
+-- why a cell is refused
+absent : cell_put (binding [] A) (pos 1 ∷ []) (Numbers (pos 5 ∷ [])) ≡ Err NotFound
+absent = refl
+
+formula : cell_put (Some (Formula (number 1))) (pos 1 ∷ []) (Numbers (pos 5 ∷ [])) ≡ Err NotData
+formula = refl
+
+two_positions : cell_put (Some (Data (numbers (pos 1 ∷ [])))) (pos 1 ∷ pos 1 ∷ []) (Numbers (pos 5 ∷ [])) ≡ Err Rank
+two_positions = refl
+
+below_one : cell_put (Some (Data (numbers (pos 1 ∷ [])))) (negsuc 0 ∷ []) (Numbers (pos 5 ∷ pos 6 ∷ [])) ≡ Err Index
+below_one = refl
+
+no_item : cell_put (Some (Data (numbers (pos 1 ∷ [])))) (pos 1 ∷ []) (Text []) ≡ Err Length
+no_item = refl
+
+other_type : cell_put (Some (Data (numbers (pos 1 ∷ [])))) (pos 1 ∷ []) (Text (0x61 ∷ [])) ≡ Err Domain
+other_type = refl
+
+-- the kinds of errors, each with the name in whose formula it arose
+abbrev error_in : Kind → List ℕ → Outcome
+error_in k name = Err (record { kind = k; origin = Some name })
+
+-- A←B+1, where B is absent
+value_error : val (put [] A (Formula (both Plus (Variable B) (number 1)))) A ≡ error_in kind.Value A
+value_error = refl
+
+-- A←1÷0 and B←A+1
+origin_kept : val (put (put [] A (Formula (both Divide (number 1) (number 0)))) B (Formula (both Plus (Variable A) (number 1)))) B ≡ error_in kind.Domain A
+origin_kept = refl
+
+-- A←9223372036854775807+1
+limit_error : val (put [] A (Formula (both Plus (number 9223372036854775807) (number 1)))) A ≡ error_in kind.Limit A
+limit_error = refl
+
+-- A←1 2+1 2 3
+length_error : val (put [] A (Formula (both Plus (Literal (Numbers (pos 1 ∷ pos 2 ∷ []))) (Literal (Numbers (pos 1 ∷ pos 2 ∷ pos 3 ∷ [])))))) A ≡ error_in kind.Length A
+length_error = refl
+
+-- A shown over a matrix B: A←B+1 2
+rank_error : val (put (put [] B (Data (record { item_type = Nums; shape = 1 ∷ 2 ∷ []; items = Num (pos 1) ∷ Num (pos 2) ∷ [] }))) A (Formula (both Plus (Variable B) (Literal (Numbers (pos 1 ∷ pos 2 ∷ [])))))) A ≡ error_in kind.Rank A
+rank_error = refl
+
+-- (1 2+1 2 3)×B, shown: the right argument is evaluated first, and the error has no origin
+right_first : eval (both Times (both Plus (Literal (Numbers (pos 1 ∷ pos 2 ∷ []))) (Literal (Numbers (pos 1 ∷ pos 2 ∷ pos 3 ∷ [])))) (Variable B)) (val []) ≡ Err (fault kind.Value)
+right_first = refl
