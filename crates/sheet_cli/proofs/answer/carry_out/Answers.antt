@@ -1,7 +1,7 @@
 use Rattle.std.proofs.lemmas.Result.{IfOk-weaker}
 use Rattle.sheet_cli.proofs.EditLemmas.{edited}
 use Rattle.sheet_cli.proofs.answer.carry_out.Goals as goal
-use Rattle.sheet_cli.proofs.answer.carry_out.Goals.{in-Text-1, in-Char-1, in-Nums-1, in-Num-1}
+use Rattle.sheet_cli.proofs.answer.carry_out.Goals.{in-Text-1, in-Nums-1, in-Num-1}
 
 pub returns-in-Define-clause-ok : goal.returns-in-Define-clause-ok
 returns-in-Define-clause-ok c = let d = c.define.ensures in IfOk-weaker c.edit_text.result _ _ (λ text e. rw c.in-Define.is (edited c.define.result _ _ _ _ d.ok d.refused d.err e)) c.edit_text.ensures.text
@@ -12,7 +12,6 @@ returns-in-Data-clause-ok c = let d = c.data.ensures in IfOk-weaker c.edit_text-
 pub returns-in-Cell-clause-ok : goal.returns-in-Cell-clause-ok
 returns-in-Cell-clause-ok c = let d = c.set_cell.ensures in elim c.match-literal.branch [
   | in-Text-1 w ↦ IfOk-weaker c.edit_text-in-Cell.result _ _ (λ text e. rw (c.in-Cell.is, ← c.deref.ensures.value) (edited c.set_cell.result _ _ _ _ d.ok d.refused d.err e)) c.edit_text-in-Cell.ensures.text
-  | in-Char-1 w ↦ IfOk-weaker c.edit_text-in-Cell.result _ _ (λ text e. rw (c.in-Cell.is, ← c.deref.ensures.value) (edited c.set_cell.result _ _ _ _ d.ok d.refused d.err e)) c.edit_text-in-Cell.ensures.text
   | in-Nums-1 w ↦ IfOk-weaker c.edit_text-in-Cell.result _ _ (λ text e. rw (c.in-Cell.is, ← c.deref.ensures.value) (edited c.set_cell.result _ _ _ _ d.ok d.refused d.err e)) c.edit_text-in-Cell.ensures.text
   | in-Num-1 w ↦ IfOk-weaker c.edit_text-in-Cell.result _ _ (λ text e. rw (c.in-Cell.is, ← c.deref.ensures.value) (edited c.set_cell.result _ _ _ _ d.ok d.refused d.err e)) c.edit_text-in-Cell.ensures.text
 ]
