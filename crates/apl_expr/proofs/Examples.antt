@@ -33,7 +33,7 @@ in_parentheses = correct _ _ refl
 -- (1)2 is no expression
 side_by_side : (e : Tree) → IsTreeOf (Sign 0x28 ∷ Number (pos 1) ∷ Sign 0x29 ∷ Number (pos 2) ∷ []) e → ⊥
 unfolding run scalar_monad_of scalar_dyad_of
-side_by_side e is = run_none [] e (complete is)
+side_by_side e is = run_none 0 [] e (complete is)
 
 -- A←-B
 definition : IsLine (Named (0x41 ∷ []) ∷ Sign 0x2190 ∷ Sign 0x2d ∷ Named (0x42 ∷ []) ∷ []) (Define (0x41 ∷ []) (Applied1 (monadic.Scalar monad.Negative) (Variable (0x42 ∷ []))))

@@ -1,4 +1,4 @@
-//! The parser: it reads the tokens from left to right, once, and keeps what waits for its right argument.
+//! The parser: it reads the tokens from left to right, once, a function at a time, and keeps what waits for its right argument.
 
 ghost use Rattle.std.specs.Prelude.{◌≡◌, Some, [], ◌∷◌};
 ghost use Rattle.apl_tokens.specs.Lexemes.{lexeme, lexemes};
@@ -9,8 +9,8 @@ ghost use Rattle.std.specs.Prelude.{IfOk};
 
 use crate::expr::{Dyadic, Expr, Literal, Monadic};
 use crate::fault::ParseFault;
+use crate::functions::{Function, function_from};
 use crate::limits::{MOST_HEIGHT, MOST_NODES, MOST_TOKENS};
-use crate::symbols::{dyadic_of, monadic_of};
 use apl_tokens::{Spanned, Token};
 use std::alloc::{AllocError, Global};
 
@@ -59,9 +59,14 @@ pub(crate) fn text_literal(characters: Vec<char>) -> Literal
     }
 }
 
-/// Reads a token where an expression is to begin.
-fn first(alloc: Global, token: &Token, waiting: &mut Vec<Waiting>) -> Result<Reading, ParseFault>
-    ensures { Steps result waiting.new.items (first (lexeme token.now) (stack waiting.old.items)) }
+/// Reads a token, or the function that it begins, where an expression is to begin.
+fn first(
+    alloc: Global,
+    token: &Token,
+    function: Function,
+    waiting: &mut Vec<Waiting>,
+) -> Result<Reading, ParseFault>
+    ensures { Steps result waiting.new.items (first (lexeme token.now) function (stack waiting.old.items)) }
 {
     match token {
         Token::Num(n) => {
@@ -74,7 +79,7 @@ fn first(alloc: Global, token: &Token, waiting: &mut Vec<Waiting>) -> Result<Rea
             Ok(Reading::Whole(Expr::Const(text_literal(characters))))
         }
         Token::Word(name) => Ok(Reading::Whole(Expr::Name(*name))),
-        Token::Mark(sign) => match monadic_of(*sign) {
+        Token::Mark(sign) => match function.alone {
             Some(function) => {
                 waiting.push(Waiting::Argument1(function))?;
                 Ok(Reading::Nothing)
@@ -125,19 +130,20 @@ fn closed(alloc: Global, operand: Expr, waiting: &mut Vec<Waiting>) -> Result<Re
     }
 }
 
-/// Reads a token behind an operand.
+/// Reads a token, or the function that it begins, behind an operand.
 fn next(
     alloc: Global,
     token: &Token,
+    function: Function,
     operand: Expr,
     waiting: &mut Vec<Waiting>,
 ) -> Result<Reading, ParseFault>
-    ensures { Steps result waiting.new.items (next (lexeme token.now) (stack waiting.old.items) (tree_of operand)) }
+    ensures { Steps result waiting.new.items (next (lexeme token.now) function (stack waiting.old.items) (tree_of operand)) }
 {
     let Token::Mark(sign) = token else {
         return Err(ParseFault::Syntax);
     };
-    match dyadic_of(*sign) {
+    match function.between {
         Some(function) => {
             waiting.push(Waiting::Argument2(function, operand))?;
             Ok(Reading::Nothing)
@@ -147,25 +153,26 @@ fn next(
     }
 }
 
-/// Reads a token.
+/// Reads a token, or the function that it begins.
 fn step(
     alloc: Global,
     token: &Token,
+    function: Function,
     reading: Reading,
     waiting: &mut Vec<Waiting>,
 ) -> Result<Reading, ParseFault>
-    ensures { Steps result waiting.new.items (step (lexeme token.now) (stack waiting.old.items) (reading_of reading)) }
+    ensures { Steps result waiting.new.items (step (lexeme token.now) function (stack waiting.old.items) (reading_of reading)) }
 {
     match reading {
-        Reading::Nothing => first(alloc, token, waiting),
+        Reading::Nothing => first(alloc, token, function, waiting),
         Reading::Strand(mut numbers) => match token {
             Token::Num(n) => {
                 numbers.push(*n)?;
                 Ok(Reading::Strand(numbers))
             }
-            _ => next(alloc, token, Expr::Const(literal(numbers)), waiting),
+            _ => next(alloc, token, function, Expr::Const(literal(numbers)), waiting),
         },
-        Reading::Whole(operand) => next(alloc, token, operand, waiting),
+        Reading::Whole(operand) => next(alloc, token, function, operand, waiting),
     }
 }
 
@@ -188,12 +195,15 @@ fn finish(alloc: Global, reading: Reading, waiting: &mut Vec<Waiting>) -> Result
 
 /// The tree of the tokens, of any size.
 fn tree(alloc: Global, tokens: &[Spanned]) -> Result<Expr, ParseFault>
-    ensures { Gives result (run (lexemes tokens.now) (Some (state [] Nothing))) }
+    ensures { Gives result (run 0 (lexemes tokens.now) (Some (state [] Nothing))) }
 {
     let mut waiting = Vec::new(alloc);
     let mut reading = Reading::Nothing;
-    for spanned in tokens {
-        reading = step(alloc, &spanned.token, reading, &mut waiting)?;
+    let mut rest = tokens;
+    while let Some((first, behind)) = rest.split_first() {
+        let function = function_from(&first.token, behind);
+        reading = step(alloc, &first.token, function, reading, &mut waiting)?;
+        rest = &behind[function.more..];
     }
     finish(alloc, reading, &mut waiting)
 }

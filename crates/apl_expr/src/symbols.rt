@@ -1,7 +1,7 @@
 //! What each sign stands for. A later symbol is one line here.
 
 ghost use Rattle.std.specs.Prelude.{◌≡◌};
-ghost use Rattle.apl_expr.specs.Symbols.{scalar_monad_of, scalar_dyad_of, monadic_of, dyadic_of};
+ghost use Rattle.apl_expr.specs.Symbols.{scalar_monad_of, scalar_dyad_of, monadic_of, monadic_along_of, folded_of, folded_along_of, dyadic_of, dyadic_along_of, outer_of, inner_of, stands_alone};
 
 use crate::expr::{Dyadic, Monadic, ScalarDyad, ScalarMonad};
 
@@ -69,4 +69,53 @@ pub(crate) fn dyadic_of(sign: char) -> Option<Dyadic>
         Some(function) => Some(Dyadic::Scalar(function)),
         None => None,
     }
+}
+
+/// The function of one argument that the sign stands for with an axis behind it.
+pub(crate) fn monadic_along_of(_sign: char, _axis: i64) -> Option<Monadic>
+    ensures { result ≡ monadic_along_of _sign _axis }
+{
+    None
+}
+
+/// The function of two arguments that the sign stands for with an axis behind it.
+pub(crate) fn dyadic_along_of(_sign: char, _axis: i64) -> Option<Dyadic>
+    ensures { result ≡ dyadic_along_of _sign _axis }
+{
+    None
+}
+
+/// The reduction or scan by a scalar function that the two signs stand for.
+pub(crate) fn folded_of(_function: char, _folding: char) -> Option<Monadic>
+    ensures { result ≡ folded_of _function _folding }
+{
+    None
+}
+
+/// The same with an axis behind them.
+pub(crate) fn folded_along_of(_function: char, _folding: char, _axis: i64) -> Option<Monadic>
+    ensures { result ≡ folded_along_of _function _folding _axis }
+{
+    None
+}
+
+/// The outer product by the scalar function behind `∘.`.
+pub(crate) fn outer_of(_function: char) -> Option<Dyadic>
+    ensures { result ≡ outer_of _function }
+{
+    None
+}
+
+/// The inner product by the scalar functions before and behind a dot.
+pub(crate) fn inner_of(_first: char, _second: char) -> Option<Dyadic>
+    ensures { result ≡ inner_of _first _second }
+{
+    None
+}
+
+/// Whether the sign belongs to no function.
+pub(crate) fn stands_alone(sign: char) -> bool
+    ensures { result ≡ stands_alone sign }
+{
+    sign == '(' || sign == ')' || sign == '[' || sign == ']' || sign == ';' || sign == '←'
 }

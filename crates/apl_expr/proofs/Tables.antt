@@ -1,0 +1,92 @@
+-- What the laws use of the tables of symbols: the signs that belong to no function are in none of them, and no expression begins
+-- with a sign that goes on with a function.
+use Rattle.std.proofs.Common.{◌≡◌, ℕ, Bool, true, false, cond, Option, Some, None, refl, sym, subst}
+use Rattle.std.specs.Prelude.{ℤ, ◌==◌, ◌||◌}
+use Rattle.std.proofs.lemmas.Bool.{eqb-true}
+use Rattle.apl_expr.specs.declared.expr.Monadic.{Monadic}
+use Rattle.apl_expr.specs.Symbols.{scalar_monad_of, scalar_dyad_of, monadic_of, monadic_along_of, folded_of, folded_along_of, dyadic_of, dyadic_along_of, inner_of, stands_alone}
+
+-- the sign begins no function of one argument
+pub record BeginsNone (c : ℕ) : Type 0 where
+  pub plain : monadic_of c ≡ None
+  pub along : (k : ℤ) → monadic_along_of c k ≡ None
+  pub folded : (d : ℕ) → folded_of c d ≡ None
+  pub folded_along : (d : ℕ) (k : ℤ) → folded_along_of c d k ≡ None
+
+-- nor one of two
+pub record IsNoFunction (c : ℕ) : Type 0 where
+  pub one : BeginsNone c
+  pub plain : dyadic_of c ≡ None
+  pub along : (k : ℤ) → dyadic_along_of c k ≡ None
+  pub inner : (d : ℕ) → inner_of c d ≡ None
+
+left_parenthesis : IsNoFunction 0x28
+unfolding scalar_monad_of scalar_dyad_of
+left_parenthesis = record { one = record { plain = refl; along = λ k. refl; folded = λ d. refl; folded_along = λ d k. refl }; plain = refl; along = λ k. refl; inner = λ d. refl }
+
+right_parenthesis : IsNoFunction 0x29
+unfolding scalar_monad_of scalar_dyad_of
+right_parenthesis = record { one = record { plain = refl; along = λ k. refl; folded = λ d. refl; folded_along = λ d k. refl }; plain = refl; along = λ k. refl; inner = λ d. refl }
+
+pub left_bracket : IsNoFunction 0x5b
+unfolding scalar_monad_of scalar_dyad_of
+left_bracket = record { one = record { plain = refl; along = λ k. refl; folded = λ d. refl; folded_along = λ d k. refl }; plain = refl; along = λ k. refl; inner = λ d. refl }
+
+right_bracket : IsNoFunction 0x5d
+unfolding scalar_monad_of scalar_dyad_of
+right_bracket = record { one = record { plain = refl; along = λ k. refl; folded = λ d. refl; folded_along = λ d k. refl }; plain = refl; along = λ k. refl; inner = λ d. refl }
+
+semicolon : IsNoFunction 0x3b
+unfolding scalar_monad_of scalar_dyad_of
+semicolon = record { one = record { plain = refl; along = λ k. refl; folded = λ d. refl; folded_along = λ d k. refl }; plain = refl; along = λ k. refl; inner = λ d. refl }
+
+arrow : IsNoFunction 0x2190
+unfolding scalar_monad_of scalar_dyad_of
+arrow = record { one = record { plain = refl; along = λ k. refl; folded = λ d. refl; folded_along = λ d k. refl }; plain = refl; along = λ k. refl; inner = λ d. refl }
+
+pub dot : BeginsNone 0x2e
+unfolding scalar_monad_of
+dot = record { plain = refl; along = λ k. refl; folded = λ d. refl; folded_along = λ d k. refl }
+
+pub no_function : (c : ℕ) → stands_alone c ≡ true → IsNoFunction c
+no_function c is = first (c == 0x28) refl is
+  where
+    sixth : (b : Bool) → (c == 0x2190) ≡ b → b ≡ true → IsNoFunction c
+    sixth true e h = subst IsNoFunction (sym (eqb-true c 0x2190 e)) arrow
+    sixth false e h = let no : ⊥ = cc in absurd no
+
+    fifth : (b : Bool) → (c == 0x3b) ≡ b → (b || (c == 0x2190)) ≡ true → IsNoFunction c
+    fifth true e h = subst IsNoFunction (sym (eqb-true c 0x3b e)) semicolon
+    fifth false e h = sixth (c == 0x2190) refl h
+
+    fourth : (b : Bool) → (c == 0x5d) ≡ b → (b || (c == 0x3b) || (c == 0x2190)) ≡ true → IsNoFunction c
+    fourth true e h = subst IsNoFunction (sym (eqb-true c 0x5d e)) right_bracket
+    fourth false e h = fifth (c == 0x3b) refl h
+
+    third : (b : Bool) → (c == 0x5b) ≡ b → (b || (c == 0x5d) || (c == 0x3b) || (c == 0x2190)) ≡ true → IsNoFunction c
+    third true e h = subst IsNoFunction (sym (eqb-true c 0x5b e)) left_bracket
+    third false e h = fourth (c == 0x5d) refl h
+
+    second : (b : Bool) → (c == 0x29) ≡ b → (b || (c == 0x5b) || (c == 0x5d) || (c == 0x3b) || (c == 0x2190)) ≡ true → IsNoFunction c
+    second true e h = subst IsNoFunction (sym (eqb-true c 0x29 e)) right_parenthesis
+    second false e h = third (c == 0x5b) refl h
+
+    first : (b : Bool) → (c == 0x28) ≡ b → (b || (c == 0x29) || (c == 0x5b) || (c == 0x5d) || (c == 0x3b) || (c == 0x2190)) ≡ true → IsNoFunction c
+    first true e h = subst IsNoFunction (sym (eqb-true c 0x28 e)) left_parenthesis
+    first false e h = second (c == 0x29) refl h
+
+-- a folding begins no function, and is no parenthesis, no dot and no bracket
+pub record IsFolding (d : ℕ) : Type 0 where
+  pub begins_none : BeginsNone d
+  pub no_parenthesis : d ≡ 0x28 → ⊥
+  pub no_dot : d ≡ 0x2e → ⊥
+  pub no_bracket : d ≡ 0x5b → ⊥
+
+pub folding : (c d : ℕ) (f : Monadic) → folded_of c d ≡ Some f → IsFolding d
+folding c d f is = let no : ⊥ = cc in absurd no
+
+pub folding_along : (c d : ℕ) (k : ℤ) (f : Monadic) → folded_along_of c d k ≡ Some f → IsFolding d
+folding_along c d k f is = let no : ⊥ = cc in absurd no
+
+pub jot_inner : (d : ℕ) → inner_of 0x2218 d ≡ None
+jot_inner d = refl

@@ -1,0 +1,86 @@
+-- A function at the front of the tokens, whatever signs it is written with: the longest that there is, since no expression
+-- begins with a sign that goes on with a function.
+use Rattle.std.specs.Prelude.{ℕ, ℤ, Option, Some, None, is_some, option_and_then, List, [], ◌∷◌, ◌&&◌, ◌||◌, ◌==◌, if◌then◌else◌}
+use Rattle.apl_tokens.specs.Lexemes.{Lexeme, Number, Characters, Named, Sign}
+use Rattle.apl_expr.specs.declared.expr.Monadic.{Monadic}
+use Rattle.apl_expr.specs.declared.expr.Dyadic.{Dyadic}
+use Rattle.apl_expr.specs.declared.functions.Function.{Function}
+use Rattle.apl_expr.specs.Symbols.{monadic_of, monadic_along_of, folded_of, folded_along_of, dyadic_of, dyadic_along_of, outer_of, inner_of, stands_alone}
+
+abbrev pub function : Option Monadic → Option Dyadic → ℕ → Function
+function f g n = record { alone = f; between = g; more = n }
+
+abbrev bracketed : Lexeme → Lexeme → Lexeme → Option ℤ
+bracketed (Sign c) (Number k) (Sign d) = if (c == 0x5b) && (d == 0x5d) then Some k else None
+bracketed t u v = None
+
+-- the axis at the front: [ num ]
+abbrev pub axis_in : List Lexeme → Option ℤ
+axis_in [] = None
+axis_in (t ∷ []) = None
+axis_in (t ∷ u ∷ []) = None
+axis_in (t ∷ u ∷ v ∷ ts) = bracketed t u v
+
+abbrev dotted : ℕ → Lexeme → Lexeme → Option Dyadic
+dotted c (Sign e) (Sign d) = if e == 0x2e then (if c == 0x2218 then outer_of d else inner_of c d) else None
+dotted c t u = None
+
+-- the product that the sign begins: ∘ . sf, or sf . sf
+abbrev pub product_in : ℕ → List Lexeme → Option Dyadic
+product_in c [] = None
+product_in c (t ∷ []) = None
+product_in c (t ∷ u ∷ ts) = dotted c t u
+
+abbrev folded_by : ℕ → Lexeme → Option Monadic
+folded_by c (Sign d) = folded_of c d
+folded_by c (Number n) = None
+folded_by c (Characters cs) = None
+folded_by c (Named n) = None
+
+abbrev folded_along_by : ℕ → Lexeme → List Lexeme → Option Monadic
+folded_along_by c (Sign d) ts = option_and_then (folded_along_of c d) (axis_in ts)
+folded_along_by c (Number n) ts = None
+folded_along_by c (Characters cs) ts = None
+folded_along_by c (Named n) ts = None
+
+-- the fold that the sign begins, without an axis and with one
+abbrev pub fold_in : ℕ → List Lexeme → Option Monadic
+fold_in c [] = None
+fold_in c (t ∷ ts) = folded_by c t
+
+abbrev pub fold_along_in : ℕ → List Lexeme → Option Monadic
+fold_along_in c [] = None
+fold_along_in c (t ∷ ts) = folded_along_by c t ts
+
+-- the sign with an axis behind it
+abbrev pub monadic_along_in : ℕ → List Lexeme → Option Monadic
+monadic_along_in c ts = option_and_then (monadic_along_of c) (axis_in ts)
+
+abbrev pub dyadic_along_in : ℕ → List Lexeme → Option Dyadic
+dyadic_along_in c ts = option_and_then (dyadic_along_of c) (axis_in ts)
+
+abbrev pub along_or_plain : ℕ → Option Monadic → Option Dyadic → Function
+along_or_plain c f g = if is_some f || is_some g then function f g 3 else function (monadic_of c) (dyadic_of c) 0
+
+abbrev pub fold_or_less : ℕ → Option Monadic → List Lexeme → Function
+fold_or_less c (Some f) ts = function (Some f) None 1
+fold_or_less c None ts = along_or_plain c (monadic_along_in c ts) (dyadic_along_in c ts)
+
+abbrev pub fold_along_or_less : ℕ → Option Monadic → List Lexeme → Function
+fold_along_or_less c (Some f) ts = function (Some f) None 4
+fold_along_or_less c None ts = fold_or_less c (fold_in c ts) ts
+
+abbrev pub product_or_less : ℕ → Option Dyadic → List Lexeme → Function
+product_or_less c (Some g) ts = function None (Some g) 2
+product_or_less c None ts = fold_along_or_less c (fold_along_in c ts) ts
+
+-- the function that the sign begins, with these lexemes behind it
+abbrev pub function_at : ℕ → List Lexeme → Function
+function_at c ts = if stands_alone c then function None None 0 else product_or_less c (product_in c ts) ts
+
+-- the same for any lexeme: what is no sign is no function
+abbrev pub function_from : Lexeme → List Lexeme → Function
+function_from (Sign c) ts = function_at c ts
+function_from (Number n) ts = function None None 0
+function_from (Characters cs) ts = function None None 0
+function_from (Named n) ts = function None None 0

@@ -1,0 +1,183 @@
+//! Functions as they are written: a sign, a sign with an axis, a fold, a product. The longest that there is is taken, since no
+//! expression begins with a sign that goes on with a function.
+
+ghost use Rattle.std.specs.Prelude.{◌≡◌, ◌≤◌, length};
+ghost use Rattle.apl_tokens.specs.Lexemes.{lexeme, lexemes};
+ghost use Rattle.apl_expr.specs.Functions.{axis_in, product_in, fold_in, fold_along_in, monadic_along_in, dyadic_along_in, along_or_plain, function_at, function_from};
+
+use crate::expr::{Dyadic, Monadic};
+use crate::symbols::{
+    dyadic_along_of, dyadic_of, folded_along_of, folded_of, inner_of, monadic_along_of, monadic_of,
+    outer_of, stands_alone,
+};
+use apl_tokens::{Spanned, Token};
+
+/// What a function is before its argument and between its arguments, if it is one there, and how many tokens it has behind
+/// its first.
+#[derive(Clone, Copy)]
+pub(crate) struct Function {
+    pub(crate) alone: Option<Monadic>,
+    pub(crate) between: Option<Dyadic>,
+    pub(crate) more: usize,
+}
+
+/// The axis at the front: `[ num ]`.
+fn axis_in(tokens: &[Spanned]) -> Option<i64>
+    ensures { result ≡ axis_in (lexemes tokens.now) }
+{
+    let (open, rest) = tokens.split_first()?;
+    let (number, rest) = rest.split_first()?;
+    let (close, _) = rest.split_first()?;
+    match &open.token {
+        Token::Mark(left) => match &number.token {
+            Token::Num(axis) => match &close.token {
+                Token::Mark(right) => {
+                    if *left == '[' && *right == ']' {
+                        Some(*axis)
+                    } else {
+                        None
+                    }
+                }
+                _ => None,
+            },
+            _ => None,
+        },
+        _ => None,
+    }
+}
+
+/// The product that the sign begins: `∘ . f`, or `f . g`.
+fn product_in(sign: char, tokens: &[Spanned]) -> Option<Dyadic>
+    ensures { result ≡ product_in sign (lexemes tokens.now) }
+{
+    let (dot, rest) = tokens.split_first()?;
+    let (function, _) = rest.split_first()?;
+    match &dot.token {
+        Token::Mark(mark) => match &function.token {
+            Token::Mark(second) => {
+                if *mark != '.' {
+                    None
+                } else if sign == '∘' {
+                    outer_of(*second)
+                } else {
+                    inner_of(sign, *second)
+                }
+            }
+            _ => None,
+        },
+        _ => None,
+    }
+}
+
+/// The fold that the sign begins.
+fn fold_in(sign: char, tokens: &[Spanned]) -> Option<Monadic>
+    ensures { result ≡ fold_in sign (lexemes tokens.now) }
+{
+    let (folding, _) = tokens.split_first()?;
+    match &folding.token {
+        Token::Mark(mark) => folded_of(sign, *mark),
+        _ => None,
+    }
+}
+
+/// The fold with an axis that the sign begins.
+fn fold_along_in(sign: char, tokens: &[Spanned]) -> Option<Monadic>
+    ensures { result ≡ fold_along_in sign (lexemes tokens.now) }
+{
+    let (folding, rest) = tokens.split_first()?;
+    match &folding.token {
+        Token::Mark(mark) => {
+            let axis = axis_in(rest)?;
+            folded_along_of(sign, *mark, axis)
+        }
+        _ => None,
+    }
+}
+
+/// The function before its argument that the sign is with an axis behind it.
+fn monadic_along_in(sign: char, tokens: &[Spanned]) -> Option<Monadic>
+    ensures { result ≡ monadic_along_in sign (lexemes tokens.now) }
+{
+    let axis = axis_in(tokens)?;
+    monadic_along_of(sign, axis)
+}
+
+/// The function between its arguments that the sign is with an axis behind it.
+fn dyadic_along_in(sign: char, tokens: &[Spanned]) -> Option<Dyadic>
+    ensures { result ≡ dyadic_along_in sign (lexemes tokens.now) }
+{
+    let axis = axis_in(tokens)?;
+    dyadic_along_of(sign, axis)
+}
+
+/// The function that the sign begins, with these tokens behind it.
+fn function_at(sign: char, tokens: &[Spanned]) -> Function
+    ensures { result ≡ function_at sign (lexemes tokens.now) }
+{
+    if stands_alone(sign) {
+        return Function {
+            alone: None,
+            between: None,
+            more: 0,
+        };
+    }
+    if let Some(product) = product_in(sign, tokens) {
+        return Function {
+            alone: None,
+            between: Some(product),
+            more: 2,
+        };
+    }
+    if let Some(fold) = fold_along_in(sign, tokens) {
+        return Function {
+            alone: Some(fold),
+            between: None,
+            more: 4,
+        };
+    }
+    if let Some(fold) = fold_in(sign, tokens) {
+        return Function {
+            alone: Some(fold),
+            between: None,
+            more: 1,
+        };
+    }
+    with_axis_or_alone(sign, tokens)
+}
+
+/// The function that the sign is with an axis behind it, else the one that it is alone.
+fn with_axis_or_alone(sign: char, tokens: &[Spanned]) -> Function
+    ensures { result ≡ along_or_plain sign (monadic_along_in sign (lexemes tokens.now)) (dyadic_along_in sign (lexemes tokens.now)) }
+{
+    let alone = monadic_along_in(sign, tokens);
+    let between = dyadic_along_in(sign, tokens);
+    if alone.is_some() || between.is_some() {
+        Function {
+            alone,
+            between,
+            more: 3,
+        }
+    } else {
+        Function {
+            alone: monadic_of(sign),
+            between: dyadic_of(sign),
+            more: 0,
+        }
+    }
+}
+
+/// The function at the front of the tokens; a token that is no sign is none.
+#[tactic(auto, using(crate::proofs::FunctionsRead::more_short))]
+pub(crate) fn function_from(token: &Token, tokens: &[Spanned]) -> Function
+    ensures is { result ≡ function_from (lexeme token.now) (lexemes tokens.now) }
+    ensures short { result.more ≤ length tokens.now }
+{
+    match token {
+        Token::Mark(sign) => function_at(*sign, tokens),
+        _ => Function {
+            alone: None,
+            between: None,
+            more: 0,
+        },
+    }
+}
