@@ -27,7 +27,7 @@ places_of_many xs ys h = let many = not_one (length xs) h in rw many refl
 
 pub places_of_equal : (xs ys : List ℤ) → length xs ≡ length ys → places_of xs ys ≡ length xs
 places_of_equal xs ys h =
-    elim (cases_Bool (length xs == 1)) [ | inl one ↦ rw one (sym h) | inr many ↦ rw many refl ]
+    elim (cases_Bool (length xs == 1)) [ inl one ↦ rw one (sym h) | inr many ↦ rw many refl ]
 
 module _ (f : ℤ → ℤ → Result ℤ Kind) (xs ys : List ℤ) where
   pub length-results : length (results_by f xs ys) ≡ places_of xs ys

@@ -81,5 +81,5 @@ two_or_more (negsuc (suc n)) none one minus_one = omega arith
 pub far_exponent : (a b : ℤ) → (of_z w64 a ≡ 0 → ⊥) → (of_z w64 a ≡ 1 → ⊥) → (of_z w64 a ≡ 18446744073709551615 → ⊥)
     → int_lt b (pos 0) ≡ false → (FitsUnsignedBits 32 b → ⊥) → power a b ≡ Err Limit
 far_exponent a (pos n) none one minus_one positive far =
-    power_too_great a n (two_or_more a none one minus_one) (elim (cases_lt n 64) [ | inl near ↦ absurd (far (omega arith)) | inr is ↦ is ])
+    power_too_great a n (two_or_more a none one minus_one) (elim (cases_lt n 64) [ inl near ↦ absurd (far (omega arith)) | inr is ↦ is ])
 far_exponent a (negsuc n) none one minus_one positive far = absurd (true≢false positive)

@@ -64,7 +64,14 @@ pub(crate) fn on_numbers(
         Scalar1::Conjugate | Scalar1::Ceiling | Scalar1::Floor => on_each(alloc, &Same, numbers),
         Scalar1::Negative => on_each(alloc, &Negative, numbers),
         Scalar1::Direction => on_each(alloc, &Direction, numbers),
-        Scalar1::Reciprocal => on_each(alloc, &WithLeft { step: Divide, left: 1 }, numbers),
+        Scalar1::Reciprocal => on_each(
+            alloc,
+            &WithLeft {
+                step: Divide,
+                left: 1,
+            },
+            numbers,
+        ),
         Scalar1::Magnitude => on_each(alloc, &Magnitude, numbers),
         Scalar1::Not => on_each(alloc, &Not, numbers),
     }

@@ -291,8 +291,7 @@ impl TwoNumbers for And {
     ghost gives = { of_two two.And };
 
     fn at(&self, a: i64, b: i64) -> Result<i64, Kind> {
-        let (p, q) = (as_truth(a)?, as_truth(b)?);
-        Ok(truth(p && q))
+        Ok(truth(as_truth(a)? & as_truth(b)?))
     }
 }
 
@@ -304,8 +303,7 @@ impl TwoNumbers for Or {
     ghost gives = { of_two two.Or };
 
     fn at(&self, a: i64, b: i64) -> Result<i64, Kind> {
-        let (p, q) = (as_truth(a)?, as_truth(b)?);
-        Ok(truth(p || q))
+        Ok(truth(as_truth(a)? | as_truth(b)?))
     }
 }
 
@@ -317,8 +315,7 @@ impl TwoNumbers for Nand {
     ghost gives = { of_two two.Nand };
 
     fn at(&self, a: i64, b: i64) -> Result<i64, Kind> {
-        let (p, q) = (as_truth(a)?, as_truth(b)?);
-        Ok(truth(!(p && q)))
+        Ok(truth(!(as_truth(a)? & as_truth(b)?)))
     }
 }
 
@@ -330,7 +327,6 @@ impl TwoNumbers for Nor {
     ghost gives = { of_two two.Nor };
 
     fn at(&self, a: i64, b: i64) -> Result<i64, Kind> {
-        let (p, q) = (as_truth(a)?, as_truth(b)?);
-        Ok(truth(!(p || q)))
+        Ok(truth(!(as_truth(a)? | as_truth(b)?)))
     }
 }
