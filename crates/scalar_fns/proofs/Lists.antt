@@ -36,6 +36,12 @@ module _ (f : ℤ → ℤ → Result ℤ Kind) (xs ys : List ℤ) where
   pub get_or-results : (k : ℕ) (d : Result ℤ Kind) → k < places_of xs ys → get_or (results_by f xs ys) k d ≡ f (number_at xs k) (number_at ys k)
   get_or-results k d h = get_or-map-range_with_len (λ j. f (number_at xs j) (number_at ys j)) 0 (places_of xs ys) k k d h (omega arith)
 
+  -- where both are of one length, each place has the result of the numbers there
+  pub own_result : (k : ℕ) (d : Result ℤ Kind) → length xs ≡ length ys → k < length xs → get_or (results_by f xs ys) k d ≡ f (get_or xs k (pos 0)) (get_or ys k (pos 0))
+  own_result k d equal h =
+      get_or-results k d (omega (arith, places_of_equal xs ys equal))
+      ∙ (rw (number_at_own xs k h, number_at_own ys k (omega arith)) refl)
+
   pub results_of_one_left : length xs ≡ 1 → results_by f xs ys ≡ map (f (get_or xs 0 (pos 0))) ys
   results_of_one_left h =
       let d : Result ℤ Kind = Ok (pos 0) in
