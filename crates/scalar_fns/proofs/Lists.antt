@@ -1,5 +1,5 @@
 -- Results at each place of two lists.
-use Rattle.std.proofs.Common.{◌≡◌, ℕ, ◌<◌, ◌==◌, Bool, true, false, eqb, List, length, get_or, map, refl, ap, sym, ◌∙◌, inl, inr, arith, ℤ, pos, Result, Ok, Err}
+use Rattle.std.proofs.Common.{◌≡◌, ℕ, ◌<◌, ◌==◌, false, List, length, get_or, map, refl, ap, sym, ◌∙◌, inl, inr, arith, ℤ, pos, Result, Ok}
 use Rattle.std.proofs.lemmas.Bool.{eq-eqb, eqb-true, false_from_ne_true, cases_Bool}
 use Rattle.std.proofs.lemmas.List.{length-map, ext_get_or, get_or-map}
 use Rattle.std.proofs.lemmas.List.FromFn.{length-map-range_with_len, get_or-map-range_with_len}

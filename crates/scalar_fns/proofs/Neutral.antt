@@ -1,14 +1,13 @@
 -- Where the identity of a function leaves a number, or a truth value, as it is.
-use Rattle.std.proofs.Common.{◌≡◌, ℕ, zero, suc, ◌+◌, ◌*◌, ◌/◌, ◌%◌, ◌^◌, ◌<◌, refl, ap, sym, ◌∙◌, inl, inr, arith, Bool, true, false, cond, ltb, Ok, ℤ, pos, negsuc, neg_ℤ, ◌+ℤ◌, ◌-ℤ◌, ◌*ℤ◌, SFits, w64, int_lt}
-use Rattle.std.specs.Int.{int_pow, int_max, int_min}
+use Rattle.std.proofs.Common.{◌≡◌, ℕ, suc, ◌*◌, ◌/◌, ◌^◌, refl, ap, ◌∙◌, arith, Bool, true, false, ltb, Ok, ℤ, pos, negsuc, neg_ℤ, ◌+ℤ◌, ◌-ℤ◌, ◌*ℤ◌, SFits, w64}
 use Rattle.std.proofs.Math.Nat.{div-one, pow-zero}
 use Rattle.std.proofs.lemmas.Grind.{pow_more}
 use Rattle.std.proofs.lemmas.Int.{ints, clamps}
 use Rattle.std.proofs.lemmas.Bool.{lt-ltb}
 use Rattle.scalar_fns.specs.declared.function.Scalar2.TheVariants.{Plus, Minus, Times, Divide, Power, Residue, Maximum, Minimum, Less, LessOrEqual, Equal, GreaterOrEqual, Greater, NotEqual, And, Or}
-use Rattle.scalar_fns.specs.Numbers.{held, of_two, truth, residue}
+use Rattle.scalar_fns.specs.Numbers.{held, of_two, truth}
 use Rattle.scalar_fns.specs.Identities.{least, greatest}
-use Rattle.scalar_fns.proofs.Residues.{quotient_whole, both_positive, negative_dividend_whole}
+use Rattle.scalar_fns.proofs.Residues.{quotient_whole}
 
 held_fits : (z : ℤ) → SFits w64 z → held z ≡ Ok z
 held_fits (pos n) f = let inside : ltb n (2 ^ 63) ≡ true = lt-ltb n (2 ^ 63) (let h = f.sfits in omega arith) in rw inside refl
