@@ -1,10 +1,10 @@
 -- Powers of 0, 1 and -1, and powers that are too great.
-use Rattle.std.proofs.Common.{◌≡◌, ℕ, zero, suc, ◌+◌, ◌*◌, ◌%◌, ◌^◌, ◌<◌, ◌≤◌, ◌==◌, refl, ap, sym, ◌∙◌, inl, inr, arith, Bool, true, false, cond, eqb, Ok, Err, ℤ, pos, negsuc, neg_ℤ, unsigned_abs, int_lt, int_rem, of_z, w64}
+use Rattle.std.proofs.Common.{◌≡◌, ℕ, zero, suc, ◌+◌, ◌*◌, ◌%◌, ◌^◌, ◌<◌, ◌≤◌, ◌==◌, refl, ap, sym, ◌∙◌, inl, inr, arith, true, false, Ok, Err, ℤ, pos, negsuc, neg_ℤ, unsigned_abs, int_lt, int_rem, of_z, w64}
 use Rattle.std.specs.Int.{int_pow, FitsUnsignedBits}
-use Rattle.std.proofs.Math.Nat.{pow-le-pow_left, pow-le-pow_right, le_trans}
+use Rattle.std.proofs.Math.Nat.{pow-le-pow_left, pow-le-pow_right}
 use Rattle.std.proofs.Math.Dec.{eqb-suc-zero}
 use Rattle.std.proofs.lemmas.Bool.{le-ltb, cases_Bool, eq-eqb, eqb-true, cases_lt, false_from_ne_true, true≢false}
-use Rattle.arrays_core.specs.declared.item.Kind.TheVariants.{Domain, Limit}
+use Rattle.arrays_core.specs.declared.item.Kind.TheVariants.{Limit}
 use Rattle.scalar_fns.specs.Numbers.{held, power, truth}
 use Rattle.std.proofs.lemmas.Grind.{pow_more}
 
@@ -81,5 +81,5 @@ two_or_more (negsuc (suc n)) none one minus_one = omega arith
 pub far_exponent : (a b : ℤ) → (of_z w64 a ≡ 0 → ⊥) → (of_z w64 a ≡ 1 → ⊥) → (of_z w64 a ≡ 18446744073709551615 → ⊥)
     → int_lt b (pos 0) ≡ false → (FitsUnsignedBits 32 b → ⊥) → power a b ≡ Err Limit
 far_exponent a (pos n) none one minus_one positive far =
-    power_too_great a n (two_or_more a none one minus_one) (elim (cases_lt n 64) [ | inl near ↦ absurd (far (omega arith)) | inr is ↦ is ])
+    power_too_great a n (two_or_more a none one minus_one) (elim (cases_lt n 64) [ inl near ↦ absurd (far (omega arith)) | inr is ↦ is ])
 far_exponent a (negsuc n) none one minus_one positive far = absurd (true≢false positive)

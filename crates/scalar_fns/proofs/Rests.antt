@@ -1,8 +1,9 @@
 -- A residue is what is left of one number after a whole number of times another.
-use Rattle.std.proofs.Common.{◌≡◌, ℕ, zero, suc, ◌+◌, ◌*◌, ◌/◌, ◌%◌, ◌<◌, ◌≤◌, refl, ap, sym, ◌∙◌, inl, inr, arith, Bool, false, of_z, w64, ℤ, pos, negsuc, neg_ℤ, ◌+ℤ◌, ◌-ℤ◌, ◌*ℤ◌}
+use Rattle.std.proofs.Common.{◌≡◌, ℕ, zero, suc, ◌%◌, ◌<◌, sym, subst, inl, inr, arith, false, ℤ, pos, negsuc, neg_ℤ, ◌+ℤ◌, ◌-ℤ◌, ◌*ℤ◌}
 use Rattle.std.specs.Ordering.{int_eq}
 use Rattle.std.proofs.lemmas.Int.{ints}
-use Rattle.std.proofs.lemmas.Bool.{cases_lt, true≢false}
+use Rattle.std.proofs.lemmas.Bool.{cases_lt, true≢false, false_from_ne_true}
+use Rattle.std.proofs.lemmas.Bool.Decides.{Decides-int_eq}
 use Rattle.std.proofs.lemmas.Nat.{mod_below}
 use Rattle.scalar_fns.specs.Numbers.{residue, floor_div}
 use Rattle.scalar_fns.specs.Laws.{IsFromZeroBelow, IsRest}
@@ -36,3 +37,8 @@ between (negsuc a) (pos b) some =
 
 pub residue_is_rest : (a b : ℤ) → int_eq a (pos 0) ≡ false → IsRest a b (residue a b)
 residue_is_rest a b some = rw some (record { times = floor_div b a; parts = parts_of b (a *ℤ floor_div b a); between = between a b some })
+
+pub rest_by : (a b r : ℤ) → r ≡ residue a b → (a ≡ pos 0 → ⊥) → IsRest a b r
+rest_by a b r is some =
+    let tested : int_eq a (pos 0) ≡ false = false_from_ne_true _ (λ t. some ((Decides-int_eq a (pos 0)).0 t)) in
+    subst (λ z. IsRest a b z) (sym is) (residue_is_rest a b tested)

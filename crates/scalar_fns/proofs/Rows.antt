@@ -1,5 +1,5 @@
 -- Worked rows of the definitions, computed.
-use Rattle.std.proofs.Common.{◌≡◌, refl, Ok, Err, ℤ, pos, negsuc}
+use Rattle.std.proofs.Common.{◌≡◌, refl, Ok, Err, pos, negsuc}
 use Rattle.arrays_core.specs.declared.item.Item.TheVariants.{Num, Char}
 use Rattle.arrays_core.specs.declared.item.Kind.TheVariants.{Domain, Limit}
 use Rattle.scalar_fns.specs.declared.function.Scalar1.TheVariants.{Negative, Reciprocal, Magnitude, Not}
