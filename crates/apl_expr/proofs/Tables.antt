@@ -4,7 +4,7 @@ use Rattle.std.proofs.Common.{◌≡◌, ℕ, Bool, true, false, cond, Option, S
 use Rattle.std.specs.Prelude.{ℤ, ◌==◌, ◌||◌}
 use Rattle.std.proofs.lemmas.Bool.{eqb-true}
 use Rattle.apl_expr.specs.declared.expr.Monadic.{Monadic}
-use Rattle.apl_expr.specs.Symbols.{scalar_monad_of, scalar_dyad_of, monadic_of, monadic_along_of, folded_of, folded_along_of, dyadic_of, dyadic_along_of, inner_of, stands_alone}
+use Rattle.apl_expr.specs.Symbols.{scalar_monad_of, scalar_dyad_of, monad_of, dyad_of, monadic_of, monadic_along_of, folded_of, folded_along_of, dyadic_of, dyadic_along_of, inner_of, stands_alone}
 
 -- the sign begins no function of one argument
 pub record BeginsNone (c : ℕ) : Type 0 where
@@ -21,31 +21,31 @@ pub record IsNoFunction (c : ℕ) : Type 0 where
   pub inner : (d : ℕ) → inner_of c d ≡ None
 
 left_parenthesis : IsNoFunction 0x28
-unfolding scalar_monad_of scalar_dyad_of
+unfolding scalar_monad_of scalar_dyad_of monad_of dyad_of monadic_along_of dyadic_along_of
 left_parenthesis = record { one = record { plain = refl; along = λ k. refl; folded = λ d. refl; folded_along = λ d k. refl }; plain = refl; along = λ k. refl; inner = λ d. refl }
 
 right_parenthesis : IsNoFunction 0x29
-unfolding scalar_monad_of scalar_dyad_of
+unfolding scalar_monad_of scalar_dyad_of monad_of dyad_of monadic_along_of dyadic_along_of
 right_parenthesis = record { one = record { plain = refl; along = λ k. refl; folded = λ d. refl; folded_along = λ d k. refl }; plain = refl; along = λ k. refl; inner = λ d. refl }
 
 pub left_bracket : IsNoFunction 0x5b
-unfolding scalar_monad_of scalar_dyad_of
+unfolding scalar_monad_of scalar_dyad_of monad_of dyad_of monadic_along_of dyadic_along_of
 left_bracket = record { one = record { plain = refl; along = λ k. refl; folded = λ d. refl; folded_along = λ d k. refl }; plain = refl; along = λ k. refl; inner = λ d. refl }
 
 right_bracket : IsNoFunction 0x5d
-unfolding scalar_monad_of scalar_dyad_of
+unfolding scalar_monad_of scalar_dyad_of monad_of dyad_of monadic_along_of dyadic_along_of
 right_bracket = record { one = record { plain = refl; along = λ k. refl; folded = λ d. refl; folded_along = λ d k. refl }; plain = refl; along = λ k. refl; inner = λ d. refl }
 
 semicolon : IsNoFunction 0x3b
-unfolding scalar_monad_of scalar_dyad_of
+unfolding scalar_monad_of scalar_dyad_of monad_of dyad_of monadic_along_of dyadic_along_of
 semicolon = record { one = record { plain = refl; along = λ k. refl; folded = λ d. refl; folded_along = λ d k. refl }; plain = refl; along = λ k. refl; inner = λ d. refl }
 
 arrow : IsNoFunction 0x2190
-unfolding scalar_monad_of scalar_dyad_of
+unfolding scalar_monad_of scalar_dyad_of monad_of dyad_of monadic_along_of dyadic_along_of
 arrow = record { one = record { plain = refl; along = λ k. refl; folded = λ d. refl; folded_along = λ d k. refl }; plain = refl; along = λ k. refl; inner = λ d. refl }
 
 pub dot : BeginsNone 0x2e
-unfolding scalar_monad_of
+unfolding scalar_monad_of monad_of monadic_along_of
 dot = record { plain = refl; along = λ k. refl; folded = λ d. refl; folded_along = λ d k. refl }
 
 pub no_function : (c : ℕ) → stands_alone c ≡ true → IsNoFunction c

@@ -64,18 +64,44 @@ pub enum ScalarDyad {
     Nor,
 }
 
-/// The functions of one argument.
+/// The axis that a function works along: the first or the last where none is written, else the one that is, counted from 1.
+#[derive(Clone, Copy, Debug, PartialEq, Eq)]
+pub enum Along {
+    First,
+    Last,
+    Axis(i64),
+}
+
+/// The functions of one argument, by the names of ISO/IEC 13751.
 #[derive(Clone, Copy, Debug, PartialEq, Eq)]
 pub enum Monadic {
     /// A scalar function.
     Scalar(ScalarMonad),
+    /// `,B`, the items of B as a vector.
+    Ravel,
+    /// `⌽B` and `⊖B`, the places of an axis from the last to the first.
+    Reverse(Along),
+    /// `⍉B`, the axes in reverse order.
+    Transpose,
 }
 
-/// The functions of two arguments.
+/// The functions of two arguments, by the names of ISO/IEC 13751.
 #[derive(Clone, Copy, Debug, PartialEq, Eq)]
 pub enum Dyadic {
     /// A scalar function.
     Scalar(ScalarDyad),
+    /// `A⍴B`, an array of shape A of the items of B.
+    Reshape,
+    /// `A,B` and `A⍪B`, A and B joined along an axis.
+    Catenate(Along),
+    /// `A↑B`, so many places of each axis.
+    Take,
+    /// `A↓B`, so many places of each axis left out.
+    Drop,
+    /// `A⌽B` and `A⊖B`, each line of an axis turned by so many places.
+    Rotate(Along),
+    /// `A⍉B`, the axes of B where A says.
+    Transpose,
 }
 
 /// A literal of ISO 8485: numbers that stand side by side, or a text.

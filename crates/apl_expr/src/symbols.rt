@@ -1,9 +1,9 @@
 //! What each sign stands for. A later symbol is one line here.
 
 ghost use Rattle.std.specs.Prelude.{◌≡◌};
-ghost use Rattle.apl_expr.specs.Symbols.{scalar_monad_of, scalar_dyad_of, monadic_of, monadic_along_of, folded_of, folded_along_of, dyadic_of, dyadic_along_of, outer_of, inner_of, stands_alone};
+ghost use Rattle.apl_expr.specs.Symbols.{scalar_monad_of, scalar_dyad_of, monad_of, dyad_of, monadic_of, monadic_along_of, folded_of, folded_along_of, dyadic_of, dyadic_along_of, outer_of, inner_of, stands_alone};
 
-use crate::expr::{Dyadic, Monadic, ScalarDyad, ScalarMonad};
+use crate::expr::{Along, Dyadic, Monadic, ScalarDyad, ScalarMonad};
 
 /// The scalar function of one argument that the sign stands for.
 #[tactic(auto, unfolding(crate::specs::Symbols::scalar_monad_of))]
@@ -51,13 +51,45 @@ fn scalar_dyad_of(sign: char) -> Option<ScalarDyad>
     }
 }
 
+/// The function of one argument that the sign stands for, if it is no scalar one.
+#[tactic(auto, unfolding(crate::specs::Symbols::monad_of))]
+fn monad_of(sign: char) -> Option<Monadic>
+    ensures { result ≡ monad_of sign }
+{
+    match sign {
+        ',' => Some(Monadic::Ravel),
+        '⌽' => Some(Monadic::Reverse(Along::Last)),
+        '⊖' => Some(Monadic::Reverse(Along::First)),
+        '⍉' => Some(Monadic::Transpose),
+        _ => None,
+    }
+}
+
+/// The function of two arguments that the sign stands for, if it is no scalar one.
+#[tactic(auto, unfolding(crate::specs::Symbols::dyad_of))]
+fn dyad_of(sign: char) -> Option<Dyadic>
+    ensures { result ≡ dyad_of sign }
+{
+    match sign {
+        '⍴' => Some(Dyadic::Reshape),
+        ',' => Some(Dyadic::Catenate(Along::Last)),
+        '⍪' => Some(Dyadic::Catenate(Along::First)),
+        '↑' => Some(Dyadic::Take),
+        '↓' => Some(Dyadic::Drop),
+        '⌽' => Some(Dyadic::Rotate(Along::Last)),
+        '⊖' => Some(Dyadic::Rotate(Along::First)),
+        '⍉' => Some(Dyadic::Transpose),
+        _ => None,
+    }
+}
+
 /// The function of one argument that the sign stands for.
 pub(crate) fn monadic_of(sign: char) -> Option<Monadic>
     ensures { result ≡ monadic_of sign }
 {
     match scalar_monad_of(sign) {
         Some(function) => Some(Monadic::Scalar(function)),
-        None => None,
+        None => monad_of(sign),
     }
 }
 
@@ -67,22 +99,31 @@ pub(crate) fn dyadic_of(sign: char) -> Option<Dyadic>
 {
     match scalar_dyad_of(sign) {
         Some(function) => Some(Dyadic::Scalar(function)),
-        None => None,
+        None => dyad_of(sign),
     }
 }
 
 /// The function of one argument that the sign stands for with an axis behind it.
-pub(crate) fn monadic_along_of(_sign: char, _axis: i64) -> Option<Monadic>
-    ensures { result ≡ monadic_along_of _sign _axis }
+#[tactic(auto, unfolding(crate::specs::Symbols::monadic_along_of))]
+pub(crate) fn monadic_along_of(sign: char, axis: i64) -> Option<Monadic>
+    ensures { result ≡ monadic_along_of sign axis }
 {
-    None
+    match sign {
+        '⌽' | '⊖' => Some(Monadic::Reverse(Along::Axis(axis))),
+        _ => None,
+    }
 }
 
 /// The function of two arguments that the sign stands for with an axis behind it.
-pub(crate) fn dyadic_along_of(_sign: char, _axis: i64) -> Option<Dyadic>
-    ensures { result ≡ dyadic_along_of _sign _axis }
+#[tactic(auto, unfolding(crate::specs::Symbols::dyadic_along_of))]
+pub(crate) fn dyadic_along_of(sign: char, axis: i64) -> Option<Dyadic>
+    ensures { result ≡ dyadic_along_of sign axis }
 {
-    None
+    match sign {
+        ',' | '⍪' => Some(Dyadic::Catenate(Along::Axis(axis))),
+        '⌽' | '⊖' => Some(Dyadic::Rotate(Along::Axis(axis))),
+        _ => None,
+    }
 }
 
 /// The reduction or scan by a scalar function that the two signs stand for.
