@@ -18,9 +18,16 @@ results_of_one f xs = map (of_one f) xs
 abbrev pub number_at : List ℤ → ℕ → ℤ
 number_at xs k = get_or xs (if length xs == 1 then 0 else k) (pos 0)
 
--- the results of two lists at so many places
-abbrev pub results_of_two : Scalar2 → List ℤ → List ℤ → ℕ → List (Result ℤ Kind)
-results_of_two f xs ys places = map (λ k. of_two f (number_at xs k) (number_at ys k)) (range_with_len 0 places)
+-- how many places two lists have, where one of one number stands for as many as the other has
+abbrev pub places_of : List ℤ → List ℤ → ℕ
+places_of xs ys = if length xs == 1 then length ys else length xs
+
+-- the results of a function of two numbers at each place of two lists
+abbrev pub results_by : (ℤ → ℤ → Result ℤ Kind) → List ℤ → List ℤ → List (Result ℤ Kind)
+results_by function xs ys = map (λ k. function (number_at xs k) (number_at ys k)) (range_with_len 0 (places_of xs ys))
+
+abbrev pub results_of_two : Scalar2 → List ℤ → List ℤ → List (Result ℤ Kind)
+results_of_two f xs ys = results_by (of_two f) xs ys
 
 -- a call answers what was asked for, or want of memory
 abbrev pub IsListAnswerTo : {G : Type 0} → Result (List ℤ) Kind → Result (Vec ℤ G) ApplyFault → Type 0

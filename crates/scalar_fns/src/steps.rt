@@ -1,0 +1,336 @@
+//! Functions of numbers as types, so that a loop over many numbers is made for each function.
+
+ghost use Rattle.std.specs.Prelude.{◌≡◌, ℤ, pos, neg_ℤ, unsigned_abs, Result, Ok};
+ghost use Rattle.arrays_core.specs.declared.item.Kind.{Kind};
+ghost use Rattle.scalar_fns.specs.declared.function.Scalar1.TheVariants as one;
+ghost use Rattle.scalar_fns.specs.declared.function.Scalar2.TheVariants as two;
+ghost use Rattle.scalar_fns.specs.Numbers.{of_one, of_two};
+
+use crate::numbers::{as_truth, in_range, power, quotient, residue, truth};
+use arrays_core::Kind;
+
+/// A function of one number.
+pub(crate) trait OneNumber {
+    ghost gives: { Self → ℤ → Result ℤ Kind };
+
+    fn at(&self, b: i64) -> Result<i64, Kind>
+        ensures { result ≡ gives self.now b };
+}
+
+/// A function of two numbers.
+pub(crate) trait TwoNumbers {
+    ghost gives: { ℤ → ℤ → Result ℤ Kind };
+
+    fn at(&self, a: i64, b: i64) -> Result<i64, Kind>
+        ensures { result ≡ gives a b };
+}
+
+/// A function of two numbers with its left one given.
+#[derive(Clone, Copy)]
+pub(crate) struct WithLeft<S> {
+    pub(crate) step: S,
+    pub(crate) left: i64,
+}
+
+impl<S: TwoNumbers> OneNumber for WithLeft<S> {
+    ghost gives = { λ s b. S.gives s.left b };
+
+    fn at(&self, b: i64) -> Result<i64, Kind> {
+        self.step.at(self.left, b)
+    }
+}
+
+/// A function of two numbers with its right one given.
+#[derive(Clone, Copy)]
+pub(crate) struct WithRight<S> {
+    pub(crate) step: S,
+    pub(crate) right: i64,
+}
+
+impl<S: TwoNumbers> OneNumber for WithRight<S> {
+    ghost gives = { λ s a. S.gives a s.right };
+
+    fn at(&self, a: i64) -> Result<i64, Kind> {
+        self.step.at(a, self.right)
+    }
+}
+
+/// The number itself.
+#[derive(Clone, Copy)]
+pub(crate) struct Same;
+
+impl OneNumber for Same {
+    ghost gives = { λ s b. of_one one.Conjugate b };
+
+    fn at(&self, b: i64) -> Result<i64, Kind> {
+        Ok(b)
+    }
+}
+
+/// The number of the other sign.
+#[derive(Clone, Copy)]
+pub(crate) struct Negative;
+
+impl OneNumber for Negative {
+    ghost gives = { λ s b. of_one one.Negative b };
+
+    fn at(&self, b: i64) -> Result<i64, Kind> {
+        in_range(b.checked_neg())
+    }
+}
+
+/// ¯1, 0 or 1.
+#[derive(Clone, Copy)]
+pub(crate) struct Direction;
+
+impl OneNumber for Direction {
+    ghost gives = { λ s b. of_one one.Direction b };
+
+    fn at(&self, b: i64) -> Result<i64, Kind> {
+        Ok(b.signum())
+    }
+}
+
+/// The number without its sign.
+#[derive(Clone, Copy)]
+pub(crate) struct Magnitude;
+
+impl OneNumber for Magnitude {
+    ghost gives = { λ s b. of_one one.Magnitude b };
+
+    fn at(&self, b: i64) -> Result<i64, Kind> {
+        in_range(b.checked_abs())
+    }
+}
+
+/// 1 for 0 and 0 for 1.
+#[derive(Clone, Copy)]
+pub(crate) struct Not;
+
+impl OneNumber for Not {
+    ghost gives = { λ s b. of_one one.Not b };
+
+    fn at(&self, b: i64) -> Result<i64, Kind> {
+        Ok(truth(!as_truth(b)?))
+    }
+}
+
+/// The sum.
+#[derive(Clone, Copy)]
+pub(crate) struct Plus;
+
+impl TwoNumbers for Plus {
+    ghost gives = { of_two two.Plus };
+
+    fn at(&self, a: i64, b: i64) -> Result<i64, Kind> {
+        in_range(a.checked_add(b))
+    }
+}
+
+/// The difference.
+#[derive(Clone, Copy)]
+pub(crate) struct Minus;
+
+impl TwoNumbers for Minus {
+    ghost gives = { of_two two.Minus };
+
+    fn at(&self, a: i64, b: i64) -> Result<i64, Kind> {
+        in_range(a.checked_sub(b))
+    }
+}
+
+/// The product.
+#[derive(Clone, Copy)]
+pub(crate) struct Times;
+
+impl TwoNumbers for Times {
+    ghost gives = { of_two two.Times };
+
+    fn at(&self, a: i64, b: i64) -> Result<i64, Kind> {
+        in_range(a.checked_mul(b))
+    }
+}
+
+/// The quotient.
+#[derive(Clone, Copy)]
+pub(crate) struct Divide;
+
+impl TwoNumbers for Divide {
+    ghost gives = { of_two two.Divide };
+
+    fn at(&self, a: i64, b: i64) -> Result<i64, Kind> {
+        quotient(a, b)
+    }
+}
+
+/// The power.
+#[derive(Clone, Copy)]
+pub(crate) struct Power;
+
+impl TwoNumbers for Power {
+    ghost gives = { of_two two.Power };
+
+    fn at(&self, a: i64, b: i64) -> Result<i64, Kind> {
+        power(a, b)
+    }
+}
+
+/// The residue.
+#[derive(Clone, Copy)]
+pub(crate) struct Residue;
+
+impl TwoNumbers for Residue {
+    ghost gives = { of_two two.Residue };
+
+    fn at(&self, a: i64, b: i64) -> Result<i64, Kind> {
+        Ok(residue(a, b))
+    }
+}
+
+/// The greater.
+#[derive(Clone, Copy)]
+pub(crate) struct Maximum;
+
+impl TwoNumbers for Maximum {
+    ghost gives = { of_two two.Maximum };
+
+    fn at(&self, a: i64, b: i64) -> Result<i64, Kind> {
+        Ok(a.max(b))
+    }
+}
+
+/// The lesser.
+#[derive(Clone, Copy)]
+pub(crate) struct Minimum;
+
+impl TwoNumbers for Minimum {
+    ghost gives = { of_two two.Minimum };
+
+    fn at(&self, a: i64, b: i64) -> Result<i64, Kind> {
+        Ok(a.min(b))
+    }
+}
+
+/// Whether a is less.
+#[derive(Clone, Copy)]
+pub(crate) struct Less;
+
+impl TwoNumbers for Less {
+    ghost gives = { of_two two.Less };
+
+    fn at(&self, a: i64, b: i64) -> Result<i64, Kind> {
+        Ok(truth(a < b))
+    }
+}
+
+/// Whether a is not greater.
+#[derive(Clone, Copy)]
+pub(crate) struct LessOrEqual;
+
+impl TwoNumbers for LessOrEqual {
+    ghost gives = { of_two two.LessOrEqual };
+
+    fn at(&self, a: i64, b: i64) -> Result<i64, Kind> {
+        Ok(truth(a <= b))
+    }
+}
+
+/// Whether they are equal.
+#[derive(Clone, Copy)]
+pub(crate) struct Equal;
+
+impl TwoNumbers for Equal {
+    ghost gives = { of_two two.Equal };
+
+    fn at(&self, a: i64, b: i64) -> Result<i64, Kind> {
+        Ok(truth(a == b))
+    }
+}
+
+/// Whether a is not less.
+#[derive(Clone, Copy)]
+pub(crate) struct GreaterOrEqual;
+
+impl TwoNumbers for GreaterOrEqual {
+    ghost gives = { of_two two.GreaterOrEqual };
+
+    fn at(&self, a: i64, b: i64) -> Result<i64, Kind> {
+        Ok(truth(a >= b))
+    }
+}
+
+/// Whether a is greater.
+#[derive(Clone, Copy)]
+pub(crate) struct Greater;
+
+impl TwoNumbers for Greater {
+    ghost gives = { of_two two.Greater };
+
+    fn at(&self, a: i64, b: i64) -> Result<i64, Kind> {
+        Ok(truth(a > b))
+    }
+}
+
+/// Whether they differ.
+#[derive(Clone, Copy)]
+pub(crate) struct NotEqual;
+
+impl TwoNumbers for NotEqual {
+    ghost gives = { of_two two.NotEqual };
+
+    fn at(&self, a: i64, b: i64) -> Result<i64, Kind> {
+        Ok(truth(a != b))
+    }
+}
+
+/// Both; both are looked at, so `0∧2` is DOMAIN.
+#[derive(Clone, Copy)]
+pub(crate) struct And;
+
+impl TwoNumbers for And {
+    ghost gives = { of_two two.And };
+
+    fn at(&self, a: i64, b: i64) -> Result<i64, Kind> {
+        let (p, q) = (as_truth(a)?, as_truth(b)?);
+        Ok(truth(p && q))
+    }
+}
+
+/// At least one; both are looked at.
+#[derive(Clone, Copy)]
+pub(crate) struct Or;
+
+impl TwoNumbers for Or {
+    ghost gives = { of_two two.Or };
+
+    fn at(&self, a: i64, b: i64) -> Result<i64, Kind> {
+        let (p, q) = (as_truth(a)?, as_truth(b)?);
+        Ok(truth(p || q))
+    }
+}
+
+/// Not both; both are looked at.
+#[derive(Clone, Copy)]
+pub(crate) struct Nand;
+
+impl TwoNumbers for Nand {
+    ghost gives = { of_two two.Nand };
+
+    fn at(&self, a: i64, b: i64) -> Result<i64, Kind> {
+        let (p, q) = (as_truth(a)?, as_truth(b)?);
+        Ok(truth(!(p && q)))
+    }
+}
+
+/// Neither; both are looked at.
+#[derive(Clone, Copy)]
+pub(crate) struct Nor;
+
+impl TwoNumbers for Nor {
+    ghost gives = { of_two two.Nor };
+
+    fn at(&self, a: i64, b: i64) -> Result<i64, Kind> {
+        let (p, q) = (as_truth(a)?, as_truth(b)?);
+        Ok(truth(!(p || q)))
+    }
+}
