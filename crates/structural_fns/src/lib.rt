@@ -2,6 +2,13 @@
 //! is fill.
 #![tactic(auto)]
 
+mod magnitudes;
+mod ravelling;
+mod reshaping;
 mod reversing;
+mod transposing;
 
+pub use ravelling::Ravel;
+pub use reshaping::Reshape;
 pub use reversing::Reverse;
+pub use transposing::Transpose;
