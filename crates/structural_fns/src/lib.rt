@@ -2,13 +2,16 @@
 //! is fill.
 #![tactic(auto)]
 
+mod counts;
 mod magnitudes;
 mod ravelling;
 mod reshaping;
 mod reversing;
+mod taking;
 mod transposing;
 
 pub use ravelling::Ravel;
 pub use reshaping::Reshape;
 pub use reversing::Reverse;
+pub use taking::Take;
 pub use transposing::Transpose;
