@@ -3,6 +3,7 @@
 #![tactic(auto)]
 
 mod counts;
+mod dropping;
 mod magnitudes;
 mod ravelling;
 mod reshaping;
@@ -10,6 +11,7 @@ mod reversing;
 mod taking;
 mod transposing;
 
+pub use dropping::Drop;
 pub use ravelling::Ravel;
 pub use reshaping::Reshape;
 pub use reversing::Reverse;
