@@ -1,0 +1,17 @@
+//! What the functions of arrays share: arrays as they are seen, the axis that a function works along,
+//! the checks, and the whole result from the items of a function.
+#![tactic(auto)]
+
+mod along;
+mod checks;
+mod primitive;
+mod source;
+#[cfg(test)]
+mod tests;
+mod views;
+
+pub use along::Along;
+pub use checks::limited;
+pub use primitive::{Primitive, apply};
+pub use source::{Source, item_from};
+pub use views::Seen;

@@ -1,0 +1,96 @@
+//! Arrays as they are seen.
+
+ghost use Rattle.std.specs.Prelude.{◌≡◌, ◌-◌, ◌≤◌, IfSome, length, get_or, pos};
+ghost use Rattle.arrays_core.specs.Arrays.{ArrayValue, IsArray, item_if_there};
+ghost use Rattle.arrays_core.specs.Shapes.{size as size_of};
+ghost use Rattle.arrays_core.specs.Items.{fill, type_of};
+ghost use Rattle.index_region.specs.Common.{numbers, counts_as_numbers};
+
+use arrays_core::{Array, Item, ItemType, Shape, size};
+use std::marker::Model;
+
+/// An array that is lent. No item is copied.
+#[derive(Drop)]
+pub struct Seen<'a> {
+    array: &'a Array,
+}
+
+impl<'a> Model for Seen<'a> {
+    ghost Value = { ArrayValue };
+
+    ghost view = { λ s. s.array.now };
+}
+
+impl<'a> Seen<'a> {
+    /// The array as it is.
+    pub fn plain(array: &'a Array) -> Seen<'a>
+        ensures { result ≡ array.now }
+    {
+        Seen { array }
+    }
+
+    /// The type of the items.
+    pub fn item_type(&self) -> ItemType
+        ensures is { result ≡ self.now.item_type }
+        ensures sound { IsArray self.now }
+    {
+        self.array.item_type()
+    }
+
+    /// The lengths of the axes.
+    pub fn shape(&self) -> &Shape
+        ensures is { result.now.items ≡ self.now.shape }
+        ensures inline { result.now.capacity ≡ 4 }
+        ensures sound { IsArray self.now }
+    {
+        self.array.shape()
+    }
+
+    /// How many items there are.
+    pub fn places(&self) -> u32
+        ensures is { result ≡ length self.now.items }
+        ensures size { result ≡ size_of self.now.shape }
+        ensures sound { IsArray self.now }
+    {
+        size(self.array.shape().as_slice())
+    }
+
+    /// The item at an index list, if that lies below the shape: one index an axis, each from 1 to the
+    /// length of its axis.
+    pub fn at(&self, index: &[u32]) -> Option<Item>
+        ensures is { result ≡ item_if_there self.now index.now }
+        ensures typed { IfSome result (λ x. type_of x ≡ self.now.item_type) }
+    {
+        self.array.at(index)
+    }
+
+    /// The item at a place in row-major order, counted from 1.
+    pub fn item(&self, position: u32) -> Item
+        requires low { 1 ≤ position }
+        requires high { position ≤ length self.now.items }
+        ensures is { result ≡ get_or self.now.items (position - 1) (fill self.now.item_type) }
+        ensures typed { type_of result ≡ self.now.item_type }
+    {
+        self.array.item(position)
+    }
+
+    /// The number at a place in row-major order, counted from 1; 0 for a character.
+    pub fn number(&self, position: u32) -> i64
+        requires low { 1 ≤ position }
+        requires high { position ≤ length self.now.items }
+        ensures { result ≡ get_or (numbers self.now) (position - 1) (pos 0) }
+    {
+        match self.item(position) {
+            Item::Num(number) => number,
+            Item::Char(_) => 0,
+        }
+    }
+
+    /// It is of numbers, or without items: where it is not, a function that asks for numbers is
+    /// DOMAIN ERROR.
+    pub fn counts_as_numbers(&self) -> bool
+        ensures { result ≡ counts_as_numbers self.now }
+    {
+        self.item_type() == ItemType::Nums || self.places() == 0
+    }
+}

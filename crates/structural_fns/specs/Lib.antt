@@ -1,0 +1,4 @@
+pub mod Turns
+pub mod Ravels
+pub mod Transposes
+pub mod Counts

@@ -1,0 +1,19 @@
+//! Functions that give arrays their form: each item of a result comes from a place of an argument, or
+//! is fill.
+#![tactic(auto)]
+
+mod counts;
+mod dropping;
+mod magnitudes;
+mod ravelling;
+mod reshaping;
+mod reversing;
+mod taking;
+mod transposing;
+
+pub use dropping::Drop;
+pub use ravelling::Ravel;
+pub use reshaping::Reshape;
+pub use reversing::Reverse;
+pub use taking::Take;
+pub use transposing::Transpose;

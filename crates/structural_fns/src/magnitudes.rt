@@ -1,0 +1,36 @@
+//! The lengths of axes that an argument asks for.
+
+ghost use Rattle.std.specs.Prelude.{◌≡◌, IfOk, IfErr, false};
+ghost use Rattle.arrays_core.specs.declared.item.Kind.TheVariants.{Limit};
+ghost use Rattle.index_region.specs.Common.{is_within_limits};
+ghost use Rattle.structural_fns.specs.Ravels.{magnitudes as magnitudes_of};
+
+use arrays_core::{Kind, Shape};
+use index_region::Seen;
+use smallvec::SmallVec;
+
+const MOST_AXES: u32 = 4;
+
+const LONGEST_AXIS: u64 = 1_048_576;
+
+/// The magnitudes of the numbers of an argument, as the lengths of axes, or LIMIT where these are
+/// beyond the limits of arrays. It takes no memory.
+pub(crate) fn magnitudes(counts: &Seen) -> Result<Shape, Kind>
+    ensures is { IfOk result (λ axes. axes.items ≡ magnitudes_of counts.now) }
+    ensures inline { IfOk result (λ axes. axes.capacity ≡ 4) }
+    ensures kind { IfErr result (λ kind. kind ≡ Limit) }
+    ensures beyond { IfErr result (λ _. is_within_limits (magnitudes_of counts.now) ≡ false) }
+{
+    if counts.places() > MOST_AXES {
+        return Err(Kind::Limit);
+    }
+    let mut axes = SmallVec::new(*counts.shape().allocator());
+    for place in 0..counts.places() {
+        let length = counts.number(place + 1).unsigned_abs();
+        if length > LONGEST_AXIS {
+            return Err(Kind::Limit);
+        }
+        axes.push_reserved(length as u32);
+    }
+    Ok(axes)
+}
