@@ -111,6 +111,25 @@ fn one_character_is_a_scalar(rt: HostRuntime) -> Result<(), Fail> {
 }
 
 #[test]
+fn reads_axes(rt: HostRuntime) -> Result<(), Fail> {
+    for (written, want) in [
+        ("⌽A", "Monad(Reverse(Last), Name("),
+        ("⊖[2]A", "Monad(Reverse(Axis(2)), Name("),
+        ("⌽ [ ¯1 ] -A", "Monad(Reverse(Axis(-1)), Monad(Scalar(Negative), Name("),
+        ("1,[2]3", "Dyad(Catenate(Axis(2)), Const(Num(1)), Const(Num(3)))"),
+        ("1⍪3", "Dyad(Catenate(First), Const(Num(1)), Const(Num(3)))"),
+        ("1,,3", "Dyad(Catenate(Last), Const(Num(1)), Monad(Ravel, Const(Num(3))))"),
+        ("1⌽[1]⍉3", "Dyad(Rotate(Axis(1)), Const(Num(1)), Monad(Transpose, Const(Num(3))))"),
+    ] {
+        let found = tokens(rt.alloc(), written)?;
+        let tree = parse(rt.alloc(), &found)?;
+        let text = format!(in rt.alloc(); "{tree:?}")?;
+        assert!(rt; text.as_str().starts_with(want), "{written}");
+    }
+    Ok(())
+}
+
+#[test]
 fn reads_every_scalar_sign(rt: HostRuntime) -> Result<(), Fail> {
     for sign in "+-×÷*|⌈⌊<≤=≥>≠∧∨⍲⍱".chars() {
         let text = format!(in rt.alloc(); "A{sign}1")?;
@@ -196,6 +215,18 @@ fn refuses_what_is_no_line(rt: HostRuntime) -> Result<(), Fail> {
         "'ab",
         "(1)[1]",
         "A←⍴1",
+        ",[1]A",
+        "⌽[A]B",
+        "⌽[1;2]B",
+        "⌽[1 2]B",
+        "⌽[]B",
+        "⌽[1B",
+        "+[1]A",
+        "A+[1]B",
+        "A⍴[1]B",
+        "⍪A",
+        "↑A",
+        "A,",
         "*1",
         "A~1",
         "+/A",

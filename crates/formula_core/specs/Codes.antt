@@ -1,12 +1,14 @@
 -- A tree is told by its words in postfix order.
-use Rattle.std.specs.Prelude.{◌≡◌, ℕ, ℤ, List, [], ◌∷◌, ◌++◌, get_or, ◌⊎◌, refl}
+use Rattle.std.specs.Prelude.{◌≡◌, ℕ, zero, suc, ℤ, pos, List, [], ◌∷◌, ◌++◌, get_or, ◌⊎◌, refl}
 use Rattle.std.proofs.Common.{sym, ◌∙◌, ap, inl, inr, append_assoc, append-nil}
-use Rattle.std.specs.Coded.{Coded, code_by, coded⊎, coded_list, coded_ℕ, coded_ℤ}
+use Rattle.std.specs.Coded.{Coded, code_by, coded×, coded⊎, coded_list, coded_ℕ, coded_ℤ}
 use Rattle.apl_expr.specs.Trees.{Tree, Literal, Variable, Applied1, Applied2, Numbers, Text}
 use Rattle.apl_expr.specs.declared.expr.ScalarMonad.{ScalarMonad}
 use Rattle.apl_expr.specs.declared.expr.ScalarMonad.TheVariants as scalar_monad
 use Rattle.apl_expr.specs.declared.expr.ScalarDyad.{ScalarDyad}
 use Rattle.apl_expr.specs.declared.expr.ScalarDyad.TheVariants as scalar_dyad
+use Rattle.apl_expr.specs.declared.expr.Along.{Along}
+use Rattle.apl_expr.specs.declared.expr.Along.TheVariants.{First, Last, Axis}
 use Rattle.apl_expr.specs.declared.expr.Monadic.{Monadic}
 use Rattle.apl_expr.specs.declared.expr.Monadic.TheVariants as monadic
 use Rattle.apl_expr.specs.declared.expr.Dyadic.{Dyadic}
@@ -91,27 +93,73 @@ dyad_again scalar_dyad.Or = refl
 dyad_again scalar_dyad.Nand = refl
 dyad_again scalar_dyad.Nor = refl
 
-abbrev code_of_monadic : Monadic → ℕ
-code_of_monadic (monadic.Scalar f) = number_of_monad f
+-- a function has a number, and a number of its scalar function or its axis
+abbrev Code : Type 0
+Code = ℕ × (ℕ × ℤ)
 
-abbrev monadic_of_code : ℕ → Monadic
-monadic_of_code n = monadic.Scalar (monad_of_number n)
+abbrev code_of_along : Along → ℕ × ℤ
+code_of_along First = (0, pos 0)
+code_of_along Last = (1, pos 0)
+code_of_along (Axis k) = (2, k)
+
+abbrev along_of_code : ℕ × ℤ → Along
+along_of_code (zero, k) = First
+along_of_code (suc zero, k) = Last
+along_of_code (suc (suc n), k) = Axis k
+
+along_again : (a : Along) → along_of_code (code_of_along a) ≡ a
+along_again First = refl
+along_again Last = refl
+along_again (Axis k) = refl
+
+abbrev code_of_monadic : Monadic → Code
+code_of_monadic (monadic.Scalar f) = (0, (number_of_monad f, pos 0))
+code_of_monadic (monadic.Reverse a) = (1, code_of_along a)
+code_of_monadic monadic.Ravel = (2, (0, pos 0))
+code_of_monadic monadic.Transpose = (3, (0, pos 0))
+
+abbrev monadic_of_code : Code → Monadic
+monadic_of_code (zero, c) = monadic.Scalar (monad_of_number c.0)
+monadic_of_code (suc zero, c) = monadic.Reverse (along_of_code c)
+monadic_of_code (suc (suc zero), c) = monadic.Ravel
+monadic_of_code (suc (suc (suc n)), c) = monadic.Transpose
 
 monadic_again : (f : Monadic) → monadic_of_code (code_of_monadic f) ≡ f
 monadic_again (monadic.Scalar f) = ap (λ g. monadic.Scalar g) (monad_again f)
+monadic_again (monadic.Reverse a) = ap (λ b. monadic.Reverse b) (along_again a)
+monadic_again monadic.Ravel = refl
+monadic_again monadic.Transpose = refl
 
-abbrev code_of_dyadic : Dyadic → ℕ
-code_of_dyadic (dyadic.Scalar f) = number_of_dyad f
+abbrev code_of_dyadic : Dyadic → Code
+code_of_dyadic (dyadic.Scalar f) = (0, (number_of_dyad f, pos 0))
+code_of_dyadic (dyadic.Catenate a) = (1, code_of_along a)
+code_of_dyadic (dyadic.Rotate a) = (2, code_of_along a)
+code_of_dyadic dyadic.Reshape = (3, (0, pos 0))
+code_of_dyadic dyadic.Take = (3, (1, pos 0))
+code_of_dyadic dyadic.Drop = (3, (2, pos 0))
+code_of_dyadic dyadic.Transpose = (3, (3, pos 0))
 
-abbrev dyadic_of_code : ℕ → Dyadic
-dyadic_of_code n = dyadic.Scalar (dyad_of_number n)
+abbrev plain_dyads : List Dyadic
+plain_dyads = dyadic.Reshape ∷ dyadic.Take ∷ dyadic.Drop ∷ dyadic.Transpose ∷ []
+
+abbrev dyadic_of_code : Code → Dyadic
+dyadic_of_code (zero, c) = dyadic.Scalar (dyad_of_number c.0)
+dyadic_of_code (suc zero, c) = dyadic.Catenate (along_of_code c)
+dyadic_of_code (suc (suc zero), c) = dyadic.Rotate (along_of_code c)
+dyadic_of_code (suc (suc (suc n)), c) = get_or plain_dyads c.0 dyadic.Reshape
 
 dyadic_again : (f : Dyadic) → dyadic_of_code (code_of_dyadic f) ≡ f
 dyadic_again (dyadic.Scalar f) = ap (λ g. dyadic.Scalar g) (dyad_again f)
+dyadic_again (dyadic.Catenate a) = ap (λ b. dyadic.Catenate b) (along_again a)
+dyadic_again (dyadic.Rotate a) = ap (λ b. dyadic.Rotate b) (along_again a)
+dyadic_again dyadic.Reshape = refl
+dyadic_again dyadic.Take = refl
+dyadic_again dyadic.Drop = refl
+dyadic_again dyadic.Transpose = refl
 
 -- numbers, characters, a name, or a function of one or of two arguments
 abbrev Word : Type 0
-Word = List ℤ ⊎ (List ℕ ⊎ (List ℕ ⊎ (ℕ ⊎ ℕ)))
+Word = List ℤ ⊎ (List ℕ ⊎ (List ℕ ⊎ (Code ⊎ Code)))
 
 abbrev words : Tree → List Word
 words (Literal (Numbers ns)) = inl ns ∷ []
@@ -153,7 +201,10 @@ again (Applied2 f a b) ws stack =
 pub same_again : (t : Tree) → top (build (words t) []) ≡ t
 same_again t = ap top (ap (λ ws. build ws []) (sym (append-nil (words t))) ∙ again t [] [])
 
+abbrev coded_code : Coded Code
+coded_code = coded× coded_ℕ (coded× coded_ℕ coded_ℤ)
+
 abbrev pub coded_tree : Coded Tree
 coded_tree =
-    code_by (List Word) (coded_list (coded⊎ (coded_list coded_ℤ) (coded⊎ (coded_list coded_ℕ) (coded⊎ (coded_list coded_ℕ) (coded⊎ coded_ℕ coded_ℕ)))))
+    code_by (List Word) (coded_list (coded⊎ (coded_list coded_ℤ) (coded⊎ (coded_list coded_ℕ) (coded⊎ (coded_list coded_ℕ) (coded⊎ coded_code coded_code)))))
     words (λ ws. top (build ws [])) same_again

@@ -5,6 +5,8 @@ use Rattle.apl_expr.specs.declared.expr.ScalarMonad.{ScalarMonad}
 use Rattle.apl_expr.specs.declared.expr.ScalarMonad.TheVariants as scalar_monad
 use Rattle.apl_expr.specs.declared.expr.ScalarDyad.{ScalarDyad}
 use Rattle.apl_expr.specs.declared.expr.ScalarDyad.TheVariants as scalar_dyad
+use Rattle.apl_expr.specs.declared.expr.Along as along
+use Rattle.apl_expr.specs.declared.expr.Along.TheVariants as along
 use Rattle.apl_expr.specs.declared.expr.Monadic.{Monadic}
 use Rattle.apl_expr.specs.declared.expr.Monadic.TheVariants as monadic
 use Rattle.apl_expr.specs.declared.expr.Dyadic.{Dyadic}
@@ -16,6 +18,13 @@ use Rattle.scalar_fns.specs.declared.function.Scalar1.TheVariants as one
 use Rattle.scalar_fns.specs.declared.function.Scalar2.{Scalar2}
 use Rattle.scalar_fns.specs.declared.function.Scalar2.TheVariants as two
 use Rattle.scalar_fns.specs.Extension.{on_array, on_arrays}
+use Rattle.index_region.specs.declared.along.Along.{Along}
+use Rattle.index_region.specs.declared.along.Along.TheVariants.{First, Last, Axis}
+use Rattle.structural_fns.specs.Ravels.{reshape_whole, ravel_whole}
+use Rattle.structural_fns.specs.Joins.{catenate_whole}
+use Rattle.structural_fns.specs.Counts.{take_whole, drop_whole}
+use Rattle.structural_fns.specs.Turns.{reverse_whole, rotate_whole}
+use Rattle.structural_fns.specs.Transposes.{transpose_whole, transposed_whole}
 use Rattle.formula_core.specs.Outcomes.{Outcome, given}
 
 -- one number is a scalar, several are a vector; so it is with the characters of a text
@@ -57,13 +66,27 @@ scalar2_of scalar_dyad.Or = two.Or
 scalar2_of scalar_dyad.Nand = two.Nand
 scalar2_of scalar_dyad.Nor = two.Nor
 
+abbrev pub along_of : along.Along → Along
+along_of along.First = First
+along_of along.Last = Last
+along_of (along.Axis k) = Axis k
+
 -- a function of one array
 abbrev pub of_right : Monadic → ArrayValue → Result ArrayValue Kind
 of_right (monadic.Scalar f) b = on_array (scalar1_of f) b
+of_right monadic.Ravel b = ravel_whole b
+of_right (monadic.Reverse k) b = reverse_whole (along_of k) b
+of_right monadic.Transpose b = transpose_whole b
 
 -- a function of two arrays
 abbrev pub of_both : Dyadic → (left right : ArrayValue) → Result ArrayValue Kind
 of_both (dyadic.Scalar f) a b = on_arrays (scalar2_of f) a b
+of_both dyadic.Reshape a b = reshape_whole a b
+of_both (dyadic.Catenate k) a b = catenate_whole (along_of k) a b
+of_both dyadic.Take a b = take_whole a b
+of_both dyadic.Drop a b = drop_whole a b
+of_both (dyadic.Rotate k) a b = rotate_whole (along_of k) a b
+of_both dyadic.Transpose a b = transposed_whole a b
 
 abbrev pub applied1 : Monadic → Outcome → Outcome
 applied1 f (Err e) = Err e

@@ -6,13 +6,13 @@ ghost use Rattle.arrays_core.specs.Arrays.{ArrayValue, IsAnswerTo};
 ghost use Rattle.arrays_core.specs.declared.item.Kind.{Kind as AKind};
 ghost use Rattle.formula_core.specs.Outcomes.{read, given};
 ghost use Rattle.formula_core.specs.Operands.{outcome_of, array_in};
-ghost use Rattle.formula_core.specs.Meaning.{eval, of_right, of_both, applied1, applied2};
+ghost use Rattle.formula_core.specs.Meaning.{eval, applied1, applied2};
 
-use crate::literals::{array_of, scalar1_of, scalar2_of};
+use crate::applying::{of_both, of_right};
+use crate::literals::array_of;
 use apl_expr::{Dyadic, Expr, Monadic};
 use apl_tokens::Name;
 use arrays_core::{ApplyFault, Array, Fault};
-use scalar_fns::{apply_one, apply_two};
 use std::alloc::{AllocError, Global};
 
 /// Something that tells what names show.
@@ -93,29 +93,6 @@ fn argument<'a, S: Shows>(
             let left = argument(alloc, left, names)?;
             apply_dyad(alloc, *function, left, right)
         }
-    }
-}
-
-/// A function of one array.
-fn of_right(alloc: Global, function: Monadic, array: &Array) -> Result<Array, ApplyFault>
-    ensures { IsAnswerTo (of_right function array.now) result }
-{
-    match function {
-        Monadic::Scalar(scalar) => apply_one(alloc, scalar1_of(scalar), array),
-    }
-}
-
-/// A function of two arrays.
-fn of_both(
-    alloc: Global,
-    function: Dyadic,
-    left: &Array,
-    right: &Array,
-) -> Result<Array, ApplyFault>
-    ensures { IsAnswerTo (of_both function left.now right.now) result }
-{
-    match function {
-        Dyadic::Scalar(scalar) => apply_two(alloc, scalar2_of(scalar), left, right),
     }
 }
 

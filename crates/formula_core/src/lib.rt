@@ -1,10 +1,12 @@
 //! Formulas: what an expression means, and an expression with the result that it was last given.
 #![tactic(auto)]
 
+mod applying;
 mod evaluating;
 mod formula;
 mod literals;
 mod names;
+mod symbols;
 #[cfg(test)]
 mod tests;
 
