@@ -5,8 +5,8 @@ use Rattle.apl_expr.specs.declared.expr.ScalarMonad.{ScalarMonad}
 use Rattle.apl_expr.specs.declared.expr.ScalarMonad.TheVariants as scalar_monad
 use Rattle.apl_expr.specs.declared.expr.ScalarDyad.{ScalarDyad}
 use Rattle.apl_expr.specs.declared.expr.ScalarDyad.TheVariants as scalar_dyad
-use Rattle.apl_expr.specs.declared.expr.Along as along
-use Rattle.apl_expr.specs.declared.expr.Along.TheVariants as along
+use Rattle.apl_expr.specs.declared.expr.Along as written
+use Rattle.apl_expr.specs.declared.expr.Along.TheVariants as axis
 use Rattle.apl_expr.specs.declared.expr.Monadic.{Monadic}
 use Rattle.apl_expr.specs.declared.expr.Monadic.TheVariants as monadic
 use Rattle.apl_expr.specs.declared.expr.Dyadic.{Dyadic}
@@ -66,10 +66,10 @@ scalar2_of scalar_dyad.Or = two.Or
 scalar2_of scalar_dyad.Nand = two.Nand
 scalar2_of scalar_dyad.Nor = two.Nor
 
-abbrev pub along_of : along.Along → Along
-along_of along.First = First
-along_of along.Last = Last
-along_of (along.Axis k) = Axis k
+abbrev pub along_of : written.Along → Along
+along_of axis.First = First
+along_of axis.Last = Last
+along_of (axis.Axis k) = Axis k
 
 -- a function of one array
 abbrev pub of_right : Monadic → ArrayValue → Result ArrayValue Kind
