@@ -1,4 +1,3 @@
-use Rattle.std.proofs.Common.{◌≡◌}
 use Rattle.apl_tokens.proofs.name.NamePartialEq.eq.Goals as goal
 
 pub returns : goal.returns
