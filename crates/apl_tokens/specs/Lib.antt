@@ -5,3 +5,4 @@ pub mod Scans
 pub mod Scanner
 pub mod Scanning
 pub mod Order
+pub mod Spans

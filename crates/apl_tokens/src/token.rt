@@ -1,5 +1,8 @@
 //! Tokens.
 
+ghost use Rattle.std.specs.Prelude.{Some};
+ghost use Rattle.apl_tokens.specs.Spans.{span_text};
+
 use crate::name::Name;
 use std::fmt;
 use std::fmt::{Display, Formatter, Write};
@@ -14,6 +17,8 @@ pub struct Span {
 }
 
 impl Display for Span {
+    ghost output = { λ s. Some (span_text s) };
+
     fn fmt<W: Write>(&self, f: &mut Formatter<W>) -> fmt::Result {
         write!(f, "{} to {}", self.start, self.end)
     }

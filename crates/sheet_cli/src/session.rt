@@ -240,6 +240,7 @@ fn finish<W: Sink>(
     ensures err { OnErr result ((text : List ℕ) × Appends (W.written sink.old) (W.written sink.new) text
         × StopsAtEnd (standing progress.old.pending progress.old.tally sheet.old) text sheet.new) }
     ensures fault { OnErr result (W.has_failed sink.new ≡ true) }
+    ensures flushed { OnOk result (W.is_flushed sink.new ≡ true) }
 {
     answer_last(alloc, sheet, sink, progress)?;
     sink.flush()
@@ -248,7 +249,8 @@ fn finish<W: Sink>(
 /// The most bytes that one pull asks for.
 const CHUNK: usize = 4096;
 
-/// Reads lines from the source to its end, and writes the answers to the sink, each before the next bytes are asked for.
+/// Reads lines from the source to its end, writes the answers to the sink, each before the next bytes are asked for, and
+/// flushes it at the end.
 pub fn run<R: Source, W: Sink>(
     alloc: Global,
     sheet: &mut Sheet,
@@ -257,6 +259,7 @@ pub fn run<R: Source, W: Sink>(
 ) -> Result<Tally, RunFault>
     ensures ok { IfOk result (λ tally. Completes (R.remaining source.old) (R.remaining source.new) (W.written sink.old) (W.written sink.new)
         sheet.old sheet.new tally) }
+    ensures flushed { OnOk result (W.is_flushed sink.new ≡ true) }
     ensures memory { IsErrOf result RunFault.Memory → (source.new ≡ source.old) × (sink.new ≡ sink.old) × (sheet.new ≡ sheet.old) }
     ensures read { IsErrOf result RunFault.Read → BreaksOff (R.remaining source.old) (R.remaining source.new) (W.written sink.old) (W.written sink.new)
         (R.has_failed source.new) sheet.old sheet.new }

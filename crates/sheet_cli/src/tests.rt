@@ -15,6 +15,7 @@ struct Trickle {
     bytes: Vec<u8>,
     left: usize,
     failed: bool,
+    flushed: bool,
 }
 
 impl Sink for Trickle {
@@ -22,7 +23,10 @@ impl Sink for Trickle {
 
     ghost has_failed = { λ t. t.failed };
 
+    ghost is_flushed = { λ t. t.flushed };
+
     fn put(&mut self, bytes: &[u8]) -> Result<usize, Failed> {
+        self.flushed = false;
         let Some(first) = bytes.first() else {
             return Ok(0);
         };
@@ -35,6 +39,7 @@ impl Sink for Trickle {
     }
 
     fn flush(&mut self) -> Result<(), Failed> {
+        self.flushed = true;
         Ok(())
     }
 
@@ -142,6 +147,7 @@ fn a_byte_at_a_time(rt: HostRuntime) {
         bytes: Vec::new(rt.alloc()),
         left: 100,
         failed: false,
+        flushed: false,
     };
     let end = run(rt.alloc(), &mut sheet, &mut source, &mut sink);
     let tally = Tally {
@@ -177,6 +183,7 @@ fn a_sink_of_three_bytes(rt: HostRuntime) {
         bytes: Vec::new(rt.alloc()),
         left: 3,
         failed: false,
+        flushed: false,
     };
     let end = run(rt.alloc(), &mut sheet, &mut source, &mut sink);
     assert_eq!(rt; end, Err(RunFault::Write));

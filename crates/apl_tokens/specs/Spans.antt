@@ -1,0 +1,6 @@
+-- How a place of a line prints.
+use Rattle.std.specs.Prelude.{ℕ, List, ◌++◌, codes, decimal}
+use Rattle.apl_tokens.specs.declared.token.Span.{Span}
+
+abbrev pub span_text : Span → List ℕ
+span_text s = decimal s.start ++ codes " to " ++ decimal s.end
