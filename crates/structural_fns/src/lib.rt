@@ -8,6 +8,7 @@ mod magnitudes;
 mod ravelling;
 mod reshaping;
 mod reversing;
+mod rotating;
 mod taking;
 mod transposing;
 
@@ -15,5 +16,6 @@ pub use dropping::Drop;
 pub use ravelling::Ravel;
 pub use reshaping::Reshape;
 pub use reversing::Reverse;
+pub use rotating::Rotate;
 pub use taking::Take;
 pub use transposing::Transpose;
