@@ -10,6 +10,8 @@ mod reshaping;
 mod reversing;
 mod rotating;
 mod taking;
+#[cfg(test)]
+mod tests;
 mod transposing;
 
 pub use dropping::Drop;
