@@ -27,14 +27,19 @@ reverse_whole along b = whole (reverse_form along b) (reverse_item along b)
 
 -- ---- rotate, A⌽B along an axis
 
+-- one amount, or one for each line of a shape along an axis
+abbrev pub lines_checked : ℕ → ArrayValue → List ℕ → Result Form Kind → Result Form Kind
+lines_checked axis a shape rest =
+    check (has_one_item a || nat_eq (suc (length a.shape)) (length shape)) Rank
+    (check (has_one_item a || bytes_eq a.shape (remove shape axis)) Length rest)
+
 abbrev pub rotate_form : Along → ArrayValue → ArrayValue → Result Form Kind
 rotate_form along a b =
     let axis = axis_at (length b.shape) along in
     check (is_axis (length b.shape) along) Axis
-    (check (has_one_item a || nat_eq (suc (length a.shape)) (length b.shape)) Rank
-    (check (has_one_item a || bytes_eq a.shape (remove b.shape axis)) Length
+    (lines_checked axis a b.shape
     (check (counts_as_numbers a) Domain
-    (limited b.shape b.item_type))))
+    (limited b.shape b.item_type)))
 
 -- how far the line of an index list is rotated
 abbrev pub rotation : ℕ → ArrayValue → List ℕ → ℤ

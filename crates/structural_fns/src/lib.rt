@@ -8,12 +8,16 @@ mod magnitudes;
 mod ravelling;
 mod reshaping;
 mod reversing;
+mod rotating;
 mod taking;
+#[cfg(test)]
+mod tests;
 mod transposing;
 
 pub use dropping::Drop;
 pub use ravelling::Ravel;
 pub use reshaping::Reshape;
 pub use reversing::Reverse;
+pub use rotating::Rotate;
 pub use taking::Take;
 pub use transposing::Transpose;

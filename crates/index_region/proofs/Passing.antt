@@ -1,0 +1,48 @@
+-- What is known where checks have passed.
+use Rattle.std.proofs.Common.{◌≡◌, ℕ, Bool, true, false, List, [], ◌∷◌, length, get_or, Result, Ok, IsTrue, refl, arith}
+use Rattle.arrays_core.specs.declared.item.Item.{Item}
+use Rattle.arrays_core.specs.declared.item.ItemType.{ItemType}
+use Rattle.arrays_core.specs.declared.item.Kind.{Kind}
+use Rattle.arrays_core.specs.Arrays.{ArrayValue}
+use Rattle.arrays_core.specs.Items.{type_of}
+use Rattle.arrays_core.specs.Shapes.{is_index_of}
+use Rattle.index_region.specs.Common.{check, Form, limited, is_within_limits}
+use Rattle.index_region.specs.Answers.{IsPlaceOf, HasTypeOf}
+
+-- a check that has passed, and a place of what follows
+pub record Passed (holds : Bool) (rest : Result Form Kind) (index : List ℕ) : Type 0 where
+  pub test : holds ≡ true
+  pub place : IsPlaceOf rest index
+
+pub passed : (holds : Bool) (kind : Kind) (rest : Result Form Kind) (index : List ℕ) → IsPlaceOf (check holds kind rest) index → Passed holds rest index
+passed true kind rest index h = record { test = refl; place = h; }
+passed false kind rest index h = absurd h
+
+inside_if : (holds : Bool) (kind : Kind) (shape : List ℕ) (item_type : ItemType) (index : List ℕ) → IsPlaceOf (check holds kind (Ok (shape, item_type))) index
+    → is_index_of shape index ≡ true
+inside_if true kind shape item_type index h = h
+inside_if false kind shape item_type index h = absurd h
+
+-- a place of a shape within the limits
+pub place_inside : (shape : List ℕ) (item_type : ItemType) (index : List ℕ) → IsPlaceOf (limited shape item_type) index → is_index_of shape index ≡ true
+place_inside shape item_type index h = inside_if (is_within_limits shape) _ shape item_type index h
+
+-- the type that a form has where it is one
+pub typed_check : (holds : Bool) (kind : Kind) (rest : Result Form Kind) (item : Item) → HasTypeOf rest item → HasTypeOf (check holds kind rest) item
+typed_check true kind rest item h = h
+typed_check false kind rest item h = tt
+
+typed_if : (holds : Bool) (kind : Kind) (shape : List ℕ) (item_type : ItemType) (item : Item) → type_of item ≡ item_type
+    → HasTypeOf (check holds kind (Ok (shape, item_type))) item
+typed_if true kind shape item_type item h = h
+typed_if false kind shape item_type item h = tt
+
+pub typed_limited : (shape : List ℕ) (item_type : ItemType) (item : Item) → type_of item ≡ item_type → HasTypeOf (limited shape item_type) item
+typed_limited shape item_type item h = typed_if (is_within_limits shape) _ shape item_type item h
+
+-- the two arguments of a list of two
+pub two_arguments : (args : List ArrayValue) (a b : ArrayValue) → length args ≡ 2 → a ≡ get_or args 0 a → b ≡ get_or args 1 b → args ≡ a ∷ b ∷ []
+two_arguments [] a b h d e = absurd (omega arith)
+two_arguments (x ∷ []) a b h d e = absurd (omega arith)
+two_arguments (x ∷ y ∷ []) a b h d e = rw (d, e) refl
+two_arguments (x ∷ y ∷ z ∷ rest) a b h d e = absurd (omega arith)
