@@ -226,6 +226,7 @@ fn refuses_what_is_no_line(rt: HostRuntime) -> Result<(), Fail> {
         "A⍴[1]B",
         "⍪A",
         "↑A",
+        "1⍉A",
         "A,",
         "*1",
         "A~1",
