@@ -1,12 +1,13 @@
 //! Arrays as they are seen.
 
-ghost use Rattle.std.specs.Prelude.{◌≡◌, ◌-◌, ◌≤◌, IfSome, length, get_or, pos};
+ghost use Rattle.std.specs.Prelude.{◌≡◌, ◌+◌, ◌-◌, ◌≤◌, IfSome, IfOk, length, take, drop, get_or, pos};
 ghost use Rattle.arrays_core.specs.Arrays.{ArrayValue, IsArray, item_if_there};
-ghost use Rattle.arrays_core.specs.Shapes.{size as size_of};
+ghost use Rattle.arrays_core.specs.Shapes.{size as size_of, IsWithinLimits};
 ghost use Rattle.arrays_core.specs.Items.{fill, type_of};
 ghost use Rattle.index_region.specs.Common.{numbers, counts_as_numbers};
 
 use arrays_core::{Array, Item, ItemType, Shape, size};
+use std::alloc::AllocError;
 use std::marker::Model;
 
 /// An array that is lent. No item is copied.
@@ -84,6 +85,19 @@ impl<'a> Seen<'a> {
             Item::Num(number) => number,
             Item::Char(_) => 0,
         }
+    }
+
+    /// The items of a run of places, behind so many, as an array of another shape that has as many.
+    pub fn part(&self, skipped: u32, shape: &Shape) -> Result<Array, AllocError>
+        requires within { IsWithinLimits shape.now.items }
+        requires inside { skipped + size_of shape.now.items ≤ length self.now.items }
+        ensures { IfOk result (λ a. a ≡ record {
+          item_type = self.now.item_type;
+          shape = shape.now.items;
+          items = take (size_of shape.now.items) (drop skipped self.now.items);
+        }) }
+    {
+        self.array.part(skipped, shape)
     }
 
     /// It is of numbers, or without items: where it is not, a function that asks for numbers is
