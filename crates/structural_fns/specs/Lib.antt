@@ -2,3 +2,4 @@ pub mod Turns
 pub mod Ravels
 pub mod Transposes
 pub mod Counts
+pub mod Joins

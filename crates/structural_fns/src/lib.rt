@@ -4,6 +4,8 @@
 
 mod counts;
 mod dropping;
+mod joining;
+mod lists;
 mod magnitudes;
 mod ravelling;
 mod reshaping;
@@ -15,6 +17,7 @@ mod tests;
 mod transposing;
 
 pub use dropping::Drop;
+pub use joining::Catenate;
 pub use ravelling::Ravel;
 pub use reshaping::Reshape;
 pub use reversing::Reverse;

@@ -8,21 +8,10 @@ ghost use Rattle.index_region.specs.Common.{Form, places_along, of_two};
 ghost use Rattle.index_region.specs.Answers.{IsPlaceOf, source_value};
 ghost use Rattle.structural_fns.specs.Turns.{lines_checked, rotate_form, rotation, rotated_place as place_rotated, rotate_source, rotate_item, rotate_whole};
 
+use crate::lists::without;
 use arrays_core::{ApplyFault, Array, Item, ItemType, Kind, Shape, position, shape_of};
 use index_region::{Along, Primitive, Seen, Source, apply, item_from, limited};
 use std::alloc::Global;
-
-/// A list of at most four without one of its entries. It takes no memory.
-fn without(alloc: Global, list: &[u32], k: usize) -> Shape
-    requires rank { length list.now ≤ 4 }
-    requires there { k < length list.now }
-    ensures is { result.items ≡ remove list.now k }
-    ensures inline { result.capacity ≡ 4 }
-{
-    let mut rest = shape_of(alloc, list);
-    rest.remove(k);
-    rest
-}
 
 /// The checks of the amounts: where there is not one alone, RANK where they have not one axis less, and
 /// LENGTH where there is not one for each line.

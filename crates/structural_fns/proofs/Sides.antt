@@ -1,0 +1,114 @@
+-- The two sides of a catenation.
+use Rattle.std.proofs.Common.{◌≡◌, ℕ, zero, suc, ◌+◌, ◌-◌, ◌<◌, ◌≤◌, max, Bool, true, false, not, ◌&&◌, ◌||◌, if◌then◌else◌, nat_eq, nat_le, List, length, remove, insert, bytes_eq, unwrap_or, refl, ap, subst, sym, ◌∙◌, inl, inr, arith}
+use Rattle.std.proofs.lemmas.Bool.{and_parts, or_cases, eqb-true, eqb-false, leb-true, false_from_ne_true, true≢false, false≢true}
+use Rattle.std.proofs.lemmas.List.Edits.{length-insert, length-remove}
+use Rattle.arrays_core.specs.declared.item.Item.{Item}
+use Rattle.arrays_core.specs.declared.item.ItemType.{ItemType}
+use Rattle.arrays_core.specs.declared.item.ItemType.TheVariants.{Nums, Chars}
+use Rattle.arrays_core.specs.declared.item.Kind.TheVariants.{Axis as AxisKind, Rank, Length, Domain}
+use Rattle.arrays_core.specs.Items.{type_of}
+use Rattle.arrays_core.specs.Arrays.{ArrayValue, IsArray, item_if_there}
+use Rattle.arrays_core.specs.Shapes.{size, is_index_of}
+use Rattle.arrays_core.proofs.Shapes.{as_long, places_below}
+use Rattle.index_region.specs.declared.along.Along.{Along}
+use Rattle.index_region.specs.Common.{check, limited, is_scalar, has_items, is_of_numbers, is_axis, axis_at}
+use Rattle.index_region.specs.Answers.{IsPlaceOf, HasTypeOf}
+use Rattle.index_region.proofs.Passing.{passed, place_inside, typed_check, typed_limited}
+use Rattle.structural_fns.specs.Joins.{joined_rank, joined_places, other_axes, ranks_join, axes_agree, types_join, joined_type, joined_shape, sides_checked, catenate_form}
+
+-- an array without items has none at any index list
+pub nothing_there : (a : ArrayValue) (at : List ℕ) (d : Item) → IsArray a → length a.items ≡ 0 → unwrap_or (item_if_there a at) d ≡ d
+nothing_there a at d sound none =
+    let outside : is_index_of a.shape at ≡ false =
+        false_from_ne_true _ (λ h. let below = places_below a.shape at h in let long = sound.one_item_a_place in absurd (omega arith)) in
+    rw outside refl
+
+same_types : (left right : Bool) (s t : ItemType)
+    → ((not left || not right) || ((is_of_numbers s && is_of_numbers t) || (not (is_of_numbers s) && not (is_of_numbers t)))) ≡ true → right ≡ true
+    → t ≡ (if not left && right then t else s)
+same_types left false s t h e = absurd (false≢true e)
+same_types false true s t h e = refl
+same_types true true Nums Nums h e = refl
+same_types true true Nums Chars h e = absurd (false≢true h)
+same_types true true Chars Nums h e = absurd (false≢true h)
+same_types true true Chars Chars h e = refl
+
+pub right_typed : (a b : ArrayValue) → types_join a b ≡ true → has_items b ≡ true → b.item_type ≡ joined_type a b
+right_typed a b h e = same_types (has_items a) (has_items b) a.item_type b.item_type h e
+
+-- the axes of one side, of the greatest rank or of one less
+pub record IsNear (m : ArrayValue) (rank : ℕ) : Type 0 where
+  pub low : length m.shape ≤ rank
+  pub high : rank ≤ suc (length m.shape)
+
+near_by : (scalar : Bool) (a b : ArrayValue) → is_scalar a ≡ scalar → ranks_join a b ≡ true → IsNear (if scalar then b else a) (joined_rank a b)
+near_by true a b e h = let none = eqb-true (length a.shape) 0 e in record { low = omega arith; high = omega arith; }
+near_by false a b e h =
+    elim (or_cases (is_scalar a || is_scalar b) (nat_le (length a.shape) (suc (length b.shape)) && nat_le (length b.shape) (suc (length a.shape))) h) [
+      | inl one ↦ elim (or_cases (is_scalar a) (is_scalar b) one) [
+          | inl t ↦ absurd (true≢false (sym t ∙ e))
+          | inr t ↦ let none = eqb-true (length b.shape) 0 t in record { low = omega arith; high = omega arith; }
+        ]
+      | inr near ↦
+          let parts = and_parts (nat_le (length a.shape) (suc (length b.shape))) (nat_le (length b.shape) (suc (length a.shape))) near in
+          let p = leb-true (length a.shape) (suc (length b.shape)) parts.0 in
+          let q = leb-true (length b.shape) (suc (length a.shape)) parts.1 in
+          record { low = omega arith; high = omega arith; }
+    ]
+
+other_by : (test : Bool) (shape : List ℕ) (rank axis : ℕ) → nat_eq (length shape) rank ≡ test → axis < rank → length shape ≤ rank → rank ≤ suc (length shape)
+    → length (if test then remove shape axis else shape) + 1 ≡ rank
+other_by true shape rank axis e h low high =
+    let same = eqb-true (length shape) rank e in
+    let long = length-remove shape axis (omega arith) in
+    omega arith
+other_by false shape rank axis e h low high = let differ = eqb-false (length shape) rank e in omega arith
+
+-- the other axes are one less than the result's
+pub shared_long : (a b : ArrayValue) (axis : ℕ) → axis < joined_rank a b → ranks_join a b ≡ true
+    → length (other_axes (joined_rank a b) axis (if is_scalar a then b else a)) + 1 ≡ joined_rank a b
+shared_long a b axis h ranks =
+    let m = if is_scalar a then b else a in
+    let near = near_by (is_scalar a) a b refl ranks in
+    other_by (nat_eq (length m.shape) (joined_rank a b)) m.shape (joined_rank a b) axis refl h near.low near.high
+
+-- the types of two sides that have passed the checks
+pub join_types : (along : Along) (a b : ArrayValue) (index : List ℕ) → IsPlaceOf (catenate_form along a b) index → types_join a b ≡ true
+join_types along a b index h =
+    let rank = joined_rank a b in
+    let axis = axis_at rank along in
+    let on_axis = passed (is_axis rank along) _ _ index h in
+    let ranks = passed (ranks_join a b) _ _ index on_axis.place in
+    let axes = passed (axes_agree rank axis a b) _ _ index ranks.place in
+    (passed (types_join a b) _ _ index axes.place).test
+
+-- an index list of the result has an index for each of its axes
+pub join_long : (along : Along) (a b : ArrayValue) (index : List ℕ) → axis_at (joined_rank a b) along < joined_rank a b
+    → IsPlaceOf (catenate_form along a b) index → length index ≡ joined_rank a b
+join_long along a b index below h =
+    let rank = joined_rank a b in
+    let axis = axis_at rank along in
+    let shape = joined_shape rank axis a b in
+    let on_axis = passed (is_axis rank along) _ _ index h in
+    let ranks = passed (ranks_join a b) _ _ index on_axis.place in
+    let axes = passed (axes_agree rank axis a b) _ _ index ranks.place in
+    let types = passed (types_join a b) _ _ index axes.place in
+    let inside = place_inside shape (joined_type a b) index types.place in
+    let shared = shared_long a b axis below ranks.test in
+    let others = other_axes rank axis (if is_scalar a then b else a) in
+    let long : length shape ≡ length others + 1 = length-insert others axis (joined_places rank axis a + joined_places rank axis b) (omega arith) in
+    as_long shape index inside ∙ long ∙ shared
+
+pub join_typed : (along : Along) (a b : ArrayValue) (item : Item) → type_of item ≡ joined_type a b → HasTypeOf (catenate_form along a b) item
+join_typed along a b item h =
+    let rank = joined_rank a b in
+    let axis = axis_at rank along in
+    let last = limited (joined_shape rank axis a b) (joined_type a b) in
+    let types = check (types_join a b) Domain last in
+    let axes = check (axes_agree rank axis a b) Length types in
+    let ranks = check (ranks_join a b) Rank axes in
+    typed_check (is_axis rank along) AxisKind ranks item
+    (typed_check (ranks_join a b) Rank axes item
+    (typed_check (axes_agree rank axis a b) Length types item
+    (typed_check (types_join a b) Domain last item
+    (typed_limited (joined_shape rank axis a b) (joined_type a b) item h))))
