@@ -2,6 +2,7 @@
 //! is fill.
 #![tactic(auto)]
 
+mod arranging;
 mod counts;
 mod dropping;
 mod joining;
@@ -16,6 +17,7 @@ mod taking;
 mod tests;
 mod transposing;
 
+pub use arranging::DyadicTranspose;
 pub use dropping::Drop;
 pub use joining::Catenate;
 pub use ravelling::Ravel;

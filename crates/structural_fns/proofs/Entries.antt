@@ -1,0 +1,23 @@
+-- The entries of a dyadic transpose.
+use Rattle.std.proofs.Common.{◌≡◌, ℕ, suc, ◌+◌, ◌-◌, ◌<◌, ◌&&◌, nat_eq, List, ◌∷◌, length, refl, arith}
+use Rattle.std.specs.List.{range_with_len}
+use Rattle.std.proofs.lemmas.Bool.{eqb-true}
+use Rattle.arrays_core.specs.Arrays.{ArrayValue}
+use Rattle.index_region.specs.Common.{is_list, counts_as_numbers, numbers}
+use Rattle.index_region.specs.Answers.{IsPlaceOf}
+use Rattle.index_region.proofs.Passing.{passed}
+use Rattle.structural_fns.specs.Transposes.{are_axes, transpose_by_form}
+
+-- the next of so many numbers in a row
+pub range_more : (n k : ℕ) → k < n → range_with_len (k + 1) (n - k) ≡ (k + 1) ∷ range_with_len (k + 1 + 1) (n - (k + 1))
+range_more n k h =
+    let e : n - k ≡ suc (n - (k + 1)) = omega arith in
+    let f : k + 1 + 1 ≡ suc (k + 1) = omega arith in
+    rw (e, f) refl
+
+-- where the checks have passed there is an entry for each axis
+pub entries_long : (a b : ArrayValue) (index : List ℕ) → IsPlaceOf (transpose_by_form a b) index → length a.items ≡ length b.shape
+entries_long a b index h =
+    let list = passed (is_list a) _ _ index h in
+    let long = passed (nat_eq (length a.items) (length b.shape)) _ _ index list.place in
+    eqb-true (length a.items) (length b.shape) long.test
