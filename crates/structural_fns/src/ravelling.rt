@@ -29,9 +29,11 @@ impl Ravel {
         requires { length args.now ≡ 1 }
         ensures { IsAnswerTo (of_one ravel_whole args.now) result }
     {
-        let (shape, _) = self.shape_of(args)?;
-        let made = args[0].part(0, &shape)?;
-        Ok(made)
+        let array = &args[0];
+        let alloc = *array.shape().allocator();
+        let (shape, _) = limited(shape_of(alloc, &[array.places()]), array.item_type())?;
+        let vector = array.part(0, &shape)?;
+        Ok(vector)
     }
 }
 
