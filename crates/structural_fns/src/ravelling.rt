@@ -7,8 +7,7 @@ ghost use Rattle.index_region.specs.Answers.{IsPlaceOf, source_value};
 ghost use Rattle.structural_fns.specs.Ravels.{ravel_form, ravel_source, ravel_item, ravel_whole};
 
 use arrays_core::{ApplyFault, Array, Item, ItemType, Kind, Shape, index_of_position, shape_of};
-use index_region::{Primitive, Seen, Source, apply, item_from, limited};
-use std::alloc::Global;
+use index_region::{Primitive, Seen, Source, item_from, limited};
 
 /// Ravel, `,B` (ISO/IEC 13751, "Ravel"): the items in row-major order as a vector. A scalar becomes a
 /// vector of one item.
@@ -25,12 +24,16 @@ impl Ravel {
         Source::Place { arg: 0, at }
     }
 
-    /// The vector of the items.
-    pub fn apply(&self, alloc: Global, args: &[Seen]) -> Result<Array, ApplyFault>
+    /// The vector of the items. They are copied in one run.
+    pub fn apply(&self, args: &[Seen]) -> Result<Array, ApplyFault>
         requires { length args.now ≡ 1 }
         ensures { IsAnswerTo (of_one ravel_whole args.now) result }
     {
-        apply(alloc, self, args)
+        let array = &args[0];
+        let alloc = *array.shape().allocator();
+        let (shape, _) = limited(shape_of(alloc, &[array.places()]), array.item_type())?;
+        let vector = array.part(0, &shape)?;
+        Ok(vector)
     }
 }
 

@@ -1,8 +1,6 @@
-use Rattle.std.proofs.Common.{subst}
-use Rattle.arrays_core.specs.Arrays.{IsAnswerTo}
-use Rattle.index_region.proofs.Arguments.{whole_of_one}
-use Rattle.structural_fns.specs.Ravels.{ravel_form, ravel_item}
+use Rattle.structural_fns.proofs.Runs.{ravel_answer}
 use Rattle.structural_fns.proofs.ravelling.Ravel.apply.Goals as goal
 
 pub returns : goal.returns
-returns c = subst (λ w. IsAnswerTo w c.apply.result) (whole_of_one ravel_form ravel_item c.args.args.now c.requires) c.apply.ensures
+returns c =
+    ravel_answer c.args.args.now c.index-args-0.result c.in_ok-vector.vector c.places.result c.shape_of.result.items c.in_ok-shape.shape.items c.item_type.result c.in_ok-shape.field-0-1 c.requires c.index-args-0.is c.shape_of.ensures.items c.places.ensures.size c.places.ensures.is c.item_type.ensures.is c.in_ok-shape.ensures.0 c.in_ok-vector.ensures

@@ -1,0 +1,78 @@
+-- Results whose items are a run of those of an argument.
+use Rattle.std.proofs.Common.{◌≡◌, ℕ, ◌+◌, ◌-◌, ◌/◌, ◌<◌, ◌≤◌, List, [], ◌∷◌, take, drop, length, get_or, Some, Result, Ok, Err, Bool, true, false, cond, refl, sym, ap, ◌∙◌, arith}
+use Rattle.std.specs.Prelude.{unwrap_or}
+use Rattle.std.proofs.Math.Nat.{div-one}
+use Rattle.std.proofs.lemmas.List.{length-take-le, length-drop, get_or-take, get_or-drop}
+use Rattle.arrays_core.specs.declared.item.Item.{Item}
+use Rattle.arrays_core.specs.declared.item.ItemType.{ItemType}
+use Rattle.arrays_core.specs.declared.item.Kind.{Kind}
+use Rattle.arrays_core.specs.declared.item.Kind.TheVariants.{Limit}
+use Rattle.arrays_core.specs.Items.{fill}
+use Rattle.arrays_core.specs.Shapes.{size, index_after, is_index_of, places_before}
+use Rattle.arrays_core.specs.Arrays.{ArrayValue, item_if_there, collect, with_items}
+use Rattle.index_region.specs.Common.{Form, check, limited, is_within_limits, and_then, whole, of_one, item_from}
+use Rattle.structural_fns.specs.Ravels.{ravel_form, ravel_item, ravel_whole}
+use Rattle.arrays_core.proofs.Order.{given_in_order, index_after-within, places_before-index_after}
+
+-- the item at the index list that has so many before it
+pub item_after : (b : ArrayValue) (k : ℕ) → k < size b.shape → item_if_there b (index_after b.shape k) ≡ Some (get_or b.items k (fill b.item_type))
+item_after b k h = rw (index_after-within b.shape k h, places_before-index_after b.shape k h) refl
+
+-- the array of a run of items, where the rule gives them in their order
+pub run_collected : (item_type : ItemType) (shape : List ℕ) (rule : List ℕ → Result Item Kind) (items : List Item) (skipped : ℕ) (d : Item)
+    → skipped + size shape ≤ length items
+    → ((k : ℕ) → k < size shape → rule (index_after shape k) ≡ Ok (get_or items (skipped + k) d))
+    → collect item_type shape rule ≡ Ok (record { item_type = item_type; shape = shape; items = take (size shape) (drop skipped items) })
+run_collected item_type shape rule items skipped d inside gives =
+    ap (with_items item_type shape) (given_in_order shape rule (take (size shape) (drop skipped items)) d long each)
+  where
+    long : length (take (size shape) (drop skipped items)) ≡ size shape
+    long = length-take-le (size shape) (drop skipped items) (simp length-drop (omega arith))
+
+    each : (k : ℕ) → k < size shape → rule (index_after shape k) ≡ Ok (get_or (take (size shape) (drop skipped items)) k d)
+    each k h = gives k h ∙ ap (λ (x : Item). Ok x) (sym (get_or-take (size shape) (drop skipped items) k d h ∙ get_or-drop skipped items k d))
+
+-- ---- ravel
+
+module _ (b : ArrayValue) (inside : size b.shape ≤ length b.items) where
+  ravelled_item : (k : ℕ) → k < size (size b.shape ∷ []) → ravel_item b (index_after (size b.shape ∷ []) k) ≡ Ok (get_or b.items (0 + k) (fill b.item_type))
+  ravelled_item k h =
+      let below : k < size b.shape = omega arith in
+      let divided : k / 1 ≡ k = div-one k in
+      let place : k / 1 + 1 - 1 ≡ k = omega arith in
+      ap (λ n. item_from b b b.item_type (Some (0, index_after b.shape n))) place
+      ∙ ap (λ o. Ok (unwrap_or o (fill b.item_type))) (item_after b k below)
+      ∙ ap (λ n. Ok (get_or b.items n (fill b.item_type))) (let same : k ≡ 0 + k = omega arith in same)
+
+  pub ravelled : limited (size b.shape ∷ []) b.item_type ≡ Ok (size b.shape ∷ [], b.item_type) → ravel_whole b ≡ Ok (record { item_type = b.item_type; shape = size b.shape ∷ []; items = take (size (size b.shape ∷ [])) (drop 0 b.items) })
+  ravelled is =
+      ap (λ r. and_then r (λ f. collect f.1 f.0 (ravel_item b))) is
+      ∙ run_collected b.item_type (size b.shape ∷ []) (ravel_item b) b.items 0 (fill b.item_type) (omega arith) ravelled_item
+
+-- the form that a passed check gives is what was asked for
+limited_is : {asked shape : List ℕ} {asked_type item_type : ItemType} → limited asked asked_type ≡ Ok (shape, item_type) → (shape ≡ asked) × (item_type ≡ asked_type)
+limited_is {asked = asked} {shape = shape} {asked_type = asked_type} {item_type = item_type} is = decide (is_within_limits asked) is
+  where
+    decide : (w : Bool) → cond {A = Result Form Kind} w (Ok (asked, asked_type)) (Err Limit) ≡ Ok (shape, item_type) → (shape ≡ asked) × (item_type ≡ asked_type)
+    decide true h =
+        let found : Form = (asked, asked_type) in
+        let wanted : Form = (shape, item_type) in
+        let same : found ≡ wanted = cc in
+        (sym (ap (λ (f : Form). f.0) same), sym (ap (λ (f : Form). f.1) same))
+    decide false h = let no : ⊥ = cc in absurd no
+
+pub ravel_answer : (args : List ArrayValue) (b v : ArrayValue) (places : ℕ) (asked shape : List ℕ) (asked_type item_type : ItemType)
+    → length args ≡ 1 → b ≡ get_or args 0 b → asked ≡ places ∷ [] → places ≡ size b.shape → places ≡ length b.items → asked_type ≡ b.item_type
+    → limited asked asked_type ≡ Ok (shape, item_type) → v ≡ record { item_type = b.item_type; shape = shape; items = take (size shape) (drop 0 b.items) }
+    → of_one ravel_whole args ≡ Ok v
+ravel_answer [] b v places asked shape asked_type item_type one same is_asked is_size is_length is_type passed made = absurd (omega arith)
+ravel_answer (a ∷ c ∷ args) b v places asked shape asked_type item_type one same is_asked is_size is_length is_type passed made = absurd (omega arith)
+ravel_answer (a ∷ []) b v places asked shape asked_type item_type one same is_asked is_size is_length is_type passed made =
+    let vector : asked ≡ size b.shape ∷ [] = is_asked ∙ ap (λ n. n ∷ []) is_size in
+    let parts = limited_is passed in
+    let shaped : shape ≡ size b.shape ∷ [] = parts.0 ∙ vector in
+    let typed : item_type ≡ b.item_type = parts.1 ∙ is_type in
+    let checked : limited (size b.shape ∷ []) b.item_type ≡ Ok (size b.shape ∷ [], b.item_type) =
+    ap (λ xs. limited xs b.item_type) (sym vector) ∙ ap (λ t. limited asked t) (sym is_type) ∙ passed ∙ ap (λ xs. Ok (xs, item_type)) shaped ∙ ap (λ t. Ok (size b.shape ∷ [], t)) typed in
+    ap ravel_whole (sym same) ∙ ravelled b (omega arith) checked
+    ∙ ap (λ xs. Ok (record { item_type = b.item_type; shape = xs; items = take (size xs) (drop 0 b.items) })) (sym shaped) ∙ ap (λ w. Ok w) (sym made)
