@@ -100,6 +100,8 @@ pub enum Dyadic {
     Drop,
     /// `A⌽B` and `A⊖B`, each line of an axis turned by so many places.
     Rotate(Along),
+    /// `A⍉B`, the axes of B where A says.
+    Transpose,
 }
 
 /// A literal of ISO 8485: numbers that stand side by side, or a text.

@@ -78,6 +78,7 @@ fn dyad_of(sign: char) -> Option<Dyadic>
         '↓' => Some(Dyadic::Drop),
         '⌽' => Some(Dyadic::Rotate(Along::Last)),
         '⊖' => Some(Dyadic::Rotate(Along::First)),
+        '⍉' => Some(Dyadic::Transpose),
         _ => None,
     }
 }

@@ -226,7 +226,6 @@ fn refuses_what_is_no_line(rt: HostRuntime) -> Result<(), Fail> {
         "A⍴[1]B",
         "⍪A",
         "↑A",
-        "1⍉A",
         "A,",
         "*1",
         "A~1",

@@ -137,9 +137,10 @@ code_of_dyadic (dyadic.Rotate a) = (2, code_of_along a)
 code_of_dyadic dyadic.Reshape = (3, (0, pos 0))
 code_of_dyadic dyadic.Take = (3, (1, pos 0))
 code_of_dyadic dyadic.Drop = (3, (2, pos 0))
+code_of_dyadic dyadic.Transpose = (3, (3, pos 0))
 
 abbrev plain_dyads : List Dyadic
-plain_dyads = dyadic.Reshape ∷ dyadic.Take ∷ dyadic.Drop ∷ []
+plain_dyads = dyadic.Reshape ∷ dyadic.Take ∷ dyadic.Drop ∷ dyadic.Transpose ∷ []
 
 abbrev dyadic_of_code : Code → Dyadic
 dyadic_of_code (zero, c) = dyadic.Scalar (dyad_of_number c.0)
@@ -154,6 +155,7 @@ dyadic_again (dyadic.Rotate a) = ap (λ b. dyadic.Rotate b) (along_again a)
 dyadic_again dyadic.Reshape = refl
 dyadic_again dyadic.Take = refl
 dyadic_again dyadic.Drop = refl
+dyadic_again dyadic.Transpose = refl
 
 -- numbers, characters, a name, or a function of one or of two arguments
 abbrev Word : Type 0

@@ -24,7 +24,7 @@ use Rattle.structural_fns.specs.Ravels.{reshape_whole, ravel_whole}
 use Rattle.structural_fns.specs.Joins.{catenate_whole}
 use Rattle.structural_fns.specs.Counts.{take_whole, drop_whole}
 use Rattle.structural_fns.specs.Turns.{reverse_whole, rotate_whole}
-use Rattle.structural_fns.specs.Transposes.{transpose_whole}
+use Rattle.structural_fns.specs.Transposes.{transpose_whole, transpose_by_whole}
 use Rattle.formula_core.specs.Outcomes.{Outcome, given}
 
 -- one number is a scalar, several are a vector; so it is with the characters of a text
@@ -86,6 +86,7 @@ of_both (dyadic.Catenate k) a b = catenate_whole (along_of k) a b
 of_both dyadic.Take a b = take_whole a b
 of_both dyadic.Drop a b = drop_whole a b
 of_both (dyadic.Rotate k) a b = rotate_whole (along_of k) a b
+of_both dyadic.Transpose a b = transpose_by_whole a b
 
 abbrev pub applied1 : Monadic → Outcome → Outcome
 applied1 f (Err e) = Err e

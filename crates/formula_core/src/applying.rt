@@ -6,7 +6,7 @@ ghost use Rattle.structural_fns.specs.Ravels.{reshape_whole, ravel_whole};
 ghost use Rattle.structural_fns.specs.Joins.{catenate_whole};
 ghost use Rattle.structural_fns.specs.Counts.{take_whole, drop_whole};
 ghost use Rattle.structural_fns.specs.Turns.{reverse_whole, rotate_whole};
-ghost use Rattle.structural_fns.specs.Transposes.{transpose_whole};
+ghost use Rattle.structural_fns.specs.Transposes.{transpose_whole, transpose_by_whole};
 
 use crate::symbols::{along_of, scalar1_of, scalar2_of};
 use apl_expr::{Along, Dyadic, Monadic};
@@ -14,7 +14,9 @@ use arrays_core::{ApplyFault, Array};
 use index_region::Seen;
 use scalar_fns::{apply_one, apply_two};
 use std::alloc::Global;
-use structural_fns::{Catenate, Drop, Ravel, Reshape, Reverse, Rotate, Take, Transpose};
+use structural_fns::{
+    Catenate, Drop, DyadicTranspose, Ravel, Reshape, Reverse, Rotate, Take, Transpose,
+};
 
 /// A function of one array.
 pub(crate) fn of_right(
@@ -26,7 +28,7 @@ pub(crate) fn of_right(
 {
     match function {
         Monadic::Scalar(scalar) => apply_one(alloc, scalar1_of(scalar), array),
-        Monadic::Ravel => ravelled(alloc, array),
+        Monadic::Ravel => ravelled(array),
         Monadic::Reverse(along) => reversed(alloc, along, array),
         Monadic::Transpose => transposed(alloc, array),
     }
@@ -48,13 +50,14 @@ pub(crate) fn of_both(
         Dyadic::Take => taken(alloc, left, right),
         Dyadic::Drop => dropped(alloc, left, right),
         Dyadic::Rotate(along) => rotated(alloc, along, left, right),
+        Dyadic::Transpose => transposed_by(alloc, left, right),
     }
 }
 
-fn ravelled(alloc: Global, array: &Array) -> Result<Array, ApplyFault>
+fn ravelled(array: &Array) -> Result<Array, ApplyFault>
     ensures { IsAnswerTo (ravel_whole array.now) result }
 {
-    Ravel.apply(alloc, &[Seen::plain(array)])
+    Ravel.apply(&[Seen::plain(array)])
 }
 
 fn reversed(alloc: Global, along: Along, array: &Array) -> Result<Array, ApplyFault>
@@ -111,4 +114,10 @@ fn rotated(alloc: Global, along: Along, left: &Array, right: &Array) -> Result<A
         along: along_of(along),
     };
     rotate.apply(alloc, &[Seen::plain(left), Seen::plain(right)])
+}
+
+fn transposed_by(alloc: Global, left: &Array, right: &Array) -> Result<Array, ApplyFault>
+    ensures { IsAnswerTo (transpose_by_whole left.now right.now) result }
+{
+    DyadicTranspose.apply(alloc, &[Seen::plain(left), Seen::plain(right)])
 }
