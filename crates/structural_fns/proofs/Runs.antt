@@ -1,17 +1,18 @@
 -- Results whose items are a run of those of an argument.
-use Rattle.std.proofs.Common.{◌≡◌, ℕ, ◌+◌, ◌-◌, ◌/◌, ◌<◌, ◌≤◌, List, [], ◌∷◌, take, drop, length, get_or, Some, Result, Ok, Err, Bool, true, false, cond, refl, sym, ap, ◌∙◌, arith}
-use Rattle.std.specs.Prelude.{unwrap_or}
-use Rattle.std.proofs.Math.Nat.{div-one}
+use Rattle.std.proofs.Common.{◌≡◌, ℕ, ◌+◌, ◌-◌, ◌/◌, ◌%◌, ◌<◌, ◌≤◌, List, [], ◌∷◌, take, drop, length, get_or, Some, None, Result, Ok, Err, Bool, true, false, cond, refl, sym, ap, subst, ◌∙◌, arith}
+use Rattle.std.specs.Prelude.{unwrap_or, not, nat_eq, ◌&&◌}
+use Rattle.std.proofs.lemmas.Bool.Decides.{nat_tests}
+use Rattle.std.proofs.Math.Nat.{div-one, mod-eq_of_lt}
 use Rattle.std.proofs.lemmas.List.{length-take-le, length-drop, get_or-take, get_or-drop}
 use Rattle.arrays_core.specs.declared.item.Item.{Item}
 use Rattle.arrays_core.specs.declared.item.ItemType.{ItemType}
 use Rattle.arrays_core.specs.declared.item.Kind.{Kind}
-use Rattle.arrays_core.specs.declared.item.Kind.TheVariants.{Limit}
+use Rattle.arrays_core.specs.declared.item.Kind.TheVariants.{Rank, Domain, Limit}
 use Rattle.arrays_core.specs.Items.{fill}
 use Rattle.arrays_core.specs.Shapes.{size, index_after, is_index_of, places_before}
 use Rattle.arrays_core.specs.Arrays.{ArrayValue, item_if_there, collect, with_items}
-use Rattle.index_region.specs.Common.{Form, check, limited, is_within_limits, and_then, whole, of_one, item_from}
-use Rattle.structural_fns.specs.Ravels.{ravel_form, ravel_item, ravel_whole}
+use Rattle.index_region.specs.Common.{Form, check, limited, is_within_limits, and_then, is_list, counts_as_numbers, none_negative, numbers, of_one, of_two, item_from}
+use Rattle.structural_fns.specs.Ravels.{magnitudes, reshape_form, reshape_item, reshape_whole, ravel_item, ravel_whole}
 use Rattle.arrays_core.proofs.Order.{given_in_order, index_after-within, places_before-index_after}
 
 -- the item at the index list that has so many before it
@@ -75,4 +76,46 @@ ravel_answer (a ∷ []) b v places asked shape asked_type item_type one same is_
     let checked : limited (size b.shape ∷ []) b.item_type ≡ Ok (size b.shape ∷ [], b.item_type) =
     ap (λ xs. limited xs b.item_type) (sym vector) ∙ ap (λ t. limited asked t) (sym is_type) ∙ passed ∙ ap (λ xs. Ok (xs, item_type)) shaped ∙ ap (λ t. Ok (size b.shape ∷ [], t)) typed in
     ap ravel_whole (sym same) ∙ ravelled b (omega arith) checked
+    ∙ ap (λ xs. Ok (record { item_type = b.item_type; shape = xs; items = take (size xs) (drop 0 b.items) })) (sym shaped) ∙ ap (λ w. Ok w) (sym made)
+
+-- ---- reshape, where no item is needed twice
+
+check_passed : {A : Type 0} (w : Bool) (kind : Kind) (rest : Result A Kind) (x : A) → check w kind rest ≡ Ok x → rest ≡ Ok x
+check_passed true kind rest x h = h
+check_passed false kind rest x h = let no : ⊥ = cc in absurd no
+
+module _ (a b : ArrayValue) (as_many : length b.items ≡ size b.shape) (few : size (magnitudes a) ≤ length b.items) where
+  reshaped_item : (k : ℕ) → k < size (magnitudes a) → reshape_item a b (index_after (magnitudes a) k) ≡ Ok (get_or b.items (0 + k) (fill b.item_type))
+  reshaped_item k h =
+      let below : k < size b.shape = omega arith in
+      let before : places_before (magnitudes a) (index_after (magnitudes a) k) % size b.shape ≡ k =
+      ap (λ n. n % size b.shape) (places_before-index_after (magnitudes a) k h) ∙ mod-eq_of_lt below in
+      let some : nat_eq (length b.items) 0 ≡ false = positive (length b.items) (omega arith) in
+      ap (λ w. item_from a b b.item_type (cond (not w) (Some (1, index_after b.shape (places_before (magnitudes a) (index_after (magnitudes a) k) % size b.shape))) None)) some
+      ∙ ap (λ n. item_from a b b.item_type (Some (1, index_after b.shape n))) before
+      ∙ ap (λ o. Ok (unwrap_or o (fill b.item_type))) (item_after b k below)
+      ∙ ap (λ n. Ok (get_or b.items n (fill b.item_type))) (let same : k ≡ 0 + k = omega arith in same)
+    where
+      positive : (n : ℕ) → 0 < n → nat_eq n 0 ≡ false
+      positive n p = grind (arith, nat_tests)
+
+  reshaped : reshape_form a b ≡ Ok (magnitudes a, b.item_type) → reshape_whole a b ≡ Ok (record { item_type = b.item_type; shape = magnitudes a; items = take (size (magnitudes a)) (drop 0 b.items) })
+  reshaped is =
+      ap (λ r. and_then r (λ f. collect f.1 f.0 (reshape_item a b))) is
+      ∙ run_collected b.item_type (magnitudes a) (reshape_item a b) b.items 0 (fill b.item_type) (omega arith) reshaped_item
+
+pub reshape_answer : (args : List ArrayValue) (b v : ArrayValue) (shape : List ℕ) (item_type : ItemType)
+    → length args ≡ 2 → b ≡ get_or args 1 b → of_two reshape_form args ≡ Ok (shape, item_type) → length b.items ≡ size b.shape → size shape ≤ length b.items
+    → v ≡ record { item_type = b.item_type; shape = shape; items = take (size shape) (drop 0 b.items) } → of_two reshape_whole args ≡ Ok v
+reshape_answer [] b v shape item_type two same passed as_many few made = absurd (omega arith)
+reshape_answer (a ∷ []) b v shape item_type two same passed as_many few made = absurd (omega arith)
+reshape_answer (a ∷ c ∷ d ∷ args) b v shape item_type two same passed as_many few made = absurd (omega arith)
+reshape_answer (a ∷ c ∷ []) b v shape item_type two same passed as_many few made =
+    let here : reshape_form a b ≡ Ok (shape, item_type) = ap (λ x. reshape_form a x) same ∙ passed in
+    let last = check_passed (counts_as_numbers a && none_negative (numbers a)) Domain (limited (magnitudes a) b.item_type) (shape, item_type) (check_passed (is_list a) Rank _ (shape, item_type) here) in
+    let parts = limited_is last in
+    let shaped : shape ≡ magnitudes a = parts.0 in
+    let fits : size (magnitudes a) ≤ length b.items = subst (λ xs. size xs ≤ length b.items) shaped few in
+    let form : reshape_form a b ≡ Ok (magnitudes a, b.item_type) = here ∙ ap (λ xs. Ok (xs, item_type)) shaped ∙ ap (λ t. Ok (magnitudes a, t)) parts.1 in
+    ap (λ x. reshape_whole a x) (sym same) ∙ reshaped a b as_many fits form
     ∙ ap (λ xs. Ok (record { item_type = b.item_type; shape = xs; items = take (size xs) (drop 0 b.items) })) (sym shaped) ∙ ap (λ w. Ok w) (sym made)

@@ -7,7 +7,7 @@ ghost use Rattle.index_region.specs.Answers.{IsPlaceOf, source_value};
 ghost use Rattle.structural_fns.specs.Ravels.{magnitudes as magnitudes_of, reshape_form, reshape_source, reshape_item, reshape_whole};
 
 use crate::magnitudes::magnitudes;
-use arrays_core::{ApplyFault, Array, Item, ItemType, Kind, Shape, index_of_position, position};
+use arrays_core::{ApplyFault, Array, Item, ItemType, Kind, Shape, index_of_position, position, size};
 use index_region::{Primitive, Seen, Source, apply, item_from, limited};
 use std::alloc::Global;
 
@@ -47,11 +47,17 @@ impl Reshape {
         Source::Place { arg: 1, at }
     }
 
-    /// The array of the shape that the left argument says.
+    /// The array of the shape that the left argument says. Where no item is needed twice they are copied in one run.
     pub fn apply(&self, alloc: Global, args: &[Seen]) -> Result<Array, ApplyFault>
         requires { length args.now ≡ 2 }
         ensures { IsAnswerTo (of_two reshape_whole args.now) result }
     {
+        let (shape, _) = self.shape_of(args)?;
+        let array = &args[1];
+        if size(shape.as_slice()) <= array.places() {
+            let begin = array.part(0, &shape)?;
+            return Ok(begin);
+        }
         apply(alloc, self, args)
     }
 }
