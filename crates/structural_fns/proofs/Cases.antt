@@ -1,5 +1,5 @@
 -- Worked cases of the definitions, computed.
-use Rattle.std.proofs.Common.{◌≡◌, refl, ℕ, zero, suc, ℤ, pos, negsuc, List, [], ◌∷◌, map, Result, Ok, Err}
+use Rattle.std.proofs.Common.{◌≡◌, refl, ℕ, ℤ, pos, negsuc, List, [], ◌∷◌, map, Result, Ok, Err}
 use Rattle.arrays_core.specs.declared.item.Item.TheVariants.{Num, Char}
 use Rattle.arrays_core.specs.declared.item.ItemType.TheVariants.{Nums, Chars}
 use Rattle.arrays_core.specs.declared.item.Kind.{Kind}
