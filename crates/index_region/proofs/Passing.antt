@@ -1,5 +1,5 @@
 -- What is known where checks have passed.
-use Rattle.std.proofs.Common.{◌≡◌, ℕ, Bool, true, false, List, [], ◌∷◌, length, get_or, Result, Ok, IsTrue, refl, arith}
+use Rattle.std.proofs.Common.{◌≡◌, ℕ, Bool, true, false, List, [], ◌∷◌, length, get_or, Result, Ok, refl, arith}
 use Rattle.arrays_core.specs.declared.item.Item.{Item}
 use Rattle.arrays_core.specs.declared.item.ItemType.{ItemType}
 use Rattle.arrays_core.specs.declared.item.Kind.{Kind}
@@ -15,7 +15,7 @@ pub record Passed (holds : Bool) (rest : Result Form Kind) (index : List ℕ) : 
   pub place : IsPlaceOf rest index
 
 pub passed : (holds : Bool) (kind : Kind) (rest : Result Form Kind) (index : List ℕ) → IsPlaceOf (check holds kind rest) index → Passed holds rest index
-passed true kind rest index h = record { test = refl; place = h; }
+passed true kind rest index h = record { test = refl; place = h }
 passed false kind rest index h = absurd h
 
 inside_if : (holds : Bool) (kind : Kind) (shape : List ℕ) (item_type : ItemType) (index : List ℕ) → IsPlaceOf (check holds kind (Ok (shape, item_type))) index

@@ -58,11 +58,7 @@ impl<'a, 'b, P: Primitive> ItemRule for Applied<'a, 'b, P> {
 
 /// The whole result of a function: its checks, and then its items; where several items fail, the error
 /// is that of the first in row-major order.
-pub fn apply<P: Primitive>(
-    alloc: Global,
-    primitive: &P,
-    args: &[Seen],
-) -> Result<Array, ApplyFault>
+pub fn apply<P: Primitive>(alloc: Global, primitive: &P, args: &[Seen]) -> Result<Array, ApplyFault>
     requires { length args.now ≡ P.arity primitive.now }
     ensures { IsAnswerTo (whole (P.form primitive.now args.now) (P.item primitive.now args.now)) result }
 {

@@ -30,12 +30,7 @@ fn item_or_fill(array: &Seen, at: &[u32], item_type: ItemType) -> Item
 
 /// The item of a source, where the arguments are `left` and `right`; a function of one argument gives
 /// it as both.
-pub fn item_from<'a>(
-    left: &Seen<'a>,
-    right: &Seen<'a>,
-    item_type: ItemType,
-    source: Source,
-) -> Item
+pub fn item_from<'a>(left: &Seen<'a>, right: &Seen<'a>, item_type: ItemType, source: Source) -> Item
     requires left_typed { left.now.item_type ≡ item_type }
     requires right_typed { right.now.item_type ≡ item_type }
     ensures is { Ok result ≡ item_of_source left.now right.now item_type (source_value source) }

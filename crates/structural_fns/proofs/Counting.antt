@@ -1,5 +1,5 @@
 -- Counts and index lists, one axis after another.
-use Rattle.std.proofs.Common.{◌≡◌, ℕ, zero, suc, ◌+◌, ◌-◌, ◌<◌, ◌≤◌, ℤ, pos, unsigned_abs, Bool, true, false, if◌then◌else◌, ◌&&◌, nat_le, Result, Ok, Err, All, List, [], ◌∷◌, length, replicate, ap, map, get_or, drop, refl, subst, sym, ◌∙◌, arith}
+use Rattle.std.proofs.Common.{◌≡◌, ℕ, zero, suc, ◌+◌, ◌-◌, ◌<◌, ◌≤◌, ℤ, pos, unsigned_abs, Bool, true, false, if◌then◌else◌, ◌&&◌, nat_le, Result, Ok, Err, All, List, [], ◌∷◌, length, replicate, ap, get_or, drop, refl, subst, sym, ◌∙◌, arith}
 use Rattle.std.proofs.lemmas.List.{drop_more, length-map, length-replicate, get_or-map, get_or-replicate}
 use Rattle.std.proofs.lemmas.Bool.{lt-leb}
 use Rattle.std.specs.List.{list_all}
@@ -50,17 +50,17 @@ count_at a index k within inside h =
 
 pub taken_more : (shape : List ℕ) (counts : List ℤ) (index : List ℕ) (k : ℕ) → k < length shape → k < length counts → k < length index
     → taken_places (drop k shape) (drop k counts) (drop k index)
-        ≡ taken_place (get_or shape k 0) (get_or counts k (pos 0)) (get_or index k 0) ∷ taken_places (drop (k + 1) shape) (drop (k + 1) counts) (drop (k + 1) index)
+    ≡ taken_place (get_or shape k 0) (get_or counts k (pos 0)) (get_or index k 0) ∷ taken_places (drop (k + 1) shape) (drop (k + 1) counts) (drop (k + 1) index)
 taken_more shape counts index k s c i = rw (drop_more shape k 0 s, drop_more counts k (pos 0) c, drop_more index k 0 i) refl
 
 pub dropped_more : (shape : List ℕ) (counts : List ℤ) (k : ℕ) → k < length shape → k < length counts
     → dropped_shape (drop k shape) (drop k counts)
-        ≡ (get_or shape k 0 - unsigned_abs (get_or counts k (pos 0))) ∷ dropped_shape (drop (k + 1) shape) (drop (k + 1) counts)
+    ≡ (get_or shape k 0 - unsigned_abs (get_or counts k (pos 0))) ∷ dropped_shape (drop (k + 1) shape) (drop (k + 1) counts)
 dropped_more shape counts k s c = rw (drop_more shape k 0 s, drop_more counts k (pos 0) c) refl
 
 pub kept_more : (counts : List ℤ) (index : List ℕ) (k : ℕ) → k < length counts → k < length index
     → kept_places (drop k counts) (drop k index)
-        ≡ kept_place (get_or counts k (pos 0)) (get_or index k 0) ∷ kept_places (drop (k + 1) counts) (drop (k + 1) index)
+    ≡ kept_place (get_or counts k (pos 0)) (get_or index k 0) ∷ kept_places (drop (k + 1) counts) (drop (k + 1) index)
 kept_more counts index k c i = rw (drop_more counts k (pos 0) c, drop_more index k 0 i) refl
 
 pub dropped_long : (shape : List ℕ) (counts : List ℤ) → length shape ≡ length counts → length (dropped_shape shape counts) ≡ length shape
@@ -102,7 +102,7 @@ left_at a b index k within long limits inside h =
     let high : get_or index k 0 ≤ get_or shape k 0 - unsigned_abs (get_or (numbers a) k (pos 0)) = subst (λ n. get_or index k 0 ≤ n) e head.high in
     let low = head.low in
     let bound : get_or shape k 0 ≤ 1048576 = counted_within a b within k 0 (omega arith) in
-    record { there = omega arith; four = omega (arith, limits.rank); bound = omega arith; }
+    record { there = omega arith; four = omega (arith, limits.rank); bound = omega arith }
 
 abbrev limited_by : Bool → List ℕ → ItemType → Result Form Kind
 limited_by b shape item_type = check b Limit (Ok (shape, item_type))

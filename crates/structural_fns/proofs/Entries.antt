@@ -1,12 +1,12 @@
 -- The entries of a dyadic transpose.
-use Rattle.std.proofs.Common.{◌≡◌, ℕ, suc, ◌+◌, ◌-◌, ◌<◌, ◌&&◌, nat_eq, List, ◌∷◌, length, refl, arith}
+use Rattle.std.proofs.Common.{◌≡◌, ℕ, suc, ◌+◌, ◌-◌, ◌<◌, nat_eq, List, ◌∷◌, length, refl, arith}
 use Rattle.std.specs.List.{range_with_len}
 use Rattle.std.proofs.lemmas.Bool.{eqb-true}
 use Rattle.arrays_core.specs.Arrays.{ArrayValue}
-use Rattle.index_region.specs.Common.{is_list, counts_as_numbers, numbers}
+use Rattle.index_region.specs.Common.{is_list}
 use Rattle.index_region.specs.Answers.{IsPlaceOf}
 use Rattle.index_region.proofs.Passing.{passed}
-use Rattle.structural_fns.specs.Transposes.{are_axes, transpose_by_form}
+use Rattle.structural_fns.specs.Transposes.{transpose_by_form}
 
 -- the next of so many numbers in a row
 pub range_more : (n k : ℕ) → k < n → range_with_len (k + 1) (n - k) ≡ (k + 1) ∷ range_with_len (k + 1 + 1) (n - (k + 1))

@@ -1,5 +1,5 @@
 -- The two sides of a catenation.
-use Rattle.std.proofs.Common.{◌≡◌, ℕ, zero, suc, ◌+◌, ◌-◌, ◌<◌, ◌≤◌, max, Bool, true, false, not, ◌&&◌, ◌||◌, if◌then◌else◌, nat_eq, nat_le, List, length, remove, insert, bytes_eq, unwrap_or, refl, ap, subst, sym, ◌∙◌, inl, inr, arith}
+use Rattle.std.proofs.Common.{◌≡◌, ℕ, suc, ◌+◌, ◌<◌, ◌≤◌, Bool, true, false, not, ◌&&◌, ◌||◌, if◌then◌else◌, nat_eq, nat_le, List, length, remove, unwrap_or, refl, sym, ◌∙◌, inl, inr, arith}
 use Rattle.std.proofs.lemmas.Bool.{and_parts, or_cases, eqb-true, eqb-false, leb-true, false_from_ne_true, true≢false, false≢true}
 use Rattle.std.proofs.lemmas.List.Edits.{length-insert, length-remove}
 use Rattle.arrays_core.specs.declared.item.Item.{Item}
@@ -8,19 +8,19 @@ use Rattle.arrays_core.specs.declared.item.ItemType.TheVariants.{Nums, Chars}
 use Rattle.arrays_core.specs.declared.item.Kind.TheVariants.{Axis as AxisKind, Rank, Length, Domain}
 use Rattle.arrays_core.specs.Items.{type_of}
 use Rattle.arrays_core.specs.Arrays.{ArrayValue, IsArray, item_if_there}
-use Rattle.arrays_core.specs.Shapes.{size, is_index_of}
+use Rattle.arrays_core.specs.Shapes.{is_index_of}
 use Rattle.arrays_core.proofs.Shapes.{as_long, places_below}
 use Rattle.index_region.specs.declared.along.Along.{Along}
 use Rattle.index_region.specs.Common.{check, limited, is_scalar, has_items, is_of_numbers, is_axis, axis_at}
 use Rattle.index_region.specs.Answers.{IsPlaceOf, HasTypeOf}
 use Rattle.index_region.proofs.Passing.{passed, place_inside, typed_check, typed_limited}
-use Rattle.structural_fns.specs.Joins.{joined_rank, joined_places, other_axes, ranks_join, axes_agree, types_join, joined_type, joined_shape, sides_checked, catenate_form}
+use Rattle.structural_fns.specs.Joins.{joined_rank, joined_places, other_axes, ranks_join, axes_agree, types_join, joined_type, joined_shape, catenate_form}
 
 -- an array without items has none at any index list
 pub nothing_there : (a : ArrayValue) (at : List ℕ) (d : Item) → IsArray a → length a.items ≡ 0 → unwrap_or (item_if_there a at) d ≡ d
 nothing_there a at d sound none =
     let outside : is_index_of a.shape at ≡ false =
-        false_from_ne_true _ (λ h. let below = places_below a.shape at h in let long = sound.one_item_a_place in absurd (omega arith)) in
+    false_from_ne_true _ (λ h. let below = places_below a.shape at h in let long = sound.one_item_a_place in absurd (omega arith)) in
     rw outside refl
 
 same_types : (left right : Bool) (s t : ItemType)
@@ -42,18 +42,18 @@ pub record IsNear (m : ArrayValue) (rank : ℕ) : Type 0 where
   pub high : rank ≤ suc (length m.shape)
 
 near_by : (scalar : Bool) (a b : ArrayValue) → is_scalar a ≡ scalar → ranks_join a b ≡ true → IsNear (if scalar then b else a) (joined_rank a b)
-near_by true a b e h = let none = eqb-true (length a.shape) 0 e in record { low = omega arith; high = omega arith; }
+near_by true a b e h = let none = eqb-true (length a.shape) 0 e in record { low = omega arith; high = omega arith }
 near_by false a b e h =
     elim (or_cases (is_scalar a || is_scalar b) (nat_le (length a.shape) (suc (length b.shape)) && nat_le (length b.shape) (suc (length a.shape))) h) [
       | inl one ↦ elim (or_cases (is_scalar a) (is_scalar b) one) [
-          | inl t ↦ absurd (true≢false (sym t ∙ e))
-          | inr t ↦ let none = eqb-true (length b.shape) 0 t in record { low = omega arith; high = omega arith; }
-        ]
+        | inl t ↦ absurd (true≢false (sym t ∙ e))
+        | inr t ↦ let none = eqb-true (length b.shape) 0 t in record { low = omega arith; high = omega arith }
+      ]
       | inr near ↦
           let parts = and_parts (nat_le (length a.shape) (suc (length b.shape))) (nat_le (length b.shape) (suc (length a.shape))) near in
           let p = leb-true (length a.shape) (suc (length b.shape)) parts.0 in
           let q = leb-true (length b.shape) (suc (length a.shape)) parts.1 in
-          record { low = omega arith; high = omega arith; }
+          record { low = omega arith; high = omega arith }
     ]
 
 other_by : (test : Bool) (shape : List ℕ) (rank axis : ℕ) → nat_eq (length shape) rank ≡ test → axis < rank → length shape ≤ rank → rank ≤ suc (length shape)

@@ -1,5 +1,5 @@
 -- Reshape and ravel: the items in row-major order under another shape.
-use Rattle.std.specs.Prelude.{ℕ, ◌-◌, ◌%◌, ℤ, unsigned_abs, ◌&&◌, if◌then◌else◌, List, [], ◌∷◌, map, get_or, Some, None, Result}
+use Rattle.std.specs.Prelude.{ℕ, ◌-◌, ◌%◌, unsigned_abs, ◌&&◌, if◌then◌else◌, List, [], ◌∷◌, map, get_or, Some, None, Result}
 use Rattle.arrays_core.specs.declared.item.Item.{Item}
 use Rattle.arrays_core.specs.declared.item.Kind.{Kind}
 use Rattle.arrays_core.specs.declared.item.Kind.TheVariants.{Rank, Domain}

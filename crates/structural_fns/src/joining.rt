@@ -226,7 +226,10 @@ impl Primitive for Catenate {
         }
         let axis = self.along.axis_at(rank as u32);
         check_sides(left, right, rank, axis)?;
-        limited(joined_shape(left, right, rank, axis), joined_type(left, right))
+        limited(
+            joined_shape(left, right, rank, axis),
+            joined_type(left, right),
+        )
     }
 
     fn item_at(&self, args: &[Seen], index: &[u32]) -> Result<Item, Kind> {

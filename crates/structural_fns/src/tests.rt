@@ -1,4 +1,4 @@
-use crate::{Drop, Ravel, Reshape, Reverse, Rotate, Take, Transpose};
+use crate::{Catenate, Drop, DyadicTranspose, Ravel, Reshape, Reverse, Rotate, Take, Transpose};
 use arrays_core::{ApplyFault, Array, Item, ItemType, Kind};
 use index_region::{Along, Seen};
 use std::alloc::Global;
@@ -106,4 +106,31 @@ fn fills_by_type(rt: HostRuntime) -> Result<(), Fail> {
         Err(_) => assert!(rt; false),
     }
     Ok(())
+}
+
+#[test]
+fn joins_and_meets(rt: HostRuntime) {
+    let alloc = rt.alloc();
+    let (Ok(table), Ok(row), Ok(axes)) = (
+        matrix(alloc),
+        vector(alloc, &[7, 8, 9]),
+        vector(alloc, &[1, 1]),
+    ) else {
+        assert!(rt; false);
+        return;
+    };
+    let rows = Catenate {
+        along: Along::First,
+    };
+    let args = [Seen::plain(&table), Seen::plain(&row)];
+    assert!(rt; are_numbers(rows.apply(alloc, &args), 2, &[1, 2, 3, 4, 5, 6, 7, 8, 9]));
+    let columns = Catenate { along: Along::Last };
+    assert!(rt;
+        matches!(
+            columns.apply(alloc, &args),
+            Err(ApplyFault::Kind(Kind::Length))
+        )
+    );
+    let args = [Seen::plain(&axes), Seen::plain(&table)];
+    assert!(rt; are_numbers(DyadicTranspose.apply(alloc, &args), 1, &[1, 5]));
 }

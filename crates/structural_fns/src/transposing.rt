@@ -58,7 +58,10 @@ impl Primitive for Transpose {
     fn shape_of(&self, args: &[Seen]) -> Result<(Shape, ItemType), Kind> {
         let array = &args[0];
         let shape = array.shape();
-        limited(from_last(*shape.allocator(), shape.as_slice()), array.item_type())
+        limited(
+            from_last(*shape.allocator(), shape.as_slice()),
+            array.item_type(),
+        )
     }
 
     fn item_at(&self, args: &[Seen], index: &[u32]) -> Result<Item, Kind> {

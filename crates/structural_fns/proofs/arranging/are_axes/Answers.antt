@@ -1,4 +1,4 @@
-use Rattle.std.proofs.Common.{◌≡◌, ◌<◌, ◌+◌, true, sym, ◌∙◌, arith}
+use Rattle.std.proofs.Common.{◌≡◌, ◌+◌, true, arith}
 use Rattle.structural_fns.specs.Transposes.{axes_to, occurs, greatest}
 use Rattle.structural_fns.proofs.Entries.{range_more}
 use Rattle.structural_fns.proofs.arranging.are_axes.Goals as goal

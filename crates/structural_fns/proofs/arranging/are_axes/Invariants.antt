@@ -6,4 +6,4 @@ use Rattle.structural_fns.proofs.arranging.are_axes.Given as goal
 abbrev pub invariant-loop-axis : goal.invariant-loop-axis
 invariant-loop-axis l =
     list_all (occurs (axes_to l.fn.axes)) (range_with_len (l.axis + 1) (greatest (axes_to l.fn.axes) - l.axis))
-      ≡ list_all (occurs (axes_to l.fn.axes)) (range_with_len 1 (greatest (axes_to l.fn.axes)))
+    ≡ list_all (occurs (axes_to l.fn.axes)) (range_with_len 1 (greatest (axes_to l.fn.axes)))

@@ -1,4 +1,4 @@
-use Rattle.std.proofs.Common.{◌≡◌, ◌+◌, ◌-◌, ◌<◌, ◌≤◌, ap, length, get_or, pos, subst, sym, ◌∙◌, append_assoc, unsigned_abs, arith, w64, to_z, of_z}
+use Rattle.std.proofs.Common.{◌≡◌, ◌+◌, ◌-◌, ◌≤◌, ap, get_or, pos, subst, sym, ◌∙◌, append_assoc, unsigned_abs, arith, w64, to_z, of_z}
 use Rattle.std.proofs.lemmas.Int.{ints}
 use Rattle.std.proofs.lemmas.List.{length_push}
 use Rattle.index_region.specs.Common.{numbers}
@@ -41,7 +41,7 @@ loop-k-preserved c =
     let same : k + 1 - 1 ≡ k = omega arith in
     let read : c.number-count.result ≡ get_or (numbers a) k (pos 0) = rw same at c.number-count.ensures in
     let put : c.kept_place.result ≡ kept_place (get_or (numbers a) k (pos 0)) (get_or index k 0) =
-        c.kept_place.ensures ∙ ap (λ z. kept_place z (get_or index k 0)) (e ∙ read) in
+    c.kept_place.ensures ∙ ap (λ z. kept_place z (get_or index k 0)) (e ∙ read) in
     record {
       made = rw c.push_reserved.ensures.items (rw append_assoc (rw put (rw more at inv.made)));
       long = rw c.push_reserved.ensures.items (rw length_push (omega arith));

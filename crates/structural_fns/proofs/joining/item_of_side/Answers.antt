@@ -1,4 +1,4 @@
-use Rattle.std.proofs.Common.{◌≡◌, length, ap, sym, ◌∙◌}
+use Rattle.std.proofs.Common.{◌≡◌, length, sym, ◌∙◌}
 use Rattle.arrays_core.specs.Items.{fill}
 use Rattle.structural_fns.proofs.Sides.{nothing_there}
 use Rattle.structural_fns.proofs.joining.item_of_side.Goals as goal

@@ -1,4 +1,4 @@
-use Rattle.std.proofs.Common.{◌≡◌, length, ap, ◌∙◌, arith}
+use Rattle.std.proofs.Common.{arith}
 use Rattle.structural_fns.proofs.Sides.{shared_long}
 use Rattle.structural_fns.proofs.joining.joined_shape.Goals as goal
 

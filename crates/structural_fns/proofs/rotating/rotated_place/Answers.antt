@@ -1,4 +1,4 @@
-use Rattle.std.proofs.Common.{◌≡◌, ◌+◌, suc, ℤ, pos, ◌+ℤ◌, ◌-ℤ◌, unsigned_abs, ap, sym, ◌∙◌, arith, to_z, of_z}
+use Rattle.std.proofs.Common.{◌≡◌, ◌+◌, pos, ◌+ℤ◌, ◌-ℤ◌, unsigned_abs, ap, sym, ◌∙◌, arith, to_z, of_z}
 use Rattle.std.specs.Int.{int_rem_euclid, w128}
 use Rattle.std.proofs.lemmas.Int.{ints}
 use Rattle.scalar_fns.specs.Numbers.{residue}
@@ -19,5 +19,5 @@ returns c =
     let is : r ≡ int_rem_euclid z (pos n) = rw (sum, less) at value in
     let same : to_z w128 (of_z w128 r) ≡ r = omega (arith, ints) in
     let e : unsigned_abs (to_z w128 (of_z w128 r)) ≡ unsigned_abs (residue (pos n) z) =
-        ap unsigned_abs (same ∙ is ∙ sym (residue_euclid n z (omega arith))) in
+    ap unsigned_abs (same ∙ is ∙ sym (residue_euclid n z (omega arith))) in
     ap (λ m. m + 1) e ∙ omega arith

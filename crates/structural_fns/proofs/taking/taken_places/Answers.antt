@@ -1,4 +1,4 @@
-use Rattle.std.proofs.Common.{◌≡◌, ◌+◌, ◌-◌, ◌<◌, ◌≤◌, ap, length, get_or, pos, subst, sym, ◌∙◌, append_assoc, unsigned_abs, arith, w64, to_z, of_z}
+use Rattle.std.proofs.Common.{◌≡◌, ◌+◌, ◌-◌, ◌≤◌, ap, get_or, pos, subst, sym, ◌∙◌, append_assoc, unsigned_abs, arith, w64, to_z, of_z}
 use Rattle.std.proofs.lemmas.Int.{ints}
 use Rattle.std.proofs.lemmas.List.{length_push}
 use Rattle.index_region.specs.Common.{numbers}
@@ -36,7 +36,7 @@ loop-k-preserved c =
     let same : k + 1 - 1 ≡ k = omega arith in
     let read : c.number-count.result ≡ get_or (numbers a) k (pos 0) = rw same at c.number-count.ensures in
     let put : c.taken_place.result ≡ taken_place (get_or axes k 0) (get_or (numbers a) k (pos 0)) (get_or c.args.index.now k 0) =
-        c.taken_place.ensures ∙ ap (λ z. taken_place (get_or axes k 0) z (get_or c.args.index.now k 0)) (e ∙ read) in
+    c.taken_place.ensures ∙ ap (λ z. taken_place (get_or axes k 0) z (get_or c.args.index.now k 0)) (e ∙ read) in
     record {
       made = rw c.push_reserved.ensures.items (rw append_assoc (rw put (rw more at inv.made)));
       long = rw c.push_reserved.ensures.items (rw length_push (omega arith));

@@ -1,4 +1,4 @@
-use Rattle.std.proofs.Common.{◌≡◌, ◌<◌, ◌∙◌, sym, ap, subst, length, arith}
+use Rattle.std.proofs.Common.{◌<◌, ◌∙◌, sym, ap, arith}
 use Rattle.index_region.specs.Common.{axis_at}
 use Rattle.structural_fns.specs.Joins.{joined_rank}
 use Rattle.structural_fns.proofs.Sides.{join_long}

@@ -1,4 +1,4 @@
-use Rattle.std.proofs.Common.{rules, ◌≡◌, true, IsTrue, subst, sym, ◌+◌, ◌<◌, ◌≤◌, length, ap, arith, remove, ◌∙◌}
+use Rattle.std.proofs.Common.{◌≡◌, IsTrue, subst, sym, length, ap, arith, remove, ◌∙◌}
 use Rattle.arrays_core.specs.Shapes.{is_index_of}
 use Rattle.arrays_core.proofs.Shapes.{as_long}
 use Rattle.index_region.specs.Common.{axis_at}
