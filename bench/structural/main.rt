@@ -20,8 +20,8 @@ fn numbers(alloc: Global) -> io::Result<Vec<i64>> {
 }
 
 /// The last number of a result.
-fn last(result: &Result<Array, ApplyFault>) -> i64 {
-    match result {
+fn last(made: &Result<Array, ApplyFault>) -> i64 {
+    match made {
         Ok(array) => match array.numbers() {
             Some(numbers) => *numbers.last().unwrap_or(&0),
             None => 0,
@@ -42,17 +42,17 @@ fn main(rt: HostRuntime) -> io::Result<()> {
     let mut end = 0;
     for _ in 0..30 {
         let start = Instant::now(&rt)?;
-        let result = Ravel.apply(&[Seen::plain(&vector)]);
+        let made = Ravel.apply(&[Seen::plain(&vector)]);
         least = least.min(start.elapsed(&rt)?.as_nanos());
-        end = last(&result);
+        end = last(&made);
     }
     println!(rt; "ravel {least} {end}")?;
     least = u128::MAX;
     for _ in 0..30 {
         let start = Instant::now(&rt)?;
-        let result = Reshape.apply(alloc, &[Seen::plain(&axes), Seen::plain(&vector)]);
+        let made = Reshape.apply(alloc, &[Seen::plain(&axes), Seen::plain(&vector)]);
         least = least.min(start.elapsed(&rt)?.as_nanos());
-        end = last(&result);
+        end = last(&made);
     }
     println!(rt; "reshape {least} {end}")
 }
