@@ -1,16 +1,16 @@
 -- Worked examples of the grammar: what some lines ask for.
-use Rattle.std.proofs.Common.{◌≡◌, ℕ, Some, None, List, [], ◌∷◌, refl}
-use Rattle.std.specs.Prelude.{ℤ, pos, negsuc}
-use Rattle.apl_tokens.specs.Lexemes.{Lexeme, Number, Characters, Named, Sign}
+use Rattle.std.proofs.Common.{ℕ, [], ◌∷◌, refl}
+use Rattle.std.specs.Prelude.{pos}
+use Rattle.apl_tokens.specs.Lexemes.{Number, Characters, Named, Sign}
 use Rattle.apl_expr.specs.declared.expr.ScalarMonad.TheVariants as monad
 use Rattle.apl_expr.specs.declared.expr.ScalarDyad.TheVariants as dyad
 use Rattle.apl_expr.specs.declared.expr.Monadic.TheVariants as monadic
 use Rattle.apl_expr.specs.declared.expr.Dyadic.TheVariants as dyadic
 use Rattle.apl_expr.specs.Symbols.{scalar_monad_of, scalar_dyad_of}
 use Rattle.apl_expr.specs.Trees.{Tree, Numbers, Text, Literal, Variable, Applied1, Applied2}
-use Rattle.apl_expr.specs.Machine.{run, state, Nothing}
-use Rattle.apl_expr.specs.Grammar.{IsTreeOf, one, more}
-use Rattle.apl_expr.specs.Lines.{IsLine, change, cell, define, show, nums_lit, text_lit, last, further, Define, Cell, Show}
+use Rattle.apl_expr.specs.Machine.{run}
+use Rattle.apl_expr.specs.Grammar.{IsTreeOf}
+use Rattle.apl_expr.specs.Lines.{IsLine, change, cell, define, text_lit, last, further, Define, Cell}
 use Rattle.apl_expr.proofs.Complete.{complete}
 use Rattle.apl_expr.proofs.Sound.{correct, run_none}
 

@@ -5,7 +5,6 @@ use Rattle.std.proofs.lemmas.Bool.{eqb-true}
 use Rattle.apl_tokens.specs.Lexemes.{Lexeme, Number, Characters, Named, Sign}
 use Rattle.apl_expr.specs.declared.expr.Monadic.{Monadic}
 use Rattle.apl_expr.specs.declared.expr.Dyadic.{Dyadic}
-use Rattle.apl_expr.specs.declared.functions.Function.{Function}
 use Rattle.apl_expr.specs.Symbols.{monadic_of, monadic_along_of, folded_of, folded_along_of, dyadic_of, dyadic_along_of, outer_of, inner_of, stands_alone}
 use Rattle.apl_expr.specs.Trees.{Tree}
 use Rattle.apl_expr.specs.Grammar.{IsNums, one, more, IsMono, plain1, along1, folded, folded_along, IsDuo, plain2, along2, outer, inner, IsExpr, operand, mono, duo, IsOperand, nums, text, ref, IsRef, name, parens, index}

@@ -1,6 +1,6 @@
 -- What the laws use of the tables of symbols: the signs that belong to no function are in none of them, and no expression begins
 -- with a sign that goes on with a function.
-use Rattle.std.proofs.Common.{◌≡◌, ℕ, Bool, true, false, cond, Option, Some, None, refl, sym, subst}
+use Rattle.std.proofs.Common.{◌≡◌, ℕ, Bool, true, false, Some, None, refl, sym, subst}
 use Rattle.std.specs.Prelude.{ℤ, ◌==◌, ◌||◌}
 use Rattle.std.proofs.lemmas.Bool.{eqb-true}
 use Rattle.apl_expr.specs.declared.expr.Monadic.{Monadic}

@@ -170,7 +170,13 @@ fn step(
                 numbers.push(*n)?;
                 Ok(Reading::Strand(numbers))
             }
-            _ => next(alloc, token, function, Expr::Const(literal(numbers)), waiting),
+            _ => next(
+                alloc,
+                token,
+                function,
+                Expr::Const(literal(numbers)),
+                waiting,
+            ),
         },
         Reading::Whole(operand) => next(alloc, token, function, operand, waiting),
     }

@@ -61,10 +61,7 @@ fn functions_take_all_at_their_right(rt: HostRuntime) -> Result<(), Fail> {
 #[test]
 fn parentheses_make_an_operand(rt: HostRuntime) -> Result<(), Fail> {
     for (written, want) in [
-        (
-            "(A-B)-C",
-            "Dyad(Scalar(Minus), Dyad(Scalar(Minus), Name(",
-        ),
+        ("(A-B)-C", "Dyad(Scalar(Minus), Dyad(Scalar(Minus), Name("),
         ("((1)) 2", ""),
         ("(-1)", "Monad(Scalar(Negative), Const(Num(1)))"),
         ("((1 2))", "Const(Nums([1, 2]))"),
@@ -77,7 +74,10 @@ fn parentheses_make_an_operand(rt: HostRuntime) -> Result<(), Fail> {
         match parse(rt.alloc(), &found) {
             Ok(tree) => {
                 let text = format!(in rt.alloc(); "{tree:?}")?;
-                assert!(rt; !want.is_empty() && text.as_str().starts_with(want), "{written}");
+                assert!(rt;
+                    !want.is_empty() && text.as_str().starts_with(want),
+                    "{written}"
+                );
             }
             Err(fault) => assert!(rt; want.is_empty() && fault == ParseFault::Syntax, "{written}"),
         }
@@ -115,11 +115,23 @@ fn reads_axes(rt: HostRuntime) -> Result<(), Fail> {
     for (written, want) in [
         ("⌽A", "Monad(Reverse(Last), Name("),
         ("⊖[2]A", "Monad(Reverse(Axis(2)), Name("),
-        ("⌽ [ ¯1 ] -A", "Monad(Reverse(Axis(-1)), Monad(Scalar(Negative), Name("),
-        ("1,[2]3", "Dyad(Catenate(Axis(2)), Const(Num(1)), Const(Num(3)))"),
+        (
+            "⌽ [ ¯1 ] -A",
+            "Monad(Reverse(Axis(-1)), Monad(Scalar(Negative), Name(",
+        ),
+        (
+            "1,[2]3",
+            "Dyad(Catenate(Axis(2)), Const(Num(1)), Const(Num(3)))",
+        ),
         ("1⍪3", "Dyad(Catenate(First), Const(Num(1)), Const(Num(3)))"),
-        ("1,,3", "Dyad(Catenate(Last), Const(Num(1)), Monad(Ravel, Const(Num(3))))"),
-        ("1⌽[1]⍉3", "Dyad(Rotate(Axis(1)), Const(Num(1)), Monad(Transpose, Const(Num(3))))"),
+        (
+            "1,,3",
+            "Dyad(Catenate(Last), Const(Num(1)), Monad(Ravel, Const(Num(3))))",
+        ),
+        (
+            "1⌽[1]⍉3",
+            "Dyad(Rotate(Axis(1)), Const(Num(1)), Monad(Transpose, Const(Num(3))))",
+        ),
     ] {
         let found = tokens(rt.alloc(), written)?;
         let tree = parse(rt.alloc(), &found)?;
@@ -133,11 +145,21 @@ fn reads_axes(rt: HostRuntime) -> Result<(), Fail> {
 fn reads_every_scalar_sign(rt: HostRuntime) -> Result<(), Fail> {
     for sign in "+-×÷*|⌈⌊<≤=≥>≠∧∨⍲⍱".chars() {
         let text = format!(in rt.alloc(); "A{sign}1")?;
-        assert!(rt; matches!(line(rt.alloc(), text.as_str())?, Command::Show(Expr::Dyad(_, _, _))));
+        assert!(rt;
+            matches!(
+                line(rt.alloc(), text.as_str())?,
+                Command::Show(Expr::Dyad(_, _, _))
+            )
+        );
     }
     for sign in "+-×÷|⌈⌊~".chars() {
         let text = format!(in rt.alloc(); "{sign}A")?;
-        assert!(rt; matches!(line(rt.alloc(), text.as_str())?, Command::Show(Expr::Monad(_, _))));
+        assert!(rt;
+            matches!(
+                line(rt.alloc(), text.as_str())?,
+                Command::Show(Expr::Monad(_, _))
+            )
+        );
     }
     Ok(())
 }

@@ -19,11 +19,7 @@ use structural_fns::{
 };
 
 /// A function of one array.
-pub(crate) fn of_right(
-    alloc: Global,
-    function: Monadic,
-    array: &Array,
-) -> Result<Array, ApplyFault>
+pub(crate) fn of_right(alloc: Global, function: Monadic, array: &Array) -> Result<Array, ApplyFault>
     ensures { IsAnswerTo (of_right function array.now) result }
 {
     match function {
@@ -81,12 +77,7 @@ fn reshaped(alloc: Global, left: &Array, right: &Array) -> Result<Array, ApplyFa
     Reshape.apply(alloc, &[Seen::plain(left), Seen::plain(right)])
 }
 
-fn catenated(
-    alloc: Global,
-    along: Along,
-    left: &Array,
-    right: &Array,
-) -> Result<Array, ApplyFault>
+fn catenated(alloc: Global, along: Along, left: &Array, right: &Array) -> Result<Array, ApplyFault>
     ensures { IsAnswerTo (catenate_whole (along_of along) left.now right.now) result }
 {
     let catenate = Catenate {

@@ -9,7 +9,7 @@ use Rattle.arrays_core.specs.declared.item.ItemType.{ItemType}
 use Rattle.arrays_core.specs.declared.item.Kind.{Kind}
 use Rattle.arrays_core.specs.declared.item.Kind.TheVariants.{Rank, Domain, Limit}
 use Rattle.arrays_core.specs.Items.{fill}
-use Rattle.arrays_core.specs.Shapes.{size, index_after, is_index_of, places_before}
+use Rattle.arrays_core.specs.Shapes.{size, index_after, places_before}
 use Rattle.arrays_core.specs.Arrays.{ArrayValue, item_if_there, collect, with_items}
 use Rattle.index_region.specs.Common.{Form, check, limited, is_within_limits, and_then, is_list, counts_as_numbers, none_negative, numbers, of_one, of_two, item_from}
 use Rattle.structural_fns.specs.Ravels.{magnitudes, reshape_form, reshape_item, reshape_whole, ravel_item, ravel_whole}

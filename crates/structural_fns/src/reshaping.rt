@@ -7,7 +7,9 @@ ghost use Rattle.index_region.specs.Answers.{IsPlaceOf, source_value};
 ghost use Rattle.structural_fns.specs.Ravels.{magnitudes as magnitudes_of, reshape_form, reshape_source, reshape_item, reshape_whole};
 
 use crate::magnitudes::magnitudes;
-use arrays_core::{ApplyFault, Array, Item, ItemType, Kind, Shape, index_of_position, position, size};
+use arrays_core::{
+    ApplyFault, Array, Item, ItemType, Kind, Shape, index_of_position, position, size,
+};
 use index_region::{Primitive, Seen, Source, apply, item_from, limited};
 use std::alloc::Global;
 

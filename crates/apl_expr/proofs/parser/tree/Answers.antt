@@ -1,4 +1,4 @@
-use Rattle.std.proofs.Common.{Some, Result, Err, [], refl, sym, ap, ◌∙◌, subst, arith}
+use Rattle.std.proofs.Common.{Some, Result, Err, [], sym, ap, ◌∙◌, subst, arith}
 use Rattle.std.proofs.lemmas.List.{length-take, length-drop}
 use Rattle.std.proofs.lemmas.Result.{err_from_is_err_and}
 use Rattle.apl_tokens.specs.Lexemes.{lexemes}
