@@ -1,0 +1,8 @@
+//! Functions that pick items, look them up, and split numbers into digits.
+#![tactic(auto)]
+
+mod counting;
+mod measuring;
+
+pub use counting::IndexGenerator;
+pub use measuring::AxisLengths;
