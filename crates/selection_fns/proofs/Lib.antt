@@ -1,1 +1,3 @@
 pub mod Generated
+pub mod Positions
+pub mod Indexed

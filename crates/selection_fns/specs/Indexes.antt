@@ -1,5 +1,5 @@
 -- Indexed reference, A[I;..]: a position is an array of indices, or is empty and stands for its whole axis.
-use Rattle.std.specs.Prelude.{ℕ, suc, nat_eq, pos, int_le, unsigned_abs, Bool, true, false, not, ◌&&◌, List, [], ◌∷◌, ◌++◌, length, get_or, take, drop, zip, Option, Some, None, Result, Err}
+use Rattle.std.specs.Prelude.{ℕ, suc, nat_eq, ℤ, pos, int_le, unsigned_abs, Bool, true, false, not, ◌&&◌, List, [], ◌∷◌, ◌++◌, length, get_or, take, drop, zip, Option, Some, None, Result, Err}
 use Rattle.std.specs.List.{list_all}
 use Rattle.arrays_core.specs.declared.item.Item.{Item}
 use Rattle.arrays_core.specs.declared.item.Kind.{Kind}
@@ -14,9 +14,13 @@ abbrev pub are_numbers : Position → Bool
 are_numbers (Some p) = counts_as_numbers p
 are_numbers None = true
 
--- the indices of a position are on an axis of n places
+-- an index is on an axis of n places
+abbrev pub is_place : ℕ → ℤ → Bool
+is_place n z = int_le (pos 1) z && int_le z (pos n)
+
+-- the indices of a position are
 abbrev pub is_on : ℕ → Position → Bool
-is_on n (Some p) = list_all (λ z. int_le (pos 1) z && int_le z (pos n)) (numbers p)
+is_on n (Some p) = list_all (is_place n) (numbers p)
 is_on n None = true
 
 abbrev pub are_on : List ℕ → List Position → Bool
@@ -31,12 +35,15 @@ abbrev pub indexed_shape : List ℕ → List Position → List ℕ
 indexed_shape (n ∷ shape) (position ∷ positions) = position_axes n position ++ indexed_shape shape positions
 indexed_shape shape positions = []
 
-abbrev pub index_form : ArrayValue → List Position → Result Form Kind
-index_form a positions =
+-- the checks of the positions before what is left of them
+abbrev pub positions_checked : ArrayValue → List Position → Result Form Kind → Result Form Kind
+positions_checked a positions rest =
     check (not (is_scalar a) && nat_eq (length positions) (length a.shape)) Rank
     (check (list_all are_numbers positions) Domain
-    (check (are_on a.shape positions) Index
-    (limited (indexed_shape a.shape positions) a.item_type)))
+    (check (are_on a.shape positions) Index rest))
+
+abbrev pub index_form : ArrayValue → List Position → Result Form Kind
+index_form a positions = positions_checked a positions (limited (indexed_shape a.shape positions) a.item_type)
 
 -- each position takes its own part of the index list
 abbrev pub indexed_places : List Position → List ℕ → List ℕ

@@ -2,7 +2,9 @@
 #![tactic(auto)]
 
 mod counting;
+mod indexing;
 mod measuring;
 
 pub use counting::IndexGenerator;
+pub use indexing::Index;
 pub use measuring::AxisLengths;
