@@ -72,6 +72,27 @@ fn takes_and_drops(rt: HostRuntime) {
 }
 
 #[test]
+fn copies_runs(rt: HostRuntime) {
+    let alloc = rt.alloc();
+    let (Ok(back), Ok(front), Ok(items)) = (
+        vector(alloc, &[-2]),
+        vector(alloc, &[2]),
+        vector(alloc, &[1, 2, 3]),
+    ) else {
+        assert!(rt; false);
+        return;
+    };
+    let args = [Seen::plain(&back), Seen::plain(&items)];
+    assert!(rt; are_numbers(Take.apply(alloc, &args), 1, &[2, 3]));
+    assert!(rt; are_numbers(DropPlaces.apply(alloc, &args), 1, &[1]));
+    let args = [Seen::plain(&front), Seen::plain(&items)];
+    assert!(rt; are_numbers(Take.apply(alloc, &args), 1, &[1, 2]));
+    assert!(rt; are_numbers(DropPlaces.apply(alloc, &args), 1, &[3]));
+    let both = Catenate { along: Along::Last };
+    assert!(rt; are_numbers(both.apply(alloc, &args), 1, &[2, 1, 2, 3]));
+}
+
+#[test]
 fn rotates(rt: HostRuntime) {
     let alloc = rt.alloc();
     let (Ok(table), Ok(amounts)) = (matrix(alloc), vector(alloc, &[1, -1])) else {
