@@ -1,6 +1,6 @@
 //! Arrays as they are seen.
 
-ghost use Rattle.std.specs.Prelude.{◌≡◌, ◌+◌, ◌-◌, ◌≤◌, IfSome, IfOk, length, take, drop, get_or, pos};
+ghost use Rattle.std.specs.Prelude.{◌≡◌, ◌+◌, ◌-◌, ◌≤◌, IfSome, IfOk, length, take, drop, ◌++◌, get_or, pos};
 ghost use Rattle.arrays_core.specs.Arrays.{ArrayValue, IsArray, item_if_there};
 ghost use Rattle.arrays_core.specs.Shapes.{size as size_of, IsWithinLimits};
 ghost use Rattle.arrays_core.specs.Items.{fill, type_of};
@@ -98,6 +98,21 @@ impl<'a> Seen<'a> {
         }) }
     {
         self.array.part(skipped, shape)
+    }
+
+    /// The items, and behind them those of another array of their type, as an array of a shape that has
+    /// as many.
+    pub fn joined(&self, other: &Seen, shape: &Shape) -> Result<Array, AllocError>
+        requires within { IsWithinLimits shape.now.items }
+        requires one_item_a_place { length self.now.items + length other.now.items ≡ size_of shape.now.items }
+        requires typed { self.now.item_type ≡ other.now.item_type }
+        ensures { IfOk result (λ a. a ≡ record {
+          item_type = self.now.item_type;
+          shape = shape.now.items;
+          items = self.now.items ++ other.now.items;
+        }) }
+    {
+        self.array.joined(other.array, shape)
     }
 
     /// It is of numbers, or without items: where it is not, a function that asks for numbers is

@@ -2,7 +2,7 @@ use Rattle.std.proofs.Common.{◌<◌, length, arith}
 use Rattle.index_region.specs.Common.{numbers}
 use Rattle.structural_fns.specs.Counts.{counted_shape, dropped_shape}
 use Rattle.structural_fns.proofs.Counting.{too_many, dropped_long, numbers_long}
-use Rattle.structural_fns.proofs.dropping.DropPrimitive.shape_of.Goals as goal
+use Rattle.structural_fns.proofs.dropping.DropPlacesPrimitive.shape_of.Goals as goal
 
 pub returns-then-places-gt-MOST_AXES : goal.returns-then-places-gt-MOST_AXES
 returns-then-places-gt-MOST_AXES c =
