@@ -132,6 +132,19 @@ fn reads_axes(rt: HostRuntime) -> Result<(), Fail> {
             "1⌽[1]⍉3",
             "Dyad(Rotate(Axis(1)), Const(Num(1)), Monad(Transpose, Const(Num(3))))",
         ),
+        ("1/3", "Dyad(Replicate(Last), Const(Num(1)), Const(Num(3)))"),
+        (
+            "1⌿3",
+            "Dyad(Replicate(First), Const(Num(1)), Const(Num(3)))",
+        ),
+        (
+            "1/[2]3",
+            "Dyad(Replicate(Axis(2)), Const(Num(1)), Const(Num(3)))",
+        ),
+        (
+            "1⌿[2]3",
+            "Dyad(Replicate(Axis(2)), Const(Num(1)), Const(Num(3)))",
+        ),
     ] {
         let found = tokens(rt.alloc(), written)?;
         let tree = parse(rt.alloc(), &found)?;
@@ -160,6 +173,30 @@ fn reads_every_scalar_sign(rt: HostRuntime) -> Result<(), Fail> {
                 Command::Show(Expr::Monad(_, _))
             )
         );
+    }
+    Ok(())
+}
+
+#[test]
+fn reads_signs_of_two_functions(rt: HostRuntime) -> Result<(), Fail> {
+    for (written, want) in [
+        ("⍴3", "Monad(Shape, Const(Num(3)))"),
+        ("1⍴3", "Dyad(Reshape, Const(Num(1)), Const(Num(3)))"),
+        ("⍳3", "Monad(Iota, Const(Num(3)))"),
+        ("1⍳3", "Dyad(IndexOf, Const(Num(1)), Const(Num(3)))"),
+        ("1∊3", "Dyad(Member, Const(Num(1)), Const(Num(3)))"),
+        ("1∈3", "Dyad(Member, Const(Num(1)), Const(Num(3)))"),
+        ("1⊤3", "Dyad(Encode, Const(Num(1)), Const(Num(3)))"),
+        ("1⊥3", "Dyad(Decode, Const(Num(1)), Const(Num(3)))"),
+        (
+            "⍳⍴⍴3",
+            "Monad(Iota, Monad(Shape, Monad(Shape, Const(Num(3)))))",
+        ),
+    ] {
+        let found = tokens(rt.alloc(), written)?;
+        let tree = parse(rt.alloc(), &found)?;
+        let text = format!(in rt.alloc(); "{tree:?}")?;
+        assert!(rt; text.as_str() == want, "{written}");
     }
     Ok(())
 }
@@ -236,7 +273,11 @@ fn refuses_what_is_no_line(rt: HostRuntime) -> Result<(), Fail> {
         "'a' 1",
         "'ab",
         "(1)[1]",
-        "A←⍴1",
+        "A←∊1",
+        "/A",
+        "A⊤",
+        "A∊[1]B",
+        "⍳[1]A",
         ",[1]A",
         "⌽[A]B",
         "⌽[1;2]B",
