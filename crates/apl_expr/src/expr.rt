@@ -142,4 +142,6 @@ pub enum Expr {
     Monad(Monadic, Box<Expr>),
     /// A function between its left argument, an operand, and its right one.
     Dyad(Dyadic, Box<Expr>, Box<Expr>),
+    /// `A[I;..]`, an operand and the positions of its index, each of which may be empty.
+    Index(Box<Expr>, Vec<Option<Expr>>),
 }
