@@ -128,7 +128,6 @@ fn settle(alloc: Global, value: Expr, waiting: &mut Vec<Waiting>) -> Result<Sett
 }
 
 /// Ends a position of an index, by `;` or by `]`.
-#[tactic(auto, using(crate::proofs::Rows::tree_index))]
 fn position_ended(
     alloc: Global,
     sign: char,
