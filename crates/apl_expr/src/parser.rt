@@ -161,12 +161,12 @@ fn closed(
 ) -> Result<Reading, ParseFault>
     ensures { Steps result waiting.new.items (closed sign (settle (stack waiting.old.items) (tree_of operand))) }
 {
-    let inside = settle(alloc, operand, waiting)?;
-    match inside.bracket {
+    let Settled { value, bracket } = settle(alloc, operand, waiting)?;
+    match bracket {
         None => Err(ParseFault::Syntax),
         Some(Bracket::Parenthesis) => {
             if sign == ')' {
-                Ok(Reading::Reference(inside.value))
+                Ok(Reading::Reference(value))
             } else {
                 Err(ParseFault::Syntax)
             }
@@ -176,7 +176,7 @@ fn closed(
             sign,
             indexed,
             positions,
-            Some(inside.value),
+            Some(value),
             waiting,
         ),
     }
