@@ -183,11 +183,7 @@ fn closed(
 }
 
 /// Ends a position that has no expression.
-fn skipped(
-    alloc: Global,
-    sign: char,
-    waiting: &mut Vec<Waiting>,
-) -> Result<Reading, ParseFault>
+fn skipped(alloc: Global, sign: char, waiting: &mut Vec<Waiting>) -> Result<Reading, ParseFault>
     ensures { Steps result waiting.new.items (skipped sign (stack waiting.old.items)) }
 {
     match waiting.pop() {

@@ -1,9 +1,6 @@
-use Rattle.std.proofs.Common.{◌≡◌, Option, Some, None, Err, [], sym, ap, subst}
 use Rattle.std.proofs.lemmas.List.{length-map}
 use Rattle.apl_tokens.specs.Lexemes.{lexemes}
-use Rattle.apl_expr.specs.declared.fault.ParseFault.{ParseFault}
-use Rattle.apl_expr.specs.Edits.{Open, EditGives, edits}
-use Rattle.apl_expr.proofs.Commands.{cell_ok, edit_none, definition_none, data_line_none, some_begin}
+use Rattle.apl_expr.proofs.Commands.{cell_ok}
 use Rattle.apl_expr.proofs.command.cell.Goals as goal
 
 pub returns-in-Ok : goal.returns-in-Ok

@@ -1,4 +1,3 @@
-use Rattle.apl_expr.specs.Parsing.{stack}
 use Rattle.apl_expr.proofs.Rows.{index_ended}
 use Rattle.apl_expr.proofs.parser.position_ended.Goals as goal
 
