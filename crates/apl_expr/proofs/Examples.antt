@@ -6,11 +6,12 @@ use Rattle.apl_expr.specs.declared.expr.ScalarMonad.TheVariants as monad
 use Rattle.apl_expr.specs.declared.expr.ScalarDyad.TheVariants as dyad
 use Rattle.apl_expr.specs.declared.expr.Monadic.TheVariants as monadic
 use Rattle.apl_expr.specs.declared.expr.Dyadic.TheVariants as dyadic
-use Rattle.apl_expr.specs.Symbols.{scalar_monad_of, scalar_dyad_of}
-use Rattle.apl_expr.specs.Trees.{Tree, Numbers, Text, Literal, Variable, Applied1, Applied2}
+use Rattle.apl_expr.specs.declared.expr.Along.TheVariants as along
+use Rattle.apl_expr.specs.Symbols.{scalar_monad_of, scalar_dyad_of, monadic_along_of, dyadic_along_of}
+use Rattle.apl_expr.specs.Trees.{Tree, Numbers, Text, Literal, Variable, Applied1, Applied2, Indexed, Filled, Empty, NoPositions}
 use Rattle.apl_expr.specs.Machine.{run}
 use Rattle.apl_expr.specs.Grammar.{IsTreeOf}
-use Rattle.apl_expr.specs.Lines.{IsLine, change, cell, define, text_lit, last, further, Define, Cell}
+use Rattle.apl_expr.specs.Lines.{IsLine, show, change, cell, define, text_lit, last, further, Define, Cell, Show}
 use Rattle.apl_expr.proofs.Complete.{complete}
 use Rattle.apl_expr.proofs.Sound.{correct, run_none}
 
@@ -34,6 +35,41 @@ in_parentheses = correct _ _ refl
 side_by_side : (e : Tree) → IsTreeOf (Sign 0x28 ∷ Number (pos 1) ∷ Sign 0x29 ∷ Number (pos 2) ∷ []) e → ⊥
 unfolding run scalar_monad_of scalar_dyad_of
 side_by_side e is = run_none 0 [] e (complete is)
+
+-- A[1]
+indexed : IsTreeOf (Named (0x41 ∷ []) ∷ Sign 0x5b ∷ Number (pos 1) ∷ Sign 0x5d ∷ []) (Indexed (Variable (0x41 ∷ [])) (Filled (number 1) NoPositions))
+unfolding run
+indexed = correct _ _ refl
+
+-- A[;2]: the first position is empty
+empty_position : IsTreeOf (Named (0x41 ∷ []) ∷ Sign 0x5b ∷ Sign 0x3b ∷ Number (pos 2) ∷ Sign 0x5d ∷ []) (Indexed (Variable (0x41 ∷ [])) (Empty (Filled (number 2) NoPositions)))
+unfolding run
+empty_position = correct _ _ refl
+
+-- A[B[1]]
+nested : IsTreeOf (Named (0x41 ∷ []) ∷ Sign 0x5b ∷ Named (0x42 ∷ []) ∷ Sign 0x5b ∷ Number (pos 1) ∷ Sign 0x5d ∷ Sign 0x5d ∷ []) (Indexed (Variable (0x41 ∷ [])) (Filled (Indexed (Variable (0x42 ∷ [])) (Filled (number 1) NoPositions)) NoPositions))
+unfolding run
+nested = correct _ _ refl
+
+-- A[1][2]: an index of what the first one gives
+chained : IsTreeOf (Named (0x41 ∷ []) ∷ Sign 0x5b ∷ Number (pos 1) ∷ Sign 0x5d ∷ Sign 0x5b ∷ Number (pos 2) ∷ Sign 0x5d ∷ []) (Indexed (Indexed (Variable (0x41 ∷ [])) (Filled (number 1) NoPositions)) (Filled (number 2) NoPositions))
+unfolding run
+chained = correct _ _ refl
+
+-- 1 2[1] is no expression: an index behind a literal needs parentheses
+literal_indexed : (e : Tree) → IsTreeOf (Number (pos 1) ∷ Number (pos 2) ∷ Sign 0x5b ∷ Number (pos 1) ∷ Sign 0x5d ∷ []) e → ⊥
+unfolding run scalar_dyad_of
+literal_indexed e is = run_none 0 (Number (pos 1) ∷ Sign 0x5d ∷ []) e (complete is)
+
+-- A/[2]B: the bracket behind a function is its axis
+along_an_axis : IsTreeOf (Named (0x41 ∷ []) ∷ Sign 0x2f ∷ Sign 0x5b ∷ Number (pos 2) ∷ Sign 0x5d ∷ Named (0x42 ∷ []) ∷ []) (Applied2 (dyadic.Replicate (along.Axis (pos 2))) (Variable (0x41 ∷ [])) (Variable (0x42 ∷ [])))
+unfolding run monadic_along_of dyadic_along_of
+along_an_axis = correct _ _ refl
+
+-- D[1] asks for its value
+query : IsLine (Named (0x44 ∷ []) ∷ Sign 0x5b ∷ Number (pos 1) ∷ Sign 0x5d ∷ []) (Show (Indexed (Variable (0x44 ∷ [])) (Filled (number 1) NoPositions)))
+unfolding run
+query = show (correct _ _ refl)
 
 -- A←-B
 definition : IsLine (Named (0x41 ∷ []) ∷ Sign 0x2190 ∷ Sign 0x2d ∷ Named (0x42 ∷ []) ∷ []) (Define (0x41 ∷ []) (Applied1 (monadic.Scalar monad.Negative) (Variable (0x42 ∷ []))))

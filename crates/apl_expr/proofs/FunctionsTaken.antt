@@ -1,6 +1,6 @@
 -- A function of the grammar in front of an expression is the one that is taken there.
 use Rattle.std.proofs.Common.{◌≡◌, ℕ, Bool, true, false, cond, Option, Some, None, List, [], ◌∷◌, drop, refl, sym, ap, ◌∙◌, subst, arith}
-use Rattle.std.specs.Prelude.{ℤ, ◌==◌, ◌&&◌, option_and_then}
+use Rattle.std.specs.Prelude.{ℤ, ◌==◌, ◌&&◌, ◌||◌, option_and_then}
 use Rattle.std.proofs.lemmas.Bool.{eqb-true}
 use Rattle.apl_tokens.specs.Lexemes.{Lexeme, Number, Characters, Named, Sign}
 use Rattle.apl_expr.specs.declared.expr.Monadic.{Monadic}
@@ -9,7 +9,8 @@ use Rattle.apl_expr.specs.Symbols.{monadic_of, monadic_along_of, folded_of, fold
 use Rattle.apl_expr.specs.Trees.{Tree}
 use Rattle.apl_expr.specs.Grammar.{IsNums, one, more, IsMono, plain1, along1, folded, folded_along, IsDuo, plain2, along2, outer, inner, IsExpr, operand, mono, duo, IsOperand, nums, text, ref, IsRef, name, parens, index}
 use Rattle.apl_expr.specs.Functions.{function, axis_in, product_in, fold_in, fold_along_in, monadic_along_in, dyadic_along_in, along_or_plain, fold_or_less, fold_along_or_less, product_or_less, function_at}
-use Rattle.apl_expr.proofs.Tables.{BeginsNone, IsNoFunction, IsFolding, left_bracket, dot, no_function, folding, folding_along, jot_inner}
+use Rattle.apl_expr.specs.Machine.{ends_position}
+use Rattle.apl_expr.proofs.Tables.{BeginsNone, IsNoFunction, IsFolding, left_bracket, right_bracket, semicolon, dot, no_function, folding, folding_along, jot_inner}
 
 -- ---- what an expression begins with
 
@@ -48,7 +49,7 @@ mutual
 
 -- ---- what is not taken
 
-not_equal : (c d : ℕ) → (c ≡ d → ⊥) → (c == d) ≡ false
+pub not_equal : (c d : ℕ) → (c ≡ d → ⊥) → (c == d) ≡ false
 not_equal c d refutes = decide (c == d) refl
   where
     decide : (b : Bool) → (c == d) ≡ b → (c == d) ≡ false
@@ -61,6 +62,12 @@ not_alone c refutes = decide (stands_alone c) refl
     decide : (b : Bool) → stands_alone c ≡ b → stands_alone c ≡ false
     decide true is = absurd (refutes (no_function c is))
     decide false is = is
+
+-- a sign that begins a function ends no position
+pub begins_no_end : (c : ℕ) → (BeginsNone c → ⊥) → ends_position c ≡ false
+begins_no_end c refutes =
+    ap (λ (b : Bool). b || (c == 0x5d)) (not_equal c 0x3b (λ same. refutes (subst BeginsNone (sym same) semicolon.one)))
+    ∙ not_equal c 0x5d (λ same. refutes (subst BeginsNone (sym same) right_bracket.one))
 
 unfolded : (c d : ℕ) → (IsFolding d → ⊥) → folded_of c d ≡ None
 unfolded c d refutes = decide (folded_of c d) refl

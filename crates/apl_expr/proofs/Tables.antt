@@ -32,11 +32,11 @@ pub left_bracket : IsNoFunction 0x5b
 unfolding scalar_monad_of scalar_dyad_of monad_of dyad_of monadic_along_of dyadic_along_of
 left_bracket = record { one = record { plain = refl; along = λ k. refl; folded = λ d. refl; folded_along = λ d k. refl }; plain = refl; along = λ k. refl; inner = λ d. refl }
 
-right_bracket : IsNoFunction 0x5d
+pub right_bracket : IsNoFunction 0x5d
 unfolding scalar_monad_of scalar_dyad_of monad_of dyad_of monadic_along_of dyadic_along_of
 right_bracket = record { one = record { plain = refl; along = λ k. refl; folded = λ d. refl; folded_along = λ d k. refl }; plain = refl; along = λ k. refl; inner = λ d. refl }
 
-semicolon : IsNoFunction 0x3b
+pub semicolon : IsNoFunction 0x3b
 unfolding scalar_monad_of scalar_dyad_of monad_of dyad_of monadic_along_of dyadic_along_of
 semicolon = record { one = record { plain = refl; along = λ k. refl; folded = λ d. refl; folded_along = λ d k. refl }; plain = refl; along = λ k. refl; inner = λ d. refl }
 

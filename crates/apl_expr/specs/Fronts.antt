@@ -2,6 +2,7 @@
 use Rattle.std.specs.Prelude.{ℕ, Option, Some, None, List, [], ◌∷◌, if◌then◌else◌, ◌==◌, ◌&&◌}
 use Rattle.std.specs.Str.{bytes_eq}
 use Rattle.apl_tokens.specs.Lexemes.{Lexeme, Named, Sign}
+use Rattle.apl_expr.specs.Edits.{Open, Written, edits}
 use Rattle.apl_expr.specs.Lines.{data_word}
 
 abbrev pub name_and_sign : ℕ → Lexeme → Lexeme → List Lexeme → Option (List ℕ × List Lexeme)
@@ -23,3 +24,11 @@ abbrev pub behind_data : List Lexeme → Option (List Lexeme)
 behind_data [] = None
 behind_data (t ∷ []) = None
 behind_data (t ∷ u ∷ ts) = sign_and_word t u ts
+
+abbrev behind_name : Option (List ℕ × List Lexeme) → Option Written
+behind_name None = None
+behind_name (Some x) = edits x.1 (Some (Open []))
+
+-- the edit of a cell that the tokens are: what is behind `NAME [`
+abbrev pub edit_in : List Lexeme → Option Written
+edit_in ts = behind_name (name_before 0x5b ts)

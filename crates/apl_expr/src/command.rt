@@ -4,7 +4,7 @@ ghost use Rattle.std.specs.Prelude.{◌≡◌, ◌<◌, ◌≤◌, ◌∷◌, le
 ghost use Rattle.std.specs.Str.{chars};
 ghost use Rattle.apl_tokens.specs.Lexemes.{lexemes, Named, Sign};
 ghost use Rattle.apl_expr.specs.Lines.{data_word, IsCommand};
-ghost use Rattle.apl_expr.specs.Fronts.{name_before, behind_data};
+ghost use Rattle.apl_expr.specs.Fronts.{name_before, behind_data, edit_in};
 ghost use Rattle.apl_expr.specs.Answers.{IsAnswered};
 
 use crate::edit::edited;
@@ -93,26 +93,36 @@ fn data(alloc: Global, rest: &[Spanned]) -> Result<Command, ParseFault>
     Ok(Command::Data(found.0, value))
 }
 
-/// The edit with what is behind `NAME [`.
-fn cell(alloc: Global, name: Name, rest: &[Spanned]) -> Result<Command, ParseFault>
-    requires { length rest.now ≤ 4094 }
-    ensures { IsCommand (Named name ∷ Sign 0x5b ∷ lexemes rest.now) result }
-{
-    let written = edited(alloc, rest)?;
-    Ok(Command::Cell(name, written.0, written.1))
-}
-
 /// The expression to show.
 fn show(alloc: Global, tokens: &[Spanned]) -> Result<Command, ParseFault>
     requires some { 0 < length tokens.now }
     requires short { length tokens.now ≤ 4096 }
     requires no_definition { name_before 0x2190 (lexemes tokens.now) ≡ None }
     requires no_data { behind_data (lexemes tokens.now) ≡ None }
-    requires no_cell { name_before 0x5b (lexemes tokens.now) ≡ None }
+    requires no_edit { edit_in (lexemes tokens.now) ≡ None }
     ensures { IsCommand (lexemes tokens.now) result }
 {
     let shown = parse(alloc, tokens)?;
     Ok(Command::Show(shown))
+}
+
+/// The edit of a cell, with what is behind `NAME [`, if the tokens are one; else the expression to show.
+fn cell(
+    alloc: Global,
+    tokens: &[Spanned],
+    name: Name,
+    rest: &[Spanned],
+) -> Result<Command, ParseFault>
+    requires short { length tokens.now ≤ 4096 }
+    requires begins { name_before 0x5b (lexemes tokens.now) ≡ Some (name, lexemes rest.now) }
+    ensures { IsCommand (lexemes tokens.now) result }
+{
+    match edited(alloc, rest) {
+        Ok(written) => Ok(Command::Cell(name, written.0, written.1)),
+        Err(ParseFault::Syntax) => show(alloc, tokens),
+        Err(ParseFault::Limit) => Err(ParseFault::Limit),
+        Err(ParseFault::NoMemory) => Err(ParseFault::NoMemory),
+    }
 }
 
 /// What a line of tokens asks for.
@@ -132,7 +142,7 @@ fn command_of(alloc: Global, tokens: &[Spanned]) -> Result<Command, ParseFault>
         return data(alloc, rest);
     }
     if let Some(found) = name_before(tokens, '[') {
-        return cell(alloc, found.0, found.1);
+        return cell(alloc, tokens, found.0, found.1);
     }
     show(alloc, tokens)
 }

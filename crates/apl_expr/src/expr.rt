@@ -83,6 +83,10 @@ pub enum Monadic {
     Reverse(Along),
     /// `⍉B`, the axes in reverse order.
     Transpose,
+    /// `⍴B`, the lengths of the axes of B.
+    Shape,
+    /// `⍳B`, the whole numbers from 1 to B.
+    Iota,
 }
 
 /// The functions of two arguments, by the names of ISO/IEC 13751.
@@ -102,6 +106,16 @@ pub enum Dyadic {
     Rotate(Along),
     /// `A⍉B`, the axes of B where A says.
     Transpose,
+    /// `A/B` and `A⌿B`, each place of an axis of B as often as A says.
+    Replicate(Along),
+    /// `A⍳B`, where in A each item of B stands first.
+    IndexOf,
+    /// `A∊B`, whether each item of A is one of B.
+    Member,
+    /// `A⊤B`, the digits of B to the radices A.
+    Encode,
+    /// `A⊥B`, the value of the digits B to the radices A.
+    Decode,
 }
 
 /// A literal of ISO 8485: numbers that stand side by side, or a text.
@@ -128,4 +142,6 @@ pub enum Expr {
     Monad(Monadic, Box<Expr>),
     /// A function between its left argument, an operand, and its right one.
     Dyad(Dyadic, Box<Expr>, Box<Expr>),
+    /// `A[I;..]`, an operand and the positions of its index, each of which may be empty.
+    Index(Box<Expr>, Vec<Option<Expr>>),
 }

@@ -1,7 +1,7 @@
 //! How large a tree may be.
 
-ghost use Rattle.std.specs.Prelude.{MatchOption, ◌≡◌, ◌+◌, ◌<◌, ◌≤◌, ◌↔◌, IsTrue};
-ghost use Rattle.apl_expr.specs.Trees.{tree_of, height, nodes};
+ghost use Rattle.std.specs.Prelude.{MatchOption, ◌≡◌, ◌+◌, ◌<◌, ◌≤◌, ◌↔◌, IsTrue, map};
+ghost use Rattle.apl_expr.specs.Trees.{tree_of, position_of, positions_of, height, height_in, nodes, nodes_in};
 
 use crate::expr::Expr;
 
@@ -16,7 +16,8 @@ pub(crate) const MOST_NODES: u32 = 512;
 
 impl Expr {
     /// Whether the tree is at most `limit` high. It looks no deeper.
-    #[tactic(auto, using(crate::proofs::Sizes::height_positive))]
+    #[cycle(height)]
+    #[tactic(auto, using(crate::proofs::Sizes::height_positive, crate::proofs::Rows::tree_index))]
     pub(crate) fn is_within_height(&self, limit: u32) -> bool
         ensures { IsTrue result ↔ (height (tree_of self.now) ≤ limit) }
     {
@@ -30,11 +31,15 @@ impl Expr {
             Expr::Dyad(_, left, right) => {
                 left.is_within_height(limit - 1) && right.is_within_height(limit - 1)
             }
+            Expr::Index(operand, positions) => {
+                operand.is_within_height(limit - 1) && are_within_height(positions, limit - 1)
+            }
         }
     }
 
     /// How many nodes more than the tree has are allowed.
-    #[tactic(auto, using(crate::proofs::Sizes::nodes_positive))]
+    #[cycle(nodes)]
+    #[tactic(auto, using(crate::proofs::Sizes::nodes_positive, crate::proofs::Rows::tree_index))]
     fn nodes_left(&self, limit: u32) -> Option<u32>
         ensures { MatchOption result (limit < nodes (tree_of self.now)) (λ left. left + nodes (tree_of self.now) ≡ limit) }
     {
@@ -47,6 +52,10 @@ impl Expr {
                 let rest = left.nodes_left(below)?;
                 right.nodes_left(rest)
             }
+            Expr::Index(operand, positions) => {
+                let rest = operand.nodes_left(below)?;
+                nodes_left_behind(positions, rest)
+            }
         }
     }
 
@@ -56,4 +65,33 @@ impl Expr {
     {
         self.nodes_left(limit).is_some()
     }
+}
+
+/// Whether the trees at these positions are at most `limit` high.
+#[cycle(height)]
+fn are_within_height(positions: &[Option<Expr>], limit: u32) -> bool
+    ensures { IsTrue result ↔ (height_in (positions_of (map position_of positions.now)) ≤ limit) }
+{
+    for position in positions {
+        if let Some(expr) = position {
+            if !expr.is_within_height(limit) {
+                return false;
+            }
+        }
+    }
+    true
+}
+
+/// How many nodes more than the trees at these positions have are allowed.
+#[cycle(nodes)]
+fn nodes_left_behind(positions: &[Option<Expr>], limit: u32) -> Option<u32>
+    ensures { MatchOption result (limit < nodes_in (positions_of (map position_of positions.now))) (λ left. left + nodes_in (positions_of (map position_of positions.now)) ≡ limit) }
+{
+    let mut rest = limit;
+    for position in positions {
+        if let Some(expr) = position {
+            rest = expr.nodes_left(rest)?;
+        }
+    }
+    Some(rest)
 }

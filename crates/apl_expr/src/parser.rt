@@ -1,11 +1,10 @@
 //! The parser: it reads the tokens from left to right, once, a function at a time, and keeps what waits for its right argument.
 
-ghost use Rattle.std.specs.Prelude.{◌≡◌, Some, [], ◌∷◌};
+ghost use Rattle.std.specs.Prelude.{◌≡◌, Some, [], ◌∷◌, IfOk, map};
 ghost use Rattle.apl_tokens.specs.Lexemes.{lexeme, lexemes};
-ghost use Rattle.apl_expr.specs.Machine.{first, settle, closed, next, step, finish, run, state, Nothing};
+ghost use Rattle.apl_expr.specs.Machine.{first, settle, position_ended, closed, skipped, ends_position, begin, next, after_reference, step, finish, run, state, Nothing};
 ghost use Rattle.apl_expr.specs.Parsing.{stack, reading_of, Settles, Steps, Gives, IsParsed};
-ghost use Rattle.apl_expr.specs.Trees.{Numbers, Text, constant_of, IsPlain, tree_of};
-ghost use Rattle.std.specs.Prelude.{IfOk};
+ghost use Rattle.apl_expr.specs.Trees.{Numbers, Text, constant_of, IsPlain, tree_of, position_of};
 
 use crate::expr::{Dyadic, Expr, Literal, Monadic};
 use crate::fault::ParseFault;
@@ -14,27 +13,37 @@ use crate::limits::{MOST_HEIGHT, MOST_NODES, MOST_TOKENS};
 use apl_tokens::{Spanned, Token};
 use std::alloc::{AllocError, Global};
 
-/// What waits for a value at its right: a function, or an open parenthesis.
+/// An open bracket: a parenthesis, or the bracket of an index behind its operand, with the positions before this one.
+#[derive(Drop)]
+enum Bracket {
+    Parenthesis,
+    Index(Expr, Vec<Option<Expr>>),
+}
+
+/// What waits for a value at its right: a function, or an open bracket.
 #[derive(Drop)]
 enum Waiting {
     Argument1(Monadic),
     Argument2(Dyadic, Expr),
-    Parenthesis,
+    Inside(Bracket),
 }
 
-/// A value that the functions took which waited for it, up to the innermost open parenthesis.
+/// A value that the functions took which waited for it, and the bracket that it then stands in, if there is one.
 #[derive(Drop)]
 struct Settled {
     value: Expr,
-    in_parenthesis: bool,
+    bracket: Option<Bracket>,
 }
 
-/// What was read last: a function, `(` or nothing, numbers, or an operand.
+/// What was read last: a function, `(` or nothing; `[` or `;` of an index; numbers; an operand that no index may follow; or one
+/// that an index may follow.
 #[derive(Drop)]
 enum Reading {
     Nothing,
+    Position,
     Strand(Vec<i64>),
     Whole(Expr),
+    Reference(Expr),
 }
 
 /// The literal of these numbers: one number is a scalar.
@@ -78,14 +87,14 @@ fn first(
             let characters = characters.to_vec(alloc)?;
             Ok(Reading::Whole(Expr::Const(text_literal(characters))))
         }
-        Token::Word(name) => Ok(Reading::Whole(Expr::Name(*name))),
+        Token::Word(name) => Ok(Reading::Reference(Expr::Name(*name))),
         Token::Mark(sign) => match function.alone {
             Some(function) => {
                 waiting.push(Waiting::Argument1(function))?;
                 Ok(Reading::Nothing)
             }
             None if *sign == '(' => {
-                waiting.push(Waiting::Parenthesis)?;
+                waiting.push(Waiting::Inside(Bracket::Parenthesis))?;
                 Ok(Reading::Nothing)
             }
             None => Err(ParseFault::Syntax),
@@ -93,7 +102,7 @@ fn first(
     }
 }
 
-/// Gives a value to all that waits for it, up to the innermost open parenthesis, which is taken off.
+/// Gives a value to all that waits for it, up to the innermost open bracket, which is taken off.
 fn settle(alloc: Global, value: Expr, waiting: &mut Vec<Waiting>) -> Result<Settled, AllocError>
     ensures { IfOk result (λ s. Settles s waiting.new.items (settle (stack waiting.old.items) (tree_of value))) }
 {
@@ -104,30 +113,110 @@ fn settle(alloc: Global, value: Expr, waiting: &mut Vec<Waiting>) -> Result<Sett
             Waiting::Argument2(function, left) => {
                 value = Expr::Dyad(function, Box::new(alloc, left)?, Box::new(alloc, value)?);
             }
-            Waiting::Parenthesis => {
+            Waiting::Inside(bracket) => {
                 return Ok(Settled {
                     value,
-                    in_parenthesis: true,
+                    bracket: Some(bracket),
                 });
             }
         }
     }
     Ok(Settled {
         value,
-        in_parenthesis: false,
+        bracket: None,
     })
 }
 
-/// Reads `)` behind an operand.
-fn closed(alloc: Global, operand: Expr, waiting: &mut Vec<Waiting>) -> Result<Reading, ParseFault>
-    ensures { Steps result waiting.new.items (closed (settle (stack waiting.old.items) (tree_of operand))) }
+/// Ends a position of an index, by `;` or by `]`.
+fn position_ended(
+    alloc: Global,
+    sign: char,
+    operand: Expr,
+    positions: Vec<Option<Expr>>,
+    position: Option<Expr>,
+    waiting: &mut Vec<Waiting>,
+) -> Result<Reading, ParseFault>
+    ensures { Steps result waiting.new.items (position_ended sign (tree_of operand) (map position_of positions.items) (position_of position) (stack waiting.old.items)) }
 {
-    let inside = settle(alloc, operand, waiting)?;
-    if inside.in_parenthesis {
-        Ok(Reading::Whole(inside.value))
+    let mut positions = positions;
+    if sign == ';' {
+        positions.push(position)?;
+        waiting.push(Waiting::Inside(Bracket::Index(operand, positions)))?;
+        Ok(Reading::Position)
+    } else if sign == ']' {
+        positions.push(position)?;
+        let operand = Box::new(alloc, operand)?;
+        Ok(Reading::Reference(Expr::Index(operand, positions)))
     } else {
         Err(ParseFault::Syntax)
     }
+}
+
+/// Reads a sign that closes a bracket, or ends a position in it, behind an operand.
+fn closed(
+    alloc: Global,
+    sign: char,
+    operand: Expr,
+    waiting: &mut Vec<Waiting>,
+) -> Result<Reading, ParseFault>
+    ensures { Steps result waiting.new.items (closed sign (settle (stack waiting.old.items) (tree_of operand))) }
+{
+    let Settled { value, bracket } = settle(alloc, operand, waiting)?;
+    match bracket {
+        None => Err(ParseFault::Syntax),
+        Some(Bracket::Parenthesis) => {
+            if sign == ')' {
+                Ok(Reading::Reference(value))
+            } else {
+                Err(ParseFault::Syntax)
+            }
+        }
+        Some(Bracket::Index(indexed, positions)) => position_ended(
+            alloc,
+            sign,
+            indexed,
+            positions,
+            Some(value),
+            waiting,
+        ),
+    }
+}
+
+/// Ends a position that has no expression.
+fn skipped(alloc: Global, sign: char, waiting: &mut Vec<Waiting>) -> Result<Reading, ParseFault>
+    ensures { Steps result waiting.new.items (skipped sign (stack waiting.old.items)) }
+{
+    match waiting.pop() {
+        Some(Waiting::Inside(Bracket::Index(operand, positions))) => {
+            position_ended(alloc, sign, operand, positions, None, waiting)
+        }
+        _ => Err(ParseFault::Syntax),
+    }
+}
+
+/// Whether the sign ends a position of an index.
+fn ends_position(sign: char) -> bool
+    ensures { result ≡ ends_position sign }
+{
+    sign == ';' || sign == ']'
+}
+
+/// Reads a token, or the function that it begins, where a position of an index is to begin.
+fn begin(
+    alloc: Global,
+    token: &Token,
+    function: Function,
+    waiting: &mut Vec<Waiting>,
+) -> Result<Reading, ParseFault>
+    ensures { Steps result waiting.new.items (begin (lexeme token.now) function (stack waiting.old.items)) }
+{
+    let Token::Mark(sign) = token else {
+        return first(alloc, token, function, waiting);
+    };
+    if ends_position(*sign) {
+        return skipped(alloc, *sign, waiting);
+    }
+    first(alloc, token, function, waiting)
 }
 
 /// Reads a token, or the function that it begins, behind an operand.
@@ -148,9 +237,28 @@ fn next(
             waiting.push(Waiting::Argument2(function, operand))?;
             Ok(Reading::Nothing)
         }
-        None if *sign == ')' => closed(alloc, operand, waiting),
-        None => Err(ParseFault::Syntax),
+        None => closed(alloc, *sign, operand, waiting),
     }
+}
+
+/// Reads a token, or the function that it begins, behind an operand that an index may follow.
+fn after_reference(
+    alloc: Global,
+    token: &Token,
+    function: Function,
+    operand: Expr,
+    waiting: &mut Vec<Waiting>,
+) -> Result<Reading, ParseFault>
+    ensures { Steps result waiting.new.items (after_reference (lexeme token.now) function (stack waiting.old.items) (tree_of operand)) }
+{
+    let Token::Mark(sign) = token else {
+        return Err(ParseFault::Syntax);
+    };
+    if *sign == '[' {
+        waiting.push(Waiting::Inside(Bracket::Index(operand, Vec::new(alloc))))?;
+        return Ok(Reading::Position);
+    }
+    next(alloc, token, function, operand, waiting)
 }
 
 /// Reads a token, or the function that it begins.
@@ -165,6 +273,7 @@ fn step(
 {
     match reading {
         Reading::Nothing => first(alloc, token, function, waiting),
+        Reading::Position => begin(alloc, token, function, waiting),
         Reading::Strand(mut numbers) => match token {
             Token::Num(n) => {
                 numbers.push(*n)?;
@@ -179,6 +288,7 @@ fn step(
             ),
         },
         Reading::Whole(operand) => next(alloc, token, function, operand, waiting),
+        Reading::Reference(operand) => after_reference(alloc, token, function, operand, waiting),
     }
 }
 
@@ -188,14 +298,15 @@ fn finish(alloc: Global, reading: Reading, waiting: &mut Vec<Waiting>) -> Result
 {
     let operand = match reading {
         Reading::Nothing => return Err(ParseFault::Syntax),
+        Reading::Position => return Err(ParseFault::Syntax),
         Reading::Strand(numbers) => Expr::Const(literal(numbers)),
         Reading::Whole(operand) => operand,
+        Reading::Reference(operand) => operand,
     };
     let whole = settle(alloc, operand, waiting)?;
-    if whole.in_parenthesis {
-        Err(ParseFault::Syntax)
-    } else {
-        Ok(whole.value)
+    match whole.bracket {
+        None => Ok(whole.value),
+        Some(_) => Err(ParseFault::Syntax),
     }
 }
 

@@ -61,6 +61,8 @@ fn monad_of(sign: char) -> Option<Monadic>
         '⌽' => Some(Monadic::Reverse(Along::Last)),
         '⊖' => Some(Monadic::Reverse(Along::First)),
         '⍉' => Some(Monadic::Transpose),
+        '⍴' => Some(Monadic::Shape),
+        '⍳' => Some(Monadic::Iota),
         _ => None,
     }
 }
@@ -79,6 +81,12 @@ fn dyad_of(sign: char) -> Option<Dyadic>
         '⌽' => Some(Dyadic::Rotate(Along::Last)),
         '⊖' => Some(Dyadic::Rotate(Along::First)),
         '⍉' => Some(Dyadic::Transpose),
+        '/' => Some(Dyadic::Replicate(Along::Last)),
+        '⌿' => Some(Dyadic::Replicate(Along::First)),
+        '⍳' => Some(Dyadic::IndexOf),
+        '∊' => Some(Dyadic::Member),
+        '⊤' => Some(Dyadic::Encode),
+        '⊥' => Some(Dyadic::Decode),
         _ => None,
     }
 }
@@ -122,6 +130,7 @@ pub(crate) fn dyadic_along_of(sign: char, axis: i64) -> Option<Dyadic>
     match sign {
         ',' | '⍪' => Some(Dyadic::Catenate(Along::Axis(axis))),
         '⌽' | '⊖' => Some(Dyadic::Rotate(Along::Axis(axis))),
+        '/' | '⌿' => Some(Dyadic::Replicate(Along::Axis(axis))),
         _ => None,
     }
 }

@@ -111,6 +111,95 @@ fn one_character_is_a_scalar(rt: HostRuntime) -> Result<(), Fail> {
 }
 
 #[test]
+fn reads_indexes(rt: HostRuntime) -> Result<(), Fail> {
+    for (written, want) in [
+        ("(5)[1]", "Index(Const(Num(5)), [Some(Const(Num(1)))])"),
+        (
+            "(5)[1 2]",
+            "Index(Const(Num(5)), [Some(Const(Nums([1, 2])))])",
+        ),
+        ("(5)[]", "Index(Const(Num(5)), [None])"),
+        ("(5)[;]", "Index(Const(Num(5)), [None, None])"),
+        (
+            "(5)[;2]",
+            "Index(Const(Num(5)), [None, Some(Const(Num(2)))])",
+        ),
+        (
+            "(5)[1;;3]",
+            "Index(Const(Num(5)), [Some(Const(Num(1))), None, Some(Const(Num(3)))])",
+        ),
+        (
+            "(5)[1][2]",
+            "Index(Index(Const(Num(5)), [Some(Const(Num(1)))]), [Some(Const(Num(2)))])",
+        ),
+        (
+            "(5)[(6)[1]]",
+            "Index(Const(Num(5)), [Some(Index(Const(Num(6)), [Some(Const(Num(1)))]))])",
+        ),
+        (
+            "(5)[-1]×2",
+            "Dyad(Scalar(Times), Index(Const(Num(5)), [Some(Monad(Scalar(Negative), Const(Num(1))))]), Const(Num(2)))",
+        ),
+        (
+            "2⌽[1](5)[1]",
+            "Dyad(Rotate(Axis(1)), Const(Num(2)), Index(Const(Num(5)), [Some(Const(Num(1)))]))",
+        ),
+        (
+            "(5)[⌽[1]6]",
+            "Index(Const(Num(5)), [Some(Monad(Reverse(Axis(1)), Const(Num(6))))])",
+        ),
+        ("(5)['a']", "Index(Const(Num(5)), [Some(Const(Char('a')))])"),
+    ] {
+        let found = tokens(rt.alloc(), written)?;
+        let tree = parse(rt.alloc(), &found)?;
+        let text = format!(in rt.alloc(); "{tree:?}")?;
+        assert!(rt; text.as_str() == want, "{written}");
+    }
+    let query = line(rt.alloc(), "D[1]")?;
+    assert!(rt; matches!(&query, Command::Show(Expr::Index(_, positions)) if positions.len() == 1));
+    let sum = line(rt.alloc(), "D[1;]+2")?;
+    assert!(rt; matches!(&sum, Command::Show(Expr::Dyad(_, _, _))));
+    let formula = line(rt.alloc(), "A←D[1 2]")?;
+    assert!(rt; matches!(&formula, Command::Define(_, Expr::Index(_, _))));
+    Ok(())
+}
+
+/// So many indexes, each within the one before.
+fn in_indexes(rt: &HostRuntime, count: usize) -> Result<Vec<Spanned>, Fail> {
+    let mut text = String::new(rt.alloc());
+    for _ in 0..count {
+        text.push_str("A[")?;
+    }
+    text.push('1')?;
+    for _ in 0..count {
+        text.push(']')?;
+    }
+    Ok(tokens(rt.alloc(), text.as_str())?)
+}
+
+#[test]
+fn an_index_is_a_node(rt: HostRuntime) -> Result<(), Fail> {
+    let low = in_indexes(&rt, 255)?;
+    assert!(rt; parse(rt.alloc(), &low).is_ok());
+    let high = in_indexes(&rt, 256)?;
+    assert!(rt; matches!(parse(rt.alloc(), &high), Err(ParseFault::Limit)));
+    let highest = in_indexes(&rt, 1365)?;
+    assert!(rt; matches!(parse(rt.alloc(), &highest), Err(ParseFault::Limit)));
+    let mut text = String::new(rt.alloc());
+    text.push_str("A[1")?;
+    for _ in 0..509 {
+        text.push_str(";;1")?;
+    }
+    text.push(']')?;
+    let most = tokens(rt.alloc(), text.as_str())?;
+    assert!(rt; parse(rt.alloc(), &most).is_ok());
+    text.push_str("+1")?;
+    let more = tokens(rt.alloc(), text.as_str())?;
+    assert!(rt; matches!(parse(rt.alloc(), &more), Err(ParseFault::Limit)));
+    Ok(())
+}
+
+#[test]
 fn reads_axes(rt: HostRuntime) -> Result<(), Fail> {
     for (written, want) in [
         ("⌽A", "Monad(Reverse(Last), Name("),
@@ -131,6 +220,19 @@ fn reads_axes(rt: HostRuntime) -> Result<(), Fail> {
         (
             "1⌽[1]⍉3",
             "Dyad(Rotate(Axis(1)), Const(Num(1)), Monad(Transpose, Const(Num(3))))",
+        ),
+        ("1/3", "Dyad(Replicate(Last), Const(Num(1)), Const(Num(3)))"),
+        (
+            "1⌿3",
+            "Dyad(Replicate(First), Const(Num(1)), Const(Num(3)))",
+        ),
+        (
+            "1/[2]3",
+            "Dyad(Replicate(Axis(2)), Const(Num(1)), Const(Num(3)))",
+        ),
+        (
+            "1⌿[2]3",
+            "Dyad(Replicate(Axis(2)), Const(Num(1)), Const(Num(3)))",
         ),
     ] {
         let found = tokens(rt.alloc(), written)?;
@@ -160,6 +262,30 @@ fn reads_every_scalar_sign(rt: HostRuntime) -> Result<(), Fail> {
                 Command::Show(Expr::Monad(_, _))
             )
         );
+    }
+    Ok(())
+}
+
+#[test]
+fn reads_signs_of_two_functions(rt: HostRuntime) -> Result<(), Fail> {
+    for (written, want) in [
+        ("⍴3", "Monad(Shape, Const(Num(3)))"),
+        ("1⍴3", "Dyad(Reshape, Const(Num(1)), Const(Num(3)))"),
+        ("⍳3", "Monad(Iota, Const(Num(3)))"),
+        ("1⍳3", "Dyad(IndexOf, Const(Num(1)), Const(Num(3)))"),
+        ("1∊3", "Dyad(Member, Const(Num(1)), Const(Num(3)))"),
+        ("1∈3", "Dyad(Member, Const(Num(1)), Const(Num(3)))"),
+        ("1⊤3", "Dyad(Encode, Const(Num(1)), Const(Num(3)))"),
+        ("1⊥3", "Dyad(Decode, Const(Num(1)), Const(Num(3)))"),
+        (
+            "⍳⍴⍴3",
+            "Monad(Iota, Monad(Shape, Monad(Shape, Const(Num(3)))))",
+        ),
+    ] {
+        let found = tokens(rt.alloc(), written)?;
+        let tree = parse(rt.alloc(), &found)?;
+        let text = format!(in rt.alloc(); "{tree:?}")?;
+        assert!(rt; text.as_str() == want, "{written}");
     }
     Ok(())
 }
@@ -219,11 +345,30 @@ fn refuses_what_is_no_line(rt: HostRuntime) -> Result<(), Fail> {
         "D[1;]←5",
         "D[1 2]←5",
         "D[1+1]←5",
-        "D[1]",
         "D[1]←",
         "D[1]←A",
         "D[A]←5",
-        "D[1]+2",
+        "D[1][2]←5",
+        "1[1]",
+        "1 2[1]",
+        "'abc'[1]",
+        "A[1",
+        "A[1;",
+        "A]",
+        "A[1)",
+        "(A]",
+        "(A[1)]",
+        "A[+]",
+        "A[1 B]",
+        "A[1]2",
+        "A[1]B",
+        "A[1;2]←B",
+        "[1]",
+        "[1]A",
+        "+[1]",
+        "A+[1]",
+        "A[;",
+        "(;)",
         "1)",
         "A;B",
         "()",
@@ -235,8 +380,11 @@ fn refuses_what_is_no_line(rt: HostRuntime) -> Result<(), Fail> {
         "1 'a'",
         "'a' 1",
         "'ab",
-        "(1)[1]",
-        "A←⍴1",
+        "A←∊1",
+        "/A",
+        "A⊤",
+        "A∊[1]B",
+        "⍳[1]A",
         ",[1]A",
         "⌽[A]B",
         "⌽[1;2]B",

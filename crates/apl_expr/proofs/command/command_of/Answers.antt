@@ -13,6 +13,3 @@ returns-then-is_empty c =
 
 pub define-requires : goal.define-requires
 define-requires c = let lengths = ap length (name_before_is 0x2190 (lexemes c.args.tokens.now) _ _ c.in-Some.ensures) in let sizes = simp length-map at lengths in omega arith
-
-pub cell-requires : goal.cell-requires
-cell-requires c = let lengths = ap length (name_before_is 0x5b (lexemes c.args.tokens.now) _ _ c.in-Some-name_before.ensures) in let sizes = simp length-map at lengths in omega arith
