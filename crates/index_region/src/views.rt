@@ -1,10 +1,10 @@
 //! Arrays as they are seen.
 
-ghost use Rattle.std.specs.Prelude.{◌≡◌, ◌+◌, ◌-◌, ◌≤◌, IfSome, IfOk, length, take, drop, ◌++◌, get_or, pos};
+ghost use Rattle.std.specs.Prelude.{◌≡◌, ◌+◌, ◌-◌, ◌≤◌, IfSome, IfOk, not, length, take, drop, ◌++◌, get_or, pos};
 ghost use Rattle.arrays_core.specs.Arrays.{ArrayValue, IsArray, item_if_there};
 ghost use Rattle.arrays_core.specs.Shapes.{size as size_of, IsWithinLimits};
 ghost use Rattle.arrays_core.specs.Items.{fill, type_of};
-ghost use Rattle.index_region.specs.Common.{numbers, counts_as_numbers};
+ghost use Rattle.index_region.specs.Common.{numbers, none_negative, counts_as_numbers};
 
 use arrays_core::{Array, Item, ItemType, Shape, size};
 use std::alloc::AllocError;
@@ -113,6 +113,18 @@ impl<'a> Seen<'a> {
         }) }
     {
         self.array.joined(other.array, shape)
+    }
+
+    /// One of the numbers is below 0.
+    pub fn has_negative(&self) -> bool
+        ensures { result ≡ not (none_negative (numbers self.now)) }
+    {
+        for place in 0..self.places() {
+            if self.number(place + 1) < 0 {
+                return true;
+            }
+        }
+        false
     }
 
     /// It is of numbers, or without items: where it is not, a function that asks for numbers is

@@ -1,3 +1,4 @@
 pub mod Generated
 pub mod Positions
 pub mod Indexed
+pub mod Copies

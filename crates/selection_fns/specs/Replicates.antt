@@ -15,16 +15,20 @@ times a n = if has_one_item a then replicate n (unsigned_abs (number_of (item_of
 abbrev pub replicated_shape : ArrayValue → List ℕ → ℕ → List ℕ
 replicated_shape a shape axis = insert (remove shape axis) axis (sum (times a (places_along shape axis)))
 
+-- the checks of the counts for an axis of n places, before what is left of them
+abbrev pub counts_checked : ArrayValue → ℕ → Result Form Kind → Result Form Kind
+counts_checked a n rest =
+    check (is_list a) Rank
+    (check (has_one_item a || (nat_eq n 1 || nat_eq (length a.items) n)) Length
+    (check (counts_as_numbers a && none_negative (numbers a)) Domain rest))
+
 abbrev pub replicate_form : Along → ArrayValue → ArrayValue → Result Form Kind
 replicate_form along a b =
     let rank = max 1 (length b.shape) in
     let axis = axis_at rank along in
-    let n = places_along b.shape axis in
     check (is_axis rank along) Axis
-    (check (is_list a) Rank
-    (check (has_one_item a || (nat_eq n 1 || nat_eq (length a.items) n)) Length
-    (check (counts_as_numbers a && none_negative (numbers a)) Domain
-    (limited (replicated_shape a b.shape axis) b.item_type))))
+    (counts_checked a (places_along b.shape axis)
+    (limited (replicated_shape a b.shape axis) b.item_type))
 
 -- which of the counts, from 1, makes copy i
 abbrev pub maker : List ℕ → ℕ → ℕ

@@ -4,7 +4,9 @@
 mod counting;
 mod indexing;
 mod measuring;
+mod replicating;
 
 pub use counting::IndexGenerator;
 pub use indexing::Index;
 pub use measuring::AxisLengths;
+pub use replicating::Replicate;
