@@ -1,5 +1,5 @@
 -- Take and drop of a vector: a run of its items.
-use Rattle.std.proofs.Common.{◌≡◌, ℕ, suc, ◌+◌, ◌-◌, ◌*◌, ◌/◌, ◌<◌, ◌≤◌, ℤ, List, [], ◌∷◌, take, drop, length, get_or, map, Result, Ok, refl, sym, ap, subst, ◌∙◌, arith}
+use Rattle.std.proofs.Common.{◌≡◌, ℕ, suc, ◌+◌, ◌-◌, ◌*◌, ◌/◌, ◌<◌, ◌≤◌, ℤ, List, [], ◌∷◌, take, drop, length, get_or, map, Result, Ok, refl, sym, ap, ◌∙◌, arith}
 use Rattle.std.specs.Prelude.{pos, negsuc, unsigned_abs, nat_eq, IfOk}
 use Rattle.std.proofs.Math.Nat.{div-one}
 use Rattle.std.proofs.lemmas.Bool.{eqb-true}
@@ -9,10 +9,10 @@ use Rattle.arrays_core.specs.declared.item.ItemType.{ItemType}
 use Rattle.arrays_core.specs.declared.item.Kind.{Kind}
 use Rattle.arrays_core.specs.declared.item.Kind.TheVariants.{Rank, Length, Domain}
 use Rattle.arrays_core.specs.Items.{fill}
-use Rattle.arrays_core.specs.Shapes.{size, index_after}
+use Rattle.arrays_core.specs.Shapes.{size}
 use Rattle.arrays_core.specs.Arrays.{ArrayValue, IsArray, collect}
 use Rattle.arrays_core.proofs.Order.{index_after-within}
-use Rattle.index_region.specs.Common.{Form, check, limited, and_then, is_list, counts_as_numbers, numbers}
+use Rattle.index_region.specs.Common.{and_then, is_list, counts_as_numbers, numbers}
 use Rattle.structural_fns.specs.Ravels.{magnitudes}
 use Rattle.structural_fns.specs.Counts.{counted_shape, counted_form, taken_place, take_form, take_item, take_whole, kept_place, dropped_shape, drop_form, drop_item, drop_whole}
 use Rattle.structural_fns.proofs.Counting.{numbers_long}
