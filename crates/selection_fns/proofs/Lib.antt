@@ -1,1 +1,5 @@
 pub mod Generated
+pub mod Lookups
+pub mod Searching
+pub mod Flat
+pub mod Searched

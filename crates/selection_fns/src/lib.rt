@@ -1,8 +1,13 @@
 //! Functions that pick items, look them up, and split numbers into digits.
 #![tactic(auto)]
 
+mod belonging;
 mod counting;
+mod finding;
+mod lookup;
 mod measuring;
 
+pub use belonging::Member;
 pub use counting::IndexGenerator;
+pub use finding::IndexOf;
 pub use measuring::AxisLengths;
