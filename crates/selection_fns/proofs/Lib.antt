@@ -3,3 +3,4 @@ pub mod Lookups
 pub mod Searching
 pub mod Flat
 pub mod Searched
+pub mod Radices

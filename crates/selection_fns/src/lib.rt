@@ -3,11 +3,14 @@
 
 mod belonging;
 mod counting;
+mod encoding;
 mod finding;
 mod lookup;
 mod measuring;
+mod numbers;
 
 pub use belonging::Member;
 pub use counting::IndexGenerator;
+pub use encoding::Encode;
 pub use finding::IndexOf;
 pub use measuring::AxisLengths;
