@@ -1,8 +1,10 @@
 //! Arrays as they are seen.
 
-ghost use Rattle.std.specs.Prelude.{◌≡◌, ◌+◌, ◌-◌, ◌≤◌, IfSome, IfOk, not, length, take, drop, ◌++◌, get_or, pos};
+ghost use Rattle.std.specs.Prelude.{◌≡◌, ◌+◌, ◌-◌, ◌≤◌, ◌↔◌, IfSome, IsNone, IfOk, not, length, map, take, drop, ◌++◌, get_or, pos};
 ghost use Rattle.arrays_core.specs.Arrays.{ArrayValue, IsArray, item_if_there};
 ghost use Rattle.arrays_core.specs.Shapes.{size as size_of, IsWithinLimits};
+ghost use Rattle.arrays_core.specs.declared.item.Item.TheVariants.{Num, Char};
+ghost use Rattle.arrays_core.specs.declared.item.ItemType.TheVariants.{Nums, Chars};
 ghost use Rattle.arrays_core.specs.Items.{fill, type_of};
 ghost use Rattle.index_region.specs.Common.{numbers, none_negative, counts_as_numbers};
 
@@ -85,6 +87,22 @@ impl<'a> Seen<'a> {
             Item::Num(number) => number,
             Item::Char(_) => 0,
         }
+    }
+
+    /// The numbers of an array of numbers, in row-major order.
+    pub fn numbers(&self) -> Option<&[i64]>
+        ensures none { IsNone result ↔ (self.now.item_type ≡ Chars) }
+        ensures is { IfSome result (λ s. (self.now.item_type ≡ Nums) × (self.now.items ≡ map (λ z. Num z) s.now)) }
+    {
+        self.array.numbers()
+    }
+
+    /// The characters of an array of characters, in row-major order.
+    pub fn characters(&self) -> Option<&[char]>
+        ensures none { IsNone result ↔ (self.now.item_type ≡ Nums) }
+        ensures is { IfSome result (λ s. (self.now.item_type ≡ Chars) × (self.now.items ≡ map (λ c. Char c) s.now)) }
+    {
+        self.array.characters()
     }
 
     /// The items of a run of places, behind so many, as an array of another shape that has as many.
