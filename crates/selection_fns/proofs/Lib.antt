@@ -4,3 +4,4 @@ pub mod Searching
 pub mod Flat
 pub mod Searched
 pub mod Radices
+pub mod Worths

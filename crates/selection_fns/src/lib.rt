@@ -3,6 +3,7 @@
 
 mod belonging;
 mod counting;
+mod decoding;
 mod encoding;
 mod finding;
 mod lookup;
@@ -11,6 +12,7 @@ mod numbers;
 
 pub use belonging::Member;
 pub use counting::IndexGenerator;
+pub use decoding::Decode;
 pub use encoding::Encode;
 pub use finding::IndexOf;
 pub use measuring::AxisLengths;
