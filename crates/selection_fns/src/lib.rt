@@ -9,6 +9,8 @@ mod finding;
 mod lookup;
 mod measuring;
 mod numbers;
+#[cfg(test)]
+mod tests;
 
 pub use belonging::Member;
 pub use counting::IndexGenerator;
