@@ -7,3 +7,7 @@ pub mod Searching
 pub mod Flat
 pub mod Searched
 pub mod Radices
+pub mod Worths
+pub mod CaseWords
+pub mod SearchCases
+pub mod DigitCases

@@ -3,6 +3,7 @@
 
 mod belonging;
 mod counting;
+mod decoding;
 mod encoding;
 mod finding;
 mod indexing;
@@ -10,9 +11,12 @@ mod lookup;
 mod measuring;
 mod numbers;
 mod replicating;
+#[cfg(test)]
+mod tests;
 
 pub use belonging::Member;
 pub use counting::IndexGenerator;
+pub use decoding::Decode;
 pub use encoding::Encode;
 pub use finding::IndexOf;
 pub use indexing::Index;
