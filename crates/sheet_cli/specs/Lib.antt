@@ -4,3 +4,4 @@ pub mod Answers
 pub mod Edits
 pub mod Progress
 pub mod Run
+pub mod Devices
