@@ -2,7 +2,7 @@
 use Rattle.std.specs.Prelude.{◌≡◌, ℕ, zero, suc, ℤ, pos, List, [], ◌∷◌, ◌++◌, get_or, ◌⊎◌, refl}
 use Rattle.std.proofs.Common.{sym, ◌∙◌, ap, inl, inr, append_assoc, append-nil}
 use Rattle.std.specs.Coded.{Coded, code_by, coded×, coded⊎, coded_list, coded_ℕ, coded_ℤ}
-use Rattle.apl_expr.specs.Trees.{Tree, Literal, Variable, Applied1, Applied2, Numbers, Text}
+use Rattle.apl_expr.specs.Trees.{Tree, Literal, Variable, Applied1, Applied2, Indexed, Positions, NoPositions, Empty, Filled, Numbers, Text}
 use Rattle.apl_expr.specs.declared.expr.ScalarMonad.{ScalarMonad}
 use Rattle.apl_expr.specs.declared.expr.ScalarMonad.TheVariants as scalar_monad
 use Rattle.apl_expr.specs.declared.expr.ScalarDyad.{ScalarDyad}
@@ -117,56 +117,126 @@ code_of_monadic (monadic.Scalar f) = (0, (number_of_monad f, pos 0))
 code_of_monadic (monadic.Reverse a) = (1, code_of_along a)
 code_of_monadic monadic.Ravel = (2, (0, pos 0))
 code_of_monadic monadic.Transpose = (3, (0, pos 0))
+code_of_monadic monadic.Shape = (3, (1, pos 0))
+code_of_monadic monadic.Iota = (3, (2, pos 0))
+
+abbrev plain_monads : List Monadic
+plain_monads = monadic.Transpose ∷ monadic.Shape ∷ monadic.Iota ∷ []
 
 abbrev monadic_of_code : Code → Monadic
 monadic_of_code (zero, c) = monadic.Scalar (monad_of_number c.0)
 monadic_of_code (suc zero, c) = monadic.Reverse (along_of_code c)
 monadic_of_code (suc (suc zero), c) = monadic.Ravel
-monadic_of_code (suc (suc (suc n)), c) = monadic.Transpose
+monadic_of_code (suc (suc (suc n)), c) = get_or plain_monads c.0 monadic.Transpose
 
 monadic_again : (f : Monadic) → monadic_of_code (code_of_monadic f) ≡ f
 monadic_again (monadic.Scalar f) = ap (λ g. monadic.Scalar g) (monad_again f)
 monadic_again (monadic.Reverse a) = ap (λ b. monadic.Reverse b) (along_again a)
 monadic_again monadic.Ravel = refl
 monadic_again monadic.Transpose = refl
+monadic_again monadic.Shape = refl
+monadic_again monadic.Iota = refl
 
 abbrev code_of_dyadic : Dyadic → Code
 code_of_dyadic (dyadic.Scalar f) = (0, (number_of_dyad f, pos 0))
 code_of_dyadic (dyadic.Catenate a) = (1, code_of_along a)
 code_of_dyadic (dyadic.Rotate a) = (2, code_of_along a)
-code_of_dyadic dyadic.Reshape = (3, (0, pos 0))
-code_of_dyadic dyadic.Take = (3, (1, pos 0))
-code_of_dyadic dyadic.Drop = (3, (2, pos 0))
-code_of_dyadic dyadic.Transpose = (3, (3, pos 0))
+code_of_dyadic (dyadic.Replicate a) = (3, code_of_along a)
+code_of_dyadic dyadic.Reshape = (4, (0, pos 0))
+code_of_dyadic dyadic.Take = (4, (1, pos 0))
+code_of_dyadic dyadic.Drop = (4, (2, pos 0))
+code_of_dyadic dyadic.Transpose = (4, (3, pos 0))
+code_of_dyadic dyadic.IndexOf = (4, (4, pos 0))
+code_of_dyadic dyadic.Member = (4, (5, pos 0))
+code_of_dyadic dyadic.Encode = (4, (6, pos 0))
+code_of_dyadic dyadic.Decode = (4, (7, pos 0))
 
 abbrev plain_dyads : List Dyadic
-plain_dyads = dyadic.Reshape ∷ dyadic.Take ∷ dyadic.Drop ∷ dyadic.Transpose ∷ []
+plain_dyads =
+    dyadic.Reshape ∷ dyadic.Take ∷ dyadic.Drop ∷ dyadic.Transpose ∷ dyadic.IndexOf ∷ dyadic.Member ∷
+    dyadic.Encode ∷ dyadic.Decode ∷ []
 
 abbrev dyadic_of_code : Code → Dyadic
 dyadic_of_code (zero, c) = dyadic.Scalar (dyad_of_number c.0)
 dyadic_of_code (suc zero, c) = dyadic.Catenate (along_of_code c)
 dyadic_of_code (suc (suc zero), c) = dyadic.Rotate (along_of_code c)
-dyadic_of_code (suc (suc (suc n)), c) = get_or plain_dyads c.0 dyadic.Reshape
+dyadic_of_code (suc (suc (suc zero)), c) = dyadic.Replicate (along_of_code c)
+dyadic_of_code (suc (suc (suc (suc n))), c) = get_or plain_dyads c.0 dyadic.Reshape
 
 dyadic_again : (f : Dyadic) → dyadic_of_code (code_of_dyadic f) ≡ f
 dyadic_again (dyadic.Scalar f) = ap (λ g. dyadic.Scalar g) (dyad_again f)
 dyadic_again (dyadic.Catenate a) = ap (λ b. dyadic.Catenate b) (along_again a)
 dyadic_again (dyadic.Rotate a) = ap (λ b. dyadic.Rotate b) (along_again a)
+dyadic_again (dyadic.Replicate a) = ap (λ b. dyadic.Replicate b) (along_again a)
 dyadic_again dyadic.Reshape = refl
 dyadic_again dyadic.Take = refl
 dyadic_again dyadic.Drop = refl
 dyadic_again dyadic.Transpose = refl
+dyadic_again dyadic.IndexOf = refl
+dyadic_again dyadic.Member = refl
+dyadic_again dyadic.Encode = refl
+dyadic_again dyadic.Decode = refl
 
--- numbers, characters, a name, or a function of one or of two arguments
+-- one run of positions behind another
+abbrev behind : Positions → Positions → Positions
+behind NoPositions ps = ps
+behind (Empty qs) ps = Empty (behind qs ps)
+behind (Filled e qs) ps = Filled e (behind qs ps)
+
+behind_none : (qs : Positions) → behind qs NoPositions ≡ qs
+behind_none NoPositions = refl
+behind_none (Empty qs) = ap (λ rs. Empty rs) (behind_none qs)
+behind_none (Filled e qs) = ap (λ rs. Filled e rs) (behind_none qs)
+
+behind_both : (qs rs ps : Positions) → behind (behind qs rs) ps ≡ behind qs (behind rs ps)
+behind_both NoPositions rs ps = refl
+behind_both (Empty qs) rs ps = ap (λ vs. Empty vs) (behind_both qs rs ps)
+behind_both (Filled e qs) rs ps = ap (λ vs. Filled e vs) (behind_both qs rs ps)
+
+-- numbers, characters, a name, a function of one or of two arguments, or a step of an index: its begin, an empty
+-- position, or one that is written
 abbrev Word : Type 0
-Word = List ℤ ⊎ (List ℕ ⊎ (List ℕ ⊎ (Code ⊎ Code)))
+Word = List ℤ ⊎ (List ℕ ⊎ (List ℕ ⊎ (Code ⊎ (Code ⊎ ℕ))))
 
-abbrev words : Tree → List Word
-words (Literal (Numbers ns)) = inl ns ∷ []
-words (Literal (Text cs)) = inr (inl cs) ∷ []
-words (Variable x) = inr (inr (inl x)) ∷ []
-words (Applied1 f b) = words b ++ inr (inr (inr (inl (code_of_monadic f)))) ∷ []
-words (Applied2 f a b) = words a ++ (words b ++ inr (inr (inr (inr (code_of_dyadic f)))) ∷ [])
+abbrev monad_word : Code → Word
+monad_word f = inr (inr (inr (inl f)))
+
+abbrev dyad_word : Code → Word
+dyad_word f = inr (inr (inr (inr (inl f))))
+
+abbrev index_word : ℕ → Word
+index_word n = inr (inr (inr (inr (inr n))))
+
+abbrev mutual
+  words : Tree → List Word
+  words (Literal (Numbers ns)) = inl ns ∷ []
+  words (Literal (Text cs)) = inr (inl cs) ∷ []
+  words (Variable x) = inr (inr (inl x)) ∷ []
+  words (Applied1 f b) = words b ++ monad_word (code_of_monadic f) ∷ []
+  words (Applied2 f a b) = words a ++ (words b ++ dyad_word (code_of_dyadic f) ∷ [])
+  words (Indexed a ps) = words a ++ (index_word 0 ∷ words_in ps)
+
+  words_in : Positions → List Word
+  words_in NoPositions = []
+  words_in (Empty ps) = index_word 1 ∷ words_in ps
+  words_in (Filled e ps) = words e ++ (index_word 2 ∷ words_in ps)
+
+abbrev begin_index : List Tree → List Tree
+begin_index [] = []
+begin_index (t ∷ stack) = Indexed t NoPositions ∷ stack
+
+abbrev add_positions : Positions → List Tree → List Tree
+add_positions ps (Indexed t qs ∷ stack) = Indexed t (behind qs ps) ∷ stack
+add_positions ps stack = stack
+
+abbrev add_written : List Tree → List Tree
+add_written [] = []
+add_written (e ∷ stack) = add_positions (Filled e NoPositions) stack
+
+abbrev index_step : ℕ → List Tree → List Tree
+index_step zero stack = begin_index stack
+index_step (suc zero) stack = add_positions (Empty NoPositions) stack
+index_step (suc (suc n)) stack = add_written stack
 
 abbrev push : Word → List Tree → List Tree
 push (inl ns) stack = Literal (Numbers ns) ∷ stack
@@ -174,9 +244,10 @@ push (inr (inl cs)) stack = Literal (Text cs) ∷ stack
 push (inr (inr (inl x))) stack = Variable x ∷ stack
 push (inr (inr (inr (inl f)))) [] = []
 push (inr (inr (inr (inl f)))) (b ∷ stack) = Applied1 (monadic_of_code f) b ∷ stack
-push (inr (inr (inr (inr f)))) [] = []
-push (inr (inr (inr (inr f)))) (b ∷ []) = b ∷ []
-push (inr (inr (inr (inr f)))) (b ∷ a ∷ stack) = Applied2 (dyadic_of_code f) a b ∷ stack
+push (inr (inr (inr (inr (inl f))))) [] = []
+push (inr (inr (inr (inr (inl f))))) (b ∷ []) = b ∷ []
+push (inr (inr (inr (inr (inl f))))) (b ∷ a ∷ stack) = Applied2 (dyadic_of_code f) a b ∷ stack
+push (inr (inr (inr (inr (inr n))))) stack = index_step n stack
 
 abbrev build : List Word → List Tree → List Tree
 build [] stack = stack
@@ -186,17 +257,32 @@ abbrev top : List Tree → Tree
 top [] = Variable []
 top (t ∷ ts) = t
 
-again : (t : Tree) (ws : List Word) (stack : List Tree) → build (words t ++ ws) stack ≡ build ws (t ∷ stack)
-again (Literal (Numbers ns)) ws stack = refl
-again (Literal (Text cs)) ws stack = refl
-again (Variable x) ws stack = refl
-again (Applied1 f b) ws stack =
-    ap (λ vs. build vs stack) (append_assoc (words b) (inr (inr (inr (inl (code_of_monadic f)))) ∷ []) ws)
-    ∙ (again b (inr (inr (inr (inl (code_of_monadic f)))) ∷ ws) stack ∙ ap (λ g. build ws (Applied1 g b ∷ stack)) (monadic_again f))
-again (Applied2 f a b) ws stack =
-    ap (λ vs. build vs stack) (append_assoc (words a) (words b ++ inr (inr (inr (inr (code_of_dyadic f)))) ∷ []) ws ∙ ap (λ vs. words a ++ vs) (append_assoc (words b) (inr (inr (inr (inr (code_of_dyadic f)))) ∷ []) ws))
-    ∙ (again a (words b ++ (inr (inr (inr (inr (code_of_dyadic f)))) ∷ ws)) stack ∙ (again b (inr (inr (inr (inr (code_of_dyadic f)))) ∷ ws) (a ∷ stack)
-    ∙ ap (λ g. build ws (Applied2 g a b ∷ stack)) (dyadic_again f)))
+mutual
+  again : (t : Tree) (ws : List Word) (stack : List Tree) → build (words t ++ ws) stack ≡ build ws (t ∷ stack)
+  again (Literal (Numbers ns)) ws stack = refl
+  again (Literal (Text cs)) ws stack = refl
+  again (Variable x) ws stack = refl
+  again (Applied1 f b) ws stack =
+      let word = monad_word (code_of_monadic f) in
+      ap (λ vs. build vs stack) (append_assoc (words b) (word ∷ []) ws)
+      ∙ (again b (word ∷ ws) stack ∙ ap (λ g. build ws (Applied1 g b ∷ stack)) (monadic_again f))
+  again (Applied2 f a b) ws stack =
+      let word = dyad_word (code_of_dyadic f) in
+      ap (λ vs. build vs stack) (append_assoc (words a) (words b ++ word ∷ []) ws ∙ ap (λ vs. words a ++ vs) (append_assoc (words b) (word ∷ []) ws))
+      ∙ (again a (words b ++ (word ∷ ws)) stack ∙ (again b (word ∷ ws) (a ∷ stack) ∙ ap (λ g. build ws (Applied2 g a b ∷ stack)) (dyadic_again f)))
+  again (Indexed a ps) ws stack =
+      ap (λ vs. build vs stack) (append_assoc (words a) (index_word 0 ∷ words_in ps) ws)
+      ∙ (again a (index_word 0 ∷ (words_in ps ++ ws)) stack ∙ positions_again ps ws a NoPositions stack)
+
+  positions_again : (ps : Positions) (ws : List Word) (t : Tree) (qs : Positions) (stack : List Tree)
+      → build (words_in ps ++ ws) (Indexed t qs ∷ stack) ≡ build ws (Indexed t (behind qs ps) ∷ stack)
+  positions_again NoPositions ws t qs stack = ap (λ rs. build ws (Indexed t rs ∷ stack)) (sym (behind_none qs))
+  positions_again (Empty ps) ws t qs stack =
+      positions_again ps ws t (behind qs (Empty NoPositions)) stack ∙ ap (λ rs. build ws (Indexed t rs ∷ stack)) (behind_both qs (Empty NoPositions) ps)
+  positions_again (Filled e ps) ws t qs stack =
+      ap (λ vs. build vs (Indexed t qs ∷ stack)) (append_assoc (words e) (index_word 2 ∷ words_in ps) ws)
+      ∙ (again e (index_word 2 ∷ (words_in ps ++ ws)) (Indexed t qs ∷ stack)
+      ∙ (positions_again ps ws t (behind qs (Filled e NoPositions)) stack ∙ ap (λ rs. build ws (Indexed t rs ∷ stack)) (behind_both qs (Filled e NoPositions) ps)))
 
 pub same_again : (t : Tree) → top (build (words t) []) ≡ t
 same_again t = ap top (ap (λ ws. build ws []) (sym (append-nil (words t))) ∙ again t [] [])
@@ -206,5 +292,5 @@ coded_code = coded× coded_ℕ (coded× coded_ℕ coded_ℤ)
 
 abbrev pub coded_tree : Coded Tree
 coded_tree =
-    code_by (List Word) (coded_list (coded⊎ (coded_list coded_ℤ) (coded⊎ (coded_list coded_ℕ) (coded⊎ (coded_list coded_ℕ) (coded⊎ coded_code coded_code)))))
+    code_by (List Word) (coded_list (coded⊎ (coded_list coded_ℤ) (coded⊎ (coded_list coded_ℕ) (coded⊎ (coded_list coded_ℕ) (coded⊎ coded_code (coded⊎ coded_code coded_ℕ))))))
     words (λ ws. top (build ws [])) same_again

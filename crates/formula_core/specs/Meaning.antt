@@ -1,6 +1,6 @@
 -- What an expression means, where the names show these arrays and errors.
-use Rattle.std.specs.Prelude.{ℕ, List, [], ◌∷◌, ◌++◌, Result, Ok, Err}
-use Rattle.apl_expr.specs.Trees.{Tree, Literal, Variable, Applied1, Applied2, Constant, Numbers, Text}
+use Rattle.std.specs.Prelude.{ℕ, List, [], ◌∷◌, ◌++◌, Some, None, Result, Ok, Err}
+use Rattle.apl_expr.specs.Trees.{Tree, Literal, Variable, Applied1, Applied2, Indexed, Positions, NoPositions, Empty, Filled, Constant, Numbers, Text}
 use Rattle.apl_expr.specs.declared.expr.ScalarMonad.{ScalarMonad}
 use Rattle.apl_expr.specs.declared.expr.ScalarMonad.TheVariants as scalar_monad
 use Rattle.apl_expr.specs.declared.expr.ScalarDyad.{ScalarDyad}
@@ -25,6 +25,12 @@ use Rattle.structural_fns.specs.Joins.{catenate_whole}
 use Rattle.structural_fns.specs.Counts.{take_whole, drop_whole}
 use Rattle.structural_fns.specs.Turns.{reverse_whole, rotate_whole}
 use Rattle.structural_fns.specs.Transposes.{transpose_whole, transpose_by_whole}
+use Rattle.selection_fns.specs.Counted.{shape_whole, generator_whole}
+use Rattle.selection_fns.specs.Replicates.{replicate_whole}
+use Rattle.selection_fns.specs.Indexes.{Position, index_whole}
+use Rattle.selection_fns.specs.Searches.{index_of_whole, member_whole}
+use Rattle.selection_fns.specs.Digits.{encode_whole, decode_whole}
+use Rattle.arrays_core.specs.declared.fault.Fault.{Fault}
 use Rattle.formula_core.specs.Outcomes.{Outcome, given}
 
 -- one number is a scalar, several are a vector; so it is with the characters of a text
@@ -77,6 +83,8 @@ of_right (monadic.Scalar f) b = on_array (scalar1_of f) b
 of_right monadic.Ravel b = ravel_whole b
 of_right (monadic.Reverse k) b = reverse_whole (along_of k) b
 of_right monadic.Transpose b = transpose_whole b
+of_right monadic.Shape b = shape_whole b
+of_right monadic.Iota b = generator_whole b
 
 -- a function of two arrays
 abbrev pub of_both : Dyadic → (left right : ArrayValue) → Result ArrayValue Kind
@@ -87,6 +95,11 @@ of_both dyadic.Take a b = take_whole a b
 of_both dyadic.Drop a b = drop_whole a b
 of_both (dyadic.Rotate k) a b = rotate_whole (along_of k) a b
 of_both dyadic.Transpose a b = transpose_by_whole a b
+of_both (dyadic.Replicate k) a b = replicate_whole (along_of k) a b
+of_both dyadic.IndexOf a b = index_of_whole a b
+of_both dyadic.Member a b = member_whole a b
+of_both dyadic.Encode a b = encode_whole a b
+of_both dyadic.Decode a b = decode_whole a b
 
 abbrev pub applied1 : Monadic → Outcome → Outcome
 applied1 f (Err e) = Err e
@@ -98,16 +111,48 @@ applied2 f (Err e) left = Err e
 applied2 f (Ok b) (Err e) = Err e
 applied2 f (Ok b) (Ok a) = given (of_both f a b)
 
--- the value of an expression, where the names show these
-abbrev pub eval : Tree → (List ℕ → Outcome) → Outcome
-eval (Literal c) names = given (array_of c)
-eval (Variable x) names = names x
-eval (Applied1 f b) names = applied1 f (eval b names)
-eval (Applied2 f a b) names = applied2 f (eval b names) (eval a names)
+-- one more position in front of those that follow, whose error comes before its own
+abbrev pub in_front : Outcome → Result (List Position) Fault → Result (List Position) Fault
+in_front first (Err e) = Err e
+in_front (Err e) (Ok positions) = Err e
+in_front (Ok p) (Ok positions) = Ok (Some p ∷ positions)
 
--- the names that stand in an expression, from the left
-abbrev pub names_in : Tree → List (List ℕ)
-names_in (Literal c) = []
-names_in (Variable x) = x ∷ []
-names_in (Applied1 f b) = names_in b
-names_in (Applied2 f a b) = names_in a ++ names_in b
+-- the same for an empty one
+abbrev pub empty_in_front : Result (List Position) Fault → Result (List Position) Fault
+empty_in_front (Err e) = Err e
+empty_in_front (Ok positions) = Ok (None ∷ positions)
+
+-- the positions' error comes before that of what is indexed
+abbrev pub indexed : Result (List Position) Fault → (operand : Outcome) → Outcome
+indexed (Err e) a = Err e
+indexed (Ok positions) (Err e) = Err e
+indexed (Ok positions) (Ok a) = given (index_whole a positions)
+
+abbrev mutual
+  -- the value of an expression, where the names show these
+  pub eval : Tree → (List ℕ → Outcome) → Outcome
+  eval (Literal c) names = given (array_of c)
+  eval (Variable x) names = names x
+  eval (Applied1 f b) names = applied1 f (eval b names)
+  eval (Applied2 f a b) names = applied2 f (eval b names) (eval a names)
+  eval (Indexed a ps) names = indexed (eval_positions ps names) (eval a names)
+
+  -- the values of positions; the error of the last that has one
+  pub eval_positions : Positions → (List ℕ → Outcome) → Result (List Position) Fault
+  eval_positions NoPositions names = Ok []
+  eval_positions (Empty ps) names = empty_in_front (eval_positions ps names)
+  eval_positions (Filled e ps) names = in_front (eval e names) (eval_positions ps names)
+
+abbrev mutual
+  -- the names that stand in an expression, from the left
+  pub names_in : Tree → List (List ℕ)
+  names_in (Literal c) = []
+  names_in (Variable x) = x ∷ []
+  names_in (Applied1 f b) = names_in b
+  names_in (Applied2 f a b) = names_in a ++ names_in b
+  names_in (Indexed a ps) = names_in a ++ names_in_positions ps
+
+  pub names_in_positions : Positions → List (List ℕ)
+  names_in_positions NoPositions = []
+  names_in_positions (Empty ps) = names_in_positions ps
+  names_in_positions (Filled e ps) = names_in e ++ names_in_positions ps

@@ -1,5 +1,7 @@
 -- What an operand stands for.
-use Rattle.std.specs.Prelude.{Result, Ok, Err}
+use Rattle.std.specs.Prelude.{List, map, Option, Some, None, Result, Ok, Err}
+use Rattle.std.specs.Global.{Vec}
+use Rattle.selection_fns.specs.Indexes.{Position}
 use Rattle.arrays_core.specs.Arrays.{ArrayValue}
 use Rattle.arrays_core.specs.declared.fault.Fault.{Fault}
 use Rattle.formula_core.specs.declared.evaluating.Operand.{Operand}
@@ -13,3 +15,12 @@ array_in (Made a) = a
 abbrev pub outcome_of : Result Operand Fault → Outcome
 outcome_of (Ok o) = Ok (array_in o)
 outcome_of (Err e) = Err e
+
+-- a position of an index: the array of its operand, where it is written
+abbrev pub position_in : Option Operand → Position
+position_in None = None
+position_in (Some o) = Some (array_in o)
+
+abbrev pub positions_in : Result (Vec (Option Operand)) Fault → Result (List Position) Fault
+positions_in (Ok operands) = Ok (map position_in operands.items)
+positions_in (Err e) = Err e

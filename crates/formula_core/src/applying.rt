@@ -2,6 +2,10 @@
 
 ghost use Rattle.arrays_core.specs.Arrays.{IsAnswerTo};
 ghost use Rattle.formula_core.specs.Meaning.{along_of, of_right, of_both};
+ghost use Rattle.selection_fns.specs.Counted.{shape_whole, generator_whole};
+ghost use Rattle.selection_fns.specs.Replicates.{replicate_whole};
+ghost use Rattle.selection_fns.specs.Searches.{index_of_whole, member_whole};
+ghost use Rattle.selection_fns.specs.Digits.{encode_whole, decode_whole};
 ghost use Rattle.structural_fns.specs.Ravels.{reshape_whole, ravel_whole};
 ghost use Rattle.structural_fns.specs.Joins.{catenate_whole};
 ghost use Rattle.structural_fns.specs.Counts.{take_whole, drop_whole};
@@ -13,6 +17,7 @@ use apl_expr::{Along, Dyadic, Monadic};
 use arrays_core::{ApplyFault, Array};
 use index_region::Seen;
 use scalar_fns::{apply_one, apply_two};
+use selection_fns::{AxisLengths, Decode, Encode, IndexGenerator, IndexOf, Member, Replicate};
 use std::alloc::Global;
 use structural_fns::{
     Catenate, DropPlaces, DyadicTranspose, Ravel, Reshape, Reverse, Rotate, Take, Transpose,
@@ -27,6 +32,8 @@ pub(crate) fn of_right(alloc: Global, function: Monadic, array: &Array) -> Resul
         Monadic::Ravel => ravelled(array),
         Monadic::Reverse(along) => reversed(alloc, along, array),
         Monadic::Transpose => transposed(alloc, array),
+        Monadic::Shape => axis_lengths(alloc, array),
+        Monadic::Iota => numbered(alloc, array),
     }
 }
 
@@ -47,6 +54,11 @@ pub(crate) fn of_both(
         Dyadic::Drop => dropped(alloc, left, right),
         Dyadic::Rotate(along) => rotated(alloc, along, left, right),
         Dyadic::Transpose => transposed_by(alloc, left, right),
+        Dyadic::Replicate(along) => replicated(alloc, along, left, right),
+        Dyadic::IndexOf => found(alloc, left, right),
+        Dyadic::Member => belonging(alloc, left, right),
+        Dyadic::Encode => encoded(alloc, left, right),
+        Dyadic::Decode => decoded(alloc, left, right),
     }
 }
 
@@ -111,4 +123,49 @@ fn transposed_by(alloc: Global, left: &Array, right: &Array) -> Result<Array, Ap
     ensures { IsAnswerTo (transpose_by_whole left.now right.now) result }
 {
     DyadicTranspose.apply(alloc, &[Seen::plain(left), Seen::plain(right)])
+}
+
+fn axis_lengths(alloc: Global, array: &Array) -> Result<Array, ApplyFault>
+    ensures { IsAnswerTo (shape_whole array.now) result }
+{
+    AxisLengths.apply(alloc, &[Seen::plain(array)])
+}
+
+fn numbered(alloc: Global, array: &Array) -> Result<Array, ApplyFault>
+    ensures { IsAnswerTo (generator_whole array.now) result }
+{
+    IndexGenerator.apply(alloc, &[Seen::plain(array)])
+}
+
+fn replicated(alloc: Global, along: Along, left: &Array, right: &Array) -> Result<Array, ApplyFault>
+    ensures { IsAnswerTo (replicate_whole (along_of along) left.now right.now) result }
+{
+    let replicate = Replicate {
+        along: along_of(along),
+    };
+    replicate.apply(alloc, &[Seen::plain(left), Seen::plain(right)])
+}
+
+fn found(alloc: Global, left: &Array, right: &Array) -> Result<Array, ApplyFault>
+    ensures { IsAnswerTo (index_of_whole left.now right.now) result }
+{
+    IndexOf.apply(alloc, &[Seen::plain(left), Seen::plain(right)])
+}
+
+fn belonging(alloc: Global, left: &Array, right: &Array) -> Result<Array, ApplyFault>
+    ensures { IsAnswerTo (member_whole left.now right.now) result }
+{
+    Member.apply(alloc, &[Seen::plain(left), Seen::plain(right)])
+}
+
+fn encoded(alloc: Global, left: &Array, right: &Array) -> Result<Array, ApplyFault>
+    ensures { IsAnswerTo (encode_whole left.now right.now) result }
+{
+    Encode.apply(alloc, &[Seen::plain(left), Seen::plain(right)])
+}
+
+fn decoded(alloc: Global, left: &Array, right: &Array) -> Result<Array, ApplyFault>
+    ensures { IsAnswerTo (decode_whole left.now right.now) result }
+{
+    Decode.apply(alloc, &[Seen::plain(left), Seen::plain(right)])
 }

@@ -1,18 +1,21 @@
 //! The value of an expression.
 
-ghost use Rattle.std.specs.Prelude.{◌≡◌, IfOk, Result, Ok, Err};
-ghost use Rattle.apl_expr.specs.Trees.{tree_of};
+ghost use Rattle.std.specs.Prelude.{◌≡◌, IfOk, Result, Ok, Err, map};
+ghost use Rattle.apl_expr.specs.Trees.{tree_of, position_of, positions_of};
 ghost use Rattle.arrays_core.specs.Arrays.{ArrayValue, IsAnswerTo};
 ghost use Rattle.arrays_core.specs.declared.item.Kind.{Kind as AKind};
+ghost use Rattle.selection_fns.specs.Indexes.{index_whole};
 ghost use Rattle.formula_core.specs.Outcomes.{read, given};
-ghost use Rattle.formula_core.specs.Operands.{outcome_of, array_in};
-ghost use Rattle.formula_core.specs.Meaning.{eval, applied1, applied2};
+ghost use Rattle.formula_core.specs.Operands.{outcome_of, array_in, position_in, positions_in};
+ghost use Rattle.formula_core.specs.Meaning.{eval, eval_positions, applied1, applied2, indexed};
 
 use crate::applying::{of_both, of_right};
 use crate::literals::array_of;
 use apl_expr::{Dyadic, Expr, Monadic};
 use apl_tokens::Name;
 use arrays_core::{ApplyFault, Array, Fault};
+use index_region::Seen;
+use selection_fns::Index;
 use std::alloc::{AllocError, Global};
 
 /// Something that tells what names show.
@@ -71,6 +74,7 @@ pub fn evaluate<S: Shows>(
 }
 
 /// The value of an expression as an argument. A name's array is lent, and not copied.
+#[cycle(value)]
 fn argument<'a, S: Shows>(
     alloc: Global,
     tree: &Expr,
@@ -93,7 +97,35 @@ fn argument<'a, S: Shows>(
             let left = argument(alloc, left, names)?;
             apply_dyad(alloc, *function, left, right)
         }
+        Expr::Index(operand, positions) => {
+            let positions = position_operands(alloc, positions, names)?;
+            let operand = argument(alloc, operand, names)?;
+            apply_index(alloc, operand, positions)
+        }
     }
+}
+
+/// The values of the positions of an index, from the last to the first; the first error that is met is the result.
+#[cycle(value)]
+fn position_operands<'a, S: Shows>(
+    alloc: Global,
+    positions: &[Option<Expr>],
+    names: &'a S,
+) -> Result<Result<Vec<Option<Operand<'a>>>, Fault>, AllocError>
+    ensures { IfOk result (λ operands. positions_in operands ≡ eval_positions (positions_of (map position_of positions.now)) (S.shows names.entry.now)) }
+{
+    let mut operands = Vec::new(alloc);
+    for k in (0..positions.len()).rev() {
+        let operand = match &positions[k] {
+            Some(tree) => match argument(alloc, tree, names)? {
+                Ok(operand) => Some(operand),
+                Err(fault) => return Ok(Err(fault)),
+            },
+            None => None,
+        };
+        operands.insert(0, operand)?;
+    }
+    Ok(Ok(operands))
 }
 
 /// A function of its right argument, or the argument's error.
@@ -126,6 +158,49 @@ fn apply_dyad<'a>(
         },
         Err(fault) => Ok(Err(fault)),
     }
+}
+
+/// The items of the operand at the indices of the positions, or the positions' error, or the operand's.
+fn apply_index<'a>(
+    alloc: Global,
+    operand: Result<Operand<'a>, Fault>,
+    positions: Result<Vec<Option<Operand<'a>>>, Fault>,
+) -> Result<Result<Operand<'a>, Fault>, AllocError>
+    ensures { IfOk result (λ made. outcome_of made ≡ indexed (positions_in positions.entry) (outcome_of operand.entry)) }
+{
+    match positions {
+        Ok(positions) => match operand {
+            Ok(operand) => made(of_positions(alloc, operand.array(), positions.as_slice())),
+            Err(fault) => Ok(Err(fault)),
+        },
+        Err(fault) => Ok(Err(fault)),
+    }
+}
+
+/// The items of an array at the indices of the positions.
+fn of_positions(
+    alloc: Global,
+    array: &Array,
+    positions: &[Option<Operand>],
+) -> Result<Array, ApplyFault>
+    ensures { IsAnswerTo (index_whole array.now (map position_in positions.now)) result }
+{
+    let mut written = Vec::with_capacity(alloc, positions.len())?;
+    let mut args = Vec::new(alloc);
+    args.push(Seen::plain(array))?;
+    for position in positions {
+        match position {
+            Some(operand) => {
+                written.push(true)?;
+                args.push(Seen::plain(operand.array()))?;
+            }
+            None => written.push(false)?,
+        }
+    }
+    let index = Index {
+        written: written.as_slice(),
+    };
+    index.apply(alloc, args.as_slice())
 }
 
 /// What a function gave as an argument of the next one. Its error has no origin.
