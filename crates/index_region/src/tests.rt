@@ -9,6 +9,7 @@ fn sees_an_array(rt: HostRuntime) -> Result<(), Fail> {
     assert_eq!(rt; seen.at(&[]), Some(Item::Num(-7)));
     assert_eq!(rt; seen.at(&[1]), None);
     assert_eq!(rt; seen.places(), 1);
+    assert!(rt; matches!(seen.numbers(), Some(&[-7])) && seen.characters().is_none());
     assert!(rt; seen.item_type() == ItemType::Nums && seen.counts_as_numbers());
     assert_eq!(rt; Along::Axis(2).is_axis(2), true);
     assert_eq!(rt; Along::Axis(3).is_axis(2), false);

@@ -1,0 +1,46 @@
+//! The same look-ups in plain Rust, by the standard library's map and set.
+use std::collections::{HashMap, HashSet};
+use std::hint::black_box;
+use std::time::Instant;
+
+fn numbers(seed: i64) -> Vec<i64> {
+    let mut number = seed;
+    (0..1000000)
+        .map(|_| {
+            number = number.wrapping_mul(6364136223846793005).wrapping_add(1442695040888963407);
+            (number >> 33) % 2000003
+        })
+        .collect()
+}
+
+fn index_of(list: &[i64], sought: &[i64]) -> Vec<i64> {
+    let mut places = HashMap::with_capacity(list.len());
+    for (place, number) in list.iter().enumerate() {
+        places.entry(*number).or_insert(place);
+    }
+    sought.iter().map(|number| *places.get(number).unwrap_or(&list.len()) as i64 + 1).collect()
+}
+
+fn membership(sought: &[i64], list: &[i64]) -> Vec<i64> {
+    let items: HashSet<i64> = list.iter().copied().collect();
+    sought.iter().map(|number| i64::from(items.contains(number))).collect()
+}
+
+fn time(name: &str, run: impl Fn() -> Vec<i64>) {
+    let mut least = u128::MAX;
+    let mut end = 0;
+    for _ in 0..10 {
+        let start = Instant::now();
+        let made = black_box(run());
+        least = least.min(start.elapsed().as_nanos());
+        end = made.iter().sum::<i64>();
+    }
+    println!("{name} {least} {end}");
+}
+
+fn main() {
+    let list = black_box(numbers(1));
+    let sought = black_box(numbers(2));
+    time("index-of", || index_of(&list, &sought));
+    time("membership", || membership(&sought, &list));
+}
