@@ -138,12 +138,8 @@ fn turn(
     match scan {
         Scan::Between => begun(alloc, at, c, out),
         Scan::Comment => Ok(Scan::Comment),
-        Scan::Minus(span) => {
-            if c.is_ascii_digit() {
-                return first_digit(alloc, span.start, true, c);
-            }
-            Err(TokenFault::Syntax(span))
-        }
+        Scan::Minus(minus) if c.is_ascii_digit() => first_digit(alloc, minus.start, true, c),
+        Scan::Minus(minus) => Err(TokenFault::Syntax(minus)),
         Scan::Digits(start, is_negative, mut digits) => {
             if c.is_ascii_digit() {
                 digits.push(c)?;
@@ -161,18 +157,10 @@ fn turn(
             }
             begun_behind(alloc, at, c, Scan::Letters(start, letters), out)
         }
-        Scan::Quoted(start, chars) => {
-            if c == '\'' {
-                return Ok(Scan::Quote(start, chars));
-            }
-            quoted(start, chars, c)
-        }
-        Scan::Quote(start, chars) => {
-            if c == '\'' {
-                return quoted(start, chars, c);
-            }
-            begun_behind(alloc, at, c, Scan::Quote(start, chars), out)
-        }
+        Scan::Quoted(start, chars) if c == '\'' => Ok(Scan::Quote(start, chars)),
+        Scan::Quoted(start, chars) => quoted(start, chars, c),
+        Scan::Quote(start, chars) if c == '\'' => quoted(start, chars, c),
+        Scan::Quote(start, chars) => begun_behind(alloc, at, c, Scan::Quote(start, chars), out),
     }
 }
 

@@ -81,3 +81,18 @@ fn walks_a_shape(rt: HostRuntime) -> Result<(), Fail> {
     }
     Ok(())
 }
+
+#[test]
+fn joins_two_arrays(rt: HostRuntime) -> Result<(), Fail> {
+    let made = Array::text(rt.alloc(), vec![in rt.alloc(); 'a', 'b']?);
+    let Ok(front) = made else {
+        assert!(rt; false);
+        return Ok(());
+    };
+    let back = Array::character(rt.alloc(), 'c')?;
+    let shape = shape_of(rt.alloc(), &[1, 3]);
+    let joined = front.joined(&back, &shape)?;
+    assert!(rt; matches!(joined.characters(), Some(&['a', 'b', 'c'])));
+    assert_eq!(rt; joined.shape().as_slice(), [1, 3].as_slice());
+    Ok(())
+}

@@ -15,7 +15,7 @@ use index_region::Seen;
 use scalar_fns::{apply_one, apply_two};
 use std::alloc::Global;
 use structural_fns::{
-    Catenate, Drop, DyadicTranspose, Ravel, Reshape, Reverse, Rotate, Take, Transpose,
+    Catenate, DropPlaces, DyadicTranspose, Ravel, Reshape, Reverse, Rotate, Take, Transpose,
 };
 
 /// A function of one array.
@@ -95,7 +95,7 @@ fn taken(alloc: Global, left: &Array, right: &Array) -> Result<Array, ApplyFault
 fn dropped(alloc: Global, left: &Array, right: &Array) -> Result<Array, ApplyFault>
     ensures { IsAnswerTo (drop_whole left.now right.now) result }
 {
-    Drop.apply(alloc, &[Seen::plain(left), Seen::plain(right)])
+    DropPlaces.apply(alloc, &[Seen::plain(left), Seen::plain(right)])
 }
 
 fn rotated(alloc: Global, along: Along, left: &Array, right: &Array) -> Result<Array, ApplyFault>

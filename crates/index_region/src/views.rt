@@ -1,10 +1,12 @@
 //! Arrays as they are seen.
 
-ghost use Rattle.std.specs.Prelude.{◌≡◌, ◌+◌, ◌-◌, ◌≤◌, IfSome, IfOk, length, take, drop, get_or, pos};
+ghost use Rattle.std.specs.Prelude.{◌≡◌, ◌+◌, ◌-◌, ◌≤◌, ◌↔◌, IfSome, IsNone, IfOk, not, length, map, take, drop, ◌++◌, get_or, pos};
 ghost use Rattle.arrays_core.specs.Arrays.{ArrayValue, IsArray, item_if_there};
 ghost use Rattle.arrays_core.specs.Shapes.{size as size_of, IsWithinLimits};
+ghost use Rattle.arrays_core.specs.declared.item.Item.TheVariants.{Num, Char};
+ghost use Rattle.arrays_core.specs.declared.item.ItemType.TheVariants.{Nums, Chars};
 ghost use Rattle.arrays_core.specs.Items.{fill, type_of};
-ghost use Rattle.index_region.specs.Common.{numbers, counts_as_numbers};
+ghost use Rattle.index_region.specs.Common.{numbers, none_negative, counts_as_numbers};
 
 use arrays_core::{Array, Item, ItemType, Shape, size};
 use std::alloc::AllocError;
@@ -87,6 +89,22 @@ impl<'a> Seen<'a> {
         }
     }
 
+    /// The numbers of an array of numbers, in row-major order.
+    pub fn numbers(&self) -> Option<&[i64]>
+        ensures none { IsNone result ↔ (self.now.item_type ≡ Chars) }
+        ensures is { IfSome result (λ s. (self.now.item_type ≡ Nums) × (self.now.items ≡ map (λ z. Num z) s.now)) }
+    {
+        self.array.numbers()
+    }
+
+    /// The characters of an array of characters, in row-major order.
+    pub fn characters(&self) -> Option<&[char]>
+        ensures none { IsNone result ↔ (self.now.item_type ≡ Nums) }
+        ensures is { IfSome result (λ s. (self.now.item_type ≡ Chars) × (self.now.items ≡ map (λ c. Char c) s.now)) }
+    {
+        self.array.characters()
+    }
+
     /// The items of a run of places, behind so many, as an array of another shape that has as many.
     pub fn part(&self, skipped: u32, shape: &Shape) -> Result<Array, AllocError>
         requires within { IsWithinLimits shape.now.items }
@@ -98,6 +116,33 @@ impl<'a> Seen<'a> {
         }) }
     {
         self.array.part(skipped, shape)
+    }
+
+    /// The items, and behind them those of another array of their type, as an array of a shape that has
+    /// as many.
+    pub fn joined(&self, other: &Seen, shape: &Shape) -> Result<Array, AllocError>
+        requires within { IsWithinLimits shape.now.items }
+        requires one_item_a_place { length self.now.items + length other.now.items ≡ size_of shape.now.items }
+        requires typed { self.now.item_type ≡ other.now.item_type }
+        ensures { IfOk result (λ a. a ≡ record {
+          item_type = self.now.item_type;
+          shape = shape.now.items;
+          items = self.now.items ++ other.now.items;
+        }) }
+    {
+        self.array.joined(other.array, shape)
+    }
+
+    /// One of the numbers is below 0.
+    pub fn has_negative(&self) -> bool
+        ensures { result ≡ not (none_negative (numbers self.now)) }
+    {
+        for place in 0..self.places() {
+            if self.number(place + 1) < 0 {
+                return true;
+            }
+        }
+        false
     }
 
     /// It is of numbers, or without items: where it is not, a function that asks for numbers is

@@ -25,8 +25,8 @@ pub(crate) fn one_number(function: Scalar1, b: i64) -> Result<i64, Kind>
     }
 }
 
-/// A function of two numbers.
-pub(crate) fn two_numbers(function: Scalar2, a: i64, b: i64) -> Result<i64, Kind>
+/// A function of two numbers: a number, or the error that `Scalar2` names. It takes no memory.
+pub fn two_numbers(function: Scalar2, a: i64, b: i64) -> Result<i64, Kind>
     ensures { result ≡ of_two function a b }
 {
     match function {

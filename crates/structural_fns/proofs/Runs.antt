@@ -51,7 +51,7 @@ module _ (b : ArrayValue) (inside : size b.shape ≤ length b.items) where
       ∙ run_collected b.item_type (size b.shape ∷ []) (ravel_item b) b.items 0 (fill b.item_type) (omega arith) ravelled_item
 
 -- the form that a passed check gives is what was asked for
-limited_is : {asked shape : List ℕ} {asked_type item_type : ItemType} → limited asked asked_type ≡ Ok (shape, item_type) → (shape ≡ asked) × (item_type ≡ asked_type)
+pub limited_is : {asked shape : List ℕ} {asked_type item_type : ItemType} → limited asked asked_type ≡ Ok (shape, item_type) → (shape ≡ asked) × (item_type ≡ asked_type)
 limited_is {asked = asked} {shape = shape} {asked_type = asked_type} {item_type = item_type} is = decide (is_within_limits asked) is
   where
     decide : (w : Bool) → cond {A = Result Form Kind} w (Ok (asked, asked_type)) (Err Limit) ≡ Ok (shape, item_type) → (shape ≡ asked) × (item_type ≡ asked_type)
@@ -80,9 +80,13 @@ ravel_answer (a ∷ []) b v places asked shape asked_type item_type one same is_
 
 -- ---- reshape, where no item is needed twice
 
-check_passed : {A : Type 0} (w : Bool) (kind : Kind) (rest : Result A Kind) (x : A) → check w kind rest ≡ Ok x → rest ≡ Ok x
+pub check_passed : {A : Type 0} (w : Bool) (kind : Kind) (rest : Result A Kind) (x : A) → check w kind rest ≡ Ok x → rest ≡ Ok x
 check_passed true kind rest x h = h
 check_passed false kind rest x h = let no : ⊥ = cc in absurd no
+
+pub test_passed : {A : Type 0} (w : Bool) (kind : Kind) (rest : Result A Kind) (x : A) → check w kind rest ≡ Ok x → w ≡ true
+test_passed true kind rest x h = refl
+test_passed false kind rest x h = let no : ⊥ = cc in absurd no
 
 module _ (a b : ArrayValue) (as_many : length b.items ≡ size b.shape) (few : size (magnitudes a) ≤ length b.items) where
   reshaped_item : (k : ℕ) → k < size (magnitudes a) → reshape_item a b (index_after (magnitudes a) k) ≡ Ok (get_or b.items (0 + k) (fill b.item_type))

@@ -1,27 +1,11 @@
 //! What take and drop share: a count for each axis.
 
 ghost use Rattle.std.specs.Prelude.{◌≡◌, ◌≤◌, All, IfOk, IfErr, List, ℕ, length};
-ghost use Rattle.arrays_core.specs.Shapes.{is_index_of as is_below};
 ghost use Rattle.index_region.specs.Common.{limited};
 ghost use Rattle.structural_fns.specs.Counts.{counted_shape as shape_counted, counted_form, uncounted as index_uncounted};
 
 use arrays_core::{Kind, Shape, shape_of};
 use index_region::Seen;
-
-/// An index list lies below a shape: one index an axis, each from 1 to the axis.
-pub(crate) fn is_index_of(axes: &[u32], index: &[u32]) -> bool
-    ensures { result ≡ is_below axes.now index.now }
-{
-    if axes.len() != index.len() {
-        return false;
-    }
-    for (k, i) in index.iter().enumerate() {
-        if *i < 1 || axes[k] < *i {
-            return false;
-        }
-    }
-    true
-}
 
 /// The checks of the counts: RANK where they are neither a scalar nor a vector, LENGTH where they are
 /// not as many as the axes (a scalar takes any), DOMAIN where they are not numbers.

@@ -1,17 +1,17 @@
 //! Drop: all but so many places of each axis.
 
-ghost use Rattle.std.specs.Prelude.{◌≡◌, ◌≤◌, ◌+◌, ℤ, pos, unsigned_abs, IsTrue, All, length};
-ghost use Rattle.arrays_core.specs.Arrays.{IsAnswerTo};
+ghost use Rattle.std.specs.Prelude.{◌≡◌, ◌≤◌, ◌+◌, ℤ, pos, unsigned_abs, IsTrue, IfOk, Ok, All, length};
+ghost use Rattle.arrays_core.specs.Arrays.{IsAnswerTo, IsArray};
 ghost use Rattle.arrays_core.specs.Shapes.{IsWithinLimits, is_index_of as is_below};
 ghost use Rattle.index_region.specs.Common.{of_two, numbers};
 ghost use Rattle.index_region.specs.Answers.{IsPlaceOf, source_value};
 ghost use Rattle.structural_fns.specs.Counts.{counted_shape as shape_counted, drop_form, drop_source, drop_item, drop_whole, dropped_shape as shape_dropped, kept_place as place_kept, kept_places as places_kept};
 
 use crate::counts::{check_counts, counted_shape, uncounted};
-use arrays_core::{ApplyFault, Array, Item, ItemType, Kind, Shape};
+use arrays_core::{ApplyFault, Array, Item, ItemType, Kind, Shape, size};
 use index_region::{Primitive, Seen, Source, apply, item_from, limited};
 use smallvec::SmallVec;
-use std::alloc::Global;
+use std::alloc::{AllocError, Global};
 
 const MOST_AXES: u32 = 4;
 
@@ -59,14 +59,29 @@ fn kept_places(counts: &Seen, array: &Seen, index: &[u32]) -> Shape
     places
 }
 
+/// The places of a vector that are left.
+fn kept_run(counts: &Seen, vector: &Seen, shape: &Shape) -> Result<Array, AllocError>
+    requires form { drop_form counts.now vector.now ≡ Ok (shape.now.items, vector.now.item_type) }
+    requires one_axis { length vector.now.shape ≡ 1 }
+    requires sound { IsArray vector.now }
+    ensures { IfOk result (λ a. drop_whole counts.now vector.now ≡ Ok a) }
+{
+    let kept = size(shape.as_slice());
+    if kept == 0 {
+        return vector.part(0, shape);
+    }
+    let first = kept_place(counts.number(1), 1);
+    vector.part(first - 1, shape)
+}
+
 /// Drop, `A↓B` (ISO/IEC 13751, "Drop"): a positive count leaves out the first places of its axis, a
 /// negative one the last; no length is below 0. A scalar B has as many axes of one place as A has
 /// counts. RANK where A is neither a scalar nor a vector, LENGTH where it has not a count for each
 /// axis, DOMAIN where it is not of numbers, LIMIT beyond the limits of arrays.
 #[derive(Clone, Copy, PartialEq, Eq, Debug)]
-pub struct Drop;
+pub struct DropPlaces;
 
-impl Drop {
+impl DropPlaces {
     /// Where the item at an index list of the result comes from. It takes no memory.
     pub fn source_of(self, counts: &Seen, array: &Seen, index: &[u32]) -> Source
         requires { IsPlaceOf (drop_form counts.now array.now) index.now }
@@ -76,16 +91,22 @@ impl Drop {
         Source::Place { arg: 1, at }
     }
 
-    /// The array of the places that are left.
+    /// The array of the places that are left. Those of a vector are copied in one run.
     pub fn apply(&self, alloc: Global, args: &[Seen]) -> Result<Array, ApplyFault>
         requires { length args.now ≡ 2 }
         ensures { IsAnswerTo (of_two drop_whole args.now) result }
     {
+        let (shape, _) = self.shape_of(args)?;
+        let array = &args[1];
+        if array.shape().len() == 1 {
+            let run = kept_run(&args[0], array, &shape)?;
+            return Ok(run);
+        }
         apply(alloc, self, args)
     }
 }
 
-impl Primitive for Drop {
+impl Primitive for DropPlaces {
     ghost arity = { λ _. 2 };
 
     ghost form = { λ _ args. of_two drop_form args };

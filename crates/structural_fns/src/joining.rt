@@ -1,9 +1,10 @@
 //! Catenate: two arrays after one another along an axis.
 
-ghost use Rattle.std.specs.Prelude.{◌≡◌, ◌≤◌, ◌<◌, IfOk, Err, IfErr, IsTrue, Result, true, if◌then◌else◌, length, unwrap_or};
+ghost use Rattle.std.specs.Prelude.{◌≡◌, ◌≤◌, ◌<◌, ◌+◌, ◌++◌, ◌↔◌, IfOk, Err, IfErr, IsTrue, Result, true, if◌then◌else◌, length, unwrap_or};
 ghost use Rattle.arrays_core.specs.declared.item.Kind.{Kind as AKind};
-ghost use Rattle.arrays_core.specs.Arrays.{IsAnswerTo, item_if_there};
+ghost use Rattle.arrays_core.specs.Arrays.{IsAnswerTo, IsArray, item_if_there};
 ghost use Rattle.arrays_core.specs.Items.{fill, type_of};
+ghost use Rattle.arrays_core.specs.Shapes.{size, IsWithinLimits};
 ghost use Rattle.index_region.specs.Common.{Form, has_items, is_scalar, of_two};
 ghost use Rattle.index_region.specs.Answers.{IsPlaceOf, source_value};
 ghost use Rattle.structural_fns.specs.Joins.{joined_rank as rank_joined, joined_places as places_joined, other_axes as axes_other, ranks_join as do_ranks_join, axes_agree as do_axes_agree, types_join as do_types_join, joined_type as type_joined, joined_shape as shape_joined, sides_checked, in_side as index_in_side, catenate_form, catenate_source, catenate_item, catenate_whole};
@@ -11,7 +12,7 @@ ghost use Rattle.structural_fns.specs.Joins.{joined_rank as rank_joined, joined_
 use crate::lists::{with, without};
 use arrays_core::{ApplyFault, Array, Item, ItemType, Kind, Shape, shape_of};
 use index_region::{Along, Primitive, Seen, Source, apply, limited};
-use std::alloc::Global;
+use std::alloc::{AllocError, Global};
 
 /// The rank of the result: the greater one, and at least 1.
 fn joined_rank(left: &Seen, right: &Seen) -> usize
@@ -173,6 +174,34 @@ fn item_of_side(side: &Seen, at: &[u32], item_type: ItemType) -> Item
     }
 }
 
+/// A side is taken once, item by item in row-major order: no scalar is repeated over other axes.
+fn is_run(side: &Seen, rank: usize) -> bool
+    ensures is { IsTrue result ↔ (is_scalar side.now ≡ true → rank ≡ 1) }
+    ensures sound { IsArray side.now }
+{
+    !side.shape().is_empty() || rank == 1
+}
+
+/// The items of both sides, one behind the other.
+fn joined_runs(left: &Seen, right: &Seen, shape: &Shape) -> Result<Array, AllocError>
+    requires within { IsWithinLimits shape.now.items }
+    requires one_item_a_place { length left.now.items + length right.now.items ≡ size shape.now.items }
+    requires types { IsTrue (do_types_join left.now right.now) }
+    ensures { IfOk result (λ a. a ≡ record {
+      item_type = type_joined left.now right.now;
+      shape = shape.now.items;
+      items = left.now.items ++ right.now.items;
+    }) }
+{
+    if right.places() == 0 {
+        return left.part(0, shape);
+    }
+    if left.places() == 0 {
+        return right.part(0, shape);
+    }
+    left.joined(right, shape)
+}
+
 /// Catenate, `A,B` and `A⍪B` (ISO/IEC 13751, "Join along an axis"): the places of A along the axis, and
 /// then those of B. A scalar beside an array, and an array of one rank less, are one place along the
 /// axis, a scalar repeated over the others; two scalars make a vector. The type is that of the side that
@@ -201,11 +230,20 @@ impl Catenate {
         Source::Place { arg: 1, at }
     }
 
-    /// The array of both sides.
+    /// The array of both sides. Along the first axis the items of each side are copied in one run,
+    /// unless one of them is a scalar beside a matrix or more.
     pub fn apply(&self, alloc: Global, args: &[Seen]) -> Result<Array, ApplyFault>
         requires { length args.now ≡ 2 }
         ensures { IsAnswerTo (of_two (catenate_whole self.now.along) args.now) result }
     {
+        let (shape, _) = self.shape_of(args)?;
+        let (left, right) = (&args[0], &args[1]);
+        let rank = joined_rank(left, right);
+        let axis = self.along.axis_at(rank as u32);
+        if axis == 0 && is_run(left, rank) && is_run(right, rank) {
+            let runs = joined_runs(left, right, &shape)?;
+            return Ok(runs);
+        }
         apply(alloc, self, args)
     }
 }

@@ -18,7 +18,7 @@ mod tests;
 mod transposing;
 
 pub use arranging::DyadicTranspose;
-pub use dropping::Drop;
+pub use dropping::DropPlaces;
 pub use joining::Catenate;
 pub use ravelling::Ravel;
 pub use reshaping::Reshape;

@@ -1,8 +1,8 @@
 //! Reshape: the ravel again and again, under another shape.
 
-ghost use Rattle.std.specs.Prelude.{◌≡◌, length, not};
+ghost use Rattle.std.specs.Prelude.{◌≡◌, length};
 ghost use Rattle.arrays_core.specs.Arrays.{IsAnswerTo};
-ghost use Rattle.index_region.specs.Common.{of_two, numbers, none_negative};
+ghost use Rattle.index_region.specs.Common.{of_two};
 ghost use Rattle.index_region.specs.Answers.{IsPlaceOf, source_value};
 ghost use Rattle.structural_fns.specs.Ravels.{magnitudes as magnitudes_of, reshape_form, reshape_source, reshape_item, reshape_whole};
 
@@ -12,18 +12,6 @@ use arrays_core::{
 };
 use index_region::{Primitive, Seen, Source, apply, item_from, limited};
 use std::alloc::Global;
-
-/// One of the numbers is below 0.
-fn has_negative(counts: &Seen) -> bool
-    ensures { result ≡ not (none_negative (numbers counts.now)) }
-{
-    for place in 0..counts.places() {
-        if counts.number(place + 1) < 0 {
-            return true;
-        }
-    }
-    false
-}
 
 /// Reshape, `A⍴B` (ISO/IEC 13751, "Reshape"): an array of shape A whose items are those of B in
 /// row-major order, again and again; fill where B has none. RANK where A is neither a scalar nor a
@@ -80,7 +68,7 @@ impl Primitive for Reshape {
         if !counts.counts_as_numbers() {
             return Err(Kind::Domain);
         }
-        if has_negative(counts) {
+        if counts.has_negative() {
             return Err(Kind::Domain);
         }
         limited(magnitudes(counts)?, array.item_type())

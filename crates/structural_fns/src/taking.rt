@@ -1,19 +1,19 @@
 //! Take: so many places of each axis, from the first or up to the last, and fill beyond them.
 
-ghost use Rattle.std.specs.Prelude.{◌≡◌, ◌≤◌, ℤ, unsigned_abs, IsTrue, All, length};
+ghost use Rattle.std.specs.Prelude.{◌≡◌, ◌≤◌, ℤ, unsigned_abs, IsTrue, IfOk, Ok, All, length};
 ghost use Rattle.arrays_core.specs.Arrays.{IsAnswerTo};
-ghost use Rattle.arrays_core.specs.Shapes.{IsWithinLimits, is_index_of as is_below};
+ghost use Rattle.arrays_core.specs.Shapes.{IsWithinLimits, is_index_of as is_below, size as size_of};
 ghost use Rattle.index_region.specs.Common.{of_two, numbers};
 ghost use Rattle.index_region.specs.Answers.{IsPlaceOf, source_value};
 ghost use Rattle.structural_fns.specs.Ravels.{magnitudes as magnitudes_of};
 ghost use Rattle.structural_fns.specs.Counts.{take_form, take_source, take_item, take_whole, taken_place as place_taken, taken_places as places_taken};
 
-use crate::counts::{check_counts, counted_shape, is_index_of, uncounted};
+use crate::counts::{check_counts, counted_shape, uncounted};
 use crate::magnitudes::magnitudes;
-use arrays_core::{ApplyFault, Array, Item, ItemType, Kind, Shape};
+use arrays_core::{ApplyFault, Array, Item, ItemType, Kind, Shape, is_index_of, size};
 use index_region::{Primitive, Seen, Source, apply, item_from, limited};
 use smallvec::SmallVec;
-use std::alloc::Global;
+use std::alloc::{AllocError, Global};
 
 /// Where a place of a taken axis stands on the axis; 0, and what is beyond its end, is no place.
 fn taken_place(axis: u32, count: i64, i: u32) -> u32
@@ -46,6 +46,17 @@ fn taken_places(counts: &Seen, axes: &[u32], index: &[u32]) -> Shape
     places
 }
 
+/// The places of a vector that are taken, where it has as many.
+fn taken_run(counts: &Seen, vector: &Seen, shape: &Shape) -> Result<Array, AllocError>
+    requires form { take_form counts.now vector.now ≡ Ok (shape.now.items, vector.now.item_type) }
+    requires one_axis { length vector.now.shape ≡ 1 }
+    requires there { size_of shape.now.items ≤ length vector.now.items }
+    ensures { IfOk result (λ a. take_whole counts.now vector.now ≡ Ok a) }
+{
+    let first = taken_place(vector.places(), counts.number(1), 1);
+    vector.part(first - 1, shape)
+}
+
 /// Take, `A↑B` (ISO/IEC 13751, "Take"): axis k has the magnitude of A[k]; a positive count keeps the
 /// first places, a negative one the last, and missing places are fill. A scalar B has as many axes of
 /// one place as A has counts. RANK where A is neither a scalar nor a vector, LENGTH where it has not a
@@ -68,11 +79,17 @@ impl Take {
         Source::Place { arg: 1, at }
     }
 
-    /// The array of the places that are taken.
+    /// The array of the places that are taken. Those of a vector that has as many are copied in one run.
     pub fn apply(&self, alloc: Global, args: &[Seen]) -> Result<Array, ApplyFault>
         requires { length args.now ≡ 2 }
         ensures { IsAnswerTo (of_two take_whole args.now) result }
     {
+        let (shape, _) = self.shape_of(args)?;
+        let array = &args[1];
+        if array.shape().len() == 1 && size(shape.as_slice()) <= array.places() {
+            let run = taken_run(&args[0], array, &shape)?;
+            return Ok(run);
+        }
         apply(alloc, self, args)
     }
 }

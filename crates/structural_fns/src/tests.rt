@@ -1,4 +1,6 @@
-use crate::{Catenate, Drop, DyadicTranspose, Ravel, Reshape, Reverse, Rotate, Take, Transpose};
+use crate::{
+    Catenate, DropPlaces, DyadicTranspose, Ravel, Reshape, Reverse, Rotate, Take, Transpose,
+};
 use arrays_core::{ApplyFault, Array, Item, ItemType, Kind};
 use index_region::{Along, Seen};
 use std::alloc::Global;
@@ -59,14 +61,35 @@ fn takes_and_drops(rt: HostRuntime) {
     };
     let args = [Seen::plain(&counts), Seen::plain(&items)];
     assert!(rt; are_numbers(Take.apply(alloc, &args), 1, &[0, 0, 0, 1, 2]));
-    assert!(rt; are_numbers(Drop.apply(alloc, &args), 1, &[]));
+    assert!(rt; are_numbers(DropPlaces.apply(alloc, &args), 1, &[]));
     let (Ok(table), Ok(corner)) = (matrix(alloc), vector(alloc, &[1, -1])) else {
         assert!(rt; false);
         return;
     };
     let args = [Seen::plain(&corner), Seen::plain(&table)];
     assert!(rt; are_numbers(Take.apply(alloc, &args), 2, &[3]));
-    assert!(rt; are_numbers(Drop.apply(alloc, &args), 2, &[4, 5]));
+    assert!(rt; are_numbers(DropPlaces.apply(alloc, &args), 2, &[4, 5]));
+}
+
+#[test]
+fn copies_runs(rt: HostRuntime) {
+    let alloc = rt.alloc();
+    let (Ok(back), Ok(front), Ok(items)) = (
+        vector(alloc, &[-2]),
+        vector(alloc, &[2]),
+        vector(alloc, &[1, 2, 3]),
+    ) else {
+        assert!(rt; false);
+        return;
+    };
+    let args = [Seen::plain(&back), Seen::plain(&items)];
+    assert!(rt; are_numbers(Take.apply(alloc, &args), 1, &[2, 3]));
+    assert!(rt; are_numbers(DropPlaces.apply(alloc, &args), 1, &[1]));
+    let args = [Seen::plain(&front), Seen::plain(&items)];
+    assert!(rt; are_numbers(Take.apply(alloc, &args), 1, &[1, 2]));
+    assert!(rt; are_numbers(DropPlaces.apply(alloc, &args), 1, &[3]));
+    let both = Catenate { along: Along::Last };
+    assert!(rt; are_numbers(both.apply(alloc, &args), 1, &[2, 1, 2, 3]));
 }
 
 #[test]

@@ -1,0 +1,153 @@
+-- Copies of the places of an axis.
+use Rattle.std.proofs.Common.{◌≡◌, ℕ, zero, suc, ◌+◌, ◌-◌, ◌*◌, ◌/◌, ◌<◌, ◌≤◌, Bool, true, false, nat_le, if◌then◌else◌, ◌&&◌, ◌||◌, nat_eq, Result, Ok, Err, List, [], ◌∷◌, length, get_or, set, replicate, insert, remove, refl, ap, sym, ◌∙◌, arith}
+use Rattle.std.specs.Prelude.{max, sum}
+use Rattle.std.specs.List.{list_all}
+use Rattle.std.proofs.lemmas.Bool.Decides.{nat_tests}
+use Rattle.std.proofs.Math.Nat.{div-eq-sub-div, div-eq_of_lt}
+use Rattle.arrays_core.specs.declared.item.Item.{Item}
+use Rattle.arrays_core.specs.declared.item.ItemType.{ItemType}
+use Rattle.arrays_core.specs.declared.item.Kind.{Kind}
+use Rattle.arrays_core.specs.declared.item.Kind.TheVariants.{Axis, Length, Domain, Limit}
+use Rattle.arrays_core.specs.Items.{type_of}
+use Rattle.arrays_core.specs.Arrays.{ArrayValue}
+use Rattle.arrays_core.specs.Shapes.{size, is_index_of}
+use Rattle.arrays_core.proofs.Shapes.{as_long, head_of}
+use Rattle.index_region.specs.declared.along.Along.{Along}
+use Rattle.index_region.specs.Common.{Form, check, limited, is_axis, axis_at, places_along, is_list, has_one_item, counts_as_numbers, none_negative, numbers}
+use Rattle.index_region.specs.Answers.{IsPlaceOf, HasTypeOf}
+use Rattle.index_region.proofs.Passing.{passed, place_inside, typed_check, typed_limited}
+use Rattle.selection_fns.specs.Replicates.{times, maker, counts_checked, replicated_shape, replicate_form}
+
+-- the place that makes a copy where each is copied as often
+pub each_maker : (n count i : ℕ) → 1 ≤ i → i ≤ n * count → (i - 1) / count + 1 ≡ maker (replicate n count) i
+each_maker zero count i low high = absurd (omega arith)
+each_maker (suc n) count i low high = decide (λ j. each_maker n count j) (nat_le i count) refl
+  where
+    positive : 0 < count
+    positive = some count high
+      where
+        some : (c : ℕ) → i ≤ suc n * c → 0 < c
+        some zero h = absurd (let none : suc n * 0 ≡ 0 = omega arith in omega arith)
+        some (suc c) h = omega arith
+
+    step : (b : Bool) → nat_le i count ≡ b → maker (replicate (suc n) count) i ≡ (if b then 1 else suc (maker (replicate n count) (i - count)))
+    step b h = ap (λ (w : Bool). if w then 1 else suc (maker (replicate n count) (i - count))) h
+
+    decide : ((j : ℕ) → 1 ≤ j → j ≤ n * count → (j - 1) / count + 1 ≡ maker (replicate n count) j) → (b : Bool) → nat_le i count ≡ b → (i - 1) / count + 1 ≡ maker (replicate (suc n) count) i
+    decide before true h =
+        let below : i ≤ count = grind (arith, nat_tests) in
+        let first : (i - 1) / count ≡ 0 = div-eq_of_lt (omega arith) in
+        ap (λ k. k + 1) first ∙ sym (step true h)
+    decide before false h =
+        let above : count < i = grind (arith, nat_tests) in
+        let less : (i - 1) / count ≡ (i - 1 - count) / count + 1 = div-eq-sub-div positive (omega arith) in
+        let order : i - 1 - count ≡ i - count - 1 = omega arith in
+        let rest = before (i - count) (omega arith) (omega arith) in
+        ap (λ k. k + 1) (less ∙ ap (λ m. m / count + 1) order) ∙ plus_one _ _ rest ∙ sym (step false h)
+      where
+        plus_one : (a b : ℕ) → a + 1 ≡ b → a + 1 + 1 ≡ suc b
+        plus_one a b h = omega arith
+
+-- an index list of a shape with one axis exchanged
+pub record IsCopied (axes : List ℕ) (k places : ℕ) (index : List ℕ) : Type 0 where
+  pub long : length index ≡ length axes
+  pub low : 1 ≤ get_or index k 0
+  pub high : get_or index k 0 ≤ places
+
+pub is_copied : (axes : List ℕ) (k places : ℕ) (index : List ℕ) → k < length axes → is_index_of (insert (remove axes k) k places) index ≡ true
+    → IsCopied axes k places index
+is_copied [] k places index h inside = absurd (omega arith)
+is_copied (n ∷ axes) zero places [] h inside = let no : ⊥ = cc in absurd no
+is_copied (n ∷ axes) (suc k) places [] h inside = let no : ⊥ = cc in absurd no
+is_copied (n ∷ axes) zero places (i ∷ index) h inside =
+    let head = head_of places i axes index inside in
+    let long = as_long axes index head.rest in
+    record { long = omega arith; low = head.low; high = head.high }
+is_copied (n ∷ axes) (suc k) places (i ∷ index) h inside =
+    let head = head_of n i (insert (remove axes k) k places) index inside in
+    let rest = is_copied axes k places index (omega arith) head.rest in
+    record { long = let long = rest.long in omega arith; low = rest.low; high = rest.high }
+
+-- a shape with one axis exchanged is that of the exchange
+pub exchanged : (axes : List ℕ) (k places : ℕ) → k < length axes → set axes k places ≡ insert (remove axes k) k places
+exchanged [] k places h = absurd (omega arith)
+exchanged (n ∷ axes) zero places h = refl
+exchanged (n ∷ axes) (suc k) places h = ap (λ rest. n ∷ rest) (exchanged axes k places (omega arith))
+
+-- a shape with an axis that is too long
+pub beyond_limits : (axes : List ℕ) (k places : ℕ) (item_type : ItemType) → 1048576 < places → k ≤ length axes
+    → limited (insert axes k places) item_type ≡ Err Limit
+beyond_limits axes k places item_type long h =
+    let test = no_axis_within axes k h in
+    ap (λ (w : Bool). check ((nat_le (length (insert axes k places)) 4 && w) && nat_le (size (insert axes k places)) 1048576) Limit (Ok (insert axes k places, item_type))) test
+    ∙ ap (λ (w : Bool). check w Limit (Ok (insert axes k places, item_type))) (never (nat_le (length (insert axes k places)) 4) (nat_le (size (insert axes k places)) 1048576))
+  where
+    never : (a b : Bool) → ((a && false) && b) ≡ false
+    never true b = refl
+    never false b = refl
+
+    too_long : nat_le places 1048576 ≡ false
+    too_long = grind (arith, nat_tests)
+
+    no_axis_within : (axes : List ℕ) (k : ℕ) → k ≤ length axes → list_all (λ n. nat_le n 1048576) (insert axes k places) ≡ false
+    no_axis_within axes zero h = ap (λ (w : Bool). w && list_all (λ n. nat_le n 1048576) axes) too_long
+    no_axis_within [] (suc k) h = absurd (omega arith)
+    no_axis_within (n ∷ axes) (suc k) h = ap (λ (w : Bool). nat_le n 1048576 && w) (no_axis_within axes k (omega arith)) ∙ and_false (nat_le n 1048576)
+      where
+        and_false : (a : Bool) → (a && false) ≡ false
+        and_false true = refl
+        and_false false = refl
+
+-- what the checks of replicate tell of an index list of the result
+pub replicated_inside : (along : Along) (a b : ArrayValue) (index : List ℕ) → IsPlaceOf (replicate_form along a b) index
+    → is_index_of (replicated_shape a b.shape (axis_at (max 1 (length b.shape)) along)) index ≡ true
+replicated_inside along a b index h =
+    let rank = max 1 (length b.shape) in
+    let axis = axis_at rank along in
+    let n = places_along b.shape axis in
+    let on_axis = passed (is_axis rank along) _ _ index h in
+    let ranks = passed (is_list a) _ _ index on_axis.place in
+    let lengths = passed (has_one_item a || (nat_eq n 1 || nat_eq (length a.items) n)) _ _ index ranks.place in
+    let counted = passed (counts_as_numbers a && none_negative (numbers a)) _ _ index lengths.place in
+    place_inside (replicated_shape a b.shape axis) b.item_type index counted.place
+
+pub on_axis : (along : Along) (a b : ArrayValue) (index : List ℕ) → IsPlaceOf (replicate_form along a b) index → is_axis (max 1 (length b.shape)) along ≡ true
+on_axis along a b index h = (passed (is_axis (max 1 (length b.shape)) along) _ _ index h).test
+
+pub replicate_typed : (along : Along) (a b : ArrayValue) (item : Item) → type_of item ≡ b.item_type → HasTypeOf (replicate_form along a b) item
+replicate_typed along a b item h =
+    let rank = max 1 (length b.shape) in
+    let axis = axis_at rank along in
+    let n = places_along b.shape axis in
+    let last = limited (replicated_shape a b.shape axis) b.item_type in
+    let counted = check (counts_as_numbers a && none_negative (numbers a)) Domain last in
+    let lengths = check (has_one_item a || (nat_eq n 1 || nat_eq (length a.items) n)) Length counted in
+    typed_check (is_axis rank along) _ _ item
+    (typed_check (is_list a) _ lengths item
+    (typed_check (has_one_item a || (nat_eq n 1 || nat_eq (length a.items) n)) _ counted item
+    (typed_check (counts_as_numbers a && none_negative (numbers a)) _ last item
+    (typed_limited (replicated_shape a b.shape axis) b.item_type item h))))
+
+-- what is left of replicate where the other checks have passed
+pub replicate_limited : (along : Along) (a b : ArrayValue) → is_axis (max 1 (length b.shape)) along ≡ true
+    → ((rest : Result Form Kind) → counts_checked a (places_along b.shape (axis_at (max 1 (length b.shape)) along)) rest ≡ rest)
+    → replicate_form along a b ≡ limited (replicated_shape a b.shape (axis_at (max 1 (length b.shape)) along)) b.item_type
+replicate_limited along a b on pass =
+    let axis = axis_at (max 1 (length b.shape)) along in
+    let last = limited (replicated_shape a b.shape axis) b.item_type in
+    ap (λ (w : Bool). check w Axis (counts_checked a (places_along b.shape axis) last)) on ∙ pass last
+
+pub replicate_beyond : (along : Along) (a b : ArrayValue) → is_axis (max 1 (length b.shape)) along ≡ true
+    → ((rest : Result Form Kind) → counts_checked a (places_along b.shape (axis_at (max 1 (length b.shape)) along)) rest ≡ rest)
+    → axis_at (max 1 (length b.shape)) along < max 1 (length b.shape)
+    → 1048576 < sum (times a (places_along b.shape (axis_at (max 1 (length b.shape)) along)))
+    → replicate_form along a b ≡ Err Limit
+replicate_beyond along a b on pass below long =
+    let axis = axis_at (max 1 (length b.shape)) along in
+    replicate_limited along a b on pass ∙ beyond_limits (remove b.shape axis) axis (sum (times a (places_along b.shape axis))) b.item_type long (fits b.shape axis below)
+  where
+    fits : (axes : List ℕ) (k : ℕ) → k < max 1 (length axes) → k ≤ length (remove axes k)
+    fits [] k h = omega arith
+    fits (n ∷ axes) zero h = omega arith
+    fits (n ∷ []) (suc k) h = absurd (omega arith)
+    fits (n ∷ m ∷ axes) (suc k) h = let rest = fits (m ∷ axes) k (omega arith) in omega arith

@@ -1,0 +1,55 @@
+-- Results that are numbers, made from the items of an argument one by one.
+use Rattle.std.proofs.Common.{◌≡◌, ℕ, Bool, true, false, cond, List, length, get_or, map, ℤ, Result, Ok, Err, ap, sym, ◌∙◌}
+use Rattle.std.proofs.lemmas.List.{length-map}
+use Rattle.std.proofs.Math.ListN.{get_or-map}
+use Rattle.std.proofs.lemmas.Simd.{map-map}
+use Rattle.arrays_core.specs.declared.item.Item.{Item}
+use Rattle.arrays_core.specs.declared.item.Item.TheVariants.{Num}
+use Rattle.arrays_core.specs.declared.item.ItemType.{ItemType}
+use Rattle.arrays_core.specs.declared.item.ItemType.TheVariants.{Nums}
+use Rattle.arrays_core.specs.declared.item.Kind.{Kind}
+use Rattle.arrays_core.specs.declared.item.Kind.TheVariants.{Limit}
+use Rattle.arrays_core.specs.Items.{fill}
+use Rattle.arrays_core.specs.Shapes.{size}
+use Rattle.arrays_core.specs.Arrays.{ArrayValue, item_of, collect, with_items}
+use Rattle.arrays_core.proofs.Order.{given_in_order, places_before-index_after}
+use Rattle.index_region.specs.Common.{Form, check, limited, is_within_limits, and_then, whole}
+
+-- what follows a check that has passed
+pub check_passed : {A : Type 0} (w : Bool) (kind : Kind) (rest : Result A Kind) (x : A) → check w kind rest ≡ Ok x → rest ≡ Ok x
+check_passed true kind rest x h = h
+check_passed false kind rest x h = let no : ⊥ = cc in absurd no
+
+-- the form that the last check gives is the one that was asked for
+pub form_is : (asked shape : List ℕ) (asked_type item_type : ItemType) → limited asked asked_type ≡ Ok (shape, item_type) → (shape ≡ asked) × (item_type ≡ asked_type)
+form_is asked shape asked_type item_type is = decide (is_within_limits asked) is
+  where
+    decide : (w : Bool) → cond {A = Result Form Kind} w (Ok (asked, asked_type)) (Err Limit) ≡ Ok (shape, item_type) → (shape ≡ asked) × (item_type ≡ asked_type)
+    decide true h =
+        let found : Form = (asked, asked_type) in
+        let wanted : Form = (shape, item_type) in
+        let same : found ≡ wanted = cc in
+        (sym (ap (λ (f : Form). f.0) same), sym (ap (λ (f : Form). f.1) same))
+    decide false h = let no : ⊥ = cc in absurd no
+
+module _ (f : Item → ℤ) (b : ArrayValue) (one_item_a_place : length b.items ≡ size b.shape) where
+  abbrev at : List ℕ → Result Item Kind
+  at index = Ok (Num (f (item_of b index)))
+
+  abbrev made : Item → Item
+  made x = Num (f x)
+
+  in_order : collect Nums b.shape at ≡ Ok (record { item_type = Nums; shape = b.shape; items = map made b.items })
+  in_order =
+      ap (with_items Nums b.shape) (given_in_order b.shape at (map made b.items) (made (fill b.item_type)) (length-map b.items made ∙ one_item_a_place) (λ k h.
+      ap (λ n. Ok (made (get_or b.items n (fill b.item_type)))) (places_before-index_after b.shape k h)
+      ∙ ap (λ (x : Item). Ok x) (sym (get_or-map made b.items k (fill b.item_type)))))
+
+  -- the array of the numbers that a function gives of the items of b
+  pub flat_whole : (form : Result Form Kind) (shape : List ℕ) (item_type : ItemType) (zs : List ℤ) → form ≡ Ok (shape, item_type) → shape ≡ b.shape → item_type ≡ Nums
+      → zs ≡ map f b.items → whole form at ≡ Ok (record { item_type = Nums; shape = shape; items = map (λ z. Num z) zs })
+  flat_whole form shape item_type zs is shaped typed gives =
+      ap (λ r. and_then r (λ g. collect g.1 g.0 at)) (is ∙ ap (λ t. Ok (shape, t)) typed ∙ ap (λ s. Ok (s, Nums)) shaped)
+      ∙ in_order
+      ∙ ap (λ xs. Ok (record { item_type = Nums; shape = b.shape; items = xs })) (sym (ap (map (λ z. Num z)) gives ∙ map-map (λ z. Num z) f b.items))
+      ∙ ap (λ s. Ok (record { item_type = Nums; shape = s; items = map (λ z. Num z) zs })) (sym shaped)

@@ -1,0 +1,9 @@
+pub mod Generated
+pub mod Positions
+pub mod Indexed
+pub mod Copies
+pub mod Lookups
+pub mod Searching
+pub mod Flat
+pub mod Searched
+pub mod Radices

@@ -1,0 +1,139 @@
+-- Positions, one after another.
+use Rattle.std.proofs.Common.{◌≡◌, ℕ, zero, suc, ◌+◌, ◌-◌, ◌<◌, ◌≤◌, ℤ, pos, negsuc, int_le, unsigned_abs, Bool, true, false, nat_le, ◌&&◌, List, [], ◌∷◌, ◌++◌, map, length, take, drop, get_or, Option, Some, None, refl, ap, subst, sym, arith}
+use Rattle.std.specs.List.{list_all}
+use Rattle.std.proofs.lemmas.Bool.Decides.{nat_tests}
+use Rattle.arrays_core.specs.declared.item.Item.{Item}
+use Rattle.arrays_core.specs.declared.item.ItemType.{ItemType}
+use Rattle.arrays_core.specs.declared.item.ItemType.TheVariants.{Nums, Chars}
+use Rattle.arrays_core.specs.Items.{fill}
+use Rattle.index_region.specs.Common.{number_of}
+use Rattle.std.proofs.lemmas.List.{length-append, length-drop, take_all}
+use Rattle.arrays_core.specs.Arrays.{ArrayValue}
+use Rattle.arrays_core.specs.Shapes.{is_index_of}
+use Rattle.selection_fns.specs.Indexes.{Position, count_written, positions_of, indexed_shape, is_place, is_on, are_on}
+
+-- the first position where it is not written, and the rest
+pub record IsEmptyFirst (written : List Bool) (args : List ArrayValue) : Type 0 where
+  pub positions : positions_of written args ≡ None ∷ positions_of (drop 1 written) args
+  pub counted : count_written (drop 1 written) ≡ count_written written
+
+pub empty_first : (written : List Bool) (args : List ArrayValue) → 0 < length written → get_or written 0 false ≡ false → IsEmptyFirst written args
+empty_first [] args some h = absurd (omega arith)
+empty_first (true ∷ written) args some h = let no : ⊥ = cc in absurd no
+empty_first (false ∷ written) args some h = record { positions = refl; counted = refl }
+
+-- the first position where it is written, and the rest
+pub record IsWrittenFirst (written : List Bool) (args : List ArrayValue) (a : ArrayValue) : Type 0 where
+  pub positions : positions_of written args ≡ Some (get_or args 0 a) ∷ positions_of (drop 1 written) (drop 1 args)
+  pub counted : count_written (drop 1 written) + 1 ≡ count_written written
+  pub there : 0 < length args
+
+pub written_first : (written : List Bool) (args : List ArrayValue) (a : ArrayValue) → length args ≡ count_written written → get_or written 0 false ≡ true
+    → IsWrittenFirst written args a
+written_first [] args a long h = let no : ⊥ = cc in absurd no
+written_first (false ∷ written) args a long h = let no : ⊥ = cc in absurd no
+written_first (true ∷ written) [] a long h = absurd (omega arith)
+written_first (true ∷ written) (p ∷ args) a long h = record { positions = refl; counted = omega arith; there = omega arith }
+
+-- an index list of two shapes joined, in its parts
+pub record IsSplit (shape rest : List ℕ) (index : List ℕ) : Type 0 where
+  pub long : length shape ≤ length index
+  pub first : is_index_of shape (take (length shape) index) ≡ true
+  pub others : is_index_of rest (drop (length shape) index) ≡ true
+
+pub split_inside : (shape rest : List ℕ) (index : List ℕ) → is_index_of (shape ++ rest) index ≡ true → IsSplit shape rest index
+split_inside [] rest index h = record { long = omega arith; first = refl; others = h }
+split_inside (n ∷ shape) rest [] h = let no : ⊥ = cc in absurd no
+split_inside (n ∷ shape) rest (i ∷ index) h =
+    let both = and_parts (nat_le 1 i && nat_le i n) (is_index_of (shape ++ rest) index) h in
+    let parts = split_inside shape rest index both.1 in
+    let long = parts.long in
+    record { long = omega arith; first = rw both.0 parts.first; others = parts.others }
+  where
+    and_parts : (a b : Bool) → (a && b) ≡ true → (a ≡ true) × (b ≡ true)
+    and_parts true b h = (refl, h)
+    and_parts false b h = let no : ⊥ = cc in absurd no
+
+-- the parts where the first position is written
+pub split_written : (axes : List ℕ) (written : List Bool) (args : List ArrayValue) (index : List ℕ) (p : ArrayValue)
+    → length written ≡ length axes → length args ≡ count_written written → get_or written 0 false ≡ true → p ≡ get_or args 0 p
+    → is_index_of (indexed_shape axes (positions_of written args)) index ≡ true
+    → IsSplit p.shape (indexed_shape (drop 1 axes) (positions_of (drop 1 written) (drop 1 args))) index
+split_written axes [] args index p same long h is inside = let no : ⊥ = cc in absurd no
+split_written axes (false ∷ written) args index p same long h is inside = let no : ⊥ = cc in absurd no
+split_written [] (true ∷ written) args index p same long h is inside = absurd (omega arith)
+split_written (n ∷ axes) (true ∷ written) [] index p same long h is inside = absurd (omega arith)
+split_written (n ∷ axes) (true ∷ written) (a ∷ args) index p same long h is inside =
+    split_inside p.shape (indexed_shape axes (positions_of written args)) index
+    (subst (λ q. is_index_of (q.shape ++ indexed_shape axes (positions_of written args)) index ≡ true) (sym is) inside)
+
+-- the same where it is not
+pub split_empty : (axes : List ℕ) (written : List Bool) (args : List ArrayValue) (index : List ℕ)
+    → length written ≡ length axes → 0 < length written → get_or written 0 false ≡ false
+    → is_index_of (indexed_shape axes (positions_of written args)) index ≡ true
+    → IsSplit (get_or axes 0 0 ∷ []) (indexed_shape (drop 1 axes) (positions_of (drop 1 written) args)) index
+split_empty axes [] args index same some h inside = absurd (omega arith)
+split_empty axes (true ∷ written) args index same some h inside = let no : ⊥ = cc in absurd no
+split_empty [] (false ∷ written) args index same some h inside = absurd (omega arith)
+split_empty (n ∷ axes) (false ∷ written) args index same some h inside = split_inside (n ∷ []) (indexed_shape axes (positions_of written args)) index inside
+
+-- the axes of the first position, which is written, are among those of the result
+pub written_axes : (axes : List ℕ) (written : List Bool) (args : List ArrayValue) (p : ArrayValue)
+    → length written ≡ length axes → length args ≡ count_written written → get_or written 0 false ≡ true → p ≡ get_or args 0 p
+    → length p.shape ≤ length (indexed_shape axes (positions_of written args))
+written_axes axes [] args p same long h is = let no : ⊥ = cc in absurd no
+written_axes axes (false ∷ written) args p same long h is = let no : ⊥ = cc in absurd no
+written_axes [] (true ∷ written) args p same long h is = absurd (omega arith)
+written_axes (n ∷ axes) (true ∷ written) [] p same long h is = absurd (omega arith)
+written_axes (n ∷ axes) (true ∷ written) (a ∷ args) p same long h is =
+    let more = length-append a.shape (indexed_shape axes (positions_of written args)) in
+    subst (λ q. length q.shape ≤ length (a.shape ++ indexed_shape axes (positions_of written args))) (sym is) (omega arith)
+
+-- the magnitude of an index that is on an axis
+magnitude_within : (n : ℕ) (z : ℤ) → is_place n z ≡ true → unsigned_abs z ≤ n
+magnitude_within n (pos k) h = second (int_le (pos 1) (pos k)) h
+  where
+    second : (a : Bool) → (a && nat_le k n) ≡ true → k ≤ n
+    second true h = grind (arith, nat_tests)
+    second false h = let no : ⊥ = cc in absurd no
+magnitude_within n (negsuc k) h = let no : ⊥ = cc in absurd no
+
+pub place_within : (n : ℕ) (items : List Item) (k : ℕ) (d : Item) → unsigned_abs (number_of d) ≤ n → list_all (is_place n) (map number_of items) ≡ true
+    → unsigned_abs (number_of (get_or items k d)) ≤ n
+place_within n [] k d low h = low
+place_within n (x ∷ items) zero d low h = magnitude_within n (number_of x) (and_first (is_place n (number_of x)) _ h)
+  where
+    and_first : (a b : Bool) → (a && b) ≡ true → a ≡ true
+    and_first true b h = refl
+    and_first false b h = let no : ⊥ = cc in absurd no
+place_within n (x ∷ items) (suc k) d low h = place_within n items k d low (and_second (is_place n (number_of x)) _ h)
+  where
+    and_second : (a b : Bool) → (a && b) ≡ true → b ≡ true
+    and_second true b h = h
+    and_second false b h = let no : ⊥ = cc in absurd no
+
+-- fill is on any axis, as far as its magnitude goes
+pub fill_within : (n : ℕ) (item_type : ItemType) → unsigned_abs (number_of (fill item_type)) ≤ n
+fill_within n Nums = omega arith
+fill_within n Chars = omega arith
+
+-- what the rest has where the first position is written
+pub record IsWrittenStep (axes : List ℕ) (written : List Bool) (args : List ArrayValue) : Type 0 where
+  pub long : length (drop 1 args) ≡ count_written (drop 1 written)
+  pub on : are_on axes (positions_of written args) ≡ true → are_on (drop 1 axes) (positions_of (drop 1 written) (drop 1 args)) ≡ true
+
+pub written_step : (axes : List ℕ) (written : List Bool) (args : List ArrayValue) → length written ≡ length axes → length args ≡ count_written written
+    → get_or written 0 false ≡ true → IsWrittenStep axes written args
+written_step axes [] args same long h = let no : ⊥ = cc in absurd no
+written_step axes (false ∷ written) args same long h = let no : ⊥ = cc in absurd no
+written_step [] (true ∷ written) args same long h = absurd (omega arith)
+written_step (n ∷ axes) (true ∷ written) [] same long h = absurd (omega arith)
+written_step (n ∷ axes) (true ∷ written) (a ∷ args) same long h = record { long = omega arith; on = λ all. and_second (is_on n (Some a)) _ all }
+  where
+    and_second : (a b : Bool) → (a && b) ≡ true → b ≡ true
+    and_second true b h = h
+    and_second false b h = let no : ⊥ = cc in absurd no
+
+-- all of a list but its first entry, as it is cut
+pub tail_of : {X : Type 0} → (xs : List X) → take (length xs - 1) (drop 1 xs) ≡ drop 1 xs
+tail_of xs = take_all (length xs - 1) (drop 1 xs) (rw length-drop (omega arith))

@@ -1,0 +1,8 @@
+use Rattle.std.proofs.Common.{subst}
+use Rattle.arrays_core.specs.Arrays.{IsAnswerTo}
+use Rattle.selection_fns.specs.Indexes.{index_form, index_item}
+use Rattle.selection_fns.proofs.Indexed.{whole_of_positions}
+use Rattle.selection_fns.proofs.indexing.Index.apply.Goals as goal
+
+pub returns : goal.returns
+returns c = subst (λ w. IsAnswerTo w c.apply.result) (whole_of_positions index_form index_item c.args.self.now.written.now c.args.args.now c.requires) c.apply.ensures

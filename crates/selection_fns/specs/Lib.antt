@@ -1,0 +1,5 @@
+pub mod Counted
+pub mod Replicates
+pub mod Indexes
+pub mod Searches
+pub mod Digits

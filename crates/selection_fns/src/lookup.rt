@@ -1,0 +1,94 @@
+//! Lists of items that are looked up in a list. The first place of each item is kept in a map, so that
+//! each item is looked up in a time that does not grow with the list.
+
+ghost use Rattle.std.specs.Prelude.{◌≡◌, ◌≤◌, suc, pos, IfOk, length, map, replicate};
+ghost use Rattle.std.specs.List.{list_any, position_from, position_or_len};
+ghost use Rattle.std.specs.HashMap.{get};
+ghost use Rattle.scalar_fns.specs.Numbers.{truth};
+
+use std::alloc::{AllocError, Global};
+use std::collections::HashMap;
+use std::hash::Hash;
+
+/// The first place of each item, counted from 0.
+fn first_places<T: Eq + Hash + Copy + Drop>(
+    alloc: Global,
+    items: &[T],
+) -> Result<HashMap<T, usize>, AllocError>
+    ensures { IfOk result (λ m. (q : T) → get T.eq m q ≡ position_from (T.eq q) 0 items.now) }
+{
+    let mut places = HashMap::with_capacity(alloc, items.len())?;
+    for place in (0..items.len()).rev() {
+        places.insert(items[place], place)?;
+    }
+    Ok(places)
+}
+
+/// How many places come before the first place of an item, or how many there are.
+#[inline]
+fn places_before<T: Eq + Hash + Copy + Drop>(
+    items: &[T],
+    places: &HashMap<T, usize>,
+    item: T,
+) -> usize
+    requires { (q : T) → get T.eq places.now q ≡ position_from (T.eq q) 0 items.now }
+    ensures is { result ≡ position_or_len (T.eq item) items.now }
+    ensures within { result ≤ length items.now }
+{
+    match places.get(&item) {
+        Some(place) => *place,
+        None => items.len(),
+    }
+}
+
+/// The first place of each of the items that are sought, counted from 1, or one more than there are
+/// places.
+pub(crate) fn places_of<T: Eq + Hash + Copy + Drop>(
+    alloc: Global,
+    items: &[T],
+    sought: &[T],
+) -> Result<Vec<i64>, AllocError>
+    requires { length items.now ≤ 1048576 }
+    ensures { IfOk result (λ v. v.items ≡ map (λ x. pos (suc (position_or_len (T.eq x) items.now))) sought.now) }
+{
+    let places = first_places(alloc, items)?;
+    let mut found = Vec::with_capacity(alloc, sought.len())?;
+    for item in sought {
+        let before = places_before(items, &places, *item) as u32;
+        found.push(i64::from(before + 1))?;
+    }
+    Ok(found)
+}
+
+/// An item is one of the items.
+#[inline]
+fn is_member<T: Eq + Hash + Copy + Drop>(items: &[T], places: &HashMap<T, usize>, item: T) -> bool
+    requires { (q : T) → get T.eq places.now q ≡ position_from (T.eq q) 0 items.now }
+    ensures { result ≡ list_any (T.eq item) items.now }
+{
+    places.contains_key(&item)
+}
+
+/// 1 for each of the items that are sought where it is one of the items, else 0.
+pub(crate) fn members_of<T: Eq + Hash + Copy + Drop>(
+    alloc: Global,
+    items: &[T],
+    sought: &[T],
+) -> Result<Vec<i64>, AllocError>
+    ensures { IfOk result (λ v. v.items ≡ map (λ x. truth (list_any (T.eq x) items.now)) sought.now) }
+{
+    let places = first_places(alloc, items)?;
+    let mut found = Vec::with_capacity(alloc, sought.len())?;
+    for item in sought {
+        let is_member = is_member(items, &places, *item);
+        found.push(i64::from(is_member))?;
+    }
+    Ok(found)
+}
+
+/// A number so many times.
+pub(crate) fn all_of(alloc: Global, number: i64, count: u32) -> Result<Vec<i64>, AllocError>
+    ensures { IfOk result (λ v. v.items ≡ replicate count number) }
+{
+    vec![in alloc; number; count as usize]
+}
