@@ -1,4 +1,5 @@
-//! The parser: it reads the tokens from left to right, once, a function at a time, and keeps what waits for its right argument.
+//! The parser: it reads the tokens from left to right, once, a function at a time, and keeps what waits for its right argument or
+//! for a bracket that closes.
 
 ghost use Rattle.std.specs.Prelude.{◌≡◌, Some, [], ◌∷◌, IfOk, map};
 ghost use Rattle.apl_tokens.specs.Lexemes.{lexeme, lexemes};
@@ -328,8 +329,8 @@ fn tree(alloc: Global, tokens: &[Spanned]) -> Result<Expr, ParseFault>
 /// The tree of the tokens, the expression of ISO 8485 that they are.
 ///
 /// More than 4,096 tokens are `Limit`, whatever they are; then tokens that are no expression are `Syntax`; then a tree
-/// that is more than 256 high or has more than 512 nodes is `Limit`. A leaf is 1 high, a list of numbers is one node, and
-/// parentheses are none.
+/// that is more than 256 high or has more than 512 nodes is `Limit`. A leaf is 1 high, a list of numbers is one node, an
+/// index is one, and parentheses and an empty position are none.
 pub fn parse(alloc: Global, tokens: &[Spanned]) -> Result<Expr, ParseFault>
     ensures { IsParsed (lexemes tokens.now) result }
 {
