@@ -1,8 +1,9 @@
 -- What is known where checks have passed.
-use Rattle.std.proofs.Common.{◌≡◌, ℕ, Bool, true, false, List, [], ◌∷◌, length, get_or, Result, Ok, refl, arith}
+use Rattle.std.proofs.Common.{◌≡◌, ℕ, Bool, true, false, List, [], ◌∷◌, length, get_or, Result, Ok, refl, sym, arith}
 use Rattle.arrays_core.specs.declared.item.Item.{Item}
 use Rattle.arrays_core.specs.declared.item.ItemType.{ItemType}
 use Rattle.arrays_core.specs.declared.item.Kind.{Kind}
+use Rattle.arrays_core.specs.declared.item.Kind.TheVariants.{Limit}
 use Rattle.arrays_core.specs.Arrays.{ArrayValue}
 use Rattle.arrays_core.specs.Items.{type_of}
 use Rattle.arrays_core.specs.Shapes.{is_index_of}
@@ -46,3 +47,20 @@ two_arguments [] a b h d e = absurd (omega arith)
 two_arguments (x ∷ []) a b h d e = absurd (omega arith)
 two_arguments (x ∷ y ∷ []) a b h d e = rw (d, e) refl
 two_arguments (x ∷ y ∷ z ∷ rest) a b h d e = absurd (omega arith)
+
+-- where checks give a form, they have passed
+pub record Gives (holds : Bool) (rest : Result Form Kind) (form : Form) : Type 0 where
+  pub test : holds ≡ true
+  pub is : rest ≡ Ok form
+
+pub gives : (holds : Bool) (kind : Kind) (rest : Result Form Kind) (form : Form) → check holds kind rest ≡ Ok form → Gives holds rest form
+gives true kind rest form h = record { test = refl; is = h }
+gives false kind rest form h = let no : ⊥ = cc in absurd no
+
+-- the form that the last check gives is what was asked for
+pub limited_gives : (shape : List ℕ) (item_type : ItemType) (form : Form) → limited shape item_type ≡ Ok form → form ≡ (shape, item_type)
+limited_gives shape item_type form h = decide (is_within_limits shape) h
+  where
+    decide : (w : Bool) → check w Limit (Ok (shape, item_type)) ≡ Ok form → form ≡ (shape, item_type)
+    decide true h = let wanted : Form = (shape, item_type) in let same : wanted ≡ form = cc in sym same
+    decide false h = let no : ⊥ = cc in absurd no

@@ -133,6 +133,20 @@ impl<'a> Seen<'a> {
         self.array.joined(other.array, shape)
     }
 
+    /// The items at places, each told by how many come before it in row-major order, as an array of a
+    /// shape that has as many; fill where there is no such place.
+    pub fn picked(&self, before: &[u32], shape: &Shape) -> Result<Array, AllocError>
+        requires within { IsWithinLimits shape.now.items }
+        requires one_item_a_place { length before.now ≡ size_of shape.now.items }
+        ensures { IfOk result (λ a. a ≡ record {
+          item_type = self.now.item_type;
+          shape = shape.now.items;
+          items = map (λ k. get_or self.now.items k (fill self.now.item_type)) before.now;
+        }) }
+    {
+        self.array.picked(before, shape)
+    }
+
     /// One of the numbers is below 0.
     pub fn has_negative(&self) -> bool
         ensures { result ≡ not (none_negative (numbers self.now)) }

@@ -19,7 +19,7 @@ pub record HasPassed (a : ArrayValue) (written : List Bool) (positions : List Po
   pub on : are_on a.shape positions ≡ true
   pub inside : is_index_of (indexed_shape a.shape positions) index ≡ true
 
-positions_long : (written : List Bool) (args : List ArrayValue) → length args ≡ count_written written → length (positions_of written args) ≡ length written
+pub positions_long : (written : List Bool) (args : List ArrayValue) → length args ≡ count_written written → length (positions_of written args) ≡ length written
 positions_long [] args h = refl
 positions_long (true ∷ written) [] h = absurd (omega arith)
 positions_long (true ∷ written) (p ∷ args) h = let rest = positions_long written args (omega arith) in omega arith

@@ -11,3 +11,4 @@ pub mod Worths
 pub mod CaseWords
 pub mod SearchCases
 pub mod DigitCases
+pub mod Vectors

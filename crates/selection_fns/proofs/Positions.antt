@@ -7,7 +7,7 @@ use Rattle.arrays_core.specs.declared.item.ItemType.{ItemType}
 use Rattle.arrays_core.specs.declared.item.ItemType.TheVariants.{Nums, Chars}
 use Rattle.arrays_core.specs.Items.{fill}
 use Rattle.index_region.specs.Common.{number_of}
-use Rattle.std.proofs.lemmas.List.{length-append, length-drop, take_all}
+use Rattle.std.proofs.lemmas.List.{length-append, length-drop, take_all, drop_more}
 use Rattle.arrays_core.specs.Arrays.{ArrayValue}
 use Rattle.arrays_core.specs.Shapes.{is_index_of}
 use Rattle.selection_fns.specs.Indexes.{Position, count_written, positions_of, indexed_shape, is_place, is_on, are_on}
@@ -137,3 +137,25 @@ written_step (n ∷ axes) (true ∷ written) (a ∷ args) same long h = record {
 -- all of a list but its first entry, as it is cut
 pub tail_of : {X : Type 0} → (xs : List X) → take (length xs - 1) (drop 1 xs) ≡ drop 1 xs
 tail_of xs = take_all (length xs - 1) (drop 1 xs) (rw length-drop (omega arith))
+
+-- an index on an axis is at least 1, and at most its length
+pub record IsPlaceIn (n : ℕ) (z : ℤ) : Type 0 where
+  pub low : 1 ≤ unsigned_abs z
+  pub high : unsigned_abs z ≤ n
+  pub is : z ≡ pos (unsigned_abs z)
+
+pub place_in : (n : ℕ) (z : ℤ) → is_place n z ≡ true → IsPlaceIn n z
+place_in n (pos zero) h = let no : ⊥ = cc in absurd no
+place_in n (pos (suc k)) h = record { low = omega arith; high = magnitude_within n (pos (suc k)) h; is = refl }
+place_in n (negsuc k) h = let no : ⊥ = cc in absurd no
+
+-- the first of those that are all on an axis, and the rest
+pub place_first : (n : ℕ) (zs : List ℤ) (k : ℕ) (d : ℤ) → k < length zs → list_all (is_place n) (drop k zs) ≡ true
+    → (is_place n (get_or zs k d) ≡ true) × (list_all (is_place n) (drop (k + 1) zs) ≡ true)
+place_first n zs k d below h =
+    let more = drop_more zs k d below in
+    and_both (is_place n (get_or zs k d)) _ (subst (λ ys. list_all (is_place n) ys ≡ true) more h)
+  where
+    and_both : (a b : Bool) → (a && b) ≡ true → (a ≡ true) × (b ≡ true)
+    and_both true b h = (refl, h)
+    and_both false b h = let no : ⊥ = cc in absurd no

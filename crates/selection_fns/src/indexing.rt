@@ -1,11 +1,11 @@
 //! Indexed reference: the items at indices, one position an axis.
 
-ghost use Rattle.std.specs.Prelude.{◌≡◌, ◌<◌, ◌≤◌, ◌+◌, ◌++◌, IsTrue, IfOk, IfErr, Result, Err, false, suc, length, ◌&&◌, pos, int_le, unsigned_abs, All};
+ghost use Rattle.std.specs.Prelude.{◌≡◌, ◌<◌, ◌≤◌, ◌+◌, ◌-◌, ◌++◌, map, IsTrue, IfOk, IfErr, Result, Err, false, suc, length, ◌&&◌, pos, int_le, unsigned_abs, All};
 ghost use Rattle.std.specs.List.{list_all};
 ghost use Rattle.arrays_core.specs.declared.item.Kind.{Kind as AKind};
 ghost use Rattle.arrays_core.specs.declared.item.Kind.TheVariants.{Limit};
 ghost use Rattle.arrays_core.specs.Arrays.{ArrayValue, item_of, IsAnswerTo};
-ghost use Rattle.arrays_core.specs.Shapes.{is_index_of};
+ghost use Rattle.arrays_core.specs.Shapes.{size as size_of, is_index_of};
 ghost use Rattle.index_region.specs.Common.{Form, is_within_limits, counts_as_numbers, number_of, numbers};
 ghost use Rattle.index_region.specs.Answers.{IsPlaceOf, source_value};
 ghost use Rattle.selection_fns.specs.Indexes.{Position, positions_of, count_written, of_positions, is_place, is_on as is_position_on, are_on as are_positions_on, are_numbers as are_positions_numbers, indexed_shape as shape_indexed, indexed_places as places_indexed, positions_checked, index_form, index_source, index_item, index_whole};
@@ -13,7 +13,7 @@ ghost use Rattle.selection_fns.specs.Indexes.{Position, positions_of, count_writ
 use arrays_core::{ApplyFault, Array, Item, ItemType, Kind, Shape, append_axes};
 use index_region::{Primitive, Seen, Source, apply, item_from, limited};
 use smallvec::SmallVec;
-use std::alloc::Global;
+use std::alloc::{AllocError, Global};
 
 const MOST_AXES: usize = 4;
 
@@ -143,6 +143,28 @@ fn index_in(position: &Seen, at: &[u32], axis: u32) -> u32
     }
 }
 
+/// How many places of an axis come before an index.
+fn place_before(index: i64, axis: u32) -> u32
+    requires { IsTrue (is_place axis index) }
+    ensures { result ≡ unsigned_abs index - 1 }
+{
+    (index.unsigned_abs() - 1) as u32
+}
+
+/// How many places of an axis come before each index of a position.
+fn places_before(alloc: Global, position: &Seen, axis: u32) -> Result<Vec<u32>, AllocError>
+    requires { IsTrue (list_all (is_place axis) (numbers position.now)) }
+    ensures is { IfOk result (λ before. before.items ≡ map (λ z. unsigned_abs z - 1) (numbers position.now)) }
+    ensures long { length position.now.items ≡ size_of position.now.shape }
+{
+    let places = position.places();
+    let mut before = Vec::with_capacity(alloc, places as usize)?;
+    for place in 0..places {
+        before.push(place_before(position.number(place + 1), axis))?;
+    }
+    Ok(before)
+}
+
 /// Puts the index on each axis of the array at the end of a list: each position takes its own part of
 /// the index list of the result.
 fn append_places(
@@ -200,11 +222,19 @@ impl<'w> Index<'w> {
         Source::Place { arg: 0, at }
     }
 
-    /// The array of the items at the indices.
+    /// The array of the items at the indices. Those of a vector are picked one after another.
     pub fn apply(&self, alloc: Global, args: &[Seen]) -> Result<Array, ApplyFault>
         requires { length args.now ≡ suc (count_written self.now.written.now) }
         ensures { IsAnswerTo (of_positions self.now.written.now index_whole args.now) result }
     {
+        let (shape, _) = self.shape_of(args)?;
+        let array = &args[0];
+        let axes = array.shape();
+        if args.len() == 2 && axes.len() == 1 {
+            let before = places_before(alloc, &args[1], axes[0])?;
+            let picked = array.picked(before.as_slice(), &shape)?;
+            return Ok(picked);
+        }
         apply(alloc, self, args)
     }
 }
