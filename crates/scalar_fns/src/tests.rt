@@ -1,4 +1,7 @@
-use crate::{Scalar1, Scalar2, apply_one, apply_two, common_shape, identity, one, two};
+use crate::{
+    Scalar1, Scalar2, apply_one, apply_two, common_shape, floor_quotient, identity, one, truth,
+    two, two_numbers,
+};
 use arrays_core::{ApplyFault, Array, Item, ItemType, Kind, shape_of};
 use std::alloc::Global;
 use std::test::Fail;
@@ -263,4 +266,17 @@ fn empty_text_counts_as_numbers(rt: HostRuntime) -> Result<(), Fail> {
         Err(_) => assert!(rt; false),
     }
     Ok(())
+}
+
+#[test]
+fn rounds_quotients_down(rt: HostRuntime) {
+    assert_eq!(rt; floor_quotient(7, 2), Ok(3));
+    assert_eq!(rt; floor_quotient(-7, 2), Ok(-4));
+    assert_eq!(rt; floor_quotient(7, -2), Ok(-4));
+    assert_eq!(rt; floor_quotient(-7, -2), Ok(3));
+    assert_eq!(rt; floor_quotient(-8, 2), Ok(-4));
+    assert_eq!(rt; floor_quotient(LEAST, 1), Ok(LEAST));
+    assert_eq!(rt; floor_quotient(LEAST, -1), Err(Kind::Limit));
+    assert_eq!(rt; two_numbers(Scalar2::Residue, 10, -3), Ok(7));
+    assert_eq!(rt; truth(true), 1);
 }

@@ -1,6 +1,10 @@
 -- Numbers carried through radices, and the places of their digits.
-use Rattle.std.proofs.Common.{◌≡◌, ℕ, zero, suc, ◌+◌, ◌-◌, ◌<◌, ◌≤◌, true, List, [], ◌∷◌, ◌++◌, length, get_or, drop, ℤ, pos, Ok, Err, refl, ap, sym, ◌∙◌, arith}
+use Rattle.std.proofs.Common.{◌≡◌, ℕ, zero, suc, ◌+◌, ◌-◌, ◌/◌, ◌%◌, min, Bool, false, cond, negsuc, neg_ℤ, ◌-ℤ◌, ◌*ℤ◌, Result, ◌<◌, ◌≤◌, true, List, [], ◌∷◌, ◌++◌, length, get_or, drop, ℤ, pos, Ok, Err, refl, ap, ◌∙◌, arith}
 use Rattle.std.specs.Prelude.{◌&&◌, nat_le}
+use Rattle.std.specs.Ordering.{int_eq}
+use Rattle.std.proofs.Math.Nat.{div-eq_of_lt, mod-eq_of_lt}
+use Rattle.std.proofs.lemmas.Int.{ints}
+use Rattle.scalar_fns.specs.Numbers.{residue, floor_div, held}
 use Rattle.std.proofs.lemmas.Bool.Decides.{nat_tests}
 use Rattle.std.proofs.lemmas.List.{drop-drop, drop_more}
 use Rattle.arrays_core.specs.declared.item.Kind.{Kind}
@@ -8,7 +12,6 @@ use Rattle.arrays_core.specs.declared.item.ItemType.TheVariants.{Nums}
 use Rattle.arrays_core.specs.Shapes.{size, is_index_of}
 use Rattle.arrays_core.specs.Arrays.{ArrayValue}
 use Rattle.arrays_core.proofs.Shapes.{head_of}
-use Rattle.arrays_core.proofs.NextIndex.{drop_inside}
 use Rattle.index_region.specs.Common.{and_then, is_list, counts_as_numbers}
 use Rattle.index_region.specs.Answers.{IsPlaceOf}
 use Rattle.index_region.proofs.Passing.{passed, place_inside}
@@ -26,6 +29,46 @@ error_in_front radices place k z e h failed =
     let there : carried_through (drop (k - place) (drop place radices)) z ≡ Err e =
     ap (λ xs. carried_through xs z) (drop-drop (k - place) place radices ∙ ap (λ n. drop n radices) same) ∙ failed in
     error_through (drop place radices) (k - place) z e there
+
+-- ---- of 0 nothing is left
+
+zero_divided : (radix : ℤ) → floor_div (pos 0) radix ≡ pos 0
+zero_divided (pos zero) = refl
+zero_divided (pos (suc a)) = let none : 0 / suc a ≡ 0 = div-eq_of_lt (omega arith) in ap pos none
+zero_divided (negsuc a) =
+    let none : 0 / suc a ≡ 0 = div-eq_of_lt (omega arith) in
+    let nothing : 0 % suc a ≡ 0 = mod-eq_of_lt (omega arith) in
+    let up : 0 / suc a + min 1 (0 % suc a) ≡ 0 = omega arith in
+    ap (λ n. neg_ℤ (pos n)) up
+
+zero_carried : (radix : ℤ) → carried radix (pos 0) ≡ Ok (pos 0)
+zero_carried radix = decide (int_eq radix (pos 0))
+  where
+    decide : (w : Bool) → cond {A = Result ℤ Kind} w (Ok (pos 0)) (held (floor_div (pos 0) radix)) ≡ Ok (pos 0)
+    decide true = refl
+    decide false = ap held (zero_divided radix)
+
+pub zero_digit : (radix : ℤ) → residue radix (pos 0) ≡ pos 0
+zero_digit radix = decide (int_eq radix (pos 0))
+  where
+    nothing : (r : ℤ) → pos 0 -ℤ r *ℤ pos 0 ≡ pos 0
+    nothing r = omega (arith, ints)
+
+    decide : (w : Bool) → cond w (pos 0) (pos 0 -ℤ radix *ℤ floor_div (pos 0) radix) ≡ pos 0
+    decide true = refl
+    decide false = rw (zero_divided radix) (nothing radix)
+
+zero_through : (radices : List ℤ) (n : ℕ) (z : ℤ) → carried_through (drop n radices) z ≡ Ok (pos 0) → carried_through radices z ≡ Ok (pos 0)
+zero_through radices zero z h = h
+zero_through [] (suc n) z h = h
+zero_through (radix ∷ radices) (suc n) z h = ap (λ r. and_then r (carried radix)) (zero_through radices n z h) ∙ zero_carried radix
+
+pub zero_in_front : (radices : List ℤ) (place k : ℕ) (z : ℤ) → place ≤ k → carried_through (drop k radices) z ≡ Ok (pos 0) → carried_through (drop place radices) z ≡ Ok (pos 0)
+zero_in_front radices place k z h none =
+    let same : place + (k - place) ≡ k = omega arith in
+    let there : carried_through (drop (k - place) (drop place radices)) z ≡ Ok (pos 0) =
+    ap (λ xs. carried_through xs z) (drop-drop (k - place) place radices ∙ ap (λ n. drop n radices) same) ∙ none in
+    zero_through (drop place radices) (k - place) z there
 
 -- ---- index lists of encode's result
 

@@ -32,7 +32,8 @@ fn carried(radix: i64, number: i64) -> Result<i64, Kind>
     floor_quotient(number, radix)
 }
 
-/// The digit of a number at a place of the radices, counted from 1.
+/// The digit of a number at a place of the radices, counted from 1. Where 0 is left, each radix in front
+/// leaves 0 too, so a number above 0 is divided at most 63 times by radices above 1.
 fn digit(radices: &Seen, place: u32, number: i64) -> Result<i64, Kind>
     requires low { 1 ≤ place }
     requires high { place ≤ length radices.now.items }
@@ -40,6 +41,9 @@ fn digit(radices: &Seen, place: u32, number: i64) -> Result<i64, Kind>
 {
     let mut rest = number;
     for before in (place..radices.places()).rev() {
+        if rest == 0 {
+            return Ok(0);
+        }
         rest = carried(radices.number(before + 1), rest)?;
     }
     two_numbers(Scalar2::Residue, radices.number(place), rest)

@@ -3,8 +3,8 @@ use Rattle.std.proofs.lemmas.Int.{to_z-of_z}
 use Rattle.std.proofs.lemmas.List.{length-map}
 use Rattle.index_region.specs.Common.{numbers, number_of, and_then}
 use Rattle.scalar_fns.specs.Numbers.{residue}
-use Rattle.selection_fns.specs.Digits.{carried, carried_through, digit}
-use Rattle.selection_fns.proofs.Radices.{error_in_front, one_more_radix}
+use Rattle.selection_fns.specs.Digits.{carried, carried_through}
+use Rattle.selection_fns.proofs.Radices.{error_in_front, one_more_radix, zero_in_front, zero_digit}
 use Rattle.selection_fns.proofs.encoding.digit.Goals as goal
 
 pub returns-in_err-rest : goal.returns-in_err-rest
@@ -41,3 +41,15 @@ returns c =
     ap (λ n. carried_through (drop n radices) c.args.number) (sym ended) ∙ (rw (same_number, c.loop-before.rest-is) at c.loop-before.invariant.carried) in
     (rw (same, c.loop-before.rest-is, c.number-2.ensures) at c.two_numbers.ensures)
     ∙ sym (ap (λ r. and_then r (λ rest. Ok (residue (get_or radices (place - 1) (pos 0)) rest))) through)
+
+pub returns-then-rest-eq0 : goal.returns-then-rest-eq0
+returns-then-rest-eq0 c =
+    let radices = numbers c.args.radices.now in
+    let place = c.args.place in
+    let number = c.args.number in
+    let same_number : to_z w64 (of_z w64 number) ≡ number = to_z-of_z w64 _ c.ranges.number in
+    let nothing : to_z w64 c.loop-before.rest-bits ≡ pos 0 = ap (to_z w64) c.if-rest-eq0.true in
+    let behind : carried_through (drop c.loop-before.before radices) number ≡ Ok (pos 0) = (rw same_number at c.loop-before.invariant.carried) ∙ ap Ok nothing in
+    let front = zero_in_front radices place c.loop-before.before number c.loop-before.invariant.above behind in
+    let radix = get_or radices (place - 1) (pos 0) in
+    sym (ap (λ r. and_then r (λ rest. Ok (residue radix rest))) front ∙ ap Ok (zero_digit radix))
