@@ -9,6 +9,7 @@ pub mod Searched
 pub mod Radices
 pub mod Worths
 pub mod CaseWords
+pub mod PickCases
 pub mod SearchCases
 pub mod DigitCases
 pub mod Vectors
