@@ -1,6 +1,6 @@
 use crate::{AxisLengths, Decode, Encode, Index, IndexGenerator, IndexOf, Member, Replicate};
-use arrays_core::{ApplyFault, Array, Item, Kind, shape_of};
-use index_region::{Along, Primitive, Seen};
+use arrays_core::{ApplyFault, Array, Kind, shape_of};
+use index_region::{Along, Seen, apply};
 use std::alloc::Global;
 
 fn vector(alloc: Global, numbers: &[i64]) -> Result<Array, ApplyFault> {
@@ -50,8 +50,10 @@ fn looks_numbers_up(rt: HostRuntime) {
     };
     let args = [Seen::plain(&list), Seen::plain(&sought)];
     assert!(rt; are_numbers(IndexOf.apply(alloc, &args), 1, &[5, 1, 4, 2, 1]));
+    assert!(rt; are_numbers(apply(alloc, &IndexOf, &args), 1, &[5, 1, 4, 2, 1]));
     let args = [Seen::plain(&sought), Seen::plain(&list)];
     assert!(rt; are_numbers(Member.apply(alloc, &args), 1, &[0, 1, 1, 1, 1]));
+    assert!(rt; are_numbers(apply(alloc, &Member, &args), 1, &[0, 1, 1, 1, 1]));
     let Ok(scalar) = Array::scalar(alloc, 3) else {
         assert!(rt; false);
         return;
@@ -145,7 +147,6 @@ fn gives_lengths_and_counts(rt: HostRuntime) {
     assert!(rt; are_numbers(AxisLengths.apply(alloc, &[Seen::plain(&table)]), 1, &[2, 3]));
     assert!(rt; are_numbers(AxisLengths.apply(alloc, &[Seen::plain(&letters)]), 1, &[3]));
     assert!(rt; are_numbers(AxisLengths.apply(alloc, &[Seen::plain(&three)]), 1, &[]));
-    assert!(rt; AxisLengths.item_at(&[Seen::plain(&table)], &[2]) == Ok(Item::Num(3)));
     assert!(rt;
         are_numbers(
             IndexGenerator.apply(alloc, &[Seen::plain(&three)]),
@@ -153,7 +154,6 @@ fn gives_lengths_and_counts(rt: HostRuntime) {
             &[1, 2, 3]
         )
     );
-    assert!(rt; IndexGenerator.item_at(&[Seen::plain(&three)], &[2]) == Ok(Item::Num(2)));
     assert!(rt;
         is_kind(
             IndexGenerator.apply(alloc, &[Seen::plain(&table)]),
@@ -211,7 +211,6 @@ fn replicates(rt: HostRuntime) {
     };
     let args = [Seen::plain(&counts), Seen::plain(&table)];
     assert!(rt; are_numbers(columns.apply(alloc, &args), 2, &[1, 3, 3, 4, 6, 6]));
-    assert!(rt; columns.item_at(&args, &[2, 2]) == Ok(Item::Num(6)));
     assert!(rt; is_kind(rows.apply(alloc, &args), Kind::Length));
     let beyond = Replicate {
         along: Along::Axis(3),
@@ -264,7 +263,6 @@ fn indexes(rt: HostRuntime) {
         Seen::plain(&columns),
     ];
     assert!(rt; are_numbers(both.apply(alloc, &args), 1, &[6, 4, 6]));
-    assert!(rt; both.item_at(&args, &[2]) == Ok(Item::Num(4)));
     let args = [
         Seen::plain(&table),
         Seen::plain(&columns),
