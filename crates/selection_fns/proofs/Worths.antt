@@ -1,5 +1,5 @@
 -- Numbers of digits: where the digits and their radices stand, and one more digit.
-use Rattle.std.proofs.Common.{◌≡◌, ◌≢◌, ℕ, zero, suc, ◌+◌, ◌-◌, ◌*◌, ◌<◌, ◌≤◌, ◌==◌, Bool, true, false, cond, List, [], ◌∷◌, length, get_or, map, drop, ℤ, pos, ◌+ℤ◌, ◌*ℤ◌, Result, Ok, Err, refl, ap, sym, ◌∙◌, arith}
+use Rattle.std.proofs.Common.{◌≡◌, ◌≢◌, ℕ, zero, suc, ◌+◌, ◌-◌, ◌*◌, ◌<◌, ◌≤◌, ◌==◌, true, false, cond, List, [], ◌∷◌, length, get_or, map, drop, ℤ, pos, ◌+ℤ◌, ◌*ℤ◌, Result, Ok, Err, refl, ap, sym, ◌∙◌, arith}
 use Rattle.std.specs.Prelude.{◌&&◌, ◌||◌, nat_le, nat_eq, if◌then◌else◌}
 use Rattle.std.specs.List.{range_with_len}
 use Rattle.std.proofs.lemmas.Bool.Decides.{nat_tests}
@@ -12,7 +12,6 @@ use Rattle.arrays_core.specs.Items.{fill}
 use Rattle.arrays_core.specs.Shapes.{size, places_before, is_index_of}
 use Rattle.arrays_core.specs.Arrays.{ArrayValue}
 use Rattle.scalar_fns.specs.Numbers.{held}
-use Rattle.scalar_fns.specs.Extension.{extended}
 use Rattle.index_region.specs.Common.{and_then, is_list, has_one_item, counts_as_numbers, numbers, number_of, places_along}
 use Rattle.index_region.specs.Answers.{IsPlaceOf}
 use Rattle.index_region.proofs.Passing.{passed, place_inside}

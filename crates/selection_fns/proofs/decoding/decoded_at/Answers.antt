@@ -1,4 +1,4 @@
-use Rattle.std.proofs.Common.{◌≡◌, ◌+◌, ◌∙◌, ℕ, ap, sym, map, Ok, Err, ◌+ℤ◌, ◌*ℤ◌, to_z, of_z, w64, SFits, rules}
+use Rattle.std.proofs.Common.{◌≡◌, ◌+◌, ◌∙◌, ap, sym, map, Ok, Err, ◌+ℤ◌, ◌*ℤ◌, to_z, of_z, w64, SFits, rules}
 use Rattle.std.specs.List.{range_with_len}
 use Rattle.std.proofs.lemmas.Int.{to_z-of_z}
 use Rattle.scalar_fns.specs.Numbers.{held}

@@ -2,7 +2,6 @@ use Rattle.std.proofs.Common.{◌≡◌, ◌+◌, ◌≤◌, length, drop, true,
 use Rattle.std.proofs.lemmas.List.{length-drop}
 use Rattle.arrays_core.specs.Shapes.{is_index_of}
 use Rattle.arrays_core.proofs.Shapes.{as_long}
-use Rattle.selection_fns.proofs.Worths.{digit_inside}
 use Rattle.selection_fns.proofs.decoding.digit_at.Goals as goal
 
 pub append_axes-requires : goal.append_axes-requires

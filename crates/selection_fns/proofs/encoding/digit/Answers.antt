@@ -3,7 +3,7 @@ use Rattle.std.proofs.lemmas.Int.{to_z-of_z}
 use Rattle.std.proofs.lemmas.List.{length-map}
 use Rattle.index_region.specs.Common.{numbers, number_of, and_then}
 use Rattle.scalar_fns.specs.Numbers.{residue}
-use Rattle.selection_fns.specs.Digits.{carried, carried_through, digit}
+use Rattle.selection_fns.specs.Digits.{carried, carried_through}
 use Rattle.selection_fns.proofs.Radices.{error_in_front, one_more_radix}
 use Rattle.selection_fns.proofs.encoding.digit.Goals as goal
 

@@ -1,11 +1,11 @@
-use Rattle.std.proofs.Common.{◌≡◌, ◌-◌, ◌≤◌, List, ℕ, true, take, drop, length, get_or, ap, sym, ◌∙◌, to_z, of_z, w64, SFits, arith, rules}
+use Rattle.std.proofs.Common.{◌≡◌, ◌-◌, List, ℕ, true, take, drop, length, get_or, ap, sym, ◌∙◌, to_z, of_z, w64, SFits, arith, rules}
 use Rattle.std.proofs.lemmas.Int.{to_z-of_z}
 use Rattle.std.proofs.lemmas.List.{length-drop, take_all, get_or_default}
 use Rattle.arrays_core.specs.Shapes.{is_index_of}
 use Rattle.arrays_core.specs.Arrays.{item_of}
 use Rattle.index_region.specs.Common.{numbers, number_of}
 use Rattle.scalar_fns.specs.Scalars.{number_item}
-use Rattle.selection_fns.specs.Digits.{digit, encode_item}
+use Rattle.selection_fns.specs.Digits.{digit}
 use Rattle.selection_fns.proofs.Radices.{encode_inside, encode_rank, behind, in_front}
 use Rattle.selection_fns.proofs.encoding.digit_at.Goals as goal
 
