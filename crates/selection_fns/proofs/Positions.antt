@@ -1,5 +1,5 @@
 -- Positions, one after another.
-use Rattle.std.proofs.Common.{◌≡◌, ℕ, zero, suc, ◌+◌, ◌-◌, ◌<◌, ◌≤◌, ℤ, pos, negsuc, int_le, unsigned_abs, Bool, true, false, nat_le, ◌&&◌, List, [], ◌∷◌, ◌++◌, map, length, take, drop, get_or, Option, Some, None, refl, ap, subst, sym, arith}
+use Rattle.std.proofs.Common.{◌≡◌, ℕ, zero, suc, ◌+◌, ◌-◌, ◌<◌, ◌≤◌, ℤ, pos, negsuc, int_le, unsigned_abs, Bool, true, false, nat_le, ◌&&◌, List, [], ◌∷◌, ◌++◌, map, length, take, drop, get_or, Some, None, refl, subst, sym, arith}
 use Rattle.std.specs.List.{list_all}
 use Rattle.std.proofs.lemmas.Bool.Decides.{nat_tests}
 use Rattle.arrays_core.specs.declared.item.Item.{Item}
@@ -10,7 +10,7 @@ use Rattle.index_region.specs.Common.{number_of}
 use Rattle.std.proofs.lemmas.List.{length-append, length-drop, take_all, drop_more}
 use Rattle.arrays_core.specs.Arrays.{ArrayValue}
 use Rattle.arrays_core.specs.Shapes.{is_index_of}
-use Rattle.selection_fns.specs.Indexes.{Position, count_written, positions_of, indexed_shape, is_place, is_on, are_on}
+use Rattle.selection_fns.specs.Indexes.{count_written, positions_of, indexed_shape, is_place, is_on, are_on}
 
 -- the first position where it is not written, and the rest
 pub record IsEmptyFirst (written : List Bool) (args : List ArrayValue) : Type 0 where

@@ -1,4 +1,4 @@
-use Rattle.std.proofs.Common.{rules, ◌≡◌, ◌<◌, ◌≤◌, ◌+◌, length, take, drop, ap, subst, sym, ◌∙◌, arith}
+use Rattle.std.proofs.Common.{rules, ◌≡◌, ◌<◌, ◌+◌, length, drop, arith}
 use Rattle.std.proofs.lemmas.List.{length_push, length-drop}
 use Rattle.selection_fns.proofs.Positions.{split_written, split_empty, written_step, tail_of}
 use Rattle.selection_fns.proofs.indexing.+append_places.Goals as goal

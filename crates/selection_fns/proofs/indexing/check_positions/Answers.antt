@@ -1,9 +1,7 @@
-use Rattle.std.proofs.Common.{rules, refl, ◌≡◌, ◌<◌, length, ap, sym, ◌∙◌, false, true, Bool, arith}
-use Rattle.index_region.specs.Common.{check}
+use Rattle.std.proofs.Common.{rules, refl, ◌≡◌, false, true}
 use Rattle.std.specs.List.{list_all}
-use Rattle.arrays_core.specs.declared.item.Kind.TheVariants.{Rank, Domain, Index}
-use Rattle.selection_fns.specs.Indexes.{positions_of, positions_checked, are_numbers, are_on}
-use Rattle.selection_fns.proofs.Indexed.{ranks_agree, ranks_do_agree, ranks_do_not_agree}
+use Rattle.selection_fns.specs.Indexes.{positions_of, are_numbers, are_on}
+use Rattle.selection_fns.proofs.Indexed.{ranks_do_agree, ranks_do_not_agree}
 use Rattle.selection_fns.proofs.indexing.check_positions.Goals as goal
 
 pub returns-then-written-axes-clause-failed : goal.returns-then-written-axes-clause-failed

@@ -1,8 +1,6 @@
-use Rattle.std.proofs.Common.{rules, ◌≡◌, ◌≤◌, ap, subst, sym, ◌∙◌, unsigned_abs, arith}
+use Rattle.std.proofs.Common.{rules}
 use Rattle.arrays_core.specs.Shapes.{places_before}
 use Rattle.arrays_core.specs.Items.{fill}
-use Rattle.arrays_core.specs.Arrays.{item_of}
-use Rattle.index_region.specs.Common.{number_of}
 use Rattle.selection_fns.proofs.Positions.{place_within, fill_within}
 use Rattle.selection_fns.proofs.indexing.index_in.Goals as goal
 

@@ -1,4 +1,4 @@
-use Rattle.std.proofs.Common.{rules, arith}
+use Rattle.std.proofs.Common.{rules}
 use Rattle.selection_fns.proofs.Indexed.{has_passed}
 use Rattle.selection_fns.proofs.indexing.Index.source_of.Goals as goal
 

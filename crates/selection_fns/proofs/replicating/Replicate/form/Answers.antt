@@ -1,10 +1,9 @@
-use Rattle.std.proofs.Common.{rules, ◌≡◌, ◌<◌, Result, Err, true, length, ap, subst, sym, ◌∙◌, arith}
+use Rattle.std.proofs.Common.{rules, ◌≡◌, ◌<◌, Result, true, length, ap, subst, sym, ◌∙◌}
 use Rattle.std.specs.Prelude.{max, sum}
 use Rattle.arrays_core.specs.declared.item.Kind.{Kind}
-use Rattle.arrays_core.specs.declared.item.Kind.TheVariants.{Limit}
 use Rattle.index_region.specs.Common.{Form, is_axis, axis_at, places_along, limited}
 use Rattle.index_region.specs.Answers.{IsFormAnswerTo}
-use Rattle.selection_fns.specs.Replicates.{times, counts_checked, replicated_shape, replicate_form}
+use Rattle.selection_fns.specs.Replicates.{times, counts_checked, replicated_shape}
 use Rattle.selection_fns.proofs.Copies.{replicate_limited, replicate_beyond}
 use Rattle.selection_fns.proofs.replicating.Replicate.form.Goals as goal
 

@@ -1,4 +1,4 @@
-use Rattle.std.proofs.Common.{rules, ◌≡◌, ◌<◌, length, ap, sym, ◌∙◌, arith}
+use Rattle.std.proofs.Common.{rules, ◌≡◌, ◌<◌, length, ap, ◌∙◌}
 use Rattle.std.specs.Prelude.{max}
 use Rattle.index_region.specs.Common.{axis_at}
 use Rattle.selection_fns.proofs.Copies.{replicated_inside}
