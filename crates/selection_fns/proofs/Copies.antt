@@ -1,8 +1,10 @@
 -- Copies of the places of an axis.
-use Rattle.std.proofs.Common.{◌≡◌, ℕ, zero, suc, ◌+◌, ◌-◌, ◌*◌, ◌/◌, ◌<◌, ◌≤◌, Bool, true, false, nat_le, if◌then◌else◌, ◌&&◌, ◌||◌, nat_eq, Result, Ok, Err, List, [], ◌∷◌, length, get_or, set, replicate, insert, remove, refl, ap, sym, ◌∙◌, arith}
+use Rattle.std.proofs.Common.{◌≡◌, ℕ, zero, suc, ◌+◌, ◌-◌, ◌*◌, ◌/◌, ◌<◌, ◌≤◌, Bool, true, false, nat_le, if◌then◌else◌, ◌&&◌, ◌||◌, nat_eq, Result, Ok, Err, List, [], ◌∷◌, length, ◌++◌, map, take, drop, pos, unsigned_abs, get_or, set, replicate, insert, remove, refl, ap, sym, subst, ◌∙◌, arith}
 use Rattle.std.specs.Prelude.{max, sum}
 use Rattle.std.specs.List.{list_all}
 use Rattle.std.proofs.lemmas.Bool.Decides.{nat_tests}
+use Rattle.std.proofs.lemmas.List.{length-map, get_or-map, drop_more, map-id}
+use Rattle.std.proofs.lemmas.List.Sums.{sum-map, sum_by-cons}
 use Rattle.std.proofs.Math.Nat.{div-eq-sub-div, div-eq_of_lt}
 use Rattle.arrays_core.specs.declared.item.Item.{Item}
 use Rattle.arrays_core.specs.declared.item.ItemType.{ItemType}
@@ -13,7 +15,7 @@ use Rattle.arrays_core.specs.Arrays.{ArrayValue}
 use Rattle.arrays_core.specs.Shapes.{size, is_index_of}
 use Rattle.arrays_core.proofs.Shapes.{as_long, head_of}
 use Rattle.index_region.specs.declared.along.Along.{Along}
-use Rattle.index_region.specs.Common.{Form, check, limited, is_axis, axis_at, places_along, is_list, has_one_item, counts_as_numbers, none_negative, numbers}
+use Rattle.index_region.specs.Common.{Form, check, limited, is_axis, axis_at, places_along, is_list, has_one_item, counts_as_numbers, none_negative, numbers, number_of}
 use Rattle.index_region.specs.Answers.{IsPlaceOf, HasTypeOf}
 use Rattle.index_region.proofs.Passing.{passed, place_inside, typed_check, typed_limited}
 use Rattle.selection_fns.specs.Replicates.{times, maker, counts_checked, replicated_shape, replicate_form}
@@ -151,3 +153,77 @@ replicate_beyond along a b on pass below long =
     fits (n ∷ axes) zero h = omega arith
     fits (n ∷ []) (suc k) h = absurd (omega arith)
     fits (n ∷ m ∷ axes) (suc k) h = let rest = fits (m ∷ axes) k (omega arith) in omega arith
+
+sum_front : (x : ℕ) (xs : List ℕ) → sum (x ∷ xs) ≡ x + sum xs
+sum_front x xs =
+    let all = sum-map (λ n. n) (x ∷ xs) in
+    let rest = sum-map (λ n. n) xs in
+    sym (ap sum (map-id (x ∷ xs))) ∙ all ∙ sum_by-cons (λ n. n) x xs ∙ ap (λ n. x + n) (sym rest ∙ ap sum (map-id xs))
+
+pub maker_positive : (counts : List ℕ) (i : ℕ) → 1 ≤ maker counts i
+maker_positive [] i = omega arith
+maker_positive (count ∷ counts) i = either (nat_le i count) (maker counts (i - count))
+  where
+    either : (b : Bool) (m : ℕ) → 1 ≤ (if b then 1 else suc m)
+    either true m = omega arith
+    either false m = omega arith
+
+-- the copies of one place, behind those of the places before
+pub maker_run : (counts : List ℕ) (k i : ℕ) → k < length counts → sum (take k counts) < i → i ≤ sum (take k counts) + get_or counts k 0 → maker counts i ≡ k + 1
+maker_run [] k i below low high = absurd (omega arith)
+maker_run (count ∷ counts) zero i below low high =
+    let first : nat_le i count ≡ true = at_most i count high in
+    ap (λ (w : Bool). if w then 1 else suc (maker counts (i - count))) first
+  where
+    at_most : (i count : ℕ) → i ≤ 0 + count → nat_le i count ≡ true
+    at_most i count h = grind (arith, nat_tests)
+maker_run (count ∷ counts) (suc k) i below low high =
+    let least : count + sum (take k counts) < i = subst (λ n. n < i) (sum_front count (take k counts)) low in
+    let most : i ≤ count + sum (take k counts) + get_or counts k 0 = subst (λ n. i ≤ n + get_or counts k 0) (sum_front count (take k counts)) high in
+    let later : nat_le i count ≡ false = above i count (omega arith) in
+    let rest = maker_run counts k (i - count) (omega arith) (omega arith) (omega arith) in
+    ap (λ (w : Bool). if w then 1 else suc (maker counts (i - count))) later ∙ next _ rest
+  where
+    above : (i count : ℕ) → count < i → nat_le i count ≡ false
+    above i count h = grind (arith, nat_tests)
+
+    next : (m : ℕ) → m ≡ k + 1 → suc m ≡ suc k + 1
+    next m h = omega arith
+
+-- what is told of each entry of a list stays told where copies of a number follow
+pub told_run : (xs : List ℕ) (count x : ℕ) (f : ℕ → ℕ) → ((i : ℕ) → i < length xs → get_or xs i 0 + 1 ≡ f i) → ((j : ℕ) → j < count → x + 1 ≡ f (length xs + j))
+    → (i : ℕ) → i < length xs + count → get_or (xs ++ replicate count x) i 0 + 1 ≡ f i
+told_run [] zero x f before run i h = absurd (omega arith)
+told_run [] (suc count) x f before run zero h = run 0 (omega arith)
+told_run [] (suc count) x f before run (suc i) h = told_run [] count x (λ j. f (suc j)) (λ j k. absurd (omega arith)) (λ j k. run (suc j) (omega arith) ∙ ap f (let next : 0 + suc j ≡ suc (0 + j) = omega arith in next)) i (omega arith)
+told_run (y ∷ xs) count x f before run zero h = before 0 (omega arith)
+told_run (y ∷ xs) count x f before run (suc i) h =
+    told_run xs count x (λ j. f (suc j)) (λ j k. before (suc j) (omega arith)) (λ j k. run j k ∙ ap f (let next : suc (length xs) + j ≡ suc (length xs + j) = omega arith in next)) i (omega arith)
+
+-- one more of the counts
+pub record CountStep (a : ArrayValue) (k : ℕ) : Type 0 where
+  pub below : k < length (map unsigned_abs (numbers a))
+  pub at : get_or (map unsigned_abs (numbers a)) k 0 ≡ unsigned_abs (get_or (numbers a) k (pos 0))
+  pub rest : sum (drop k (map unsigned_abs (numbers a))) ≡ get_or (map unsigned_abs (numbers a)) k 0 + sum (drop (k + 1) (map unsigned_abs (numbers a)))
+  pub taken : sum (take (k + 1) (map unsigned_abs (numbers a))) ≡ sum (take k (map unsigned_abs (numbers a))) + get_or (map unsigned_abs (numbers a)) k 0
+
+sum_taken : (xs : List ℕ) (k : ℕ) → k < length xs → sum (take (suc k) xs) ≡ sum (take k xs) + get_or xs k 0
+sum_taken [] k h = absurd (omega arith)
+sum_taken (x ∷ xs) zero h = refl
+sum_taken (x ∷ xs) (suc k) h =
+    let rest = sum_taken xs k (omega arith) in
+    let whole : x + sum (take (suc k) xs) ≡ x + sum (take k xs) + get_or xs k 0 = omega arith in
+    sum_front x (take (suc k) xs) ∙ whole ∙ ap (λ n. n + get_or xs k 0) (sym (sum_front x (take k xs)))
+
+pub count_step : (a : ArrayValue) (k : ℕ) → k < length a.items → CountStep a k
+count_step a k h =
+    let counts = map unsigned_abs (numbers a) in
+    let long : length counts ≡ length a.items = length-map (numbers a) unsigned_abs ∙ length-map a.items number_of in
+    let whole : length (numbers a) ≡ length a.items = length-map a.items number_of in
+    let next : k + 1 ≡ suc k = omega arith in
+    record {
+      below = omega arith;
+      at = get_or-map unsigned_abs (numbers a) k (pos 0) 0 (omega arith);
+      rest = ap sum (drop_more counts k 0 (omega arith)) ∙ sum_front (get_or counts k 0) (drop (k + 1) counts);
+      taken = rw next (sum_taken counts k (omega arith));
+    }
