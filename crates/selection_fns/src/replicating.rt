@@ -1,6 +1,6 @@
 //! Replicate: the places of an axis, each as often as its count.
 
-ghost use Rattle.std.specs.Prelude.{◌≡◌, ◌<◌, ◌≤◌, ◌+◌, ◌-◌, ◌*◌, ◌++◌, ℕ, All, Ok, IsTrue, OnOk, IfOk, IfErr, Result, Err, unsigned_abs, length, map, max, sum, insert, remove, replicate, set, get_or};
+ghost use Rattle.std.specs.Prelude.{◌≡◌, ◌<◌, ◌≤◌, ◌+◌, ◌-◌, ◌*◌, ◌++◌, ℕ, All, Ok, Some, IsTrue, OnOk, IfOk, IfErr, Result, Err, unsigned_abs, length, map, max, sum, insert, remove, replicate, set, get_or};
 ghost use Rattle.arrays_core.specs.declared.item.Kind.{Kind as AKind};
 ghost use Rattle.arrays_core.specs.declared.item.Kind.TheVariants.{Limit};
 ghost use Rattle.arrays_core.specs.Arrays.{IsAnswerTo};
@@ -17,7 +17,9 @@ const LONGEST_AXIS: u64 = 1_048_576;
 
 /// How many places an axis has; a scalar has one.
 fn places_along(axes: &[u32], axis: usize) -> u32
-    ensures { result ≡ places_on axes.now axis }
+    requires { All (λ n. n ≤ 1048576) axes.now }
+    ensures is { result ≡ places_on axes.now axis }
+    ensures within { result ≤ 1048576 }
 {
     if axis < axes.len() { axes[axis] } else { 1 }
 }
@@ -188,17 +190,24 @@ fn counts_copied(alloc: Global, counts: &Seen, total: u32) -> Result<Vec<u32>, A
 }
 
 /// How many places come before that of each copy.
-fn places_copied(alloc: Global, counts: &Seen, places: u32, total: u32) -> Result<Vec<u32>, AllocError>
+fn places_copied(
+    alloc: Global,
+    counts: &Seen,
+    places: u32,
+    total: u32,
+) -> Result<Vec<u32>, AllocError>
     requires total { total ≡ sum (times counts.now places) }
     requires within { total ≤ 1048576 }
     ensures long { IfOk result (λ before. length before.items ≡ total) }
     ensures is { IfOk result (λ before. (i : ℕ) → i < total → get_or before.items i 0 + 1 ≡ place_copied counts.now places (i + 1)) }
+    ensures few { length counts.now.items ≤ 1048576 }
 {
+    let is_single = counts.places() == 1;
     if places == 1 {
         let zeros = vec![in alloc; 0; total as usize]?;
         return Ok(zeros);
     }
-    if counts.places() == 1 {
+    if is_single {
         return each_copied(alloc, counts.number(1).unsigned_abs(), places, total);
     }
     counts_copied(alloc, counts, total)
@@ -220,10 +229,10 @@ fn copied_index(alloc: Global, counts: &Seen, axes: &[u32], axis: usize, index: 
 fn index_of_copy(alloc: Global, axis: usize, before: &[u32], index: &[u32]) -> Shape
     requires rank { length index.now ≤ 4 }
     requires there { axis < length index.now }
-    requires low { 1 ≤ get_or index.now axis 1 }
-    requires high { get_or index.now axis 1 ≤ length before.now }
+    requires low { 1 ≤ get_or index.now axis 0 }
+    requires high { get_or index.now axis 0 ≤ length before.now }
     requires within { All (λ n. n ≤ 1048576) before.now }
-    ensures { result.items ≡ set index.now axis (get_or before.now (get_or index.now axis 1 - 1) 0 + 1) }
+    ensures { result.items ≡ set index.now axis (get_or before.now (get_or index.now axis 0 - 1) 0 + 1) }
 {
     let mut at = shape_of(alloc, index);
     at[axis] = before[(index[axis] - 1) as usize] + 1;
@@ -317,6 +326,22 @@ struct CopyRule<'a, 'b, 'c> {
     ghost within: { All (λ n. n ≤ 1048576) before.now },
 }
 
+impl<'a, 'b, 'c> CopyRule<'a, 'b, 'c> {
+    /// The index list of the array itself, of one of the result.
+    fn index_of(&self, index: &[u32]) -> Shape
+        requires { IsTrue (is_index_of self.now.shape.now.items index.now) }
+        ensures { Some (1, result.items) ≡ replicate_source self.now.replicate.along self.now.counts.now self.now.array.now index.now }
+    {
+        let axes = self.array.shape();
+        let alloc = *axes.allocator();
+        if axes.is_empty() {
+            return shape_of(alloc, &[]);
+        }
+        let axis = self.replicate.along.axis_at(axes.len() as u32);
+        index_of_copy(alloc, axis, self.before, index)
+    }
+}
+
 impl<'a, 'b, 'c> ItemRule for CopyRule<'a, 'b, 'c> {
     ghost result_shape = { λ r. r.shape.now.items };
 
@@ -325,15 +350,10 @@ impl<'a, 'b, 'c> ItemRule for CopyRule<'a, 'b, 'c> {
     ghost item = { λ r index. replicate_item r.replicate.along r.counts.now r.array.now index };
 
     fn item_at(&self, index: &[u32]) -> Result<Item, Kind> {
-        let axes = self.array.shape();
-        let alloc = *axes.allocator();
-        let mut at = shape_of(alloc, &[]);
-        if !axes.is_empty() {
-            let axis = self.replicate.along.axis_at(axes.len() as u32);
-            at = index_of_copy(alloc, axis, self.before, index);
-        }
+        let array = self.array;
+        let at = self.index_of(index);
         let source = Source::Place { arg: 1, at };
-        Ok(item_from(self.array, self.array, self.array.item_type(), source))
+        Ok(item_from(array, array, array.item_type(), source))
     }
 }
 
