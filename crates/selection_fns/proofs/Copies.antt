@@ -1,22 +1,25 @@
 -- Copies of the places of an axis.
-use Rattle.std.proofs.Common.{◌≡◌, ℕ, zero, suc, ◌+◌, ◌-◌, ◌*◌, ◌/◌, ◌<◌, ◌≤◌, Bool, true, false, nat_le, if◌then◌else◌, ◌&&◌, ◌||◌, nat_eq, Result, Ok, Err, List, [], ◌∷◌, length, get_or, set, replicate, insert, remove, refl, ap, sym, ◌∙◌, arith}
+use Rattle.std.proofs.Common.{◌≡◌, ℕ, zero, suc, ◌+◌, ◌-◌, ◌*◌, ◌/◌, ◌<◌, ◌≤◌, Bool, true, false, nat_le, if◌then◌else◌, ◌&&◌, ◌||◌, nat_eq, All, Some, Result, Ok, Err, List, [], ◌∷◌, length, ◌++◌, map, take, drop, pos, negsuc, int_le, unsigned_abs, get_or, set, replicate, insert, remove, refl, ap, sym, subst, ◌∙◌, arith}
 use Rattle.std.specs.Prelude.{max, sum}
 use Rattle.std.specs.List.{list_all}
 use Rattle.std.proofs.lemmas.Bool.Decides.{nat_tests}
+use Rattle.std.proofs.lemmas.List.{length-map, get_or-map, drop_more, map-id, get_or_default, length-replicate}
+use Rattle.std.proofs.lemmas.List.Sums.{sum-map, sum_by-cons}
 use Rattle.std.proofs.Math.Nat.{div-eq-sub-div, div-eq_of_lt}
 use Rattle.arrays_core.specs.declared.item.Item.{Item}
 use Rattle.arrays_core.specs.declared.item.ItemType.{ItemType}
 use Rattle.arrays_core.specs.declared.item.Kind.{Kind}
 use Rattle.arrays_core.specs.declared.item.Kind.TheVariants.{Axis, Length, Domain, Limit}
 use Rattle.arrays_core.specs.Items.{type_of}
-use Rattle.arrays_core.specs.Arrays.{ArrayValue}
+use Rattle.arrays_core.specs.Arrays.{ArrayValue, item_of}
 use Rattle.arrays_core.specs.Shapes.{size, is_index_of}
 use Rattle.arrays_core.proofs.Shapes.{as_long, head_of}
 use Rattle.index_region.specs.declared.along.Along.{Along}
-use Rattle.index_region.specs.Common.{Form, check, limited, is_axis, axis_at, places_along, is_list, has_one_item, counts_as_numbers, none_negative, numbers}
+use Rattle.index_region.specs.declared.along.Along.TheVariants as along
+use Rattle.index_region.specs.Common.{Form, Source, check, limited, is_axis, axis_at, places_along, is_list, has_one_item, counts_as_numbers, none_negative, numbers, number_of}
 use Rattle.index_region.specs.Answers.{IsPlaceOf, HasTypeOf}
-use Rattle.index_region.proofs.Passing.{passed, place_inside, typed_check, typed_limited}
-use Rattle.selection_fns.specs.Replicates.{times, maker, counts_checked, replicated_shape, replicate_form}
+use Rattle.index_region.proofs.Passing.{passed, place_inside, typed_check, typed_limited, gives, limited_gives}
+use Rattle.selection_fns.specs.Replicates.{times, maker, counts_checked, copied_place, replicated_shape, replicate_form, replicate_source}
 
 -- the place that makes a copy where each is copied as often
 pub each_maker : (n count i : ℕ) → 1 ≤ i → i ≤ n * count → (i - 1) / count + 1 ≡ maker (replicate n count) i
@@ -151,3 +154,211 @@ replicate_beyond along a b on pass below long =
     fits (n ∷ axes) zero h = omega arith
     fits (n ∷ []) (suc k) h = absurd (omega arith)
     fits (n ∷ m ∷ axes) (suc k) h = let rest = fits (m ∷ axes) k (omega arith) in omega arith
+
+sum_front : (x : ℕ) (xs : List ℕ) → sum (x ∷ xs) ≡ x + sum xs
+sum_front x xs =
+    let all = sum-map (λ n. n) (x ∷ xs) in
+    let rest = sum-map (λ n. n) xs in
+    sym (ap sum (map-id (x ∷ xs))) ∙ all ∙ sum_by-cons (λ n. n) x xs ∙ ap (λ n. x + n) (sym rest ∙ ap sum (map-id xs))
+
+pub maker_positive : (counts : List ℕ) (i : ℕ) → 1 ≤ maker counts i
+maker_positive [] i = omega arith
+maker_positive (count ∷ counts) i = either (nat_le i count) (maker counts (i - count))
+  where
+    either : (b : Bool) (m : ℕ) → 1 ≤ (if b then 1 else suc m)
+    either true m = omega arith
+    either false m = omega arith
+
+-- the copies of one place, behind those of the places before
+pub maker_run : (counts : List ℕ) (k i : ℕ) → k < length counts → sum (take k counts) < i → i ≤ sum (take k counts) + get_or counts k 0 → maker counts i ≡ k + 1
+maker_run [] k i below low high = absurd (omega arith)
+maker_run (count ∷ counts) zero i below low high =
+    let first : nat_le i count ≡ true = at_most i count high in
+    ap (λ (w : Bool). if w then 1 else suc (maker counts (i - count))) first
+  where
+    at_most : (i count : ℕ) → i ≤ 0 + count → nat_le i count ≡ true
+    at_most i count h = grind (arith, nat_tests)
+maker_run (count ∷ counts) (suc k) i below low high =
+    let least : count + sum (take k counts) < i = subst (λ n. n < i) (sum_front count (take k counts)) low in
+    let most : i ≤ count + sum (take k counts) + get_or counts k 0 = subst (λ n. i ≤ n + get_or counts k 0) (sum_front count (take k counts)) high in
+    let later : nat_le i count ≡ false = above i count (omega arith) in
+    let rest = maker_run counts k (i - count) (omega arith) (omega arith) (omega arith) in
+    ap (λ (w : Bool). if w then 1 else suc (maker counts (i - count))) later ∙ next _ rest
+  where
+    above : (i count : ℕ) → count < i → nat_le i count ≡ false
+    above i count h = grind (arith, nat_tests)
+
+    next : (m : ℕ) → m ≡ k + 1 → suc m ≡ suc k + 1
+    next m h = omega arith
+
+-- what is told of each entry of a list stays told where copies of a number follow
+pub told_run : (xs : List ℕ) (count x : ℕ) (f : ℕ → ℕ) → ((i : ℕ) → i < length xs → get_or xs i 0 + 1 ≡ f i) → ((j : ℕ) → j < count → x + 1 ≡ f (length xs + j))
+    → (i : ℕ) → i < length xs + count → get_or (xs ++ replicate count x) i 0 + 1 ≡ f i
+told_run [] zero x f before run i h = absurd (omega arith)
+told_run [] (suc count) x f before run zero h = run 0 (omega arith)
+told_run [] (suc count) x f before run (suc i) h = told_run [] count x (λ j. f (suc j)) (λ j k. absurd (omega arith)) (λ j k. run (suc j) (omega arith) ∙ ap f (let next : 0 + suc j ≡ suc (0 + j) = omega arith in next)) i (omega arith)
+told_run (y ∷ xs) count x f before run zero h = before 0 (omega arith)
+told_run (y ∷ xs) count x f before run (suc i) h =
+    told_run xs count x (λ j. f (suc j)) (λ j k. before (suc j) (omega arith)) (λ j k. run j k ∙ ap f (let next : suc (length xs) + j ≡ suc (length xs + j) = omega arith in next)) i (omega arith)
+
+-- one more of the counts
+pub record CountStep (a : ArrayValue) (k : ℕ) : Type 0 where
+  pub below : k < length (map unsigned_abs (numbers a))
+  pub at : get_or (map unsigned_abs (numbers a)) k 0 ≡ unsigned_abs (get_or (numbers a) k (pos 0))
+  pub rest : sum (drop k (map unsigned_abs (numbers a))) ≡ get_or (map unsigned_abs (numbers a)) k 0 + sum (drop (k + 1) (map unsigned_abs (numbers a)))
+  pub taken : sum (take (k + 1) (map unsigned_abs (numbers a))) ≡ sum (take k (map unsigned_abs (numbers a))) + get_or (map unsigned_abs (numbers a)) k 0
+
+sum_taken : (xs : List ℕ) (k : ℕ) → k < length xs → sum (take (suc k) xs) ≡ sum (take k xs) + get_or xs k 0
+sum_taken [] k h = absurd (omega arith)
+sum_taken (x ∷ xs) zero h = refl
+sum_taken (x ∷ xs) (suc k) h =
+    let rest = sum_taken xs k (omega arith) in
+    let whole : x + sum (take (suc k) xs) ≡ x + sum (take k xs) + get_or xs k 0 = omega arith in
+    sum_front x (take (suc k) xs) ∙ whole ∙ ap (λ n. n + get_or xs k 0) (sym (sum_front x (take k xs)))
+
+pub count_step : (a : ArrayValue) (k : ℕ) → k < length a.items → CountStep a k
+count_step a k h =
+    let counts = map unsigned_abs (numbers a) in
+    let long : length counts ≡ length a.items = length-map (numbers a) unsigned_abs ∙ length-map a.items number_of in
+    let whole : length (numbers a) ≡ length a.items = length-map a.items number_of in
+    let next : k + 1 ≡ suc k = omega arith in
+    record {
+      below = omega arith;
+      at = get_or-map unsigned_abs (numbers a) k (pos 0) 0 (omega arith);
+      rest = ap sum (drop_more counts k 0 (omega arith)) ∙ sum_front (get_or counts k 0) (drop (k + 1) counts);
+      taken = rw next (sum_taken counts k (omega arith));
+    }
+
+-- where replicate gives a form, the array has that axis, and the form is the shape of the copies
+pub record ReplicateGives (along : Along) (a b : ArrayValue) (shape : List ℕ) (item_type : ItemType) : Type 0 where
+  pub axis : is_axis (max 1 (length b.shape)) along ≡ true
+  pub shaped : shape ≡ replicated_shape a b.shape (axis_at (max 1 (length b.shape)) along)
+  pub typed : item_type ≡ b.item_type
+
+pub replicate_gives : (along : Along) (a b : ArrayValue) (shape : List ℕ) (item_type : ItemType) → replicate_form along a b ≡ Ok (shape, item_type)
+    → ReplicateGives along a b shape item_type
+replicate_gives along a b shape item_type form =
+    let rank = max 1 (length b.shape) in
+    let axis = axis_at rank along in
+    let n = places_along b.shape axis in
+    let axes = gives (is_axis rank along) _ _ (shape, item_type) form in
+    let ranks = gives (is_list a) _ _ (shape, item_type) axes.is in
+    let lengths = gives (has_one_item a || (nat_eq n 1 || nat_eq (length a.items) n)) _ _ (shape, item_type) ranks.is in
+    let counted = gives (counts_as_numbers a && none_negative (numbers a)) _ _ (shape, item_type) lengths.is in
+    let asked = limited_gives (replicated_shape a b.shape axis) b.item_type (shape, item_type) counted.is in
+    record { axis = axes.test; shaped = ap (λ (f : Form). f.0) asked; typed = ap (λ (f : Form). f.1) asked }
+
+-- an axis below the rank, where the array has one
+pub axis_below : (along : Along) (rank : ℕ) → 0 < rank → is_axis rank along ≡ true → axis_at rank along < rank
+axis_below along.First rank some h = omega arith
+axis_below along.Last rank some h = omega arith
+axis_below (along.Axis (pos k)) rank some h = let parts = and_both (int_le (pos 1) (pos k)) (nat_le k rank) h in below k (nat_of parts.0) (nat_low parts.1)
+  where
+    and_both : (v w : Bool) → (v && w) ≡ true → (v ≡ true) × (w ≡ true)
+    and_both true w h = (refl, h)
+    and_both false w h = let no : ⊥ = cc in absurd no
+
+    nat_of : nat_le 1 k ≡ true → 1 ≤ k
+    nat_of h = grind (arith, nat_tests)
+
+    nat_low : nat_le k rank ≡ true → k ≤ rank
+    nat_low h = grind (arith, nat_tests)
+
+    below : (k : ℕ) → 1 ≤ k → k ≤ rank → k - 1 < rank
+    below k low high = omega arith
+axis_below (along.Axis (negsuc k)) rank some h = let no : ⊥ = cc in absurd no
+
+-- what is known of an index list of the copies, where the array has axes
+pub record CopyFacts (along : Along) (a b : ArrayValue) (index : List ℕ) (k : ℕ) : Type 0 where
+  pub axis : k ≡ axis_at (max 1 (length b.shape)) along
+  pub below : k < length b.shape
+  pub copied : IsCopied b.shape k (sum (times a (places_along b.shape k))) index
+
+pub copy_facts : (along : Along) (a b : ArrayValue) (shape : List ℕ) (item_type : ItemType) (index : List ℕ) (k : ℕ) → 0 < length b.shape
+    → replicate_form along a b ≡ Ok (shape, item_type) → is_index_of shape index ≡ true → k ≡ axis_at (length b.shape) along → CopyFacts along a b index k
+copy_facts along a b shape item_type index k some form inside is =
+    let known = replicate_gives along a b shape item_type form in
+    let rank : max 1 (length b.shape) ≡ length b.shape = greatest (length b.shape) some in
+    let axis : k ≡ axis_at (max 1 (length b.shape)) along = is ∙ ap (λ n. axis_at n along) (sym rank) in
+    let below : k < length b.shape = subst (λ m. m < length b.shape) (sym is) (axis_below along (length b.shape) some (subst (λ n. is_axis n along ≡ true) rank known.axis)) in
+    record {
+      axis = axis;
+      below = below;
+      copied = is_copied b.shape k _ index below (subst (λ m. is_index_of (replicated_shape a b.shape m) index ≡ true) (sym axis) (subst (λ s. is_index_of s index ≡ true) known.shaped inside));
+    }
+  where
+    greatest : (n : ℕ) → 0 < n → max 1 n ≡ n
+    greatest n h = omega arith
+
+-- where a copy comes from
+pub copy_source : (along : Along) (a b : ArrayValue) (index before : List ℕ) (k : ℕ) → 0 < length b.shape → CopyFacts along a b index k
+    → length before ≡ sum (times a (places_along b.shape k))
+    → ((i : ℕ) → i < length before → get_or before i 0 + 1 ≡ copied_place a (places_along b.shape k) (i + 1))
+    → Some (1, set index k (get_or before (get_or index k 0 - 1) 0 + 1)) ≡ replicate_source along a b index
+copy_source along a b index before k some facts long is =
+    let low = facts.copied.low in
+    let high = facts.copied.high in
+    let within = facts.copied.long in
+    let below = facts.below in
+    let i = get_or index k 0 - 1 in
+    let again : i + 1 ≡ get_or index k 0 = omega arith in
+    let there : get_or index k 0 ≡ get_or index k 1 = get_or_default index k 0 1 (omega arith) in
+    let place : get_or before i 0 + 1 ≡ copied_place a (places_along b.shape k) (get_or index k 1) =
+    is i (omega arith) ∙ ap (λ j. copied_place a (places_along b.shape k) j) (again ∙ there) in
+    let array : nat_eq (length b.shape) 0 ≡ false = positive (length b.shape) some in
+    ap (λ p. Some (1, set index k p)) place
+    ∙ ap (λ m. Some (1, set index m (copied_place a (places_along b.shape m) (get_or index m 1)))) facts.axis
+    ∙ sym (ap (λ (w : Bool). source_of w) array)
+  where
+    source_of : Bool → Source
+    source_of w =
+        let axis = axis_at (max 1 (length b.shape)) along in
+        Some (1, if w then [] else set index axis (copied_place a (places_along b.shape axis) (get_or index axis 1)))
+
+    positive : (n : ℕ) → 0 < n → nat_eq n 0 ≡ false
+    positive n h = grind (arith, nat_tests)
+
+-- no place before a copy is beyond the limits of arrays
+pub copies_within : (a : ArrayValue) (n total : ℕ) (before : List ℕ) → n ≤ 1048576 → length a.items ≤ 1048576 → length before ≡ total
+    → ((i : ℕ) → i < total → get_or before i 0 + 1 ≡ copied_place a n (i + 1)) → All (λ m. m ≤ 1048576) before
+copies_within a n total before places counts long is =
+    λ k d h.
+    let there : get_or before k d ≡ get_or before k 0 = get_or_default before k d 0 h in
+    let place = is k (omega (arith, long, h)) in
+    let most = copied_most (nat_eq n 1) (has_one_item a) (k + 1) in
+    omega (arith, there, place, most)
+  where
+    maker_most : (cs : List ℕ) (i : ℕ) → maker cs i ≤ length cs + 1
+    maker_most [] i = omega arith
+    maker_most (c ∷ cs) i = let rest = maker_most cs (i - c) in either (nat_le i c) (maker cs (i - c)) rest
+      where
+        either : (b : Bool) (m : ℕ) → m ≤ length cs + 1 → (if b then 1 else suc m) ≤ suc (length cs) + 1
+        either true m h = omega arith
+        either false m h = omega arith
+
+    copied_most : (v w : Bool) (i : ℕ) → (if v then 1 else maker (if w then replicate n (unsigned_abs (number_of (item_of a []))) else map unsigned_abs (numbers a)) i) ≤ 1048577
+    copied_most true w i = omega arith
+    copied_most false true i = let most = maker_most (replicate n (unsigned_abs (number_of (item_of a [])))) i in let long = length-replicate n (unsigned_abs (number_of (item_of a []))) in omega arith
+    copied_most false false i =
+        let most = maker_most (map unsigned_abs (numbers a)) i in
+        let long : length (map unsigned_abs (numbers a)) ≡ length a.items = length-map (numbers a) unsigned_abs ∙ length-map a.items number_of in
+        omega arith
+
+-- the axis of the copies has as many places as there are
+pub record IsExchanged (shape : List ℕ) (k places : ℕ) : Type 0 where
+  pub there : k < length (insert (remove shape k) k places)
+  pub is : get_or (insert (remove shape k) k places) k 0 ≡ places
+
+pub exchanged_there : (along : Along) (shape : List ℕ) (places : ℕ) → is_axis (max 1 (length shape)) along ≡ true
+    → IsExchanged shape (axis_at (max 1 (length shape)) along) places
+exchanged_there along shape places h = at shape (axis_at (max 1 (length shape)) along) (axis_below along (max 1 (length shape)) (omega arith) h)
+  where
+    at : (shape : List ℕ) (k : ℕ) → k < max 1 (length shape) → IsExchanged shape k places
+    at [] zero h = record { there = omega arith; is = refl }
+    at [] (suc k) h = absurd (omega arith)
+    at (n ∷ shape) zero h = record { there = omega arith; is = refl }
+    at (n ∷ []) (suc k) h = absurd (omega arith)
+    at (n ∷ m ∷ shape) (suc k) h =
+        let rest = at (m ∷ shape) k (omega arith) in
+        let there = rest.there in
+        record { there = omega arith; is = rest.is }
