@@ -1,5 +1,4 @@
-use Rattle.std.proofs.Common.{◌≡◌, ℕ, suc, ◌+◌, ◌-◌, ◌<◌, length, get_or, drop, ◌++◌, List, Option, Some, None, Result, Ok, Err, IfOk, ◌∙◌, ap, sym, subst, map, rules, arith}
-use Rattle.apl_expr.specs.declared.expr.Expr.{Expr}
+use Rattle.std.proofs.Common.{◌≡◌, ◌+◌, ◌-◌, ◌<◌, length, get_or, drop, List, Some, None, Result, Ok, Err, IfOk, ◌∙◌, ap, sym, subst, map, rules}
 use Rattle.apl_expr.specs.Trees.{Tree, tree_of, position_of, positions_of}
 use Rattle.apl_expr.proofs.Rows.{tree_index}
 use Rattle.selection_fns.specs.Indexes.{Position}

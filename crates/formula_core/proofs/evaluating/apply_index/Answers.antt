@@ -1,6 +1,6 @@
-use Rattle.std.proofs.Common.{◌≡◌, sym, subst, ap, ◌∙◌, map, IfOk, Ok, List, Option}
+use Rattle.std.proofs.Common.{◌≡◌, sym, subst, map, IfOk, Ok}
 use Rattle.arrays_core.specs.Arrays.{IsAnswerTo, ArrayValue}
-use Rattle.selection_fns.specs.Indexes.{Position, index_whole}
+use Rattle.selection_fns.specs.Indexes.{index_whole}
 use Rattle.formula_core.specs.Operands.{outcome_of, array_in, position_in, positions_in}
 use Rattle.formula_core.specs.Meaning.{indexed}
 use Rattle.formula_core.proofs.evaluating.apply_index.Goals as goal

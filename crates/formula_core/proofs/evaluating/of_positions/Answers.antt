@@ -1,8 +1,7 @@
-use Rattle.std.proofs.Common.{rules, ◌≡◌, ◌≤◌, ℕ, ◌+◌, suc, length, take, drop, map, get_or, ◌++◌, List, [], ◌∷◌, Bool, true, false, Option, Some, None, ap, sym, ◌∙◌, arith}
-use Rattle.std.proofs.lemmas.List.{length_push, length-drop}
+use Rattle.std.proofs.Common.{rules, ◌≡◌, length, drop, ◌++◌, List, [], ◌∷◌, Bool, true, false, Some, None, ap, sym, ◌∙◌, arith}
+use Rattle.std.proofs.lemmas.List.{length-drop}
 use Rattle.arrays_core.specs.Arrays.{ArrayValue}
 use Rattle.selection_fns.specs.Indexes.{Position, positions_of, count_written}
-use Rattle.formula_core.specs.declared.evaluating.Operand.{Operand}
 use Rattle.formula_core.specs.Operands.{position_in, array_in}
 use Rattle.formula_core.proofs.Indexing.{given_written, given_empty, count_more, count_same, taken_more, dropped_first, first_stays}
 use Rattle.formula_core.proofs.evaluating.of_positions.Goals as goal
