@@ -1,4 +1,4 @@
-//! The same look-ups in plain Rust, by the standard library's map and set.
+//! The same in plain Rust: look-ups by the standard library's map and set, items picked by a checked index, and runs of copies.
 use std::collections::{HashMap, HashSet};
 use std::hint::black_box;
 use std::time::Instant;
@@ -26,6 +26,28 @@ fn membership(sought: &[i64], list: &[i64]) -> Vec<i64> {
     sought.iter().map(|number| i64::from(items.contains(number))).collect()
 }
 
+fn indices() -> Vec<i64> {
+    let mut number: i64 = 3;
+    (0..1000000)
+        .map(|_| {
+            number = number.wrapping_mul(6364136223846793005).wrapping_add(1442695040888963407);
+            (number >> 33).wrapping_abs() % 1000000 + 1
+        })
+        .collect()
+}
+
+fn index(list: &[i64], places: &[i64]) -> Vec<i64> {
+    places.iter().map(|place| list[*place as usize - 1]).collect()
+}
+
+fn replicate(counts: &[i64], list: &[i64]) -> Vec<i64> {
+    let mut copies = Vec::with_capacity(counts.iter().sum::<i64>() as usize);
+    for (count, number) in counts.iter().zip(list) {
+        copies.extend(std::iter::repeat_n(*number, *count as usize));
+    }
+    copies
+}
+
 fn time(name: &str, run: impl Fn() -> Vec<i64>) {
     let mut least = u128::MAX;
     let mut end = 0;
@@ -33,7 +55,7 @@ fn time(name: &str, run: impl Fn() -> Vec<i64>) {
         let start = Instant::now();
         let made = black_box(run());
         least = least.min(start.elapsed().as_nanos());
-        end = made.iter().sum::<i64>();
+        end = made.iter().fold(0i64, |sum, number| sum.wrapping_add(*number));
     }
     println!("{name} {least} {end}");
 }
@@ -43,4 +65,8 @@ fn main() {
     let sought = black_box(numbers(2));
     time("index-of", || index_of(&list, &sought));
     time("membership", || membership(&sought, &list));
+    let places = black_box(indices());
+    let counts = black_box((0..1000000).map(|k| k % 3).collect::<Vec<i64>>());
+    time("index", || index(&list, &places));
+    time("replicate", || replicate(&counts, &list));
 }
