@@ -13,3 +13,4 @@ pub mod PickCases
 pub mod SearchCases
 pub mod DigitCases
 pub mod Vectors
+pub mod Picked

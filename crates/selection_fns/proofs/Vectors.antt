@@ -1,18 +1,17 @@
 -- A vector at the indices of one position.
-use Rattle.std.proofs.Common.{◌≡◌, ℕ, zero, suc, ◌+◌, ◌-◌, ◌*◌, ◌<◌, ◌≤◌, ℤ, pos, unsigned_abs, Bool, true, false, nat_le, ◌&&◌, List, [], ◌∷◌, ◌++◌, map, length, take, drop, get_or, Option, Some, None, Result, Ok, Err, refl, ap, sym, subst, ◌∙◌, append-nil, arith}
+use Rattle.std.proofs.Common.{◌≡◌, ℕ, zero, suc, ◌+◌, ◌-◌, ◌*◌, ◌<◌, ◌≤◌, ℤ, pos, unsigned_abs, Bool, true, false, nat_le, ◌&&◌, List, [], ◌∷◌, map, length, take, get_or, Some, Ok, refl, ap, sym, subst, ◌∙◌, append-nil, arith}
 use Rattle.std.specs.Prelude.{nat_eq, not, unwrap_or}
 use Rattle.std.specs.List.{list_all}
 use Rattle.std.proofs.lemmas.Bool.Decides.{nat_tests}
 use Rattle.std.proofs.lemmas.List.{length-map, take_all, get_or-map}
 use Rattle.arrays_core.specs.declared.item.Item.{Item}
 use Rattle.arrays_core.specs.declared.item.ItemType.{ItemType}
-use Rattle.arrays_core.specs.declared.item.Kind.{Kind}
 use Rattle.arrays_core.specs.Items.{fill}
-use Rattle.arrays_core.specs.Shapes.{size, index_after, places_before, is_index_of}
+use Rattle.arrays_core.specs.Shapes.{size, index_after}
 use Rattle.arrays_core.specs.Arrays.{ArrayValue, item_of, item_if_there, collect, with_items}
 use Rattle.arrays_core.proofs.Shapes.{as_long}
 use Rattle.arrays_core.proofs.Order.{given_in_order, index_after-within, places_before-index_after}
-use Rattle.index_region.specs.Common.{Form, and_then, limited, numbers, number_of, is_scalar}
+use Rattle.index_region.specs.Common.{Form, and_then, numbers, number_of, is_scalar}
 use Rattle.index_region.proofs.Passing.{gives, limited_gives}
 use Rattle.selection_fns.specs.Indexes.{Position, count_written, positions_of, of_positions, are_numbers, are_on, is_place, indexed_shape, index_form, index_item, index_whole}
 use Rattle.selection_fns.proofs.Indexed.{positions_long}

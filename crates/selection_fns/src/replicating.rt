@@ -301,6 +301,10 @@ impl Replicate {
         let axis = self.along.axis_at(axes.len().max(1) as u32);
         let places = places_along(axes.as_slice(), axis);
         let before = places_copied(alloc, counts, places, shape[axis])?;
+        if axes.len() <= 1 {
+            let picked = array.picked(before.as_slice(), &shape)?;
+            return Ok(picked);
+        }
         let rule = CopyRule {
             replicate: self,
             counts,

@@ -1,4 +1,4 @@
-use Rattle.std.proofs.Common.{rules, ◌≡◌, ℕ, ◌+◌, ◌-◌, ◌<◌, ◌≤◌, List, [], ◌∷◌, ◌++◌, length, get_or, replicate, subst, sym, ap, ◌∙◌, arith}
+use Rattle.std.proofs.Common.{rules, ◌≡◌, ◌+◌, ◌-◌, ◌++◌, length, get_or, replicate, subst, sym, ap, ◌∙◌, arith}
 use Rattle.selection_fns.specs.Replicates.{maker}
 use Rattle.selection_fns.proofs.Copies.{maker_positive, told_run}
 use Rattle.selection_fns.proofs.replicating.each_copied.Goals as goal

@@ -1,13 +1,11 @@
-use Rattle.std.proofs.Common.{rules, ◌≡◌, ◌-◌, ℕ, suc, List, [], ◌∷◌, length, get_or, map, unsigned_abs, Some, Result, Ok, subst, sym, ap, ◌∙◌}
-use Rattle.std.specs.List.{list_all}
-use Rattle.arrays_core.specs.Shapes.{size}
+use Rattle.std.proofs.Common.{rules, ◌≡◌, ◌-◌, ℕ, List, [], ◌∷◌, length, get_or, map, unsigned_abs, Some, Ok, subst, sym, ap, ◌∙◌}
 use Rattle.arrays_core.specs.Items.{fill}
 use Rattle.arrays_core.specs.Arrays.{IsAnswerTo, ArrayValue}
 use Rattle.arrays_core.specs.declared.item.ItemType.{ItemType}
 use Rattle.index_region.specs.Common.{numbers}
-use Rattle.selection_fns.specs.Indexes.{Position, is_place, positions_of, of_positions, index_form, index_item, index_whole}
+use Rattle.selection_fns.specs.Indexes.{Position, of_positions, index_form, index_item, index_whole}
 use Rattle.selection_fns.proofs.Indexed.{whole_of_positions}
-use Rattle.selection_fns.proofs.Vectors.{IsVectorIndex, is_vector_index, picked_long, picked_whole}
+use Rattle.selection_fns.proofs.Vectors.{is_vector_index, picked_long, picked_whole}
 use Rattle.selection_fns.proofs.indexing.Index.apply.Goals as goal
 
 pub places_before-requires : goal.places_before-requires
