@@ -51,6 +51,14 @@ pub fn two_numbers(function: Scalar2, a: i64, b: i64) -> Result<i64, Kind>
     }
 }
 
+impl TwoNumbers for Scalar2 {
+    ghost gives = { λ f. of_two f };
+
+    fn at(&self, a: i64, b: i64) -> Result<i64, Kind> {
+        two_numbers(*self, a, b)
+    }
+}
+
 /// A scalar function of a list of numbers, place by place.
 pub(crate) fn on_numbers(
     alloc: Global,

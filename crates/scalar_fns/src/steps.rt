@@ -17,12 +17,13 @@ pub(crate) trait OneNumber {
         ensures { result ≡ gives self.now b };
 }
 
-/// A function of two numbers.
-pub(crate) trait TwoNumbers {
-    ghost gives: { ℤ → ℤ → Result ℤ Kind };
+/// A function of two numbers: a number, or an error. It takes no memory.
+pub trait TwoNumbers {
+    ghost gives: { Self → ℤ → ℤ → Result ℤ Kind };
 
+    /// What the function gives for two numbers.
     fn at(&self, a: i64, b: i64) -> Result<i64, Kind>
-        ensures { result ≡ gives a b };
+        ensures { result ≡ gives self.now a b };
 }
 
 /// A function of two numbers with its left one given.
@@ -33,7 +34,7 @@ pub(crate) struct WithLeft<S> {
 }
 
 impl<S: TwoNumbers> OneNumber for WithLeft<S> {
-    ghost gives = { λ s b. S.gives s.left b };
+    ghost gives = { λ s b. S.gives s.step s.left b };
 
     fn at(&self, b: i64) -> Result<i64, Kind> {
         self.step.at(self.left, b)
@@ -48,7 +49,7 @@ pub(crate) struct WithRight<S> {
 }
 
 impl<S: TwoNumbers> OneNumber for WithRight<S> {
-    ghost gives = { λ s a. S.gives a s.right };
+    ghost gives = { λ s a. S.gives s.step a s.right };
 
     fn at(&self, a: i64) -> Result<i64, Kind> {
         self.step.at(a, self.right)
@@ -117,10 +118,10 @@ impl OneNumber for Not {
 
 /// The sum.
 #[derive(Clone, Copy)]
-pub(crate) struct Plus;
+pub struct Plus;
 
 impl TwoNumbers for Plus {
-    ghost gives = { of_two two.Plus };
+    ghost gives = { λ s. of_two two.Plus };
 
     fn at(&self, a: i64, b: i64) -> Result<i64, Kind> {
         in_range(a.checked_add(b))
@@ -129,10 +130,10 @@ impl TwoNumbers for Plus {
 
 /// The difference.
 #[derive(Clone, Copy)]
-pub(crate) struct Minus;
+pub struct Minus;
 
 impl TwoNumbers for Minus {
-    ghost gives = { of_two two.Minus };
+    ghost gives = { λ s. of_two two.Minus };
 
     fn at(&self, a: i64, b: i64) -> Result<i64, Kind> {
         in_range(a.checked_sub(b))
@@ -141,10 +142,10 @@ impl TwoNumbers for Minus {
 
 /// The product.
 #[derive(Clone, Copy)]
-pub(crate) struct Times;
+pub struct Times;
 
 impl TwoNumbers for Times {
-    ghost gives = { of_two two.Times };
+    ghost gives = { λ s. of_two two.Times };
 
     fn at(&self, a: i64, b: i64) -> Result<i64, Kind> {
         in_range(a.checked_mul(b))
@@ -153,10 +154,10 @@ impl TwoNumbers for Times {
 
 /// The quotient.
 #[derive(Clone, Copy)]
-pub(crate) struct Divide;
+pub struct Divide;
 
 impl TwoNumbers for Divide {
-    ghost gives = { of_two two.Divide };
+    ghost gives = { λ s. of_two two.Divide };
 
     fn at(&self, a: i64, b: i64) -> Result<i64, Kind> {
         quotient(a, b)
@@ -165,10 +166,10 @@ impl TwoNumbers for Divide {
 
 /// The power.
 #[derive(Clone, Copy)]
-pub(crate) struct Power;
+pub struct Power;
 
 impl TwoNumbers for Power {
-    ghost gives = { of_two two.Power };
+    ghost gives = { λ s. of_two two.Power };
 
     fn at(&self, a: i64, b: i64) -> Result<i64, Kind> {
         power(a, b)
@@ -177,10 +178,10 @@ impl TwoNumbers for Power {
 
 /// The residue.
 #[derive(Clone, Copy)]
-pub(crate) struct Residue;
+pub struct Residue;
 
 impl TwoNumbers for Residue {
-    ghost gives = { of_two two.Residue };
+    ghost gives = { λ s. of_two two.Residue };
 
     fn at(&self, a: i64, b: i64) -> Result<i64, Kind> {
         Ok(residue(a, b))
@@ -189,10 +190,10 @@ impl TwoNumbers for Residue {
 
 /// The greater.
 #[derive(Clone, Copy)]
-pub(crate) struct Maximum;
+pub struct Maximum;
 
 impl TwoNumbers for Maximum {
-    ghost gives = { of_two two.Maximum };
+    ghost gives = { λ s. of_two two.Maximum };
 
     fn at(&self, a: i64, b: i64) -> Result<i64, Kind> {
         Ok(a.max(b))
@@ -201,10 +202,10 @@ impl TwoNumbers for Maximum {
 
 /// The lesser.
 #[derive(Clone, Copy)]
-pub(crate) struct Minimum;
+pub struct Minimum;
 
 impl TwoNumbers for Minimum {
-    ghost gives = { of_two two.Minimum };
+    ghost gives = { λ s. of_two two.Minimum };
 
     fn at(&self, a: i64, b: i64) -> Result<i64, Kind> {
         Ok(a.min(b))
@@ -213,10 +214,10 @@ impl TwoNumbers for Minimum {
 
 /// Whether a is less.
 #[derive(Clone, Copy)]
-pub(crate) struct Less;
+pub struct Less;
 
 impl TwoNumbers for Less {
-    ghost gives = { of_two two.Less };
+    ghost gives = { λ s. of_two two.Less };
 
     fn at(&self, a: i64, b: i64) -> Result<i64, Kind> {
         Ok(truth(a < b))
@@ -225,10 +226,10 @@ impl TwoNumbers for Less {
 
 /// Whether a is not greater.
 #[derive(Clone, Copy)]
-pub(crate) struct LessOrEqual;
+pub struct LessOrEqual;
 
 impl TwoNumbers for LessOrEqual {
-    ghost gives = { of_two two.LessOrEqual };
+    ghost gives = { λ s. of_two two.LessOrEqual };
 
     fn at(&self, a: i64, b: i64) -> Result<i64, Kind> {
         Ok(truth(a <= b))
@@ -237,10 +238,10 @@ impl TwoNumbers for LessOrEqual {
 
 /// Whether they are equal.
 #[derive(Clone, Copy)]
-pub(crate) struct Equal;
+pub struct Equal;
 
 impl TwoNumbers for Equal {
-    ghost gives = { of_two two.Equal };
+    ghost gives = { λ s. of_two two.Equal };
 
     fn at(&self, a: i64, b: i64) -> Result<i64, Kind> {
         Ok(truth(a == b))
@@ -249,10 +250,10 @@ impl TwoNumbers for Equal {
 
 /// Whether a is not less.
 #[derive(Clone, Copy)]
-pub(crate) struct GreaterOrEqual;
+pub struct GreaterOrEqual;
 
 impl TwoNumbers for GreaterOrEqual {
-    ghost gives = { of_two two.GreaterOrEqual };
+    ghost gives = { λ s. of_two two.GreaterOrEqual };
 
     fn at(&self, a: i64, b: i64) -> Result<i64, Kind> {
         Ok(truth(a >= b))
@@ -261,10 +262,10 @@ impl TwoNumbers for GreaterOrEqual {
 
 /// Whether a is greater.
 #[derive(Clone, Copy)]
-pub(crate) struct Greater;
+pub struct Greater;
 
 impl TwoNumbers for Greater {
-    ghost gives = { of_two two.Greater };
+    ghost gives = { λ s. of_two two.Greater };
 
     fn at(&self, a: i64, b: i64) -> Result<i64, Kind> {
         Ok(truth(a > b))
@@ -273,10 +274,10 @@ impl TwoNumbers for Greater {
 
 /// Whether they differ.
 #[derive(Clone, Copy)]
-pub(crate) struct NotEqual;
+pub struct NotEqual;
 
 impl TwoNumbers for NotEqual {
-    ghost gives = { of_two two.NotEqual };
+    ghost gives = { λ s. of_two two.NotEqual };
 
     fn at(&self, a: i64, b: i64) -> Result<i64, Kind> {
         Ok(truth(a != b))
@@ -285,10 +286,10 @@ impl TwoNumbers for NotEqual {
 
 /// Both; both are looked at, so `0∧2` is DOMAIN.
 #[derive(Clone, Copy)]
-pub(crate) struct And;
+pub struct And;
 
 impl TwoNumbers for And {
-    ghost gives = { of_two two.And };
+    ghost gives = { λ s. of_two two.And };
 
     fn at(&self, a: i64, b: i64) -> Result<i64, Kind> {
         Ok(truth(as_truth(a)? & as_truth(b)?))
@@ -297,10 +298,10 @@ impl TwoNumbers for And {
 
 /// At least one; both are looked at.
 #[derive(Clone, Copy)]
-pub(crate) struct Or;
+pub struct Or;
 
 impl TwoNumbers for Or {
-    ghost gives = { of_two two.Or };
+    ghost gives = { λ s. of_two two.Or };
 
     fn at(&self, a: i64, b: i64) -> Result<i64, Kind> {
         Ok(truth(as_truth(a)? | as_truth(b)?))
@@ -309,10 +310,10 @@ impl TwoNumbers for Or {
 
 /// Not both; both are looked at.
 #[derive(Clone, Copy)]
-pub(crate) struct Nand;
+pub struct Nand;
 
 impl TwoNumbers for Nand {
-    ghost gives = { of_two two.Nand };
+    ghost gives = { λ s. of_two two.Nand };
 
     fn at(&self, a: i64, b: i64) -> Result<i64, Kind> {
         Ok(truth(!(as_truth(a)? & as_truth(b)?)))
@@ -321,10 +322,10 @@ impl TwoNumbers for Nand {
 
 /// Neither; both are looked at.
 #[derive(Clone, Copy)]
-pub(crate) struct Nor;
+pub struct Nor;
 
 impl TwoNumbers for Nor {
-    ghost gives = { of_two two.Nor };
+    ghost gives = { λ s. of_two two.Nor };
 
     fn at(&self, a: i64, b: i64) -> Result<i64, Kind> {
         Ok(truth(!(as_truth(a)? | as_truth(b)?)))

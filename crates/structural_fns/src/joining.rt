@@ -9,8 +9,7 @@ ghost use Rattle.index_region.specs.Common.{Form, has_items, is_scalar, of_two};
 ghost use Rattle.index_region.specs.Answers.{IsPlaceOf, source_value};
 ghost use Rattle.structural_fns.specs.Joins.{joined_rank as rank_joined, joined_places as places_joined, other_axes as axes_other, ranks_join as do_ranks_join, axes_agree as do_axes_agree, types_join as do_types_join, joined_type as type_joined, joined_shape as shape_joined, sides_checked, in_side as index_in_side, catenate_form, catenate_source, catenate_item, catenate_whole};
 
-use crate::lists::{with, without};
-use arrays_core::{ApplyFault, Array, Item, ItemType, Kind, Shape, shape_of};
+use arrays_core::{ApplyFault, Array, Item, ItemType, Kind, Shape, shape_of, with_axis, without_axis};
 use index_region::{Along, Primitive, Seen, Source, apply, limited};
 use std::alloc::{AllocError, Global};
 
@@ -43,7 +42,7 @@ fn other_axes(side: &Seen, rank: usize, axis: usize) -> Shape
     let shape = side.shape();
     let alloc = *shape.allocator();
     if shape.len() == rank {
-        without(alloc, shape.as_slice(), axis)
+        without_axis(alloc, shape.as_slice(), axis)
     } else {
         shape_of(alloc, shape.as_slice())
     }
@@ -136,7 +135,7 @@ fn joined_shape(left: &Seen, right: &Seen, rank: usize, axis: usize) -> Shape
 {
     let places = joined_places(left, rank, axis) + joined_places(right, rank, axis);
     let others = shared_axes(left, right, rank, axis);
-    with(*left.shape().allocator(), others.as_slice(), axis, places)
+    with_axis(*left.shape().allocator(), others.as_slice(), axis, places)
 }
 
 /// A side's index list at place i along the axis; a scalar is repeated over the others.
@@ -152,7 +151,7 @@ fn in_side(side: &Seen, rank: usize, axis: usize, index: &[u32], i: u32) -> Shap
         return shape_of(alloc, &[]);
     }
     if shape.len() != rank {
-        return without(alloc, index, axis);
+        return without_axis(alloc, index, axis);
     }
     let mut at = shape_of(alloc, index);
     at[axis] = i;

@@ -6,7 +6,6 @@ mod arranging;
 mod counts;
 mod dropping;
 mod joining;
-mod lists;
 mod magnitudes;
 mod ravelling;
 mod reshaping;

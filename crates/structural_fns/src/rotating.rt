@@ -8,8 +8,7 @@ ghost use Rattle.index_region.specs.Common.{Form, places_along, of_two};
 ghost use Rattle.index_region.specs.Answers.{IsPlaceOf, source_value};
 ghost use Rattle.structural_fns.specs.Turns.{lines_checked, rotate_form, rotation, rotated_place as place_rotated, rotate_source, rotate_item, rotate_whole};
 
-use crate::lists::without;
-use arrays_core::{ApplyFault, Array, Item, ItemType, Kind, Shape, position, shape_of};
+use arrays_core::{ApplyFault, Array, Item, ItemType, Kind, Shape, position, shape_of, without_axis};
 use index_region::{Along, Primitive, Seen, Source, apply, item_from, limited};
 use std::alloc::Global;
 
@@ -28,7 +27,7 @@ fn check_lines(amounts: &Seen, axes: &[u32], axis: usize) -> Result<(), Kind>
     if shape.len() + 1 != axes.len() {
         return Err(Kind::Rank);
     }
-    let lines = without(*shape.allocator(), axes, axis);
+    let lines = without_axis(*shape.allocator(), axes, axis);
     if shape.as_slice() != lines.as_slice() {
         return Err(Kind::Length);
     }
@@ -46,7 +45,7 @@ fn amount_at(amounts: &Seen, axis: usize, index: &[u32]) -> i64
         return amounts.number(1);
     }
     let shape = amounts.shape();
-    let line = without(*shape.allocator(), index, axis);
+    let line = without_axis(*shape.allocator(), index, axis);
     amounts.number(position(shape, line.as_slice()))
 }
 

@@ -10,7 +10,7 @@ use Rattle.scalar_fns.proofs.slices.on_pairs.Goals as goal
 
 pub loop-place-preserved : goal.loop-place-preserved
 loop-place-preserved g c =
-    let f = g.S.TwoNumbers.gives in
+    let f = (g.S.TwoNumbers.gives c.args.step.now) in
     let xs = c.args.left.now in
     let ys = c.args.right.now in
     let k = c.loop-place.place in
@@ -27,7 +27,7 @@ loop-place-preserved g c =
 
 pub returns-in_err-result-clause-is : goal.returns-in_err-result-clause-is
 returns-in_err-result-clause-is g c =
-    let f = g.S.TwoNumbers.gives in
+    let f = (g.S.TwoNumbers.gives c.args.step.now) in
     let xs = c.args.left.now in
     let ys = c.args.right.now in
     let k = c.loop-place.place in
@@ -41,5 +41,5 @@ pub returns-clause-is : goal.returns-clause-is
 returns-clause-is g c =
     let xs = c.args.left.now in
     let ys = c.args.right.now in
-    let long = length-results g.S.TwoNumbers.gives xs ys ∙ places_of_equal xs ys c.requires in
-    ap all_or_first_error (sym (take_all c.loop-place.place (results_by g.S.TwoNumbers.gives xs ys) (omega arith))) ∙ c.loop-place.invariant.made
+    let long = length-results (g.S.TwoNumbers.gives c.args.step.now) xs ys ∙ places_of_equal xs ys c.requires in
+    ap all_or_first_error (sym (take_all c.loop-place.place (results_by (g.S.TwoNumbers.gives c.args.step.now) xs ys) (omega arith))) ∙ c.loop-place.invariant.made

@@ -5,6 +5,6 @@ use Rattle.scalar_fns.proofs.slices.on_pairs.Given as goal
 
 abbrev pub invariant-loop-place : goal.invariant-loop-place
 invariant-loop-place g l = record {
-  made : all_or_first_error (take l.place (results_by g.S.TwoNumbers.gives l.left l.right)) ≡ Ok l.results.items;
+  made : all_or_first_error (take l.place (results_by (g.S.TwoNumbers.gives l.step) l.left l.right)) ≡ Ok l.results.items;
   long : vec_len l.results ≡ l.place;
 }

@@ -1,0 +1,4 @@
+pub mod Folds
+pub mod Lines
+pub mod Placewise
+pub mod Errors

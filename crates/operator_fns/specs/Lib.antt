@@ -1,0 +1,5 @@
+pub mod Folds
+pub mod Strides
+pub mod Reductions
+pub mod Scans
+pub mod Products

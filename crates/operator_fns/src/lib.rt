@@ -1,0 +1,8 @@
+//! Operators on scalar functions: reduction, scan, outer and inner product.
+#![tactic(auto)]
+
+mod flat;
+mod folding;
+mod reducing;
+
+pub use reducing::Reduce;
