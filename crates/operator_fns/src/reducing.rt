@@ -159,24 +159,25 @@ impl Reduce {
         requires { length args.now ≡ 1 }
         ensures { IsAnswerTo (of_one (reduce_whole self.now.function self.now.along) args.now) result }
     {
-        match args[0].numbers() {
-            Some(numbers) if !numbers.is_empty() => self.of_numbers(alloc, &args[0], numbers),
-            _ => apply(alloc, self, args),
+        let array = &args[0];
+        if let Some(numbers) = array.numbers() {
+            if !numbers.is_empty() && !array.shape().is_empty() {
+                return self.of_numbers(alloc, array, numbers);
+            }
         }
+        apply(alloc, self, args)
     }
 
-    /// The folds of the lines of an array of numbers.
+    /// The folds of the lines of an array of numbers that has axes.
     fn of_numbers(self, alloc: Global, array: &Seen, numbers: &[i64]) -> Result<Array, ApplyFault>
         requires numbers { array.now.items ≡ map (λ z. Num z) numbers.now }
         requires typed { array.now.item_type ≡ Nums }
         requires some { 0 < length numbers.now }
+        requires axes { 0 < length array.now.shape }
         ensures { IsAnswerTo (reduce_whole self.function self.along array.now) result }
     {
         let (shape, _) = self.form(array)?;
         let axes = array.shape();
-        if axes.is_empty() {
-            return folds(alloc, self.function, numbers, 1, 1, &shape);
-        }
         let axis = self.along.axis_at(axes.len() as u32);
         let apart = stride(axes.as_slice(), axis) as usize;
         folds(alloc, self.function, numbers, apart, axes[axis] as usize, &shape)

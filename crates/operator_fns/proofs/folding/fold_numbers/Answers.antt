@@ -1,4 +1,4 @@
-use Rattle.std.proofs.Common.{◌≡◌, ◌∙◌, ◌+◌, ◌-◌, ◌*◌, ap, sym, subst, get_or, pos, length, arith, Ok, Err, drop, to_z, of_z, w64, SFits, rules}
+use Rattle.std.proofs.Common.{◌≡◌, ◌∙◌, ◌+◌, ◌-◌, ◌*◌, ap, sym, subst, get_or, pos, arith, Ok, Err, drop, to_z, of_z, w64, SFits, rules}
 use Rattle.std.proofs.lemmas.Int.{to_z-of_z}
 use Rattle.operator_fns.specs.Strides.{strided, folded}
 use Rattle.operator_fns.proofs.Folds.{strided_last, strided_more, strided_error}
