@@ -63,7 +63,7 @@ literal_indexed e is = run_none 0 (Number (pos 1) ∷ Sign 0x5d ∷ []) e (compl
 
 -- A/[2]B: the bracket behind a function is its axis
 along_an_axis : IsTreeOf (Named (0x41 ∷ []) ∷ Sign 0x2f ∷ Sign 0x5b ∷ Number (pos 2) ∷ Sign 0x5d ∷ Named (0x42 ∷ []) ∷ []) (Applied2 (dyadic.Replicate (along.Axis (pos 2))) (Variable (0x41 ∷ [])) (Variable (0x42 ∷ [])))
-unfolding run monadic_along_of dyadic_along_of
+unfolding run scalar_dyad_of monadic_along_of dyadic_along_of
 along_an_axis = correct _ _ refl
 
 -- D[1] asks for its value
