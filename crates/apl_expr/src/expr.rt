@@ -87,9 +87,9 @@ pub enum Monadic {
     Shape,
     /// `⍳B`, the whole numbers from 1 to B.
     Iota,
-    /// Reduction, `f/B` and `f⌿B`: the scalar function between the items of each line of an axis.
+    /// Reduction, `f/B` and `f⌿B`: the scalar function between the items of each line of an axis, from the right.
     Reduce(ScalarDyad, Along),
-    /// Scan, `f\B` and `f⍀B`: the reductions of what each line of an axis begins with.
+    /// Scan, `f\B` and `f⍀B`: at each place of an axis the reduction of the line up to there.
     Scan(ScalarDyad, Along),
 }
 
