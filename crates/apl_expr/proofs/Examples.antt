@@ -81,6 +81,11 @@ reduction_between : (e : Tree) → IsTreeOf (Named (0x41 ∷ []) ∷ Sign 0x2b �
 unfolding run scalar_dyad_of folding_of
 reduction_between e is = run_none 1 (Sign 0x2f ∷ Named (0x42 ∷ []) ∷ []) e (complete is)
 
+-- /B is no expression: the sign makes a reduction of a scalar function before it, and has no other role without a left argument
+no_function_folded : (e : Tree) → IsTreeOf (Sign 0x2f ∷ Named (0x42 ∷ []) ∷ []) e → ⊥
+unfolding run scalar_monad_of scalar_dyad_of monad_of dyad_of
+no_function_folded e is = run_none 0 (Named (0x42 ∷ []) ∷ []) e (complete is)
+
 -- A∘.+B∘.×C
 outer_products : IsTreeOf (Named (0x41 ∷ []) ∷ Sign 0x2218 ∷ Sign 0x2e ∷ Sign 0x2b ∷ Named (0x42 ∷ []) ∷ Sign 0x2218 ∷ Sign 0x2e ∷ Sign 0xd7 ∷ Named (0x43 ∷ []) ∷ []) (Applied2 (dyadic.Outer dyad.Plus) (Variable (0x41 ∷ [])) (Applied2 (dyadic.Outer dyad.Times) (Variable (0x42 ∷ [])) (Variable (0x43 ∷ []))))
 unfolding run scalar_dyad_of
