@@ -3,3 +3,8 @@ pub mod Lines
 pub mod Placewise
 pub mod Errors
 pub mod Reduced
+pub mod FoldCases
+pub mod ReductionCases
+pub mod ScanCases
+pub mod OuterCases
+pub mod InnerCases
