@@ -4,5 +4,7 @@
 mod flat;
 mod folding;
 mod reducing;
+#[cfg(test)]
+mod tests;
 
 pub use reducing::Reduce;
