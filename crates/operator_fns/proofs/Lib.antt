@@ -2,3 +2,5 @@ pub mod Folds
 pub mod Lines
 pub mod Placewise
 pub mod Errors
+pub mod Joined
+pub mod Outers

@@ -3,6 +3,8 @@
 
 mod flat;
 mod folding;
+mod outer_product;
 mod reducing;
 
+pub use outer_product::Outer;
 pub use reducing::Reduce;
