@@ -4,3 +4,4 @@ pub mod Placewise
 pub mod Errors
 pub mod Joined
 pub mod Outers
+pub mod Meetings

@@ -5,6 +5,7 @@ mod flat;
 mod folding;
 mod outer_product;
 mod reducing;
+mod rows;
 
 pub use outer_product::Outer;
 pub use reducing::Reduce;
