@@ -5,3 +5,4 @@ pub mod Errors
 pub mod Joined
 pub mod Outers
 pub mod Meetings
+pub mod Inners

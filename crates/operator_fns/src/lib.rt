@@ -3,9 +3,11 @@
 
 mod flat;
 mod folding;
+mod inner_product;
 mod outer_product;
 mod reducing;
 mod rows;
 
+pub use inner_product::Inner;
 pub use outer_product::Outer;
 pub use reducing::Reduce;
