@@ -8,3 +8,7 @@ pub mod ReductionCases
 pub mod ScanCases
 pub mod OuterCases
 pub mod InnerCases
+pub mod Joined
+pub mod Outers
+pub mod Meetings
+pub mod Inners

@@ -3,3 +3,4 @@ pub mod Strides
 pub mod Reductions
 pub mod Scans
 pub mod Products
+pub mod Meetings

@@ -3,8 +3,13 @@
 
 mod flat;
 mod folding;
+mod inner_product;
+mod outer_product;
 mod reducing;
 #[cfg(test)]
 mod tests;
+mod rows;
 
+pub use inner_product::Inner;
+pub use outer_product::Outer;
 pub use reducing::Reduce;
