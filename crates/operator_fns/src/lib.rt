@@ -4,5 +4,8 @@
 mod flat;
 mod folding;
 mod reducing;
+mod running;
+mod scanning;
 
 pub use reducing::Reduce;
+pub use scanning::Scan;
