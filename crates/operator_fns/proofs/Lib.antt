@@ -5,3 +5,5 @@ pub mod Errors
 pub mod Runs
 pub mod Firsts
 pub mod LeftScans
+pub mod Associates
+pub mod Endings

@@ -13,21 +13,21 @@ use Rattle.operator_fns.proofs.Folds.{length-strided, get_or-strided, take-strid
 
 -- ---- left folds
 
+pub through : {A B : Type 0} (r : Result A Kind) (g h : A → Result B Kind) → ((z : A) → g z ≡ h z) → and_then r g ≡ and_then r h
+through (Ok z) g h e = e z
+through (Err k) g h e = refl
+
+pub as_it_is : {A : Type 0} (r : Result A Kind) → and_then r (λ z. Ok z) ≡ r
+as_it_is (Ok z) = refl
+as_it_is (Err k) = refl
+
+regroup : {A B C : Type 0} (r : Result A Kind) (g : A → Result B Kind) (h : B → Result C Kind) → and_then (and_then r g) h ≡ and_then r (λ z. and_then (g z) h)
+regroup (Ok z) g h = refl
+regroup (Err k) g h = refl
+
 module _ {A : Type 0} (f : A → A → Result A Kind) where
-  through : (r : Result A Kind) (g h : A → Result A Kind) → ((z : A) → g z ≡ h z) → and_then r g ≡ and_then r h
-  through (Ok z) g h e = e z
-  through (Err k) g h e = refl
-
-  regroup : (r : Result A Kind) (g h : A → Result A Kind) → and_then (and_then r g) h ≡ and_then r (λ z. and_then (g z) h)
-  regroup (Ok z) g h = refl
-  regroup (Err k) g h = refl
-
-  on_more : (x : A) (rest : List A) (y : A) → fold_on f x (rest ++ y ∷ []) ≡ and_then (fold_on f x rest) (λ z. f z y)
-  on_more x [] y = alone (f x y)
-    where
-      alone : (r : Result A Kind) → and_then r (λ z. Ok z) ≡ r
-      alone (Ok z) = refl
-      alone (Err k) = refl
+  pub on_more : (x : A) (rest : List A) (y : A) → fold_on f x (rest ++ y ∷ []) ≡ and_then (fold_on f x rest) (λ z. f z y)
+  on_more x [] y = as_it_is (f x y)
   on_more x (w ∷ rest) y =
       through (f x w) (λ z. fold_on f z (rest ++ y ∷ [])) (λ z. and_then (fold_on f z rest) (λ v. f v y)) (λ z. on_more z rest y)
       ∙ sym (regroup (f x w) (λ z. fold_on f z rest) (λ z. f z y))
