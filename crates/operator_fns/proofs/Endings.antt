@@ -12,7 +12,7 @@ use Rattle.scalar_fns.specs.Identities.{least, greatest}
 use Rattle.index_region.specs.Common.{and_then}
 use Rattle.operator_fns.specs.Strides.{folded}
 use Rattle.operator_fns.specs.Runs.{fold_on, folded_left}
-use Rattle.operator_fns.proofs.Runs.{on_more}
+use Rattle.operator_fns.proofs.Firsts.{Given}
 
 -- ---- numbers of 64 bits
 
@@ -151,24 +151,98 @@ pub record Kept (z bound : ℤ) : Type 0 where
   pub is : z ≡ bound
   pub within : Within z
 
+one_step : (x y z bound : ℤ) (rest : List ℤ) (r : Result ℤ Kind) (step : ℤ → ℤ → Result ℤ Kind) (whole : ℤ → ℤ) → held x ≡ r
+    → ((w : ℤ) → Within w → fold_on step w rest ≡ Ok z → Kept z (whole w)) → whole x ≡ bound → and_then r (λ w. fold_on step w rest) ≡ Ok z → Kept z bound
+one_step x y z bound rest (Ok w) step whole e later same h =
+    let here = held_ok x w e in
+    let kept = later w (subst Within (sym here.same) here.within) h in
+    record { is = kept.is ∙ ap whole here.same ∙ same; within = kept.within }
+one_step x y z bound rest (Err k) step whole e later same h = let no : ⊥ = cc in absurd no
+
 pub most_kept : (x : ℤ) (rest : List ℤ) (z : ℤ) → Within x → fold_on greatest_step x rest ≡ Ok z → Kept z (most x rest)
 most_kept x [] z within h = let same : x ≡ z = cc in record { is = sym same; within = subst Within same within }
-most_kept x (y ∷ rest) z within h = decide (held (int_max x (pos 0) +ℤ y)) refl h
-  where
-    decide : (r : Result ℤ Kind) → held (int_max x (pos 0) +ℤ y) ≡ r → and_then r (λ w. fold_on greatest_step w rest) ≡ Ok z → Kept z (most x (y ∷ rest))
-    decide (Ok w) e h =
-        let here = held_ok (int_max x (pos 0) +ℤ y) w e in
-        let later = most_kept w rest z (subst Within (sym here.same) here.within) h in
-        record { is = later.is ∙ ap (λ v. most v rest) here.same ∙ most_left x y rest; within = later.within }
-    decide (Err k) e h = let no : ⊥ = cc in absurd no
+most_kept x (y ∷ rest) z within h =
+    one_step (int_max x (pos 0) +ℤ y) y z (most x (y ∷ rest)) rest (held (int_max x (pos 0) +ℤ y)) greatest_step (λ w. most w rest) refl
+    (λ w inside g. most_kept w rest z inside g) (most_left x y rest) h
 
 pub fewest_kept : (x : ℤ) (rest : List ℤ) (z : ℤ) → Within x → fold_on least_step x rest ≡ Ok z → Kept z (fewest x rest)
 fewest_kept x [] z within h = let same : x ≡ z = cc in record { is = sym same; within = subst Within same within }
-fewest_kept x (y ∷ rest) z within h = decide (held (int_min x (pos 0) +ℤ y)) refl h
-  where
-    decide : (r : Result ℤ Kind) → held (int_min x (pos 0) +ℤ y) ≡ r → and_then r (λ w. fold_on least_step w rest) ≡ Ok z → Kept z (fewest x (y ∷ rest))
-    decide (Ok w) e h =
-        let here = held_ok (int_min x (pos 0) +ℤ y) w e in
-        let later = fewest_kept w rest z (subst Within (sym here.same) here.within) h in
-        record { is = later.is ∙ ap (λ v. fewest v rest) here.same ∙ fewest_left x y rest; within = later.within }
-    decide (Err k) e h = let no : ⊥ = cc in absurd no
+fewest_kept x (y ∷ rest) z within h =
+    one_step (int_min x (pos 0) +ℤ y) y z (fewest x (y ∷ rest)) rest (held (int_min x (pos 0) +ℤ y)) least_step (λ w. fewest w rest) refl
+    (λ w inside g. fewest_kept w rest z inside g) (fewest_left x y rest) h
+
+-- where both keep to 64 bits, so does the sum between them
+total_left : (x y : ℤ) (rest : List ℤ) → total (x +ℤ y) rest ≡ x +ℤ total y rest
+total_left x y [] = refl
+total_left x y (w ∷ rest) = omega (arith, ints)
+
+record Stepped (x z : ℤ) (step : ℤ → ℤ → Result ℤ Kind) (rest : List ℤ) : Type 0 where
+  next : ℤ
+  is : next ≡ x
+  within : Within next
+  later : fold_on step next rest ≡ Ok z
+
+stepped : (x z : ℤ) (step : ℤ → ℤ → Result ℤ Kind) (rest : List ℤ) (r : Result ℤ Kind) → held x ≡ r → and_then r (λ w. fold_on step w rest) ≡ Ok z → Stepped x z step rest
+stepped x z step rest (Ok w) e h =
+    let here = held_ok x w e in record { next = w; is = here.same; within = subst Within (sym here.same) here.within; later = h }
+stepped x z step rest (Err k) e h = let no : ⊥ = cc in absurd no
+
+sum_between : (rest : List ℤ) (sum high low top bottom : ℤ) → low ≤ℤ sum → sum ≤ℤ high → fold_on greatest_step high rest ≡ Ok top → fold_on least_step low rest ≡ Ok bottom
+    → fold_on (of_two Plus) sum rest ≡ Ok (total sum rest)
+sum_between [] sum high low top bottom above below g l = refl
+sum_between (y ∷ rest) sum high low top bottom above below g l =
+    let up = stepped (int_max high (pos 0) +ℤ y) top greatest_step rest (held (int_max high (pos 0) +ℤ y)) refl g in
+    let down = stepped (int_min low (pos 0) +ℤ y) bottom least_step rest (held (int_min low (pos 0) +ℤ y)) refl l in
+    let up_is = up.is in
+    let down_is = down.is in
+    let up_high = up.within.high in
+    let down_low = down.within.low in
+    let here = held_within (sum +ℤ y) (record { low = omega (arith, ints, clamps); high = omega (arith, ints, clamps) }) in
+    ap (λ r. and_then r (λ w. fold_on (of_two Plus) w rest)) here
+    ∙ sum_between rest (sum +ℤ y) up.next down.next top bottom (omega (arith, ints, clamps)) (omega (arith, ints, clamps)) up.later down.later
+    ∙ ap Ok (total_left sum y rest)
+
+pub sum_from_left : (xs : List ℤ) (top bottom : ℤ) → All Within xs → folded_left greatest_step xs ≡ Ok top → folded_left least_step xs ≡ Ok bottom
+    → folded_left (of_two Plus) xs ≡ folded (of_two Plus) xs
+sum_from_left [] top bottom within g l = refl
+sum_from_left (x ∷ rest) top bottom within g l =
+    let inside = within 0 x (omega arith) in
+    let up = most_kept x rest top inside g in
+    let down = fewest_kept x rest bottom inside l in
+    let up_is = up.is in
+    let down_is = down.is in
+    let up_high = up.within.high in
+    let down_low = down.within.low in
+    sum_between rest x x x top bottom (omega (arith, ints)) (omega (arith, ints)) g l
+    ∙ sym (folded_sum x rest (record { low = omega (arith, ints); high = omega (arith, ints) }))
+
+-- where the sums of all endings keep to 64 bits, so do the next ones of these
+last_within : (x : ℤ) (rest : List ℤ) (y : ℤ) → All Within (x ∷ (rest ++ y ∷ [])) → Within y
+last_within x [] y h = h 1 y (omega arith)
+last_within x (w ∷ rest) y h = last_within w rest y (λ k d below. h (suc k) d (omega arith))
+
+pub more_most : (xs : List ℤ) (y z t : ℤ) → 0 < length xs → All Within (xs ++ y ∷ []) → folded (of_two Plus) (xs ++ y ∷ []) ≡ Ok t
+    → folded_left greatest_step xs ≡ Ok z → Given (greatest_step z y)
+more_most [] y z t some within e g = absurd (omega arith)
+more_most (x ∷ rest) y z t some within e g =
+    let fits = folded_fits x (rest ++ y ∷ []) t within e in
+    let high = fits.high in
+    let kept = most_kept x rest z (within 0 x (omega arith)) g in
+    let is = kept.is in
+    let more = most_more x rest y in
+    let last = last_within x rest y within in
+    let low = last.low in
+    record { item = int_max z (pos 0) +ℤ y; is = held_within (int_max z (pos 0) +ℤ y) (record { low = omega (arith, ints, clamps); high = omega (arith, ints, clamps) }) }
+
+pub more_fewest : (xs : List ℤ) (y z t : ℤ) → 0 < length xs → All Within (xs ++ y ∷ []) → folded (of_two Plus) (xs ++ y ∷ []) ≡ Ok t
+    → folded_left least_step xs ≡ Ok z → Given (least_step z y)
+more_fewest [] y z t some within e g = absurd (omega arith)
+more_fewest (x ∷ rest) y z t some within e g =
+    let fits = folded_fits x (rest ++ y ∷ []) t within e in
+    let low = fits.low in
+    let kept = fewest_kept x rest z (within 0 x (omega arith)) g in
+    let is = kept.is in
+    let more = fewest_more x rest y in
+    let last = last_within x rest y within in
+    let high = last.high in
+    record { item = int_min z (pos 0) +ℤ y; is = held_within (int_min z (pos 0) +ℤ y) (record { low = omega (arith, ints, clamps); high = omega (arith, ints, clamps) }) }

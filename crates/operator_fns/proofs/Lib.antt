@@ -7,3 +7,4 @@ pub mod Firsts
 pub mod LeftScans
 pub mod Associates
 pub mod Endings
+pub mod RunningSums

@@ -6,7 +6,6 @@ use Rattle.operator_fns.specs.Strides.{folded}
 use Rattle.operator_fns.specs.Runs.{run_to, folded_left, scanned}
 use Rattle.operator_fns.proofs.Associates.{left_is_right}
 use Rattle.operator_fns.proofs.Firsts.{same_rules}
-use Rattle.operator_fns.proofs.Endings.{total}
 use Rattle.operator_fns.proofs.running.running_folds.Goals as goal
 
 pub returns-clause-is : goal.returns-clause-is
