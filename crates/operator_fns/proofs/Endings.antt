@@ -1,5 +1,5 @@
 -- The sums of the endings of a list of numbers of 64 bits.
-use Rattle.std.proofs.Common.{◌≡◌, ℕ, suc, ◌^◌, ◌<◌, List, [], ◌∷◌, ◌++◌, length, refl, ap, sym, subst, ◌∙◌, arith, ltb, Bool, true, false, if◌then◌else◌, ℤ, pos, negsuc, ◌+ℤ◌, ◌≤ℤ◌, Result, Ok, Err}
+use Rattle.std.proofs.Common.{◌≡◌, ℕ, suc, ◌^◌, ◌<◌, List, [], ◌∷◌, ◌++◌, length, refl, ap, sym, subst, ◌∙◌, arith, ltb, Bool, true, false, if◌then◌else◌, ℤ, pos, negsuc, ◌+ℤ◌, ◌≤ℤ◌, SFits, w64, Result, Ok, Err}
 use Rattle.std.specs.Int.{int_max, int_min}
 use Rattle.std.specs.List.{All}
 use Rattle.std.proofs.lemmas.Int.{ints, clamps}
@@ -19,6 +19,10 @@ use Rattle.operator_fns.proofs.Firsts.{Given}
 pub record Within (z : ℤ) : Type 0 where
   pub low : least ≤ℤ z
   pub high : z ≤ℤ greatest
+
+pub within_of : (z : ℤ) → SFits w64 z → Within z
+within_of (pos n) f = let h = f.sfits in record { low = omega (arith, ints); high = omega (arith, ints) }
+within_of (negsuc n) f = let h = f.sfits in record { low = omega (arith, ints); high = omega (arith, ints) }
 
 pub held_within : (z : ℤ) → Within z → held z ≡ Ok z
 held_within (pos n) h = let inside : ltb n (2 ^ 63) ≡ true = lt-ltb n (2 ^ 63) (omega (arith, ints, h.high)) in rw inside refl

@@ -1,5 +1,6 @@
 -- The sums of the runs of lines, by the greatest and the least sums of their endings.
-use Rattle.std.proofs.Common.{◌≡◌, ℕ, zero, suc, ◌+◌, ◌-◌, ◌*◌, ◌<◌, ◌≤◌, List, [], ◌∷◌, ◌++◌, length, get_or, map, refl, ap, sym, subst, ◌∙◌, arith, pos, ℤ, Result, Ok, Err}
+use Rattle.std.proofs.Common.{◌≡◌, ℕ, zero, suc, ◌+◌, ◌-◌, ◌*◌, ◌<◌, ◌≤◌, List, [], ◌∷◌, ◌++◌, length, get_or, map, refl, ap, sym, subst, ◌∙◌, arith, pos, ℤ, ◌+ℤ◌, Result, Ok, Err}
+use Rattle.std.specs.Int.{int_max, int_min}
 use Rattle.std.specs.List.{All, range_with_len}
 use Rattle.arrays_core.specs.Items.{all_or_first_error}
 use Rattle.arrays_core.specs.declared.item.Kind.{Kind}
@@ -86,10 +87,10 @@ module _ (zs : List ℤ) (stride count : ℕ) (apart : 0 < stride) (some : 1 ≤
             ap Err (limit ∙ sym left_kind)
 
   pub greatest_leaves : (k : Kind) → scanned (folded_left greatest_step) zs stride count ≡ Err k → scanned (folded (of_two Plus)) zs stride count ≡ Err k
-  greatest_leaves k h = sums_leave greatest_step more_most (λ a b k e. held_error _ k e) k h
+  greatest_leaves k h = sums_leave greatest_step more_most (λ a b k e. held_error (int_max a (pos 0) +ℤ b) k e) k h
 
   pub least_leaves : (k : Kind) → scanned (folded_left least_step) zs stride count ≡ Err k → scanned (folded (of_two Plus)) zs stride count ≡ Err k
-  least_leaves k h = sums_leave least_step more_fewest (λ a b k e. held_error _ k e) k h
+  least_leaves k h = sums_leave least_step more_fewest (λ a b k e. held_error (int_min a (pos 0) +ℤ b) k e) k h
 
   -- where neither does, the sums are those from the left
   pub sums_stay : (tops bottoms : List ℤ) → scanned (folded_left greatest_step) zs stride count ≡ Ok tops → scanned (folded_left least_step) zs stride count ≡ Ok bottoms
