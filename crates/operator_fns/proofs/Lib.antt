@@ -12,3 +12,9 @@ pub mod Joined
 pub mod Outers
 pub mod Meetings
 pub mod Inners
+pub mod Runs
+pub mod Firsts
+pub mod LeftScans
+pub mod Associates
+pub mod Endings
+pub mod RunningSums
