@@ -6,3 +6,4 @@ pub mod Joined
 pub mod Outers
 pub mod Meetings
 pub mod Inners
+pub mod Grids

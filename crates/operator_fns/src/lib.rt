@@ -1,6 +1,7 @@
 //! Operators on scalar functions: reduction, scan, outer and inner product.
 #![tactic(auto)]
 
+mod cells;
 mod flat;
 mod folding;
 mod inner_product;
