@@ -207,17 +207,17 @@ module _ (a b : ArrayValue) (xs ys : List ℤ) (long_a : length a.items ≡ size
           some_columns = (size-drop-le 1 b.shape (omega arith)).0;
           some = either_some (has_one_item a) (column_length b) (row_length a) (axis_some b.shape 0 (omega arith)) (axis_some a.shape (row_rank a) (omega arith));
           rows = λ place h k low.
-            let index = index_after (rows ++ columns) place in
-            let two = apart a b index (index_after-within (rows ++ columns) place h) in
-            let there = (row_entry a xs long_a is_a some_a (take (row_rank a) index) (inner_length a b) k two.front row_long low).there in
-            subst (λ q. q * inner_length a b + k * cond (eqb (length a.items) 1) 0 1 < length xs)
-            (sym two.row ∙ ap (λ q. q / size columns) (places_before-index_after (rows ++ columns) place h)) there;
+              let index = index_after (rows ++ columns) place in
+              let two = apart a b index (index_after-within (rows ++ columns) place h) in
+              let there = (row_entry a xs long_a is_a some_a (take (row_rank a) index) (inner_length a b) k two.front row_long low).there in
+              subst (λ q. q * inner_length a b + k * cond (eqb (length a.items) 1) 0 1 < length xs)
+              (sym two.row ∙ ap (λ q. q / size columns) (places_before-index_after (rows ++ columns) place h)) there;
           columns = λ place h k low.
-            let index = index_after (rows ++ columns) place in
-            let two = apart a b index (index_after-within (rows ++ columns) place h) in
-            let there = (column_entry b ys long_b is_b some_b (drop (row_rank a) index) (inner_length a b) k two.back column_long low).there in
-            subst (λ q. q + k * cond (eqb (length b.items) 1) 0 (size columns) < length ys)
-            (sym two.column ∙ ap (λ q. q % size columns) (places_before-index_after (rows ++ columns) place h)) there;
+              let index = index_after (rows ++ columns) place in
+              let two = apart a b index (index_after-within (rows ++ columns) place h) in
+              let there = (column_entry b ys long_b is_b some_b (drop (row_rank a) index) (inner_length a b) k two.back column_long low).there in
+              subst (λ q. q + k * cond (eqb (length b.items) 1) 0 (size columns) < length ys)
+              (sym two.column ∙ ap (λ q. q % size columns) (places_before-index_after (rows ++ columns) place h)) there;
         }
 
     cell_there : (f g : Scalar2) (index : List ℕ) → is_index_of (take (row_rank a) a.shape ++ drop 1 b.shape) index ≡ true
@@ -236,10 +236,10 @@ module _ (a b : ArrayValue) (xs ys : List ℤ) (long_a : length a.items ≡ size
         let some : 1 ≤ count = grid_fits.some in
         let long = length-met (two_of g) (λ k. Num (x k)) (λ k. Num (y k)) count in
         let same = products_met g a b row column (λ k. Num (x k)) (λ k. Num (y k)) count refl
-            (λ k low. subst (λ q. Num (get_or xs (q * count + k * cond (eqb (length a.items) 1) 0 1) (pos 0)) ≡ extended a (row ++ (k + 1) ∷ [])) (sym two.row)
-            (row_entry a xs long_a is_a some_a row count k two.front row_long low).is)
-            (λ k low. subst (λ q. Num (get_or ys (q + k * cond (eqb (length b.items) 1) 0 (size columns)) (pos 0)) ≡ extended b ((k + 1) ∷ column)) (sym two.column)
-            (column_entry b ys long_b is_b some_b column count k two.back column_long low).is) in
+        (λ k low. subst (λ q. Num (get_or xs (q * count + k * cond (eqb (length a.items) 1) 0 1) (pos 0)) ≡ extended a (row ++ (k + 1) ∷ [])) (sym two.row)
+        (row_entry a xs long_a is_a some_a row count k two.front row_long low).is)
+        (λ k low. subst (λ q. Num (get_or ys (q + k * cond (eqb (length b.items) 1) 0 (size columns)) (pos 0)) ≡ extended b ((k + 1) ∷ column)) (sym two.column)
+        (column_entry b ys long_b is_b some_b column count k two.back column_long low).is) in
         sym (ap (λ rs. and_then (all_or_last_error rs) (fold_right f)) same
         ∙ fold_of_some f (met (two_of g) (λ k. Num (x k)) (λ k. Num (y k)) count) (omega arith)
         ∙ fold_of_numbers f g x y count)

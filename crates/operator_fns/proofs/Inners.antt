@@ -136,7 +136,6 @@ nothing_met f g a b index h =
 
 -- ---- what has passed
 
-
 pub lengths_of : (one_a one_b : Bool) (m n x y : ℕ) → eqb x 1 ≡ one_a → eqb y 1 ≡ one_b → (one_a || one_b || eqb m n) ≡ true
     → (x ≢ 1 → m ≡ cond one_a n m) × (y ≢ 1 → n ≡ cond one_a n m)
 lengths_of true one_b m n x y p q h = (λ many. absurd (many (eqb-true x 1 p)), λ many. refl)

@@ -127,11 +127,7 @@ fn grid(left: &Seen, right: &Seen) -> Grid
         columns,
         count: inner_length(left, right) as usize,
         row_stride: if left.places() == 1 { 0 } else { 1 },
-        column_stride: if right.places() == 1 {
-            0
-        } else {
-            columns
-        },
+        column_stride: if right.places() == 1 { 0 } else { columns },
     }
 }
 
@@ -183,7 +179,15 @@ impl Inner {
         let (front, back) = index.split_at(row_rank(left));
         let row = row_line(left, front, count);
         let column = column_line(right, back, count);
-        fold_row_of_items(self.fold, self.each, left, row, right, column, count as usize)
+        fold_row_of_items(
+            self.fold,
+            self.each,
+            left,
+            row,
+            right,
+            column,
+            count as usize,
+        )
     }
 
     /// The rows of A folded with the columns of B.

@@ -7,11 +7,11 @@ mod folding;
 mod inner_product;
 mod outer_product;
 mod reducing;
-#[cfg(test)]
-mod tests;
 mod rows;
 mod running;
 mod scanning;
+#[cfg(test)]
+mod tests;
 
 pub use inner_product::Inner;
 pub use outer_product::Outer;
