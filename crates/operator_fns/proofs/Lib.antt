@@ -12,6 +12,7 @@ pub mod Joined
 pub mod Outers
 pub mod Meetings
 pub mod Inners
+pub mod Grids
 pub mod Runs
 pub mod Firsts
 pub mod LeftScans
