@@ -2,7 +2,9 @@
 use Rattle.std.proofs.Common.{◌≡◌, ℕ, ◌≤◌, Bool, true, false, cond, Option, Some, None, List, [], ◌∷◌, length, drop, refl, sym, ap, subst, arith}
 use Rattle.std.specs.Prelude.{ℤ, ◌==◌, ◌&&◌, option_and_then}
 use Rattle.std.proofs.lemmas.Bool.{eqb-true}
-use Rattle.apl_tokens.specs.Lexemes.{Lexeme, Number, Characters, Named, Sign}
+use Rattle.std.proofs.lemmas.List.{length-map}
+use Rattle.apl_tokens.specs.declared.token.Spanned.{Spanned}
+use Rattle.apl_tokens.specs.Lexemes.{Lexeme, Number, Characters, Named, Sign, lexeme, lexemes}
 use Rattle.apl_expr.specs.declared.expr.Monadic.{Monadic}
 use Rattle.apl_expr.specs.declared.expr.Dyadic.{Dyadic}
 use Rattle.apl_expr.specs.declared.functions.Function.{Function}
@@ -142,8 +144,11 @@ is_read c ts = alone (stands_alone c) refl
     alone true is = record { mono = λ h s. let no : ⊥ = cc in absurd no; duo = λ g s. let no : ⊥ = cc in absurd no; short = omega arith }
     alone false is = product_read c ts (product_in c ts) refl
 
-pub more_short : (t : Lexeme) (ts : List Lexeme) → (function_from t ts).more ≤ length ts
-more_short (Sign c) ts = (is_read c ts).short
-more_short (Number n) ts = omega arith
-more_short (Characters cs) ts = omega arith
-more_short (Named n) ts = omega arith
+lexemes_short : (t : Lexeme) (ts : List Lexeme) → (function_from t ts).more ≤ length ts
+lexemes_short (Sign c) ts = (is_read c ts).short
+lexemes_short (Number n) ts = omega arith
+lexemes_short (Characters cs) ts = omega arith
+lexemes_short (Named n) ts = omega arith
+
+pub more_short : (t : Lexeme) (ts : List Spanned) → (function_from t (lexemes ts)).more ≤ length ts
+more_short t ts = subst (λ (n : ℕ). (function_from t (lexemes ts)).more ≤ n) (length-map ts (λ (s : Spanned). lexeme s.token)) (lexemes_short t (lexemes ts))

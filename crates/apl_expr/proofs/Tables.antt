@@ -1,10 +1,11 @@
 -- What the laws use of the tables of symbols: the signs that belong to no function are in none of them, and no expression begins
 -- with a sign that goes on with a function.
-use Rattle.std.proofs.Common.{◌≡◌, ℕ, Bool, true, false, Some, None, refl, sym, subst}
+use Rattle.std.proofs.Common.{◌≡◌, ℕ, Bool, true, false, cond, Option, Some, None, List, [], ◌∷◌, refl, sym, subst, arith}
 use Rattle.std.specs.Prelude.{ℤ, ◌==◌, ◌||◌}
 use Rattle.std.proofs.lemmas.Bool.{eqb-true}
+use Rattle.std.proofs.lemmas.Option.{option_and_then_some}
 use Rattle.apl_expr.specs.declared.expr.Monadic.{Monadic}
-use Rattle.apl_expr.specs.Symbols.{scalar_monad_of, scalar_dyad_of, monad_of, dyad_of, monadic_of, monadic_along_of, folded_of, folded_along_of, dyadic_of, dyadic_along_of, inner_of, stands_alone}
+use Rattle.apl_expr.specs.Symbols.{Meant, meant, foldings, foldings_along, scalar_monad_of, scalar_dyad_of, monad_of, dyad_of, monadic_of, monadic_along_of, folding_of, folding_along_of, folded_of, folded_along_of, dyadic_of, dyadic_along_of, inner_of, stands_alone}
 
 -- the sign begins no function of one argument
 pub record BeginsNone (c : ℕ) : Type 0 where
@@ -45,7 +46,7 @@ unfolding scalar_monad_of scalar_dyad_of monad_of dyad_of monadic_along_of dyadi
 arrow = record { one = record { plain = refl; along = λ k. refl; folded = λ d. refl; folded_along = λ d k. refl }; plain = refl; along = λ k. refl; inner = λ d. refl }
 
 pub dot : BeginsNone 0x2e
-unfolding scalar_monad_of monad_of monadic_along_of
+unfolding scalar_monad_of scalar_dyad_of monad_of monadic_along_of
 dot = record { plain = refl; along = λ k. refl; folded = λ d. refl; folded_along = λ d k. refl }
 
 pub no_function : (c : ℕ) → stands_alone c ≡ true → IsNoFunction c
@@ -82,11 +83,44 @@ pub record IsFolding (d : ℕ) : Type 0 where
   pub no_dot : d ≡ 0x2e → ⊥
   pub no_bracket : d ≡ 0x5b → ⊥
 
+slash : IsFolding 0x2f
+unfolding scalar_monad_of scalar_dyad_of monad_of monadic_along_of
+slash = record { begins_none = record { plain = refl; along = λ k. refl; folded = λ d. refl; folded_along = λ d k. refl }; no_parenthesis = λ same. omega arith; no_dot = λ same. omega arith; no_bracket = λ same. omega arith }
+
+slash_bar : IsFolding 0x233f
+unfolding scalar_monad_of scalar_dyad_of monad_of monadic_along_of
+slash_bar = record { begins_none = record { plain = refl; along = λ k. refl; folded = λ d. refl; folded_along = λ d k. refl }; no_parenthesis = λ same. omega arith; no_dot = λ same. omega arith; no_bracket = λ same. omega arith }
+
+backslash : IsFolding 0x5c
+unfolding scalar_monad_of scalar_dyad_of monad_of monadic_along_of
+backslash = record { begins_none = record { plain = refl; along = λ k. refl; folded = λ d. refl; folded_along = λ d k. refl }; no_parenthesis = λ same. omega arith; no_dot = λ same. omega arith; no_bracket = λ same. omega arith }
+
+backslash_bar : IsFolding 0x2340
+unfolding scalar_monad_of scalar_dyad_of monad_of monadic_along_of
+backslash_bar = record { begins_none = record { plain = refl; along = λ k. refl; folded = λ d. refl; folded_along = λ d k. refl }; no_parenthesis = λ same. omega arith; no_dot = λ same. omega arith; no_bracket = λ same. omega arith }
+
+-- what a table says of a sign it says of one of its own
+module _ {A : Type 0} (P : ℕ → Type 0) where
+  abbrev Each : List (Meant A) → Type 0
+  Each [] = Unit {0}
+  Each (m ∷ ms) = P m.sign × Each ms
+
+  this_or_later : (c : ℕ) (m : Meant A) (later : Option A) (x : A) → P m.sign → (later ≡ Some x → P c) → (b : Bool) → (c == m.sign) ≡ b → cond b (Some m.meaning) later ≡ Some x → P c
+  this_or_later c m later x this rest true same h = subst P (sym (eqb-true c m.sign same)) this
+  this_or_later c m later x this rest false same h = rest h
+
+  among : (c : ℕ) (ms : List (Meant A)) (x : A) → Each ms → meant c ms ≡ Some x → P c
+  among c [] x each h = let no : ⊥ = cc in absurd no
+  among c (m ∷ ms) x each h = this_or_later c m (meant c ms) x each.0 (among c ms x each.1) (c == m.sign) refl h
+
 pub folding : (c d : ℕ) (f : Monadic) → folded_of c d ≡ Some f → IsFolding d
-folding c d f is = let no : ⊥ = cc in absurd no
+unfolding folding_of
+folding c d f is = option_and_then_some (λ g. folding_of g d) (scalar_dyad_of c) f is (λ g of_c of_d. among IsFolding d (foldings g) f (slash, (slash_bar, (backslash, (backslash_bar, tt)))) of_d)
 
 pub folding_along : (c d : ℕ) (k : ℤ) (f : Monadic) → folded_along_of c d k ≡ Some f → IsFolding d
-folding_along c d k f is = let no : ⊥ = cc in absurd no
+unfolding folding_along_of
+folding_along c d k f is = option_and_then_some (λ g. folding_along_of g d k) (scalar_dyad_of c) f is (λ g of_c of_d. among IsFolding d (foldings_along g k) f (slash, (slash_bar, (backslash, (backslash_bar, tt)))) of_d)
 
 pub jot_inner : (d : ℕ) → inner_of 0x2218 d ≡ None
+unfolding scalar_dyad_of
 jot_inner d = refl

@@ -87,6 +87,10 @@ pub enum Monadic {
     Shape,
     /// `⍳B`, the whole numbers from 1 to B.
     Iota,
+    /// Reduction, `f/B` and `f⌿B`: the scalar function between the items of each line of an axis, from the right.
+    Reduce(ScalarDyad, Along),
+    /// Scan, `f\B` and `f⍀B`: at each place of an axis the reduction of the line up to there.
+    Scan(ScalarDyad, Along),
 }
 
 /// The functions of two arguments, by the names of ISO/IEC 13751.
@@ -116,6 +120,10 @@ pub enum Dyadic {
     Encode,
     /// `A⊥B`, the value of the digits B to the radices A.
     Decode,
+    /// Outer Product, `A∘.fB`: the scalar function between each item of A and each of B.
+    Outer(ScalarDyad),
+    /// Inner Product, `A f.g B`: the reduction by `f` of `g` between each line of the last axis of A and each of the first of B.
+    Inner(ScalarDyad, ScalarDyad),
 }
 
 /// A literal of ISO 8485: numbers that stand side by side, or a text.

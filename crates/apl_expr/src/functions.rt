@@ -167,7 +167,6 @@ fn with_axis_or_alone(sign: char, tokens: &[Spanned]) -> Function
 }
 
 /// The function at the front of the tokens; a token that is no sign is none.
-#[tactic(auto, using(crate::proofs::FunctionsRead::more_short))]
 pub(crate) fn function_from(token: &Token, tokens: &[Spanned]) -> Function
     ensures is { result ≡ function_from (lexeme token.now) (lexemes tokens.now) }
     ensures short { result.more ≤ length tokens.now }

@@ -1,7 +1,7 @@
-//! What each sign stands for. A later symbol is one line here.
+//! What each sign stands for, alone and with others. A later symbol is one line here.
 
 ghost use Rattle.std.specs.Prelude.{◌≡◌};
-ghost use Rattle.apl_expr.specs.Symbols.{scalar_monad_of, scalar_dyad_of, monad_of, dyad_of, monadic_of, monadic_along_of, folded_of, folded_along_of, dyadic_of, dyadic_along_of, outer_of, inner_of, stands_alone};
+ghost use Rattle.apl_expr.specs.Symbols.{scalar_monad_of, scalar_dyad_of, monad_of, dyad_of, monadic_of, monadic_along_of, folding_of, folding_along_of, folded_of, folded_along_of, dyadic_of, dyadic_along_of, outer_of, inner_of, stands_alone};
 
 use crate::expr::{Along, Dyadic, Monadic, ScalarDyad, ScalarMonad};
 
@@ -135,32 +135,59 @@ pub(crate) fn dyadic_along_of(sign: char, axis: i64) -> Option<Dyadic>
     }
 }
 
-/// The reduction or scan by a scalar function that the two signs stand for.
-pub(crate) fn folded_of(_function: char, _folding: char) -> Option<Monadic>
-    ensures { result ≡ folded_of _function _folding }
+/// What the sign makes of a scalar function: its reduction or its scan.
+#[tactic(auto, unfolding(crate::specs::Symbols::folding_of))]
+fn folding_of(function: ScalarDyad, folding: char) -> Option<Monadic>
+    ensures { result ≡ folding_of function folding }
 {
-    None
+    match folding {
+        '/' => Some(Monadic::Reduce(function, Along::Last)),
+        '⌿' => Some(Monadic::Reduce(function, Along::First)),
+        '\\' => Some(Monadic::Scan(function, Along::Last)),
+        '⍀' => Some(Monadic::Scan(function, Along::First)),
+        _ => None,
+    }
+}
+
+/// The same with an axis behind the sign.
+#[tactic(auto, unfolding(crate::specs::Symbols::folding_along_of))]
+fn folding_along_of(function: ScalarDyad, folding: char, axis: i64) -> Option<Monadic>
+    ensures { result ≡ folding_along_of function folding axis }
+{
+    match folding {
+        '/' | '⌿' => Some(Monadic::Reduce(function, Along::Axis(axis))),
+        '\\' | '⍀' => Some(Monadic::Scan(function, Along::Axis(axis))),
+        _ => None,
+    }
+}
+
+/// The reduction or scan by a scalar function that the two signs stand for.
+pub(crate) fn folded_of(function: char, folding: char) -> Option<Monadic>
+    ensures { result ≡ folded_of function folding }
+{
+    folding_of(scalar_dyad_of(function)?, folding)
 }
 
 /// The same with an axis behind them.
-pub(crate) fn folded_along_of(_function: char, _folding: char, _axis: i64) -> Option<Monadic>
-    ensures { result ≡ folded_along_of _function _folding _axis }
+pub(crate) fn folded_along_of(function: char, folding: char, axis: i64) -> Option<Monadic>
+    ensures { result ≡ folded_along_of function folding axis }
 {
-    None
+    folding_along_of(scalar_dyad_of(function)?, folding, axis)
 }
 
 /// The outer product by the scalar function behind `∘.`.
-pub(crate) fn outer_of(_function: char) -> Option<Dyadic>
-    ensures { result ≡ outer_of _function }
+pub(crate) fn outer_of(function: char) -> Option<Dyadic>
+    ensures { result ≡ outer_of function }
 {
-    None
+    Some(Dyadic::Outer(scalar_dyad_of(function)?))
 }
 
 /// The inner product by the scalar functions before and behind a dot.
-pub(crate) fn inner_of(_first: char, _second: char) -> Option<Dyadic>
-    ensures { result ≡ inner_of _first _second }
+pub(crate) fn inner_of(first: char, second: char) -> Option<Dyadic>
+    ensures { result ≡ inner_of first second }
 {
-    None
+    let first = scalar_dyad_of(first)?;
+    Some(Dyadic::Inner(first, scalar_dyad_of(second)?))
 }
 
 /// Whether the sign belongs to no function.

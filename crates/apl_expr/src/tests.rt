@@ -291,6 +291,226 @@ fn reads_signs_of_two_functions(rt: HostRuntime) -> Result<(), Fail> {
 }
 
 #[test]
+fn reads_folds(rt: HostRuntime) -> Result<(), Fail> {
+    for (written, want) in [
+        ("+/3", "Monad(Reduce(Plus, Last), Const(Num(3)))"),
+        ("+⌿3", "Monad(Reduce(Plus, First), Const(Num(3)))"),
+        ("-\\3", "Monad(Scan(Minus, Last), Const(Num(3)))"),
+        ("-⍀3", "Monad(Scan(Minus, First), Const(Num(3)))"),
+        ("+/[2]3", "Monad(Reduce(Plus, Axis(2)), Const(Num(3)))"),
+        ("×⌿[2]3", "Monad(Reduce(Times, Axis(2)), Const(Num(3)))"),
+        ("-\\[¯1]3", "Monad(Scan(Minus, Axis(-1)), Const(Num(3)))"),
+        ("⌈⍀[1]3", "Monad(Scan(Maximum, Axis(1)), Const(Num(3)))"),
+        (
+            "+ / [ 2 ] - 3",
+            "Monad(Reduce(Plus, Axis(2)), Monad(Scalar(Negative), Const(Num(3))))",
+        ),
+        (
+            "∧/∨\\3",
+            "Monad(Reduce(And, Last), Monad(Scan(Or, Last), Const(Num(3))))",
+        ),
+        (
+            "+/(5)[2;]",
+            "Monad(Reduce(Plus, Last), Index(Const(Num(5)), [Some(Const(Num(2))), None]))",
+        ),
+        (
+            "(5)[+/3]",
+            "Index(Const(Num(5)), [Some(Monad(Reduce(Plus, Last), Const(Num(3))))])",
+        ),
+        (
+            "1,+/3",
+            "Dyad(Catenate(Last), Const(Num(1)), Monad(Reduce(Plus, Last), Const(Num(3))))",
+        ),
+        (
+            "1×+/3",
+            "Dyad(Scalar(Times), Const(Num(1)), Monad(Reduce(Plus, Last), Const(Num(3))))",
+        ),
+        (
+            "1 0/3",
+            "Dyad(Replicate(Last), Const(Nums([1, 0])), Const(Num(3)))",
+        ),
+        (
+            "1/+/3",
+            "Dyad(Replicate(Last), Const(Num(1)), Monad(Reduce(Plus, Last), Const(Num(3))))",
+        ),
+    ] {
+        let found = tokens(rt.alloc(), written)?;
+        let tree = parse(rt.alloc(), &found)?;
+        let text = format!(in rt.alloc(); "{tree:?}")?;
+        assert!(rt; text.as_str() == want, "{written}");
+    }
+    Ok(())
+}
+
+#[test]
+fn reads_products(rt: HostRuntime) -> Result<(), Fail> {
+    for (written, want) in [
+        ("1∘.×3", "Dyad(Outer(Times), Const(Num(1)), Const(Num(3)))"),
+        (
+            "1+.×3",
+            "Dyad(Inner(Plus, Times), Const(Num(1)), Const(Num(3)))",
+        ),
+        (
+            "1 ∘ . × 3",
+            "Dyad(Outer(Times), Const(Num(1)), Const(Num(3)))",
+        ),
+        (
+            "1 × . + 3",
+            "Dyad(Inner(Times, Plus), Const(Num(1)), Const(Num(3)))",
+        ),
+        (
+            "1+.×⍉3",
+            "Dyad(Inner(Plus, Times), Const(Num(1)), Monad(Transpose, Const(Num(3))))",
+        ),
+        (
+            "1∘.+2∘.×3",
+            "Dyad(Outer(Plus), Const(Num(1)), Dyad(Outer(Times), Const(Num(2)), Const(Num(3))))",
+        ),
+        (
+            "(1-2)+.×(3)",
+            "Dyad(Inner(Plus, Times), Dyad(Scalar(Minus), Const(Num(1)), Const(Num(2))), Const(Num(3)))",
+        ),
+        (
+            "(5)[1]∧.=(6)[;2]",
+            "Dyad(Inner(And, Equal), Index(Const(Num(5)), [Some(Const(Num(1)))]), Index(Const(Num(6)), [None, Some(Const(Num(2)))]))",
+        ),
+        (
+            "'a'∘.=-\\3",
+            "Dyad(Outer(Equal), Const(Char('a')), Monad(Scan(Minus, Last), Const(Num(3))))",
+        ),
+    ] {
+        let found = tokens(rt.alloc(), written)?;
+        let tree = parse(rt.alloc(), &found)?;
+        let text = format!(in rt.alloc(); "{tree:?}")?;
+        assert!(rt; text.as_str() == want, "{written}");
+    }
+    Ok(())
+}
+
+#[test]
+fn every_scalar_function_folds_and_multiplies(rt: HostRuntime) -> Result<(), Fail> {
+    for sign in "+-×÷*|⌈⌊<≤=≥>≠∧∨⍲⍱".chars() {
+        for folding in "/⌿\\⍀".chars() {
+            let text = format!(in rt.alloc(); "{sign}{folding}A")?;
+            assert!(rt;
+                matches!(
+                    line(rt.alloc(), text.as_str())?,
+                    Command::Show(Expr::Monad(Monadic::Reduce(_, _) | Monadic::Scan(_, _), _))
+                )
+            );
+        }
+        let outer = format!(in rt.alloc(); "A∘.{sign}B")?;
+        assert!(rt;
+            matches!(
+                line(rt.alloc(), outer.as_str())?,
+                Command::Show(Expr::Dyad(Dyadic::Outer(_), _, _))
+            )
+        );
+        let inner = format!(in rt.alloc(); "A{sign}.{sign}B")?;
+        assert!(rt;
+            matches!(
+                line(rt.alloc(), inner.as_str())?,
+                Command::Show(Expr::Dyad(Dyadic::Inner(_, _), _, _))
+            )
+        );
+    }
+    Ok(())
+}
+
+#[test]
+fn refuses_what_is_no_fold(rt: HostRuntime) -> Result<(), Fail> {
+    for text in [
+        "1 2+/3 4", "A+/B", "A + /B", "A+⌿B", "A+\\B", "A+⍀B", "A+/[1]B", "(A)+/B", "A[1]+/B",
+        "+/", "+\\", "+/[1]", "/B", "⌿B", "\\B", "⍀B", "/[1]B", "A\\B", "A⍀B", ",/B", "⍴/B", "~/B",
+        "~\\B", "~⌿[1]B", "∘/B", "∊/B", "(+)/B", "+//B", "+/\\B", "+/[1]/B", "+/[A]B", "+/[]B",
+        "+/[1;2]B", "+/[1 2]B", "+/[1B", "+/[1](", "+[1]/B", "A+[1]/B", "A/", "A//B", "A←+/",
+        "+/←B", "(+/)B",
+    ] {
+        assert!(rt;
+            matches!(line(rt.alloc(), text), Err(LineFault::Syntax)),
+            "{text}"
+        );
+    }
+    Ok(())
+}
+
+#[test]
+fn refuses_what_is_no_product(rt: HostRuntime) -> Result<(), Fail> {
+    for text in [
+        "∘.B",
+        "∘.+B",
+        "A∘+B",
+        "A∘.B",
+        "A∘.",
+        "A∘.+",
+        "A∘B",
+        "∘B",
+        "A∘.,B",
+        "A∘.~B",
+        "A∘.⍴B",
+        "A∘./B",
+        "A∘.(+)B",
+        "A∘.∘B",
+        "A+.B",
+        "A+.",
+        "A+.×",
+        "+.×B",
+        "A.B",
+        "A.+B",
+        "A+.~B",
+        "A~.+B",
+        "A+.,B",
+        "A,.+B",
+        "A+./B",
+        "A/.+B",
+        "A×.∘B",
+        "A∘.+[1]B",
+        "A+.×[1]B",
+        "A∘[1].+B",
+        "A+[1].×B",
+        "A+.×.-B",
+        "A∘.+.×B",
+        "A+.×/B",
+        "A∘.+/B",
+        "A+/.×B",
+        "A+..×B",
+        "A←∘.+",
+        "(+.×)B",
+        "A(+.×)B",
+    ] {
+        assert!(rt;
+            matches!(line(rt.alloc(), text), Err(LineFault::Syntax)),
+            "{text}"
+        );
+    }
+    Ok(())
+}
+
+/// So many times the part, and then the number 5.
+fn repeated(rt: &HostRuntime, part: &str, count: usize) -> Result<Vec<Spanned>, Fail> {
+    let mut text = String::new(rt.alloc());
+    for _ in 0..count {
+        text.push_str(part)?;
+    }
+    text.push('5')?;
+    Ok(tokens(rt.alloc(), text.as_str())?)
+}
+
+#[test]
+fn a_function_of_several_signs_is_a_node(rt: HostRuntime) -> Result<(), Fail> {
+    for part in ["+/", "-⍀", "+/[1]", "×\\[1]", "A∘.×", "A+.×"] {
+        let low = repeated(&rt, part, 255)?;
+        assert!(rt; parse(rt.alloc(), &low).is_ok(), "{part}");
+        let high = repeated(&rt, part, 256)?;
+        assert!(rt;
+            matches!(parse(rt.alloc(), &high), Err(ParseFault::Limit)),
+            "{part}"
+        );
+    }
+    Ok(())
+}
+
+#[test]
 fn one_number_is_a_scalar(rt: HostRuntime) -> Result<(), Fail> {
     let one = line(rt.alloc(), " ¯5 ")?;
     assert!(rt; matches!(one, Command::Show(Expr::Const(Literal::Num(-5)))));
@@ -399,9 +619,6 @@ fn refuses_what_is_no_line(rt: HostRuntime) -> Result<(), Fail> {
         "A,",
         "*1",
         "A~1",
-        "+/A",
-        "A∘.+B",
-        "A+.×B",
         ")NAMES",
         ")ERASE A",
         ")ROW A 1",

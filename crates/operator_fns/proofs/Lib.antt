@@ -8,3 +8,10 @@ pub mod LeftScans
 pub mod Associates
 pub mod Endings
 pub mod RunningSums
+pub mod Reduced
+pub mod FoldCases
+pub mod ReductionCases
+pub mod ScanCases
+pub mod OuterCases
+pub mod InnerCases
+pub mod Scanned

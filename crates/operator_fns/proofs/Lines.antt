@@ -1,6 +1,5 @@
 -- The lines of an array, as entries of its items a stride apart.
-use Rattle.std.proofs.Common.{◌≡◌, ℕ, zero, suc, ◌+◌, ◌-◌, ◌*◌, ◌/◌, ◌%◌, ◌<◌, ◌≤◌, true, List, [], ◌∷◌, length, get_or, drop, take, refl, ap, sym, ◌∙◌, ◌++◌, arith, leb, insert, remove}
-use Rattle.std.specs.List.{All}
+use Rattle.std.proofs.Common.{◌≡◌, ℕ, zero, suc, ◌+◌, ◌-◌, ◌*◌, ◌<◌, ◌≤◌, true, List, [], ◌∷◌, length, get_or, drop, take, ap, sym, ◌∙◌, arith, insert, remove}
 use Rattle.std.proofs.lemmas.Bool.{and_from, le-leb}
 use Rattle.std.proofs.lemmas.List.{length-drop, length-take, length-append, ext_get_or, get_or_default}
 use Rattle.std.proofs.lemmas.List.Elements.{All-drop}
@@ -8,7 +7,7 @@ use Rattle.std.proofs.lemmas.List.FromFn.{length-map-range_with_len, get_or-map-
 use Rattle.arrays_core.specs.Shapes.{size, is_index_of, places_before, IsWithinLimits}
 use Rattle.arrays_core.specs.Arrays.{ArrayValue, item_of}
 use Rattle.arrays_core.specs.Items.{fill}
-use Rattle.arrays_core.proofs.Shapes.{Head, head_of, as_long, places_below}
+use Rattle.arrays_core.proofs.Shapes.{head_of, as_long, places_below}
 use Rattle.index_region.specs.Common.{places_along}
 use Rattle.operator_fns.specs.Folds.{line}
 use Rattle.operator_fns.specs.Strides.{strided}

@@ -6,6 +6,8 @@ mod folding;
 mod reducing;
 mod running;
 mod scanning;
+#[cfg(test)]
+mod tests;
 
 pub use reducing::Reduce;
 pub use scanning::Scan;

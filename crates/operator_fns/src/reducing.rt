@@ -19,7 +19,7 @@ use arrays_core::{
 };
 use index_region::{Along, Primitive, Seen, apply, limited};
 use scalar_fns::Scalar2;
-use scalar_fns::steps::{And, Maximum, Minimum, Or, Plus, Times, TwoNumbers};
+use scalar_fns::steps::{And, Maximum, Minimum, Minus, Or, Plus, Times, TwoNumbers};
 use std::alloc::Global;
 
 /// The lines of a list of numbers, each folded.
@@ -73,8 +73,8 @@ fn folds_by<S: TwoNumbers>(
     collect_numbers(alloc, &lines, shape)
 }
 
-/// The same for a function that is chosen; those that sums, products, bounds and questions of all or any
-/// are made with have a loop of their own.
+/// The same for a function that is chosen; those that sums, alternating sums, products, bounds and
+/// questions of all or any are made with have a loop of their own.
 fn folds(
     alloc: Global,
     function: Scalar2,
@@ -92,6 +92,7 @@ fn folds(
 {
     match function {
         Scalar2::Plus => folds_by(alloc, &Plus, numbers, stride, count, shape),
+        Scalar2::Minus => folds_by(alloc, &Minus, numbers, stride, count, shape),
         Scalar2::Times => folds_by(alloc, &Times, numbers, stride, count, shape),
         Scalar2::Maximum => folds_by(alloc, &Maximum, numbers, stride, count, shape),
         Scalar2::Minimum => folds_by(alloc, &Minimum, numbers, stride, count, shape),
@@ -159,24 +160,25 @@ impl Reduce {
         requires { length args.now ≡ 1 }
         ensures { IsAnswerTo (of_one (reduce_whole self.now.function self.now.along) args.now) result }
     {
-        match args[0].numbers() {
-            Some(numbers) if !numbers.is_empty() => self.of_numbers(alloc, &args[0], numbers),
-            _ => apply(alloc, self, args),
+        let array = &args[0];
+        if let Some(numbers) = array.numbers() {
+            if !numbers.is_empty() && !array.shape().is_empty() {
+                return self.of_numbers(alloc, array, numbers);
+            }
         }
+        apply(alloc, self, args)
     }
 
-    /// The folds of the lines of an array of numbers.
+    /// The folds of the lines of an array of numbers that has axes.
     fn of_numbers(self, alloc: Global, array: &Seen, numbers: &[i64]) -> Result<Array, ApplyFault>
         requires numbers { array.now.items ≡ map (λ z. Num z) numbers.now }
         requires typed { array.now.item_type ≡ Nums }
         requires some { 0 < length numbers.now }
+        requires axes { 0 < length array.now.shape }
         ensures { IsAnswerTo (reduce_whole self.function self.along array.now) result }
     {
         let (shape, _) = self.form(array)?;
         let axes = array.shape();
-        if axes.is_empty() {
-            return folds(alloc, self.function, numbers, 1, 1, &shape);
-        }
         let axis = self.along.axis_at(axes.len() as u32);
         let apart = stride(axes.as_slice(), axis) as usize;
         folds(alloc, self.function, numbers, apart, axes[axis] as usize, &shape)

@@ -1,4 +1,4 @@
-use Rattle.std.proofs.Common.{◌≡◌, ◌∙◌, ◌+◌, ◌-◌, ◌*◌, ◌<◌, ◌≤◌, ap, sym, subst, get_or, length, arith, Ok, Err, drop}
+use Rattle.std.proofs.Common.{◌≡◌, ◌∙◌, ◌+◌, ◌-◌, ◌*◌, ap, sym, subst, get_or, length, arith, Ok, Err, drop}
 use Rattle.arrays_core.specs.Items.{fill}
 use Rattle.scalar_fns.specs.Scalars.{two_of}
 use Rattle.operator_fns.specs.Strides.{strided, folded}

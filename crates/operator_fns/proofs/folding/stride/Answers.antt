@@ -1,5 +1,4 @@
-use Rattle.std.proofs.Common.{◌≡◌, ◌+◌, ◌<◌, ap, sym, arith}
-use Rattle.arrays_core.specs.Shapes.{size, IsWithinLimits}
+use Rattle.std.proofs.Common.{◌+◌}
 use Rattle.operator_fns.proofs.Lines.{within_drop, size-drop-le}
 use Rattle.operator_fns.proofs.folding.stride.Goals as goal
 

@@ -1,0 +1,9 @@
+use Rattle.std.proofs.Common.{◌≤◌, length, subst, sym}
+use Rattle.apl_tokens.specs.Lexemes.{Sign}
+use Rattle.apl_expr.specs.declared.functions.Function.{Function}
+use Rattle.apl_expr.proofs.FunctionsRead.{more_short}
+use Rattle.apl_expr.proofs.functions.function_from.Goals as goal
+
+-- src/functions.rt:170:1
+pub returns-in-Mark-clause-short : goal.returns-in-Mark-clause-short
+returns-in-Mark-clause-short c = subst (λ (f : Function). f.more ≤ length c.args.tokens.now) (sym c.function_at.ensures) (more_short (Sign c.in-Mark.sign) c.args.tokens.now)
