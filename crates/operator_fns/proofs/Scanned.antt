@@ -7,23 +7,25 @@ use Rattle.arrays_core.specs.declared.item.Item.TheVariants.{Num}
 use Rattle.arrays_core.specs.declared.item.Kind.{Kind}
 use Rattle.arrays_core.specs.declared.item.ItemType.{ItemType}
 use Rattle.arrays_core.specs.declared.item.ItemType.TheVariants.{Nums}
-use Rattle.arrays_core.specs.Items.{fill}
+use Rattle.std.specs.List.{range_with_len}
+use Rattle.arrays_core.specs.Items.{fill, all_or_first_error}
 use Rattle.arrays_core.specs.Shapes.{size, is_index_of, places_before}
-use Rattle.arrays_core.specs.Arrays.{ArrayValue, item_of, collect}
+use Rattle.arrays_core.specs.Arrays.{ArrayValue, item_of, collect, with_items}
 use Rattle.arrays_core.proofs.Shapes.{head_of, as_long}
 use Rattle.scalar_fns.specs.declared.function.Scalar2.{Scalar2}
 use Rattle.scalar_fns.specs.Numbers.{of_two}
 use Rattle.scalar_fns.specs.Scalars.{number_item}
+use Rattle.scalar_fns.specs.Results.{items_of}
 use Rattle.index_region.specs.declared.along.Along.{Along}
 use Rattle.index_region.specs.Common.{Form, and_then, counts_as_numbers, places_along, is_axis, axis_at, limited}
 use Rattle.index_region.proofs.Passing.{gives, limited_gives}
 use Rattle.operator_fns.specs.Folds.{fold_right, line}
 use Rattle.operator_fns.specs.Strides.{strided, folded, line_start}
-use Rattle.operator_fns.specs.Runs.{depth, run_to}
+use Rattle.operator_fns.specs.Runs.{depth, run_to, scanned}
 use Rattle.operator_fns.specs.Scans.{scan_type, scan_form, scan_item, scan_whole}
 use Rattle.operator_fns.proofs.Folds.{take-strided}
 use Rattle.operator_fns.proofs.Lines.{stride, line-strided, size-drop-le}
-use Rattle.operator_fns.proofs.Placewise.{collected_same}
+use Rattle.operator_fns.proofs.Placewise.{collected_same, numbers_collected}
 use Rattle.operator_fns.proofs.Reduced.{numbers_folded, start_is}
 
 -- ---- an index list and its place
@@ -132,3 +134,10 @@ module _ (f : Scalar2) (b : ArrayValue) (xs : List ℤ) (items : b.items ≡ map
       ap (λ a. fold_right f (take (get_or index a 1) (line b a (remove index a)))) (sym meant)
       ∙ run_there f b xs items typed axis index there below some
       ∙ (rw (n_is, s_is, facts.shaped) refl))
+
+-- the array of the folds up to each place, as the list of them
+pub scan_collected : (f : ℤ → ℤ → Result ℤ Kind) (xs : List ℤ) (s n : ℕ) (shape : List ℕ) → size shape ≡ length xs
+    → collect Nums shape (λ index. number_item (folded f (run_to (pos 0) xs s n (places_before shape index)))) ≡ with_items Nums shape (items_of (scanned (folded f) xs s n))
+scan_collected f xs s n shape long =
+    numbers_collected shape (λ place. folded f (run_to (pos 0) xs s n place))
+    ∙ ap (λ m. with_items Nums shape (items_of (all_or_first_error (map (λ place. folded f (run_to (pos 0) xs s n place)) (range_with_len 0 m))))) long
