@@ -22,8 +22,8 @@ fault_passed fold zs stride count wanted (KindFault k) (Err e) same is h = rw h.
 fault_passed fold zs stride count wanted NoMemory (Err e) same is h = rw h.1 tt
 
 -- the array of a list's error, or want of memory
-pub array_fault : {G : Type 0} (wanted : Result (List ℤ) Kind) (shape : List ℕ) (fault : ApplyFault) (r : Result ArrayValue ApplyFault)
+pub array_fault : (G : Type 0) (wanted : Result (List ℤ) Kind) (shape : List ℕ) (fault : ApplyFault) (r : Result ArrayValue ApplyFault)
     → IsListAnswerTo {G = G} wanted (Err fault) → IsErr r × IsErrAnd r (λ e. e ≡ fault) → IsAnswerTo (with_items Nums shape (items_of wanted)) r
-array_fault wanted shape fault (Ok a) is h = absurd h.1
-array_fault wanted shape (KindFault k) (Err e) is h = rw h.1 (rw is refl)
-array_fault wanted shape NoMemory (Err e) is h = rw h.1 tt
+array_fault G wanted shape fault (Ok a) is h = absurd h.1
+array_fault G wanted shape (KindFault k) (Err e) is h = rw h.1 (rw is refl)
+array_fault G wanted shape NoMemory (Err e) is h = rw h.1 tt

@@ -1,24 +1,27 @@
 -- The scan of an array of numbers, taken from the numbers as they lie.
-use Rattle.std.proofs.Common.{◌≡◌, ℕ, zero, suc, ◌+◌, ◌-◌, ◌*◌, ◌/◌, ◌%◌, ◌<◌, ◌≤◌, Bool, true, false, ◌||◌, nat_lt, nat_le, ◌&&◌, ℤ, pos, List, [], ◌∷◌, length, get_or, drop, take, map, refl, ap, sym, ◌∙◌, arith, insert, remove, if◌then◌else◌, Result, Ok, Err}
-use Rattle.std.proofs.lemmas.Bool.{and_parts, and_from, or_cases, ltb-true, le-ltb}
+use Rattle.std.proofs.Common.{◌≡◌, ℕ, zero, suc, ◌+◌, ◌-◌, ◌*◌, ◌/◌, ◌%◌, ◌<◌, ◌≤◌, Bool, true, false, ◌||◌, not, nat_eq, nat_lt, nat_le, inl, inr, IfOk, ◌&&◌, ℤ, pos, List, [], ◌∷◌, length, get_or, drop, take, map, refl, ap, sym, ◌∙◌, arith, insert, remove, if◌then◌else◌, Result, Ok, Err}
+use Rattle.std.proofs.lemmas.Bool.{and_parts, and_from, eqb-true, ltb-true, cases_lt}
+use Rattle.std.proofs.lemmas.List.{get_or_default}
 use Rattle.std.proofs.lemmas.Nat.{div-mul-add, mod-mul-add, mod_below}
 use Rattle.arrays_core.specs.declared.item.Item.{Item}
 use Rattle.arrays_core.specs.declared.item.Item.TheVariants.{Num}
 use Rattle.arrays_core.specs.declared.item.Kind.{Kind}
+use Rattle.arrays_core.specs.declared.item.Kind.TheVariants.{Axis as AxisKind, Domain}
 use Rattle.arrays_core.specs.declared.item.ItemType.{ItemType}
-use Rattle.arrays_core.specs.declared.item.ItemType.TheVariants.{Nums}
+use Rattle.arrays_core.specs.declared.item.ItemType.TheVariants.{Nums, Chars}
 use Rattle.std.specs.List.{range_with_len}
-use Rattle.arrays_core.specs.Items.{fill, all_or_first_error}
+use Rattle.arrays_core.specs.Items.{fill, type_of, all_or_first_error}
 use Rattle.arrays_core.specs.Shapes.{size, is_index_of, places_before}
-use Rattle.arrays_core.specs.Arrays.{ArrayValue, item_of, collect, with_items}
-use Rattle.arrays_core.proofs.Shapes.{head_of, as_long}
+use Rattle.arrays_core.specs.Arrays.{ArrayValue, IsArray, item_of, collect, with_items}
+use Rattle.arrays_core.proofs.Shapes.{head_of, as_long, places_below}
 use Rattle.scalar_fns.specs.declared.function.Scalar2.{Scalar2}
 use Rattle.scalar_fns.specs.Numbers.{of_two}
 use Rattle.scalar_fns.specs.Scalars.{number_item}
 use Rattle.scalar_fns.specs.Results.{items_of}
 use Rattle.index_region.specs.declared.along.Along.{Along}
-use Rattle.index_region.specs.Common.{Form, and_then, counts_as_numbers, places_along, is_axis, axis_at, limited}
-use Rattle.index_region.proofs.Passing.{gives, limited_gives}
+use Rattle.index_region.specs.Common.{Form, and_then, counts_as_numbers, is_of_numbers, places_along, is_axis, axis_at, limited}
+use Rattle.index_region.specs.Answers.{IsPlaceOf, HasTypeOf}
+use Rattle.index_region.proofs.Passing.{gives, limited_gives, passed, place_inside, typed_check, typed_limited}
 use Rattle.operator_fns.specs.Folds.{fold_right, line}
 use Rattle.operator_fns.specs.Strides.{strided, folded, line_start}
 use Rattle.operator_fns.specs.Runs.{depth, run_to, scanned}
@@ -26,7 +29,7 @@ use Rattle.operator_fns.specs.Scans.{scan_type, scan_form, scan_item, scan_whole
 use Rattle.operator_fns.proofs.Folds.{take-strided}
 use Rattle.operator_fns.proofs.Lines.{stride, line-strided, size-drop-le}
 use Rattle.operator_fns.proofs.Placewise.{collected_same, numbers_collected}
-use Rattle.operator_fns.proofs.Reduced.{numbers_folded, start_is}
+use Rattle.operator_fns.proofs.Reduced.{numbers_folded, start_is, sizes}
 
 -- ---- an index list and its place
 
@@ -114,6 +117,68 @@ scan_facts along b shape t h =
     let checked = gives (nat_lt (places_along b.shape axis) 2 || counts_as_numbers b) _ (limited b.shape (scan_type b axis)) (shape, t) axis_checked.is in
     let same = limited_gives b.shape (scan_type b axis) (shape, t) checked.is in
     record { on_axis = axis_checked.test; shaped = ap (λ (f : Form). f.0) same; typed = ap (λ (f : Form). f.1) same }
+
+-- what holds at an index list of a result
+pub record ScanPlace (along : Along) (b : ArrayValue) (index : List ℕ) : Type 0 where
+  pub on_axis : is_axis (length b.shape) along ≡ true
+  pub short_or_numbers : (nat_lt (places_along b.shape (axis_at (length b.shape) along)) 2 || counts_as_numbers b) ≡ true
+  pub inside : is_index_of b.shape index ≡ true
+
+pub scan_place : (along : Along) (b : ArrayValue) (index : List ℕ) → IsPlaceOf (scan_form along b) index → ScanPlace along b index
+scan_place along b index h =
+    let axis = axis_at (length b.shape) along in
+    let on_axis = passed (is_axis (length b.shape) along) _ _ index h in
+    let checked = passed (nat_lt (places_along b.shape axis) 2 || counts_as_numbers b) _ _ index on_axis.place in
+    record { on_axis = on_axis.test; short_or_numbers = checked.test; inside = place_inside b.shape (scan_type b axis) index checked.place }
+
+are_numbers : (b : ArrayValue) → counts_as_numbers b ≡ true → 0 < length b.items → b.item_type ≡ Nums
+are_numbers b h some = decide b.item_type (nat_eq (length b.items) 0) refl h
+  where
+    decide : (t : ItemType) (none : Bool) → nat_eq (length b.items) 0 ≡ none → (is_of_numbers t || not (not none)) ≡ true → t ≡ Nums
+    decide Nums none e h = refl
+    decide Chars true e h = let empty = eqb-true (length b.items) 0 e in absurd (omega arith)
+    decide Chars false e h = let no : ⊥ = cc in absurd no
+
+scan_type_of : (b : ArrayValue) (axis i : ℕ) (item : Item) → (nat_lt (places_along b.shape axis) 2 || counts_as_numbers b) ≡ true → 0 < length b.items
+    → 1 ≤ i → i ≤ places_along b.shape axis → (i ≡ 1 → type_of item ≡ b.item_type) → (1 < i → type_of item ≡ Nums) → type_of item ≡ scan_type b axis
+scan_type_of b axis i item h some low high one several = decide (nat_lt (places_along b.shape axis) 2) refl h
+  where
+    decide : (short : Bool) → nat_lt (places_along b.shape axis) 2 ≡ short → (short || counts_as_numbers b) ≡ true
+        → type_of item ≡ (if short then b.item_type else Nums)
+    decide true e h = let below = ltb-true (places_along b.shape axis) 2 e in one (omega arith)
+    decide false e h =
+        elim (cases_lt 1 i) [
+          | inl many ↦ several many
+          | inr few ↦ one (omega arith) ∙ are_numbers b h some
+        ]
+
+pub scan_typed : (along : Along) (b : ArrayValue) (index : List ℕ) (r : Result Item Kind) → IsArray b → IsPlaceOf (scan_form along b) index → axis_at (length b.shape) along < length b.shape
+    → (get_or index (axis_at (length b.shape) along) 1 ≡ 1 → IfOk r (λ x. type_of x ≡ b.item_type)) → (1 < get_or index (axis_at (length b.shape) along) 1 → IfOk r (λ x. type_of x ≡ Nums))
+    → IfOk r (HasTypeOf (scan_form along b))
+scan_typed along b index (Err k) sound h there one several = tt
+scan_typed along b index (Ok item) sound h there one several =
+    let axis = axis_at (length b.shape) along in
+    let place = scan_place along b index h in
+    let at = at_axis b.shape index axis there place.inside in
+    let below = places_below b.shape index place.inside in
+    let along_it = get_or_default b.shape axis 1 0 there in
+    let t = scan_type_of b axis (get_or index axis 1) item place.short_or_numbers (omega (arith, sound.one_item_a_place)) at.low (omega (arith, at.high, along_it)) one several in
+    typed_check (is_axis (length b.shape) along) AxisKind _ item
+    (typed_check (nat_lt (places_along b.shape axis) 2 || counts_as_numbers b) Domain (limited b.shape (scan_type b axis)) item
+    (typed_limited b.shape (scan_type b axis) item t))
+
+-- a block of lines lies in an array that has items
+pub block_fits : (axis : ℕ) (shape : List ℕ) (n s : ℕ) → axis < length shape → n ≡ get_or shape axis 0 → s ≡ size (drop (suc axis) shape) → 0 < size shape
+    → (1 ≤ n) × (n * s ≤ size shape)
+block_fits axis shape n s there n_is s_is some =
+    let parts = sizes axis shape there in
+    let fits = some_fit n s parts.lines (size shape) (rw (n_is, s_is) parts.all) some in
+    fits
+  where
+    some_fit : (n s l t : ℕ) → t ≡ l * (n * s) → 0 < t → (1 ≤ n) × (n * s ≤ t)
+    some_fit zero s l t e h = absurd (omega arith)
+    some_fit (suc n) s zero t e h = absurd (omega arith)
+    some_fit (suc n) s (suc l) t e h = (omega arith, omega arith)
 
 of_numbers : (w : Bool) (t : ItemType) → t ≡ Nums → (if w then t else Nums) ≡ Nums
 of_numbers true t h = h

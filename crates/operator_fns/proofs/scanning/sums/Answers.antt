@@ -1,4 +1,4 @@
-use Rattle.std.proofs.Common.{◌≡◌, ◌∙◌, ap, sym, subst, pos, length, map, Ok}
+use Rattle.std.proofs.Common.{◌≡◌, ◌∙◌, ap, sym, subst, pos, length, map, Ok, Global}
 use Rattle.std.specs.List.{range_with_len}
 use Rattle.arrays_core.specs.declared.item.ItemType.TheVariants.{Nums}
 use Rattle.arrays_core.specs.Arrays.{ArrayValue, IsAnswerTo, with_items}
@@ -18,7 +18,7 @@ returns-in_err-numbers c =
     let zs = c.args.numbers.now in
     let shape = c.args.shape.now.items in
     rw (scan_collected f zs c.args.stride c.args.count shape c.requires.long)
-    (array_fault (scanned (folded f) zs c.args.stride c.args.count) shape c.in_err-numbers.field-0.0 _ c.in_err-numbers.ensures.is c.from_residual.ensures)
+    (array_fault Global (scanned (folded f) zs c.args.stride c.args.count) shape c.in_err-numbers.field-0.0 _ c.in_err-numbers.ensures.is c.from_residual.ensures)
 
 pub returns : goal.returns
 returns c =
