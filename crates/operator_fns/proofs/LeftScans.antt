@@ -1,5 +1,5 @@
 -- A scan from the left, result by result.
-use Rattle.std.proofs.Common.{◌≡◌, ℕ, zero, suc, ◌+◌, ◌-◌, ◌*◌, ◌%◌, ◌<◌, ◌≤◌, nat_lt, Bool, true, false, List, length, get_or, map, take, refl, ap, sym, subst, ◌∙◌, inl, inr, arith, pos, ℤ, FitsSigned, Result, Ok, Err, Vec}
+use Rattle.std.proofs.Common.{◌≡◌, ℕ, ◌+◌, ◌-◌, ◌*◌, ◌%◌, ◌<◌, ◌≤◌, nat_lt, true, false, List, length, get_or, map, take, ap, sym, subst, ◌∙◌, inl, inr, arith, pos, ℤ, FitsSigned, Result, Ok, Err, Vec}
 use Rattle.std.specs.Int.{w64}
 use Rattle.std.specs.List.{All}
 use Rattle.std.specs.Result.{IsErr, IsErrAnd}
@@ -13,7 +13,7 @@ use Rattle.std.proofs.lemmas.List.FromFn.{length-map-range_with_len, get_or-map-
 use Rattle.arrays_core.specs.declared.item.Kind.{Kind}
 use Rattle.arrays_core.specs.Items.{all_or_first_error}
 use Rattle.index_region.specs.Common.{and_then}
-use Rattle.operator_fns.specs.Runs.{depth, run_to, folded_left, FailsAt, HasRead}
+use Rattle.operator_fns.specs.Runs.{run_to, folded_left, HasRead}
 use Rattle.operator_fns.proofs.Runs.{first_row, later_row, behind, left_first, left_later}
 use Rattle.operator_fns.proofs.Firsts.{entry_of}
 

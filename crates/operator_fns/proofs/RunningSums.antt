@@ -1,7 +1,7 @@
 -- The sums of the runs of lines, by the greatest and the least sums of their endings.
-use Rattle.std.proofs.Common.{◌≡◌, ℕ, zero, suc, ◌+◌, ◌-◌, ◌*◌, ◌<◌, ◌≤◌, List, [], ◌∷◌, ◌++◌, length, get_or, map, refl, ap, sym, subst, ◌∙◌, arith, pos, ℤ, ◌+ℤ◌, FitsSigned, Result, Ok, Err}
+use Rattle.std.proofs.Common.{◌≡◌, ℕ, zero, suc, ◌+◌, ◌-◌, ◌*◌, ◌<◌, ◌≤◌, List, [], ◌∷◌, ◌++◌, length, get_or, refl, ap, sym, subst, ◌∙◌, arith, pos, ℤ, ◌+ℤ◌, FitsSigned, Result, Ok, Err}
 use Rattle.std.specs.Int.{int_max, int_min}
-use Rattle.std.specs.List.{All, range_with_len}
+use Rattle.std.specs.List.{All}
 use Rattle.std.specs.Int.{w64}
 use Rattle.std.proofs.Math.Nat.{mul-le-mul_right}
 use Rattle.arrays_core.specs.Items.{all_or_first_error}
@@ -14,7 +14,7 @@ use Rattle.operator_fns.specs.Strides.{folded}
 use Rattle.operator_fns.specs.Runs.{depth, run_to, fold_on, folded_left, scanned, FailsAt}
 use Rattle.operator_fns.proofs.Folds.{length-strided, get_or-strided}
 use Rattle.operator_fns.proofs.Runs.{one_deeper, depth_high, run_more, run_some, left_first, left_later}
-use Rattle.operator_fns.proofs.Firsts.{Given, AllGiven, rule_entry, rule_given, rule_error, same_rules}
+use Rattle.operator_fns.proofs.Firsts.{Given, rule_entry, rule_error, same_rules}
 use Rattle.operator_fns.proofs.Endings.{Within, within_of, folded_error, held_error, greatest_step, least_step, sum_from_left, more_most, more_fewest}
 
 module _ (zs : List ℤ) (stride count : ℕ) (apart : 0 < stride) (some : 1 ≤ count) where

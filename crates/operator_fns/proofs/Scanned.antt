@@ -12,7 +12,7 @@ use Rattle.arrays_core.specs.declared.item.ItemType.TheVariants.{Nums, Chars}
 use Rattle.std.specs.List.{range_with_len}
 use Rattle.arrays_core.specs.Items.{fill, type_of, all_or_first_error}
 use Rattle.arrays_core.specs.Shapes.{size, is_index_of, places_before}
-use Rattle.arrays_core.specs.Arrays.{ArrayValue, IsArray, item_of, collect, with_items}
+use Rattle.arrays_core.specs.Arrays.{ArrayValue, IsArray, collect, with_items}
 use Rattle.arrays_core.proofs.Shapes.{head_of, as_long, places_below}
 use Rattle.scalar_fns.specs.declared.function.Scalar2.{Scalar2}
 use Rattle.scalar_fns.specs.Numbers.{of_two}

@@ -1,4 +1,4 @@
-use Rattle.std.proofs.Common.{◌≡◌, subst}
+use Rattle.std.proofs.Common.{subst}
 use Rattle.scalar_fns.specs.declared.function.Scalar2.TheVariants.{Plus as Sum}
 use Rattle.scalar_fns.specs.Numbers.{of_two}
 use Rattle.scalar_fns.specs.Results.{IsListAnswerTo}

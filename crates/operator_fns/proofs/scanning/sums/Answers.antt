@@ -1,13 +1,11 @@
-use Rattle.std.proofs.Common.{◌≡◌, ◌∙◌, ap, sym, subst, pos, length, map, Ok, Global}
-use Rattle.std.specs.List.{range_with_len}
+use Rattle.std.proofs.Common.{◌∙◌, ap, sym, Ok, Global}
 use Rattle.arrays_core.specs.declared.item.ItemType.TheVariants.{Nums}
-use Rattle.arrays_core.specs.Arrays.{ArrayValue, IsAnswerTo, with_items}
-use Rattle.arrays_core.specs.Items.{all_or_first_error}
+use Rattle.arrays_core.specs.Arrays.{with_items}
 use Rattle.scalar_fns.specs.declared.function.Scalar2.TheVariants.{Plus}
 use Rattle.scalar_fns.specs.Numbers.{of_two}
 use Rattle.scalar_fns.specs.Results.{items_of}
 use Rattle.operator_fns.specs.Strides.{folded}
-use Rattle.operator_fns.specs.Runs.{run_to, scanned}
+use Rattle.operator_fns.specs.Runs.{scanned}
 use Rattle.operator_fns.proofs.Errors.{array_fault}
 use Rattle.operator_fns.proofs.Scanned.{scan_collected}
 use Rattle.operator_fns.proofs.scanning.sums.Goals as goal
