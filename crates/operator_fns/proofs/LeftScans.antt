@@ -31,22 +31,22 @@ module _ (f : ℤ → ℤ → Result ℤ Kind) (zs : List ℤ) (stride count : �
   next_left place block_place xs r below made here first later =
       elim (cases_lt block_place stride) [
         | inl h ↦
-          let low : place % (count * stride) < stride = omega (arith, here, h) in
-          left_first stride count apart some (pos 0) zs f place (first_row stride count apart some place low) ∙ sym (first (lt-ltb block_place stride h))
+            let low : place % (count * stride) < stride = omega (arith, here, h) in
+            left_first stride count apart some (pos 0) zs f place (first_row stride count apart some place low) ∙ sym (first (lt-ltb block_place stride h))
         | inr h ↦
-          let high : stride ≤ place % (count * stride) = omega (arith, here, h) in
-          let deep = later_row stride count apart some place high in
-          let far = behind stride count apart some place deep in
-          let rs = map left_at (range_with_len 0 (length zs)) in
-          let long : length rs ≡ length zs = length-map-range_with_len left_at 0 (length zs) in
-          let inside : place - stride < place = omega arith in
-          let entry = entry_of (take place rs) xs (place - stride) (Ok (pos 0)) (pos 0) made (omega (arith, length-take place rs)) in
-          let before : left_at (place - stride) ≡ Ok (get_or xs (place - stride) (pos 0)) =
-          sym (get_or-take place rs (place - stride) (Ok (pos 0)) inside
-          ∙ get_or-map-range_with_len left_at 0 (length zs) (place - stride) (place - stride) (Ok (pos 0)) (omega arith) (omega arith)) ∙ entry in
-          left_later stride count apart some (pos 0) zs f place deep
-          ∙ ap (λ w. and_then w (λ z. f z (get_or zs place (pos 0)))) before
-          ∙ sym (later (le-ltb block_place stride h))
+            let high : stride ≤ place % (count * stride) = omega (arith, here, h) in
+            let deep = later_row stride count apart some place high in
+            let far = behind stride count apart some place deep in
+            let rs = map left_at (range_with_len 0 (length zs)) in
+            let long : length rs ≡ length zs = length-map-range_with_len left_at 0 (length zs) in
+            let inside : place - stride < place = omega arith in
+            let entry = entry_of (take place rs) xs (place - stride) (Ok (pos 0)) (pos 0) made (omega (arith, length-take place rs)) in
+            let before : left_at (place - stride) ≡ Ok (get_or xs (place - stride) (pos 0)) =
+            sym (get_or-take place rs (place - stride) (Ok (pos 0)) inside
+            ∙ get_or-map-range_with_len left_at 0 (length zs) (place - stride) (place - stride) (Ok (pos 0)) (omega arith) (omega arith)) ∙ entry in
+            left_later stride count apart some (pos 0) zs f place deep
+            ∙ ap (λ w. and_then w (λ z. f z (get_or zs place (pos 0)))) before
+            ∙ sym (later (le-ltb block_place stride h))
       ]
 
 -- ---- numbers of 64 bits among those that were read

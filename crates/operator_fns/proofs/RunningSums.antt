@@ -48,7 +48,7 @@ module _ (zs : List ℤ) (stride count : ℕ) (apart : 0 < stride) (some : 1 ≤
         let split = run_more stride count apart some (pos 0) zs place deep in
         let sum = sums place below in
         let next = more (run (place - stride)) y before.item sum.item (run_some stride count apart some (pos 0) zs (place - stride))
-            (subst (All Within) split (run_within place below)) (ap (folded (of_two Plus)) (sym split) ∙ sum.is) before.is in
+        (subst (All Within) split (run_within place below)) (ap (folded (of_two Plus)) (sym split) ∙ sum.is) before.is in
         record {
           item = next.item;
           is = left_later stride count apart some (pos 0) zs step place deep ∙ ap (λ r. and_then r (λ z. step z y)) before.is ∙ next.is;
@@ -83,7 +83,7 @@ module _ (zs : List ℤ) (stride count : ℕ) (apart : 0 < stride) (some : 1 ≤
             let p = fails.place in
             let inside = fails.below in
             let given = left_given (p + 1) (λ j below. within_of (get_or zs j (pos 0)) (fails.numbers j (omega arith))) step more (depth stride count p) p refl (omega arith) (λ q below.
-                record { item = get_or sums q (pos 0); is = rule_entry (λ q. folded (of_two Plus) (run q)) (length zs) sums q (pos 0) e (omega arith) }) in
+            record { item = get_or sums q (pos 0); is = rule_entry (λ q. folded (of_two Plus) (run q)) (length zs) sums q (pos 0) e (omega arith) }) in
             let wrong : folded_left step (run p) ≡ Err k = fails.is in
             let right : folded_left step (run p) ≡ Ok given.item = given.is in
             let no : ⊥ = cc in absurd no

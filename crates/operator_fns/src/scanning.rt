@@ -211,7 +211,14 @@ impl Scan {
         }
         let axis = self.along.axis_at(axes.len() as u32);
         let apart = stride(axes.as_slice(), axis) as usize;
-        scans(alloc, self.function, numbers, apart, axes[axis] as usize, &shape)
+        scans(
+            alloc,
+            self.function,
+            numbers,
+            apart,
+            axes[axis] as usize,
+            &shape,
+        )
     }
 }
 

@@ -24,9 +24,9 @@ returns-in_err-result-clause-is g c =
     let value = c.deref.ensures.value in
     let count : length c.deref.result.now ≡ k = omega (arith, c.deref.ensures.len, c.loop-place.invariant.long) in
     let given : rule k ≡ Err e = next_left f zs c.args.stride c.args.count c.requires.apart c.requires.some k c.loop-place.block_place c.loop-place.results.items
-        (Err e) (omega arith) c.loop-place.invariant.made c.loop-place.invariant.here
-        (λ h. rw (read) at (c.in_err-result.ensures.first h))
-        (λ h. rw (count, value, read) at (c.in_err-result.ensures.later h)) in
+    (Err e) (omega arith) c.loop-place.invariant.made c.loop-place.invariant.here
+    (λ h. rw (read) at (c.in_err-result.ensures.first h))
+    (λ h. rw (count, value, read) at (c.in_err-result.ensures.later h)) in
     let here = get_or-map-range_with_len rule 0 (length zs) k k (Err e) (omega arith) (omega arith) ∙ given in
     list_error _ e _ (front_error (map rule (range_with_len 0 (length zs))) k c.loop-place.results.items e (omega arith) here c.loop-place.invariant.made)
     c.from_residual-in_err-result.ensures
@@ -44,9 +44,9 @@ returns-in_err-result-clause-read g c =
     let value = c.deref.ensures.value in
     let count : length c.deref.result.now ≡ k = omega (arith, c.deref.ensures.len, c.loop-place.invariant.long) in
     let given : rule k ≡ Err e = next_left f zs c.args.stride c.args.count c.requires.apart c.requires.some k c.loop-place.block_place c.loop-place.results.items
-        (Err e) (omega arith) c.loop-place.invariant.made c.loop-place.invariant.here
-        (λ h. rw (read) at (c.in_err-result.ensures.first h))
-        (λ h. rw (count, value, read) at (c.in_err-result.ensures.later h)) in
+    (Err e) (omega arith) c.loop-place.invariant.made c.loop-place.invariant.here
+    (λ h. rw (read) at (c.in_err-result.ensures.first h))
+    (λ h. rw (count, value, read) at (c.in_err-result.ensures.later h)) in
     error_read (folded_left f) zs c.args.stride c.args.count k e _ (omega arith) given (λ j below. fits_below zs k c.loop-place.invariant.read fit j (omega arith))
     c.from_residual-in_err-result.ensures
 
@@ -65,9 +65,9 @@ loop-place-preserved g c =
     let value = c.deref.ensures.value in
     let count : length c.deref.result.now ≡ k = omega (arith, c.deref.ensures.len, c.loop-place.invariant.long) in
     let given : rule k ≡ Ok z = next_left f zs c.args.stride c.args.count c.requires.apart c.requires.some k c.loop-place.block_place c.loop-place.results.items
-        (Ok z) (omega arith) c.loop-place.invariant.made c.loop-place.invariant.here
-        (λ h. rw (read) at (c.in_ok-result.ensures.first h))
-        (λ h. rw (count, value, read) at (c.in_ok-result.ensures.later h)) in
+    (Ok z) (omega arith) c.loop-place.invariant.made c.loop-place.invariant.here
+    (λ h. rw (read) at (c.in_ok-result.ensures.first h))
+    (λ h. rw (count, value, read) at (c.in_ok-result.ensures.later h)) in
     let here = get_or-map-range_with_len rule 0 (length zs) k k (Ok z) (omega arith) (omega arith) ∙ given in
     let items : c.push.new.self.items ≡ c.loop-place.results.items ++ z ∷ [] = rw same at c.in_ok-push.ensures.items in
     record {
