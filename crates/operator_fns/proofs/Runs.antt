@@ -50,8 +50,8 @@ module _ (stride count : ℕ) (apart : 0 < stride) (some : 1 ≤ count) where
       decide zero e = refl
       decide (suc d) e = absurd (omega arith)
 
-  deep : (place : ℕ) → stride ≤ place % (count * stride) → 0 < depth stride count place
-  deep place h = decide (depth stride count place) (in_block place)
+  pub later_row : (place : ℕ) → stride ≤ place % (count * stride) → 0 < depth stride count place
+  later_row place h = decide (depth stride count place) (in_block place)
     where
       decide : (d : ℕ) → place % (count * stride) ≡ d * stride + place % stride → 0 < d
       decide zero e = let r = mod_below place stride apart in absurd (omega arith)
@@ -83,9 +83,6 @@ module _ (stride count : ℕ) (apart : 0 < stride) (some : 1 ≤ count) where
         | inl n ↦ absurd (omega (arith, n.0))
         | inr n ↦ e ∙ n
       ]
-
-  pub later_row : (place : ℕ) → stride ≤ place % (count * stride) → 0 < depth stride count place
-  later_row place h = deep place h
 
   module _ {A : Type 0} (d : A) (xs : List A) where
     pub run_first : (place : ℕ) → depth stride count place ≡ 0 → run_to d xs stride count place ≡ get_or xs place d ∷ []

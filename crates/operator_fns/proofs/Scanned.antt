@@ -1,6 +1,6 @@
 -- The scan of an array of numbers, taken from the numbers as they lie.
 use Rattle.std.proofs.Common.{◌≡◌, ℕ, zero, suc, ◌+◌, ◌-◌, ◌*◌, ◌/◌, ◌%◌, ◌<◌, ◌≤◌, Bool, true, false, ◌||◌, not, nat_eq, nat_lt, nat_le, inl, inr, IfOk, ◌&&◌, ℤ, pos, List, [], ◌∷◌, length, get_or, drop, take, map, refl, ap, sym, ◌∙◌, arith, insert, remove, if◌then◌else◌, Result, Ok, Err}
-use Rattle.std.proofs.lemmas.Bool.{and_parts, and_from, eqb-true, ltb-true, cases_lt}
+use Rattle.std.proofs.lemmas.Bool.{and_parts, and_from, eqb-true, ltb-true, le-ltb, cases_lt}
 use Rattle.std.proofs.lemmas.List.{get_or_default}
 use Rattle.std.proofs.lemmas.Nat.{div-mul-add, mod-mul-add, mod_below}
 use Rattle.arrays_core.specs.declared.item.Item.{Item}
@@ -206,3 +206,11 @@ pub scan_collected : (f : ℤ → ℤ → Result ℤ Kind) (xs : List ℤ) (s n 
 scan_collected f xs s n shape long =
     numbers_collected shape (λ place. folded f (run_to (pos 0) xs s n place))
     ∙ ap (λ m. with_items Nums shape (items_of (all_or_first_error (map (λ place. folded f (run_to (pos 0) xs s n place)) (range_with_len 0 m))))) long
+
+-- characters along an axis of two or more
+pub characters_fail : (along : Along) (b : ArrayValue) (axis : ℕ) → is_axis (length b.shape) along ≡ true → axis ≡ axis_at (length b.shape) along → axis < length b.shape
+    → 2 ≤ get_or b.shape axis 0 → counts_as_numbers b ≡ false → scan_form along b ≡ Err Domain
+characters_fail along b axis on_axis meant there many characters =
+    let same : get_or b.shape (axis_at (length b.shape) along) 1 ≡ get_or b.shape axis 0 = ap (λ k. get_or b.shape k 1) (sym meant) ∙ get_or_default b.shape axis 1 0 there in
+    let long : nat_lt (places_along b.shape (axis_at (length b.shape) along)) 2 ≡ false = le-ltb (places_along b.shape (axis_at (length b.shape) along)) 2 (omega (arith, same)) in
+    rw (on_axis, long, characters) refl
