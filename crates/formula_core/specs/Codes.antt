@@ -93,9 +93,13 @@ dyad_again scalar_dyad.Or = refl
 dyad_again scalar_dyad.Nand = refl
 dyad_again scalar_dyad.Nor = refl
 
--- a function has a number, and a number of its scalar function or its axis
+-- a function has a number, a number of its scalar function or of its place among those without, and two of its axis or of
+-- its second scalar function
 abbrev Code : Type 0
-Code = ℕ × (ℕ × ℤ)
+Code = ℕ × (ℕ × (ℕ × ℤ))
+
+abbrev none : ℕ × ℤ
+none = (0, pos 0)
 
 abbrev code_of_along : Along → ℕ × ℤ
 code_of_along First = (0, pos 0)
@@ -113,43 +117,50 @@ along_again Last = refl
 along_again (Axis k) = refl
 
 abbrev code_of_monadic : Monadic → Code
-code_of_monadic (monadic.Scalar f) = (0, (number_of_monad f, pos 0))
-code_of_monadic (monadic.Reverse a) = (1, code_of_along a)
-code_of_monadic monadic.Ravel = (2, (0, pos 0))
-code_of_monadic monadic.Transpose = (3, (0, pos 0))
-code_of_monadic monadic.Shape = (3, (1, pos 0))
-code_of_monadic monadic.Iota = (3, (2, pos 0))
+code_of_monadic (monadic.Scalar f) = (0, (number_of_monad f, none))
+code_of_monadic (monadic.Reverse a) = (1, (0, code_of_along a))
+code_of_monadic (monadic.Reduce f a) = (2, (number_of_dyad f, code_of_along a))
+code_of_monadic (monadic.Scan f a) = (3, (number_of_dyad f, code_of_along a))
+code_of_monadic monadic.Ravel = (4, (0, none))
+code_of_monadic monadic.Transpose = (4, (1, none))
+code_of_monadic monadic.Shape = (4, (2, none))
+code_of_monadic monadic.Iota = (4, (3, none))
 
 abbrev plain_monads : List Monadic
-plain_monads = monadic.Transpose ∷ monadic.Shape ∷ monadic.Iota ∷ []
+plain_monads = monadic.Ravel ∷ monadic.Transpose ∷ monadic.Shape ∷ monadic.Iota ∷ []
 
 abbrev monadic_of_code : Code → Monadic
 monadic_of_code (zero, c) = monadic.Scalar (monad_of_number c.0)
-monadic_of_code (suc zero, c) = monadic.Reverse (along_of_code c)
-monadic_of_code (suc (suc zero), c) = monadic.Ravel
-monadic_of_code (suc (suc (suc n)), c) = get_or plain_monads c.0 monadic.Transpose
+monadic_of_code (suc zero, c) = monadic.Reverse (along_of_code c.1)
+monadic_of_code (suc (suc zero), c) = monadic.Reduce (dyad_of_number c.0) (along_of_code c.1)
+monadic_of_code (suc (suc (suc zero)), c) = monadic.Scan (dyad_of_number c.0) (along_of_code c.1)
+monadic_of_code (suc (suc (suc (suc n))), c) = get_or plain_monads c.0 monadic.Transpose
 
 monadic_again : (f : Monadic) → monadic_of_code (code_of_monadic f) ≡ f
 monadic_again (monadic.Scalar f) = ap (λ g. monadic.Scalar g) (monad_again f)
 monadic_again (monadic.Reverse a) = ap (λ b. monadic.Reverse b) (along_again a)
+monadic_again (monadic.Reduce f a) = ap (λ g. monadic.Reduce g (along_of_code (code_of_along a))) (dyad_again f) ∙ ap (λ b. monadic.Reduce f b) (along_again a)
+monadic_again (monadic.Scan f a) = ap (λ g. monadic.Scan g (along_of_code (code_of_along a))) (dyad_again f) ∙ ap (λ b. monadic.Scan f b) (along_again a)
 monadic_again monadic.Ravel = refl
 monadic_again monadic.Transpose = refl
 monadic_again monadic.Shape = refl
 monadic_again monadic.Iota = refl
 
 abbrev code_of_dyadic : Dyadic → Code
-code_of_dyadic (dyadic.Scalar f) = (0, (number_of_dyad f, pos 0))
-code_of_dyadic (dyadic.Catenate a) = (1, code_of_along a)
-code_of_dyadic (dyadic.Rotate a) = (2, code_of_along a)
-code_of_dyadic (dyadic.Replicate a) = (3, code_of_along a)
-code_of_dyadic dyadic.Reshape = (4, (0, pos 0))
-code_of_dyadic dyadic.Take = (4, (1, pos 0))
-code_of_dyadic dyadic.Drop = (4, (2, pos 0))
-code_of_dyadic dyadic.Transpose = (4, (3, pos 0))
-code_of_dyadic dyadic.IndexOf = (4, (4, pos 0))
-code_of_dyadic dyadic.Member = (4, (5, pos 0))
-code_of_dyadic dyadic.Encode = (4, (6, pos 0))
-code_of_dyadic dyadic.Decode = (4, (7, pos 0))
+code_of_dyadic (dyadic.Scalar f) = (0, (number_of_dyad f, none))
+code_of_dyadic (dyadic.Catenate a) = (1, (0, code_of_along a))
+code_of_dyadic (dyadic.Rotate a) = (2, (0, code_of_along a))
+code_of_dyadic (dyadic.Replicate a) = (3, (0, code_of_along a))
+code_of_dyadic (dyadic.Outer f) = (4, (number_of_dyad f, none))
+code_of_dyadic (dyadic.Inner f g) = (5, (number_of_dyad f, (number_of_dyad g, pos 0)))
+code_of_dyadic dyadic.Reshape = (6, (0, none))
+code_of_dyadic dyadic.Take = (6, (1, none))
+code_of_dyadic dyadic.Drop = (6, (2, none))
+code_of_dyadic dyadic.Transpose = (6, (3, none))
+code_of_dyadic dyadic.IndexOf = (6, (4, none))
+code_of_dyadic dyadic.Member = (6, (5, none))
+code_of_dyadic dyadic.Encode = (6, (6, none))
+code_of_dyadic dyadic.Decode = (6, (7, none))
 
 abbrev plain_dyads : List Dyadic
 plain_dyads =
@@ -158,16 +169,20 @@ plain_dyads =
 
 abbrev dyadic_of_code : Code → Dyadic
 dyadic_of_code (zero, c) = dyadic.Scalar (dyad_of_number c.0)
-dyadic_of_code (suc zero, c) = dyadic.Catenate (along_of_code c)
-dyadic_of_code (suc (suc zero), c) = dyadic.Rotate (along_of_code c)
-dyadic_of_code (suc (suc (suc zero)), c) = dyadic.Replicate (along_of_code c)
-dyadic_of_code (suc (suc (suc (suc n))), c) = get_or plain_dyads c.0 dyadic.Reshape
+dyadic_of_code (suc zero, c) = dyadic.Catenate (along_of_code c.1)
+dyadic_of_code (suc (suc zero), c) = dyadic.Rotate (along_of_code c.1)
+dyadic_of_code (suc (suc (suc zero)), c) = dyadic.Replicate (along_of_code c.1)
+dyadic_of_code (suc (suc (suc (suc zero))), c) = dyadic.Outer (dyad_of_number c.0)
+dyadic_of_code (suc (suc (suc (suc (suc zero)))), c) = dyadic.Inner (dyad_of_number c.0) (dyad_of_number c.1.0)
+dyadic_of_code (suc (suc (suc (suc (suc (suc n))))), c) = get_or plain_dyads c.0 dyadic.Reshape
 
 dyadic_again : (f : Dyadic) → dyadic_of_code (code_of_dyadic f) ≡ f
 dyadic_again (dyadic.Scalar f) = ap (λ g. dyadic.Scalar g) (dyad_again f)
 dyadic_again (dyadic.Catenate a) = ap (λ b. dyadic.Catenate b) (along_again a)
 dyadic_again (dyadic.Rotate a) = ap (λ b. dyadic.Rotate b) (along_again a)
 dyadic_again (dyadic.Replicate a) = ap (λ b. dyadic.Replicate b) (along_again a)
+dyadic_again (dyadic.Outer f) = ap (λ g. dyadic.Outer g) (dyad_again f)
+dyadic_again (dyadic.Inner f g) = ap (λ h. dyadic.Inner h (dyad_of_number (number_of_dyad g))) (dyad_again f) ∙ ap (λ h. dyadic.Inner f h) (dyad_again g)
 dyadic_again dyadic.Reshape = refl
 dyadic_again dyadic.Take = refl
 dyadic_again dyadic.Drop = refl
@@ -288,7 +303,7 @@ pub same_again : (t : Tree) → top (build (words t) []) ≡ t
 same_again t = ap top (ap (λ ws. build ws []) (sym (append-nil (words t))) ∙ again t [] [])
 
 abbrev coded_code : Coded Code
-coded_code = coded× coded_ℕ (coded× coded_ℕ coded_ℤ)
+coded_code = coded× coded_ℕ (coded× coded_ℕ (coded× coded_ℕ coded_ℤ))
 
 abbrev pub coded_tree : Coded Tree
 coded_tree =

@@ -30,6 +30,9 @@ use Rattle.selection_fns.specs.Replicates.{replicate_whole}
 use Rattle.selection_fns.specs.Indexes.{Position, index_whole}
 use Rattle.selection_fns.specs.Searches.{index_of_whole, member_whole}
 use Rattle.selection_fns.specs.Digits.{encode_whole, decode_whole}
+use Rattle.operator_fns.specs.Reductions.{reduce_whole}
+use Rattle.operator_fns.specs.Scans.{scan_whole}
+use Rattle.operator_fns.specs.Products.{outer_whole, inner_whole}
 use Rattle.arrays_core.specs.declared.fault.Fault.{Fault}
 use Rattle.formula_core.specs.Outcomes.{Outcome, given}
 
@@ -85,6 +88,8 @@ of_right (monadic.Reverse k) b = reverse_whole (along_of k) b
 of_right monadic.Transpose b = transpose_whole b
 of_right monadic.Shape b = shape_whole b
 of_right monadic.Iota b = generator_whole b
+of_right (monadic.Reduce f k) b = reduce_whole (scalar2_of f) (along_of k) b
+of_right (monadic.Scan f k) b = scan_whole (scalar2_of f) (along_of k) b
 
 -- a function of two arrays
 abbrev pub of_both : Dyadic → (left right : ArrayValue) → Result ArrayValue Kind
@@ -100,6 +105,8 @@ of_both dyadic.IndexOf a b = index_of_whole a b
 of_both dyadic.Member a b = member_whole a b
 of_both dyadic.Encode a b = encode_whole a b
 of_both dyadic.Decode a b = decode_whole a b
+of_both (dyadic.Outer f) a b = outer_whole (scalar2_of f) a b
+of_both (dyadic.Inner f g) a b = inner_whole (scalar2_of f) (scalar2_of g) a b
 
 abbrev pub applied1 : Monadic → Outcome → Outcome
 applied1 f (Err e) = Err e

@@ -1,7 +1,10 @@
 //! The functions that signs stand for, of arrays.
 
 ghost use Rattle.arrays_core.specs.Arrays.{IsAnswerTo};
-ghost use Rattle.formula_core.specs.Meaning.{along_of, of_right, of_both};
+ghost use Rattle.formula_core.specs.Meaning.{along_of, scalar2_of, of_right, of_both};
+ghost use Rattle.operator_fns.specs.Products.{outer_whole, inner_whole};
+ghost use Rattle.operator_fns.specs.Reductions.{reduce_whole};
+ghost use Rattle.operator_fns.specs.Scans.{scan_whole};
 ghost use Rattle.selection_fns.specs.Counted.{shape_whole, generator_whole};
 ghost use Rattle.selection_fns.specs.Replicates.{replicate_whole};
 ghost use Rattle.selection_fns.specs.Searches.{index_of_whole, member_whole};
@@ -13,9 +16,10 @@ ghost use Rattle.structural_fns.specs.Turns.{reverse_whole, rotate_whole};
 ghost use Rattle.structural_fns.specs.Transposes.{transpose_whole, transpose_by_whole};
 
 use crate::symbols::{along_of, scalar1_of, scalar2_of};
-use apl_expr::{Along, Dyadic, Monadic};
+use apl_expr::{Along, Dyadic, Monadic, ScalarDyad};
 use arrays_core::{ApplyFault, Array};
 use index_region::Seen;
+use operator_fns::{Inner, Outer, Reduce, Scan};
 use scalar_fns::{apply_one, apply_two};
 use selection_fns::{AxisLengths, Decode, Encode, IndexGenerator, IndexOf, Member, Replicate};
 use std::alloc::Global;
@@ -34,6 +38,8 @@ pub(crate) fn of_right(alloc: Global, function: Monadic, array: &Array) -> Resul
         Monadic::Transpose => transposed(alloc, array),
         Monadic::Shape => axis_lengths(alloc, array),
         Monadic::Iota => numbered(alloc, array),
+        Monadic::Reduce(scalar, along) => reduced(alloc, scalar, along, array),
+        Monadic::Scan(scalar, along) => scanned(alloc, scalar, along, array),
     }
 }
 
@@ -59,6 +65,8 @@ pub(crate) fn of_both(
         Dyadic::Member => belonging(alloc, left, right),
         Dyadic::Encode => encoded(alloc, left, right),
         Dyadic::Decode => decoded(alloc, left, right),
+        Dyadic::Outer(scalar) => outer_product(alloc, scalar, left, right),
+        Dyadic::Inner(fold, each) => inner_product(alloc, fold, each, left, right),
     }
 }
 
@@ -168,4 +176,64 @@ fn decoded(alloc: Global, left: &Array, right: &Array) -> Result<Array, ApplyFau
     ensures { IsAnswerTo (decode_whole left.now right.now) result }
 {
     Decode.apply(alloc, &[Seen::plain(left), Seen::plain(right)])
+}
+
+fn reduced(
+    alloc: Global,
+    function: ScalarDyad,
+    along: Along,
+    array: &Array,
+) -> Result<Array, ApplyFault>
+    ensures { IsAnswerTo (reduce_whole (scalar2_of function) (along_of along) array.now) result }
+{
+    let reduce = Reduce {
+        function: scalar2_of(function),
+        along: along_of(along),
+    };
+    reduce.apply(alloc, &[Seen::plain(array)])
+}
+
+fn scanned(
+    alloc: Global,
+    function: ScalarDyad,
+    along: Along,
+    array: &Array,
+) -> Result<Array, ApplyFault>
+    ensures { IsAnswerTo (scan_whole (scalar2_of function) (along_of along) array.now) result }
+{
+    let scan = Scan {
+        function: scalar2_of(function),
+        along: along_of(along),
+    };
+    scan.apply(alloc, &[Seen::plain(array)])
+}
+
+fn outer_product(
+    alloc: Global,
+    function: ScalarDyad,
+    left: &Array,
+    right: &Array,
+) -> Result<Array, ApplyFault>
+    ensures { IsAnswerTo (outer_whole (scalar2_of function) left.now right.now) result }
+{
+    let outer = Outer {
+        function: scalar2_of(function),
+    };
+    outer.apply(alloc, &[Seen::plain(left), Seen::plain(right)])
+}
+
+fn inner_product(
+    alloc: Global,
+    fold: ScalarDyad,
+    each: ScalarDyad,
+    left: &Array,
+    right: &Array,
+) -> Result<Array, ApplyFault>
+    ensures { IsAnswerTo (inner_whole (scalar2_of fold) (scalar2_of each) left.now right.now) result }
+{
+    let inner = Inner {
+        fold: scalar2_of(fold),
+        each: scalar2_of(each),
+    };
+    inner.apply(alloc, &[Seen::plain(left), Seen::plain(right)])
 }

@@ -1,6 +1,6 @@
 -- Folds of lists that are not empty, from the last entry to the first.
 use Rattle.std.proofs.Common.{◌≡◌, ℕ, zero, suc, ◌+◌, ◌-◌, ◌*◌, ◌<◌, ◌≤◌, List, [], ◌∷◌, length, get_or, drop, take, refl, ap, sym, ◌∙◌, arith, Result, Ok, Err}
-use Rattle.std.proofs.lemmas.List.{drop_more, get_or-take, length-drop, length-take, ext_get_or}
+use Rattle.std.proofs.lemmas.List.{drop_more, get_or-take, get_or-drop, length-drop, length-take, ext_get_or}
 use Rattle.std.proofs.lemmas.List.FromFn.{length-map-range_with_len, get_or-map-range_with_len}
 use Rattle.std.proofs.Math.Nat.{mul-le-mul_right}
 use Rattle.arrays_core.specs.declared.item.Item.{Item}
@@ -35,6 +35,15 @@ module _ {A : Type 0} (f : A → A → Result A Kind) where
       let later = error_stands xs k e (omega arith) g in
       fold_more x xs (omega arith) ∙ (rw later refl)
 
+-- one entry more in front
+pub rest_more : {A : Type 0} (f : A → A → Result A Kind) (xs : List A) (d : A) (j : ℕ) (y : A) → j + 1 < length xs → folded f (drop (j + 1) xs) ≡ Ok y
+    → folded f (drop j xs) ≡ f (get_or xs j d) y
+rest_more f xs d j y h e =
+    let split : drop j xs ≡ get_or xs j d ∷ drop (j + 1) xs = drop_more xs j d (omega arith) in
+    ap (folded f) split
+    ∙ fold_more f (get_or xs j d) (drop (j + 1) xs) (omega (arith, length-drop (j + 1) xs))
+    ∙ (rw e refl)
+
 -- ---- entries a stride apart
 
 module _ {A : Type 0} (d : A) (xs : List A) where
@@ -56,11 +65,8 @@ module _ {A : Type 0} (d : A) (xs : List A) where
     strided_more j y h e =
         let ys = strided d xs first stride count in
         let long = length-strided first stride count in
-        let split : drop j ys ≡ get_or ys j d ∷ drop (j + 1) ys = drop_more ys j d (omega arith) in
         let item = get_or-strided first stride count j d (omega arith) in
-        ap (folded f) split
-        ∙ fold_more f (get_or ys j d) (drop (j + 1) ys) (omega (arith, length-drop (j + 1) ys))
-        ∙ (rw (e, item) refl)
+        rest_more f ys d j y (omega arith) e ∙ ap (λ x. f x y) item
 
     -- an error on the way is that of the whole
     pub strided_error : (j : ℕ) (y : A) (e : Kind) → j + 1 < count → folded f (drop (j + 1) (strided d xs first stride count)) ≡ Ok y
@@ -81,6 +87,21 @@ module _ {A : Type 0} (d : A) (xs : List A) where
       get_or-take n ys k d inside
       ∙ get_or-strided first stride count k d (omega arith)
       ∙ sym (get_or-strided first stride n k d inside))
+
+-- entries one apart are a run
+pub strided_run : {A : Type 0} (d : A) (xs : List A) (first count : ℕ) → first + count ≤ length xs → take count (drop first xs) ≡ strided d xs first 1 count
+strided_run d xs first count h =
+    let run = take count (drop first xs) in
+    let long = length-take count (drop first xs) in
+    let rest = length-drop first xs in
+    let n = length-strided d xs first 1 count in
+    ext_get_or d run (strided d xs first 1 count) (omega arith) (λ k below.
+    let inside : k < count = omega arith in
+    let place : first + k ≡ first + k * 1 = omega arith in
+    get_or-take count (drop first xs) k d inside
+    ∙ get_or-drop first xs k d
+    ∙ ap (λ m. get_or xs m d) place
+    ∙ sym (get_or-strided d xs first 1 count k d inside))
 
 -- the place of each entry lies before the last
 pub place_high : (first stride count j most : ℕ) → j < count → first + (count - 1) * stride ≤ most → first + j * stride ≤ most

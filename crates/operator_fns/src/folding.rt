@@ -48,6 +48,19 @@ pub(crate) fn fold_items(
     Ok(result)
 }
 
+/// The right fold of a list of numbers.
+fn fold_list<S: TwoNumbers>(step: &S, numbers: &[i64]) -> Result<i64, Kind>
+    requires { 0 < length numbers.now }
+    ensures { result ≡ folded (S.gives step.now) numbers.now }
+{
+    let last = numbers.len() - 1;
+    let mut result = numbers[last];
+    for before in (0..last).rev() {
+        result = step.at(numbers[before], result)?;
+    }
+    Ok(result)
+}
+
 /// The right fold of numbers that stand a stride apart, so many of them, the first with so many before
 /// it.
 pub(crate) fn fold_numbers<S: TwoNumbers>(
@@ -61,6 +74,9 @@ pub(crate) fn fold_numbers<S: TwoNumbers>(
     requires high { first + (count - 1) * stride < length numbers.now }
     ensures { result ≡ folded (S.gives step.now) (strided (pos 0) numbers.now first stride count) }
 {
+    if stride == 1 {
+        return fold_list(step, &numbers[first..first + count]);
+    }
     let mut result = numbers[first + (count - 1) * stride];
     for before in (0..count - 1).rev() {
         result = step.at(numbers[first + before * stride], result)?;

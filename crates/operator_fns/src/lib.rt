@@ -3,6 +3,16 @@
 
 mod flat;
 mod folding;
+mod inner_product;
+mod outer_product;
 mod reducing;
+#[cfg(test)]
+mod tests;
+mod rows;
+mod running;
+mod scanning;
 
+pub use inner_product::Inner;
+pub use outer_product::Outer;
 pub use reducing::Reduce;
+pub use scanning::Scan;

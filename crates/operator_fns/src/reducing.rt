@@ -19,7 +19,7 @@ use arrays_core::{
 };
 use index_region::{Along, Primitive, Seen, apply, limited};
 use scalar_fns::Scalar2;
-use scalar_fns::steps::{And, Maximum, Minimum, Or, Plus, Times, TwoNumbers};
+use scalar_fns::steps::{And, Maximum, Minimum, Minus, Or, Plus, Times, TwoNumbers};
 use std::alloc::Global;
 
 /// The lines of a list of numbers, each folded.
@@ -73,8 +73,8 @@ fn folds_by<S: TwoNumbers>(
     collect_numbers(alloc, &lines, shape)
 }
 
-/// The same for a function that is chosen; those that sums, products, bounds and questions of all or any
-/// are made with have a loop of their own.
+/// The same for a function that is chosen; those that sums, alternating sums, products, bounds and
+/// questions of all or any are made with have a loop of their own.
 fn folds(
     alloc: Global,
     function: Scalar2,
@@ -92,6 +92,7 @@ fn folds(
 {
     match function {
         Scalar2::Plus => folds_by(alloc, &Plus, numbers, stride, count, shape),
+        Scalar2::Minus => folds_by(alloc, &Minus, numbers, stride, count, shape),
         Scalar2::Times => folds_by(alloc, &Times, numbers, stride, count, shape),
         Scalar2::Maximum => folds_by(alloc, &Maximum, numbers, stride, count, shape),
         Scalar2::Minimum => folds_by(alloc, &Minimum, numbers, stride, count, shape),

@@ -8,7 +8,6 @@ pub mod Flat
 pub mod Searched
 pub mod Radices
 pub mod Worths
-pub mod CaseWords
 pub mod PickCases
 pub mod SearchCases
 pub mod DigitCases

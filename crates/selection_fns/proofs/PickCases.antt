@@ -7,7 +7,7 @@ use Rattle.index_region.specs.declared.along.Along.TheVariants.{First, Last, Axi
 use Rattle.selection_fns.specs.Counted.{shape_whole, generator_form, generator_whole}
 use Rattle.selection_fns.specs.Replicates.{replicate_form, replicate_whole}
 use Rattle.selection_fns.specs.Indexes.{index_whole}
-use Rattle.selection_fns.proofs.CaseWords.{nums, ints, chars, is, fails, scalar, integer, no_text, no_numbers, minus, greatest, least}
+use Rattle.arrays_core.proofs.CaseWords.{nums, ints, chars, is, fails, scalar, integer, no_text, no_numbers, minus, greatest, least}
 
 -- 2 3⍴⍳6
 abbrev table : ArrayValue

@@ -5,6 +5,7 @@ use Rattle.arrays_core.specs.declared.item.ItemType.TheVariants.{Nums, Chars}
 use Rattle.arrays_core.specs.declared.item.Kind.{Kind}
 use Rattle.arrays_core.specs.declared.item.Kind.TheVariants.{Axis as AxisError, Rank, Length, Domain, Limit}
 use Rattle.arrays_core.specs.Arrays.{ArrayValue}
+use Rattle.arrays_core.proofs.CaseWords.{nums, ints, chars, is, fails, scalar, no_text, no_numbers}
 use Rattle.index_region.specs.declared.along.Along.TheVariants.{First, Last, Axis}
 use Rattle.structural_fns.specs.Ravels.{reshape_whole, ravel_whole}
 use Rattle.structural_fns.specs.Counts.{take_whole, drop_whole}
@@ -12,38 +13,12 @@ use Rattle.structural_fns.specs.Turns.{reverse_whole, rotate_whole}
 use Rattle.structural_fns.specs.Joins.{catenate_whole}
 use Rattle.structural_fns.specs.Transposes.{transpose_whole, transpose_by_whole}
 
--- an array of numbers from 0 up, and one of any numbers
-abbrev nums : List ℕ → List ℕ → ArrayValue
-nums shape items = record { item_type = Nums; shape = shape; items = map (λ n. Num (pos n)) items }
-
-abbrev ints : List ℕ → List ℤ → ArrayValue
-ints shape items = record { item_type = Nums; shape = shape; items = map (λ z. Num z) items }
-
--- an array of characters, 97 being a
-abbrev chars : List ℕ → List ℕ → ArrayValue
-chars shape items = record { item_type = Chars; shape = shape; items = map (λ c. Char c) items }
-
-abbrev is : ArrayValue → Result ArrayValue Kind
-is a = Ok a
-
-abbrev fails : Kind → Result ArrayValue Kind
-fails k = Err k
-
 -- 2 3⍴⍳6
 abbrev table : ArrayValue
 table = nums (2 ∷ 3 ∷ []) (1 ∷ 2 ∷ 3 ∷ 4 ∷ 5 ∷ 6 ∷ [])
 
 abbrev vector : List ℕ → ArrayValue
 vector ns = nums (3 ∷ []) ns
-
-abbrev scalar : ℕ → ArrayValue
-scalar n = nums [] (n ∷ [])
-
-abbrev no_text : ArrayValue
-no_text = chars (0 ∷ []) []
-
-abbrev no_numbers : ArrayValue
-no_numbers = nums (0 ∷ []) []
 
 -- ---- reshape
 

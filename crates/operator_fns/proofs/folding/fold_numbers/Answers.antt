@@ -1,7 +1,7 @@
-use Rattle.std.proofs.Common.{◌≡◌, ◌∙◌, ◌+◌, ◌-◌, ◌*◌, ap, sym, subst, get_or, pos, arith, Ok, Err, drop, to_z, of_z, w64, SFits, rules}
+use Rattle.std.proofs.Common.{◌≡◌, ◌∙◌, ◌+◌, ◌-◌, ◌*◌, ap, sym, subst, get_or, pos, arith, Ok, Err, drop, take, to_z, of_z, w64, SFits, rules}
 use Rattle.std.proofs.lemmas.Int.{to_z-of_z}
 use Rattle.operator_fns.specs.Strides.{strided, folded}
-use Rattle.operator_fns.proofs.Folds.{strided_last, strided_more, strided_error}
+use Rattle.operator_fns.proofs.Folds.{strided_last, strided_more, strided_error, strided_run}
 use Rattle.operator_fns.proofs.Errors.{passed_on}
 use Rattle.operator_fns.proofs.folding.fold_numbers.Goals as goal
 
@@ -49,3 +49,16 @@ loop-before-preserved g c =
           ∙ gave ∙ ap Ok (sym (to_z-of_z w64 z z_fits));
       below = omega (arith, c.loop-before.invariant.below);
     }
+
+pub returns-then-stride-eq1 : goal.returns-then-stride-eq1
+returns-then-stride-eq1 g c =
+    let f = g.S.TwoNumbers.gives c.args.step.now in
+    let xs = c.args.numbers.now in
+    let n = c.args.count in
+    let e : c.args.first + n - c.args.first ≡ n = omega arith in
+    let high = rw c.if-stride-eq1.true at c.requires.high in
+    let some = c.requires.some in
+    c.fold_list.ensures
+    ∙ ap (λ m. folded f (take m (drop c.args.first xs))) e
+    ∙ ap (folded f) (strided_run (pos 0) xs c.args.first n (omega arith))
+    ∙ ap (λ s. folded f (strided (pos 0) xs c.args.first s n)) (sym c.if-stride-eq1.true)

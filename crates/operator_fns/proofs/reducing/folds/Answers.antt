@@ -11,3 +11,6 @@ returns-in-And c = rw c.in-And.is c.folds_by-in-And.ensures
 
 pub returns-in-Or : goal.returns-in-Or
 returns-in-Or c = rw c.in-Or.is c.folds_by-in-Or.ensures
+
+pub returns-in-Minus : goal.returns-in-Minus
+returns-in-Minus c = rw c.in-Minus.is c.folds_by-in-Minus.ensures

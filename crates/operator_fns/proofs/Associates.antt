@@ -1,0 +1,107 @@
+-- Folds by associative functions: from the left as from the right.
+use Rattle.std.proofs.Common.{◌≡◌, List, [], ◌∷◌, refl, ap, sym, ◌∙◌, arith, ℤ, pos, Bool, true, false, ◌&&◌, ◌||◌, if◌then◌else◌, Result, Ok, Err}
+use Rattle.std.specs.Int.{int_max, int_min}
+use Rattle.std.specs.Ordering.{int_eq}
+use Rattle.std.proofs.lemmas.Int.{ints, clamps}
+use Rattle.arrays_core.specs.declared.item.Kind.{Kind}
+use Rattle.arrays_core.specs.declared.item.Kind.TheVariants.{Domain, Limit}
+use Rattle.scalar_fns.specs.declared.function.Scalar2.TheVariants.{Maximum, Minimum, And, Or}
+use Rattle.scalar_fns.specs.Numbers.{of_two, as_truth, truth, on_truths, logical}
+use Rattle.index_region.specs.Common.{and_then}
+use Rattle.operator_fns.specs.Strides.{folded}
+use Rattle.operator_fns.specs.Runs.{fold_on, folded_left, IsAssociative}
+use Rattle.operator_fns.proofs.Runs.{through, as_it_is}
+
+-- one error on the way is the error of all that follows
+stopped : (r : Result ℤ Kind) (k : Kind) → ((e : Kind) → r ≡ Err e → e ≡ k) → and_then {A = ℤ} {B = ℤ} r (λ z. Err k) ≡ Err k
+stopped (Ok z) k h = refl
+stopped (Err j) k h = ap Err (h j refl)
+
+module _ (f : ℤ → ℤ → Result ℤ Kind) (law : IsAssociative f) where
+  only_after : (x : ℤ) (r : Result ℤ Kind) (k : Kind) → ((e : Kind) → r ≡ Err e → e ≡ law.kind) → and_then r (f x) ≡ Err k → k ≡ law.kind
+  only_after x (Ok z) k h e = law.only x z k e
+  only_after x (Err j) k h e = let same : j ≡ k = cc in sym same ∙ h j refl
+
+  one_error : (x : ℤ) (rest : List ℤ) (k : Kind) → folded f (x ∷ rest) ≡ Err k → k ≡ law.kind
+  one_error x [] k h = let no : ⊥ = cc in absurd no
+  one_error x (y ∷ rest) k h = only_after x (folded f (y ∷ rest)) k (λ e g. one_error y rest e g) h
+
+  shift : (x y : ℤ) (rest : List ℤ) → and_then (f x y) (λ z. folded f (z ∷ rest)) ≡ and_then (folded f (y ∷ rest)) (f x)
+  shift x y [] = as_it_is (f x y)
+  shift x y (w ∷ rest) = decide (folded f (w ∷ rest)) (λ e g. one_error w rest e g)
+    where
+      decide : (r : Result ℤ Kind) → ((e : Kind) → r ≡ Err e → e ≡ law.kind) → and_then (f x y) (λ z. and_then r (f z)) ≡ and_then (and_then r (f y)) (f x)
+      decide (Ok v) h = sym (law.either x y v)
+      decide (Err k) h = stopped (f x y) k (λ e g. law.only x y e g ∙ sym (h k refl))
+
+  from_left : (x : ℤ) (rest : List ℤ) → fold_on f x rest ≡ folded f (x ∷ rest)
+  from_left x [] = refl
+  from_left x (y ∷ rest) = through (f x y) (λ z. fold_on f z rest) (λ z. folded f (z ∷ rest)) (λ z. from_left z rest) ∙ shift x y rest
+
+  pub left_is_right : (xs : List ℤ) → folded_left f xs ≡ folded f xs
+  left_is_right [] = refl
+  left_is_right (x ∷ rest) = from_left x rest
+
+-- ---- associative functions
+
+pub maximum : IsAssociative (of_two Maximum)
+maximum = record {
+  kind = Limit;
+  only = λ a b k h. let no : ⊥ = cc in absurd no;
+  either = λ a b c. ap Ok (let e : int_max a (int_max b c) ≡ int_max (int_max a b) c = omega (arith, ints, clamps) in e);
+}
+
+pub minimum : IsAssociative (of_two Minimum)
+minimum = record {
+  kind = Limit;
+  only = λ a b k h. let no : ⊥ = cc in absurd no;
+  either = λ a b c. ap Ok (let e : int_min a (int_min b c) ≡ int_min (int_min a b) c = omega (arith, ints, clamps) in e);
+}
+
+is_truth : (p : Bool) → as_truth (truth p) ≡ Ok p
+is_truth true = refl
+is_truth false = refl
+
+domain_truth : (a : ℤ) (k : Kind) → as_truth a ≡ Err k → k ≡ Domain
+domain_truth a k h = decide (int_eq a (pos 0)) (int_eq a (pos 1)) h
+  where
+    decide : (zero one : Bool) → (if zero then Ok false else (if one then Ok true else Err Domain)) ≡ Err k → k ≡ Domain
+    decide true one h = let no : ⊥ = cc in absurd no
+    decide false true h = let no : ⊥ = cc in absurd no
+    decide false false h = let same : Domain ≡ k = cc in sym same
+
+module _ (g : Bool → Bool → Bool) (assoc : (p q r : Bool) → g p (g q r) ≡ g (g p q) r) where
+  only_domain : (p q : Result Bool Kind) (k : Kind) → ((e : Kind) → p ≡ Err e → e ≡ Domain) → ((e : Kind) → q ≡ Err e → e ≡ Domain) → on_truths g p q ≡ Err k → k ≡ Domain
+  only_domain (Ok p) (Ok q) k h i e = let no : ⊥ = cc in absurd no
+  only_domain (Ok p) (Err j) k h i e = let same : j ≡ k = cc in sym same ∙ i j refl
+  only_domain (Err j) q k h i e = let same : j ≡ k = cc in sym same ∙ h j refl
+
+  three : (p q r : Result Bool Kind) → ((e : Kind) → p ≡ Err e → e ≡ Domain) → ((e : Kind) → q ≡ Err e → e ≡ Domain) → ((e : Kind) → r ≡ Err e → e ≡ Domain)
+      → and_then (on_truths g q r) (λ z. on_truths g p (as_truth z)) ≡ and_then (on_truths g p q) (λ z. on_truths g (as_truth z) r)
+  three (Ok p) (Ok q) (Ok r) h i j = rw (is_truth (g q r), is_truth (g p q), assoc p q r) refl
+  three (Ok p) (Ok q) (Err k) h i j = rw (is_truth (g p q)) refl
+  three (Ok p) (Err k) r h i j = refl
+  three (Err k) (Ok q) (Ok r) h i j = refl
+  three (Err k) (Ok q) (Err m) h i j = ap Err (j m refl ∙ sym (h k refl))
+  three (Err k) (Err m) r h i j = ap Err (i m refl ∙ sym (h k refl))
+
+  pub on_bits : IsAssociative (logical g)
+  on_bits = record {
+    kind = Domain;
+    only = λ a b k h. only_domain (as_truth a) (as_truth b) k (domain_truth a) (domain_truth b) h;
+    either = λ a b c. three (as_truth a) (as_truth b) (as_truth c) (domain_truth a) (domain_truth b) (domain_truth c);
+  }
+
+and_assoc : (p q r : Bool) → (p && (q && r)) ≡ ((p && q) && r)
+and_assoc true q r = refl
+and_assoc false q r = refl
+
+or_assoc : (p q r : Bool) → (p || (q || r)) ≡ ((p || q) || r)
+or_assoc true q r = refl
+or_assoc false q r = refl
+
+pub both_true : IsAssociative (of_two And)
+both_true = on_bits (λ p q. p && q) and_assoc
+
+pub any_true : IsAssociative (of_two Or)
+any_true = on_bits (λ p q. p || q) or_assoc

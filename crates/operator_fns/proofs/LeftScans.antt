@@ -1,0 +1,44 @@
+-- A scan from the left, result by result.
+use Rattle.std.proofs.Common.{◌≡◌, ℕ, zero, suc, ◌+◌, ◌-◌, ◌*◌, ◌%◌, ◌<◌, ◌≤◌, nat_lt, Bool, true, false, List, length, get_or, map, take, refl, ap, sym, ◌∙◌, inl, inr, arith, pos, ℤ, Result, Ok, Err}
+use Rattle.std.specs.List.{range_with_len}
+use Rattle.std.proofs.lemmas.Bool.{cases_lt, lt-ltb, le-ltb}
+use Rattle.std.proofs.lemmas.List.{length-take, get_or-take}
+use Rattle.std.proofs.lemmas.List.FromFn.{length-map-range_with_len, get_or-map-range_with_len}
+use Rattle.arrays_core.specs.declared.item.Kind.{Kind}
+use Rattle.arrays_core.specs.Items.{all_or_first_error}
+use Rattle.index_region.specs.Common.{and_then}
+use Rattle.operator_fns.specs.Runs.{depth, run_to, folded_left}
+use Rattle.operator_fns.proofs.Runs.{first_row, later_row, behind, left_first, left_later}
+use Rattle.operator_fns.proofs.Firsts.{entry_of}
+
+module _ (f : ℤ → ℤ → Result ℤ Kind) (zs : List ℤ) (stride count : ℕ) (apart : 0 < stride) (some : 1 ≤ count) where
+  abbrev pub left_at : ℕ → Result ℤ Kind
+  left_at place = folded_left f (run_to (pos 0) zs stride count place)
+
+  -- the results before a place, and what it gives with the one a stride before it
+  pub next_left : (place block_place : ℕ) (xs : List ℤ) (r : Result ℤ Kind) → place < length zs
+      → all_or_first_error (take place (map left_at (range_with_len 0 (length zs)))) ≡ Ok xs
+      → block_place ≡ place % (count * stride)
+      → (nat_lt block_place stride ≡ true → r ≡ Ok (get_or zs place (pos 0)))
+      → (nat_lt block_place stride ≡ false → r ≡ f (get_or xs (place - stride) (pos 0)) (get_or zs place (pos 0)))
+      → left_at place ≡ r
+  next_left place block_place xs r below made here first later =
+      elim (cases_lt block_place stride) [
+        | inl h ↦
+          let low : place % (count * stride) < stride = omega (arith, here, h) in
+          left_first stride count apart some (pos 0) zs f place (first_row stride count apart some place low) ∙ sym (first (lt-ltb block_place stride h))
+        | inr h ↦
+          let high : stride ≤ place % (count * stride) = omega (arith, here, h) in
+          let deep = later_row stride count apart some place high in
+          let far = behind stride count apart some place deep in
+          let rs = map left_at (range_with_len 0 (length zs)) in
+          let long : length rs ≡ length zs = length-map-range_with_len left_at 0 (length zs) in
+          let inside : place - stride < place = omega arith in
+          let entry = entry_of (take place rs) xs (place - stride) (Ok (pos 0)) (pos 0) made (omega (arith, length-take place rs)) in
+          let before : left_at (place - stride) ≡ Ok (get_or xs (place - stride) (pos 0)) =
+          sym (get_or-take place rs (place - stride) (Ok (pos 0)) inside
+          ∙ get_or-map-range_with_len left_at 0 (length zs) (place - stride) (place - stride) (Ok (pos 0)) (omega arith) (omega arith)) ∙ entry in
+          left_later stride count apart some (pos 0) zs f place deep
+          ∙ ap (λ w. and_then w (λ z. f z (get_or zs place (pos 0)))) before
+          ∙ sym (later (le-ltb block_place stride h))
+      ]

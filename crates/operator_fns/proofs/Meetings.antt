@@ -1,0 +1,141 @@
+-- Folds of what a row and a column give, from the last entry to the first.
+use Rattle.std.proofs.Common.{◌≡◌, ℕ, zero, suc, ◌+◌, ◌<◌, ◌≤◌, List, [], ◌∷◌, ◌++◌, length, get_or, map, drop, take, refl, ap, sym, ◌∙◌, arith, Result, Ok, Err}
+use Rattle.std.specs.List.{range_with_len}
+use Rattle.std.proofs.lemmas.List.{drop_more, drop_all, take_more, take_all, length-take, get_or-take, ext_get_or}
+use Rattle.std.proofs.lemmas.List.FromFn.{length-map-range_with_len, get_or-map-range_with_len}
+use Rattle.arrays_core.specs.declared.item.Kind.{Kind}
+use Rattle.index_region.specs.Common.{and_then}
+use Rattle.operator_fns.specs.Strides.{folded}
+use Rattle.operator_fns.specs.Meetings.{met, all_or_last, last_error_or, folded_all}
+use Rattle.operator_fns.proofs.Folds.{fold_more}
+
+-- ---- the error of the last that has one
+
+module _ {A : Type 0} where
+  pub last_fine : (e : Kind) (rs : List (Result A Kind)) (x : A) → last_error_or e (rs ++ Ok x ∷ []) ≡ last_error_or e rs
+  last_fine e [] x = refl
+  last_fine e (Ok y ∷ rs) x = last_fine e rs x
+  last_fine e (Err k ∷ rs) x = last_fine k rs x
+
+  pub last_failed : (e : Kind) (rs : List (Result A Kind)) (k : Kind) → last_error_or e (rs ++ Err k ∷ []) ≡ k
+  last_failed e [] k = refl
+  last_failed e (Ok y ∷ rs) k = last_failed e rs k
+  last_failed e (Err j ∷ rs) k = last_failed j rs k
+
+  -- an error of the rest stands
+  pub later_error : (rs : List (Result A Kind)) (k : ℕ) (e : Kind) → k < length rs → all_or_last (drop k rs) ≡ Err e → all_or_last rs ≡ Err e
+  later_error [] k e h g = absurd (omega arith)
+  later_error (x ∷ rs) zero e h g = g
+  later_error (x ∷ rs) (suc k) e h g =
+      ap (λ r. and_then r (λ items. and_then x (λ item. Ok (item ∷ items)))) (later_error rs k e (omega arith) g)
+
+  -- what follows a list that is fine at its end, where it fails whatever stands in front
+  fails_after : {B : Type 0} (rs : List (Result A Kind)) (k : ℕ) (later : List A) (next : List A → Result B Kind) (e : Kind)
+      → all_or_last (drop k rs) ≡ Ok later → ((front : List A) → next (front ++ later) ≡ Err e)
+      → and_then (all_or_last rs) next ≡ Err (last_error_or e (take k rs))
+  fails_after rs zero later next e made fails = ap (λ r. and_then r next) made ∙ fails []
+  fails_after [] (suc k) later next e made fails = ap (λ r. and_then r next) made ∙ fails []
+  fails_after (Ok x ∷ rs) (suc k) later next e made fails =
+      moved (all_or_last rs) ∙ fails_after rs k later (λ items. next (x ∷ items)) e made (λ front. fails (x ∷ front))
+    where
+      moved : (r : Result (List A) Kind) → and_then (and_then r (λ items. Ok (x ∷ items))) next ≡ and_then r (λ items. next (x ∷ items))
+      moved (Ok items) = refl
+      moved (Err j) = refl
+  fails_after (Err j ∷ rs) (suc k) later next e made fails =
+      moved (all_or_last rs) ∙ fails_after rs k later (λ items. Err j) j made (λ front. refl)
+    where
+      moved : (r : Result (List A) Kind) → and_then {A = List A} (and_then r (λ items. Err j)) next ≡ and_then r (λ items. Err j)
+      moved (Ok items) = refl
+      moved (Err i) = refl
+
+-- ---- the fold so far
+
+module _ {A : Type 0} (f : A → A → Result A Kind) where
+  still_fails : (front later : List A) (e : Kind) → 0 < length later → folded f later ≡ Err e → (folded f (front ++ later) ≡ Err e) × (0 < length (front ++ later))
+  still_fails [] later e h g = (g, h)
+  still_fails (x ∷ front) later e h g =
+      let rest = still_fails front later e h g in
+      (fold_more f x (front ++ later) rest.1 ∙ ap (λ r. and_then r (f x)) rest.0, omega (arith, rest.1))
+
+  -- the rest from an entry on is fine, and folds to y
+  pub record FoldedTo (rs : List (Result A Kind)) (k : ℕ) (y : A) : Type 0 where
+    pub later : List A
+    pub made : all_or_last (drop k rs) ≡ Ok later
+    pub some : 0 < length later
+    pub is : folded f later ≡ Ok y
+
+  pub folded_last : (rs : List (Result A Kind)) (k : ℕ) (y : A) → k + 1 ≡ length rs → get_or rs k (Ok y) ≡ Ok y → FoldedTo rs k y
+  folded_last rs k y h here =
+      let split : drop k rs ≡ get_or rs k (Ok y) ∷ drop (k + 1) rs = drop_more rs k (Ok y) (omega arith) in
+      let none : drop (k + 1) rs ≡ [] = drop_all (k + 1) rs (omega arith) in
+      record { later = y ∷ []; made = rw (split, none, here) refl; some = omega arith; is = refl }
+
+  pub one_more : (rs : List (Result A Kind)) (k : ℕ) (x y z : A) → k + 1 < length rs → FoldedTo rs (k + 1) y → get_or rs k (Ok x) ≡ Ok x → f x y ≡ Ok z → FoldedTo rs k z
+  one_more rs k x y z h so_far here gave =
+      let split : drop k rs ≡ get_or rs k (Ok x) ∷ drop (k + 1) rs = drop_more rs k (Ok x) (omega arith) in
+      record {
+        later = x ∷ so_far.later;
+        made = rw (split, here, so_far.made) refl;
+        some = omega arith;
+        is = fold_more f x so_far.later so_far.some ∙ ap (λ r. and_then r (f x)) so_far.is ∙ gave;
+      }
+
+  pub all_folded : (rs : List (Result A Kind)) (y : A) → FoldedTo rs 0 y → folded_all f rs ≡ Ok y
+  all_folded rs y done = ap (λ r. and_then r (folded f)) done.made ∙ done.is
+
+  pub last_entry_failed : (rs : List (Result A Kind)) (k : ℕ) (e : Kind) → k + 1 ≡ length rs → get_or rs k (Err e) ≡ Err e → folded_all f rs ≡ Err e
+  last_entry_failed rs k e h here =
+      let split : drop k rs ≡ get_or rs k (Err e) ∷ drop (k + 1) rs = drop_more rs k (Err e) (omega arith) in
+      let none : drop (k + 1) rs ≡ [] = drop_all (k + 1) rs (omega arith) in
+      let there : all_or_last (drop k rs) ≡ Err e = rw (split, none, here) refl in
+      ap (λ r. and_then r (folded f)) (later_error rs k e (omega arith) there)
+
+  pub entry_failed : (rs : List (Result A Kind)) (k : ℕ) (y : A) (e : Kind) → k + 1 < length rs → FoldedTo rs (k + 1) y → get_or rs k (Err e) ≡ Err e → folded_all f rs ≡ Err e
+  entry_failed rs k y e h so_far here =
+      let split : drop k rs ≡ get_or rs k (Err e) ∷ drop (k + 1) rs = drop_more rs k (Err e) (omega arith) in
+      let there : all_or_last (drop k rs) ≡ Err e = rw (split, here, so_far.made) refl in
+      ap (λ r. and_then r (folded f)) (later_error rs k e (omega arith) there)
+
+  pub fold_failed : (rs : List (Result A Kind)) (k : ℕ) (x y : A) (e : Kind) → k + 1 < length rs → FoldedTo rs (k + 1) y → get_or rs k (Ok x) ≡ Ok x → f x y ≡ Err e
+      → folded_all f rs ≡ Err (last_error_or e (take k rs))
+  fold_failed rs k x y e h so_far here gave =
+      let split : drop k rs ≡ get_or rs k (Ok x) ∷ drop (k + 1) rs = drop_more rs k (Ok x) (omega arith) in
+      let made : all_or_last (drop k rs) ≡ Ok (x ∷ so_far.later) = rw (split, here, so_far.made) refl in
+      let fails : folded f (x ∷ so_far.later) ≡ Err e = fold_more f x so_far.later so_far.some ∙ ap (λ r. and_then r (f x)) so_far.is ∙ gave in
+      fails_after rs k (x ∷ so_far.later) (folded f) e made (λ front. (still_fails front (x ∷ so_far.later) e (omega arith) fails).0)
+
+-- ---- what is met
+
+module _ {A : Type 0} (g : A → A → Result A Kind) (row column : ℕ → A) where
+  pub length-met : (count : ℕ) → length (met g row column count) ≡ count
+  length-met count = length-map-range_with_len (λ k. g (row k) (column k)) 0 count
+
+  pub met_at : (count k : ℕ) (d : Result A Kind) → k < count → get_or (met g row column count) k d ≡ g (row k) (column k)
+  met_at count k d h = get_or-map-range_with_len (λ j. g (row j) (column j)) 0 count k k d h (omega arith)
+
+  pub take-met : (count k : ℕ) → k ≤ count → take k (met g row column count) ≡ met g row column k
+  take-met count k h =
+      let ys = met g row column count in
+      let long = length-met count in
+      let short = length-met k in
+      let taken = length-take k ys in
+      ext_get_or (g (row 0) (column 0)) (take k ys) (met g row column k) (omega arith) (λ i below.
+      let inside : i < k = omega arith in
+      get_or-take k ys i (g (row 0) (column 0)) inside
+      ∙ met_at count i (g (row 0) (column 0)) (omega arith)
+      ∙ sym (met_at k i (g (row 0) (column 0)) inside))
+
+  pub met_more : (k : ℕ) → met g row column (k + 1) ≡ met g row column k ++ g (row k) (column k) ∷ []
+  met_more k =
+      let ys = met g row column (k + 1) in
+      let long = length-met (k + 1) in
+      sym (take_all (k + 1) ys (omega arith))
+      ∙ take_more ys k (g (row k) (column k)) (omega arith)
+      ∙ (rw (take-met (k + 1) k (omega arith), met_at (k + 1) k (g (row k) (column k)) (omega arith)) refl)
+
+  -- one entry fewer that is fine, or that has the error
+  pub fine_entry : (e : Kind) (k : ℕ) (x : A) → g (row k) (column k) ≡ Ok x → last_error_or e (met g row column (k + 1)) ≡ last_error_or e (met g row column k)
+  fine_entry e k x here = ap (last_error_or e) (met_more k ∙ ap (λ r. met g row column k ++ r ∷ []) here) ∙ last_fine e (met g row column k) x
+
+  pub failed_entry : (e : Kind) (k : ℕ) (j : Kind) → g (row k) (column k) ≡ Err j → last_error_or e (met g row column (k + 1)) ≡ j
+  failed_entry e k j here = ap (last_error_or e) (met_more k ∙ ap (λ r. met g row column k ++ r ∷ []) here) ∙ last_failed e (met g row column k) j

@@ -1,0 +1,54 @@
+-- Outer products of numbers, by the numbers as they lie.
+use Rattle.std.proofs.Common.{◌≡◌, ℕ, ◌*◌, ◌/◌, ◌%◌, ◌<◌, true, List, ◌++◌, length, get_or, map, take, drop, ℤ, pos, Result, Ok, refl, ap, sym, ◌∙◌, arith}
+use Rattle.std.proofs.lemmas.List.{length-map}
+use Rattle.arrays_core.specs.declared.item.Item.TheVariants.{Num}
+use Rattle.arrays_core.specs.declared.item.ItemType.TheVariants.{Nums}
+use Rattle.arrays_core.specs.declared.item.Kind.{Kind}
+use Rattle.arrays_core.specs.Items.{fill}
+use Rattle.arrays_core.specs.Shapes.{size, is_index_of, places_before}
+use Rattle.arrays_core.specs.Arrays.{ArrayValue, IsArray, collect, item_of}
+use Rattle.arrays_core.proofs.Shapes.{places_below}
+use Rattle.scalar_fns.specs.declared.function.Scalar2.{Scalar2}
+use Rattle.scalar_fns.specs.Numbers.{of_two as of_two_numbers}
+use Rattle.scalar_fns.specs.Scalars.{two_of, number_item}
+use Rattle.index_region.specs.Common.{Form, whole}
+use Rattle.index_region.proofs.Passing.{limited_gives}
+use Rattle.operator_fns.specs.Products.{outer_form, outer_item, outer_whole}
+use Rattle.operator_fns.proofs.Joined.{parts, number_there, size-append}
+use Rattle.operator_fns.proofs.Placewise.{collected_same}
+
+-- as many numbers as places
+pub as_many : (a : ArrayValue) (xs : List ℤ) → length a.items ≡ size a.shape → a.items ≡ map (λ z. Num z) xs → size a.shape ≡ length xs
+as_many a xs long e = sym long ∙ ap length e ∙ length-map xs (λ z. Num z)
+
+module _ (f : Scalar2) (a b : ArrayValue) (xs ys : List ℤ) (long_a : length a.items ≡ size a.shape) (long_b : length b.items ≡ size b.shape)
+    (is_a : a.items ≡ map (λ z. Num z) xs) (is_b : b.items ≡ map (λ z. Num z) ys) where
+  -- what is given for the numbers of a place of the result
+  abbrev pub pair : ℕ → Result ℤ Kind
+  pair place = of_two_numbers f (get_or xs (place / length ys) (pos 0)) (get_or ys (place % length ys) (pos 0))
+
+  pub outer_places : size (a.shape ++ b.shape) ≡ length xs * length ys
+  outer_places = let m = as_many a xs long_a is_a in let n = as_many b ys long_b is_b in size-append a.shape b.shape ∙ (rw (m, n) refl)
+
+  pair_there : (index : List ℕ) → is_index_of (a.shape ++ b.shape) index ≡ true
+      → number_item (pair (places_before (a.shape ++ b.shape) index)) ≡ outer_item f a b index
+  pair_there index h =
+      let m = as_many a xs long_a is_a in
+      let n = as_many b ys long_b is_b in
+      let p = parts a.shape b.shape index h in
+      let row = take (length a.shape) index in
+      let column = drop (length a.shape) index in
+      let left = number_there a.items xs (places_before a.shape row) (fill a.item_type) is_a (omega (arith, places_below a.shape row p.front)) in
+      let right = number_there b.items ys (places_before b.shape column) (fill b.item_type) is_b (omega (arith, places_below b.shape column p.back)) in
+      let place = places_before (a.shape ++ b.shape) index in
+      ap (λ k. number_item (of_two_numbers f (get_or xs (place / k) (pos 0)) (get_or ys (place % k) (pos 0)))) (sym n)
+      ∙ (rw (p.front_place, p.back_place, left, right) refl)
+
+  pub outer_of_numbers : (form : Form) → outer_form a b ≡ Ok form
+      → collect Nums form.0 (λ index. number_item (pair (places_before form.0 index))) ≡ outer_whole f a b
+  outer_of_numbers form h =
+      let is = limited_gives (a.shape ++ b.shape) Nums form h in
+      sym (ap (λ r. whole r (outer_item f a b)) h
+      ∙ ap (λ (g : Form). collect g.1 g.0 (outer_item f a b)) is
+      ∙ sym (ap (λ (g : Form). collect Nums g.0 (λ index. number_item (pair (places_before g.0 index)))) is
+      ∙ collected_same Nums (a.shape ++ b.shape) (λ index. number_item (pair (places_before (a.shape ++ b.shape) index))) (outer_item f a b) pair_there))

@@ -1,0 +1,49 @@
+use Rattle.std.proofs.Common.{◌≡◌, ◌∙◌, ◌<◌, ◌++◌, ap, sym, length, take, drop, arith}
+use Rattle.arrays_core.specs.Items.{fill}
+use Rattle.scalar_fns.specs.Scalars.{two_of}
+use Rattle.index_region.specs.Common.{and_then}
+use Rattle.operator_fns.specs.Products.{row_rank, inner_length, products, all_or_last_error}
+use Rattle.operator_fns.specs.Folds.{fold_right}
+use Rattle.operator_fns.specs.Meetings.{entry, met, folded_all}
+use Rattle.operator_fns.proofs.Joined.{long_enough}
+use Rattle.operator_fns.proofs.Meetings.{length-met}
+use Rattle.operator_fns.proofs.Inners.{passed_inner, products_met, fold_of_some}
+use Rattle.operator_fns.proofs.inner_product.Inner.folded_at.Goals as goal
+
+pub split_at-requires : goal.split_at-requires
+split_at-requires c =
+    let a = c.args.left.now in
+    let b = c.args.right.now in
+    let p = passed_inner a b c.args.index.now c.requires in
+    omega (arith, long_enough (take (row_rank a) a.shape) (drop 1 b.shape) c.args.index.now p.inside, p.rows, c.row_rank.ensures)
+
+pub row_line-row-requires-clause-inside : goal.row_line-row-requires-clause-inside
+row_line-row-requires-clause-inside c =
+    let a = c.args.left.now in
+    let b = c.args.right.now in
+    let p = passed_inner a b c.args.index.now c.requires in
+    rw (c.split_at.ensures.front, c.row_rank.ensures) p.front
+
+pub column_line-column-requires-clause-inside : goal.column_line-column-requires-clause-inside
+column_line-column-requires-clause-inside c =
+    let a = c.args.left.now in
+    let b = c.args.right.now in
+    let p = passed_inner a b c.args.index.now c.requires in
+    rw (c.split_at.ensures.back, c.row_rank.ensures) p.back
+
+pub returns-clause-is : goal.returns-clause-is
+returns-clause-is c =
+    let a = c.args.left.now in
+    let b = c.args.right.now in
+    let row = take (row_rank a) c.args.index.now in
+    let column = drop (row_rank a) c.args.index.now in
+    let count = c.inner_length-count.result in
+    let left = entry (fill a.item_type) a.items c.row_line-row.result in
+    let right = entry (fill b.item_type) b.items c.column_line-column.result in
+    let long = length-met (two_of c.args.self.each) left right count in
+    let same = products_met c.args.self.each a b row column left right count c.inner_length-count.ensures
+        (rw (c.split_at.ensures.front, c.row_rank.ensures) at c.row_line-row.ensures.is)
+        (rw (c.split_at.ensures.back, c.row_rank.ensures) at c.column_line-column.ensures.is) in
+    c.fold_row_of_items.ensures.is
+    ∙ sym (ap (λ rs. and_then (all_or_last_error rs) (fold_right c.args.self.fold)) same
+    ∙ fold_of_some c.args.self.fold (met (two_of c.args.self.each) left right count) (omega arith))

@@ -1,0 +1,191 @@
+//! Inner product: the rows of one array folded with the columns of another.
+
+ghost use Rattle.std.specs.Prelude.{◌≡◌, ◌≢◌, ℕ, ◌+◌, ◌<◌, ◌≤◌, ◌++◌, ◌∷◌, [], IsTrue, IfOk, length, take, drop};
+ghost use Rattle.arrays_core.specs.Arrays.{IsAnswerTo, IsArray};
+ghost use Rattle.arrays_core.specs.Items.{fill};
+ghost use Rattle.arrays_core.specs.Shapes.{is_index_of as is_below};
+ghost use Rattle.scalar_fns.specs.Extension.{extended};
+ghost use Rattle.index_region.specs.Common.{of_two};
+ghost use Rattle.index_region.specs.Answers.{IsFormAnswerTo, IsPlaceOf, HasTypeOf};
+ghost use Rattle.operator_fns.specs.Products.{row_rank as rank_of_rows, row_length as length_of_row, column_length as length_of_column, inner_length as length_of_inner, inner_form, inner_item, inner_whole};
+ghost use Rattle.operator_fns.specs.Meetings.{entry, IsInside};
+
+use crate::folding::{identity_item, stride};
+use crate::rows::{Line, fold_row_of_items};
+use arrays_core::{
+    ApplyFault, Array, Item, ItemType, Kind, Shape, append_axes, position, shape_of, with_axis,
+};
+use index_region::{Primitive, Seen, apply, limited};
+use scalar_fns::Scalar2;
+use std::alloc::Global;
+
+/// How many axes are not folded along: all but the last.
+fn row_rank(array: &Seen) -> usize
+    ensures { result ≡ rank_of_rows array.now }
+{
+    array.shape().len().saturating_sub(1)
+}
+
+/// The axes that are not folded along: all but the first.
+fn column_axes<'a>(array: &'a Seen<'a>) -> &'a [u32]
+    ensures is { result.now ≡ drop 1 array.now.shape }
+    ensures sound { IsArray array.now }
+{
+    match array.shape().as_slice() {
+        [_, rest @ ..] => rest,
+        [] => &[],
+    }
+}
+
+/// How long a row is: the last axis; a scalar is a row of its one item.
+fn row_length(array: &Seen) -> u32
+    ensures { result ≡ length_of_row array.now }
+{
+    match array.shape().last() {
+        Some(length) => *length,
+        None => 1,
+    }
+}
+
+/// How long a column is: the first axis; a scalar is a column of its one item.
+fn column_length(array: &Seen) -> u32
+    ensures { result ≡ length_of_column array.now }
+{
+    match array.shape().first() {
+        Some(length) => *length,
+        None => 1,
+    }
+}
+
+/// How many items of a row and of a column meet: one item on a side extends to the other's length.
+fn inner_length(left: &Seen, right: &Seen) -> u32
+    ensures { result ≡ length_of_inner left.now right.now }
+{
+    if left.places() == 1 {
+        column_length(right)
+    } else {
+        row_length(left)
+    }
+}
+
+/// Where the row at an index list of the other axes lies; one item is each item of its row.
+fn row_line(array: &Seen, row: &[u32], count: u32) -> Line
+    requires inside { IsTrue (is_below (take (rank_of_rows array.now) array.now.shape) row.now) }
+    requires some { 1 ≤ count }
+    requires long { length array.now.items ≢ 1 → length_of_row array.now ≡ count }
+    ensures is { (k : ℕ) → k < count → entry (fill array.now.item_type) array.now.items result k ≡ extended array.now (row.now ++ (k + 1) ∷ []) }
+    ensures there { IsInside result count (length array.now.items) }
+    ensures few { length array.now.items ≤ 1048576 }
+{
+    if array.places() == 1 {
+        return Line {
+            first: 0,
+            stride: 0,
+        };
+    }
+    let shape = array.shape();
+    let first = with_axis(*shape.allocator(), row, row.len(), 1);
+    Line {
+        first: position(shape, first.as_slice()) as usize - 1,
+        stride: 1,
+    }
+}
+
+/// Where the column at an index list of the other axes lies; one item is each item of its column.
+fn column_line(array: &Seen, column: &[u32], count: u32) -> Line
+    requires inside { IsTrue (is_below (drop 1 array.now.shape) column.now) }
+    requires some { 1 ≤ count }
+    requires long { length array.now.items ≢ 1 → length_of_column array.now ≡ count }
+    ensures is { (k : ℕ) → k < count → entry (fill array.now.item_type) array.now.items result k ≡ extended array.now ((k + 1) ∷ column.now) }
+    ensures there { IsInside result count (length array.now.items) }
+    ensures few { length array.now.items ≤ 1048576 }
+{
+    if array.places() == 1 {
+        return Line {
+            first: 0,
+            stride: 0,
+        };
+    }
+    let shape = array.shape();
+    let first = with_axis(*shape.allocator(), column, 0, 1);
+    Line {
+        first: position(shape, first.as_slice()) as usize - 1,
+        stride: stride(shape.as_slice(), 0) as usize,
+    }
+}
+
+/// Inner product, `A f.g B` (ISO/IEC 13751, "Inner Product"): the axes of A but the last, and then those of
+/// B but the first. Each item is made of a row of A, along its last axis, and a column of B, along its
+/// first: g of each item of the row with the item of the column that it meets, folded by f from the last
+/// to the first. All items of g are looked at, from the last to the first, and the error of the last that
+/// has one is the error, before any of f; no items give the identity of f, or DOMAIN where it has none.
+/// One item on a side extends to the length of the other, to length 0 too. The result is of numbers.
+/// LENGTH where a row of A and a column of B are of different lengths, and neither side is one item; LIMIT
+/// beyond the limits of arrays.
+#[derive(Clone, Copy, PartialEq, Eq, Debug)]
+pub struct Inner {
+    pub fold: Scalar2,
+    pub each: Scalar2,
+}
+
+impl Inner {
+    /// The checks, and the shape and the type of the result.
+    fn form(self, left: &Seen, right: &Seen) -> Result<(Shape, ItemType), Kind>
+        ensures is { IsFormAnswerTo (inner_form left.now right.now) result }
+        ensures left_sound { IsArray left.now }
+        ensures right_sound { IsArray right.now }
+    {
+        let one = left.places() == 1 || right.places() == 1;
+        if !one && row_length(left) != column_length(right) {
+            return Err(Kind::Length);
+        }
+        let axes = left.shape();
+        let (rows, columns) = (&axes.as_slice()[..row_rank(left)], column_axes(right));
+        if rows.len() + columns.len() > 4 {
+            return Err(Kind::Limit);
+        }
+        let mut shape = shape_of(*axes.allocator(), rows);
+        append_axes(&mut shape, columns);
+        limited(shape, ItemType::Nums)
+    }
+
+    /// The item at an index list of the result.
+    fn folded_at(self, left: &Seen, right: &Seen, index: &[u32]) -> Result<Item, Kind>
+        requires { IsPlaceOf (inner_form left.now right.now) index.now }
+        ensures is { result ≡ inner_item self.fold self.each left.now right.now index.now }
+        ensures typed { IfOk result (HasTypeOf (inner_form left.now right.now)) }
+    {
+        let count = inner_length(left, right);
+        if count == 0 {
+            return identity_item(self.fold);
+        }
+        let (front, back) = index.split_at(row_rank(left));
+        let row = row_line(left, front, count);
+        let column = column_line(right, back, count);
+        fold_row_of_items(self.fold, self.each, left, row, right, column, count as usize)
+    }
+
+    /// The rows of A folded with the columns of B.
+    pub fn apply(&self, alloc: Global, args: &[Seen]) -> Result<Array, ApplyFault>
+        requires { length args.now ≡ 2 }
+        ensures { IsAnswerTo (of_two (inner_whole self.now.fold self.now.each) args.now) result }
+    {
+        apply(alloc, self, args)
+    }
+}
+
+impl Primitive for Inner {
+    ghost arity = { λ _. 2 };
+
+    ghost form = { λ _ args. of_two inner_form args };
+
+    ghost item = { λ i args index. of_two (λ a b. inner_item i.fold i.each a b index) args };
+
+    fn shape_of(&self, args: &[Seen]) -> Result<(Shape, ItemType), Kind> {
+        self.form(&args[0], &args[1])
+    }
+
+    fn item_at(&self, args: &[Seen], index: &[u32]) -> Result<Item, Kind> {
+        self.folded_at(&args[0], &args[1], index)
+    }
+}
