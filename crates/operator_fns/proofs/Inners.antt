@@ -39,7 +39,7 @@ some_axes (n ∷ shape) h = omega arith
 
 -- ---- rows
 
-last_axis : (shape : List ℕ) → 0 < length shape → shape ≡ take (length shape - 1) shape ++ get_or shape (length shape - 1) 1 ∷ []
+pub last_axis : (shape : List ℕ) → 0 < length shape → shape ≡ take (length shape - 1) shape ++ get_or shape (length shape - 1) 1 ∷ []
 last_axis shape h =
     let k = length shape - 1 in
     sym (take_all (k + 1) shape (omega arith)) ∙ take_more shape k 1 (omega arith)
@@ -136,8 +136,7 @@ nothing_met f g a b index h =
 
 -- ---- what has passed
 
-
-lengths_of : (one_a one_b : Bool) (m n x y : ℕ) → eqb x 1 ≡ one_a → eqb y 1 ≡ one_b → (one_a || one_b || eqb m n) ≡ true
+pub lengths_of : (one_a one_b : Bool) (m n x y : ℕ) → eqb x 1 ≡ one_a → eqb y 1 ≡ one_b → (one_a || one_b || eqb m n) ≡ true
     → (x ≢ 1 → m ≡ cond one_a n m) × (y ≢ 1 → n ≡ cond one_a n m)
 lengths_of true one_b m n x y p q h = (λ many. absurd (many (eqb-true x 1 p)), λ many. refl)
 lengths_of false true m n x y p q h = (λ many. refl, λ many. absurd (many (eqb-true y 1 q)))

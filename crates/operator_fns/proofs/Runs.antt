@@ -1,5 +1,5 @@
 -- The runs of lines up to each place, and folds from the left.
-use Rattle.std.proofs.Common.{◌≡◌, ℕ, zero, suc, ◌+◌, ◌-◌, ◌*◌, ◌/◌, ◌%◌, ◌<◌, ◌≤◌, List, [], ◌∷◌, ◌++◌, length, get_or, take, refl, ap, sym, ◌∙◌, inl, inr, arith, Result, Ok, Err}
+use Rattle.std.proofs.Common.{◌≡◌, ℕ, zero, suc, ◌+◌, ◌-◌, ◌*◌, ◌/◌, ◌%◌, ◌<◌, ◌≤◌, List, [], ◌∷◌, ◌++◌, length, get_or, refl, ap, sym, ◌∙◌, inl, inr, arith, Result, Ok, Err}
 use Rattle.std.proofs.lemmas.List.{take_more, take_all}
 use Rattle.std.proofs.lemmas.Nat.{mod_below}
 use Rattle.std.proofs.Math.Nat.{div-eq-sub-div, mod-add-div}
@@ -7,7 +7,7 @@ use Rattle.std.proofs.Math.Arith.{mod-mul}
 use Rattle.arrays_core.specs.declared.item.Kind.{Kind}
 use Rattle.scalar_fns.proofs.Residues.{next_mod}
 use Rattle.index_region.specs.Common.{and_then}
-use Rattle.operator_fns.specs.Strides.{strided, folded}
+use Rattle.operator_fns.specs.Strides.{strided}
 use Rattle.operator_fns.specs.Runs.{depth, run_to, fold_on, folded_left}
 use Rattle.operator_fns.proofs.Folds.{length-strided, get_or-strided, take-strided}
 

@@ -1,9 +1,13 @@
--- A row and a column taken entry by entry.
-use Rattle.std.specs.Prelude.{ℕ, ◌+◌, ◌*◌, ◌<◌, List, [], ◌∷◌, map, get_or, Result, Ok, Err}
+-- Rows and columns taken entry by entry.
+use Rattle.std.specs.Prelude.{ℕ, ◌+◌, ◌*◌, ◌/◌, ◌%◌, ◌<◌, ◌≤◌, ℤ, pos, List, [], ◌∷◌, map, get_or, drop, if◌then◌else◌, Result, Ok, Err}
 use Rattle.std.specs.List.{range_with_len}
 use Rattle.arrays_core.specs.declared.item.Kind.{Kind}
-use Rattle.index_region.specs.Common.{and_then}
+use Rattle.arrays_core.specs.Shapes.{size}
+use Rattle.arrays_core.specs.Arrays.{ArrayValue}
+use Rattle.index_region.specs.Common.{and_then, has_one_item}
 use Rattle.operator_fns.specs.declared.rows.Line.{Line}
+use Rattle.operator_fns.specs.declared.cells.Grid.{Grid}
+use Rattle.operator_fns.specs.Products.{inner_length}
 use Rattle.operator_fns.specs.Strides.{folded}
 
 -- an entry of a line of a list
@@ -32,3 +36,32 @@ last_error_or other (Err e ∷ rest) = last_error_or e rest
 -- the right fold of what all of them give
 abbrev pub folded_all : {A : Type 0} → (A → A → Result A Kind) → List (Result A Kind) → Result A Kind
 folded_all f rs = and_then (all_or_last rs) (folded f)
+
+-- ---- the rows of one list of numbers and the columns of another
+
+-- the row and the column of a place of the result
+abbrev pub row_at : Grid → ℕ → Line
+row_at grid place = record { first = place / grid.columns * grid.count; stride = grid.row_stride }
+
+abbrev pub column_at : Grid → ℕ → Line
+column_at grid place = record { first = place % grid.columns; stride = grid.column_stride }
+
+-- the number at a place of the result
+abbrev pub cell : (f g : ℤ → ℤ → Result ℤ Kind) → (xs ys : List ℤ) → Grid → ℕ → Result ℤ Kind
+cell f g xs ys grid place = folded_all f (met g (entry (pos 0) xs (row_at grid place)) (entry (pos 0) ys (column_at grid place)) grid.count)
+
+-- the rows and the columns of so many places are not empty, and lie within lists of such lengths
+pub record IsGridOf (grid : Grid) (places n m : ℕ) : Type 0 where
+  pub some_columns : 0 < grid.columns
+  pub some : 1 ≤ grid.count
+  pub rows : (place : ℕ) → place < places → IsInside (row_at grid place) grid.count n
+  pub columns : (place : ℕ) → place < places → IsInside (column_at grid place) grid.count m
+
+-- the rows and the columns of two arrays; one item on a side stands still
+abbrev pub grid_of : ArrayValue → ArrayValue → Grid
+grid_of a b = record {
+  columns = size (drop 1 b.shape);
+  count = inner_length a b;
+  row_stride = if has_one_item a then 0 else 1;
+  column_stride = if has_one_item b then 0 else size (drop 1 b.shape);
+}

@@ -1,6 +1,7 @@
 //! Inner product: the rows of one array folded with the columns of another.
 
-ghost use Rattle.std.specs.Prelude.{◌≡◌, ◌≢◌, ℕ, ◌+◌, ◌<◌, ◌≤◌, ◌++◌, ◌∷◌, [], IsTrue, IfOk, length, take, drop};
+ghost use Rattle.std.specs.Prelude.{◌≡◌, ◌≢◌, ℕ, ◌+◌, ◌<◌, ◌≤◌, ◌++◌, ◌∷◌, [], IsTrue, IfOk, length, map, take, drop};
+ghost use Rattle.arrays_core.specs.declared.item.Item.TheVariants.{Num};
 ghost use Rattle.arrays_core.specs.Arrays.{IsAnswerTo, IsArray};
 ghost use Rattle.arrays_core.specs.Items.{fill};
 ghost use Rattle.arrays_core.specs.Shapes.{is_index_of as is_below};
@@ -8,12 +9,14 @@ ghost use Rattle.scalar_fns.specs.Extension.{extended};
 ghost use Rattle.index_region.specs.Common.{of_two};
 ghost use Rattle.index_region.specs.Answers.{IsFormAnswerTo, IsPlaceOf, HasTypeOf};
 ghost use Rattle.operator_fns.specs.Products.{row_rank as rank_of_rows, row_length as length_of_row, column_length as length_of_column, inner_length as length_of_inner, inner_form, inner_item, inner_whole};
-ghost use Rattle.operator_fns.specs.Meetings.{entry, IsInside};
+ghost use Rattle.operator_fns.specs.Meetings.{entry, IsInside, grid_of};
 
+use crate::cells::{Grid, grid_products};
 use crate::folding::{identity_item, stride};
 use crate::rows::{Line, fold_row_of_items};
 use arrays_core::{
-    ApplyFault, Array, Item, ItemType, Kind, Shape, append_axes, position, shape_of, with_axis,
+    ApplyFault, Array, Item, ItemType, Kind, Shape, append_axes, position, shape_of, size,
+    with_axis,
 };
 use index_region::{Primitive, Seen, apply, limited};
 use scalar_fns::Scalar2;
@@ -114,6 +117,20 @@ fn column_line(array: &Seen, column: &[u32], count: u32) -> Line
     }
 }
 
+/// How the rows of one array and the columns of another lie.
+fn grid(left: &Seen, right: &Seen) -> Grid
+    requires { 0 < length right.now.items }
+    ensures { result ≡ grid_of left.now right.now }
+{
+    let columns = size(column_axes(right)) as usize;
+    Grid {
+        columns,
+        count: inner_length(left, right) as usize,
+        row_stride: if left.places() == 1 { 0 } else { 1 },
+        column_stride: if right.places() == 1 { 0 } else { columns },
+    }
+}
+
 /// Inner product, `A f.g B` (ISO/IEC 13751, "Inner Product"): the axes of A but the last, and then those of
 /// B but the first. Each item is made of a row of A, along its last axis, and a column of B, along its
 /// first: g of each item of the row with the item of the column that it meets, folded by f from the last
@@ -162,7 +179,15 @@ impl Inner {
         let (front, back) = index.split_at(row_rank(left));
         let row = row_line(left, front, count);
         let column = column_line(right, back, count);
-        fold_row_of_items(self.fold, self.each, left, row, right, column, count as usize)
+        fold_row_of_items(
+            self.fold,
+            self.each,
+            left,
+            row,
+            right,
+            column,
+            count as usize,
+        )
     }
 
     /// The rows of A folded with the columns of B.
@@ -170,7 +195,32 @@ impl Inner {
         requires { length args.now ≡ 2 }
         ensures { IsAnswerTo (of_two (inner_whole self.now.fold self.now.each) args.now) result }
     {
-        apply(alloc, self, args)
+        match (args[0].numbers(), args[1].numbers()) {
+            (Some(numbers), Some(others)) if !numbers.is_empty() && !others.is_empty() => {
+                self.of_numbers(alloc, &args[0], &args[1], numbers, others)
+            }
+            _ => apply(alloc, self, args),
+        }
+    }
+
+    /// The rows of A folded with the columns of B, where both are of numbers.
+    fn of_numbers(
+        self,
+        alloc: Global,
+        left: &Seen,
+        right: &Seen,
+        numbers: &[i64],
+        others: &[i64],
+    ) -> Result<Array, ApplyFault>
+        requires numbers { left.now.items ≡ map (λ z. Num z) numbers.now }
+        requires others { right.now.items ≡ map (λ z. Num z) others.now }
+        requires some_numbers { 0 < length numbers.now }
+        requires some_others { 0 < length others.now }
+        ensures { IsAnswerTo (inner_whole self.fold self.each left.now right.now) result }
+    {
+        let (shape, _) = self.form(left, right)?;
+        let grid = grid(left, right);
+        grid_products(alloc, self.fold, self.each, numbers, others, grid, &shape)
     }
 }
 

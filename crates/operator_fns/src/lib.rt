@@ -1,16 +1,17 @@
 //! Operators on scalar functions: reduction, scan, outer and inner product.
 #![tactic(auto)]
 
+mod cells;
 mod flat;
 mod folding;
 mod inner_product;
 mod outer_product;
 mod reducing;
-#[cfg(test)]
-mod tests;
 mod rows;
 mod running;
 mod scanning;
+#[cfg(test)]
+mod tests;
 
 pub use inner_product::Inner;
 pub use outer_product::Outer;

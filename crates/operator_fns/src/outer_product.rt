@@ -38,7 +38,8 @@ impl<'a, S: TwoNumbers> NumberRule for Pairs<'a, S> {
 
     fn number_at(&self, place: usize) -> Result<i64, Kind> {
         let count = self.right.len();
-        self.step.at(self.left[place / count], self.right[place % count])
+        self.step
+            .at(self.left[place / count], self.right[place % count])
     }
 }
 

@@ -28,7 +28,7 @@ loop-place-init g c =
     let same : to_z w64 (of_z w64 z) ≡ z = to_z-of_z w64 _ fits in
     let long = length-met each row column n in
     let made = folded_last (g.F.TwoNumbers.gives c.args.fold.now) (met each row column n) (n - 1) z (omega arith)
-        (met_at each row column n (n - 1) (Ok z) (omega arith) ∙ sym c.in_ok-result.ensures) in
+    (met_at each row column n (n - 1) (Ok z) (omega arith) ∙ sym c.in_ok-result.ensures) in
     record {
       folded = subst (FoldedTo (g.F.TwoNumbers.gives c.args.fold.now) (met each row column n) (n - 1)) (sym same) made;
       below = omega arith;
@@ -91,7 +91,7 @@ loop-place-preserved g c =
     let gave : Ok z ≡ f x c.loop-place.result = rw (same, c.loop-place.result-is) at c.in-Ok.ensures in
     let long = length-met each row column n in
     let more = one_more f (met each row column n) k x c.loop-place.result z (omega arith) later
-        (met_at each row column n k (Ok x) (omega arith) ∙ sym c.in_ok-number.ensures) (sym gave) in
+    (met_at each row column n k (Ok x) (omega arith) ∙ sym c.in_ok-number.ensures) (sym gave) in
     record {
       folded = subst (FoldedTo f (met each row column n) k) (sym (to_z-of_z w64 z z_fits)) more;
       below = omega arith;

@@ -27,7 +27,7 @@ loop-place-init c =
     let z = c.in_ok-result.result in
     let long = length-met each row column n in
     let made = folded_last (two_of c.args.fold) (met each row column n) (n - 1) z (omega arith)
-        (met_at each row column n (n - 1) (Ok z) (omega arith) ∙ sym c.in_ok-result.ensures.is) in
+    (met_at each row column n (n - 1) (Ok z) (omega arith) ∙ sym c.in_ok-result.ensures.is) in
     record {
       folded = made;
       below = omega arith;
@@ -86,7 +86,7 @@ loop-place-preserved c =
     let gave : Ok z ≡ f x c.loop-place.result = c.in-Ok.ensures.is in
     let long = length-met each row column n in
     let more = one_more f (met each row column n) k x c.loop-place.result z (omega arith) later
-        (met_at each row column n k (Ok x) (omega arith) ∙ sym c.in_ok-item.ensures.is) (sym gave) in
+    (met_at each row column n k (Ok x) (omega arith) ∙ sym c.in_ok-item.ensures.is) (sym gave) in
     record {
       folded = more;
       below = omega arith;
