@@ -19,3 +19,4 @@ pub mod LeftScans
 pub mod Associates
 pub mod Endings
 pub mod RunningSums
+pub mod Tables
