@@ -1,18 +1,29 @@
 -- The error that a `?` passes on.
-use Rattle.std.proofs.Common.{◌≡◌, ap, subst, sym, List, ℤ, Vec, Ok, Err, Result}
+use Rattle.std.proofs.Common.{◌≡◌, refl, ap, ℕ, List, ℤ, pos, Vec, Ok, Err, Result}
 use Rattle.std.specs.Result.{IsErr, IsErrAnd}
 use Rattle.arrays_core.specs.declared.item.Kind.{Kind}
 use Rattle.arrays_core.specs.declared.fault.ApplyFault.{ApplyFault}
 use Rattle.arrays_core.specs.declared.fault.ApplyFault.TheVariants.{Kind as KindFault, NoMemory}
-use Rattle.scalar_fns.specs.Results.{IsListAnswerTo}
+use Rattle.arrays_core.specs.declared.item.ItemType.TheVariants.{Nums}
+use Rattle.arrays_core.specs.Arrays.{ArrayValue, IsAnswerTo, with_items}
+use Rattle.scalar_fns.specs.Results.{IsListAnswerTo, items_of}
+use Rattle.operator_fns.specs.Runs.{run_to, FailsAt, HasRead}
 
 pub passed_on : {A : Type 0} (r : Result A Kind) (k : Kind) → IsErr r × IsErrAnd r (λ e. e ≡ k) → r ≡ Err k
 passed_on (Ok x) k h = absurd h.1
 passed_on (Err e) k h = ap Err h.1
 
--- a list's error is the error of another list, or want of memory
-pub fault_passed : {G : Type 0} (wanted other : Result (List ℤ) Kind) (fault : ApplyFault) (r : Result (Vec ℤ G) ApplyFault) → ((k : Kind) → wanted ≡ Err k → other ≡ Err k)
-    → IsListAnswerTo {G = G} wanted (Err fault) → IsErr r × IsErrAnd r (λ e. e ≡ fault) → IsListAnswerTo other r
-fault_passed wanted other fault (Ok v) same is h = absurd h.1
-fault_passed wanted other (KindFault k) (Err e) same is h = rw h.1 (same k is)
-fault_passed wanted other NoMemory (Err e) same is h = rw h.1 tt
+-- an error of what was read is that of the whole, or it is want of memory
+pub fault_passed : {G : Type 0} (fold : List ℤ → Result ℤ Kind) (zs : List ℤ) (stride count : ℕ) (wanted : Result (List ℤ) Kind) (fault : ApplyFault) (r : Result (Vec ℤ G) ApplyFault)
+    → ((k : Kind) → FailsAt (λ place. fold (run_to (pos 0) zs stride count place)) zs k → wanted ≡ Err k)
+    → HasRead {G = G} fold zs stride count (Err fault) → IsErr r × IsErrAnd r (λ e. e ≡ fault) → IsListAnswerTo wanted r
+fault_passed fold zs stride count wanted fault (Ok v) same is h = absurd h.1
+fault_passed fold zs stride count wanted (KindFault k) (Err e) same is h = rw h.1 (same k is)
+fault_passed fold zs stride count wanted NoMemory (Err e) same is h = rw h.1 tt
+
+-- the array of a list's error, or want of memory
+pub array_fault : (G : Type 0) (wanted : Result (List ℤ) Kind) (shape : List ℕ) (fault : ApplyFault) (r : Result ArrayValue ApplyFault)
+    → IsListAnswerTo {G = G} wanted (Err fault) → IsErr r × IsErrAnd r (λ e. e ≡ fault) → IsAnswerTo (with_items Nums shape (items_of wanted)) r
+array_fault G wanted shape fault (Ok a) is h = absurd h.1
+array_fault G wanted shape (KindFault k) (Err e) is h = rw h.1 (rw is refl)
+array_fault G wanted shape NoMemory (Err e) is h = rw h.1 tt

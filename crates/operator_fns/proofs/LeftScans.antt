@@ -1,5 +1,11 @@
 -- A scan from the left, result by result.
-use Rattle.std.proofs.Common.{◌≡◌, ℕ, zero, suc, ◌+◌, ◌-◌, ◌*◌, ◌%◌, ◌<◌, ◌≤◌, nat_lt, Bool, true, false, List, length, get_or, map, take, refl, ap, sym, ◌∙◌, inl, inr, arith, pos, ℤ, Result, Ok, Err}
+use Rattle.std.proofs.Common.{◌≡◌, ℕ, ◌+◌, ◌-◌, ◌*◌, ◌%◌, ◌<◌, ◌≤◌, nat_lt, true, false, List, length, get_or, map, take, ap, sym, subst, ◌∙◌, inl, inr, arith, pos, ℤ, FitsSigned, Result, Ok, Err, Vec}
+use Rattle.std.specs.Int.{w64}
+use Rattle.std.specs.List.{All}
+use Rattle.std.specs.Result.{IsErr, IsErrAnd}
+use Rattle.std.proofs.lemmas.List.{get_or_default}
+use Rattle.arrays_core.specs.declared.fault.ApplyFault.{ApplyFault}
+use Rattle.arrays_core.specs.declared.fault.ApplyFault.TheVariants.{Kind as KindFault}
 use Rattle.std.specs.List.{range_with_len}
 use Rattle.std.proofs.lemmas.Bool.{cases_lt, lt-ltb, le-ltb}
 use Rattle.std.proofs.lemmas.List.{length-take, get_or-take}
@@ -7,7 +13,7 @@ use Rattle.std.proofs.lemmas.List.FromFn.{length-map-range_with_len, get_or-map-
 use Rattle.arrays_core.specs.declared.item.Kind.{Kind}
 use Rattle.arrays_core.specs.Items.{all_or_first_error}
 use Rattle.index_region.specs.Common.{and_then}
-use Rattle.operator_fns.specs.Runs.{depth, run_to, folded_left}
+use Rattle.operator_fns.specs.Runs.{run_to, folded_left, HasRead}
 use Rattle.operator_fns.proofs.Runs.{first_row, later_row, behind, left_first, left_later}
 use Rattle.operator_fns.proofs.Firsts.{entry_of}
 
@@ -25,20 +31,40 @@ module _ (f : ℤ → ℤ → Result ℤ Kind) (zs : List ℤ) (stride count : �
   next_left place block_place xs r below made here first later =
       elim (cases_lt block_place stride) [
         | inl h ↦
-          let low : place % (count * stride) < stride = omega (arith, here, h) in
-          left_first stride count apart some (pos 0) zs f place (first_row stride count apart some place low) ∙ sym (first (lt-ltb block_place stride h))
+            let low : place % (count * stride) < stride = omega (arith, here, h) in
+            left_first stride count apart some (pos 0) zs f place (first_row stride count apart some place low) ∙ sym (first (lt-ltb block_place stride h))
         | inr h ↦
-          let high : stride ≤ place % (count * stride) = omega (arith, here, h) in
-          let deep = later_row stride count apart some place high in
-          let far = behind stride count apart some place deep in
-          let rs = map left_at (range_with_len 0 (length zs)) in
-          let long : length rs ≡ length zs = length-map-range_with_len left_at 0 (length zs) in
-          let inside : place - stride < place = omega arith in
-          let entry = entry_of (take place rs) xs (place - stride) (Ok (pos 0)) (pos 0) made (omega (arith, length-take place rs)) in
-          let before : left_at (place - stride) ≡ Ok (get_or xs (place - stride) (pos 0)) =
-          sym (get_or-take place rs (place - stride) (Ok (pos 0)) inside
-          ∙ get_or-map-range_with_len left_at 0 (length zs) (place - stride) (place - stride) (Ok (pos 0)) (omega arith) (omega arith)) ∙ entry in
-          left_later stride count apart some (pos 0) zs f place deep
-          ∙ ap (λ w. and_then w (λ z. f z (get_or zs place (pos 0)))) before
-          ∙ sym (later (le-ltb block_place stride h))
+            let high : stride ≤ place % (count * stride) = omega (arith, here, h) in
+            let deep = later_row stride count apart some place high in
+            let far = behind stride count apart some place deep in
+            let rs = map left_at (range_with_len 0 (length zs)) in
+            let long : length rs ≡ length zs = length-map-range_with_len left_at 0 (length zs) in
+            let inside : place - stride < place = omega arith in
+            let entry = entry_of (take place rs) xs (place - stride) (Ok (pos 0)) (pos 0) made (omega (arith, length-take place rs)) in
+            let before : left_at (place - stride) ≡ Ok (get_or xs (place - stride) (pos 0)) =
+            sym (get_or-take place rs (place - stride) (Ok (pos 0)) inside
+            ∙ get_or-map-range_with_len left_at 0 (length zs) (place - stride) (place - stride) (Ok (pos 0)) (omega arith) (omega arith)) ∙ entry in
+            left_later stride count apart some (pos 0) zs f place deep
+            ∙ ap (λ w. and_then w (λ z. f z (get_or zs place (pos 0)))) before
+            ∙ sym (later (le-ltb block_place stride h))
       ]
+
+-- ---- numbers of 64 bits among those that were read
+
+pub fits_below : (zs : List ℤ) (place : ℕ) → ((k : ℕ) → k < place → FitsSigned w64 (get_or zs k (pos 0))) → FitsSigned w64 (get_or zs place (pos 0))
+    → (k : ℕ) → k < place + 1 → FitsSigned w64 (get_or zs k (pos 0))
+fits_below zs place before here k below =
+    elim (cases_lt k place) [
+      | inl h ↦ before k h
+      | inr h ↦ let same : place ≡ k = omega arith in subst (λ j. FitsSigned w64 (get_or zs j (pos 0))) same here
+    ]
+
+pub all_fit : (zs : List ℤ) (place : ℕ) → length zs ≤ place → ((k : ℕ) → k < place → FitsSigned w64 (get_or zs k (pos 0))) → All (FitsSigned w64) zs
+all_fit zs place h read k d below = subst (FitsSigned w64) (get_or_default zs k (pos 0) d below) (read k (omega arith))
+
+pub error_read : {G : Type 0} (fold : List ℤ → Result ℤ Kind) (zs : List ℤ) (stride count place : ℕ) (kind : Kind) (r : Result (Vec ℤ G) ApplyFault) → place < length zs
+    → fold (run_to (pos 0) zs stride count place) ≡ Err kind → ((k : ℕ) → k ≤ place → FitsSigned w64 (get_or zs k (pos 0)))
+    → IsErr r × IsErrAnd r (λ e. e ≡ KindFault kind) → HasRead fold zs stride count r
+error_read fold zs stride count place kind (Ok v) below is numbers h = absurd h.1
+error_read fold zs stride count place kind (Err e) below is numbers h =
+    rw h.1 (record { place = place; below = below; is = is; numbers = numbers })

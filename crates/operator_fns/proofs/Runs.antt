@@ -1,5 +1,5 @@
 -- The runs of lines up to each place, and folds from the left.
-use Rattle.std.proofs.Common.{◌≡◌, ℕ, zero, suc, ◌+◌, ◌-◌, ◌*◌, ◌/◌, ◌%◌, ◌<◌, ◌≤◌, List, [], ◌∷◌, ◌++◌, length, get_or, take, refl, ap, sym, ◌∙◌, inl, inr, arith, Result, Ok, Err}
+use Rattle.std.proofs.Common.{◌≡◌, ℕ, zero, suc, ◌+◌, ◌-◌, ◌*◌, ◌/◌, ◌%◌, ◌<◌, ◌≤◌, List, [], ◌∷◌, ◌++◌, length, get_or, refl, ap, sym, ◌∙◌, inl, inr, arith, Result, Ok, Err}
 use Rattle.std.proofs.lemmas.List.{take_more, take_all}
 use Rattle.std.proofs.lemmas.Nat.{mod_below}
 use Rattle.std.proofs.Math.Nat.{div-eq-sub-div, mod-add-div}
@@ -7,7 +7,7 @@ use Rattle.std.proofs.Math.Arith.{mod-mul}
 use Rattle.arrays_core.specs.declared.item.Kind.{Kind}
 use Rattle.scalar_fns.proofs.Residues.{next_mod}
 use Rattle.index_region.specs.Common.{and_then}
-use Rattle.operator_fns.specs.Strides.{strided, folded}
+use Rattle.operator_fns.specs.Strides.{strided}
 use Rattle.operator_fns.specs.Runs.{depth, run_to, fold_on, folded_left}
 use Rattle.operator_fns.proofs.Folds.{length-strided, get_or-strided, take-strided}
 
@@ -50,8 +50,8 @@ module _ (stride count : ℕ) (apart : 0 < stride) (some : 1 ≤ count) where
       decide zero e = refl
       decide (suc d) e = absurd (omega arith)
 
-  deep : (place : ℕ) → stride ≤ place % (count * stride) → 0 < depth stride count place
-  deep place h = decide (depth stride count place) (in_block place)
+  pub later_row : (place : ℕ) → stride ≤ place % (count * stride) → 0 < depth stride count place
+  later_row place h = decide (depth stride count place) (in_block place)
     where
       decide : (d : ℕ) → place % (count * stride) ≡ d * stride + place % stride → 0 < d
       decide zero e = let r = mod_below place stride apart in absurd (omega arith)
@@ -83,9 +83,6 @@ module _ (stride count : ℕ) (apart : 0 < stride) (some : 1 ≤ count) where
         | inl n ↦ absurd (omega (arith, n.0))
         | inr n ↦ e ∙ n
       ]
-
-  pub later_row : (place : ℕ) → stride ≤ place % (count * stride) → 0 < depth stride count place
-  later_row place h = deep place h
 
   module _ {A : Type 0} (d : A) (xs : List A) where
     pub run_first : (place : ℕ) → depth stride count place ≡ 0 → run_to d xs stride count place ≡ get_or xs place d ∷ []

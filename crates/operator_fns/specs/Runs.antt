@@ -1,9 +1,12 @@
 -- The first entries of the lines of a list in row-major order, and folds of them.
-use Rattle.std.specs.Prelude.{◌≡◌, ℕ, ◌+◌, ◌-◌, ◌*◌, ◌/◌, ◌%◌, ℤ, pos, List, [], ◌∷◌, map, length, Result, Ok, Err}
+use Rattle.std.specs.Prelude.{◌≡◌, ℕ, ◌+◌, ◌-◌, ◌*◌, ◌/◌, ◌%◌, ◌<◌, ◌≤◌, ℤ, pos, FitsSigned, List, [], ◌∷◌, map, length, get_or, All, Result, Ok, Err, Vec}
+use Rattle.std.specs.Int.{w64}
 use Rattle.std.specs.List.{range_with_len}
 use Rattle.arrays_core.specs.Items.{all_or_first_error}
 use Rattle.arrays_core.specs.declared.item.Kind.{Kind}
 use Rattle.arrays_core.specs.declared.item.Kind.TheVariants.{Domain}
+use Rattle.arrays_core.specs.declared.fault.ApplyFault.{ApplyFault}
+use Rattle.arrays_core.specs.declared.fault.ApplyFault.TheVariants.{Kind as KindFault, NoMemory}
 use Rattle.index_region.specs.Common.{and_then}
 use Rattle.operator_fns.specs.Strides.{strided}
 
@@ -36,3 +39,16 @@ pub record IsAssociative (f : ℤ → ℤ → Result ℤ Kind) : Type 0 where
   pub kind : Kind
   pub only : (a b : ℤ) (k : Kind) → f a b ≡ Err k → k ≡ kind
   pub either : (a b c : ℤ) → and_then (f b c) (f a) ≡ and_then (f a b) (λ z. f z c)
+
+-- a place with this error, and up to it only numbers of 64 bits
+pub record FailsAt (rule : ℕ → Result ℤ Kind) (zs : List ℤ) (kind : Kind) : Type 0 where
+  pub place : ℕ
+  pub below : place < length zs
+  pub is : rule place ≡ Err kind
+  pub numbers : (k : ℕ) → k ≤ place → FitsSigned w64 (get_or zs k (pos 0))
+
+-- what a call has read are numbers of 64 bits: all, or those up to its error
+abbrev pub HasRead : {G : Type 0} → (List ℤ → Result ℤ Kind) → List ℤ → (stride count : ℕ) → Result (Vec ℤ G) ApplyFault → Type 0
+HasRead fold zs stride count (Ok v) = All (FitsSigned w64) zs
+HasRead fold zs stride count (Err (KindFault kind)) = FailsAt (λ place. fold (run_to (pos 0) zs stride count place)) zs kind
+HasRead fold zs stride count (Err NoMemory) = Unit {0}

@@ -116,5 +116,11 @@ pub(crate) fn fold_line(
     let shape = array.shape();
     let first = with_axis(*shape.allocator(), index, axis, 1);
     let first_place = position(shape, first.as_slice());
-    fold_items(function, array, first_place, stride(shape.as_slice(), axis), count)
+    fold_items(
+        function,
+        array,
+        first_place,
+        stride(shape.as_slice(), axis),
+        count,
+    )
 }

@@ -14,9 +14,7 @@ ghost use Rattle.operator_fns.specs.Reductions.{reduce_form, reduce_item, reduce
 
 use crate::flat::{NumberRule, collect_numbers};
 use crate::folding::{fold_line, fold_numbers, identity_item, stride};
-use arrays_core::{
-    ApplyFault, Array, Item, ItemType, Kind, Shape, shape_of, size, without_axis,
-};
+use arrays_core::{ApplyFault, Array, Item, ItemType, Kind, Shape, shape_of, size, without_axis};
 use index_region::{Along, Primitive, Seen, apply, limited};
 use scalar_fns::Scalar2;
 use scalar_fns::steps::{And, Maximum, Minimum, Minus, Or, Plus, Times, TwoNumbers};
@@ -181,7 +179,14 @@ impl Reduce {
         let axes = array.shape();
         let axis = self.along.axis_at(axes.len() as u32);
         let apart = stride(axes.as_slice(), axis) as usize;
-        folds(alloc, self.function, numbers, apart, axes[axis] as usize, &shape)
+        folds(
+            alloc,
+            self.function,
+            numbers,
+            apart,
+            axes[axis] as usize,
+            &shape,
+        )
     }
 }
 

@@ -6,7 +6,7 @@ ghost use Rattle.scalar_fns.specs.declared.function.Scalar2.TheVariants.{Plus as
 ghost use Rattle.scalar_fns.specs.Numbers.{of_two};
 ghost use Rattle.scalar_fns.specs.Results.{IsListAnswerTo};
 ghost use Rattle.operator_fns.specs.Strides.{folded};
-ghost use Rattle.operator_fns.specs.Runs.{folded_left, scanned, IsAssociative};
+ghost use Rattle.operator_fns.specs.Runs.{folded_left, scanned, HasRead, IsAssociative};
 
 use arrays_core::{ApplyFault, Kind};
 use scalar_fns::steps::{Plus, TwoNumbers};
@@ -35,26 +35,24 @@ impl TwoNumbers for LeastEnding {
     }
 }
 
-/// The number behind the results, or what the function gives for the result a stride before it and that
-/// number.
+/// The number at the place behind some results: as it is, or put together with the result a stride
+/// before it.
 fn next_result<S: TwoNumbers>(
     step: &S,
     results: &[i64],
-    numbers: &[i64],
+    number: i64,
     stride: usize,
     is_first: bool,
 ) -> Result<i64, Kind>
-    requires inside { length results.now < length numbers.now }
     requires apart { 0 < stride }
     requires behind { is_first ≡ false → stride ≤ length results.now }
-    ensures first { is_first ≡ true → result ≡ Ok (get_or numbers.now (length results.now) (pos 0)) }
-    ensures later { is_first ≡ false → result ≡ S.gives step.now (get_or results.now (length results.now - stride) (pos 0)) (get_or numbers.now (length results.now) (pos 0)) }
+    ensures first { is_first ≡ true → result ≡ Ok number }
+    ensures later { is_first ≡ false → result ≡ S.gives step.now (get_or results.now (length results.now - stride) (pos 0)) number }
 {
-    let place = results.len();
     if is_first {
-        Ok(numbers[place])
+        Ok(number)
     } else {
-        step.at(results[place - stride], numbers[place])
+        step.at(results[results.len() - stride], number)
     }
 }
 
@@ -84,13 +82,14 @@ fn running<S: TwoNumbers>(
     requires high { count * stride ≤ length numbers.now }
     ensures is { IsListAnswerTo (scanned (folded_left (S.gives step.now)) numbers.now stride count) result }
     ensures long { IfOk result (λ v. vec_len v ≡ length numbers.now) }
+    ensures read { HasRead (folded_left (S.gives step.now)) numbers.now stride count result }
 {
     let mut results = Vec::with_capacity(alloc, numbers.len())?;
     let block = count * stride;
     let mut block_place = 0;
     for place in 0..numbers.len() {
         let is_first = block_place < stride;
-        let result = next_result(step, &results, numbers, stride, is_first)?;
+        let result = next_result(step, &results, numbers[place], stride, is_first)?;
         results.push(result)?;
         block_place = place_after(block_place, block);
     }

@@ -20,7 +20,7 @@ use crate::running::{running_folds, running_sums};
 use arrays_core::{ApplyFault, Array, Item, ItemType, Kind, Shape, shape_of, without_axis};
 use index_region::{Along, Primitive, Seen, apply, limited};
 use scalar_fns::Scalar2;
-use scalar_fns::steps::{And, Maximum, Minimum, Or, Times, TwoNumbers};
+use scalar_fns::steps::{And, Maximum, Minimum, Minus, Or, Times, TwoNumbers};
 use std::alloc::Global;
 
 /// The numbers of a list, each folded with those before it on its line.
@@ -132,6 +132,7 @@ fn scans(
         Scalar2::Minimum => scans_on(alloc, &Minimum, numbers, stride, count, shape),
         Scalar2::And => scans_on(alloc, &And, numbers, stride, count, shape),
         Scalar2::Or => scans_on(alloc, &Or, numbers, stride, count, shape),
+        Scalar2::Minus => scans_by(alloc, &Minus, numbers, stride, count, shape),
         Scalar2::Times => scans_by(alloc, &Times, numbers, stride, count, shape),
         _ => scans_by(alloc, &function, numbers, stride, count, shape),
     }
@@ -210,7 +211,14 @@ impl Scan {
         }
         let axis = self.along.axis_at(axes.len() as u32);
         let apart = stride(axes.as_slice(), axis) as usize;
-        scans(alloc, self.function, numbers, apart, axes[axis] as usize, &shape)
+        scans(
+            alloc,
+            self.function,
+            numbers,
+            apart,
+            axes[axis] as usize,
+            &shape,
+        )
     }
 }
 

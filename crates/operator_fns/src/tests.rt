@@ -1,4 +1,4 @@
-use crate::{Inner, Outer, Reduce};
+use crate::{Inner, Outer, Reduce, Scan};
 use arrays_core::{ApplyFault, Array, Item, Kind, shape_of};
 use index_region::{Along, Seen, apply};
 use scalar_fns::Scalar2;
@@ -333,4 +333,108 @@ fn errors_of_items_come_before_those_of_the_fold(rt: HostRuntime) {
             Kind::Limit
         )
     );
+}
+
+fn scanned(
+    alloc: Global,
+    function: Scalar2,
+    along: Along,
+    array: &Array,
+) -> Result<Array, ApplyFault> {
+    let scan = Scan { function, along };
+    scan.apply(alloc, &[Seen::plain(array)])
+}
+
+// A scan of a vector along its only axis.
+fn scanned_list(alloc: Global, function: Scalar2, numbers: &[i64]) -> Result<Array, ApplyFault> {
+    scanned(alloc, function, Along::Last, &vector(alloc, numbers)?)
+}
+
+#[test]
+fn scans_from_the_right(rt: HostRuntime) {
+    let alloc = rt.alloc();
+    let (minus, less) = (Scalar2::Minus, Scalar2::Less);
+    assert!(rt; are_numbers(scanned_list(alloc, minus, &[4, 3, 2, 1]), 1, &[4, 1, 3, 2]));
+    assert!(rt; are_numbers(scanned_list(alloc, less, &[0, 0, 1, 0]), 1, &[0, 0, 1, 0]));
+    assert!(rt;
+        are_numbers(
+            scanned_list(alloc, Scalar2::Maximum, &[2, 7, 1]),
+            1,
+            &[2, 7, 7]
+        )
+    );
+    assert!(rt; are_numbers(scanned_list(alloc, Scalar2::Nand, &[]), 1, &[]));
+}
+
+#[test]
+fn scans_along_each_axis(rt: HostRuntime) {
+    let alloc = rt.alloc();
+    let (Ok(table), Ok(number)) = (matrix(alloc), Array::scalar(alloc, 5)) else {
+        assert!(rt; false);
+        return;
+    };
+    let (plus, minus) = (Scalar2::Plus, Scalar2::Minus);
+    let (rows, columns) = ([1, 3, 6, 4, 9, 15], [1, 2, 3, 5, 7, 9]);
+    let differences = [1, 2, 3, -3, -3, -3];
+    assert!(rt; are_numbers(scanned(alloc, plus, Along::Last, &table), 2, &rows));
+    assert!(rt; are_numbers(scanned(alloc, plus, Along::Axis(1), &table), 2, &columns));
+    assert!(rt; are_numbers(scanned(alloc, minus, Along::First, &table), 2, &differences));
+    assert!(rt; fails(scanned(alloc, plus, Along::Axis(3), &table), Kind::Axis));
+    assert!(rt; are_numbers(scanned(alloc, minus, Along::Last, &number), 0, &[5]));
+    assert!(rt; fails(scanned(alloc, minus, Along::Axis(1), &number), Kind::Axis));
+}
+
+#[test]
+fn sums_leave_64_bits(rt: HostRuntime) {
+    let alloc = rt.alloc();
+    let (plus, most) = (Scalar2::Plus, i64::MAX);
+    let below = [-5, most - 5, most - 5];
+    assert!(rt; are_numbers(scanned_list(alloc, plus, &[-5, most, 0]), 1, &below));
+    assert!(rt; fails(scanned_list(alloc, plus, &[1, most, -1]), Kind::Limit));
+    assert!(rt; fails(scanned_list(alloc, plus, &[-1, most, 1]), Kind::Limit));
+    assert!(rt; fails(scanned_list(alloc, plus, &[1, i64::MIN, -1]), Kind::Limit));
+    let back = [i64::MIN, i64::MIN + 1, i64::MIN];
+    assert!(rt; are_numbers(scanned_list(alloc, plus, &[i64::MIN, 1, -1]), 1, &back));
+}
+
+#[test]
+fn looks_at_truth_values_and_characters(rt: HostRuntime) {
+    let alloc = rt.alloc();
+    let and = Scalar2::And;
+    assert!(rt; fails(scanned_list(alloc, and, &[5, 1]), Kind::Domain));
+    assert!(rt; are_numbers(scanned_list(alloc, and, &[5]), 1, &[5]));
+    assert!(rt; are_numbers(scanned_list(alloc, and, &[1, 1, 0, 1]), 1, &[1, 1, 0, 0]));
+    let (Ok(one), Ok(two)) = (text(alloc, &['a']), text(alloc, &['a', 'b'])) else {
+        assert!(rt; false);
+        return;
+    };
+    assert!(rt;
+        fails(
+            scanned(alloc, Scalar2::Plus, Along::Last, &two),
+            Kind::Domain
+        )
+    );
+    let Ok(same) = scanned(alloc, Scalar2::Plus, Along::Last, &one) else {
+        assert!(rt; false);
+        return;
+    };
+    assert!(rt; same.at(&[1]) == Some(Item::Char('a')));
+}
+
+#[test]
+fn scans_long_vectors_at_once(rt: HostRuntime) {
+    let alloc = rt.alloc();
+    let Ok(ones) = repeated(alloc, 1, 100_000) else {
+        assert!(rt; false);
+        return;
+    };
+    let (Ok(sums), Ok(bounds)) = (
+        scanned(alloc, Scalar2::Plus, Along::Last, &ones),
+        scanned(alloc, Scalar2::Maximum, Along::Last, &ones),
+    ) else {
+        assert!(rt; false);
+        return;
+    };
+    assert!(rt; sums.at(&[100_000]) == Some(Item::Num(100_000)));
+    assert!(rt; bounds.at(&[100_000]) == Some(Item::Num(1)));
 }

@@ -1,5 +1,4 @@
-use Rattle.std.proofs.Common.{◌≡◌, ap, length, map, pos, subst, Ok}
-use Rattle.std.specs.List.{range_with_len}
+use Rattle.std.proofs.Common.{◌≡◌, ap, length, pos, subst}
 use Rattle.arrays_core.specs.Items.{all_or_first_error}
 use Rattle.scalar_fns.specs.Results.{IsListAnswerTo}
 use Rattle.operator_fns.specs.Strides.{folded}

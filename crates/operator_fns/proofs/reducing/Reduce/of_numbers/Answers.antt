@@ -63,5 +63,5 @@ returns c =
     let long : length b.items ≡ length c.args.numbers.now = ap length c.requires.numbers ∙ length-map c.args.numbers.now (λ z. Num z) in
     let some : 0 < size b.shape = omega (arith, long, c.shape-axes.ensures.sound.one_item_a_place, c.requires.some) in
     rw (reduced_whole c.args.self.function b c.args.numbers.now c.requires.numbers c.requires.typed c.args.self.along c.in_ok-shape.shape.items c.in_ok-shape.field-0-1
-        axis _ _ c.in_ok-shape.ensures.0 meant there count apart some)
+    axis _ _ c.in_ok-shape.ensures.0 meant there count apart some)
     c.folds.ensures

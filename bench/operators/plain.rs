@@ -1,0 +1,107 @@
+//! The same in plain Rust: checked loops over slices.
+use std::hint::black_box;
+use std::time::Instant;
+
+fn numbers(places: usize) -> Vec<i64> {
+    let mut number: i64 = 5;
+    (0..places)
+        .map(|_| {
+            number = number.wrapping_mul(6364136223846793005).wrapping_add(1442695040888963407);
+            (number >> 33) % 1000
+        })
+        .collect()
+}
+
+/// The total from the last number to the first.
+fn total(numbers: impl DoubleEndedIterator<Item = i64>) -> Option<i64> {
+    numbers.rev().try_fold(0i64, |sum, number| number.checked_add(sum))
+}
+
+fn sum(numbers: &[i64]) -> Option<Vec<i64>> {
+    Some(vec![total(numbers.iter().copied())?])
+}
+
+fn sums_of_rows(numbers: &[i64], columns: usize) -> Option<Vec<i64>> {
+    numbers.chunks_exact(columns).map(|row| total(row.iter().copied())).collect()
+}
+
+/// A row at a time is added to the totals, the last row first.
+fn sums_of_columns(numbers: &[i64], columns: usize) -> Option<Vec<i64>> {
+    let mut totals = vec![0i64; columns];
+    for row in numbers.chunks_exact(columns).rev() {
+        for (total, number) in totals.iter_mut().zip(row) {
+            *total = number.checked_add(*total)?;
+        }
+    }
+    Some(totals)
+}
+
+fn running_sum(numbers: &[i64]) -> Option<Vec<i64>> {
+    let mut sum = 0i64;
+    let mut sums = Vec::with_capacity(numbers.len());
+    for number in numbers {
+        sum = sum.checked_add(*number)?;
+        sums.push(sum);
+    }
+    Some(sums)
+}
+
+fn running_maximum(numbers: &[i64]) -> Option<Vec<i64>> {
+    let mut greatest = i64::MIN;
+    let mut maxima = Vec::with_capacity(numbers.len());
+    for number in numbers {
+        greatest = greatest.max(*number);
+        maxima.push(greatest);
+    }
+    Some(maxima)
+}
+
+fn matrix_product(left: &[i64], right: &[i64], axis: usize) -> Option<Vec<i64>> {
+    let mut product = Vec::with_capacity(axis * axis);
+    for row in left.chunks_exact(axis) {
+        for column in 0..axis {
+            let mut sum = 0i64;
+            for (k, factor) in row.iter().enumerate().rev() {
+                sum = factor.checked_mul(right[k * axis + column])?.checked_add(sum)?;
+            }
+            product.push(sum);
+        }
+    }
+    Some(product)
+}
+
+fn table(left: &[i64], right: &[i64]) -> Option<Vec<i64>> {
+    let mut table = Vec::with_capacity(left.len() * right.len());
+    for a in left {
+        for b in right {
+            table.push(a.checked_mul(*b)?);
+        }
+    }
+    Some(table)
+}
+
+fn time(name: &str, call: impl Fn() -> Option<Vec<i64>>) {
+    let mut least = u128::MAX;
+    let mut end = 0;
+    for _ in 0..10 {
+        let start = Instant::now();
+        let made = black_box(call());
+        least = least.min(start.elapsed().as_nanos());
+        end = made.iter().flatten().fold(0i64, |sum, number| sum.wrapping_add(*number));
+    }
+    println!("{name} {least} {end}");
+}
+
+fn main() {
+    let vector = black_box(numbers(1000000));
+    let side = black_box(numbers(1000));
+    let matrix = black_box(numbers(1000 * 1000));
+    let factor = black_box(numbers(256 * 256));
+    time("sum", || sum(&vector));
+    time("sums-of-rows", || sums_of_rows(&matrix, 1000));
+    time("sums-of-columns", || sums_of_columns(&matrix, 1000));
+    time("running-sum", || running_sum(&vector));
+    time("running-maximum", || running_maximum(&vector));
+    time("matrix-product", || matrix_product(&factor, &factor, 256));
+    time("table", || table(&side, &side));
+}
