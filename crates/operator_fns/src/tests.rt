@@ -1,11 +1,16 @@
 use crate::{Inner, Outer, Reduce, Scan};
 use arrays_core::{ApplyFault, Array, Item, Kind, shape_of};
-use index_region::{Along, Seen, apply};
+use index_region::{Along, Seen};
 use scalar_fns::Scalar2;
 use std::alloc::Global;
 
 fn vector(alloc: Global, numbers: &[i64]) -> Result<Array, ApplyFault> {
     Ok(Array::vector(alloc, Vec::from_slice(alloc, numbers)?)?)
+}
+
+// So many times the same number.
+fn repeated(alloc: Global, number: i64, times: usize) -> Result<Array, ApplyFault> {
+    Ok(Array::vector(alloc, vec![in alloc; number; times]?)?)
 }
 
 // The matrix of 1 to 6 with two rows.
@@ -18,9 +23,10 @@ fn text(alloc: Global, characters: &[char]) -> Result<Array, ApplyFault> {
     Ok(Array::text(alloc, Vec::from_slice(alloc, characters)?)?)
 }
 
-fn shaped(alloc: Global, axes: &[u32], numbers: &[i64]) -> Result<Array, ApplyFault> {
-    let numbers = Vec::from_slice(alloc, numbers)?;
-    Ok(Array::from_numbers(&shape_of(alloc, axes), numbers))
+// The matrix of 1 to 6 with three rows.
+fn tall(alloc: Global) -> Result<Array, ApplyFault> {
+    let numbers = Vec::from_slice(alloc, &[1, 2, 3, 4, 5, 6])?;
+    Ok(Array::from_numbers(&shape_of(alloc, &[3, 2]), numbers))
 }
 
 fn are_numbers(answer: Result<Array, ApplyFault>, rank: usize, wanted: &[i64]) -> bool {
@@ -132,205 +138,112 @@ fn leaves_64_bits_on_the_way(rt: HostRuntime) {
     );
 }
 
-// The outer product, by numbers and item by item.
 fn tabled(
     alloc: Global,
     function: Scalar2,
     left: &Array,
     right: &Array,
-) -> [Result<Array, ApplyFault>; 2] {
-    let args = [Seen::plain(left), Seen::plain(right)];
+) -> Result<Array, ApplyFault> {
     let outer = Outer { function };
-    [outer.apply(alloc, &args), apply(alloc, &outer, &args)]
+    outer.apply(alloc, &[Seen::plain(left), Seen::plain(right)])
 }
 
-// The inner product, by numbers and item by item.
 fn multiplied(
     alloc: Global,
     fold: Scalar2,
     each: Scalar2,
     left: &Array,
     right: &Array,
-) -> [Result<Array, ApplyFault>; 2] {
-    let args = [Seen::plain(left), Seen::plain(right)];
+) -> Result<Array, ApplyFault> {
     let inner = Inner { fold, each };
-    [inner.apply(alloc, &args), apply(alloc, &inner, &args)]
-}
-
-fn both_are(answers: [Result<Array, ApplyFault>; 2], rank: usize, wanted: &[i64]) -> bool {
-    let [plain, general] = answers;
-    are_numbers(plain, rank, wanted) && are_numbers(general, rank, wanted)
-}
-
-fn both_fail(answers: [Result<Array, ApplyFault>; 2], wanted: Kind) -> bool {
-    let [plain, general] = answers;
-    fails(plain, wanted) && fails(general, wanted)
+    inner.apply(alloc, &[Seen::plain(left), Seen::plain(right)])
 }
 
 #[test]
 fn makes_tables(rt: HostRuntime) {
     let alloc = rt.alloc();
-    let (Ok(pair), Ok(three), Ok(none), Ok(letters), Ok(more), Ok(table)) = (
-        vector(alloc, &[1, 2]),
-        vector(alloc, &[1, 2, 3]),
-        vector(alloc, &[]),
-        text(alloc, &['a', 'b']),
-        text(alloc, &['a', 'b', 'c']),
-        matrix(alloc),
-    ) else {
+    let (Ok(pair), Ok(three)) = (vector(alloc, &[1, 2]), vector(alloc, &[1, 2, 3])) else {
         assert!(rt; false);
         return;
     };
-    let (times, minus, equal) = (Scalar2::Times, Scalar2::Minus, Scalar2::Equal);
-    assert!(rt; both_are(tabled(alloc, times, &pair, &three), 2, &[1, 2, 3, 2, 4, 6]));
-    assert!(rt; both_are(tabled(alloc, minus, &three, &pair), 2, &[0, -1, 1, 0, 2, 1]));
+    let (times, minus) = (Scalar2::Times, Scalar2::Minus);
+    assert!(rt; are_numbers(tabled(alloc, times, &pair, &three), 2, &[1, 2, 3, 2, 4, 6]));
+    assert!(rt; are_numbers(tabled(alloc, minus, &three, &pair), 2, &[0, -1, 1, 0, 2, 1]));
+}
+
+#[test]
+fn compares_letters(rt: HostRuntime) {
+    let alloc = rt.alloc();
+    let (Ok(letters), Ok(more)) = (text(alloc, &['a', 'b']), text(alloc, &['a', 'b', 'c'])) else {
+        assert!(rt; false);
+        return;
+    };
+    let (plus, equal) = (Scalar2::Plus, Scalar2::Equal);
     assert!(rt;
-        both_are(
-            tabled(alloc, Scalar2::Residue, &pair, &three),
-            2,
-            &[0, 0, 0, 1, 0, 1]
-        )
-    );
-    assert!(rt;
-        both_are(
+        are_numbers(
             tabled(alloc, equal, &letters, &more),
             2,
             &[1, 0, 0, 0, 1, 0]
         )
     );
-    assert!(rt; both_are(tabled(alloc, equal, &letters, &pair), 2, &[0, 0, 0, 0]));
-    assert!(rt; both_are(tabled(alloc, minus, &none, &table), 3, &[]));
-    assert!(rt; both_are(tabled(alloc, minus, &table, &none), 3, &[]));
-    assert!(rt; both_fail(tabled(alloc, times, &letters, &pair), Kind::Domain));
-    let Ok(deep) = shaped(alloc, &[1, 1, 1], &[1]) else {
-        assert!(rt; false);
-        return;
-    };
-    assert!(rt; both_fail(tabled(alloc, times, &deep, &table), Kind::Limit));
+    assert!(rt; fails(tabled(alloc, plus, &letters, &more), Kind::Domain));
+    assert!(rt; are_numbers(multiplied(alloc, plus, equal, &letters, &letters), 0, &[2]));
+    assert!(rt;
+        fails(
+            multiplied(alloc, plus, equal, &letters, &more),
+            Kind::Length
+        )
+    );
 }
 
 #[test]
-fn multiplies_rows_by_columns(rt: HostRuntime) {
+fn multiplies_matrices(rt: HostRuntime) {
     let alloc = rt.alloc();
-    let (Ok(pair), Ok(three), Ok(other), Ok(one), Ok(wide), Ok(tall)) = (
-        vector(alloc, &[1, 2]),
-        vector(alloc, &[1, 2, 3]),
-        vector(alloc, &[4, 5, 6]),
-        Array::scalar(alloc, 2),
-        matrix(alloc),
-        shaped(alloc, &[3, 2], &[1, 2, 3, 4, 5, 6]),
-    ) else {
+    let (Ok(wide), Ok(high), Ok(one)) = (matrix(alloc), tall(alloc), Array::scalar(alloc, 2)) else {
         assert!(rt; false);
         return;
     };
-    let (plus, times, minus) = (Scalar2::Plus, Scalar2::Times, Scalar2::Minus);
-    assert!(rt; both_are(multiplied(alloc, plus, times, &three, &other), 0, &[32]));
-    assert!(rt; both_are(multiplied(alloc, plus, times, &one, &three), 0, &[12]));
-    assert!(rt; both_are(multiplied(alloc, plus, times, &three, &one), 0, &[12]));
-    assert!(rt; both_fail(multiplied(alloc, plus, times, &pair, &three), Kind::Length));
+    let (plus, times) = (Scalar2::Plus, Scalar2::Times);
     assert!(rt;
-        both_are(
-            multiplied(alloc, plus, times, &wide, &tall),
+        are_numbers(
+            multiplied(alloc, plus, times, &wide, &high),
             2,
             &[22, 28, 49, 64]
         )
     );
-    assert!(rt; both_are(multiplied(alloc, minus, times, &wide, &other), 1, &[12, 27]));
-    assert!(rt;
-        both_are(
-            multiplied(alloc, Scalar2::Minimum, plus, &pair, &wide),
-            1,
-            &[2, 3, 4]
-        )
-    );
-    assert!(rt;
-        both_are(
-            multiplied(alloc, Scalar2::Maximum, plus, &one, &wide),
-            1,
-            &[6, 7, 8]
-        )
-    );
-    assert!(rt;
-        both_are(
-            multiplied(alloc, plus, Scalar2::Equal, &three, &tall),
-            1,
-            &[1, 0]
-        )
-    );
-    assert!(rt; both_are(multiplied(alloc, minus, minus, &one, &one), 0, &[0]));
+    assert!(rt; are_numbers(multiplied(alloc, plus, times, &wide, &one), 1, &[12, 30]));
+    assert!(rt; fails(multiplied(alloc, plus, times, &wide, &wide), Kind::Length));
 }
 
 #[test]
-fn multiplies_letters_and_nothing(rt: HostRuntime) {
+fn errs_by_items_before_the_fold(rt: HostRuntime) {
     let alloc = rt.alloc();
-    let (Ok(letters), Ok(pair), Ok(none), Ok(tall), Ok(flat), Ok(one)) = (
-        text(alloc, &['a', 'b']),
-        vector(alloc, &[1, 2]),
-        vector(alloc, &[]),
-        shaped(alloc, &[2, 0], &[]),
-        shaped(alloc, &[0, 2], &[]),
-        Array::scalar(alloc, 7),
-    ) else {
-        assert!(rt; false);
-        return;
-    };
-    let (plus, times, equal) = (Scalar2::Plus, Scalar2::Times, Scalar2::Equal);
-    assert!(rt; both_are(multiplied(alloc, plus, equal, &letters, &letters), 0, &[2]));
-    assert!(rt; both_fail(multiplied(alloc, plus, plus, &letters, &pair), Kind::Domain));
-    assert!(rt; both_are(multiplied(alloc, plus, times, &none, &none), 0, &[0]));
-    assert!(rt; both_are(multiplied(alloc, times, plus, &none, &one), 0, &[1]));
-    assert!(rt;
-        both_are(
-            multiplied(alloc, times, plus, &tall, &flat),
-            2,
-            &[1, 1, 1, 1]
-        )
-    );
-    assert!(rt; both_are(multiplied(alloc, plus, times, &flat, &pair), 1, &[]));
-    assert!(rt;
-        both_fail(
-            multiplied(alloc, Scalar2::Nand, times, &none, &none),
-            Kind::Domain
-        )
-    );
-}
-
-#[test]
-fn errors_of_items_come_before_those_of_the_fold(rt: HostRuntime) {
-    let alloc = rt.alloc();
-    let great = i64::MAX;
-    let (Ok(parts), Ok(divisors), Ok(least), Ok(changed)) = (
-        vector(alloc, &[1, great, great]),
+    let (Ok(parts), Ok(divisors), Ok(none)) = (
+        vector(alloc, &[1, i64::MAX, i64::MAX]),
         vector(alloc, &[0, 1, 1]),
-        vector(alloc, &[1, 5, i64::MIN]),
-        vector(alloc, &[0, 0, -1]),
+        vector(alloc, &[]),
     ) else {
         assert!(rt; false);
         return;
     };
     let (plus, divide) = (Scalar2::Plus, Scalar2::Divide);
     assert!(rt;
-        both_fail(
+        fails(
             multiplied(alloc, plus, divide, &parts, &divisors),
             Kind::Domain
         )
     );
     assert!(rt;
-        both_fail(
+        fails(
             multiplied(alloc, plus, Scalar2::Times, &parts, &parts),
             Kind::Limit
         )
     );
+    assert!(rt; are_numbers(multiplied(alloc, plus, divide, &none, &none), 0, &[0]));
     assert!(rt;
-        both_fail(
-            multiplied(alloc, plus, Scalar2::Maximum, &parts, &parts),
-            Kind::Limit
-        )
-    );
-    assert!(rt;
-        both_fail(
-            multiplied(alloc, plus, divide, &least, &changed),
-            Kind::Limit
+        fails(
+            multiplied(alloc, Scalar2::Nand, divide, &none, &none),
+            Kind::Domain
         )
     );
 }
