@@ -4,18 +4,21 @@ use Rattle.std.proofs.lemmas.List.{length-map}
 use Rattle.arrays_core.specs.declared.item.Item.TheVariants.{Num}
 use Rattle.arrays_core.specs.declared.item.ItemType.TheVariants.{Nums}
 use Rattle.arrays_core.specs.declared.item.Kind.{Kind}
-use Rattle.arrays_core.specs.Items.{fill}
+use Rattle.arrays_core.specs.Items.{fill, all_or_first_error}
 use Rattle.arrays_core.specs.Shapes.{size, is_index_of, places_before}
-use Rattle.arrays_core.specs.Arrays.{ArrayValue, IsArray, collect, item_of}
+use Rattle.arrays_core.specs.Arrays.{ArrayValue, collect, item_of, with_items}
 use Rattle.arrays_core.proofs.Shapes.{places_below}
 use Rattle.scalar_fns.specs.declared.function.Scalar2.{Scalar2}
 use Rattle.scalar_fns.specs.Numbers.{of_two as of_two_numbers}
 use Rattle.scalar_fns.specs.Scalars.{two_of, number_item}
+use Rattle.scalar_fns.specs.Results.{items_of}
 use Rattle.index_region.specs.Common.{Form, whole}
 use Rattle.index_region.proofs.Passing.{limited_gives}
 use Rattle.operator_fns.specs.Products.{outer_form, outer_item, outer_whole}
+use Rattle.operator_fns.specs.Tables.{table}
+use Rattle.operator_fns.proofs.Tables.{places_of_table}
 use Rattle.operator_fns.proofs.Joined.{parts, number_there, size-append}
-use Rattle.operator_fns.proofs.Placewise.{collected_same}
+use Rattle.operator_fns.proofs.Placewise.{collected_same, numbers_collected}
 
 -- as many numbers as places
 pub as_many : (a : ArrayValue) (xs : List ℤ) → length a.items ≡ size a.shape → a.items ≡ map (λ z. Num z) xs → size a.shape ≡ length xs
@@ -45,10 +48,12 @@ module _ (f : Scalar2) (a b : ArrayValue) (xs ys : List ℤ) (long_a : length a.
       ∙ (rw (p.front_place, p.back_place, left, right) refl)
 
   pub outer_of_numbers : (form : Form) → outer_form a b ≡ Ok form
-      → collect Nums form.0 (λ index. number_item (pair (places_before form.0 index))) ≡ outer_whole f a b
+      → with_items Nums form.0 (items_of (all_or_first_error (table (of_two_numbers f) xs ys))) ≡ outer_whole f a b
   outer_of_numbers form h =
+      let shape = a.shape ++ b.shape in
       let is = limited_gives (a.shape ++ b.shape) Nums form h in
-      sym (ap (λ r. whole r (outer_item f a b)) h
-      ∙ ap (λ (g : Form). collect g.1 g.0 (outer_item f a b)) is
-      ∙ sym (ap (λ (g : Form). collect Nums g.0 (λ index. number_item (pair (places_before g.0 index)))) is
-      ∙ collected_same Nums (a.shape ++ b.shape) (λ index. number_item (pair (places_before (a.shape ++ b.shape) index))) (outer_item f a b) pair_there))
+      ap (λ (g : Form). with_items Nums g.0 (items_of (all_or_first_error (table (of_two_numbers f) xs ys)))) is
+      ∙ ap (λ rs. with_items Nums shape (items_of (all_or_first_error rs))) (sym (places_of_table (of_two_numbers f) ys xs (size shape) outer_places))
+      ∙ sym (numbers_collected shape pair)
+      ∙ collected_same Nums shape (λ index. number_item (pair (places_before shape index))) (outer_item f a b) pair_there
+      ∙ sym (ap (λ r. whole r (outer_item f a b)) h ∙ ap (λ (g : Form). collect g.1 g.0 (outer_item f a b)) is)

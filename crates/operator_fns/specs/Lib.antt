@@ -5,3 +5,4 @@ pub mod Scans
 pub mod Runs
 pub mod Products
 pub mod Meetings
+pub mod Tables

@@ -1,46 +1,58 @@
 //! Outer product: a function of each item of one array with each item of another.
 
-ghost use Rattle.std.specs.Prelude.{◌≡◌, ◌<◌, ◌*◌, ◌/◌, ◌%◌, ◌++◌, pos, length, map, get_or, IfOk};
+ghost use Rattle.std.specs.Prelude.{◌≡◌, ◌<◌, ◌≤◌, ◌*◌, ◌++◌, length, map, vec_len, IfOk};
 ghost use Rattle.arrays_core.specs.declared.item.Item.TheVariants.{Num};
 ghost use Rattle.arrays_core.specs.declared.item.ItemType.TheVariants.{Nums};
-ghost use Rattle.arrays_core.specs.Arrays.{collect as collected, IsAnswerTo, IsArray};
-ghost use Rattle.arrays_core.specs.Shapes.{size as size_of, places_before, IsWithinLimits};
+ghost use Rattle.arrays_core.specs.Items.{all_or_first_error};
+ghost use Rattle.arrays_core.specs.Arrays.{with_items, IsAnswerTo, IsArray};
+ghost use Rattle.arrays_core.specs.Shapes.{size as size_of, IsWithinLimits};
 ghost use Rattle.scalar_fns.specs.Numbers.{of_two as of_two_numbers};
-ghost use Rattle.scalar_fns.specs.Scalars.{number_item};
+ghost use Rattle.scalar_fns.specs.Results.{items_of, IsListAnswerTo};
 ghost use Rattle.index_region.specs.Common.{of_two};
 ghost use Rattle.index_region.specs.Answers.{IsFormAnswerTo, IsPlaceOf, HasTypeOf};
+ghost use Rattle.operator_fns.specs.Tables.{table as table_of, behind, LeavesOrFails};
 ghost use Rattle.operator_fns.specs.Products.{outer_form, outer_item, outer_whole};
 
-use crate::flat::{NumberRule, collect_numbers};
 use arrays_core::{
-    ApplyFault, Array, Item, ItemType, Kind, Shape, append_axes, position, shape_of, size,
+    ApplyFault, Array, Item, ItemType, Kind, Shape, append_axes, position, shape_of,
 };
 use index_region::{Primitive, Seen, apply, limited};
 use scalar_fns::steps::{Equal, LessOrEqual, Maximum, Minimum, Minus, Plus, Times, TwoNumbers};
 use scalar_fns::{Scalar2, two};
 use std::alloc::Global;
 
-/// Each number of one list with each of another.
-#[derive(Drop)]
-struct Pairs<'a, S> {
-    step: &'a S,
-    left: &'a [i64],
-    right: &'a [i64],
-    places: usize,
-    ghost some: { 0 < length right.now },
-    ghost whole: { places ≡ length left.now * length right.now },
+/// Puts what a function gives for a number with each of others at the end of a list.
+fn push_row<S: TwoNumbers>(
+    row: &mut Vec<i64>,
+    step: &S,
+    left: i64,
+    right: &[i64],
+) -> Result<(), ApplyFault>
+    ensures { LeavesOrFails (behind row.old.items (map (S.gives step.now left) right.now)) row.new.items result }
+{
+    for number in right {
+        let result = step.at(left, *number)?;
+        row.push(result)?;
+    }
+    Ok(())
 }
 
-impl<'a, S: TwoNumbers> NumberRule for Pairs<'a, S> {
-    ghost places = { λ p. p.places };
-
-    ghost number = { λ p place. S.gives p.step.now (get_or p.left.now (place / length p.right.now) (pos 0)) (get_or p.right.now (place % length p.right.now) (pos 0)) };
-
-    fn number_at(&self, place: usize) -> Result<i64, Kind> {
-        let count = self.right.len();
-        self.step
-            .at(self.left[place / count], self.right[place % count])
+/// What a function gives for each number of one list with each of another.
+fn table_numbers<S: TwoNumbers>(
+    alloc: Global,
+    step: &S,
+    left: &[i64],
+    right: &[i64],
+) -> Result<Vec<i64>, ApplyFault>
+    requires few { length left.now * length right.now ≤ 1048576 }
+    ensures is { IsListAnswerTo (all_or_first_error (table_of (S.gives step.now) left.now right.now)) result }
+    ensures long { IfOk result (λ v. vec_len v ≡ length left.now * length right.now) }
+{
+    let mut numbers = Vec::with_capacity(alloc, left.len() * right.len())?;
+    for number in left {
+        push_row(&mut numbers, step, *number, right)?;
     }
+    Ok(numbers)
 }
 
 /// The array of what a function gives for each number of one list with each of another.
@@ -52,17 +64,11 @@ fn table_by<S: TwoNumbers>(
     shape: &Shape,
 ) -> Result<Array, ApplyFault>
     requires within { IsWithinLimits shape.now.items }
-    requires some { 0 < length right.now }
     requires whole { size_of shape.now.items ≡ length left.now * length right.now }
-    ensures { IsAnswerTo (collected Nums shape.now.items (λ index. number_item (S.gives step.now (get_or left.now (places_before shape.now.items index / length right.now) (pos 0)) (get_or right.now (places_before shape.now.items index % length right.now) (pos 0))))) result }
+    ensures { IsAnswerTo (with_items Nums shape.now.items (items_of (all_or_first_error (table_of (S.gives step.now) left.now right.now)))) result }
 {
-    let pairs = Pairs {
-        step,
-        left,
-        right,
-        places: size(shape.as_slice()) as usize,
-    };
-    collect_numbers(alloc, &pairs, shape)
+    let numbers = table_numbers(alloc, step, left, right)?;
+    Ok(Array::from_numbers(shape, numbers))
 }
 
 /// The same for a function that is chosen; those that tables are mostly made of have a loop of their own.
@@ -74,9 +80,8 @@ fn table(
     shape: &Shape,
 ) -> Result<Array, ApplyFault>
     requires within { IsWithinLimits shape.now.items }
-    requires some { 0 < length right.now }
     requires whole { size_of shape.now.items ≡ length left.now * length right.now }
-    ensures { IsAnswerTo (collected Nums shape.now.items (λ index. number_item (of_two_numbers function (get_or left.now (places_before shape.now.items index / length right.now) (pos 0)) (get_or right.now (places_before shape.now.items index % length right.now) (pos 0))))) result }
+    ensures { IsAnswerTo (with_items Nums shape.now.items (items_of (all_or_first_error (table_of (of_two_numbers function) left.now right.now)))) result }
 {
     match function {
         Scalar2::Plus => table_by(alloc, &Plus, left, right, shape),
@@ -132,7 +137,7 @@ impl Outer {
         ensures { IsAnswerTo (of_two (outer_whole self.now.function) args.now) result }
     {
         match (args[0].numbers(), args[1].numbers()) {
-            (Some(numbers), Some(others)) if !others.is_empty() => {
+            (Some(numbers), Some(others)) => {
                 self.of_numbers(alloc, &args[0], &args[1], numbers, others)
             }
             _ => apply(alloc, self, args),
@@ -150,7 +155,6 @@ impl Outer {
     ) -> Result<Array, ApplyFault>
         requires numbers { left.now.items ≡ map (λ z. Num z) numbers.now }
         requires others { right.now.items ≡ map (λ z. Num z) others.now }
-        requires some { 0 < length others.now }
         ensures { IsAnswerTo (outer_whole self.function left.now right.now) result }
     {
         let (shape, _) = self.form(left, right)?;

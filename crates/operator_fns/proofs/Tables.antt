@@ -1,0 +1,129 @@
+-- Tables of numbers, row by row.
+use Rattle.std.proofs.Common.{◌≡◌, Vec, ℕ, zero, suc, ◌+◌, ◌-◌, ◌*◌, ◌/◌, ◌%◌, ◌<◌, ◌≤◌, List, [], ◌∷◌, ◌++◌, append_assoc, append-nil, length, get_or, map, take, drop, ℤ, pos, Result, Ok, Err, refl, ap, sym, ◌∙◌, arith}
+use Rattle.std.specs.List.{range_with_len, flat_map}
+use Rattle.std.proofs.lemmas.List.{length-map, length-append, get_or_append_left, get_or-append-add, get_or-map, ext_get_or, take_more, take_all, drop_more, take-append-drop}
+use Rattle.std.proofs.lemmas.List.FromFn.{length-map-range_with_len, get_or-map-range_with_len}
+use Rattle.std.proofs.lemmas.List.Concat.{flat_map-cons}
+use Rattle.std.proofs.lemmas.Grind.{flat_map-append}
+use Rattle.std.proofs.lemmas.Nat.{div-add-mod'}
+use Rattle.std.proofs.Math.Nat.{mod-lt, div-lt_iff_lt-mul}
+use Rattle.arrays_core.specs.declared.item.Kind.{Kind}
+use Rattle.std.specs.Result.{IsErr, IsErrAnd}
+use Rattle.arrays_core.specs.declared.fault.ApplyFault.{ApplyFault}
+use Rattle.arrays_core.specs.declared.fault.ApplyFault.TheVariants.{Kind as KindFault, NoMemory}
+use Rattle.scalar_fns.specs.Results.{IsListAnswerTo}
+use Rattle.arrays_core.specs.Items.{all_or_first_error, after}
+use Rattle.index_region.specs.Common.{and_then}
+use Rattle.operator_fns.specs.Tables.{table, behind, LeavesOrFails}
+
+-- ---- results behind others
+
+again : (r : Result (List ℤ) Kind) → r ≡ and_then r (λ zs. Ok ([] ++ zs))
+again (Ok zs) = refl
+again (Err e) = refl
+
+after_parts : (x : ℤ) (r : Result (List ℤ) Kind) (all : List ℤ) (B : Type 0) → after x r ≡ Ok all → ((rest : List ℤ) → r ≡ Ok rest → all ≡ x ∷ rest → B) → B
+after_parts x (Ok rest) all B h then = then rest refl (let e : x ∷ rest ≡ all = cc in sym e)
+after_parts x (Err e) all B h then = let none : ⊥ = cc in absurd none
+
+after_behind : (x : ℤ) (rest : List ℤ) (r : Result (List ℤ) Kind) → after x (and_then r (λ zs. Ok (rest ++ zs))) ≡ and_then r (λ zs. Ok (x ∷ (rest ++ zs)))
+after_behind x rest (Ok zs) = refl
+after_behind x rest (Err e) = refl
+
+pub all_behind : (front rs : List (Result ℤ Kind)) (zs : List ℤ) → all_or_first_error front ≡ Ok zs → all_or_first_error (front ++ rs) ≡ behind zs rs
+all_behind [] rs zs h = let e : zs ≡ [] = cc in rw e (again (all_or_first_error rs))
+all_behind (Err e ∷ front) rs zs h = cc
+all_behind (Ok x ∷ front) rs zs h =
+    after_parts x (all_or_first_error front) zs (all_or_first_error (Ok x ∷ front ++ rs) ≡ behind zs rs) h (λ rest made is.
+    ap (after x) (all_behind front rs rest made)
+    ∙ after_behind x rest (all_or_first_error rs)
+    ∙ sym (ap (λ ys. behind ys rs) is))
+
+pub error_in_front : (front rs : List (Result ℤ Kind)) (e : Kind) → all_or_first_error front ≡ Err e → all_or_first_error (front ++ rs) ≡ Err e
+error_in_front [] rs e h = cc
+error_in_front (Err k ∷ front) rs e h = h
+error_in_front (Ok x ∷ front) rs e h = ap (after x) (error_in_front front rs e (failed (all_or_first_error front) h)) ∙ refl
+  where
+    failed : (r : Result (List ℤ) Kind) → after x r ≡ Err e → r ≡ Err e
+    failed (Ok zs) g = cc
+    failed (Err k) g = g
+
+-- so many results of a list stand behind some numbers
+pub record RowTo (old : List ℤ) (rs : List (Result ℤ Kind)) (k : ℕ) (items : List ℤ) : Type 0 where
+  pub new : List ℤ
+  pub made : all_or_first_error (take k rs) ≡ Ok new
+  pub is : items ≡ old ++ new
+
+-- ---- the rows of a table
+
+module _ (f : ℤ → ℤ → Result ℤ Kind) (ys : List ℤ) where
+  -- one row more
+  pub row_more : (xs : List ℤ) (i : ℕ) → i < length xs → table f (take (i + 1) xs) ys ≡ table f (take i xs) ys ++ map (f (get_or xs i (pos 0))) ys
+  row_more xs i h =
+      ap (λ zs. table f zs ys) (take_more xs i (pos 0) h)
+      ∙ flat_map-append (λ x. map (f x) ys) (take i xs) (get_or xs i (pos 0) ∷ [])
+      ∙ ap (λ rs. table f (take i xs) ys ++ rs) (append-nil (map (f (get_or xs i (pos 0))) ys))
+
+  pub rows_left : (xs : List ℤ) (i : ℕ) → table f xs ys ≡ table f (take i xs) ys ++ table f (drop i xs) ys
+  rows_left xs i = ap (λ zs. table f zs ys) (sym (take-append-drop i xs)) ∙ flat_map-append (λ x. map (f x) ys) (take i xs) (drop i xs)
+
+  pub length-table : (xs : List ℤ) → length (table f xs ys) ≡ length xs * length ys
+  length-table [] = omega arith
+  length-table (x ∷ xs) =
+      length-append (map (f x) ys) (table f xs ys) ∙ (omega (arith, length-map ys (f x), length-table xs))
+
+  pub entry_of_row : (xs : List ℤ) (q r : ℕ) (d : Result ℤ Kind) → q < length xs → r < length ys
+      → get_or (table f xs ys) (q * length ys + r) d ≡ f (get_or xs q (pos 0)) (get_or ys r (pos 0))
+  entry_of_row [] q r d h low = absurd (omega arith)
+  entry_of_row (x ∷ xs) zero r d h low =
+      let long = length-map ys (f x) in
+      let place : zero * length ys + r ≡ r = omega arith in
+      ap (λ k. get_or (table f (x ∷ xs) ys) k d) place
+      ∙ get_or_append_left (map (f x) ys) (table f xs ys) d r (omega arith)
+      ∙ get_or-map (f x) ys r (pos 0) d low
+  entry_of_row (x ∷ xs) (suc q) r d h low =
+      let long = length-map ys (f x) in
+      let place : suc q * length ys + r ≡ length (map (f x) ys) + (q * length ys + r) = omega arith in
+      ap (λ k. get_or (table f (x ∷ xs) ys) k d) place
+      ∙ get_or-append-add (map (f x) ys) (table f xs ys) (q * length ys + r) d
+      ∙ entry_of_row xs q r d (omega arith) low
+
+  -- place by place
+  pub places_of_table : (xs : List ℤ) (n : ℕ) → n ≡ length xs * length ys
+      → map (λ p. f (get_or xs (p / length ys) (pos 0)) (get_or ys (p % length ys) (pos 0))) (range_with_len 0 n) ≡ table f xs ys
+  places_of_table xs n e =
+      let m = length ys in
+      let number = λ (p : ℕ). f (get_or xs (p / m) (pos 0)) (get_or ys (p % m) (pos 0)) in
+      let long = length-map-range_with_len number 0 n in
+      let d : Result ℤ Kind = Ok (pos 0) in
+      ext_get_or d (map number (range_with_len 0 n)) (table f xs ys) (omega (arith, length-table xs)) (λ p h.
+      let below : p < n = omega arith in
+      let some : 0 < m = some_columns (length xs) m p (omega arith) in
+      let q_low : p / m < length xs = (div-lt_iff_lt-mul some).1 (omega arith) in
+      get_or-map-range_with_len number 0 n p p d below (omega arith)
+      ∙ sym (ap (λ k. get_or (table f xs ys) k d) (sym (div-add-mod' p m)) ∙ entry_of_row xs (p / m) (p % m) d q_low (mod-lt p some)))
+    where
+      some_columns : (n m p : ℕ) → p < n * m → 0 < m
+      some_columns n zero p h = absurd (omega arith)
+      some_columns n (suc m) p h = omega arith
+
+-- ---- the answers of calls
+
+pub left_error : {U : Type 0} (wanted : Result (List ℤ) Kind) (k : Kind) (left : List ℤ) (r : Result U ApplyFault) → wanted ≡ Err k
+    → IsErr r × IsErrAnd r (λ e. e ≡ KindFault k) → LeavesOrFails wanted left r
+left_error wanted k left (Ok u) e h = absurd h.1
+left_error wanted k left (Err f) e h = rw h.1 e
+
+-- an error of a row is an error of the table
+pub row_failed : {G : Type 0} (U : Type 0) (wanted other : Result (List ℤ) Kind) (left : List ℤ) (fault : ApplyFault) (r : Result (Vec ℤ G) ApplyFault)
+    → ((k : Kind) → wanted ≡ Err k → other ≡ Err k) → LeavesOrFails {U = U} wanted left (Err fault) → IsErr r × IsErrAnd r (λ e. e ≡ fault) → IsListAnswerTo other r
+row_failed U wanted other left fault (Ok v) same is h = absurd h.1
+row_failed U wanted other left (KindFault k) (Err e) same is h = rw h.1 (same k is)
+row_failed U wanted other left NoMemory (Err e) same is h = rw h.1 tt
+
+-- as many numbers as results
+pub as_many_as : (rs : List (Result ℤ Kind)) (zs : List ℤ) → all_or_first_error rs ≡ Ok zs → length zs ≡ length rs
+as_many_as [] zs h = let e : zs ≡ [] = cc in rw e refl
+as_many_as (Err e ∷ rs) zs h = cc
+as_many_as (Ok x ∷ rs) zs h =
+    after_parts x (all_or_first_error rs) zs (length zs ≡ length (Ok x ∷ rs)) h (λ rest made is. ap length is ∙ ap suc (as_many_as rs rest made))
