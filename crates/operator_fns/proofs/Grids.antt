@@ -2,14 +2,13 @@
 use Rattle.std.proofs.Common.{◌≡◌, ◌≢◌, ℕ, zero, suc, ◌+◌, ◌-◌, ◌*◌, ◌/◌, ◌%◌, ◌<◌, ◌≤◌, Bool, true, false, cond, eqb, ◌||◌, List, [], ◌∷◌, ◌++◌, length, get_or, map, take, drop, ℤ, pos, Result, Ok, Err, refl, ap, sym, subst, ◌∙◌, arith, inl, inr}
 use Rattle.std.specs.List.{range_with_len}
 use Rattle.std.proofs.lemmas.Bool.Decides.{eqb_tells}
-use Rattle.arrays_core.specs.declared.item.Item.{Item}
 use Rattle.arrays_core.specs.declared.item.Item.TheVariants.{Num}
 use Rattle.arrays_core.specs.declared.item.ItemType.TheVariants.{Nums}
 use Rattle.arrays_core.specs.declared.item.Kind.{Kind}
 use Rattle.arrays_core.specs.declared.item.Kind.TheVariants.{Length}
 use Rattle.arrays_core.specs.Items.{fill}
 use Rattle.arrays_core.specs.Shapes.{size, is_index_of, index_after, places_before}
-use Rattle.arrays_core.specs.Arrays.{ArrayValue, IsArray, collect, item_of}
+use Rattle.arrays_core.specs.Arrays.{ArrayValue, collect}
 use Rattle.arrays_core.proofs.Shapes.{places_below, factor_le}
 use Rattle.arrays_core.proofs.Order.{places_before-index_after, index_after-within}
 use Rattle.scalar_fns.specs.declared.function.Scalar2.{Scalar2}
@@ -18,11 +17,11 @@ use Rattle.scalar_fns.specs.Scalars.{two_of, number_item}
 use Rattle.scalar_fns.specs.Results.{items_of}
 use Rattle.scalar_fns.specs.Extension.{extended}
 use Rattle.index_region.specs.Common.{Form, and_then, whole, limited, has_one_item}
-use Rattle.index_region.proofs.Passing.{Gives, gives, limited_gives}
+use Rattle.index_region.proofs.Passing.{gives, limited_gives}
 use Rattle.operator_fns.specs.Folds.{fold_right}
 use Rattle.operator_fns.specs.Strides.{folded}
 use Rattle.operator_fns.specs.Products.{row_rank, row_length, column_length, inner_length, inner_form, inner_item, inner_whole, all_or_last_error}
-use Rattle.operator_fns.specs.Meetings.{entry, met, all_or_last, folded_all, row_at, column_at, cell, IsGridOf, grid_of, IsInside}
+use Rattle.operator_fns.specs.Meetings.{entry, met, all_or_last, folded_all, row_at, column_at, cell, IsGridOf, grid_of}
 use Rattle.operator_fns.proofs.Joined.{parts, number_there, size-append}
 use Rattle.operator_fns.proofs.Lines.{size-drop-le}
 use Rattle.operator_fns.proofs.Meetings.{length-met}

@@ -1,7 +1,7 @@
 -- Rows and columns of arrays, and inner products.
-use Rattle.std.proofs.Common.{◌≡◌, ◌≢◌, ℕ, zero, suc, ◌+◌, ◌-◌, ◌*◌, ◌/◌, ◌%◌, ◌<◌, ◌≤◌, Bool, true, false, cond, eqb, ◌||◌, List, [], ◌∷◌, ◌++◌, length, get_or, map, take, drop, ℤ, pos, Result, Ok, Err, refl, ap, sym, subst, ◌∙◌, arith}
+use Rattle.std.proofs.Common.{◌≡◌, ◌≢◌, ℕ, ◌+◌, ◌-◌, ◌*◌, ◌<◌, Bool, true, false, cond, eqb, ◌||◌, List, [], ◌∷◌, ◌++◌, length, get_or, map, take, drop, Result, Ok, Err, refl, ap, sym, subst, ◌∙◌, arith}
 use Rattle.std.specs.List.{range_with_len}
-use Rattle.std.proofs.lemmas.Bool.{eq-eqb, ne_eqb, and_from, le-leb, cases_Bool, eqb-true, eqb-false, or_cases}
+use Rattle.std.proofs.lemmas.Bool.{eq-eqb, ne_eqb, and_from, le-leb, eqb-true}
 use Rattle.std.proofs.lemmas.List.{take_all, take_more, length-take-le, ext_get_or}
 use Rattle.std.proofs.lemmas.List.FromFn.{length-map-range_with_len, get_or-map-range_with_len}
 use Rattle.arrays_core.specs.declared.item.Item.{Item}
@@ -9,7 +9,7 @@ use Rattle.arrays_core.specs.declared.item.ItemType.TheVariants.{Nums}
 use Rattle.arrays_core.specs.declared.item.Kind.{Kind}
 use Rattle.arrays_core.specs.Items.{fill}
 use Rattle.arrays_core.specs.Shapes.{size, is_index_of, places_before}
-use Rattle.arrays_core.specs.Arrays.{ArrayValue, IsArray, item_of}
+use Rattle.arrays_core.specs.Arrays.{ArrayValue, item_of}
 use Rattle.arrays_core.proofs.Shapes.{places_below, as_long}
 use Rattle.scalar_fns.specs.declared.function.Scalar2.{Scalar2}
 use Rattle.scalar_fns.specs.Scalars.{two_of}
@@ -22,7 +22,7 @@ use Rattle.operator_fns.specs.Strides.{folded}
 use Rattle.operator_fns.specs.Products.{row_rank, row_length, column_length, inner_length, inner_form, inner_item, all_or_last_error, products}
 use Rattle.operator_fns.specs.Meetings.{met, all_or_last, folded_all}
 use Rattle.operator_fns.proofs.Folds.{some_folded}
-use Rattle.operator_fns.proofs.Joined.{places-append, joined_inside, Parts, parts, long_enough}
+use Rattle.operator_fns.proofs.Joined.{places-append, joined_inside, parts}
 use Rattle.operator_fns.proofs.Meetings.{length-met, met_at}
 
 -- ---- arrays of one item, and others

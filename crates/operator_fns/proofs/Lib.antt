@@ -9,6 +9,7 @@ pub mod LeftScans
 pub mod Associates
 pub mod Endings
 pub mod RunningSums
+pub mod SmallSums
 pub mod Tables
 pub mod Scanned
 pub mod Joined

@@ -1,16 +1,16 @@
 -- Outer products of numbers, by the numbers as they lie.
-use Rattle.std.proofs.Common.{◌≡◌, ℕ, ◌*◌, ◌/◌, ◌%◌, ◌<◌, true, List, ◌++◌, length, get_or, map, take, drop, ℤ, pos, Result, Ok, refl, ap, sym, ◌∙◌, arith}
+use Rattle.std.proofs.Common.{◌≡◌, ℕ, ◌*◌, ◌/◌, ◌%◌, true, List, ◌++◌, length, get_or, map, take, drop, ℤ, pos, Result, Ok, refl, ap, sym, ◌∙◌, arith}
 use Rattle.std.proofs.lemmas.List.{length-map}
 use Rattle.arrays_core.specs.declared.item.Item.TheVariants.{Num}
 use Rattle.arrays_core.specs.declared.item.ItemType.TheVariants.{Nums}
 use Rattle.arrays_core.specs.declared.item.Kind.{Kind}
 use Rattle.arrays_core.specs.Items.{fill, all_or_first_error}
 use Rattle.arrays_core.specs.Shapes.{size, is_index_of, places_before}
-use Rattle.arrays_core.specs.Arrays.{ArrayValue, collect, item_of, with_items}
+use Rattle.arrays_core.specs.Arrays.{ArrayValue, collect, with_items}
 use Rattle.arrays_core.proofs.Shapes.{places_below}
 use Rattle.scalar_fns.specs.declared.function.Scalar2.{Scalar2}
 use Rattle.scalar_fns.specs.Numbers.{of_two as of_two_numbers}
-use Rattle.scalar_fns.specs.Scalars.{two_of, number_item}
+use Rattle.scalar_fns.specs.Scalars.{number_item}
 use Rattle.scalar_fns.specs.Results.{items_of}
 use Rattle.index_region.specs.Common.{Form, whole}
 use Rattle.index_region.proofs.Passing.{limited_gives}

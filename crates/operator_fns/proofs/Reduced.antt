@@ -140,6 +140,12 @@ line_below stride count place places apart some even below =
     let e : l * (count * stride) ≡ places * count = turned l count stride ∙ ap (λ x. x * count) (sym all) in
     rw (← e) last
 
+pub whole_line : (place places n long : ℕ) → place < places → places * n ≡ long → place * n + n ≤ long
+whole_line place places n long below whole =
+    let k : (place + 1) * n ≤ places * n = mul-le-mul_right n (omega arith) in
+    let e : (place + 1) * n ≡ place * n + n = omega arith in
+    omega arith
+
 some_along : (n s l t : ℕ) → t ≡ l * (n * s) → 0 < t → 1 ≤ n
 some_along zero s l t e h = absurd (omega arith)
 some_along (suc n) s l t e h = omega arith

@@ -6,3 +6,4 @@ pub mod Runs
 pub mod Products
 pub mod Meetings
 pub mod Tables
+pub mod Sums

@@ -49,7 +49,7 @@ pub(crate) fn fold_items(
 }
 
 /// The right fold of a list of numbers.
-fn fold_list<S: TwoNumbers>(step: &S, numbers: &[i64]) -> Result<i64, Kind>
+pub(crate) fn fold_list<S: TwoNumbers>(step: &S, numbers: &[i64]) -> Result<i64, Kind>
     requires { 0 < length numbers.now }
     ensures { result ≡ folded (S.gives step.now) numbers.now }
 {

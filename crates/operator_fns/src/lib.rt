@@ -10,6 +10,7 @@ mod reducing;
 mod rows;
 mod running;
 mod scanning;
+mod summing;
 #[cfg(test)]
 mod tests;
 

@@ -5,6 +5,7 @@ ghost use Rattle.arrays_core.specs.declared.item.Item.TheVariants.{Num};
 ghost use Rattle.arrays_core.specs.declared.item.ItemType.TheVariants.{Nums};
 ghost use Rattle.arrays_core.specs.Arrays.{collect as collected, IsAnswerTo};
 ghost use Rattle.arrays_core.specs.Shapes.{size as size_of, places_before, IsWithinLimits};
+ghost use Rattle.scalar_fns.specs.declared.function.Scalar2.TheVariants.{Plus as Sum};
 ghost use Rattle.scalar_fns.specs.Numbers.{of_two};
 ghost use Rattle.scalar_fns.specs.Scalars.{number_item};
 ghost use Rattle.index_region.specs.Common.{of_one};
@@ -14,6 +15,7 @@ ghost use Rattle.operator_fns.specs.Reductions.{reduce_form, reduce_item, reduce
 
 use crate::flat::{NumberRule, collect_numbers};
 use crate::folding::{fold_line, fold_numbers, identity_item, stride};
+use crate::summing::sum_list;
 use arrays_core::{ApplyFault, Array, Item, ItemType, Kind, Shape, shape_of, size, without_axis};
 use index_region::{Along, Primitive, Seen, apply, limited};
 use scalar_fns::Scalar2;
@@ -43,6 +45,53 @@ impl<'a, S: TwoNumbers> NumberRule for Lines<'a, S> {
         let first = place / self.stride * (self.count * self.stride) + place % self.stride;
         fold_numbers(self.step, self.numbers, first, self.stride, self.count)
     }
+}
+
+/// Lines that lie one behind another in a list of numbers, each summed up.
+#[derive(Drop)]
+struct Totals<'a> {
+    numbers: &'a [i64],
+    count: usize,
+    places: usize,
+    ghost some: { 1 ≤ count },
+    ghost whole: { places * count ≡ length numbers.now },
+}
+
+impl<'a> NumberRule for Totals<'a> {
+    ghost places = { λ t. t.places };
+
+    ghost number = { λ t place. folded (of_two Sum) (strided (pos 0) t.numbers.now (line_start 1 t.count place) 1 t.count) };
+
+    fn number_at(&self, place: usize) -> Result<i64, Kind> {
+        let first = place * self.count;
+        sum_list(&self.numbers[first..first + self.count])
+    }
+}
+
+/// The array of the sums of the lines of some numbers.
+fn sums(
+    alloc: Global,
+    numbers: &[i64],
+    stride: usize,
+    count: usize,
+    shape: &Shape,
+) -> Result<Array, ApplyFault>
+    requires within { IsWithinLimits shape.now.items }
+    requires some { 1 ≤ count }
+    requires apart { 0 < stride }
+    requires whole { size_of shape.now.items * count ≡ length numbers.now }
+    requires even { size_of shape.now.items % stride ≡ 0 }
+    ensures { IsAnswerTo (collected Nums shape.now.items (λ index. number_item (folded (of_two Sum) (strided (pos 0) numbers.now (line_start stride count (places_before shape.now.items index)) stride count)))) result }
+{
+    if stride != 1 {
+        return folds_by(alloc, &Plus, numbers, stride, count, shape);
+    }
+    let totals = Totals {
+        numbers,
+        count,
+        places: size(shape.as_slice()) as usize,
+    };
+    collect_numbers(alloc, &totals, shape)
 }
 
 /// The array of the folds of the lines of some numbers.
@@ -89,7 +138,7 @@ fn folds(
     ensures { IsAnswerTo (collected Nums shape.now.items (λ index. number_item (folded (of_two function) (strided (pos 0) numbers.now (line_start stride count (places_before shape.now.items index)) stride count)))) result }
 {
     match function {
-        Scalar2::Plus => folds_by(alloc, &Plus, numbers, stride, count, shape),
+        Scalar2::Plus => sums(alloc, numbers, stride, count, shape),
         Scalar2::Minus => folds_by(alloc, &Minus, numbers, stride, count, shape),
         Scalar2::Times => folds_by(alloc, &Times, numbers, stride, count, shape),
         Scalar2::Maximum => folds_by(alloc, &Maximum, numbers, stride, count, shape),

@@ -1,4 +1,4 @@
-use Rattle.std.proofs.Common.{◌≡◌, ◌≢◌, ◌∙◌, ◌+◌, ◌-◌, ◌*◌, ◌<◌, ◌++◌, ◌∷◌, [], ap, sym, get_or, insert, length, drop, arith}
+use Rattle.std.proofs.Common.{◌≡◌, ◌≢◌, ◌∙◌, ◌+◌, ◌∷◌, drop, arith}
 use Rattle.std.proofs.lemmas.List.{length-drop}
 use Rattle.arrays_core.specs.Shapes.{size, places_before}
 use Rattle.arrays_core.proofs.Shapes.{as_long}

@@ -1,7 +1,7 @@
 use Rattle.operator_fns.proofs.reducing.folds.Goals as goal
 
 pub returns-in-Plus : goal.returns-in-Plus
-returns-in-Plus c = rw c.in-Plus.is c.folds_by.ensures
+returns-in-Plus c = rw c.in-Plus.is c.sums.ensures
 
 pub returns-in-Times : goal.returns-in-Times
 returns-in-Times c = rw c.in-Times.is c.folds_by-in-Times.ensures
@@ -13,4 +13,4 @@ pub returns-in-Or : goal.returns-in-Or
 returns-in-Or c = rw c.in-Or.is c.folds_by-in-Or.ensures
 
 pub returns-in-Minus : goal.returns-in-Minus
-returns-in-Minus c = rw c.in-Minus.is c.folds_by-in-Minus.ensures
+returns-in-Minus c = rw c.in-Minus.is c.folds_by.ensures

@@ -1,4 +1,4 @@
-use Rattle.std.proofs.Common.{◌≡◌, sym, subst, length}
+use Rattle.std.proofs.Common.{sym, subst, length}
 use Rattle.arrays_core.specs.Shapes.{size}
 use Rattle.arrays_core.specs.Arrays.{IsAnswerTo}
 use Rattle.index_region.specs.Common.{Form}

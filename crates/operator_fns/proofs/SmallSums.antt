@@ -1,0 +1,54 @@
+-- Small numbers stay within 64 bits, in whatever order they are added.
+use Rattle.std.proofs.Common.{◌≡◌, suc, ◌+◌, ◌*◌, ◌<◌, ◌≤◌, ℤ, pos, negsuc, neg_ℤ, ◌+ℤ◌, ◌≤ℤ◌, List, [], ◌∷◌, length, ap, ◌∙◌, Ok, arith, w64, SFits}
+use Rattle.std.specs.List.{All}
+use Rattle.std.proofs.lemmas.Int.{ints, clamps}
+use Rattle.scalar_fns.specs.declared.function.Scalar2.TheVariants.{Plus}
+use Rattle.scalar_fns.specs.Numbers.{of_two}
+use Rattle.operator_fns.specs.Strides.{folded}
+use Rattle.operator_fns.specs.Sums.{IsSmall, sum_of}
+use Rattle.operator_fns.proofs.Endings.{total, most, fewest, folded_sum}
+
+pub sum_total : (x : ℤ) (rest : List ℤ) → total x rest ≡ sum_of (x ∷ rest)
+sum_total x [] = omega (arith, ints)
+sum_total x (y ∷ rest) = ap (λ z. x +ℤ z) (sum_total y rest)
+
+-- the sums of the endings of so many small numbers
+record Bounded (x : ℤ) (rest : List ℤ) : Type 0 where
+  total_low : neg_ℤ (pos (8796093022207 * (length rest + 1))) ≤ℤ total x rest
+  total_high : total x rest ≤ℤ pos (8796093022207 * (length rest + 1))
+  low : neg_ℤ (pos (8796093022207 * (length rest + 1))) ≤ℤ fewest x rest
+  high : most x rest ≤ℤ pos (8796093022207 * (length rest + 1))
+
+bounded : (x : ℤ) (rest : List ℤ) → All IsSmall (x ∷ rest) → Bounded x rest
+bounded x [] h =
+    let s = h 0 x (omega arith) in
+    let low = s.low in
+    let high = s.high in
+    record { total_low = omega (arith, ints); total_high = omega (arith, ints); low = omega (arith, ints); high = omega (arith, ints) }
+bounded x (y ∷ rest) h =
+    let s = h 0 x (omega arith) in
+    let low = s.low in
+    let high = s.high in
+    let later = bounded y rest (λ k d below. h (suc k) d (omega arith)) in
+    let total_low = later.total_low in
+    let total_high = later.total_high in
+    let later_low = later.low in
+    let later_high = later.high in
+    record {
+      total_low = omega (arith, ints);
+      total_high = omega (arith, ints);
+      low = omega (arith, ints, clamps);
+      high = omega (arith, ints, clamps);
+    }
+
+pub small_folded : (xs : List ℤ) → 0 < length xs → length xs ≤ 1048576 → All IsSmall xs → folded (of_two Plus) xs ≡ Ok (sum_of xs)
+small_folded [] some few h = absurd (omega arith)
+small_folded (x ∷ rest) some few h =
+    let b = bounded x rest h in
+    let low = b.low in
+    let high = b.high in
+    folded_sum x rest (record { low = omega (arith, ints); high = omega (arith, ints) }) ∙ ap Ok (sum_total x rest)
+
+pub fits_between : (z : ℤ) → neg_ℤ (pos 9223372036854775807) ≤ℤ z → z ≤ℤ pos 9223372036854775807 → SFits w64 z
+fits_between (pos n) low high = record { sfits = omega (arith, ints, high) }
+fits_between (negsuc n) low high = record { sfits = omega (arith, ints, low) }
