@@ -9,7 +9,9 @@ ghost use Rattle.index_region.specs.Common.{Form, has_items, is_scalar, of_two};
 ghost use Rattle.index_region.specs.Answers.{IsPlaceOf, source_value};
 ghost use Rattle.structural_fns.specs.Joins.{joined_rank as rank_joined, joined_places as places_joined, other_axes as axes_other, ranks_join as do_ranks_join, axes_agree as do_axes_agree, types_join as do_types_join, joined_type as type_joined, joined_shape as shape_joined, sides_checked, in_side as index_in_side, catenate_form, catenate_source, catenate_item, catenate_whole};
 
-use arrays_core::{ApplyFault, Array, Item, ItemType, Kind, Shape, shape_of, with_axis, without_axis};
+use arrays_core::{
+    ApplyFault, Array, Item, ItemType, Kind, Shape, shape_of, with_axis, without_axis,
+};
 use index_region::{Along, Primitive, Seen, Source, apply, limited};
 use std::alloc::{AllocError, Global};
 

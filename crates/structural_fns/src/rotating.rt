@@ -8,7 +8,9 @@ ghost use Rattle.index_region.specs.Common.{Form, places_along, of_two};
 ghost use Rattle.index_region.specs.Answers.{IsPlaceOf, source_value};
 ghost use Rattle.structural_fns.specs.Turns.{lines_checked, rotate_form, rotation, rotated_place as place_rotated, rotate_source, rotate_item, rotate_whole};
 
-use arrays_core::{ApplyFault, Array, Item, ItemType, Kind, Shape, position, shape_of, without_axis};
+use arrays_core::{
+    ApplyFault, Array, Item, ItemType, Kind, Shape, position, shape_of, without_axis,
+};
 use index_region::{Along, Primitive, Seen, Source, apply, item_from, limited};
 use std::alloc::Global;
 
