@@ -227,23 +227,24 @@ BreaksOff-from source₁ source₂ source₃ sink₁ sink₂ failed old here byt
 pub IsCut-midway : (source₁ source₂ source₃ sink₁ sink₂ sink₃ : Option (List ℕ)) (failed : Bool) (old : State) (here : Standing) (bytes_read : ℕ) (bytes text : List ℕ) (new : State) →
     IsRunning source₁ source₂ sink₁ sink₂ old here bytes_read → Consumes source₂ source₃ bytes → Appends sink₂ sink₃ text → failed ≡ true → StopsIn bytes here text new →
     IsCut source₁ source₃ sink₁ sink₃ failed old new
+unfolding whole_lines_of
 IsCut-midway source₁ source₂ source₃ sink₁ sink₂ sink₃ failed old here bytes_read bytes text new r c a b s = record {
   input = r.input ++ bytes;
   written = r.text ++ text;
   read = Consumes-more source₁ source₂ source₃ r.input bytes r.read c;
   why = b;
   wrote = Appends-more sink₁ sink₂ sink₃ r.text text r.wrote a;
-  carried_out = inl (rw (lines_of-is (r.input ++ bytes)) (StoppedAt-later old _ _ _ new (s old r.input r.text r.midway)));
+  carried_out = inl (inl (rw (ended_lines-bom (r.input ++ bytes)) (s old r.input r.text r.midway)));
 }
 
 pub IsCut-end : (source₁ source₂ source₃ sink₁ sink₂ sink₃ : Option (List ℕ)) (failed : Bool) (old : State) (here : Standing) (bytes_read : ℕ) (text : List ℕ) (new : State) →
-    IsRunning source₁ source₂ sink₁ sink₂ old here bytes_read → Consumes source₂ source₃ [] → Appends sink₂ sink₃ text → failed ≡ true → StopsAtEnd here text new →
-    IsCut source₁ source₃ sink₁ sink₃ failed old new
-IsCut-end source₁ source₂ source₃ sink₁ sink₂ sink₃ failed old here bytes_read text new r c a b s = record {
+    IsRunning source₁ source₂ sink₁ sink₂ old here bytes_read → Consumes source₂ source₃ [] → IsAtEnd source₃ → Appends sink₂ sink₃ text → failed ≡ true →
+    StopsAtEnd here text new → IsCut source₁ source₃ sink₁ sink₃ failed old new
+IsCut-end source₁ source₂ source₃ sink₁ sink₂ sink₃ failed old here bytes_read text new r c e a b s = record {
   input = r.input;
   written = r.text ++ text;
   read = rw append-nil at (Consumes-more source₁ source₂ source₃ r.input [] r.read c);
   why = b;
   wrote = Appends-more sink₁ sink₂ sink₃ r.text text r.wrote a;
-  carried_out = s old r.input r.text r.midway;
+  carried_out = inr (e, s old r.input r.text r.midway);
 }

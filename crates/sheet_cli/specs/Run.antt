@@ -28,11 +28,12 @@ pub record BreaksOff (source₁ source₂ sink₁ sink₂ : Option (List ℕ)) (
   pub refused : ℕ
   pub answered : Answered old (whole_lines_of input) refused text new
 
--- the sink failed: the answers to some of the lines that were read are carried out, and written but for a last part
+-- the sink failed: the answers to some of the lines that were whole are carried out, and written but for a last part; a last line
+-- without LF is among them only where the end of the input was read
 pub record IsCut (source₁ source₂ sink₁ sink₂ : Option (List ℕ)) (sink_failed : Bool) (old new : State) : Type 0 where
   pub input : List ℕ
   pub written : List ℕ
   pub read : Consumes source₁ source₂ input
   pub why : sink_failed ≡ true
   pub wrote : Appends sink₁ sink₂ written
-  pub carried_out : IsWrittenInPart old (lines_of input) written new
+  pub carried_out : IsWrittenInPart old (whole_lines_of input) written new ⊎ (IsAtEnd source₂ × IsWrittenInPart old (lines_of input) written new)

@@ -36,7 +36,8 @@ pub returns-in_default-finish-clause-write : goal.returns-in_default-finish-clau
 returns-in_default-finish-clause-write g c = λ e.
     let p = c.in-Ok-pull.ensures in
     let f = c.in_default-finish.ensures in
-    IsCut-end _ _ _ _ _ _ _ _ _ _ f.err.0 _ c.loop-bytes_read.invariant (Consumes-zero _ _ c.in-Ok-pull.n c.pull.new.into c.if-n-eq0.true p.bytes.0) f.err.1 f.fault f.err.2
+    let room : 0 < length c.pull.new.into = omega (arith, length-take c.min-room.result c.loop-bytes_read.chunk, c.min-room.array_long) in
+    IsCut-end _ _ _ _ _ _ _ _ _ _ f.err.0 _ c.loop-bytes_read.invariant (Consumes-zero _ _ c.in-Ok-pull.n c.pull.new.into c.if-n-eq0.true p.bytes.0) (p.bytes.1 c.if-n-eq0.true room) f.err.1 f.fault f.err.2
 
 pub returns-in_default-take_bytes-clause-write : goal.returns-in_default-take_bytes-clause-write
 returns-in_default-take_bytes-clause-write g c = λ e.
