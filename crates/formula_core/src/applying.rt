@@ -33,7 +33,7 @@ pub(crate) fn of_right(alloc: Global, function: Monadic, array: &Array) -> Resul
 {
     match function {
         Monadic::Scalar(scalar) => apply_one(alloc, scalar1_of(scalar), array),
-        Monadic::Ravel => ravelled(array),
+        Monadic::Ravel => ravelled(alloc, array),
         Monadic::Reverse(along) => reversed(alloc, along, array),
         Monadic::Transpose => transposed(alloc, array),
         Monadic::Shape => axis_lengths(alloc, array),
@@ -70,10 +70,10 @@ pub(crate) fn of_both(
     }
 }
 
-fn ravelled(array: &Array) -> Result<Array, ApplyFault>
+fn ravelled(alloc: Global, array: &Array) -> Result<Array, ApplyFault>
     ensures { IsAnswerTo (ravel_whole array.now) result }
 {
-    Ravel.apply(&[Seen::plain(array)])
+    Ravel.apply(alloc, &[Seen::plain(array)])
 }
 
 fn reversed(alloc: Global, along: Along, array: &Array) -> Result<Array, ApplyFault>

@@ -62,7 +62,8 @@ impl Formula {
         })
     }
 
-    /// What the expression gives, where the names show these arrays and errors. The formula keeps its result.
+    /// What the expression gives, where the names show these arrays and errors. The formula still shows what it did: it takes a
+    /// result by `adopt`.
     pub fn evaluate<S: Shows>(&self, names: &S) -> Result<Result<Array, Fault>, AllocError>
         ensures { IfOk result (λ outcome. outcome ≡ eval self.now.tree (S.shows names.now)) }
     {

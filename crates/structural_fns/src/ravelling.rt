@@ -8,6 +8,7 @@ ghost use Rattle.structural_fns.specs.Ravels.{ravel_form, ravel_source, ravel_it
 
 use arrays_core::{ApplyFault, Array, Item, ItemType, Kind, Shape, index_of_position, shape_of};
 use index_region::{Primitive, Seen, Source, item_from, limited};
+use std::alloc::Global;
 
 /// Ravel, `,B` (ISO/IEC 13751, "Ravel"): the items in row-major order as a vector. A scalar becomes a
 /// vector of one item.
@@ -25,12 +26,11 @@ impl Ravel {
     }
 
     /// The vector of the items. They are copied in one run.
-    pub fn apply(&self, args: &[Seen]) -> Result<Array, ApplyFault>
+    pub fn apply(&self, alloc: Global, args: &[Seen]) -> Result<Array, ApplyFault>
         requires { length args.now ≡ 1 }
         ensures { IsAnswerTo (of_one ravel_whole args.now) result }
     {
         let array = &args[0];
-        let alloc = *array.shape().allocator();
         let (shape, _) = limited(shape_of(alloc, &[array.places()]), array.item_type())?;
         let vector = array.part(0, &shape)?;
         Ok(vector)

@@ -33,7 +33,7 @@ fn gives_arrays_their_form(rt: HostRuntime) {
     };
     let seen = [Seen::plain(&table)];
     assert!(rt; table.at(&[2, 1]) == Some(Item::Num(4)));
-    assert!(rt; are_numbers(Ravel.apply(&seen), 1, &[1, 2, 3, 4, 5, 6]));
+    assert!(rt; are_numbers(Ravel.apply(rt.alloc(), &seen), 1, &[1, 2, 3, 4, 5, 6]));
     assert!(rt; are_numbers(Transpose.apply(alloc, &seen), 2, &[1, 4, 2, 5, 3, 6]));
     let rows = Reverse {
         along: Along::First,
