@@ -6,8 +6,6 @@ mod characters;
 mod faults;
 mod numbers;
 mod pieces;
-#[cfg(test)]
-mod tests;
 
 pub use arrays::print;
 pub use faults::print_fault;

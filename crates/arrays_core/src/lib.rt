@@ -6,8 +6,6 @@ mod fault;
 mod item;
 mod rule;
 mod shape;
-#[cfg(test)]
-mod tests;
 
 pub use array::Array;
 pub use fault::{ApplyFault, Fault};

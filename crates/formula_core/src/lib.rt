@@ -7,8 +7,6 @@ mod formula;
 mod literals;
 mod names;
 mod symbols;
-#[cfg(test)]
-mod tests;
 
 pub use evaluating::{Shows, evaluate};
 pub use formula::Formula;

@@ -6,8 +6,6 @@ mod along;
 mod checks;
 mod primitive;
 mod source;
-#[cfg(test)]
-mod tests;
 mod views;
 
 pub use along::Along;

@@ -11,8 +11,6 @@ mod rows;
 mod running;
 mod scanning;
 mod summing;
-#[cfg(test)]
-mod tests;
 
 pub use inner_product::Inner;
 pub use outer_product::Outer;

@@ -11,8 +11,6 @@ mod lookup;
 mod measuring;
 mod numbers;
 mod replicating;
-#[cfg(test)]
-mod tests;
 
 pub use belonging::Member;
 pub use counting::IndexGenerator;

@@ -10,6 +10,3 @@ mod session;
 pub use device::{Device, Failed, Sink, Source};
 pub use laws::{line_has_one_answer, lines_have_one_answer};
 pub use session::{RunFault, Tally, run};
-
-#[cfg(test)]
-mod tests;

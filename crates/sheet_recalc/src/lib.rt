@@ -9,8 +9,6 @@ mod outline;
 mod recalculation;
 mod refusal;
 mod sheet;
-#[cfg(test)]
-mod tests;
 
 pub use history::Change;
 pub use refusal::Refusal;

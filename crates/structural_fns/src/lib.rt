@@ -12,8 +12,6 @@ mod reshaping;
 mod reversing;
 mod rotating;
 mod taking;
-#[cfg(test)]
-mod tests;
 mod transposing;
 
 pub use arranging::DyadicTranspose;

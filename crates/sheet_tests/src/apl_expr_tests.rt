@@ -1,0 +1,113 @@
+//! A tree of each kind, a line of each kind, the largest expressions, and what faults say.
+
+use crate::fixtures::tree_of;
+use apl_expr::{Command, LineFault, ParseFault, line};
+use std::alloc::{AllocError, Global};
+
+/// The tree of a text, written out.
+fn written(alloc: Global, text: &str) -> Option<String> {
+    let tree = tree_of(alloc, text)?;
+    format!(in alloc; "{tree:?}").ok()
+}
+
+/// What a line asks for.
+fn asked(alloc: Global, text: &str) -> &'static str {
+    match line(alloc, text) {
+        Ok(Command::Nothing) => "nothing",
+        Ok(Command::Define(_, _)) => "a formula",
+        Ok(Command::Data(_, _)) => "data",
+        Ok(Command::Cell(_, _, _)) => "a cell",
+        Ok(Command::Show(_)) => "a value",
+        Err(LineFault::Syntax) => "no line",
+        Err(LineFault::Limit) => "too much",
+        Err(LineFault::NoMemory) => "memory",
+    }
+}
+
+/// So many times the front, and then the back.
+fn repeated(alloc: Global, front: &str, times: usize, back: &str) -> Result<String, AllocError> {
+    let mut text = String::new(alloc);
+    for _ in 0..times {
+        text.push_str(front)?;
+    }
+    text.push_str(back)?;
+    Ok(text)
+}
+
+#[test]
+fn reads_trees(rt: HostRuntime) {
+    for (text, wanted) in [
+        (
+            "5-3×-1 2",
+            "Dyad(Scalar(Minus), Const(Num(5)), Dyad(Scalar(Times), Const(Num(3)), Monad(Scalar(Negative), Const(Nums([1, 2])))))",
+        ),
+        (
+            "(5-3)⌽[¯1]'a'",
+            "Dyad(Rotate(Axis(-1)), Dyad(Scalar(Minus), Const(Num(5)), Const(Num(3))), Const(Char('a')))",
+        ),
+        (
+            "(5)[1;;⍳3][2]",
+            "Index(Index(Const(Num(5)), [Some(Const(Num(1))), None, Some(Monad(Iota, Const(Num(3))))]), [Some(Const(Num(2)))])",
+        ),
+        (
+            "+/[2]-⍀3",
+            "Monad(Reduce(Plus, Axis(2)), Monad(Scan(Minus, First), Const(Num(3))))",
+        ),
+        (
+            "1+.×2∘.=1/3",
+            "Dyad(Inner(Plus, Times), Const(Num(1)), Dyad(Outer(Equal), Const(Num(2)), Dyad(Replicate(Last), Const(Num(1)), Const(Num(3)))))",
+        ),
+    ] {
+        let found = written(rt.alloc(), text);
+        assert!(rt;
+            matches!(&found, Some(tree) if tree.as_str() == wanted),
+            "{text}"
+        );
+    }
+}
+
+#[test]
+fn reads_lines(rt: HostRuntime) {
+    for (text, wanted) in [
+        (" ⍝ none", "nothing"),
+        ("A1←B+C", "a formula"),
+        (") DATA DATA ←'it''s'", "data"),
+        ("D[¯1;2]←5", "a cell"),
+        ("D[1;]+2", "a value"),
+        ("1+", "no line"),
+        ("9223372036854775808", "too much"),
+    ] {
+        assert_eq!(rt; asked(rt.alloc(), text), wanted);
+    }
+}
+
+#[test]
+fn reads_the_largest_expressions(rt: HostRuntime) {
+    for (front, times, back) in [("-", 255, "5"), ("A+.×", 255, "5"), ("7 ", 4096, "")] {
+        let Ok(text) = repeated(rt.alloc(), front, times, back) else {
+            assert!(rt; false);
+            return;
+        };
+        assert!(rt; tree_of(rt.alloc(), text.as_str()).is_some(), "{front}");
+    }
+}
+
+#[test]
+fn says_what_is_wrong(rt: HostRuntime) {
+    for (fault, wanted) in [
+        (ParseFault::Syntax, "not an expression"),
+        (ParseFault::Limit, "too large an expression"),
+        (ParseFault::NoMemory, "out of memory"),
+    ] {
+        let text = format!(in rt.alloc(); "{fault}");
+        assert!(rt; matches!(&text, Ok(text) if text.as_str() == wanted));
+    }
+    for (fault, wanted) in [
+        (LineFault::Syntax, "not a line of the language"),
+        (LineFault::Limit, "too large a line"),
+        (LineFault::NoMemory, "out of memory"),
+    ] {
+        let text = format!(in rt.alloc(); "{fault}");
+        assert!(rt; matches!(&text, Ok(text) if text.as_str() == wanted));
+    }
+}

@@ -1,0 +1,30 @@
+//! Tests of the calls of the other crates: what no contract says. A call that takes memory succeeds once, with the right answer;
+//! text and messages are compared with what they are to be; devices give and take a little at a time, or fail.
+#![tactic(auto)]
+
+#[cfg(test)]
+mod apl_expr_tests;
+#[cfg(test)]
+mod apl_tokens_tests;
+#[cfg(test)]
+mod array_text_tests;
+#[cfg(test)]
+mod arrays_core_tests;
+#[cfg(test)]
+mod dep_order_tests;
+#[cfg(test)]
+mod fixtures;
+#[cfg(test)]
+mod formula_core_tests;
+#[cfg(test)]
+mod operator_fns_tests;
+#[cfg(test)]
+mod scalar_fns_tests;
+#[cfg(test)]
+mod selection_fns_tests;
+#[cfg(test)]
+mod sheet_cli_tests;
+#[cfg(test)]
+mod sheet_recalc_tests;
+#[cfg(test)]
+mod structural_fns_tests;

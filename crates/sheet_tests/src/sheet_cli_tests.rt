@@ -1,0 +1,268 @@
+//! Runs over lines of every length, and over devices that give or take a little at a time, or fail.
+
+ghost use Rattle.std.specs.Prelude.{None, Some, false};
+
+use sheet_cli::{Device, Failed, RunFault, Sink, Source, Tally, run};
+use sheet_recalc::Sheet;
+use std::alloc::{AllocError, Global};
+use std::io::{self, ErrorKind, Write};
+
+/// Gives one byte a call, and at the end of its bytes fails or says that the input ends.
+#[derive(Drop)]
+struct Drip<'a> {
+    bytes: &'a [u8],
+    breaks: bool,
+    failed: bool,
+}
+
+impl Source for Drip<'_> {
+    ghost remaining = { λ _. None };
+
+    ghost has_failed = { λ d. d.failed };
+
+    fn pull(&mut self, into: &mut [u8]) -> Result<usize, Failed> {
+        if self.breaks && self.bytes.is_empty() {
+            self.failed = true;
+            return Err(Failed);
+        }
+        let Some((first, rest)) = self.bytes.split_first() else {
+            return Ok(0);
+        };
+        if into.is_empty() {
+            return Ok(0);
+        }
+        into[0] = *first;
+        self.bytes = rest;
+        Ok(1)
+    }
+
+    fn failed(&self) -> bool {
+        self.failed
+    }
+}
+
+/// Takes one byte a call, and fails after so many.
+#[derive(Drop)]
+struct Trickle {
+    bytes: Vec<u8>,
+    left: usize,
+    failed: bool,
+    flushed: bool,
+}
+
+impl Sink for Trickle {
+    ghost written = { λ t. Some t.bytes.items };
+
+    ghost has_failed = { λ t. t.failed };
+
+    ghost is_flushed = { λ t. t.flushed };
+
+    fn put(&mut self, bytes: &[u8]) -> Result<usize, Failed> {
+        self.flushed = false;
+        let Some(first) = bytes.first() else {
+            return Ok(0);
+        };
+        if self.left == 0 || self.bytes.push(*first).is_err() {
+            self.failed = true;
+            return Err(Failed);
+        }
+        self.left -= 1;
+        Ok(1)
+    }
+
+    fn flush(&mut self) -> Result<(), Failed> {
+        self.flushed = true;
+        Ok(())
+    }
+
+    fn failed(&self) -> bool {
+        self.failed
+    }
+}
+
+/// Takes all bytes, and fails when it is to pass them on.
+#[derive(Drop)]
+struct Stuck;
+
+impl Write for Stuck {
+    fn write(&mut self, bytes: &[u8]) -> io::Result<usize> {
+        Ok(bytes.len())
+    }
+
+    fn flush(&mut self) -> io::Result<()> {
+        Err(io::Error::from(ErrorKind::Other))
+    }
+}
+
+/// A sink that takes so many bytes.
+fn sink_of(alloc: Global, left: usize) -> Trickle {
+    Trickle {
+        bytes: Vec::new(alloc),
+        left,
+        failed: false,
+        flushed: false,
+    }
+}
+
+/// Gives a line of every length from 0 to 4,097 bytes, each but the empty one answered 5.
+#[derive(Drop)]
+struct Lengths {
+    length: usize,
+    at: usize,
+}
+
+/// The bytes of the sign that begins a comment, and of a character of four bytes.
+const COMMENT: [u8; 3] = [0xE2, 0x8D, 0x9D];
+
+const CLEF: [u8; 4] = [0xF0, 0x9D, 0x84, 0x9E];
+
+impl Lengths {
+    /// The next byte: a 5, a comment of characters of four bytes where there is room, blanks, and the end of the line.
+    fn next_byte(&mut self) -> u8 {
+        let (length, at) = (self.length, self.at);
+        if at >= length {
+            self.at = 0;
+            self.length = length.saturating_add(1);
+            return b'\n';
+        }
+        self.at = at + 1;
+        if at == 0 {
+            b'5'
+        } else if length >= 4 && at < 4 {
+            COMMENT[at - 1]
+        } else if at < length - length % 4 {
+            CLEF[at % 4]
+        } else {
+            b' '
+        }
+    }
+}
+
+impl Source for Lengths {
+    ghost remaining = { λ _. None };
+
+    ghost has_failed = { λ _. false };
+
+    fn pull(&mut self, into: &mut [u8]) -> Result<usize, Failed> {
+        let room = into.len().min(1000);
+        for place in 0..room {
+            if self.length > 4097 {
+                return Ok(place);
+            }
+            into[place] = self.next_byte();
+        }
+        Ok(room)
+    }
+
+    fn failed(&self) -> bool {
+        false
+    }
+}
+
+/// The answers to lines of every length.
+fn answers_of_lengths(alloc: Global) -> Result<String, AllocError> {
+    let mut text = String::new(alloc);
+    for _ in 1..=4096 {
+        text.push_str("5\n")?;
+    }
+    text.push_str("LINE TOO LONG\n")?;
+    Ok(text)
+}
+
+#[test]
+fn lines_of_every_length(rt: HostRuntime) {
+    let Ok(wanted) = answers_of_lengths(rt.alloc()) else {
+        assert!(rt; false);
+        return;
+    };
+    let mut sheet = Sheet::new(rt.alloc());
+    let mut source = Lengths { length: 0, at: 0 };
+    let mut sink = Device::new(Vec::new(rt.alloc()));
+    let end = run(rt.alloc(), &mut sheet, &mut source, &mut sink);
+    let tally = Tally {
+        lines: 4098,
+        refused_for_memory: 0,
+    };
+    assert_eq!(rt; end, Ok(tally));
+    assert!(rt; sink.into_inner().as_slice() == wanted.as_bytes());
+}
+
+/// The bytes are answered so.
+fn is_answered(alloc: Global, input: &[u8], wanted: &str) -> bool {
+    let mut sheet = Sheet::new(alloc);
+    let mut sink = Device::new(Vec::new(alloc));
+    let end = run(alloc, &mut sheet, &mut Device::new(input), &mut sink);
+    end.is_ok() && sink.into_inner().as_slice() == wanted.as_bytes()
+}
+
+#[test]
+fn lines_and_their_ends(rt: HostRuntime) {
+    for (input, wanted) in [
+        (&b""[..], ""),
+        (&b"\n\r\n"[..], ""),
+        (&b"\xEF\xBB\xBF1+1\r\n2"[..], "2\n2\n"),
+        (&b"\xEF\xBB"[..], "NOT TEXT\n"),
+        (&b"1\n\xFF\n2\n"[..], "1\nNOT TEXT\n2\n"),
+        (&[b' '; 4096][..], ""),
+        (&[b'\xFF'; 4096][..], "NOT TEXT\n"),
+        (&[b'\xFF'; 9000][..], "LINE TOO LONG\n"),
+    ] {
+        assert!(rt; is_answered(rt.alloc(), input, wanted));
+    }
+}
+
+#[test]
+fn a_byte_at_a_time(rt: HostRuntime) {
+    let mut sheet = Sheet::new(rt.alloc());
+    let mut source = Drip {
+        bytes: b"\xEF\xBB\xBFA\xE2\x86\x901 2\r\nA\nA+A",
+        breaks: false,
+        failed: false,
+    };
+    let mut sink = sink_of(rt.alloc(), 100);
+    let end = run(rt.alloc(), &mut sheet, &mut source, &mut sink);
+    let tally = Tally {
+        lines: 3,
+        refused_for_memory: 0,
+    };
+    assert_eq!(rt; end, Ok(tally));
+    assert_eq!(rt; sink.bytes.as_slice(), b"1 2\n2 4\n".as_slice());
+    assert!(rt; sink.flushed && !sink.failed() && !source.failed());
+}
+
+#[test]
+fn an_input_that_breaks_off(rt: HostRuntime) {
+    let mut sheet = Sheet::new(rt.alloc());
+    let mut source = Drip {
+        bytes: b"1+1\nA\xE2\x86\x904\n2",
+        breaks: true,
+        failed: false,
+    };
+    let mut sink = sink_of(rt.alloc(), 100);
+    let end = run(rt.alloc(), &mut sheet, &mut source, &mut sink);
+    assert_eq!(rt; end, Err(RunFault::Read));
+    assert_eq!(rt; sheet.names().len(), 1);
+    assert_eq!(rt; sink.bytes.as_slice(), b"2\n".as_slice());
+}
+
+#[test]
+fn a_sink_of_three_bytes(rt: HostRuntime) {
+    let mut sheet = Sheet::new(rt.alloc());
+    let mut source = Device::new(b"10\n20\nA\xE2\x86\x904\n".as_slice());
+    let mut sink = sink_of(rt.alloc(), 3);
+    let end = run(rt.alloc(), &mut sheet, &mut source, &mut sink);
+    assert_eq!(rt; end, Err(RunFault::Write));
+    assert_eq!(rt; sheet.names().len(), 0);
+    assert_eq!(rt; sink.bytes.as_slice(), b"10\n".as_slice());
+}
+
+#[test]
+fn a_flush_that_fails(rt: HostRuntime) {
+    let mut sheet = Sheet::new(rt.alloc());
+    let mut source = Device::new(b"1\nA\xE2\x86\x904\n".as_slice());
+    let mut sink = Device::new(Stuck);
+    let end = run(rt.alloc(), &mut sheet, &mut source, &mut sink);
+    assert_eq!(rt; end, Err(RunFault::Write));
+    assert_eq!(rt; sink.failed(), true);
+    assert_eq!(rt; sheet.names().len(), 1);
+}
