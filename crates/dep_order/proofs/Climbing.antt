@@ -1,0 +1,24 @@
+-- Going up from a node to those that refer to it.
+use Rattle.std.proofs.Common.{◌≡◌, ℕ, ◌-◌, ◌<◌, ◌⊎◌, inl, inr, Bool, List, [], ◌∷◌, ◌++◌, sym, subst, arith}
+use Rattle.std.proofs.lemmas.List.{length-append}
+use Rattle.indexmap.specs.IndexSet.{IndexSet}
+use Rattle.dep_order.specs.Reach.{Chain, Reaches}
+use Rattle.dep_order.specs.Users.{Uses, IsWithin}
+
+pub chain_join : {A : Type 0} (Refers : A → A → Type 0) (a : A) (xs : List A) (b : A) (ys : List A) (c : A) → Chain Refers a xs b → Chain Refers b ys c → Chain Refers a (xs ++ b ∷ ys) c
+chain_join Refers a [] b ys c p q = (p, q)
+chain_join Refers a (x ∷ xs) b ys c p q = (p.0, chain_join Refers x xs b ys c p.1 q)
+
+module _ {N S : Type 0} (eq : N → N → Bool) (table : List (N × IndexSet N S)) where
+  pub within_first : (height : ℕ) (node user : N) → IsWithin eq table height node → Uses eq table user node → 0 < height
+  within_first height node user within u = within user [] u
+
+  pub within_user : (height : ℕ) (node user : N) → IsWithin eq table height node → Uses eq table user node → IsWithin eq table (height - 1) user
+  within_user height node user within u a via c =
+      let longer = within a (via ++ user ∷ []) (chain_join (Uses eq table) a via user [] node c u) in
+      omega (arith, longer, length-append via (user ∷ []))
+
+  -- one that reaches a user reaches the node
+  pub reaches_on : (node user a : N) → Uses eq table user node → (a ≡ user) ⊎ Reaches (Uses eq table) a user → Reaches (Uses eq table) a node
+  reaches_on node user a u (inl e) = ([], subst (λ y. Uses eq table y node) (sym e) u)
+  reaches_on node user a u (inr r) = (r.0 ++ user ∷ [], chain_join (Uses eq table) a r.0 user [] node r.1 u)

@@ -1,0 +1,6 @@
+use Rattle.std.proofs.Common.{ℕ, ◌<◌, get_or}
+use Rattle.std.specs.List.{Contains}
+use Rattle.dep_order.proofs.users.first_found.Given as goal
+
+abbrev pub invariant-loop-reference : goal.invariant-loop-reference
+invariant-loop-reference g l = (x : _) (k : ℕ) → k < l.reference-index → Contains l.found.keys (get_or l.references k x) → ⊥

@@ -1,0 +1,33 @@
+use Rattle.std.proofs.Common.{◌≡◌, sym, ap, subst, Some, IsSome, refl, List, inl}
+use Rattle.std.specs.Map.{lookup}
+use Rattle.indexmap.specs.IndexSet.{IndexSet}
+use Rattle.dep_order.specs.Users.{HasRoomFor}
+use Rattle.dep_order.proofs.Noting.{forget_uses, room_kept, used_written}
+use Rattle.dep_order.proofs.users.forget.Goals as goal
+
+pub returns-in-Some-clause-uses : goal.returns-in-Some-clause-uses
+returns-in-Some-clause-uses g c =
+    let es = c.args.users.now.entries in
+    let set = c.swap_remove-found.new.self in
+    let wrote = c.get_mut.follows.holds set in
+    let found : lookup (g.N.PartialEq.eq c.args.reference) es ≡ Some c.in-Some.those.now = sym c.in-Some.ensures.value in
+    forget_uses g.N.PartialEq.eq g.met.N.Eq.laws c.requires es (c.get_mut.follows.lender set).entries c.args.reference set (wrote.3 (subst (λ o. IsSome o) (sym found) refl)).0 c.in-Some.those.now found c.args.node c.swap_remove-found.ensures.updates.0
+
+pub returns-in-Some-clause-room : goal.returns-in-Some-clause-room
+returns-in-Some-clause-room g c =
+    let es = c.args.users.now.entries in
+    let set = c.swap_remove-found.new.self in
+    let wrote = c.get_mut.follows.holds set in
+    let found : lookup (g.N.PartialEq.eq c.args.reference) es ≡ Some c.in-Some.those.now = sym c.in-Some.ensures.value in
+    room_kept g.N.PartialEq.eq g.met.N.Eq.laws c.requires es (c.get_mut.follows.lender set).entries c.args.reference set (wrote.3 (subst (λ o. IsSome o) (sym found) refl)).0 c.in-Some.those.now found c.swap_remove-found.ensures.room.0
+
+pub returns-in_default-clause-room : goal.returns-in_default-clause-room
+returns-in_default-clause-room g c = λ refs h. subst (λ (fs : List (_ × IndexSet _ _)). HasRoomFor g.N.PartialEq.eq fs refs) (sym (ap (λ m. m.entries) c.get_mut.follows.holds-at-none)) h
+
+pub returns-in-Some-clause-used : goal.returns-in-Some-clause-used
+returns-in-Some-clause-used g c = λ references here used.
+    let es = c.args.users.now.entries in
+    let set = c.swap_remove-found.new.self in
+    let wrote = c.get_mut.follows.holds set in
+    let found : lookup (g.N.PartialEq.eq c.args.reference) es ≡ Some c.in-Some.those.now = sym c.in-Some.ensures.value in
+    used_written g.N.PartialEq.eq g.met.N.Eq.laws c.requires es (c.get_mut.follows.lender set).entries c.args.reference set (wrote.3 (subst (λ o. IsSome o) (sym found) refl)).0 references (inl here) used

@@ -1,0 +1,40 @@
+-- A table of who refers to whom: for each node, the set of those that refer to it.
+use Rattle.std.specs.Prelude.{◌≡◌, ℕ, ◌<◌, ◌⊎◌, Bool, true, List, [], length, Some, IsSome}
+use Rattle.std.specs.Map.{lookup}
+use Rattle.std.specs.List.{Contains}
+use Rattle.std.specs.Option.{unwrap_or, option_map}
+use Rattle.indexmap.specs.IndexSet.{IndexSet, spare}
+use Rattle.dep_order.specs.Reach.{Chain}
+use Rattle.dep_order.specs.Follows.{Follows}
+
+-- nodes that are equal are one
+abbrev pub IsExact : {N : Type 0} → (N → N → Bool) → Type 0
+IsExact {N} eq = (a b : N) → eq a b ≡ true → a ≡ b
+
+-- the nodes that the table tells to refer to this one
+abbrev pub users_of : {N S : Type 0} → (N → N → Bool) → List (N × IndexSet N S) → N → List N
+users_of {N} {S} eq table node = unwrap_or (option_map (λ (s : IndexSet N S). s.keys) (lookup (eq node) table)) []
+
+-- the table tells that a refers to b
+abbrev pub Uses : {N S : Type 0} → (N → N → Bool) → List (N × IndexSet N S) → N → N → Type 0
+Uses eq table a b = Contains (users_of eq table b) a
+
+-- no chain of references to this node is longer
+abbrev pub IsWithin : {N S : Type 0} → (N → N → Bool) → List (N × IndexSet N S) → ℕ → N → Type 0
+IsWithin {N} eq table height node = (a : N) (via : List N) → Chain (Uses eq table) a via node → length via < height
+
+-- each after all that refer to it
+abbrev pub IsClosed : {N S : Type 0} → (N → N → Bool) → List (N × IndexSet N S) → List N → Type 0
+IsClosed eq table found = Follows (λ a b. Uses eq table b a) (λ x. ⊥) found
+
+-- each of these has its set, with room for one more
+abbrev pub HasRoomFor : {N S : Type 0} → (N → N → Bool) → List (N × IndexSet N S) → List N → Type 0
+HasRoomFor {N} {S} eq table references = (b : N) → Contains references b → (s : IndexSet N S) × (lookup (eq b) table ≡ Some s) × (0 < spare s)
+
+-- the same, or has the node already
+abbrev pub IsReadyFor : {N S : Type 0} → (N → N → Bool) → List (N × IndexSet N S) → N → List N → Type 0
+IsReadyFor {N} {S} eq table node references = (b : N) → Contains references b → (s : IndexSet N S) × (lookup (eq b) table ≡ Some s) × ((0 < spare s) ⊎ Contains s.keys node)
+
+-- no set of the table is empty, but for those of these nodes
+abbrev pub HasNoEmptyBut : {N S : Type 0} → (N → N → Bool) → List (N × IndexSet N S) → List N → Type 0
+HasNoEmptyBut {N} eq table references = (b : N) → IsSome (lookup (eq b) table) → Contains references b ⊎ ((a : N) × Uses eq table a b)

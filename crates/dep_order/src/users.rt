@@ -1,0 +1,190 @@
+//! Who refers to whom, kept from change to change: what a change of a node reaches is found by this, and no other node is looked at.
+ghost use Rattle.std.specs.Prelude.{◌≡◌, ◌⊎◌, ◌↔◌, List, [], ◌∷◌, IfOk, OnOk, OnErr, MatchOption};
+ghost use Rattle.std.specs.List.{Contains, IsDistinct};
+ghost use Rattle.dep_order.specs.Reach.{Reaches};
+ghost use Rattle.dep_order.specs.Users.{Uses, users_of, IsExact, IsWithin, IsClosed, HasRoomFor, IsReadyFor, HasNoEmptyBut};
+
+use indexmap::{IndexMap, IndexSet};
+use std::alloc::{AllocError, Global};
+use std::hash::Hash;
+
+/// For each node that others refer to, those others.
+pub type Users<N> = IndexMap<N, IndexSet<N>>;
+
+/// A node and all that reach it, by one reference or by a chain of them: each once, after all that refer to it. No chain of
+/// references to the node is to be longer than the height.
+pub fn affected<N: Eq + Hash + Copy>(
+    alloc: Global,
+    users: &Users<N>,
+    node: N,
+    height: usize,
+) -> Result<IndexSet<N>, AllocError>
+    requires exact { IsExact N.eq }
+    requires within { IsWithin N.eq users.now.entries height node }
+    ensures distinct { IfOk result (λ found. IsDistinct N.eq found.keys) }
+    ensures closed { IfOk result (λ found. IsClosed N.eq users.now.entries found.keys) }
+    ensures named { IfOk result (λ found. Contains found.keys node) }
+    ensures sound { IfOk result (λ found. (a : N) → Contains found.keys a → (a ≡ node) ⊎ Reaches (Uses N.eq users.now.entries) a node) }
+{
+    let mut found = IndexSet::new(alloc);
+    climb(users, node, height, &mut found)?;
+    let _distinct = found.len();
+    Ok(found)
+}
+
+// Adds a node behind all that reach it, but for those that have been found before.
+fn climb<N: Eq + Hash + Copy>(
+    users: &Users<N>,
+    node: N,
+    height: usize,
+    found: &mut IndexSet<N>,
+) -> Result<(), AllocError>
+    requires exact { IsExact N.eq }
+    requires within { IsWithin N.eq users.now.entries height node }
+    requires closed { IsClosed N.eq users.now.entries found.old.keys }
+    ensures closed { OnOk result (IsClosed N.eq users.now.entries found.new.keys) }
+    ensures named { OnOk result (Contains found.new.keys node) }
+    ensures kept { OnOk result ((a : N) → Contains found.old.keys a → Contains found.new.keys a) }
+    ensures sound { OnOk result ((a : N) → Contains found.new.keys a → Contains found.old.keys a ⊎ ((a ≡ node) ⊎ Reaches (Uses N.eq users.now.entries) a node)) }
+{
+    if found.contains(&node) {
+        return Ok(());
+    }
+    for user in users_of(users, node) {
+        climb(users, *user, height - 1, found)?;
+    }
+    found.insert(node)?;
+    Ok(())
+}
+
+// The nodes that refer to a node.
+fn users_of<N: Eq + Hash + Copy>(users: &Users<N>, node: N) -> &[N]
+    ensures { result.now ≡ users_of N.eq users.now.entries node }
+{
+    match users.get(&node) {
+        Some(those) => those.as_slice(),
+        None => &[],
+    }
+}
+
+/// The first of these nodes that is found.
+pub fn first_found<N: Eq + Hash + Copy>(found: &IndexSet<N>, references: &[N]) -> Option<N>
+    requires { IsExact N.eq }
+    ensures { MatchOption result ((b : N) → Contains references.now b → Contains found.now.keys b → ⊥) (λ b. Contains references.now b × Contains found.now.keys b) }
+{
+    for reference in references {
+        if found.contains(reference) {
+            return Some(*reference);
+        }
+    }
+    None
+}
+
+/// Makes a set with room for one more for each of these nodes. Where memory is refused, the table has no other set than before.
+pub fn make_room<N: Eq + Hash + Copy>(
+    alloc: Global,
+    users: &mut Users<N>,
+    references: &[N],
+) -> Result<(), AllocError>
+    requires exact { IsExact N.eq }
+    requires used { HasNoEmptyBut N.eq users.old.entries [] }
+    ensures room { OnOk result (HasRoomFor N.eq users.new.entries references.now) }
+    ensures same { (a b : N) → Uses N.eq users.new.entries a b ↔ Uses N.eq users.old.entries a b }
+    ensures used { HasNoEmptyBut N.eq users.new.entries references.now }
+    ensures err { OnErr result (HasNoEmptyBut N.eq users.new.entries []) }
+{
+    for reference in references {
+        if let Err(refused) = make_place(alloc, users, *reference) {
+            drop_unused(users, references);
+            return Err(refused);
+        }
+    }
+    Ok(())
+}
+
+// Makes a set with room for one more.
+fn make_place<N: Eq + Hash + Copy>(
+    alloc: Global,
+    users: &mut Users<N>,
+    reference: N,
+) -> Result<(), AllocError>
+    requires { IsExact N.eq }
+    ensures room { OnOk result (HasRoomFor N.eq users.new.entries (reference ∷ [])) }
+    ensures kept { (references : List N) → HasRoomFor N.eq users.old.entries references → HasRoomFor N.eq users.new.entries references }
+    ensures same { (a b : N) → Uses N.eq users.new.entries a b ↔ Uses N.eq users.old.entries a b }
+    ensures used { (references : List N) → Contains references reference → HasNoEmptyBut N.eq users.old.entries references → HasNoEmptyBut N.eq users.new.entries references }
+{
+    match users.get_mut(&reference) {
+        Some(those) => those.reserve(1),
+        None => {
+            let those = IndexSet::with_capacity(alloc, 1)?;
+            users.insert(reference, those)?;
+            Ok(())
+        }
+    }
+}
+
+/// The node refers to these, and no longer to those before. What nobody refers to any more is taken out of the table.
+pub fn refer<N: Eq + Hash + Copy>(users: &mut Users<N>, node: N, before: &[N], references: &[N])
+    requires exact { IsExact N.eq }
+    requires room { HasRoomFor N.eq users.old.entries references.now }
+    requires used { HasNoEmptyBut N.eq users.old.entries references.now }
+    ensures used { HasNoEmptyBut N.eq users.new.entries [] }
+    ensures uses { (a b : N) → Uses N.eq users.new.entries a b ↔ ((Uses N.eq users.old.entries a b × ((a ≡ node) → Contains before.now b → ⊥)) ⊎ ((a ≡ node) × Contains references.now b)) }
+{
+    for reference in before {
+        forget(users, node, *reference);
+    }
+    for reference in references {
+        note(users, node, *reference);
+    }
+    drop_unused(users, before);
+}
+
+// The node refers to this one no longer.
+fn forget<N: Eq + Hash + Copy>(users: &mut Users<N>, node: N, reference: N)
+    requires { IsExact N.eq }
+    ensures uses { (a b : N) → Uses N.eq users.new.entries a b ↔ (Uses N.eq users.old.entries a b × ((a ≡ node) → (b ≡ reference) → ⊥)) }
+    ensures room { (references : List N) → HasRoomFor N.eq users.old.entries references → HasRoomFor N.eq users.new.entries references }
+    ensures used { (references : List N) → Contains references reference → HasNoEmptyBut N.eq users.old.entries references → HasNoEmptyBut N.eq users.new.entries references }
+{
+    if let Some(those) = users.get_mut(&reference) {
+        let _found = those.swap_remove(&node);
+    }
+}
+
+// The node refers to this one, in the room that was made for it.
+fn note<N: Eq + Hash + Copy>(users: &mut Users<N>, node: N, reference: N)
+    requires exact { IsExact N.eq }
+    requires ready { IsReadyFor N.eq users.old.entries node (reference ∷ []) }
+    ensures uses { (a b : N) → Uses N.eq users.new.entries a b ↔ (Uses N.eq users.old.entries a b ⊎ ((a ≡ node) × (b ≡ reference))) }
+    ensures room { (references : List N) → IsReadyFor N.eq users.old.entries node references → IsReadyFor N.eq users.new.entries node references }
+    ensures used { (references : List N) → HasNoEmptyBut N.eq users.old.entries references → HasNoEmptyBut N.eq users.new.entries references }
+{
+    if let Some(those) = users.get_mut(&reference) {
+        let _added = those.insert(node).unwrap();
+    }
+}
+
+// Takes the sets of these nodes out of the table, where they are empty.
+fn drop_unused<N: Eq + Hash + Copy>(users: &mut Users<N>, references: &[N])
+    requires { IsExact N.eq }
+    ensures same { (a b : N) → Uses N.eq users.new.entries a b ↔ Uses N.eq users.old.entries a b }
+    ensures used { HasNoEmptyBut N.eq users.old.entries references.now → HasNoEmptyBut N.eq users.new.entries [] }
+{
+    for reference in references {
+        drop_if_unused(users, *reference);
+    }
+}
+
+// Takes the set of a node out of the table, if it is empty.
+fn drop_if_unused<N: Eq + Hash + Copy>(users: &mut Users<N>, reference: N)
+    requires { IsExact N.eq }
+    ensures same { (a b : N) → Uses N.eq users.new.entries a b ↔ Uses N.eq users.old.entries a b }
+    ensures used { (rest : List N) → HasNoEmptyBut N.eq users.old.entries (reference ∷ rest) → HasNoEmptyBut N.eq users.new.entries rest }
+{
+    if !users_of(users, reference).is_empty() {
+        return;
+    }
+    let _empty = users.swap_remove(&reference);
+}
