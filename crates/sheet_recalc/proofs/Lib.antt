@@ -1,11 +1,12 @@
 pub mod NameEquality
 pub mod Scratch
+pub mod Keeping
 pub mod Putting
 pub mod Live
 pub mod Cycles
 pub mod Outlines
-pub mod Edges
 pub mod Working
+pub mod Rebound
 pub mod Refused
 pub mod Indices
 pub mod Examples

@@ -1,22 +1,30 @@
 -- Entries, the names that they stand for, and what they show.
-use Rattle.std.proofs.Common.{◌≡◌, ℕ, ◌<◌, ◌⊎◌, inl, inr, Bool, true, false, cond, List, [], ◌∷◌, ◌++◌, length, Option, Some, None, Ok, IsSome, is_some, refl, sym, ap, ◌∙◌, subst, arith, if◌then◌else◌, ⊎_elim}
+use Rattle.std.proofs.Common.{◌≡◌, ℕ, ◌<◌, ◌⊎◌, inl, inr, Bool, true, false, cond, List, [], ◌∷◌, ◌++◌, length, Option, Some, None, Ok, Err, IsSome, is_some, refl, sym, ap, ◌∙◌, subst, arith, if◌then◌else◌, ⊎_elim}
 use Rattle.std.specs.Str.{bytes_eq}
 use Rattle.std.specs.Map.{lookup, keys_of, set_value}
-use Rattle.std.specs.Option.{option_map}
+use Rattle.std.specs.Option.{option_map, unwrap_or}
 use Rattle.std.specs.List.{IsDistinct}
+use Rattle.indexmap.specs.IndexSet.{IndexSet}
 use Rattle.std.proofs.lemmas.Bool.{false≢true}
 use Rattle.indexmap.specs.IndexMap.{insert_entry}
 use Rattle.arrays_core.specs.Arrays.{ArrayValue}
 use Rattle.dep_order.specs.Reach.{Chain, IsAcyclic}
-use Rattle.formula_core.specs.Outcomes.{Outcome}
-use Rattle.sheet_recalc.specs.Names.{Names, Data, binding, Refers}
+use Rattle.formula_core.specs.Outcomes.{Outcome, fault}
+use Rattle.apl_expr.specs.Trees.{Tree}
+use Rattle.arrays_core.specs.declared.item.Kind.TheVariants.{Value}
+use Rattle.sheet_recalc.specs.Names.{Names, Binding, Data, Formula, binding, put, Refers}
 use Rattle.sheet_recalc.specs.Meaning.{shown, val, val_at}
-use Rattle.sheet_recalc.specs.Entries.{names_of, binding_of, held, adopted}
-use Rattle.sheet_recalc.specs.Outline.{IsScratch}
+use Rattle.sheet_recalc.specs.Entries.{names_of, binding_of, held, holding, adopted}
+use Rattle.sheet_recalc.specs.Outline.{standing, IsPlanned, bound, shown_by}
+use Rattle.sheet_recalc.specs.declared.entry.BindingRef.{BindingRef}
+use Rattle.sheet_recalc.specs.declared.entry.BindingRef.TheVariants as lent
 use Rattle.sheet_recalc.specs.Live.{IsCurrent, IsLive, Adopting}
 use Rattle.sheet_recalc.specs.declared.entry.Entry.{Entry}
 use Rattle.sheet_recalc.specs.declared.entry.Entry.TheVariants as entry
-use Rattle.sheet_recalc.proofs.NameEquality.{equal-true, equal-same}
+use Rattle.sheet_recalc.proofs.NameEquality.{names_equal, equal-true, equal-same}
+use Rattle.sheet_recalc.proofs.Scratch.{val_absent}
+use Rattle.sheet_recalc.proofs.Putting.{lookup_put}
+use Rattle.dep_order.proofs.Following.{contains_none}
 
 pub binding_of_name : (es : List (List ℕ × Entry)) (q : List ℕ) → binding (names_of es) q ≡ option_map binding_of (lookup (bytes_eq q) es)
 binding_of_name [] q = refl
@@ -68,9 +76,16 @@ pub held_adopted : (names : Names) (q : List ℕ) (e : Entry) (o : Outcome) → 
 held_adopted names q (entry.Data a) o is right = sym (val_data names q a is)
 held_adopted names q (entry.Formula f) o is right = right
 
-pub live_none : IsLive []
+pub live_none : {S : Type 0} → IsLive {S = S} [] []
 unfolding IsDistinct
-live_none = record { sheet = record { distinct = tt; acyclic = never; few = omega arith }; settled = λ q. refl; current = λ q e h. absurd (false≢true (ap is_some h)) }
+live_none = record {
+  sheet = record { distinct = tt; acyclic = never; few = omega arith };
+  order = [];
+  kept = record { all = λ a h. absurd (false≢true h); present = λ a c. absurd (contains_none a c); once = tt; follows = tt };
+  tells = λ a b. (λ c. absurd (contains_none a c), λ r. absurd (false≢true (ap is_some r.1)));
+  used = λ b h. absurd (false≢true h);
+  current = λ q e h. absurd (false≢true (ap is_some h));
+}
   where
     never : IsAcyclic (Refers [])
     never a r = by r.0 r.1
@@ -78,6 +93,10 @@ live_none = record { sheet = record { distinct = tt; acyclic = never; few = omeg
         by : (via : List (List ℕ)) → Chain (Refers []) a via a → ⊥
         by [] c = false≢true (ap is_some c.1)
         by (x ∷ xs) c = false≢true (ap is_some c.0.1)
+
+pub live_empty : {S : Type 0} (es : List (List ℕ × Entry)) (users : List (List ℕ × IndexSet (List ℕ) S)) → es ≡ [] → users ≡ [] → IsLive es users
+live_empty {S} es users none empty =
+    subst (λ (fs : List (List ℕ × Entry)). IsLive fs users) (sym none) (subst (λ (us : List (List ℕ × IndexSet (List ℕ) S)). IsLive [] us) (sym empty) (live_none {S = S}))
 
 -- what `value` answers
 pub value_is : (es : List (List ℕ × Entry)) → IsCurrent es → (q : List ℕ) (o : Option Entry) → o ≡ lookup (bytes_eq q) es
@@ -153,17 +172,63 @@ current_at_end names es [] now none = λ q e h.
     let present : IsSome (binding names q) = subst (λ ns. IsSome (binding ns q)) now.names_are (rw (binding_of_name es q, h) refl) in
     ⊎_elim (λ l. absurd (false≢true l)) (λ r. subst (λ ns. held e ≡ val ns q) (sym now.names_are) (r e h)) (now.done q present)
 
--- results of all the formulas can be adopted
-pub adopting_from_scratch : (es : List (List ℕ × Entry)) (rs : List (List ℕ × Outcome)) → IsScratch (names_of es) rs → Adopting (names_of es) es rs
-adopting_from_scratch es rs s = record { names_are = refl; right = s.right; done = λ q present. by q (lookup (bytes_eq q) es) refl }
+-- what the entries hold is what the names show
+pub holding_val : (es : List (List ℕ × Entry)) → IsCurrent es → (q : List ℕ) → holding es q ≡ val (names_of es) q
+holding_val es current q = by (lookup (bytes_eq q) es) refl
   where
-    bound : (q : List ℕ) (e : Entry) → lookup (bytes_eq q) es ≡ Some e → binding (names_of es) q ≡ Some (binding_of e)
-    bound q e is = binding_of_name es q ∙ ap (option_map binding_of) is
+    by : (o : Option Entry) → lookup (bytes_eq q) es ≡ o → unwrap_or (option_map held o) (Err (fault Value)) ≡ val (names_of es) q
+    by None is = sym (val_absent (names_of es) (length (names_of es)) q (binding_of_name es q ∙ ap (option_map binding_of) is))
+    by (Some e) is = current q e is
 
-    by : (q : List ℕ) (o : Option Entry) → lookup (bytes_eq q) es ≡ o → IsSome (lookup (bytes_eq q) rs) ⊎ ((e : Entry) → lookup (bytes_eq q) es ≡ Some e → held e ≡ val (names_of es) q)
-    by q None is = inr (λ e h. let never : None ≡ Some e = sym is ∙ h in absurd cc)
-    by q (Some (entry.Data a)) is = inr (λ e h.
-        let same : Some (entry.Data a) ≡ Some e = sym is ∙ h in
-        let this : entry.Data a ≡ e = cc in
-        subst (λ (f : Entry). held f ≡ val (names_of es) q) this (sym (val_data (names_of es) q a (bound q (entry.Data a) is))))
-    by q (Some (entry.Formula f)) is = inl (s.all q f.tree (bound q (entry.Formula f) is))
+-- planned results can be adopted once the name is bound anew
+pub adopting_planned : (es : List (List ℕ × Entry)) (name : List ℕ) (entry : Entry) (rs : List (List ℕ × Outcome))
+    → IsPlanned es name (held entry) (put (names_of es) name (binding_of entry)) rs
+    → Adopting (put (names_of es) name (binding_of entry)) (insert_entry bytes_eq es name entry) rs
+adopting_planned es name entry rs planned = record {
+  names_are = names_of_insert name entry es;
+  right = λ q r is. ap (λ o. unwrap_or o (standing es name (held entry) q)) (sym is) ∙ planned q;
+  done = λ q present. by q (lookup (bytes_eq q) rs) refl;
+}
+  where
+    there : (q : List ℕ) (e : Entry) → lookup (bytes_eq q) (insert_entry bytes_eq es name entry) ≡ Some e → standing es name (held entry) q ≡ held e
+    there q e is = choose (bytes_eq q name) refl
+      where
+        choose : (t : Bool) → bytes_eq q name ≡ t → standing es name (held entry) q ≡ held e
+        choose true t =
+            let same : Some entry ≡ Some e = rw (names_equal.symm name q, t) at (sym (lookup_put name entry es q) ∙ is) in
+            let this : entry ≡ e = cc in
+            rw t (ap held this)
+        choose false t =
+            let same : lookup (bytes_eq q) es ≡ Some e = rw (names_equal.symm name q, t) at (sym (lookup_put name entry es q) ∙ is) in
+            rw t (ap (λ o. unwrap_or (option_map held o) (Err (fault Value))) same)
+
+    by : (q : List ℕ) (o : Option Outcome) → lookup (bytes_eq q) rs ≡ o
+        → IsSome (lookup (bytes_eq q) rs) ⊎ ((e : Entry) → lookup (bytes_eq q) (insert_entry bytes_eq es name entry) ≡ Some e → held e ≡ val (put (names_of es) name (binding_of entry)) q)
+    by q (Some r) is = inl (subst (λ o. IsSome o) (sym is) refl)
+    by q None is = inr (λ e h. sym (there q e h) ∙ (ap (λ o. unwrap_or o (standing es name (held entry) q)) (sym is) ∙ planned q))
+
+-- what a name shows as it stands, where it is bound to no formula
+pub standing_plain : (es : List (List ℕ × Entry)) (name : List ℕ) (b : Binding) (own : Outcome) → ((a : ArrayValue) → b ≡ Data a → own ≡ Ok a)
+    → (q : List ℕ) → ((t : Tree) → binding (put (names_of es) name b) q ≡ Some (Formula t) → ⊥) → standing es name own q ≡ val (put (names_of es) name b) q
+standing_plain es name b own is_own q plain = by (bytes_eq q name) refl
+  where
+    new : Names
+    new = put (names_of es) name b
+
+    here : (c : Binding) → b ≡ c → binding new q ≡ Some b → own ≡ val new q
+    here (Data a) is found = is_own a is ∙ sym (val_data new q a (found ∙ ap Some is))
+    here (Formula t) is found = absurd (plain t (found ∙ ap Some is))
+
+    there : (o : Option Entry) → lookup (bytes_eq q) es ≡ o → binding new q ≡ option_map binding_of o → unwrap_or (option_map held o) (Err (fault Value)) ≡ val new q
+    there None is found = sym (val_absent new (length new) q found)
+    there (Some (entry.Data a)) is found = sym (val_data new q a found)
+    there (Some (entry.Formula f)) is found = absurd (plain f.tree found)
+
+    by : (t : Bool) → bytes_eq q name ≡ t → standing es name own q ≡ val new q
+    by true t = rw t (here b refl (lookup_put name b (names_of es) q ∙ rw (names_equal.symm name q, t) refl))
+    by false t = rw t (there (lookup (bytes_eq q) es) refl (lookup_put name b (names_of es) q ∙ (rw (names_equal.symm name q, t) (binding_of_name es q))))
+
+-- lent data shows itself
+pub plain_shown : (r : BindingRef) (a : ArrayValue) → bound r ≡ Data a → shown_by r ≡ Ok a
+plain_shown (lent.Data b) a is = let same : Data b.now ≡ Data a = is in let this : b.now ≡ a = cc in ap Ok this
+plain_shown (lent.Formula f) a is = let never : Formula f.now.tree ≡ Data a = is in absurd cc

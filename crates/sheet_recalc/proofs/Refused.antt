@@ -1,5 +1,5 @@
 -- Why a change was refused, from why a name could not be bound so.
-use Rattle.std.proofs.Common.{◌≡◌, ◌≤◌, ◌<◌, ◌+◌, ◌∙◌, ℕ, ℤ, inl, inr, List, [], ◌∷◌, length, is_some, IsSome, Option, Some, None, Ok, Err, Vec, Global, sym, ap, subst, arith, refl}
+use Rattle.std.proofs.Common.{◌≡◌, ◌≤◌, ◌<◌, ◌+◌, ◌∙◌, ℕ, ℤ, inl, inr, List, [], ◌∷◌, length, is_some, IsSome, Option, Some, None, Ok, Err, sym, ap, subst, arith, refl}
 use Rattle.std.proofs.lemmas.Bool.{false≢true}
 use Rattle.std.proofs.lemmas.List.{length-map, length-append}
 use Rattle.dep_order.specs.Reach.{IsAcyclic}
@@ -9,7 +9,7 @@ use Rattle.formula_core.specs.Meaning.{eval}
 use Rattle.sheet_recalc.specs.Names.{Names, Binding, Data, Formula, binding, put, Refers}
 use Rattle.sheet_recalc.specs.Meaning.{val}
 use Rattle.sheet_recalc.specs.Cells.{cell_put}
-use Rattle.sheet_recalc.specs.Changes.{Define, Store, SetCell, Refuses, CannotPut, IsCycleFrom, HasRoom, IsFullFor, IsCycleIn}
+use Rattle.sheet_recalc.specs.Changes.{Define, Store, SetCell, Refuses, CannotPut, IsCycleFrom, HasRoom, IsFullFor}
 use Rattle.sheet_recalc.specs.declared.refusal.Refusal.{Refusal}
 use Rattle.sheet_recalc.specs.declared.refusal.Refusal.TheVariants as why
 use Rattle.sheet_recalc.proofs.Cycles.{no_cycle_by_data}
@@ -26,19 +26,6 @@ refused_define names name t why.Length h = h
 refused_define names name t why.Index h = h
 refused_define names name t why.Domain h = h
 refused_define names name t (why.Fault e) h = h
-
--- a cause that is no cycle is want of memory
-pub not_cycle : (names : Names) (name : List ℕ) (b : Binding) (new : Names) (cause : Refusal) → IsCycleIn new cause → ((c : Vec (List ℕ) Global) → cause ≡ why.Cycle c → ⊥) → CannotPut names name b cause
-not_cycle names name b new (why.Cycle c) h none = absurd (none c refl)
-not_cycle names name b new why.SheetFull h none = absurd h
-not_cycle names name b new why.NoMemory h none = tt
-not_cycle names name b new why.NotFound h none = h
-not_cycle names name b new why.NotData h none = h
-not_cycle names name b new why.Rank h none = h
-not_cycle names name b new why.Length h none = h
-not_cycle names name b new why.Index h none = h
-not_cycle names name b new why.Domain h none = h
-not_cycle names name b new (why.Fault e) h none = h
 
 -- data makes no cycle
 pub refused_data : (names : Names) (name : List ℕ) (t : Tree) (a : ArrayValue) → IsAcyclic (Refers names) → eval t (val names) ≡ Ok a → (cause : Refusal) → CannotPut names name (Data a) cause → Refuses names (Store name t) cause

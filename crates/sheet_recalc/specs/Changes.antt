@@ -37,12 +37,6 @@ IsCycleFrom Refers name (first ∷ others) = (first ≡ name) × IsCycle Refers 
 abbrev pub IsFullFor : Names → List ℕ → Type 0
 IsFullFor names name = (binding names name ≡ None) × (1024 ≤ length names)
 
--- a cycle among these names, or want of memory, and nothing else
-abbrev pub IsCycleIn : Names → Refusal → Type 0
-IsCycleIn names (why.Cycle cycle) = IsCycle (Refers names) cycle.items
-IsCycleIn names why.NoMemory = Unit {0}
-IsCycleIn names cause = ⊥
-
 -- why a name cannot be bound so: it would reach itself, or there is no room for it, or want of memory
 abbrev pub CannotPut : Names → List ℕ → Binding → Refusal → Type 0
 CannotPut old name b (why.Cycle names) = IsCycleFrom (Refers (put old name b)) name names.items

@@ -1,15 +1,15 @@
 -- A sheet as it would be after a change: its names with what they are bound to, lent.
-use Rattle.std.specs.Prelude.{◌≡◌, ℕ, List, [], Option, Some, None, Ok, Err, IsSome, map, slice_index_or}
+use Rattle.std.specs.Prelude.{◌≡◌, ℕ, List, ◌⊎◌, Some, IsSome, Ok, if◌then◌else◌}
 use Rattle.std.specs.Str.{bytes_eq}
-use Rattle.std.specs.List.{position, flat_map}
-use Rattle.std.specs.Option.{option_to_list, unwrap_or}
-use Rattle.std.specs.Map.{lookup, keys_of}
-use Rattle.apl_expr.specs.Trees.{Tree}
-use Rattle.arrays_core.specs.declared.item.Kind.TheVariants.{Value}
-use Rattle.formula_core.specs.Outcomes.{Outcome, fault}
-use Rattle.formula_core.specs.Meaning.{names_in}
-use Rattle.sheet_recalc.specs.Names.{Names, Binding, Data, Formula, binding, put}
-use Rattle.sheet_recalc.specs.Entries.{names_of}
+use Rattle.std.specs.List.{Contains, IsDistinct}
+use Rattle.std.specs.Option.{unwrap_or}
+use Rattle.std.specs.Map.{lookup}
+use Rattle.formula_core.specs.Outcomes.{Outcome}
+use Rattle.sheet_recalc.specs.Names.{Names, Binding, Data, Formula, Refers, put}
+use Rattle.dep_order.specs.Follows.{Follows}
+use Rattle.dep_order.specs.Reach.{Reaches}
+use Rattle.sheet_recalc.specs.Entries.{names_of, holding}
+use Rattle.sheet_recalc.specs.declared.entry.Entry.{Entry}
 use Rattle.sheet_recalc.specs.declared.outline.Outline.{Outline}
 use Rattle.sheet_recalc.specs.Meaning.{val}
 use Rattle.sheet_recalc.specs.declared.entry.BindingRef.{BindingRef}
@@ -24,34 +24,32 @@ bound (lent.Formula f) = Formula f.now.tree
 abbrev pub outlined : Outline → Names
 outlined o = put (names_of o.entries.now.entries) o.name (bound o.binding)
 
--- the places of these names, but for those that are absent
-abbrev pub places_among : Names → List (List ℕ) → List ℕ
-places_among names found = flat_map (λ name. option_to_list (position (bytes_eq name) (keys_of names))) found
+-- what a lent binding shows now; a formula that is new shows VALUE ERROR
+abbrev pub shown_by : BindingRef → Outcome
+shown_by (lent.Data a) = Ok a.now
+shown_by (lent.Formula f) = f.now.result
 
--- the places of the present names that a binding refers to
-abbrev pub places_of : Names → Binding → List ℕ
-places_of names (Data a) = []
-places_of names (Formula t) = places_among names (names_in t)
+-- what a name shows by what is there: this one this, and the others what the entries hold
+abbrev pub standing : List (List ℕ × Entry) → List ℕ → Outcome → List ℕ → Outcome
+standing entries name own q = if bytes_eq q name then own else holding entries q
 
--- what each name refers to, by places
-abbrev pub edges : Names → List (List ℕ)
-edges names = map (λ n. places_of names n.1) names
+-- what a name shows ahead of a change: its new result, where it has one, and else what is there
+abbrev pub ahead : List (List ℕ × Entry) → List ℕ → Outcome → List (List ℕ × Outcome) → List ℕ → Outcome
+ahead entries name own results q = unwrap_or (lookup (bytes_eq q) results) (standing entries name own q)
 
--- the name at a place
-abbrev pub name_at : Names → ℕ → List ℕ
-name_at names place = slice_index_or (keys_of names) place []
+-- with these new results each name shows what it shows from scratch
+abbrev pub IsPlanned : List (List ℕ × Entry) → List ℕ → Outcome → Names → List (List ℕ × Outcome) → Type 0
+IsPlanned entries name own names results = (q : List ℕ) → ahead entries name own results q ≡ val names q
 
--- what a binding shows, where the formulas have this result
-abbrev pub showing : Option Binding → Option Outcome → Outcome
-showing None result = Err (fault Value)
-showing (Some (Data a)) result = Ok a
-showing (Some (Formula t)) result = unwrap_or result (Err (fault Value))
-
--- what a name shows, by its data or by these results
-abbrev pub ahead : Names → List (List ℕ × Outcome) → List ℕ → Outcome
-ahead names results name = showing (binding names name) (lookup (bytes_eq name) results)
-
--- each result is the one from scratch, and each formula has one
-pub record IsScratch (names : Names) (results : List (List ℕ × Outcome)) : Type 0 where
+-- results are worked out for these names from the last to the first, each after all that it refers to
+pub record IsUnderWay (entries : List (List ℕ × Entry)) (name : List ℕ) (own : Outcome) (names : Names) (left : List (List ℕ)) (results : List (List ℕ × Outcome)) : Type 0 where
+  pub once : IsDistinct bytes_eq left
+  pub closed : Follows (λ a b. Refers names b a) (λ x. ⊥) left
   pub right : (q : List ℕ) (r : Outcome) → lookup (bytes_eq q) results ≡ Some r → r ≡ val names q
-  pub all : (q : List ℕ) (t : Tree) → binding names q ≡ Some (Formula t) → IsSome (lookup (bytes_eq q) results)
+  pub done : (q : List ℕ) → (Contains left q → ⊥) → IsSome (lookup (bytes_eq q) results) ⊎ (standing entries name own q ≡ val names q)
+
+-- all of these reach the name, and each stands after all others that refer to it
+pub record IsReaching (names : Names) (name : List ℕ) (found : List (List ℕ)) : Type 0 where
+  pub named : Contains found name
+  pub follows : Follows (λ a b. Refers names b a × (b ≡ name → ⊥)) (λ x. ⊥) found
+  pub leads : (a : List ℕ) → Contains found a → (a ≡ name) ⊎ Reaches (Refers names) a name

@@ -3,7 +3,8 @@
 ghost use Rattle.std.specs.Prelude.{◌≡◌};
 ghost use Rattle.formula_core.specs.Outcomes.{read};
 ghost use Rattle.sheet_recalc.specs.Entries.{binding_of, held, adopted};
-ghost use Rattle.sheet_recalc.specs.Outline.{bound};
+ghost use Rattle.sheet_recalc.specs.Names.{referred};
+ghost use Rattle.sheet_recalc.specs.Outline.{bound, shown_by};
 
 use apl_tokens::Name;
 use arrays_core::{Array, Fault};
@@ -23,13 +24,6 @@ pub(crate) enum BindingRef<'a> {
     Formula(&'a Formula),
 }
 
-/// A name with what it is bound to, lent.
-#[derive(Clone, Copy)]
-pub(crate) struct Line<'a> {
-    pub(crate) name: Name,
-    pub(crate) binding: BindingRef<'a>,
-}
-
 impl Entry {
     /// What it is, lent.
     pub(crate) fn binding(&self) -> BindingRef<'_>
@@ -38,6 +32,16 @@ impl Entry {
         match self {
             Entry::Data(array) => BindingRef::Data(array),
             Entry::Formula(formula) => BindingRef::Formula(formula),
+        }
+    }
+
+    /// The names that stand in it.
+    pub(crate) fn references(&self) -> &[Name]
+        ensures { result.now ≡ referred (binding_of self.now) }
+    {
+        match self {
+            Entry::Data(_) => &[],
+            Entry::Formula(formula) => formula.references(),
         }
     }
 
@@ -58,6 +62,28 @@ impl Entry {
         match self {
             Entry::Data(_) => {}
             Entry::Formula(formula) => formula.adopt(outcome),
+        }
+    }
+}
+
+impl<'a> BindingRef<'a> {
+    /// What it shows now.
+    pub(crate) fn result(self) -> Result<&'a Array, Fault>
+        ensures { read result ≡ shown_by self.entry }
+    {
+        match self {
+            BindingRef::Data(array) => Ok(array),
+            BindingRef::Formula(formula) => formula.result(),
+        }
+    }
+
+    /// The names that stand in it.
+    pub(crate) fn references(self) -> &'a [Name]
+        ensures { result.now ≡ referred (bound self.entry) }
+    {
+        match self {
+            BindingRef::Data(_) => &[],
+            BindingRef::Formula(formula) => formula.references(),
         }
     }
 }

@@ -3,6 +3,7 @@
 
 mod cell;
 mod commit;
+mod cycle;
 mod entry;
 mod history;
 mod outline;

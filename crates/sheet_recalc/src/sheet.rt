@@ -1,8 +1,6 @@
 //! The sheet.
 
-ghost use Rattle.std.specs.Prelude.{◌≡◌, [], ◌++◌, take, drop, IfOk, IfErr, OnOk, OnErr, Some, None, MatchOption, is_some, if◌then◌else◌};
-ghost use Rattle.std.specs.Str.{bytes_eq};
-ghost use Rattle.std.specs.List.{position};
+ghost use Rattle.std.specs.Prelude.{◌≡◌, [], IfOk, IfErr, OnOk, OnErr, Some, None, is_some, if◌then◌else◌};
 ghost use Rattle.std.specs.Map.{keys_of};
 ghost use Rattle.std.specs.Option.{option_map};
 ghost use Rattle.apl_expr.specs.Trees.{tree_of, constant_of};
@@ -10,20 +8,24 @@ ghost use Rattle.dep_order.specs.Reach.{IsAcyclic};
 ghost use Rattle.formula_core.specs.Outcomes.{read};
 ghost use Rattle.formula_core.specs.Meaning.{eval};
 ghost use Rattle.sheet_recalc.specs.Names.{Data as IsData, Formula as IsFormula, binding, put, Refers, IsSheet};
-ghost use Rattle.sheet_recalc.specs.Meaning.{val, IsSettled};
+ghost use Rattle.sheet_recalc.specs.Meaning.{val};
 ghost use Rattle.sheet_recalc.specs.Entries.{names_of};
-ghost use Rattle.sheet_recalc.specs.Outline.{bound, IsScratch};
+ghost use Rattle.sheet_recalc.specs.Outline.{bound, shown_by, IsPlanned};
+ghost use Rattle.sheet_recalc.specs.NameOrder.{HasOrder};
+ghost use Rattle.sheet_recalc.specs.Live.{IsLive};
 ghost use Rattle.sheet_recalc.specs.Changes.{Accepts, Refuses, Define, Store, SetCell, HasRoom, CannotPut};
 
 use crate::cell::data_with_cell;
 use crate::commit::commit;
+use crate::cycle::cycle_through;
 use crate::entry::{BindingRef, Entry};
 use crate::outline::Outline;
-use crate::recalculation::{Results, absent, recalculated};
+use crate::recalculation::{Results, absent, results_of};
 use crate::refusal::Refusal;
 use apl_expr::{Expr, Literal};
 use apl_tokens::Name;
 use arrays_core::{Array, Fault};
+use dep_order::{Users, affected, first_found, make_room};
 use formula_core::{Formula, Shows, evaluate};
 use indexmap::IndexMap;
 use indexmap::map::Keys;
@@ -38,6 +40,7 @@ const MOST_NAMES: usize = 1024;
 pub struct Sheet {
     alloc: Global,
     entries: IndexMap<Name, Entry>,
+    users: Users<Name>,
 }
 
 impl Model for Sheet {
@@ -56,7 +59,7 @@ impl Model for Sheet {
 
     ghost view = { λ s. record { names = names_of s.entries.entries } };
 
-    ghost invariant = { λ s. IsLive s.entries.entries };
+    ghost invariant = { λ s. IsLive s.entries.entries s.users.entries };
 }
 
 impl Shows for Sheet {
@@ -80,6 +83,7 @@ impl Sheet {
         Sheet {
             alloc,
             entries: IndexMap::new(alloc),
+            users: IndexMap::new(alloc),
         }
     }
 
@@ -122,11 +126,14 @@ impl Sheet {
         let results = results_with(
             self.alloc,
             &self.entries,
+            &self.users,
             name,
             BindingRef::Formula(&formula),
         )?;
         self.entries.reserve(1)?;
-        commit(&mut self.entries, name, Entry::Formula(formula), results);
+        make_room(self.alloc, &mut self.users, formula.references())?;
+        let entry = Entry::Formula(formula);
+        commit(&mut self.entries, &mut self.users, name, entry, results);
         Ok(())
     }
 
@@ -161,9 +168,16 @@ impl Sheet {
         ensures err { OnErr result (self.new ≡ self.old) }
         ensures sound { IsSheet self.old.names }
     {
-        let results = results_with(self.alloc, &self.entries, name, BindingRef::Data(&array))?;
+        let results = results_with(
+            self.alloc,
+            &self.entries,
+            &self.users,
+            name,
+            BindingRef::Data(&array),
+        )?;
         self.entries.reserve(1)?;
-        commit(&mut self.entries, name, Entry::Data(array), results);
+        let data = Entry::Data(array);
+        commit(&mut self.entries, &mut self.users, name, data, results);
         Ok(())
     }
 
@@ -176,53 +190,28 @@ impl Sheet {
 fn results_with<'a>(
     alloc: Global,
     entries: &'a IndexMap<Name, Entry>,
+    users: &Users<Name>,
     name: Name,
     binding: BindingRef<'a>,
 ) -> Result<Results, Refusal>
-    requires { IsSheet (names_of entries.now.entries) }
-    ensures scratch { IfOk result (λ results. IsScratch (put (names_of entries.entry.now.entries) name (bound binding.entry)) results.entries) }
-    ensures settled { OnOk result (IsSettled (put (names_of entries.entry.now.entries) name (bound binding.entry))) }
+    requires { IsLive entries.now.entries users.now.entries }
+    ensures planned { IfOk result (λ results. IsPlanned entries.entry.now.entries name (shown_by binding.entry) (put (names_of entries.entry.now.entries) name (bound binding.entry)) results.entries) }
+    ensures kept { OnOk result (HasOrder (put (names_of entries.entry.now.entries) name (bound binding.entry))) }
     ensures sheet { OnOk result (IsSheet (put (names_of entries.entry.now.entries) name (bound binding.entry))) }
     ensures room { OnOk result (HasRoom (names_of entries.entry.now.entries) name) }
     ensures refused { IfErr result (CannotPut (names_of entries.entry.now.entries) name (bound binding.entry)) }
 {
+    let found = affected(alloc, users, name, entries.len())?;
     let outline = Outline {
         entries,
         name,
         binding,
     };
-    match recalculated(alloc, &outline) {
-        Ok(results) => {
-            if outline.len() > MOST_NAMES {
-                return Err(Refusal::SheetFull);
-            }
-            Ok(results)
-        }
-        Err(Refusal::Cycle(cycle)) => Err(Refusal::Cycle(turned_to(cycle, name))),
-        Err(refusal) => Err(refusal),
+    if let Some(reference) = first_found(&found, binding.references()) {
+        return Err(Refusal::Cycle(cycle_through(alloc, &outline, &found, reference)?));
     }
-}
-
-/// A cycle, turned to where a name first stands in it.
-fn turned_to(cycle: Vec<Name>, name: Name) -> Vec<Name>
-    ensures { MatchOption (position (bytes_eq name) cycle.items) (result.items ≡ cycle.items) (λ start. result.items ≡ drop start cycle.items ++ take start cycle.items) }
-{
-    let mut cycle = cycle;
-    let Some(start) = place_in(&cycle, name) else {
-        return cycle;
-    };
-    cycle.rotate_left(start);
-    cycle
-}
-
-/// Where a name first stands among names.
-fn place_in(names: &[Name], name: Name) -> Option<usize>
-    ensures { result ≡ position (bytes_eq name) names.now }
-{
-    for (place, other) in names.iter().enumerate() {
-        if name == *other {
-            return Some(place);
-        }
+    if outline.len() > MOST_NAMES {
+        return Err(Refusal::SheetFull);
     }
-    None
+    Ok(results_of(alloc, &outline, found)?)
 }

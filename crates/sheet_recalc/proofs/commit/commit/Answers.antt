@@ -1,17 +1,39 @@
-use Rattle.std.proofs.Common.{◌≡◌, ◌∙◌, sym, ap, subst}
+use Rattle.std.proofs.Common.{◌≡◌, ◌∙◌, sym, ap, subst, inl, inr, ⊎_elim, List, ℕ}
 use Rattle.std.specs.Str.{bytes_eq}
 use Rattle.indexmap.specs.IndexMap.{insert_entry}
-use Rattle.sheet_recalc.specs.Entries.{names_of}
-use Rattle.sheet_recalc.specs.Outline.{IsScratch}
-use Rattle.sheet_recalc.proofs.Live.{names_of_insert, adopting_from_scratch}
+use Rattle.std.specs.List.{Contains}
+use Rattle.sheet_recalc.specs.Names.{put, referred, referred_by}
+use Rattle.sheet_recalc.specs.Entries.{names_of, binding_of}
+use Rattle.sheet_recalc.specs.Live.{Adopting}
+use Rattle.sheet_recalc.proofs.Live.{names_of_insert, adopting_planned}
+use Rattle.sheet_recalc.proofs.NameEquality.{equal-true}
+use Rattle.sheet_recalc.proofs.Rebound.{table_after}
 use Rattle.sheet_recalc.proofs.commit.commit.Goals as goal
+
+pub refer-requires-clause-exact : goal.refer-requires-clause-exact
+refer-requires-clause-exact c = equal-true
 
 pub adopt_all-requires : goal.adopt_all-requires
 adopt_all-requires c =
-    let put_in : c.insert.new.self.entries ≡ insert_entry bytes_eq c.args.entries.now.entries c.args.name c.args.entry = rw c.unwrap-before.ensures at c.insert.ensures.entries in
-    adopting_from_scratch c.insert.new.self.entries c.args.results.entries (subst (λ ns. IsScratch ns c.args.results.entries) (sym (ap names_of put_in ∙ names_of_insert c.args.name c.args.entry c.args.entries.now.entries)) c.requires.scratch)
+    let es = c.args.entries.now.entries in
+    let put_in : c.insert.new.self.entries ≡ insert_entry bytes_eq es c.args.name c.args.entry = rw c.unwrap-before.ensures at c.insert.ensures.entries in
+    let names = ap names_of put_in ∙ names_of_insert c.args.name c.args.entry es in
+    subst (λ ns. Adopting ns c.insert.new.self.entries c.args.results.entries) (sym names)
+    (subst (λ fs. Adopting (put (names_of es) c.args.name (binding_of c.args.entry)) fs c.args.results.entries) (sym put_in) (adopting_planned es c.args.name c.args.entry c.args.results.entries c.requires.planned))
 
 pub returns-clause-names : goal.returns-clause-names
 returns-clause-names c =
     let put_in : c.insert.new.self.entries ≡ insert_entry bytes_eq c.args.entries.now.entries c.args.name c.args.entry = rw c.unwrap-before.ensures at c.insert.ensures.entries in
     c.adopt_all.ensures.names ∙ (ap names_of put_in ∙ names_of_insert c.args.name c.args.entry c.args.entries.now.entries)
+
+pub returns-clause-tells : goal.returns-clause-tells
+returns-clause-tells c =
+    let old = names_of c.args.entries.now.entries in
+    let to = λ (xs ys : List (List ℕ)) (is : xs ≡ ys) (b : List ℕ) (h : Contains xs b). subst (λ (zs : List (List ℕ)). Contains zs b) is h in
+    table_after old c.args.name (binding_of c.args.entry) c.args.users.now.entries c.refer.new.users.entries c.requires.tells
+    (λ x y. (
+      (λ u. ⊎_elim (λ l. inl (l.0, λ e h. l.1 e (to (referred_by old c.args.name) c.references_of.result.now (sym c.references_of.ensures) y h)))
+          (λ r. inr (r.0, to c.references.result.now (referred (binding_of c.args.entry)) c.references.ensures y r.1)) ((c.refer.ensures.uses x y).0 u)),
+      (λ p. (c.refer.ensures.uses x y).1 (⊎_elim (λ l. inl (l.0, λ e h. l.1 e (to c.references_of.result.now (referred_by old c.args.name) c.references_of.ensures y h)))
+          (λ r. inr (r.0, to (referred (binding_of c.args.entry)) c.references.result.now (sym c.references.ensures) y r.1)) p)),
+    ))

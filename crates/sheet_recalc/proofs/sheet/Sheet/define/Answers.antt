@@ -1,12 +1,16 @@
-use Rattle.std.proofs.Common.{◌≡◌, ◌∙◌, sym, ap, subst}
+use Rattle.std.proofs.Common.{◌≡◌, ◌∙◌, ℕ, List, sym, ap, subst}
 use Rattle.std.proofs.lemmas.Result.{err_from_is_err_and}
 use Rattle.dep_order.specs.Reach.{IsAcyclic}
+use Rattle.std.specs.Str.{bytes_eq}
+use Rattle.dep_order.specs.Users.{HasNoEmptyBut}
 use Rattle.apl_expr.specs.Trees.{Tree, tree_of}
-use Rattle.sheet_recalc.specs.Names.{Names, Formula, Refers, put, IsSheet}
-use Rattle.sheet_recalc.specs.Meaning.{IsSettled}
+use Rattle.sheet_recalc.specs.Names.{Names, Formula, Refers, put}
+use Rattle.sheet_recalc.proofs.Rebound.{live_after, live_same}
 use Rattle.sheet_recalc.specs.Entries.{names_of}
-use Rattle.sheet_recalc.specs.Live.{SheetValue}
+use Rattle.sheet_recalc.specs.Live.{SheetValue, IsTable}
 use Rattle.sheet_recalc.specs.Changes.{Refuses, CannotPut, Define, HasRoom}
+use Rattle.sheet_recalc.specs.declared.entry.Entry.{Entry}
+use Rattle.sheet_recalc.proofs.NameEquality.{equal-true}
 use Rattle.sheet_recalc.proofs.Refused.{refused_define}
 use Rattle.sheet_recalc.proofs.sheet.Sheet.define.Goals as goal
 
@@ -19,13 +23,28 @@ returns-in_err-results-clause-refused c =
     let why = refused_define old c.args.name t cause (subst (λ (u : Tree). CannotPut old c.args.name (Formula u) cause) c.in_ok-formula.ensures.tree c.in_err-results.ensures.refused) in
     rw (p.1, p.2) (subst (λ (s : SheetValue). Refuses s.names (Define c.args.name t) cause) c.self.view_is why)
 
+pub invariant_of-self-in_err-make_room : goal.invariant_of-self-in_err-make_room
+invariant_of-self-in_err-make_room c =
+    live_same c.self.inside.entries.entries c.reserve.new.self.entries c.self.inside.users.entries c.make_room.new.users.entries c.self.invariant c.in_ok-reserve.ensures.entries c.make_room.ensures.same c.in_err-make_room.ensures.err
+
+pub make_room-requires : goal.make_room-requires
+make_room-requires c = record { exact = equal-true; used = c.self.invariant.used }
+
+pub commit-requires-clause-tells : goal.commit-requires-clause-tells
+commit-requires-clause-tells c = λ a b.
+    let told = subst (λ (es : List (List ℕ × Entry)). IsTable (names_of es) c.self.inside.users.entries) (sym c.in_ok-reserve.ensures.entries) c.self.invariant.tells in
+    ((λ u. (told a b).0 ((c.make_room.ensures.same a b).0 u)), (λ r. (c.make_room.ensures.same a b).1 ((told a b).1 r)))
+
+pub commit-requires-clause-used : goal.commit-requires-clause-used
+commit-requires-clause-used c =
+    subst (λ (rs : List (List ℕ)). HasNoEmptyBut bytes_eq c.make_room.new.users.entries rs) c.references.ensures c.make_room.ensures.used
+
 pub invariant_of-self-2 : goal.invariant_of-self-2
 invariant_of-self-2 c =
-    let old = names_of c.self.inside.entries.entries in
-    let f = c.in_ok-formula.formula in
-    let is : names_of c.commit.new.entries.entries ≡ put old c.args.name (Formula f.tree) =
-    c.commit.ensures.names ∙ ap (λ es. put (names_of es) c.args.name (Formula f.tree)) c.in_ok-reserve.ensures.entries in
-    record { sheet = subst IsSheet (sym is) c.in_ok-results.ensures.sheet; settled = subst IsSettled (sym is) c.in_ok-results.ensures.settled; current = c.commit.ensures.current }
+    let new = put (names_of c.self.inside.entries.entries) c.args.name (Formula c.in_ok-formula.formula.tree) in
+    let same = ap (λ es. put (names_of es) c.args.name (Formula c.in_ok-formula.formula.tree)) c.in_ok-reserve.ensures.entries in
+    live_after c.commit.new.entries.entries c.commit.new.users.entries new (c.commit.ensures.names ∙ same) c.in_ok-results.ensures.sheet c.in_ok-results.ensures.kept
+    (subst (λ (ns : Names). IsTable ns c.commit.new.users.entries) same c.commit.ensures.tells) c.commit.ensures.used c.commit.ensures.current
 
 pub returns-clause-ok : goal.returns-clause-ok
 returns-clause-ok c =

@@ -1,7 +1,5 @@
-use Rattle.std.proofs.Common.{sym, subst}
-use Rattle.sheet_recalc.specs.Live.{IsLive}
-use Rattle.sheet_recalc.proofs.Live.{live_none}
+use Rattle.sheet_recalc.proofs.Live.{live_empty}
 use Rattle.sheet_recalc.proofs.sheet.Sheet.new.Goals as goal
 
 pub invariant_of-result : goal.invariant_of-result
-invariant_of-result c = subst IsLive (sym c.new.ensures.empty) live_none
+invariant_of-result c = live_empty c.new.result.entries c.new-2.result.entries c.new.ensures.empty c.new-2.ensures.empty

@@ -1,7 +1,10 @@
-use Rattle.std.proofs.Common.{subst}
+use Rattle.std.proofs.Common.{◌∙◌, ℕ, List, sym, ap, subst}
 use Rattle.std.proofs.lemmas.Result.{err_from_is_err_and}
-use Rattle.sheet_recalc.specs.Names.{Data}
-use Rattle.sheet_recalc.specs.Live.{SheetValue}
+use Rattle.sheet_recalc.specs.Names.{Names, Data, put}
+use Rattle.sheet_recalc.specs.Entries.{names_of}
+use Rattle.sheet_recalc.specs.declared.entry.Entry.{Entry}
+use Rattle.sheet_recalc.proofs.Rebound.{live_after}
+use Rattle.sheet_recalc.specs.Live.{SheetValue, IsTable}
 use Rattle.sheet_recalc.specs.Changes.{CannotPut}
 use Rattle.sheet_recalc.proofs.sheet.Sheet.put_data.Goals as goal
 
@@ -10,3 +13,14 @@ returns-in_err-results-clause-refused c =
     let cause = c.in_err-results.field-0.0 in
     let p = err_from_is_err_and c.from_residual.result c.from_residual.ensures.1 in
     rw (p.1, p.2) (subst (λ (s : SheetValue). CannotPut s.names c.args.name (Data c.args.array) cause) c.self.view_is c.in_err-results.ensures.refused)
+
+pub commit-requires-clause-tells : goal.commit-requires-clause-tells
+commit-requires-clause-tells c =
+    subst (λ (es : List (List ℕ × Entry)). IsTable (names_of es) c.self.inside.users.entries) (sym c.in_ok-reserve.ensures.entries) c.self.invariant.tells
+
+pub invariant_of-self-2 : goal.invariant_of-self-2
+invariant_of-self-2 c =
+    let new = put (names_of c.self.inside.entries.entries) c.args.name (Data c.args.array) in
+    let same = ap (λ es. put (names_of es) c.args.name (Data c.args.array)) c.in_ok-reserve.ensures.entries in
+    live_after c.commit.new.entries.entries c.commit.new.users.entries new (c.commit.ensures.names ∙ same) c.in_ok-results.ensures.sheet c.in_ok-results.ensures.kept
+    (subst (λ (ns : Names). IsTable ns c.commit.new.users.entries) same c.commit.ensures.tells) c.commit.ensures.used c.commit.ensures.current

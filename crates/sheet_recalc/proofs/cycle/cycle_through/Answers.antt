@@ -1,0 +1,23 @@
+use Rattle.std.proofs.Common.{◌∙◌, List, [], ◌∷◌, ◌++◌, ℕ, ap, arith}
+use Rattle.dep_order.proofs.Climbing.{chain_join}
+use Rattle.sheet_recalc.specs.Names.{Refers}
+use Rattle.sheet_recalc.specs.Outline.{outlined}
+use Rattle.sheet_recalc.proofs.Cycles.{place_within}
+use Rattle.sheet_recalc.proofs.cycle.cycle_through.Goals as goal
+
+pub loop-next-smaller : goal.loop-next-smaller
+loop-next-smaller c =
+    omega (arith, c.step_from-next.ensures.later, place_within c.args.found.now.keys c.step_from-next.result)
+
+pub loop-next-preserved : goal.loop-next-preserved
+loop-next-preserved c =
+    let o = c.args.outline.now in
+    let now = c.loop-next.invariant.walked in
+    record {
+      walked = (
+        now.0 ++ c.loop-next.next ∷ [],
+        c.in_ok-push-2.ensures.items ∙ ap (λ (names : List (List ℕ)). names ++ c.loop-next.next ∷ []) now.1,
+        chain_join (Refers (outlined o)) o.name now.0 c.loop-next.next [] c.step_from-next.result now.2 c.step_from-next.ensures.refers,
+      );
+      hit = c.step_from-next.ensures.hit;
+    }

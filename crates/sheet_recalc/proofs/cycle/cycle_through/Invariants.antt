@@ -1,0 +1,16 @@
+use Rattle.std.proofs.Common.{◌≡◌, ◌-◌, ℕ, List, ◌∷◌, length}
+use Rattle.std.specs.Str.{bytes_eq}
+use Rattle.std.specs.List.{Contains, position_or_len}
+use Rattle.dep_order.specs.Reach.{Chain}
+use Rattle.sheet_recalc.specs.Names.{Refers}
+use Rattle.sheet_recalc.specs.Outline.{outlined}
+use Rattle.sheet_recalc.proofs.cycle.cycle_through.Given as goal
+
+abbrev pub invariant-loop-next : goal.invariant-loop-next
+invariant-loop-next l = record {
+  walked : (via : List (List ℕ)) × (l.cycle.items ≡ l.outline.name ∷ via) × Chain (Refers (outlined l.outline)) l.outline.name via l.next;
+  hit : Contains l.found.keys l.next;
+}
+
+abbrev pub decreases-loop-next : goal.decreases-loop-next
+decreases-loop-next l = length l.found.keys - position_or_len (bytes_eq l.next) l.found.keys

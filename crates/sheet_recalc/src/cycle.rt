@@ -1,0 +1,52 @@
+//! The cycle that a definition would close.
+
+ghost use Rattle.std.specs.Prelude.{◌≡◌, ◌<◌, IfOk};
+ghost use Rattle.std.specs.Str.{bytes_eq};
+ghost use Rattle.std.specs.List.{Contains, position_or_len};
+ghost use Rattle.sheet_recalc.specs.Names.{Refers};
+ghost use Rattle.sheet_recalc.specs.Outline.{outlined, IsReaching};
+ghost use Rattle.sheet_recalc.specs.Changes.{IsCycleFrom};
+
+use crate::outline::Outline;
+use apl_tokens::Name;
+use dep_order::first_found;
+use indexmap::IndexSet;
+use std::alloc::{AllocError, Global};
+
+/// The cycle that a name would close by a reference to one that reaches it: the name, then that one, and from each on the
+/// first of its own references that reaches the name.
+pub(crate) fn cycle_through(
+    alloc: Global,
+    outline: &Outline<'_>,
+    found: &IndexSet<Name>,
+    reference: Name,
+) -> Result<Vec<Name>, AllocError>
+    requires reaching { IsReaching (outlined outline.now) outline.now.name found.now.keys }
+    requires refers { Refers (outlined outline.now) outline.now.name reference }
+    requires hit { Contains found.now.keys reference }
+    ensures { IfOk result (λ cycle. IsCycleFrom (Refers (outlined outline.now)) outline.now.name cycle.items) }
+{
+    let mut cycle = Vec::new(alloc);
+    cycle.push(outline.name)?;
+    let mut next = reference;
+    while next != outline.name {
+        cycle.push(next)?;
+        next = step_from(outline, found, next);
+    }
+    Ok(cycle)
+}
+
+/// The first of a name's references that reaches the name that is bound anew.
+fn step_from(outline: &Outline<'_>, found: &IndexSet<Name>, from: Name) -> Name
+    requires reaching { IsReaching (outlined outline.now) outline.now.name found.now.keys }
+    requires hit { Contains found.now.keys from }
+    requires apart { from ≡ outline.now.name → ⊥ }
+    ensures refers { Refers (outlined outline.now) from result }
+    ensures hit { Contains found.now.keys result }
+    ensures later { position_or_len (bytes_eq from) found.now.keys < position_or_len (bytes_eq result) found.now.keys }
+{
+    match first_found(found, outline.references_of(from)) {
+        Some(next) => next,
+        None => unreachable!(),
+    }
+}
