@@ -1,8 +1,12 @@
-use Rattle.std.proofs.Common.{◌≤◌, length, subst, sym}
-use Rattle.apl_tokens.specs.Lexemes.{Sign}
+use Rattle.std.proofs.Common.{◌≡◌, ◌∙◌, ◌≤◌, length, ap, subst, sym}
+use Rattle.apl_tokens.specs.Lexemes.{Sign, lexeme, lexemes}
 use Rattle.apl_expr.specs.declared.functions.Function.{Function}
+use Rattle.apl_expr.specs.Functions.{function_from}
 use Rattle.apl_expr.proofs.FunctionsRead.{more_short}
 use Rattle.apl_expr.proofs.functions.function_from.Goals as goal
+
+pub returns-in-Mark-clause-is : goal.returns-in-Mark-clause-is
+returns-in-Mark-clause-is c = c.function_at.ensures ∙ sym (ap (λ t. function_from (lexeme t) (lexemes c.args.tokens.now)) c.in-Mark.is)
 
 -- src/functions.rt:170:1
 pub returns-in-Mark-clause-short : goal.returns-in-Mark-clause-short
