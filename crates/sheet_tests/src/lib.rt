@@ -1,5 +1,6 @@
-//! Tests of the calls of the other crates: what no contract says. A call that takes memory succeeds once, with the right answer;
-//! text and messages are compared with what they are to be; devices give and take a little at a time, or fail.
+//! Tests of the calls of the other crates: what no contract says and no worked row of the program shows. A call that takes memory
+//! succeeds once, with the right answer; messages are compared with what they are to be; devices give and take a little at a time,
+//! or fail.
 #![tactic(auto)]
 
 #[cfg(test)]
@@ -17,14 +18,6 @@ mod fixtures;
 #[cfg(test)]
 mod formula_core_tests;
 #[cfg(test)]
-mod operator_fns_tests;
-#[cfg(test)]
-mod scalar_fns_tests;
-#[cfg(test)]
-mod selection_fns_tests;
-#[cfg(test)]
 mod sheet_cli_tests;
 #[cfg(test)]
 mod sheet_recalc_tests;
-#[cfg(test)]
-mod structural_fns_tests;
