@@ -1,4 +1,4 @@
-use Rattle.std.proofs.Common.{◌≡◌, ◌<◌, [], ◌∷◌, List, Result, map, length, refl, sym, subst, arith}
+use Rattle.std.proofs.Common.{◌≡◌, ◌<◌, [], ◌∷◌, List, ◌++◌, Result, map, length, refl, sym, subst, arith}
 use Rattle.std.proofs.lemmas.List.{append-nil}
 use Rattle.std.proofs.lemmas.Bool.{false≢true}
 use Rattle.sheet_recalc.specs.declared.history.Change.{Change}
@@ -16,3 +16,9 @@ returns-clause-run c =
     let empty = none_left c.loop-change.changes.items (λ l. false≢true (c.in_default.ensures.variant.1 (omega (arith, c.loop-change.changes.ok.0)))) in
     subst (λ (told : List (Result (Unit {0}) Refusal)). Run c.args.self.now.names (map change_of c.args.changes.items) told names) (append-nil c.loop-change.answers.items)
     (c.loop-change.invariant.run [] names (subst (λ (cs : List Change). Run names (map change_of cs) [] names) (sym empty) refl))
+
+pub loop-change-init : goal.loop-change-init
+loop-change-init c = record {
+  room = omega (arith, c.in_ok-answers.ensures.len, c.in_ok-answers.ensures.capacity, c.len.ensures, c.args.changes.ok.0);
+  run = λ rest new h. subst (λ (told : List (Result (Unit {0}) Refusal)). Run c.args.self.now.names (map change_of c.args.changes.items) (told ++ rest) new) (sym c.in_ok-answers.ensures.items) h;
+}
