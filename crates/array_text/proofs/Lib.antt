@@ -1,3 +1,7 @@
 pub mod Writing
 pub mod Numerals
 pub mod Ranks
+pub mod Decimals
+pub mod Reading
+pub mod Tables
+pub mod Written

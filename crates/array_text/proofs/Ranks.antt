@@ -53,7 +53,7 @@ size_of_rank_four (n ∷ m ∷ k ∷ []) h = absurd (omega arith)
 size_of_rank_four (n ∷ m ∷ rows ∷ columns ∷ []) h = omega arith
 size_of_rank_four (a ∷ b ∷ c ∷ d ∷ e ∷ shape) h = absurd (omega arith)
 
-numbers_again : (zs : List ℤ) → map number_of (map (λ z. Num z) zs) ≡ zs
+pub numbers_again : (zs : List ℤ) → map number_of (map (λ z. Num z) zs) ≡ zs
 numbers_again [] = refl
 numbers_again (z ∷ zs) = ap (λ (t : List ℤ). z ∷ t) (numbers_again zs)
 

@@ -1,0 +1,128 @@
+//! The numbers that fields spell.
+
+ghost use Rattle.std.specs.Prelude.{◌≡◌, ◌≤◌, length, true, false, MatchOption};
+ghost use Rattle.std.specs.List.{list_all, prefix_len};
+ghost use Rattle.std.specs.Char.{is_ascii_digit};
+ghost use Rattle.apl_tokens.specs.Characters.{is_blank as blank_at, decimal_from, signed, fits_number};
+ghost use Rattle.array_text.specs.Tables.{sign_and_rest, digits_number as number_of_digits, unsigned_number as number_without_sign, field_number as number_of_field};
+
+/// The number that is one past the greatest.
+const TOP: u64 = 9_223_372_036_854_775_808;
+
+fn is_blank(byte: u8) -> bool
+    ensures { result ≡ blank_at byte }
+{
+    byte == b' ' || byte == b'\t'
+}
+
+/// How many blanks stand at the front.
+fn blanks_at(bytes: &[u8]) -> usize
+    ensures is { result ≡ prefix_len blank_at bytes.now }
+    ensures within { result ≤ length bytes.now }
+{
+    for (place, byte) in bytes.iter().enumerate() {
+        if !is_blank(*byte) {
+            return place;
+        }
+    }
+    bytes.len()
+}
+
+/// How many digits stand at the front.
+fn digits_at(bytes: &[u8]) -> usize
+    ensures is { result ≡ prefix_len is_ascii_digit bytes.now }
+    ensures within { result ≤ length bytes.now }
+{
+    for (place, byte) in bytes.iter().enumerate() {
+        if !byte.is_ascii_digit() {
+            return place;
+        }
+    }
+    bytes.len()
+}
+
+/// There are only blanks.
+fn are_blanks(bytes: &[u8]) -> bool
+    ensures { result ≡ list_all blank_at bytes.now }
+{
+    bytes.iter().all(|byte| is_blank(*byte))
+}
+
+/// Whether a minus stands at the front, and the bytes behind the sign, if there is one.
+#[tactic(auto, unfolding(crate::specs::Tables::sign_and_rest))]
+fn without_sign(bytes: &[u8]) -> (bool, &[u8])
+    ensures { (result.0, result.1.now) ≡ sign_and_rest bytes.now }
+{
+    let Some((first, rest)) = bytes.split_first() else {
+        return (false, bytes);
+    };
+    match *first {
+        b'-' => (true, rest),
+        b'+' => (false, rest),
+        0xc2 if rest.first() == Some(&0xaf) => (true, &rest[1..]),
+        _ => (false, bytes),
+    }
+}
+
+/// The number with its sign, unless it is out of range.
+fn with_sign(is_negative: bool, magnitude: u64) -> Option<i64>
+    ensures { MatchOption result (fits_number is_negative magnitude ≡ false) (λ n. (fits_number is_negative magnitude ≡ true) × (n ≡ signed is_negative magnitude)) }
+{
+    if is_negative {
+        if magnitude > TOP {
+            None
+        } else if magnitude == TOP {
+            Some(i64::MIN)
+        } else {
+            Some(-(magnitude as i64))
+        }
+    } else if magnitude < TOP {
+        Some(magnitude as i64)
+    } else {
+        None
+    }
+}
+
+/// The number of these digits, unless it is out of range.
+fn number_in_range(is_negative: bool, digits: &[u8]) -> Option<i64>
+    ensures { MatchOption result (fits_number is_negative (decimal_from 0 digits.now) ≡ false) (λ n. (fits_number is_negative (decimal_from 0 digits.now) ≡ true) × (n ≡ signed is_negative (decimal_from 0 digits.now))) }
+{
+    let mut magnitude: u64 = 0;
+    for digit in digits {
+        let value = u64::from(digit.saturating_sub(48));
+        magnitude = magnitude.checked_mul(10)?.checked_add(value)?;
+    }
+    with_sign(is_negative, magnitude)
+}
+
+/// The number of these digits, if there are any and it is in range.
+#[tactic(auto, unfolding(crate::specs::Tables::digits_number))]
+fn digits_number(is_negative: bool, digits: &[u8]) -> Option<i64>
+    ensures { result ≡ number_of_digits is_negative digits.now }
+{
+    if digits.is_empty() {
+        return None;
+    }
+    number_in_range(is_negative, digits)
+}
+
+/// The number of digits with blanks behind them.
+#[tactic(auto, unfolding(crate::specs::Tables::unsigned_number))]
+fn unsigned_number(is_negative: bool, bytes: &[u8]) -> Option<i64>
+    ensures { result ≡ number_without_sign is_negative bytes.now }
+{
+    let size = digits_at(bytes);
+    if !are_blanks(&bytes[size..]) {
+        return None;
+    }
+    digits_number(is_negative, &bytes[..size])
+}
+
+/// The number that a field spells, if it spells one.
+#[tactic(auto, unfolding(crate::specs::Tables::field_number))]
+pub(crate) fn field_number(field: &[u8]) -> Option<i64>
+    ensures { result ≡ number_of_field field.now }
+{
+    let (is_negative, bytes) = without_sign(&field[blanks_at(field)..]);
+    unsigned_number(is_negative, bytes)
+}

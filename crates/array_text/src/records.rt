@@ -1,0 +1,34 @@
+//! The records of a file, one after the other.
+
+ghost use Rattle.std.specs.Prelude.{◌≡◌, List, Some, IfOk};
+ghost use Rattle.csv.specs.Records.{fields_of};
+ghost use Rattle.array_text.specs.Tables.{Fields, records_of};
+ghost use Rattle.array_text.specs.Reading.{AreLeft, IsNext};
+
+use csv::{ByteRecord, Reader, ReaderBuilder};
+use std::alloc::{AllocError, Global};
+use std::io::Read;
+
+/// A reader of the records of a file, which may differ in their counts of fields.
+pub(crate) fn reader_of(alloc: Global, bytes: &[u8]) -> Reader<&[u8]>
+    ensures { AreLeft (λ s. Some s.now) result (records_of bytes.now) }
+{
+    ReaderBuilder::new()
+        .has_headers(false)
+        .flexible(true)
+        .from_reader(alloc, bytes)
+}
+
+/// Reads the next record, if there is one. Of bytes in memory only want of memory is an error.
+pub(crate) fn read_next<R: Read>(
+    reader: &mut Reader<R>,
+    row: &mut ByteRecord,
+) -> Result<bool, AllocError>
+    ensures { IfOk result (λ found. (rest : List Fields) → AreLeft R.remaining reader.old rest
+        → IsNext (AreLeft R.remaining reader.new) rest found (fields_of row.new)) }
+{
+    let Ok(found) = reader.read_byte_record(row) else {
+        return Err(AllocError);
+    };
+    Ok(found)
+}

@@ -1,0 +1,122 @@
+//! Tables that are read.
+
+ghost use Rattle.std.specs.Prelude.{◌≡◌, ◌≤◌, ◌*◌, ◌∷◌, ◌++◌, [], map, true, None, vec_len};
+ghost use Rattle.csv.specs.Records.{fields_of};
+ghost use Rattle.arrays_core.specs.declared.item.Item.TheVariants.{Num};
+ghost use Rattle.arrays_core.specs.declared.item.ItemType.TheVariants.{Nums};
+ghost use Rattle.array_text.specs.Tables.{IsReadOf, IsTableOf, bad_field_fault, fields_read, first_bad, is_matrix_within as within_limits, numbers_of, record_fault, records_of, rows_of as rows_by_records};
+
+use crate::fields::field_number;
+use crate::records::{read_next, reader_of};
+use crate::table_fault::TableFault;
+use arrays_core::{Array, shape_of};
+use csv::ByteRecord;
+use std::alloc::Global;
+
+/// The most rows of a table, the most columns, and the most places.
+const MOST_PLACES: u64 = 1_048_576;
+
+/// The most records that are looked at: a header, the most rows, and one more.
+const MOST_RECORDS: u64 = MOST_PLACES + 2;
+
+/// Whether a table of numbers may have so many rows and columns.
+fn is_matrix_within(rows: u64, columns: usize) -> bool
+    ensures { result ≡ within_limits rows columns }
+{
+    rows <= MOST_PLACES && columns as u64 <= MOST_PLACES && rows * columns as u64 <= MOST_PLACES
+}
+
+/// How many rows so many records give: a header gives none.
+fn rows_of(header: bool, count: u64) -> u64
+    ensures { result ≡ rows_by_records header count }
+{
+    if header {
+        count.saturating_sub(1)
+    } else {
+        count
+    }
+}
+
+/// The matrix of these numbers. It takes no memory but what it is given.
+fn matrix(alloc: Global, rows: u64, columns: usize, numbers: Vec<i64>) -> Array
+    requires within { within_limits rows columns ≡ true }
+    requires full { vec_len numbers ≡ rows * columns }
+    ensures { result ≡ record {
+      item_type = Nums;
+      shape = rows ∷ columns ∷ [];
+      items = map (λ z. Num z) numbers.items;
+    } }
+{
+    let shape = shape_of(alloc, &[rows as u32, columns as u32]);
+    Array::from_numbers(&shape, numbers)
+}
+
+/// Adds the numbers of a record's fields.
+fn push_fields(row: &ByteRecord, number: u64, numbers: &mut Vec<i64>) -> Result<(), TableFault>
+    ensures { IsReadOf (bad_field_fault number (first_bad 1 (fields_of row.now)) None)
+        (λ _. numbers.new.items ≡ numbers.old.items ++ numbers_of (fields_of row.now)) result }
+{
+    for place in 0..row.len() {
+        let Some(field) = row.get(place) else {
+            unreachable!();
+        };
+        let Some(value) = field_number(field) else {
+            return Err(TableFault::Field {
+                row: number,
+                field: place as u64 + 1,
+            });
+        };
+        numbers.push(value)?;
+    }
+    Ok(())
+}
+
+/// Adds the numbers of a record, by its number from 1. A header has no numbers.
+#[tactic(auto, unfolding(crate::specs::Tables::record_fault))]
+fn push_record(
+    row: &ByteRecord,
+    header: bool,
+    columns: usize,
+    number: u64,
+    numbers: &mut Vec<i64>,
+) -> Result<(), TableFault>
+    requires { 1 ≤ number }
+    ensures { IsReadOf (record_fault header columns number (fields_of row.now))
+        (λ _. numbers.new.items ≡ numbers.old.items ++ numbers_of (fields_read header number (fields_of row.now))) result }
+{
+    if row.len() != columns {
+        return Err(TableFault::Length { row: number });
+    }
+    if !(header && number == 1) {
+        push_fields(row, number, numbers)?;
+    }
+    if !is_matrix_within(rows_of(header, number), columns) {
+        return Err(TableFault::Limit);
+    }
+    Ok(())
+}
+
+/// Reads a table: the records of `csv`, of which each has as many fields as the first, and in each field a
+/// number, which may have a sign before it and blanks around it. A first record that is a header gives
+/// only its count of fields. The first fault is the answer: for each record first its count of fields,
+/// then its fields from the left, then the limits of an array. The answer is a matrix of records by
+/// fields; a file without records has no rows and no columns.
+pub fn read_table(alloc: Global, bytes: &[u8], header: bool) -> Result<Array, TableFault>
+    ensures { IsTableOf header (records_of bytes.now) result }
+{
+    let mut reader = reader_of(alloc, bytes);
+    let mut row = ByteRecord::new(alloc);
+    let mut numbers = Vec::new(alloc);
+    if !read_next(&mut reader, &mut row)? {
+        return Ok(matrix(alloc, 0, 0, numbers));
+    }
+    let columns = row.len();
+    push_record(&row, header, columns, 1, &mut numbers)?;
+    for count in 1..MOST_RECORDS {
+        if !read_next(&mut reader, &mut row)? {
+            return Ok(matrix(alloc, rows_of(header, count), columns, numbers));
+        }
+        push_record(&row, header, columns, count + 1, &mut numbers)?;
+    }
+    unreachable!()
+}

@@ -1,0 +1,82 @@
+//! Tables that are written.
+
+ghost use Rattle.std.specs.Prelude.{◌≡◌, ◌≤◌, ◌*◌, ◌++◌, length, All, IfOk, OnOk, map, string_bytes};
+ghost use Rattle.std.specs.Fmt.{signed_decimal};
+ghost use Rattle.arrays_core.specs.Items.{type_of};
+ghost use Rattle.arrays_core.specs.declared.item.ItemType.TheVariants.{Nums};
+ghost use Rattle.array_text.specs.Text.{gap, number_of};
+ghost use Rattle.array_text.specs.Tables.{comma, record_text, records_text, table_text};
+
+use arrays_core::Array;
+use itoa::Buffer;
+use std::alloc::{AllocError, Global};
+
+/// Adds the comma before each field of a record but the first.
+#[tactic(auto, unfolding(crate::specs::Text::gap))]
+fn push_comma_between(out: &mut String, place: usize) -> Result<(), AllocError>
+    ensures { OnOk result (string_bytes out.new ≡ string_bytes out.old ++ gap comma place) }
+{
+    if place == 0 {
+        return Ok(());
+    }
+    out.push(',')
+}
+
+/// Adds a field.
+fn push_field(out: &mut String, number: i64) -> Result<(), AllocError>
+    ensures { OnOk result (string_bytes out.new ≡ string_bytes out.old ++ signed_decimal number) }
+{
+    let mut buffer = Buffer::new();
+    out.push_str(buffer.format(number))
+}
+
+/// Adds a record.
+fn push_record(out: &mut String, numbers: &[i64]) -> Result<(), AllocError>
+    ensures { OnOk result (string_bytes out.new ≡ string_bytes out.old ++ record_text numbers.now) }
+{
+    for (place, number) in numbers.iter().enumerate() {
+        push_comma_between(out, place)?;
+        push_field(out, *number)?;
+    }
+    out.push('\n')
+}
+
+/// Adds a record a row of a matrix.
+fn push_records(
+    out: &mut String,
+    rows: usize,
+    columns: usize,
+    numbers: &[i64],
+) -> Result<(), AllocError>
+    requires { length numbers.now ≡ rows * columns }
+    ensures { OnOk result (string_bytes out.new ≡ string_bytes out.old ++ records_text rows columns numbers.now) }
+{
+    for row in 0..rows {
+        push_record(out, &numbers[row * columns..(row + 1) * columns])?;
+    }
+    Ok(())
+}
+
+/// The file of a table: a scalar is one field, a vector one record, a matrix has one record a row. Fields
+/// are joined by commas, a negative number begins with `-`, and each record ends with LF. Without items
+/// there is no text.
+pub fn write_table(alloc: Global, array: &Array) -> Result<String, AllocError>
+    requires rank { length array.now.shape ≤ 2 }
+    requires numbers { All (λ item. type_of item ≡ Nums) array.now.items }
+    ensures { IfOk result (λ text. string_bytes text ≡ table_text array.now.shape (map number_of array.now.items)) }
+{
+    let mut text = String::new(alloc);
+    let axes = array.shape().as_slice();
+    let Some(numbers) = array.numbers() else {
+        return Ok(text);
+    };
+    if numbers.is_empty() {
+        return Ok(text);
+    }
+    if axes.len() < 2 {
+        push_record(&mut text, numbers)?;
+    } else {
+        push_records(&mut text, axes[0] as usize, axes[1] as usize, numbers)?;
+    }
+    Ok(text)
+}
