@@ -2,7 +2,7 @@
 use Rattle.std.proofs.Common.{◌≡◌, ◌==◌, ◌||◌, ◌⊎◌, inl, inr, is_some, ℕ, zero, suc, ◌<◌, Bool, true, false, cond, List, [], ◌∷◌, ◌++◌, length, Option, Some, None, refl, sym, ap, ◌∙◌, subst, arith}
 use Rattle.std.proofs.lemmas.Bool.{false≢true}
 use Rattle.csv.specs.Machine.{Read, in_field, start_field, start_record, step, next_record, ends_at_end, is_end, fields_after, field_after}
-use Rattle.csv.specs.Reading.{ReadRecord, Reached, default_config, records_from, records_next, took_first}
+use Rattle.csv.specs.Reading.{ReadRecord, Reached, default_config, is_flexible, records_from, records_next, took_first}
 use Rattle.csv.specs.declared.reader.Reader.{Reader}
 use Rattle.csv.proofs.ReadFacts.{rows-end, rows-more}
 use Rattle.csv.specs.declared.parser.State.{State}
@@ -110,9 +110,9 @@ none_left (suc most) s xs h small = rw h refl
 
 -- what a read of a record shows of those that were left
 pub read_on : {R : Type 0} (known : R → Option (List ℕ)) (a b : Reader R) (found : Bool) (fields : Fields) (rest : List Fields)
-    → took_first b ≡ true → ReadRecord known a b found fields → AreLeft known a rest → IsNext (AreLeft known b) rest found fields
+    → took_first b ≡ true → is_flexible b ≡ is_flexible a → ReadRecord known a b found fields → AreLeft known a rest → IsNext (AreLeft known b) rest found fields
 unfolding Reached
-read_on {R} known a b found fields rest first read left = record { none = at_none; some = at_some }
+read_on {R} known a b found fields rest first flexible read left = record { none = at_none; some = at_some }
   where
     at_none : found ≡ false → rest ≡ []
     at_none e = left.are ∙ none_left left.most a.state left.bytes (rows-end known a b fields default_config left.bytes left.config left.source (rw e at read)) left.enough
@@ -129,6 +129,7 @@ read_on {R} known a b found fields rest first read left = record { none = at_non
           record {
             plain = read.3 ∙ left.plain;
             ready = inl first;
+            flexible = flexible ∙ left.flexible;
             config = read.2 ∙ left.config;
             between = subst (λ (s : State). ends_at_end s ≡ false) taken.3.0 next.2;
             bytes = more.0;

@@ -1,7 +1,7 @@
 -- What a reader of a file still gives.
 use Rattle.std.specs.Prelude.{◌≡◌, ◌<◌, ℕ, Bool, true, false, List, [], ◌∷◌, length, Option, Some}
 use Rattle.csv.specs.Machine.{ends_at_end}
-use Rattle.csv.specs.Reading.{Ready, default_config, reader_config, reader_state, reader_trim, records_from, source_of}
+use Rattle.csv.specs.Reading.{Ready, default_config, is_flexible, reader_config, reader_state, reader_trim, records_from, source_of}
 use Rattle.csv.specs.declared.reader.Reader.{Reader}
 use Rattle.csv.specs.declared.reader.Trim.TheVariants as trim
 use Rattle.array_text.specs.Tables.{Fields}
@@ -10,6 +10,7 @@ use Rattle.array_text.specs.Tables.{Fields}
 pub record AreLeft {R : Type 0} (known : R → Option (List ℕ)) (reader : Reader R) (rest : List Fields) : Type 0 where
   pub plain : reader_trim reader ≡ trim.None
   pub ready : Ready reader
+  pub flexible : is_flexible reader ≡ true
   pub config : reader_config reader ≡ default_config
   pub between : ends_at_end (reader_state reader) ≡ false
   pub bytes : List ℕ

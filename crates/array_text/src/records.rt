@@ -5,7 +5,7 @@ ghost use Rattle.csv.specs.Records.{fields_of};
 ghost use Rattle.array_text.specs.Tables.{Fields, records_of};
 ghost use Rattle.array_text.specs.Reading.{AreLeft, IsNext};
 
-use csv::{ByteRecord, Reader, ReaderBuilder};
+use csv::{ByteRecord, ErrorKind, Reader, ReaderBuilder};
 use std::alloc::{AllocError, Global};
 use std::io::Read;
 
@@ -24,11 +24,15 @@ pub(crate) fn read_next<R: Read>(
     reader: &mut Reader<R>,
     row: &mut ByteRecord,
 ) -> Result<bool, AllocError>
+    requires { (rest : List Fields) × AreLeft R.remaining reader.old rest }
     ensures { IfOk result (λ found. (rest : List Fields) → AreLeft R.remaining reader.old rest
         → IsNext (AreLeft R.remaining reader.new) rest found (fields_of row.new)) }
 {
-    let Ok(found) = reader.read_byte_record(row) else {
-        return Err(AllocError);
-    };
-    Ok(found)
+    match reader.read_byte_record(row) {
+        Ok(found) => Ok(found),
+        Err(error) => match error.kind() {
+            ErrorKind::UnequalLengths { .. } => unreachable!(),
+            _ => Err(AllocError),
+        },
+    }
 }
