@@ -21,3 +21,5 @@ mod formula_core_tests;
 mod sheet_cli_tests;
 #[cfg(test)]
 mod sheet_recalc_tests;
+#[cfg(test)]
+mod tables_tests;

@@ -1,0 +1,179 @@
+//! Tables in and out.
+
+use array_text::{TableFault, read_table, write_table};
+use arrays_core::{Array, ItemType, is_within_limits, shape_of, size};
+use std::alloc::{AllocError, Global};
+use std::test::Fail;
+
+/// What a file reads as: the shape, a colon and the numbers, or the fault.
+fn read(alloc: Global, bytes: &[u8], header: bool) -> Result<String, Fail> {
+    match read_table(alloc, bytes, header) {
+        Ok(table) => {
+            let mut text = String::new(alloc);
+            for axis in table.shape().as_slice() {
+                text.push_str(format!(in alloc; "{axis} ")?.as_str())?;
+            }
+            text.push(':')?;
+            if let Some(numbers) = table.numbers() {
+                for number in numbers {
+                    text.push_str(format!(in alloc; " {number}")?.as_str())?;
+                }
+            }
+            Ok(text)
+        }
+        Err(TableFault::Field { row, field }) => Ok(format!(in alloc; "field {row} {field}")?),
+        Err(TableFault::Length { row }) => Ok(format!(in alloc; "length {row}")?),
+        Err(TableFault::Limit) => Ok(format!(in alloc; "limit")?),
+        Err(TableFault::NoMemory) => Ok(format!(in alloc; "no memory")?),
+    }
+}
+
+/// The file of a table of numbers, or nothing if they are not as many as the places of the shape.
+fn written(alloc: Global, axes: &[u32], numbers: &[i64]) -> Result<String, AllocError> {
+    if axes.len() <= 2 && is_within_limits(axes) && size(axes) as usize == numbers.len() {
+        let shape = shape_of(alloc, axes);
+        let table = Array::from_numbers(&shape, Vec::from_slice(alloc, numbers)?);
+        return write_table(alloc, &table);
+    }
+    Ok(String::new(alloc))
+}
+
+#[test]
+fn reads_tables(rt: HostRuntime) -> Result<(), Fail> {
+    for (file, header, want) in [
+        ("a,b\n1,-2\n\"3\",¯4\n", true, "2 2 : 1 -2 3 -4"),
+        (" +7 , ¯2", false, "1 2 : 7 -2"),
+        ("", false, "0 0 :"),
+        ("", true, "0 0 :"),
+        ("a,b\n", true, "0 2 :"),
+        ("\t 5 \t", false, "1 1 : 5"),
+        (
+            "9223372036854775807,-9223372036854775808",
+            false,
+            "1 2 : 9223372036854775807 -9223372036854775808",
+        ),
+        ("007,-0,+0", false, "1 3 : 7 0 0"),
+        (
+            "-9223372036854775808,-00000000000000000001",
+            false,
+            "1 2 : -9223372036854775808 -1",
+        ),
+    ] {
+        let read = read(rt.alloc(), file.as_bytes(), header)?;
+        assert_eq!(rt; read.as_str(), want);
+    }
+    Ok(())
+}
+
+#[test]
+fn tells_the_first_fault(rt: HostRuntime) -> Result<(), Fail> {
+    for (file, header, want) in [
+        ("a,b\n1,-2\n\"3\",¯4\n", false, "field 1 1"),
+        ("1,2\n3", false, "length 2"),
+        ("1,2\nx", false, "length 2"),
+        ("1,2\n3,x\n4", false, "field 2 2"),
+        ("1,x", false, "field 1 2"),
+        ("1,,2", false, "field 1 2"),
+        ("1,2,", false, "field 1 3"),
+        ("--1", false, "field 1 1"),
+        ("- 1", false, "field 1 1"),
+        ("1 2", false, "field 1 1"),
+        ("1-", false, "field 1 1"),
+        ("-", false, "field 1 1"),
+        (" ", false, "field 1 1"),
+        ("1.0", false, "field 1 1"),
+        ("9223372036854775808", false, "field 1 1"),
+        ("-9223372036854775809", false, "field 1 1"),
+        ("+18446744073709551617", false, "field 1 1"),
+        ("a,b\n1,2\n3\n", true, "length 3"),
+        ("a,b\n1,2\n3,y\n", true, "field 3 2"),
+    ] {
+        let read = read(rt.alloc(), file.as_bytes(), header)?;
+        assert_eq!(rt; read.as_str(), want);
+    }
+    Ok(())
+}
+
+#[test]
+fn records_are_those_of_csv(rt: HostRuntime) -> Result<(), Fail> {
+    for (file, want) in [
+        // CR, LF and CR LF each end a record, and an empty line is none.
+        (&b"1,2\r3,4\n5,6\r\n7,8"[..], "4 2 : 1 2 3 4 5 6 7 8"),
+        (&b"\n\r\n1\n\n\n2\r\r"[..], "2 1 : 1 2"),
+        // One byte order mark is skipped, and no more, and none inside.
+        (&b"\xef\xbb\xbf1,2"[..], "1 2 : 1 2"),
+        (&b"\xef\xbb\xbf\xef\xbb\xbf1"[..], "field 1 1"),
+        (&b"1\n\xef\xbb\xbf2"[..], "field 2 1"),
+        (&b"\xef\xbb\xbf"[..], "0 0 :"),
+        // Quotes, and what stands behind a closing one.
+        (&b"\"3\"4"[..], "1 1 : 34"),
+        (&b"\"1\",\" 2 \""[..], "1 2 : 1 2"),
+        (&b"\"1\n\""[..], "field 1 1"),
+        (&b"1\"2\""[..], "field 1 1"),
+        (&b"\"1,2\""[..], "field 1 1"),
+        (&b"\"\""[..], "field 1 1"),
+        (&b"\"12"[..], "1 1 : 12"),
+        // Half a high minus sign is none.
+        (&b"\xc25"[..], "field 1 1"),
+        (&b"\xc2"[..], "field 1 1"),
+        (&b"\xaf5"[..], "field 1 1"),
+    ] {
+        let read = read(rt.alloc(), file, false)?;
+        assert_eq!(rt; read.as_str(), want);
+    }
+    Ok(())
+}
+
+#[test]
+fn writes_tables(rt: HostRuntime) -> Result<(), Fail> {
+    for (axes, numbers, want) in [
+        (&[][..], &[-5][..], "-5\n"),
+        (
+            &[3][..],
+            &[1, -9223372036854775808, 0][..],
+            "1,-9223372036854775808,0\n",
+        ),
+        (&[2, 2][..], &[1, -2, 3, -4][..], "1,-2\n3,-4\n"),
+        (&[2, 1][..], &[7, 8][..], "7\n8\n"),
+        (&[0][..], &[][..], ""),
+        (&[3, 0][..], &[][..], ""),
+        (&[0, 3][..], &[][..], ""),
+    ] {
+        let written = written(rt.alloc(), axes, numbers)?;
+        assert_eq!(rt; written.as_str(), want);
+    }
+    let none = Array::filled(rt.alloc(), ItemType::Chars, &shape_of(rt.alloc(), &[0]))?;
+    assert_eq!(rt; write_table(rt.alloc(), &none)?.as_str(), "");
+    Ok(())
+}
+
+/// A file of so many records, each of so many zeros.
+fn zeros(alloc: Global, rows: u32, columns: u32) -> Result<String, AllocError> {
+    let mut text = String::new(alloc);
+    for _row in 0..rows {
+        for column in 0..columns {
+            if column > 0 {
+                text.push(',')?;
+            }
+            text.push('0')?;
+        }
+        text.push('\n')?;
+    }
+    Ok(text)
+}
+
+#[test]
+fn keeps_to_the_limits(rt: HostRuntime) -> Result<(), Fail> {
+    let alloc = rt.alloc();
+    for (rows, columns, header, wanted) in [
+        (1024, 1024, false, None),
+        (1025, 1024, false, Some(TableFault::Limit)),
+        (1025, 1024, true, None),
+        (1, 1048577, true, Some(TableFault::Limit)),
+    ] {
+        let file = zeros(alloc, rows, columns)?;
+        let fault = read_table(alloc, file.as_bytes(), header).err();
+        assert_eq!(rt; fault, wanted);
+    }
+    Ok(())
+}
