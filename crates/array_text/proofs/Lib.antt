@@ -5,3 +5,4 @@ pub mod Decimals
 pub mod Reading
 pub mod Tables
 pub mod Written
+pub mod TableCases
