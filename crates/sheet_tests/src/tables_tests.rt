@@ -33,6 +33,7 @@ fn written(alloc: Global, axes: &[u32], numbers: &[i64]) -> Result<String, Alloc
     if axes.len() <= 2 && is_within_limits(axes) && size(axes) as usize == numbers.len() {
         let shape = shape_of(alloc, axes);
         let table = Array::from_numbers(&shape, Vec::from_slice(alloc, numbers)?);
+        let _of_numbers = table.shape();
         return write_table(alloc, &table);
     }
     Ok(String::new(alloc))
