@@ -1,5 +1,5 @@
 -- How an order of the names is kept when a name is bound anew, and what stays as it was.
-use Rattle.std.proofs.Common.{◌≡◌, ◌≢◌, ℕ, zero, suc, ◌<◌, ◌≤◌, ◌⊎◌, inl, inr, Bool, true, false, not, List, [], ◌∷◌, ◌++◌, length, slice_index_or, filter, None, IsSome, refl, sym, ap, ◌∙◌, subst, arith, ⊎_elim}
+use Rattle.std.proofs.Common.{◌≡◌, ◌≢◌, ℕ, zero, suc, ◌<◌, ◌≤◌, ◌⊎◌, inl, inr, Bool, true, false, not, List, [], ◌∷◌, ◌++◌, length, slice_index_or, filter, None, is_some, IsSome, refl, sym, ap, ◌∙◌, subst, arith, ⊎_elim}
 use Rattle.std.specs.Str.{bytes_eq}
 use Rattle.std.specs.List.{Contains, IsDistinct, list_any, AllByRecursion}
 use Rattle.std.proofs.lemmas.Bool.{false≢true}
@@ -140,7 +140,7 @@ module _ {S : Type 0} (names : Names) (table : List (List ℕ × IndexSet (List 
       let low = falls at.0 via b at.1 (subst (λ y. Chain (Uses bytes_eq table) y via b) (sym is) c) in
       omega (arith, low, at.1, o.short)
 
--- a name is bound anew; `found` are the name and all that reach it, each after those that refer to it
+-- a name is bound anew, or removed; `found` are the name and all that reach it, each after those that refer to it
 module _ (old new : Names) (name : List ℕ) (same : (q : List ℕ) → q ≢ name → binding new q ≡ binding old q)
     (found : List (List ℕ)) (closed : Follows (λ a b. Refers old b a) (λ x. ⊥) found) (named : Contains found name) where
   -- what refers to one that is found is found
@@ -157,7 +157,7 @@ module _ (old new : Names) (name : List ℕ) (same : (q : List ℕ) → q ≢ na
   pub refers_apart : (a b : List ℕ) → (Contains found a → ⊥) → Refers new a b → Contains found b → ⊥
   refers_apart a b none r c = none (refers_found a b c (refers_old a b (apart_from a none) r))
 
-  module _ (order : List (List ℕ)) (o : IsKeptOrder old order) (once : IsOnce found) (there : (a : List ℕ) → Contains found a → IsSome (binding new a))
+  module _ (order : List (List ℕ)) (o : IsKeptOrder old order) (once : IsOnce found)
       (free : (b : List ℕ) → Refers new name b → Contains found b → ⊥) where
     pub keep : List ℕ → Bool
     keep q = not (list_any (bytes_eq q) found)
@@ -177,20 +177,27 @@ module _ (old new : Names) (name : List ℕ) (same : (q : List ℕ) → q ≢ na
     same_kept : (q : List ℕ) → keep q ≡ true → binding new q ≡ binding old q
     same_kept q k = same q (apart_from q (kept_apart q k))
 
+    abbrev is_there : List ℕ → Bool
+    is_there q = is_some (binding new q)
+
+    -- the names that are found, turned round, and without the one that is removed
+    abbrev turned : List (List ℕ)
+    turned = filter is_there (backward found)
+
     abbrev new_order : List (List ℕ)
-    new_order = filter keep order ++ backward found
+    new_order = filter keep order ++ turned
 
     all : (a : List ℕ) → IsSome (binding new a) → Contains new_order a
     all a present = cases_among (Contains new_order a) found a
-        (λ c. Contains-append_right (filter keep order) (backward found) a (backward_has found a c))
+        (λ c. Contains-append_right (filter keep order) turned a (kept_has is_there (backward found) a (backward_has found a c) present))
         (λ none.
         let k = apart_kept a none in
-        Contains-append_left (filter keep order) (backward found) a (kept_has keep order a (o.all a (subst (λ b. IsSome b) (same_kept a k) present)) k))
+        Contains-append_left (filter keep order) turned a (kept_has keep order a (o.all a (subst (λ b. IsSome b) (same_kept a k) present)) k))
 
     only : (a : List ℕ) → Contains new_order a → IsSome (binding new a)
     only a c = ⊎_elim
         (λ l. let k = kept_only keep order a l in subst (λ b. IsSome b) (sym (same_kept a k.1)) (o.present a k.0))
-        (λ r. there a (backward_only found a r)) (Contains-append_cases (filter keep order) (backward found) a c)
+        (λ r. (kept_only is_there (backward found) a r).1) (Contains-append_cases (filter keep order) turned a c)
 
     abbrev Needs : Names → List ℕ → List ℕ → Type 0
     Needs names a b = Refers names a b × IsSome (binding names b)
@@ -203,20 +210,25 @@ module _ (old new : Names) (name : List ℕ) (same : (q : List ℕ) → q ≢ na
         ((refers_old a b (apart_from a none) n.0, subst (λ c. IsSome c) (same_kept b l) n.1), l))
         (λ a k d. d) o.follows
 
-    found_then : Follows (Needs new) (λ x. ⊥ ⊎ Contains (filter keep order) x) (backward found)
-    found_then = follows_backward (λ a b. Refers old b a) (Needs new) (λ x. ⊥) (λ x. ⊥ ⊎ Contains (filter keep order) x) found closed (λ a c d. d) once
+    all_turned : Follows (Needs new) (λ x. ⊥ ⊎ Contains (filter keep order) x) (backward found)
+    all_turned = follows_backward (λ a b. Refers old b a) (Needs new) (λ x. ⊥) (λ x. ⊥ ⊎ Contains (filter keep order) x) found closed (λ a c d. d) once
         (λ a b c n. (
           cases_among ((⊥ ⊎ Contains (filter keep order) b) ⊎ Contains found b) found b (λ d. inr d)
               (λ none. let k = apart_kept b none in inl (inr (kept_has keep order b (o.all b (subst (λ s. IsSome s) (same_kept b k) n.1)) k))),
           λ d. refers_old a b (λ e. free b (subst (λ z. Refers new z b) e n.0) d) n.0,
         ))
 
+    found_then : Follows (Needs new) (λ x. ⊥ ⊎ Contains (filter keep order) x) turned
+    found_then = follows_kept (Needs new) (Needs new) (λ x. ⊥ ⊎ Contains (filter keep order) x) (λ x. ⊥ ⊎ Contains (filter keep order) x) is_there (backward found)
+        (λ a b k n. (n, n.1)) (λ a k d. d) all_turned
+
     pub kept_order : IsKeptOrder new new_order
     kept_order = record {
       all = all;
       present = only;
-      once = once_append (filter keep order) (backward found) (once_kept keep order o.once) (once_backward found once) (λ x c d. kept_apart x (kept_only keep order x c).1 (backward_only found x d));
-      follows = follows_append (Needs new) (λ x. ⊥) (filter keep order) (backward found) kept_first found_then;
+      once = once_append (filter keep order) turned (once_kept keep order o.once) (once_kept is_there (backward found) (once_backward found once))
+          (λ x c d. kept_apart x (kept_only keep order x c).1 (backward_only found x (kept_only is_there (backward found) x d).0));
+      follows = follows_append (Needs new) (λ x. ⊥) (filter keep order) turned kept_first found_then;
     }
 
   -- what is not found shows what it did

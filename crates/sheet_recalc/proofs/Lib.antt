@@ -2,6 +2,8 @@ pub mod NameEquality
 pub mod Scratch
 pub mod Keeping
 pub mod Putting
+pub mod Removing
+pub mod Binding
 pub mod Live
 pub mod Cycles
 pub mod Outlines

@@ -12,7 +12,7 @@ use Rattle.dep_order.specs.Reach.{Chain, IsAcyclic}
 use Rattle.formula_core.specs.Outcomes.{Outcome, fault}
 use Rattle.apl_expr.specs.Trees.{Tree}
 use Rattle.arrays_core.specs.declared.item.Kind.TheVariants.{Value}
-use Rattle.sheet_recalc.specs.Names.{Names, Binding, Data, Formula, binding, put, Refers}
+use Rattle.sheet_recalc.specs.Names.{Names, Data, Formula, binding, put, without, rebound, Refers}
 use Rattle.sheet_recalc.specs.Meaning.{shown, val, val_at}
 use Rattle.sheet_recalc.specs.Entries.{names_of, binding_of, held, holding, adopted}
 use Rattle.sheet_recalc.specs.Outline.{standing, IsPlanned, bound, shown_by}
@@ -24,6 +24,8 @@ use Rattle.sheet_recalc.specs.declared.entry.Entry.TheVariants as entry
 use Rattle.sheet_recalc.proofs.NameEquality.{names_equal, equal-true, equal-same}
 use Rattle.sheet_recalc.proofs.Scratch.{val_absent}
 use Rattle.sheet_recalc.proofs.Putting.{lookup_put}
+use Rattle.sheet_recalc.proofs.Removing.{others, lookup_others, names_of_others}
+use Rattle.sheet_recalc.proofs.Binding.{rebound_same, rebound_own}
 use Rattle.dep_order.proofs.Following.{contains_none}
 
 pub binding_of_name : (es : List (List ℕ × Entry)) (q : List ℕ) → binding (names_of es) q ≡ option_map binding_of (lookup (bytes_eq q) es)
@@ -33,6 +35,21 @@ binding_of_name (e ∷ es) q = by (bytes_eq q e.0) refl (binding_of_name es q)
     by : (b : Bool) → bytes_eq q e.0 ≡ b → binding (names_of es) q ≡ option_map binding_of (lookup (bytes_eq q) es) → binding (names_of (e ∷ es)) q ≡ option_map binding_of (lookup (bytes_eq q) (e ∷ es))
     by true is rest = rw is refl
     by false is rest = rw is rest
+
+-- a name is present where it has an entry
+pub present_name : (es : List (List ℕ × Entry)) (name : List ℕ) → IsSome (lookup (bytes_eq name) es) → IsSome (binding (names_of es) name)
+present_name es name h = rw (binding_of_name es name) (some_map (lookup (bytes_eq name) es) h)
+  where
+    some_map : (o : Option Entry) → IsSome o → IsSome (option_map binding_of o)
+    some_map None h = absurd (false≢true h)
+    some_map (Some e) h = refl
+
+pub absent_name : (es : List (List ℕ × Entry)) (name : List ℕ) → false ≡ is_some (lookup (bytes_eq name) es) → binding (names_of es) name ≡ None
+absent_name es name h = binding_of_name es name ∙ ap (option_map binding_of) (none_there (lookup (bytes_eq name) es) h)
+  where
+    none_there : (o : Option Entry) → false ≡ is_some o → o ≡ None
+    none_there None h = refl
+    none_there (Some x) h = absurd (false≢true h)
 
 pub keys_of_names : (es : List (List ℕ × Entry)) → keys_of (names_of es) ≡ keys_of es
 keys_of_names [] = refl
@@ -207,28 +224,48 @@ adopting_planned es name entry rs planned = record {
     by q (Some r) is = inl (subst (λ o. IsSome o) (sym is) refl)
     by q None is = inr (λ e h. sym (there q e h) ∙ (ap (λ o. unwrap_or o (standing es name (held entry) q)) (sym is) ∙ planned q))
 
+-- planned results can be adopted once the name is removed
+pub adopting_removed : (es : List (List ℕ × Entry)) (name : List ℕ) (rs : List (List ℕ × Outcome))
+    → IsPlanned es name (Err (fault Value)) (without (names_of es) name) rs → Adopting (without (names_of es) name) (others name es) rs
+adopting_removed es name rs planned = record {
+  names_are = names_of_others name es;
+  right = λ q r is. ap (λ o. unwrap_or o (standing es name (Err (fault Value)) q)) (sym is) ∙ planned q;
+  done = λ q present. by q (lookup (bytes_eq q) rs) refl;
+}
+  where
+    there : (q : List ℕ) (e : Entry) → lookup (bytes_eq q) (others name es) ≡ Some e → standing es name (Err (fault Value)) q ≡ held e
+    there q e is = choose (bytes_eq q name) refl
+      where
+        choose : (t : Bool) → bytes_eq q name ≡ t → standing es name (Err (fault Value)) q ≡ held e
+        choose true t =
+            let never : None ≡ Some e = rw (names_equal.symm name q, t) at (sym (lookup_others name es q) ∙ is) in absurd cc
+        choose false t =
+            let same : lookup (bytes_eq q) es ≡ Some e = rw (names_equal.symm name q, t) at (sym (lookup_others name es q) ∙ is) in
+            rw t (ap (λ o. unwrap_or (option_map held o) (Err (fault Value))) same)
+
+    by : (q : List ℕ) (o : Option Outcome) → lookup (bytes_eq q) rs ≡ o
+        → IsSome (lookup (bytes_eq q) rs) ⊎ ((e : Entry) → lookup (bytes_eq q) (others name es) ≡ Some e → held e ≡ val (without (names_of es) name) q)
+    by q (Some r) is = inl (subst (λ o. IsSome o) (sym is) refl)
+    by q None is = inr (λ e h. sym (there q e h) ∙ (ap (λ o. unwrap_or o (standing es name (Err (fault Value)) q)) (sym is) ∙ planned q))
+
 -- what a name shows as it stands, where it is bound to no formula
-pub standing_plain : (es : List (List ℕ × Entry)) (name : List ℕ) (b : Binding) (own : Outcome) → ((a : ArrayValue) → b ≡ Data a → own ≡ Ok a)
-    → (q : List ℕ) → ((t : Tree) → binding (put (names_of es) name b) q ≡ Some (Formula t) → ⊥) → standing es name own q ≡ val (put (names_of es) name b) q
-standing_plain es name b own is_own q plain = by (bytes_eq q name) refl
+pub standing_plain : (es : List (List ℕ × Entry)) (name : List ℕ) (r : Option BindingRef)
+    → (q : List ℕ) → ((t : Tree) → binding (rebound (names_of es) name (option_map bound r)) q ≡ Some (Formula t) → ⊥) → standing es name (shown_by r) q ≡ val (rebound (names_of es) name (option_map bound r)) q
+standing_plain es name r q plain = by (bytes_eq q name) refl
   where
     new : Names
-    new = put (names_of es) name b
+    new = rebound (names_of es) name (option_map bound r)
 
-    here : (c : Binding) → b ≡ c → binding new q ≡ Some b → own ≡ val new q
-    here (Data a) is found = is_own a is ∙ sym (val_data new q a (found ∙ ap Some is))
-    here (Formula t) is found = absurd (plain t (found ∙ ap Some is))
+    here : (s : Option BindingRef) → binding new q ≡ option_map bound s → shown_by s ≡ val new q
+    here (Some (lent.Data a)) found = sym (val_data new q a.now found)
+    here (Some (lent.Formula f)) found = absurd (plain f.now.tree found)
+    here None found = sym (val_absent new (length new) q found)
 
     there : (o : Option Entry) → lookup (bytes_eq q) es ≡ o → binding new q ≡ option_map binding_of o → unwrap_or (option_map held o) (Err (fault Value)) ≡ val new q
     there None is found = sym (val_absent new (length new) q found)
     there (Some (entry.Data a)) is found = sym (val_data new q a found)
     there (Some (entry.Formula f)) is found = absurd (plain f.tree found)
 
-    by : (t : Bool) → bytes_eq q name ≡ t → standing es name own q ≡ val new q
-    by true t = rw t (here b refl (lookup_put name b (names_of es) q ∙ rw (names_equal.symm name q, t) refl))
-    by false t = rw t (there (lookup (bytes_eq q) es) refl (lookup_put name b (names_of es) q ∙ (rw (names_equal.symm name q, t) (binding_of_name es q))))
-
--- lent data shows itself
-pub plain_shown : (r : BindingRef) (a : ArrayValue) → bound r ≡ Data a → shown_by r ≡ Ok a
-plain_shown (lent.Data b) a is = let same : Data b.now ≡ Data a = is in let this : b.now ≡ a = cc in ap Ok this
-plain_shown (lent.Formula f) a is = let never : Formula f.now.tree ≡ Data a = is in absurd cc
+    by : (t : Bool) → bytes_eq q name ≡ t → standing es name (shown_by r) q ≡ val new q
+    by true t = rw t (here r (subst (λ z. binding new z ≡ option_map bound r) (sym (equal-true q name t)) (rebound_own (names_of es) name (option_map bound r))))
+    by false t = rw t (there (lookup (bytes_eq q) es) refl (rebound_same (names_of es) name (option_map bound r) q (λ e. false≢true (sym t ∙ equal-same q name e)) ∙ binding_of_name es q))

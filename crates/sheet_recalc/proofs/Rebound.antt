@@ -1,12 +1,12 @@
--- A name is bound anew: the names that reach it, and itself, are found; either it would reach itself, or the order is kept.
-use Rattle.std.proofs.Common.{◌≡◌, ◌≢◌, ℕ, ◌⊎◌, ◌↔◌, inl, inr, Bool, true, false, List, [], ◌∷◌, Option, Some, None, IsSome, refl, sym, ap, ◌∙◌, subst, arith, ⊎_elim}
+-- A name is bound anew, or removed: the names that reach it, and itself, are found; either it would reach itself, or the order is kept.
+use Rattle.std.proofs.Common.{◌≡◌, ◌≢◌, ℕ, ◌⊎◌, ◌↔◌, inl, inr, Bool, true, false, List, [], ◌∷◌, Option, Some, None, refl, sym, ◌∙◌, subst, arith, ⊎_elim}
 use Rattle.std.specs.Str.{bytes_eq}
 use Rattle.std.specs.List.{Contains, IsDistinct}
 use Rattle.indexmap.specs.IndexSet.{IndexSet}
 use Rattle.dep_order.specs.Reach.{Chain, Reaches, IsAcyclic}
 use Rattle.formula_core.specs.Outcomes.{Outcome}
 use Rattle.std.specs.Option.{option_map_or}
-use Rattle.sheet_recalc.specs.Names.{Names, Binding, Data, Formula, binding, put, Refers, referred, referred_by, IsSheet}
+use Rattle.sheet_recalc.specs.Names.{Names, Binding, Data, Formula, binding, rebound, Refers, referred, referred_by, IsSheet}
 use Rattle.sheet_recalc.specs.Meaning.{val, IsSettled}
 use Rattle.sheet_recalc.specs.Entries.{names_of}
 use Rattle.sheet_recalc.specs.Live.{IsLive, IsCurrent, IsTable}
@@ -15,23 +15,12 @@ use Rattle.dep_order.specs.Follows.{Follows}
 use Rattle.dep_order.specs.Users.{Uses, IsClosed, HasNoEmptyBut}
 use Rattle.sheet_recalc.specs.NameOrder.{IsKeptOrder, HasOrder}
 use Rattle.sheet_recalc.specs.declared.entry.Entry.{Entry}
-use Rattle.sheet_recalc.proofs.NameEquality.{equal-true, equal-same}
-use Rattle.sheet_recalc.proofs.Putting.{lookup_put}
+use Rattle.sheet_recalc.proofs.NameEquality.{equal-true}
+use Rattle.sheet_recalc.proofs.Binding.{rebound_same, rebound_own}
 use Rattle.sheet_recalc.proofs.Scratch.{val_is, acyclic_from_order}
 use Rattle.sheet_recalc.proofs.Live.{holding_val}
 use Rattle.dep_order.proofs.Following.{contains_none, follows_weaker}
 use Rattle.sheet_recalc.proofs.Keeping.{cases_name, distinct_once, name_order, kept_order, unaffected}
-
--- what a name is bound to, after one is bound anew
-pub bound_same : (old : Names) (name : List ℕ) (b : Binding) (q : List ℕ) → q ≢ name → binding (put old name b) q ≡ binding old q
-bound_same old name b q apart = by (bytes_eq name q) refl
-  where
-    by : (t : Bool) → bytes_eq name q ≡ t → binding (put old name b) q ≡ binding old q
-    by true e = absurd (apart (sym (equal-true name q e)))
-    by false e = lookup_put name b old q ∙ rw e refl
-
-pub bound_own : (old : Names) (name : List ℕ) (b : Binding) → binding (put old name b) name ≡ Some b
-bound_own old name b = lookup_put name b old name ∙ rw (equal-same name name refl) refl
 
 -- what a name refers to
 pub refers_to : (names : Names) (a : List ℕ) (b : Binding) (c : List ℕ) → binding names a ≡ Some b → Contains (referred b) c → Refers names a c
@@ -55,17 +44,17 @@ referred_refers names a c = by (binding names a) refl
     by None is h = absurd (contains_none c h)
     by (Some b) is h = refers_to names a b c is h
 
-module _ {S : Type 0} (es : List (List ℕ × Entry)) (users : List (List ℕ × IndexSet (List ℕ) S)) (live : IsLive es users) (name : List ℕ) (b : Binding)
+module _ {S : Type 0} (es : List (List ℕ × Entry)) (users : List (List ℕ × IndexSet (List ℕ) S)) (live : IsLive es users) (name : List ℕ) (b : Option Binding)
     (found : List (List ℕ)) (closed : IsClosed bytes_eq users found) (named : Contains found name) (sound : (a : List ℕ) → Contains found a → (a ≡ name) ⊎ Reaches (Uses bytes_eq users) a name)
     (distinct : IsDistinct bytes_eq found) where
   abbrev old : Names
   old = names_of es
 
   abbrev new : Names
-  new = put old name b
+  new = rebound old name b
 
   same : (q : List ℕ) → q ≢ name → binding new q ≡ binding old q
-  same q apart = bound_same old name b q apart
+  same q apart = rebound_same old name b q apart
 
   closed_old : Follows (λ x y. Refers old y x) (λ x. ⊥) found
   closed_old = follows_weaker (λ x y. Uses bytes_eq users y x) (λ x y. Refers old y x) (λ x. ⊥) (λ x. ⊥) found (λ x y c r. (live.tells y x).1 r) (λ x d. d) closed
@@ -88,21 +77,12 @@ module _ {S : Type 0} (es : List (List ℕ × Entry)) (users : List (List ℕ ×
     leads = λ a c. ⊎_elim (λ e. inl e) (λ r. reaches_new a r.0 r.1) (sound a c);
   }
 
-  module _ (none : (c : List ℕ) → Contains (referred b) c → Contains found c → ⊥) where
+  module _ (none : (c : List ℕ) → Contains (option_map_or referred b []) c → Contains found c → ⊥) where
     free : (c : List ℕ) → Refers new name c → Contains found c → ⊥
-    free c r h = none c (refers_in new name b c (bound_own old name b) r) h
-
-    first_present : (a : List ℕ) (via : List (List ℕ)) → Chain (Uses bytes_eq users) a via name → IsSome (binding old a)
-    first_present a [] c = subst (λ s. IsSome s) (sym ((live.tells a name).0 c).1) refl
-    first_present a (y ∷ ys) c = subst (λ s. IsSome s) (sym ((live.tells a y).0 c.0).1) refl
-
-    there : (a : List ℕ) → Contains found a → IsSome (binding new a)
-    there a c = cases_name (IsSome (binding new a)) name a
-        (λ e. subst (λ s. IsSome s) (sym (ap (binding new) e ∙ bound_own old name b)) refl)
-        (λ apart. ⊎_elim (λ e. absurd (apart e)) (λ r. subst (λ s. IsSome s) (sym (same a apart)) (first_present a r.0 r.1)) (sound a c))
+    free c r h = none c (subst (λ (o : Option Binding). Contains (option_map_or referred o []) c) (rebound_own old name b) (refers_referred new name c r)) h
 
     pub has_order : HasOrder new
-    has_order = (_, kept_order old new name same found closed_old named live.order live.kept (distinct_once found distinct) there free)
+    has_order = (_, kept_order old new name same found closed_old named live.order live.kept (distinct_once found distinct) free)
 
     pub settled : IsSettled new
     settled q = val_is new has_order.0 (name_order new has_order.0 has_order.1) q
@@ -125,24 +105,24 @@ module _ {S : Type 0} (es : List (List ℕ × Entry)) (users : List (List ℕ ×
             ∙ sym (unaffected old new name same found closed_old named has_order.0 (name_order new has_order.0 has_order.1) (λ x. val_is old live.order (name_order old live.order live.kept) x) q apart))
 
 -- the table, once the name refers to what it is bound to now, and no longer to what stood before
-pub table_after : {S : Type 0} (old : Names) (name : List ℕ) (b : Binding) (users after : List (List ℕ × IndexSet (List ℕ) S)) → IsTable old users
-    → ((x y : List ℕ) → Uses bytes_eq after x y ↔ ((Uses bytes_eq users x y × ((x ≡ name) → Contains (referred_by old name) y → ⊥)) ⊎ ((x ≡ name) × Contains (referred b) y)))
-    → IsTable (put old name b) after
+pub table_after : {S : Type 0} (old : Names) (name : List ℕ) (b : Option Binding) (users after : List (List ℕ × IndexSet (List ℕ) S)) → IsTable old users
+    → ((x y : List ℕ) → Uses bytes_eq after x y ↔ ((Uses bytes_eq users x y × ((x ≡ name) → Contains (referred_by old name) y → ⊥)) ⊎ ((x ≡ name) × Contains (option_map_or referred b []) y)))
+    → IsTable (rebound old name b) after
 table_after {S} old name b users after tells change x y = (to, from)
   where
-    to : Uses bytes_eq after x y → Refers (put old name b) x y
-    to u = cases_name (Refers (put old name b) x y) name x
+    to : Uses bytes_eq after x y → Refers (rebound old name b) x y
+    to u = cases_name (Refers (rebound old name b) x y) name x
         (λ e. ⊎_elim
         (λ l. absurd (l.1 e (refers_referred old name y (subst (λ z. Refers old z y) e ((tells x y).0 l.0)))))
-        (λ r. subst (λ z. Refers (put old name b) z y) (sym e) (refers_to (put old name b) name b y (bound_own old name b) r.1)) ((change x y).0 u))
+        (λ r. subst (λ z. Refers (rebound old name b) z y) (sym e) (referred_refers (rebound old name b) name y (subst (λ (o : Option Binding). Contains (option_map_or referred o []) y) (sym (rebound_own old name b)) r.1))) ((change x y).0 u))
         (λ apart. ⊎_elim
-        (λ l. let r = (tells x y).0 l.0 in (r.0, bound_same old name b x apart ∙ r.1, r.2))
+        (λ l. let r = (tells x y).0 l.0 in (r.0, rebound_same old name b x apart ∙ r.1, r.2))
         (λ r. absurd (apart r.0)) ((change x y).0 u))
 
-    from : Refers (put old name b) x y → Uses bytes_eq after x y
+    from : Refers (rebound old name b) x y → Uses bytes_eq after x y
     from r = cases_name (Uses bytes_eq after x y) name x
-        (λ e. (change x y).1 (inr (e, refers_in (put old name b) name b y (bound_own old name b) (subst (λ z. Refers (put old name b) z y) e r))))
-        (λ apart. (change x y).1 (inl ((tells x y).1 (r.0, sym (bound_same old name b x apart) ∙ r.1, r.2), λ e. absurd (apart e))))
+        (λ e. (change x y).1 (inr (e, subst (λ (o : Option Binding). Contains (option_map_or referred o []) y) (rebound_own old name b) (refers_referred (rebound old name b) name y (subst (λ z. Refers (rebound old name b) z y) e r)))))
+        (λ apart. (change x y).1 (inl ((tells x y).1 (r.0, sym (rebound_same old name b x apart) ∙ r.1, r.2), λ e. absurd (apart e))))
 
 -- what the entries keep, after a change
 pub live_after : {S : Type 0} (es : List (List ℕ × Entry)) (users : List (List ℕ × IndexSet (List ℕ) S)) (new : Names) → names_of es ≡ new → IsSheet new → HasOrder new → IsTable new users → HasNoEmptyBut bytes_eq users [] → IsCurrent es → IsLive es users

@@ -1,5 +1,5 @@
 -- Why a change was refused, from why a name could not be bound so.
-use Rattle.std.proofs.Common.{◌≡◌, ◌≤◌, ◌<◌, ◌+◌, ◌∙◌, ℕ, ℤ, inl, inr, List, [], ◌∷◌, length, is_some, IsSome, Option, Some, None, Ok, Err, sym, ap, subst, arith, refl}
+use Rattle.std.proofs.Common.{◌≡◌, ◌≤◌, ◌<◌, ◌+◌, ◌∙◌, ℕ, ℤ, List, [], ◌∷◌, length, is_some, IsSome, Option, Some, None, Ok, Err, sym, ap, subst, arith, refl, ⊎_elim}
 use Rattle.std.proofs.lemmas.Bool.{false≢true}
 use Rattle.std.proofs.lemmas.List.{length-map, length-append}
 use Rattle.dep_order.specs.Reach.{IsAcyclic}
@@ -9,7 +9,7 @@ use Rattle.formula_core.specs.Meaning.{eval}
 use Rattle.sheet_recalc.specs.Names.{Names, Binding, Data, Formula, binding, put, Refers}
 use Rattle.sheet_recalc.specs.Meaning.{val}
 use Rattle.sheet_recalc.specs.Cells.{cell_put}
-use Rattle.sheet_recalc.specs.Changes.{Define, Store, SetCell, Refuses, CannotPut, IsCycleFrom, HasRoom, IsFullFor}
+use Rattle.sheet_recalc.specs.Changes.{Define, Store, SetCell, Refuses, CannotPut, IsCycleFrom, HasRoom}
 use Rattle.sheet_recalc.specs.declared.refusal.Refusal.{Refusal}
 use Rattle.sheet_recalc.specs.declared.refusal.Refusal.TheVariants as why
 use Rattle.sheet_recalc.proofs.Cycles.{no_cycle_by_data}
@@ -80,16 +80,9 @@ module _ (names : Names) (name : List ℕ) (b : Binding) where
   absent_long : binding names name ≡ None → length (put names name b) ≡ length names + 1
   absent_long none = ap length (put_last name b names none) ∙ length-append names ((name, b) ∷ [])
 
-  pub has_room : length (put names name b) ≤ 1024 → HasRoom names name
-  has_room few = by (binding names name) refl
+  pub few_put : length names ≤ 1024 → HasRoom names name → length (put names name b) ≤ 1024
+  few_put few room = ⊎_elim (λ there. omega (arith, few, present_long there)) (λ fewer. by (binding names name) refl fewer) room
     where
-      by : (o : Option Binding) → binding names name ≡ o → HasRoom names name
-      by (Some c) is = inl (subst (λ o. IsSome o) (sym is) refl)
-      by None is = inr (omega (arith, few, absent_long is))
-
-  pub is_full : length names ≤ 1024 → 1024 < length (put names name b) → IsFullFor names name
-  is_full few many = by (binding names name) refl
-    where
-      by : (o : Option Binding) → binding names name ≡ o → IsFullFor names name
-      by (Some c) is = absurd (omega (arith, few, many, present_long (subst (λ o. IsSome o) (sym is) refl)))
-      by None is = (is, omega (arith, many, absent_long is))
+      by : (o : Option Binding) → binding names name ≡ o → length names < 1024 → length (put names name b) ≤ 1024
+      by (Some c) is fewer = omega (arith, few, present_long (subst (λ o. IsSome o) (sym is) refl))
+      by None is fewer = omega (arith, fewer, absent_long is)

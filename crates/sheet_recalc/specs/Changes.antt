@@ -4,7 +4,7 @@ use Rattle.dep_order.specs.Reach.{IsAcyclic, IsCycle}
 use Rattle.apl_expr.specs.Trees.{Tree, Constant}
 use Rattle.arrays_core.specs.Arrays.{ArrayValue}
 use Rattle.formula_core.specs.Meaning.{eval}
-use Rattle.sheet_recalc.specs.Names.{Names, Binding, Data, Formula, binding, put, Refers}
+use Rattle.sheet_recalc.specs.Names.{Names, Binding, Data, Formula, binding, put, without, Refers}
 use Rattle.sheet_recalc.specs.Meaning.{val}
 use Rattle.sheet_recalc.specs.Cells.{cell_put}
 use Rattle.sheet_recalc.specs.declared.refusal.Refusal.{Refusal}
@@ -17,6 +17,8 @@ pub data Change : Type 0 where
   Store : List ℕ → Tree → Change
   -- replace one item of data
   SetCell : List ℕ → List ℤ → Constant → Change
+  -- remove a name
+  Erase : List ℕ → Change
 
 -- there is room for the name: it is present, or fewer than 1,024 names are
 abbrev pub HasRoom : Names → List ℕ → Type 0
@@ -27,6 +29,7 @@ abbrev pub Accepts : Names → Change → Names → Type 0
 Accepts old (Define n t) new = (new ≡ put old n (Formula t)) × IsAcyclic (Refers new) × HasRoom old n
 Accepts old (Store n t) new = (a : ArrayValue) × (eval t (val old) ≡ Ok a) × (new ≡ put old n (Data a)) × HasRoom old n
 Accepts old (SetCell n places literal) new = (a : ArrayValue) × (cell_put (binding old n) places literal ≡ Ok a) × (new ≡ put old n (Data a))
+Accepts old (Erase n) new = IsSome (binding old n) × (new ≡ without old n)
 
 -- a cycle of names that begins with this one: each refers to the next, and the last to the first
 abbrev pub IsCycleFrom : (List ℕ → List ℕ → Type 0) → List ℕ → List (List ℕ) → Type 0
@@ -52,3 +55,5 @@ Refuses old (Define n t) cause = CannotPut old n (Formula t) cause
 Refuses old (Store n t) (why.Fault e) = eval t (val old) ≡ Err e
 Refuses old (Store n t) why.SheetFull = (a : ArrayValue) × (eval t (val old) ≡ Ok a) × IsFullFor old n
 Refuses old (Store n t) cause = ⊥
+Refuses old (Erase n) why.NotFound = binding old n ≡ None
+Refuses old (Erase n) cause = ⊥

@@ -1,11 +1,12 @@
 -- A sheet as it would be after a change: its names with what they are bound to, lent.
-use Rattle.std.specs.Prelude.{◌≡◌, ℕ, List, ◌⊎◌, Some, IsSome, Ok, if◌then◌else◌}
+use Rattle.std.specs.Prelude.{◌≡◌, ℕ, List, ◌⊎◌, Option, Some, None, IsSome, Ok, Err, if◌then◌else◌}
 use Rattle.std.specs.Str.{bytes_eq}
 use Rattle.std.specs.List.{Contains, IsDistinct}
-use Rattle.std.specs.Option.{unwrap_or}
+use Rattle.std.specs.Option.{unwrap_or, option_map}
 use Rattle.std.specs.Map.{lookup}
-use Rattle.formula_core.specs.Outcomes.{Outcome}
-use Rattle.sheet_recalc.specs.Names.{Names, Binding, Data, Formula, Refers, put}
+use Rattle.arrays_core.specs.declared.item.Kind.TheVariants.{Value}
+use Rattle.formula_core.specs.Outcomes.{Outcome, fault}
+use Rattle.sheet_recalc.specs.Names.{Names, Binding, Data, Formula, Refers, rebound}
 use Rattle.dep_order.specs.Follows.{Follows}
 use Rattle.dep_order.specs.Reach.{Reaches}
 use Rattle.sheet_recalc.specs.Entries.{names_of, holding}
@@ -20,14 +21,15 @@ abbrev pub bound : BindingRef → Binding
 bound (lent.Data a) = Data a.now
 bound (lent.Formula f) = Formula f.now.tree
 
--- the names of a sheet with one of them bound anew
+-- the names of a sheet with one of them bound anew, or removed
 abbrev pub outlined : Outline → Names
-outlined o = put (names_of o.entries.now.entries) o.name (bound o.binding)
+outlined o = rebound (names_of o.entries.now.entries) o.name (option_map bound o.binding)
 
--- what a lent binding shows now; a formula that is new shows VALUE ERROR
-abbrev pub shown_by : BindingRef → Outcome
-shown_by (lent.Data a) = Ok a.now
-shown_by (lent.Formula f) = f.now.result
+-- what a lent binding shows now; a formula that is new shows VALUE ERROR, and so does a name that is bound to nothing
+abbrev pub shown_by : Option BindingRef → Outcome
+shown_by (Some (lent.Data a)) = Ok a.now
+shown_by (Some (lent.Formula f)) = f.now.result
+shown_by None = Err (fault Value)
 
 -- what a name shows by what is there: this one this, and the others what the entries hold
 abbrev pub standing : List (List ℕ × Entry) → List ℕ → Outcome → List ℕ → Outcome

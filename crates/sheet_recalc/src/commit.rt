@@ -1,10 +1,12 @@
 //! The part of a change that takes no memory.
 
-ghost use Rattle.std.specs.Prelude.{◌≡◌, ◌<◌, []};
+ghost use Rattle.std.specs.Prelude.{◌≡◌, ◌<◌, [], Err};
 ghost use Rattle.std.specs.Str.{bytes_eq};
 ghost use Rattle.indexmap.specs.IndexMap.{spare};
-ghost use Rattle.sheet_recalc.specs.Names.{put, referred, referred_by};
+ghost use Rattle.sheet_recalc.specs.Names.{put, without, referred, referred_by};
 ghost use Rattle.sheet_recalc.specs.Entries.{names_of, binding_of, held};
+ghost use Rattle.arrays_core.specs.declared.item.Kind.TheVariants.{Value};
+ghost use Rattle.formula_core.specs.Outcomes.{fault};
 ghost use Rattle.sheet_recalc.specs.Outline.{IsPlanned};
 ghost use Rattle.dep_order.specs.Users.{HasRoomFor, HasNoEmptyBut};
 ghost use Rattle.sheet_recalc.specs.Live.{IsTable, IsCurrent, Adopting};
@@ -40,6 +42,27 @@ pub(crate) fn commit(
         entry.references(),
     );
     let _before = entries.insert(name, entry).unwrap();
+    adopt_all(entries, results);
+}
+
+/// Takes a name out, and gives each formula its new result.
+pub(crate) fn commit_removal(
+    entries: &mut IndexMap<Name, Entry>,
+    users: &mut Users<Name>,
+    name: Name,
+    results: Results,
+)
+    requires planned { IsPlanned entries.old.entries name (Err (fault Value)) (without (names_of entries.old.entries) name) results.entries }
+    requires tells { IsTable (names_of entries.old.entries) users.old.entries }
+    requires used { HasNoEmptyBut bytes_eq users.old.entries [] }
+    ensures names { names_of entries.new.entries ≡ without (names_of entries.old.entries) name }
+    ensures current { IsCurrent entries.new.entries }
+    ensures tells { IsTable (without (names_of entries.old.entries) name) users.new.entries }
+    ensures used { HasNoEmptyBut bytes_eq users.new.entries [] }
+{
+    refer(users, name, references_of(entries, name), &[]);
+    let _unique = entries.len();
+    let _removed = entries.shift_remove(&name);
     adopt_all(entries, results);
 }
 

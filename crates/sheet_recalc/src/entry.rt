@@ -1,6 +1,6 @@
 //! What a name is bound to.
 
-ghost use Rattle.std.specs.Prelude.{◌≡◌};
+ghost use Rattle.std.specs.Prelude.{◌≡◌, Some};
 ghost use Rattle.formula_core.specs.Outcomes.{read};
 ghost use Rattle.sheet_recalc.specs.Entries.{binding_of, held, adopted};
 ghost use Rattle.sheet_recalc.specs.Names.{referred};
@@ -69,7 +69,7 @@ impl Entry {
 impl<'a> BindingRef<'a> {
     /// What it shows now.
     pub(crate) fn result(self) -> Result<&'a Array, Fault>
-        ensures { read result ≡ shown_by self.entry }
+        ensures { read result ≡ shown_by (Some self.entry) }
     {
         match self {
             BindingRef::Data(array) => Ok(array),

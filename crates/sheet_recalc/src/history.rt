@@ -19,6 +19,8 @@ pub enum Change {
     Data(Name, Expr),
     /// Replace one item of data.
     Cell(Name, Vec<i64>, Literal),
+    /// Remove a name.
+    Erase(Name),
 }
 
 impl Sheet {
@@ -30,6 +32,7 @@ impl Sheet {
             Change::Define(name, tree) => self.define(name, tree),
             Change::Data(name, tree) => self.data(name, tree),
             Change::Cell(name, places, literal) => self.set_cell(name, &places, &literal),
+            Change::Erase(name) => self.erase(name),
         }
     }
 

@@ -1,6 +1,6 @@
 //! A sheet as it would be after a change, without a copy of it.
 
-ghost use Rattle.std.specs.Prelude.{◌≡◌, MatchOption, Some, length};
+ghost use Rattle.std.specs.Prelude.{◌≡◌, MatchOption, Some};
 ghost use Rattle.std.specs.Option.{option_map};
 ghost use Rattle.apl_expr.specs.Trees.{Tree};
 ghost use Rattle.formula_core.specs.Outcomes.{read};
@@ -14,32 +14,23 @@ use arrays_core::{Array, Fault};
 use formula_core::Formula;
 use indexmap::IndexMap;
 
-/// The names of a sheet with one of them bound anew: a name that is present keeps its place, a new one goes last.
+/// The names of a sheet with one of them bound anew, or removed. A name that is bound anew keeps its place, a new one goes last; the
+/// names after one that is removed move up.
 #[derive(Clone, Copy)]
 pub(crate) struct Outline<'a> {
     pub(crate) entries: &'a IndexMap<Name, Entry>,
     pub(crate) name: Name,
-    pub(crate) binding: BindingRef<'a>,
+    /// What the name is bound to then, or nothing where it is removed.
+    pub(crate) binding: Option<BindingRef<'a>>,
 }
 
 impl<'a> Outline<'a> {
-    /// How many names there are.
-    pub(crate) fn len(&self) -> usize
-        ensures { result ≡ length (outlined self.now) }
-    {
-        if self.entries.contains_key(&self.name) {
-            self.entries.len()
-        } else {
-            self.entries.len() + 1
-        }
-    }
-
     /// What a name is bound to.
     pub(crate) fn binding_of(&self, name: Name) -> Option<BindingRef<'a>>
         ensures { option_map bound result ≡ binding (outlined self.now) name }
     {
         if name == self.name {
-            return Some(self.binding);
+            return self.binding;
         }
         match self.entries.get(&name) {
             Some(entry) => Some(entry.binding()),
@@ -73,7 +64,10 @@ impl<'a> Outline<'a> {
         ensures { read result ≡ standing self.now.entries.now.entries self.now.name (shown_by self.now.binding) name }
     {
         if name == self.name {
-            return self.binding.result();
+            return match self.binding {
+                Some(binding) => binding.result(),
+                None => Err(absent()),
+            };
         }
         match self.entries.get(&name) {
             Some(entry) => entry.result(),

@@ -1,22 +1,23 @@
 //! The sheet.
 
-ghost use Rattle.std.specs.Prelude.{◌≡◌, [], IfOk, IfErr, OnOk, OnErr, Some, None, is_some, if◌then◌else◌};
+ghost use Rattle.std.specs.Prelude.{◌≡◌, [], IfOk, IfErr, OnOk, OnErr, Some, None, Err, is_some, if◌then◌else◌, MatchBool};
 ghost use Rattle.std.specs.Map.{keys_of};
 ghost use Rattle.std.specs.Option.{option_map};
 ghost use Rattle.apl_expr.specs.Trees.{tree_of, constant_of};
 ghost use Rattle.dep_order.specs.Reach.{IsAcyclic};
-ghost use Rattle.formula_core.specs.Outcomes.{read};
+ghost use Rattle.arrays_core.specs.declared.item.Kind.TheVariants.{Value};
+ghost use Rattle.formula_core.specs.Outcomes.{fault, read};
 ghost use Rattle.formula_core.specs.Meaning.{eval};
-ghost use Rattle.sheet_recalc.specs.Names.{Data as IsData, Formula as IsFormula, binding, put, Refers, IsSheet};
+ghost use Rattle.sheet_recalc.specs.Names.{Data as IsData, Formula as IsFormula, binding, put, without, Refers, IsSheet};
 ghost use Rattle.sheet_recalc.specs.Meaning.{val};
 ghost use Rattle.sheet_recalc.specs.Entries.{names_of};
 ghost use Rattle.sheet_recalc.specs.Outline.{bound, shown_by, IsPlanned};
 ghost use Rattle.sheet_recalc.specs.NameOrder.{HasOrder};
 ghost use Rattle.sheet_recalc.specs.Live.{IsLive};
-ghost use Rattle.sheet_recalc.specs.Changes.{Accepts, Refuses, Define, Store, SetCell, HasRoom, CannotPut};
+ghost use Rattle.sheet_recalc.specs.Changes.{Accepts, Refuses, Define, Store, SetCell, Erase, HasRoom, IsFullFor, CannotPut};
 
 use crate::cell::data_with_cell;
-use crate::commit::commit;
+use crate::commit::{commit, commit_removal};
 use crate::cycle::cycle_through;
 use crate::entry::{BindingRef, Entry};
 use crate::outline::Outline;
@@ -160,6 +161,20 @@ impl Sheet {
         self.put_data(name, array)
     }
 
+    /// Removes a name. The names after it move up, and what refers to it shows VALUE ERROR from then on.
+    pub fn erase(&mut self, name: Name) -> Result<(), Refusal>
+        ensures ok { OnOk result (Accepts self.old.names (Erase name) self.new.names) }
+        ensures refused { IfErr result (Refuses self.old.names (Erase name)) }
+        ensures err { OnErr result (self.new ≡ self.old) }
+    {
+        if !self.entries.contains_key(&name) {
+            return Err(Refusal::NotFound);
+        }
+        let results = results_without(self.alloc, &self.entries, &self.users, name)?;
+        commit_removal(&mut self.entries, &mut self.users, name, results);
+        Ok(())
+    }
+
     /// Binds a name to an array.
     fn put_data(&mut self, name: Name, array: Array) -> Result<(), Refusal>
         ensures names { OnOk result (self.new.names ≡ put self.old.names name (IsData array)) }
@@ -195,7 +210,7 @@ fn results_with<'a>(
     binding: BindingRef<'a>,
 ) -> Result<Results, Refusal>
     requires { IsLive entries.now.entries users.now.entries }
-    ensures planned { IfOk result (λ results. IsPlanned entries.entry.now.entries name (shown_by binding.entry) (put (names_of entries.entry.now.entries) name (bound binding.entry)) results.entries) }
+    ensures planned { IfOk result (λ results. IsPlanned entries.entry.now.entries name (shown_by (Some binding.entry)) (put (names_of entries.entry.now.entries) name (bound binding.entry)) results.entries) }
     ensures kept { OnOk result (HasOrder (put (names_of entries.entry.now.entries) name (bound binding.entry))) }
     ensures sheet { OnOk result (IsSheet (put (names_of entries.entry.now.entries) name (bound binding.entry))) }
     ensures room { OnOk result (HasRoom (names_of entries.entry.now.entries) name) }
@@ -205,13 +220,41 @@ fn results_with<'a>(
     let outline = Outline {
         entries,
         name,
-        binding,
+        binding: Some(binding),
     };
     if let Some(reference) = first_found(&found, binding.references()) {
         return Err(Refusal::Cycle(cycle_through(alloc, &outline, &found, reference)?));
     }
-    if outline.len() > MOST_NAMES {
+    if !has_room(entries, name) {
         return Err(Refusal::SheetFull);
     }
     Ok(results_of(alloc, &outline, found)?)
+}
+
+/// There is room for a name: it is present, or fewer than 1,024 names are.
+fn has_room(entries: &IndexMap<Name, Entry>, name: Name) -> bool
+    ensures { MatchBool result (HasRoom (names_of entries.now.entries) name) (IsFullFor (names_of entries.now.entries) name) }
+{
+    entries.contains_key(&name) || entries.len() < MOST_NAMES
+}
+
+/// The results after a name is removed.
+fn results_without(
+    alloc: Global,
+    entries: &IndexMap<Name, Entry>,
+    users: &Users<Name>,
+    name: Name,
+) -> Result<Results, AllocError>
+    requires { IsLive entries.now.entries users.now.entries }
+    ensures planned { IfOk result (λ results. IsPlanned entries.entry.now.entries name (Err (fault Value)) (without (names_of entries.entry.now.entries) name) results.entries) }
+    ensures kept { OnOk result (HasOrder (without (names_of entries.entry.now.entries) name)) }
+    ensures sheet { OnOk result (IsSheet (without (names_of entries.entry.now.entries) name)) }
+{
+    let found = affected(alloc, users, name, entries.len())?;
+    let outline = Outline {
+        entries,
+        name,
+        binding: None,
+    };
+    results_of(alloc, &outline, found)
 }

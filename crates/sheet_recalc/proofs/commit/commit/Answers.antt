@@ -1,4 +1,4 @@
-use Rattle.std.proofs.Common.{◌≡◌, ◌∙◌, sym, ap, subst, inl, inr, ⊎_elim, List, ℕ}
+use Rattle.std.proofs.Common.{◌≡◌, ◌∙◌, sym, ap, subst, inl, inr, ⊎_elim, List, ℕ, Some}
 use Rattle.std.specs.Str.{bytes_eq}
 use Rattle.indexmap.specs.IndexMap.{insert_entry}
 use Rattle.std.specs.List.{Contains}
@@ -30,7 +30,7 @@ pub returns-clause-tells : goal.returns-clause-tells
 returns-clause-tells c =
     let old = names_of c.args.entries.now.entries in
     let to = λ (xs ys : List (List ℕ)) (is : xs ≡ ys) (b : List ℕ) (h : Contains xs b). subst (λ (zs : List (List ℕ)). Contains zs b) is h in
-    table_after old c.args.name (binding_of c.args.entry) c.args.users.now.entries c.refer.new.users.entries c.requires.tells
+    table_after old c.args.name (Some (binding_of c.args.entry)) c.args.users.now.entries c.refer.new.users.entries c.requires.tells
     (λ x y. (
       (λ u. ⊎_elim (λ l. inl (l.0, λ e h. l.1 e (to (referred_by old c.args.name) c.references_of.result.now (sym c.references_of.ensures) y h)))
           (λ r. inr (r.0, to c.references.result.now (referred (binding_of c.args.entry)) c.references.ensures y r.1)) ((c.refer.ensures.uses x y).0 u)),

@@ -1,14 +1,15 @@
-use Rattle.std.proofs.Common.{ℕ, List, sym, subst, arith}
+use Rattle.std.proofs.Common.{ℕ, List, Some, sym, subst, arith}
 use Rattle.std.specs.List.{Contains}
 use Rattle.sheet_recalc.specs.Names.{Binding, referred, put}
 use Rattle.sheet_recalc.specs.Entries.{names_of, binding_of}
 use Rattle.sheet_recalc.specs.Outline.{bound, shown_by}
 use Rattle.sheet_recalc.specs.declared.entry.Entry.{Entry}
-use Rattle.sheet_recalc.proofs.Refused.{has_room, is_full}
+use Rattle.sheet_recalc.proofs.Refused.{few_put}
 use Rattle.sheet_recalc.proofs.NameEquality.{equal-true}
 use Rattle.sheet_recalc.proofs.Putting.{distinct_put}
 use Rattle.sheet_recalc.proofs.Keeping.{within, name_order}
-use Rattle.sheet_recalc.proofs.Rebound.{reaching_new, refers_to, bound_own, has_order, settled, acyclic, closed_new, standing_now}
+use Rattle.sheet_recalc.proofs.Rebound.{reaching_new, refers_to, has_order, settled, acyclic, closed_new, standing_now}
+use Rattle.sheet_recalc.proofs.Binding.{bound_own}
 use Rattle.std.proofs.lemmas.List.{length-map}
 use Rattle.sheet_recalc.proofs.sheet.results_with.Goals as goal
 
@@ -32,41 +33,44 @@ cycle_through-requires c =
     let b = bound c.args.binding in
     let hit = c.in-Some.ensures in
     record {
-      reaching = reaching_new c.args.entries.now.entries c.args.users.now.entries c.requires c.args.name b c.in_ok-found.found.keys f.closed f.named f.sound f.distinct;
+      reaching = reaching_new c.args.entries.now.entries c.args.users.now.entries c.requires c.args.name (Some b) c.in_ok-found.found.keys f.closed f.named f.sound f.distinct;
       refers = refers_to (put names c.args.name b) c.args.name b c.in-Some.reference (bound_own names c.args.name b) (subst (λ (rs : List (List ℕ)). Contains rs c.in-Some.reference) c.references.ensures hit.0);
       hit = hit.1;
     }
 
-pub returns-then-len-gt-MOST_NAMES-clause-refused : goal.returns-then-len-gt-MOST_NAMES-clause-refused
-returns-then-len-gt-MOST_NAMES-clause-refused c =
+pub returns-then-not-has_room-clause-refused : goal.returns-then-not-has_room-clause-refused
+returns-then-not-has_room-clause-refused c =
     let f = c.in_ok-found.ensures in
     let none = λ (d : List ℕ) (stands : Contains (referred (bound c.args.binding)) d). c.in_default.ensures d (subst (λ (rs : List (List ℕ)). Contains rs d) (sym c.references.ensures) stands) in
     let names = names_of c.args.entries.now.entries in
-    (acyclic c.args.entries.now.entries c.args.users.now.entries c.requires c.args.name (bound c.args.binding) c.in_ok-found.found.keys f.closed f.named f.sound f.distinct none, is_full names c.args.name (bound c.args.binding) c.requires.sheet.few (omega (arith, c.len-2.ensures, c.if-len-gt-MOST_NAMES.true)))
+    (acyclic c.args.entries.now.entries c.args.users.now.entries c.requires c.args.name (Some (bound c.args.binding)) c.in_ok-found.found.keys f.closed f.named f.sound f.distinct none, rw c.if-not-has_room.true at c.has_room.ensures)
 
 pub results_of-requires-clause-settled : goal.results_of-requires-clause-settled
 results_of-requires-clause-settled c =
     let f = c.in_ok-found.ensures in
     let none = λ (d : List ℕ) (stands : Contains (referred (bound c.args.binding)) d). c.in_default.ensures d (subst (λ (rs : List (List ℕ)). Contains rs d) (sym c.references.ensures) stands) in
-    settled c.args.entries.now.entries c.args.users.now.entries c.requires c.args.name (bound c.args.binding) c.in_ok-found.found.keys f.closed f.named f.sound f.distinct none
+    settled c.args.entries.now.entries c.args.users.now.entries c.requires c.args.name (Some (bound c.args.binding)) c.in_ok-found.found.keys f.closed f.named f.sound f.distinct none
 
 pub results_of-requires-clause-closed : goal.results_of-requires-clause-closed
 results_of-requires-clause-closed c =
     let f = c.in_ok-found.ensures in
     let none = λ (d : List ℕ) (stands : Contains (referred (bound c.args.binding)) d). c.in_default.ensures d (subst (λ (rs : List (List ℕ)). Contains rs d) (sym c.references.ensures) stands) in
-    closed_new c.args.entries.now.entries c.args.users.now.entries c.requires c.args.name (bound c.args.binding) c.in_ok-found.found.keys f.closed f.named f.sound f.distinct none
+    closed_new c.args.entries.now.entries c.args.users.now.entries c.requires c.args.name (Some (bound c.args.binding)) c.in_ok-found.found.keys f.closed f.named f.sound f.distinct none
 
 pub results_of-requires-clause-standing : goal.results_of-requires-clause-standing
 results_of-requires-clause-standing c =
     let f = c.in_ok-found.ensures in
     let none = λ (d : List ℕ) (stands : Contains (referred (bound c.args.binding)) d). c.in_default.ensures d (subst (λ (rs : List (List ℕ)). Contains rs d) (sym c.references.ensures) stands) in
-    standing_now c.args.entries.now.entries c.args.users.now.entries c.requires c.args.name (bound c.args.binding) c.in_ok-found.found.keys f.closed f.named f.sound f.distinct none (shown_by c.args.binding)
+    standing_now c.args.entries.now.entries c.args.users.now.entries c.requires c.args.name (Some (bound c.args.binding)) c.in_ok-found.found.keys f.closed f.named f.sound f.distinct none (shown_by (Some c.args.binding))
 
 pub returns-clause-kept : goal.returns-clause-kept
 returns-clause-kept c =
     let f = c.in_ok-found.ensures in
     let none = λ (d : List ℕ) (stands : Contains (referred (bound c.args.binding)) d). c.in_default.ensures d (subst (λ (rs : List (List ℕ)). Contains rs d) (sym c.references.ensures) stands) in
-    has_order c.args.entries.now.entries c.args.users.now.entries c.requires c.args.name (bound c.args.binding) c.in_ok-found.found.keys f.closed f.named f.sound f.distinct none
+    has_order c.args.entries.now.entries c.args.users.now.entries c.requires c.args.name (Some (bound c.args.binding)) c.in_ok-found.found.keys f.closed f.named f.sound f.distinct none
+
+pub returns-clause-room : goal.returns-clause-room
+returns-clause-room c = rw c.if-not-has_room.false at c.has_room.ensures
 
 pub returns-clause-sheet : goal.returns-clause-sheet
 returns-clause-sheet c =
@@ -75,9 +79,6 @@ returns-clause-sheet c =
     let names = names_of c.args.entries.now.entries in
     record {
       distinct = distinct_put c.args.name (bound c.args.binding) names c.requires.sheet.distinct;
-      acyclic = acyclic c.args.entries.now.entries c.args.users.now.entries c.requires c.args.name (bound c.args.binding) c.in_ok-found.found.keys f.closed f.named f.sound f.distinct none;
-      few = omega (arith, c.len-2.ensures, c.if-len-gt-MOST_NAMES.false);
+      acyclic = acyclic c.args.entries.now.entries c.args.users.now.entries c.requires c.args.name (Some (bound c.args.binding)) c.in_ok-found.found.keys f.closed f.named f.sound f.distinct none;
+      few = few_put names c.args.name (bound c.args.binding) c.requires.sheet.few (returns-clause-room c);
     }
-
-pub returns-clause-room : goal.returns-clause-room
-returns-clause-room c = has_room (names_of c.args.entries.now.entries) c.args.name (bound c.args.binding) (omega (arith, c.len-2.ensures, c.if-len-gt-MOST_NAMES.false))

@@ -1,0 +1,26 @@
+use Rattle.std.proofs.Common.{◌≡◌, ◌∙◌, ap, sym, subst, None, IsSome}
+use Rattle.sheet_recalc.specs.Names.{binding, without}
+use Rattle.sheet_recalc.specs.Entries.{names_of}
+use Rattle.sheet_recalc.specs.Live.{SheetValue}
+use Rattle.sheet_recalc.proofs.Live.{present_name, absent_name}
+use Rattle.sheet_recalc.proofs.Rebound.{live_after}
+use Rattle.sheet_recalc.proofs.sheet.Sheet.erase.Goals as goal
+
+pub returns-then-not-contains_key-clause-refused :
+    goal.returns-then-not-contains_key-clause-refused
+returns-then-not-contains_key-clause-refused c =
+    let none = absent_name c.self.inside.entries.entries c.args.name (sym c.if-not-contains_key.true ∙ c.contains_key.ensures) in
+    subst (λ (s : SheetValue). binding s.names c.args.name ≡ None) c.self.view_is none
+
+pub invariant_of-self : goal.invariant_of-self
+invariant_of-self c =
+    let s = c.in_ok-results.ensures in
+    let m = c.commit_removal.ensures in
+    live_after c.commit_removal.new.entries.entries c.commit_removal.new.users.entries (without (names_of c.self.inside.entries.entries) c.args.name) m.names s.sheet s.kept m.tells m.used m.current
+
+pub returns-clause-ok : goal.returns-clause-ok
+returns-clause-ok c =
+    let there = present_name c.self.inside.entries.entries c.args.name (sym c.contains_key.ensures ∙ c.if-not-contains_key.false) in (
+      subst (λ (s : SheetValue). IsSome (binding s.names c.args.name)) c.self.view_is there,
+      c.commit_removal.ensures.names ∙ ap (λ (s : SheetValue). without s.names c.args.name) c.self.view_is,
+    )
