@@ -9,7 +9,7 @@ use Rattle.formula_core.specs.Meaning.{eval}
 use Rattle.sheet_recalc.specs.Names.{Names, Binding, Data, Formula, binding, put, Refers}
 use Rattle.sheet_recalc.specs.Meaning.{val}
 use Rattle.sheet_recalc.specs.Cells.{cell_put}
-use Rattle.sheet_recalc.specs.Changes.{Define, Store, SetCell, Refuses, CannotPut, IsCycleFrom, HasRoom}
+use Rattle.sheet_recalc.specs.Changes.{Define, Store, Put, SetCell, Refuses, CannotPut, IsCycleFrom, HasRoom}
 use Rattle.sheet_recalc.specs.declared.refusal.Refusal.{Refusal}
 use Rattle.sheet_recalc.specs.declared.refusal.Refusal.TheVariants as why
 use Rattle.sheet_recalc.proofs.Cycles.{no_cycle_by_data}
@@ -28,48 +28,56 @@ refused_define names name t why.Domain h = h
 refused_define names name t (why.Fault e) h = h
 
 -- data makes no cycle
-pub refused_data : (names : Names) (name : List ℕ) (t : Tree) (a : ArrayValue) → IsAcyclic (Refers names) → eval t (val names) ≡ Ok a → (cause : Refusal) → CannotPut names name (Data a) cause → Refuses names (Store name t) cause
-refused_data names name t a acyclic is (why.Cycle c) h = never c.items h
+pub refused_put : (names : Names) (name : List ℕ) (a : ArrayValue) → IsAcyclic (Refers names) → (cause : Refusal) → CannotPut names name (Data a) cause → Refuses names (Put name a) cause
+refused_put names name a acyclic (why.Cycle c) h = never c.items h
   where
     never : (cycle : List (List ℕ)) → IsCycleFrom (Refers (put names name (Data a))) name cycle → ⊥
     never [] h = h
     never (x ∷ via) h = no_cycle_by_data names name a acyclic x (via, h.1)
-refused_data names name t a acyclic is why.SheetFull h = (a, is, h.1)
-refused_data names name t a acyclic is why.NoMemory h = tt
-refused_data names name t a acyclic is why.NotFound h = h
-refused_data names name t a acyclic is why.NotData h = h
-refused_data names name t a acyclic is why.Rank h = h
-refused_data names name t a acyclic is why.Length h = h
-refused_data names name t a acyclic is why.Index h = h
-refused_data names name t a acyclic is why.Domain h = h
-refused_data names name t a acyclic is (why.Fault e) h = absurd h
+refused_put names name a acyclic why.SheetFull h = h.1
+refused_put names name a acyclic why.NoMemory h = tt
+refused_put names name a acyclic why.NotFound h = h
+refused_put names name a acyclic why.NotData h = h
+refused_put names name a acyclic why.Rank h = h
+refused_put names name a acyclic why.Length h = h
+refused_put names name a acyclic why.Index h = h
+refused_put names name a acyclic why.Domain h = h
+refused_put names name a acyclic (why.Fault e) h = absurd h
 
--- a name that is present is bound to other data without a refusal but for want of memory
-pub only_memory : (names : Names) (name : List ℕ) (a : ArrayValue) → IsAcyclic (Refers names) → IsSome (binding names name) → (cause : Refusal) → CannotPut names name (Data a) cause → cause ≡ why.NoMemory
-only_memory names name a acyclic present (why.Cycle c) h = never c.items h
-  where
-    never : (cycle : List (List ℕ)) → IsCycleFrom (Refers (put names name (Data a))) name cycle → why.Cycle c ≡ why.NoMemory
-    never [] h = absurd h
-    never (x ∷ via) h = absurd (no_cycle_by_data names name a acyclic x (via, h.1))
-only_memory names name a acyclic present why.SheetFull h = absurd (false≢true (sym (ap is_some h.1.0) ∙ present))
-only_memory names name a acyclic present why.NoMemory h = refl
-only_memory names name a acyclic present why.NotFound h = absurd h
-only_memory names name a acyclic present why.NotData h = absurd h
-only_memory names name a acyclic present why.Rank h = absurd h
-only_memory names name a acyclic present why.Length h = absurd h
-only_memory names name a acyclic present why.Index h = absurd h
-only_memory names name a acyclic present why.Domain h = absurd h
-only_memory names name a acyclic present (why.Fault e) h = absurd h
+pub refused_data : (names : Names) (name : List ℕ) (t : Tree) (a : ArrayValue) → eval t (val names) ≡ Ok a → (cause : Refusal) → Refuses names (Put name a) cause → Refuses names (Store name t) cause
+refused_data names name t a is why.SheetFull h = (a, is, h)
+refused_data names name t a is why.NoMemory h = tt
+refused_data names name t a is (why.Cycle c) h = h
+refused_data names name t a is why.NotFound h = h
+refused_data names name t a is why.NotData h = h
+refused_data names name t a is why.Rank h = h
+refused_data names name t a is why.Length h = h
+refused_data names name t a is why.Index h = h
+refused_data names name t a is why.Domain h = h
+refused_data names name t a is (why.Fault e) h = absurd h
+
+-- a name that is present is bound to an array without a refusal but for want of memory
+pub only_memory : (names : Names) (name : List ℕ) (a : ArrayValue) → IsSome (binding names name) → (cause : Refusal) → Refuses names (Put name a) cause → cause ≡ why.NoMemory
+only_memory names name a present why.SheetFull h = absurd (false≢true (sym (ap is_some h.0) ∙ present))
+only_memory names name a present why.NoMemory h = refl
+only_memory names name a present (why.Cycle c) h = absurd h
+only_memory names name a present why.NotFound h = absurd h
+only_memory names name a present why.NotData h = absurd h
+only_memory names name a present why.Rank h = absurd h
+only_memory names name a present why.Length h = absurd h
+only_memory names name a present why.Index h = absurd h
+only_memory names name a present why.Domain h = absurd h
+only_memory names name a present (why.Fault e) h = absurd h
 
 -- a cell was edited, so its name is present
 pub cell_present : (b : Option Binding) (places : List ℤ) (literal : Constant) (a : ArrayValue) → cell_put b places literal ≡ Ok a → IsSome b
 cell_present None places literal a h = let never : Err why.NotFound ≡ Ok a = h in absurd cc
 cell_present (Some b) places literal a h = refl
 
-pub refused_cell : (names : Names) (name : List ℕ) (places : List ℤ) (literal : Constant) (a : ArrayValue) → IsAcyclic (Refers names) → cell_put (binding names name) places literal ≡ Ok a
-    → (cause : Refusal) → CannotPut names name (Data a) cause → Refuses names (SetCell name places literal) cause
-refused_cell names name places literal a acyclic is cause h =
-    subst (λ (y : Refusal). Refuses names (SetCell name places literal) y) (sym (only_memory names name a acyclic (cell_present (binding names name) places literal a is) cause h)) tt
+pub refused_cell : (names : Names) (name : List ℕ) (places : List ℤ) (literal : Constant) (a : ArrayValue) → cell_put (binding names name) places literal ≡ Ok a
+    → (cause : Refusal) → Refuses names (Put name a) cause → Refuses names (SetCell name places literal) cause
+refused_cell names name places literal a is cause h =
+    subst (λ (y : Refusal). Refuses names (SetCell name places literal) y) (sym (only_memory names name a (cell_present (binding names name) places literal a is) cause h)) tt
 
 -- how many names there are once one is bound anew
 module _ (names : Names) (name : List ℕ) (b : Binding) where

@@ -15,6 +15,8 @@ pub data Change : Type 0 where
   Define : List ℕ → Tree → Change
   -- bind a name to the array that an expression has now
   Store : List ℕ → Tree → Change
+  -- bind a name to an array
+  Put : List ℕ → ArrayValue → Change
   -- replace one item of data
   SetCell : List ℕ → List ℤ → Constant → Change
   -- remove a name
@@ -28,6 +30,7 @@ HasRoom names name = IsSome (binding names name) ⊎ (length names < 1024)
 abbrev pub Accepts : Names → Change → Names → Type 0
 Accepts old (Define n t) new = (new ≡ put old n (Formula t)) × IsAcyclic (Refers new) × HasRoom old n
 Accepts old (Store n t) new = (a : ArrayValue) × (eval t (val old) ≡ Ok a) × (new ≡ put old n (Data a)) × HasRoom old n
+Accepts old (Put n a) new = (new ≡ put old n (Data a)) × HasRoom old n
 Accepts old (SetCell n places literal) new = (a : ArrayValue) × (cell_put (binding old n) places literal ≡ Ok a) × (new ≡ put old n (Data a))
 Accepts old (Erase n) new = IsSome (binding old n) × (new ≡ without old n)
 
@@ -55,5 +58,7 @@ Refuses old (Define n t) cause = CannotPut old n (Formula t) cause
 Refuses old (Store n t) (why.Fault e) = eval t (val old) ≡ Err e
 Refuses old (Store n t) why.SheetFull = (a : ArrayValue) × (eval t (val old) ≡ Ok a) × IsFullFor old n
 Refuses old (Store n t) cause = ⊥
+Refuses old (Put n a) why.SheetFull = IsFullFor old n
+Refuses old (Put n a) cause = ⊥
 Refuses old (Erase n) why.NotFound = binding old n ≡ None
 Refuses old (Erase n) cause = ⊥

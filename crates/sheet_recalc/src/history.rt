@@ -7,16 +7,19 @@ use crate::refusal::Refusal;
 use crate::sheet::Sheet;
 use apl_expr::{Expr, Literal};
 use apl_tokens::Name;
+use arrays_core::Array;
 use std::alloc::{AllocError, Global};
 use std::collections::VecDeque;
 
 /// A change to a sheet.
-#[derive(Debug, Drop)]
+#[derive(Drop)]
 pub enum Change {
     /// Bind a name to a formula.
     Define(Name, Expr),
     /// Bind a name to the array that an expression has now.
     Data(Name, Expr),
+    /// Bind a name to an array.
+    Put(Name, Array),
     /// Replace one item of data.
     Cell(Name, Vec<i64>, Literal),
     /// Remove a name.
@@ -31,6 +34,7 @@ impl Sheet {
         match change {
             Change::Define(name, tree) => self.define(name, tree),
             Change::Data(name, tree) => self.data(name, tree),
+            Change::Put(name, array) => self.put_array(name, array),
             Change::Cell(name, places, literal) => self.set_cell(name, &places, &literal),
             Change::Erase(name) => self.erase(name),
         }

@@ -8,13 +8,13 @@ ghost use Rattle.dep_order.specs.Reach.{IsAcyclic};
 ghost use Rattle.arrays_core.specs.declared.item.Kind.TheVariants.{Value};
 ghost use Rattle.formula_core.specs.Outcomes.{fault, read};
 ghost use Rattle.formula_core.specs.Meaning.{eval};
-ghost use Rattle.sheet_recalc.specs.Names.{Data as IsData, Formula as IsFormula, binding, put, without, Refers, IsSheet};
+ghost use Rattle.sheet_recalc.specs.Names.{binding, put, without, Refers, IsSheet};
 ghost use Rattle.sheet_recalc.specs.Meaning.{val};
 ghost use Rattle.sheet_recalc.specs.Entries.{names_of};
 ghost use Rattle.sheet_recalc.specs.Outline.{bound, shown_by, IsPlanned};
 ghost use Rattle.sheet_recalc.specs.NameOrder.{HasOrder};
 ghost use Rattle.sheet_recalc.specs.Live.{IsLive};
-ghost use Rattle.sheet_recalc.specs.Changes.{Accepts, Refuses, Define, Store, SetCell, Erase, HasRoom, IsFullFor, CannotPut};
+ghost use Rattle.sheet_recalc.specs.Changes.{Accepts, Refuses, Define, Store, Put, SetCell, Erase, HasRoom, IsFullFor, CannotPut};
 
 use crate::cell::data_with_cell;
 use crate::commit::{commit, commit_removal};
@@ -148,7 +148,7 @@ impl Sheet {
             Ok(array) => array,
             Err(fault) => return Err(Refusal::Fault(fault)),
         };
-        self.put_data(name, array)
+        self.put_array(name, array)
     }
 
     /// Replaces one item of data.
@@ -158,7 +158,7 @@ impl Sheet {
         ensures err { OnErr result (self.new ≡ self.old) }
     {
         let array = data_with_cell(&self.entries, name, places, literal)?;
-        self.put_data(name, array)
+        self.put_array(name, array)
     }
 
     /// Removes a name. The names after it move up, and what refers to it shows VALUE ERROR from then on.
@@ -175,13 +175,12 @@ impl Sheet {
         Ok(())
     }
 
-    /// Binds a name to an array.
-    fn put_data(&mut self, name: Name, array: Array) -> Result<(), Refusal>
-        ensures names { OnOk result (self.new.names ≡ put self.old.names name (IsData array)) }
-        ensures room { OnOk result (HasRoom self.old.names name) }
-        ensures refused { IfErr result (CannotPut self.old.names name (IsData array)) }
+    /// Binds a name to an array. It is refused where the name is new and 1,024 names are present, or for want of memory, and
+    /// for nothing else.
+    pub fn put_array(&mut self, name: Name, array: Array) -> Result<(), Refusal>
+        ensures ok { OnOk result (Accepts self.old.names (Put name array) self.new.names) }
+        ensures refused { IfErr result (Refuses self.old.names (Put name array)) }
         ensures err { OnErr result (self.new ≡ self.old) }
-        ensures sound { IsSheet self.old.names }
     {
         let results = results_with(
             self.alloc,

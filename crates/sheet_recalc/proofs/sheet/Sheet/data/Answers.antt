@@ -6,7 +6,6 @@ use Rattle.sheet_recalc.proofs.sheet.Sheet.data.Goals as goal
 
 pub returns-clause-refused : goal.returns-clause-refused
 returns-clause-refused c =
-    let names = c.args.self.now.names in
-    IfErr-weaker c.put_data.result _ _
-    (λ cause h. refused_data names c.args.name (tree_of c.args.tree) c.in-Ok.array c.put_data.ensures.sound.acyclic (sym c.in_ok-array.ensures ∙ c.in-Ok.is) cause h)
-    c.put_data.ensures.refused
+    IfErr-weaker c.put_array.result _ _
+    (λ cause h. refused_data c.args.self.now.names c.args.name (tree_of c.args.tree) c.in-Ok.array (sym c.in_ok-array.ensures ∙ c.in-Ok.is) cause h)
+    c.put_array.ensures.refused

@@ -9,8 +9,7 @@ use Rattle.sheet_recalc.proofs.sheet.Sheet.set_cell.Goals as goal
 
 pub returns-clause-refused : goal.returns-clause-refused
 returns-clause-refused c =
-    let names = c.args.self.now.names in
     let is = subst (λ (s : SheetValue). cell_put (binding s.names c.args.name) c.args.places.now (constant_of c.args.literal.now) ≡ Ok c.in_ok-array.array) c.self.view_is c.in_ok-array.ensures in
-    IfErr-weaker c.put_data.result _ _
-    (λ cause h. refused_cell names c.args.name c.args.places.now (constant_of c.args.literal.now) c.in_ok-array.array c.put_data.ensures.sound.acyclic is cause h)
-    c.put_data.ensures.refused
+    IfErr-weaker c.put_array.result _ _
+    (λ cause h. refused_cell c.args.self.now.names c.args.name c.args.places.now (constant_of c.args.literal.now) c.in_ok-array.array is cause h)
+    c.put_array.ensures.refused

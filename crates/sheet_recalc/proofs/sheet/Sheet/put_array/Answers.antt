@@ -4,15 +4,18 @@ use Rattle.sheet_recalc.specs.Names.{Names, Data, put}
 use Rattle.sheet_recalc.specs.Entries.{names_of}
 use Rattle.sheet_recalc.specs.declared.entry.Entry.{Entry}
 use Rattle.sheet_recalc.proofs.Rebound.{live_after}
+use Rattle.sheet_recalc.proofs.Refused.{refused_put}
 use Rattle.sheet_recalc.specs.Live.{SheetValue, IsTable}
-use Rattle.sheet_recalc.specs.Changes.{CannotPut}
-use Rattle.sheet_recalc.proofs.sheet.Sheet.put_data.Goals as goal
+use Rattle.sheet_recalc.specs.Changes.{Refuses, Put}
+use Rattle.sheet_recalc.proofs.sheet.Sheet.put_array.Goals as goal
 
 pub returns-in_err-results-clause-refused : goal.returns-in_err-results-clause-refused
 returns-in_err-results-clause-refused c =
+    let old = names_of c.self.inside.entries.entries in
     let cause = c.in_err-results.field-0.0 in
     let p = err_from_is_err_and c.from_residual.result c.from_residual.ensures.1 in
-    rw (p.1, p.2) (subst (λ (s : SheetValue). CannotPut s.names c.args.name (Data c.args.array) cause) c.self.view_is c.in_err-results.ensures.refused)
+    let why = refused_put old c.args.name c.args.array c.self.invariant.sheet.acyclic cause c.in_err-results.ensures.refused in
+    rw (p.1, p.2) (subst (λ (s : SheetValue). Refuses s.names (Put c.args.name c.args.array) cause) c.self.view_is why)
 
 pub commit-requires-clause-tells : goal.commit-requires-clause-tells
 commit-requires-clause-tells c =
