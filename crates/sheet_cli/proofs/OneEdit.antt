@@ -9,7 +9,7 @@ use Rattle.formula_core.specs.Meaning.{eval}
 use Rattle.sheet_recalc.specs.Names.{Names, Binding, Data, Formula, binding, put, Refers}
 use Rattle.sheet_recalc.specs.Meaning.{val}
 use Rattle.sheet_recalc.specs.Cells.{cell_put}
-use Rattle.sheet_recalc.specs.Changes.{Change, Define, Store, SetCell, Accepts, Refuses, CannotPut, HasRoom, IsFullFor, IsCycleFrom}
+use Rattle.sheet_recalc.specs.Changes.{Change, Define, Store, Put, SetCell, Accepts, Refuses, CannotPut, HasRoom, IsFullFor, IsCycleFrom}
 use Rattle.sheet_recalc.specs.declared.refusal.Refusal.{Refusal}
 use Rattle.sheet_recalc.specs.declared.refusal.Refusal.TheVariants as why
 use Rattle.sheet_cli.specs.Answer.{State, refusal_text, IsEdited, accepted, refused}
@@ -84,6 +84,22 @@ store_one names n t text₁ text₂ (inl a) (inr b) = absurd (ok_or_err b.1 a.1)
 store_one names n t text₁ text₂ (inr a) (inl b) = absurd (ok_or_err a.1 b.1)
 store_one names n t text₁ text₂ (inr a) (inr b) = a.3 ∙ sym b.3
 
+-- why an array is refused: there is no room
+abbrev PutCause : Names → List ℕ → List ℕ → Type 0
+PutCause names n text = IsFullFor names n × (text ≡ codes "SHEET FULL\n")
+
+put_cause : (names : Names) (n : List ℕ) (a : ArrayValue) (cause : Refusal) → Refuses names (Put n a) cause → cause ≢ why.NoMemory → PutCause names n (refusal_text cause)
+put_cause names n a why.SheetFull h other = (h, refl)
+put_cause names n a why.NoMemory h other = absurd (other refl)
+put_cause names n a (why.Cycle c) h other = absurd h
+put_cause names n a why.NotFound h other = absurd h
+put_cause names n a why.NotData h other = absurd h
+put_cause names n a why.Rank h other = absurd h
+put_cause names n a why.Length h other = absurd h
+put_cause names n a why.Index h other = absurd h
+put_cause names n a why.Domain h other = absurd h
+put_cause names n a (why.Fault e) h other = absurd h
+
 cell_cause : (names : Names) (n : List ℕ) (places : List ℤ) (literal : Constant) (cause : Refusal) → Refuses names (SetCell n places literal) cause → cause ≢ why.NoMemory → cell_put (binding names n) places literal ≡ Err cause
 cell_cause names n places literal why.NoMemory h other = absurd (other refl)
 cell_cause names n places literal (why.Cycle c) h other = h
@@ -100,6 +116,7 @@ cell_cause names n places literal (why.Fault e) h other = h
 accepts_one : (names : Names) (edit : Change) (new₁ new₂ : Names) → Accepts names edit new₁ → Accepts names edit new₂ → new₁ ≡ new₂
 accepts_one names (Define n t) new₁ new₂ a b = a.0 ∙ sym b.0
 accepts_one names (Store n t) new₁ new₂ a b = a.2 ∙ ap (λ (x : ArrayValue). put names n (Data x)) (one_ok a.1 b.1) ∙ sym b.2
+accepts_one names (Put n x) new₁ new₂ a b = a.0 ∙ sym b.0
 accepts_one names (SetCell n places literal) new₁ new₂ a b = a.2 ∙ ap (λ (x : ArrayValue). put names n (Data x)) (one_ok a.1 b.1) ∙ sym b.2
 
 -- what is accepted is not refused
@@ -114,12 +131,14 @@ accepted_refused names (Store n t) new cause a r other = by (store_cause names n
     by : StoreCause names n t (refusal_text cause) → ⊥
     by (inl c) = ok_or_err a.1 c.1
     by (inr c) = full_with_room names n a.3 c.2
+accepted_refused names (Put n x) new cause a r other = full_with_room names n a.1 (put_cause names n x cause r other).0
 accepted_refused names (SetCell n places literal) new cause a r other = ok_or_err a.1 (cell_cause names n places literal cause r other)
 
 -- two causes of one refusal print the same
 refusals_one : (names : Names) (edit : Change) (cause₁ cause₂ : Refusal) → Refuses names edit cause₁ → cause₁ ≢ why.NoMemory → Refuses names edit cause₂ → cause₂ ≢ why.NoMemory → refusal_text cause₁ ≡ refusal_text cause₂
 refusals_one names (Define n t) cause₁ cause₂ r₁ o₁ r₂ o₂ = define_one names n t _ _ (define_cause names n t cause₁ r₁ o₁) (define_cause names n t cause₂ r₂ o₂)
 refusals_one names (Store n t) cause₁ cause₂ r₁ o₁ r₂ o₂ = store_one names n t _ _ (store_cause names n t cause₁ r₁ o₁) (store_cause names n t cause₂ r₂ o₂)
+refusals_one names (Put n x) cause₁ cause₂ r₁ o₁ r₂ o₂ = (put_cause names n x cause₁ r₁ o₁).1 ∙ sym (put_cause names n x cause₂ r₂ o₂).1
 refusals_one names (SetCell n places literal) cause₁ cause₂ r₁ o₁ r₂ o₂ =
     ap refusal_text (one_err (cell_cause names n places literal cause₁ r₁ o₁) (cell_cause names n places literal cause₂ r₂ o₂))
 
