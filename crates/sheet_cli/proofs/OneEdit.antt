@@ -1,5 +1,5 @@
 -- An edit has one outcome, but for want of memory.
-use Rattle.std.proofs.Common.{◌≡◌, ◌≢◌, ℕ, ℤ, ◌<◌, ◌⊎◌, ⊎_elim, inl, inr, List, [], ◌∷◌, length, codes, is_some, Result, Ok, Err, refl, sym, ap, ◌∙◌, arith}
+use Rattle.std.proofs.Common.{◌≡◌, ◌≢◌, ℕ, ℤ, ◌<◌, ◌⊎◌, ⊎_elim, inl, inr, List, [], ◌∷◌, length, codes, is_some, None, Result, Ok, Err, refl, sym, ap, ◌∙◌, arith}
 use Rattle.std.proofs.lemmas.Bool.{false≢true}
 use Rattle.apl_expr.specs.Trees.{Tree, Constant}
 use Rattle.arrays_core.specs.Arrays.{ArrayValue}
@@ -9,7 +9,7 @@ use Rattle.formula_core.specs.Meaning.{eval}
 use Rattle.sheet_recalc.specs.Names.{Names, Binding, Data, Formula, binding, put, Refers}
 use Rattle.sheet_recalc.specs.Meaning.{val}
 use Rattle.sheet_recalc.specs.Cells.{cell_put}
-use Rattle.sheet_recalc.specs.Changes.{Change, Define, Store, Put, SetCell, Accepts, Refuses, CannotPut, HasRoom, IsFullFor, IsCycleFrom}
+use Rattle.sheet_recalc.specs.Changes.{Change, Define, Store, Put, SetCell, Erase, Accepts, Refuses, CannotPut, HasRoom, IsFullFor, IsCycleFrom}
 use Rattle.sheet_recalc.specs.declared.refusal.Refusal.{Refusal}
 use Rattle.sheet_recalc.specs.declared.refusal.Refusal.TheVariants as why
 use Rattle.sheet_cli.specs.Answer.{State, refusal_text, IsEdited, accepted, refused}
@@ -112,12 +112,26 @@ cell_cause names n places literal why.Domain h other = h
 cell_cause names n places literal why.SheetFull h other = h
 cell_cause names n places literal (why.Fault e) h other = h
 
+-- why a removal is refused: the name is absent
+erase_cause : (names : Names) (n : List ℕ) (cause : Refusal) → Refuses names (Erase n) cause → cause ≢ why.NoMemory → (binding names n ≡ None) × (refusal_text cause ≡ codes "NOT FOUND\n")
+erase_cause names n why.NotFound h other = (h, refl)
+erase_cause names n why.NoMemory h other = absurd (other refl)
+erase_cause names n why.SheetFull h other = absurd h
+erase_cause names n (why.Cycle c) h other = absurd h
+erase_cause names n why.NotData h other = absurd h
+erase_cause names n why.Rank h other = absurd h
+erase_cause names n why.Length h other = absurd h
+erase_cause names n why.Index h other = absurd h
+erase_cause names n why.Domain h other = absurd h
+erase_cause names n (why.Fault e) h other = absurd h
+
 -- what accepts an edit gives one list of names
 accepts_one : (names : Names) (edit : Change) (new₁ new₂ : Names) → Accepts names edit new₁ → Accepts names edit new₂ → new₁ ≡ new₂
 accepts_one names (Define n t) new₁ new₂ a b = a.0 ∙ sym b.0
 accepts_one names (Store n t) new₁ new₂ a b = a.2 ∙ ap (λ (x : ArrayValue). put names n (Data x)) (one_ok a.1 b.1) ∙ sym b.2
 accepts_one names (Put n x) new₁ new₂ a b = a.0 ∙ sym b.0
 accepts_one names (SetCell n places literal) new₁ new₂ a b = a.2 ∙ ap (λ (x : ArrayValue). put names n (Data x)) (one_ok a.1 b.1) ∙ sym b.2
+accepts_one names (Erase n) new₁ new₂ a b = a.1 ∙ sym b.1
 
 -- what is accepted is not refused
 accepted_refused : (names : Names) (edit : Change) (new : Names) (cause : Refusal) → Accepts names edit new → Refuses names edit cause → cause ≢ why.NoMemory → ⊥
@@ -133,6 +147,7 @@ accepted_refused names (Store n t) new cause a r other = by (store_cause names n
     by (inr c) = full_with_room names n a.3 c.2
 accepted_refused names (Put n x) new cause a r other = full_with_room names n a.1 (put_cause names n x cause r other).0
 accepted_refused names (SetCell n places literal) new cause a r other = ok_or_err a.1 (cell_cause names n places literal cause r other)
+accepted_refused names (Erase n) new cause a r other = false≢true (sym (ap is_some (erase_cause names n cause r other).0) ∙ a.0)
 
 -- two causes of one refusal print the same
 refusals_one : (names : Names) (edit : Change) (cause₁ cause₂ : Refusal) → Refuses names edit cause₁ → cause₁ ≢ why.NoMemory → Refuses names edit cause₂ → cause₂ ≢ why.NoMemory → refusal_text cause₁ ≡ refusal_text cause₂
@@ -141,6 +156,7 @@ refusals_one names (Store n t) cause₁ cause₂ r₁ o₁ r₂ o₂ = store_one
 refusals_one names (Put n x) cause₁ cause₂ r₁ o₁ r₂ o₂ = (put_cause names n x cause₁ r₁ o₁).1 ∙ sym (put_cause names n x cause₂ r₂ o₂).1
 refusals_one names (SetCell n places literal) cause₁ cause₂ r₁ o₁ r₂ o₂ =
     ap refusal_text (one_err (cell_cause names n places literal cause₁ r₁ o₁) (cell_cause names n places literal cause₂ r₂ o₂))
+refusals_one names (Erase n) cause₁ cause₂ r₁ o₁ r₂ o₂ = (erase_cause names n cause₁ r₁ o₁).1 ∙ sym (erase_cause names n cause₂ r₂ o₂).1
 
 same_state : (a b : State) → a.names ≡ b.names → a ≡ b
 same_state a b e = ap (λ (names : Names). record { names = names }) e
