@@ -1,6 +1,6 @@
 -- Worked examples of the grammar: what some lines ask for.
 use Rattle.std.proofs.Common.{ℕ, [], ◌∷◌, refl}
-use Rattle.std.specs.Prelude.{pos}
+use Rattle.std.specs.Prelude.{pos, codes}
 use Rattle.apl_tokens.specs.Lexemes.{Number, Characters, Named, Sign}
 use Rattle.apl_expr.specs.declared.expr.ScalarMonad.TheVariants as monad
 use Rattle.apl_expr.specs.declared.expr.ScalarDyad.TheVariants as dyad
@@ -10,8 +10,8 @@ use Rattle.apl_expr.specs.declared.expr.Along.TheVariants as along
 use Rattle.apl_expr.specs.Symbols.{scalar_monad_of, scalar_dyad_of, monad_of, dyad_of, folding_of, folding_along_of, monadic_along_of, dyadic_along_of}
 use Rattle.apl_expr.specs.Trees.{Tree, Numbers, Text, Literal, Variable, Applied1, Applied2, Indexed, Filled, Empty, NoPositions}
 use Rattle.apl_expr.specs.Machine.{run}
-use Rattle.apl_expr.specs.Grammar.{IsTreeOf}
-use Rattle.apl_expr.specs.Lines.{IsLine, show, change, cell, define, text_lit, last, further, Define, Cell, Show}
+use Rattle.apl_expr.specs.Grammar.{IsTreeOf, one, more}
+use Rattle.apl_expr.specs.Lines.{IsLine, show, change, cell, define, row, erase, word, about, nums_lit, text_lit, last, further, Define, Cell, Row, Erase, Show, Names, Csv}
 use Rattle.apl_expr.proofs.Complete.{complete}
 use Rattle.apl_expr.proofs.Sound.{correct, run_none}
 
@@ -114,3 +114,19 @@ definition = change (define (correct _ _ refl))
 -- M[2;3]←'x'
 cell_edit : IsLine (Named (0x4d ∷ []) ∷ Sign 0x5b ∷ Number (pos 2) ∷ Sign 0x3b ∷ Number (pos 3) ∷ Sign 0x5d ∷ Sign 0x2190 ∷ Characters (0x78 ∷ []) ∷ []) (Cell (0x4d ∷ []) (pos 2 ∷ pos 3 ∷ []) (Text (0x78 ∷ [])))
 cell_edit = change (cell (further last) text_lit)
+
+-- )ROW ROW 1 2: behind its word, ROW is a name
+row_of_row : IsLine (Sign 0x29 ∷ Named (codes "ROW") ∷ Named (codes "ROW") ∷ Number (pos 1) ∷ Number (pos 2) ∷ []) (Row (codes "ROW") (Numbers (pos 1 ∷ pos 2 ∷ [])))
+row_of_row = change (row (nums_lit (more one)) refl)
+
+-- )ERASE CSV
+erasure : IsLine (Sign 0x29 ∷ Named (codes "ERASE") ∷ Named (codes "CSV") ∷ []) (Erase (codes "CSV"))
+erasure = change (erase refl)
+
+-- )NAMES
+list_of_names : IsLine (Sign 0x29 ∷ Named (codes "NAMES") ∷ []) Names
+list_of_names = word refl
+
+-- )CSV D
+written_table : IsLine (Sign 0x29 ∷ Named (codes "CSV") ∷ Named (codes "D") ∷ []) (Csv (codes "D"))
+written_table = about refl

@@ -25,7 +25,7 @@ unfolding edits
 items_read (one {n = n}) end ps before = ap (λ (xs : List Lexeme). edits xs (Some (Items ps (before ++ n ∷ [])))) end ∙ end_items ps before n
 items_read (more {n = n} {ns = ns} r) end ps before = items_read r end ps (before ++ n ∷ []) ∙ ap (λ (ms : List ℤ). Some (Write ps (Numbers ms))) (append_assoc before (n ∷ []) ns)
 
-literal_read : {ts : List Lexeme} {l : Constant} → IsLit ts l → (ps : List ℤ) → edits ts (Some (Items ps [])) ≡ Some (Write ps l)
+pub literal_read : {ts : List Lexeme} {l : Constant} → IsLit ts l → (ps : List ℤ) → edits ts (Some (Items ps [])) ≡ Some (Write ps l)
 unfolding edits
 literal_read (nums_lit n) ps = items_read n refl ps []
 literal_read text_lit ps = refl
@@ -145,3 +145,10 @@ sound_of (Sign c ∷ ts) (Quoted before cs) ps l h = absurd (edits_none ts (Writ
 
 pub edit_correct : (ts : List Lexeme) (ps : List ℤ) (l : Constant) → edits ts (Some (Open [])) ≡ Some (Write ps l) → (us : List Lexeme) × IsPlace ts ps (Sign 0x5d ∷ Sign 0x2190 ∷ us) × IsLit us l
 edit_correct ts ps l h = let x = sound_of ts (Open []) ps l h in (x.1, subst (λ (qs : List ℤ). IsPlace ts qs (Sign 0x5d ∷ Sign 0x2190 ∷ x.1)) x.4 x.2, x.3)
+
+pub literal_correct : (ts : List Lexeme) (l : Constant) → edits ts (Some (Items [] [])) ≡ Some (Write [] l) → IsLit ts l
+literal_correct ts l h = let x = sound_of ts (Items [] []) [] l h in lit_of_rest x.0
+
+-- a literal alone has no place
+pub placed_nowhere : (ts : List Lexeme) (ps : List ℤ) (l : Constant) → edits ts (Some (Items [] [])) ≡ Some (Write ps l) → edits ts (Some (Items [] [])) ≡ Some (Write [] l)
+placed_nowhere ts ps l h = let x = sound_of ts (Items [] []) ps l h in h ∙ ap (λ (qs : List ℤ). Some (Write qs l)) (sym x.1)

@@ -1,4 +1,5 @@
--- The reader of a cell's edit as a machine: it reads the lexemes behind `NAME [`, one at a time.
+-- The reader of a cell's edit as a machine: it reads the lexemes behind `NAME [`, one at a time. A literal alone is read as what is
+-- behind `←`.
 use Rattle.std.specs.Prelude.{◌≡◌, ℕ, ℤ, Option, Some, None, Result, Ok, Err, List, [], ◌∷◌, ◌++◌, if◌then◌else◌, ◌==◌}
 use Rattle.std.specs.Global.{Vec}
 use Rattle.apl_expr.specs.declared.expr.Literal as literal
@@ -90,3 +91,10 @@ EditGives (Ok w) o = o ≡ Some (Write w.0.items (constant_of w.1))
 EditGives (Err Syntax) o = o ≡ None
 EditGives (Err Limit) o = ⊥
 EditGives (Err NoMemory) o = Unit {0}
+
+-- the same for a literal alone
+abbrev pub LiteralGives : Result literal.Literal ParseFault → Option Written → Type 0
+LiteralGives (Ok l) o = o ≡ Some (Write [] (constant_of l))
+LiteralGives (Err Syntax) o = o ≡ None
+LiteralGives (Err Limit) o = ⊥
+LiteralGives (Err NoMemory) o = Unit {0}

@@ -1,9 +1,7 @@
 -- The first tokens of a line, by which it is told what it asks for.
-use Rattle.std.specs.Prelude.{ℕ, Option, Some, None, List, [], ◌∷◌, if◌then◌else◌, ◌==◌, ◌&&◌}
-use Rattle.std.specs.Str.{bytes_eq}
+use Rattle.std.specs.Prelude.{ℕ, Option, Some, None, List, [], ◌∷◌, if◌then◌else◌, ◌==◌}
 use Rattle.apl_tokens.specs.Lexemes.{Lexeme, Named, Sign}
 use Rattle.apl_expr.specs.Edits.{Open, Written, edits}
-use Rattle.apl_expr.specs.Lines.{data_word}
 
 abbrev pub name_and_sign : ℕ → Lexeme → Lexeme → List Lexeme → Option (List ℕ × List Lexeme)
 name_and_sign c (Named n) (Sign d) ts = if d == c then Some (n, ts) else None
@@ -15,15 +13,25 @@ name_before c [] = None
 name_before c (t ∷ []) = None
 name_before c (t ∷ u ∷ ts) = name_and_sign c t u ts
 
-abbrev pub sign_and_word : Lexeme → Lexeme → List Lexeme → Option (List Lexeme)
-sign_and_word (Sign c) (Named n) ts = if (c == 0x29) && bytes_eq n data_word then Some ts else None
+abbrev pub sign_and_word : Lexeme → Lexeme → List Lexeme → Option (List ℕ × List Lexeme)
+sign_and_word (Sign c) (Named w) ts = if c == 0x29 then Some (w, ts) else None
 sign_and_word t u ts = None
 
--- what is behind `) DATA`
-abbrev pub behind_data : List Lexeme → Option (List Lexeme)
-behind_data [] = None
-behind_data (t ∷ []) = None
-behind_data (t ∷ u ∷ ts) = sign_and_word t u ts
+-- the word at the front, behind `)`, and what is behind it
+abbrev pub command_word : List Lexeme → Option (List ℕ × List Lexeme)
+command_word [] = None
+command_word (t ∷ []) = None
+command_word (t ∷ u ∷ ts) = sign_and_word t u ts
+
+-- the name at the front, and what is behind it
+abbrev pub name_first : List Lexeme → Option (List ℕ × List Lexeme)
+name_first (Named n ∷ ts) = Some (n, ts)
+name_first ts = None
+
+-- the name that is all of the tokens
+abbrev pub only_name : List Lexeme → Option (List ℕ)
+only_name (Named n ∷ []) = Some n
+only_name ts = None
 
 abbrev behind_name : Option (List ℕ × List Lexeme) → Option Written
 behind_name None = None

@@ -3,11 +3,11 @@
 ghost use Rattle.std.specs.Prelude.{◌≡◌, ◌<◌, ◌≤◌, ◌∷◌, length, None, Some, MatchOption};
 ghost use Rattle.std.specs.Str.{chars};
 ghost use Rattle.apl_tokens.specs.Lexemes.{lexemes, Named, Sign};
-ghost use Rattle.apl_expr.specs.Lines.{data_word, IsCommand};
-ghost use Rattle.apl_expr.specs.Fronts.{name_before, behind_data, edit_in};
+ghost use Rattle.apl_expr.specs.Lines.{data_word, row_word, erase_word, names_word, csv_word, IsCommand};
+ghost use Rattle.apl_expr.specs.Fronts.{name_before, name_first, only_name, command_word, edit_in};
 ghost use Rattle.apl_expr.specs.Answers.{IsAnswered};
 
-use crate::edit::edited;
+use crate::edit::{edited, whole_literal};
 use crate::expr::{Expr, Literal};
 use crate::fault::{LineFault, ParseFault};
 use crate::limits::MOST_TOKENS;
@@ -26,8 +26,16 @@ pub enum Command {
     Data(Name, Expr),
     /// `NAME [ place ] ← literal`: the item at the place becomes the literal's.
     Cell(Name, Vec<i64>, Literal),
+    /// `) ROW NAME literal`: the name's array gains the literal's items at its end, as one place more along its first axis.
+    Row(Name, Literal),
+    /// `) ERASE NAME`: the name is taken out.
+    Erase(Name),
     /// `expr`: its value is shown.
     Show(Expr),
+    /// `) NAMES`: the names are listed.
+    Names,
+    /// `) CSV NAME`: the name's value is written as a table.
+    Csv(Name),
 }
 
 /// The name at the front that the sign follows, and what is behind them.
@@ -51,23 +59,37 @@ fn name_before(tokens: &[Spanned], sign: char) -> Option<(Name, &[Spanned])>
     }
 }
 
-/// What is behind `) DATA`.
-fn behind_data(tokens: &[Spanned]) -> Option<&[Spanned]>
-    ensures { MatchOption result (behind_data (lexemes tokens.now) ≡ None) (λ x. behind_data (lexemes tokens.now) ≡ Some (lexemes x.now)) }
+/// The name at the front, and what is behind it.
+fn name_first(tokens: &[Spanned]) -> Option<(Name, &[Spanned])>
+    ensures { MatchOption result (name_first (lexemes tokens.now) ≡ None) (λ x. name_first (lexemes tokens.now) ≡ Some (x.0, lexemes x.1.now)) }
 {
     let (first, rest) = tokens.split_first()?;
-    let (second, rest) = rest.split_first()?;
     match &first.token {
-        Token::Mark(mark) => match &second.token {
-            Token::Word(word) => {
-                if *mark == ')' && word.text() == "DATA" {
-                    Some(rest)
-                } else {
-                    None
-                }
-            }
+        Token::Word(name) => Some((*name, rest)),
+        _ => None,
+    }
+}
+
+/// The name that is all of the tokens.
+fn only_name(tokens: &[Spanned]) -> Option<Name>
+    ensures { MatchOption result (only_name (lexemes tokens.now) ≡ None) (λ x. only_name (lexemes tokens.now) ≡ Some x) }
+{
+    match tokens {
+        [only] => match &only.token {
+            Token::Word(name) => Some(*name),
             _ => None,
         },
+        _ => None,
+    }
+}
+
+/// The word at the front, behind `)`, and what is behind it.
+fn command_word(tokens: &[Spanned]) -> Option<(Name, &[Spanned])>
+    ensures { MatchOption result (command_word (lexemes tokens.now) ≡ None) (λ x. command_word (lexemes tokens.now) ≡ Some (x.0, lexemes x.1.now)) }
+{
+    let (first, rest) = tokens.split_first()?;
+    match &first.token {
+        Token::Mark(')') => name_first(rest),
         _ => None,
     }
 }
@@ -93,12 +115,73 @@ fn data(alloc: Global, rest: &[Spanned]) -> Result<Command, ParseFault>
     Ok(Command::Data(found.0, value))
 }
 
+/// The row with what is behind `) ROW`.
+fn row(alloc: Global, rest: &[Spanned]) -> Result<Command, ParseFault>
+    requires { length rest.now ≤ 4094 }
+    ensures { IsCommand (Sign 0x29 ∷ Named row_word ∷ lexemes rest.now) result }
+{
+    let Some(found) = name_first(rest) else {
+        return Err(ParseFault::Syntax);
+    };
+    let items = whole_literal(alloc, found.1)?;
+    Ok(Command::Row(found.0, items))
+}
+
+/// What is erased, with what is behind `) ERASE`.
+fn erase(rest: &[Spanned]) -> Result<Command, ParseFault>
+    requires { length rest.now ≤ 4094 }
+    ensures { IsCommand (Sign 0x29 ∷ Named erase_word ∷ lexemes rest.now) result }
+{
+    match only_name(rest) {
+        Some(name) => Ok(Command::Erase(name)),
+        None => Err(ParseFault::Syntax),
+    }
+}
+
+/// The list of names, with what is behind `) NAMES`.
+fn names(rest: &[Spanned]) -> Result<Command, ParseFault>
+    requires { length rest.now ≤ 4094 }
+    ensures { IsCommand (Sign 0x29 ∷ Named names_word ∷ lexemes rest.now) result }
+{
+    if rest.is_empty() {
+        Ok(Command::Names)
+    } else {
+        Err(ParseFault::Syntax)
+    }
+}
+
+/// What is written as a table, with what is behind `) CSV`.
+fn csv(rest: &[Spanned]) -> Result<Command, ParseFault>
+    requires { length rest.now ≤ 4094 }
+    ensures { IsCommand (Sign 0x29 ∷ Named csv_word ∷ lexemes rest.now) result }
+{
+    match only_name(rest) {
+        Some(name) => Ok(Command::Csv(name)),
+        None => Err(ParseFault::Syntax),
+    }
+}
+
+/// The command of this word, with what is behind it.
+fn worded(alloc: Global, word: Name, rest: &[Spanned]) -> Result<Command, ParseFault>
+    requires { length rest.now ≤ 4094 }
+    ensures { IsCommand (Sign 0x29 ∷ Named word ∷ lexemes rest.now) result }
+{
+    match word.text() {
+        "DATA" => data(alloc, rest),
+        "ROW" => row(alloc, rest),
+        "ERASE" => erase(rest),
+        "NAMES" => names(rest),
+        "CSV" => csv(rest),
+        _ => Err(ParseFault::Syntax),
+    }
+}
+
 /// The expression to show.
 fn show(alloc: Global, tokens: &[Spanned]) -> Result<Command, ParseFault>
     requires some { 0 < length tokens.now }
     requires short { length tokens.now ≤ 4096 }
     requires no_definition { name_before 0x2190 (lexemes tokens.now) ≡ None }
-    requires no_data { behind_data (lexemes tokens.now) ≡ None }
+    requires no_word { command_word (lexemes tokens.now) ≡ None }
     requires no_edit { edit_in (lexemes tokens.now) ≡ None }
     ensures { IsCommand (lexemes tokens.now) result }
 {
@@ -138,8 +221,8 @@ fn command_of(alloc: Global, tokens: &[Spanned]) -> Result<Command, ParseFault>
     if let Some(found) = name_before(tokens, '←') {
         return define(alloc, found.0, found.1);
     }
-    if let Some(rest) = behind_data(tokens) {
-        return data(alloc, rest);
+    if let Some(found) = command_word(tokens) {
+        return worded(alloc, found.0, found.1);
     }
     if let Some(found) = name_before(tokens, '[') {
         return cell(alloc, tokens, found.0, found.1);
@@ -151,7 +234,8 @@ fn command_of(alloc: Global, tokens: &[Spanned]) -> Result<Command, ParseFault>
 ///
 /// The first token fault from the left comes before all else. Then more than 4,096 tokens are `Limit`, whatever they are;
 /// then tokens that are no line of the grammar are `Syntax`; then an expression whose tree is more than 256 high or has
-/// more than 512 nodes is `Limit`. `DATA` is a word only behind `)`, and an ordinary name elsewhere.
+/// more than 512 nodes is `Limit`. `DATA`, `ROW`, `ERASE`, `NAMES` and `CSV` are words only behind `)`, and ordinary
+/// names elsewhere.
 pub fn line(alloc: Global, text: &str) -> Result<Command, LineFault>
     ensures { IsAnswered (chars text.now) result }
 {

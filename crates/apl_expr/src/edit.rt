@@ -1,8 +1,8 @@
-//! The edit of a cell: its place and its literal, behind `NAME [`.
+//! The edit of a cell: its place and its literal, behind `NAME [`; and a literal that stands alone.
 
 ghost use Rattle.std.specs.Prelude.{Some, []};
 ghost use Rattle.apl_tokens.specs.Lexemes.{lexeme, lexemes};
-ghost use Rattle.apl_expr.specs.Edits.{Open, edit_of, edit_text, edit_sign, edit_step, edit_end, edits, EditSteps, EditGives};
+ghost use Rattle.apl_expr.specs.Edits.{Open, Items, edit_of, edit_text, edit_sign, edit_step, edit_end, edits, EditSteps, EditGives, LiteralGives};
 
 use crate::expr::Literal;
 use crate::fault::ParseFault;
@@ -90,13 +90,33 @@ fn edit_end(edit: Edit) -> Result<(Vec<i64>, Literal), ParseFault>
     }
 }
 
-/// The place and the literal of the edit that the tokens are.
-pub(crate) fn edited(alloc: Global, tokens: &[Spanned]) -> Result<(Vec<i64>, Literal), ParseFault>
-    ensures { EditGives result (edits (lexemes tokens.now) (Some (Open []))) }
+/// The place and the literal that the tokens are, behind what was read before them.
+fn read_on(
+    alloc: Global,
+    before: Edit,
+    tokens: &[Spanned],
+) -> Result<(Vec<i64>, Literal), ParseFault>
+    ensures { EditGives result (edits (lexemes tokens.now) (Some (edit_of before))) }
 {
-    let mut edit = Edit::Open(Vec::new(alloc));
+    let mut edit = before;
     for spanned in tokens {
         edit = edit_step(alloc, &spanned.token, edit)?;
     }
     edit_end(edit)
+}
+
+/// The place and the literal of the edit that the tokens are.
+pub(crate) fn edited(alloc: Global, tokens: &[Spanned]) -> Result<(Vec<i64>, Literal), ParseFault>
+    ensures { EditGives result (edits (lexemes tokens.now) (Some (Open []))) }
+{
+    read_on(alloc, Edit::Open(Vec::new(alloc)), tokens)
+}
+
+/// The literal that the tokens are.
+pub(crate) fn whole_literal(alloc: Global, tokens: &[Spanned]) -> Result<Literal, ParseFault>
+    ensures { LiteralGives result (edits (lexemes tokens.now) (Some (Items [] []))) }
+{
+    let nothing_yet = Edit::Items(Vec::new(alloc), Vec::new(alloc));
+    let (_, found) = read_on(alloc, nothing_yet, tokens)?;
+    Ok(found)
 }

@@ -1,4 +1,4 @@
-use Rattle.std.proofs.Common.{◌≡◌, ◌∙◌, ◌≤◌, length, ap, subst, sym}
+use Rattle.std.proofs.Common.{◌∙◌, ◌≤◌, length, ap, subst, sym}
 use Rattle.apl_tokens.specs.Lexemes.{Sign, lexeme, lexemes}
 use Rattle.apl_expr.specs.declared.functions.Function.{Function}
 use Rattle.apl_expr.specs.Functions.{function_from}

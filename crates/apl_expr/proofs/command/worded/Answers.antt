@@ -1,0 +1,12 @@
+use Rattle.std.proofs.Common.{◌∙◌}
+use Rattle.std.proofs.lemmas.List.{length-map}
+use Rattle.apl_tokens.specs.Lexemes.{lexemes}
+use Rattle.apl_expr.proofs.Commands.{other_word}
+use Rattle.apl_expr.proofs.command.worded.Goals as goal
+
+pub returns-in_default : goal.returns-in_default
+returns-in_default c =
+    let is = c.text.ensures in
+    let other = c.in_default in
+    other_word (lexemes c.args.rest.now) (simp length-map c.requires) c.args.word
+    (λ h. other.not-DATA (is ∙ h)) (λ h. other.not-ROW (is ∙ h)) (λ h. other.not-ERASE (is ∙ h)) (λ h. other.not-NAMES (is ∙ h)) (λ h. other.not-CSV (is ∙ h))

@@ -1,7 +1,0 @@
-use Rattle.std.proofs.Common.{◌≡◌, Some, [], drop}
-use Rattle.apl_tokens.specs.Lexemes.{lexemes}
-use Rattle.apl_expr.specs.Edits.{Open, edit_of, edits}
-use Rattle.apl_expr.proofs.edit.edited.Given as goal
-
-abbrev pub invariant-loop-spanned : goal.invariant-loop-spanned
-invariant-loop-spanned l = edits (lexemes (drop l.spanned-index l.tokens)) (Some (edit_of l.edit)) ≡ edits (lexemes l.tokens) (Some (Open []))
