@@ -9,7 +9,8 @@ use Rattle.formula_core.specs.Meaning.{eval}
 use Rattle.sheet_recalc.specs.Names.{Names, Binding, Data, Formula, binding, put, Refers}
 use Rattle.sheet_recalc.specs.Meaning.{val}
 use Rattle.sheet_recalc.specs.Cells.{cell_put}
-use Rattle.sheet_recalc.specs.Changes.{Change, Define, Store, Put, SetCell, Erase, Accepts, Refuses, CannotPut, HasRoom, IsFullFor, IsCycleFrom}
+use Rattle.sheet_recalc.specs.Rows.{row_put}
+use Rattle.sheet_recalc.specs.Changes.{Change, Define, Store, Put, SetCell, AddRow, Erase, Accepts, Refuses, CannotPut, HasRoom, IsFullFor, IsCycleFrom}
 use Rattle.sheet_recalc.specs.declared.refusal.Refusal.{Refusal}
 use Rattle.sheet_recalc.specs.declared.refusal.Refusal.TheVariants as why
 use Rattle.sheet_cli.specs.Answer.{State, refusal_text, IsEdited, accepted, refused}
@@ -43,6 +44,7 @@ define_cause names n t why.Rank h other = absurd h
 define_cause names n t why.Length h other = absurd h
 define_cause names n t why.Index h other = absurd h
 define_cause names n t why.Domain h other = absurd h
+define_cause names n t why.Limit h other = absurd h
 define_cause names n t (why.Fault e) h other = absurd h
 
 define_one : (names : Names) (n : List ℕ) (t : Tree) (text₁ text₂ : List ℕ) → DefineCause names n t text₁ → DefineCause names n t text₂ → text₁ ≡ text₂
@@ -68,6 +70,7 @@ store_cause names n t why.Rank h other = absurd h
 store_cause names n t why.Length h other = absurd h
 store_cause names n t why.Index h other = absurd h
 store_cause names n t why.Domain h other = absurd h
+store_cause names n t why.Limit h other = absurd h
 
 ok_or_err : {A B : Type 0} {r : Result A B} {a : A} {b : B} → r ≡ Ok a → r ≡ Err b → ⊥
 ok_or_err p q = cc
@@ -98,6 +101,7 @@ put_cause names n a why.Rank h other = absurd h
 put_cause names n a why.Length h other = absurd h
 put_cause names n a why.Index h other = absurd h
 put_cause names n a why.Domain h other = absurd h
+put_cause names n a why.Limit h other = absurd h
 put_cause names n a (why.Fault e) h other = absurd h
 
 cell_cause : (names : Names) (n : List ℕ) (places : List ℤ) (literal : Constant) (cause : Refusal) → Refuses names (SetCell n places literal) cause → cause ≢ why.NoMemory → cell_put (binding names n) places literal ≡ Err cause
@@ -109,8 +113,22 @@ cell_cause names n places literal why.Rank h other = h
 cell_cause names n places literal why.Length h other = h
 cell_cause names n places literal why.Index h other = h
 cell_cause names n places literal why.Domain h other = h
+cell_cause names n places literal why.Limit h other = h
 cell_cause names n places literal why.SheetFull h other = h
 cell_cause names n places literal (why.Fault e) h other = h
+
+row_cause : (names : Names) (n : List ℕ) (literal : Constant) (cause : Refusal) → Refuses names (AddRow n literal) cause → cause ≢ why.NoMemory → row_put (binding names n) literal ≡ Err cause
+row_cause names n literal why.NoMemory h other = absurd (other refl)
+row_cause names n literal (why.Cycle c) h other = h
+row_cause names n literal why.NotFound h other = h
+row_cause names n literal why.NotData h other = h
+row_cause names n literal why.Rank h other = h
+row_cause names n literal why.Length h other = h
+row_cause names n literal why.Index h other = h
+row_cause names n literal why.Domain h other = h
+row_cause names n literal why.Limit h other = h
+row_cause names n literal why.SheetFull h other = h
+row_cause names n literal (why.Fault e) h other = h
 
 -- why a removal is refused: the name is absent
 erase_cause : (names : Names) (n : List ℕ) (cause : Refusal) → Refuses names (Erase n) cause → cause ≢ why.NoMemory → (binding names n ≡ None) × (refusal_text cause ≡ codes "NOT FOUND\n")
@@ -123,6 +141,7 @@ erase_cause names n why.Rank h other = absurd h
 erase_cause names n why.Length h other = absurd h
 erase_cause names n why.Index h other = absurd h
 erase_cause names n why.Domain h other = absurd h
+erase_cause names n why.Limit h other = absurd h
 erase_cause names n (why.Fault e) h other = absurd h
 
 -- what accepts an edit gives one list of names
@@ -131,6 +150,7 @@ accepts_one names (Define n t) new₁ new₂ a b = a.0 ∙ sym b.0
 accepts_one names (Store n t) new₁ new₂ a b = a.2 ∙ ap (λ (x : ArrayValue). put names n (Data x)) (one_ok a.1 b.1) ∙ sym b.2
 accepts_one names (Put n x) new₁ new₂ a b = a.0 ∙ sym b.0
 accepts_one names (SetCell n places literal) new₁ new₂ a b = a.2 ∙ ap (λ (x : ArrayValue). put names n (Data x)) (one_ok a.1 b.1) ∙ sym b.2
+accepts_one names (AddRow n literal) new₁ new₂ a b = a.2 ∙ ap (λ (x : ArrayValue). put names n (Data x)) (one_ok a.1 b.1) ∙ sym b.2
 accepts_one names (Erase n) new₁ new₂ a b = a.1 ∙ sym b.1
 
 -- what is accepted is not refused
@@ -147,6 +167,7 @@ accepted_refused names (Store n t) new cause a r other = by (store_cause names n
     by (inr c) = full_with_room names n a.3 c.2
 accepted_refused names (Put n x) new cause a r other = full_with_room names n a.1 (put_cause names n x cause r other).0
 accepted_refused names (SetCell n places literal) new cause a r other = ok_or_err a.1 (cell_cause names n places literal cause r other)
+accepted_refused names (AddRow n literal) new cause a r other = ok_or_err a.1 (row_cause names n literal cause r other)
 accepted_refused names (Erase n) new cause a r other = false≢true (sym (ap is_some (erase_cause names n cause r other).0) ∙ a.0)
 
 -- two causes of one refusal print the same
@@ -156,6 +177,7 @@ refusals_one names (Store n t) cause₁ cause₂ r₁ o₁ r₂ o₂ = store_one
 refusals_one names (Put n x) cause₁ cause₂ r₁ o₁ r₂ o₂ = (put_cause names n x cause₁ r₁ o₁).1 ∙ sym (put_cause names n x cause₂ r₂ o₂).1
 refusals_one names (SetCell n places literal) cause₁ cause₂ r₁ o₁ r₂ o₂ =
     ap refusal_text (one_err (cell_cause names n places literal cause₁ r₁ o₁) (cell_cause names n places literal cause₂ r₂ o₂))
+refusals_one names (AddRow n literal) cause₁ cause₂ r₁ o₁ r₂ o₂ = ap refusal_text (one_err (row_cause names n literal cause₁ r₁ o₁) (row_cause names n literal cause₂ r₂ o₂))
 refusals_one names (Erase n) cause₁ cause₂ r₁ o₁ r₂ o₂ = (erase_cause names n cause₁ r₁ o₁).1 ∙ sym (erase_cause names n cause₂ r₂ o₂).1
 
 same_state : (a b : State) → a.names ≡ b.names → a ≡ b

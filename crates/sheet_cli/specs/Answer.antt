@@ -29,6 +29,7 @@ refusal_text why.Rank = codes "RANK ERROR\n"
 refusal_text why.Length = codes "LENGTH ERROR\n"
 refusal_text why.Index = codes "INDEX ERROR\n"
 refusal_text why.Domain = codes "DOMAIN ERROR\n"
+refusal_text why.Limit = codes "LIMIT ERROR\n"
 refusal_text why.SheetFull = codes "SHEET FULL\n"
 refusal_text why.NoMemory = codes "NO MEMORY\n"
 refusal_text (why.Fault f) = fault_text f

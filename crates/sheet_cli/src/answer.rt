@@ -84,6 +84,7 @@ fn refusal_text(alloc: Global, refusal: &Refusal) -> Result<String, AllocError>
         Refusal::Length => String::from_str(alloc, "LENGTH ERROR\n"),
         Refusal::Index => String::from_str(alloc, "INDEX ERROR\n"),
         Refusal::Domain => String::from_str(alloc, "DOMAIN ERROR\n"),
+        Refusal::Limit => String::from_str(alloc, "LIMIT ERROR\n"),
         Refusal::SheetFull => String::from_str(alloc, "SHEET FULL\n"),
         Refusal::NoMemory => Err(AllocError),
         Refusal::Fault(fault) => print_fault(alloc, fault),

@@ -2,8 +2,8 @@
 use Rattle.std.proofs.Common.{◌≡◌, ℕ, Some, Ok, Err, List, [], ◌∷◌, length, map, refl}
 use Rattle.std.specs.Prelude.{ℤ, pos, negsuc}
 use Rattle.arrays_core.specs.Arrays.{ArrayValue}
-use Rattle.arrays_core.specs.declared.item.Item.TheVariants.{Num}
-use Rattle.arrays_core.specs.declared.item.ItemType.TheVariants.{Nums}
+use Rattle.arrays_core.specs.declared.item.Item.TheVariants.{Num, Char}
+use Rattle.arrays_core.specs.declared.item.ItemType.TheVariants.{Nums, Chars}
 use Rattle.arrays_core.specs.declared.item.Kind.{Kind}
 use Rattle.arrays_core.specs.declared.item.Kind.TheVariants as kind
 use Rattle.apl_expr.specs.Trees.{Tree, Literal, Numbers, Text, Variable, Applied2}
@@ -15,7 +15,8 @@ use Rattle.formula_core.specs.Meaning.{eval}
 use Rattle.sheet_recalc.specs.Names.{Names, Data, Formula, binding, put}
 use Rattle.sheet_recalc.specs.Meaning.{val}
 use Rattle.sheet_recalc.specs.Cells.{cell_put}
-use Rattle.sheet_recalc.specs.declared.refusal.Refusal.TheVariants.{NotFound, NotData, Rank, Index, Length, Domain}
+use Rattle.sheet_recalc.specs.Rows.{row_put}
+use Rattle.sheet_recalc.specs.declared.refusal.Refusal.TheVariants.{NotFound, NotData, Rank, Index, Length, Domain, Limit}
 
 abbrev numbers : List ℤ → ArrayValue
 numbers zs = record { item_type = Nums; shape = length zs ∷ []; items = map (λ (z : ℤ). Num z) zs }
@@ -73,6 +74,46 @@ no_item = refl
 
 other_type : cell_put (Some (Data (numbers (pos 1 ∷ [])))) (pos 1 ∷ []) (Text (0x61 ∷ [])) ≡ Err Domain
 other_type = refl
+
+-- )ROW C 'ef', over a table of characters
+abbrev characters : ℕ → ℕ → List ℕ → ArrayValue
+characters rows columns cs = record { item_type = Chars; shape = rows ∷ columns ∷ []; items = map (λ (c : ℕ). Char c) cs }
+
+row_added : row_put (Some (Data (characters 2 2 (0x61 ∷ 0x62 ∷ 0x63 ∷ 0x64 ∷ [])))) (Text (0x65 ∷ 0x66 ∷ [])) ≡ Ok (characters 3 2 (0x61 ∷ 0x62 ∷ 0x63 ∷ 0x64 ∷ 0x65 ∷ 0x66 ∷ []))
+row_added = refl
+
+-- )ROW V 9
+item_added : row_put (Some (Data (numbers (pos 1 ∷ pos 2 ∷ [])))) (Numbers (pos 9 ∷ [])) ≡ Ok (numbers (pos 1 ∷ pos 2 ∷ pos 9 ∷ []))
+item_added = refl
+
+-- a table of numbers without columns, whose rows have no items
+abbrev rows_only : ℕ → ArrayValue
+rows_only n = record { item_type = Nums; shape = n ∷ 0 ∷ []; items = [] }
+
+empty_row_added : row_put (Some (Data (rows_only 2))) (Text []) ≡ Ok (rows_only 3)
+empty_row_added = refl
+
+-- why a row is refused
+row_of_absent : row_put (binding [] A) (Numbers (pos 5 ∷ [])) ≡ Err NotFound
+row_of_absent = refl
+
+row_of_formula : row_put (Some (Formula (number 1))) (Numbers (pos 5 ∷ [])) ≡ Err NotData
+row_of_formula = refl
+
+row_of_scalar : row_put (Some (Data (record { item_type = Nums; shape = []; items = Num (pos 5) ∷ [] }))) (Text []) ≡ Err Rank
+row_of_scalar = refl
+
+row_of_planes : row_put (Some (Data (record { item_type = Nums; shape = 1 ∷ 1 ∷ 1 ∷ []; items = Num (pos 5) ∷ [] }))) (Numbers (pos 1 ∷ [])) ≡ Err Rank
+row_of_planes = refl
+
+row_too_long : row_put (Some (Data (numbers (pos 1 ∷ [])))) (Text (0x61 ∷ 0x62 ∷ [])) ≡ Err Length
+row_too_long = refl
+
+row_of_other_type : row_put (Some (Data (record { item_type = Chars; shape = 0 ∷ []; items = [] }))) (Numbers (pos 5 ∷ [])) ≡ Err Domain
+row_of_other_type = refl
+
+row_beyond_limits : row_put (Some (Data (rows_only 1048576))) (Numbers []) ≡ Err Limit
+row_beyond_limits = refl
 
 -- the kinds of errors, each with the name in whose formula it arose
 abbrev error_in : Kind → List ℕ → Outcome

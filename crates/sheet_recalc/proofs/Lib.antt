@@ -11,4 +11,5 @@ pub mod Working
 pub mod Rebound
 pub mod Refused
 pub mod Indices
+pub mod Rows
 pub mod Examples

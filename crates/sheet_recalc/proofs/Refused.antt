@@ -9,7 +9,8 @@ use Rattle.formula_core.specs.Meaning.{eval}
 use Rattle.sheet_recalc.specs.Names.{Names, Binding, Data, Formula, binding, put, Refers}
 use Rattle.sheet_recalc.specs.Meaning.{val}
 use Rattle.sheet_recalc.specs.Cells.{cell_put}
-use Rattle.sheet_recalc.specs.Changes.{Define, Store, Put, SetCell, Refuses, CannotPut, IsCycleFrom, HasRoom}
+use Rattle.sheet_recalc.specs.Rows.{row_put}
+use Rattle.sheet_recalc.specs.Changes.{Define, Store, Put, SetCell, AddRow, Refuses, CannotPut, IsCycleFrom, HasRoom}
 use Rattle.sheet_recalc.specs.declared.refusal.Refusal.{Refusal}
 use Rattle.sheet_recalc.specs.declared.refusal.Refusal.TheVariants as why
 use Rattle.sheet_recalc.proofs.Cycles.{no_cycle_by_data}
@@ -25,6 +26,7 @@ refused_define names name t why.Rank h = h
 refused_define names name t why.Length h = h
 refused_define names name t why.Index h = h
 refused_define names name t why.Domain h = h
+refused_define names name t why.Limit h = h
 refused_define names name t (why.Fault e) h = h
 
 -- data makes no cycle
@@ -42,6 +44,7 @@ refused_put names name a acyclic why.Rank h = h
 refused_put names name a acyclic why.Length h = h
 refused_put names name a acyclic why.Index h = h
 refused_put names name a acyclic why.Domain h = h
+refused_put names name a acyclic why.Limit h = h
 refused_put names name a acyclic (why.Fault e) h = absurd h
 
 pub refused_data : (names : Names) (name : List ℕ) (t : Tree) (a : ArrayValue) → eval t (val names) ≡ Ok a → (cause : Refusal) → Refuses names (Put name a) cause → Refuses names (Store name t) cause
@@ -54,6 +57,7 @@ refused_data names name t a is why.Rank h = h
 refused_data names name t a is why.Length h = h
 refused_data names name t a is why.Index h = h
 refused_data names name t a is why.Domain h = h
+refused_data names name t a is why.Limit h = h
 refused_data names name t a is (why.Fault e) h = absurd h
 
 -- a name that is present is bound to an array without a refusal but for want of memory
@@ -67,6 +71,7 @@ only_memory names name a present why.Rank h = absurd h
 only_memory names name a present why.Length h = absurd h
 only_memory names name a present why.Index h = absurd h
 only_memory names name a present why.Domain h = absurd h
+only_memory names name a present why.Limit h = absurd h
 only_memory names name a present (why.Fault e) h = absurd h
 
 -- a cell was edited, so its name is present
@@ -78,6 +83,16 @@ pub refused_cell : (names : Names) (name : List ℕ) (places : List ℤ) (litera
     → (cause : Refusal) → Refuses names (Put name a) cause → Refuses names (SetCell name places literal) cause
 refused_cell names name places literal a is cause h =
     subst (λ (y : Refusal). Refuses names (SetCell name places literal) y) (sym (only_memory names name a (cell_present (binding names name) places literal a is) cause h)) tt
+
+-- a row was added to data, so its name is present
+pub row_present : (b : Option Binding) (literal : Constant) (a : ArrayValue) → row_put b literal ≡ Ok a → IsSome b
+row_present None literal a h = let never : Err why.NotFound ≡ Ok a = h in absurd cc
+row_present (Some b) literal a h = refl
+
+pub refused_row : (names : Names) (name : List ℕ) (literal : Constant) (a : ArrayValue) → row_put (binding names name) literal ≡ Ok a
+    → (cause : Refusal) → Refuses names (Put name a) cause → Refuses names (AddRow name literal) cause
+refused_row names name literal a is cause h =
+    subst (λ (y : Refusal). Refuses names (AddRow name literal) y) (sym (only_memory names name a (row_present (binding names name) literal a is) cause h)) tt
 
 -- how many names there are once one is bound anew
 module _ (names : Names) (name : List ℕ) (b : Binding) where

@@ -55,10 +55,10 @@ cell_put (Some (Data a)) places literal =
     else Err Rank
 
 -- a call answers what was asked for, or want of memory
-abbrev pub IsCellAnswer : Result ArrayValue Refusal → Result ArrayValue Refusal → Type 0
-IsCellAnswer wanted (Ok a) = wanted ≡ Ok a
-IsCellAnswer wanted (Err NoMemory) = Unit {0}
-IsCellAnswer wanted (Err cause) = wanted ≡ Err cause
+abbrev pub IsDataAnswer : Result ArrayValue Refusal → Result ArrayValue Refusal → Type 0
+IsDataAnswer wanted (Ok a) = wanted ≡ Ok a
+IsDataAnswer wanted (Err NoMemory) = Unit {0}
+IsDataAnswer wanted (Err cause) = wanted ≡ Err cause
 
 -- the only item of a list that has one item, and none of any other
 abbrev pub IsOnlyItem : List Item → Option Item → Type 0

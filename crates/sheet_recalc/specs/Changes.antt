@@ -7,6 +7,7 @@ use Rattle.formula_core.specs.Meaning.{eval}
 use Rattle.sheet_recalc.specs.Names.{Names, Binding, Data, Formula, binding, put, without, Refers}
 use Rattle.sheet_recalc.specs.Meaning.{val}
 use Rattle.sheet_recalc.specs.Cells.{cell_put}
+use Rattle.sheet_recalc.specs.Rows.{row_put}
 use Rattle.sheet_recalc.specs.declared.refusal.Refusal.{Refusal}
 use Rattle.sheet_recalc.specs.declared.refusal.Refusal.TheVariants as why
 
@@ -19,6 +20,8 @@ pub data Change : Type 0 where
   Put : List ℕ → ArrayValue → Change
   -- replace one item of data
   SetCell : List ℕ → List ℤ → Constant → Change
+  -- put a row at the end of data
+  AddRow : List ℕ → Constant → Change
   -- remove a name
   Erase : List ℕ → Change
 
@@ -32,6 +35,7 @@ Accepts old (Define n t) new = (new ≡ put old n (Formula t)) × IsAcyclic (Ref
 Accepts old (Store n t) new = (a : ArrayValue) × (eval t (val old) ≡ Ok a) × (new ≡ put old n (Data a)) × HasRoom old n
 Accepts old (Put n a) new = (new ≡ put old n (Data a)) × HasRoom old n
 Accepts old (SetCell n places literal) new = (a : ArrayValue) × (cell_put (binding old n) places literal ≡ Ok a) × (new ≡ put old n (Data a))
+Accepts old (AddRow n literal) new = (a : ArrayValue) × (row_put (binding old n) literal ≡ Ok a) × (new ≡ put old n (Data a))
 Accepts old (Erase n) new = IsSome (binding old n) × (new ≡ without old n)
 
 -- a cycle of names that begins with this one: each refers to the next, and the last to the first
@@ -54,6 +58,7 @@ CannotPut old name b cause = ⊥
 abbrev pub Refuses : Names → Change → Refusal → Type 0
 Refuses old change why.NoMemory = Unit {0}
 Refuses old (SetCell n places literal) cause = cell_put (binding old n) places literal ≡ Err cause
+Refuses old (AddRow n literal) cause = row_put (binding old n) literal ≡ Err cause
 Refuses old (Define n t) cause = CannotPut old n (Formula t) cause
 Refuses old (Store n t) (why.Fault e) = eval t (val old) ≡ Err e
 Refuses old (Store n t) why.SheetFull = (a : ArrayValue) × (eval t (val old) ≡ Ok a) × IsFullFor old n

@@ -2,7 +2,7 @@
 use Rattle.std.specs.Prelude.{◌≡◌, List, [], ◌∷◌, Result, Ok, Err}
 use Rattle.sheet_recalc.specs.Names.{Names}
 use Rattle.apl_expr.specs.Trees.{tree_of, constant_of}
-use Rattle.sheet_recalc.specs.Changes.{Change, Define, Store, Put, SetCell, Erase, Accepts, Refuses}
+use Rattle.sheet_recalc.specs.Changes.{Change, Define, Store, Put, SetCell, AddRow, Erase, Accepts, Refuses}
 use Rattle.sheet_recalc.specs.declared.history.Change as code
 use Rattle.sheet_recalc.specs.declared.history.Change.TheVariants as made
 use Rattle.sheet_recalc.specs.declared.refusal.Refusal.{Refusal}
@@ -12,6 +12,7 @@ change_of (made.Define name tree) = Define name (tree_of tree)
 change_of (made.Data name tree) = Store name (tree_of tree)
 change_of (made.Put name array) = Put name array
 change_of (made.Cell name places literal) = SetCell name places.items (constant_of literal)
+change_of (made.Row name literal) = AddRow name (constant_of literal)
 change_of (made.Erase name) = Erase name
 
 -- from old, the change may have this answer and lead to new

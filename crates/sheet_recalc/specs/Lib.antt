@@ -1,6 +1,7 @@
 pub mod Names
 pub mod Meaning
 pub mod Cells
+pub mod Rows
 pub mod Entries
 pub mod Outline
 pub mod NameOrder

@@ -9,7 +9,7 @@ ghost use Rattle.arrays_core.specs.Items.{type_of};
 ghost use Rattle.arrays_core.specs.Shapes.{is_index_of};
 ghost use Rattle.sheet_recalc.specs.Names.{binding, Data};
 ghost use Rattle.sheet_recalc.specs.Entries.{names_of};
-ghost use Rattle.sheet_recalc.specs.Cells.{cell_put, index_of_number, index_of_numbers, is_on_axis, items_of, item_put, IsCellAnswer, IsOnlyItem};
+ghost use Rattle.sheet_recalc.specs.Cells.{cell_put, index_of_number, index_of_numbers, is_on_axis, items_of, item_put, IsDataAnswer, IsOnlyItem};
 
 use crate::entry::Entry;
 use crate::refusal::Refusal;
@@ -26,7 +26,7 @@ pub(crate) fn data_with_cell(
     places: &[i64],
     literal: &Literal,
 ) -> Result<Array, Refusal>
-    ensures { IsCellAnswer (cell_put (binding (names_of entries.now.entries) name) places.now (constant_of literal.now)) result }
+    ensures { IsDataAnswer (cell_put (binding (names_of entries.now.entries) name) places.now (constant_of literal.now)) result }
 {
     match entries.get(&name) {
         None => Err(Refusal::NotFound),
@@ -37,7 +37,7 @@ pub(crate) fn data_with_cell(
 
 /// The array with a literal in one cell, or why not.
 fn with_cell(array: &Array, places: &[i64], literal: &Literal) -> Result<Array, Refusal>
-    ensures { IsCellAnswer (cell_put (Some (Data array.now)) places.now (constant_of literal.now)) result }
+    ensures { IsDataAnswer (cell_put (Some (Data array.now)) places.now (constant_of literal.now)) result }
 {
     if places.len() != array.shape().len() {
         return Err(Refusal::Rank);
@@ -51,7 +51,7 @@ fn with_cell(array: &Array, places: &[i64], literal: &Literal) -> Result<Array, 
 /// The array with a literal of one item of its type at an index list.
 fn with_literal(array: &Array, index: &Shape, literal: &Literal) -> Result<Array, Refusal>
     requires { is_index_of array.now.shape index.now.items ≡ true }
-    ensures { IsCellAnswer (item_put array.now index.now.items (items_of (constant_of literal.now))) result }
+    ensures { IsDataAnswer (item_put array.now index.now.items (items_of (constant_of literal.now))) result }
 {
     let Some(item) = only_item(literal) else {
         return Err(Refusal::Length);

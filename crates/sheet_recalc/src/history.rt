@@ -22,6 +22,8 @@ pub enum Change {
     Put(Name, Array),
     /// Replace one item of data.
     Cell(Name, Vec<i64>, Literal),
+    /// Put a row at the end of data.
+    Row(Name, Literal),
     /// Remove a name.
     Erase(Name),
 }
@@ -36,6 +38,7 @@ impl Sheet {
             Change::Data(name, tree) => self.data(name, tree),
             Change::Put(name, array) => self.put_array(name, array),
             Change::Cell(name, places, literal) => self.set_cell(name, &places, &literal),
+            Change::Row(name, literal) => self.add_row(name, &literal),
             Change::Erase(name) => self.erase(name),
         }
     }

@@ -9,6 +9,7 @@ mod history;
 mod outline;
 mod recalculation;
 mod refusal;
+mod row;
 mod sheet;
 
 pub use history::Change;

@@ -16,14 +16,16 @@ pub enum Refusal {
     NotFound,
     /// The name is bound to a formula.
     NotData,
-    /// The positions are not as many as the axes.
+    /// The positions are not as many as the axes, or the data is neither a vector nor a table and has no rows.
     Rank,
-    /// The literal has not one item.
+    /// The literal has not one item, or not as many as a row of the data.
     Length,
     /// A position is below 1 or above its axis.
     Index,
-    /// The literal's item is of the other type.
+    /// The literal's items are of the other type.
     Domain,
+    /// The data would go beyond the limits of arrays.
+    Limit,
     /// The name is new, and as many names are present as a sheet has at most.
     SheetFull,
     /// The expression gave an error.

@@ -14,7 +14,7 @@ ghost use Rattle.sheet_recalc.specs.Entries.{names_of};
 ghost use Rattle.sheet_recalc.specs.Outline.{bound, shown_by, IsPlanned};
 ghost use Rattle.sheet_recalc.specs.NameOrder.{HasOrder};
 ghost use Rattle.sheet_recalc.specs.Live.{IsLive};
-ghost use Rattle.sheet_recalc.specs.Changes.{Accepts, Refuses, Define, Store, Put, SetCell, Erase, HasRoom, IsFullFor, CannotPut};
+ghost use Rattle.sheet_recalc.specs.Changes.{Accepts, Refuses, Define, Store, Put, SetCell, AddRow, Erase, HasRoom, IsFullFor, CannotPut};
 
 use crate::cell::data_with_cell;
 use crate::commit::{commit, commit_removal};
@@ -23,6 +23,7 @@ use crate::entry::{BindingRef, Entry};
 use crate::outline::Outline;
 use crate::recalculation::{Results, absent, results_of};
 use crate::refusal::Refusal;
+use crate::row::data_with_row;
 use apl_expr::{Expr, Literal};
 use apl_tokens::Name;
 use arrays_core::{Array, Fault};
@@ -158,6 +159,18 @@ impl Sheet {
         ensures err { OnErr result (self.new ≡ self.old) }
     {
         let array = data_with_cell(&self.entries, name, places, literal)?;
+        self.put_array(name, array)
+    }
+
+    /// Puts a literal at the end of data: one more item of a vector, one more row of a table. The first of these refuses it:
+    /// the name is absent, or bound to a formula; the data is of another rank; the literal has not as many items as a row, or
+    /// items of the other type; the data would go beyond the limits of arrays.
+    pub fn add_row(&mut self, name: Name, literal: &Literal) -> Result<(), Refusal>
+        ensures ok { OnOk result (Accepts self.old.names (AddRow name (constant_of literal.now)) self.new.names) }
+        ensures refused { IfErr result (Refuses self.old.names (AddRow name (constant_of literal.now))) }
+        ensures err { OnErr result (self.new ≡ self.old) }
+    {
+        let array = data_with_row(self.alloc, &self.entries, name, literal)?;
         self.put_array(name, array)
     }
 

@@ -1,0 +1,44 @@
+-- Rows of data: the types of their items, and that a row which passes the checks is put.
+use Rattle.std.proofs.Common.{◌≡◌, ℕ, ℤ, List, [], ◌∷◌, length, true, false, Some, Ok, get_or, refl, eq-eqb}
+use Rattle.std.specs.Prelude.{◌==◌, nat_le}
+use Rattle.std.proofs.lemmas.Bool.{le-leb}
+use Rattle.std.proofs.lemmas.List.Sums.{list_all-from_AllPass}
+use Rattle.apl_expr.specs.Trees.{Numbers, Text}
+use Rattle.arrays_core.specs.Arrays.{ArrayValue}
+use Rattle.arrays_core.specs.Shapes.{size, IsWithinLimits}
+use Rattle.arrays_core.specs.declared.item.Item.{Item}
+use Rattle.arrays_core.specs.declared.item.ItemType.{ItemType}
+use Rattle.arrays_core.specs.declared.item.ItemType.TheVariants.{Nums, Chars}
+use Rattle.index_region.specs.Common.{is_within_limits}
+use Rattle.sheet_recalc.specs.Cells.{items_of, is_type}
+use Rattle.sheet_recalc.specs.Rows.{row_length, grown, are_of_type, with_row, row_items_put}
+
+all_numbers : (ns : List ℤ) → are_of_type Nums (items_of (Numbers ns)) ≡ true
+all_numbers [] = refl
+all_numbers (n ∷ ns) = all_numbers ns
+
+all_characters : (cs : List ℕ) → are_of_type Chars (items_of (Text cs)) ≡ true
+all_characters [] = refl
+all_characters (c ∷ cs) = all_characters cs
+
+-- the items of a literal that has some are of its own type alone
+pub are_numbers : (item_type : ItemType) (ns : List ℤ) → (length ns == 0) ≡ false → are_of_type item_type (items_of (Numbers ns)) ≡ is_type Nums item_type
+are_numbers item_type [] some = cc
+are_numbers Nums (n ∷ ns) some = all_numbers ns
+are_numbers Chars (n ∷ ns) some = refl
+
+pub are_characters : (item_type : ItemType) (cs : List ℕ) → (length cs == 0) ≡ false → are_of_type item_type (items_of (Text cs)) ≡ is_type Chars item_type
+are_characters item_type [] some = cc
+are_characters Nums (c ∷ cs) some = refl
+are_characters Chars (c ∷ cs) some = all_characters cs
+
+within : (shape : List ℕ) → IsWithinLimits shape → is_within_limits shape ≡ true
+within shape h =
+    let axes = list_all-from_AllPass (λ (n : ℕ). nat_le n 1048576) shape (λ k d below. le-leb (get_or shape k d) 1048576 (h.axes k d below)) in
+    rw (le-leb (length shape) 4 h.rank, axes, le-leb (size shape) 1048576 h.size_within) refl
+
+-- a row that passes each check is put
+pub row_is_put : (a : ArrayValue) (count : ℕ) (row : List Item) → row_length a.shape ≡ Some count → length row ≡ count → are_of_type a.item_type row ≡ true → IsWithinLimits (grown a.shape)
+    → row_items_put a (row_length a.shape) row ≡ Ok (with_row a row)
+row_is_put a count row has long typed limits =
+    rw (has, eq-eqb (length row) count long, typed, within (grown a.shape) limits) refl

@@ -1,0 +1,18 @@
+use Rattle.std.proofs.Common.{◌≡◌, ◌∙◌, ◌++◌, ℕ, List, length, true, refl, sym, ap, subst, Some, Ok}
+use Rattle.apl_expr.specs.Trees.{constant_of}
+use Rattle.arrays_core.specs.Shapes.{IsWithinLimits}
+use Rattle.sheet_recalc.specs.Cells.{items_of}
+use Rattle.sheet_recalc.specs.Rows.{row_length, grown, are_of_type}
+use Rattle.sheet_recalc.proofs.Rows.{row_is_put}
+use Rattle.sheet_recalc.proofs.row.with_row.Goals as goal
+
+pub returns : goal.returns
+returns c =
+    let a = c.args.array.now in
+    let row = items_of (constant_of c.args.literal.now) in
+    let has : row_length a.shape ≡ Some c.in-Some.count = cc in
+    let long : length row ≡ c.in-Some.count = cc in
+    let typed : are_of_type a.item_type row ≡ true = cc in
+    let same : c.grown-shape.result.items ≡ grown a.shape = cc in
+    let limits = subst (λ (shape : List ℕ). IsWithinLimits shape) (c.as_slice-2.ensures ∙ same) (c.if-not-is_within_limits.ensures.0 refl) in
+    row_is_put a c.in-Some.count row has long typed limits ∙ ap Ok (ap (λ (shape : List ℕ). record a { shape = shape; items = a.items ++ row }) (sym same) ∙ sym c.in_ok-with_items.ensures)

@@ -1,0 +1,50 @@
+-- A row at the end of data.
+use Rattle.std.specs.Prelude.{ℕ, ◌+◌, ◌==◌, Bool, List, [], ◌∷◌, ◌++◌, length, Option, Some, None, Result, Ok, Err, if◌then◌else◌}
+use Rattle.std.specs.List.{list_all}
+use Rattle.apl_expr.specs.Trees.{Constant}
+use Rattle.arrays_core.specs.Arrays.{ArrayValue}
+use Rattle.arrays_core.specs.Items.{type_of}
+use Rattle.arrays_core.specs.declared.item.Item.{Item}
+use Rattle.arrays_core.specs.declared.item.ItemType.{ItemType}
+use Rattle.index_region.specs.Common.{is_within_limits}
+use Rattle.sheet_recalc.specs.Names.{Binding, Data, Formula}
+use Rattle.sheet_recalc.specs.Cells.{items_of, is_type}
+use Rattle.sheet_recalc.specs.declared.refusal.Refusal.{Refusal}
+use Rattle.sheet_recalc.specs.declared.refusal.Refusal.TheVariants.{NotFound, NotData, Rank, Length, Domain, Limit}
+
+-- how many items a row has: one of a vector, one a column of a table; other arrays have no rows
+abbrev pub row_length : List ℕ → Option ℕ
+row_length (items ∷ []) = Some 1
+row_length (rows ∷ columns ∷ []) = Some columns
+row_length shape = None
+
+-- a shape with one more place along its first axis
+abbrev pub grown : List ℕ → List ℕ
+grown [] = []
+grown (n ∷ shape) = (n + 1) ∷ shape
+
+-- each of these items is of this type, so no items are of any
+abbrev pub are_of_type : ItemType → List Item → Bool
+are_of_type item_type items = list_all (λ item. is_type (type_of item) item_type) items
+
+-- the array with these items behind its own
+abbrev pub with_row : ArrayValue → List Item → ArrayValue
+with_row a row = record a { shape = grown a.shape; items = a.items ++ row }
+
+-- items of the array's type are put behind its own, where the limits leave room
+abbrev pub items_put : ArrayValue → List Item → Result ArrayValue Refusal
+items_put a row =
+    if are_of_type a.item_type row
+    then (if is_within_limits (grown a.shape) then Ok (with_row a row) else Err Limit)
+    else Err Domain
+
+-- as many items as a row has are put behind the others
+abbrev pub row_items_put : ArrayValue → Option ℕ → List Item → Result ArrayValue Refusal
+row_items_put a None row = Err Rank
+row_items_put a (Some count) row = if length row == count then items_put a row else Err Length
+
+-- the data with the literal as its last row, or why not
+abbrev pub row_put : Option Binding → Constant → Result ArrayValue Refusal
+row_put None literal = Err NotFound
+row_put (Some (Formula t)) literal = Err NotData
+row_put (Some (Data a)) literal = row_items_put a (row_length a.shape) (items_of literal)
