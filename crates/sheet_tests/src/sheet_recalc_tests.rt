@@ -1,6 +1,6 @@
 //! Each change to a sheet, what it then shows, a cycle, and changes in a list.
 
-use crate::fixtures::{are_numbers, tree_of};
+use crate::fixtures::{are_characters, are_numbers, tree_of};
 use apl_expr::Literal;
 use apl_tokens::Name;
 use arrays_core::Array;
@@ -76,4 +76,52 @@ fn answers_changes_in_order(rt: HostRuntime) {
         matches!(&answers, Ok(each) if matches!(each.as_slice(), [Ok(()), Ok(()), Err(Refusal::Cycle(_)), Ok(())]))
     );
     assert!(rt; shows(rt.alloc(), &sheet, "T", &[8, 10, 12]));
+}
+
+/// Binds a name to the vector of these numbers, where that is accepted.
+fn put(alloc: Global, sheet: &mut Sheet, name: &str, numbers: Vec<i64>) -> Option<()> {
+    let name = Name::read(name)?;
+    let array = Array::vector(alloc, numbers).ok()?;
+    sheet.apply(Change::Put(name, array)).ok()
+}
+
+/// Puts a literal at the end of a name's data, where that is accepted.
+fn add_row(sheet: &mut Sheet, name: &str, row: Literal) -> Option<()> {
+    let name = Name::read(name)?;
+    sheet.apply(Change::Row(name, row)).ok()
+}
+
+#[test]
+fn takes_an_array_and_one_more_item(rt: HostRuntime) {
+    let mut sheet = Sheet::new(rt.alloc());
+    let Ok(numbers) = vec![in rt.alloc(); 1, 2] else {
+        assert!(rt; false);
+        return;
+    };
+    assert!(rt; define(rt.alloc(), &mut sheet, "T", "D×2").is_some());
+    assert!(rt; put(rt.alloc(), &mut sheet, "D", numbers).is_some());
+    assert!(rt; add_row(&mut sheet, "D", Literal::Num(9)).is_some());
+    assert!(rt; shows(rt.alloc(), &sheet, "T", &[2, 4, 18]));
+}
+
+#[test]
+fn takes_one_more_row(rt: HostRuntime) {
+    let mut sheet = Sheet::new(rt.alloc());
+    let Ok(row) = vec![in rt.alloc(); 'e', 'f'] else {
+        assert!(rt; false);
+        return;
+    };
+    assert!(rt; store(rt.alloc(), &mut sheet, "C", "2 2⍴'abcd'").is_some());
+    assert!(rt; add_row(&mut sheet, "C", Literal::Text(row)).is_some());
+    let table = value(rt.alloc(), &sheet, "C").ok_or(());
+    assert!(rt; are_characters(table, &[3, 2], &['a', 'b', 'c', 'd', 'e', 'f']));
+}
+
+#[test]
+fn takes_one_more_row_without_items(rt: HostRuntime) {
+    let mut sheet = Sheet::new(rt.alloc());
+    let row = Literal::Text(Vec::new(rt.alloc()));
+    assert!(rt; store(rt.alloc(), &mut sheet, "E", "2 0⍴0").is_some());
+    assert!(rt; add_row(&mut sheet, "E", row).is_some());
+    assert!(rt; are_numbers(value(rt.alloc(), &sheet, "E").ok_or(()), &[3, 0], &[]));
 }
