@@ -1,14 +1,21 @@
 -- What one line is answered.
-use Rattle.std.specs.Prelude.{◌≡◌, ◌≢◌, ℕ, ◌<◌, ◌≤◌, List, [], length, codes, Result, Ok, Err}
+use Rattle.std.specs.Prelude.{◌≡◌, ◌≢◌, ℕ, ◌<◌, ◌≤◌, nat_lt, Bool, false, List, [], ◌++◌, length, map, codes, Option, Some, None, Result, Ok, Err, if◌then◌else◌}
+use Rattle.std.specs.List.{flat_map}
+use Rattle.std.specs.Map.{keys_of}
 use Rattle.std.specs.Str.{IsUtf8, chars}
 use Rattle.apl_expr.specs.declared.fault.LineFault.TheVariants.{Syntax, Limit}
-use Rattle.apl_expr.specs.Lines.{Meaning, Nothing, Define, Data, Cell, Show}
+use Rattle.apl_expr.specs.Lines.{Meaning, Nothing, Define, Data, Cell, Row, Erase, Show, Names, Csv}
 use Rattle.apl_expr.specs.Answers.{IsAnswered, IsReadAs}
 use Rattle.arrays_core.specs.Arrays.{ArrayValue}
 use Rattle.arrays_core.specs.declared.fault.Fault.{Fault}
-use Rattle.array_text.specs.Text.{array_text, fault_text}
+use Rattle.arrays_core.specs.declared.item.Item.{Item}
+use Rattle.arrays_core.specs.declared.item.ItemType.{ItemType}
+use Rattle.arrays_core.specs.declared.item.ItemType.TheVariants.{Nums, Chars}
+use Rattle.array_text.specs.Text.{line_end, number_of, array_text, fault_text}
+use Rattle.array_text.specs.Tables.{table_text}
 use Rattle.sheet_recalc.specs.Live.{SheetValue}
 use Rattle.formula_core.specs.Meaning.{eval}
+use Rattle.sheet_recalc.specs.Names.{Binding, binding}
 use Rattle.sheet_recalc.specs.Meaning.{val}
 use Rattle.sheet_recalc.specs.Changes.{Change, Accepts, Refuses}
 use Rattle.sheet_recalc.specs.Changes as change
@@ -39,6 +46,28 @@ abbrev pub shown_text : Result ArrayValue Fault → List ℕ
 shown_text (Ok a) = array_text a
 shown_text (Err f) = fault_text f
 
+-- names, each on a line of its own
+abbrev pub names_text : List (List ℕ) → List ℕ
+names_text names = flat_map (λ name. name ++ line_end) names
+
+-- whether items of this type are characters: there are some, and the type is that
+abbrev pub are_characters : ItemType → List Item → Bool
+are_characters Nums items = false
+are_characters Chars items = nat_lt 0 (length items)
+
+-- an array as a table; or why it is none: it has more than two axes, or items that are characters
+abbrev pub array_table : ArrayValue → List ℕ
+array_table a =
+    if nat_lt 2 (length a.shape) then refusal_text why.Rank
+    else if are_characters a.item_type a.items then refusal_text why.Domain
+    else table_text a.shape (map number_of a.items)
+
+-- what a name that is bound shows, as a table; an error prints as it is shown
+abbrev pub shown_table : Option Binding → Result ArrayValue Fault → List ℕ
+shown_table None shown = refusal_text why.NotFound
+shown_table (Some b) (Ok a) = array_table a
+shown_table (Some b) (Err f) = fault_text f
+
 -- an edit is accepted and prints nothing; or it is refused, not for want of memory, prints why and changes nothing
 pub data IsEdited : State → Change → List ℕ → State → Type 0 where
   accepted : {old new : State} {edit : Change} → Accepts old.names edit new.names → IsEdited old edit [] new
@@ -50,7 +79,11 @@ IsCarriedOut old Nothing text new = (text ≡ []) × (new ≡ old)
 IsCarriedOut old (Define n t) text new = IsEdited old (change.Define n t) text new
 IsCarriedOut old (Data n t) text new = IsEdited old (change.Store n t) text new
 IsCarriedOut old (Cell n ps l) text new = IsEdited old (change.SetCell n ps l) text new
+IsCarriedOut old (Row n l) text new = IsEdited old (change.AddRow n l) text new
+IsCarriedOut old (Erase n) text new = IsEdited old (change.Erase n) text new
 IsCarriedOut old (Show t) text new = (text ≡ shown_text (eval t (val old.names))) × (new ≡ old)
+IsCarriedOut old Names text new = (text ≡ names_text (keys_of old.names)) × (new ≡ old)
+IsCarriedOut old (Csv n) text new = (text ≡ shown_table (binding old.names n) (val old.names n)) × (new ≡ old)
 
 -- the answer to characters: they are no line, or too large a one, or what they mean is carried out
 pub data IsTextAnswer : State → List ℕ → List ℕ → State → Type 0 where

@@ -1,17 +1,14 @@
 // The answer to one line.
-ghost use Rattle.std.specs.Prelude.{◌≡◌, List, ℕ, [], IfOk, OnErr, IsOk, string_bytes};
+ghost use Rattle.std.specs.Prelude.{◌≡◌, IfOk, OnErr, string_bytes};
 ghost use Rattle.std.specs.Str.{chars};
 ghost use Rattle.apl_expr.specs.Lines.{meaning};
-ghost use Rattle.apl_expr.specs.Trees.{tree_of};
-ghost use Rattle.formula_core.specs.Meaning.{eval};
-ghost use Rattle.sheet_recalc.specs.Meaning.{val};
-ghost use Rattle.sheet_cli.specs.Answer.{shown_text, IsCarriedOut, IsTextAnswer, IsAnswer};
-ghost use Rattle.sheet_cli.specs.Edits.{IsRefusalText, IsEditText};
+ghost use Rattle.sheet_cli.specs.Answer.{IsCarriedOut, IsTextAnswer, IsAnswer};
 ghost use Rattle.sheet_cli.specs.Lines.{strip_cr};
 
-use apl_expr::{Command, Expr, LineFault, line};
-use array_text::{print, print_fault};
-use sheet_recalc::{Refusal, Sheet};
+use crate::queries::{list_names, show, table};
+use crate::refusals::edit_text;
+use apl_expr::{Command, LineFault, line};
+use sheet_recalc::Sheet;
 use std::alloc::{AllocError, Global};
 
 /// The most bytes of a line.
@@ -57,47 +54,11 @@ fn carry_out(alloc: Global, sheet: &mut Sheet, command: Command) -> Result<Strin
         Command::Cell(name, place, literal) => {
             edit_text(alloc, sheet.set_cell(name, &place, &literal))
         }
+        Command::Row(name, literal) => edit_text(alloc, sheet.add_row(name, &literal)),
+        Command::Erase(name) => edit_text(alloc, sheet.erase(name)),
         Command::Show(expr) => show(alloc, sheet, &expr),
-    }
-}
-
-/// The text of an edit. Only that of one that was refused needs memory.
-fn edit_text(alloc: Global, outcome: Result<(), Refusal>) -> Result<String, AllocError>
-    ensures text { IfOk result (λ text. IsEditText outcome (string_bytes text)) }
-    ensures accepted { IsOk outcome → IsOk result }
-{
-    match outcome {
-        Ok(()) => Ok(String::new(alloc)),
-        Err(refusal) => refusal_text(alloc, &refusal),
-    }
-}
-
-/// The line that a refusal prints. For want of memory there is none.
-fn refusal_text(alloc: Global, refusal: &Refusal) -> Result<String, AllocError>
-    ensures { IfOk result (λ text. IsRefusalText refusal.now (string_bytes text)) }
-{
-    match refusal {
-        Refusal::Cycle(_) => String::from_str(alloc, "CYCLE\n"),
-        Refusal::NotFound => String::from_str(alloc, "NOT FOUND\n"),
-        Refusal::NotData => String::from_str(alloc, "NOT DATA\n"),
-        Refusal::Rank => String::from_str(alloc, "RANK ERROR\n"),
-        Refusal::Length => String::from_str(alloc, "LENGTH ERROR\n"),
-        Refusal::Index => String::from_str(alloc, "INDEX ERROR\n"),
-        Refusal::Domain => String::from_str(alloc, "DOMAIN ERROR\n"),
-        Refusal::Limit => String::from_str(alloc, "LIMIT ERROR\n"),
-        Refusal::SheetFull => String::from_str(alloc, "SHEET FULL\n"),
-        Refusal::NoMemory => Err(AllocError),
-        Refusal::Fault(fault) => print_fault(alloc, fault),
-    }
-}
-
-/// The text of an expression's value, or of the error in its place.
-fn show(alloc: Global, sheet: &Sheet, expr: &Expr) -> Result<String, AllocError>
-    ensures { IfOk result (λ text. string_bytes text ≡ shown_text (eval (tree_of expr.now) (val sheet.now.names))) }
-{
-    match sheet.show(expr)? {
-        Ok(array) => print(alloc, &array),
-        Err(fault) => print_fault(alloc, &fault),
+        Command::Names => list_names(alloc, sheet),
+        Command::Csv(name) => table(alloc, sheet, name),
     }
 }
 

@@ -5,6 +5,8 @@ mod answer;
 mod device;
 mod laws;
 mod pending;
+mod queries;
+mod refusals;
 mod session;
 
 pub use device::{Device, Failed, Sink, Source};

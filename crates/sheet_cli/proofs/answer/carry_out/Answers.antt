@@ -15,3 +15,9 @@ returns-in-Cell-clause-ok c = let d = c.set_cell.ensures in elim c.match-literal
   | in-Nums-1 w ↦ IfOk-weaker c.edit_text-in-Cell.result _ _ (λ text e. rw (c.in-Cell.is, ← c.deref.ensures.value) (edited c.set_cell.result _ _ _ _ d.ok d.refused d.err e)) c.edit_text-in-Cell.ensures.text
   | in-Num-1 w ↦ IfOk-weaker c.edit_text-in-Cell.result _ _ (λ text e. rw (c.in-Cell.is, ← c.deref.ensures.value) (edited c.set_cell.result _ _ _ _ d.ok d.refused d.err e)) c.edit_text-in-Cell.ensures.text
 ]
+
+pub returns-in-Row-clause-ok : goal.returns-in-Row-clause-ok
+returns-in-Row-clause-ok c = let d = c.add_row.ensures in IfOk-weaker c.edit_text-in-Row.result _ _ (λ text e. rw c.in-Row.is (edited c.add_row.result _ _ _ _ d.ok d.refused d.err e)) c.edit_text-in-Row.ensures.text
+
+pub returns-in-Erase-clause-ok : goal.returns-in-Erase-clause-ok
+returns-in-Erase-clause-ok c = let d = c.erase.ensures in IfOk-weaker c.edit_text-in-Erase.result _ _ (λ text e. rw c.in-Erase.is (edited c.erase.result _ _ _ _ d.ok d.refused d.err e)) c.edit_text-in-Erase.ensures.text

@@ -1,0 +1,76 @@
+//! What a sheet is asked, and what it prints for it.
+
+ghost use Rattle.std.specs.Prelude.{◌≡◌, IfOk, string_bytes};
+ghost use Rattle.std.specs.Map.{keys_of};
+ghost use Rattle.apl_expr.specs.Trees.{tree_of};
+ghost use Rattle.formula_core.specs.Meaning.{eval};
+ghost use Rattle.sheet_recalc.specs.Names.{binding};
+ghost use Rattle.sheet_recalc.specs.Meaning.{val};
+ghost use Rattle.sheet_cli.specs.Answer.{shown_text, names_text, are_characters, array_table, shown_table};
+
+use crate::refusals::refusal_text;
+use apl_expr::Expr;
+use apl_tokens::Name;
+use array_text::{print, print_fault, write_table};
+use arrays_core::Array;
+use sheet_recalc::{Refusal, Sheet};
+use std::alloc::{AllocError, Global};
+
+/// The most axes of a table.
+const MOST_AXES: usize = 2;
+
+/// The text of an expression's value, or of the error in its place.
+pub(crate) fn show(alloc: Global, sheet: &Sheet, expr: &Expr) -> Result<String, AllocError>
+    ensures { IfOk result (λ text. string_bytes text ≡ shown_text (eval (tree_of expr.now) (val sheet.now.names))) }
+{
+    match sheet.show(expr)? {
+        Ok(array) => print(alloc, &array),
+        Err(fault) => print_fault(alloc, &fault),
+    }
+}
+
+/// The names in their order, each on a line of its own.
+pub(crate) fn list_names(alloc: Global, sheet: &Sheet) -> Result<String, AllocError>
+    ensures { IfOk result (λ text. string_bytes text ≡ names_text (keys_of sheet.now.names)) }
+{
+    let mut text = String::new(alloc);
+    for name in sheet.names().as_slice() {
+        text.push_str(name.text())?;
+        text.push('\n')?;
+    }
+    Ok(text)
+}
+
+/// What a name shows as a table, or why it is none.
+pub(crate) fn table(alloc: Global, sheet: &Sheet, name: Name) -> Result<String, AllocError>
+    ensures { IfOk result (λ text. string_bytes text ≡ shown_table (binding sheet.now.names name) (val sheet.now.names name)) }
+{
+    match sheet.value(name) {
+        None => refusal_text(alloc, &Refusal::NotFound),
+        Some(Ok(array)) => array_table(alloc, array),
+        Some(Err(fault)) => print_fault(alloc, &fault),
+    }
+}
+
+/// An array as a table, or why it is none.
+fn array_table(alloc: Global, array: &Array) -> Result<String, AllocError>
+    ensures { IfOk result (λ text. string_bytes text ≡ array_table array.now) }
+{
+    if array.shape().len() > MOST_AXES {
+        return refusal_text(alloc, &Refusal::Rank);
+    }
+    if are_characters(array) {
+        return refusal_text(alloc, &Refusal::Domain);
+    }
+    write_table(alloc, array)
+}
+
+/// Whether the items are characters: there are some, and the type is that.
+fn are_characters(array: &Array) -> bool
+    ensures { result ≡ are_characters array.now.item_type array.now.items }
+{
+    match array.characters() {
+        Some(characters) => !characters.is_empty(),
+        None => false,
+    }
+}
