@@ -1,0 +1,31 @@
+-- Why words are refused.
+use Rattle.std.proofs.Common.{◌≡◌, sym, subst, List, ⊎_elim, Option}
+use Rattle.clap.specs.Words.{HasKind, IsAmong, Row, Text, fault_of, kind_of, subcommand_of}
+use Rattle.clap.specs.declared.error.Error.{Error}
+use Rattle.clap.specs.declared.error.kind.ErrorKind.{ErrorKind}
+use Rattle.program_words.specs.declared.reading.WordsFault.{WordsFault}
+use Rattle.program_words.specs.declared.reading.WordsFault.TheVariants.{NoMemory, BadName, BadWords}
+use Rattle.program_words.specs.Asked.{HasBadName, IsRefusalOf}
+use Rattle.program_words.specs.Matched.{IsForName, IsRefusalFor}
+use Rattle.program_words.specs.Program.{aplsheet}
+
+pub for_name-weaker : {P Q : Type 0} (f : WordsFault) → (P → Q) → IsForName P f → IsForName Q f
+for_name-weaker NoMemory g h = tt
+for_name-weaker BadName g h = g h
+for_name-weaker (BadWords e) g h = h
+
+-- words that `clap` refuses
+pub refused_by_clap : (words : List Text) (e : Error) (f : WordsFault) → HasKind (fault_of aplsheet words) e → IsRefusalFor (kind_of e) f → IsRefusalOf words f
+unfolding IsRefusalOf
+refused_by_clap words e NoMemory kinds h = tt
+refused_by_clap words e BadName kinds h = absurd h
+refused_by_clap words e (BadWords x) kinds h =
+    ⊎_elim (λ m. absurd (h.1 m)) (λ among. subst (λ (k : ErrorKind). IsAmong k (fault_of aplsheet words)) (sym h.0) among) kinds
+
+-- words that `clap` takes
+pub refused_for_name : (words : List Text) (asked : Option (Text × List Row)) (f : WordsFault) → asked ≡ subcommand_of aplsheet words → IsForName (HasBadName asked) f
+    → IsRefusalOf words f
+unfolding IsRefusalOf
+refused_for_name words asked NoMemory is h = tt
+refused_for_name words asked BadName is h = subst HasBadName is h
+refused_for_name words asked (BadWords e) is h = absurd h

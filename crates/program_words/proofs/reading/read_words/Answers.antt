@@ -1,0 +1,38 @@
+use Rattle.std.proofs.Common.{ap, subst, sym, ◌∙◌}
+use Rattle.std.proofs.lemmas.Result.{IfErr-weaker, IfOk-weaker, err_from_is_err_and}
+use Rattle.clap.specs.Words.{App, HasKind, app_of, fault_of, subcommand_rows_of}
+use Rattle.clap.specs.Walk.{texts}
+use Rattle.program_words.specs.Asked.{IsRefusalOf, Means}
+use Rattle.program_words.specs.Matched.{IsWholeTable}
+use Rattle.program_words.proofs.Exact.{is_free, matched}
+use Rattle.program_words.proofs.Refusals.{refused_by_clap, refused_for_name}
+use Rattle.program_words.proofs.Required.{words_whole}
+use Rattle.program_words.proofs.reading.read_words.Goals as goal
+
+pub returns-in_err-command-clause-refused : goal.returns-in_err-command-clause-refused
+unfolding IsRefusalOf
+returns-in_err-command-clause-refused c = let p = err_from_is_err_and c.from_residual.result c.from_residual.ensures.1 in rw (p.1, p.2) tt
+
+pub words_of-requires : goal.words_of-requires
+words_of-requires c =
+    let words = texts c.args.words.now in
+    let app = app_of c.in_ok-command.command in
+    let none = sym (ap (λ (a : App). fault_of a words) c.in_ok-command.ensures) ∙ c.in-Ok.ensures.kinds (is_free app c.in_ok-command.ensures) in
+    subst IsWholeTable (sym (matched app c.in-Ok.matches words c.in_ok-command.ensures c.in-Ok.ensures.matches)) (words_whole words none)
+
+pub returns-in-Ok-clause-ok : goal.returns-in-Ok-clause-ok
+returns-in-Ok-clause-ok c =
+    let is = matched (app_of c.in_ok-command.command) c.in-Ok.matches (texts c.args.words.now) c.in_ok-command.ensures c.in-Ok.ensures.matches in
+    IfOk-weaker c.words_of.result _ _ (λ w h. subst (λ asked. Means asked w) is h) c.words_of.ensures.ok
+
+pub returns-in-Ok-clause-refused : goal.returns-in-Ok-clause-refused
+returns-in-Ok-clause-refused c =
+    let is = matched (app_of c.in_ok-command.command) c.in-Ok.matches (texts c.args.words.now) c.in_ok-command.ensures c.in-Ok.ensures.matches in
+    IfErr-weaker c.words_of.result _ _ (λ f h. refused_for_name (texts c.args.words.now) (subcommand_rows_of c.in-Ok.matches) f is h) c.words_of.ensures.bad_name
+
+pub returns-in-Err-clause-refused : goal.returns-in-Err-clause-refused
+returns-in-Err-clause-refused c =
+    let words = texts c.args.words.now in
+    let kinds = c.in-Err.ensures.kinds (is_free (app_of c.in_ok-command.command) c.in_ok-command.ensures) in
+    let same = subst (λ a. HasKind (fault_of a words) c.in-Err.error) c.in_ok-command.ensures kinds in
+    refused_by_clap words c.in-Err.error c.refusal.result same c.refusal.ensures

@@ -1,0 +1,40 @@
+use Rattle.std.proofs.Common.{refl, sym, ◌∙◌}
+use Rattle.std.proofs.lemmas.Bool.{both_ways, not-true, not-false}
+use Rattle.std.proofs.lemmas.Result.{err_from_is_err_and}
+use Rattle.program_words.specs.Asked.{HasBadName, Means}
+use Rattle.program_words.specs.Matched.{IsWholeTable}
+use Rattle.program_words.proofs.Matches.{sub_none, sub_some}
+use Rattle.program_words.proofs.Refusals.{for_name-weaker}
+use Rattle.program_words.proofs.reading.words_of.Goals as goal
+
+pub returns-in_default-clause-ok : goal.returns-in_default-clause-ok
+unfolding Means
+returns-in_default-clause-ok c = rw (sub_none _ (sym c.in_default.ensures.rows)) (refl, refl)
+
+pub returns-then-ne-clause-ok : goal.returns-then-ne-clause-ok
+unfolding Means
+returns-then-ne-clause-ok c =
+    let n = c.in-Some.ensures in
+    rw (sub_some _ _ _ (sym n.name) (sym n.rows)) (c.in_ok-script.ensures, (λ e. both_ways _ (not-true _ (sym c.ne.ensures ∙ c.if-ne.true)) e), λ e. refl)
+
+pub table_of-requires : goal.table_of-requires
+unfolding IsWholeTable
+table_of-requires c =
+    let n = c.in-Some.ensures in
+    let whole = rw (sub_some _ _ _ (sym n.name) (sym n.rows)) at c.requires in
+    whole (not-false _ (sym c.ne.ensures ∙ c.if-ne.false))
+
+pub returns-in_err-table-clause-bad_name : goal.returns-in_err-table-clause-bad_name
+unfolding HasBadName
+returns-in_err-table-clause-bad_name c =
+    let n = c.in-Some.ensures in
+    let is = not-false _ (sym c.ne.ensures ∙ c.if-ne.false) in
+    let p = err_from_is_err_and c.from_residual-in_err-table.result c.from_residual-in_err-table.ensures.1 in
+    rw (p.1, p.2, sub_some _ _ _ (sym n.name) (sym n.rows)) (for_name-weaker c.in_err-table.field-0.0 (λ h. (is, h)) c.in_err-table.ensures.bad_name)
+
+pub returns-clause-ok : goal.returns-clause-ok
+unfolding Means
+returns-clause-ok c =
+    let n = c.in-Some.ensures in
+    let is = not-false _ (sym c.ne.ensures ∙ c.if-ne.false) in
+    rw (sub_some _ _ _ (sym n.name) (sym n.rows)) (c.in_ok-script.ensures, (λ e. c.in_ok-table.ensures.ok), λ e. absurd (both_ways _ e is))

@@ -1,0 +1,63 @@
+-- What the words of the program ask for.
+use Rattle.std.specs.Prelude.{◌≡◌, ◌↔◌, ◌≤◌, true, false, List, Bool, IsTrue, Option, Some, None, codes, length, option_map, string_bytes}
+use Rattle.std.specs.declared.alloc.Global.{Global}
+use Rattle.std.specs.declared.string.String.{String}
+use Rattle.std.specs.Str.{bytes_eq, chars}
+use Rattle.apl_tokens.specs.Characters.{spells_name}
+use Rattle.clap.specs.Words.{IsAmong, Row, Text, fault_of, first_of, kind_of, one_of, subcommand_of}
+use Rattle.clap.specs.declared.error.kind.ErrorKind.TheVariants.{InvalidValue}
+use Rattle.program_words.specs.declared.reading.Words.{Words}
+use Rattle.program_words.specs.declared.reading.WordsFault.{WordsFault}
+use Rattle.program_words.specs.declared.reading.WordsFault.TheVariants.{NoMemory, BadName, BadWords}
+use Rattle.program_words.specs.Program.{aplsheet}
+
+-- the text is a name
+abbrev pub IsName : Text → Type 0
+IsName text = (spells_name (chars text) ≡ true) × (length text ≤ 63)
+
+-- the table that the values of `table` ask for, by its name, its file, and whether its first record is a header
+pub record IsTable (values : List Row) (t : Text × Text × Bool) : Type 0 where
+  pub name : first_of (codes "NAME") values ≡ Some t.0
+  pub is_name : IsName t.0
+  pub file : first_of (codes "FILE") values ≡ Some t.1
+  pub header : IsTrue t.2 ↔ (one_of (codes "header") values ≡ Some (codes "true"))
+
+abbrev pub HasTable : List Row → Option (Text × String Global × Bool) → Type 0
+HasTable values None = ⊥
+HasTable values (Some t) = IsTable values (t.0, string_bytes t.1, t.2)
+
+abbrev pub is_table : Text → Bool
+is_table command = bytes_eq command (codes "table")
+
+-- what is asked for by the subcommand and its values: none asks for nothing, `run` for its script, `table` for its table too
+unfoldable pub Means : Option (Text × List Row) → Words → Type 0
+Means None w = (w.table ≡ None) × (w.script ≡ None)
+Means (Some p) w = (option_map string_bytes w.script ≡ first_of (codes "SCRIPT") p.1)
+    × (is_table p.0 ≡ true → HasTable p.1 w.table)
+    × (is_table p.0 ≡ false → w.table ≡ None)
+
+-- the table's name is none
+abbrev pub HasNoName : List Row → Type 0
+HasNoName values = (text : Text) × (first_of (codes "NAME") values ≡ Some text) × (IsName text → ⊥)
+
+unfoldable pub HasBadName : Option (Text × List Row) → Type 0
+HasBadName None = ⊥
+HasBadName (Some p) = (is_table p.0 ≡ true) × HasNoName p.1
+
+-- why words are refused: for want of memory; for the table's name; or by `clap`, for a fault that they have
+unfoldable pub IsRefusalOf : List Text → WordsFault → Type 0
+IsRefusalOf words NoMemory = Unit {0}
+IsRefusalOf words BadName = HasBadName (subcommand_of aplsheet words)
+IsRefusalOf words (BadWords e) = IsAmong (kind_of e) (fault_of aplsheet words)
+
+-- `clap` did not refuse the words
+abbrev pub IsNotBadWords : WordsFault → Type 0
+IsNotBadWords NoMemory = Unit {0}
+IsNotBadWords BadName = Unit {0}
+IsNotBadWords (BadWords e) = ⊥
+
+-- the refusal of a word that is no text
+abbrev pub IsNotText : WordsFault → Type 0
+IsNotText NoMemory = Unit {0}
+IsNotText BadName = ⊥
+IsNotText (BadWords e) = kind_of e ≡ InvalidValue

@@ -1,0 +1,3 @@
+pub mod Program
+pub mod Asked
+pub mod Matched
