@@ -5,3 +5,4 @@ pub mod Edits
 pub mod Progress
 pub mod Run
 pub mod Devices
+pub mod Endings

@@ -3,6 +3,7 @@
 
 mod answer;
 mod device;
+mod ending;
 mod laws;
 mod pending;
 mod queries;
@@ -10,5 +11,7 @@ mod refusals;
 mod session;
 
 pub use device::{Device, Failed, Sink, Source};
+pub use ending::{Ending, status, words};
 pub use laws::{line_has_one_answer, lines_have_one_answer};
+pub use program_words::Words;
 pub use session::{RunFault, Tally, run};

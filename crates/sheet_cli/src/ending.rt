@@ -1,0 +1,84 @@
+//! How the program ends.
+
+ghost use Rattle.std.specs.Prelude.{◌≡◌, true, IfOk, IfErr};
+ghost use Rattle.clap.specs.Words.{subcommand_of, takes};
+ghost use Rattle.clap.specs.Walk.{texts};
+ghost use Rattle.program_words.specs.Asked.{IsNotBadWords, IsRefusalOf, Means};
+ghost use Rattle.program_words.specs.Program.{aplsheet};
+ghost use Rattle.sheet_cli.specs.Endings.{OfWords, ending_of, status_of};
+ghost use Rattle.sheet_cli.specs.declared.ending.Ending.TheVariants.{Run, Table};
+
+use crate::session::RunFault;
+use array_text::TableFault;
+use clap::Error;
+use program_words::{Words, WordsFault, read_words};
+use std::alloc::Global;
+
+/// How the program ends.
+#[derive(Debug, Drop)]
+pub enum Ending {
+    /// All that the words ask for is done.
+    Done,
+    /// The run broke off.
+    Run(RunFault),
+    /// The file of the table is no table.
+    Table(TableFault),
+    /// The file of the table cannot be read, or the script cannot be opened.
+    CannotRead,
+    /// The allocator refused memory outside the run and the table.
+    NoMemory,
+    /// The name of the table is no name.
+    BadName,
+    /// The words are none of the program's, or ask for help. The error has the text for the user.
+    BadWords(Error),
+}
+
+impl From<WordsFault> for Ending {
+    ghost from_gives = { λ fault e. e ≡ ending_of fault };
+
+    fn from(fault: WordsFault) -> Ending {
+        match fault {
+            WordsFault::NoMemory => Ending::NoMemory,
+            WordsFault::BadName => Ending::BadName,
+            WordsFault::BadWords(error) => Ending::BadWords(error),
+        }
+    }
+}
+
+impl From<RunFault> for Ending {
+    ghost from_gives = { λ fault e. e ≡ Run fault };
+
+    fn from(fault: RunFault) -> Ending {
+        Ending::Run(fault)
+    }
+}
+
+impl From<TableFault> for Ending {
+    ghost from_gives = { λ fault e. e ≡ Table fault };
+
+    fn from(fault: TableFault) -> Ending {
+        Ending::Table(fault)
+    }
+}
+
+/// The exit status of the program: 0 where all is done, 2 where the words or the name are refused, and else 1.
+pub fn status(ending: &Ending) -> u8
+    ensures { result ≡ status_of ending.now }
+{
+    match ending {
+        Ending::Done => 0,
+        Ending::BadName | Ending::BadWords(_) => 2,
+        _ => 1,
+    }
+}
+
+/// What the words that the program is started with ask for, its own name first; or the ending that they come to. Words that `clap`
+/// takes are refused for want of memory, and where the table's name is no name.
+pub fn words(alloc: Global, words: &[&str]) -> Result<Words, Ending>
+    ensures ok { IfOk result (Means (subcommand_of aplsheet (texts words.now))) }
+    ensures refused { IfErr result (OfWords (IsRefusalOf (texts words.now))) }
+    ensures taken { takes aplsheet (texts words.now) ≡ true → IfErr result (OfWords IsNotBadWords) }
+{
+    let words = read_words(alloc, words)?;
+    Ok(words)
+}
