@@ -9,11 +9,11 @@ mod numbers;
 mod pieces;
 mod records;
 mod table_fault;
-mod tables_in;
-mod tables_out;
+mod table_reader;
+mod table_writer;
 
 pub use arrays::print;
 pub use faults::print_fault;
 pub use table_fault::TableFault;
-pub use tables_in::read_table;
-pub use tables_out::write_table;
+pub use table_reader::read_table;
+pub use table_writer::write_table;

@@ -2,7 +2,7 @@
 use Rattle.std.proofs.Common.{◌≡◌, ℕ, ◌-◌, ◌<◌, ◌⊎◌, inl, inr, Bool, List, [], ◌∷◌, ◌++◌, sym, subst, arith}
 use Rattle.std.proofs.lemmas.List.{length-append}
 use Rattle.indexmap.specs.IndexSet.{IndexSet}
-use Rattle.dep_order.specs.Reach.{Chain, Reaches}
+use Rattle.dep_order.specs.Reachability.{Chain, Reaches}
 use Rattle.dep_order.specs.Users.{Uses, IsWithin}
 
 pub chain_join : {A : Type 0} (Refers : A → A → Type 0) (a : A) (xs : List A) (b : A) (ys : List A) (c : A) → Chain Refers a xs b → Chain Refers b ys c → Chain Refers a (xs ++ b ∷ ys) c

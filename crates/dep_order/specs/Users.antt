@@ -4,7 +4,7 @@ use Rattle.std.specs.Map.{lookup}
 use Rattle.std.specs.List.{Contains}
 use Rattle.std.specs.Option.{unwrap_or, option_map}
 use Rattle.indexmap.specs.IndexSet.{IndexSet, spare}
-use Rattle.dep_order.specs.Reach.{Chain}
+use Rattle.dep_order.specs.Reachability.{Chain}
 use Rattle.dep_order.specs.Follows.{Follows}
 
 -- nodes that are equal are one

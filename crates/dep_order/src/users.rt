@@ -1,7 +1,7 @@
 //! Who refers to whom, kept from change to change: what a change of a node reaches is found by this, and no other node is looked at.
 ghost use Rattle.std.specs.Prelude.{◌≡◌, ◌⊎◌, ◌↔◌, List, [], ◌∷◌, IfOk, OnOk, OnErr, MatchOption};
 ghost use Rattle.std.specs.List.{Contains, IsDistinct};
-ghost use Rattle.dep_order.specs.Reach.{Reaches};
+ghost use Rattle.dep_order.specs.Reachability.{Reaches};
 ghost use Rattle.dep_order.specs.Users.{Uses, users_of, IsExact, IsWithin, IsClosed, HasRoomFor, IsReadyFor, HasNoEmptyBut};
 
 use indexmap::{IndexMap, IndexSet};

@@ -5,7 +5,7 @@ use Rattle.apl_expr.specs.declared.expr.Expr.{Expr}
 use Rattle.apl_expr.specs.Trees.{tree_of, position_of, positions_of}
 use Rattle.arrays_core.specs.Arrays.{ArrayValue}
 use Rattle.arrays_core.specs.declared.fault.Fault.{Fault}
-use Rattle.selection_fns.specs.Indexes.{count_written, positions_of as positions_given}
+use Rattle.selection_fns.specs.Index.{count_written, positions_of as positions_given}
 use Rattle.formula_core.specs.Outcomes.{Outcome}
 use Rattle.formula_core.specs.Meaning.{eval, eval_positions, in_front, empty_in_front, names_in, names_in_positions}
 

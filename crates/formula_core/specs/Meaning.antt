@@ -17,22 +17,30 @@ use Rattle.scalar_fns.specs.declared.function.Scalar1.{Scalar1}
 use Rattle.scalar_fns.specs.declared.function.Scalar1.TheVariants as one
 use Rattle.scalar_fns.specs.declared.function.Scalar2.{Scalar2}
 use Rattle.scalar_fns.specs.declared.function.Scalar2.TheVariants as two
-use Rattle.scalar_fns.specs.Extension.{on_array, on_arrays}
+use Rattle.scalar_fns.specs.ScalarExtension.{on_array, on_arrays}
 use Rattle.index_region.specs.declared.along.Along.{Along}
 use Rattle.index_region.specs.declared.along.Along.TheVariants.{First, Last, Axis}
-use Rattle.structural_fns.specs.Ravels.{reshape_whole, ravel_whole}
-use Rattle.structural_fns.specs.Joins.{catenate_whole}
-use Rattle.structural_fns.specs.Counts.{take_whole, drop_whole}
-use Rattle.structural_fns.specs.Turns.{reverse_whole, rotate_whole}
-use Rattle.structural_fns.specs.Transposes.{transpose_whole, transpose_by_whole}
-use Rattle.selection_fns.specs.Counted.{shape_whole, generator_whole}
-use Rattle.selection_fns.specs.Replicates.{replicate_whole}
-use Rattle.selection_fns.specs.Indexes.{Position, index_whole}
-use Rattle.selection_fns.specs.Searches.{index_of_whole, member_whole}
-use Rattle.selection_fns.specs.Digits.{encode_whole, decode_whole}
-use Rattle.operator_fns.specs.Reductions.{reduce_whole}
-use Rattle.operator_fns.specs.Scans.{scan_whole}
-use Rattle.operator_fns.specs.Products.{outer_whole, inner_whole}
+use Rattle.structural_fns.specs.Reshape.{reshape_whole}
+use Rattle.structural_fns.specs.Ravel.{ravel_whole}
+use Rattle.structural_fns.specs.Catenate.{catenate_whole}
+use Rattle.structural_fns.specs.Take.{take_whole}
+use Rattle.structural_fns.specs.Drop.{drop_whole}
+use Rattle.structural_fns.specs.Reverse.{reverse_whole}
+use Rattle.structural_fns.specs.Rotate.{rotate_whole}
+use Rattle.structural_fns.specs.Transpose.{transpose_whole}
+use Rattle.structural_fns.specs.DyadicTranspose.{transpose_by_whole}
+use Rattle.selection_fns.specs.Shape.{shape_whole}
+use Rattle.selection_fns.specs.IndexGenerator.{generator_whole}
+use Rattle.selection_fns.specs.Replicate.{replicate_whole}
+use Rattle.selection_fns.specs.Index.{Position, index_whole}
+use Rattle.selection_fns.specs.IndexOf.{index_of_whole}
+use Rattle.selection_fns.specs.Member.{member_whole}
+use Rattle.selection_fns.specs.Encode.{encode_whole}
+use Rattle.selection_fns.specs.Decode.{decode_whole}
+use Rattle.operator_fns.specs.Reduce.{reduce_whole}
+use Rattle.operator_fns.specs.Scan.{scan_whole}
+use Rattle.operator_fns.specs.OuterProduct.{outer_whole}
+use Rattle.operator_fns.specs.InnerProduct.{inner_whole}
 use Rattle.arrays_core.specs.declared.fault.Fault.{Fault}
 use Rattle.formula_core.specs.Outcomes.{Outcome, given}
 

@@ -1,11 +1,11 @@
 -- What an operand stands for.
 use Rattle.std.specs.Prelude.{List, map, Option, Some, None, Result, Ok, Err}
 use Rattle.std.specs.Global.{Vec}
-use Rattle.selection_fns.specs.Indexes.{Position}
+use Rattle.selection_fns.specs.Index.{Position}
 use Rattle.arrays_core.specs.Arrays.{ArrayValue}
 use Rattle.arrays_core.specs.declared.fault.Fault.{Fault}
-use Rattle.formula_core.specs.declared.evaluating.Operand.{Operand}
-use Rattle.formula_core.specs.declared.evaluating.Operand.TheVariants.{Lent, Made}
+use Rattle.formula_core.specs.declared.evaluation.Operand.{Operand}
+use Rattle.formula_core.specs.declared.evaluation.Operand.TheVariants.{Lent, Made}
 use Rattle.formula_core.specs.Outcomes.{Outcome}
 
 abbrev pub array_in : Operand → ArrayValue

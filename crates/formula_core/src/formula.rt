@@ -6,7 +6,7 @@ ghost use Rattle.arrays_core.specs.declared.item.Kind.TheVariants.{Value};
 ghost use Rattle.formula_core.specs.Outcomes.{read, fault};
 ghost use Rattle.formula_core.specs.Meaning.{eval, names_in};
 
-use crate::evaluating::{Shows, evaluate};
+use crate::evaluation::{Shows, evaluate};
 use crate::names::push_names;
 use apl_expr::Expr;
 use apl_tokens::Name;

@@ -3,7 +3,8 @@ use Rattle.std.proofs.Common.{◌≡◌, ℕ, List, [], ◌∷◌, length, Resul
 use Rattle.arrays_core.specs.declared.item.Item.{Item}
 use Rattle.arrays_core.specs.declared.item.Kind.{Kind}
 use Rattle.arrays_core.specs.Arrays.{ArrayValue}
-use Rattle.index_region.specs.Common.{Form, whole, of_one, of_two}
+use Rattle.index_region.specs.Checks.{Form, whole}
+use Rattle.index_region.specs.ArgumentLists.{of_one, of_two}
 
 pub whole_of_one : (form : ArrayValue → Result Form Kind) (item : ArrayValue → List ℕ → Result Item Kind) (args : List ArrayValue)
     → length args ≡ 1 → whole (of_one form args) (λ index. of_one (λ b. item b index) args) ≡ of_one (λ b. whole (form b) (item b)) args

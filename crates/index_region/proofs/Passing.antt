@@ -7,7 +7,7 @@ use Rattle.arrays_core.specs.declared.item.Kind.TheVariants.{Limit}
 use Rattle.arrays_core.specs.Arrays.{ArrayValue}
 use Rattle.arrays_core.specs.Items.{type_of}
 use Rattle.arrays_core.specs.Shapes.{is_index_of}
-use Rattle.index_region.specs.Common.{check, Form, limited, is_within_limits}
+use Rattle.index_region.specs.Checks.{check, Form, limited, is_within_limits}
 use Rattle.index_region.specs.Answers.{IsPlaceOf, HasTypeOf}
 
 -- a check that has passed, and a place of what follows

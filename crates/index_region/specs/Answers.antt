@@ -8,7 +8,8 @@ use Rattle.arrays_core.specs.Items.{type_of}
 use Rattle.arrays_core.specs.Shapes.{IsWithinLimits, is_index_of}
 use Rattle.index_region.specs.declared.source.Source.{Source as SourceValue}
 use Rattle.index_region.specs.declared.source.Source.TheVariants.{Place, Fill}
-use Rattle.index_region.specs.Common.{Form, Source}
+use Rattle.index_region.specs.Checks.{Form}
+use Rattle.index_region.specs.Sources.{Source}
 
 -- the shape that was asked for, inline and within the limits, and the type; or the error
 abbrev pub IsFormAnswerTo : Result Form Kind → Result (SmallVec ℕ × ItemType) Kind → Type 0

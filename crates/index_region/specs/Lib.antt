@@ -1,2 +1,6 @@
-pub mod Common
+pub mod Checks
+pub mod Arguments
+pub mod Axes
+pub mod Sources
+pub mod ArgumentLists
 pub mod Answers

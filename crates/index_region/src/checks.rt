@@ -1,7 +1,7 @@
 //! The check of a result's shape.
 
 ghost use Rattle.std.specs.Prelude.{◌≡◌};
-ghost use Rattle.index_region.specs.Common.{limited as limited_form};
+ghost use Rattle.index_region.specs.Checks.{limited as limited_form};
 ghost use Rattle.index_region.specs.Answers.{IsFormAnswerTo};
 
 use arrays_core::{ItemType, Kind, Shape, is_within_limits};

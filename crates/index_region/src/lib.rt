@@ -6,10 +6,10 @@ mod along;
 mod checks;
 mod primitive;
 mod source;
-mod views;
+mod seen;
 
 pub use along::Along;
 pub use checks::limited;
 pub use primitive::{Primitive, apply};
 pub use source::{Source, item_from};
-pub use views::Seen;
+pub use seen::Seen;

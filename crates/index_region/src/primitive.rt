@@ -4,10 +4,10 @@ ghost use Rattle.std.specs.Prelude.{◌≡◌, List, ℕ, Result, Ok, IfOk, leng
 ghost use Rattle.arrays_core.specs.declared.item.Item.{Item as AnItem};
 ghost use Rattle.arrays_core.specs.declared.item.Kind.{Kind as AKind};
 ghost use Rattle.arrays_core.specs.Arrays.{ArrayValue, IsAnswerTo};
-ghost use Rattle.index_region.specs.Common.{Form, whole};
+ghost use Rattle.index_region.specs.Checks.{Form, whole};
 ghost use Rattle.index_region.specs.Answers.{IsFormAnswerTo, IsPlaceOf, HasTypeOf};
 
-use crate::views::Seen;
+use crate::seen::Seen;
 use arrays_core::{ApplyFault, Array, Item, ItemRule, ItemType, Kind, Shape, collect};
 use std::alloc::Global;
 

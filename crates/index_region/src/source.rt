@@ -3,10 +3,10 @@
 ghost use Rattle.std.specs.Prelude.{◌≡◌, Ok, unwrap_or};
 ghost use Rattle.arrays_core.specs.Items.{fill, type_of};
 ghost use Rattle.arrays_core.specs.Arrays.{item_if_there};
-ghost use Rattle.index_region.specs.Common.{item_from as item_of_source};
+ghost use Rattle.index_region.specs.Sources.{item_from as item_of_source};
 ghost use Rattle.index_region.specs.Answers.{source_value};
 
-use crate::views::Seen;
+use crate::seen::Seen;
 use arrays_core::{Item, ItemType, Shape};
 
 /// Where an item of a result comes from: an index list of an argument (0 the left or only one, 1 the

@@ -7,9 +7,9 @@ use Rattle.arrays_core.specs.declared.item.Kind.{Kind}
 use Rattle.arrays_core.specs.declared.item.Kind.TheVariants.{Domain, Limit}
 use Rattle.scalar_fns.specs.declared.function.Scalar2.TheVariants.{Maximum, Minimum, And, Or}
 use Rattle.scalar_fns.specs.Numbers.{of_two, as_truth, truth, on_truths, logical}
-use Rattle.index_region.specs.Common.{and_then}
+use Rattle.index_region.specs.Checks.{and_then}
 use Rattle.operator_fns.specs.Strides.{folded}
-use Rattle.operator_fns.specs.Runs.{fold_on, folded_left, IsAssociative}
+use Rattle.operator_fns.specs.LinearScan.{fold_on, folded_left, IsAssociative}
 use Rattle.operator_fns.proofs.Runs.{through, as_it_is}
 
 -- one error on the way is the error of all that follows

@@ -9,9 +9,9 @@ use Rattle.arrays_core.specs.declared.item.Kind.TheVariants.{Limit}
 use Rattle.scalar_fns.specs.declared.function.Scalar2.TheVariants.{Plus}
 use Rattle.scalar_fns.specs.Numbers.{of_two, held, is_number}
 use Rattle.scalar_fns.specs.Identities.{least, greatest}
-use Rattle.index_region.specs.Common.{and_then}
+use Rattle.index_region.specs.Checks.{and_then}
 use Rattle.operator_fns.specs.Strides.{folded}
-use Rattle.operator_fns.specs.Runs.{fold_on, folded_left}
+use Rattle.operator_fns.specs.LinearScan.{fold_on, folded_left}
 use Rattle.operator_fns.proofs.Firsts.{Given}
 
 -- ---- numbers of 64 bits

@@ -6,8 +6,8 @@ use Rattle.arrays_core.specs.declared.fault.ApplyFault.{ApplyFault}
 use Rattle.arrays_core.specs.declared.fault.ApplyFault.TheVariants.{Kind as KindFault, NoMemory}
 use Rattle.arrays_core.specs.declared.item.ItemType.TheVariants.{Nums}
 use Rattle.arrays_core.specs.Arrays.{ArrayValue, IsAnswerTo, with_items}
-use Rattle.scalar_fns.specs.Results.{IsListAnswerTo, items_of}
-use Rattle.operator_fns.specs.Runs.{run_to, FailsAt, HasRead}
+use Rattle.scalar_fns.specs.NumberLists.{IsListAnswerTo, items_of}
+use Rattle.operator_fns.specs.LinearScan.{run_to, FailsAt, HasRead}
 
 pub passed_on : {A : Type 0} (r : Result A Kind) (k : Kind) → IsErr r × IsErrAnd r (λ e. e ≡ k) → r ≡ Err k
 passed_on (Ok x) k h = absurd h.1

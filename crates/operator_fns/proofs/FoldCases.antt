@@ -3,7 +3,7 @@ use Rattle.std.proofs.Common.{◌≡◌, refl, pos, [], ◌∷◌}
 use Rattle.arrays_core.specs.declared.item.Kind.TheVariants.{Domain}
 use Rattle.index_region.specs.declared.along.Along.TheVariants.{Last}
 use Rattle.scalar_fns.specs.declared.function.Scalar2.TheVariants as two
-use Rattle.operator_fns.specs.Reductions.{reduce_whole}
+use Rattle.operator_fns.specs.Reduce.{reduce_whole}
 use Rattle.arrays_core.proofs.CaseWords.{nums, ints, is, fails, minus, greatest, least}
 
 -- ---- plus

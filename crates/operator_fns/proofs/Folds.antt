@@ -6,9 +6,9 @@ use Rattle.std.proofs.Math.Nat.{mul-le-mul_right}
 use Rattle.arrays_core.specs.declared.item.Item.{Item}
 use Rattle.arrays_core.specs.declared.item.Kind.{Kind}
 use Rattle.scalar_fns.specs.declared.function.Scalar2.{Scalar2}
-use Rattle.scalar_fns.specs.Scalars.{two_of}
-use Rattle.index_region.specs.Common.{and_then}
-use Rattle.operator_fns.specs.Folds.{fold_right}
+use Rattle.scalar_fns.specs.Items.{two_of}
+use Rattle.index_region.specs.Checks.{and_then}
+use Rattle.operator_fns.specs.RightFold.{fold_right}
 use Rattle.operator_fns.specs.Strides.{strided, folded}
 
 pub some_folded : (f : Scalar2) (xs : List Item) → 0 < length xs → fold_right f xs ≡ folded (two_of f) xs

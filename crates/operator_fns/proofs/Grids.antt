@@ -13,15 +13,16 @@ use Rattle.arrays_core.proofs.Shapes.{places_below, factor_le}
 use Rattle.arrays_core.proofs.Order.{places_before-index_after, index_after-within}
 use Rattle.scalar_fns.specs.declared.function.Scalar2.{Scalar2}
 use Rattle.scalar_fns.specs.Numbers.{of_two as of_two_numbers}
-use Rattle.scalar_fns.specs.Scalars.{two_of, number_item}
-use Rattle.scalar_fns.specs.Results.{items_of}
-use Rattle.scalar_fns.specs.Extension.{extended}
-use Rattle.index_region.specs.Common.{Form, and_then, whole, limited, has_one_item}
+use Rattle.scalar_fns.specs.Items.{two_of, number_item}
+use Rattle.scalar_fns.specs.NumberLists.{items_of}
+use Rattle.scalar_fns.specs.ScalarExtension.{extended}
+use Rattle.index_region.specs.Checks.{Form, and_then, whole, limited}
+use Rattle.index_region.specs.Arguments.{has_one_item}
 use Rattle.index_region.proofs.Passing.{gives, limited_gives}
-use Rattle.operator_fns.specs.Folds.{fold_right}
+use Rattle.operator_fns.specs.RightFold.{fold_right}
 use Rattle.operator_fns.specs.Strides.{folded}
-use Rattle.operator_fns.specs.Products.{row_rank, row_length, column_length, inner_length, inner_form, inner_item, inner_whole, all_or_last_error}
-use Rattle.operator_fns.specs.Meetings.{entry, met, all_or_last, folded_all, row_at, column_at, cell, IsGridOf, grid_of}
+use Rattle.operator_fns.specs.InnerProduct.{row_rank, row_length, column_length, inner_length, inner_form, inner_item, inner_whole, all_or_last_error}
+use Rattle.operator_fns.specs.RowByColumn.{entry, met, all_or_last, folded_all, row_at, column_at, cell, IsGridOf, grid_of}
 use Rattle.operator_fns.proofs.Joined.{parts, number_there, size-append}
 use Rattle.operator_fns.proofs.Lines.{size-drop-le}
 use Rattle.operator_fns.proofs.Meetings.{length-met}

@@ -2,7 +2,7 @@
 use Rattle.std.proofs.Common.{◌≡◌, refl, pos, [], ◌∷◌}
 use Rattle.arrays_core.specs.declared.item.Kind.TheVariants.{Length, Domain, Limit}
 use Rattle.scalar_fns.specs.declared.function.Scalar2.TheVariants as two
-use Rattle.operator_fns.specs.Products.{inner_whole}
+use Rattle.operator_fns.specs.InnerProduct.{inner_whole}
 use Rattle.arrays_core.proofs.CaseWords.{nums, ints, chars, is, fails, minus, greatest, least}
 
 -- 1 2 3+.×4 5 6, and matrices

@@ -12,15 +12,16 @@ use Rattle.arrays_core.specs.Shapes.{size, is_index_of, places_before}
 use Rattle.arrays_core.specs.Arrays.{ArrayValue, item_of}
 use Rattle.arrays_core.proofs.Shapes.{places_below, as_long}
 use Rattle.scalar_fns.specs.declared.function.Scalar2.{Scalar2}
-use Rattle.scalar_fns.specs.Scalars.{two_of}
-use Rattle.scalar_fns.specs.Extension.{extended}
-use Rattle.index_region.specs.Common.{and_then, has_one_item}
+use Rattle.scalar_fns.specs.Items.{two_of}
+use Rattle.scalar_fns.specs.ScalarExtension.{extended}
+use Rattle.index_region.specs.Checks.{and_then}
+use Rattle.index_region.specs.Arguments.{has_one_item}
 use Rattle.index_region.specs.Answers.{IsPlaceOf}
 use Rattle.index_region.proofs.Passing.{passed, place_inside}
-use Rattle.operator_fns.specs.Folds.{fold_right}
+use Rattle.operator_fns.specs.RightFold.{fold_right}
 use Rattle.operator_fns.specs.Strides.{folded}
-use Rattle.operator_fns.specs.Products.{row_rank, row_length, column_length, inner_length, inner_form, inner_item, all_or_last_error, products}
-use Rattle.operator_fns.specs.Meetings.{met, all_or_last, folded_all}
+use Rattle.operator_fns.specs.InnerProduct.{row_rank, row_length, column_length, inner_length, inner_form, inner_item, all_or_last_error, products}
+use Rattle.operator_fns.specs.RowByColumn.{met, all_or_last, folded_all}
 use Rattle.operator_fns.proofs.Folds.{some_folded}
 use Rattle.operator_fns.proofs.Joined.{places-append, joined_inside, parts}
 use Rattle.operator_fns.proofs.Meetings.{length-met, met_at}

@@ -8,8 +8,8 @@ use Rattle.arrays_core.specs.Shapes.{size, is_index_of, places_before, IsWithinL
 use Rattle.arrays_core.specs.Arrays.{ArrayValue, item_of}
 use Rattle.arrays_core.specs.Items.{fill}
 use Rattle.arrays_core.proofs.Shapes.{head_of, as_long, places_below}
-use Rattle.index_region.specs.Common.{places_along}
-use Rattle.operator_fns.specs.Folds.{line}
+use Rattle.index_region.specs.Axes.{places_along}
+use Rattle.operator_fns.specs.RightFold.{line}
 use Rattle.operator_fns.specs.Strides.{strided}
 use Rattle.operator_fns.proofs.Folds.{length-strided, get_or-strided}
 

@@ -3,9 +3,9 @@ use Rattle.std.proofs.Common.{◌≡◌, ℕ, zero, suc, ◌+◌, ◌<◌, ◌�
 use Rattle.std.proofs.lemmas.List.{drop_more, drop_all, take_more, take_all, length-take, get_or-take, ext_get_or}
 use Rattle.std.proofs.lemmas.List.FromFn.{length-map-range_with_len, get_or-map-range_with_len}
 use Rattle.arrays_core.specs.declared.item.Kind.{Kind}
-use Rattle.index_region.specs.Common.{and_then}
+use Rattle.index_region.specs.Checks.{and_then}
 use Rattle.operator_fns.specs.Strides.{folded}
-use Rattle.operator_fns.specs.Meetings.{met, all_or_last, last_error_or, folded_all}
+use Rattle.operator_fns.specs.RowByColumn.{met, all_or_last, last_error_or, folded_all}
 use Rattle.operator_fns.proofs.Folds.{fold_more}
 
 -- ---- the error of the last that has one

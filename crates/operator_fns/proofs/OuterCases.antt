@@ -2,7 +2,7 @@
 use Rattle.std.proofs.Common.{◌≡◌, refl, pos, [], ◌∷◌}
 use Rattle.arrays_core.specs.declared.item.Kind.TheVariants.{Domain, Limit}
 use Rattle.scalar_fns.specs.declared.function.Scalar2.TheVariants as two
-use Rattle.operator_fns.specs.Products.{outer_whole}
+use Rattle.operator_fns.specs.OuterProduct.{outer_whole}
 use Rattle.arrays_core.proofs.CaseWords.{nums, ints, chars, is, fails, minus, least}
 
 -- 1 2∘.×1 2 3, and by other functions

@@ -10,12 +10,12 @@ use Rattle.arrays_core.specs.Arrays.{ArrayValue, collect, with_items}
 use Rattle.arrays_core.proofs.Shapes.{places_below}
 use Rattle.scalar_fns.specs.declared.function.Scalar2.{Scalar2}
 use Rattle.scalar_fns.specs.Numbers.{of_two as of_two_numbers}
-use Rattle.scalar_fns.specs.Scalars.{number_item}
-use Rattle.scalar_fns.specs.Results.{items_of}
-use Rattle.index_region.specs.Common.{Form, whole}
+use Rattle.scalar_fns.specs.Items.{number_item}
+use Rattle.scalar_fns.specs.NumberLists.{items_of}
+use Rattle.index_region.specs.Checks.{Form, whole}
 use Rattle.index_region.proofs.Passing.{limited_gives}
-use Rattle.operator_fns.specs.Products.{outer_form, outer_item, outer_whole}
-use Rattle.operator_fns.specs.Tables.{table}
+use Rattle.operator_fns.specs.OuterProduct.{outer_form, outer_item, outer_whole}
+use Rattle.operator_fns.specs.ResultTable.{table}
 use Rattle.operator_fns.proofs.Tables.{places_of_table}
 use Rattle.operator_fns.proofs.Joined.{parts, number_there, size-append}
 use Rattle.operator_fns.proofs.Placewise.{collected_same, numbers_collected}

@@ -12,8 +12,8 @@ use Rattle.arrays_core.specs.Items.{all_or_first_error}
 use Rattle.arrays_core.specs.Shapes.{size, indices, index_after, is_index_of, places_before}
 use Rattle.arrays_core.specs.Arrays.{collect, with_items}
 use Rattle.arrays_core.proofs.Order.{length-indices, get_or-indices, places_before-index_after, index_after-within}
-use Rattle.scalar_fns.specs.Scalars.{number_item}
-use Rattle.scalar_fns.specs.Results.{items_of}
+use Rattle.scalar_fns.specs.Items.{number_item}
+use Rattle.scalar_fns.specs.NumberLists.{items_of}
 use Rattle.scalar_fns.proofs.Joint.{collected}
 
 -- the numbers of a rule are those of the array that it gives

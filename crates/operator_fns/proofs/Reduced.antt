@@ -16,13 +16,14 @@ use Rattle.arrays_core.specs.Arrays.{ArrayValue, item_of, collect}
 use Rattle.arrays_core.proofs.Shapes.{head_of, places_below}
 use Rattle.scalar_fns.specs.declared.function.Scalar2.{Scalar2}
 use Rattle.scalar_fns.specs.Numbers.{of_two}
-use Rattle.scalar_fns.specs.Scalars.{two_of, number_item}
+use Rattle.scalar_fns.specs.Items.{two_of, number_item}
 use Rattle.index_region.specs.declared.along.Along.{Along}
-use Rattle.index_region.specs.Common.{Form, and_then, places_along, is_axis, axis_at, limited}
+use Rattle.index_region.specs.Checks.{Form, and_then, limited}
+use Rattle.index_region.specs.Axes.{places_along, is_axis, axis_at}
 use Rattle.index_region.proofs.Passing.{gives, limited_gives}
-use Rattle.operator_fns.specs.Reductions.{reduce_type, reduce_form, reduce_item, reduce_whole}
+use Rattle.operator_fns.specs.Reduce.{reduce_type, reduce_form, reduce_item, reduce_whole}
 use Rattle.operator_fns.proofs.Placewise.{collected_same}
-use Rattle.operator_fns.specs.Folds.{fold_right, line}
+use Rattle.operator_fns.specs.RightFold.{fold_right, line}
 use Rattle.operator_fns.specs.Strides.{strided, folded, line_start}
 use Rattle.operator_fns.proofs.Folds.{some_folded, length-strided, get_or-strided}
 use Rattle.operator_fns.proofs.Lines.{line-strided, size-drop-le}

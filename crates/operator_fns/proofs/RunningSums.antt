@@ -9,9 +9,9 @@ use Rattle.arrays_core.specs.declared.item.Kind.{Kind}
 use Rattle.arrays_core.specs.declared.item.Kind.TheVariants.{Limit}
 use Rattle.scalar_fns.specs.declared.function.Scalar2.TheVariants.{Plus}
 use Rattle.scalar_fns.specs.Numbers.{of_two}
-use Rattle.index_region.specs.Common.{and_then}
+use Rattle.index_region.specs.Checks.{and_then}
 use Rattle.operator_fns.specs.Strides.{folded}
-use Rattle.operator_fns.specs.Runs.{depth, run_to, fold_on, folded_left, scanned, FailsAt}
+use Rattle.operator_fns.specs.LinearScan.{depth, run_to, fold_on, folded_left, scanned, FailsAt}
 use Rattle.operator_fns.proofs.Folds.{length-strided, get_or-strided}
 use Rattle.operator_fns.proofs.Runs.{one_deeper, depth_high, run_more, run_some, left_first, left_later}
 use Rattle.operator_fns.proofs.Firsts.{Given, rule_entry, rule_error, same_rules}

@@ -6,9 +6,9 @@ use Rattle.std.proofs.Math.Nat.{div-eq-sub-div, mod-add-div}
 use Rattle.std.proofs.Math.Arith.{mod-mul}
 use Rattle.arrays_core.specs.declared.item.Kind.{Kind}
 use Rattle.scalar_fns.proofs.Residues.{next_mod}
-use Rattle.index_region.specs.Common.{and_then}
+use Rattle.index_region.specs.Checks.{and_then}
 use Rattle.operator_fns.specs.Strides.{strided}
-use Rattle.operator_fns.specs.Runs.{depth, run_to, fold_on, folded_left}
+use Rattle.operator_fns.specs.LinearScan.{depth, run_to, fold_on, folded_left}
 use Rattle.operator_fns.proofs.Folds.{length-strided, get_or-strided, take-strided}
 
 -- ---- left folds

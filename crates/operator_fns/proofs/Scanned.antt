@@ -16,16 +16,18 @@ use Rattle.arrays_core.specs.Arrays.{ArrayValue, IsArray, collect, with_items}
 use Rattle.arrays_core.proofs.Shapes.{head_of, as_long, places_below}
 use Rattle.scalar_fns.specs.declared.function.Scalar2.{Scalar2}
 use Rattle.scalar_fns.specs.Numbers.{of_two}
-use Rattle.scalar_fns.specs.Scalars.{number_item}
-use Rattle.scalar_fns.specs.Results.{items_of}
+use Rattle.scalar_fns.specs.Items.{number_item}
+use Rattle.scalar_fns.specs.NumberLists.{items_of}
 use Rattle.index_region.specs.declared.along.Along.{Along}
-use Rattle.index_region.specs.Common.{Form, and_then, counts_as_numbers, is_of_numbers, places_along, is_axis, axis_at, limited}
+use Rattle.index_region.specs.Checks.{Form, and_then, limited}
+use Rattle.index_region.specs.Arguments.{counts_as_numbers, is_of_numbers}
+use Rattle.index_region.specs.Axes.{places_along, is_axis, axis_at}
 use Rattle.index_region.specs.Answers.{IsPlaceOf, HasTypeOf}
 use Rattle.index_region.proofs.Passing.{gives, limited_gives, passed, place_inside, typed_check, typed_limited}
-use Rattle.operator_fns.specs.Folds.{fold_right, line}
+use Rattle.operator_fns.specs.RightFold.{fold_right, line}
 use Rattle.operator_fns.specs.Strides.{strided, folded, line_start}
-use Rattle.operator_fns.specs.Runs.{depth, run_to, scanned}
-use Rattle.operator_fns.specs.Scans.{scan_type, scan_form, scan_item, scan_whole}
+use Rattle.operator_fns.specs.LinearScan.{depth, run_to, scanned}
+use Rattle.operator_fns.specs.Scan.{scan_type, scan_form, scan_item, scan_whole}
 use Rattle.operator_fns.proofs.Folds.{take-strided}
 use Rattle.operator_fns.proofs.Lines.{stride, line-strided, size-drop-le}
 use Rattle.operator_fns.proofs.Placewise.{collected_same, numbers_collected}

@@ -5,7 +5,7 @@ use Rattle.std.proofs.lemmas.Int.{ints, clamps}
 use Rattle.scalar_fns.specs.declared.function.Scalar2.TheVariants.{Plus}
 use Rattle.scalar_fns.specs.Numbers.{of_two}
 use Rattle.operator_fns.specs.Strides.{folded}
-use Rattle.operator_fns.specs.Sums.{IsSmall, sum_of}
+use Rattle.operator_fns.specs.Sum.{IsSmall, sum_of}
 use Rattle.operator_fns.proofs.Endings.{total, most, fewest, folded_sum}
 
 pub sum_total : (x : ℤ) (rest : List ℤ) → total x rest ≡ sum_of (x ∷ rest)

@@ -10,10 +10,10 @@ use Rattle.arrays_core.specs.declared.item.Kind.{Kind}
 use Rattle.std.specs.Result.{IsErr, IsErrAnd}
 use Rattle.arrays_core.specs.declared.fault.ApplyFault.{ApplyFault}
 use Rattle.arrays_core.specs.declared.fault.ApplyFault.TheVariants.{Kind as KindFault, NoMemory}
-use Rattle.scalar_fns.specs.Results.{IsListAnswerTo}
+use Rattle.scalar_fns.specs.NumberLists.{IsListAnswerTo}
 use Rattle.arrays_core.specs.Items.{all_or_first_error, after}
-use Rattle.index_region.specs.Common.{and_then}
-use Rattle.operator_fns.specs.Tables.{table, behind, LeavesOrFails}
+use Rattle.index_region.specs.Checks.{and_then}
+use Rattle.operator_fns.specs.ResultTable.{table, behind, LeavesOrFails}
 
 -- ---- results behind others
 

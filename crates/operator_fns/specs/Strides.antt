@@ -3,7 +3,7 @@ use Rattle.std.specs.Prelude.{ℕ, ◌+◌, ◌*◌, ◌/◌, ◌%◌, List, [],
 use Rattle.std.specs.List.{range_with_len}
 use Rattle.arrays_core.specs.declared.item.Kind.{Kind}
 use Rattle.arrays_core.specs.declared.item.Kind.TheVariants.{Domain}
-use Rattle.index_region.specs.Common.{and_then}
+use Rattle.index_region.specs.Checks.{and_then}
 
 -- so many entries, the first with so many entries before it, each a stride behind the one before
 abbrev pub strided : {A : Type 0} → A → List A → (first stride count : ℕ) → List A

@@ -5,15 +5,15 @@ ghost use Rattle.arrays_core.specs.declared.item.Item.TheVariants.{Num};
 ghost use Rattle.arrays_core.specs.Arrays.{IsAnswerTo, IsArray};
 ghost use Rattle.arrays_core.specs.Items.{fill};
 ghost use Rattle.arrays_core.specs.Shapes.{is_index_of as is_below};
-ghost use Rattle.scalar_fns.specs.Extension.{extended};
-ghost use Rattle.index_region.specs.Common.{of_two};
+ghost use Rattle.scalar_fns.specs.ScalarExtension.{extended};
+ghost use Rattle.index_region.specs.ArgumentLists.{of_two};
 ghost use Rattle.index_region.specs.Answers.{IsFormAnswerTo, IsPlaceOf, HasTypeOf};
-ghost use Rattle.operator_fns.specs.Products.{row_rank as rank_of_rows, row_length as length_of_row, column_length as length_of_column, inner_length as length_of_inner, inner_form, inner_item, inner_whole};
-ghost use Rattle.operator_fns.specs.Meetings.{entry, IsInside, grid_of};
+ghost use Rattle.operator_fns.specs.InnerProduct.{row_rank as rank_of_rows, row_length as length_of_row, column_length as length_of_column, inner_length as length_of_inner, inner_form, inner_item, inner_whole};
+ghost use Rattle.operator_fns.specs.RowByColumn.{entry, IsInside, grid_of};
 
-use crate::cells::{Grid, grid_products};
-use crate::folding::{identity_item, stride};
-use crate::rows::{Line, fold_row_of_items};
+use crate::grid::{Grid, grid_products};
+use crate::right_fold::{identity_item, stride};
+use crate::row_by_column::{Line, fold_row_of_items};
 use arrays_core::{
     ApplyFault, Array, Item, ItemType, Kind, Shape, append_axes, position, shape_of, size,
     with_axis,

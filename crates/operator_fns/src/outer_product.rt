@@ -7,17 +7,17 @@ ghost use Rattle.arrays_core.specs.Items.{all_or_first_error};
 ghost use Rattle.arrays_core.specs.Arrays.{with_items, IsAnswerTo, IsArray};
 ghost use Rattle.arrays_core.specs.Shapes.{size as size_of, IsWithinLimits};
 ghost use Rattle.scalar_fns.specs.Numbers.{of_two as of_two_numbers};
-ghost use Rattle.scalar_fns.specs.Results.{items_of, IsListAnswerTo};
-ghost use Rattle.index_region.specs.Common.{of_two};
+ghost use Rattle.scalar_fns.specs.NumberLists.{items_of, IsListAnswerTo};
+ghost use Rattle.index_region.specs.ArgumentLists.{of_two};
 ghost use Rattle.index_region.specs.Answers.{IsFormAnswerTo, IsPlaceOf, HasTypeOf};
-ghost use Rattle.operator_fns.specs.Tables.{table as table_of, behind, LeavesOrFails};
-ghost use Rattle.operator_fns.specs.Products.{outer_form, outer_item, outer_whole};
+ghost use Rattle.operator_fns.specs.ResultTable.{table as table_of, behind, LeavesOrFails};
+ghost use Rattle.operator_fns.specs.OuterProduct.{outer_form, outer_item, outer_whole};
 
 use arrays_core::{
     ApplyFault, Array, Item, ItemType, Kind, Shape, append_axes, position, shape_of,
 };
 use index_region::{Primitive, Seen, apply, limited};
-use scalar_fns::steps::{Equal, LessOrEqual, Maximum, Minimum, Minus, Plus, Times, TwoNumbers};
+use scalar_fns::kernels::{Equal, LessOrEqual, Maximum, Minimum, Minus, Plus, Times, TwoNumbers};
 use scalar_fns::{Scalar2, two};
 use std::alloc::Global;
 

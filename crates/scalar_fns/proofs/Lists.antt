@@ -4,7 +4,7 @@ use Rattle.std.proofs.lemmas.Bool.{eq-eqb, eqb-true, false_from_ne_true, cases_B
 use Rattle.std.proofs.lemmas.List.{length-map, ext_get_or, get_or-map}
 use Rattle.std.proofs.lemmas.List.FromFn.{length-map-range_with_len, get_or-map-range_with_len}
 use Rattle.arrays_core.specs.declared.item.Kind.{Kind}
-use Rattle.scalar_fns.specs.Results.{number_at, places_of, results_by}
+use Rattle.scalar_fns.specs.NumberLists.{number_at, places_of, results_by}
 
 not_one : (n : ℕ) → (n ≡ 1 → ⊥) → (n == 1) ≡ false
 not_one n h = false_from_ne_true _ (λ t. h (eqb-true n 1 t))

@@ -6,7 +6,7 @@ use Rattle.std.proofs.lemmas.Bool.{cases_lt, true≢false, false_from_ne_true}
 use Rattle.std.proofs.lemmas.Bool.Decides.{Decides-int_eq}
 use Rattle.std.proofs.lemmas.Nat.{mod_below}
 use Rattle.scalar_fns.specs.Numbers.{residue, floor_div}
-use Rattle.scalar_fns.specs.Laws.{IsFromZeroBelow, IsRest}
+use Rattle.scalar_fns.specs.Residue.{IsFromZeroBelow, IsRest}
 use Rattle.scalar_fns.proofs.Residues.{next_mod, both_positive, both_negative, negative_dividend, negative_dividend_whole, negative_divisor, negative_divisor_whole}
 
 parts_of : (b p : ℤ) → b ≡ p +ℤ (b -ℤ p)

@@ -5,7 +5,7 @@ use Rattle.arrays_core.specs.declared.item.Kind.TheVariants.{Domain, Limit}
 use Rattle.scalar_fns.specs.declared.function.Scalar1.TheVariants.{Negative, Reciprocal, Magnitude, Not}
 use Rattle.scalar_fns.specs.declared.function.Scalar2.TheVariants.{Divide, Power, Residue, Equal, NotEqual, Less, And, Or}
 use Rattle.scalar_fns.specs.Numbers.{of_one, of_two}
-use Rattle.scalar_fns.specs.Scalars.{two_of}
+use Rattle.scalar_fns.specs.Items.{two_of}
 use Rattle.scalar_fns.specs.Identities.{least}
 
 -- ¯3|7 ¯7 0 is ¯2 ¯1 0

@@ -16,10 +16,13 @@ use Rattle.arrays_core.specs.Shapes.{size, is_index_of}
 use Rattle.arrays_core.proofs.Shapes.{as_long, head_of}
 use Rattle.index_region.specs.declared.along.Along.{Along}
 use Rattle.index_region.specs.declared.along.Along.TheVariants as along
-use Rattle.index_region.specs.Common.{Form, Source, check, limited, is_axis, axis_at, places_along, is_list, has_one_item, counts_as_numbers, none_negative, numbers, number_of}
+use Rattle.index_region.specs.Checks.{Form, check, limited}
+use Rattle.index_region.specs.Sources.{Source}
+use Rattle.index_region.specs.Axes.{is_axis, axis_at, places_along}
+use Rattle.index_region.specs.Arguments.{is_list, has_one_item, counts_as_numbers, none_negative, numbers, number_of}
 use Rattle.index_region.specs.Answers.{IsPlaceOf, HasTypeOf}
 use Rattle.index_region.proofs.Passing.{passed, place_inside, typed_check, typed_limited, gives, limited_gives}
-use Rattle.selection_fns.specs.Replicates.{times, maker, counts_checked, copied_place, replicated_shape, replicate_form, replicate_source}
+use Rattle.selection_fns.specs.Replicate.{times, maker, counts_checked, copied_place, replicated_shape, replicate_form, replicate_source}
 
 -- the place that makes a copy where each is copied as often
 pub each_maker : (n count i : ℕ) → 1 ≤ i → i ≤ n * count → (i - 1) / count + 1 ≡ maker (replicate n count) i

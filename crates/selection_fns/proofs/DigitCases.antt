@@ -2,7 +2,8 @@
 use Rattle.std.proofs.Common.{◌≡◌, refl, pos, [], ◌∷◌}
 use Rattle.std.specs.Prelude.{◌-◌, ◌^◌}
 use Rattle.arrays_core.specs.declared.item.Kind.TheVariants.{Rank, Length, Domain, Limit}
-use Rattle.selection_fns.specs.Digits.{encode_whole, decode_whole}
+use Rattle.selection_fns.specs.Encode.{encode_whole}
+use Rattle.selection_fns.specs.Decode.{decode_whole}
 use Rattle.arrays_core.proofs.CaseWords.{nums, ints, chars, is, fails, scalar, integer, no_text, no_numbers, minus, greatest, least}
 
 -- ---- encode

@@ -13,7 +13,7 @@ use Rattle.arrays_core.specs.Items.{fill}
 use Rattle.arrays_core.specs.Shapes.{size}
 use Rattle.arrays_core.specs.Arrays.{ArrayValue, item_of, collect, with_items}
 use Rattle.arrays_core.proofs.Order.{given_in_order, places_before-index_after}
-use Rattle.index_region.specs.Common.{Form, check, limited, is_within_limits, and_then, whole}
+use Rattle.index_region.specs.Checks.{Form, check, limited, is_within_limits, and_then, whole}
 
 -- what follows a check that has passed
 pub check_passed : {A : Type 0} (w : Bool) (kind : Kind) (rest : Result A Kind) (x : A) → check w kind rest ≡ Ok x → rest ≡ Ok x

@@ -8,10 +8,11 @@ use Rattle.arrays_core.specs.declared.item.Kind.{Kind}
 use Rattle.std.specs.Prelude.{Result}
 use Rattle.arrays_core.specs.Arrays.{ArrayValue}
 use Rattle.arrays_core.specs.Shapes.{is_index_of}
-use Rattle.index_region.specs.Common.{Form, whole, is_scalar}
+use Rattle.index_region.specs.Checks.{Form, whole}
+use Rattle.index_region.specs.Arguments.{is_scalar}
 use Rattle.index_region.specs.Answers.{IsPlaceOf}
 use Rattle.index_region.proofs.Passing.{passed, place_inside}
-use Rattle.selection_fns.specs.Indexes.{Position, count_written, positions_of, of_positions, are_numbers, are_on, indexed_shape, index_form}
+use Rattle.selection_fns.specs.Index.{Position, count_written, positions_of, of_positions, are_numbers, are_on, indexed_shape, index_form}
 
 -- what the checks say, of an index list of the result
 pub record HasPassed (a : ArrayValue) (written : List Bool) (positions : List Position) (index : List ℕ) : Type 0 where

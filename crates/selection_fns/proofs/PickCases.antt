@@ -4,9 +4,10 @@ use Rattle.arrays_core.specs.declared.item.ItemType.TheVariants.{Nums}
 use Rattle.arrays_core.specs.declared.item.Kind.TheVariants.{Axis as AxisError, Rank, Length, Domain, Index, Limit}
 use Rattle.arrays_core.specs.Arrays.{ArrayValue}
 use Rattle.index_region.specs.declared.along.Along.TheVariants.{First, Last, Axis}
-use Rattle.selection_fns.specs.Counted.{shape_whole, generator_form, generator_whole}
-use Rattle.selection_fns.specs.Replicates.{replicate_form, replicate_whole}
-use Rattle.selection_fns.specs.Indexes.{index_whole}
+use Rattle.selection_fns.specs.Shape.{shape_whole}
+use Rattle.selection_fns.specs.IndexGenerator.{generator_form, generator_whole}
+use Rattle.selection_fns.specs.Replicate.{replicate_form, replicate_whole}
+use Rattle.selection_fns.specs.Index.{index_whole}
 use Rattle.arrays_core.proofs.CaseWords.{nums, ints, chars, is, fails, scalar, integer, no_text, no_numbers, minus, greatest, least}
 
 -- 2 3⍴⍳6

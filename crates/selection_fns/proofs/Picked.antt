@@ -12,8 +12,10 @@ use Rattle.arrays_core.specs.Shapes.{size, index_after}
 use Rattle.arrays_core.specs.Arrays.{ArrayValue, item_if_there, collect, with_items}
 use Rattle.arrays_core.proofs.Order.{given_in_order}
 use Rattle.index_region.specs.declared.along.Along.{Along}
-use Rattle.index_region.specs.Common.{and_then, axis_at, places_along, item_from}
-use Rattle.selection_fns.specs.Replicates.{times, copied_place, replicate_form, replicate_item, replicate_whole}
+use Rattle.index_region.specs.Checks.{and_then}
+use Rattle.index_region.specs.Axes.{axis_at, places_along}
+use Rattle.index_region.specs.Sources.{item_from}
+use Rattle.selection_fns.specs.Replicate.{times, copied_place, replicate_form, replicate_item, replicate_whole}
 use Rattle.selection_fns.proofs.Copies.{axis_below, replicate_gives}
 
 -- the item behind so many places of a vector, or fill

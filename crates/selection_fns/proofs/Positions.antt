@@ -6,11 +6,11 @@ use Rattle.arrays_core.specs.declared.item.Item.{Item}
 use Rattle.arrays_core.specs.declared.item.ItemType.{ItemType}
 use Rattle.arrays_core.specs.declared.item.ItemType.TheVariants.{Nums, Chars}
 use Rattle.arrays_core.specs.Items.{fill}
-use Rattle.index_region.specs.Common.{number_of}
+use Rattle.index_region.specs.Arguments.{number_of}
 use Rattle.std.proofs.lemmas.List.{length-append, length-drop, take_all, drop_more}
 use Rattle.arrays_core.specs.Arrays.{ArrayValue}
 use Rattle.arrays_core.specs.Shapes.{is_index_of}
-use Rattle.selection_fns.specs.Indexes.{count_written, positions_of, indexed_shape, is_place, is_on, are_on}
+use Rattle.selection_fns.specs.Index.{count_written, positions_of, indexed_shape, is_place, is_on, are_on}
 
 -- the first position where it is not written, and the rest
 pub record IsEmptyFirst (written : List Bool) (args : List ArrayValue) : Type 0 where

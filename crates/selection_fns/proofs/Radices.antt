@@ -12,10 +12,11 @@ use Rattle.arrays_core.specs.declared.item.ItemType.TheVariants.{Nums}
 use Rattle.arrays_core.specs.Shapes.{size, is_index_of}
 use Rattle.arrays_core.specs.Arrays.{ArrayValue}
 use Rattle.arrays_core.proofs.Shapes.{head_of}
-use Rattle.index_region.specs.Common.{and_then, is_list, counts_as_numbers}
+use Rattle.index_region.specs.Checks.{and_then}
+use Rattle.index_region.specs.Arguments.{is_list, counts_as_numbers}
 use Rattle.index_region.specs.Answers.{IsPlaceOf}
 use Rattle.index_region.proofs.Passing.{passed, place_inside}
-use Rattle.selection_fns.specs.Digits.{carried, carried_through, encode_form}
+use Rattle.selection_fns.specs.Encode.{carried, carried_through, encode_form}
 
 -- an error behind is an error in front
 pub error_through : (radices : List ℤ) (n : ℕ) (z : ℤ) (e : Kind) → carried_through (drop n radices) z ≡ Err e → carried_through radices z ≡ Err e

@@ -9,9 +9,12 @@ use Rattle.arrays_core.specs.declared.item.ItemType.TheVariants.{Nums}
 use Rattle.arrays_core.specs.declared.item.Kind.TheVariants.{Rank}
 use Rattle.arrays_core.specs.Shapes.{size}
 use Rattle.arrays_core.specs.Arrays.{ArrayValue}
-use Rattle.index_region.specs.Common.{limited, of_two}
+use Rattle.index_region.specs.Checks.{limited}
+use Rattle.index_region.specs.ArgumentLists.{of_two}
 use Rattle.index_region.proofs.Passing.{two_arguments}
-use Rattle.selection_fns.specs.Searches.{same_item, index_of_form, index_of_whole, member_form, member_whole}
+use Rattle.selection_fns.specs.SameItem.{same_item}
+use Rattle.selection_fns.specs.IndexOf.{index_of_form, index_of_whole}
+use Rattle.selection_fns.specs.Member.{member_form, member_whole}
 use Rattle.selection_fns.proofs.Flat.{check_passed, form_is, flat_whole}
 
 module _ (args : List ArrayValue) (a b : ArrayValue) (two : length args ≡ 2) (first : a ≡ get_or args 0 a) (second : b ≡ get_or args 1 b) (shape : List ℕ) (item_type : ItemType) where

@@ -10,7 +10,7 @@ use Rattle.arrays_core.specs.declared.item.Item.{Item}
 use Rattle.arrays_core.specs.declared.item.Item.TheVariants.{Num, Char}
 use Rattle.arrays_core.specs.Items.{type_of}
 use Rattle.arrays_core.specs.Arrays.{ArrayValue}
-use Rattle.selection_fns.specs.Searches.{same_item}
+use Rattle.selection_fns.specs.SameItem.{same_item}
 
 -- ---- numbers among numbers, characters among characters
 

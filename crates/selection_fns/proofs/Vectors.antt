@@ -11,9 +11,10 @@ use Rattle.arrays_core.specs.Shapes.{size, index_after}
 use Rattle.arrays_core.specs.Arrays.{ArrayValue, item_of, item_if_there, collect, with_items}
 use Rattle.arrays_core.proofs.Shapes.{as_long}
 use Rattle.arrays_core.proofs.Order.{given_in_order, index_after-within, places_before-index_after}
-use Rattle.index_region.specs.Common.{Form, and_then, numbers, number_of, is_scalar}
+use Rattle.index_region.specs.Checks.{Form, and_then}
+use Rattle.index_region.specs.Arguments.{numbers, number_of, is_scalar}
 use Rattle.index_region.proofs.Passing.{gives, limited_gives}
-use Rattle.selection_fns.specs.Indexes.{Position, count_written, positions_of, of_positions, are_numbers, are_on, is_place, indexed_shape, index_form, index_item, index_whole}
+use Rattle.selection_fns.specs.Index.{Position, count_written, positions_of, of_positions, are_numbers, are_on, is_place, indexed_shape, index_form, index_item, index_whole}
 use Rattle.selection_fns.proofs.Indexed.{positions_long}
 use Rattle.selection_fns.proofs.Positions.{place_in}
 

@@ -12,10 +12,12 @@ use Rattle.arrays_core.specs.Items.{fill}
 use Rattle.arrays_core.specs.Shapes.{size, places_before, is_index_of}
 use Rattle.arrays_core.specs.Arrays.{ArrayValue}
 use Rattle.scalar_fns.specs.Numbers.{held}
-use Rattle.index_region.specs.Common.{and_then, is_list, has_one_item, counts_as_numbers, numbers, number_of, places_along}
+use Rattle.index_region.specs.Checks.{and_then}
+use Rattle.index_region.specs.Arguments.{is_list, has_one_item, counts_as_numbers, numbers, number_of}
+use Rattle.index_region.specs.Axes.{places_along}
 use Rattle.index_region.specs.Answers.{IsPlaceOf}
 use Rattle.index_region.proofs.Passing.{passed, place_inside}
-use Rattle.selection_fns.specs.Digits.{decode_form, digits, radix_at, digit_at, worth, decoded}
+use Rattle.selection_fns.specs.Decode.{decode_form, digits, radix_at, digit_at, worth, decoded}
 
 -- ---- what is known at a place of decode's result
 

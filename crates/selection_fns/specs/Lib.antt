@@ -1,5 +1,9 @@
-pub mod Counted
-pub mod Replicates
-pub mod Indexes
-pub mod Searches
-pub mod Digits
+pub mod Shape
+pub mod IndexGenerator
+pub mod Replicate
+pub mod Index
+pub mod SameItem
+pub mod IndexOf
+pub mod Member
+pub mod Encode
+pub mod Decode

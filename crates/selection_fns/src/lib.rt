@@ -1,22 +1,22 @@
 //! Functions that pick items, look them up, and split numbers into digits.
 #![tactic(auto)]
 
-mod belonging;
-mod counting;
-mod decoding;
-mod encoding;
-mod finding;
-mod indexing;
+mod member;
+mod index_generator;
+mod decode;
+mod encode;
+mod index_of;
+mod index;
 mod lookup;
-mod measuring;
-mod numbers;
-mod replicating;
+mod shape;
+mod number_at;
+mod replicate;
 
-pub use belonging::Member;
-pub use counting::IndexGenerator;
-pub use decoding::Decode;
-pub use encoding::Encode;
-pub use finding::IndexOf;
-pub use indexing::Index;
-pub use measuring::AxisLengths;
-pub use replicating::Replicate;
+pub use member::Member;
+pub use index_generator::IndexGenerator;
+pub use decode::Decode;
+pub use encode::Encode;
+pub use index_of::IndexOf;
+pub use index::Index;
+pub use shape::AxisLengths;
+pub use replicate::Replicate;

@@ -2,7 +2,7 @@
 use Rattle.std.proofs.Common.{◌≡◌, ℕ, ◌+◌, ◌<◌, ◌≤◌, Bool, true, List, [], ◌∷◌, ◌++◌, length, take, refl, sym, ap, ◌∙◌, arith, Option, Result, Ok, Err, OnOk, OnErr, append_assoc, ⊎_elim, ◌⊎◌, inl, inr, length-append}
 use Rattle.std.proofs.lemmas.List.{append-nil, length_push}
 use Rattle.std.specs.Io.KnownBytes.{Appends, Consumes, Keeps, IsAtEnd}
-use Rattle.sheet_cli.specs.declared.session.Tally.{Tally}
+use Rattle.sheet_cli.specs.declared.run_loop.Tally.{Tally}
 use Rattle.sheet_cli.specs.Lines.{ended_lines, last_line, lines_of, whole_lines_of}
 use Rattle.sheet_cli.specs.Answer.{State}
 use Rattle.sheet_cli.specs.Answers.{StoppedAt}

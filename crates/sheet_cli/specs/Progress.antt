@@ -3,7 +3,7 @@ use Rattle.std.specs.Prelude.{◌≡◌, ℕ, zero, suc, ◌+◌, Bool, true, fa
 use Rattle.sheet_cli.specs.Lines.{strip_bom, ended_lines, last_line, lines_of}
 use Rattle.sheet_cli.specs.Answer.{State}
 use Rattle.sheet_cli.specs.Answers.{IsFlaggedAnswer, Answered, StoppedAt}
-use Rattle.sheet_cli.specs.declared.session.Tally.{Tally}
+use Rattle.sheet_cli.specs.declared.run_loop.Tally.{Tally}
 
 -- the lines, the first without a byte order mark
 unfoldable pub first_stripped : List (List ℕ) → List (List ℕ)

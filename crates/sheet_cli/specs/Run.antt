@@ -5,7 +5,7 @@ use Rattle.sheet_cli.specs.Lines.{lines_of, whole_lines_of}
 use Rattle.sheet_cli.specs.Answer.{State}
 use Rattle.sheet_cli.specs.Answers.{Answered, IsOnlyAnswer}
 use Rattle.sheet_cli.specs.Progress.{IsWrittenInPart}
-use Rattle.sheet_cli.specs.declared.session.Tally.{Tally}
+use Rattle.sheet_cli.specs.declared.run_loop.Tally.{Tally}
 
 -- the whole input was read, and its lines answered
 pub record Completes (source₁ source₂ sink₁ sink₂ : Option (List ℕ)) (old new : State) (tally : Tally) : Type 0 where

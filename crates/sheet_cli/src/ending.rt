@@ -8,7 +8,7 @@ ghost use Rattle.program_words.specs.Program.{aplsheet};
 ghost use Rattle.sheet_cli.specs.Endings.{OfWords, ending_of, status_of};
 ghost use Rattle.sheet_cli.specs.declared.ending.Ending.TheVariants.{Run, Table};
 
-use crate::session::RunFault;
+use crate::run_loop::RunFault;
 use array_text::TableFault;
 use clap::Error;
 use program_words::{Words, WordsFault, read_words};

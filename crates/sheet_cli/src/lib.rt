@@ -5,13 +5,13 @@ mod answer;
 mod device;
 mod ending;
 mod laws;
-mod pending;
+mod line_buffer;
 mod queries;
 mod refusals;
-mod session;
+mod run_loop;
 
 pub use device::{Device, Failed, Sink, Source};
 pub use ending::{Ending, status, words};
 pub use laws::{line_has_one_answer, lines_have_one_answer};
 pub use program_words::Words;
-pub use session::{RunFault, Tally, run};
+pub use run_loop::{RunFault, Tally, run};

@@ -4,12 +4,12 @@ use Rattle.std.specs.Str.{bytes_eq}
 use Rattle.std.specs.List.{Contains, position_or_len}
 use Rattle.std.proofs.lemmas.Bool.{false≢true}
 use Rattle.std.proofs.lemmas.List.Sums.{prefix_len-le-length}
-use Rattle.dep_order.specs.Reach.{Chain, IsAcyclic}
+use Rattle.dep_order.specs.Reachability.{Chain, IsAcyclic}
 use Rattle.dep_order.specs.Follows.{Follows}
 use Rattle.dep_order.proofs.Following.{contains_none, contains_cases, follows_has}
 use Rattle.arrays_core.specs.Arrays.{ArrayValue}
 use Rattle.sheet_recalc.specs.Names.{Names, Data, Formula, put, Refers}
-use Rattle.sheet_recalc.specs.Outline.{IsReaching}
+use Rattle.sheet_recalc.specs.ProposedSheet.{IsReaching}
 use Rattle.sheet_recalc.proofs.NameEquality.{equal-true, equal-same}
 use Rattle.sheet_recalc.proofs.Putting.{lookup_put}
 use Rattle.sheet_recalc.proofs.Keeping.{cases_name}

@@ -8,7 +8,7 @@ use Rattle.std.proofs.lemmas.Map.Steps.{length-le_from_keys}
 use Rattle.std.proofs.lemmas.Map.Views.{Contains-from_any, list_any-from_Contains}
 use Rattle.std.proofs.lemmas.List.Elements.{Contains-append_left, Contains-append_right, Contains-append_cases}
 use Rattle.indexmap.specs.IndexSet.{IndexSet}
-use Rattle.dep_order.specs.Reach.{Chain}
+use Rattle.dep_order.specs.Reachability.{Chain}
 use Rattle.sheet_recalc.specs.Names.{Names, binding, Refers}
 use Rattle.sheet_recalc.specs.Meaning.{shown, val}
 use Rattle.sheet_recalc.specs.NameOrder.{IsNameOrder, IsKeptOrder}

@@ -8,14 +8,14 @@ use Rattle.indexmap.specs.IndexSet.{IndexSet}
 use Rattle.std.proofs.lemmas.Bool.{false≢true}
 use Rattle.indexmap.specs.IndexMap.{insert_entry}
 use Rattle.arrays_core.specs.Arrays.{ArrayValue}
-use Rattle.dep_order.specs.Reach.{Chain, IsAcyclic}
+use Rattle.dep_order.specs.Reachability.{Chain, IsAcyclic}
 use Rattle.formula_core.specs.Outcomes.{Outcome, fault}
 use Rattle.apl_expr.specs.Trees.{Tree}
 use Rattle.arrays_core.specs.declared.item.Kind.TheVariants.{Value}
 use Rattle.sheet_recalc.specs.Names.{Names, Data, Formula, binding, put, without, rebound, Refers}
 use Rattle.sheet_recalc.specs.Meaning.{shown, val, val_at}
 use Rattle.sheet_recalc.specs.Entries.{names_of, binding_of, held, holding, adopted}
-use Rattle.sheet_recalc.specs.Outline.{standing, IsPlanned, bound, shown_by}
+use Rattle.sheet_recalc.specs.ProposedSheet.{standing, IsPlanned, bound, shown_by}
 use Rattle.sheet_recalc.specs.declared.entry.BindingRef.{BindingRef}
 use Rattle.sheet_recalc.specs.declared.entry.BindingRef.TheVariants as lent
 use Rattle.sheet_recalc.specs.Live.{IsCurrent, IsLive, Adopting}

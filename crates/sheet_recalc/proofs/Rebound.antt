@@ -3,14 +3,14 @@ use Rattle.std.proofs.Common.{◌≡◌, ◌≢◌, ℕ, ◌⊎◌, ◌↔◌, i
 use Rattle.std.specs.Str.{bytes_eq}
 use Rattle.std.specs.List.{Contains, IsDistinct}
 use Rattle.indexmap.specs.IndexSet.{IndexSet}
-use Rattle.dep_order.specs.Reach.{Chain, Reaches, IsAcyclic}
+use Rattle.dep_order.specs.Reachability.{Chain, Reaches, IsAcyclic}
 use Rattle.formula_core.specs.Outcomes.{Outcome}
 use Rattle.std.specs.Option.{option_map_or}
 use Rattle.sheet_recalc.specs.Names.{Names, Binding, Data, Formula, binding, rebound, Refers, referred, referred_by, IsSheet}
 use Rattle.sheet_recalc.specs.Meaning.{val, IsSettled}
 use Rattle.sheet_recalc.specs.Entries.{names_of}
 use Rattle.sheet_recalc.specs.Live.{IsLive, IsCurrent, IsTable}
-use Rattle.sheet_recalc.specs.Outline.{standing, IsReaching}
+use Rattle.sheet_recalc.specs.ProposedSheet.{standing, IsReaching}
 use Rattle.dep_order.specs.Follows.{Follows}
 use Rattle.dep_order.specs.Users.{Uses, IsClosed, HasNoEmptyBut}
 use Rattle.sheet_recalc.specs.NameOrder.{IsKeptOrder, HasOrder}

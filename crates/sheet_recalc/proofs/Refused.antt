@@ -2,7 +2,7 @@
 use Rattle.std.proofs.Common.{◌≡◌, ◌≤◌, ◌<◌, ◌+◌, ◌∙◌, ℕ, ℤ, List, [], ◌∷◌, length, is_some, IsSome, Option, Some, None, Ok, Err, sym, ap, subst, arith, refl, ⊎_elim}
 use Rattle.std.proofs.lemmas.Bool.{false≢true}
 use Rattle.std.proofs.lemmas.List.{length-map, length-append}
-use Rattle.dep_order.specs.Reach.{IsAcyclic}
+use Rattle.dep_order.specs.Reachability.{IsAcyclic}
 use Rattle.apl_expr.specs.Trees.{Tree, Constant}
 use Rattle.arrays_core.specs.Arrays.{ArrayValue}
 use Rattle.formula_core.specs.Meaning.{eval}

@@ -9,7 +9,7 @@ use Rattle.arrays_core.specs.Shapes.{size, IsWithinLimits}
 use Rattle.arrays_core.specs.declared.item.Item.{Item}
 use Rattle.arrays_core.specs.declared.item.ItemType.{ItemType}
 use Rattle.arrays_core.specs.declared.item.ItemType.TheVariants.{Nums, Chars}
-use Rattle.index_region.specs.Common.{is_within_limits}
+use Rattle.index_region.specs.Checks.{is_within_limits}
 use Rattle.sheet_recalc.specs.Cells.{items_of, is_type}
 use Rattle.sheet_recalc.specs.Rows.{row_length, grown, are_of_type, with_row, row_items_put}
 

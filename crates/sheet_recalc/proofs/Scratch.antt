@@ -4,7 +4,7 @@ use Rattle.std.proofs.Common.{◌≡◌, ℕ, zero, suc, ◌<◌, List, [], ◌�
 use Rattle.std.specs.List.{Contains}
 use Rattle.std.proofs.lemmas.List.{get_or-take, get_or_default, length-take}
 use Rattle.std.proofs.lemmas.List.Elements.{Contains-append_left, Contains-append_right}
-use Rattle.dep_order.specs.Reach.{Chain, IsAcyclic}
+use Rattle.dep_order.specs.Reachability.{Chain, IsAcyclic}
 use Rattle.apl_expr.specs.Trees.{Tree, Literal, Variable, Applied1, Applied2, Indexed, Positions, NoPositions, Empty, Filled}
 use Rattle.arrays_core.specs.declared.item.Kind.TheVariants.{Value}
 use Rattle.formula_core.specs.Outcomes.{Outcome, fault}

@@ -10,7 +10,7 @@ use Rattle.apl_expr.specs.Trees.{Tree}
 use Rattle.formula_core.specs.Outcomes.{Outcome}
 use Rattle.sheet_recalc.specs.Names.{Names, Formula, binding, Refers}
 use Rattle.sheet_recalc.specs.Meaning.{shown, val, IsSettled}
-use Rattle.sheet_recalc.specs.Outline.{standing, ahead, IsUnderWay}
+use Rattle.sheet_recalc.specs.ProposedSheet.{standing, ahead, IsUnderWay}
 use Rattle.dep_order.specs.Follows.{Follows, IsOnce}
 use Rattle.sheet_recalc.specs.declared.entry.Entry.{Entry}
 use Rattle.sheet_recalc.proofs.NameEquality.{equal-true, equal-same}

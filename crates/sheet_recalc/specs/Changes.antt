@@ -1,6 +1,6 @@
 -- What a change to a sheet gives, or why it is refused.
 use Rattle.std.specs.Prelude.{◌≡◌, ℕ, ◌<◌, ◌≤◌, ◌⊎◌, ℤ, List, [], ◌∷◌, None, Ok, Err, IsSome, length}
-use Rattle.dep_order.specs.Reach.{IsAcyclic, IsCycle}
+use Rattle.dep_order.specs.Reachability.{IsAcyclic, IsCycle}
 use Rattle.apl_expr.specs.Trees.{Tree, Constant}
 use Rattle.arrays_core.specs.Arrays.{ArrayValue}
 use Rattle.formula_core.specs.Meaning.{eval}

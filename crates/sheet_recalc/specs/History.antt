@@ -3,8 +3,8 @@ use Rattle.std.specs.Prelude.{◌≡◌, List, [], ◌∷◌, Result, Ok, Err}
 use Rattle.sheet_recalc.specs.Names.{Names}
 use Rattle.apl_expr.specs.Trees.{tree_of, constant_of}
 use Rattle.sheet_recalc.specs.Changes.{Change, Define, Store, Put, SetCell, AddRow, Erase, Accepts, Refuses}
-use Rattle.sheet_recalc.specs.declared.history.Change as code
-use Rattle.sheet_recalc.specs.declared.history.Change.TheVariants as made
+use Rattle.sheet_recalc.specs.declared.change.Change as code
+use Rattle.sheet_recalc.specs.declared.change.Change.TheVariants as made
 use Rattle.sheet_recalc.specs.declared.refusal.Refusal.{Refusal}
 
 abbrev pub change_of : code.Change → Change

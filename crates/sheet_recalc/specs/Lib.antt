@@ -3,7 +3,7 @@ pub mod Meaning
 pub mod Cells
 pub mod Rows
 pub mod Entries
-pub mod Outline
+pub mod ProposedSheet
 pub mod NameOrder
 pub mod Changes
 pub mod Codes

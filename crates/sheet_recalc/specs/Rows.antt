@@ -6,7 +6,7 @@ use Rattle.arrays_core.specs.Arrays.{ArrayValue}
 use Rattle.arrays_core.specs.Items.{type_of}
 use Rattle.arrays_core.specs.declared.item.Item.{Item}
 use Rattle.arrays_core.specs.declared.item.ItemType.{ItemType}
-use Rattle.index_region.specs.Common.{is_within_limits}
+use Rattle.index_region.specs.Checks.{is_within_limits}
 use Rattle.sheet_recalc.specs.Names.{Binding, Data, Formula}
 use Rattle.sheet_recalc.specs.Cells.{items_of, is_type}
 use Rattle.sheet_recalc.specs.declared.refusal.Refusal.{Refusal}

@@ -7,7 +7,7 @@ ghost use Rattle.sheet_recalc.specs.Names.{put, without, referred, referred_by};
 ghost use Rattle.sheet_recalc.specs.Entries.{names_of, binding_of, held};
 ghost use Rattle.arrays_core.specs.declared.item.Kind.TheVariants.{Value};
 ghost use Rattle.formula_core.specs.Outcomes.{fault};
-ghost use Rattle.sheet_recalc.specs.Outline.{IsPlanned};
+ghost use Rattle.sheet_recalc.specs.ProposedSheet.{IsPlanned};
 ghost use Rattle.dep_order.specs.Users.{HasRoomFor, HasNoEmptyBut};
 ghost use Rattle.sheet_recalc.specs.Live.{IsTable, IsCurrent, Adopting};
 

@@ -4,10 +4,10 @@ ghost use Rattle.std.specs.Prelude.{◌≡◌, ◌<◌, IfOk};
 ghost use Rattle.std.specs.Str.{bytes_eq};
 ghost use Rattle.std.specs.List.{Contains, position_or_len};
 ghost use Rattle.sheet_recalc.specs.Names.{Refers};
-ghost use Rattle.sheet_recalc.specs.Outline.{outlined, IsReaching};
+ghost use Rattle.sheet_recalc.specs.ProposedSheet.{outlined, IsReaching};
 ghost use Rattle.sheet_recalc.specs.Changes.{IsCycleFrom};
 
-use crate::outline::Outline;
+use crate::proposed_sheet::Outline;
 use apl_tokens::Name;
 use dep_order::first_found;
 use indexmap::IndexSet;

@@ -4,7 +4,7 @@ ghost use Rattle.std.specs.Prelude.{◌≡◌, Some};
 ghost use Rattle.formula_core.specs.Outcomes.{read};
 ghost use Rattle.sheet_recalc.specs.Entries.{binding_of, held, adopted};
 ghost use Rattle.sheet_recalc.specs.Names.{referred};
-ghost use Rattle.sheet_recalc.specs.Outline.{bound, shown_by};
+ghost use Rattle.sheet_recalc.specs.ProposedSheet.{bound, shown_by};
 
 use apl_tokens::Name;
 use arrays_core::{Array, Fault};

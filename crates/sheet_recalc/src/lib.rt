@@ -5,13 +5,13 @@ mod cell;
 mod commit;
 mod cycle;
 mod entry;
-mod history;
-mod outline;
+mod change;
+mod proposed_sheet;
 mod recalculation;
 mod refusal;
 mod row;
 mod sheet;
 
-pub use history::Change;
+pub use change::Change;
 pub use refusal::Refusal;
 pub use sheet::Sheet;

@@ -8,10 +8,10 @@ ghost use Rattle.arrays_core.specs.declared.item.Kind.TheVariants.{Value};
 ghost use Rattle.formula_core.specs.Outcomes.{fault};
 ghost use Rattle.sheet_recalc.specs.Names.{Formula as IsFormula, Refers};
 ghost use Rattle.sheet_recalc.specs.Meaning.{shown, val, IsSettled};
-ghost use Rattle.sheet_recalc.specs.Outline.{outlined, shown_by, standing, IsPlanned};
+ghost use Rattle.sheet_recalc.specs.ProposedSheet.{outlined, shown_by, standing, IsPlanned};
 ghost use Rattle.dep_order.specs.Follows.{Follows};
 
-use crate::outline::Outline;
+use crate::proposed_sheet::Outline;
 use apl_tokens::Name;
 use arrays_core::{Array, Fault, Kind};
 use formula_core::{Formula, Shows};
@@ -81,7 +81,7 @@ struct Ahead<'a, 'b> {
 }
 
 impl Shows for Ahead<'_, '_> {
-    ghost use Rattle.sheet_recalc.specs.Outline.{ahead, shown_by};
+    ghost use Rattle.sheet_recalc.specs.ProposedSheet.{ahead, shown_by};
 
     ghost shows = { λ a. ahead a.outline.now.entries.now.entries a.outline.now.name (shown_by a.outline.now.binding) a.results.now.entries };
 

@@ -7,11 +7,15 @@ use Rattle.arrays_core.specs.declared.item.Kind.TheVariants.{Axis as AxisError, 
 use Rattle.arrays_core.specs.Arrays.{ArrayValue}
 use Rattle.arrays_core.proofs.CaseWords.{nums, ints, chars, is, fails, scalar, no_text, no_numbers}
 use Rattle.index_region.specs.declared.along.Along.TheVariants.{First, Last, Axis}
-use Rattle.structural_fns.specs.Ravels.{reshape_whole, ravel_whole}
-use Rattle.structural_fns.specs.Counts.{take_whole, drop_whole}
-use Rattle.structural_fns.specs.Turns.{reverse_whole, rotate_whole}
-use Rattle.structural_fns.specs.Joins.{catenate_whole}
-use Rattle.structural_fns.specs.Transposes.{transpose_whole, transpose_by_whole}
+use Rattle.structural_fns.specs.Reshape.{reshape_whole}
+use Rattle.structural_fns.specs.Ravel.{ravel_whole}
+use Rattle.structural_fns.specs.Take.{take_whole}
+use Rattle.structural_fns.specs.Drop.{drop_whole}
+use Rattle.structural_fns.specs.Reverse.{reverse_whole}
+use Rattle.structural_fns.specs.Rotate.{rotate_whole}
+use Rattle.structural_fns.specs.Catenate.{catenate_whole}
+use Rattle.structural_fns.specs.Transpose.{transpose_whole}
+use Rattle.structural_fns.specs.DyadicTranspose.{transpose_by_whole}
 
 -- 2 3⍴⍳6
 abbrev table : ArrayValue

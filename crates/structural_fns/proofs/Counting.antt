@@ -10,9 +10,12 @@ use Rattle.arrays_core.specs.Arrays.{ArrayValue}
 use Rattle.arrays_core.specs.Shapes.{size, IsWithinLimits, is_index_of}
 use Rattle.arrays_core.proofs.Shapes.{as_long, head_at}
 use Rattle.arrays_core.proofs.NextIndex.{drop_inside}
-use Rattle.index_region.specs.Common.{check, Form, limited, numbers, number_of, is_scalar}
-use Rattle.structural_fns.specs.Ravels.{magnitudes}
-use Rattle.structural_fns.specs.Counts.{taken_place, taken_places, dropped_shape, kept_place, kept_places, counted_shape}
+use Rattle.index_region.specs.Checks.{check, Form, limited}
+use Rattle.index_region.specs.Arguments.{numbers, number_of, is_scalar}
+use Rattle.structural_fns.specs.Reshape.{magnitudes}
+use Rattle.structural_fns.specs.Take.{taken_place, taken_places}
+use Rattle.structural_fns.specs.Drop.{dropped_shape, kept_place, kept_places}
+use Rattle.structural_fns.specs.AxisCounts.{counted_shape}
 
 pub numbers_long : (a : ArrayValue) → length (numbers a) ≡ length a.items
 numbers_long a = length-map a.items number_of

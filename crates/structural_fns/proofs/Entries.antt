@@ -3,10 +3,10 @@ use Rattle.std.proofs.Common.{◌≡◌, ℕ, suc, ◌+◌, ◌-◌, ◌<◌, na
 use Rattle.std.specs.List.{range_with_len}
 use Rattle.std.proofs.lemmas.Bool.{eqb-true}
 use Rattle.arrays_core.specs.Arrays.{ArrayValue}
-use Rattle.index_region.specs.Common.{is_list}
+use Rattle.index_region.specs.Arguments.{is_list}
 use Rattle.index_region.specs.Answers.{IsPlaceOf}
 use Rattle.index_region.proofs.Passing.{passed}
-use Rattle.structural_fns.specs.Transposes.{transpose_by_form}
+use Rattle.structural_fns.specs.DyadicTranspose.{transpose_by_form}
 
 -- the next of so many numbers in a row
 pub range_more : (n k : ℕ) → k < n → range_with_len (k + 1) (n - k) ≡ (k + 1) ∷ range_with_len (k + 1 + 1) (n - (k + 1))

@@ -15,8 +15,10 @@ use Rattle.arrays_core.specs.Shapes.{size, index_after}
 use Rattle.arrays_core.specs.Arrays.{ArrayValue, IsArray, collect, with_items}
 use Rattle.arrays_core.proofs.Order.{given_in_order}
 use Rattle.index_region.specs.declared.along.Along.{Along}
-use Rattle.index_region.specs.Common.{is_scalar, is_axis, axis_at, and_then}
-use Rattle.structural_fns.specs.Joins.{joined_rank, joined_places, other_axes, ranks_join, axes_agree, joined_type, joined_shape, types_join, in_side, catenate_item, catenate_form, catenate_whole}
+use Rattle.index_region.specs.Arguments.{is_scalar}
+use Rattle.index_region.specs.Axes.{is_axis, axis_at}
+use Rattle.index_region.specs.Checks.{and_then}
+use Rattle.structural_fns.specs.Catenate.{joined_rank, joined_places, other_axes, ranks_join, axes_agree, joined_type, joined_shape, types_join, in_side, catenate_item, catenate_form, catenate_whole}
 use Rattle.structural_fns.proofs.Runs.{item_after, limited_is, check_passed, test_passed}
 use Rattle.structural_fns.proofs.Sides.{shared_long}
 

@@ -11,8 +11,12 @@ use Rattle.arrays_core.specs.declared.item.Kind.TheVariants.{Rank, Domain, Limit
 use Rattle.arrays_core.specs.Items.{fill}
 use Rattle.arrays_core.specs.Shapes.{size, index_after, places_before}
 use Rattle.arrays_core.specs.Arrays.{ArrayValue, item_if_there, collect, with_items}
-use Rattle.index_region.specs.Common.{Form, check, limited, is_within_limits, and_then, is_list, counts_as_numbers, none_negative, numbers, of_one, of_two, item_from}
-use Rattle.structural_fns.specs.Ravels.{magnitudes, reshape_form, reshape_item, reshape_whole, ravel_item, ravel_whole}
+use Rattle.index_region.specs.Checks.{Form, check, limited, is_within_limits, and_then}
+use Rattle.index_region.specs.Arguments.{is_list, counts_as_numbers, none_negative, numbers}
+use Rattle.index_region.specs.ArgumentLists.{of_one, of_two}
+use Rattle.index_region.specs.Sources.{item_from}
+use Rattle.structural_fns.specs.Reshape.{magnitudes, reshape_form, reshape_item, reshape_whole}
+use Rattle.structural_fns.specs.Ravel.{ravel_item, ravel_whole}
 use Rattle.arrays_core.proofs.Order.{given_in_order, index_after-within, places_before-index_after}
 
 -- the item at the index list that has so many before it

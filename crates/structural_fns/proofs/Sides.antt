@@ -11,10 +11,12 @@ use Rattle.arrays_core.specs.Arrays.{ArrayValue, IsArray, item_if_there}
 use Rattle.arrays_core.specs.Shapes.{is_index_of}
 use Rattle.arrays_core.proofs.Shapes.{as_long, places_below}
 use Rattle.index_region.specs.declared.along.Along.{Along}
-use Rattle.index_region.specs.Common.{check, limited, is_scalar, has_items, is_of_numbers, is_axis, axis_at}
+use Rattle.index_region.specs.Checks.{check, limited}
+use Rattle.index_region.specs.Arguments.{is_scalar, has_items, is_of_numbers}
+use Rattle.index_region.specs.Axes.{is_axis, axis_at}
 use Rattle.index_region.specs.Answers.{IsPlaceOf, HasTypeOf}
 use Rattle.index_region.proofs.Passing.{passed, place_inside, typed_check, typed_limited}
-use Rattle.structural_fns.specs.Joins.{joined_rank, joined_places, other_axes, ranks_join, axes_agree, types_join, joined_type, joined_shape, catenate_form}
+use Rattle.structural_fns.specs.Catenate.{joined_rank, joined_places, other_axes, ranks_join, axes_agree, types_join, joined_type, joined_shape, catenate_form}
 
 -- an array without items has none at any index list
 pub nothing_there : (a : ArrayValue) (at : List ℕ) (d : Item) → IsArray a → length a.items ≡ 0 → unwrap_or (item_if_there a at) d ≡ d

@@ -17,10 +17,12 @@ use Rattle.arrays_core.proofs.Shapes.{head_of}
 use Rattle.scalar_fns.specs.Numbers.{residue}
 use Rattle.scalar_fns.proofs.Residues.{both_positive}
 use Rattle.index_region.specs.declared.along.Along.{Along}
-use Rattle.index_region.specs.Common.{check, limited, is_axis, axis_at, has_one_item, counts_as_numbers}
+use Rattle.index_region.specs.Checks.{check, limited}
+use Rattle.index_region.specs.Axes.{is_axis, axis_at}
+use Rattle.index_region.specs.Arguments.{has_one_item, counts_as_numbers}
 use Rattle.index_region.specs.Answers.{IsPlaceOf, HasTypeOf}
 use Rattle.index_region.proofs.Passing.{passed, place_inside, typed_check, typed_limited}
-use Rattle.structural_fns.specs.Turns.{rotate_form}
+use Rattle.structural_fns.specs.Rotate.{rotate_form}
 
 -- an index list of a shape lies, without one of its axes, in the shape without it
 pub removed_inside : (shape index : List ℕ) (k : ℕ) → k < length shape → is_index_of shape index ≡ true → is_index_of (remove shape k) (remove index k) ≡ true

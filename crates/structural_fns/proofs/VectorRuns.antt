@@ -12,9 +12,12 @@ use Rattle.arrays_core.specs.Items.{fill}
 use Rattle.arrays_core.specs.Shapes.{size}
 use Rattle.arrays_core.specs.Arrays.{ArrayValue, IsArray, collect}
 use Rattle.arrays_core.proofs.Order.{index_after-within}
-use Rattle.index_region.specs.Common.{and_then, is_list, counts_as_numbers, numbers}
-use Rattle.structural_fns.specs.Ravels.{magnitudes}
-use Rattle.structural_fns.specs.Counts.{counted_shape, counted_form, taken_place, take_form, take_item, take_whole, kept_place, dropped_shape, drop_form, drop_item, drop_whole}
+use Rattle.index_region.specs.Checks.{and_then}
+use Rattle.index_region.specs.Arguments.{is_list, counts_as_numbers, numbers}
+use Rattle.structural_fns.specs.Reshape.{magnitudes}
+use Rattle.structural_fns.specs.AxisCounts.{counted_shape, counted_form}
+use Rattle.structural_fns.specs.Take.{taken_place, take_form, take_item, take_whole}
+use Rattle.structural_fns.specs.Drop.{kept_place, dropped_shape, drop_form, drop_item, drop_whole}
 use Rattle.structural_fns.proofs.Counting.{numbers_long}
 use Rattle.structural_fns.proofs.Runs.{item_after, run_collected, limited_is, check_passed, test_passed}
 

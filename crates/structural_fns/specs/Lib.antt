@@ -1,5 +1,10 @@
-pub mod Turns
-pub mod Ravels
-pub mod Transposes
-pub mod Counts
-pub mod Joins
+pub mod Reverse
+pub mod Rotate
+pub mod Reshape
+pub mod Ravel
+pub mod Transpose
+pub mod DyadicTranspose
+pub mod AxisCounts
+pub mod Take
+pub mod Drop
+pub mod Catenate

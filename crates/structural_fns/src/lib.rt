@@ -2,24 +2,24 @@
 //! is fill.
 #![tactic(auto)]
 
-mod arranging;
-mod counts;
-mod dropping;
-mod joining;
+mod dyadic_transpose;
+mod axis_counts;
+mod drop_places;
+mod catenate;
 mod magnitudes;
-mod ravelling;
-mod reshaping;
-mod reversing;
-mod rotating;
-mod taking;
-mod transposing;
+mod ravel;
+mod reshape;
+mod reverse;
+mod rotate;
+mod take;
+mod transpose;
 
-pub use arranging::DyadicTranspose;
-pub use dropping::DropPlaces;
-pub use joining::Catenate;
-pub use ravelling::Ravel;
-pub use reshaping::Reshape;
-pub use reversing::Reverse;
-pub use rotating::Rotate;
-pub use taking::Take;
-pub use transposing::Transpose;
+pub use dyadic_transpose::DyadicTranspose;
+pub use drop_places::DropPlaces;
+pub use catenate::Catenate;
+pub use ravel::Ravel;
+pub use reshape::Reshape;
+pub use reverse::Reverse;
+pub use rotate::Rotate;
+pub use take::Take;
+pub use transpose::Transpose;

@@ -2,8 +2,8 @@
 
 ghost use Rattle.std.specs.Prelude.{◌≡◌, IfOk, IfErr, false};
 ghost use Rattle.arrays_core.specs.declared.item.Kind.TheVariants.{Limit};
-ghost use Rattle.index_region.specs.Common.{is_within_limits};
-ghost use Rattle.structural_fns.specs.Ravels.{magnitudes as magnitudes_of};
+ghost use Rattle.index_region.specs.Checks.{is_within_limits};
+ghost use Rattle.structural_fns.specs.Reshape.{magnitudes as magnitudes_of};
 
 use arrays_core::{Kind, Shape};
 use index_region::Seen;

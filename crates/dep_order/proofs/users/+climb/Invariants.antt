@@ -1,6 +1,6 @@
 use Rattle.std.proofs.Common.{◌≡◌, ◌⊎◌, ℕ, ◌<◌, get_or}
 use Rattle.std.specs.List.{Contains}
-use Rattle.dep_order.specs.Reach.{Reaches}
+use Rattle.dep_order.specs.Reachability.{Reaches}
 use Rattle.dep_order.specs.Users.{Uses, IsClosed}
 use Rattle.dep_order.proofs.users.+climb.Given as goal
 

@@ -2,7 +2,7 @@ use Rattle.std.proofs.Common.{◌≡◌, ◌∙◌, ◌+◌, ap, sym, get_or, ma
 use Rattle.std.proofs.lemmas.List.{take_all}
 use Rattle.std.proofs.lemmas.Int.{to_z-of_z}
 use Rattle.arrays_core.specs.Items.{all_or_first_error}
-use Rattle.operator_fns.specs.Tables.{table, behind}
+use Rattle.operator_fns.specs.ResultTable.{table, behind}
 use Rattle.operator_fns.proofs.Tables.{row_more, rows_left, all_behind, error_in_front, row_failed, length-table, as_many_as}
 use Rattle.operator_fns.proofs.outer_product.table_numbers.Goals as goal
 

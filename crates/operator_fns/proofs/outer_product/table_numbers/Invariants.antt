@@ -1,6 +1,6 @@
 use Rattle.std.proofs.Common.{◌≡◌, take, Ok}
 use Rattle.arrays_core.specs.Items.{all_or_first_error}
-use Rattle.operator_fns.specs.Tables.{table}
+use Rattle.operator_fns.specs.ResultTable.{table}
 use Rattle.operator_fns.proofs.outer_product.table_numbers.Given as goal
 
 abbrev pub invariant-loop-number : goal.invariant-loop-number

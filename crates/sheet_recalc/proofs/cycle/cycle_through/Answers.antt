@@ -1,7 +1,7 @@
 use Rattle.std.proofs.Common.{◌∙◌, List, [], ◌∷◌, ◌++◌, ℕ, ap, arith}
 use Rattle.dep_order.proofs.Climbing.{chain_join}
 use Rattle.sheet_recalc.specs.Names.{Refers}
-use Rattle.sheet_recalc.specs.Outline.{outlined}
+use Rattle.sheet_recalc.specs.ProposedSheet.{outlined}
 use Rattle.sheet_recalc.proofs.Cycles.{place_within}
 use Rattle.sheet_recalc.proofs.cycle.cycle_through.Goals as goal
 

@@ -1,9 +1,9 @@
 use Rattle.std.proofs.Common.{◌≡◌, ◌-◌, ℕ, List, ◌∷◌, length}
 use Rattle.std.specs.Str.{bytes_eq}
 use Rattle.std.specs.List.{Contains, position_or_len}
-use Rattle.dep_order.specs.Reach.{Chain}
+use Rattle.dep_order.specs.Reachability.{Chain}
 use Rattle.sheet_recalc.specs.Names.{Refers}
-use Rattle.sheet_recalc.specs.Outline.{outlined}
+use Rattle.sheet_recalc.specs.ProposedSheet.{outlined}
 use Rattle.sheet_recalc.proofs.cycle.cycle_through.Given as goal
 
 abbrev pub invariant-loop-next : goal.invariant-loop-next

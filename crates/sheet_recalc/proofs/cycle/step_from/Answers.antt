@@ -1,6 +1,6 @@
 use Rattle.std.proofs.Common.{ℕ, List, sym, subst}
 use Rattle.std.specs.List.{Contains}
-use Rattle.sheet_recalc.specs.Outline.{outlined}
+use Rattle.sheet_recalc.specs.ProposedSheet.{outlined}
 use Rattle.sheet_recalc.proofs.Cycles.{goes_on, goes_down}
 use Rattle.sheet_recalc.proofs.Rebound.{referred_refers, refers_referred}
 use Rattle.sheet_recalc.proofs.cycle.step_from.Goals as goal

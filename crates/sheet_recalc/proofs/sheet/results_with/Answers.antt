@@ -2,7 +2,7 @@ use Rattle.std.proofs.Common.{ℕ, List, Some, sym, subst, arith}
 use Rattle.std.specs.List.{Contains}
 use Rattle.sheet_recalc.specs.Names.{Binding, referred, put}
 use Rattle.sheet_recalc.specs.Entries.{names_of, binding_of}
-use Rattle.sheet_recalc.specs.Outline.{bound, shown_by}
+use Rattle.sheet_recalc.specs.ProposedSheet.{bound, shown_by}
 use Rattle.sheet_recalc.specs.declared.entry.Entry.{Entry}
 use Rattle.sheet_recalc.proofs.Refused.{few_put}
 use Rattle.sheet_recalc.proofs.NameEquality.{equal-true}

@@ -1,10 +1,10 @@
 use Rattle.std.proofs.Common.{◌∙◌, ap, sym, take, drop, arith}
 use Rattle.arrays_core.specs.Items.{fill}
-use Rattle.scalar_fns.specs.Scalars.{two_of}
-use Rattle.index_region.specs.Common.{and_then}
-use Rattle.operator_fns.specs.Products.{row_rank, all_or_last_error}
-use Rattle.operator_fns.specs.Folds.{fold_right}
-use Rattle.operator_fns.specs.Meetings.{entry, met}
+use Rattle.scalar_fns.specs.Items.{two_of}
+use Rattle.index_region.specs.Checks.{and_then}
+use Rattle.operator_fns.specs.InnerProduct.{row_rank, all_or_last_error}
+use Rattle.operator_fns.specs.RightFold.{fold_right}
+use Rattle.operator_fns.specs.RowByColumn.{entry, met}
 use Rattle.operator_fns.proofs.Joined.{long_enough}
 use Rattle.operator_fns.proofs.Meetings.{length-met}
 use Rattle.operator_fns.proofs.Inners.{passed_inner, products_met, fold_of_some}

@@ -1,6 +1,6 @@
 use Rattle.std.proofs.Common.{◌≡◌, ◌∙◌, ℕ, List, sym, ap, subst}
 use Rattle.std.proofs.lemmas.Result.{err_from_is_err_and}
-use Rattle.dep_order.specs.Reach.{IsAcyclic}
+use Rattle.dep_order.specs.Reachability.{IsAcyclic}
 use Rattle.std.specs.Str.{bytes_eq}
 use Rattle.dep_order.specs.Users.{HasNoEmptyBut}
 use Rattle.apl_expr.specs.Trees.{Tree, tree_of}

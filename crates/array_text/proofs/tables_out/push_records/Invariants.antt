@@ -1,9 +1,0 @@
-use Rattle.std.proofs.Common.{◌≡◌, ◌++◌}
-use Rattle.std.specs.Prelude.{string_bytes}
-use Rattle.std.specs.List.{flat_map, range_with_len}
-use Rattle.array_text.specs.Text.{part_of}
-use Rattle.array_text.specs.Tables.{record_text}
-use Rattle.array_text.proofs.tables_out.push_records.Given as goal
-
-abbrev pub invariant-loop-row : goal.invariant-loop-row
-invariant-loop-row l = string_bytes l.out ≡ string_bytes l.initial.out ++ flat_map (λ row. record_text (part_of l.columns row l.numbers)) (range_with_len 0 l.row)

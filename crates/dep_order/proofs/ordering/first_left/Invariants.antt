@@ -1,6 +1,0 @@
-use Rattle.std.proofs.Common.{ℕ, ◌<◌}
-use Rattle.dep_order.specs.Order.{IsPlaced}
-use Rattle.dep_order.proofs.ordering.first_left.Given as goal
-
-abbrev pub invariant-loop-node : goal.invariant-loop-node
-invariant-loop-node l = (a : ℕ) → a < l.node → IsPlaced l.placed a

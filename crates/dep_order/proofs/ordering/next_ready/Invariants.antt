@@ -1,6 +1,0 @@
-use Rattle.std.proofs.Common.{ℕ, ◌<◌}
-use Rattle.dep_order.specs.Order.{IsLeft, Points}
-use Rattle.dep_order.proofs.ordering.next_ready.Given as goal
-
-abbrev pub invariant-loop-node : goal.invariant-loop-node
-invariant-loop-node l = (a : ℕ) → a < l.node → IsLeft l.placed a → (b : ℕ) × Points l.graph a b × IsLeft l.placed b

@@ -1,6 +1,0 @@
-use Rattle.std.proofs.Common.{ℕ, ◌<◌}
-use Rattle.dep_order.specs.Order.{IsHit, IsPlaced, Points}
-use Rattle.dep_order.proofs.reaching.next_dependent.Given as goal
-
-abbrev pub invariant-loop-next : goal.invariant-loop-next
-invariant-loop-next l = (a : ℕ) → a < l.next → (b : ℕ) → Points l.graph a b → IsHit l.marks l.node b → IsPlaced l.marks a

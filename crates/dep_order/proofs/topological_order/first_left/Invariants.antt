@@ -1,0 +1,6 @@
+use Rattle.std.proofs.Common.{ℕ, ◌<◌}
+use Rattle.dep_order.specs.TopologicalOrder.{IsPlaced}
+use Rattle.dep_order.proofs.topological_order.first_left.Given as goal
+
+abbrev pub invariant-loop-node : goal.invariant-loop-node
+invariant-loop-node l = (a : ℕ) → a < l.node → IsPlaced l.placed a

@@ -1,0 +1,215 @@
+//! The value of an expression.
+
+ghost use Rattle.std.specs.Prelude.{◌≡◌, IfOk, Result, Ok, Err, map};
+ghost use Rattle.apl_expr.specs.Trees.{tree_of, position_of, positions_of};
+ghost use Rattle.arrays_core.specs.Arrays.{ArrayValue, IsAnswerTo};
+ghost use Rattle.arrays_core.specs.declared.item.Kind.{Kind as AKind};
+ghost use Rattle.selection_fns.specs.Index.{index_whole};
+ghost use Rattle.formula_core.specs.Outcomes.{read, given};
+ghost use Rattle.formula_core.specs.Operands.{outcome_of, array_in, position_in, positions_in};
+ghost use Rattle.formula_core.specs.Meaning.{eval, eval_positions, applied1, applied2, indexed};
+
+use crate::application::{of_both, of_right};
+use crate::literals::array_of;
+use apl_expr::{Dyadic, Expr, Monadic};
+use apl_tokens::Name;
+use arrays_core::{ApplyFault, Array, Fault};
+use index_region::Seen;
+use selection_fns::Index;
+use std::alloc::{AllocError, Global};
+
+/// Something that tells what names show.
+pub trait Shows {
+    ghost use Rattle.std.specs.Prelude.{◌≡◌, ℕ, List};
+    ghost use Rattle.formula_core.specs.Outcomes.{Outcome, read};
+
+    // What each name shows.
+    ghost shows: { Self → List ℕ → Outcome };
+
+    /// What a name shows: its array, or the error in its place.
+    fn result_of(&self, name: Name) -> Result<&Array, Fault>
+        ensures { read result ≡ shows self.now name };
+}
+
+/// An argument: an array that a name lends, or one that was made on the way.
+#[derive(Drop)]
+pub(crate) enum Operand<'a> {
+    Lent(&'a Array),
+    Made(Array),
+}
+
+impl<'a> Operand<'a> {
+    fn array(&self) -> &Array
+        ensures { result.now ≡ array_in self.now }
+    {
+        match self {
+            Operand::Lent(array) => array,
+            Operand::Made(array) => array,
+        }
+    }
+
+    fn into_array(self) -> Result<Array, AllocError>
+        ensures { IfOk result (λ array. array ≡ array_in self.entry) }
+    {
+        match self {
+            Operand::Lent(array) => array.copy(),
+            Operand::Made(array) => Ok(array),
+        }
+    }
+}
+
+/// The value of an expression, where the names show these arrays and errors. The right argument of a function is
+/// evaluated first, then the left, and the first error that is met is the result; an error of a function has no origin.
+pub fn evaluate<S: Shows>(
+    alloc: Global,
+    tree: &Expr,
+    names: &S,
+) -> Result<Result<Array, Fault>, AllocError>
+    ensures { IfOk result (λ outcome. outcome ≡ eval (tree_of tree.now) (S.shows names.now)) }
+{
+    match argument(alloc, tree, names)? {
+        Ok(operand) => Ok(Ok(operand.into_array()?)),
+        Err(fault) => Ok(Err(fault)),
+    }
+}
+
+/// The value of an expression as an argument. A name's array is lent, and not copied.
+#[cycle(value)]
+fn argument<'a, S: Shows>(
+    alloc: Global,
+    tree: &Expr,
+    names: &'a S,
+) -> Result<Result<Operand<'a>, Fault>, AllocError>
+    ensures { IfOk result (λ operand. outcome_of operand ≡ eval (tree_of tree.now) (S.shows names.entry.now)) }
+{
+    match tree {
+        Expr::Const(literal) => made(array_of(alloc, literal)),
+        Expr::Name(name) => match names.result_of(*name) {
+            Ok(array) => Ok(Ok(Operand::Lent(array))),
+            Err(fault) => Ok(Err(fault)),
+        },
+        Expr::Monad(function, right) => {
+            let right = argument(alloc, right, names)?;
+            apply_monad(alloc, *function, right)
+        }
+        Expr::Dyad(function, left, right) => {
+            let right = argument(alloc, right, names)?;
+            let left = argument(alloc, left, names)?;
+            apply_dyad(alloc, *function, left, right)
+        }
+        Expr::Index(operand, positions) => {
+            let positions = position_operands(alloc, positions, names)?;
+            let operand = argument(alloc, operand, names)?;
+            apply_index(alloc, operand, positions)
+        }
+    }
+}
+
+/// The values of the positions of an index, from the last to the first; the first error that is met is the result.
+#[cycle(value)]
+fn position_operands<'a, S: Shows>(
+    alloc: Global,
+    positions: &[Option<Expr>],
+    names: &'a S,
+) -> Result<Result<Vec<Option<Operand<'a>>>, Fault>, AllocError>
+    ensures { IfOk result (λ operands. positions_in operands ≡ eval_positions (positions_of (map position_of positions.now)) (S.shows names.entry.now)) }
+{
+    let mut operands = Vec::new(alloc);
+    for k in (0..positions.len()).rev() {
+        let operand = match &positions[k] {
+            Some(tree) => match argument(alloc, tree, names)? {
+                Ok(operand) => Some(operand),
+                Err(fault) => return Ok(Err(fault)),
+            },
+            None => None,
+        };
+        operands.insert(0, operand)?;
+    }
+    Ok(Ok(operands))
+}
+
+/// A function of its right argument, or the argument's error.
+fn apply_monad<'a>(
+    alloc: Global,
+    function: Monadic,
+    right: Result<Operand<'a>, Fault>,
+) -> Result<Result<Operand<'a>, Fault>, AllocError>
+    ensures { IfOk result (λ operand. outcome_of operand ≡ applied1 function (outcome_of right.entry)) }
+{
+    match right {
+        Ok(right) => made(of_right(alloc, function, right.array())),
+        Err(fault) => Ok(Err(fault)),
+    }
+}
+
+/// A function of its two arguments, or the right argument's error, or the left's.
+fn apply_dyad<'a>(
+    alloc: Global,
+    function: Dyadic,
+    left: Result<Operand<'a>, Fault>,
+    right: Result<Operand<'a>, Fault>,
+) -> Result<Result<Operand<'a>, Fault>, AllocError>
+    ensures { IfOk result (λ operand. outcome_of operand ≡ applied2 function (outcome_of right.entry) (outcome_of left.entry)) }
+{
+    match right {
+        Ok(right) => match left {
+            Ok(left) => made(of_both(alloc, function, left.array(), right.array())),
+            Err(fault) => Ok(Err(fault)),
+        },
+        Err(fault) => Ok(Err(fault)),
+    }
+}
+
+/// The items of the operand at the indices of the positions, or the positions' error, or the operand's.
+fn apply_index<'a>(
+    alloc: Global,
+    operand: Result<Operand<'a>, Fault>,
+    positions: Result<Vec<Option<Operand<'a>>>, Fault>,
+) -> Result<Result<Operand<'a>, Fault>, AllocError>
+    ensures { IfOk result (λ made. outcome_of made ≡ indexed (positions_in positions.entry) (outcome_of operand.entry)) }
+{
+    match positions {
+        Ok(positions) => match operand {
+            Ok(operand) => made(of_positions(alloc, operand.array(), positions.as_slice())),
+            Err(fault) => Ok(Err(fault)),
+        },
+        Err(fault) => Ok(Err(fault)),
+    }
+}
+
+/// The items of an array at the indices of the positions.
+fn of_positions(
+    alloc: Global,
+    array: &Array,
+    positions: &[Option<Operand>],
+) -> Result<Array, ApplyFault>
+    ensures { IsAnswerTo (index_whole array.now (map position_in positions.now)) result }
+{
+    let mut written = Vec::with_capacity(alloc, positions.len())?;
+    let mut args = Vec::new(alloc);
+    args.push(Seen::plain(array))?;
+    for position in positions {
+        match position {
+            Some(operand) => {
+                written.push(true)?;
+                args.push(Seen::plain(operand.array()))?;
+            }
+            None => written.push(false)?,
+        }
+    }
+    let index = Index {
+        written: written.as_slice(),
+    };
+    index.apply(alloc, args.as_slice())
+}
+
+/// What a function gave as an argument of the next one. Its error has no origin.
+fn made<'a>(applied: Result<Array, ApplyFault>) -> Result<Result<Operand<'a>, Fault>, AllocError>
+    ensures { (wanted : Result ArrayValue AKind) → IsAnswerTo wanted applied → IfOk result (λ operand. outcome_of operand ≡ given wanted) }
+{
+    match applied {
+        Ok(array) => Ok(Ok(Operand::Made(array))),
+        Err(ApplyFault::Kind(kind)) => Ok(Err(Fault { kind, origin: None })),
+        Err(ApplyFault::NoMemory) => Err(AllocError),
+    }
+}

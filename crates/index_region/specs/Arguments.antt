@@ -1,0 +1,46 @@
+-- What checks ask of an argument.
+use Rattle.std.specs.Prelude.{ℕ, zero, suc, ◌-◌, nat_eq, nat_le, ℤ, pos, int_le, unsigned_abs, Bool, true, false, not, ◌&&◌, ◌||◌, if◌then◌else◌, List, [], ◌∷◌, map, length, get_or, Option, Some, None, unwrap_or, Result, Ok, Err}
+use Rattle.std.specs.List.{list_all}
+use Rattle.arrays_core.specs.declared.item.Item.{Item}
+use Rattle.arrays_core.specs.declared.item.Item.TheVariants.{Num, Char}
+use Rattle.arrays_core.specs.declared.item.ItemType.{ItemType}
+use Rattle.arrays_core.specs.declared.item.ItemType.TheVariants.{Nums, Chars}
+use Rattle.arrays_core.specs.declared.item.Kind.{Kind}
+use Rattle.arrays_core.specs.declared.item.Kind.TheVariants.{Length, Limit}
+use Rattle.arrays_core.specs.Items.{fill}
+use Rattle.arrays_core.specs.Shapes.{size}
+use Rattle.arrays_core.specs.Arrays.{ArrayValue, item_if_there, collect}
+use Rattle.index_region.specs.declared.along.Along.{Along}
+use Rattle.index_region.specs.declared.along.Along.TheVariants.{First, Last, Axis}
+
+abbrev pub is_scalar : ArrayValue → Bool
+is_scalar a = nat_eq (length a.shape) 0
+
+-- a scalar or a vector
+abbrev pub is_list : ArrayValue → Bool
+is_list a = nat_le (length a.shape) 1
+
+abbrev pub has_items : ArrayValue → Bool
+has_items a = not (nat_eq (length a.items) 0)
+
+abbrev pub has_one_item : ArrayValue → Bool
+has_one_item a = nat_eq (length a.items) 1
+
+abbrev pub is_of_numbers : ItemType → Bool
+is_of_numbers Nums = true
+is_of_numbers Chars = false
+
+-- of numbers, or without items
+abbrev pub counts_as_numbers : ArrayValue → Bool
+counts_as_numbers a = is_of_numbers a.item_type || not (has_items a)
+
+abbrev pub number_of : Item → ℤ
+number_of (Num z) = z
+number_of (Char c) = pos 0
+
+-- the numbers of an array in row-major order
+abbrev pub numbers : ArrayValue → List ℤ
+numbers a = map number_of a.items
+
+abbrev pub none_negative : List ℤ → Bool
+none_negative zs = list_all (λ z. int_le (pos 0) z) zs

@@ -1,0 +1,38 @@
+-- The checks of a primitive, and its whole result.
+use Rattle.std.specs.Prelude.{ℕ, zero, suc, ◌-◌, nat_eq, nat_le, ℤ, pos, int_le, unsigned_abs, Bool, true, false, not, ◌&&◌, ◌||◌, if◌then◌else◌, List, [], ◌∷◌, map, length, get_or, Option, Some, None, unwrap_or, Result, Ok, Err}
+use Rattle.std.specs.List.{list_all}
+use Rattle.arrays_core.specs.declared.item.Item.{Item}
+use Rattle.arrays_core.specs.declared.item.Item.TheVariants.{Num, Char}
+use Rattle.arrays_core.specs.declared.item.ItemType.{ItemType}
+use Rattle.arrays_core.specs.declared.item.ItemType.TheVariants.{Nums, Chars}
+use Rattle.arrays_core.specs.declared.item.Kind.{Kind}
+use Rattle.arrays_core.specs.declared.item.Kind.TheVariants.{Length, Limit}
+use Rattle.arrays_core.specs.Items.{fill}
+use Rattle.arrays_core.specs.Shapes.{size}
+use Rattle.arrays_core.specs.Arrays.{ArrayValue, item_if_there, collect}
+use Rattle.index_region.specs.declared.along.Along.{Along}
+use Rattle.index_region.specs.declared.along.Along.TheVariants.{First, Last, Axis}
+
+-- what follows a result, whose error stands
+abbrev pub and_then : {A B : Type 0} → Result A Kind → (A → Result B Kind) → Result B Kind
+and_then (Ok x) next = next x
+and_then (Err k) next = Err k
+
+-- a check: where it fails, its kind is the error
+abbrev pub check : {A : Type 0} → Bool → Kind → Result A Kind → Result A Kind
+check holds kind rest = if holds then rest else Err kind
+
+-- what the checks of a primitive give: the shape of its result and the type of its items
+abbrev pub Form : Type 0
+Form = List ℕ × ItemType
+
+abbrev pub is_within_limits : List ℕ → Bool
+is_within_limits shape = (nat_le (length shape) 4 && list_all (λ n. nat_le n 1048576) shape) && nat_le (size shape) 1048576
+
+-- the last check, of the shape
+abbrev pub limited : List ℕ → ItemType → Result Form Kind
+limited shape item_type = check (is_within_limits shape) Limit (Ok (shape, item_type))
+
+-- the whole result: the checks, and then its items
+abbrev pub whole : Result Form Kind → (List ℕ → Result Item Kind) → Result ArrayValue Kind
+whole form item = and_then form (λ f. collect f.1 f.0 item)

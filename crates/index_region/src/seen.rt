@@ -1,0 +1,169 @@
+//! Arrays as they are seen.
+
+ghost use Rattle.std.specs.Prelude.{◌≡◌, ◌+◌, ◌-◌, ◌≤◌, ◌↔◌, IfSome, IsNone, IfOk, not, length, map, take, drop, ◌++◌, get_or, pos};
+ghost use Rattle.arrays_core.specs.Arrays.{ArrayValue, IsArray, item_if_there};
+ghost use Rattle.arrays_core.specs.Shapes.{size as size_of, IsWithinLimits};
+ghost use Rattle.arrays_core.specs.declared.item.Item.TheVariants.{Num, Char};
+ghost use Rattle.arrays_core.specs.declared.item.ItemType.TheVariants.{Nums, Chars};
+ghost use Rattle.arrays_core.specs.Items.{fill, type_of};
+ghost use Rattle.index_region.specs.Arguments.{numbers, none_negative, counts_as_numbers};
+
+use arrays_core::{Array, Item, ItemType, Shape, size};
+use std::alloc::AllocError;
+use std::marker::Model;
+
+/// An array that is lent. No item is copied.
+#[derive(Drop)]
+pub struct Seen<'a> {
+    array: &'a Array,
+}
+
+impl<'a> Model for Seen<'a> {
+    ghost Value = { ArrayValue };
+
+    ghost view = { λ s. s.array.now };
+}
+
+impl<'a> Seen<'a> {
+    /// The array as it is.
+    pub fn plain(array: &'a Array) -> Seen<'a>
+        ensures { result ≡ array.now }
+    {
+        Seen { array }
+    }
+
+    /// The type of the items.
+    pub fn item_type(&self) -> ItemType
+        ensures is { result ≡ self.now.item_type }
+        ensures sound { IsArray self.now }
+    {
+        self.array.item_type()
+    }
+
+    /// The lengths of the axes.
+    pub fn shape(&self) -> &Shape
+        ensures is { result.now.items ≡ self.now.shape }
+        ensures inline { result.now.capacity ≡ 4 }
+        ensures sound { IsArray self.now }
+    {
+        self.array.shape()
+    }
+
+    /// How many items there are.
+    pub fn places(&self) -> u32
+        ensures is { result ≡ length self.now.items }
+        ensures size { result ≡ size_of self.now.shape }
+        ensures sound { IsArray self.now }
+    {
+        size(self.array.shape().as_slice())
+    }
+
+    /// The item at an index list, if that lies below the shape: one index an axis, each from 1 to the
+    /// length of its axis.
+    pub fn at(&self, index: &[u32]) -> Option<Item>
+        ensures is { result ≡ item_if_there self.now index.now }
+        ensures typed { IfSome result (λ x. type_of x ≡ self.now.item_type) }
+    {
+        self.array.at(index)
+    }
+
+    /// The item at a place in row-major order, counted from 1.
+    pub fn item(&self, position: u32) -> Item
+        requires low { 1 ≤ position }
+        requires high { position ≤ length self.now.items }
+        ensures is { result ≡ get_or self.now.items (position - 1) (fill self.now.item_type) }
+        ensures typed { type_of result ≡ self.now.item_type }
+    {
+        self.array.item(position)
+    }
+
+    /// The number at a place in row-major order, counted from 1; 0 for a character.
+    pub fn number(&self, position: u32) -> i64
+        requires low { 1 ≤ position }
+        requires high { position ≤ length self.now.items }
+        ensures { result ≡ get_or (numbers self.now) (position - 1) (pos 0) }
+    {
+        match self.item(position) {
+            Item::Num(number) => number,
+            Item::Char(_) => 0,
+        }
+    }
+
+    /// The numbers of an array of numbers, in row-major order.
+    pub fn numbers(&self) -> Option<&[i64]>
+        ensures none { IsNone result ↔ (self.now.item_type ≡ Chars) }
+        ensures is { IfSome result (λ s. (self.now.item_type ≡ Nums) × (self.now.items ≡ map (λ z. Num z) s.now)) }
+    {
+        self.array.numbers()
+    }
+
+    /// The characters of an array of characters, in row-major order.
+    pub fn characters(&self) -> Option<&[char]>
+        ensures none { IsNone result ↔ (self.now.item_type ≡ Nums) }
+        ensures is { IfSome result (λ s. (self.now.item_type ≡ Chars) × (self.now.items ≡ map (λ c. Char c) s.now)) }
+    {
+        self.array.characters()
+    }
+
+    /// The items of a run of places, behind so many, as an array of another shape that has as many.
+    pub fn part(&self, skipped: u32, shape: &Shape) -> Result<Array, AllocError>
+        requires within { IsWithinLimits shape.now.items }
+        requires inside { skipped + size_of shape.now.items ≤ length self.now.items }
+        ensures { IfOk result (λ a. a ≡ record {
+          item_type = self.now.item_type;
+          shape = shape.now.items;
+          items = take (size_of shape.now.items) (drop skipped self.now.items);
+        }) }
+    {
+        self.array.part(skipped, shape)
+    }
+
+    /// The items, and behind them those of another array of their type, as an array of a shape that has
+    /// as many.
+    pub fn joined(&self, other: &Seen, shape: &Shape) -> Result<Array, AllocError>
+        requires within { IsWithinLimits shape.now.items }
+        requires one_item_a_place { length self.now.items + length other.now.items ≡ size_of shape.now.items }
+        requires typed { self.now.item_type ≡ other.now.item_type }
+        ensures { IfOk result (λ a. a ≡ record {
+          item_type = self.now.item_type;
+          shape = shape.now.items;
+          items = self.now.items ++ other.now.items;
+        }) }
+    {
+        self.array.joined(other.array, shape)
+    }
+
+    /// The items at places, each told by how many come before it in row-major order, as an array of a
+    /// shape that has as many; fill where there is no such place.
+    pub fn picked(&self, before: &[u32], shape: &Shape) -> Result<Array, AllocError>
+        requires within { IsWithinLimits shape.now.items }
+        requires one_item_a_place { length before.now ≡ size_of shape.now.items }
+        ensures { IfOk result (λ a. a ≡ record {
+          item_type = self.now.item_type;
+          shape = shape.now.items;
+          items = map (λ k. get_or self.now.items k (fill self.now.item_type)) before.now;
+        }) }
+    {
+        self.array.picked(before, shape)
+    }
+
+    /// One of the numbers is below 0.
+    pub fn has_negative(&self) -> bool
+        ensures { result ≡ not (none_negative (numbers self.now)) }
+    {
+        for place in 0..self.places() {
+            if self.number(place + 1) < 0 {
+                return true;
+            }
+        }
+        false
+    }
+
+    /// It is of numbers, or without items: where it is not, a function that asks for numbers is
+    /// DOMAIN ERROR.
+    pub fn counts_as_numbers(&self) -> bool
+        ensures { result ≡ counts_as_numbers self.now }
+    {
+        self.item_type() == ItemType::Nums || self.places() == 0
+    }
+}

@@ -1,0 +1,16 @@
+use Rattle.std.proofs.Common.{◌≡◌, ap, length, pos, subst}
+use Rattle.arrays_core.specs.Items.{all_or_first_error}
+use Rattle.scalar_fns.specs.NumberLists.{IsListAnswerTo}
+use Rattle.operator_fns.specs.Strides.{folded}
+use Rattle.operator_fns.specs.LinearScan.{run_to, folded_left, scanned}
+use Rattle.operator_fns.proofs.Associates.{left_is_right}
+use Rattle.operator_fns.proofs.Firsts.{same_rules}
+use Rattle.operator_fns.proofs.linear_scan.running_folds.Goals as goal
+
+pub returns-clause-is : goal.returns-clause-is
+returns-clause-is g c =
+    let f = g.S.TwoNumbers.gives c.args.step.now in
+    let zs = c.args.numbers.now in
+    let same : scanned (folded_left f) zs c.args.stride c.args.count ≡ scanned (folded f) zs c.args.stride c.args.count =
+    ap all_or_first_error (same_rules _ _ (length zs) (λ k below. left_is_right f c.requires.associative (run_to (pos 0) zs c.args.stride c.args.count k))) in
+    subst (λ w. IsListAnswerTo w c.running.result) same c.running.ensures.is

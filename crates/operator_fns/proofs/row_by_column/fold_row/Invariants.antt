@@ -1,0 +1,10 @@
+use Rattle.std.proofs.Common.{◌+◌, ◌≤◌, pos}
+use Rattle.operator_fns.specs.RowByColumn.{entry, met}
+use Rattle.operator_fns.proofs.Meetings.{FoldedTo}
+use Rattle.operator_fns.proofs.row_by_column.fold_row.Given as goal
+
+abbrev pub invariant-loop-place : goal.invariant-loop-place
+invariant-loop-place g l = record {
+  folded : FoldedTo (g.F.TwoNumbers.gives l.fold) (met (g.G.TwoNumbers.gives l.each) (entry (pos 0) l.left l.row) (entry (pos 0) l.right l.column) l.count) l.place l.result;
+  below : l.place + 1 ≤ l.count;
+}

@@ -1,0 +1,10 @@
+use Rattle.std.proofs.Common.{◌≡◌, ◌≤◌, pos}
+use Rattle.operator_fns.specs.RowByColumn.{entry, met, last_error_or}
+use Rattle.operator_fns.proofs.row_by_column.number_error.Given as goal
+
+abbrev pub invariant-loop-place : goal.invariant-loop-place
+invariant-loop-place g l = record {
+  same : last_error_or l.error (met (g.G.TwoNumbers.gives l.each) (entry (pos 0) l.left l.row) (entry (pos 0) l.right l.column) l.count)
+      ≡ last_error_or l.error (met (g.G.TwoNumbers.gives l.each) (entry (pos 0) l.left l.row) (entry (pos 0) l.right l.column) l.place);
+  below : l.place ≤ l.count;
+}

@@ -1,0 +1,51 @@
+-- Inner product, A f.g B: the rows of one array folded with the columns of another.
+use Rattle.std.specs.Prelude.{ℕ, ◌-◌, nat_eq, ◌||◌, List, [], ◌∷◌, ◌++◌, map, length, get_or, take, drop, if◌then◌else◌, Result, Ok}
+use Rattle.std.specs.List.{range_with_len}
+use Rattle.arrays_core.specs.declared.item.Item.{Item}
+use Rattle.arrays_core.specs.declared.item.ItemType.TheVariants.{Nums}
+use Rattle.arrays_core.specs.declared.item.Kind.{Kind}
+use Rattle.arrays_core.specs.declared.item.Kind.TheVariants.{Length}
+use Rattle.arrays_core.specs.Arrays.{ArrayValue, item_of}
+use Rattle.scalar_fns.specs.declared.function.Scalar2.{Scalar2}
+use Rattle.scalar_fns.specs.Items.{two_of}
+use Rattle.scalar_fns.specs.ScalarExtension.{extended}
+use Rattle.index_region.specs.Checks.{Form, and_then, check, limited, whole}
+use Rattle.index_region.specs.Arguments.{has_one_item}
+use Rattle.operator_fns.specs.RightFold.{fold_right}
+
+-- how many axes of a are not folded along: all but the last
+abbrev pub row_rank : ArrayValue → ℕ
+row_rank a = length a.shape - 1
+
+-- how long a row of a and a column of b are
+abbrev pub row_length : ArrayValue → ℕ
+row_length a = get_or a.shape (row_rank a) 1
+
+abbrev pub column_length : ArrayValue → ℕ
+column_length b = get_or b.shape 0 1
+
+-- one item on a side extends to the other's length
+abbrev pub inner_length : ArrayValue → ArrayValue → ℕ
+inner_length a b = if has_one_item a then column_length b else row_length a
+
+abbrev pub inner_form : ArrayValue → ArrayValue → Result Form Kind
+inner_form a b =
+    check ((has_one_item a || has_one_item b) || nat_eq (row_length a) (column_length b)) Length
+    (limited (take (row_rank a) a.shape ++ drop 1 b.shape) Nums)
+
+-- all the items, or the error of the last that has one
+abbrev pub all_or_last_error : List (Result Item Kind) → Result (List Item) Kind
+all_or_last_error [] = Ok []
+all_or_last_error (x ∷ rest) = and_then (all_or_last_error rest) (λ items. and_then x (λ item. Ok (item ∷ items)))
+
+-- g of the items of a row and a column
+abbrev pub products : Scalar2 → ArrayValue → ArrayValue → List ℕ → List ℕ → List (Result Item Kind)
+products g a b row column =
+    map (λ j. two_of g (extended a (row ++ j ∷ [])) (extended b (j ∷ column))) (range_with_len 1 (inner_length a b))
+
+abbrev pub inner_item : Scalar2 → Scalar2 → ArrayValue → ArrayValue → List ℕ → Result Item Kind
+inner_item f g a b index =
+    and_then (all_or_last_error (products g a b (take (row_rank a) index) (drop (row_rank a) index))) (fold_right f)
+
+abbrev pub inner_whole : Scalar2 → Scalar2 → ArrayValue → ArrayValue → Result ArrayValue Kind
+inner_whole f g a b = whole (inner_form a b) (inner_item f g a b)

@@ -1,0 +1,54 @@
+-- The first entries of the lines of a list in row-major order, and folds of them.
+use Rattle.std.specs.Prelude.{◌≡◌, ℕ, ◌+◌, ◌-◌, ◌*◌, ◌/◌, ◌%◌, ◌<◌, ◌≤◌, ℤ, pos, FitsSigned, List, [], ◌∷◌, map, length, get_or, All, Result, Ok, Err, Vec}
+use Rattle.std.specs.Int.{w64}
+use Rattle.std.specs.List.{range_with_len}
+use Rattle.arrays_core.specs.Items.{all_or_first_error}
+use Rattle.arrays_core.specs.declared.item.Kind.{Kind}
+use Rattle.arrays_core.specs.declared.item.Kind.TheVariants.{Domain}
+use Rattle.arrays_core.specs.declared.fault.ApplyFault.{ApplyFault}
+use Rattle.arrays_core.specs.declared.fault.ApplyFault.TheVariants.{Kind as KindFault, NoMemory}
+use Rattle.index_region.specs.Checks.{and_then}
+use Rattle.operator_fns.specs.Strides.{strided}
+
+-- how many entries of its line come before the entry at a place
+abbrev pub depth : (stride count place : ℕ) → ℕ
+depth stride count place = place / stride % count
+
+-- the entries of the line of a place up to the one there
+abbrev pub run_to : {A : Type 0} → A → List A → (stride count place : ℕ) → List A
+run_to default xs stride count place =
+    strided default xs (place - depth stride count place * stride) stride (depth stride count place + 1)
+
+-- the left fold of a list behind a first entry
+abbrev pub fold_on : {A : Type 0} → (A → A → Result A Kind) → A → List A → Result A Kind
+fold_on f x [] = Ok x
+fold_on f x (y ∷ rest) = and_then (f x y) (λ z. fold_on f z rest)
+
+-- the left fold of a list that is not empty
+abbrev pub folded_left : {A : Type 0} → (A → A → Result A Kind) → List A → Result A Kind
+folded_left f [] = Err Domain
+folded_left f (x ∷ rest) = fold_on f x rest
+
+-- the folds of the numbers up to each place, or the error of the first place that has one
+abbrev pub scanned : (List ℤ → Result ℤ Kind) → List ℤ → (stride count : ℕ) → Result (List ℤ) Kind
+scanned fold zs stride count =
+    all_or_first_error (map (λ place. fold (run_to (pos 0) zs stride count place)) (range_with_len 0 (length zs)))
+
+-- where three are put together it does not matter which two are first, and there is one error at most
+pub record IsAssociative (f : ℤ → ℤ → Result ℤ Kind) : Type 0 where
+  pub kind : Kind
+  pub only : (a b : ℤ) (k : Kind) → f a b ≡ Err k → k ≡ kind
+  pub either : (a b c : ℤ) → and_then (f b c) (f a) ≡ and_then (f a b) (λ z. f z c)
+
+-- a place with this error, and up to it only numbers of 64 bits
+pub record FailsAt (rule : ℕ → Result ℤ Kind) (zs : List ℤ) (kind : Kind) : Type 0 where
+  pub place : ℕ
+  pub below : place < length zs
+  pub is : rule place ≡ Err kind
+  pub numbers : (k : ℕ) → k ≤ place → FitsSigned w64 (get_or zs k (pos 0))
+
+-- what a call has read are numbers of 64 bits: all, or those up to its error
+abbrev pub HasRead : {G : Type 0} → (List ℤ → Result ℤ Kind) → List ℤ → (stride count : ℕ) → Result (Vec ℤ G) ApplyFault → Type 0
+HasRead fold zs stride count (Ok v) = All (FitsSigned w64) zs
+HasRead fold zs stride count (Err (KindFault kind)) = FailsAt (λ place. fold (run_to (pos 0) zs stride count place)) zs kind
+HasRead fold zs stride count (Err NoMemory) = Unit {0}

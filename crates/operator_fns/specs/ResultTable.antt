@@ -1,0 +1,22 @@
+-- A function of each number of a list with each of another.
+use Rattle.std.specs.Prelude.{◌≡◌, ℤ, List, map, ◌++◌, Result, Ok, Err}
+use Rattle.std.specs.List.{flat_map}
+use Rattle.arrays_core.specs.declared.item.Kind.{Kind}
+use Rattle.arrays_core.specs.declared.fault.ApplyFault.{ApplyFault}
+use Rattle.arrays_core.specs.declared.fault.ApplyFault.TheVariants.{Kind as KindFault, NoMemory}
+use Rattle.arrays_core.specs.Items.{all_or_first_error}
+use Rattle.index_region.specs.Checks.{and_then}
+
+-- a row for each number on the left, of what is given with each on the right
+abbrev pub table : (ℤ → ℤ → Result ℤ Kind) → List ℤ → List ℤ → List (Result ℤ Kind)
+table f xs ys = flat_map (λ x. map (f x) ys) xs
+
+-- all of a list's results behind some numbers, or the first error
+abbrev pub behind : List ℤ → List (Result ℤ Kind) → Result (List ℤ) Kind
+behind zs rs = and_then (all_or_first_error rs) (λ more. Ok (zs ++ more))
+
+-- a call leaves the numbers that were asked for, or answers their error or want of memory
+abbrev pub LeavesOrFails : {U : Type 0} → Result (List ℤ) Kind → List ℤ → Result U ApplyFault → Type 0
+LeavesOrFails wanted left (Ok u) = wanted ≡ Ok left
+LeavesOrFails wanted left (Err (KindFault k)) = wanted ≡ Err k
+LeavesOrFails wanted left (Err NoMemory) = Unit {0}

@@ -1,0 +1,28 @@
+-- Folds: of a list, and of the lines of an array.
+use Rattle.std.specs.Prelude.{ℕ, ℤ, List, [], ◌∷◌, map, insert, Option, Some, None, Result, Ok, Err}
+use Rattle.std.specs.List.{range_with_len}
+use Rattle.arrays_core.specs.declared.item.Item.{Item}
+use Rattle.arrays_core.specs.declared.item.Item.TheVariants.{Num}
+use Rattle.arrays_core.specs.declared.item.Kind.{Kind}
+use Rattle.arrays_core.specs.declared.item.Kind.TheVariants.{Domain}
+use Rattle.arrays_core.specs.Arrays.{ArrayValue, item_of}
+use Rattle.scalar_fns.specs.declared.function.Scalar2.{Scalar2}
+use Rattle.scalar_fns.specs.Identities.{identity_of}
+use Rattle.scalar_fns.specs.Items.{two_of}
+use Rattle.index_region.specs.Checks.{and_then}
+use Rattle.index_region.specs.Axes.{places_along}
+
+-- what a fold of no items gives
+abbrev pub identity_item : Option ℤ → Result Item Kind
+identity_item (Some z) = Ok (Num z)
+identity_item None = Err Domain
+
+-- the right fold of a list, x1 f (x2 f (..)): the identity for no items, the item itself for one; an error of the rest stands
+abbrev pub fold_right : Scalar2 → List Item → Result Item Kind
+fold_right f [] = identity_item (identity_of f)
+fold_right f (x ∷ []) = Ok x
+fold_right f (x ∷ y ∷ rest) = and_then (fold_right f (y ∷ rest)) (two_of f x)
+
+-- the items along an axis at an index list of the other axes; a scalar is a line of its one item
+abbrev pub line : ArrayValue → ℕ → List ℕ → List Item
+line a axis index = map (λ j. item_of a (insert index axis j)) (range_with_len 1 (places_along a.shape axis))

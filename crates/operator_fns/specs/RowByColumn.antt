@@ -1,0 +1,68 @@
+-- Rows and columns taken entry by entry.
+use Rattle.std.specs.Prelude.{ℕ, ◌+◌, ◌*◌, ◌/◌, ◌%◌, ◌<◌, ◌≤◌, ℤ, pos, List, [], ◌∷◌, map, get_or, drop, if◌then◌else◌, Result, Ok, Err}
+use Rattle.std.specs.List.{range_with_len}
+use Rattle.arrays_core.specs.declared.item.Kind.{Kind}
+use Rattle.arrays_core.specs.Shapes.{size}
+use Rattle.arrays_core.specs.Arrays.{ArrayValue}
+use Rattle.index_region.specs.Checks.{and_then}
+use Rattle.index_region.specs.Arguments.{has_one_item}
+use Rattle.operator_fns.specs.declared.row_by_column.Line.{Line}
+use Rattle.operator_fns.specs.declared.grid.Grid.{Grid}
+use Rattle.operator_fns.specs.InnerProduct.{inner_length}
+use Rattle.operator_fns.specs.Strides.{folded}
+
+-- an entry of a line of a list
+abbrev pub entry : {A : Type 0} → A → List A → Line → ℕ → A
+entry default xs line k = get_or xs (line.first + k * line.stride) default
+
+-- so many entries of a line lie within so many
+abbrev pub IsInside : Line → ℕ → ℕ → Type 0
+IsInside line count n = (k : ℕ) → k < count → line.first + k * line.stride < n
+
+-- what a function gives for each entry of a row with the entry of a column that it meets
+abbrev pub met : {A : Type 0} → (A → A → Result A Kind) → (row column : ℕ → A) → ℕ → List (Result A Kind)
+met g row column count = map (λ k. g (row k) (column k)) (range_with_len 0 count)
+
+-- what all of them give, or the error of the last that has one
+abbrev pub all_or_last : {A : Type 0} → List (Result A Kind) → Result (List A) Kind
+all_or_last [] = Ok []
+all_or_last (x ∷ rest) = and_then (all_or_last rest) (λ items. and_then x (λ item. Ok (item ∷ items)))
+
+-- the error of the last that has one, or another error
+abbrev pub last_error_or : {A : Type 0} → Kind → List (Result A Kind) → Kind
+last_error_or other [] = other
+last_error_or other (Ok x ∷ rest) = last_error_or other rest
+last_error_or other (Err e ∷ rest) = last_error_or e rest
+
+-- the right fold of what all of them give
+abbrev pub folded_all : {A : Type 0} → (A → A → Result A Kind) → List (Result A Kind) → Result A Kind
+folded_all f rs = and_then (all_or_last rs) (folded f)
+
+-- ---- the rows of one list of numbers and the columns of another
+
+-- the row and the column of a place of the result
+abbrev pub row_at : Grid → ℕ → Line
+row_at grid place = record { first = place / grid.columns * grid.count; stride = grid.row_stride }
+
+abbrev pub column_at : Grid → ℕ → Line
+column_at grid place = record { first = place % grid.columns; stride = grid.column_stride }
+
+-- the number at a place of the result
+abbrev pub cell : (f g : ℤ → ℤ → Result ℤ Kind) → (xs ys : List ℤ) → Grid → ℕ → Result ℤ Kind
+cell f g xs ys grid place = folded_all f (met g (entry (pos 0) xs (row_at grid place)) (entry (pos 0) ys (column_at grid place)) grid.count)
+
+-- the rows and the columns of so many places are not empty, and lie within lists of such lengths
+pub record IsGridOf (grid : Grid) (places n m : ℕ) : Type 0 where
+  pub some_columns : 0 < grid.columns
+  pub some : 1 ≤ grid.count
+  pub rows : (place : ℕ) → place < places → IsInside (row_at grid place) grid.count n
+  pub columns : (place : ℕ) → place < places → IsInside (column_at grid place) grid.count m
+
+-- the rows and the columns of two arrays; one item on a side stands still
+abbrev pub grid_of : ArrayValue → ArrayValue → Grid
+grid_of a b = record {
+  columns = size (drop 1 b.shape);
+  count = inner_length a b;
+  row_stride = if has_one_item a then 0 else 1;
+  column_stride = if has_one_item b then 0 else size (drop 1 b.shape);
+}

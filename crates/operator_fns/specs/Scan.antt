@@ -1,0 +1,34 @@
+-- Scan, f\B and f⍀B.
+use Rattle.std.specs.Prelude.{ℕ, nat_lt, ◌||◌, List, length, get_or, take, remove, if◌then◌else◌, Result}
+use Rattle.arrays_core.specs.declared.item.Item.{Item}
+use Rattle.arrays_core.specs.declared.item.ItemType.{ItemType}
+use Rattle.arrays_core.specs.declared.item.ItemType.TheVariants.{Nums}
+use Rattle.arrays_core.specs.declared.item.Kind.{Kind}
+use Rattle.arrays_core.specs.declared.item.Kind.TheVariants.{Axis, Domain}
+use Rattle.arrays_core.specs.Arrays.{ArrayValue}
+use Rattle.scalar_fns.specs.declared.function.Scalar2.{Scalar2}
+use Rattle.index_region.specs.declared.along.Along.{Along}
+use Rattle.index_region.specs.Checks.{Form, check, limited, whole}
+use Rattle.index_region.specs.Arguments.{counts_as_numbers}
+use Rattle.index_region.specs.Axes.{is_axis, axis_at, places_along}
+use Rattle.operator_fns.specs.RightFold.{fold_right, line}
+
+-- b itself where the axis is below 2
+abbrev pub scan_type : ArrayValue → ℕ → ItemType
+scan_type b axis = if nat_lt (places_along b.shape axis) 2 then b.item_type else Nums
+
+abbrev pub scan_form : Along → ArrayValue → Result Form Kind
+scan_form along b =
+    let axis = axis_at (length b.shape) along in
+    check (is_axis (length b.shape) along) Axis
+    (check (nat_lt (places_along b.shape axis) 2 || counts_as_numbers b) Domain
+    (limited b.shape (scan_type b axis)))
+
+-- the reduction of the first items of the line
+abbrev pub scan_item : Scalar2 → Along → ArrayValue → List ℕ → Result Item Kind
+scan_item f along b index =
+    let axis = axis_at (length b.shape) along in
+    fold_right f (take (get_or index axis 1) (line b axis (remove index axis)))
+
+abbrev pub scan_whole : Scalar2 → Along → ArrayValue → Result ArrayValue Kind
+scan_whole f along b = whole (scan_form along b) (scan_item f along b)

@@ -1,0 +1,117 @@
+//! The rows of one list of numbers folded with the columns of another.
+
+ghost use Rattle.std.specs.Prelude.{◌≡◌, length};
+ghost use Rattle.arrays_core.specs.declared.item.ItemType.TheVariants.{Nums};
+ghost use Rattle.arrays_core.specs.Arrays.{collect as collected, IsAnswerTo};
+ghost use Rattle.arrays_core.specs.Shapes.{size as size_of, places_before, IsWithinLimits};
+ghost use Rattle.scalar_fns.specs.Numbers.{of_two};
+ghost use Rattle.scalar_fns.specs.Items.{number_item};
+ghost use Rattle.operator_fns.specs.RowByColumn.{cell, IsGridOf};
+
+use crate::number_rule::{NumberRule, collect_numbers};
+use crate::row_by_column::{Line, fold_row};
+use arrays_core::{ApplyFault, Array, Kind, Shape, size};
+use scalar_fns::Scalar2;
+use scalar_fns::kernels::{And, Equal, Maximum, Minimum, Or, Plus, Times, TwoNumbers};
+use std::alloc::Global;
+
+/// How rows and columns lie: how many columns there are, how many numbers a row and a column have, and how
+/// far apart they stand. A row of one number stands still, and so does a column.
+#[derive(Clone, Copy)]
+pub(crate) struct Grid {
+    pub(crate) columns: usize,
+    pub(crate) count: usize,
+    pub(crate) row_stride: usize,
+    pub(crate) column_stride: usize,
+}
+
+/// Each row folded with each column.
+#[derive(Drop)]
+struct Cells<'a, F, G> {
+    fold: &'a F,
+    each: &'a G,
+    left: &'a [i64],
+    right: &'a [i64],
+    grid: Grid,
+    places: usize,
+    ghost fits: { IsGridOf grid places (length left.now) (length right.now) },
+}
+
+impl<'a, F: TwoNumbers, G: TwoNumbers> NumberRule for Cells<'a, F, G> {
+    ghost places = { λ r. r.places };
+
+    ghost number = { λ r place. cell (F.gives r.fold.now) (G.gives r.each.now) r.left.now r.right.now r.grid place };
+
+    fn number_at(&self, place: usize) -> Result<i64, Kind> {
+        let grid = self.grid;
+        let row = Line {
+            first: place / grid.columns * grid.count,
+            stride: grid.row_stride,
+        };
+        let column = Line {
+            first: place % grid.columns,
+            stride: grid.column_stride,
+        };
+        fold_row(
+            self.fold, self.each, self.left, row, self.right, column, grid.count,
+        )
+    }
+}
+
+/// The array of the rows folded with the columns.
+fn products_by<F: TwoNumbers, G: TwoNumbers>(
+    alloc: Global,
+    fold: &F,
+    each: &G,
+    left: &[i64],
+    right: &[i64],
+    grid: Grid,
+    shape: &Shape,
+) -> Result<Array, ApplyFault>
+    requires within { IsWithinLimits shape.now.items }
+    requires fits { IsGridOf grid (size_of shape.now.items) (length left.now) (length right.now) }
+    ensures { IsAnswerTo (collected Nums shape.now.items (λ index. number_item (cell (F.gives fold.now) (G.gives each.now) left.now right.now grid (places_before shape.now.items index)))) result }
+{
+    let rule = Cells {
+        fold,
+        each,
+        left,
+        right,
+        grid,
+        places: size(shape.as_slice()) as usize,
+    };
+    collect_numbers(alloc, &rule, shape)
+}
+
+/// The same for functions that are chosen; those of the products that are mostly asked for have a loop of
+/// their own.
+pub(crate) fn grid_products(
+    alloc: Global,
+    fold: Scalar2,
+    each: Scalar2,
+    left: &[i64],
+    right: &[i64],
+    grid: Grid,
+    shape: &Shape,
+) -> Result<Array, ApplyFault>
+    requires within { IsWithinLimits shape.now.items }
+    requires fits { IsGridOf grid (size_of shape.now.items) (length left.now) (length right.now) }
+    ensures { IsAnswerTo (collected Nums shape.now.items (λ index. number_item (cell (of_two fold) (of_two each) left.now right.now grid (places_before shape.now.items index)))) result }
+{
+    match (fold, each) {
+        (Scalar2::Plus, Scalar2::Times) => {
+            products_by(alloc, &Plus, &Times, left, right, grid, shape)
+        }
+        (Scalar2::Minimum, Scalar2::Plus) => {
+            products_by(alloc, &Minimum, &Plus, left, right, grid, shape)
+        }
+        (Scalar2::Maximum, Scalar2::Plus) => {
+            products_by(alloc, &Maximum, &Plus, left, right, grid, shape)
+        }
+        (Scalar2::Or, Scalar2::And) => products_by(alloc, &Or, &And, left, right, grid, shape),
+        (Scalar2::Plus, Scalar2::Equal) => {
+            products_by(alloc, &Plus, &Equal, left, right, grid, shape)
+        }
+        _ => products_by(alloc, &fold, &each, left, right, grid, shape),
+    }
+}

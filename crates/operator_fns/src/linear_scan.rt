@@ -1,0 +1,135 @@
+//! Scans of numbers in time in proportion to them, each result from the one before it on its line.
+
+ghost use Rattle.std.specs.Prelude.{◌≡◌, ◌<◌, ◌≤◌, ◌+◌, ◌-◌, ◌*◌, ◌%◌, true, false, pos, length, get_or, Ok, IfOk, vec_len};
+ghost use Rattle.std.specs.Int.{int_max, int_min};
+ghost use Rattle.scalar_fns.specs.declared.function.Scalar2.TheVariants.{Plus as Sum};
+ghost use Rattle.scalar_fns.specs.Numbers.{of_two};
+ghost use Rattle.scalar_fns.specs.NumberLists.{IsListAnswerTo};
+ghost use Rattle.operator_fns.specs.Strides.{folded};
+ghost use Rattle.operator_fns.specs.LinearScan.{folded_left, scanned, HasRead, IsAssociative};
+
+use arrays_core::{ApplyFault, Kind};
+use scalar_fns::kernels::{Plus, TwoNumbers};
+use std::alloc::Global;
+
+/// The greatest sum of an ending, from that of the numbers before: the last number, and what came
+/// before where that is more than 0.
+struct GreatestEnding;
+
+impl TwoNumbers for GreatestEnding {
+    ghost gives = { λ s a b. of_two Sum (int_max a (pos 0)) b };
+
+    fn at(&self, a: i64, b: i64) -> Result<i64, Kind> {
+        Plus.at(a.max(0), b)
+    }
+}
+
+/// The least sum of an ending, from that of the numbers before.
+struct LeastEnding;
+
+impl TwoNumbers for LeastEnding {
+    ghost gives = { λ s a b. of_two Sum (int_min a (pos 0)) b };
+
+    fn at(&self, a: i64, b: i64) -> Result<i64, Kind> {
+        Plus.at(a.min(0), b)
+    }
+}
+
+/// The number at the place behind some results: as it is, or put together with the result a stride
+/// before it.
+fn next_result<S: TwoNumbers>(
+    step: &S,
+    results: &[i64],
+    number: i64,
+    stride: usize,
+    is_first: bool,
+) -> Result<i64, Kind>
+    requires apart { 0 < stride }
+    requires behind { is_first ≡ false → stride ≤ length results.now }
+    ensures first { is_first ≡ true → result ≡ Ok number }
+    ensures later { is_first ≡ false → result ≡ S.gives step.now (get_or results.now (length results.now - stride) (pos 0)) number }
+{
+    if is_first {
+        Ok(number)
+    } else {
+        step.at(results[results.len() - stride], number)
+    }
+}
+
+/// The place after one of a block, or the first of the next block.
+fn place_after(block_place: usize, block: usize) -> usize
+    requires { block_place < block }
+    ensures { result ≡ (block_place + 1) % block }
+{
+    if block_place + 1 == block {
+        0
+    } else {
+        block_place + 1
+    }
+}
+
+/// The left folds of the first numbers of each line, where the lines have so many numbers, a stride
+/// apart.
+fn running<S: TwoNumbers>(
+    alloc: Global,
+    step: &S,
+    numbers: &[i64],
+    stride: usize,
+    count: usize,
+) -> Result<Vec<i64>, ApplyFault>
+    requires some { 1 ≤ count }
+    requires apart { 0 < stride }
+    requires high { count * stride ≤ length numbers.now }
+    ensures is { IsListAnswerTo (scanned (folded_left (S.gives step.now)) numbers.now stride count) result }
+    ensures long { IfOk result (λ v. vec_len v ≡ length numbers.now) }
+    ensures read { HasRead (folded_left (S.gives step.now)) numbers.now stride count result }
+{
+    let mut results = Vec::with_capacity(alloc, numbers.len())?;
+    let block = count * stride;
+    let mut block_place = 0;
+    for place in 0..numbers.len() {
+        let is_first = block_place < stride;
+        let result = next_result(step, &results, numbers[place], stride, is_first)?;
+        results.push(result)?;
+        block_place = place_after(block_place, block);
+    }
+    Ok(results)
+}
+
+/// The folds of the first numbers of each line by a function that is associative: then the left fold is
+/// the right one.
+pub(crate) fn running_folds<S: TwoNumbers>(
+    alloc: Global,
+    step: &S,
+    numbers: &[i64],
+    stride: usize,
+    count: usize,
+) -> Result<Vec<i64>, ApplyFault>
+    requires associative { IsAssociative (S.gives step.now) }
+    requires some { 1 ≤ count }
+    requires apart { 0 < stride }
+    requires high { count * stride ≤ length numbers.now }
+    ensures is { IsListAnswerTo (scanned (folded (S.gives step.now)) numbers.now stride count) result }
+    ensures long { IfOk result (λ v. vec_len v ≡ length numbers.now) }
+{
+    running(alloc, step, numbers, stride, count)
+}
+
+/// The sums of the first numbers of each line. Such a sum is within 64 bits on its way from the last
+/// number to the first where that of each ending is, so where the greatest and the least of these are.
+pub(crate) fn running_sums(
+    alloc: Global,
+    numbers: &[i64],
+    stride: usize,
+    count: usize,
+) -> Result<Vec<i64>, ApplyFault>
+    requires some { 1 ≤ count }
+    requires apart { 0 < stride }
+    requires high { count * stride ≤ length numbers.now }
+    ensures is { IsListAnswerTo (scanned (folded (of_two Sum)) numbers.now stride count) result }
+    ensures long { IfOk result (λ v. vec_len v ≡ length numbers.now) }
+{
+    running(alloc, &GreatestEnding, numbers, stride, count)?;
+    running(alloc, &LeastEnding, numbers, stride, count)?;
+    running(alloc, &Plus, numbers, stride, count)
+}

@@ -1,0 +1,63 @@
+//! Arrays of numbers from a rule that gives the number at each place, without an index list.
+
+ghost use Rattle.std.specs.Prelude.{◌≡◌, ◌<◌, ℕ, ℤ, Result, map, IfOk, vec_len};
+ghost use Rattle.std.specs.List.{range_with_len};
+ghost use Rattle.arrays_core.specs.declared.item.ItemType.TheVariants.{Nums};
+ghost use Rattle.arrays_core.specs.declared.item.Kind.{Kind as AKind};
+ghost use Rattle.arrays_core.specs.Items.{all_or_first_error};
+ghost use Rattle.arrays_core.specs.Shapes.{size as size_of, places_before, IsWithinLimits};
+ghost use Rattle.arrays_core.specs.Arrays.{collect as collected, with_items, IsAnswerTo};
+ghost use Rattle.scalar_fns.specs.Items.{number_item};
+ghost use Rattle.scalar_fns.specs.NumberLists.{items_of, IsListAnswerTo};
+
+use arrays_core::{ApplyFault, Array, Kind, Shape, size};
+use std::alloc::Global;
+
+/// The number at each place of a result, told by how many places come before it in row-major order.
+pub(crate) trait NumberRule {
+    ghost places: { Self → ℕ };
+
+    ghost number: { Self → ℕ → Result ℤ AKind };
+
+    /// The number at a place, or its error.
+    fn number_at(&self, place: usize) -> Result<i64, Kind>
+        requires { place < places self.now }
+        ensures { result ≡ number self.now place };
+}
+
+/// The numbers of a rule, or the error of the first place that has one.
+fn numbers_of<R: NumberRule>(alloc: Global, rule: &R, places: usize) -> Result<Vec<i64>, ApplyFault>
+    requires { places ≡ R.places rule.now }
+    ensures is { IsListAnswerTo (all_or_first_error (map (R.number rule.now) (range_with_len 0 places))) result }
+    ensures long { IfOk result (λ v. vec_len v ≡ places) }
+{
+    let mut numbers = Vec::with_capacity(alloc, places)?;
+    for place in 0..places {
+        let number = rule.number_at(place)?;
+        numbers.push(number)?;
+    }
+    Ok(numbers)
+}
+
+/// The array of the list of a rule's numbers.
+fn array_of<R: NumberRule>(alloc: Global, rule: &R, shape: &Shape) -> Result<Array, ApplyFault>
+    requires within { IsWithinLimits shape.now.items }
+    requires shaped { size_of shape.now.items ≡ R.places rule.now }
+    ensures { IsAnswerTo (with_items Nums shape.now.items (items_of (all_or_first_error (map (R.number rule.now) (range_with_len 0 (size_of shape.now.items)))))) result }
+{
+    let numbers = numbers_of(alloc, rule, size(shape.as_slice()) as usize)?;
+    Ok(Array::from_numbers(shape, numbers))
+}
+
+/// The array of a rule's numbers, or the error of the first place in row-major order that has one.
+pub(crate) fn collect_numbers<R: NumberRule>(
+    alloc: Global,
+    rule: &R,
+    shape: &Shape,
+) -> Result<Array, ApplyFault>
+    requires within { IsWithinLimits shape.now.items }
+    requires shaped { size_of shape.now.items ≡ R.places rule.now }
+    ensures { IsAnswerTo (collected Nums shape.now.items (λ index. number_item (R.number rule.now (places_before shape.now.items index)))) result }
+{
+    array_of(alloc, rule, shape)
+}

@@ -1,0 +1,256 @@
+//! Reduction: the right fold of each line of an array.
+
+ghost use Rattle.std.specs.Prelude.{◌≡◌, ◌<◌, ◌≤◌, ◌*◌, ◌%◌, pos, length, map, IfOk};
+ghost use Rattle.arrays_core.specs.declared.item.Item.TheVariants.{Num};
+ghost use Rattle.arrays_core.specs.declared.item.ItemType.TheVariants.{Nums};
+ghost use Rattle.arrays_core.specs.Arrays.{collect as collected, IsAnswerTo};
+ghost use Rattle.arrays_core.specs.Shapes.{size as size_of, places_before, IsWithinLimits};
+ghost use Rattle.scalar_fns.specs.declared.function.Scalar2.TheVariants.{Plus as Sum};
+ghost use Rattle.scalar_fns.specs.Numbers.{of_two};
+ghost use Rattle.scalar_fns.specs.Items.{number_item};
+ghost use Rattle.index_region.specs.ArgumentLists.{of_one};
+ghost use Rattle.index_region.specs.Answers.{IsFormAnswerTo, IsPlaceOf, HasTypeOf};
+ghost use Rattle.operator_fns.specs.Strides.{strided, folded, line_start};
+ghost use Rattle.operator_fns.specs.Reduce.{reduce_form, reduce_item, reduce_whole};
+
+use crate::number_rule::{NumberRule, collect_numbers};
+use crate::right_fold::{fold_line, fold_numbers, identity_item, stride};
+use crate::sum::sum_list;
+use arrays_core::{ApplyFault, Array, Item, ItemType, Kind, Shape, shape_of, size, without_axis};
+use index_region::{Along, Primitive, Seen, apply, limited};
+use scalar_fns::Scalar2;
+use scalar_fns::kernels::{And, Maximum, Minimum, Minus, Or, Plus, Times, TwoNumbers};
+use std::alloc::Global;
+
+/// The lines of a list of numbers, each folded.
+#[derive(Drop)]
+struct Lines<'a, S> {
+    step: &'a S,
+    numbers: &'a [i64],
+    stride: usize,
+    count: usize,
+    places: usize,
+    ghost some: { 1 ≤ count },
+    ghost apart: { 0 < stride },
+    ghost whole: { places * count ≡ length numbers.now },
+    ghost even: { places % stride ≡ 0 },
+}
+
+impl<'a, S: TwoNumbers> NumberRule for Lines<'a, S> {
+    ghost places = { λ l. l.places };
+
+    ghost number = { λ l place. folded (S.gives l.step.now) (strided (pos 0) l.numbers.now (line_start l.stride l.count place) l.stride l.count) };
+
+    fn number_at(&self, place: usize) -> Result<i64, Kind> {
+        let first = place / self.stride * (self.count * self.stride) + place % self.stride;
+        fold_numbers(self.step, self.numbers, first, self.stride, self.count)
+    }
+}
+
+/// Lines that lie one behind another in a list of numbers, each summed up.
+#[derive(Drop)]
+struct Totals<'a> {
+    numbers: &'a [i64],
+    count: usize,
+    places: usize,
+    ghost some: { 1 ≤ count },
+    ghost whole: { places * count ≡ length numbers.now },
+}
+
+impl<'a> NumberRule for Totals<'a> {
+    ghost places = { λ t. t.places };
+
+    ghost number = { λ t place. folded (of_two Sum) (strided (pos 0) t.numbers.now (line_start 1 t.count place) 1 t.count) };
+
+    fn number_at(&self, place: usize) -> Result<i64, Kind> {
+        let first = place * self.count;
+        sum_list(&self.numbers[first..first + self.count])
+    }
+}
+
+/// The array of the sums of the lines of some numbers.
+fn sums(
+    alloc: Global,
+    numbers: &[i64],
+    stride: usize,
+    count: usize,
+    shape: &Shape,
+) -> Result<Array, ApplyFault>
+    requires within { IsWithinLimits shape.now.items }
+    requires some { 1 ≤ count }
+    requires apart { 0 < stride }
+    requires whole { size_of shape.now.items * count ≡ length numbers.now }
+    requires even { size_of shape.now.items % stride ≡ 0 }
+    ensures { IsAnswerTo (collected Nums shape.now.items (λ index. number_item (folded (of_two Sum) (strided (pos 0) numbers.now (line_start stride count (places_before shape.now.items index)) stride count)))) result }
+{
+    if stride != 1 {
+        return folds_by(alloc, &Plus, numbers, stride, count, shape);
+    }
+    let totals = Totals {
+        numbers,
+        count,
+        places: size(shape.as_slice()) as usize,
+    };
+    collect_numbers(alloc, &totals, shape)
+}
+
+/// The array of the folds of the lines of some numbers.
+fn folds_by<S: TwoNumbers>(
+    alloc: Global,
+    step: &S,
+    numbers: &[i64],
+    stride: usize,
+    count: usize,
+    shape: &Shape,
+) -> Result<Array, ApplyFault>
+    requires within { IsWithinLimits shape.now.items }
+    requires some { 1 ≤ count }
+    requires apart { 0 < stride }
+    requires whole { size_of shape.now.items * count ≡ length numbers.now }
+    requires even { size_of shape.now.items % stride ≡ 0 }
+    ensures { IsAnswerTo (collected Nums shape.now.items (λ index. number_item (folded (S.gives step.now) (strided (pos 0) numbers.now (line_start stride count (places_before shape.now.items index)) stride count)))) result }
+{
+    let lines = Lines {
+        step,
+        numbers,
+        stride,
+        count,
+        places: size(shape.as_slice()) as usize,
+    };
+    collect_numbers(alloc, &lines, shape)
+}
+
+/// The same for a function that is chosen; those that sums, alternating sums, products, bounds and
+/// questions of all or any are made with have a loop of their own.
+fn folds(
+    alloc: Global,
+    function: Scalar2,
+    numbers: &[i64],
+    stride: usize,
+    count: usize,
+    shape: &Shape,
+) -> Result<Array, ApplyFault>
+    requires within { IsWithinLimits shape.now.items }
+    requires some { 1 ≤ count }
+    requires apart { 0 < stride }
+    requires whole { size_of shape.now.items * count ≡ length numbers.now }
+    requires even { size_of shape.now.items % stride ≡ 0 }
+    ensures { IsAnswerTo (collected Nums shape.now.items (λ index. number_item (folded (of_two function) (strided (pos 0) numbers.now (line_start stride count (places_before shape.now.items index)) stride count)))) result }
+{
+    match function {
+        Scalar2::Plus => sums(alloc, numbers, stride, count, shape),
+        Scalar2::Minus => folds_by(alloc, &Minus, numbers, stride, count, shape),
+        Scalar2::Times => folds_by(alloc, &Times, numbers, stride, count, shape),
+        Scalar2::Maximum => folds_by(alloc, &Maximum, numbers, stride, count, shape),
+        Scalar2::Minimum => folds_by(alloc, &Minimum, numbers, stride, count, shape),
+        Scalar2::And => folds_by(alloc, &And, numbers, stride, count, shape),
+        Scalar2::Or => folds_by(alloc, &Or, numbers, stride, count, shape),
+        _ => folds_by(alloc, &function, numbers, stride, count, shape),
+    }
+}
+
+/// Reduction, `f/B` and `f⌿B` (ISO/IEC 13751, "Reduction"): the lines along an axis, each put together by
+/// the function from its last item to its first, `x1 f (x2 f (..))`, until there is an error. A line of
+/// one item is that item, and a line of none the identity of the function, or DOMAIN where it has none. A
+/// scalar is itself. The result is of numbers, but of B's type where each line is one item. AXIS where
+/// the axis is not one of the array's, LIMIT beyond the limits of arrays.
+#[derive(Clone, Copy, PartialEq, Eq, Debug)]
+pub struct Reduce {
+    pub function: Scalar2,
+    pub along: Along,
+}
+
+impl Reduce {
+    /// The checks, and the shape and the type of the result.
+    fn form(self, array: &Seen) -> Result<(Shape, ItemType), Kind>
+        ensures { IsFormAnswerTo (reduce_form self.along array.now) result }
+    {
+        let shape = array.shape();
+        let axes = shape.as_slice();
+        let alloc = *shape.allocator();
+        let rank = axes.len() as u32;
+        if !self.along.is_axis(rank) {
+            return Err(Kind::Axis);
+        }
+        if rank == 0 {
+            return limited(shape_of(alloc, &[]), array.item_type());
+        }
+        let axis = self.along.axis_at(rank);
+        let item_type = if axes[axis] == 1 {
+            array.item_type()
+        } else {
+            ItemType::Nums
+        };
+        limited(without_axis(alloc, axes, axis), item_type)
+    }
+
+    /// The item at an index list of the result.
+    fn folded_at(self, array: &Seen, index: &[u32]) -> Result<Item, Kind>
+        requires { IsPlaceOf (reduce_form self.along array.now) index.now }
+        ensures is { result ≡ reduce_item self.function self.along array.now index.now }
+        ensures typed { IfOk result (HasTypeOf (reduce_form self.along array.now)) }
+    {
+        let axes = array.shape();
+        if axes.is_empty() {
+            return Ok(array.item(1));
+        }
+        let axis = self.along.axis_at(axes.len() as u32);
+        let count = axes[axis];
+        if count == 0 {
+            return identity_item(self.function);
+        }
+        fold_line(self.function, array, axis, index, count)
+    }
+
+    /// The folds of the lines. Those of numbers are taken from the numbers as they lie.
+    pub fn apply(&self, alloc: Global, args: &[Seen]) -> Result<Array, ApplyFault>
+        requires { length args.now ≡ 1 }
+        ensures { IsAnswerTo (of_one (reduce_whole self.now.function self.now.along) args.now) result }
+    {
+        let array = &args[0];
+        if let Some(numbers) = array.numbers() {
+            if !numbers.is_empty() && !array.shape().is_empty() {
+                return self.of_numbers(alloc, array, numbers);
+            }
+        }
+        apply(alloc, self, args)
+    }
+
+    /// The folds of the lines of an array of numbers that has axes.
+    fn of_numbers(self, alloc: Global, array: &Seen, numbers: &[i64]) -> Result<Array, ApplyFault>
+        requires numbers { array.now.items ≡ map (λ z. Num z) numbers.now }
+        requires typed { array.now.item_type ≡ Nums }
+        requires some { 0 < length numbers.now }
+        requires axes { 0 < length array.now.shape }
+        ensures { IsAnswerTo (reduce_whole self.function self.along array.now) result }
+    {
+        let (shape, _) = self.form(array)?;
+        let axes = array.shape();
+        let axis = self.along.axis_at(axes.len() as u32);
+        let apart = stride(axes.as_slice(), axis) as usize;
+        folds(
+            alloc,
+            self.function,
+            numbers,
+            apart,
+            axes[axis] as usize,
+            &shape,
+        )
+    }
+}
+
+impl Primitive for Reduce {
+    ghost arity = { λ _. 1 };
+
+    ghost form = { λ r args. of_one (reduce_form r.along) args };
+
+    ghost item = { λ r args index. of_one (λ b. reduce_item r.function r.along b index) args };
+
+    fn shape_of(&self, args: &[Seen]) -> Result<(Shape, ItemType), Kind> {
+        self.form(&args[0])
+    }
+
+    fn item_at(&self, args: &[Seen], index: &[u32]) -> Result<Item, Kind> {
+        self.folded_at(&args[0], index)
+    }
+}

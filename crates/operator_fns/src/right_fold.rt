@@ -1,0 +1,126 @@
+//! Right folds of lines: of items, and of numbers.
+
+ghost use Rattle.std.specs.Prelude.{◌≡◌, ◌<◌, ◌≤◌, ◌+◌, ◌-◌, ◌*◌, pos, length, IfOk, IsTrue, drop, take, remove, get_or};
+ghost use Rattle.arrays_core.specs.Items.{fill, type_of};
+ghost use Rattle.arrays_core.specs.declared.item.ItemType.TheVariants.{Nums};
+ghost use Rattle.arrays_core.specs.Shapes.{is_index_of as is_below, size as size_of, IsWithinLimits};
+ghost use Rattle.scalar_fns.specs.Identities.{identity_of};
+ghost use Rattle.operator_fns.specs.RightFold.{identity_item as item_of_identity, fold_right, line};
+ghost use Rattle.operator_fns.specs.Strides.{strided, folded};
+
+use arrays_core::{Item, Kind, position, size, with_axis};
+use index_region::Seen;
+use scalar_fns::kernels::TwoNumbers;
+use scalar_fns::{Scalar2, identity, two};
+
+/// What a fold of no items gives: the identity of the function, or DOMAIN where it has none.
+pub(crate) fn identity_item(function: Scalar2) -> Result<Item, Kind>
+    ensures is { result ≡ item_of_identity (identity_of function) }
+    ensures typed { IfOk result (λ x. type_of x ≡ Nums) }
+{
+    match identity(function) {
+        Some(number) => Ok(Item::Num(number)),
+        None => Err(Kind::Domain),
+    }
+}
+
+/// The right fold of items of an array that stand a stride apart, so many of them, the first at a
+/// place counted from 1.
+pub(crate) fn fold_items(
+    function: Scalar2,
+    array: &Seen,
+    first: u32,
+    stride: u32,
+    count: u32,
+) -> Result<Item, Kind>
+    requires some { 1 ≤ count }
+    requires low { 1 ≤ first }
+    requires few { length array.now.items ≤ 1048576 }
+    requires high { first + (count - 1) * stride ≤ length array.now.items }
+    ensures is { result ≡ fold_right function (strided (fill array.now.item_type) array.now.items (first - 1) stride count) }
+    ensures one { count ≡ 1 → IfOk result (λ x. type_of x ≡ array.now.item_type) }
+    ensures several { 1 < count → IfOk result (λ x. type_of x ≡ Nums) }
+{
+    let mut result = array.item(first + (count - 1) * stride);
+    for before in (0..count - 1).rev() {
+        result = two(function, array.item(first + before * stride), result)?;
+    }
+    Ok(result)
+}
+
+/// The right fold of a list of numbers.
+pub(crate) fn fold_list<S: TwoNumbers>(step: &S, numbers: &[i64]) -> Result<i64, Kind>
+    requires { 0 < length numbers.now }
+    ensures { result ≡ folded (S.gives step.now) numbers.now }
+{
+    let last = numbers.len() - 1;
+    let mut result = numbers[last];
+    for before in (0..last).rev() {
+        result = step.at(numbers[before], result)?;
+    }
+    Ok(result)
+}
+
+/// The right fold of numbers that stand a stride apart, so many of them, the first with so many before
+/// it.
+pub(crate) fn fold_numbers<S: TwoNumbers>(
+    step: &S,
+    numbers: &[i64],
+    first: usize,
+    stride: usize,
+    count: usize,
+) -> Result<i64, Kind>
+    requires some { 1 ≤ count }
+    requires high { first + (count - 1) * stride < length numbers.now }
+    ensures { result ≡ folded (S.gives step.now) (strided (pos 0) numbers.now first stride count) }
+{
+    if stride == 1 {
+        return fold_list(step, &numbers[first..first + count]);
+    }
+    let mut result = numbers[first + (count - 1) * stride];
+    for before in (0..count - 1).rev() {
+        result = step.at(numbers[first + before * stride], result)?;
+    }
+    Ok(result)
+}
+
+/// How far an item lies behind the one before it along an axis: the size of the axes after that one.
+pub(crate) fn stride(axes: &[u32], axis: usize) -> u32
+    requires within { IsWithinLimits axes.now }
+    requires there { axis < length axes.now }
+    requires some { 0 < size_of axes.now }
+    ensures is { result ≡ size_of (drop (axis + 1) axes.now) }
+    ensures apart { 0 < result }
+{
+    let (_, later) = axes.split_at(axis + 1);
+    size(later)
+}
+
+/// The right fold of the first items, so many of them, of the line along an axis at an index list of the
+/// other axes.
+pub(crate) fn fold_line(
+    function: Scalar2,
+    array: &Seen,
+    axis: usize,
+    index: &[u32],
+    count: u32,
+) -> Result<Item, Kind>
+    requires there { axis < length array.now.shape }
+    requires inside { IsTrue (is_below (remove array.now.shape axis) index.now) }
+    requires some { 1 ≤ count }
+    requires few { count ≤ get_or array.now.shape axis 0 }
+    ensures is { result ≡ fold_right function (take count (line array.now axis index.now)) }
+    ensures one { count ≡ 1 → IfOk result (λ x. type_of x ≡ array.now.item_type) }
+    ensures several { 1 < count → IfOk result (λ x. type_of x ≡ Nums) }
+{
+    let shape = array.shape();
+    let first = with_axis(*shape.allocator(), index, axis, 1);
+    let first_place = position(shape, first.as_slice());
+    fold_items(
+        function,
+        array,
+        first_place,
+        stride(shape.as_slice(), axis),
+        count,
+    )
+}

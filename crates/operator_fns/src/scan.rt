@@ -1,0 +1,239 @@
+//! Scan: the right folds of the first items of each line of an array.
+
+ghost use Rattle.std.specs.Prelude.{◌≡◌, ◌<◌, ◌≤◌, ◌*◌, pos, length, map, IfOk};
+ghost use Rattle.arrays_core.specs.declared.item.Item.TheVariants.{Num};
+ghost use Rattle.arrays_core.specs.declared.item.ItemType.TheVariants.{Nums};
+ghost use Rattle.arrays_core.specs.Arrays.{collect as collected, IsAnswerTo};
+ghost use Rattle.arrays_core.specs.Shapes.{size as size_of, places_before, IsWithinLimits};
+ghost use Rattle.scalar_fns.specs.declared.function.Scalar2.TheVariants.{Plus};
+ghost use Rattle.scalar_fns.specs.Numbers.{of_two};
+ghost use Rattle.scalar_fns.specs.Items.{number_item};
+ghost use Rattle.index_region.specs.ArgumentLists.{of_one};
+ghost use Rattle.index_region.specs.Answers.{IsFormAnswerTo, IsPlaceOf, HasTypeOf};
+ghost use Rattle.operator_fns.specs.Strides.{folded};
+ghost use Rattle.operator_fns.specs.LinearScan.{run_to, IsAssociative};
+ghost use Rattle.operator_fns.specs.Scan.{scan_form, scan_item, scan_whole};
+
+use crate::number_rule::{NumberRule, collect_numbers};
+use crate::right_fold::{fold_line, fold_numbers, stride};
+use crate::linear_scan::{running_folds, running_sums};
+use arrays_core::{ApplyFault, Array, Item, ItemType, Kind, Shape, shape_of, without_axis};
+use index_region::{Along, Primitive, Seen, apply, limited};
+use scalar_fns::Scalar2;
+use scalar_fns::kernels::{And, Maximum, Minimum, Minus, Or, Times, TwoNumbers};
+use std::alloc::Global;
+
+/// The numbers of a list, each folded with those before it on its line.
+#[derive(Drop)]
+struct Runs<'a, S> {
+    step: &'a S,
+    numbers: &'a [i64],
+    stride: usize,
+    count: usize,
+    ghost some: { 1 ≤ count },
+    ghost apart: { 0 < stride },
+}
+
+impl<'a, S: TwoNumbers> NumberRule for Runs<'a, S> {
+    ghost places = { λ r. length r.numbers.now };
+
+    ghost number = { λ r place. folded (S.gives r.step.now) (run_to (pos 0) r.numbers.now r.stride r.count place) };
+
+    fn number_at(&self, place: usize) -> Result<i64, Kind> {
+        let before = place / self.stride % self.count;
+        let first = place - before * self.stride;
+        fold_numbers(self.step, self.numbers, first, self.stride, before + 1)
+    }
+}
+
+/// The array of the folds of the numbers up to each place of its line.
+fn scans_by<S: TwoNumbers>(
+    alloc: Global,
+    step: &S,
+    numbers: &[i64],
+    stride: usize,
+    count: usize,
+    shape: &Shape,
+) -> Result<Array, ApplyFault>
+    requires within { IsWithinLimits shape.now.items }
+    requires some { 1 ≤ count }
+    requires apart { 0 < stride }
+    requires long { size_of shape.now.items ≡ length numbers.now }
+    ensures { IsAnswerTo (collected Nums shape.now.items (λ index. number_item (folded (S.gives step.now) (run_to (pos 0) numbers.now stride count (places_before shape.now.items index))))) result }
+{
+    let runs = Runs {
+        step,
+        numbers,
+        stride,
+        count,
+    };
+    collect_numbers(alloc, &runs, shape)
+}
+
+/// The same by an associative function, in time in proportion to the numbers.
+fn scans_on<S: TwoNumbers>(
+    alloc: Global,
+    step: &S,
+    numbers: &[i64],
+    stride: usize,
+    count: usize,
+    shape: &Shape,
+) -> Result<Array, ApplyFault>
+    requires associative { IsAssociative (S.gives step.now) }
+    requires within { IsWithinLimits shape.now.items }
+    requires some { 1 ≤ count }
+    requires apart { 0 < stride }
+    requires high { count * stride ≤ length numbers.now }
+    requires long { size_of shape.now.items ≡ length numbers.now }
+    ensures { IsAnswerTo (collected Nums shape.now.items (λ index. number_item (folded (S.gives step.now) (run_to (pos 0) numbers.now stride count (places_before shape.now.items index))))) result }
+{
+    let numbers = running_folds(alloc, step, numbers, stride, count)?;
+    Ok(Array::from_numbers(shape, numbers))
+}
+
+/// The same by the sum, in time in proportion to the numbers.
+fn sums(
+    alloc: Global,
+    numbers: &[i64],
+    stride: usize,
+    count: usize,
+    shape: &Shape,
+) -> Result<Array, ApplyFault>
+    requires within { IsWithinLimits shape.now.items }
+    requires some { 1 ≤ count }
+    requires apart { 0 < stride }
+    requires high { count * stride ≤ length numbers.now }
+    requires long { size_of shape.now.items ≡ length numbers.now }
+    ensures { IsAnswerTo (collected Nums shape.now.items (λ index. number_item (folded (of_two Plus) (run_to (pos 0) numbers.now stride count (places_before shape.now.items index))))) result }
+{
+    let numbers = running_sums(alloc, numbers, stride, count)?;
+    Ok(Array::from_numbers(shape, numbers))
+}
+
+/// The same by a function that is chosen.
+fn scans(
+    alloc: Global,
+    function: Scalar2,
+    numbers: &[i64],
+    stride: usize,
+    count: usize,
+    shape: &Shape,
+) -> Result<Array, ApplyFault>
+    requires within { IsWithinLimits shape.now.items }
+    requires some { 1 ≤ count }
+    requires apart { 0 < stride }
+    requires high { count * stride ≤ length numbers.now }
+    requires long { size_of shape.now.items ≡ length numbers.now }
+    ensures { IsAnswerTo (collected Nums shape.now.items (λ index. number_item (folded (of_two function) (run_to (pos 0) numbers.now stride count (places_before shape.now.items index))))) result }
+{
+    match function {
+        Scalar2::Plus => sums(alloc, numbers, stride, count, shape),
+        Scalar2::Maximum => scans_on(alloc, &Maximum, numbers, stride, count, shape),
+        Scalar2::Minimum => scans_on(alloc, &Minimum, numbers, stride, count, shape),
+        Scalar2::And => scans_on(alloc, &And, numbers, stride, count, shape),
+        Scalar2::Or => scans_on(alloc, &Or, numbers, stride, count, shape),
+        Scalar2::Minus => scans_by(alloc, &Minus, numbers, stride, count, shape),
+        Scalar2::Times => scans_by(alloc, &Times, numbers, stride, count, shape),
+        _ => scans_by(alloc, &function, numbers, stride, count, shape),
+    }
+}
+
+/// Scan, `f\B` and `f⍀B` (ISO/IEC 13751, "Scan"): each item put together with those before it on its line
+/// along an axis, by the function from that item to the first of the line, `x1 f (x2 f (.. xk))`, until
+/// there is an error. A scalar is itself. The result has B's shape, and is of numbers, but B itself where
+/// the axis is below 2. AXIS where the axis is not one of the array's, DOMAIN where it is 2 or more and B
+/// is of characters and has items, LIMIT beyond the limits of arrays.
+///
+/// By `+ ⌈ ⌊ ∧ ∨` it takes time in proportion to the axis, by any other function to its square.
+#[derive(Clone, Copy, PartialEq, Eq, Debug)]
+pub struct Scan {
+    pub function: Scalar2,
+    pub along: Along,
+}
+
+impl Scan {
+    /// The checks, and the shape and the type of the result.
+    fn form(self, array: &Seen) -> Result<(Shape, ItemType), Kind>
+        ensures { IsFormAnswerTo (scan_form self.along array.now) result }
+    {
+        let axes = array.shape();
+        let rank = axes.len() as u32;
+        if !self.along.is_axis(rank) {
+            return Err(Kind::Axis);
+        }
+        let shape = shape_of(*axes.allocator(), axes.as_slice());
+        if rank == 0 || axes[self.along.axis_at(rank)] < 2 {
+            return limited(shape, array.item_type());
+        }
+        if !array.counts_as_numbers() {
+            return Err(Kind::Domain);
+        }
+        limited(shape, ItemType::Nums)
+    }
+
+    /// The item at an index list of the result.
+    fn scanned_at(self, array: &Seen, index: &[u32]) -> Result<Item, Kind>
+        requires { IsPlaceOf (scan_form self.along array.now) index.now }
+        ensures is { result ≡ scan_item self.function self.along array.now index.now }
+        ensures typed { IfOk result (HasTypeOf (scan_form self.along array.now)) }
+    {
+        let axes = array.shape();
+        if axes.is_empty() {
+            return Ok(array.item(1));
+        }
+        let axis = self.along.axis_at(axes.len() as u32);
+        let others = without_axis(*axes.allocator(), index, axis);
+        fold_line(self.function, array, axis, others.as_slice(), index[axis])
+    }
+
+    /// The folds of the first items of the lines. Those of numbers are taken from the numbers as they lie.
+    pub fn apply(&self, alloc: Global, args: &[Seen]) -> Result<Array, ApplyFault>
+        requires { length args.now ≡ 1 }
+        ensures { IsAnswerTo (of_one (scan_whole self.now.function self.now.along) args.now) result }
+    {
+        match args[0].numbers() {
+            Some(numbers) if !numbers.is_empty() => self.of_numbers(alloc, &args[0], numbers),
+            _ => apply(alloc, self, args),
+        }
+    }
+
+    /// The folds of the first numbers of the lines of an array of numbers.
+    fn of_numbers(self, alloc: Global, array: &Seen, numbers: &[i64]) -> Result<Array, ApplyFault>
+        requires numbers { array.now.items ≡ map (λ z. Num z) numbers.now }
+        requires typed { array.now.item_type ≡ Nums }
+        requires some { 0 < length numbers.now }
+        ensures { IsAnswerTo (scan_whole self.function self.along array.now) result }
+    {
+        let (shape, _) = self.form(array)?;
+        let axes = array.shape();
+        if axes.is_empty() {
+            return scans(alloc, self.function, numbers, 1, 1, &shape);
+        }
+        let axis = self.along.axis_at(axes.len() as u32);
+        let apart = stride(axes.as_slice(), axis) as usize;
+        scans(
+            alloc,
+            self.function,
+            numbers,
+            apart,
+            axes[axis] as usize,
+            &shape,
+        )
+    }
+}
+
+impl Primitive for Scan {
+    ghost arity = { λ _. 1 };
+
+    ghost form = { λ s args. of_one (scan_form s.along) args };
+
+    ghost item = { λ s args index. of_one (λ b. scan_item s.function s.along b index) args };
+
+    fn shape_of(&self, args: &[Seen]) -> Result<(Shape, ItemType), Kind> {
+        self.form(&args[0])
+    }
+
+    fn item_at(&self, args: &[Seen], index: &[u32]) -> Result<Item, Kind> {
+        self.scanned_at(&args[0], index)
+    }
+}

@@ -1,0 +1,10 @@
+use Rattle.std.proofs.Common.{◌≡◌, take, Ok, vec_len}
+use Rattle.arrays_core.specs.Items.{all_or_first_error}
+use Rattle.scalar_fns.specs.NumberLists.{results_by}
+use Rattle.scalar_fns.proofs.loops.on_pairs.Given as goal
+
+abbrev pub invariant-loop-place : goal.invariant-loop-place
+invariant-loop-place g l = record {
+  made : all_or_first_error (take l.place (results_by (g.S.TwoNumbers.gives l.step) l.left l.right)) ≡ Ok l.results.items;
+  long : vec_len l.results ≡ l.place;
+}

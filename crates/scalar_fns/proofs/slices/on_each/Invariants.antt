@@ -1,9 +1,0 @@
-use Rattle.std.proofs.Common.{◌≡◌, take, map, Ok, vec_len}
-use Rattle.arrays_core.specs.Items.{all_or_first_error}
-use Rattle.scalar_fns.proofs.slices.on_each.Given as goal
-
-abbrev pub invariant-loop-number : goal.invariant-loop-number
-invariant-loop-number g l = record {
-  made : all_or_first_error (take l.number-index (map (g.S.OneNumber.gives l.step) l.numbers)) ≡ Ok l.results.items;
-  long : vec_len l.results ≡ l.number-index;
-}

@@ -1,0 +1,42 @@
+-- Scalar functions of arrays: of one array item by item; of two arrays of equal shapes, or of an array
+-- of one item beside any other.
+use Rattle.std.specs.Prelude.{ℕ, ◌==◌, nat_lt, List, length, get_or, if◌then◌else◌, Result, Ok, Err, bytes_eq}
+use Rattle.arrays_core.specs.declared.item.Item.{Item}
+use Rattle.arrays_core.specs.declared.item.ItemType.TheVariants.{Nums}
+use Rattle.arrays_core.specs.declared.item.Kind.{Kind}
+use Rattle.arrays_core.specs.declared.item.Kind.TheVariants.{Rank, Length}
+use Rattle.arrays_core.specs.Items.{fill}
+use Rattle.arrays_core.specs.Shapes.{size, places_before}
+use Rattle.arrays_core.specs.Arrays.{ArrayValue, item_of, collect}
+use Rattle.scalar_fns.specs.declared.function.Scalar1.{Scalar1}
+use Rattle.scalar_fns.specs.declared.function.Scalar2.{Scalar2}
+use Rattle.scalar_fns.specs.Items.{one_of, two_of}
+
+-- the shape of the greater rank
+abbrev pub of_greater_rank : List ℕ → List ℕ → List ℕ
+of_greater_rank a b = if nat_lt (length a) (length b) then b else a
+
+-- the shape of a result of two arrays of these shapes
+abbrev pub common : List ℕ → List ℕ → Result (List ℕ) Kind
+common a b =
+    if size a == 1 then Ok (if size b == 1 then of_greater_rank a b else b)
+    else (if size b == 1 then Ok a
+    else (if length a == length b then (if bytes_eq a b then Ok a else Err Length) else Err Rank))
+
+-- the item at an index list of the common shape; an array of one item gives it everywhere
+abbrev pub extended : ArrayValue → List ℕ → Item
+extended a index = get_or a.items (if size a.shape == 1 then 0 else places_before a.shape index) (fill a.item_type)
+
+-- what is made of a shape, or its error
+abbrev pub for_shape : {A : Type 0} → Result (List ℕ) Kind → (List ℕ → Result A Kind) → Result A Kind
+for_shape (Ok shape) make = make shape
+for_shape (Err k) make = Err k
+
+-- a scalar function of one array
+abbrev pub on_array : Scalar1 → ArrayValue → Result ArrayValue Kind
+on_array f a = collect Nums a.shape (λ index. one_of f (item_of a index))
+
+-- a scalar function of two arrays
+abbrev pub on_arrays : Scalar2 → ArrayValue → ArrayValue → Result ArrayValue Kind
+on_arrays f a b =
+    for_shape (common a.shape b.shape) (λ shape. collect Nums shape (λ index. two_of f (extended a index) (extended b index)))

@@ -1,0 +1,120 @@
+//! The choice of a function: of numbers, and of lists of numbers.
+
+ghost use Rattle.std.specs.Prelude.{◌≡◌, ◌≢◌, length, IfOk, vec_len};
+ghost use Rattle.arrays_core.specs.Items.{all_or_first_error};
+ghost use Rattle.scalar_fns.specs.Numbers.{of_one, of_two};
+ghost use Rattle.scalar_fns.specs.NumberLists.{results_of_one, results_of_two, places_of, IsListAnswerTo};
+
+use crate::function::{Scalar1, Scalar2};
+use crate::loops::{on_each, on_lists};
+use crate::kernels::*;
+use arrays_core::{ApplyFault, Kind};
+use std::alloc::Global;
+
+/// A function of one number.
+pub(crate) fn one_number(function: Scalar1, b: i64) -> Result<i64, Kind>
+    ensures { result ≡ of_one function b }
+{
+    match function {
+        Scalar1::Conjugate | Scalar1::Ceiling | Scalar1::Floor => Same.at(b),
+        Scalar1::Negative => Negative.at(b),
+        Scalar1::Direction => Direction.at(b),
+        Scalar1::Reciprocal => Divide.at(1, b),
+        Scalar1::Magnitude => Magnitude.at(b),
+        Scalar1::Not => Not.at(b),
+    }
+}
+
+/// A function of two numbers: a number, or the error that `Scalar2` names. It takes no memory.
+pub fn two_numbers(function: Scalar2, a: i64, b: i64) -> Result<i64, Kind>
+    ensures { result ≡ of_two function a b }
+{
+    match function {
+        Scalar2::Plus => Plus.at(a, b),
+        Scalar2::Minus => Minus.at(a, b),
+        Scalar2::Times => Times.at(a, b),
+        Scalar2::Divide => Divide.at(a, b),
+        Scalar2::Power => Power.at(a, b),
+        Scalar2::Residue => Residue.at(a, b),
+        Scalar2::Maximum => Maximum.at(a, b),
+        Scalar2::Minimum => Minimum.at(a, b),
+        Scalar2::Less => Less.at(a, b),
+        Scalar2::LessOrEqual => LessOrEqual.at(a, b),
+        Scalar2::Equal => Equal.at(a, b),
+        Scalar2::GreaterOrEqual => GreaterOrEqual.at(a, b),
+        Scalar2::Greater => Greater.at(a, b),
+        Scalar2::NotEqual => NotEqual.at(a, b),
+        Scalar2::And => And.at(a, b),
+        Scalar2::Or => Or.at(a, b),
+        Scalar2::Nand => Nand.at(a, b),
+        Scalar2::Nor => Nor.at(a, b),
+    }
+}
+
+impl TwoNumbers for Scalar2 {
+    ghost gives = { λ f. of_two f };
+
+    fn at(&self, a: i64, b: i64) -> Result<i64, Kind> {
+        two_numbers(*self, a, b)
+    }
+}
+
+/// A scalar function of a list of numbers, place by place.
+pub(crate) fn on_numbers(
+    alloc: Global,
+    function: Scalar1,
+    numbers: &[i64],
+) -> Result<Vec<i64>, ApplyFault>
+    ensures is { IsListAnswerTo (all_or_first_error (results_of_one function numbers.now)) result }
+    ensures long { IfOk result (λ v. vec_len v ≡ length numbers.now) }
+{
+    match function {
+        Scalar1::Conjugate | Scalar1::Ceiling | Scalar1::Floor => on_each(alloc, &Same, numbers),
+        Scalar1::Negative => on_each(alloc, &Negative, numbers),
+        Scalar1::Direction => on_each(alloc, &Direction, numbers),
+        Scalar1::Reciprocal => on_each(
+            alloc,
+            &WithLeft {
+                step: Divide,
+                left: 1,
+            },
+            numbers,
+        ),
+        Scalar1::Magnitude => on_each(alloc, &Magnitude, numbers),
+        Scalar1::Not => on_each(alloc, &Not, numbers),
+    }
+}
+
+/// A scalar function of two lists of numbers, place by place. A list of one number stands for as many
+/// as the other has.
+pub(crate) fn on_number_lists(
+    alloc: Global,
+    function: Scalar2,
+    left: &[i64],
+    right: &[i64],
+) -> Result<Vec<i64>, ApplyFault>
+    requires { length left.now ≢ 1 → length right.now ≢ 1 → length left.now ≡ length right.now }
+    ensures is { IsListAnswerTo (all_or_first_error (results_of_two function left.now right.now)) result }
+    ensures long { IfOk result (λ v. vec_len v ≡ places_of left.now right.now) }
+{
+    match function {
+        Scalar2::Plus => on_lists(alloc, Plus, left, right),
+        Scalar2::Minus => on_lists(alloc, Minus, left, right),
+        Scalar2::Times => on_lists(alloc, Times, left, right),
+        Scalar2::Divide => on_lists(alloc, Divide, left, right),
+        Scalar2::Power => on_lists(alloc, Power, left, right),
+        Scalar2::Residue => on_lists(alloc, Residue, left, right),
+        Scalar2::Maximum => on_lists(alloc, Maximum, left, right),
+        Scalar2::Minimum => on_lists(alloc, Minimum, left, right),
+        Scalar2::Less => on_lists(alloc, Less, left, right),
+        Scalar2::LessOrEqual => on_lists(alloc, LessOrEqual, left, right),
+        Scalar2::Equal => on_lists(alloc, Equal, left, right),
+        Scalar2::GreaterOrEqual => on_lists(alloc, GreaterOrEqual, left, right),
+        Scalar2::Greater => on_lists(alloc, Greater, left, right),
+        Scalar2::NotEqual => on_lists(alloc, NotEqual, left, right),
+        Scalar2::And => on_lists(alloc, And, left, right),
+        Scalar2::Or => on_lists(alloc, Or, left, right),
+        Scalar2::Nand => on_lists(alloc, Nand, left, right),
+        Scalar2::Nor => on_lists(alloc, Nor, left, right),
+    }
+}

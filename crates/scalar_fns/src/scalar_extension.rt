@@ -1,0 +1,181 @@
+//! Scalar functions of arrays.
+
+ghost use Rattle.std.specs.Prelude.{◌≡◌, ◌≤◌, ◌≢◌, IsTrue, List, ℕ, length};
+ghost use Rattle.arrays_core.specs.Shapes.{size as size_of, is_index_of, IsWithinLimits, IsShapeAnswerTo};
+ghost use Rattle.arrays_core.specs.Arrays.{IsAnswerTo, item_of, with_items};
+ghost use Rattle.arrays_core.specs.declared.item.ItemType.TheVariants.{Nums};
+ghost use Rattle.scalar_fns.specs.ScalarExtension.{common, extended, on_array, on_arrays};
+ghost use Rattle.scalar_fns.specs.Items.{one_of, two_of};
+ghost use Rattle.scalar_fns.specs.NumberLists.{results_of_one, results_of_two, places_of, items_of};
+ghost use Rattle.arrays_core.specs.Items.{all_or_first_error};
+
+use crate::dispatch::{on_number_lists, on_numbers};
+use crate::function::{Scalar1, Scalar2};
+use crate::items::{one, two};
+use arrays_core::{
+    ApplyFault, Array, Item, ItemRule, ItemType, Kind, Shape, collect, position, shape_of, size,
+};
+use std::alloc::Global;
+
+/// The shape of a result of two arrays: of equal shapes that shape. An array of one item extends to
+/// the other's shape; where both have one item it is the shape of the greater rank. Otherwise
+/// different ranks are RANK, then different shapes LENGTH. It takes no memory.
+pub fn common_shape(left: &Shape, right: &Shape) -> Result<Shape, Kind>
+    requires left_within { IsWithinLimits left.now.items }
+    requires right_within { IsWithinLimits right.now.items }
+    ensures { IsShapeAnswerTo (common left.now.items right.now.items) result }
+{
+    let one_left = size(left.as_slice()) == 1;
+    let one_right = size(right.as_slice()) == 1;
+    let chosen = if one_left && one_right {
+        if left.len() < right.len() {
+            right
+        } else {
+            left
+        }
+    } else if one_left {
+        right
+    } else if one_right {
+        left
+    } else if left.len() != right.len() {
+        return Err(Kind::Rank);
+    } else if left.as_slice() != right.as_slice() {
+        return Err(Kind::Length);
+    } else {
+        left
+    };
+    Ok(shape_of(*left.allocator(), chosen.as_slice()))
+}
+
+/// The item of an array at an index list of the common shape.
+fn item_at_extended(array: &Array, index: &[u32]) -> Item
+    requires one { size_of array.now.shape ≢ 1 → IsTrue (is_index_of array.now.shape index.now) }
+    ensures { result ≡ extended array.now index.now }
+{
+    let shape = array.shape();
+    if size(shape.as_slice()) == 1 {
+        array.item(1)
+    } else {
+        array.item(position(shape, index))
+    }
+}
+
+/// Two arrays and the shape of their result.
+#[derive(Drop)]
+struct Pairs<'a> {
+    function: Scalar2,
+    left: &'a Array,
+    right: &'a Array,
+    shape: &'a Shape,
+    ghost left_fits: { size_of left.now.shape ≢ 1 → left.now.shape ≡ shape.now.items },
+    ghost right_fits: { size_of right.now.shape ≢ 1 → right.now.shape ≡ shape.now.items },
+}
+
+impl<'a> ItemRule for Pairs<'a> {
+    ghost result_shape = { λ p. p.shape.now.items };
+
+    ghost result_type = { λ p. Nums };
+
+    ghost item = { λ p index. two_of p.function (extended p.left.now index) (extended p.right.now index) };
+
+    fn item_at(&self, index: &[u32]) -> Result<Item, Kind> {
+        two(
+            self.function,
+            item_at_extended(self.left, index),
+            item_at_extended(self.right, index),
+        )
+    }
+}
+
+/// An array and what is asked of each of its items.
+#[derive(Drop)]
+struct Items<'a> {
+    function: Scalar1,
+    array: &'a Array,
+}
+
+impl<'a> ItemRule for Items<'a> {
+    ghost result_shape = { λ p. p.array.now.shape };
+
+    ghost result_type = { λ p. Nums };
+
+    ghost item = { λ p index. one_of p.function (item_of p.array.now index) };
+
+    fn item_at(&self, index: &[u32]) -> Result<Item, Kind> {
+        let position = position(self.array.shape(), index);
+        one(self.function, self.array.item(position))
+    }
+}
+
+/// A scalar function of an array of numbers, by its ravel.
+fn apply_to_numbers(
+    alloc: Global,
+    function: Scalar1,
+    shape: &Shape,
+    numbers: &[i64],
+) -> Result<Array, ApplyFault>
+    requires within { IsWithinLimits shape.now.items }
+    requires long { length numbers.now ≡ size_of shape.now.items }
+    ensures { IsAnswerTo
+        (with_items Nums shape.now.items (items_of (all_or_first_error (results_of_one function numbers.now)))) result }
+{
+    let results = on_numbers(alloc, function, numbers)?;
+    Ok(Array::from_numbers(shape, results))
+}
+
+/// A scalar function of two arrays of numbers, by their ravels.
+fn apply_to_number_lists(
+    alloc: Global,
+    function: Scalar2,
+    shape: &Shape,
+    left: &[i64],
+    right: &[i64],
+) -> Result<Array, ApplyFault>
+    requires within { IsWithinLimits shape.now.items }
+    requires fit { length left.now ≢ 1 → length right.now ≢ 1 → length left.now ≡ length right.now }
+    requires long { places_of left.now right.now ≡ size_of shape.now.items }
+    ensures { IsAnswerTo
+        (with_items Nums shape.now.items (items_of (all_or_first_error (results_of_two function left.now right.now)))) result }
+{
+    let results = on_number_lists(alloc, function, left, right)?;
+    Ok(Array::from_numbers(shape, results))
+}
+
+/// A scalar function of an array, item by item (ISO/IEC 13751, "Monadic scalar functions"). The result is of numbers and has
+/// the array's shape; where several items fail, the error is that of the first in row-major order.
+pub fn apply_one(alloc: Global, function: Scalar1, array: &Array) -> Result<Array, ApplyFault>
+    ensures { IsAnswerTo (on_array function array.now) result }
+{
+    let shape = array.shape();
+    if let Some(numbers) = array.numbers() {
+        return apply_to_numbers(alloc, function, shape, numbers);
+    }
+    let items = Items { function, array };
+    collect(alloc, &items, ItemType::Nums, shape)
+}
+
+/// A scalar function of two arrays, item by item (ISO/IEC 13751, "Dyadic scalar functions"). The result is of numbers and
+/// has the shape that `common_shape` gives, whose RANK and LENGTH come before any error of an item;
+/// where several items fail, the error is that of the first in row-major order.
+pub fn apply_two(
+    alloc: Global,
+    function: Scalar2,
+    left: &Array,
+    right: &Array,
+) -> Result<Array, ApplyFault>
+    ensures { IsAnswerTo (on_arrays function left.now right.now) result }
+{
+    let shape = common_shape(left.shape(), right.shape())?;
+    if let Some(numbers) = left.numbers() {
+        if let Some(others) = right.numbers() {
+            return apply_to_number_lists(alloc, function, &shape, numbers, others);
+        }
+    }
+    let pairs = Pairs {
+        function,
+        left,
+        right,
+        shape: &shape,
+    };
+    collect(alloc, &pairs, ItemType::Nums, &shape)
+}

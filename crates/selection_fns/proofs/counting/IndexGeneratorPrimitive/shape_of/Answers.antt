@@ -1,9 +1,0 @@
-use Rattle.std.proofs.Common.{◌≡◌, true, arith}
-use Rattle.std.proofs.lemmas.Grind.{common_steps}
-use Rattle.index_region.specs.Common.{counts_as_numbers}
-use Rattle.selection_fns.proofs.counting.IndexGeneratorPrimitive.shape_of.Goals as goal
-
-pub returns : goal.returns
-returns c =
-    let of_numbers : counts_as_numbers c.index-args-0.result ≡ true = cc in
-    grind (arith, common_steps)

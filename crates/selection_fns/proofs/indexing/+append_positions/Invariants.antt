@@ -1,5 +1,0 @@
-use Rattle.std.proofs.Common.{length}
-use Rattle.selection_fns.proofs.indexing.+append_positions.Given as goal
-
-abbrev pub decreases-append_positions : goal.decreases-append_positions
-decreases-append_positions l = length l.written.now

@@ -1,8 +1,0 @@
-use Rattle.std.proofs.Common.{◌≡◌, drop}
-use Rattle.std.specs.List.{list_all}
-use Rattle.index_region.specs.Common.{numbers}
-use Rattle.selection_fns.specs.Indexes.{is_place}
-use Rattle.selection_fns.proofs.indexing.is_on.Given as goal
-
-abbrev pub invariant-loop-place : goal.invariant-loop-place
-invariant-loop-place l = list_all (is_place l.axis) (drop l.place (numbers l.fn.position)) ≡ list_all (is_place l.axis) (numbers l.fn.position)

@@ -1,0 +1,13 @@
+use Rattle.std.proofs.Common.{arith}
+use Rattle.std.specs.Prelude.{sum}
+use Rattle.index_region.specs.Axes.{places_along}
+use Rattle.selection_fns.specs.Replicate.{times}
+use Rattle.selection_fns.proofs.Copies.{is_copied}
+use Rattle.selection_fns.proofs.replicate.copied_index.Goals as goal
+
+pub shape_of-at-requires : goal.shape_of-at-requires
+shape_of-at-requires c =
+    let axes = c.args.axes.now in
+    let facts = is_copied axes c.args.axis (sum (times c.args.counts.now (places_along axes c.args.axis))) c.args.index.now c.requires.there c.requires.inside in
+    let long = facts.long in
+    omega (arith, c.requires.rank)

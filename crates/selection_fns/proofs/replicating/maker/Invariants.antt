@@ -1,7 +1,0 @@
-use Rattle.std.proofs.Common.{◌≡◌, ◌+◌, map, drop, unsigned_abs}
-use Rattle.index_region.specs.Common.{numbers}
-use Rattle.selection_fns.specs.Replicates.{maker}
-use Rattle.selection_fns.proofs.replicating.maker.Given as goal
-
-abbrev pub invariant-loop-place : goal.invariant-loop-place
-invariant-loop-place l = l.place + maker (map unsigned_abs (drop l.place (numbers l.fn.counts))) l.left ≡ maker (map unsigned_abs (numbers l.fn.counts)) l.fn.copy

@@ -1,0 +1,52 @@
+-- Decode, A⊥B: the numbers of digits by radices.
+use Rattle.std.specs.Prelude.{ℕ, ◌-◌, nat_eq, ℤ, pos, ◌+ℤ◌, ◌*ℤ◌, ◌&&◌, ◌||◌, if◌then◌else◌, List, [], ◌∷◌, ◌++◌, map, length, get_or, drop, Result, Ok}
+use Rattle.std.specs.List.{range_with_len}
+use Rattle.std.specs.Ordering.{int_eq}
+use Rattle.arrays_core.specs.declared.item.Item.{Item}
+use Rattle.arrays_core.specs.declared.item.ItemType.TheVariants.{Nums}
+use Rattle.arrays_core.specs.declared.item.Kind.{Kind}
+use Rattle.arrays_core.specs.declared.item.Kind.TheVariants.{Rank, Length, Domain}
+use Rattle.arrays_core.specs.Arrays.{ArrayValue, item_of}
+use Rattle.scalar_fns.specs.Numbers.{residue, floor_div, held}
+use Rattle.scalar_fns.specs.Items.{number_item}
+use Rattle.scalar_fns.specs.ScalarExtension.{extended}
+use Rattle.index_region.specs.Checks.{Form, and_then, check, limited, whole}
+use Rattle.index_region.specs.Arguments.{is_scalar, is_list, has_one_item, counts_as_numbers, number_of, numbers}
+use Rattle.index_region.specs.Axes.{places_along}
+use Rattle.selection_fns.specs.Encode.{digit}
+
+abbrev pub decode_form : ArrayValue → ArrayValue → Result Form Kind
+decode_form a b =
+    let n = places_along b.shape 0 in
+    check (is_list a) Rank
+    (check (has_one_item a || (nat_eq n 1 || nat_eq (length a.items) n)) Length
+    (check (counts_as_numbers a && counts_as_numbers b) Domain
+    (limited (drop 1 b.shape) Nums)))
+
+-- how many digits there are: one item of a extends to those of b, else b's first axis of length 1 to those of a
+abbrev pub digits : ArrayValue → ArrayValue → ℕ
+digits a b = if has_one_item a then places_along b.shape 0 else length a.items
+
+abbrev pub radix_at : ArrayValue → ℕ → ℤ
+radix_at a k = number_of (extended a (k ∷ []))
+
+-- digit k at an index list of the other axes
+abbrev pub digit_at : ArrayValue → List ℕ → ℕ → ℤ
+digit_at b index k =
+    number_of (item_of b (if is_scalar b then [] else ((if nat_eq (places_along b.shape 0) 1 then 1 else k) ∷ index)))
+
+-- the value so far, times each radix, plus the digit
+abbrev pub worth : ℤ → List (ℤ × ℤ) → Result ℤ Kind
+worth value [] = Ok value
+worth value (place ∷ rest) = and_then (held (value *ℤ place.0)) (λ product. and_then (held (product +ℤ place.1)) (λ next. worth next rest))
+
+-- the first digit has no radix before it; no digit is 0
+abbrev pub decoded : List (ℤ × ℤ) → Result ℤ Kind
+decoded [] = Ok (pos 0)
+decoded (first ∷ rest) = worth first.1 rest
+
+abbrev pub decode_item : ArrayValue → ArrayValue → List ℕ → Result Item Kind
+decode_item a b index = number_item (decoded (map (λ k. (radix_at a k, digit_at b index k)) (range_with_len 1 (digits a b))))
+
+abbrev pub decode_whole : ArrayValue → ArrayValue → Result ArrayValue Kind
+decode_whole a b = whole (decode_form a b) (decode_item a b)

@@ -1,0 +1,45 @@
+-- Encode, A⊤B: numbers as digits by radices.
+use Rattle.std.specs.Prelude.{ℕ, ◌-◌, nat_eq, ℤ, pos, ◌+ℤ◌, ◌*ℤ◌, ◌&&◌, ◌||◌, if◌then◌else◌, List, [], ◌∷◌, ◌++◌, map, length, get_or, drop, Result, Ok}
+use Rattle.std.specs.List.{range_with_len}
+use Rattle.std.specs.Ordering.{int_eq}
+use Rattle.arrays_core.specs.declared.item.Item.{Item}
+use Rattle.arrays_core.specs.declared.item.ItemType.TheVariants.{Nums}
+use Rattle.arrays_core.specs.declared.item.Kind.{Kind}
+use Rattle.arrays_core.specs.declared.item.Kind.TheVariants.{Rank, Length, Domain}
+use Rattle.arrays_core.specs.Arrays.{ArrayValue, item_of}
+use Rattle.scalar_fns.specs.Numbers.{residue, floor_div, held}
+use Rattle.scalar_fns.specs.Items.{number_item}
+use Rattle.scalar_fns.specs.ScalarExtension.{extended}
+use Rattle.index_region.specs.Checks.{Form, and_then, check, limited, whole}
+use Rattle.index_region.specs.Arguments.{is_scalar, is_list, has_one_item, counts_as_numbers, number_of, numbers}
+use Rattle.index_region.specs.Axes.{places_along}
+
+abbrev pub encode_form : ArrayValue → ArrayValue → Result Form Kind
+encode_form a b =
+    check (is_list a) Rank
+    (check (counts_as_numbers a && counts_as_numbers b) Domain
+    (limited (a.shape ++ b.shape) Nums))
+
+-- what goes on to the places before a radix
+abbrev pub carried : ℤ → ℤ → Result ℤ Kind
+carried radix z = if int_eq radix (pos 0) then Ok (pos 0) else held (floor_div z radix)
+
+-- the same for some radices, the last first
+abbrev pub carried_through : List ℤ → ℤ → Result ℤ Kind
+carried_through [] z = Ok z
+carried_through (radix ∷ radices) z = and_then (carried_through radices z) (carried radix)
+
+-- the digit of z at a place of the radices, from 1
+abbrev pub digit : List ℤ → ℕ → ℤ → Result ℤ Kind
+digit radices k z = and_then (carried_through (drop k radices) z) (λ rest. Ok (residue (get_or radices (k - 1) (pos 0)) rest))
+
+-- a scalar a has the one radix, and no axis
+abbrev pub radix_place : ArrayValue → List ℕ → ℕ
+radix_place a index = if is_scalar a then 1 else get_or index 0 1
+
+abbrev pub encode_item : ArrayValue → ArrayValue → List ℕ → Result Item Kind
+encode_item a b index =
+    number_item (digit (numbers a) (radix_place a index) (number_of (item_of b (drop (length a.shape) index))))
+
+abbrev pub encode_whole : ArrayValue → ArrayValue → Result ArrayValue Kind
+encode_whole a b = whole (encode_form a b) (encode_item a b)

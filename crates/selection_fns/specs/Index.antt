@@ -1,0 +1,83 @@
+-- Indexed reference, A[I;..]: a position is an array of indices, or is empty and stands for its whole axis.
+use Rattle.std.specs.Prelude.{ℕ, suc, nat_eq, ℤ, pos, int_le, unsigned_abs, Bool, true, false, not, ◌&&◌, List, [], ◌∷◌, ◌++◌, length, get_or, take, drop, zip, Option, Some, None, Result, Err}
+use Rattle.std.specs.List.{list_all}
+use Rattle.arrays_core.specs.declared.item.Item.{Item}
+use Rattle.arrays_core.specs.declared.item.Kind.{Kind}
+use Rattle.arrays_core.specs.declared.item.Kind.TheVariants.{Rank, Length, Domain, Index}
+use Rattle.arrays_core.specs.Arrays.{ArrayValue, item_of}
+use Rattle.index_region.specs.Checks.{Form, check, limited, whole}
+use Rattle.index_region.specs.Sources.{Source, item_from}
+use Rattle.index_region.specs.Arguments.{is_scalar, counts_as_numbers, number_of, numbers}
+
+abbrev pub Position : Type 0
+Position = Option ArrayValue
+
+abbrev pub are_numbers : Position → Bool
+are_numbers (Some p) = counts_as_numbers p
+are_numbers None = true
+
+-- an index is on an axis of n places
+abbrev pub is_place : ℕ → ℤ → Bool
+is_place n z = int_le (pos 1) z && int_le z (pos n)
+
+-- the indices of a position are
+abbrev pub is_on : ℕ → Position → Bool
+is_on n (Some p) = list_all (is_place n) (numbers p)
+is_on n None = true
+
+abbrev pub are_on : List ℕ → List Position → Bool
+are_on shape positions = list_all (λ p. is_on p.0 p.1) (zip shape positions)
+
+-- the axes that a position gives to the result: its own, or the one that it stands for
+abbrev pub position_axes : ℕ → Position → List ℕ
+position_axes n (Some p) = p.shape
+position_axes n None = n ∷ []
+
+abbrev pub indexed_shape : List ℕ → List Position → List ℕ
+indexed_shape (n ∷ shape) (position ∷ positions) = position_axes n position ++ indexed_shape shape positions
+indexed_shape shape positions = []
+
+-- the checks of the positions before what is left of them
+abbrev pub positions_checked : ArrayValue → List Position → Result Form Kind → Result Form Kind
+positions_checked a positions rest =
+    check (not (is_scalar a) && nat_eq (length positions) (length a.shape)) Rank
+    (check (list_all are_numbers positions) Domain
+    (check (are_on a.shape positions) Index rest))
+
+abbrev pub index_form : ArrayValue → List Position → Result Form Kind
+index_form a positions = positions_checked a positions (limited (indexed_shape a.shape positions) a.item_type)
+
+-- each position takes its own part of the index list
+abbrev pub indexed_places : List Position → List ℕ → List ℕ
+indexed_places [] index = []
+indexed_places (None ∷ positions) index = get_or index 0 0 ∷ indexed_places positions (drop 1 index)
+indexed_places (Some p ∷ positions) index =
+    unsigned_abs (number_of (item_of p (take (length p.shape) index))) ∷ indexed_places positions (drop (length p.shape) index)
+
+abbrev pub index_source : List Position → List ℕ → Source
+index_source positions index = Some (0, indexed_places positions index)
+
+abbrev pub index_item : ArrayValue → List Position → List ℕ → Result Item Kind
+index_item a positions index = item_from a a a.item_type (index_source positions index)
+
+abbrev pub index_whole : ArrayValue → List Position → Result ArrayValue Kind
+index_whole a positions = whole (index_form a positions) (index_item a positions)
+
+-- ---- lists of arguments: the indexed array, and then the positions that are written
+
+-- the positions, where it is known which are written
+abbrev pub positions_of : List Bool → List ArrayValue → List Position
+positions_of (true ∷ written) (p ∷ args) = Some p ∷ positions_of written args
+positions_of (false ∷ written) args = None ∷ positions_of written args
+positions_of written args = []
+
+-- how many are written
+abbrev pub count_written : List Bool → ℕ
+count_written [] = 0
+count_written (true ∷ written) = suc (count_written written)
+count_written (false ∷ written) = count_written written
+
+-- a function of the array and its positions, given the list of arguments; of an empty list nothing is said
+abbrev pub of_positions : {A : Type 0} → List Bool → (ArrayValue → List Position → Result A Kind) → List ArrayValue → Result A Kind
+of_positions written f [] = Err Length
+of_positions written f (a ∷ args) = f a (positions_of written args)

@@ -1,0 +1,23 @@
+-- Membership, A∊B: which items of a are items of b.
+use Rattle.std.specs.Prelude.{ℕ, suc, nat_eq, pos, Bool, false, List, length, Result, Ok}
+use Rattle.std.specs.List.{list_any, position_or_len}
+use Rattle.std.specs.Ordering.{int_eq}
+use Rattle.arrays_core.specs.declared.item.Item.{Item}
+use Rattle.arrays_core.specs.declared.item.Item.TheVariants.{Num, Char}
+use Rattle.arrays_core.specs.declared.item.ItemType.TheVariants.{Nums}
+use Rattle.arrays_core.specs.declared.item.Kind.{Kind}
+use Rattle.arrays_core.specs.declared.item.Kind.TheVariants.{Rank}
+use Rattle.arrays_core.specs.Arrays.{ArrayValue, item_of}
+use Rattle.scalar_fns.specs.Numbers.{truth}
+use Rattle.index_region.specs.Checks.{Form, check, limited, whole}
+use Rattle.selection_fns.specs.SameItem.{same_item}
+
+abbrev pub member_form : ArrayValue → ArrayValue → Result Form Kind
+member_form a b = limited a.shape Nums
+
+-- 1 where the item is one of b, else 0
+abbrev pub member_item : ArrayValue → ArrayValue → List ℕ → Result Item Kind
+member_item a b index = Ok (Num (truth (list_any (same_item (item_of a index)) b.items)))
+
+abbrev pub member_whole : ArrayValue → ArrayValue → Result ArrayValue Kind
+member_whole a b = whole (member_form a b) (member_item a b)

@@ -1,0 +1,55 @@
+-- Replicate: each place of an axis as often as its count. A scalar is a vector of one item.
+use Rattle.std.specs.Prelude.{ℕ, suc, ◌-◌, nat_eq, nat_le, max, unsigned_abs, ◌&&◌, ◌||◌, if◌then◌else◌, List, [], ◌∷◌, map, length, get_or, set, replicate, insert, remove, sum, Some, Result}
+use Rattle.arrays_core.specs.declared.item.Item.{Item}
+use Rattle.arrays_core.specs.declared.item.Kind.{Kind}
+use Rattle.arrays_core.specs.declared.item.Kind.TheVariants.{Axis, Rank, Length, Domain}
+use Rattle.arrays_core.specs.Arrays.{ArrayValue, item_of}
+use Rattle.index_region.specs.declared.along.Along.{Along}
+use Rattle.index_region.specs.Checks.{Form, check, limited, whole}
+use Rattle.index_region.specs.Sources.{Source, item_from}
+use Rattle.index_region.specs.Arguments.{is_scalar, is_list, has_one_item, counts_as_numbers, number_of, numbers, none_negative}
+use Rattle.index_region.specs.Axes.{is_axis, axis_at, places_along}
+
+-- how often each place of an axis of n places stands; a single count is that of every place
+abbrev pub times : ArrayValue → ℕ → List ℕ
+times a n = if has_one_item a then replicate n (unsigned_abs (number_of (item_of a []))) else map unsigned_abs (numbers a)
+
+-- the axis has as many places as the counts say
+abbrev pub replicated_shape : ArrayValue → List ℕ → ℕ → List ℕ
+replicated_shape a shape axis = insert (remove shape axis) axis (sum (times a (places_along shape axis)))
+
+-- the checks of the counts for an axis of n places, before what is left of them
+abbrev pub counts_checked : ArrayValue → ℕ → Result Form Kind → Result Form Kind
+counts_checked a n rest =
+    check (is_list a) Rank
+    (check (has_one_item a || (nat_eq n 1 || nat_eq (length a.items) n)) Length
+    (check (counts_as_numbers a && none_negative (numbers a)) Domain rest))
+
+abbrev pub replicate_form : Along → ArrayValue → ArrayValue → Result Form Kind
+replicate_form along a b =
+    let rank = max 1 (length b.shape) in
+    let axis = axis_at rank along in
+    check (is_axis rank along) Axis
+    (counts_checked a (places_along b.shape axis)
+    (limited (replicated_shape a b.shape axis) b.item_type))
+
+-- which of the counts, from 1, makes copy i
+abbrev pub maker : List ℕ → ℕ → ℕ
+maker [] i = 1
+maker (count ∷ counts) i = if nat_le i count then 1 else suc (maker counts (i - count))
+
+-- the place that copy i is of; on an axis of one place each is a copy of that
+abbrev pub copied_place : ArrayValue → ℕ → ℕ → ℕ
+copied_place a n i = if nat_eq n 1 then 1 else maker (times a n) i
+
+abbrev pub replicate_source : Along → ArrayValue → ArrayValue → List ℕ → Source
+replicate_source along a b index =
+    let axis = axis_at (max 1 (length b.shape)) along in
+    let place = copied_place a (places_along b.shape axis) (get_or index axis 1) in
+    Some (1, if is_scalar b then [] else set index axis place)
+
+abbrev pub replicate_item : Along → ArrayValue → ArrayValue → List ℕ → Result Item Kind
+replicate_item along a b index = item_from a b b.item_type (replicate_source along a b index)
+
+abbrev pub replicate_whole : Along → ArrayValue → ArrayValue → Result ArrayValue Kind
+replicate_whole along a b = whole (replicate_form along a b) (replicate_item along a b)

@@ -1,0 +1,179 @@
+//! Decode: the numbers of digits.
+
+ghost use Rattle.std.specs.Prelude.{◌≡◌, ◌≢◌, ◌≤◌, ◌+ℤ◌, ◌*ℤ◌, IsTrue, nat_eq, ◌||◌, if◌then◌else◌, drop, length, Ok, Err};
+ghost use Rattle.arrays_core.specs.declared.item.Kind.TheVariants.{Length};
+ghost use Rattle.arrays_core.specs.Shapes.{is_index_of as is_below};
+ghost use Rattle.arrays_core.specs.Arrays.{IsAnswerTo};
+ghost use Rattle.scalar_fns.specs.Numbers.{held};
+ghost use Rattle.scalar_fns.specs.Items.{number_item};
+ghost use Rattle.index_region.specs.Checks.{and_then};
+ghost use Rattle.index_region.specs.ArgumentLists.{of_two};
+ghost use Rattle.index_region.specs.Axes.{places_along};
+ghost use Rattle.index_region.specs.Arguments.{has_one_item};
+ghost use Rattle.index_region.specs.Answers.{IsPlaceOf};
+ghost use Rattle.selection_fns.specs.Decode.{decode_form, decode_item, decode_whole, digits as digits_of, radix_at as radix_of, digit_at as digit_of};
+
+use crate::number_at::number_at;
+use arrays_core::{ApplyFault, Array, Item, ItemType, Kind, Shape, append_axes, shape_of};
+use index_region::{Primitive, Seen, apply, limited};
+use scalar_fns::{Scalar2, two_numbers};
+use std::alloc::Global;
+
+/// Decode, `A⊥B` (ISO/IEC 13751, "Base value"): the axes of B but the first, along which stand the
+/// digits of a number, the most significant first. From the second digit on, the number so far is
+/// multiplied by the radix of the digit, and the digit is added; no digit is 0. One item of A is the
+/// radix of each digit, and a scalar B or a first axis of length 1 is the digit at each radix. RANK where
+/// A is neither a scalar nor a vector, LENGTH where there are not as many radices as digits, DOMAIN where
+/// A or B is not of numbers, LIMIT beyond the limits of arrays, and where a product or a sum is beyond 64
+/// bits.
+#[derive(Clone, Copy, PartialEq, Eq, Debug)]
+pub struct Decode;
+
+/// How many places the first axis has; a scalar has one place along it.
+fn first_axis(array: &Seen) -> u32
+    ensures { result ≡ places_along array.now.shape 0 }
+{
+    match array.shape().first() {
+        Some(places) => *places,
+        None => 1,
+    }
+}
+
+/// How many digits each number has.
+fn count_digits(radices: &Seen, array: &Seen) -> u32
+    ensures { result ≡ digits_of radices.now array.now }
+{
+    if radices.places() == 1 {
+        first_axis(array)
+    } else {
+        radices.places()
+    }
+}
+
+/// The radix of a digit, counted from 1.
+fn radix_at(radices: &Seen, k: u32) -> i64
+    requires list { length radices.now.shape ≤ 1 }
+    requires low { 1 ≤ k }
+    requires high { length radices.now.items ≢ 1 → k ≤ length radices.now.items }
+    ensures { result ≡ radix_of radices.now k }
+{
+    if radices.places() == 1 {
+        radices.number(1)
+    } else {
+        radices.number(k)
+    }
+}
+
+/// The place of a digit on an axis: one place is that of each digit.
+fn place_along(axis: u32, k: u32) -> u32
+    requires low { 1 ≤ k }
+    requires high { axis ≢ 1 → k ≤ axis }
+    ensures is { result ≡ if nat_eq axis 1 then 1 else k }
+    ensures above { 1 ≤ result }
+    ensures within { result ≤ axis }
+{
+    if axis == 1 { 1 } else { k }
+}
+
+/// The digit at a place, counted from 1, of the number at an index list.
+fn digit_at(array: &Seen, index: &[u32], k: u32) -> i64
+    requires inside { IsTrue (is_below (drop 1 array.now.shape) index.now) }
+    requires low { 1 ≤ k }
+    requires high { places_along array.now.shape 0 ≢ 1 → k ≤ places_along array.now.shape 0 }
+    ensures { result ≡ digit_of array.now index.now k }
+{
+    let shape = array.shape();
+    if shape.len() == 0 {
+        return number_at(array, &[]);
+    }
+    let place = place_along(shape[0], k);
+    let mut at = shape_of(*shape.allocator(), &[place]);
+    append_axes(&mut at, index);
+    number_at(array, at.as_slice())
+}
+
+/// There are as many radices as digits, where neither stands for as many as there are of the other.
+fn check_length(radices: &Seen, array: &Seen) -> Result<(), Kind>
+    ensures { result ≡ if has_one_item radices.now || (nat_eq (places_along array.now.shape 0) 1 || nat_eq (length radices.now.items) (places_along array.now.shape 0)) then Ok tt else Err Length }
+{
+    let places = first_axis(array);
+    if radices.places() == 1 {
+        return Ok(());
+    }
+    if places == 1 {
+        return Ok(());
+    }
+    if radices.places() == places {
+        return Ok(());
+    }
+    Err(Kind::Length)
+}
+
+/// The number of one more digit, counted from 1, behind those of a number so far.
+fn with_digit(radices: &Seen, array: &Seen, index: &[u32], value: i64, k: u32) -> Result<i64, Kind>
+    requires place { IsPlaceOf (decode_form radices.now array.now) index.now }
+    requires low { 1 ≤ k }
+    requires high { k ≤ digits_of radices.now array.now }
+    ensures { result ≡ and_then (held (value *ℤ radix_of radices.now k)) (λ product. held (product +ℤ digit_of array.now index.now k)) }
+{
+    let product = two_numbers(Scalar2::Times, value, radix_at(radices, k))?;
+    two_numbers(Scalar2::Plus, product, digit_at(array, index, k))
+}
+
+/// The number at an index list of the result.
+fn decoded_at(radices: &Seen, array: &Seen, index: &[u32]) -> Result<i64, Kind>
+    requires { IsPlaceOf (decode_form radices.now array.now) index.now }
+    ensures { number_item result ≡ decode_item radices.now array.now index.now }
+{
+    let count = count_digits(radices, array);
+    if count == 0 {
+        return Ok(0);
+    }
+    let mut value = digit_at(array, index, 1);
+    for before in 1..count {
+        value = with_digit(radices, array, index, value, before + 1)?;
+    }
+    Ok(value)
+}
+
+impl Decode {
+    /// The number of each list of digits of B.
+    pub fn apply(&self, alloc: Global, args: &[Seen]) -> Result<Array, ApplyFault>
+        requires { length args.now ≡ 2 }
+        ensures { IsAnswerTo (of_two decode_whole args.now) result }
+    {
+        apply(alloc, self, args)
+    }
+}
+
+impl Primitive for Decode {
+    ghost arity = { λ _. 2 };
+
+    ghost form = { λ _ args. of_two decode_form args };
+
+    ghost item = { λ _ args index. of_two (λ a b. decode_item a b index) args };
+
+    fn shape_of(&self, args: &[Seen]) -> Result<(Shape, ItemType), Kind> {
+        let (radices, array) = (&args[0], &args[1]);
+        let shape = array.shape();
+        if radices.shape().len() > 1 {
+            return Err(Kind::Rank);
+        }
+        check_length(radices, array)?;
+        if !radices.counts_as_numbers() {
+            return Err(Kind::Domain);
+        }
+        if !array.counts_as_numbers() {
+            return Err(Kind::Domain);
+        }
+        let axes = match shape.as_slice() {
+            [_, rest @ ..] => rest,
+            [] => &[],
+        };
+        limited(shape_of(*shape.allocator(), axes), ItemType::Nums)
+    }
+
+    fn item_at(&self, args: &[Seen], index: &[u32]) -> Result<Item, Kind> {
+        Ok(Item::Num(decoded_at(&args[0], &args[1], index)?))
+    }
+}

@@ -1,0 +1,265 @@
+//! Indexed reference: the items at indices, one position an axis.
+
+ghost use Rattle.std.specs.Prelude.{◌≡◌, ◌<◌, ◌≤◌, ◌+◌, ◌-◌, ◌++◌, map, IsTrue, IfOk, IfErr, Result, Err, false, suc, length, ◌&&◌, pos, int_le, unsigned_abs, All};
+ghost use Rattle.std.specs.List.{list_all};
+ghost use Rattle.arrays_core.specs.declared.item.Kind.{Kind as AKind};
+ghost use Rattle.arrays_core.specs.declared.item.Kind.TheVariants.{Limit};
+ghost use Rattle.arrays_core.specs.Arrays.{ArrayValue, item_of, IsAnswerTo};
+ghost use Rattle.arrays_core.specs.Shapes.{size as size_of, is_index_of};
+ghost use Rattle.index_region.specs.Checks.{Form, is_within_limits};
+ghost use Rattle.index_region.specs.Arguments.{counts_as_numbers, number_of, numbers};
+ghost use Rattle.index_region.specs.Answers.{IsPlaceOf, source_value};
+ghost use Rattle.selection_fns.specs.Index.{Position, positions_of, count_written, of_positions, is_place, is_on as is_position_on, are_on as are_positions_on, are_numbers as are_positions_numbers, indexed_shape as shape_indexed, indexed_places as places_indexed, positions_checked, index_form, index_source, index_item, index_whole};
+
+use arrays_core::{ApplyFault, Array, Item, ItemType, Kind, Shape, append_axes};
+use index_region::{Primitive, Seen, Source, apply, item_from, limited};
+use smallvec::SmallVec;
+use std::alloc::{AllocError, Global};
+
+const MOST_AXES: usize = 4;
+
+/// The positions are of numbers, where they have items.
+fn are_numbers(written: &[bool], positions: &[Seen]) -> bool
+    requires few { length written.now ≤ 4 }
+    requires long { length positions.now ≡ count_written written.now }
+    ensures { result ≡ list_all are_positions_numbers (positions_of written.now positions.now) }
+{
+    if written.is_empty() {
+        return true;
+    }
+    if !written[0] {
+        return are_numbers(&written[1..], positions);
+    }
+    if !positions[0].counts_as_numbers() {
+        return false;
+    }
+    are_numbers(&written[1..], &positions[1..])
+}
+
+/// The indices of a position are on an axis.
+fn is_on(position: &Seen, axis: u32) -> bool
+    ensures { result ≡ list_all (is_place axis) (numbers position.now) }
+{
+    for place in 0..position.places() {
+        let index = position.number(place + 1);
+        if index < 1 || i64::from(axis) < index {
+            return false;
+        }
+    }
+    true
+}
+
+/// The indices of each position are on its axis; an empty position is on any.
+fn are_on(axes: &[u32], written: &[bool], positions: &[Seen]) -> bool
+    requires few { length written.now ≤ 4 }
+    requires one_an_axis { length written.now ≡ length axes.now }
+    requires long { length positions.now ≡ count_written written.now }
+    ensures { result ≡ are_positions_on axes.now (positions_of written.now positions.now) }
+{
+    if written.is_empty() {
+        return true;
+    }
+    if !written[0] {
+        return are_on(&axes[1..], &written[1..], positions);
+    }
+    if !is_on(&positions[0], axes[0]) {
+        return false;
+    }
+    are_on(&axes[1..], &written[1..], &positions[1..])
+}
+
+/// The checks of the positions: RANK where they are not as many as the axes, or there is no axis, DOMAIN
+/// where one is not of numbers, INDEX where an index is not on its axis.
+fn check_positions(array: &Seen, written: &[bool], positions: &[Seen]) -> Result<(), Kind>
+    requires long { length positions.now ≡ count_written written.now }
+    ensures passed { IfOk result (λ _. (rest : Result Form AKind) → positions_checked array.now (positions_of written.now positions.now) rest ≡ rest) }
+    ensures failed { IfErr result (λ kind. (rest : Result Form AKind) → positions_checked array.now (positions_of written.now positions.now) rest ≡ Err kind) }
+    ensures one_an_axis { IfOk result (λ _. length written.now ≡ length array.now.shape) }
+{
+    let axes = array.shape().as_slice();
+    if axes.is_empty() {
+        return Err(Kind::Rank);
+    }
+    if written.len() != axes.len() {
+        return Err(Kind::Rank);
+    }
+    if !are_numbers(written, positions) {
+        return Err(Kind::Domain);
+    }
+    if !are_on(axes, written, positions) {
+        return Err(Kind::Index);
+    }
+    Ok(())
+}
+
+/// Puts more axes at the end of a shape; LIMIT where there are then more than an array may have.
+fn append_within(shape: &mut Shape, axes: &[u32]) -> Result<(), Kind>
+    requires { shape.old.capacity ≡ 4 }
+    ensures items { IfOk result (λ _. shape.new.items ≡ shape.old.items ++ axes.now) }
+    ensures inline { shape.new.capacity ≡ 4 }
+    ensures beyond { IfErr result (λ kind. (kind ≡ Limit) × (4 < length shape.old.items + length axes.now)) }
+{
+    if shape.len() + axes.len() > MOST_AXES {
+        return Err(Kind::Limit);
+    }
+    append_axes(shape, axes);
+    Ok(())
+}
+
+/// Puts the axes that each position gives at the end of a shape; LIMIT where there are then more than
+/// an array may have.
+fn append_positions(
+    shape: &mut Shape,
+    axes: &[u32],
+    written: &[bool],
+    positions: &[Seen],
+) -> Result<(), Kind>
+    requires inline { shape.old.capacity ≡ 4 }
+    requires one_an_axis { length written.now ≡ length axes.now }
+    requires long { length positions.now ≡ count_written written.now }
+    ensures items { IfOk result (λ _. shape.new.items ≡ shape.old.items ++ shape_indexed axes.now (positions_of written.now positions.now)) }
+    ensures inline { shape.new.capacity ≡ 4 }
+    ensures beyond { IfErr result (λ kind. (kind ≡ Limit) × (4 < length shape.old.items + length (shape_indexed axes.now (positions_of written.now positions.now)))) }
+{
+    if written.is_empty() {
+        return Ok(());
+    }
+    if !written[0] {
+        append_within(shape, &axes[..1])?;
+        return append_positions(shape, &axes[1..], &written[1..], positions);
+    }
+    append_within(shape, positions[0].shape().as_slice())?;
+    append_positions(shape, &axes[1..], &written[1..], &positions[1..])
+}
+
+/// The index that a position has at an index list of its own.
+fn index_in(position: &Seen, at: &[u32], axis: u32) -> u32
+    requires inside { IsTrue (is_index_of position.now.shape at.now) }
+    requires on { IsTrue (list_all (is_place axis) (numbers position.now)) }
+    ensures { result ≡ unsigned_abs (number_of (item_of position.now at.now)) }
+{
+    match position.at(at) {
+        Some(Item::Num(index)) => index.unsigned_abs() as u32,
+        _ => 0,
+    }
+}
+
+/// How many places of an axis come before an index.
+fn place_before(index: i64, axis: u32) -> u32
+    requires { IsTrue (is_place axis index) }
+    ensures { result ≡ unsigned_abs index - 1 }
+{
+    (index.unsigned_abs() - 1) as u32
+}
+
+/// How many places of an axis come before each index of a position.
+fn places_before(alloc: Global, position: &Seen, axis: u32) -> Result<Vec<u32>, AllocError>
+    requires { IsTrue (list_all (is_place axis) (numbers position.now)) }
+    ensures is { IfOk result (λ before. before.items ≡ map (λ z. unsigned_abs z - 1) (numbers position.now)) }
+    ensures long { length position.now.items ≡ size_of position.now.shape }
+{
+    let places = position.places();
+    let mut before = Vec::with_capacity(alloc, places as usize)?;
+    for place in 0..places {
+        before.push(place_before(position.number(place + 1), axis))?;
+    }
+    Ok(before)
+}
+
+/// Puts the index on each axis of the array at the end of a list: each position takes its own part of
+/// the index list of the result.
+fn append_places(
+    places: &mut Shape,
+    axes: &[u32],
+    written: &[bool],
+    positions: &[Seen],
+    index: &[u32],
+)
+    requires inline { places.old.capacity ≡ 4 }
+    requires room { length places.old.items + length written.now ≤ 4 }
+    requires one_an_axis { length written.now ≡ length axes.now }
+    requires long { length positions.now ≡ count_written written.now }
+    requires on { IsTrue (are_positions_on axes.now (positions_of written.now positions.now)) }
+    requires inside { IsTrue (is_index_of (shape_indexed axes.now (positions_of written.now positions.now)) index.now) }
+    ensures { places.new.items ≡ places.old.items ++ places_indexed (positions_of written.now positions.now) index.now }
+{
+    if written.is_empty() {
+        return;
+    }
+    if !written[0] {
+        prove!(1 <= index.len());
+        places.push_reserved(index[0]);
+        append_places(places, &axes[1..], &written[1..], positions, &index[1..]);
+        return;
+    }
+    let position = &positions[0];
+    let rank = position.shape().len();
+    prove!(rank <= index.len());
+    let (own, others) = index.split_at(rank);
+    places.push_reserved(index_in(position, own, axes[0]));
+    append_places(places, &axes[1..], &written[1..], &positions[1..], others);
+}
+
+/// Indexed reference, `A[I;..]` (ISO/IEC 13751, "Indexed Reference"): the items of A at the indices of
+/// each position, one position an axis; its shape is that of the positions joined. A position that is
+/// not written stands for its whole axis. The arguments are A and the written positions. RANK where
+/// positions are not as many as axes, or A is a scalar; DOMAIN where a position is not of numbers;
+/// INDEX where an index is below 1 or above its axis; LIMIT beyond the limits of arrays.
+#[derive(Drop, Clone, Copy)]
+pub struct Index<'w> {
+    pub written: &'w [bool],
+}
+
+impl<'w> Index<'w> {
+    /// Where the item at an index list of the result comes from. It takes no memory.
+    pub fn source_of(&self, array: &Seen, positions: &[Seen], index: &[u32]) -> Source
+        requires count { length positions.now ≡ count_written self.now.written.now }
+        requires place { IsPlaceOf (index_form array.now (positions_of self.now.written.now positions.now)) index.now }
+        ensures { source_value result ≡ index_source (positions_of self.now.written.now positions.now) index.now }
+    {
+        let axes = array.shape();
+        let mut at = SmallVec::new(*axes.allocator());
+        append_places(&mut at, axes.as_slice(), self.written, positions, index);
+        Source::Place { arg: 0, at }
+    }
+
+    /// The array of the items at the indices. Those of a vector are picked one after another.
+    pub fn apply(&self, alloc: Global, args: &[Seen]) -> Result<Array, ApplyFault>
+        requires { length args.now ≡ suc (count_written self.now.written.now) }
+        ensures { IsAnswerTo (of_positions self.now.written.now index_whole args.now) result }
+    {
+        let (shape, _) = self.shape_of(args)?;
+        let array = &args[0];
+        let axes = array.shape();
+        if args.len() == 2 && axes.len() == 1 {
+            let before = places_before(alloc, &args[1], axes[0])?;
+            let picked = array.picked(before.as_slice(), &shape)?;
+            return Ok(picked);
+        }
+        apply(alloc, self, args)
+    }
+}
+
+impl<'w> Primitive for Index<'w> {
+    ghost arity = { λ r. suc (count_written r.written.now) };
+
+    ghost form = { λ r args. of_positions r.written.now index_form args };
+
+    ghost item = { λ r args index. of_positions r.written.now (λ a positions. index_item a positions index) args };
+
+    fn shape_of(&self, args: &[Seen]) -> Result<(Shape, ItemType), Kind> {
+        let array = &args[0];
+        let positions = &args[1..];
+        check_positions(array, self.written, positions)?;
+        let axes = array.shape();
+        let mut shape = SmallVec::new(*axes.allocator());
+        append_positions(&mut shape, axes.as_slice(), self.written, positions)?;
+        limited(shape, array.item_type())
+    }
+
+    fn item_at(&self, args: &[Seen], index: &[u32]) -> Result<Item, Kind> {
+        let array = &args[0];
+        let source = self.source_of(array, &args[1..], index);
+        Ok(item_from(array, array, array.item_type(), source))
+    }
+}

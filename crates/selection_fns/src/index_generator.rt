@@ -1,0 +1,63 @@
+//! Index generator: the numbers from 1 up.
+
+ghost use Rattle.std.specs.Prelude.{◌≡◌, length};
+ghost use Rattle.arrays_core.specs.Arrays.{IsAnswerTo};
+ghost use Rattle.index_region.specs.ArgumentLists.{of_one};
+ghost use Rattle.selection_fns.specs.IndexGenerator.{generator_form, generator_item, generator_whole};
+
+use arrays_core::{ApplyFault, Array, Item, ItemType, Kind, Shape, shape_of};
+use index_region::{Primitive, Seen, apply, limited};
+use std::alloc::Global;
+
+/// Index generator, `⍳N` (ISO/IEC 13751, "Index Generator"): the vector of 1 to N. RANK where N is
+/// neither a scalar nor a vector, LENGTH where it has not one item, DOMAIN where that is not a number,
+/// or is negative, LIMIT beyond the limits of arrays.
+#[derive(Clone, Copy, PartialEq, Eq, Debug)]
+pub struct IndexGenerator;
+
+impl IndexGenerator {
+    /// The vector of 1 to N.
+    pub fn apply(&self, alloc: Global, args: &[Seen]) -> Result<Array, ApplyFault>
+        requires { length args.now ≡ 1 }
+        ensures { IsAnswerTo (of_one generator_whole args.now) result }
+    {
+        apply(alloc, self, args)
+    }
+}
+
+impl Primitive for IndexGenerator {
+    ghost arity = { λ _. 1 };
+
+    ghost form = { λ _ args. of_one generator_form args };
+
+    ghost item = { λ _ args index. of_one (λ n. generator_item n index) args };
+
+    fn shape_of(&self, args: &[Seen]) -> Result<(Shape, ItemType), Kind> {
+        let count = &args[0];
+        let shape = count.shape();
+        if shape.len() > 1 {
+            return Err(Kind::Rank);
+        }
+        if count.places() != 1 {
+            return Err(Kind::Length);
+        }
+        if !count.counts_as_numbers() {
+            return Err(Kind::Domain);
+        }
+        let number = count.number(1);
+        if number < 0 {
+            return Err(Kind::Domain);
+        }
+        if number > 1_048_576 {
+            return Err(Kind::Limit);
+        }
+        limited(
+            shape_of(*shape.allocator(), &[number as u32]),
+            ItemType::Nums,
+        )
+    }
+
+    fn item_at(&self, _args: &[Seen], index: &[u32]) -> Result<Item, Kind> {
+        Ok(Item::Num(i64::from(index[0])))
+    }
+}

@@ -1,0 +1,112 @@
+//! Index of: the first places of items.
+
+ghost use Rattle.std.specs.Prelude.{◌≡◌, ◌≢◌, IfOk, suc, pos, length, map};
+ghost use Rattle.std.specs.List.{position_or_len};
+ghost use Rattle.arrays_core.specs.Arrays.{IsAnswerTo};
+ghost use Rattle.arrays_core.specs.Shapes.{size as size_of};
+ghost use Rattle.index_region.specs.ArgumentLists.{of_two};
+ghost use Rattle.selection_fns.specs.SameItem.{same_item};
+ghost use Rattle.selection_fns.specs.IndexOf.{index_of_form, index_of_item, index_of_whole};
+
+use crate::lookup::{all_of, places_of};
+use arrays_core::{ApplyFault, Array, Item, ItemType, Kind, Shape, position, shape_of};
+use index_region::{Primitive, Seen, limited};
+use std::alloc::{AllocError, Global};
+
+/// Index of, `A⍳B` (ISO/IEC 13751, "Index of"): numbers in the shape of B, for each of its items the
+/// first place of A that holds it, or one more than the length of A. A character is no number. RANK
+/// where A is not a vector.
+#[derive(Clone, Copy, PartialEq, Eq, Debug)]
+pub struct IndexOf;
+
+/// Items are equal: of one type, and the same number or character.
+fn is_same(left: Item, right: Item) -> bool
+    ensures { result ≡ same_item left right }
+{
+    match (left, right) {
+        (Item::Num(left), Item::Num(right)) => left == right,
+        (Item::Char(left), Item::Char(right)) => left == right,
+        (Item::Num(_), Item::Char(_)) => false,
+        (Item::Char(_), Item::Num(_)) => false,
+    }
+}
+
+/// The first place of an item in an array, counted from 1, or one more than there are places.
+pub(crate) fn first_place(array: &Seen, item: Item) -> u32
+    ensures { result ≡ suc (position_or_len (same_item item) array.now.items) }
+{
+    let places = array.places();
+    for before in 0..places {
+        if is_same(item, array.item(before + 1)) {
+            return before + 1;
+        }
+    }
+    places + 1
+}
+
+/// No item of an array is an item of an array of the other type.
+fn no_places(alloc: Global, array: &Seen, sought: &Seen) -> Result<Vec<i64>, AllocError>
+    requires { array.now.item_type ≢ sought.now.item_type }
+    ensures { IfOk result (λ v. v.items ≡ map (λ x. pos (suc (position_or_len (same_item x) array.now.items))) sought.now.items) }
+{
+    all_of(alloc, i64::from(array.places() + 1), sought.places())
+}
+
+/// The first place in an array of each item that is sought. Both are gone over once.
+fn first_places_of(alloc: Global, array: &Seen, sought: &Seen) -> Result<Vec<i64>, AllocError>
+    ensures is { IfOk result (λ v. v.items ≡ map (λ x. pos (suc (position_or_len (same_item x) array.now.items))) sought.now.items) }
+    ensures long { length sought.now.items ≡ size_of sought.now.shape }
+{
+    let _within_limits = (array.places(), sought.places());
+    match array.numbers() {
+        Some(items) => match sought.numbers() {
+            Some(numbers) => places_of(alloc, items, numbers),
+            None => no_places(alloc, array, sought),
+        },
+        None => match array.characters() {
+            Some(items) => match sought.characters() {
+                Some(characters) => places_of(alloc, items, characters),
+                None => no_places(alloc, array, sought),
+            },
+            None => no_places(alloc, array, sought),
+        },
+    }
+}
+
+impl IndexOf {
+    /// The first place of each item of B in A.
+    pub fn apply(&self, alloc: Global, args: &[Seen]) -> Result<Array, ApplyFault>
+        requires { length args.now ≡ 2 }
+        ensures { IsAnswerTo (of_two index_of_whole args.now) result }
+    {
+        let (shape, _) = self.shape_of(args)?;
+        let (array, sought) = (&args[0], &args[1]);
+        let places = first_places_of(alloc, array, sought)?;
+        Ok(Array::from_numbers(&shape, places))
+    }
+}
+
+impl Primitive for IndexOf {
+    ghost arity = { λ _. 2 };
+
+    ghost form = { λ _ args. of_two index_of_form args };
+
+    ghost item = { λ _ args index. of_two (λ a b. index_of_item a b index) args };
+
+    fn shape_of(&self, args: &[Seen]) -> Result<(Shape, ItemType), Kind> {
+        if args[0].shape().len() != 1 {
+            return Err(Kind::Rank);
+        }
+        let shape = args[1].shape();
+        limited(
+            shape_of(*shape.allocator(), shape.as_slice()),
+            ItemType::Nums,
+        )
+    }
+
+    fn item_at(&self, args: &[Seen], index: &[u32]) -> Result<Item, Kind> {
+        let sought = &args[1];
+        let item = sought.item(position(sought.shape(), index));
+        Ok(Item::Num(i64::from(first_place(&args[0], item))))
+    }
+}

@@ -1,0 +1,94 @@
+//! Membership: which items are items of another array.
+
+ghost use Rattle.std.specs.Prelude.{◌≡◌, ◌≢◌, IfOk, length, map};
+ghost use Rattle.std.specs.List.{list_any};
+ghost use Rattle.arrays_core.specs.Arrays.{IsAnswerTo};
+ghost use Rattle.arrays_core.specs.Shapes.{size as size_of};
+ghost use Rattle.scalar_fns.specs.Numbers.{truth as truth_of};
+ghost use Rattle.index_region.specs.ArgumentLists.{of_two};
+ghost use Rattle.selection_fns.specs.SameItem.{same_item};
+ghost use Rattle.selection_fns.specs.Member.{member_form, member_item, member_whole};
+
+use crate::index_of::first_place;
+use crate::lookup::{all_of, members_of};
+use arrays_core::{ApplyFault, Array, Item, ItemType, Kind, Shape, position, shape_of};
+use index_region::{Primitive, Seen, limited};
+use scalar_fns::truth;
+use std::alloc::{AllocError, Global};
+
+/// Membership, `A∊B` (ISO/IEC 13751, "Member of"): numbers in the shape of A, 1 for each of its items
+/// that is an item of B, else 0. A character is no number. It has no error.
+#[derive(Clone, Copy, PartialEq, Eq, Debug)]
+pub struct Member;
+
+/// An item is one of the items of an array.
+fn is_member(array: &Seen, item: Item) -> bool
+    ensures { result ≡ list_any (same_item item) array.now.items }
+{
+    first_place(array, item) <= array.places()
+}
+
+/// No item of an array is an item of an array of the other type.
+fn no_members(alloc: Global, array: &Seen, sought: &Seen) -> Result<Vec<i64>, AllocError>
+    requires { array.now.item_type ≢ sought.now.item_type }
+    ensures { IfOk result (λ v. v.items ≡ map (λ x. truth_of (list_any (same_item x) array.now.items)) sought.now.items) }
+{
+    let _within_limits = array.places();
+    all_of(alloc, 0, sought.places())
+}
+
+/// Whether each item that is sought is one of an array. Both are gone over once.
+fn are_members(alloc: Global, array: &Seen, sought: &Seen) -> Result<Vec<i64>, AllocError>
+    ensures is { IfOk result (λ v. v.items ≡ map (λ x. truth_of (list_any (same_item x) array.now.items)) sought.now.items) }
+    ensures long { length sought.now.items ≡ size_of sought.now.shape }
+{
+    let _within_limits = sought.places();
+    match array.numbers() {
+        Some(items) => match sought.numbers() {
+            Some(numbers) => members_of(alloc, items, numbers),
+            None => no_members(alloc, array, sought),
+        },
+        None => match array.characters() {
+            Some(items) => match sought.characters() {
+                Some(characters) => members_of(alloc, items, characters),
+                None => no_members(alloc, array, sought),
+            },
+            None => no_members(alloc, array, sought),
+        },
+    }
+}
+
+impl Member {
+    /// 1 for each item of A that is an item of B, else 0.
+    pub fn apply(&self, alloc: Global, args: &[Seen]) -> Result<Array, ApplyFault>
+        requires { length args.now ≡ 2 }
+        ensures { IsAnswerTo (of_two member_whole args.now) result }
+    {
+        let (shape, _) = self.shape_of(args)?;
+        let (sought, array) = (&args[0], &args[1]);
+        let members = are_members(alloc, array, sought)?;
+        Ok(Array::from_numbers(&shape, members))
+    }
+}
+
+impl Primitive for Member {
+    ghost arity = { λ _. 2 };
+
+    ghost form = { λ _ args. of_two member_form args };
+
+    ghost item = { λ _ args index. of_two (λ a b. member_item a b index) args };
+
+    fn shape_of(&self, args: &[Seen]) -> Result<(Shape, ItemType), Kind> {
+        let shape = args[0].shape();
+        limited(
+            shape_of(*shape.allocator(), shape.as_slice()),
+            ItemType::Nums,
+        )
+    }
+
+    fn item_at(&self, args: &[Seen], index: &[u32]) -> Result<Item, Kind> {
+        let (sought, array) = (&args[0], &args[1]);
+        let item = sought.item(position(sought.shape(), index));
+        Ok(Item::Num(truth(is_member(array, item))))
+    }
+}

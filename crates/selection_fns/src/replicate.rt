@@ -1,0 +1,384 @@
+//! Replicate: the places of an axis, each as often as its count.
+
+ghost use Rattle.std.specs.Prelude.{◌≡◌, ◌<◌, ◌≤◌, ◌+◌, ◌-◌, ◌*◌, ◌++◌, ℕ, All, Ok, Some, IsTrue, OnOk, IfOk, IfErr, Result, Err, unsigned_abs, length, map, max, sum, insert, remove, replicate, set, get_or};
+ghost use Rattle.arrays_core.specs.declared.item.Kind.{Kind as AKind};
+ghost use Rattle.arrays_core.specs.declared.item.Kind.TheVariants.{Limit};
+ghost use Rattle.arrays_core.specs.Arrays.{IsAnswerTo};
+ghost use Rattle.arrays_core.specs.Shapes.{is_index_of};
+ghost use Rattle.index_region.specs.Checks.{Form};
+ghost use Rattle.index_region.specs.ArgumentLists.{of_two};
+ghost use Rattle.index_region.specs.Arguments.{numbers};
+ghost use Rattle.index_region.specs.Axes.{axis_at as axis_meant, places_along as places_on};
+ghost use Rattle.index_region.specs.Answers.{IsFormAnswerTo, IsPlaceOf, source_value};
+ghost use Rattle.selection_fns.specs.Replicate.{times, counts_checked, maker as maker_of, copied_place as place_copied, replicate_form, replicate_source, replicate_item, replicate_whole};
+
+use arrays_core::{ApplyFault, Array, Item, ItemRule, ItemType, Kind, Shape, collect, shape_of};
+use index_region::{Along, Primitive, Seen, Source, item_from, limited};
+use std::alloc::{AllocError, Global};
+
+const LONGEST_AXIS: u64 = 1_048_576;
+
+/// How many places an axis has; a scalar has one.
+fn places_along(axes: &[u32], axis: usize) -> u32
+    requires { All (λ n. n ≤ 1048576) axes.now }
+    ensures is { result ≡ places_on axes.now axis }
+    ensures within { result ≤ 1048576 }
+{
+    if axis < axes.len() { axes[axis] } else { 1 }
+}
+
+/// The checks of the counts for an axis: RANK where they are neither a scalar nor a vector, LENGTH where
+/// they are not as many as the places and neither is one, DOMAIN where they are not numbers, or one is
+/// negative.
+fn check_counts(counts: &Seen, places: u32) -> Result<(), Kind>
+    ensures passed { IfOk result (λ _. (rest : Result Form AKind) → counts_checked counts.now places rest ≡ rest) }
+    ensures failed { IfErr result (λ kind. (rest : Result Form AKind) → counts_checked counts.now places rest ≡ Err kind) }
+{
+    if counts.shape().len() > 1 {
+        return Err(Kind::Rank);
+    }
+    if counts.places() != 1 && places != 1 && counts.places() != places {
+        return Err(Kind::Length);
+    }
+    if !counts.counts_as_numbers() {
+        return Err(Kind::Domain);
+    }
+    if counts.has_negative() {
+        return Err(Kind::Domain);
+    }
+    Ok(())
+}
+
+/// So many places, each as often as one count; LIMIT where an axis may not have as many.
+fn repeated(count: u64, places: u32) -> Result<u32, Kind>
+    requires { places ≤ 1048576 }
+    ensures total { IfOk result (λ total. total ≡ places * count) }
+    ensures beyond { IfErr result (λ kind. (kind ≡ Limit) × (1048576 < places * count)) }
+{
+    if places == 0 {
+        return Ok(0);
+    }
+    if count > LONGEST_AXIS {
+        return Err(Kind::Limit);
+    }
+    let total = u64::from(places) * count;
+    if total > LONGEST_AXIS {
+        return Err(Kind::Limit);
+    }
+    Ok(total as u32)
+}
+
+/// The sum of the counts; LIMIT where an axis may not have as many places.
+fn summed(counts: &Seen) -> Result<u32, Kind>
+    ensures total { IfOk result (λ total. total ≡ sum (map unsigned_abs (numbers counts.now))) }
+    ensures beyond { IfErr result (λ kind. (kind ≡ Limit) × (1048576 < sum (map unsigned_abs (numbers counts.now)))) }
+{
+    let mut total = 0;
+    for place in 0..counts.places() {
+        let count = counts.number(place + 1).unsigned_abs();
+        if count > LONGEST_AXIS {
+            return Err(Kind::Limit);
+        }
+        total += count;
+        if total > LONGEST_AXIS {
+            return Err(Kind::Limit);
+        }
+    }
+    Ok(total as u32)
+}
+
+/// How many copies an axis has; LIMIT where that are more than an axis may have.
+fn copies(counts: &Seen, places: u32) -> Result<u32, Kind>
+    requires { places ≤ 1048576 }
+    ensures total { IfOk result (λ total. total ≡ sum (times counts.now places)) }
+    ensures beyond { IfErr result (λ kind. (kind ≡ Limit) × (1048576 < sum (times counts.now places))) }
+{
+    if counts.places() == 1 {
+        repeated(counts.number(1).unsigned_abs(), places)
+    } else {
+        summed(counts)
+    }
+}
+
+/// The shape whose axis has so many places; a scalar's is a vector's.
+fn replicated_shape(alloc: Global, axes: &[u32], axis: usize, places: u32) -> Shape
+    requires rank { length axes.now ≤ 4 }
+    requires there { axis < max 1 (length axes.now) }
+    ensures is { result.items ≡ insert (remove axes.now axis) axis places }
+    ensures inline { result.capacity ≡ 4 }
+{
+    if axes.is_empty() {
+        return shape_of(alloc, &[places]);
+    }
+    let mut shape = shape_of(alloc, axes);
+    shape[axis] = places;
+    shape
+}
+
+/// Which of the counts makes a copy.
+fn maker(counts: &Seen, copy: u32) -> u32
+    ensures { result ≡ maker_of (map unsigned_abs (numbers counts.now)) copy }
+{
+    let mut left = copy;
+    for place in 0..counts.places() {
+        let count = counts.number(place + 1).unsigned_abs();
+        if u64::from(left) <= count {
+            return place + 1;
+        }
+        left -= count as u32;
+    }
+    counts.places() + 1
+}
+
+/// Which place makes a copy where each is copied as often.
+fn maker_of_each(count: u64, places: u32, copy: u32) -> u32
+    requires low { 1 ≤ copy }
+    requires high { copy ≤ places * count }
+    ensures { result ≡ maker_of (replicate places count) copy }
+{
+    (u64::from(copy - 1) / count) as u32 + 1
+}
+
+/// The place that a copy is of; on an axis of one place each is a copy of that.
+fn copied_place(counts: &Seen, places: u32, copy: u32) -> u32
+    requires low { 1 ≤ copy }
+    requires high { copy ≤ sum (times counts.now places) }
+    ensures { result ≡ place_copied counts.now places copy }
+{
+    if places == 1 {
+        return 1;
+    }
+    if counts.places() == 1 {
+        maker_of_each(counts.number(1).unsigned_abs(), places, copy)
+    } else {
+        maker(counts, copy)
+    }
+}
+
+/// How many places come before that of each copy, where each place is copied as often.
+fn each_copied(alloc: Global, count: u64, places: u32, total: u32) -> Result<Vec<u32>, AllocError>
+    requires { total ≡ places * count }
+    ensures long { IfOk result (λ before. length before.items ≡ total) }
+    ensures is { IfOk result (λ before. (i : ℕ) → i < total → get_or before.items i 0 + 1 ≡ maker_of (replicate places count) (i + 1)) }
+{
+    let mut before = Vec::with_capacity(alloc, total as usize)?;
+    for copy in 0..total {
+        before.push(maker_of_each(count, places, copy + 1) - 1)?;
+    }
+    Ok(before)
+}
+
+/// Puts copies of a number at the end of a list.
+fn append_copies(list: &mut Vec<u32>, count: u32, number: u32) -> Result<(), AllocError>
+    requires { length list.old.items + count ≤ 1048576 }
+    ensures { OnOk result (list.new.items ≡ list.old.items ++ replicate count number) }
+{
+    list.resize(list.len() + count as usize, number)?;
+    Ok(())
+}
+
+/// How many places come before that of each copy, where each place has a count of its own.
+fn counts_copied(alloc: Global, counts: &Seen, total: u32) -> Result<Vec<u32>, AllocError>
+    requires total { total ≡ sum (map unsigned_abs (numbers counts.now)) }
+    requires within { total ≤ 1048576 }
+    ensures long { IfOk result (λ before. length before.items ≡ total) }
+    ensures is { IfOk result (λ before. (i : ℕ) → i < total → get_or before.items i 0 + 1 ≡ maker_of (map unsigned_abs (numbers counts.now)) (i + 1)) }
+{
+    let mut before = Vec::with_capacity(alloc, total as usize)?;
+    for place in 0..counts.places() {
+        let count = counts.number(place + 1).unsigned_abs() as u32;
+        append_copies(&mut before, count, place)?;
+    }
+    Ok(before)
+}
+
+/// How many places come before that of each copy.
+fn places_copied(
+    alloc: Global,
+    counts: &Seen,
+    places: u32,
+    total: u32,
+) -> Result<Vec<u32>, AllocError>
+    requires total { total ≡ sum (times counts.now places) }
+    requires within { total ≤ 1048576 }
+    ensures long { IfOk result (λ before. length before.items ≡ total) }
+    ensures is { IfOk result (λ before. (i : ℕ) → i < total → get_or before.items i 0 + 1 ≡ place_copied counts.now places (i + 1)) }
+    ensures few { length counts.now.items ≤ 1048576 }
+{
+    let is_single = counts.places() == 1;
+    if places == 1 {
+        let zeros = vec![in alloc; 0; total as usize]?;
+        return Ok(zeros);
+    }
+    if is_single {
+        return each_copied(alloc, counts.number(1).unsigned_abs(), places, total);
+    }
+    counts_copied(alloc, counts, total)
+}
+
+/// The index list of the array itself, of one of the result.
+fn copied_index(alloc: Global, counts: &Seen, axes: &[u32], axis: usize, index: &[u32]) -> Shape
+    requires rank { length axes.now ≤ 4 }
+    requires there { axis < length axes.now }
+    requires inside { IsTrue (is_index_of (insert (remove axes.now axis) axis (sum (times counts.now (places_on axes.now axis)))) index.now) }
+    ensures { result.items ≡ set index.now axis (place_copied counts.now (places_on axes.now axis) (get_or index.now axis 1)) }
+{
+    let mut at = shape_of(alloc, index);
+    at[axis] = copied_place(counts, axes[axis], index[axis]);
+    at
+}
+
+/// The index list of the place that a copy is of.
+fn index_of_copy(alloc: Global, axis: usize, before: &[u32], index: &[u32]) -> Shape
+    requires rank { length index.now ≤ 4 }
+    requires there { axis < length index.now }
+    requires low { 1 ≤ get_or index.now axis 0 }
+    requires high { get_or index.now axis 0 ≤ length before.now }
+    requires within { All (λ n. n ≤ 1048576) before.now }
+    ensures { result.items ≡ set index.now axis (get_or before.now (get_or index.now axis 0 - 1) 0 + 1) }
+{
+    let mut at = shape_of(alloc, index);
+    at[axis] = before[(index[axis] - 1) as usize] + 1;
+    at
+}
+
+/// Replicate, `A/B` and `A⌿B` (ISO/IEC 13751, "Replicate"): each place of B along the axis as often as
+/// its count in A. A scalar B is a vector of one item; A of one item counts for each place; an axis of
+/// one place extends to the counts. AXIS where the axis is not one of the array's, RANK where A is
+/// neither a scalar nor a vector, LENGTH where counts are not as many as places and neither is one,
+/// DOMAIN where A is not of numbers, or one is negative, LIMIT beyond the limits of arrays.
+#[derive(Clone, Copy, PartialEq, Eq, Debug)]
+pub struct Replicate {
+    pub along: Along,
+}
+
+impl Replicate {
+    /// Where the item at an index list of the result comes from. It takes no memory.
+    pub fn source_of(self, counts: &Seen, array: &Seen, index: &[u32]) -> Source
+        requires { IsPlaceOf (replicate_form self.along counts.now array.now) index.now }
+        ensures { source_value result ≡ replicate_source self.along counts.now array.now index.now }
+    {
+        let axes = array.shape();
+        let alloc = *axes.allocator();
+        if axes.is_empty() {
+            let at = shape_of(alloc, &[]);
+            return Source::Place { arg: 1, at };
+        }
+        let axis = self.along.axis_at(axes.len() as u32);
+        let at = copied_index(alloc, counts, axes.as_slice(), axis, index);
+        Source::Place { arg: 1, at }
+    }
+
+    /// The checks, and the shape and the type of the result.
+    fn form(self, counts: &Seen, array: &Seen) -> Result<(Shape, ItemType), Kind>
+        ensures { IsFormAnswerTo (replicate_form self.along counts.now array.now) result }
+    {
+        let axes = array.shape();
+        let rank = axes.len().max(1) as u32;
+        if !self.along.is_axis(rank) {
+            return Err(Kind::Axis);
+        }
+        let axis = self.along.axis_at(rank);
+        let places = places_along(axes.as_slice(), axis);
+        check_counts(counts, places)?;
+        let copied = copies(counts, places)?;
+        let shape = replicated_shape(*axes.allocator(), axes.as_slice(), axis, copied);
+        limited(shape, array.item_type())
+    }
+
+    /// The array of the copies. The place of each copy is found once, and those of a vector are picked one
+    /// after another.
+    pub fn apply(&self, alloc: Global, args: &[Seen]) -> Result<Array, ApplyFault>
+        requires { length args.now ≡ 2 }
+        ensures { IsAnswerTo (of_two (replicate_whole self.now.along) args.now) result }
+    {
+        self.copied(alloc, &args[0], &args[1])
+    }
+
+    /// The array of the copies of an array's places.
+    fn copied(self, alloc: Global, counts: &Seen, array: &Seen) -> Result<Array, ApplyFault>
+        ensures { IsAnswerTo (replicate_whole self.along counts.now array.now) result }
+    {
+        let (shape, item_type) = self.form(counts, array)?;
+        let axes = array.shape();
+        let axis = self.along.axis_at(axes.len().max(1) as u32);
+        let places = places_along(axes.as_slice(), axis);
+        let before = places_copied(alloc, counts, places, shape[axis])?;
+        if axes.len() <= 1 {
+            let picked = array.picked(before.as_slice(), &shape)?;
+            return Ok(picked);
+        }
+        let rule = CopyRule {
+            replicate: self,
+            counts,
+            array,
+            before: before.as_slice(),
+            shape: &shape,
+        };
+        collect(alloc, &rule, item_type, &shape)
+    }
+}
+
+/// The copies of an array's places, where the checks have passed, and how many places come before that of each.
+#[derive(Drop)]
+struct CopyRule<'a, 'b, 'c> {
+    replicate: Replicate,
+    counts: &'a Seen<'b>,
+    array: &'a Seen<'c>,
+    before: &'a [u32],
+    shape: &'a Shape,
+    ghost form: { replicate_form replicate.along counts.now array.now ≡ Ok (shape.now.items, array.now.item_type) },
+    ghost long: { length before.now ≡ sum (times counts.now (places_on array.now.shape (axis_meant (max 1 (length array.now.shape)) replicate.along))) },
+    ghost is: { (i : ℕ) → i < length before.now → get_or before.now i 0 + 1 ≡ place_copied counts.now (places_on array.now.shape (axis_meant (max 1 (length array.now.shape)) replicate.along)) (i + 1) },
+    ghost within: { All (λ n. n ≤ 1048576) before.now },
+}
+
+impl<'a, 'b, 'c> CopyRule<'a, 'b, 'c> {
+    /// The index list of the array itself, of one of the result.
+    fn index_of(&self, index: &[u32]) -> Shape
+        requires { IsTrue (is_index_of self.now.shape.now.items index.now) }
+        ensures { Some (1, result.items) ≡ replicate_source self.now.replicate.along self.now.counts.now self.now.array.now index.now }
+    {
+        let axes = self.array.shape();
+        let alloc = *axes.allocator();
+        if axes.is_empty() {
+            return shape_of(alloc, &[]);
+        }
+        let axis = self.replicate.along.axis_at(axes.len() as u32);
+        index_of_copy(alloc, axis, self.before, index)
+    }
+}
+
+impl<'a, 'b, 'c> ItemRule for CopyRule<'a, 'b, 'c> {
+    ghost result_shape = { λ r. r.shape.now.items };
+
+    ghost result_type = { λ r. r.array.now.item_type };
+
+    ghost item = { λ r index. replicate_item r.replicate.along r.counts.now r.array.now index };
+
+    fn item_at(&self, index: &[u32]) -> Result<Item, Kind> {
+        let array = self.array;
+        let at = self.index_of(index);
+        let source = Source::Place { arg: 1, at };
+        Ok(item_from(array, array, array.item_type(), source))
+    }
+}
+
+impl Primitive for Replicate {
+    ghost arity = { λ _. 2 };
+
+    ghost form = { λ r args. of_two (replicate_form r.along) args };
+
+    ghost item = { λ r args index. of_two (λ a b. replicate_item r.along a b index) args };
+
+    fn shape_of(&self, args: &[Seen]) -> Result<(Shape, ItemType), Kind> {
+        self.form(&args[0], &args[1])
+    }
+
+    fn item_at(&self, args: &[Seen], index: &[u32]) -> Result<Item, Kind> {
+        let counts = &args[0];
+        let array = &args[1];
+        let source = self.source_of(counts, array, index);
+        Ok(item_from(array, array, array.item_type(), source))
+    }
+}

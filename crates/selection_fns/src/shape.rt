@@ -1,0 +1,46 @@
+//! Shape: the lengths of an array's axes.
+
+ghost use Rattle.std.specs.Prelude.{◌≡◌, length};
+ghost use Rattle.arrays_core.specs.Arrays.{IsAnswerTo};
+ghost use Rattle.index_region.specs.ArgumentLists.{of_one};
+ghost use Rattle.selection_fns.specs.Shape.{shape_form, shape_item, shape_whole};
+
+use arrays_core::{ApplyFault, Array, Item, ItemType, Kind, Shape, shape_of};
+use index_region::{Primitive, Seen, apply, limited};
+use std::alloc::Global;
+
+/// Shape, `⍴B` (ISO/IEC 13751, "Shape"): the lengths of the axes as a vector of numbers. It has no
+/// error.
+#[derive(Clone, Copy, PartialEq, Eq, Debug)]
+pub struct AxisLengths;
+
+impl AxisLengths {
+    /// The vector of the lengths of the axes.
+    pub fn apply(&self, alloc: Global, args: &[Seen]) -> Result<Array, ApplyFault>
+        requires { length args.now ≡ 1 }
+        ensures { IsAnswerTo (of_one shape_whole args.now) result }
+    {
+        apply(alloc, self, args)
+    }
+}
+
+impl Primitive for AxisLengths {
+    ghost arity = { λ _. 1 };
+
+    ghost form = { λ _ args. of_one shape_form args };
+
+    ghost item = { λ _ args index. of_one (λ b. shape_item b index) args };
+
+    fn shape_of(&self, args: &[Seen]) -> Result<(Shape, ItemType), Kind> {
+        let shape = args[0].shape();
+        limited(
+            shape_of(*shape.allocator(), &[shape.len() as u32]),
+            ItemType::Nums,
+        )
+    }
+
+    fn item_at(&self, args: &[Seen], index: &[u32]) -> Result<Item, Kind> {
+        let shape = args[0].shape();
+        Ok(Item::Num(i64::from(shape[(index[0] - 1) as usize])))
+    }
+}

@@ -1,0 +1,292 @@
+// The loop from a source to a sink.
+ghost use Rattle.std.specs.Prelude.{◌≡◌, ◌+◌, ◌≤◌, ◌<◌, ◌^◌, ◌∷◌, ℕ, List, [], ◌++◌, length, take, slice_index, MatchOption, OnOk, OnErr, IfOk, IsErrOf, true};
+ghost use Rattle.std.specs.Io.KnownBytes.{Appends};
+ghost use Rattle.sheet_cli.specs.Lines.{strip_bom, ended_lines};
+ghost use Rattle.sheet_cli.specs.Progress.{line_after, standing, AnswersLine, Feeds, StopsIn, Finishes, StopsAtEnd};
+ghost use Rattle.sheet_cli.specs.Run.{Completes, BreaksOff, IsCut};
+
+use crate::answer::answer;
+use crate::device::{Failed, Sink, Source};
+use crate::line_buffer::Pending;
+use sheet_recalc::Sheet;
+use std::alloc::{AllocError, Global};
+
+/// What a run counted.
+#[derive(Clone, Copy, Debug, PartialEq, Eq)]
+pub struct Tally {
+    pub lines: u64,
+    pub refused_for_memory: u64,
+}
+
+/// Why a run ended early.
+#[derive(Clone, Copy, Debug, PartialEq, Eq)]
+pub enum RunFault {
+    Read,
+    Write,
+    Memory,
+}
+
+/// Puts all bytes, or as many as go.
+fn put_all<W: Sink>(sink: &mut W, bytes: &[u8]) -> Result<(), Failed>
+    ensures ok { OnOk result (Appends (W.written sink.old) (W.written sink.new) bytes.now) }
+    ensures err { OnErr result ((part : List ℕ) × (unwritten : List ℕ) × (bytes.now ≡ part ++ unwritten)
+        × Appends (W.written sink.old) (W.written sink.new) part) }
+    ensures fault { OnErr result (W.has_failed sink.new ≡ true) }
+{
+    let mut rest = bytes;
+    while !rest.is_empty() {
+        let n = sink.put(rest)?;
+        rest = &rest[n..];
+    }
+    Ok(())
+}
+
+/// The bytes without a byte order mark at their start.
+#[tactic(auto, unfolding(crate::specs::Lines::strip_bom))]
+fn strip_bom(bytes: &[u8]) -> &[u8]
+    ensures { result.now ≡ strip_bom bytes.now }
+{
+    match bytes {
+        [0xEF, 0xBB, 0xBF, rest @ ..] => rest,
+        _ => bytes,
+    }
+}
+
+/// Answers one line, and counts it.
+fn answer_line<W: Sink>(
+    alloc: Global,
+    sheet: &mut Sheet,
+    sink: &mut W,
+    tally: &mut Tally,
+    line: &[u8],
+) -> Result<(), Failed>
+    requires lines { tally.old.lines < u64.MAX }
+    requires refused { tally.old.refused_for_memory < u64.MAX }
+    ensures lines { tally.new.lines ≡ tally.old.lines + 1 }
+    ensures refused { tally.new.refused_for_memory ≤ tally.old.refused_for_memory + 1 }
+    ensures ok { OnOk result ((text : List ℕ) × Appends (W.written sink.old) (W.written sink.new) text
+        × AnswersLine sheet.old line.now tally.old.refused_for_memory tally.new.refused_for_memory text sheet.new) }
+    ensures err { OnErr result ((part : List ℕ) × (unwritten : List ℕ) × Appends (W.written sink.old) (W.written sink.new) part
+        × AnswersLine sheet.old line.now tally.old.refused_for_memory tally.new.refused_for_memory (part ++ unwritten) sheet.new) }
+    ensures fault { OnErr result (W.has_failed sink.new ≡ true) }
+{
+    tally.lines += 1;
+    match answer(alloc, sheet, line) {
+        Ok(text) => put_all(sink, text.as_bytes()),
+        Err(AllocError) => {
+            tally.refused_for_memory += 1;
+            put_all(sink, b"NO MEMORY\n")
+        }
+    }
+}
+
+/// How far a run is.
+#[derive(Drop)]
+struct Progress {
+    pending: Pending,
+    tally: Tally,
+}
+
+impl Progress {
+    fn new(alloc: Global) -> Result<Progress, AllocError>
+        ensures { IfOk result (λ p. (p.pending ≡ []) × (p.tally ≡ record { lines = 0; refused_for_memory = 0 })) }
+    {
+        Ok(Progress {
+            pending: Pending::new(alloc)?,
+            tally: Tally {
+                lines: 0,
+                refused_for_memory: 0,
+            },
+        })
+    }
+}
+
+/// What is kept of the line that has not ended, without a byte order mark where it is the first.
+fn line_of(pending: &Pending, lines: u64) -> &[u8]
+    ensures { result.now ≡ line_after lines pending.now }
+{
+    if lines == 0 {
+        strip_bom(pending.as_slice())
+    } else {
+        pending.as_slice()
+    }
+}
+
+/// The place of the first LF.
+fn find_line_feed(bytes: &[u8]) -> Option<usize>
+    ensures { MatchOption result (ended_lines bytes.now ≡ [])
+        (λ i. (i < length bytes.now) × (ended_lines (take i bytes.now) ≡ []) × (slice_index bytes.now i ≡ 10)) }
+{
+    let mut i = 0;
+    while i < bytes.len() {
+        if bytes[i] == b'\n' {
+            return Some(i);
+        }
+        i += 1;
+    }
+    None
+}
+
+/// Answers the line that an LF ends.
+fn end_line<W: Sink>(
+    alloc: Global,
+    sheet: &mut Sheet,
+    sink: &mut W,
+    progress: &mut Progress,
+) -> Result<(), Failed>
+    requires lines { progress.old.tally.lines < u64.MAX }
+    requires refused { progress.old.tally.refused_for_memory < u64.MAX }
+    ensures lines { progress.new.tally.lines ≡ progress.old.tally.lines + 1 }
+    ensures refused { progress.new.tally.refused_for_memory ≤ progress.old.tally.refused_for_memory + 1 }
+    ensures ok { OnOk result ((text : List ℕ) × Appends (W.written sink.old) (W.written sink.new) text
+        × Feeds (10 ∷ []) (standing progress.old.pending progress.old.tally sheet.old) text (standing progress.new.pending progress.new.tally sheet.new)) }
+    ensures err { OnErr result ((text : List ℕ) × Appends (W.written sink.old) (W.written sink.new) text
+        × StopsIn (10 ∷ []) (standing progress.old.pending progress.old.tally sheet.old) text sheet.new) }
+    ensures fault { OnErr result (W.has_failed sink.new ≡ true) }
+{
+    let line = line_of(&progress.pending, progress.tally.lines);
+    answer_line(alloc, sheet, sink, &mut progress.tally, line)?;
+    progress.pending.clear();
+    Ok(())
+}
+
+/// Takes the next bytes of the input up to an LF and with it, or all, and says how many it took.
+fn take_piece<W: Sink>(
+    alloc: Global,
+    sheet: &mut Sheet,
+    sink: &mut W,
+    progress: &mut Progress,
+    bytes: &[u8],
+) -> Result<usize, Failed>
+    requires lines { progress.old.tally.lines < u64.MAX }
+    requires refused { progress.old.tally.refused_for_memory < u64.MAX }
+    ensures taken { IfOk result (λ n. (n ≤ length bytes.now) × (0 < length bytes.now → 0 < n)) }
+    ensures lines { IfOk result (λ n. progress.new.tally.lines ≤ progress.old.tally.lines + n) }
+    ensures refused { IfOk result (λ n. progress.new.tally.refused_for_memory ≤ progress.old.tally.refused_for_memory + n) }
+    ensures ok { IfOk result (λ n. (text : List ℕ) × Appends (W.written sink.old) (W.written sink.new) text
+        × Feeds (take n bytes.now) (standing progress.old.pending progress.old.tally sheet.old) text (standing progress.new.pending progress.new.tally sheet.new)) }
+    ensures err { OnErr result ((text : List ℕ) × Appends (W.written sink.old) (W.written sink.new) text
+        × StopsIn bytes.now (standing progress.old.pending progress.old.tally sheet.old) text sheet.new) }
+    ensures fault { OnErr result (W.has_failed sink.new ≡ true) }
+{
+    let Some(end) = find_line_feed(bytes) else {
+        progress.pending.append(bytes);
+        return Ok(bytes.len());
+    };
+    progress.pending.append(&bytes[..end]);
+    end_line(alloc, sheet, sink, progress)?;
+    Ok(end + 1)
+}
+
+/// Takes the next bytes of the input, and answers the lines that they end.
+fn take_bytes<W: Sink>(
+    alloc: Global,
+    sheet: &mut Sheet,
+    sink: &mut W,
+    progress: &mut Progress,
+    bytes: &[u8],
+) -> Result<(), Failed>
+    requires lines { progress.old.tally.lines + length bytes.now < 2 ^ 64 }
+    requires refused { progress.old.tally.refused_for_memory + length bytes.now < 2 ^ 64 }
+    ensures lines { OnOk result (progress.new.tally.lines ≤ progress.old.tally.lines + length bytes.now) }
+    ensures refused { OnOk result (progress.new.tally.refused_for_memory ≤ progress.old.tally.refused_for_memory + length bytes.now) }
+    ensures ok { OnOk result ((text : List ℕ) × Appends (W.written sink.old) (W.written sink.new) text
+        × Feeds bytes.now (standing progress.old.pending progress.old.tally sheet.old) text (standing progress.new.pending progress.new.tally sheet.new)) }
+    ensures err { OnErr result ((text : List ℕ) × Appends (W.written sink.old) (W.written sink.new) text
+        × StopsIn bytes.now (standing progress.old.pending progress.old.tally sheet.old) text sheet.new) }
+    ensures fault { OnErr result (W.has_failed sink.new ≡ true) }
+{
+    let mut rest = bytes;
+    while !rest.is_empty() {
+        let n = take_piece(alloc, sheet, sink, progress, rest)?;
+        rest = &rest[n..];
+    }
+    Ok(())
+}
+
+/// Answers a last line without LF.
+fn answer_last<W: Sink>(
+    alloc: Global,
+    sheet: &mut Sheet,
+    sink: &mut W,
+    progress: &mut Progress,
+) -> Result<(), Failed>
+    requires lines { progress.old.tally.lines < u64.MAX }
+    requires refused { progress.old.tally.refused_for_memory < u64.MAX }
+    ensures ok { OnOk result ((text : List ℕ) × Appends (W.written sink.old) (W.written sink.new) text
+        × Finishes (standing progress.old.pending progress.old.tally sheet.old) text progress.new.tally sheet.new) }
+    ensures err { OnErr result ((text : List ℕ) × Appends (W.written sink.old) (W.written sink.new) text
+        × StopsAtEnd (standing progress.old.pending progress.old.tally sheet.old) text sheet.new) }
+    ensures fault { OnErr result (W.has_failed sink.new ≡ true) }
+{
+    let line = line_of(&progress.pending, progress.tally.lines);
+    if line.is_empty() {
+        return Ok(());
+    }
+    answer_line(alloc, sheet, sink, &mut progress.tally, line)
+}
+
+/// Answers a last line without LF, and flushes.
+fn finish<W: Sink>(
+    alloc: Global,
+    sheet: &mut Sheet,
+    sink: &mut W,
+    progress: &mut Progress,
+) -> Result<(), Failed>
+    requires lines { progress.old.tally.lines < u64.MAX }
+    requires refused { progress.old.tally.refused_for_memory < u64.MAX }
+    ensures ok { OnOk result ((text : List ℕ) × Appends (W.written sink.old) (W.written sink.new) text
+        × Finishes (standing progress.old.pending progress.old.tally sheet.old) text progress.new.tally sheet.new) }
+    ensures err { OnErr result ((text : List ℕ) × Appends (W.written sink.old) (W.written sink.new) text
+        × StopsAtEnd (standing progress.old.pending progress.old.tally sheet.old) text sheet.new) }
+    ensures fault { OnErr result (W.has_failed sink.new ≡ true) }
+    ensures flushed { OnOk result (W.is_flushed sink.new ≡ true) }
+{
+    answer_last(alloc, sheet, sink, progress)?;
+    sink.flush()
+}
+
+/// The most bytes that one pull asks for.
+const CHUNK: usize = 4096;
+
+/// Reads lines from the source to its end, writes the answers to the sink, each before the next bytes are asked for, and
+/// flushes it at the end.
+pub fn run<R: Source, W: Sink>(
+    alloc: Global,
+    sheet: &mut Sheet,
+    source: &mut R,
+    sink: &mut W,
+) -> Result<Tally, RunFault>
+    ensures ok { IfOk result (λ tally. Completes (R.remaining source.old) (R.remaining source.new) (W.written sink.old) (W.written sink.new)
+        sheet.old sheet.new tally) }
+    ensures flushed { OnOk result (W.is_flushed sink.new ≡ true) }
+    ensures memory { IsErrOf result RunFault.Memory → (source.new ≡ source.old) × (sink.new ≡ sink.old) × (sheet.new ≡ sheet.old) }
+    ensures read { IsErrOf result RunFault.Read → BreaksOff (R.remaining source.old) (R.remaining source.new) (W.written sink.old) (W.written sink.new)
+        (R.has_failed source.new) sheet.old sheet.new }
+    ensures write { IsErrOf result RunFault.Write → IsCut (R.remaining source.old) (R.remaining source.new) (W.written sink.old) (W.written sink.new)
+        (W.has_failed sink.new) sheet.old sheet.new }
+{
+    let Ok(mut progress) = Progress::new(alloc) else {
+        return Err(RunFault::Memory);
+    };
+    let mut chunk = [0u8; CHUNK];
+    let mut bytes_read = 0;
+    while bytes_read < u64::MAX {
+        let room = (u64::MAX - bytes_read).min(CHUNK as u64) as usize;
+        let into = &mut chunk[..room];
+        let Ok(n) = source.pull(into) else {
+            return Err(RunFault::Read);
+        };
+        if n == 0 {
+            let Ok(()) = finish(alloc, sheet, sink, &mut progress) else {
+                return Err(RunFault::Write);
+            };
+            return Ok(progress.tally);
+        }
+        bytes_read += n as u64;
+        let Ok(()) = take_bytes(alloc, sheet, sink, &mut progress, &into[..n]) else {
+            return Err(RunFault::Write);
+        };
+    }
+    Err(RunFault::Read)
+}

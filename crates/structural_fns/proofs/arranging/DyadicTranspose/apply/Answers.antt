@@ -1,8 +1,0 @@
-use Rattle.std.proofs.Common.{subst}
-use Rattle.arrays_core.specs.Arrays.{IsAnswerTo}
-use Rattle.index_region.proofs.Arguments.{whole_of_two}
-use Rattle.structural_fns.specs.Transposes.{transpose_by_form, transpose_by_item}
-use Rattle.structural_fns.proofs.arranging.DyadicTranspose.apply.Goals as goal
-
-pub returns : goal.returns
-returns c = subst (λ w. IsAnswerTo w c.apply.result) (whole_of_two transpose_by_form transpose_by_item c.args.args.now c.requires) c.apply.ensures

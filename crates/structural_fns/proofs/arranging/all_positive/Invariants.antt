@@ -1,7 +1,0 @@
-use Rattle.std.proofs.Common.{◌≡◌, drop}
-use Rattle.index_region.specs.Common.{numbers}
-use Rattle.structural_fns.specs.Transposes.{all_positive}
-use Rattle.structural_fns.proofs.arranging.all_positive.Given as goal
-
-abbrev pub invariant-loop-place : goal.invariant-loop-place
-invariant-loop-place l = all_positive (drop l.place (numbers l.fn.axes)) ≡ all_positive (numbers l.fn.axes)

@@ -1,6 +1,0 @@
-use Rattle.std.proofs.Common.{◌≡◌, drop, max}
-use Rattle.structural_fns.specs.Transposes.{axes_to, greatest}
-use Rattle.structural_fns.proofs.arranging.greatest.Given as goal
-
-abbrev pub invariant-loop-place : goal.invariant-loop-place
-invariant-loop-place l = max l.greatest (greatest (drop l.place (axes_to l.fn.axes))) ≡ greatest (axes_to l.fn.axes)

@@ -1,0 +1,36 @@
+use Rattle.std.proofs.Common.{◌<◌, ◌∙◌, sym, ap, arith}
+use Rattle.index_region.specs.Axes.{axis_at}
+use Rattle.structural_fns.specs.Catenate.{joined_rank}
+use Rattle.structural_fns.proofs.Sides.{join_long}
+use Rattle.structural_fns.proofs.catenate.Catenate.source_of.Goals as goal
+
+pub bounds-index-axis : goal.bounds-index-axis
+bounds-index-axis c =
+    let a = c.args.left.now in
+    let b = c.args.right.now in
+    let rank = c.joined_rank-rank.ensures.is in
+    let below = c.axis_at-axis.ensures.below c.joined_rank-rank.ensures.low in
+    let axis = c.axis_at-axis.ensures.is ∙ ap (λ n. axis_at n c.args.self.along) rank in
+    let within : axis_at (joined_rank a b) c.args.self.along < joined_rank a b = omega (arith, axis, rank, below) in
+    let long = join_long c.args.self.along a b c.args.index.now within c.requires in
+    omega (arith, long, rank, below)
+
+pub in_side-at-requires-clause-long : goal.in_side-at-requires-clause-long
+in_side-at-requires-clause-long c =
+    let a = c.args.left.now in
+    let b = c.args.right.now in
+    let rank = c.joined_rank-rank.ensures.is in
+    let below = c.axis_at-axis.ensures.below c.joined_rank-rank.ensures.low in
+    let axis = c.axis_at-axis.ensures.is ∙ ap (λ n. axis_at n c.args.self.along) rank in
+    let within : axis_at (joined_rank a b) c.args.self.along < joined_rank a b = omega (arith, axis, rank, below) in
+    join_long c.args.self.along a b c.args.index.now within c.requires ∙ sym rank
+
+pub in_side-at-requires-2-clause-long : goal.in_side-at-requires-2-clause-long
+in_side-at-requires-2-clause-long c =
+    let a = c.args.left.now in
+    let b = c.args.right.now in
+    let rank = c.joined_rank-rank.ensures.is in
+    let below = c.axis_at-axis.ensures.below c.joined_rank-rank.ensures.low in
+    let axis = c.axis_at-axis.ensures.is ∙ ap (λ n. axis_at n c.args.self.along) rank in
+    let within : axis_at (joined_rank a b) c.args.self.along < joined_rank a b = omega (arith, axis, rank, below) in
+    join_long c.args.self.along a b c.args.index.now within c.requires ∙ sym rank

@@ -1,0 +1,17 @@
+use Rattle.std.proofs.Common.{◌<◌, length, arith}
+use Rattle.index_region.specs.Arguments.{numbers}
+use Rattle.structural_fns.specs.AxisCounts.{counted_shape}
+use Rattle.structural_fns.specs.Drop.{dropped_shape}
+use Rattle.structural_fns.proofs.Counting.{too_many, dropped_long, numbers_long}
+use Rattle.structural_fns.proofs.drop_places.DropPlacesPrimitive.shape_of.Goals as goal
+
+pub returns-then-places-gt-MOST_AXES : goal.returns-then-places-gt-MOST_AXES
+returns-then-places-gt-MOST_AXES c =
+    let a = c.index-args-0.result in
+    let b = c.index-args-1.result in
+    let long = numbers_long a in
+    let shape = dropped_shape (counted_shape a b) (numbers a) in
+    let same = dropped_long (counted_shape a b) (numbers a) (grind arith) in
+    let many : 4 < length shape = grind arith in
+    let beyond = too_many shape b.item_type many in
+    grind (arith, beyond)

@@ -1,0 +1,11 @@
+use Rattle.std.proofs.Common.{◌≡◌, ◌++◌, drop, length}
+use Rattle.index_region.specs.Arguments.{numbers}
+use Rattle.structural_fns.specs.Drop.{kept_places}
+use Rattle.structural_fns.proofs.drop_places.kept_places.Given as goal
+
+abbrev pub invariant-loop-k : goal.invariant-loop-k
+invariant-loop-k l = record {
+  made : l.places.items ++ kept_places (drop l.k (numbers l.fn.counts)) (drop l.k l.index) ≡ kept_places (numbers l.fn.counts) l.index;
+  long : length l.places.items ≡ l.k;
+  inline : l.places.capacity ≡ 4;
+}

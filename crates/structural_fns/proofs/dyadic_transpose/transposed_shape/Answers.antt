@@ -1,0 +1,29 @@
+use Rattle.std.proofs.Common.{◌≡◌, ◌+◌, ◌∙◌, arith, append_assoc}
+use Rattle.std.proofs.lemmas.List.{length_push}
+use Rattle.std.proofs.lemmas.List.FromFn.{length-map-range_with_len}
+use Rattle.structural_fns.specs.DyadicTranspose.{axes_to, greatest, least, lengths_at, transposed_shape}
+use Rattle.structural_fns.proofs.Counting.{too_many}
+use Rattle.structural_fns.proofs.Entries.{range_more}
+use Rattle.structural_fns.proofs.dyadic_transpose.transposed_shape.Goals as goal
+
+pub returns-then-rank-gt-MOST_AXES-clause-beyond : goal.returns-then-rank-gt-MOST_AXES-clause-beyond
+returns-then-rank-gt-MOST_AXES-clause-beyond c =
+    λ t.
+    let axes = axes_to c.args.axes.now in
+    let shape = c.args.lengths.now in
+    let long = length-map-range_with_len (λ j. least (lengths_at axes shape j)) 1 (greatest axes) in
+    too_many (transposed_shape axes shape) t (omega (arith, long, c.greatest-rank.ensures, c.if-rank-gt-MOST_AXES.true))
+
+pub loop-axis-preserved : goal.loop-axis-preserved
+loop-axis-preserved c =
+    let axes = axes_to c.args.axes.now in
+    let shape = c.args.lengths.now in
+    let k = c.loop-axis.axis in
+    let inv = c.loop-axis.invariant in
+    let more = range_more c.greatest-rank.result k (omega arith) in
+    let put : c.least_length.result ≡ least (lengths_at axes shape (k + 1)) = c.least_length.ensures in
+    record {
+      made = rw c.push_reserved.ensures.items (rw append_assoc (rw put (rw more at inv.made)));
+      long = rw c.push_reserved.ensures.items (rw length_push (omega arith));
+      inline = c.push_reserved.ensures.capacity ∙ inv.inline;
+    }

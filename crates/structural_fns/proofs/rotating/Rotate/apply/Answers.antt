@@ -1,8 +1,0 @@
-use Rattle.std.proofs.Common.{subst}
-use Rattle.arrays_core.specs.Arrays.{IsAnswerTo}
-use Rattle.index_region.proofs.Arguments.{whole_of_two}
-use Rattle.structural_fns.specs.Turns.{rotate_form, rotate_item}
-use Rattle.structural_fns.proofs.rotating.Rotate.apply.Goals as goal
-
-pub returns : goal.returns
-returns c = subst (λ w. IsAnswerTo w c.apply.result) (whole_of_two (rotate_form c.args.self.now.along) (rotate_item c.args.self.now.along) c.args.args.now c.requires) c.apply.ensures

@@ -1,0 +1,13 @@
+use Rattle.std.proofs.Common.{◌≡◌, true, rules, length, reverse, arith}
+use Rattle.std.proofs.lemmas.List.{length-reverse}
+use Rattle.arrays_core.specs.Shapes.{is_index_of}
+use Rattle.arrays_core.proofs.Shapes.{as_long}
+use Rattle.structural_fns.proofs.transpose.Transpose.source_of.Goals as goal
+
+pub from_last-at-requires : goal.from_last-at-requires
+from_last-at-requires c =
+    let axes = c.args.array.now.shape in
+    let inside : is_index_of (reverse axes) c.args.index.now ≡ true = search rules in
+    let long = as_long (reverse axes) c.args.index.now inside in
+    let same : length (reverse axes) ≡ length axes = length-reverse axes in
+    omega (arith, c.shape.ensures.sound.within.rank)

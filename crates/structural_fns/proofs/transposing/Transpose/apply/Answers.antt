@@ -1,8 +1,0 @@
-use Rattle.std.proofs.Common.{subst}
-use Rattle.arrays_core.specs.Arrays.{IsAnswerTo}
-use Rattle.index_region.proofs.Arguments.{whole_of_one}
-use Rattle.structural_fns.specs.Transposes.{transpose_form, transpose_item}
-use Rattle.structural_fns.proofs.transposing.Transpose.apply.Goals as goal
-
-pub returns : goal.returns
-returns c = subst (λ w. IsAnswerTo w c.apply.result) (whole_of_one transpose_form transpose_item c.args.args.now c.requires) c.apply.ensures

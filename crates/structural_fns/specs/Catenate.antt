@@ -1,0 +1,80 @@
+-- Catenate: two arrays after one another along an axis.
+use Rattle.std.specs.Prelude.{ℕ, suc, ◌+◌, ◌-◌, max, nat_eq, nat_le, Bool, not, ◌&&◌, ◌||◌, if◌then◌else◌, List, [], length, get_or, set, insert, remove, Some, Result, bytes_eq}
+use Rattle.arrays_core.specs.declared.item.Item.{Item}
+use Rattle.arrays_core.specs.declared.item.ItemType.{ItemType}
+use Rattle.arrays_core.specs.declared.item.Kind.{Kind}
+use Rattle.arrays_core.specs.declared.item.Kind.TheVariants.{Axis, Rank, Length, Domain}
+use Rattle.arrays_core.specs.Arrays.{ArrayValue}
+use Rattle.index_region.specs.declared.along.Along.{Along}
+use Rattle.index_region.specs.Checks.{check, Form, limited, whole}
+use Rattle.index_region.specs.Arguments.{is_scalar, has_items, is_of_numbers}
+use Rattle.index_region.specs.Axes.{is_axis, axis_at}
+use Rattle.index_region.specs.Sources.{Source, item_from}
+
+-- the result has the greater rank, and at least 1
+abbrev pub joined_rank : ArrayValue → ArrayValue → ℕ
+joined_rank a b = max 1 (max (length a.shape) (length b.shape))
+
+-- how many places a side takes along the axis
+abbrev pub joined_places : ℕ → ℕ → ArrayValue → ℕ
+joined_places rank axis a = if nat_eq (length a.shape) rank then get_or a.shape axis 0 else 1
+
+-- the other axes of a side; an array of one rank less has no axis to leave out
+abbrev pub other_axes : ℕ → ℕ → ArrayValue → List ℕ
+other_axes rank axis a = if nat_eq (length a.shape) rank then remove a.shape axis else a.shape
+
+abbrev pub ranks_join : ArrayValue → ArrayValue → Bool
+ranks_join a b =
+    (is_scalar a || is_scalar b) || (nat_le (length a.shape) (suc (length b.shape)) && nat_le (length b.shape) (suc (length a.shape)))
+
+abbrev pub axes_agree : ℕ → ℕ → ArrayValue → ArrayValue → Bool
+axes_agree rank axis a b = (is_scalar a || is_scalar b) || bytes_eq (other_axes rank axis a) (other_axes rank axis b)
+
+-- an array without items has no type of its own
+abbrev pub types_join : ArrayValue → ArrayValue → Bool
+types_join a b =
+    (not (has_items a) || not (has_items b)) || ((is_of_numbers a.item_type && is_of_numbers b.item_type)
+    || (not (is_of_numbers a.item_type) && not (is_of_numbers b.item_type)))
+
+-- that of the side that has items
+abbrev pub joined_type : ArrayValue → ArrayValue → ItemType
+joined_type a b = if not (has_items a) && has_items b then b.item_type else a.item_type
+
+abbrev pub joined_shape : ℕ → ℕ → ArrayValue → ArrayValue → List ℕ
+joined_shape rank axis a b =
+    insert (other_axes rank axis (if is_scalar a then b else a)) axis (joined_places rank axis a + joined_places rank axis b)
+
+-- the checks of two sides, and what follows them
+abbrev pub sides_checked : ℕ → ℕ → ArrayValue → ArrayValue → Result Form Kind → Result Form Kind
+sides_checked rank axis a b rest =
+    check (ranks_join a b) Rank
+    (check (axes_agree rank axis a b) Length
+    (check (types_join a b) Domain rest))
+
+abbrev pub catenate_form : Along → ArrayValue → ArrayValue → Result Form Kind
+catenate_form along a b =
+    let rank = joined_rank a b in
+    let axis = axis_at rank along in
+    check (is_axis rank along) Axis
+    (sides_checked rank axis a b
+    (limited (joined_shape rank axis a b) (joined_type a b)))
+
+-- a side's index list at place i along the axis; a scalar is repeated over the others
+abbrev pub in_side : ℕ → ℕ → ArrayValue → List ℕ → ℕ → List ℕ
+in_side rank axis a index i =
+    if is_scalar a then [] else (if nat_eq (length a.shape) rank then set index axis i else remove index axis)
+
+-- the first places along the axis are those of a
+abbrev pub catenate_source : Along → ArrayValue → ArrayValue → List ℕ → Source
+catenate_source along a b index =
+    let rank = joined_rank a b in
+    let axis = axis_at rank along in
+    let i = get_or index axis 0 in
+    let m = joined_places rank axis a in
+    if nat_le i m then Some (0, in_side rank axis a index i) else Some (1, in_side rank axis b index (i - m))
+
+abbrev pub catenate_item : Along → ArrayValue → ArrayValue → List ℕ → Result Item Kind
+catenate_item along a b index = item_from a b (joined_type a b) (catenate_source along a b index)
+
+abbrev pub catenate_whole : Along → ArrayValue → ArrayValue → Result ArrayValue Kind
+catenate_whole along a b = whole (catenate_form along a b) (catenate_item along a b)

@@ -1,0 +1,68 @@
+-- Dyadic transpose, A⍉B: axis i of b goes to axis A[i].
+use Rattle.std.specs.Prelude.{ℕ, ◌-◌, max, min, nat_eq, ℤ, pos, int_le, unsigned_abs, Bool, ◌&&◌, List, [], ◌∷◌, map, length, get_or, reverse, zip, Option, Some, None, Result}
+use Rattle.std.specs.List.{filter, list_all, list_any, range_with_len}
+use Rattle.arrays_core.specs.declared.item.Item.{Item}
+use Rattle.arrays_core.specs.declared.item.Kind.{Kind}
+use Rattle.arrays_core.specs.declared.item.Kind.TheVariants.{Rank, Length, Domain}
+use Rattle.arrays_core.specs.Arrays.{ArrayValue}
+use Rattle.index_region.specs.Checks.{check, Form, limited, whole}
+use Rattle.index_region.specs.Arguments.{is_list, counts_as_numbers, numbers}
+use Rattle.index_region.specs.Sources.{Source, item_from}
+
+-- the axes that the axes of b go to, counted from 1
+abbrev pub axes_to : ArrayValue → List ℕ
+axes_to a = map unsigned_abs (numbers a)
+
+abbrev pub greatest : List ℕ → ℕ
+greatest [] = 0
+greatest (n ∷ rest) = max n (greatest rest)
+
+abbrev pub least : List ℕ → ℕ
+least [] = 0
+least (n ∷ []) = n
+least (n ∷ m ∷ rest) = min n (least (m ∷ rest))
+
+abbrev pub all_positive : List ℤ → Bool
+all_positive zs = list_all (λ z. int_le (pos 1) z) zs
+
+abbrev pub occurs : List ℕ → ℕ → Bool
+occurs axes j = list_any (λ k. nat_eq k j) axes
+
+-- each axis from 1 to the greatest occurs
+abbrev pub are_axes : List ℤ → Bool
+are_axes zs =
+    let axes = map unsigned_abs zs in
+    all_positive zs && list_all (occurs axes) (range_with_len 1 (greatest axes))
+
+-- the lengths of the axes that go to axis j
+abbrev pub lengths_at : List ℕ → List ℕ → ℕ → List ℕ
+lengths_at axes shape j = map (λ p. p.1) (filter (λ p. nat_eq p.0 j) (zip axes shape))
+
+-- an axis that several go to has their least length
+abbrev pub transposed_shape : List ℕ → List ℕ → List ℕ
+transposed_shape axes shape = map (λ j. least (lengths_at axes shape j)) (range_with_len 1 (greatest axes))
+
+abbrev pub transpose_by_form : ArrayValue → ArrayValue → Result Form Kind
+transpose_by_form a b =
+    check (is_list a) Rank
+    (check (nat_eq (length a.items) (length b.shape)) Length
+    (check (counts_as_numbers a && are_axes (numbers a)) Domain
+    (limited (transposed_shape (axes_to a) b.shape) b.item_type)))
+
+-- the least of the lengths, with the least of those before them where there were any
+abbrev pub least_with : Option ℕ → List ℕ → ℕ
+least_with None lengths = least lengths
+least_with (Some n) lengths = least (n ∷ lengths)
+
+-- all axes that go to one take its index
+abbrev pub gathered : List ℕ → List ℕ → List ℕ
+gathered axes index = map (λ j. get_or index (j - 1) 0) axes
+
+abbrev pub transpose_by_source : ArrayValue → ArrayValue → List ℕ → Source
+transpose_by_source a b index = Some (1, gathered (axes_to a) index)
+
+abbrev pub transpose_by_item : ArrayValue → ArrayValue → List ℕ → Result Item Kind
+transpose_by_item a b index = item_from a b b.item_type (transpose_by_source a b index)
+
+abbrev pub transpose_by_whole : ArrayValue → ArrayValue → Result ArrayValue Kind
+transpose_by_whole a b = whole (transpose_by_form a b) (transpose_by_item a b)

@@ -1,0 +1,22 @@
+-- Ravel, ,B: the items in row-major order, as a vector.
+use Rattle.std.specs.Prelude.{ℕ, ◌-◌, ◌%◌, unsigned_abs, ◌&&◌, if◌then◌else◌, List, [], ◌∷◌, map, get_or, Some, None, Result}
+use Rattle.arrays_core.specs.declared.item.Item.{Item}
+use Rattle.arrays_core.specs.declared.item.Kind.{Kind}
+use Rattle.arrays_core.specs.declared.item.Kind.TheVariants.{Rank, Domain}
+use Rattle.arrays_core.specs.Arrays.{ArrayValue}
+use Rattle.arrays_core.specs.Shapes.{size, index_after, places_before}
+use Rattle.index_region.specs.Checks.{check, Form, limited, whole}
+use Rattle.index_region.specs.Arguments.{is_list, has_items, counts_as_numbers, numbers, none_negative}
+use Rattle.index_region.specs.Sources.{Source, item_from}
+
+abbrev pub ravel_form : ArrayValue → Result Form Kind
+ravel_form b = limited (size b.shape ∷ []) b.item_type
+
+abbrev pub ravel_source : ArrayValue → List ℕ → Source
+ravel_source b index = Some (0, index_after b.shape (get_or index 0 0 - 1))
+
+abbrev pub ravel_item : ArrayValue → List ℕ → Result Item Kind
+ravel_item b index = item_from b b b.item_type (ravel_source b index)
+
+abbrev pub ravel_whole : ArrayValue → Result ArrayValue Kind
+ravel_whole b = whole (ravel_form b) (ravel_item b)

@@ -1,0 +1,32 @@
+-- Reshape, A⍴B: the items in row-major order, again and again, under another shape.
+use Rattle.std.specs.Prelude.{ℕ, ◌-◌, ◌%◌, unsigned_abs, ◌&&◌, if◌then◌else◌, List, [], ◌∷◌, map, get_or, Some, None, Result}
+use Rattle.arrays_core.specs.declared.item.Item.{Item}
+use Rattle.arrays_core.specs.declared.item.Kind.{Kind}
+use Rattle.arrays_core.specs.declared.item.Kind.TheVariants.{Rank, Domain}
+use Rattle.arrays_core.specs.Arrays.{ArrayValue}
+use Rattle.arrays_core.specs.Shapes.{size, index_after, places_before}
+use Rattle.index_region.specs.Checks.{check, Form, limited, whole}
+use Rattle.index_region.specs.Arguments.{is_list, has_items, counts_as_numbers, numbers, none_negative}
+use Rattle.index_region.specs.Sources.{Source, item_from}
+
+-- the lengths of axes that an array of numbers asks for, whatever their signs
+abbrev pub magnitudes : ArrayValue → List ℕ
+magnitudes a = map unsigned_abs (numbers a)
+
+
+abbrev pub reshape_form : ArrayValue → ArrayValue → Result Form Kind
+reshape_form a b =
+    check (is_list a) Rank
+    (check (counts_as_numbers a && none_negative (numbers a)) Domain
+    (limited (magnitudes a) b.item_type))
+
+-- the ravel of b, again and again
+abbrev pub reshape_source : List ℕ → ArrayValue → List ℕ → Source
+reshape_source shape b index =
+    if has_items b then Some (1, index_after b.shape (places_before shape index % size b.shape)) else None
+
+abbrev pub reshape_item : ArrayValue → ArrayValue → List ℕ → Result Item Kind
+reshape_item a b index = item_from a b b.item_type (reshape_source (magnitudes a) b index)
+
+abbrev pub reshape_whole : ArrayValue → ArrayValue → Result ArrayValue Kind
+reshape_whole a b = whole (reshape_form a b) (reshape_item a b)

@@ -1,0 +1,27 @@
+-- Reverse, ⌽B along an axis: its places from the last to the first. A scalar's index list is empty, and so nothing is set.
+use Rattle.std.specs.Prelude.{ℕ, suc, ◌-◌, nat_eq, ℤ, pos, ◌+ℤ◌, ◌-ℤ◌, unsigned_abs, ◌||◌, List, length, get_or, set, remove, Some, Result, bytes_eq}
+use Rattle.arrays_core.specs.declared.item.Item.{Item}
+use Rattle.arrays_core.specs.declared.item.Kind.{Kind}
+use Rattle.arrays_core.specs.declared.item.Kind.TheVariants.{Axis, Rank, Length, Domain}
+use Rattle.arrays_core.specs.Arrays.{ArrayValue}
+use Rattle.scalar_fns.specs.ScalarExtension.{extended}
+use Rattle.scalar_fns.specs.Numbers.{residue}
+use Rattle.index_region.specs.declared.along.Along.{Along}
+use Rattle.index_region.specs.Checks.{check, Form, limited, whole}
+use Rattle.index_region.specs.Arguments.{has_one_item, counts_as_numbers, number_of}
+use Rattle.index_region.specs.Axes.{is_axis, axis_at, places_along}
+use Rattle.index_region.specs.Sources.{Source, item_from}
+
+abbrev pub reverse_form : Along → ArrayValue → Result Form Kind
+reverse_form along b = check (is_axis (length b.shape) along) Axis (limited b.shape b.item_type)
+
+abbrev pub reverse_source : Along → ArrayValue → List ℕ → Source
+reverse_source along b index =
+    let axis = axis_at (length b.shape) along in
+    Some (0, set index axis (suc (places_along b.shape axis) - get_or index axis 1))
+
+abbrev pub reverse_item : Along → ArrayValue → List ℕ → Result Item Kind
+reverse_item along b index = item_from b b b.item_type (reverse_source along b index)
+
+abbrev pub reverse_whole : Along → ArrayValue → Result ArrayValue Kind
+reverse_whole along b = whole (reverse_form along b) (reverse_item along b)

@@ -1,0 +1,46 @@
+-- Rotate, A⌽B along an axis: its places moved along it, and round its end.
+use Rattle.std.specs.Prelude.{ℕ, suc, ◌-◌, nat_eq, ℤ, pos, ◌+ℤ◌, ◌-ℤ◌, unsigned_abs, ◌||◌, List, length, get_or, set, remove, Some, Result, bytes_eq}
+use Rattle.arrays_core.specs.declared.item.Item.{Item}
+use Rattle.arrays_core.specs.declared.item.Kind.{Kind}
+use Rattle.arrays_core.specs.declared.item.Kind.TheVariants.{Axis, Rank, Length, Domain}
+use Rattle.arrays_core.specs.Arrays.{ArrayValue}
+use Rattle.scalar_fns.specs.ScalarExtension.{extended}
+use Rattle.scalar_fns.specs.Numbers.{residue}
+use Rattle.index_region.specs.declared.along.Along.{Along}
+use Rattle.index_region.specs.Checks.{check, Form, limited, whole}
+use Rattle.index_region.specs.Arguments.{has_one_item, counts_as_numbers, number_of}
+use Rattle.index_region.specs.Axes.{is_axis, axis_at, places_along}
+use Rattle.index_region.specs.Sources.{Source, item_from}
+
+-- one amount, or one for each line of a shape along an axis
+abbrev pub lines_checked : ℕ → ArrayValue → List ℕ → Result Form Kind → Result Form Kind
+lines_checked axis a shape rest =
+    check (has_one_item a || nat_eq (suc (length a.shape)) (length shape)) Rank
+    (check (has_one_item a || bytes_eq a.shape (remove shape axis)) Length rest)
+
+abbrev pub rotate_form : Along → ArrayValue → ArrayValue → Result Form Kind
+rotate_form along a b =
+    let axis = axis_at (length b.shape) along in
+    check (is_axis (length b.shape) along) Axis
+    (lines_checked axis a b.shape
+    (check (counts_as_numbers a) Domain
+    (limited b.shape b.item_type)))
+
+-- how far the line of an index list is rotated
+abbrev pub rotation : ℕ → ArrayValue → List ℕ → ℤ
+rotation axis a index = number_of (extended a (remove index axis))
+
+-- the place that comes to place i of n
+abbrev pub rotated_place : ℕ → ℤ → ℕ → ℕ
+rotated_place n amount i = suc (unsigned_abs (residue (pos n) ((pos i +ℤ amount) -ℤ pos 1)))
+
+abbrev pub rotate_source : Along → ArrayValue → ArrayValue → List ℕ → Source
+rotate_source along a b index =
+    let axis = axis_at (length b.shape) along in
+    Some (1, set index axis (rotated_place (places_along b.shape axis) (rotation axis a index) (get_or index axis 1)))
+
+abbrev pub rotate_item : Along → ArrayValue → ArrayValue → List ℕ → Result Item Kind
+rotate_item along a b index = item_from a b b.item_type (rotate_source along a b index)
+
+abbrev pub rotate_whole : Along → ArrayValue → ArrayValue → Result ArrayValue Kind
+rotate_whole along a b = whole (rotate_form along a b) (rotate_item along a b)

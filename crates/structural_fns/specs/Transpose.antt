@@ -1,0 +1,22 @@
+-- Transpose, ⍉B: the axes in reverse order.
+use Rattle.std.specs.Prelude.{ℕ, ◌-◌, max, min, nat_eq, ℤ, pos, int_le, unsigned_abs, Bool, ◌&&◌, List, [], ◌∷◌, map, length, get_or, reverse, zip, Option, Some, None, Result}
+use Rattle.std.specs.List.{filter, list_all, list_any, range_with_len}
+use Rattle.arrays_core.specs.declared.item.Item.{Item}
+use Rattle.arrays_core.specs.declared.item.Kind.{Kind}
+use Rattle.arrays_core.specs.declared.item.Kind.TheVariants.{Rank, Length, Domain}
+use Rattle.arrays_core.specs.Arrays.{ArrayValue}
+use Rattle.index_region.specs.Checks.{check, Form, limited, whole}
+use Rattle.index_region.specs.Arguments.{is_list, counts_as_numbers, numbers}
+use Rattle.index_region.specs.Sources.{Source, item_from}
+
+abbrev pub transpose_form : ArrayValue → Result Form Kind
+transpose_form b = limited (reverse b.shape) b.item_type
+
+abbrev pub transpose_source : ArrayValue → List ℕ → Source
+transpose_source b index = Some (0, reverse index)
+
+abbrev pub transpose_item : ArrayValue → List ℕ → Result Item Kind
+transpose_item b index = item_from b b b.item_type (transpose_source b index)
+
+abbrev pub transpose_whole : ArrayValue → Result ArrayValue Kind
+transpose_whole b = whole (transpose_form b) (transpose_item b)

@@ -1,0 +1,57 @@
+//! What take and drop share: a count for each axis.
+
+ghost use Rattle.std.specs.Prelude.{◌≡◌, ◌≤◌, All, IfOk, IfErr, List, ℕ, length};
+ghost use Rattle.index_region.specs.Checks.{limited};
+ghost use Rattle.structural_fns.specs.AxisCounts.{counted_shape as shape_counted, counted_form, uncounted as index_uncounted};
+
+use arrays_core::{Kind, Shape, shape_of};
+use index_region::Seen;
+
+/// The checks of the counts: RANK where they are neither a scalar nor a vector, LENGTH where they are
+/// not as many as the axes (a scalar takes any), DOMAIN where they are not numbers.
+pub(crate) fn check_counts(counts: &Seen, array: &Seen) -> Result<(), Kind>
+    ensures passed { IfOk result (λ _. (shape : List ℕ) → counted_form shape counts.now array.now ≡ limited shape array.now.item_type) }
+    ensures failed { IfErr result (λ kind. (shape : List ℕ) → counted_form shape counts.now array.now ≡ Err kind) }
+    ensures long { IfOk result (λ _. length counts.now.items ≡ length (shape_counted counts.now array.now)) }
+{
+    if counts.shape().len() > 1 {
+        return Err(Kind::Rank);
+    }
+    let rank = array.shape().len();
+    if rank > 0 && counts.places() as usize != rank {
+        return Err(Kind::Length);
+    }
+    if !counts.counts_as_numbers() {
+        return Err(Kind::Domain);
+    }
+    Ok(())
+}
+
+/// The shape that the counts speak of: a scalar has an axis of one place for each.
+pub(crate) fn counted_shape(counts: &Seen, array: &Seen) -> Shape
+    requires { length counts.now.items ≤ 4 }
+    ensures is { result.items ≡ shape_counted counts.now array.now }
+    ensures within { All (λ n. n ≤ 1048576) result.items }
+    ensures inline { result.capacity ≡ 4 }
+{
+    let shape = array.shape();
+    let alloc = *shape.allocator();
+    if shape.is_empty() {
+        let ones = [1; 4];
+        shape_of(alloc, &ones[..counts.places() as usize])
+    } else {
+        shape_of(alloc, shape.as_slice())
+    }
+}
+
+/// The index list of the array itself, of one of the counted shape.
+pub(crate) fn uncounted(array: &Seen, index: Shape) -> Shape
+    ensures { result.items ≡ index_uncounted array.now index.items }
+{
+    let shape = array.shape();
+    if shape.is_empty() {
+        shape_of(*shape.allocator(), &[])
+    } else {
+        index
+    }
+}

@@ -1,0 +1,291 @@
+//! Catenate: two arrays after one another along an axis.
+
+ghost use Rattle.std.specs.Prelude.{◌≡◌, ◌≤◌, ◌<◌, ◌+◌, ◌++◌, ◌↔◌, IfOk, Err, IfErr, IsTrue, Result, true, if◌then◌else◌, length, unwrap_or};
+ghost use Rattle.arrays_core.specs.declared.item.Kind.{Kind as AKind};
+ghost use Rattle.arrays_core.specs.Arrays.{IsAnswerTo, IsArray, item_if_there};
+ghost use Rattle.arrays_core.specs.Items.{fill, type_of};
+ghost use Rattle.arrays_core.specs.Shapes.{size, IsWithinLimits};
+ghost use Rattle.index_region.specs.Checks.{Form};
+ghost use Rattle.index_region.specs.Arguments.{has_items, is_scalar};
+ghost use Rattle.index_region.specs.ArgumentLists.{of_two};
+ghost use Rattle.index_region.specs.Answers.{IsPlaceOf, source_value};
+ghost use Rattle.structural_fns.specs.Catenate.{joined_rank as rank_joined, joined_places as places_joined, other_axes as axes_other, ranks_join as do_ranks_join, axes_agree as do_axes_agree, types_join as do_types_join, joined_type as type_joined, joined_shape as shape_joined, sides_checked, in_side as index_in_side, catenate_form, catenate_source, catenate_item, catenate_whole};
+
+use arrays_core::{
+    ApplyFault, Array, Item, ItemType, Kind, Shape, shape_of, with_axis, without_axis,
+};
+use index_region::{Along, Primitive, Seen, Source, apply, limited};
+use std::alloc::{AllocError, Global};
+
+/// The rank of the result: the greater one, and at least 1.
+fn joined_rank(left: &Seen, right: &Seen) -> usize
+    ensures is { result ≡ rank_joined left.now right.now }
+    ensures low { 1 ≤ result }
+    ensures high { result ≤ 4 }
+{
+    let rank = left.shape().len().max(right.shape().len());
+    rank.max(1)
+}
+
+/// How many places a side takes along the axis.
+fn joined_places(side: &Seen, rank: usize, axis: usize) -> u32
+    requires { axis < rank }
+    ensures is { result ≡ places_joined rank axis side.now }
+    ensures within { result ≤ 1048576 }
+{
+    let axes = side.shape().as_slice();
+    if axes.len() == rank { axes[axis] } else { 1 }
+}
+
+/// The other axes of a side; an array of one rank less has no axis to leave out.
+fn other_axes(side: &Seen, rank: usize, axis: usize) -> Shape
+    requires { axis < rank }
+    ensures is { result.items ≡ axes_other rank axis side.now }
+    ensures inline { result.capacity ≡ 4 }
+{
+    let shape = side.shape();
+    let alloc = *shape.allocator();
+    if shape.len() == rank {
+        without_axis(alloc, shape.as_slice(), axis)
+    } else {
+        shape_of(alloc, shape.as_slice())
+    }
+}
+
+/// A scalar joins any array; else the ranks differ by at most 1.
+fn ranks_join(left: &Seen, right: &Seen) -> bool
+    ensures { result ≡ do_ranks_join left.now right.now }
+{
+    let (left, right) = (left.shape().len(), right.shape().len());
+    if left == 0 || right == 0 {
+        return true;
+    }
+    left <= right + 1 && right <= left + 1
+}
+
+/// A scalar is repeated over the other axes; else these are the same.
+fn axes_agree(left: &Seen, right: &Seen, rank: usize, axis: usize) -> bool
+    requires { axis < rank }
+    ensures { result ≡ do_axes_agree rank axis left.now right.now }
+{
+    if left.shape().is_empty() || right.shape().is_empty() {
+        return true;
+    }
+    let others = other_axes(left, rank, axis);
+    others.as_slice() == other_axes(right, rank, axis).as_slice()
+}
+
+/// The types are the same, or one side is without items.
+fn types_join(left: &Seen, right: &Seen) -> bool
+    ensures { result ≡ do_types_join left.now right.now }
+{
+    if left.places() == 0 || right.places() == 0 {
+        return true;
+    }
+    left.item_type() == right.item_type()
+}
+
+/// The type of the side that has items; with none, the left one's.
+fn joined_type(left: &Seen, right: &Seen) -> ItemType
+    ensures { result ≡ type_joined left.now right.now }
+{
+    if left.places() == 0 && right.places() > 0 {
+        right.item_type()
+    } else {
+        left.item_type()
+    }
+}
+
+/// The checks of two sides: RANK, LENGTH and DOMAIN.
+fn check_sides(left: &Seen, right: &Seen, rank: usize, axis: usize) -> Result<(), Kind>
+    requires { axis < rank }
+    ensures passed { IfOk result (λ _. (rest : Result Form AKind) → sides_checked rank axis left.now right.now rest ≡ rest) }
+    ensures failed { IfErr result (λ kind. (rest : Result Form AKind) → sides_checked rank axis left.now right.now rest ≡ Err kind) }
+    ensures ranks { IfOk result (λ _. IsTrue (do_ranks_join left.now right.now)) }
+{
+    if !ranks_join(left, right) {
+        return Err(Kind::Rank);
+    }
+    if !axes_agree(left, right, rank, axis) {
+        return Err(Kind::Length);
+    }
+    if !types_join(left, right) {
+        return Err(Kind::Domain);
+    }
+    Ok(())
+}
+
+/// The other axes, of the side that is no scalar where one is.
+fn shared_axes(left: &Seen, right: &Seen, rank: usize, axis: usize) -> Shape
+    requires { axis < rank }
+    ensures is { result.items ≡ axes_other rank axis (if is_scalar left.now then right.now else left.now) }
+    ensures inline { result.capacity ≡ 4 }
+{
+    if left.shape().is_empty() {
+        other_axes(right, rank, axis)
+    } else {
+        other_axes(left, rank, axis)
+    }
+}
+
+/// The shape of the result.
+fn joined_shape(left: &Seen, right: &Seen, rank: usize, axis: usize) -> Shape
+    requires there { axis < rank }
+    requires greatest { rank ≡ rank_joined left.now right.now }
+    requires high { rank ≤ 4 }
+    requires ranks { IsTrue (do_ranks_join left.now right.now) }
+    ensures is { result.items ≡ shape_joined rank axis left.now right.now }
+    ensures inline { result.capacity ≡ 4 }
+{
+    let places = joined_places(left, rank, axis) + joined_places(right, rank, axis);
+    let others = shared_axes(left, right, rank, axis);
+    with_axis(*left.shape().allocator(), others.as_slice(), axis, places)
+}
+
+/// A side's index list at place i along the axis; a scalar is repeated over the others.
+fn in_side(side: &Seen, rank: usize, axis: usize, index: &[u32], i: u32) -> Shape
+    requires there { axis < rank }
+    requires long { length index.now ≡ rank }
+    requires high { rank ≤ 4 }
+    ensures { result.items ≡ index_in_side rank axis side.now index.now i }
+{
+    let shape = side.shape();
+    let alloc = *shape.allocator();
+    if shape.is_empty() {
+        return shape_of(alloc, &[]);
+    }
+    if shape.len() != rank {
+        return without_axis(alloc, index, axis);
+    }
+    let mut at = shape_of(alloc, index);
+    at[axis] = i;
+    at
+}
+
+/// The item of a side at an index list, or fill.
+fn item_of_side(side: &Seen, at: &[u32], item_type: ItemType) -> Item
+    requires { has_items side.now ≡ true → side.now.item_type ≡ item_type }
+    ensures is { result ≡ unwrap_or (item_if_there side.now at.now) (fill item_type) }
+    ensures typed { type_of result ≡ item_type }
+{
+    if side.places() == 0 {
+        return item_type.fill();
+    }
+    match side.at(at) {
+        Some(item) => item,
+        None => item_type.fill(),
+    }
+}
+
+/// A side is taken once, item by item in row-major order: no scalar is repeated over other axes.
+fn is_run(side: &Seen, rank: usize) -> bool
+    ensures is { IsTrue result ↔ (is_scalar side.now ≡ true → rank ≡ 1) }
+    ensures sound { IsArray side.now }
+{
+    !side.shape().is_empty() || rank == 1
+}
+
+/// The items of both sides, one behind the other.
+fn joined_runs(left: &Seen, right: &Seen, shape: &Shape) -> Result<Array, AllocError>
+    requires within { IsWithinLimits shape.now.items }
+    requires one_item_a_place { length left.now.items + length right.now.items ≡ size shape.now.items }
+    requires types { IsTrue (do_types_join left.now right.now) }
+    ensures { IfOk result (λ a. a ≡ record {
+      item_type = type_joined left.now right.now;
+      shape = shape.now.items;
+      items = left.now.items ++ right.now.items;
+    }) }
+{
+    if right.places() == 0 {
+        return left.part(0, shape);
+    }
+    if left.places() == 0 {
+        return right.part(0, shape);
+    }
+    left.joined(right, shape)
+}
+
+/// Catenate, `A,B` and `A⍪B` (ISO/IEC 13751, "Join along an axis"): the places of A along the axis, and
+/// then those of B. A scalar beside an array, and an array of one rank less, are one place along the
+/// axis, a scalar repeated over the others; two scalars make a vector. The type is that of the side that
+/// has items. AXIS where the axis is not one of the greater rank, RANK where ranks differ by more than
+/// 1, LENGTH where other axes differ, DOMAIN where types differ, LIMIT beyond the limits of arrays.
+#[derive(Clone, Copy, PartialEq, Eq, Debug)]
+pub struct Catenate {
+    pub along: Along,
+}
+
+impl Catenate {
+    /// Where the item at an index list of the result comes from. It takes no memory.
+    pub fn source_of(self, left: &Seen, right: &Seen, index: &[u32]) -> Source
+        requires { IsPlaceOf (catenate_form self.along left.now right.now) index.now }
+        ensures { source_value result ≡ catenate_source self.along left.now right.now index.now }
+    {
+        let rank = joined_rank(left, right);
+        let axis = self.along.axis_at(rank as u32);
+        let i = index[axis];
+        let places = joined_places(left, rank, axis);
+        if i <= places {
+            let at = in_side(left, rank, axis, index, i);
+            return Source::Place { arg: 0, at };
+        }
+        let at = in_side(right, rank, axis, index, i - places);
+        Source::Place { arg: 1, at }
+    }
+
+    /// The array of both sides. Along the first axis the items of each side are copied in one run,
+    /// unless one of them is a scalar beside a matrix or more.
+    pub fn apply(&self, alloc: Global, args: &[Seen]) -> Result<Array, ApplyFault>
+        requires { length args.now ≡ 2 }
+        ensures { IsAnswerTo (of_two (catenate_whole self.now.along) args.now) result }
+    {
+        let (shape, _) = self.shape_of(args)?;
+        let (left, right) = (&args[0], &args[1]);
+        let rank = joined_rank(left, right);
+        let axis = self.along.axis_at(rank as u32);
+        if axis == 0 && is_run(left, rank) && is_run(right, rank) {
+            let runs = joined_runs(left, right, &shape)?;
+            return Ok(runs);
+        }
+        apply(alloc, self, args)
+    }
+}
+
+impl Primitive for Catenate {
+    ghost arity = { λ _. 2 };
+
+    ghost form = { λ r args. of_two (catenate_form r.along) args };
+
+    ghost item = { λ r args index. of_two (λ a b. catenate_item r.along a b index) args };
+
+    fn shape_of(&self, args: &[Seen]) -> Result<(Shape, ItemType), Kind> {
+        let left = &args[0];
+        let right = &args[1];
+        let rank = joined_rank(left, right);
+        if !self.along.is_axis(rank as u32) {
+            return Err(Kind::Axis);
+        }
+        let axis = self.along.axis_at(rank as u32);
+        check_sides(left, right, rank, axis)?;
+        limited(
+            joined_shape(left, right, rank, axis),
+            joined_type(left, right),
+        )
+    }
+
+    fn item_at(&self, args: &[Seen], index: &[u32]) -> Result<Item, Kind> {
+        let left = &args[0];
+        let right = &args[1];
+        let item_type = joined_type(left, right);
+        match self.source_of(left, right, index) {
+            Source::Place { arg, at } => {
+                if arg == 0 {
+                    Ok(item_of_side(left, at.as_slice(), item_type))
+                } else {
+                    Ok(item_of_side(right, at.as_slice(), item_type))
+                }
+            }
+            Source::Fill => Ok(item_type.fill()),
+        }
+    }
+}

@@ -1,0 +1,135 @@
+//! Drop: all but so many places of each axis.
+
+ghost use Rattle.std.specs.Prelude.{◌≡◌, ◌≤◌, ◌+◌, ℤ, pos, unsigned_abs, IsTrue, IfOk, Ok, All, length};
+ghost use Rattle.arrays_core.specs.Arrays.{IsAnswerTo, IsArray};
+ghost use Rattle.arrays_core.specs.Shapes.{IsWithinLimits, is_index_of as is_below};
+ghost use Rattle.index_region.specs.ArgumentLists.{of_two};
+ghost use Rattle.index_region.specs.Arguments.{numbers};
+ghost use Rattle.index_region.specs.Answers.{IsPlaceOf, source_value};
+ghost use Rattle.structural_fns.specs.AxisCounts.{counted_shape as shape_counted};
+ghost use Rattle.structural_fns.specs.Drop.{drop_form, drop_source, drop_item, drop_whole, dropped_shape as shape_dropped, kept_place as place_kept, kept_places as places_kept};
+
+use crate::axis_counts::{check_counts, counted_shape, uncounted};
+use arrays_core::{ApplyFault, Array, Item, ItemType, Kind, Shape, size};
+use index_region::{Primitive, Seen, Source, apply, item_from, limited};
+use smallvec::SmallVec;
+use std::alloc::{AllocError, Global};
+
+const MOST_AXES: u32 = 4;
+
+/// The lengths that are left of the axes.
+fn dropped_shape(counts: &Seen, axes: &[u32]) -> Shape
+    requires long { length counts.now.items ≡ length axes.now }
+    requires rank { length axes.now ≤ 4 }
+    ensures is { result.items ≡ shape_dropped axes.now (numbers counts.now) }
+    ensures inline { result.capacity ≡ 4 }
+{
+    let mut shape = SmallVec::new(*counts.shape().allocator());
+    for k in 0..axes.len() {
+        let count = counts.number(k as u32 + 1).unsigned_abs();
+        let left = u64::from(axes[k]).saturating_sub(count);
+        shape.push_reserved(left as u32);
+    }
+    shape
+}
+
+/// Where a place of what is left of an axis stands on the axis.
+fn kept_place(count: i64, i: u32) -> u32
+    requires { i + unsigned_abs count ≤ 1048576 }
+    ensures { result ≡ place_kept count i }
+{
+    if count >= 0 {
+        i + count.unsigned_abs() as u32
+    } else {
+        i
+    }
+}
+
+/// The places of an index list of what is left on each axis.
+fn kept_places(counts: &Seen, array: &Seen, index: &[u32]) -> Shape
+    requires long { length counts.now.items ≡ length (shape_counted counts.now array.now) }
+    requires within { IsWithinLimits (shape_dropped (shape_counted counts.now array.now) (numbers counts.now)) }
+    requires inside { IsTrue (is_below (shape_dropped (shape_counted counts.now array.now) (numbers counts.now)) index.now) }
+    ensures is { result.items ≡ places_kept (numbers counts.now) index.now }
+    ensures inline { result.capacity ≡ 4 }
+{
+    let mut places = SmallVec::new(*array.shape().allocator());
+    for k in 0..counts.places() {
+        let count = counts.number(k + 1);
+        places.push_reserved(kept_place(count, index[k as usize]));
+    }
+    places
+}
+
+/// The places of a vector that are left.
+fn kept_run(counts: &Seen, vector: &Seen, shape: &Shape) -> Result<Array, AllocError>
+    requires form { drop_form counts.now vector.now ≡ Ok (shape.now.items, vector.now.item_type) }
+    requires one_axis { length vector.now.shape ≡ 1 }
+    requires sound { IsArray vector.now }
+    ensures { IfOk result (λ a. drop_whole counts.now vector.now ≡ Ok a) }
+{
+    let kept = size(shape.as_slice());
+    if kept == 0 {
+        return vector.part(0, shape);
+    }
+    let first = kept_place(counts.number(1), 1);
+    vector.part(first - 1, shape)
+}
+
+/// Drop, `A↓B` (ISO/IEC 13751, "Drop"): a positive count leaves out the first places of its axis, a
+/// negative one the last; no length is below 0. A scalar B has as many axes of one place as A has
+/// counts. RANK where A is neither a scalar nor a vector, LENGTH where it has not a count for each
+/// axis, DOMAIN where it is not of numbers, LIMIT beyond the limits of arrays.
+#[derive(Clone, Copy, PartialEq, Eq, Debug)]
+pub struct DropPlaces;
+
+impl DropPlaces {
+    /// Where the item at an index list of the result comes from. It takes no memory.
+    pub fn source_of(self, counts: &Seen, array: &Seen, index: &[u32]) -> Source
+        requires { IsPlaceOf (drop_form counts.now array.now) index.now }
+        ensures { source_value result ≡ drop_source counts.now array.now index.now }
+    {
+        let at = uncounted(array, kept_places(counts, array, index));
+        Source::Place { arg: 1, at }
+    }
+
+    /// The array of the places that are left. Those of a vector are copied in one run.
+    pub fn apply(&self, alloc: Global, args: &[Seen]) -> Result<Array, ApplyFault>
+        requires { length args.now ≡ 2 }
+        ensures { IsAnswerTo (of_two drop_whole args.now) result }
+    {
+        let (shape, _) = self.shape_of(args)?;
+        let array = &args[1];
+        if array.shape().len() == 1 {
+            let run = kept_run(&args[0], array, &shape)?;
+            return Ok(run);
+        }
+        apply(alloc, self, args)
+    }
+}
+
+impl Primitive for DropPlaces {
+    ghost arity = { λ _. 2 };
+
+    ghost form = { λ _ args. of_two drop_form args };
+
+    ghost item = { λ _ args index. of_two (λ a b. drop_item a b index) args };
+
+    fn shape_of(&self, args: &[Seen]) -> Result<(Shape, ItemType), Kind> {
+        let counts = &args[0];
+        let array = &args[1];
+        check_counts(counts, array)?;
+        if counts.places() > MOST_AXES {
+            return Err(Kind::Limit);
+        }
+        let axes = counted_shape(counts, array);
+        limited(dropped_shape(counts, axes.as_slice()), array.item_type())
+    }
+
+    fn item_at(&self, args: &[Seen], index: &[u32]) -> Result<Item, Kind> {
+        let counts = &args[0];
+        let array = &args[1];
+        let source = self.source_of(counts, array, index);
+        Ok(item_from(array, array, array.item_type(), source))
+    }
+}

@@ -1,0 +1,196 @@
+//! Dyadic transpose: each axis goes to the axis that is named for it.
+
+ghost use Rattle.std.specs.Prelude.{◌≡◌, ◌≤◌, ◌<◌, get_or, List, ℕ, Option, Some, None, IfOk, IfErr, Err, if◌then◌else◌, ◌∷◌, length};
+ghost use Rattle.arrays_core.specs.declared.item.ItemType.{ItemType as AType};
+ghost use Rattle.arrays_core.specs.Arrays.{IsAnswerTo};
+ghost use Rattle.index_region.specs.ArgumentLists.{of_two};
+ghost use Rattle.index_region.specs.Arguments.{numbers};
+ghost use Rattle.index_region.specs.Answers.{IsPlaceOf, IsFormAnswerTo, source_value};
+ghost use Rattle.structural_fns.specs.DyadicTranspose.{axes_to, greatest as greatest_of, least as least_of, all_positive as positive_all, occurs as does_occur, are_axes as do_name_axes, lengths_at, transposed_shape as shape_transposed, gathered as index_gathered, least_with, transpose_by_form, transpose_by_source, transpose_by_item, transpose_by_whole};
+ghost use Rattle.index_region.specs.Checks.{limited as limited_form};
+
+use arrays_core::{ApplyFault, Array, Item, ItemType, Kind, Shape};
+use index_region::{Primitive, Seen, Source, apply, item_from, limited};
+use smallvec::SmallVec;
+use std::alloc::Global;
+
+const MOST_AXES: u64 = 4;
+
+/// No entry is below 1.
+fn all_positive(axes: &Seen) -> bool
+    ensures { result ≡ positive_all (numbers axes.now) }
+{
+    for place in 0..axes.places() {
+        if axes.number(place + 1) < 1 {
+            return false;
+        }
+    }
+    true
+}
+
+/// The magnitude of an entry.
+fn entry(axes: &Seen, place: u32) -> u64
+    requires there { place < length axes.now.items }
+    requires within { length axes.now.items ≤ 1048576 }
+    ensures is { result ≡ get_or (axes_to axes.now) place 0 }
+    ensures there { place < length (axes_to axes.now) }
+{
+    axes.number(place + 1).unsigned_abs()
+}
+
+/// The greatest entry.
+fn greatest(axes: &Seen) -> u64
+    ensures { result ≡ greatest_of (axes_to axes.now) }
+{
+    let mut greatest = 0;
+    for place in 0..axes.places() {
+        greatest = entry(axes, place).max(greatest);
+    }
+    greatest
+}
+
+/// An entry names the axis.
+fn occurs(axes: &Seen, axis: u64) -> bool
+    ensures { result ≡ does_occur (axes_to axes.now) axis }
+{
+    for place in 0..axes.places() {
+        if entry(axes, place) == axis {
+            return true;
+        }
+    }
+    false
+}
+
+/// No entry is below 1, and each axis from 1 to the greatest entry is named. The walk ends at the first
+/// axis that is not, so it takes at most one turn more than there are entries.
+fn are_axes(axes: &Seen) -> bool
+    ensures { result ≡ do_name_axes (numbers axes.now) }
+{
+    if !all_positive(axes) {
+        return false;
+    }
+    for axis in 0..greatest(axes) {
+        if !occurs(axes, axis + 1) {
+            return false;
+        }
+    }
+    true
+}
+
+/// The lesser of the least length so far and one more, where the axis goes there.
+fn lesser(least: Option<u32>, goes: bool, length: u32) -> Option<u32>
+    ensures { (rest : List ℕ) → least_with result rest ≡ least_with least (if goes then length ∷ rest else rest) }
+{
+    if !goes {
+        return least;
+    }
+    match least {
+        None => Some(length),
+        Some(least) => Some(least.min(length)),
+    }
+}
+
+/// The least length of the axes that go to an axis.
+fn least_length(axes: &Seen, lengths: &[u32], axis: u64) -> u32
+    requires { length lengths.now ≡ length axes.now.items }
+    ensures { result ≡ least_of (lengths_at (axes_to axes.now) lengths.now axis) }
+{
+    let mut least = None;
+    for place in 0..axes.places() {
+        let goes = entry(axes, place) == axis;
+        least = lesser(least, goes, lengths[place as usize]);
+    }
+    least.unwrap_or(0)
+}
+
+/// The shape of the result, or LIMIT where it has more axes than an array may have.
+fn transposed_shape(axes: &Seen, lengths: &[u32]) -> Result<Shape, Kind>
+    requires { length lengths.now ≡ length axes.now.items }
+    ensures is { IfOk result (λ shape. shape.items ≡ shape_transposed (axes_to axes.now) lengths.now) }
+    ensures inline { IfOk result (λ shape. shape.capacity ≡ 4) }
+    ensures beyond { IfErr result (λ kind. (t : AType) → limited_form (shape_transposed (axes_to axes.now) lengths.now) t ≡ Err kind) }
+{
+    let rank = greatest(axes);
+    if rank > MOST_AXES {
+        return Err(Kind::Limit);
+    }
+    let mut shape = SmallVec::new(*axes.shape().allocator());
+    for axis in 0..rank {
+        shape.push_reserved(least_length(axes, lengths, axis + 1));
+    }
+    Ok(shape)
+}
+
+/// The index of each axis: that of the axis that it goes to.
+fn gathered(alloc: Global, axes: &Seen, index: &[u32]) -> Shape
+    requires { length axes.now.items ≤ 4 }
+    ensures is { result.items ≡ index_gathered (axes_to axes.now) index.now }
+    ensures inline { result.capacity ≡ 4 }
+{
+    let mut at = SmallVec::new(alloc);
+    for place in 0..axes.places() {
+        let axis = entry(axes, place).saturating_sub(1);
+        at.push_reserved(index.get(axis as usize).copied().unwrap_or(0));
+    }
+    at
+}
+
+/// Dyadic transpose, `A⍉B` (ISO/IEC 13751, "Dyadic transpose"): axis i of B goes to axis A[i]; an axis
+/// that several go to has their least length, and all take its index. RANK where A is neither a scalar
+/// nor a vector, LENGTH where it has not an entry for each axis, DOMAIN where it is not of numbers, an
+/// entry is below 1, or an axis up to the greatest entry is not named.
+#[derive(Clone, Copy, PartialEq, Eq, Debug)]
+pub struct DyadicTranspose;
+
+impl DyadicTranspose {
+    /// Where the item at an index list of the result comes from. It takes no memory.
+    pub fn source_of(self, axes: &Seen, array: &Seen, index: &[u32]) -> Source
+        requires { IsPlaceOf (transpose_by_form axes.now array.now) index.now }
+        ensures { source_value result ≡ transpose_by_source axes.now array.now index.now }
+    {
+        let at = gathered(*array.shape().allocator(), axes, index);
+        Source::Place { arg: 1, at }
+    }
+
+    /// The array whose axes have gone to those that are named.
+    pub fn apply(&self, alloc: Global, args: &[Seen]) -> Result<Array, ApplyFault>
+        requires { length args.now ≡ 2 }
+        ensures { IsAnswerTo (of_two transpose_by_whole args.now) result }
+    {
+        apply(alloc, self, args)
+    }
+}
+
+impl Primitive for DyadicTranspose {
+    ghost arity = { λ _. 2 };
+
+    ghost form = { λ _ args. of_two transpose_by_form args };
+
+    ghost item = { λ _ args index. of_two (λ a b. transpose_by_item a b index) args };
+
+    fn shape_of(&self, args: &[Seen]) -> Result<(Shape, ItemType), Kind> {
+        let axes = &args[0];
+        let array = &args[1];
+        if axes.shape().len() > 1 {
+            return Err(Kind::Rank);
+        }
+        let lengths = array.shape().as_slice();
+        if axes.places() as usize != lengths.len() {
+            return Err(Kind::Length);
+        }
+        if !axes.counts_as_numbers() {
+            return Err(Kind::Domain);
+        }
+        if !are_axes(axes) {
+            return Err(Kind::Domain);
+        }
+        limited(transposed_shape(axes, lengths)?, array.item_type())
+    }
+
+    fn item_at(&self, args: &[Seen], index: &[u32]) -> Result<Item, Kind> {
+        let axes = &args[0];
+        let array = &args[1];
+        let source = self.source_of(axes, array, index);
+        Ok(item_from(array, array, array.item_type(), source))
+    }
+}

@@ -1,0 +1,58 @@
+//! Ravel: the items as a vector.
+
+ghost use Rattle.std.specs.Prelude.{◌≡◌, length};
+ghost use Rattle.arrays_core.specs.Arrays.{IsAnswerTo};
+ghost use Rattle.index_region.specs.ArgumentLists.{of_one};
+ghost use Rattle.index_region.specs.Answers.{IsPlaceOf, source_value};
+ghost use Rattle.structural_fns.specs.Ravel.{ravel_form, ravel_source, ravel_item, ravel_whole};
+
+use arrays_core::{ApplyFault, Array, Item, ItemType, Kind, Shape, index_of_position, shape_of};
+use index_region::{Primitive, Seen, Source, item_from, limited};
+use std::alloc::Global;
+
+/// Ravel, `,B` (ISO/IEC 13751, "Ravel"): the items in row-major order as a vector. A scalar becomes a
+/// vector of one item.
+#[derive(Clone, Copy, PartialEq, Eq, Debug)]
+pub struct Ravel;
+
+impl Ravel {
+    /// Where the item at an index list of the result comes from. It takes no memory.
+    pub fn source_of(self, array: &Seen, index: &[u32]) -> Source
+        requires { IsPlaceOf (ravel_form array.now) index.now }
+        ensures { source_value result ≡ ravel_source array.now index.now }
+    {
+        let at = index_of_position(array.shape(), index[0]);
+        Source::Place { arg: 0, at }
+    }
+
+    /// The vector of the items. They are copied in one run.
+    pub fn apply(&self, alloc: Global, args: &[Seen]) -> Result<Array, ApplyFault>
+        requires { length args.now ≡ 1 }
+        ensures { IsAnswerTo (of_one ravel_whole args.now) result }
+    {
+        let array = &args[0];
+        let (shape, _) = limited(shape_of(alloc, &[array.places()]), array.item_type())?;
+        let vector = array.part(0, &shape)?;
+        Ok(vector)
+    }
+}
+
+impl Primitive for Ravel {
+    ghost arity = { λ _. 1 };
+
+    ghost form = { λ _ args. of_one ravel_form args };
+
+    ghost item = { λ _ args index. of_one (λ b. ravel_item b index) args };
+
+    fn shape_of(&self, args: &[Seen]) -> Result<(Shape, ItemType), Kind> {
+        let array = &args[0];
+        let alloc = *array.shape().allocator();
+        limited(shape_of(alloc, &[array.places()]), array.item_type())
+    }
+
+    fn item_at(&self, args: &[Seen], index: &[u32]) -> Result<Item, Kind> {
+        let array = &args[0];
+        let source = self.source_of(array, index);
+        Ok(item_from(array, array, array.item_type(), source))
+    }
+}

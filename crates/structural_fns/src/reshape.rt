@@ -1,0 +1,83 @@
+//! Reshape: the ravel again and again, under another shape.
+
+ghost use Rattle.std.specs.Prelude.{◌≡◌, length};
+ghost use Rattle.arrays_core.specs.Arrays.{IsAnswerTo};
+ghost use Rattle.index_region.specs.ArgumentLists.{of_two};
+ghost use Rattle.index_region.specs.Answers.{IsPlaceOf, source_value};
+ghost use Rattle.structural_fns.specs.Reshape.{magnitudes as magnitudes_of, reshape_form, reshape_source, reshape_item, reshape_whole};
+
+use crate::magnitudes::magnitudes;
+use arrays_core::{
+    ApplyFault, Array, Item, ItemType, Kind, Shape, index_of_position, position, size,
+};
+use index_region::{Primitive, Seen, Source, apply, item_from, limited};
+use std::alloc::Global;
+
+/// Reshape, `A⍴B` (ISO/IEC 13751, "Reshape"): an array of shape A whose items are those of B in
+/// row-major order, again and again; fill where B has none. RANK where A is neither a scalar nor a
+/// vector; DOMAIN where it is not of numbers, or one is negative; LIMIT beyond the limits of arrays.
+#[derive(Clone, Copy, PartialEq, Eq, Debug)]
+pub struct Reshape;
+
+impl Reshape {
+    /// Where the item at an index list of the result comes from. It takes no memory.
+    pub fn source_of(self, counts: &Seen, array: &Seen, index: &[u32]) -> Source
+        requires { IsPlaceOf (reshape_form counts.now array.now) index.now }
+        ensures { source_value result ≡ reshape_source (magnitudes_of counts.now) array.now index.now }
+    {
+        let places = array.places();
+        if places == 0 {
+            return Source::Fill;
+        }
+        let Ok(axes) = magnitudes(counts) else {
+            return Source::Fill;
+        };
+        let before = position(&axes, index) - 1;
+        let at = index_of_position(array.shape(), before % places + 1);
+        Source::Place { arg: 1, at }
+    }
+
+    /// The array of the shape that the left argument says. Where no item is needed twice they are copied in one run.
+    pub fn apply(&self, alloc: Global, args: &[Seen]) -> Result<Array, ApplyFault>
+        requires { length args.now ≡ 2 }
+        ensures { IsAnswerTo (of_two reshape_whole args.now) result }
+    {
+        let (shape, _) = self.shape_of(args)?;
+        let array = &args[1];
+        if size(shape.as_slice()) <= array.places() {
+            let begin = array.part(0, &shape)?;
+            return Ok(begin);
+        }
+        apply(alloc, self, args)
+    }
+}
+
+impl Primitive for Reshape {
+    ghost arity = { λ _. 2 };
+
+    ghost form = { λ _ args. of_two reshape_form args };
+
+    ghost item = { λ _ args index. of_two (λ a b. reshape_item a b index) args };
+
+    fn shape_of(&self, args: &[Seen]) -> Result<(Shape, ItemType), Kind> {
+        let counts = &args[0];
+        let array = &args[1];
+        if counts.shape().len() > 1 {
+            return Err(Kind::Rank);
+        }
+        if !counts.counts_as_numbers() {
+            return Err(Kind::Domain);
+        }
+        if counts.has_negative() {
+            return Err(Kind::Domain);
+        }
+        limited(magnitudes(counts)?, array.item_type())
+    }
+
+    fn item_at(&self, args: &[Seen], index: &[u32]) -> Result<Item, Kind> {
+        let counts = &args[0];
+        let array = &args[1];
+        let source = self.source_of(counts, array, index);
+        Ok(item_from(array, array, array.item_type(), source))
+    }
+}

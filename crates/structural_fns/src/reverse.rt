@@ -1,0 +1,81 @@
+//! Reverse: the places of an axis from the last to the first.
+
+ghost use Rattle.std.specs.Prelude.{◌≡◌, ◌≤◌, ◌-◌, suc, IsTrue, length, All, set, get_or};
+ghost use Rattle.arrays_core.specs.Arrays.{IsAnswerTo};
+ghost use Rattle.arrays_core.specs.Shapes.{is_index_of};
+ghost use Rattle.index_region.specs.Axes.{is_axis, axis_at, places_along};
+ghost use Rattle.index_region.specs.ArgumentLists.{of_one};
+ghost use Rattle.index_region.specs.Answers.{IsPlaceOf, source_value};
+ghost use Rattle.structural_fns.specs.Reverse.{reverse_form, reverse_source, reverse_item, reverse_whole};
+
+use arrays_core::{ApplyFault, Array, Item, ItemType, Kind, Shape, shape_of};
+use index_region::{Along, Primitive, Seen, Source, apply, item_from, limited};
+use std::alloc::Global;
+
+/// The index list of the same place counted from the other end of an axis.
+fn reversed(alloc: Global, along: Along, axes: &[u32], index: &[u32]) -> Shape
+    requires rank { length axes.now ≤ 4 }
+    requires axes_in { All (λ n. n ≤ 1048576) axes.now }
+    requires axis { IsTrue (is_axis (length axes.now) along) }
+    requires in_range { IsTrue (is_index_of axes.now index.now) }
+    ensures { let axis = axis_at (length axes.now) along in
+        result.items ≡ set index.now axis (suc (places_along axes.now axis) - get_or index.now axis 1) }
+{
+    let mut at = shape_of(alloc, index);
+    if !axes.is_empty() {
+        let axis = along.axis_at(axes.len() as u32);
+        at[axis] = axes[axis] + 1 - index[axis];
+    }
+    at
+}
+
+/// Reverse, `⌽B` and `⊖B` (ISO/IEC 13751, "Reverse"): place i along the axis is the place that is as
+/// far from the other end. A scalar is itself. AXIS where the axis is not one of the array's.
+#[derive(Clone, Copy, PartialEq, Eq, Debug)]
+pub struct Reverse {
+    pub along: Along,
+}
+
+impl Reverse {
+    /// Where the item at an index list of the result comes from. It takes no memory.
+    pub fn source_of(self, array: &Seen, index: &[u32]) -> Source
+        requires { IsPlaceOf (reverse_form self.along array.now) index.now }
+        ensures { source_value result ≡ reverse_source self.along array.now index.now }
+    {
+        let shape = array.shape();
+        let at = reversed(*shape.allocator(), self.along, shape.as_slice(), index);
+        Source::Place { arg: 0, at }
+    }
+
+    /// The array whose places along the axis stand the other way round.
+    pub fn apply(&self, alloc: Global, args: &[Seen]) -> Result<Array, ApplyFault>
+        requires { length args.now ≡ 1 }
+        ensures { IsAnswerTo (of_one (reverse_whole self.now.along) args.now) result }
+    {
+        apply(alloc, self, args)
+    }
+}
+
+impl Primitive for Reverse {
+    ghost arity = { λ _. 1 };
+
+    ghost form = { λ r args. of_one (reverse_form r.along) args };
+
+    ghost item = { λ r args index. of_one (λ b. reverse_item r.along b index) args };
+
+    fn shape_of(&self, args: &[Seen]) -> Result<(Shape, ItemType), Kind> {
+        let array = &args[0];
+        let shape = array.shape();
+        let axes = shape.as_slice();
+        if !self.along.is_axis(axes.len() as u32) {
+            return Err(Kind::Axis);
+        }
+        limited(shape_of(*shape.allocator(), axes), array.item_type())
+    }
+
+    fn item_at(&self, args: &[Seen], index: &[u32]) -> Result<Item, Kind> {
+        let array = &args[0];
+        let source = self.source_of(array, index);
+        Ok(item_from(array, array, array.item_type(), source))
+    }
+}

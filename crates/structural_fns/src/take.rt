@@ -1,0 +1,118 @@
+//! Take: so many places of each axis, from the first or up to the last, and fill beyond them.
+
+ghost use Rattle.std.specs.Prelude.{◌≡◌, ◌≤◌, ℤ, unsigned_abs, IsTrue, IfOk, Ok, All, length};
+ghost use Rattle.arrays_core.specs.Arrays.{IsAnswerTo};
+ghost use Rattle.arrays_core.specs.Shapes.{IsWithinLimits, is_index_of as is_below, size as size_of};
+ghost use Rattle.index_region.specs.ArgumentLists.{of_two};
+ghost use Rattle.index_region.specs.Arguments.{numbers};
+ghost use Rattle.index_region.specs.Answers.{IsPlaceOf, source_value};
+ghost use Rattle.structural_fns.specs.Reshape.{magnitudes as magnitudes_of};
+ghost use Rattle.structural_fns.specs.Take.{take_form, take_source, take_item, take_whole, taken_place as place_taken, taken_places as places_taken};
+
+use crate::axis_counts::{check_counts, counted_shape, uncounted};
+use crate::magnitudes::magnitudes;
+use arrays_core::{ApplyFault, Array, Item, ItemType, Kind, Shape, is_index_of, size};
+use index_region::{Primitive, Seen, Source, apply, item_from, limited};
+use smallvec::SmallVec;
+use std::alloc::{AllocError, Global};
+
+/// Where a place of a taken axis stands on the axis; 0, and what is beyond its end, is no place.
+fn taken_place(axis: u32, count: i64, i: u32) -> u32
+    requires axis_within { axis ≤ 1048576 }
+    requires count_within { unsigned_abs count ≤ 1048576 }
+    requires index_within { i ≤ 1048576 }
+    ensures { result ≡ place_taken axis count i }
+{
+    if count >= 0 {
+        i
+    } else {
+        (i + axis).saturating_sub(count.unsigned_abs() as u32)
+    }
+}
+
+/// The places of a taken index list on each axis.
+fn taken_places(counts: &Seen, axes: &[u32], index: &[u32]) -> Shape
+    requires long { length counts.now.items ≡ length axes.now }
+    requires axes_within { All (λ n. n ≤ 1048576) axes.now }
+    requires within { IsWithinLimits (magnitudes_of counts.now) }
+    requires inside { IsTrue (is_below (magnitudes_of counts.now) index.now) }
+    ensures is { result.items ≡ places_taken axes.now (numbers counts.now) index.now }
+    ensures inline { result.capacity ≡ 4 }
+{
+    let mut places = SmallVec::new(*counts.shape().allocator());
+    for k in 0..axes.len() {
+        let count = counts.number(k as u32 + 1);
+        places.push_reserved(taken_place(axes[k], count, index[k]));
+    }
+    places
+}
+
+/// The places of a vector that are taken, where it has as many.
+fn taken_run(counts: &Seen, vector: &Seen, shape: &Shape) -> Result<Array, AllocError>
+    requires form { take_form counts.now vector.now ≡ Ok (shape.now.items, vector.now.item_type) }
+    requires one_axis { length vector.now.shape ≡ 1 }
+    requires there { size_of shape.now.items ≤ length vector.now.items }
+    ensures { IfOk result (λ a. take_whole counts.now vector.now ≡ Ok a) }
+{
+    let first = taken_place(vector.places(), counts.number(1), 1);
+    vector.part(first - 1, shape)
+}
+
+/// Take, `A↑B` (ISO/IEC 13751, "Take"): axis k has the magnitude of A[k]; a positive count keeps the
+/// first places, a negative one the last, and missing places are fill. A scalar B has as many axes of
+/// one place as A has counts. RANK where A is neither a scalar nor a vector, LENGTH where it has not a
+/// count for each axis, DOMAIN where it is not of numbers, LIMIT beyond the limits of arrays.
+#[derive(Clone, Copy, PartialEq, Eq, Debug)]
+pub struct Take;
+
+impl Take {
+    /// Where the item at an index list of the result comes from. It takes no memory.
+    pub fn source_of(self, counts: &Seen, array: &Seen, index: &[u32]) -> Source
+        requires { IsPlaceOf (take_form counts.now array.now) index.now }
+        ensures { source_value result ≡ take_source counts.now array.now index.now }
+    {
+        let axes = counted_shape(counts, array);
+        let at = taken_places(counts, axes.as_slice(), index);
+        if !is_index_of(axes.as_slice(), at.as_slice()) {
+            return Source::Fill;
+        }
+        let at = uncounted(array, at);
+        Source::Place { arg: 1, at }
+    }
+
+    /// The array of the places that are taken. Those of a vector that has as many are copied in one run.
+    pub fn apply(&self, alloc: Global, args: &[Seen]) -> Result<Array, ApplyFault>
+        requires { length args.now ≡ 2 }
+        ensures { IsAnswerTo (of_two take_whole args.now) result }
+    {
+        let (shape, _) = self.shape_of(args)?;
+        let array = &args[1];
+        if array.shape().len() == 1 && size(shape.as_slice()) <= array.places() {
+            let run = taken_run(&args[0], array, &shape)?;
+            return Ok(run);
+        }
+        apply(alloc, self, args)
+    }
+}
+
+impl Primitive for Take {
+    ghost arity = { λ _. 2 };
+
+    ghost form = { λ _ args. of_two take_form args };
+
+    ghost item = { λ _ args index. of_two (λ a b. take_item a b index) args };
+
+    fn shape_of(&self, args: &[Seen]) -> Result<(Shape, ItemType), Kind> {
+        let counts = &args[0];
+        let array = &args[1];
+        check_counts(counts, array)?;
+        limited(magnitudes(counts)?, array.item_type())
+    }
+
+    fn item_at(&self, args: &[Seen], index: &[u32]) -> Result<Item, Kind> {
+        let counts = &args[0];
+        let array = &args[1];
+        let source = self.source_of(counts, array, index);
+        Ok(item_from(array, array, array.item_type(), source))
+    }
+}

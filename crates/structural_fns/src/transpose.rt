@@ -1,0 +1,72 @@
+//! Transpose: the axes in reverse order.
+
+ghost use Rattle.std.specs.Prelude.{◌≡◌, ◌≤◌, length, reverse};
+ghost use Rattle.arrays_core.specs.Arrays.{IsAnswerTo};
+ghost use Rattle.index_region.specs.ArgumentLists.{of_one};
+ghost use Rattle.index_region.specs.Answers.{IsPlaceOf, source_value};
+ghost use Rattle.structural_fns.specs.Transpose.{transpose_form, transpose_source, transpose_item, transpose_whole};
+
+use arrays_core::{ApplyFault, Array, Item, ItemType, Kind, Shape};
+use index_region::{Primitive, Seen, Source, apply, item_from, limited};
+use smallvec::SmallVec;
+use std::alloc::Global;
+
+/// A list of at most four, from its last to its first. It takes no memory.
+fn from_last(alloc: Global, list: &[u32]) -> Shape
+    requires { length list.now ≤ 4 }
+    ensures is { result.items ≡ reverse list.now }
+    ensures inline { result.capacity ≡ 4 }
+{
+    let mut reversed = SmallVec::new(alloc);
+    for k in (0..list.len()).rev() {
+        reversed.push_reserved(list[k]);
+    }
+    reversed
+}
+
+/// Transpose, `⍉B` (ISO/IEC 13751, "Monadic transpose"): the axes in reverse order. A scalar and a
+/// vector are themselves.
+#[derive(Clone, Copy, PartialEq, Eq, Debug)]
+pub struct Transpose;
+
+impl Transpose {
+    /// Where the item at an index list of the result comes from. It takes no memory.
+    pub fn source_of(self, array: &Seen, index: &[u32]) -> Source
+        requires { IsPlaceOf (transpose_form array.now) index.now }
+        ensures { source_value result ≡ transpose_source array.now index.now }
+    {
+        let at = from_last(*array.shape().allocator(), index);
+        Source::Place { arg: 0, at }
+    }
+
+    /// The array whose axes stand in reverse order.
+    pub fn apply(&self, alloc: Global, args: &[Seen]) -> Result<Array, ApplyFault>
+        requires { length args.now ≡ 1 }
+        ensures { IsAnswerTo (of_one transpose_whole args.now) result }
+    {
+        apply(alloc, self, args)
+    }
+}
+
+impl Primitive for Transpose {
+    ghost arity = { λ _. 1 };
+
+    ghost form = { λ _ args. of_one transpose_form args };
+
+    ghost item = { λ _ args index. of_one (λ b. transpose_item b index) args };
+
+    fn shape_of(&self, args: &[Seen]) -> Result<(Shape, ItemType), Kind> {
+        let array = &args[0];
+        let shape = array.shape();
+        limited(
+            from_last(*shape.allocator(), shape.as_slice()),
+            array.item_type(),
+        )
+    }
+
+    fn item_at(&self, args: &[Seen], index: &[u32]) -> Result<Item, Kind> {
+        let array = &args[0];
+        let source = self.source_of(array, index);
+        Ok(item_from(array, array, array.item_type(), source))
+    }
+}
