@@ -7,7 +7,7 @@ use Rattle.apl_expr.specs.declared.expr.ScalarDyad.TheVariants as dyad
 use Rattle.apl_expr.specs.declared.expr.Monadic.TheVariants as monadic
 use Rattle.apl_expr.specs.declared.expr.Dyadic.TheVariants as dyadic
 use Rattle.apl_expr.specs.declared.expr.Along.TheVariants as along
-use Rattle.apl_expr.specs.Symbols.{scalar_monad_of, scalar_dyad_of, monad_of, dyad_of, folding_of, folding_along_of, monadic_along_of, dyadic_along_of}
+use Rattle.apl_expr.specs.Symbols.{scalar_monad_of, scalar_dyad_of, array_monad, array_dyad, folding_of, folding_along_of, monadic_along_of, dyadic_along_of}
 use Rattle.apl_expr.specs.Trees.{Tree, Numbers, Text, Literal, Variable, Applied1, Applied2, Indexed, Filled, Empty, NoPositions}
 use Rattle.apl_expr.specs.Machine.{run}
 use Rattle.apl_expr.specs.Grammar.{IsTreeOf, one, more}
@@ -73,7 +73,7 @@ scanned = correct _ _ refl
 
 -- A/+/B: the first sign is a function between two arguments, the other one makes a reduction
 replicated_sum : IsTreeOf (Named (0x41 ∷ []) ∷ Sign 0x2f ∷ Sign 0x2b ∷ Sign 0x2f ∷ Named (0x42 ∷ []) ∷ []) (Applied2 (dyadic.Replicate along.Last) (Variable (0x41 ∷ [])) (Applied1 (monadic.Reduce dyad.Plus along.Last) (Variable (0x42 ∷ []))))
-unfolding run scalar_dyad_of dyad_of folding_of
+unfolding run scalar_dyad_of array_dyad folding_of
 replicated_sum = correct _ _ refl
 
 -- A+/B is no expression: a reduction has no left argument
@@ -83,7 +83,7 @@ reduction_between e is = run_none 1 (Sign 0x2f ∷ Named (0x42 ∷ []) ∷ []) e
 
 -- /B is no expression: the sign makes a reduction of a scalar function before it, and has no other role without a left argument
 no_function_folded : (e : Tree) → IsTreeOf (Sign 0x2f ∷ Named (0x42 ∷ []) ∷ []) e → ⊥
-unfolding run scalar_monad_of scalar_dyad_of monad_of dyad_of
+unfolding run scalar_monad_of scalar_dyad_of array_monad array_dyad
 no_function_folded e is = run_none 0 (Named (0x42 ∷ []) ∷ []) e (complete is)
 
 -- A∘.+B∘.×C
@@ -93,12 +93,12 @@ outer_products = correct _ _ refl
 
 -- M+.×⍉M
 inner_product : IsTreeOf (Named (0x4d ∷ []) ∷ Sign 0x2b ∷ Sign 0x2e ∷ Sign 0xd7 ∷ Sign 0x2349 ∷ Named (0x4d ∷ []) ∷ []) (Applied2 (dyadic.Inner dyad.Plus dyad.Times) (Variable (0x4d ∷ [])) (Applied1 monadic.Transpose (Variable (0x4d ∷ []))))
-unfolding run scalar_monad_of scalar_dyad_of monad_of
+unfolding run scalar_monad_of scalar_dyad_of array_monad
 inner_product = correct _ _ refl
 
 -- A∘.~B is no expression: ~ is no scalar function of two arguments
 product_of_one : (e : Tree) → IsTreeOf (Named (0x41 ∷ []) ∷ Sign 0x2218 ∷ Sign 0x2e ∷ Sign 0x7e ∷ Named (0x42 ∷ []) ∷ []) e → ⊥
-unfolding run scalar_dyad_of dyad_of
+unfolding run scalar_dyad_of array_dyad
 product_of_one e is = run_none 0 (Sign 0x2e ∷ Sign 0x7e ∷ Named (0x42 ∷ []) ∷ []) e (complete is)
 
 -- D[1] asks for its value

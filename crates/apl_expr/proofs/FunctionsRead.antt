@@ -9,7 +9,7 @@ use Rattle.apl_expr.specs.declared.expr.Monadic.{Monadic}
 use Rattle.apl_expr.specs.declared.expr.Dyadic.{Dyadic}
 use Rattle.apl_expr.specs.declared.functions.Function.{Function}
 use Rattle.apl_expr.specs.Symbols.{monadic_along_of, folded_along_of, dyadic_along_of, outer_of, inner_of, stands_alone}
-use Rattle.apl_expr.specs.Grammar.{IsMono, plain1, along1, folded, folded_along, IsDuo, plain2, along2, outer, inner}
+use Rattle.apl_expr.specs.Grammar.{IsMonadicFunction, plain1, along1, folded, folded_along, IsDyadicFunction, plain2, along2, outer, inner}
 use Rattle.apl_expr.specs.Functions.{function, axis_in, product_in, fold_in, fold_along_in, monadic_along_in, dyadic_along_in, along_or_plain, fold_or_less, fold_along_or_less, product_or_less, function_at, function_from}
 
 -- ---- the parts
@@ -41,15 +41,15 @@ axis_is k (Named c ∷ u ∷ v ∷ ts) h = let no : ⊥ = cc in absurd no
 axis_long : (k : ℤ) (ts : List Lexeme) → axis_in ts ≡ Some k → 3 ≤ length ts
 axis_long k ts h = let lengths = ap length (axis_is k ts h) in omega arith
 
-dot : (c e d : ℕ) (ts : List Lexeme) (g : Dyadic) (b : Bool) → (e == 0x2e) ≡ b → cond b (cond (c == 0x2218) (outer_of d) (inner_of c d)) None ≡ Some g → IsDuo (Sign c ∷ Sign e ∷ Sign d ∷ ts) g ts
+dot : (c e d : ℕ) (ts : List Lexeme) (g : Dyadic) (b : Bool) → (e == 0x2e) ≡ b → cond b (cond (c == 0x2218) (outer_of d) (inner_of c d)) None ≡ Some g → IsDyadicFunction (Sign c ∷ Sign e ∷ Sign d ∷ ts) g ts
 dot c e d ts g false is h = let no : ⊥ = cc in absurd no
-dot c e d ts g true is h = subst (λ (n : ℕ). IsDuo (Sign c ∷ Sign n ∷ Sign d ∷ ts) g ts) (sym (eqb-true e 0x2e is)) (jot (c == 0x2218) refl h)
+dot c e d ts g true is h = subst (λ (n : ℕ). IsDyadicFunction (Sign c ∷ Sign n ∷ Sign d ∷ ts) g ts) (sym (eqb-true e 0x2e is)) (jot (c == 0x2218) refl h)
   where
-    jot : (b : Bool) → (c == 0x2218) ≡ b → cond b (outer_of d) (inner_of c d) ≡ Some g → IsDuo (Sign c ∷ Sign 0x2e ∷ Sign d ∷ ts) g ts
-    jot true is_jot h = subst (λ (n : ℕ). IsDuo (Sign n ∷ Sign 0x2e ∷ Sign d ∷ ts) g ts) (sym (eqb-true c 0x2218 is_jot)) (outer h)
+    jot : (b : Bool) → (c == 0x2218) ≡ b → cond b (outer_of d) (inner_of c d) ≡ Some g → IsDyadicFunction (Sign c ∷ Sign 0x2e ∷ Sign d ∷ ts) g ts
+    jot true is_jot h = subst (λ (n : ℕ). IsDyadicFunction (Sign n ∷ Sign 0x2e ∷ Sign d ∷ ts) g ts) (sym (eqb-true c 0x2218 is_jot)) (outer h)
     jot false is_jot h = inner h
 
-product_is : (c : ℕ) (ts : List Lexeme) (g : Dyadic) → product_in c ts ≡ Some g → IsDuo (Sign c ∷ ts) g (drop 2 ts)
+product_is : (c : ℕ) (ts : List Lexeme) (g : Dyadic) → product_in c ts ≡ Some g → IsDyadicFunction (Sign c ∷ ts) g (drop 2 ts)
 product_is c [] g h = let no : ⊥ = cc in absurd no
 product_is c (t ∷ []) g h = let no : ⊥ = cc in absurd no
 product_is c (Sign e ∷ Sign d ∷ ts) g h = dot c e d ts g (e == 0x2e) refl h
@@ -65,7 +65,7 @@ product_long c [] g h = let no : ⊥ = cc in absurd no
 product_long c (t ∷ []) g h = let no : ⊥ = cc in absurd no
 product_long c (t ∷ u ∷ ts) g h = omega arith
 
-fold_is : (c : ℕ) (ts : List Lexeme) (f : Monadic) → fold_in c ts ≡ Some f → IsMono (Sign c ∷ ts) f (drop 1 ts)
+fold_is : (c : ℕ) (ts : List Lexeme) (f : Monadic) → fold_in c ts ≡ Some f → IsMonadicFunction (Sign c ∷ ts) f (drop 1 ts)
 fold_is c [] f h = let no : ⊥ = cc in absurd no
 fold_is c (Sign d ∷ ts) f h = folded h
 fold_is c (Number d ∷ ts) f h = let no : ⊥ = cc in absurd no
@@ -82,11 +82,11 @@ module _ {A : Type 0} (make : ℤ → Option A) (x : A) (ts : List Lexeme) where
   with_axis (Some k) is h = (k, is, h)
   with_axis None is h = let no : ⊥ = cc in absurd no
 
-fold_along_is : (c : ℕ) (ts : List Lexeme) (f : Monadic) → fold_along_in c ts ≡ Some f → IsMono (Sign c ∷ ts) f (drop 4 ts)
+fold_along_is : (c : ℕ) (ts : List Lexeme) (f : Monadic) → fold_along_in c ts ≡ Some f → IsMonadicFunction (Sign c ∷ ts) f (drop 4 ts)
 fold_along_is c [] f h = let no : ⊥ = cc in absurd no
 fold_along_is c (Sign d ∷ ts) f h =
     let x = with_axis (folded_along_of c d) f ts (axis_in ts) refl h in
-    subst (λ (us : List Lexeme). IsMono (Sign c ∷ Sign d ∷ us) f (drop 3 ts)) (sym (axis_is x.0 ts x.1)) (folded_along x.2)
+    subst (λ (us : List Lexeme). IsMonadicFunction (Sign c ∷ Sign d ∷ us) f (drop 3 ts)) (sym (axis_is x.0 ts x.1)) (folded_along x.2)
 fold_along_is c (Number d ∷ ts) f h = let no : ⊥ = cc in absurd no
 fold_along_is c (Characters d ∷ ts) f h = let no : ⊥ = cc in absurd no
 fold_along_is c (Named d ∷ ts) f h = let no : ⊥ = cc in absurd no
@@ -98,22 +98,22 @@ fold_along_long c (Number d ∷ ts) f h = let no : ⊥ = cc in absurd no
 fold_along_long c (Characters d ∷ ts) f h = let no : ⊥ = cc in absurd no
 fold_along_long c (Named d ∷ ts) f h = let no : ⊥ = cc in absurd no
 
-along1_is : (c : ℕ) (ts : List Lexeme) (f : Monadic) → monadic_along_in c ts ≡ Some f → IsMono (Sign c ∷ ts) f (drop 3 ts)
+along1_is : (c : ℕ) (ts : List Lexeme) (f : Monadic) → monadic_along_in c ts ≡ Some f → IsMonadicFunction (Sign c ∷ ts) f (drop 3 ts)
 along1_is c ts f h =
     let x = with_axis (monadic_along_of c) f ts (axis_in ts) refl h in
-    subst (λ (us : List Lexeme). IsMono (Sign c ∷ us) f (drop 3 ts)) (sym (axis_is x.0 ts x.1)) (along1 x.2)
+    subst (λ (us : List Lexeme). IsMonadicFunction (Sign c ∷ us) f (drop 3 ts)) (sym (axis_is x.0 ts x.1)) (along1 x.2)
 
-along2_is : (c : ℕ) (ts : List Lexeme) (g : Dyadic) → dyadic_along_in c ts ≡ Some g → IsDuo (Sign c ∷ ts) g (drop 3 ts)
+along2_is : (c : ℕ) (ts : List Lexeme) (g : Dyadic) → dyadic_along_in c ts ≡ Some g → IsDyadicFunction (Sign c ∷ ts) g (drop 3 ts)
 along2_is c ts g h =
     let x = with_axis (dyadic_along_of c) g ts (axis_in ts) refl h in
-    subst (λ (us : List Lexeme). IsDuo (Sign c ∷ us) g (drop 3 ts)) (sym (axis_is x.0 ts x.1)) (along2 x.2)
+    subst (λ (us : List Lexeme). IsDyadicFunction (Sign c ∷ us) g (drop 3 ts)) (sym (axis_is x.0 ts x.1)) (along2 x.2)
 
 -- ---- the whole
 
 -- what a function is before its argument and between its arguments is in the grammar, and it has no more lexemes than there are
 pub record IsRead (c : ℕ) (ts : List Lexeme) (r : Function) : Type 0 where
-  pub mono : (f : Monadic) → r.alone ≡ Some f → IsMono (Sign c ∷ ts) f (drop r.more ts)
-  pub duo : (g : Dyadic) → r.between ≡ Some g → IsDuo (Sign c ∷ ts) g (drop r.more ts)
+  pub mono : (f : Monadic) → r.alone ≡ Some f → IsMonadicFunction (Sign c ∷ ts) f (drop r.more ts)
+  pub duo : (g : Dyadic) → r.between ≡ Some g → IsDyadicFunction (Sign c ∷ ts) g (drop r.more ts)
   pub short : r.more ≤ length ts
 
 along_read : (c : ℕ) (ts : List Lexeme) (a : Option Monadic) (b : Option Dyadic) → monadic_along_in c ts ≡ a → dyadic_along_in c ts ≡ b → IsRead c ts (along_or_plain c a b)

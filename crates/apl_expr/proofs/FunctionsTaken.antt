@@ -7,7 +7,7 @@ use Rattle.apl_expr.specs.declared.expr.Monadic.{Monadic}
 use Rattle.apl_expr.specs.declared.expr.Dyadic.{Dyadic}
 use Rattle.apl_expr.specs.Symbols.{monadic_of, monadic_along_of, folded_of, folded_along_of, dyadic_of, dyadic_along_of, outer_of, inner_of, stands_alone}
 use Rattle.apl_expr.specs.Trees.{Tree}
-use Rattle.apl_expr.specs.Grammar.{IsNums, one, more, IsMono, plain1, along1, folded, folded_along, IsDuo, plain2, along2, outer, inner, IsExpr, operand, mono, duo, IsOperand, nums, text, ref, IsRef, name, parens, index}
+use Rattle.apl_expr.specs.Grammar.{IsNums, one, more, IsMonadicFunction, plain1, along1, folded, folded_along, IsDyadicFunction, plain2, along2, outer, inner, IsExpr, operand, mono, duo, IsOperand, nums, text, ref, IsRef, name, parens, index}
 use Rattle.apl_expr.specs.Functions.{function, axis_in, product_in, fold_in, fold_along_in, monadic_along_in, dyadic_along_in, along_or_plain, fold_or_less, fold_along_or_less, product_or_less, function_at}
 use Rattle.apl_expr.specs.Machine.{ends_position}
 use Rattle.apl_expr.proofs.Tables.{BeginsNone, IsNoFunction, IsFolding, left_bracket, right_bracket, semicolon, dot, no_function, folding, folding_along, jot_inner}
@@ -21,7 +21,7 @@ pub data Begins : List Lexeme → Type 0 where
   a_parenthesis : {ts : List Lexeme} → Begins (Sign 0x28 ∷ ts)
   a_function : {c : ℕ} {ts : List Lexeme} → (BeginsNone c → ⊥) → Begins (Sign c ∷ ts)
 
-mono_begins : {ts us : List Lexeme} {f : Monadic} → IsMono ts f us → Begins ts
+mono_begins : {ts us : List Lexeme} {f : Monadic} → IsMonadicFunction ts f us → Begins ts
 mono_begins (plain1 is) = a_function (λ b. let n = b.plain in cc)
 mono_begins (along1 {k = k} is) = a_function (λ b. let n = b.along k in cc)
 mono_begins (folded {d = d} is) = a_function (λ b. let n = b.folded d in cc)
@@ -204,7 +204,7 @@ DuoTaken (Characters cs ∷ ts) g us = ⊥
 DuoTaken (Named n ∷ ts) g us = ⊥
 DuoTaken (Sign c ∷ ts) g us = (f : Option Monadic) × (n : ℕ) × (function_at c ts ≡ function f (Some g) n) × (drop n ts ≡ us)
 
-pub mono_taken : {ts us : List Lexeme} {f : Monadic} → IsMono ts f us → Begins us → MonoTaken ts f us
+pub mono_taken : {ts us : List Lexeme} {f : Monadic} → IsMonadicFunction ts f us → Begins us → MonoTaken ts f us
 mono_taken (plain1 {c = c} is) b = (dyadic_of c, 0, plain_taken c (λ n. let none = n.one.plain in cc) b ∙ ap (λ (o : Option Monadic). function o (dyadic_of c) 0) is, refl)
 mono_taken (along1 {c = c} {k = k} {ts = ts} is) b = (dyadic_along_of c k, 3, axis_taken c k ts (λ n. let none = n.one.along k in cc) ∙ ap (λ (o : Option Monadic). along_or_plain c o (dyadic_along_of c k)) is, refl)
 mono_taken (folded {c = c} {d = d} {f = f} is) b = (None, 1, fold_taken c d f is b, refl)
@@ -214,7 +214,7 @@ along2_taken : (c : ℕ) (k : ℤ) (g : Dyadic) (o : Option Monadic) → dyadic_
 along2_taken c k g (Some f) is = ap (λ (p : Option Dyadic). function (Some f) p 3) is
 along2_taken c k g None is = ap (λ (p : Option Dyadic). along_or_plain c None p) is
 
-pub duo_taken : {ts us : List Lexeme} {g : Dyadic} → IsDuo ts g us → Begins us → DuoTaken ts g us
+pub duo_taken : {ts us : List Lexeme} {g : Dyadic} → IsDyadicFunction ts g us → Begins us → DuoTaken ts g us
 duo_taken (plain2 {c = c} is) b = (monadic_of c, 0, plain_taken c (λ n. let none = n.plain in cc) b ∙ ap (λ (o : Option Dyadic). function (monadic_of c) o 0) is, refl)
 duo_taken (along2 {c = c} {k = k} {f = g} {ts = ts} is) b = (monadic_along_of c k, 3, axis_taken c k ts (λ n. let none = n.along k in cc) ∙ along2_taken c k g (monadic_along_of c k) is, refl)
 duo_taken (outer {d = d} {f = g} {ts = ts} is) b = (None, 2, product_taken 0x2218 d g ts refl is, refl)

@@ -5,13 +5,13 @@ use Rattle.std.proofs.lemmas.Bool.{eqb-true}
 use Rattle.std.specs.Prelude.{ℤ, ◌==◌}
 use Rattle.apl_tokens.specs.Lexemes.{Lexeme, Number, Characters, Named, Sign}
 use Rattle.apl_expr.specs.Grammar.{IsNums, one, more}
-use Rattle.apl_expr.specs.Lines.{IsPlace, last, further, IsLit, nums_lit, text_lit}
+use Rattle.apl_expr.specs.Lines.{IsPosition, last, further, IsLit, nums_lit, text_lit}
 use Rattle.apl_expr.specs.Trees.{Constant, Numbers, Text}
 use Rattle.apl_expr.specs.Edits.{Edit, Open, Position, Closed, Items, Quoted, Written, Write, edit_text, edit_end, after_position, after_bracket, edits}
 use Rattle.apl_expr.proofs.Sound.{IsStrand, none, strand_nums}
 use Rattle.apl_expr.proofs.Sound as strand
 
-place_reads : {ts us : List Lexeme} {ps : List ℤ} → IsPlace ts ps us → (before : List ℤ) → edits ts (Some (Open before)) ≡ edits us (Some (Position (before ++ ps)))
+place_reads : {ts us : List Lexeme} {ps : List ℤ} → IsPosition ts ps us → (before : List ℤ) → edits ts (Some (Open before)) ≡ edits us (Some (Position (before ++ ps)))
 unfolding edits
 place_reads last before = refl
 place_reads (further {n = n} {us = us} {ps = ps} p) before = place_reads p (before ++ n ∷ []) ∙ ap (λ (qs : List ℤ). edits us (Some (Position qs))) (append_assoc before (n ∷ []) ps)
@@ -30,16 +30,16 @@ unfolding edits
 literal_read (nums_lit n) ps = items_read n refl ps []
 literal_read text_lit ps = refl
 
-pub edit_read : {ts us : List Lexeme} {ps : List ℤ} {l : Constant} → IsPlace ts ps (Sign 0x5d ∷ Sign 0x2190 ∷ us) → IsLit us l → edits ts (Some (Open [])) ≡ Some (Write ps l)
+pub edit_read : {ts us : List Lexeme} {ps : List ℤ} {l : Constant} → IsPosition ts ps (Sign 0x5d ∷ Sign 0x2190 ∷ us) → IsLit us l → edits ts (Some (Open [])) ≡ Some (Write ps l)
 unfolding edits
 edit_read {ps = ps} p is = place_reads p [] ∙ literal_read is ps
 
 -- behind a position, ts are the rest of the place with its bracket and the arrow, and us come after them
 data IsRest : List Lexeme → List ℤ → List Lexeme → Type 0 where
   ends : {us : List Lexeme} → IsRest (Sign 0x5d ∷ Sign 0x2190 ∷ us) [] us
-  goes_on : {ts us : List Lexeme} {ps : List ℤ} → IsPlace ts ps (Sign 0x5d ∷ Sign 0x2190 ∷ us) → IsRest (Sign 0x3b ∷ ts) ps us
+  goes_on : {ts us : List Lexeme} {ps : List ℤ} → IsPosition ts ps (Sign 0x5d ∷ Sign 0x2190 ∷ us) → IsRest (Sign 0x3b ∷ ts) ps us
 
-place_of : {ts us : List Lexeme} {ps : List ℤ} (n : ℤ) → IsRest ts ps us → IsPlace (Number n ∷ ts) (n ∷ ps) (Sign 0x5d ∷ Sign 0x2190 ∷ us)
+place_of : {ts us : List Lexeme} {ps : List ℤ} (n : ℤ) → IsRest ts ps us → IsPosition (Number n ∷ ts) (n ∷ ps) (Sign 0x5d ∷ Sign 0x2190 ∷ us)
 place_of n ends = last
 place_of n (goes_on p) = further p
 
@@ -50,7 +50,7 @@ data IsRestOf : List ℤ → List Lexeme → Constant → Type 0 where
 
 -- what the machine's reading in a state says of the grammar
 abbrev Explains : List Lexeme → Edit → List ℤ → Constant → Type 0
-Explains ts (Open before) ps l = (qs : List ℤ) × (us : List Lexeme) × IsPlace ts qs (Sign 0x5d ∷ Sign 0x2190 ∷ us) × IsLit us l × (before ++ qs ≡ ps)
+Explains ts (Open before) ps l = (qs : List ℤ) × (us : List Lexeme) × IsPosition ts qs (Sign 0x5d ∷ Sign 0x2190 ∷ us) × IsLit us l × (before ++ qs ≡ ps)
 Explains ts (Position before) ps l = (qs : List ℤ) × (us : List Lexeme) × IsRest ts qs us × IsLit us l × (before ++ qs ≡ ps)
 Explains ts (Closed before) ps l = (us : List Lexeme) × (ts ≡ Sign 0x2190 ∷ us) × IsLit us l × (before ≡ ps)
 Explains ts (Items before items) ps l = IsRestOf items ts l × (before ≡ ps)
@@ -143,8 +143,8 @@ sound_of (Sign c ∷ ts) (Closed before) ps l h = arrow_explains ts (sound_of ts
 sound_of (Sign c ∷ ts) (Items before items) ps l h = absurd (edits_none ts (Write ps l) h)
 sound_of (Sign c ∷ ts) (Quoted before cs) ps l h = absurd (edits_none ts (Write ps l) h)
 
-pub edit_correct : (ts : List Lexeme) (ps : List ℤ) (l : Constant) → edits ts (Some (Open [])) ≡ Some (Write ps l) → (us : List Lexeme) × IsPlace ts ps (Sign 0x5d ∷ Sign 0x2190 ∷ us) × IsLit us l
-edit_correct ts ps l h = let x = sound_of ts (Open []) ps l h in (x.1, subst (λ (qs : List ℤ). IsPlace ts qs (Sign 0x5d ∷ Sign 0x2190 ∷ x.1)) x.4 x.2, x.3)
+pub edit_correct : (ts : List Lexeme) (ps : List ℤ) (l : Constant) → edits ts (Some (Open [])) ≡ Some (Write ps l) → (us : List Lexeme) × IsPosition ts ps (Sign 0x5d ∷ Sign 0x2190 ∷ us) × IsLit us l
+edit_correct ts ps l h = let x = sound_of ts (Open []) ps l h in (x.1, subst (λ (qs : List ℤ). IsPosition ts qs (Sign 0x5d ∷ Sign 0x2190 ∷ x.1)) x.4 x.2, x.3)
 
 pub literal_correct : (ts : List Lexeme) (l : Constant) → edits ts (Some (Items [] [])) ≡ Some (Write [] l) → IsLit ts l
 literal_correct ts l h = let x = sound_of ts (Items [] []) [] l h in lit_of_rest x.0

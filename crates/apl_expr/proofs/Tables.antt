@@ -5,7 +5,7 @@ use Rattle.std.specs.Prelude.{ℤ, ◌==◌, ◌||◌}
 use Rattle.std.proofs.lemmas.Bool.{eqb-true}
 use Rattle.std.proofs.lemmas.Option.{option_and_then_some}
 use Rattle.apl_expr.specs.declared.expr.Monadic.{Monadic}
-use Rattle.apl_expr.specs.Symbols.{Meant, meant, foldings, foldings_along, scalar_monad_of, scalar_dyad_of, monad_of, dyad_of, monadic_of, monadic_along_of, folding_of, folding_along_of, folded_of, folded_along_of, dyadic_of, dyadic_along_of, inner_of, stands_alone}
+use Rattle.apl_expr.specs.Symbols.{Meant, meant, foldings, foldings_along, scalar_monad_of, scalar_dyad_of, array_monad, array_dyad, monadic_of, monadic_along_of, folding_of, folding_along_of, folded_of, folded_along_of, dyadic_of, dyadic_along_of, inner_of, stands_alone}
 
 -- the sign begins no function of one argument
 pub record BeginsNone (c : ℕ) : Type 0 where
@@ -22,31 +22,31 @@ pub record IsNoFunction (c : ℕ) : Type 0 where
   pub inner : (d : ℕ) → inner_of c d ≡ None
 
 left_parenthesis : IsNoFunction 0x28
-unfolding scalar_monad_of scalar_dyad_of monad_of dyad_of monadic_along_of dyadic_along_of
+unfolding scalar_monad_of scalar_dyad_of array_monad array_dyad monadic_along_of dyadic_along_of
 left_parenthesis = record { one = record { plain = refl; along = λ k. refl; folded = λ d. refl; folded_along = λ d k. refl }; plain = refl; along = λ k. refl; inner = λ d. refl }
 
 right_parenthesis : IsNoFunction 0x29
-unfolding scalar_monad_of scalar_dyad_of monad_of dyad_of monadic_along_of dyadic_along_of
+unfolding scalar_monad_of scalar_dyad_of array_monad array_dyad monadic_along_of dyadic_along_of
 right_parenthesis = record { one = record { plain = refl; along = λ k. refl; folded = λ d. refl; folded_along = λ d k. refl }; plain = refl; along = λ k. refl; inner = λ d. refl }
 
 pub left_bracket : IsNoFunction 0x5b
-unfolding scalar_monad_of scalar_dyad_of monad_of dyad_of monadic_along_of dyadic_along_of
+unfolding scalar_monad_of scalar_dyad_of array_monad array_dyad monadic_along_of dyadic_along_of
 left_bracket = record { one = record { plain = refl; along = λ k. refl; folded = λ d. refl; folded_along = λ d k. refl }; plain = refl; along = λ k. refl; inner = λ d. refl }
 
 pub right_bracket : IsNoFunction 0x5d
-unfolding scalar_monad_of scalar_dyad_of monad_of dyad_of monadic_along_of dyadic_along_of
+unfolding scalar_monad_of scalar_dyad_of array_monad array_dyad monadic_along_of dyadic_along_of
 right_bracket = record { one = record { plain = refl; along = λ k. refl; folded = λ d. refl; folded_along = λ d k. refl }; plain = refl; along = λ k. refl; inner = λ d. refl }
 
 pub semicolon : IsNoFunction 0x3b
-unfolding scalar_monad_of scalar_dyad_of monad_of dyad_of monadic_along_of dyadic_along_of
+unfolding scalar_monad_of scalar_dyad_of array_monad array_dyad monadic_along_of dyadic_along_of
 semicolon = record { one = record { plain = refl; along = λ k. refl; folded = λ d. refl; folded_along = λ d k. refl }; plain = refl; along = λ k. refl; inner = λ d. refl }
 
 arrow : IsNoFunction 0x2190
-unfolding scalar_monad_of scalar_dyad_of monad_of dyad_of monadic_along_of dyadic_along_of
+unfolding scalar_monad_of scalar_dyad_of array_monad array_dyad monadic_along_of dyadic_along_of
 arrow = record { one = record { plain = refl; along = λ k. refl; folded = λ d. refl; folded_along = λ d k. refl }; plain = refl; along = λ k. refl; inner = λ d. refl }
 
 pub dot : BeginsNone 0x2e
-unfolding scalar_monad_of scalar_dyad_of monad_of monadic_along_of
+unfolding scalar_monad_of scalar_dyad_of array_monad monadic_along_of
 dot = record { plain = refl; along = λ k. refl; folded = λ d. refl; folded_along = λ d k. refl }
 
 pub no_function : (c : ℕ) → stands_alone c ≡ true → IsNoFunction c
@@ -84,19 +84,19 @@ pub record IsFolding (d : ℕ) : Type 0 where
   pub no_bracket : d ≡ 0x5b → ⊥
 
 slash : IsFolding 0x2f
-unfolding scalar_monad_of scalar_dyad_of monad_of monadic_along_of
+unfolding scalar_monad_of scalar_dyad_of array_monad monadic_along_of
 slash = record { begins_none = record { plain = refl; along = λ k. refl; folded = λ d. refl; folded_along = λ d k. refl }; no_parenthesis = λ same. omega arith; no_dot = λ same. omega arith; no_bracket = λ same. omega arith }
 
 slash_bar : IsFolding 0x233f
-unfolding scalar_monad_of scalar_dyad_of monad_of monadic_along_of
+unfolding scalar_monad_of scalar_dyad_of array_monad monadic_along_of
 slash_bar = record { begins_none = record { plain = refl; along = λ k. refl; folded = λ d. refl; folded_along = λ d k. refl }; no_parenthesis = λ same. omega arith; no_dot = λ same. omega arith; no_bracket = λ same. omega arith }
 
 backslash : IsFolding 0x5c
-unfolding scalar_monad_of scalar_dyad_of monad_of monadic_along_of
+unfolding scalar_monad_of scalar_dyad_of array_monad monadic_along_of
 backslash = record { begins_none = record { plain = refl; along = λ k. refl; folded = λ d. refl; folded_along = λ d k. refl }; no_parenthesis = λ same. omega arith; no_dot = λ same. omega arith; no_bracket = λ same. omega arith }
 
 backslash_bar : IsFolding 0x2340
-unfolding scalar_monad_of scalar_dyad_of monad_of monadic_along_of
+unfolding scalar_monad_of scalar_dyad_of array_monad monadic_along_of
 backslash_bar = record { begins_none = record { plain = refl; along = λ k. refl; folded = λ d. refl; folded_along = λ d k. refl }; no_parenthesis = λ same. omega arith; no_dot = λ same. omega arith; no_bracket = λ same. omega arith }
 
 -- what a table says of a sign it says of one of its own

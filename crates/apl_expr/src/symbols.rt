@@ -1,7 +1,7 @@
 //! What each sign stands for, alone and with others. A later symbol is one line here.
 
 ghost use Rattle.std.specs.Prelude.{◌≡◌};
-ghost use Rattle.apl_expr.specs.Symbols.{scalar_monad_of, scalar_dyad_of, monad_of, dyad_of, monadic_of, monadic_along_of, folding_of, folding_along_of, folded_of, folded_along_of, dyadic_of, dyadic_along_of, outer_of, inner_of, stands_alone};
+ghost use Rattle.apl_expr.specs.Symbols.{scalar_monad_of, scalar_dyad_of, array_monad, array_dyad, monadic_of, monadic_along_of, folding_of, folding_along_of, folded_of, folded_along_of, dyadic_of, dyadic_along_of, outer_of, inner_of, stands_alone};
 
 use crate::expr::{Along, Dyadic, Monadic, ScalarDyad, ScalarMonad};
 
@@ -52,9 +52,9 @@ fn scalar_dyad_of(sign: char) -> Option<ScalarDyad>
 }
 
 /// The function of one argument that the sign stands for, if it is no scalar one.
-#[tactic(auto, unfolding(crate::specs::Symbols::monad_of))]
+#[tactic(auto, unfolding(crate::specs::Symbols::array_monad))]
 fn monad_of(sign: char) -> Option<Monadic>
-    ensures { result ≡ monad_of sign }
+    ensures { result ≡ array_monad sign }
 {
     match sign {
         ',' => Some(Monadic::Ravel),
@@ -68,9 +68,9 @@ fn monad_of(sign: char) -> Option<Monadic>
 }
 
 /// The function of two arguments that the sign stands for, if it is no scalar one.
-#[tactic(auto, unfolding(crate::specs::Symbols::dyad_of))]
+#[tactic(auto, unfolding(crate::specs::Symbols::array_dyad))]
 fn dyad_of(sign: char) -> Option<Dyadic>
-    ensures { result ≡ dyad_of sign }
+    ensures { result ≡ array_dyad sign }
 {
     match sign {
         '⍴' => Some(Dyadic::Reshape),

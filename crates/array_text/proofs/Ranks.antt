@@ -4,7 +4,7 @@ use Rattle.arrays_core.specs.Arrays.{ArrayValue}
 use Rattle.arrays_core.specs.Shapes.{size}
 use Rattle.arrays_core.specs.declared.item.Item.TheVariants.{Num, Char}
 use Rattle.arrays_core.specs.declared.item.ItemType.TheVariants.{Nums, Chars}
-use Rattle.array_text.specs.Text.{text_by_rank, planes, numbers_text, characters_text, items_text, array_text, number_of, character_of}
+use Rattle.array_text.specs.Text.{text_by_rank, planes, numbers_text, characters_text, items_text, array_text, item_number, item_character}
 
 module _ {X : Type 0} (line : List X → List ℕ) (plane : ℕ → ℕ → List X → List ℕ) (xs : List X) where
   pub of_rank_below_two : (shape : List ℕ) → length shape < 2 → text_by_rank line plane shape xs ≡ line xs
@@ -53,18 +53,18 @@ size_of_rank_four (n ∷ m ∷ k ∷ []) h = absurd (omega arith)
 size_of_rank_four (n ∷ m ∷ rows ∷ columns ∷ []) h = omega arith
 size_of_rank_four (a ∷ b ∷ c ∷ d ∷ e ∷ shape) h = absurd (omega arith)
 
-pub numbers_again : (zs : List ℤ) → map number_of (map (λ z. Num z) zs) ≡ zs
+pub numbers_again : (zs : List ℤ) → map item_number (map (λ z. Num z) zs) ≡ zs
 numbers_again [] = refl
 numbers_again (z ∷ zs) = ap (λ (t : List ℤ). z ∷ t) (numbers_again zs)
 
-characters_again : (cs : List ℕ) → map character_of (map (λ c. Char c) cs) ≡ cs
+characters_again : (cs : List ℕ) → map item_character (map (λ c. Char c) cs) ≡ cs
 characters_again [] = refl
 characters_again (c ∷ cs) = ap (λ (t : List ℕ). c ∷ t) (characters_again cs)
 
 pub text_of_numbers : (a : ArrayValue) (zs : List ℤ) → a.item_type ≡ Nums → a.items ≡ map (λ z. Num z) zs → array_text a ≡ numbers_text a.shape zs
 text_of_numbers a zs is_type is_items =
-    ap (λ t. items_text t a.shape a.items) is_type ∙ ap (λ items. numbers_text a.shape (map number_of items)) is_items ∙ ap (numbers_text a.shape) (numbers_again zs)
+    ap (λ t. items_text t a.shape a.items) is_type ∙ ap (λ items. numbers_text a.shape (map item_number items)) is_items ∙ ap (numbers_text a.shape) (numbers_again zs)
 
 pub text_of_characters : (a : ArrayValue) (cs : List ℕ) → a.item_type ≡ Chars → a.items ≡ map (λ c. Char c) cs → array_text a ≡ characters_text a.shape cs
 text_of_characters a cs is_type is_items =
-    ap (λ t. items_text t a.shape a.items) is_type ∙ ap (λ items. characters_text a.shape (map character_of items)) is_items ∙ ap (characters_text a.shape) (characters_again cs)
+    ap (λ t. items_text t a.shape a.items) is_type ∙ ap (λ items. characters_text a.shape (map item_character items)) is_items ∙ ap (characters_text a.shape) (characters_again cs)

@@ -7,7 +7,7 @@ use Rattle.arrays_core.specs.declared.item.Item.{Item}
 use Rattle.arrays_core.specs.declared.item.Item.TheVariants.{Num}
 use Rattle.arrays_core.specs.declared.item.ItemType.{ItemType}
 use Rattle.arrays_core.specs.declared.item.ItemType.TheVariants.{Nums, Chars}
-use Rattle.array_text.specs.Text.{number_of, text_by_rank}
+use Rattle.array_text.specs.Text.{item_number, text_by_rank}
 use Rattle.array_text.specs.Tables.{record_text, records_text, table_text}
 use Rattle.array_text.proofs.Ranks.{numbers_again, of_rank_below_two}
 
@@ -20,8 +20,8 @@ unfolding table_text
 table_some shape zs h = rw h refl
 
 -- the numbers of an array of numbers
-pub numbers_in : (shape : List ℕ) (items : List Item) (zs : List ℤ) → items ≡ map (λ z. Num z) zs → table_text shape (map number_of items) ≡ table_text shape zs
-numbers_in shape items zs is = ap (λ (xs : List Item). table_text shape (map number_of xs)) is ∙ ap (table_text shape) (numbers_again zs)
+pub numbers_in : (shape : List ℕ) (items : List Item) (zs : List ℤ) → items ≡ map (λ z. Num z) zs → table_text shape (map item_number items) ≡ table_text shape zs
+numbers_in shape items zs is = ap (λ (xs : List Item). table_text shape (map item_number xs)) is ∙ ap (table_text shape) (numbers_again zs)
 
 pub one_record : (shape : List ℕ) (zs : List ℤ) → eqb (length zs) 0 ≡ false → length shape < 2 → table_text shape zs ≡ record_text zs
 one_record shape zs some low = table_some shape zs some ∙ of_rank_below_two record_text records_text zs shape low
@@ -45,7 +45,7 @@ unfolding is_nums
 one_type t n c = ap is_nums (sym c ∙ n)
 
 -- an array of characters without an item that is no number has no items
-pub no_items : (t : ItemType) (items : List Item) → t ≡ Chars → All (λ item. type_of item ≡ t) items → All (λ item. type_of item ≡ Nums) items → length (map number_of items) ≡ 0
+pub no_items : (t : ItemType) (items : List Item) → t ≡ Chars → All (λ item. type_of item ≡ t) items → All (λ item. type_of item ≡ Nums) items → length (map item_number items) ≡ 0
 no_items t [] chars typed numbers = refl
 no_items t (item ∷ items) chars typed numbers =
     let is_character = (recursion_from_All (λ x. type_of x ≡ t) (item ∷ items) typed).0 ∙ chars in

@@ -90,18 +90,18 @@ abbrev pub characters_text : (shape : List ℕ) → List ℕ → List ℕ
 characters_text shape cs = text_by_rank character_line character_plane shape cs
 
 -- an item of an array of numbers, and one of an array of characters
-abbrev pub number_of : Item → ℤ
-number_of (Num z) = z
-number_of (Char c) = pos 0
+abbrev pub item_number : Item → ℤ
+item_number (Num z) = z
+item_number (Char c) = pos 0
 
-abbrev pub character_of : Item → ℕ
-character_of (Num z) = 32
-character_of (Char c) = c
+abbrev pub item_character : Item → ℕ
+item_character (Num z) = 32
+item_character (Char c) = c
 
 -- an array
 abbrev pub items_text : ItemType → (shape : List ℕ) → List Item → List ℕ
-items_text Nums shape items = numbers_text shape (map number_of items)
-items_text Chars shape items = characters_text shape (map character_of items)
+items_text Nums shape items = numbers_text shape (map item_number items)
+items_text Chars shape items = characters_text shape (map item_character items)
 
 abbrev pub array_text : ArrayValue → List ℕ
 array_text a = items_text a.item_type a.shape a.items

@@ -4,7 +4,7 @@ ghost use Rattle.std.specs.Prelude.{◌≡◌, ◌≤◌, ◌*◌, ◌++◌, len
 ghost use Rattle.std.specs.Fmt.{signed_decimal};
 ghost use Rattle.arrays_core.specs.Items.{type_of};
 ghost use Rattle.arrays_core.specs.declared.item.ItemType.TheVariants.{Nums};
-ghost use Rattle.array_text.specs.Text.{gap, number_of};
+ghost use Rattle.array_text.specs.Text.{gap, item_number};
 ghost use Rattle.array_text.specs.Tables.{comma, record_text, records_text, table_text};
 
 use arrays_core::Array;
@@ -63,7 +63,7 @@ fn push_records(
 pub fn write_table(alloc: Global, array: &Array) -> Result<String, AllocError>
     requires rank { length array.now.shape ≤ 2 }
     requires numbers { All (λ item. type_of item ≡ Nums) array.now.items }
-    ensures { IfOk result (λ text. string_bytes text ≡ table_text array.now.shape (map number_of array.now.items)) }
+    ensures { IfOk result (λ text. string_bytes text ≡ table_text array.now.shape (map item_number array.now.items)) }
 {
     let mut text = String::new(alloc);
     let axes = array.shape().as_slice();

@@ -5,7 +5,7 @@ use Rattle.apl_expr.specs.declared.expr.Expr.{Expr}
 use Rattle.apl_expr.specs.Trees.{tree_of, position_of, positions_of}
 use Rattle.arrays_core.specs.Arrays.{ArrayValue}
 use Rattle.arrays_core.specs.declared.fault.Fault.{Fault}
-use Rattle.selection_fns.specs.Index.{count_written, positions_of as positions_given}
+use Rattle.selection_fns.specs.Index.{count_written, written_positions}
 use Rattle.formula_core.specs.Outcomes.{Outcome}
 use Rattle.formula_core.specs.Meaning.{eval, eval_positions, in_front, empty_in_front, names_in, names_in_positions}
 
@@ -29,7 +29,7 @@ value_empty names ps k below is = rw (drop_more ps k None below, is) refl
 
 -- one more position behind those that are given
 pub given_written : (written : List Bool) (args : List ArrayValue) (a : ArrayValue) → length args ≡ count_written written
-    → positions_given (written ++ true ∷ []) (args ++ a ∷ []) ≡ positions_given written args ++ Some a ∷ []
+    → written_positions (written ++ true ∷ []) (args ++ a ∷ []) ≡ written_positions written args ++ Some a ∷ []
 given_written [] [] a long = refl
 given_written [] (b ∷ args) a long = absurd (omega arith)
 given_written (true ∷ written) [] a long = absurd (omega arith)
@@ -37,7 +37,7 @@ given_written (true ∷ written) (b ∷ args) a long = ap (λ ps. Some b ∷ ps)
 given_written (false ∷ written) args a long = ap (λ ps. None ∷ ps) (given_written written args a long)
 
 pub given_empty : (written : List Bool) (args : List ArrayValue) → length args ≡ count_written written
-    → positions_given (written ++ false ∷ []) args ≡ positions_given written args ++ None ∷ []
+    → written_positions (written ++ false ∷ []) args ≡ written_positions written args ++ None ∷ []
 given_empty [] [] long = refl
 given_empty [] (b ∷ args) long = absurd (omega arith)
 given_empty (true ∷ written) [] long = absurd (omega arith)

@@ -1,5 +1,6 @@
+-- What public contracts mean.
 pub mod Outcomes
 pub mod Meaning
-pub mod Codes
 pub mod Values
+-- What proofs and bodies use.
 pub mod Operands

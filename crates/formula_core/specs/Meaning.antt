@@ -11,13 +11,13 @@ use Rattle.apl_expr.specs.declared.expr.Monadic.{Monadic}
 use Rattle.apl_expr.specs.declared.expr.Monadic.TheVariants as monadic
 use Rattle.apl_expr.specs.declared.expr.Dyadic.{Dyadic}
 use Rattle.apl_expr.specs.declared.expr.Dyadic.TheVariants as dyadic
-use Rattle.arrays_core.specs.Arrays.{ArrayValue, scalar_of, vector_of, character_of, text_of}
+use Rattle.arrays_core.specs.Arrays.{ArrayValue, scalar_of, vector_of, character_scalar_of, text_of}
 use Rattle.arrays_core.specs.declared.item.Kind.{Kind}
 use Rattle.scalar_fns.specs.declared.function.Scalar1.{Scalar1}
 use Rattle.scalar_fns.specs.declared.function.Scalar1.TheVariants as one
 use Rattle.scalar_fns.specs.declared.function.Scalar2.{Scalar2}
 use Rattle.scalar_fns.specs.declared.function.Scalar2.TheVariants as two
-use Rattle.scalar_fns.specs.ScalarExtension.{on_array, on_arrays}
+use Rattle.scalar_fns.specs.ScalarExtension.{monadic_on_array, dyadic_on_arrays}
 use Rattle.index_region.specs.declared.along.Along.{Along}
 use Rattle.index_region.specs.declared.along.Along.TheVariants.{First, Last, Axis}
 use Rattle.structural_fns.specs.Reshape.{reshape_whole}
@@ -50,7 +50,7 @@ array_of (Numbers []) = vector_of []
 array_of (Numbers (n ∷ [])) = Ok (scalar_of n)
 array_of (Numbers (n ∷ m ∷ ns)) = vector_of (n ∷ m ∷ ns)
 array_of (Text []) = text_of []
-array_of (Text (c ∷ [])) = Ok (character_of c)
+array_of (Text (c ∷ [])) = Ok (character_scalar_of c)
 array_of (Text (c ∷ d ∷ cs)) = text_of (c ∷ d ∷ cs)
 
 abbrev pub scalar1_of : ScalarMonad → Scalar1
@@ -90,7 +90,7 @@ along_of (axis.Axis k) = Axis k
 
 -- a function of one array
 abbrev pub of_right : Monadic → ArrayValue → Result ArrayValue Kind
-of_right (monadic.Scalar f) b = on_array (scalar1_of f) b
+of_right (monadic.Scalar f) b = monadic_on_array (scalar1_of f) b
 of_right monadic.Ravel b = ravel_whole b
 of_right (monadic.Reverse k) b = reverse_whole (along_of k) b
 of_right monadic.Transpose b = transpose_whole b
@@ -101,7 +101,7 @@ of_right (monadic.Scan f k) b = scan_whole (scalar2_of f) (along_of k) b
 
 -- a function of two arrays
 abbrev pub of_both : Dyadic → (left right : ArrayValue) → Result ArrayValue Kind
-of_both (dyadic.Scalar f) a b = on_arrays (scalar2_of f) a b
+of_both (dyadic.Scalar f) a b = dyadic_on_arrays (scalar2_of f) a b
 of_both dyadic.Reshape a b = reshape_whole a b
 of_both (dyadic.Catenate k) a b = catenate_whole (along_of k) a b
 of_both dyadic.Take a b = take_whole a b

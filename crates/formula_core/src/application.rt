@@ -29,7 +29,7 @@ use arrays_core::{ApplyFault, Array};
 use index_region::Seen;
 use operator_fns::{Inner, Outer, Reduce, Scan};
 use scalar_fns::{apply_one, apply_two};
-use selection_fns::{AxisLengths, Decode, Encode, IndexGenerator, IndexOf, Member, Replicate};
+use selection_fns::{Decode, Encode, IndexGenerator, IndexOf, Member, Replicate, ShapeOf};
 use std::alloc::Global;
 use structural_fns::{
     Catenate, DropPlaces, DyadicTranspose, Ravel, Reshape, Reverse, Rotate, Take, Transpose,
@@ -144,7 +144,7 @@ fn transposed_by(alloc: Global, left: &Array, right: &Array) -> Result<Array, Ap
 fn axis_lengths(alloc: Global, array: &Array) -> Result<Array, ApplyFault>
     ensures { IsAnswerTo (shape_whole array.now) result }
 {
-    AxisLengths.apply(alloc, &[Seen::plain(array)])
+    ShapeOf.apply(alloc, &[Seen::plain(array)])
 }
 
 fn numbered(alloc: Global, array: &Array) -> Result<Array, ApplyFault>

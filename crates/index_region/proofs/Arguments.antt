@@ -4,16 +4,16 @@ use Rattle.arrays_core.specs.declared.item.Item.{Item}
 use Rattle.arrays_core.specs.declared.item.Kind.{Kind}
 use Rattle.arrays_core.specs.Arrays.{ArrayValue}
 use Rattle.index_region.specs.Checks.{Form, whole}
-use Rattle.index_region.specs.ArgumentLists.{of_one, of_two}
+use Rattle.index_region.specs.ArgumentLists.{of_one_argument, of_two_arguments}
 
 pub whole_of_one : (form : ArrayValue → Result Form Kind) (item : ArrayValue → List ℕ → Result Item Kind) (args : List ArrayValue)
-    → length args ≡ 1 → whole (of_one form args) (λ index. of_one (λ b. item b index) args) ≡ of_one (λ b. whole (form b) (item b)) args
+    → length args ≡ 1 → whole (of_one_argument form args) (λ index. of_one_argument (λ b. item b index) args) ≡ of_one_argument (λ b. whole (form b) (item b)) args
 whole_of_one form item [] h = absurd (omega arith)
 whole_of_one form item (b ∷ []) h = refl
 whole_of_one form item (a ∷ b ∷ rest) h = absurd (omega arith)
 
 pub whole_of_two : (form : ArrayValue → ArrayValue → Result Form Kind) (item : ArrayValue → ArrayValue → List ℕ → Result Item Kind) (args : List ArrayValue)
-    → length args ≡ 2 → whole (of_two form args) (λ index. of_two (λ a b. item a b index) args) ≡ of_two (λ a b. whole (form a b) (item a b)) args
+    → length args ≡ 2 → whole (of_two_arguments form args) (λ index. of_two_arguments (λ a b. item a b index) args) ≡ of_two_arguments (λ a b. whole (form a b) (item a b)) args
 whole_of_two form item [] h = absurd (omega arith)
 whole_of_two form item (a ∷ []) h = absurd (omega arith)
 whole_of_two form item (a ∷ b ∷ []) h = refl

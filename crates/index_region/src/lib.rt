@@ -5,11 +5,11 @@
 mod along;
 mod checks;
 mod primitive;
-mod source;
 mod seen;
+mod source;
 
 pub use along::Along;
 pub use checks::limited;
 pub use primitive::{Primitive, apply};
-pub use source::{Source, item_from};
 pub use seen::Seen;
+pub use source::{Source, item_from};

@@ -6,7 +6,7 @@ use Rattle.std.proofs.lemmas.Int.{ints, clamps}
 use Rattle.arrays_core.specs.declared.item.Kind.{Kind}
 use Rattle.arrays_core.specs.declared.item.Kind.TheVariants.{Domain, Limit}
 use Rattle.scalar_fns.specs.declared.function.Scalar2.TheVariants.{Maximum, Minimum, And, Or}
-use Rattle.scalar_fns.specs.Numbers.{of_two, as_truth, truth, on_truths, logical}
+use Rattle.scalar_fns.specs.Numbers.{dyadic_on_numbers, as_truth, truth, on_truths, logical}
 use Rattle.index_region.specs.Checks.{and_then}
 use Rattle.operator_fns.specs.Strides.{folded}
 use Rattle.operator_fns.specs.LinearScan.{fold_on, folded_left, IsAssociative}
@@ -44,14 +44,14 @@ module _ (f : ℤ → ℤ → Result ℤ Kind) (law : IsAssociative f) where
 
 -- ---- associative functions
 
-pub maximum : IsAssociative (of_two Maximum)
+pub maximum : IsAssociative (dyadic_on_numbers Maximum)
 maximum = record {
   kind = Limit;
   only = λ a b k h. let no : ⊥ = cc in absurd no;
   either = λ a b c. ap Ok (let e : int_max a (int_max b c) ≡ int_max (int_max a b) c = omega (arith, ints, clamps) in e);
 }
 
-pub minimum : IsAssociative (of_two Minimum)
+pub minimum : IsAssociative (dyadic_on_numbers Minimum)
 minimum = record {
   kind = Limit;
   only = λ a b k h. let no : ⊥ = cc in absurd no;
@@ -100,8 +100,8 @@ or_assoc : (p q r : Bool) → (p || (q || r)) ≡ ((p || q) || r)
 or_assoc true q r = refl
 or_assoc false q r = refl
 
-pub both_true : IsAssociative (of_two And)
+pub both_true : IsAssociative (dyadic_on_numbers And)
 both_true = on_bits (λ p q. p && q) and_assoc
 
-pub any_true : IsAssociative (of_two Or)
+pub any_true : IsAssociative (dyadic_on_numbers Or)
 any_true = on_bits (λ p q. p || q) or_assoc

@@ -7,7 +7,7 @@ use Rattle.std.proofs.lemmas.Bool.{lt-ltb, ltb-true}
 use Rattle.arrays_core.specs.declared.item.Kind.{Kind}
 use Rattle.arrays_core.specs.declared.item.Kind.TheVariants.{Limit}
 use Rattle.scalar_fns.specs.declared.function.Scalar2.TheVariants.{Plus}
-use Rattle.scalar_fns.specs.Numbers.{of_two, held, is_number}
+use Rattle.scalar_fns.specs.Numbers.{dyadic_on_numbers, number_or_limit, is_number}
 use Rattle.scalar_fns.specs.Identities.{least, greatest}
 use Rattle.index_region.specs.Checks.{and_then}
 use Rattle.operator_fns.specs.Strides.{folded}
@@ -24,7 +24,7 @@ pub within_of : (z : ℤ) → SFits w64 z → Within z
 within_of (pos n) f = let h = f.sfits in record { low = omega (arith, ints); high = omega (arith, ints) }
 within_of (negsuc n) f = let h = f.sfits in record { low = omega (arith, ints); high = omega (arith, ints) }
 
-pub held_within : (z : ℤ) → Within z → held z ≡ Ok z
+pub held_within : (z : ℤ) → Within z → number_or_limit z ≡ Ok z
 held_within (pos n) h = let inside : ltb n (2 ^ 63) ≡ true = lt-ltb n (2 ^ 63) (omega (arith, ints, h.high)) in rw inside refl
 held_within (negsuc n) h = let inside : ltb n (2 ^ 63) ≡ true = lt-ltb n (2 ^ 63) (omega (arith, ints, h.low)) in rw inside refl
 
@@ -32,7 +32,7 @@ pub record Holds (z t : ℤ) : Type 0 where
   pub within : Within z
   pub same : t ≡ z
 
-pub held_ok : (z t : ℤ) → held z ≡ Ok t → Holds z t
+pub held_ok : (z t : ℤ) → number_or_limit z ≡ Ok t → Holds z t
 held_ok z t h = decide (is_number z) refl h
   where
     inside : (z : ℤ) → is_number z ≡ true → Within z
@@ -43,7 +43,7 @@ held_ok z t h = decide (is_number z) refl h
     decide true e h = let same : t ≡ z = cc in record { within = inside z e; same = same }
     decide false e h = let no : ⊥ = cc in absurd no
 
-pub held_error : (z : ℤ) (k : Kind) → held z ≡ Err k → k ≡ Limit
+pub held_error : (z : ℤ) (k : Kind) → number_or_limit z ≡ Err k → k ≡ Limit
 held_error z k h = decide (is_number z) h
   where
     decide : (b : Bool) → (if b then Ok z else Err Limit) ≡ Err k → k ≡ Limit
@@ -106,7 +106,7 @@ pub record Fits (x : ℤ) (rest : List ℤ) : Type 0 where
   pub low : least ≤ℤ fewest x rest
   pub high : most x rest ≤ℤ greatest
 
-pub folded_sum : (x : ℤ) (rest : List ℤ) → Fits x rest → folded (of_two Plus) (x ∷ rest) ≡ Ok (total x rest)
+pub folded_sum : (x : ℤ) (rest : List ℤ) → Fits x rest → folded (dyadic_on_numbers Plus) (x ∷ rest) ≡ Ok (total x rest)
 folded_sum x [] h = refl
 folded_sum x (y ∷ rest) h =
     let low = h.low in
@@ -114,8 +114,8 @@ folded_sum x (y ∷ rest) h =
     let later = folded_sum y rest (record { low = omega (arith, ints, clamps); high = omega (arith, ints, clamps) }) in
     rw later (held_within (x +ℤ total y rest) (record { low = omega (arith, ints, clamps); high = omega (arith, ints, clamps) }))
 
-rest_fits : (x y : ℤ) (rest : List ℤ) (t : ℤ) (r : Result ℤ Kind) → folded (of_two Plus) (y ∷ rest) ≡ r → ((v : ℤ) → folded (of_two Plus) (y ∷ rest) ≡ Ok v → Fits y rest)
-    → and_then r (of_two Plus x) ≡ Ok t → Fits x (y ∷ rest)
+rest_fits : (x y : ℤ) (rest : List ℤ) (t : ℤ) (r : Result ℤ Kind) → folded (dyadic_on_numbers Plus) (y ∷ rest) ≡ r → ((v : ℤ) → folded (dyadic_on_numbers Plus) (y ∷ rest) ≡ Ok v → Fits y rest)
+    → and_then r (dyadic_on_numbers Plus x) ≡ Ok t → Fits x (y ∷ rest)
 rest_fits x y rest t (Ok v) e later h =
     let fits = later v e in
     let low = fits.low in
@@ -128,34 +128,34 @@ rest_fits x y rest t (Ok v) e later h =
     record { low = omega (arith, ints, clamps); high = omega (arith, ints, clamps) }
 rest_fits x y rest t (Err k) e later h = let no : ⊥ = cc in absurd no
 
-pub folded_fits : (x : ℤ) (rest : List ℤ) (t : ℤ) → All Within (x ∷ rest) → folded (of_two Plus) (x ∷ rest) ≡ Ok t → Fits x rest
+pub folded_fits : (x : ℤ) (rest : List ℤ) (t : ℤ) → All Within (x ∷ rest) → folded (dyadic_on_numbers Plus) (x ∷ rest) ≡ Ok t → Fits x rest
 folded_fits x [] t within h = let w = within 0 x (omega arith) in record { low = w.low; high = w.high }
 folded_fits x (y ∷ rest) t within h =
-    rest_fits x y rest t (folded (of_two Plus) (y ∷ rest)) refl
+    rest_fits x y rest t (folded (dyadic_on_numbers Plus) (y ∷ rest)) refl
     (λ v e. folded_fits y rest v (λ k d below. within (suc k) d (omega arith)) e) h
 
-pub folded_error : (x : ℤ) (rest : List ℤ) (k : Kind) → folded (of_two Plus) (x ∷ rest) ≡ Err k → k ≡ Limit
+pub folded_error : (x : ℤ) (rest : List ℤ) (k : Kind) → folded (dyadic_on_numbers Plus) (x ∷ rest) ≡ Err k → k ≡ Limit
 folded_error x [] k h = let no : ⊥ = cc in absurd no
-folded_error x (y ∷ rest) k h = decide (folded (of_two Plus) (y ∷ rest)) (λ e g. folded_error y rest e g) h
+folded_error x (y ∷ rest) k h = decide (folded (dyadic_on_numbers Plus) (y ∷ rest)) (λ e g. folded_error y rest e g) h
   where
-    decide : (r : Result ℤ Kind) → ((e : Kind) → r ≡ Err e → e ≡ Limit) → and_then r (of_two Plus x) ≡ Err k → k ≡ Limit
+    decide : (r : Result ℤ Kind) → ((e : Kind) → r ≡ Err e → e ≡ Limit) → and_then r (dyadic_on_numbers Plus x) ≡ Err k → k ≡ Limit
     decide (Ok z) later h = held_error (x +ℤ z) k h
     decide (Err e) later h = let same : e ≡ k = cc in sym same ∙ later e refl
 
 -- ---- the folds from the left that keep the greatest and the least sum of an ending
 
 abbrev pub greatest_step : ℤ → ℤ → Result ℤ Kind
-greatest_step a b = of_two Plus (int_max a (pos 0)) b
+greatest_step a b = dyadic_on_numbers Plus (int_max a (pos 0)) b
 
 abbrev pub least_step : ℤ → ℤ → Result ℤ Kind
-least_step a b = of_two Plus (int_min a (pos 0)) b
+least_step a b = dyadic_on_numbers Plus (int_min a (pos 0)) b
 
 -- they keep what they are for, within 64 bits
 pub record Kept (z bound : ℤ) : Type 0 where
   pub is : z ≡ bound
   pub within : Within z
 
-one_step : (x y z bound : ℤ) (rest : List ℤ) (r : Result ℤ Kind) (step : ℤ → ℤ → Result ℤ Kind) (whole : ℤ → ℤ) → held x ≡ r
+one_step : (x y z bound : ℤ) (rest : List ℤ) (r : Result ℤ Kind) (step : ℤ → ℤ → Result ℤ Kind) (whole : ℤ → ℤ) → number_or_limit x ≡ r
     → ((w : ℤ) → Within w → fold_on step w rest ≡ Ok z → Kept z (whole w)) → whole x ≡ bound → and_then r (λ w. fold_on step w rest) ≡ Ok z → Kept z bound
 one_step x y z bound rest (Ok w) step whole e later same h =
     let here = held_ok x w e in
@@ -166,13 +166,13 @@ one_step x y z bound rest (Err k) step whole e later same h = let no : ⊥ = cc 
 pub most_kept : (x : ℤ) (rest : List ℤ) (z : ℤ) → Within x → fold_on greatest_step x rest ≡ Ok z → Kept z (most x rest)
 most_kept x [] z within h = let same : x ≡ z = cc in record { is = sym same; within = subst Within same within }
 most_kept x (y ∷ rest) z within h =
-    one_step (int_max x (pos 0) +ℤ y) y z (most x (y ∷ rest)) rest (held (int_max x (pos 0) +ℤ y)) greatest_step (λ w. most w rest) refl
+    one_step (int_max x (pos 0) +ℤ y) y z (most x (y ∷ rest)) rest (number_or_limit (int_max x (pos 0) +ℤ y)) greatest_step (λ w. most w rest) refl
     (λ w inside g. most_kept w rest z inside g) (most_left x y rest) h
 
 pub fewest_kept : (x : ℤ) (rest : List ℤ) (z : ℤ) → Within x → fold_on least_step x rest ≡ Ok z → Kept z (fewest x rest)
 fewest_kept x [] z within h = let same : x ≡ z = cc in record { is = sym same; within = subst Within same within }
 fewest_kept x (y ∷ rest) z within h =
-    one_step (int_min x (pos 0) +ℤ y) y z (fewest x (y ∷ rest)) rest (held (int_min x (pos 0) +ℤ y)) least_step (λ w. fewest w rest) refl
+    one_step (int_min x (pos 0) +ℤ y) y z (fewest x (y ∷ rest)) rest (number_or_limit (int_min x (pos 0) +ℤ y)) least_step (λ w. fewest w rest) refl
     (λ w inside g. fewest_kept w rest z inside g) (fewest_left x y rest) h
 
 -- where both keep to 64 bits, so does the sum between them
@@ -186,28 +186,28 @@ record Stepped (x z : ℤ) (step : ℤ → ℤ → Result ℤ Kind) (rest : List
   within : Within next
   later : fold_on step next rest ≡ Ok z
 
-stepped : (x z : ℤ) (step : ℤ → ℤ → Result ℤ Kind) (rest : List ℤ) (r : Result ℤ Kind) → held x ≡ r → and_then r (λ w. fold_on step w rest) ≡ Ok z → Stepped x z step rest
+stepped : (x z : ℤ) (step : ℤ → ℤ → Result ℤ Kind) (rest : List ℤ) (r : Result ℤ Kind) → number_or_limit x ≡ r → and_then r (λ w. fold_on step w rest) ≡ Ok z → Stepped x z step rest
 stepped x z step rest (Ok w) e h =
     let here = held_ok x w e in record { next = w; is = here.same; within = subst Within (sym here.same) here.within; later = h }
 stepped x z step rest (Err k) e h = let no : ⊥ = cc in absurd no
 
 sum_between : (rest : List ℤ) (sum high low top bottom : ℤ) → low ≤ℤ sum → sum ≤ℤ high → fold_on greatest_step high rest ≡ Ok top → fold_on least_step low rest ≡ Ok bottom
-    → fold_on (of_two Plus) sum rest ≡ Ok (total sum rest)
+    → fold_on (dyadic_on_numbers Plus) sum rest ≡ Ok (total sum rest)
 sum_between [] sum high low top bottom above below g l = refl
 sum_between (y ∷ rest) sum high low top bottom above below g l =
-    let up = stepped (int_max high (pos 0) +ℤ y) top greatest_step rest (held (int_max high (pos 0) +ℤ y)) refl g in
-    let down = stepped (int_min low (pos 0) +ℤ y) bottom least_step rest (held (int_min low (pos 0) +ℤ y)) refl l in
+    let up = stepped (int_max high (pos 0) +ℤ y) top greatest_step rest (number_or_limit (int_max high (pos 0) +ℤ y)) refl g in
+    let down = stepped (int_min low (pos 0) +ℤ y) bottom least_step rest (number_or_limit (int_min low (pos 0) +ℤ y)) refl l in
     let up_is = up.is in
     let down_is = down.is in
     let up_high = up.within.high in
     let down_low = down.within.low in
     let here = held_within (sum +ℤ y) (record { low = omega (arith, ints, clamps); high = omega (arith, ints, clamps) }) in
-    ap (λ r. and_then r (λ w. fold_on (of_two Plus) w rest)) here
+    ap (λ r. and_then r (λ w. fold_on (dyadic_on_numbers Plus) w rest)) here
     ∙ sum_between rest (sum +ℤ y) up.next down.next top bottom (omega (arith, ints, clamps)) (omega (arith, ints, clamps)) up.later down.later
     ∙ ap Ok (total_left sum y rest)
 
 pub sum_from_left : (xs : List ℤ) (top bottom : ℤ) → All Within xs → folded_left greatest_step xs ≡ Ok top → folded_left least_step xs ≡ Ok bottom
-    → folded_left (of_two Plus) xs ≡ folded (of_two Plus) xs
+    → folded_left (dyadic_on_numbers Plus) xs ≡ folded (dyadic_on_numbers Plus) xs
 sum_from_left [] top bottom within g l = refl
 sum_from_left (x ∷ rest) top bottom within g l =
     let inside = within 0 x (omega arith) in
@@ -225,7 +225,7 @@ last_within : (x : ℤ) (rest : List ℤ) (y : ℤ) → All Within (x ∷ (rest 
 last_within x [] y h = h 1 y (omega arith)
 last_within x (w ∷ rest) y h = last_within w rest y (λ k d below. h (suc k) d (omega arith))
 
-pub more_most : (xs : List ℤ) (y z t : ℤ) → 0 < length xs → All Within (xs ++ y ∷ []) → folded (of_two Plus) (xs ++ y ∷ []) ≡ Ok t
+pub more_most : (xs : List ℤ) (y z t : ℤ) → 0 < length xs → All Within (xs ++ y ∷ []) → folded (dyadic_on_numbers Plus) (xs ++ y ∷ []) ≡ Ok t
     → folded_left greatest_step xs ≡ Ok z → Given (greatest_step z y)
 more_most [] y z t some within e g = absurd (omega arith)
 more_most (x ∷ rest) y z t some within e g =
@@ -238,7 +238,7 @@ more_most (x ∷ rest) y z t some within e g =
     let low = last.low in
     record { item = int_max z (pos 0) +ℤ y; is = held_within (int_max z (pos 0) +ℤ y) (record { low = omega (arith, ints, clamps); high = omega (arith, ints, clamps) }) }
 
-pub more_fewest : (xs : List ℤ) (y z t : ℤ) → 0 < length xs → All Within (xs ++ y ∷ []) → folded (of_two Plus) (xs ++ y ∷ []) ≡ Ok t
+pub more_fewest : (xs : List ℤ) (y z t : ℤ) → 0 < length xs → All Within (xs ++ y ∷ []) → folded (dyadic_on_numbers Plus) (xs ++ y ∷ []) ≡ Ok t
     → folded_left least_step xs ≡ Ok z → Given (least_step z y)
 more_fewest [] y z t some within e g = absurd (omega arith)
 more_fewest (x ∷ rest) y z t some within e g =

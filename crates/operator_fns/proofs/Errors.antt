@@ -6,7 +6,7 @@ use Rattle.arrays_core.specs.declared.fault.ApplyFault.{ApplyFault}
 use Rattle.arrays_core.specs.declared.fault.ApplyFault.TheVariants.{Kind as KindFault, NoMemory}
 use Rattle.arrays_core.specs.declared.item.ItemType.TheVariants.{Nums}
 use Rattle.arrays_core.specs.Arrays.{ArrayValue, IsAnswerTo, with_items}
-use Rattle.scalar_fns.specs.NumberLists.{IsListAnswerTo, items_of}
+use Rattle.scalar_fns.specs.NumberLists.{IsListAnswerTo, number_items}
 use Rattle.operator_fns.specs.LinearScan.{run_to, FailsAt, HasRead}
 
 pub passed_on : {A : Type 0} (r : Result A Kind) (k : Kind) → IsErr r × IsErrAnd r (λ e. e ≡ k) → r ≡ Err k
@@ -23,7 +23,7 @@ fault_passed fold zs stride count wanted NoMemory (Err e) same is h = rw h.1 tt
 
 -- the array of a list's error, or want of memory
 pub array_fault : (G : Type 0) (wanted : Result (List ℤ) Kind) (shape : List ℕ) (fault : ApplyFault) (r : Result ArrayValue ApplyFault)
-    → IsListAnswerTo {G = G} wanted (Err fault) → IsErr r × IsErrAnd r (λ e. e ≡ fault) → IsAnswerTo (with_items Nums shape (items_of wanted)) r
+    → IsListAnswerTo {G = G} wanted (Err fault) → IsErr r × IsErrAnd r (λ e. e ≡ fault) → IsAnswerTo (with_items Nums shape (number_items wanted)) r
 array_fault G wanted shape fault (Ok a) is h = absurd h.1
 array_fault G wanted shape (KindFault k) (Err e) is h = rw h.1 (rw is refl)
 array_fault G wanted shape NoMemory (Err e) is h = rw h.1 tt

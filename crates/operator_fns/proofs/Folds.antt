@@ -6,15 +6,15 @@ use Rattle.std.proofs.Math.Nat.{mul-le-mul_right}
 use Rattle.arrays_core.specs.declared.item.Item.{Item}
 use Rattle.arrays_core.specs.declared.item.Kind.{Kind}
 use Rattle.scalar_fns.specs.declared.function.Scalar2.{Scalar2}
-use Rattle.scalar_fns.specs.Items.{two_of}
+use Rattle.scalar_fns.specs.Items.{dyadic_on_items}
 use Rattle.index_region.specs.Checks.{and_then}
 use Rattle.operator_fns.specs.RightFold.{fold_right}
 use Rattle.operator_fns.specs.Strides.{strided, folded}
 
-pub some_folded : (f : Scalar2) (xs : List Item) → 0 < length xs → fold_right f xs ≡ folded (two_of f) xs
+pub some_folded : (f : Scalar2) (xs : List Item) → 0 < length xs → fold_right f xs ≡ folded (dyadic_on_items f) xs
 some_folded f [] h = absurd (omega arith)
 some_folded f (x ∷ []) h = refl
-some_folded f (x ∷ y ∷ xs) h = ap (λ r. and_then r (two_of f x)) (some_folded f (y ∷ xs) (omega arith))
+some_folded f (x ∷ y ∷ xs) h = ap (λ r. and_then r (dyadic_on_items f x)) (some_folded f (y ∷ xs) (omega arith))
 
 module _ {A : Type 0} (f : A → A → Result A Kind) where
   pub fold_more : (x : A) (rest : List A) → 0 < length rest → folded f (x ∷ rest) ≡ and_then (folded f rest) (f x)

@@ -12,9 +12,9 @@ use Rattle.arrays_core.specs.Arrays.{ArrayValue, collect}
 use Rattle.arrays_core.proofs.Shapes.{places_below, factor_le}
 use Rattle.arrays_core.proofs.Order.{places_before-index_after, index_after-within}
 use Rattle.scalar_fns.specs.declared.function.Scalar2.{Scalar2}
-use Rattle.scalar_fns.specs.Numbers.{of_two as of_two_numbers}
-use Rattle.scalar_fns.specs.Items.{two_of, number_item}
-use Rattle.scalar_fns.specs.NumberLists.{items_of}
+use Rattle.scalar_fns.specs.Numbers.{dyadic_on_numbers}
+use Rattle.scalar_fns.specs.Items.{dyadic_on_items, number_item}
+use Rattle.scalar_fns.specs.NumberLists.{number_items}
 use Rattle.scalar_fns.specs.ScalarExtension.{extended}
 use Rattle.index_region.specs.Checks.{Form, and_then, whole, limited}
 use Rattle.index_region.specs.Arguments.{has_one_item}
@@ -33,38 +33,38 @@ use Rattle.operator_fns.proofs.Placewise.{collected_same}
 -- ---- folds of numbers are folds of items
 
 met_numbers : (g : Scalar2) (x y : ℕ → ℤ) (places : List ℕ)
-    → map (λ k. two_of g (Num (x k)) (Num (y k))) places ≡ map number_item (map (λ k. of_two_numbers g (x k) (y k)) places)
+    → map (λ k. dyadic_on_items g (Num (x k)) (Num (y k))) places ≡ map number_item (map (λ k. dyadic_on_numbers g (x k) (y k)) places)
 met_numbers g x y [] = refl
-met_numbers g x y (k ∷ places) = ap (λ rs. number_item (of_two_numbers g (x k) (y k)) ∷ rs) (met_numbers g x y places)
+met_numbers g x y (k ∷ places) = ap (λ rs. number_item (dyadic_on_numbers g (x k) (y k)) ∷ rs) (met_numbers g x y places)
 
-all_numbers : (rs : List (Result ℤ Kind)) → all_or_last (map number_item rs) ≡ items_of (all_or_last rs)
+all_numbers : (rs : List (Result ℤ Kind)) → all_or_last (map number_item rs) ≡ number_items (all_or_last rs)
 all_numbers [] = refl
 all_numbers (r ∷ rs) = ap (λ rest. and_then rest (λ items. and_then (number_item r) (λ item. Ok (item ∷ items)))) (all_numbers rs) ∙ moved (all_or_last rs) r
   where
     moved : (rest : Result (List ℤ) Kind) (r : Result ℤ Kind)
-        → and_then (items_of rest) (λ items. and_then (number_item r) (λ item. Ok (item ∷ items))) ≡ items_of (and_then rest (λ zs. and_then r (λ z. Ok (z ∷ zs))))
+        → and_then (number_items rest) (λ items. and_then (number_item r) (λ item. Ok (item ∷ items))) ≡ number_items (and_then rest (λ zs. and_then r (λ z. Ok (z ∷ zs))))
     moved (Ok zs) (Ok z) = refl
     moved (Ok zs) (Err e) = refl
     moved (Err e) r = refl
 
-folded_numbers : (f : Scalar2) (zs : List ℤ) → folded (two_of f) (map (λ z. Num z) zs) ≡ number_item (folded (of_two_numbers f) zs)
+folded_numbers : (f : Scalar2) (zs : List ℤ) → folded (dyadic_on_items f) (map (λ z. Num z) zs) ≡ number_item (folded (dyadic_on_numbers f) zs)
 folded_numbers f [] = refl
 folded_numbers f (x ∷ []) = refl
-folded_numbers f (x ∷ y ∷ zs) = ap (λ r. and_then r (two_of f (Num x))) (folded_numbers f (y ∷ zs)) ∙ moved (folded (of_two_numbers f) (y ∷ zs))
+folded_numbers f (x ∷ y ∷ zs) = ap (λ r. and_then r (dyadic_on_items f (Num x))) (folded_numbers f (y ∷ zs)) ∙ moved (folded (dyadic_on_numbers f) (y ∷ zs))
   where
-    moved : (r : Result ℤ Kind) → and_then (number_item r) (two_of f (Num x)) ≡ number_item (and_then r (of_two_numbers f x))
+    moved : (r : Result ℤ Kind) → and_then (number_item r) (dyadic_on_items f (Num x)) ≡ number_item (and_then r (dyadic_on_numbers f x))
     moved (Ok z) = refl
     moved (Err e) = refl
 
 fold_of_numbers : (f g : Scalar2) (x y : ℕ → ℤ) (count : ℕ)
-    → folded_all (two_of f) (met (two_of g) (λ k. Num (x k)) (λ k. Num (y k)) count) ≡ number_item (folded_all (of_two_numbers f) (met (of_two_numbers g) x y count))
+    → folded_all (dyadic_on_items f) (met (dyadic_on_items g) (λ k. Num (x k)) (λ k. Num (y k)) count) ≡ number_item (folded_all (dyadic_on_numbers f) (met (dyadic_on_numbers g) x y count))
 fold_of_numbers f g x y count =
-    let rs = met (of_two_numbers g) x y count in
-    ap (folded_all (two_of f)) (met_numbers g x y (range_with_len 0 count))
-    ∙ ap (λ r. and_then r (folded (two_of f))) (all_numbers rs)
+    let rs = met (dyadic_on_numbers g) x y count in
+    ap (folded_all (dyadic_on_items f)) (met_numbers g x y (range_with_len 0 count))
+    ∙ ap (λ r. and_then r (folded (dyadic_on_items f))) (all_numbers rs)
     ∙ moved (all_or_last rs)
   where
-    moved : (r : Result (List ℤ) Kind) → and_then (items_of r) (folded (two_of f)) ≡ number_item (and_then r (folded (of_two_numbers f)))
+    moved : (r : Result (List ℤ) Kind) → and_then (number_items r) (folded (dyadic_on_items f)) ≡ number_item (and_then r (folded (dyadic_on_numbers f)))
     moved (Ok zs) = folded_numbers f zs
     moved (Err e) = refl
 
@@ -221,7 +221,7 @@ module _ (a b : ArrayValue) (xs ys : List ℤ) (long_a : length a.items ≡ size
         }
 
     cell_there : (f g : Scalar2) (index : List ℕ) → is_index_of (take (row_rank a) a.shape ++ drop 1 b.shape) index ≡ true
-        → number_item (cell (of_two_numbers f) (of_two_numbers g) xs ys (grid_of a b) (places_before (take (row_rank a) a.shape ++ drop 1 b.shape) index))
+        → number_item (cell (dyadic_on_numbers f) (dyadic_on_numbers g) xs ys (grid_of a b) (places_before (take (row_rank a) a.shape ++ drop 1 b.shape) index))
         ≡ inner_item f g a b index
     cell_there f g index h =
         let rows = take (row_rank a) a.shape in
@@ -234,14 +234,14 @@ module _ (a b : ArrayValue) (xs ys : List ℤ) (long_a : length a.items ≡ size
         let x = entry (pos 0) xs (row_at (grid_of a b) place) in
         let y = entry (pos 0) ys (column_at (grid_of a b) place) in
         let some : 1 ≤ count = grid_fits.some in
-        let long = length-met (two_of g) (λ k. Num (x k)) (λ k. Num (y k)) count in
+        let long = length-met (dyadic_on_items g) (λ k. Num (x k)) (λ k. Num (y k)) count in
         let same = products_met g a b row column (λ k. Num (x k)) (λ k. Num (y k)) count refl
         (λ k low. subst (λ q. Num (get_or xs (q * count + k * cond (eqb (length a.items) 1) 0 1) (pos 0)) ≡ extended a (row ++ (k + 1) ∷ [])) (sym two.row)
         (row_entry a xs long_a is_a some_a row count k two.front row_long low).is)
         (λ k low. subst (λ q. Num (get_or ys (q + k * cond (eqb (length b.items) 1) 0 (size columns)) (pos 0)) ≡ extended b ((k + 1) ∷ column)) (sym two.column)
         (column_entry b ys long_b is_b some_b column count k two.back column_long low).is) in
         sym (ap (λ rs. and_then (all_or_last_error rs) (fold_right f)) same
-        ∙ fold_of_some f (met (two_of g) (λ k. Num (x k)) (λ k. Num (y k)) count) (omega arith)
+        ∙ fold_of_some f (met (dyadic_on_items g) (λ k. Num (x k)) (λ k. Num (y k)) count) (omega arith)
         ∙ fold_of_numbers f g x y count)
 
   -- what is known where the checks have given a form
@@ -262,11 +262,11 @@ module _ (a b : ArrayValue) (xs ys : List ℤ) (long_a : length a.items ≡ size
       subst (λ (g : Form). IsGridOf (grid_of a b) (size g.0) (length xs) (length ys)) (sym c.is) (grid_fits c.row c.column)
 
   pub inner_of_numbers : (f g : Scalar2) (form : Form) → inner_form a b ≡ Ok form
-      → collect Nums form.0 (λ index. number_item (cell (of_two_numbers f) (of_two_numbers g) xs ys (grid_of a b) (places_before form.0 index))) ≡ inner_whole f g a b
+      → collect Nums form.0 (λ index. number_item (cell (dyadic_on_numbers f) (dyadic_on_numbers g) xs ys (grid_of a b) (places_before form.0 index))) ≡ inner_whole f g a b
   inner_of_numbers f g form h =
       let c = checked form h in
       let shape = take (row_rank a) a.shape ++ drop 1 b.shape in
-      let number = cell (of_two_numbers f) (of_two_numbers g) xs ys (grid_of a b) in
+      let number = cell (dyadic_on_numbers f) (dyadic_on_numbers g) xs ys (grid_of a b) in
       sym (ap (λ r. whole r (inner_item f g a b)) h
       ∙ ap (λ (w : Form). collect w.1 w.0 (inner_item f g a b)) c.is
       ∙ sym (ap (λ (w : Form). collect Nums w.0 (λ index. number_item (number (places_before w.0 index)))) c.is

@@ -12,7 +12,7 @@ use Rattle.arrays_core.specs.Shapes.{size, is_index_of, places_before}
 use Rattle.arrays_core.specs.Arrays.{ArrayValue, item_of}
 use Rattle.arrays_core.proofs.Shapes.{places_below, as_long}
 use Rattle.scalar_fns.specs.declared.function.Scalar2.{Scalar2}
-use Rattle.scalar_fns.specs.Items.{two_of}
+use Rattle.scalar_fns.specs.Items.{dyadic_on_items}
 use Rattle.scalar_fns.specs.ScalarExtension.{extended}
 use Rattle.index_region.specs.Checks.{and_then}
 use Rattle.index_region.specs.Arguments.{has_one_item}
@@ -107,32 +107,32 @@ some_all [] items h e = absurd (omega arith)
 some_all (x ∷ rs) items h e = one_longer x (all_or_last rs) items e
 
 then_folded : (f : Scalar2) (r : Result (List Item) Kind) → ((items : List Item) → r ≡ Ok items → 0 < length items)
-    → and_then r (fold_right f) ≡ and_then r (folded (two_of f))
+    → and_then r (fold_right f) ≡ and_then r (folded (dyadic_on_items f))
 then_folded f (Ok items) some = some_folded f items (some items refl)
 then_folded f (Err k) some = refl
 
-pub fold_of_some : (f : Scalar2) (rs : List (Result Item Kind)) → 0 < length rs → and_then (all_or_last_error rs) (fold_right f) ≡ folded_all (two_of f) rs
+pub fold_of_some : (f : Scalar2) (rs : List (Result Item Kind)) → 0 < length rs → and_then (all_or_last_error rs) (fold_right f) ≡ folded_all (dyadic_on_items f) rs
 fold_of_some f rs h =
     ap (λ r. and_then r (fold_right f)) (same_errors rs) ∙ then_folded f (all_or_last rs) (λ items e. some_all rs items h e)
 
 pub products_met : (g : Scalar2) (a b : ArrayValue) (row column : List ℕ) (left right : ℕ → Item) (count : ℕ) → count ≡ inner_length a b
     → ((k : ℕ) → k < count → left k ≡ extended a (row ++ (k + 1) ∷ []))
     → ((k : ℕ) → k < count → right k ≡ extended b ((k + 1) ∷ column))
-    → products g a b row column ≡ met (two_of g) left right count
+    → products g a b row column ≡ met (dyadic_on_items g) left right count
 products_met g a b row column left right count e is_left is_right =
-    let f = λ (j : ℕ). two_of g (extended a (row ++ j ∷ [])) (extended b (j ∷ column)) in
+    let f = λ (j : ℕ). dyadic_on_items g (extended a (row ++ j ∷ [])) (extended b (j ∷ column)) in
     let d : Result Item Kind = f 0 in
     let long = length-map-range_with_len f 1 (inner_length a b) in
-    let met_long = length-met (two_of g) left right count in
-    ext_get_or d (products g a b row column) (met (two_of g) left right count) (omega arith) (λ k h.
+    let met_long = length-met (dyadic_on_items g) left right count in
+    ext_get_or d (products g a b row column) (met (dyadic_on_items g) left right count) (omega arith) (λ k h.
     let below : k < count = omega arith in
     get_or-map-range_with_len f 1 (inner_length a b) k (k + 1) d (omega arith) (omega arith)
-    ∙ sym (met_at (two_of g) left right count k d below ∙ (rw (is_left k below, is_right k below) refl)))
+    ∙ sym (met_at (dyadic_on_items g) left right count k d below ∙ (rw (is_left k below, is_right k below) refl)))
 
 -- no items meet
 pub nothing_met : (f g : Scalar2) (a b : ArrayValue) (index : List ℕ) → inner_length a b ≡ 0 → inner_item f g a b index ≡ fold_right f []
 nothing_met f g a b index h =
-    let h' = λ (j : ℕ). two_of g (extended a (take (row_rank a) index ++ j ∷ [])) (extended b (j ∷ drop (row_rank a) index)) in
+    let h' = λ (j : ℕ). dyadic_on_items g (extended a (take (row_rank a) index ++ j ∷ [])) (extended b (j ∷ drop (row_rank a) index)) in
     ap (λ n. and_then (all_or_last_error (map h' (range_with_len 1 n))) (fold_right f)) h
 
 -- ---- what has passed

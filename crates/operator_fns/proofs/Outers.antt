@@ -9,9 +9,9 @@ use Rattle.arrays_core.specs.Shapes.{size, is_index_of, places_before}
 use Rattle.arrays_core.specs.Arrays.{ArrayValue, collect, with_items}
 use Rattle.arrays_core.proofs.Shapes.{places_below}
 use Rattle.scalar_fns.specs.declared.function.Scalar2.{Scalar2}
-use Rattle.scalar_fns.specs.Numbers.{of_two as of_two_numbers}
+use Rattle.scalar_fns.specs.Numbers.{dyadic_on_numbers}
 use Rattle.scalar_fns.specs.Items.{number_item}
-use Rattle.scalar_fns.specs.NumberLists.{items_of}
+use Rattle.scalar_fns.specs.NumberLists.{number_items}
 use Rattle.index_region.specs.Checks.{Form, whole}
 use Rattle.index_region.proofs.Passing.{limited_gives}
 use Rattle.operator_fns.specs.OuterProduct.{outer_form, outer_item, outer_whole}
@@ -28,7 +28,7 @@ module _ (f : Scalar2) (a b : ArrayValue) (xs ys : List ℤ) (long_a : length a.
     (is_a : a.items ≡ map (λ z. Num z) xs) (is_b : b.items ≡ map (λ z. Num z) ys) where
   -- what is given for the numbers of a place of the result
   abbrev pub pair : ℕ → Result ℤ Kind
-  pair place = of_two_numbers f (get_or xs (place / length ys) (pos 0)) (get_or ys (place % length ys) (pos 0))
+  pair place = dyadic_on_numbers f (get_or xs (place / length ys) (pos 0)) (get_or ys (place % length ys) (pos 0))
 
   pub outer_places : size (a.shape ++ b.shape) ≡ length xs * length ys
   outer_places = let m = as_many a xs long_a is_a in let n = as_many b ys long_b is_b in size-append a.shape b.shape ∙ (rw (m, n) refl)
@@ -44,16 +44,16 @@ module _ (f : Scalar2) (a b : ArrayValue) (xs ys : List ℤ) (long_a : length a.
       let left = number_there a.items xs (places_before a.shape row) (fill a.item_type) is_a (omega (arith, places_below a.shape row p.front)) in
       let right = number_there b.items ys (places_before b.shape column) (fill b.item_type) is_b (omega (arith, places_below b.shape column p.back)) in
       let place = places_before (a.shape ++ b.shape) index in
-      ap (λ k. number_item (of_two_numbers f (get_or xs (place / k) (pos 0)) (get_or ys (place % k) (pos 0)))) (sym n)
+      ap (λ k. number_item (dyadic_on_numbers f (get_or xs (place / k) (pos 0)) (get_or ys (place % k) (pos 0)))) (sym n)
       ∙ (rw (p.front_place, p.back_place, left, right) refl)
 
   pub outer_of_numbers : (form : Form) → outer_form a b ≡ Ok form
-      → with_items Nums form.0 (items_of (all_or_first_error (table (of_two_numbers f) xs ys))) ≡ outer_whole f a b
+      → with_items Nums form.0 (number_items (all_or_first_error (table (dyadic_on_numbers f) xs ys))) ≡ outer_whole f a b
   outer_of_numbers form h =
       let shape = a.shape ++ b.shape in
       let is = limited_gives (a.shape ++ b.shape) Nums form h in
-      ap (λ (g : Form). with_items Nums g.0 (items_of (all_or_first_error (table (of_two_numbers f) xs ys)))) is
-      ∙ ap (λ rs. with_items Nums shape (items_of (all_or_first_error rs))) (sym (places_of_table (of_two_numbers f) ys xs (size shape) outer_places))
+      ap (λ (g : Form). with_items Nums g.0 (number_items (all_or_first_error (table (dyadic_on_numbers f) xs ys)))) is
+      ∙ ap (λ rs. with_items Nums shape (number_items (all_or_first_error rs))) (sym (places_of_table (dyadic_on_numbers f) ys xs (size shape) outer_places))
       ∙ sym (numbers_collected shape pair)
       ∙ collected_same Nums shape (λ index. number_item (pair (places_before shape index))) (outer_item f a b) pair_there
       ∙ sym (ap (λ r. whole r (outer_item f a b)) h ∙ ap (λ (g : Form). collect g.1 g.0 (outer_item f a b)) is)

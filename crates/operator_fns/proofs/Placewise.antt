@@ -13,13 +13,13 @@ use Rattle.arrays_core.specs.Shapes.{size, indices, index_after, is_index_of, pl
 use Rattle.arrays_core.specs.Arrays.{collect, with_items}
 use Rattle.arrays_core.proofs.Order.{length-indices, get_or-indices, places_before-index_after, index_after-within}
 use Rattle.scalar_fns.specs.Items.{number_item}
-use Rattle.scalar_fns.specs.NumberLists.{items_of}
+use Rattle.scalar_fns.specs.NumberLists.{number_items}
 use Rattle.scalar_fns.proofs.Joint.{collected}
 
 -- the numbers of a rule are those of the array that it gives
 pub numbers_collected : (shape : List ℕ) (number : ℕ → Result ℤ Kind)
     → collect Nums shape (λ index. number_item (number (places_before shape index)))
-    ≡ with_items Nums shape (items_of (all_or_first_error (map number (range_with_len 0 (size shape)))))
+    ≡ with_items Nums shape (number_items (all_or_first_error (map number (range_with_len 0 (size shape)))))
 numbers_collected shape number =
     collected shape (λ index. number_item (number (places_before shape index))) (map number (range_with_len 0 (size shape)))
     (length-map-range_with_len number 0 (size shape))

@@ -15,8 +15,8 @@ use Rattle.arrays_core.specs.Shapes.{size, is_index_of, places_before}
 use Rattle.arrays_core.specs.Arrays.{ArrayValue, item_of, collect}
 use Rattle.arrays_core.proofs.Shapes.{head_of, places_below}
 use Rattle.scalar_fns.specs.declared.function.Scalar2.{Scalar2}
-use Rattle.scalar_fns.specs.Numbers.{of_two}
-use Rattle.scalar_fns.specs.Items.{two_of, number_item}
+use Rattle.scalar_fns.specs.Numbers.{dyadic_on_numbers}
+use Rattle.scalar_fns.specs.Items.{dyadic_on_items, number_item}
 use Rattle.index_region.specs.declared.along.Along.{Along}
 use Rattle.index_region.specs.Checks.{Form, and_then, limited}
 use Rattle.index_region.specs.Axes.{places_along, is_axis, axis_at}
@@ -44,19 +44,19 @@ strided_numbers xs first stride count =
     ∙ get_or-map (λ z. Num z) xs (first + k * stride) (pos 0)
     ∙ sym (get_or-map (λ z. Num z) zs k (pos 0) ∙ ap (λ z. Num z) (get_or-strided (pos 0) xs first stride count k (pos 0) below)))
 
-folded_one : (f : Scalar2) (z : ℤ) (r : Result ℤ Kind) → and_then (number_item r) (two_of f (Num z)) ≡ number_item (and_then r (of_two f z))
+folded_one : (f : Scalar2) (z : ℤ) (r : Result ℤ Kind) → and_then (number_item r) (dyadic_on_items f (Num z)) ≡ number_item (and_then r (dyadic_on_numbers f z))
 folded_one f z (Ok y) = refl
 folded_one f z (Err k) = refl
 
-pub folded_numbers : (f : Scalar2) (zs : List ℤ) → 0 < length zs → folded (two_of f) (map (λ z. Num z) zs) ≡ number_item (folded (of_two f) zs)
+pub folded_numbers : (f : Scalar2) (zs : List ℤ) → 0 < length zs → folded (dyadic_on_items f) (map (λ z. Num z) zs) ≡ number_item (folded (dyadic_on_numbers f) zs)
 folded_numbers f [] h = absurd (omega arith)
 folded_numbers f (z ∷ []) h = refl
 folded_numbers f (z ∷ y ∷ zs) h =
-    ap (λ r. and_then r (two_of f (Num z))) (folded_numbers f (y ∷ zs) (omega arith)) ∙ folded_one f z (folded (of_two f) (y ∷ zs))
+    ap (λ r. and_then r (dyadic_on_items f (Num z))) (folded_numbers f (y ∷ zs) (omega arith)) ∙ folded_one f z (folded (dyadic_on_numbers f) (y ∷ zs))
 
 -- the fold of some items that are numbers
 pub numbers_folded : (f : Scalar2) (xs : List ℤ) (items : List Item) (first stride count : ℕ) → items ≡ map (λ z. Num z) xs → 1 ≤ count
-    → fold_right f (strided (Num (pos 0)) items first stride count) ≡ number_item (folded (of_two f) (strided (pos 0) xs first stride count))
+    → fold_right f (strided (Num (pos 0)) items first stride count) ≡ number_item (folded (dyadic_on_numbers f) (strided (pos 0) xs first stride count))
 numbers_folded f xs items first stride count is h =
     let zs = strided (pos 0) xs first stride count in
     let m = length-strided (pos 0) xs first stride count in
@@ -160,7 +160,7 @@ all_of_line b axis count index there is =
 
 module _ (f : Scalar2) (b : ArrayValue) (xs : List ℤ) (items : b.items ≡ map (λ z. Num z) xs) (typed : b.item_type ≡ Nums) where
   item_there : (axis : ℕ) (index : List ℕ) → axis < length b.shape → is_index_of (remove b.shape axis) index ≡ true → 0 < size b.shape
-      → number_item (folded (of_two f) (strided (pos 0) xs (line_start (size (drop (suc axis) b.shape)) (get_or b.shape axis 0) (places_before (remove b.shape axis) index)) (size (drop (suc axis) b.shape)) (get_or b.shape axis 0)))
+      → number_item (folded (dyadic_on_numbers f) (strided (pos 0) xs (line_start (size (drop (suc axis) b.shape)) (get_or b.shape axis 0) (places_before (remove b.shape axis) index)) (size (drop (suc axis) b.shape)) (get_or b.shape axis 0)))
       ≡ fold_right f (line b axis index)
   item_there axis index there inside some =
       let s = size (drop (suc axis) b.shape) in
@@ -173,7 +173,7 @@ module _ (f : Scalar2) (b : ArrayValue) (xs : List ℤ) (items : b.items ≡ map
       sym (ap (fold_right f) (line-strided b axis index there inside)
       ∙ ap (λ d. fold_right f (strided d b.items start s n)) t
       ∙ numbers_folded f xs b.items start s n items many
-      ∙ ap (λ m. number_item (folded (of_two f) (strided (pos 0) xs m s n))) (start_is axis b.shape index there inside apart))
+      ∙ ap (λ m. number_item (folded (dyadic_on_numbers f) (strided (pos 0) xs m s n))) (start_is axis b.shape index there inside apart))
 
 -- the shape and the type that the checks give
 pub record ReduceFacts (along : Along) (b : ArrayValue) (shape : List ℕ) (t : ItemType) : Type 0 where
@@ -207,7 +207,7 @@ module _ (f : Scalar2) (b : ArrayValue) (xs : List ℤ) (items : b.items ≡ map
   -- the whole reduction, place by place
   pub reduced_whole : (along : Along) (shape : List ℕ) (t : ItemType) (axis n s : ℕ) → reduce_form along b ≡ Ok (shape, t) → axis ≡ axis_at (length b.shape) along
       → axis < length b.shape → n ≡ get_or b.shape axis 0 → s ≡ size (drop (suc axis) b.shape) → 0 < size b.shape
-      → reduce_whole f along b ≡ collect Nums shape (λ index. number_item (folded (of_two f) (strided (pos 0) xs (line_start s n (places_before shape index)) s n)))
+      → reduce_whole f along b ≡ collect Nums shape (λ index. number_item (folded (dyadic_on_numbers f) (strided (pos 0) xs (line_start s n (places_before shape index)) s n)))
   reduced_whole along shape t axis n s form meant there n_is s_is some =
       let facts = reduce_facts along b shape t form in
       let t_is : t ≡ Nums = facts.typed ∙ same_type _ b.item_type typed in

@@ -8,7 +8,7 @@ use Rattle.arrays_core.specs.Items.{all_or_first_error}
 use Rattle.arrays_core.specs.declared.item.Kind.{Kind}
 use Rattle.arrays_core.specs.declared.item.Kind.TheVariants.{Limit}
 use Rattle.scalar_fns.specs.declared.function.Scalar2.TheVariants.{Plus}
-use Rattle.scalar_fns.specs.Numbers.{of_two}
+use Rattle.scalar_fns.specs.Numbers.{dyadic_on_numbers}
 use Rattle.index_region.specs.Checks.{and_then}
 use Rattle.operator_fns.specs.Strides.{folded}
 use Rattle.operator_fns.specs.LinearScan.{depth, run_to, fold_on, folded_left, scanned, FailsAt}
@@ -35,8 +35,8 @@ module _ (zs : List ℤ) (stride count : ℕ) (apart : 0 < stride) (some : 1 ≤
 
     -- a fold from the left whose steps are numbers where the sum up to the next one is
     left_given : (step : ℤ → ℤ → Result ℤ Kind)
-        → ((xs : List ℤ) (y z t : ℤ) → 0 < length xs → All Within (xs ++ y ∷ []) → folded (of_two Plus) (xs ++ y ∷ []) ≡ Ok t → folded_left step xs ≡ Ok z → Given (step z y))
-        → (d place : ℕ) → depth stride count place ≡ d → place < end → ((q : ℕ) → q < end → Given (folded (of_two Plus) (run q)))
+        → ((xs : List ℤ) (y z t : ℤ) → 0 < length xs → All Within (xs ++ y ∷ []) → folded (dyadic_on_numbers Plus) (xs ++ y ∷ []) ≡ Ok t → folded_left step xs ≡ Ok z → Given (step z y))
+        → (d place : ℕ) → depth stride count place ≡ d → place < end → ((q : ℕ) → q < end → Given (folded (dyadic_on_numbers Plus) (run q)))
         → Given (folded_left step (run place))
     left_given step more zero place e below sums =
         record { item = get_or zs place (pos 0); is = left_first stride count apart some (pos 0) zs step place e }
@@ -48,14 +48,14 @@ module _ (zs : List ℤ) (stride count : ℕ) (apart : 0 < stride) (some : 1 ≤
         let split = run_more stride count apart some (pos 0) zs place deep in
         let sum = sums place below in
         let next = more (run (place - stride)) y before.item sum.item (run_some stride count apart some (pos 0) zs (place - stride))
-        (subst (All Within) split (run_within place below)) (ap (folded (of_two Plus)) (sym split) ∙ sum.is) before.is in
+        (subst (All Within) split (run_within place below)) (ap (folded (dyadic_on_numbers Plus)) (sym split) ∙ sum.is) before.is in
         record {
           item = next.item;
           is = left_later stride count apart some (pos 0) zs step place deep ∙ ap (λ r. and_then r (λ z. step z y)) before.is ∙ next.is;
         }
 
   module _ (step : ℤ → ℤ → Result ℤ Kind)
-      (more : (xs : List ℤ) (y z t : ℤ) → 0 < length xs → All Within (xs ++ y ∷ []) → folded (of_two Plus) (xs ++ y ∷ []) ≡ Ok t → folded_left step xs ≡ Ok z → Given (step z y))
+      (more : (xs : List ℤ) (y z t : ℤ) → 0 < length xs → All Within (xs ++ y ∷ []) → folded (dyadic_on_numbers Plus) (xs ++ y ∷ []) ≡ Ok t → folded_left step xs ≡ Ok z → Given (step z y))
       (only : (a b : ℤ) (k : Kind) → step a b ≡ Err k → k ≡ Limit) where
     on_limit : (x : ℤ) (rest : List ℤ) (k : Kind) → fold_on step x rest ≡ Err k → k ≡ Limit
     on_limit x [] k h = let no : ⊥ = cc in absurd no
@@ -70,37 +70,37 @@ module _ (zs : List ℤ) (stride count : ℕ) (apart : 0 < stride) (some : 1 ≤
     left_limit [] k long h = absurd (omega arith)
     left_limit (x ∷ rest) k long h = on_limit x rest k h
 
-    sum_limit : (xs : List ℤ) (k : Kind) → 0 < length xs → folded (of_two Plus) xs ≡ Err k → k ≡ Limit
+    sum_limit : (xs : List ℤ) (k : Kind) → 0 < length xs → folded (dyadic_on_numbers Plus) xs ≡ Err k → k ≡ Limit
     sum_limit [] k long h = absurd (omega arith)
     sum_limit (x ∷ rest) k long h = folded_error x rest k h
 
     -- where it leaves 64 bits, so does a sum
-    pub sums_leave : (k : Kind) → FailsAt (λ place. folded_left step (run place)) zs k → scanned (folded (of_two Plus)) zs stride count ≡ Err k
-    sums_leave k fails = decide (scanned (folded (of_two Plus)) zs stride count) refl
+    pub sums_leave : (k : Kind) → FailsAt (λ place. folded_left step (run place)) zs k → scanned (folded (dyadic_on_numbers Plus)) zs stride count ≡ Err k
+    sums_leave k fails = decide (scanned (folded (dyadic_on_numbers Plus)) zs stride count) refl
       where
-        decide : (r : Result (List ℤ) Kind) → scanned (folded (of_two Plus)) zs stride count ≡ r → r ≡ Err k
+        decide : (r : Result (List ℤ) Kind) → scanned (folded (dyadic_on_numbers Plus)) zs stride count ≡ r → r ≡ Err k
         decide (Ok sums) e =
             let p = fails.place in
             let inside = fails.below in
             let given = left_given (p + 1) (λ j below. within_of (get_or zs j (pos 0)) (fails.numbers j (omega arith))) step more (depth stride count p) p refl (omega arith) (λ q below.
-            record { item = get_or sums q (pos 0); is = rule_entry (λ q. folded (of_two Plus) (run q)) (length zs) sums q (pos 0) e (omega arith) }) in
+            record { item = get_or sums q (pos 0); is = rule_entry (λ q. folded (dyadic_on_numbers Plus) (run q)) (length zs) sums q (pos 0) e (omega arith) }) in
             let wrong : folded_left step (run p) ≡ Err k = fails.is in
             let right : folded_left step (run p) ≡ Ok given.item = given.is in
             let no : ⊥ = cc in absurd no
         decide (Err j) e =
-            let bad = rule_error (λ q. folded (of_two Plus) (run q)) (length zs) (pos 0) j e in
+            let bad = rule_error (λ q. folded (dyadic_on_numbers Plus) (run q)) (length zs) (pos 0) j e in
             let limit = sum_limit (run bad.place) j (run_some stride count apart some (pos 0) zs bad.place) bad.is in
             ap Err (limit ∙ sym (left_limit (run fails.place) k (run_some stride count apart some (pos 0) zs fails.place) fails.is))
 
-  pub greatest_leaves : (k : Kind) → FailsAt (λ place. folded_left greatest_step (run place)) zs k → scanned (folded (of_two Plus)) zs stride count ≡ Err k
+  pub greatest_leaves : (k : Kind) → FailsAt (λ place. folded_left greatest_step (run place)) zs k → scanned (folded (dyadic_on_numbers Plus)) zs stride count ≡ Err k
   greatest_leaves k h = sums_leave greatest_step more_most (λ a b k e. held_error (int_max a (pos 0) +ℤ b) k e) k h
 
-  pub least_leaves : (k : Kind) → FailsAt (λ place. folded_left least_step (run place)) zs k → scanned (folded (of_two Plus)) zs stride count ≡ Err k
+  pub least_leaves : (k : Kind) → FailsAt (λ place. folded_left least_step (run place)) zs k → scanned (folded (dyadic_on_numbers Plus)) zs stride count ≡ Err k
   least_leaves k h = sums_leave least_step more_fewest (λ a b k e. held_error (int_min a (pos 0) +ℤ b) k e) k h
 
   -- where neither does, the sums are those from the left
   pub sums_stay : (tops bottoms : List ℤ) → All (FitsSigned w64) zs → scanned (folded_left greatest_step) zs stride count ≡ Ok tops
-      → scanned (folded_left least_step) zs stride count ≡ Ok bottoms → scanned (folded_left (of_two Plus)) zs stride count ≡ scanned (folded (of_two Plus)) zs stride count
+      → scanned (folded_left least_step) zs stride count ≡ Ok bottoms → scanned (folded_left (dyadic_on_numbers Plus)) zs stride count ≡ scanned (folded (dyadic_on_numbers Plus)) zs stride count
   sums_stay tops bottoms fit g l =
       let numbers = λ (j : ℕ) (below : j < length zs). within_of (get_or zs j (pos 0)) (fit j (pos 0) below) in
       ap all_or_first_error (same_rules _ _ (length zs) (λ q below.

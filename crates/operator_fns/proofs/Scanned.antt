@@ -15,9 +15,9 @@ use Rattle.arrays_core.specs.Shapes.{size, is_index_of, places_before}
 use Rattle.arrays_core.specs.Arrays.{ArrayValue, IsArray, collect, with_items}
 use Rattle.arrays_core.proofs.Shapes.{head_of, as_long, places_below}
 use Rattle.scalar_fns.specs.declared.function.Scalar2.{Scalar2}
-use Rattle.scalar_fns.specs.Numbers.{of_two}
+use Rattle.scalar_fns.specs.Numbers.{dyadic_on_numbers}
 use Rattle.scalar_fns.specs.Items.{number_item}
-use Rattle.scalar_fns.specs.NumberLists.{items_of}
+use Rattle.scalar_fns.specs.NumberLists.{number_items}
 use Rattle.index_region.specs.declared.along.Along.{Along}
 use Rattle.index_region.specs.Checks.{Form, and_then, limited}
 use Rattle.index_region.specs.Arguments.{counts_as_numbers, is_of_numbers}
@@ -67,7 +67,7 @@ module _ (f : Scalar2) (b : ArrayValue) (xs : List ℤ) (items : b.items ≡ map
   -- the item of a scan at an index list
   pub run_there : (axis : ℕ) (index : List ℕ) → axis < length b.shape → is_index_of b.shape index ≡ true → 0 < size b.shape
       → fold_right f (take (get_or index axis 1) (line b axis (remove index axis)))
-      ≡ number_item (folded (of_two f) (run_to (pos 0) xs (size (drop (suc axis) b.shape)) (get_or b.shape axis 0) (places_before b.shape index)))
+      ≡ number_item (folded (dyadic_on_numbers f) (run_to (pos 0) xs (size (drop (suc axis) b.shape)) (get_or b.shape axis 0) (places_before b.shape index)))
   run_there axis index there inside some =
       let s = size (drop (suc axis) b.shape) in
       let n = get_or b.shape axis 0 in
@@ -93,8 +93,8 @@ module _ (f : Scalar2) (b : ArrayValue) (xs : List ℤ) (items : b.items ≡ map
       ∙ ap (fold_right f) (take-strided (fill b.item_type) b.items first s n i high)
       ∙ ap (λ d. fold_right f (strided d b.items first s i)) t
       ∙ numbers_folded f xs b.items first s i items low
-      ∙ ap (λ m. number_item (folded (of_two f) (strided (pos 0) xs m s i))) from
-      ∙ ap (λ m. number_item (folded (of_two f) (strided (pos 0) xs (p - depth s n p * s) s m))) many
+      ∙ ap (λ m. number_item (folded (dyadic_on_numbers f) (strided (pos 0) xs m s i))) from
+      ∙ ap (λ m. number_item (folded (dyadic_on_numbers f) (strided (pos 0) xs (p - depth s n p * s) s m))) many
     where
       long_without : (index : List ℕ) (k : ℕ) → k < length index → length (remove index k) + 1 ≡ length index
       long_without [] k h = absurd (omega arith)
@@ -190,7 +190,7 @@ module _ (f : Scalar2) (b : ArrayValue) (xs : List ℤ) (items : b.items ≡ map
   -- the whole scan, place by place
   pub scanned_whole : (along : Along) (shape : List ℕ) (t : ItemType) (axis n s : ℕ) → scan_form along b ≡ Ok (shape, t) → axis ≡ axis_at (length b.shape) along
       → axis < length b.shape → n ≡ get_or b.shape axis 0 → s ≡ size (drop (suc axis) b.shape) → 0 < size b.shape
-      → scan_whole f along b ≡ collect Nums shape (λ index. number_item (folded (of_two f) (run_to (pos 0) xs s n (places_before shape index))))
+      → scan_whole f along b ≡ collect Nums shape (λ index. number_item (folded (dyadic_on_numbers f) (run_to (pos 0) xs s n (places_before shape index))))
   scanned_whole along shape t axis n s form meant there n_is s_is some =
       let facts = scan_facts along b shape t form in
       let t_is : t ≡ Nums = facts.typed ∙ of_numbers _ b.item_type typed in
@@ -204,10 +204,10 @@ module _ (f : Scalar2) (b : ArrayValue) (xs : List ℤ) (items : b.items ≡ map
 
 -- the array of the folds up to each place, as the list of them
 pub scan_collected : (f : ℤ → ℤ → Result ℤ Kind) (xs : List ℤ) (s n : ℕ) (shape : List ℕ) → size shape ≡ length xs
-    → collect Nums shape (λ index. number_item (folded f (run_to (pos 0) xs s n (places_before shape index)))) ≡ with_items Nums shape (items_of (scanned (folded f) xs s n))
+    → collect Nums shape (λ index. number_item (folded f (run_to (pos 0) xs s n (places_before shape index)))) ≡ with_items Nums shape (number_items (scanned (folded f) xs s n))
 scan_collected f xs s n shape long =
     numbers_collected shape (λ place. folded f (run_to (pos 0) xs s n place))
-    ∙ ap (λ m. with_items Nums shape (items_of (all_or_first_error (map (λ place. folded f (run_to (pos 0) xs s n place)) (range_with_len 0 m))))) long
+    ∙ ap (λ m. with_items Nums shape (number_items (all_or_first_error (map (λ place. folded f (run_to (pos 0) xs s n place)) (range_with_len 0 m))))) long
 
 -- characters along an axis of two or more
 pub characters_fail : (along : Along) (b : ArrayValue) (axis : ℕ) → is_axis (length b.shape) along ≡ true → axis ≡ axis_at (length b.shape) along → axis < length b.shape

@@ -3,7 +3,7 @@ use Rattle.std.proofs.Common.{◌≡◌, suc, ◌+◌, ◌*◌, ◌<◌, ◌≤�
 use Rattle.std.specs.List.{All}
 use Rattle.std.proofs.lemmas.Int.{ints, clamps}
 use Rattle.scalar_fns.specs.declared.function.Scalar2.TheVariants.{Plus}
-use Rattle.scalar_fns.specs.Numbers.{of_two}
+use Rattle.scalar_fns.specs.Numbers.{dyadic_on_numbers}
 use Rattle.operator_fns.specs.Strides.{folded}
 use Rattle.operator_fns.specs.Sum.{IsSmall, sum_of}
 use Rattle.operator_fns.proofs.Endings.{total, most, fewest, folded_sum}
@@ -41,7 +41,7 @@ bounded x (y ∷ rest) h =
       high = omega (arith, ints, clamps);
     }
 
-pub small_folded : (xs : List ℤ) → 0 < length xs → length xs ≤ 1048576 → All IsSmall xs → folded (of_two Plus) xs ≡ Ok (sum_of xs)
+pub small_folded : (xs : List ℤ) → 0 < length xs → length xs ≤ 1048576 → All IsSmall xs → folded (dyadic_on_numbers Plus) xs ≡ Ok (sum_of xs)
 small_folded [] some few h = absurd (omega arith)
 small_folded (x ∷ rest) some few h =
     let b = bounded x rest h in

@@ -13,7 +13,7 @@ use Rattle.arrays_core.specs.declared.fault.ApplyFault.TheVariants.{Kind as Kind
 use Rattle.scalar_fns.specs.NumberLists.{IsListAnswerTo}
 use Rattle.arrays_core.specs.Items.{all_or_first_error, after}
 use Rattle.index_region.specs.Checks.{and_then}
-use Rattle.operator_fns.specs.ResultTable.{table, behind, LeavesOrFails}
+use Rattle.operator_fns.specs.ResultTable.{table, with_results, LeavesOrFails}
 
 -- ---- results behind others
 
@@ -29,14 +29,14 @@ after_behind : (x : ℤ) (rest : List ℤ) (r : Result (List ℤ) Kind) → afte
 after_behind x rest (Ok zs) = refl
 after_behind x rest (Err e) = refl
 
-pub all_behind : (front rs : List (Result ℤ Kind)) (zs : List ℤ) → all_or_first_error front ≡ Ok zs → all_or_first_error (front ++ rs) ≡ behind zs rs
+pub all_behind : (front rs : List (Result ℤ Kind)) (zs : List ℤ) → all_or_first_error front ≡ Ok zs → all_or_first_error (front ++ rs) ≡ with_results zs rs
 all_behind [] rs zs h = let e : zs ≡ [] = cc in rw e (again (all_or_first_error rs))
 all_behind (Err e ∷ front) rs zs h = cc
 all_behind (Ok x ∷ front) rs zs h =
-    after_parts x (all_or_first_error front) zs (all_or_first_error (Ok x ∷ front ++ rs) ≡ behind zs rs) h (λ rest made is.
+    after_parts x (all_or_first_error front) zs (all_or_first_error (Ok x ∷ front ++ rs) ≡ with_results zs rs) h (λ rest made is.
     ap (after x) (all_behind front rs rest made)
     ∙ after_behind x rest (all_or_first_error rs)
-    ∙ sym (ap (λ ys. behind ys rs) is))
+    ∙ sym (ap (λ ys. with_results ys rs) is))
 
 pub error_in_front : (front rs : List (Result ℤ Kind)) (e : Kind) → all_or_first_error front ≡ Err e → all_or_first_error (front ++ rs) ≡ Err e
 error_in_front [] rs e h = cc

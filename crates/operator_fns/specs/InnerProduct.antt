@@ -5,9 +5,9 @@ use Rattle.arrays_core.specs.declared.item.Item.{Item}
 use Rattle.arrays_core.specs.declared.item.ItemType.TheVariants.{Nums}
 use Rattle.arrays_core.specs.declared.item.Kind.{Kind}
 use Rattle.arrays_core.specs.declared.item.Kind.TheVariants.{Length}
-use Rattle.arrays_core.specs.Arrays.{ArrayValue, item_of}
+use Rattle.arrays_core.specs.Arrays.{ArrayValue}
 use Rattle.scalar_fns.specs.declared.function.Scalar2.{Scalar2}
-use Rattle.scalar_fns.specs.Items.{two_of}
+use Rattle.scalar_fns.specs.Items.{dyadic_on_items}
 use Rattle.scalar_fns.specs.ScalarExtension.{extended}
 use Rattle.index_region.specs.Checks.{Form, and_then, check, limited, whole}
 use Rattle.index_region.specs.Arguments.{has_one_item}
@@ -41,7 +41,7 @@ all_or_last_error (x ∷ rest) = and_then (all_or_last_error rest) (λ items. an
 -- g of the items of a row and a column
 abbrev pub products : Scalar2 → ArrayValue → ArrayValue → List ℕ → List ℕ → List (Result Item Kind)
 products g a b row column =
-    map (λ j. two_of g (extended a (row ++ j ∷ [])) (extended b (j ∷ column))) (range_with_len 1 (inner_length a b))
+    map (λ j. dyadic_on_items g (extended a (row ++ j ∷ [])) (extended b (j ∷ column))) (range_with_len 1 (inner_length a b))
 
 abbrev pub inner_item : Scalar2 → Scalar2 → ArrayValue → ArrayValue → List ℕ → Result Item Kind
 inner_item f g a b index =

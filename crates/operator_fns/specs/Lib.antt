@@ -1,10 +1,12 @@
+-- What public contracts mean.
 pub mod RightFold
-pub mod Strides
 pub mod Reduce
 pub mod Scan
-pub mod LinearScan
 pub mod OuterProduct
 pub mod InnerProduct
+-- What proofs and bodies use.
+pub mod Strides
+pub mod LinearScan
 pub mod RowByColumn
 pub mod ResultTable
 pub mod Sum

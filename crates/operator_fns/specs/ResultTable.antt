@@ -12,8 +12,8 @@ abbrev pub table : (ℤ → ℤ → Result ℤ Kind) → List ℤ → List ℤ �
 table f xs ys = flat_map (λ x. map (f x) ys) xs
 
 -- all of a list's results behind some numbers, or the first error
-abbrev pub behind : List ℤ → List (Result ℤ Kind) → Result (List ℤ) Kind
-behind zs rs = and_then (all_or_first_error rs) (λ more. Ok (zs ++ more))
+abbrev pub with_results : List ℤ → List (Result ℤ Kind) → Result (List ℤ) Kind
+with_results zs rs = and_then (all_or_first_error rs) (λ more. Ok (zs ++ more))
 
 -- a call leaves the numbers that were asked for, or answers their error or want of memory
 abbrev pub LeavesOrFails : {U : Type 0} → Result (List ℤ) Kind → List ℤ → Result U ApplyFault → Type 0

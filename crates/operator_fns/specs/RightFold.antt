@@ -8,7 +8,7 @@ use Rattle.arrays_core.specs.declared.item.Kind.TheVariants.{Domain}
 use Rattle.arrays_core.specs.Arrays.{ArrayValue, item_of}
 use Rattle.scalar_fns.specs.declared.function.Scalar2.{Scalar2}
 use Rattle.scalar_fns.specs.Identities.{identity_of}
-use Rattle.scalar_fns.specs.Items.{two_of}
+use Rattle.scalar_fns.specs.Items.{dyadic_on_items}
 use Rattle.index_region.specs.Checks.{and_then}
 use Rattle.index_region.specs.Axes.{places_along}
 
@@ -21,7 +21,7 @@ identity_item None = Err Domain
 abbrev pub fold_right : Scalar2 → List Item → Result Item Kind
 fold_right f [] = identity_item (identity_of f)
 fold_right f (x ∷ []) = Ok x
-fold_right f (x ∷ y ∷ rest) = and_then (fold_right f (y ∷ rest)) (two_of f x)
+fold_right f (x ∷ y ∷ rest) = and_then (fold_right f (y ∷ rest)) (dyadic_on_items f x)
 
 -- the items along an axis at an index list of the other axes; a scalar is a line of its one item
 abbrev pub line : ArrayValue → ℕ → List ℕ → List Item

@@ -4,7 +4,7 @@ ghost use Rattle.std.specs.Prelude.{◌≡◌, length};
 ghost use Rattle.arrays_core.specs.declared.item.ItemType.TheVariants.{Nums};
 ghost use Rattle.arrays_core.specs.Arrays.{collect as collected, IsAnswerTo};
 ghost use Rattle.arrays_core.specs.Shapes.{size as size_of, places_before, IsWithinLimits};
-ghost use Rattle.scalar_fns.specs.Numbers.{of_two};
+ghost use Rattle.scalar_fns.specs.Numbers.{dyadic_on_numbers};
 ghost use Rattle.scalar_fns.specs.Items.{number_item};
 ghost use Rattle.operator_fns.specs.RowByColumn.{cell, IsGridOf};
 
@@ -96,7 +96,7 @@ pub(crate) fn grid_products(
 ) -> Result<Array, ApplyFault>
     requires within { IsWithinLimits shape.now.items }
     requires fits { IsGridOf grid (size_of shape.now.items) (length left.now) (length right.now) }
-    ensures { IsAnswerTo (collected Nums shape.now.items (λ index. number_item (cell (of_two fold) (of_two each) left.now right.now grid (places_before shape.now.items index)))) result }
+    ensures { IsAnswerTo (collected Nums shape.now.items (λ index. number_item (cell (dyadic_on_numbers fold) (dyadic_on_numbers each) left.now right.now grid (places_before shape.now.items index)))) result }
 {
     match (fold, each) {
         (Scalar2::Plus, Scalar2::Times) => {

@@ -6,7 +6,7 @@ ghost use Rattle.arrays_core.specs.Arrays.{IsAnswerTo, IsArray};
 ghost use Rattle.arrays_core.specs.Items.{fill};
 ghost use Rattle.arrays_core.specs.Shapes.{is_index_of as is_below};
 ghost use Rattle.scalar_fns.specs.ScalarExtension.{extended};
-ghost use Rattle.index_region.specs.ArgumentLists.{of_two};
+ghost use Rattle.index_region.specs.ArgumentLists.{of_two_arguments};
 ghost use Rattle.index_region.specs.Answers.{IsFormAnswerTo, IsPlaceOf, HasTypeOf};
 ghost use Rattle.operator_fns.specs.InnerProduct.{row_rank as rank_of_rows, row_length as length_of_row, column_length as length_of_column, inner_length as length_of_inner, inner_form, inner_item, inner_whole};
 ghost use Rattle.operator_fns.specs.RowByColumn.{entry, IsInside, grid_of};
@@ -193,7 +193,7 @@ impl Inner {
     /// The rows of A folded with the columns of B.
     pub fn apply(&self, alloc: Global, args: &[Seen]) -> Result<Array, ApplyFault>
         requires { length args.now ≡ 2 }
-        ensures { IsAnswerTo (of_two (inner_whole self.now.fold self.now.each) args.now) result }
+        ensures { IsAnswerTo (of_two_arguments (inner_whole self.now.fold self.now.each) args.now) result }
     {
         match (args[0].numbers(), args[1].numbers()) {
             (Some(numbers), Some(others)) if !numbers.is_empty() && !others.is_empty() => {
@@ -227,9 +227,9 @@ impl Inner {
 impl Primitive for Inner {
     ghost arity = { λ _. 2 };
 
-    ghost form = { λ _ args. of_two inner_form args };
+    ghost form = { λ _ args. of_two_arguments inner_form args };
 
-    ghost item = { λ i args index. of_two (λ a b. inner_item i.fold i.each a b index) args };
+    ghost item = { λ i args index. of_two_arguments (λ a b. inner_item i.fold i.each a b index) args };
 
     fn shape_of(&self, args: &[Seen]) -> Result<(Shape, ItemType), Kind> {
         self.form(&args[0], &args[1])

@@ -2,13 +2,13 @@
 #![tactic(auto)]
 
 mod grid;
-mod number_rule;
-mod right_fold;
 mod inner_product;
+mod linear_scan;
+mod number_rule;
 mod outer_product;
 mod reduce;
+mod right_fold;
 mod row_by_column;
-mod linear_scan;
 mod scan;
 mod sum;
 

@@ -3,7 +3,7 @@
 ghost use Rattle.std.specs.Prelude.{◌≡◌, ◌<◌, ◌≤◌, ◌+◌, ◌-◌, ◌*◌, ◌%◌, true, false, pos, length, get_or, Ok, IfOk, vec_len};
 ghost use Rattle.std.specs.Int.{int_max, int_min};
 ghost use Rattle.scalar_fns.specs.declared.function.Scalar2.TheVariants.{Plus as Sum};
-ghost use Rattle.scalar_fns.specs.Numbers.{of_two};
+ghost use Rattle.scalar_fns.specs.Numbers.{dyadic_on_numbers};
 ghost use Rattle.scalar_fns.specs.NumberLists.{IsListAnswerTo};
 ghost use Rattle.operator_fns.specs.Strides.{folded};
 ghost use Rattle.operator_fns.specs.LinearScan.{folded_left, scanned, HasRead, IsAssociative};
@@ -17,7 +17,7 @@ use std::alloc::Global;
 struct GreatestEnding;
 
 impl TwoNumbers for GreatestEnding {
-    ghost gives = { λ s a b. of_two Sum (int_max a (pos 0)) b };
+    ghost gives = { λ s a b. dyadic_on_numbers Sum (int_max a (pos 0)) b };
 
     fn at(&self, a: i64, b: i64) -> Result<i64, Kind> {
         Plus.at(a.max(0), b)
@@ -28,7 +28,7 @@ impl TwoNumbers for GreatestEnding {
 struct LeastEnding;
 
 impl TwoNumbers for LeastEnding {
-    ghost gives = { λ s a b. of_two Sum (int_min a (pos 0)) b };
+    ghost gives = { λ s a b. dyadic_on_numbers Sum (int_min a (pos 0)) b };
 
     fn at(&self, a: i64, b: i64) -> Result<i64, Kind> {
         Plus.at(a.min(0), b)
@@ -126,7 +126,7 @@ pub(crate) fn running_sums(
     requires some { 1 ≤ count }
     requires apart { 0 < stride }
     requires high { count * stride ≤ length numbers.now }
-    ensures is { IsListAnswerTo (scanned (folded (of_two Sum)) numbers.now stride count) result }
+    ensures is { IsListAnswerTo (scanned (folded (dyadic_on_numbers Sum)) numbers.now stride count) result }
     ensures long { IfOk result (λ v. vec_len v ≡ length numbers.now) }
 {
     running(alloc, &GreatestEnding, numbers, stride, count)?;

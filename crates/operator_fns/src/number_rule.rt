@@ -8,7 +8,7 @@ ghost use Rattle.arrays_core.specs.Items.{all_or_first_error};
 ghost use Rattle.arrays_core.specs.Shapes.{size as size_of, places_before, IsWithinLimits};
 ghost use Rattle.arrays_core.specs.Arrays.{collect as collected, with_items, IsAnswerTo};
 ghost use Rattle.scalar_fns.specs.Items.{number_item};
-ghost use Rattle.scalar_fns.specs.NumberLists.{items_of, IsListAnswerTo};
+ghost use Rattle.scalar_fns.specs.NumberLists.{number_items, IsListAnswerTo};
 
 use arrays_core::{ApplyFault, Array, Kind, Shape, size};
 use std::alloc::Global;
@@ -43,7 +43,7 @@ fn numbers_of<R: NumberRule>(alloc: Global, rule: &R, places: usize) -> Result<V
 fn array_of<R: NumberRule>(alloc: Global, rule: &R, shape: &Shape) -> Result<Array, ApplyFault>
     requires within { IsWithinLimits shape.now.items }
     requires shaped { size_of shape.now.items ≡ R.places rule.now }
-    ensures { IsAnswerTo (with_items Nums shape.now.items (items_of (all_or_first_error (map (R.number rule.now) (range_with_len 0 (size_of shape.now.items)))))) result }
+    ensures { IsAnswerTo (with_items Nums shape.now.items (number_items (all_or_first_error (map (R.number rule.now) (range_with_len 0 (size_of shape.now.items)))))) result }
 {
     let numbers = numbers_of(alloc, rule, size(shape.as_slice()) as usize)?;
     Ok(Array::from_numbers(shape, numbers))

@@ -6,11 +6,11 @@ ghost use Rattle.arrays_core.specs.declared.item.ItemType.TheVariants.{Nums};
 ghost use Rattle.arrays_core.specs.Items.{all_or_first_error};
 ghost use Rattle.arrays_core.specs.Arrays.{with_items, IsAnswerTo, IsArray};
 ghost use Rattle.arrays_core.specs.Shapes.{size as size_of, IsWithinLimits};
-ghost use Rattle.scalar_fns.specs.Numbers.{of_two as of_two_numbers};
-ghost use Rattle.scalar_fns.specs.NumberLists.{items_of, IsListAnswerTo};
-ghost use Rattle.index_region.specs.ArgumentLists.{of_two};
+ghost use Rattle.scalar_fns.specs.Numbers.{dyadic_on_numbers};
+ghost use Rattle.scalar_fns.specs.NumberLists.{number_items, IsListAnswerTo};
+ghost use Rattle.index_region.specs.ArgumentLists.{of_two_arguments};
 ghost use Rattle.index_region.specs.Answers.{IsFormAnswerTo, IsPlaceOf, HasTypeOf};
-ghost use Rattle.operator_fns.specs.ResultTable.{table as table_of, behind, LeavesOrFails};
+ghost use Rattle.operator_fns.specs.ResultTable.{table as table_of, with_results, LeavesOrFails};
 ghost use Rattle.operator_fns.specs.OuterProduct.{outer_form, outer_item, outer_whole};
 
 use arrays_core::{
@@ -28,7 +28,7 @@ fn push_row<S: TwoNumbers>(
     left: i64,
     right: &[i64],
 ) -> Result<(), ApplyFault>
-    ensures { LeavesOrFails (behind row.old.items (map (S.gives step.now left) right.now)) row.new.items result }
+    ensures { LeavesOrFails (with_results row.old.items (map (S.gives step.now left) right.now)) row.new.items result }
 {
     for number in right {
         let result = step.at(left, *number)?;
@@ -65,7 +65,7 @@ fn table_by<S: TwoNumbers>(
 ) -> Result<Array, ApplyFault>
     requires within { IsWithinLimits shape.now.items }
     requires whole { size_of shape.now.items ≡ length left.now * length right.now }
-    ensures { IsAnswerTo (with_items Nums shape.now.items (items_of (all_or_first_error (table_of (S.gives step.now) left.now right.now)))) result }
+    ensures { IsAnswerTo (with_items Nums shape.now.items (number_items (all_or_first_error (table_of (S.gives step.now) left.now right.now)))) result }
 {
     let numbers = table_numbers(alloc, step, left, right)?;
     Ok(Array::from_numbers(shape, numbers))
@@ -81,7 +81,7 @@ fn table(
 ) -> Result<Array, ApplyFault>
     requires within { IsWithinLimits shape.now.items }
     requires whole { size_of shape.now.items ≡ length left.now * length right.now }
-    ensures { IsAnswerTo (with_items Nums shape.now.items (items_of (all_or_first_error (table_of (of_two_numbers function) left.now right.now)))) result }
+    ensures { IsAnswerTo (with_items Nums shape.now.items (number_items (all_or_first_error (table_of (dyadic_on_numbers function) left.now right.now)))) result }
 {
     match function {
         Scalar2::Plus => table_by(alloc, &Plus, left, right, shape),
@@ -134,7 +134,7 @@ impl Outer {
     /// The function of each item of A with each item of B. Numbers are taken as they lie.
     pub fn apply(&self, alloc: Global, args: &[Seen]) -> Result<Array, ApplyFault>
         requires { length args.now ≡ 2 }
-        ensures { IsAnswerTo (of_two (outer_whole self.now.function) args.now) result }
+        ensures { IsAnswerTo (of_two_arguments (outer_whole self.now.function) args.now) result }
     {
         match (args[0].numbers(), args[1].numbers()) {
             (Some(numbers), Some(others)) => {
@@ -165,9 +165,9 @@ impl Outer {
 impl Primitive for Outer {
     ghost arity = { λ _. 2 };
 
-    ghost form = { λ _ args. of_two outer_form args };
+    ghost form = { λ _ args. of_two_arguments outer_form args };
 
-    ghost item = { λ o args index. of_two (λ a b. outer_item o.function a b index) args };
+    ghost item = { λ o args index. of_two_arguments (λ a b. outer_item o.function a b index) args };
 
     fn shape_of(&self, args: &[Seen]) -> Result<(Shape, ItemType), Kind> {
         self.form(&args[0], &args[1])

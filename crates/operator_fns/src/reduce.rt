@@ -6,9 +6,9 @@ ghost use Rattle.arrays_core.specs.declared.item.ItemType.TheVariants.{Nums};
 ghost use Rattle.arrays_core.specs.Arrays.{collect as collected, IsAnswerTo};
 ghost use Rattle.arrays_core.specs.Shapes.{size as size_of, places_before, IsWithinLimits};
 ghost use Rattle.scalar_fns.specs.declared.function.Scalar2.TheVariants.{Plus as Sum};
-ghost use Rattle.scalar_fns.specs.Numbers.{of_two};
+ghost use Rattle.scalar_fns.specs.Numbers.{dyadic_on_numbers};
 ghost use Rattle.scalar_fns.specs.Items.{number_item};
-ghost use Rattle.index_region.specs.ArgumentLists.{of_one};
+ghost use Rattle.index_region.specs.ArgumentLists.{of_one_argument};
 ghost use Rattle.index_region.specs.Answers.{IsFormAnswerTo, IsPlaceOf, HasTypeOf};
 ghost use Rattle.operator_fns.specs.Strides.{strided, folded, line_start};
 ghost use Rattle.operator_fns.specs.Reduce.{reduce_form, reduce_item, reduce_whole};
@@ -60,7 +60,7 @@ struct Totals<'a> {
 impl<'a> NumberRule for Totals<'a> {
     ghost places = { λ t. t.places };
 
-    ghost number = { λ t place. folded (of_two Sum) (strided (pos 0) t.numbers.now (line_start 1 t.count place) 1 t.count) };
+    ghost number = { λ t place. folded (dyadic_on_numbers Sum) (strided (pos 0) t.numbers.now (line_start 1 t.count place) 1 t.count) };
 
     fn number_at(&self, place: usize) -> Result<i64, Kind> {
         let first = place * self.count;
@@ -81,7 +81,7 @@ fn sums(
     requires apart { 0 < stride }
     requires whole { size_of shape.now.items * count ≡ length numbers.now }
     requires even { size_of shape.now.items % stride ≡ 0 }
-    ensures { IsAnswerTo (collected Nums shape.now.items (λ index. number_item (folded (of_two Sum) (strided (pos 0) numbers.now (line_start stride count (places_before shape.now.items index)) stride count)))) result }
+    ensures { IsAnswerTo (collected Nums shape.now.items (λ index. number_item (folded (dyadic_on_numbers Sum) (strided (pos 0) numbers.now (line_start stride count (places_before shape.now.items index)) stride count)))) result }
 {
     if stride != 1 {
         return folds_by(alloc, &Plus, numbers, stride, count, shape);
@@ -135,7 +135,7 @@ fn folds(
     requires apart { 0 < stride }
     requires whole { size_of shape.now.items * count ≡ length numbers.now }
     requires even { size_of shape.now.items % stride ≡ 0 }
-    ensures { IsAnswerTo (collected Nums shape.now.items (λ index. number_item (folded (of_two function) (strided (pos 0) numbers.now (line_start stride count (places_before shape.now.items index)) stride count)))) result }
+    ensures { IsAnswerTo (collected Nums shape.now.items (λ index. number_item (folded (dyadic_on_numbers function) (strided (pos 0) numbers.now (line_start stride count (places_before shape.now.items index)) stride count)))) result }
 {
     match function {
         Scalar2::Plus => sums(alloc, numbers, stride, count, shape),
@@ -205,7 +205,7 @@ impl Reduce {
     /// The folds of the lines. Those of numbers are taken from the numbers as they lie.
     pub fn apply(&self, alloc: Global, args: &[Seen]) -> Result<Array, ApplyFault>
         requires { length args.now ≡ 1 }
-        ensures { IsAnswerTo (of_one (reduce_whole self.now.function self.now.along) args.now) result }
+        ensures { IsAnswerTo (of_one_argument (reduce_whole self.now.function self.now.along) args.now) result }
     {
         let array = &args[0];
         if let Some(numbers) = array.numbers() {
@@ -242,9 +242,9 @@ impl Reduce {
 impl Primitive for Reduce {
     ghost arity = { λ _. 1 };
 
-    ghost form = { λ r args. of_one (reduce_form r.along) args };
+    ghost form = { λ r args. of_one_argument (reduce_form r.along) args };
 
-    ghost item = { λ r args index. of_one (λ b. reduce_item r.function r.along b index) args };
+    ghost item = { λ r args index. of_one_argument (λ b. reduce_item r.function r.along b index) args };
 
     fn shape_of(&self, args: &[Seen]) -> Result<(Shape, ItemType), Kind> {
         self.form(&args[0])

@@ -3,7 +3,7 @@
 ghost use Rattle.std.specs.Prelude.{◌≡◌, ◌+◌, ◌*◌, ◌<◌, ◌≤◌, pos, length, IfOk};
 ghost use Rattle.arrays_core.specs.Items.{fill, type_of};
 ghost use Rattle.arrays_core.specs.declared.item.ItemType.TheVariants.{Nums};
-ghost use Rattle.scalar_fns.specs.Items.{two_of};
+ghost use Rattle.scalar_fns.specs.Items.{dyadic_on_items};
 ghost use Rattle.operator_fns.specs.RowByColumn.{entry, IsInside, met, last_error_or, folded_all};
 
 use arrays_core::{Item, Kind};
@@ -101,7 +101,7 @@ fn item_met(
     requires in_right { column.first + place * column.stride < length right.now.items }
     requires left_few { length left.now.items ≤ 1048576 }
     requires right_few { length right.now.items ≤ 1048576 }
-    ensures is { result ≡ two_of each (entry (fill left.now.item_type) left.now.items row place) (entry (fill right.now.item_type) right.now.items column place) }
+    ensures is { result ≡ dyadic_on_items each (entry (fill left.now.item_type) left.now.items row place) (entry (fill right.now.item_type) right.now.items column place) }
     ensures typed { IfOk result (λ x. type_of x ≡ Nums) }
 {
     let item = left.item((row.first + place * row.stride) as u32 + 1);
@@ -123,7 +123,7 @@ fn item_error(
     requires in_right { IsInside column count (length right.now.items) }
     requires left_few { length left.now.items ≤ 1048576 }
     requires right_few { length right.now.items ≤ 1048576 }
-    ensures { result ≡ last_error_or error (met (two_of each) (entry (fill left.now.item_type) left.now.items row) (entry (fill right.now.item_type) right.now.items column) count) }
+    ensures { result ≡ last_error_or error (met (dyadic_on_items each) (entry (fill left.now.item_type) left.now.items row) (entry (fill right.now.item_type) right.now.items column) count) }
 {
     for place in (0..count).rev() {
         if let Err(kind) = item_met(each, left, row, right, column, place) {
@@ -149,7 +149,7 @@ pub(crate) fn fold_row_of_items(
     requires in_right { IsInside column count (length right.now.items) }
     requires left_few { length left.now.items ≤ 1048576 }
     requires right_few { length right.now.items ≤ 1048576 }
-    ensures is { result ≡ folded_all (two_of fold) (met (two_of each) (entry (fill left.now.item_type) left.now.items row) (entry (fill right.now.item_type) right.now.items column) count) }
+    ensures is { result ≡ folded_all (dyadic_on_items fold) (met (dyadic_on_items each) (entry (fill left.now.item_type) left.now.items row) (entry (fill right.now.item_type) right.now.items column) count) }
     ensures typed { IfOk result (λ x. type_of x ≡ Nums) }
 {
     let mut result = item_met(each, left, row, right, column, count - 1)?;

@@ -6,17 +6,17 @@ ghost use Rattle.arrays_core.specs.declared.item.ItemType.TheVariants.{Nums};
 ghost use Rattle.arrays_core.specs.Arrays.{collect as collected, IsAnswerTo};
 ghost use Rattle.arrays_core.specs.Shapes.{size as size_of, places_before, IsWithinLimits};
 ghost use Rattle.scalar_fns.specs.declared.function.Scalar2.TheVariants.{Plus};
-ghost use Rattle.scalar_fns.specs.Numbers.{of_two};
+ghost use Rattle.scalar_fns.specs.Numbers.{dyadic_on_numbers};
 ghost use Rattle.scalar_fns.specs.Items.{number_item};
-ghost use Rattle.index_region.specs.ArgumentLists.{of_one};
+ghost use Rattle.index_region.specs.ArgumentLists.{of_one_argument};
 ghost use Rattle.index_region.specs.Answers.{IsFormAnswerTo, IsPlaceOf, HasTypeOf};
 ghost use Rattle.operator_fns.specs.Strides.{folded};
 ghost use Rattle.operator_fns.specs.LinearScan.{run_to, IsAssociative};
 ghost use Rattle.operator_fns.specs.Scan.{scan_form, scan_item, scan_whole};
 
+use crate::linear_scan::{running_folds, running_sums};
 use crate::number_rule::{NumberRule, collect_numbers};
 use crate::right_fold::{fold_line, fold_numbers, stride};
-use crate::linear_scan::{running_folds, running_sums};
 use arrays_core::{ApplyFault, Array, Item, ItemType, Kind, Shape, shape_of, without_axis};
 use index_region::{Along, Primitive, Seen, apply, limited};
 use scalar_fns::Scalar2;
@@ -104,7 +104,7 @@ fn sums(
     requires apart { 0 < stride }
     requires high { count * stride ≤ length numbers.now }
     requires long { size_of shape.now.items ≡ length numbers.now }
-    ensures { IsAnswerTo (collected Nums shape.now.items (λ index. number_item (folded (of_two Plus) (run_to (pos 0) numbers.now stride count (places_before shape.now.items index))))) result }
+    ensures { IsAnswerTo (collected Nums shape.now.items (λ index. number_item (folded (dyadic_on_numbers Plus) (run_to (pos 0) numbers.now stride count (places_before shape.now.items index))))) result }
 {
     let numbers = running_sums(alloc, numbers, stride, count)?;
     Ok(Array::from_numbers(shape, numbers))
@@ -124,7 +124,7 @@ fn scans(
     requires apart { 0 < stride }
     requires high { count * stride ≤ length numbers.now }
     requires long { size_of shape.now.items ≡ length numbers.now }
-    ensures { IsAnswerTo (collected Nums shape.now.items (λ index. number_item (folded (of_two function) (run_to (pos 0) numbers.now stride count (places_before shape.now.items index))))) result }
+    ensures { IsAnswerTo (collected Nums shape.now.items (λ index. number_item (folded (dyadic_on_numbers function) (run_to (pos 0) numbers.now stride count (places_before shape.now.items index))))) result }
 {
     match function {
         Scalar2::Plus => sums(alloc, numbers, stride, count, shape),
@@ -189,7 +189,7 @@ impl Scan {
     /// The folds of the first items of the lines. Those of numbers are taken from the numbers as they lie.
     pub fn apply(&self, alloc: Global, args: &[Seen]) -> Result<Array, ApplyFault>
         requires { length args.now ≡ 1 }
-        ensures { IsAnswerTo (of_one (scan_whole self.now.function self.now.along) args.now) result }
+        ensures { IsAnswerTo (of_one_argument (scan_whole self.now.function self.now.along) args.now) result }
     {
         match args[0].numbers() {
             Some(numbers) if !numbers.is_empty() => self.of_numbers(alloc, &args[0], numbers),
@@ -225,9 +225,9 @@ impl Scan {
 impl Primitive for Scan {
     ghost arity = { λ _. 1 };
 
-    ghost form = { λ s args. of_one (scan_form s.along) args };
+    ghost form = { λ s args. of_one_argument (scan_form s.along) args };
 
-    ghost item = { λ s args index. of_one (λ b. scan_item s.function s.along b index) args };
+    ghost item = { λ s args index. of_one_argument (λ b. scan_item s.function s.along b index) args };
 
     fn shape_of(&self, args: &[Seen]) -> Result<(Shape, ItemType), Kind> {
         self.form(&args[0])

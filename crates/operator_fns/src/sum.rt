@@ -2,7 +2,7 @@
 
 ghost use Rattle.std.specs.Prelude.{◌≡◌, ◌<◌, ◌≤◌, All, true, length};
 ghost use Rattle.scalar_fns.specs.declared.function.Scalar2.TheVariants.{Plus as Sum};
-ghost use Rattle.scalar_fns.specs.Numbers.{of_two};
+ghost use Rattle.scalar_fns.specs.Numbers.{dyadic_on_numbers};
 ghost use Rattle.operator_fns.specs.Strides.{folded};
 ghost use Rattle.operator_fns.specs.Sum.{IsSmall, sum_of};
 
@@ -46,7 +46,7 @@ fn sum_of_small(numbers: &[i64]) -> i64
 /// each step held to 64 bits.
 pub(crate) fn sum_list(numbers: &[i64]) -> Result<i64, Kind>
     requires { 0 < length numbers.now }
-    ensures { result ≡ folded (of_two Sum) numbers.now }
+    ensures { result ≡ folded (dyadic_on_numbers Sum) numbers.now }
 {
     if numbers.len() <= MOST_ITEMS && are_small(numbers) {
         Ok(sum_of_small(numbers))

@@ -9,7 +9,7 @@ use Rattle.std.proofs.lemmas.Int.{ints}
 use Rattle.std.proofs.lemmas.Nat.{mod_below, div-mul-add, div-add-mod'}
 use Rattle.arrays_core.specs.declared.item.Kind.{Kind}
 use Rattle.arrays_core.specs.declared.item.Kind.TheVariants.{Limit}
-use Rattle.scalar_fns.specs.Numbers.{residue, floor_div, held, is_number}
+use Rattle.scalar_fns.specs.Numbers.{residue, floor_div, number_or_limit, is_number}
 use Rattle.scalar_fns.proofs.Residues.{next_mod, negative_divisor_whole, negative_dividend_whole}
 
 pub not_zero : (b : ℤ) → (b ≡ pos 0 → ⊥) → int_eq b (pos 0) ≡ false
@@ -55,20 +55,20 @@ one_above (negsuc a) (pos (suc b)) some differ left =
     ]
 
 -- where a number from 0 down is beyond the 64 bits, so is the next one down
-pub held_below : (q : ℕ) (k : Kind) → held (neg_ℤ (pos q)) ≡ Err k → held (neg_ℤ (pos q) -ℤ pos 1) ≡ Err k
+pub held_below : (q : ℕ) (k : Kind) → number_or_limit (neg_ℤ (pos q)) ≡ Err k → number_or_limit (neg_ℤ (pos q) -ℤ pos 1) ≡ Err k
 held_below zero k h = cc
 held_below (suc m) k h =
     let next : negsuc m -ℤ pos 1 ≡ negsuc (suc m) = omega (arith, ints) in
-    ap held next ∙ decide (nat_lt m (2 ^ 63)) refl h
+    ap number_or_limit next ∙ decide (nat_lt m (2 ^ 63)) refl h
   where
     farther : (m : ℕ) → nat_lt m (2 ^ 63) ≡ false → nat_lt (suc m) (2 ^ 63) ≡ false
     farther m e = grind (arith, nat_tests)
 
-    decide : (w : Bool) → nat_lt m (2 ^ 63) ≡ w → cond {A = Result ℤ Kind} w (Ok (negsuc m)) (Err Limit) ≡ Err k → held (negsuc (suc m)) ≡ Err k
+    decide : (w : Bool) → nat_lt m (2 ^ 63) ≡ w → cond {A = Result ℤ Kind} w (Ok (negsuc m)) (Err Limit) ≡ Err k → number_or_limit (negsuc (suc m)) ≡ Err k
     decide true e h = cc
     decide false e h = let far = farther m e in rw far h
 
-pub held_ok : (z q : ℤ) → held z ≡ Ok q → q ≡ z
+pub held_ok : (z q : ℤ) → number_or_limit z ≡ Ok q → q ≡ z
 held_ok z q h = decide (is_number z) h
   where
     decide : (w : Bool) → cond {A = Result ℤ Kind} w (Ok z) (Err Limit) ≡ Ok q → q ≡ z

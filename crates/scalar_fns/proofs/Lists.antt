@@ -4,7 +4,7 @@ use Rattle.std.proofs.lemmas.Bool.{eq-eqb, eqb-true, false_from_ne_true, cases_B
 use Rattle.std.proofs.lemmas.List.{length-map, ext_get_or, get_or-map}
 use Rattle.std.proofs.lemmas.List.FromFn.{length-map-range_with_len, get_or-map-range_with_len}
 use Rattle.arrays_core.specs.declared.item.Kind.{Kind}
-use Rattle.scalar_fns.specs.NumberLists.{number_at, places_of, results_by}
+use Rattle.scalar_fns.specs.NumberLists.{number_at, paired_length, results_by}
 
 not_one : (n : ℕ) → (n ≡ 1 → ⊥) → (n == 1) ≡ false
 not_one n h = false_from_ne_true _ (λ t. h (eqb-true n 1 t))
@@ -19,22 +19,22 @@ number_at_own xs k h =
       | inr many ↦ rw many refl
     ]
 
-pub places_of_one : (xs ys : List ℤ) → length xs ≡ 1 → places_of xs ys ≡ length ys
+pub places_of_one : (xs ys : List ℤ) → length xs ≡ 1 → paired_length xs ys ≡ length ys
 places_of_one xs ys h = let one = eq-eqb (length xs) 1 h in rw one refl
 
-pub places_of_many : (xs ys : List ℤ) → (length xs ≡ 1 → ⊥) → places_of xs ys ≡ length xs
+pub places_of_many : (xs ys : List ℤ) → (length xs ≡ 1 → ⊥) → paired_length xs ys ≡ length xs
 places_of_many xs ys h = let many = not_one (length xs) h in rw many refl
 
-pub places_of_equal : (xs ys : List ℤ) → length xs ≡ length ys → places_of xs ys ≡ length xs
+pub places_of_equal : (xs ys : List ℤ) → length xs ≡ length ys → paired_length xs ys ≡ length xs
 places_of_equal xs ys h =
     elim (cases_Bool (length xs == 1)) [ inl one ↦ rw one (sym h) | inr many ↦ rw many refl ]
 
 module _ (f : ℤ → ℤ → Result ℤ Kind) (xs ys : List ℤ) where
-  pub length-results : length (results_by f xs ys) ≡ places_of xs ys
-  length-results = length-map-range_with_len (λ k. f (number_at xs k) (number_at ys k)) 0 (places_of xs ys)
+  pub length-results : length (results_by f xs ys) ≡ paired_length xs ys
+  length-results = length-map-range_with_len (λ k. f (number_at xs k) (number_at ys k)) 0 (paired_length xs ys)
 
-  pub get_or-results : (k : ℕ) (d : Result ℤ Kind) → k < places_of xs ys → get_or (results_by f xs ys) k d ≡ f (number_at xs k) (number_at ys k)
-  get_or-results k d h = get_or-map-range_with_len (λ j. f (number_at xs j) (number_at ys j)) 0 (places_of xs ys) k k d h (omega arith)
+  pub get_or-results : (k : ℕ) (d : Result ℤ Kind) → k < paired_length xs ys → get_or (results_by f xs ys) k d ≡ f (number_at xs k) (number_at ys k)
+  get_or-results k d h = get_or-map-range_with_len (λ j. f (number_at xs j) (number_at ys j)) 0 (paired_length xs ys) k k d h (omega arith)
 
   -- where both are of one length, each place has the result of the numbers there
   pub own_result : (k : ℕ) (d : Result ℤ Kind) → length xs ≡ length ys → k < length xs → get_or (results_by f xs ys) k d ≡ f (get_or xs k (pos 0)) (get_or ys k (pos 0))

@@ -5,7 +5,7 @@ use Rattle.std.proofs.Math.Nat.{pow-le-pow_left, pow-le-pow_right}
 use Rattle.std.proofs.Math.Dec.{eqb-suc-zero}
 use Rattle.std.proofs.lemmas.Bool.{le-ltb, cases_Bool, eq-eqb, eqb-true, cases_lt, false_from_ne_true, true≢false}
 use Rattle.arrays_core.specs.declared.item.Kind.TheVariants.{Limit}
-use Rattle.scalar_fns.specs.Numbers.{held, power, truth}
+use Rattle.scalar_fns.specs.Numbers.{number_or_limit, power, truth}
 use Rattle.std.proofs.lemmas.Grind.{pow_more}
 
 one_more : (b n : ℕ) → b ^ suc n ≡ b ^ n * b
@@ -19,17 +19,17 @@ zero_pow : (n : ℕ) → 0 ^ suc n ≡ 0
 zero_pow n = one_more 0 n ∙ omega arith
 
 pub power_of_one : (b : ℤ) → power (pos 1) b ≡ Ok (pos 1)
-power_of_one (pos n) = ap (λ x. held (pos x)) (one_pow n)
+power_of_one (pos n) = ap (λ x. number_or_limit (pos x)) (one_pow n)
 power_of_one (negsuc n) = ap (λ x. Ok (pos x)) (one_pow (suc n))
 
 power_of_zero : (n : ℕ) → power (pos 0) (pos n) ≡ Ok (truth (n == 0))
 power_of_zero zero = refl
-power_of_zero (suc n) = ap (λ x. held (pos x)) (zero_pow n) ∙ ap (λ t. Ok (truth t)) (sym (eqb-suc-zero n))
+power_of_zero (suc n) = ap (λ x. number_or_limit (pos x)) (zero_pow n) ∙ ap (λ t. Ok (truth t)) (sym (eqb-suc-zero n))
 
-too_great : (m : ℕ) → 2 ^ 63 < m → held (pos m) ≡ Err Limit
+too_great : (m : ℕ) → 2 ^ 63 < m → number_or_limit (pos m) ≡ Err Limit
 too_great m h = let far = le-ltb m (2 ^ 63) (omega arith) in rw far refl
 
-too_low : (m : ℕ) → 2 ^ 63 < m → held (neg_ℤ (pos m)) ≡ Err Limit
+too_low : (m : ℕ) → 2 ^ 63 < m → number_or_limit (neg_ℤ (pos m)) ≡ Err Limit
 too_low zero h = absurd (omega arith)
 too_low (suc m) h = let far = le-ltb m (2 ^ 63) (omega arith) in rw far refl
 
@@ -65,11 +65,11 @@ odd_is n h =
     rw (odd, one_pow n) refl
 
 pub even_power : (b : ℤ) → of_z w64 (int_rem b (pos 2)) ≡ 0 → power (negsuc 0) b ≡ Ok (pos 1)
-even_power (pos n) h = ap held (even_is n h)
+even_power (pos n) h = ap number_or_limit (even_is n h)
 even_power (negsuc n) h = ap Ok (even_is (suc n) (no_rest (suc n % 2) (omega arith) h))
 
 pub odd_power : (b : ℤ) → (of_z w64 (int_rem b (pos 2)) ≡ 0 → ⊥) → power (negsuc 0) b ≡ Ok (negsuc 0)
-odd_power (pos n) h = ap held (odd_is n h)
+odd_power (pos n) h = ap number_or_limit (odd_is n h)
 odd_power (negsuc n) h = ap Ok (odd_is (suc n) (λ e. h (ap (λ r. of_z w64 (neg_ℤ (pos r))) e)))
 
 -- what is not 0, 1 or -1 is 2 or more without its sign

@@ -8,26 +8,26 @@ use Rattle.arrays_core.specs.declared.fault.ApplyFault.{ApplyFault}
 use Rattle.arrays_core.specs.declared.fault.ApplyFault.TheVariants.{Kind as KindFault, NoMemory}
 use Rattle.scalar_fns.specs.declared.function.Scalar1.{Scalar1}
 use Rattle.scalar_fns.specs.declared.function.Scalar2.{Scalar2}
-use Rattle.scalar_fns.specs.Numbers.{of_one, of_two}
+use Rattle.scalar_fns.specs.Numbers.{monadic_on_number, dyadic_on_numbers}
 
 -- the results at each place of a list
-abbrev pub results_of_one : Scalar1 → List ℤ → List (Result ℤ Kind)
-results_of_one f xs = map (of_one f) xs
+abbrev pub monadic_results : Scalar1 → List ℤ → List (Result ℤ Kind)
+monadic_results f xs = map (monadic_on_number f) xs
 
 -- the number at a place; a list of one number has it at every place
 abbrev pub number_at : List ℤ → ℕ → ℤ
 number_at xs k = get_or xs (if length xs == 1 then 0 else k) (pos 0)
 
 -- how many places two lists have, where one of one number stands for as many as the other has
-abbrev pub places_of : List ℤ → List ℤ → ℕ
-places_of xs ys = if length xs == 1 then length ys else length xs
+abbrev pub paired_length : List ℤ → List ℤ → ℕ
+paired_length xs ys = if length xs == 1 then length ys else length xs
 
 -- the results of a function of two numbers at each place of two lists
 abbrev pub results_by : (ℤ → ℤ → Result ℤ Kind) → List ℤ → List ℤ → List (Result ℤ Kind)
-results_by function xs ys = map (λ k. function (number_at xs k) (number_at ys k)) (range_with_len 0 (places_of xs ys))
+results_by function xs ys = map (λ k. function (number_at xs k) (number_at ys k)) (range_with_len 0 (paired_length xs ys))
 
-abbrev pub results_of_two : Scalar2 → List ℤ → List ℤ → List (Result ℤ Kind)
-results_of_two f xs ys = results_by (of_two f) xs ys
+abbrev pub dyadic_results : Scalar2 → List ℤ → List ℤ → List (Result ℤ Kind)
+dyadic_results f xs ys = results_by (dyadic_on_numbers f) xs ys
 
 -- a call answers what was asked for, or want of memory
 abbrev pub IsListAnswerTo : {G : Type 0} → Result (List ℤ) Kind → Result (Vec ℤ G) ApplyFault → Type 0
@@ -36,6 +36,6 @@ IsListAnswerTo wanted (Err (KindFault k)) = wanted ≡ Err k
 IsListAnswerTo wanted (Err NoMemory) = Unit {0}
 
 -- numbers as the items of an array
-abbrev pub items_of : Result (List ℤ) Kind → Result (List Item) Kind
-items_of (Ok zs) = Ok (map (λ z. Num z) zs)
-items_of (Err k) = Err k
+abbrev pub number_items : Result (List ℤ) Kind → Result (List Item) Kind
+number_items (Ok zs) = Ok (map (λ z. Num z) zs)
+number_items (Err k) = Err k

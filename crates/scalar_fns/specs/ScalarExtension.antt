@@ -10,7 +10,7 @@ use Rattle.arrays_core.specs.Shapes.{size, places_before}
 use Rattle.arrays_core.specs.Arrays.{ArrayValue, item_of, collect}
 use Rattle.scalar_fns.specs.declared.function.Scalar1.{Scalar1}
 use Rattle.scalar_fns.specs.declared.function.Scalar2.{Scalar2}
-use Rattle.scalar_fns.specs.Items.{one_of, two_of}
+use Rattle.scalar_fns.specs.Items.{monadic_on_item, dyadic_on_items}
 
 -- the shape of the greater rank
 abbrev pub of_greater_rank : List ℕ → List ℕ → List ℕ
@@ -33,10 +33,10 @@ for_shape (Ok shape) make = make shape
 for_shape (Err k) make = Err k
 
 -- a scalar function of one array
-abbrev pub on_array : Scalar1 → ArrayValue → Result ArrayValue Kind
-on_array f a = collect Nums a.shape (λ index. one_of f (item_of a index))
+abbrev pub monadic_on_array : Scalar1 → ArrayValue → Result ArrayValue Kind
+monadic_on_array f a = collect Nums a.shape (λ index. monadic_on_item f (item_of a index))
 
 -- a scalar function of two arrays
-abbrev pub on_arrays : Scalar2 → ArrayValue → ArrayValue → Result ArrayValue Kind
-on_arrays f a b =
-    for_shape (common a.shape b.shape) (λ shape. collect Nums shape (λ index. two_of f (extended a index) (extended b index)))
+abbrev pub dyadic_on_arrays : Scalar2 → ArrayValue → ArrayValue → Result ArrayValue Kind
+dyadic_on_arrays f a b =
+    for_shape (common a.shape b.shape) (λ shape. collect Nums shape (λ index. dyadic_on_items f (extended a index) (extended b index)))

@@ -2,18 +2,18 @@
 
 ghost use Rattle.std.specs.Prelude.{◌≡◌, ◌≢◌, length, IfOk, vec_len};
 ghost use Rattle.arrays_core.specs.Items.{all_or_first_error};
-ghost use Rattle.scalar_fns.specs.Numbers.{of_one, of_two};
-ghost use Rattle.scalar_fns.specs.NumberLists.{results_of_one, results_of_two, places_of, IsListAnswerTo};
+ghost use Rattle.scalar_fns.specs.Numbers.{monadic_on_number, dyadic_on_numbers};
+ghost use Rattle.scalar_fns.specs.NumberLists.{monadic_results, dyadic_results, paired_length, IsListAnswerTo};
 
 use crate::function::{Scalar1, Scalar2};
-use crate::loops::{on_each, on_lists};
 use crate::kernels::*;
+use crate::loops::{on_each, on_lists};
 use arrays_core::{ApplyFault, Kind};
 use std::alloc::Global;
 
 /// A function of one number.
 pub(crate) fn one_number(function: Scalar1, b: i64) -> Result<i64, Kind>
-    ensures { result ≡ of_one function b }
+    ensures { result ≡ monadic_on_number function b }
 {
     match function {
         Scalar1::Conjugate | Scalar1::Ceiling | Scalar1::Floor => Same.at(b),
@@ -27,7 +27,7 @@ pub(crate) fn one_number(function: Scalar1, b: i64) -> Result<i64, Kind>
 
 /// A function of two numbers: a number, or the error that `Scalar2` names. It takes no memory.
 pub fn two_numbers(function: Scalar2, a: i64, b: i64) -> Result<i64, Kind>
-    ensures { result ≡ of_two function a b }
+    ensures { result ≡ dyadic_on_numbers function a b }
 {
     match function {
         Scalar2::Plus => Plus.at(a, b),
@@ -52,7 +52,7 @@ pub fn two_numbers(function: Scalar2, a: i64, b: i64) -> Result<i64, Kind>
 }
 
 impl TwoNumbers for Scalar2 {
-    ghost gives = { λ f. of_two f };
+    ghost gives = { λ f. dyadic_on_numbers f };
 
     fn at(&self, a: i64, b: i64) -> Result<i64, Kind> {
         two_numbers(*self, a, b)
@@ -65,7 +65,7 @@ pub(crate) fn on_numbers(
     function: Scalar1,
     numbers: &[i64],
 ) -> Result<Vec<i64>, ApplyFault>
-    ensures is { IsListAnswerTo (all_or_first_error (results_of_one function numbers.now)) result }
+    ensures is { IsListAnswerTo (all_or_first_error (monadic_results function numbers.now)) result }
     ensures long { IfOk result (λ v. vec_len v ≡ length numbers.now) }
 {
     match function {
@@ -94,8 +94,8 @@ pub(crate) fn on_number_lists(
     right: &[i64],
 ) -> Result<Vec<i64>, ApplyFault>
     requires { length left.now ≢ 1 → length right.now ≢ 1 → length left.now ≡ length right.now }
-    ensures is { IsListAnswerTo (all_or_first_error (results_of_two function left.now right.now)) result }
-    ensures long { IfOk result (λ v. vec_len v ≡ places_of left.now right.now) }
+    ensures is { IsListAnswerTo (all_or_first_error (dyadic_results function left.now right.now)) result }
+    ensures long { IfOk result (λ v. vec_len v ≡ paired_length left.now right.now) }
 {
     match function {
         Scalar2::Plus => on_lists(alloc, Plus, left, right),

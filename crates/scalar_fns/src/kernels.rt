@@ -4,7 +4,7 @@ ghost use Rattle.std.specs.Prelude.{◌≡◌, ℤ, pos, neg_ℤ, unsigned_abs, 
 ghost use Rattle.arrays_core.specs.declared.item.Kind.{Kind};
 ghost use Rattle.scalar_fns.specs.declared.function.Scalar1.TheVariants as one;
 ghost use Rattle.scalar_fns.specs.declared.function.Scalar2.TheVariants as two;
-ghost use Rattle.scalar_fns.specs.Numbers.{of_one, of_two};
+ghost use Rattle.scalar_fns.specs.Numbers.{monadic_on_number, dyadic_on_numbers};
 
 use crate::numbers::{as_truth, in_range, power, quotient, residue, truth};
 use arrays_core::Kind;
@@ -61,7 +61,7 @@ impl<S: TwoNumbers> OneNumber for WithRight<S> {
 pub(crate) struct Same;
 
 impl OneNumber for Same {
-    ghost gives = { λ s b. of_one one.Conjugate b };
+    ghost gives = { λ s b. monadic_on_number one.Conjugate b };
 
     fn at(&self, b: i64) -> Result<i64, Kind> {
         Ok(b)
@@ -73,7 +73,7 @@ impl OneNumber for Same {
 pub(crate) struct Negative;
 
 impl OneNumber for Negative {
-    ghost gives = { λ s b. of_one one.Negative b };
+    ghost gives = { λ s b. monadic_on_number one.Negative b };
 
     fn at(&self, b: i64) -> Result<i64, Kind> {
         in_range(b.checked_neg())
@@ -85,7 +85,7 @@ impl OneNumber for Negative {
 pub(crate) struct Direction;
 
 impl OneNumber for Direction {
-    ghost gives = { λ s b. of_one one.Direction b };
+    ghost gives = { λ s b. monadic_on_number one.Direction b };
 
     fn at(&self, b: i64) -> Result<i64, Kind> {
         Ok(b.signum())
@@ -97,7 +97,7 @@ impl OneNumber for Direction {
 pub(crate) struct Magnitude;
 
 impl OneNumber for Magnitude {
-    ghost gives = { λ s b. of_one one.Magnitude b };
+    ghost gives = { λ s b. monadic_on_number one.Magnitude b };
 
     fn at(&self, b: i64) -> Result<i64, Kind> {
         in_range(b.checked_abs())
@@ -109,7 +109,7 @@ impl OneNumber for Magnitude {
 pub(crate) struct Not;
 
 impl OneNumber for Not {
-    ghost gives = { λ s b. of_one one.Not b };
+    ghost gives = { λ s b. monadic_on_number one.Not b };
 
     fn at(&self, b: i64) -> Result<i64, Kind> {
         Ok(truth(!as_truth(b)?))
@@ -121,7 +121,7 @@ impl OneNumber for Not {
 pub struct Plus;
 
 impl TwoNumbers for Plus {
-    ghost gives = { λ s. of_two two.Plus };
+    ghost gives = { λ s. dyadic_on_numbers two.Plus };
 
     fn at(&self, a: i64, b: i64) -> Result<i64, Kind> {
         in_range(a.checked_add(b))
@@ -133,7 +133,7 @@ impl TwoNumbers for Plus {
 pub struct Minus;
 
 impl TwoNumbers for Minus {
-    ghost gives = { λ s. of_two two.Minus };
+    ghost gives = { λ s. dyadic_on_numbers two.Minus };
 
     fn at(&self, a: i64, b: i64) -> Result<i64, Kind> {
         in_range(a.checked_sub(b))
@@ -145,7 +145,7 @@ impl TwoNumbers for Minus {
 pub struct Times;
 
 impl TwoNumbers for Times {
-    ghost gives = { λ s. of_two two.Times };
+    ghost gives = { λ s. dyadic_on_numbers two.Times };
 
     fn at(&self, a: i64, b: i64) -> Result<i64, Kind> {
         in_range(a.checked_mul(b))
@@ -157,7 +157,7 @@ impl TwoNumbers for Times {
 pub struct Divide;
 
 impl TwoNumbers for Divide {
-    ghost gives = { λ s. of_two two.Divide };
+    ghost gives = { λ s. dyadic_on_numbers two.Divide };
 
     fn at(&self, a: i64, b: i64) -> Result<i64, Kind> {
         quotient(a, b)
@@ -169,7 +169,7 @@ impl TwoNumbers for Divide {
 pub struct Power;
 
 impl TwoNumbers for Power {
-    ghost gives = { λ s. of_two two.Power };
+    ghost gives = { λ s. dyadic_on_numbers two.Power };
 
     fn at(&self, a: i64, b: i64) -> Result<i64, Kind> {
         power(a, b)
@@ -181,7 +181,7 @@ impl TwoNumbers for Power {
 pub struct Residue;
 
 impl TwoNumbers for Residue {
-    ghost gives = { λ s. of_two two.Residue };
+    ghost gives = { λ s. dyadic_on_numbers two.Residue };
 
     fn at(&self, a: i64, b: i64) -> Result<i64, Kind> {
         Ok(residue(a, b))
@@ -193,7 +193,7 @@ impl TwoNumbers for Residue {
 pub struct Maximum;
 
 impl TwoNumbers for Maximum {
-    ghost gives = { λ s. of_two two.Maximum };
+    ghost gives = { λ s. dyadic_on_numbers two.Maximum };
 
     fn at(&self, a: i64, b: i64) -> Result<i64, Kind> {
         Ok(a.max(b))
@@ -205,7 +205,7 @@ impl TwoNumbers for Maximum {
 pub struct Minimum;
 
 impl TwoNumbers for Minimum {
-    ghost gives = { λ s. of_two two.Minimum };
+    ghost gives = { λ s. dyadic_on_numbers two.Minimum };
 
     fn at(&self, a: i64, b: i64) -> Result<i64, Kind> {
         Ok(a.min(b))
@@ -217,7 +217,7 @@ impl TwoNumbers for Minimum {
 pub struct Less;
 
 impl TwoNumbers for Less {
-    ghost gives = { λ s. of_two two.Less };
+    ghost gives = { λ s. dyadic_on_numbers two.Less };
 
     fn at(&self, a: i64, b: i64) -> Result<i64, Kind> {
         Ok(truth(a < b))
@@ -229,7 +229,7 @@ impl TwoNumbers for Less {
 pub struct LessOrEqual;
 
 impl TwoNumbers for LessOrEqual {
-    ghost gives = { λ s. of_two two.LessOrEqual };
+    ghost gives = { λ s. dyadic_on_numbers two.LessOrEqual };
 
     fn at(&self, a: i64, b: i64) -> Result<i64, Kind> {
         Ok(truth(a <= b))
@@ -241,7 +241,7 @@ impl TwoNumbers for LessOrEqual {
 pub struct Equal;
 
 impl TwoNumbers for Equal {
-    ghost gives = { λ s. of_two two.Equal };
+    ghost gives = { λ s. dyadic_on_numbers two.Equal };
 
     fn at(&self, a: i64, b: i64) -> Result<i64, Kind> {
         Ok(truth(a == b))
@@ -253,7 +253,7 @@ impl TwoNumbers for Equal {
 pub struct GreaterOrEqual;
 
 impl TwoNumbers for GreaterOrEqual {
-    ghost gives = { λ s. of_two two.GreaterOrEqual };
+    ghost gives = { λ s. dyadic_on_numbers two.GreaterOrEqual };
 
     fn at(&self, a: i64, b: i64) -> Result<i64, Kind> {
         Ok(truth(a >= b))
@@ -265,7 +265,7 @@ impl TwoNumbers for GreaterOrEqual {
 pub struct Greater;
 
 impl TwoNumbers for Greater {
-    ghost gives = { λ s. of_two two.Greater };
+    ghost gives = { λ s. dyadic_on_numbers two.Greater };
 
     fn at(&self, a: i64, b: i64) -> Result<i64, Kind> {
         Ok(truth(a > b))
@@ -277,7 +277,7 @@ impl TwoNumbers for Greater {
 pub struct NotEqual;
 
 impl TwoNumbers for NotEqual {
-    ghost gives = { λ s. of_two two.NotEqual };
+    ghost gives = { λ s. dyadic_on_numbers two.NotEqual };
 
     fn at(&self, a: i64, b: i64) -> Result<i64, Kind> {
         Ok(truth(a != b))
@@ -289,7 +289,7 @@ impl TwoNumbers for NotEqual {
 pub struct And;
 
 impl TwoNumbers for And {
-    ghost gives = { λ s. of_two two.And };
+    ghost gives = { λ s. dyadic_on_numbers two.And };
 
     fn at(&self, a: i64, b: i64) -> Result<i64, Kind> {
         Ok(truth(as_truth(a)? & as_truth(b)?))
@@ -301,7 +301,7 @@ impl TwoNumbers for And {
 pub struct Or;
 
 impl TwoNumbers for Or {
-    ghost gives = { λ s. of_two two.Or };
+    ghost gives = { λ s. dyadic_on_numbers two.Or };
 
     fn at(&self, a: i64, b: i64) -> Result<i64, Kind> {
         Ok(truth(as_truth(a)? | as_truth(b)?))
@@ -313,7 +313,7 @@ impl TwoNumbers for Or {
 pub struct Nand;
 
 impl TwoNumbers for Nand {
-    ghost gives = { λ s. of_two two.Nand };
+    ghost gives = { λ s. dyadic_on_numbers two.Nand };
 
     fn at(&self, a: i64, b: i64) -> Result<i64, Kind> {
         Ok(truth(!(as_truth(a)? & as_truth(b)?)))
@@ -325,7 +325,7 @@ impl TwoNumbers for Nand {
 pub struct Nor;
 
 impl TwoNumbers for Nor {
-    ghost gives = { λ s. of_two two.Nor };
+    ghost gives = { λ s. dyadic_on_numbers two.Nor };
 
     fn at(&self, a: i64, b: i64) -> Result<i64, Kind> {
         Ok(truth(!(as_truth(a)? | as_truth(b)?)))

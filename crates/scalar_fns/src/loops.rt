@@ -2,7 +2,7 @@
 
 ghost use Rattle.std.specs.Prelude.{◌≡◌, ◌≢◌, ◌<◌, length, map, get_or, pos, IfOk, vec_len};
 ghost use Rattle.arrays_core.specs.Items.{all_or_first_error};
-ghost use Rattle.scalar_fns.specs.NumberLists.{results_by, places_of, IsListAnswerTo};
+ghost use Rattle.scalar_fns.specs.NumberLists.{results_by, paired_length, IsListAnswerTo};
 
 use crate::kernels::{OneNumber, TwoNumbers, WithLeft, WithRight};
 use arrays_core::{ApplyFault, Kind};
@@ -64,7 +64,7 @@ pub(crate) fn on_lists<S: TwoNumbers + Copy>(
 ) -> Result<Vec<i64>, ApplyFault>
     requires { length left.now ≢ 1 → length right.now ≢ 1 → length left.now ≡ length right.now }
     ensures is { IsListAnswerTo (all_or_first_error (results_by (S.gives step) left.now right.now)) result }
-    ensures long { IfOk result (λ v. vec_len v ≡ places_of left.now right.now) }
+    ensures long { IfOk result (λ v. vec_len v ≡ paired_length left.now right.now) }
 {
     if left.len() == 1 {
         let with_left = WithLeft {

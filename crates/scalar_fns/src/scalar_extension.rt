@@ -4,9 +4,9 @@ ghost use Rattle.std.specs.Prelude.{◌≡◌, ◌≤◌, ◌≢◌, IsTrue, Lis
 ghost use Rattle.arrays_core.specs.Shapes.{size as size_of, is_index_of, IsWithinLimits, IsShapeAnswerTo};
 ghost use Rattle.arrays_core.specs.Arrays.{IsAnswerTo, item_of, with_items};
 ghost use Rattle.arrays_core.specs.declared.item.ItemType.TheVariants.{Nums};
-ghost use Rattle.scalar_fns.specs.ScalarExtension.{common, extended, on_array, on_arrays};
-ghost use Rattle.scalar_fns.specs.Items.{one_of, two_of};
-ghost use Rattle.scalar_fns.specs.NumberLists.{results_of_one, results_of_two, places_of, items_of};
+ghost use Rattle.scalar_fns.specs.ScalarExtension.{common, extended, monadic_on_array, dyadic_on_arrays};
+ghost use Rattle.scalar_fns.specs.Items.{monadic_on_item, dyadic_on_items};
+ghost use Rattle.scalar_fns.specs.NumberLists.{monadic_results, dyadic_results, paired_length, number_items};
 ghost use Rattle.arrays_core.specs.Items.{all_or_first_error};
 
 use crate::dispatch::{on_number_lists, on_numbers};
@@ -76,7 +76,7 @@ impl<'a> ItemRule for Pairs<'a> {
 
     ghost result_type = { λ p. Nums };
 
-    ghost item = { λ p index. two_of p.function (extended p.left.now index) (extended p.right.now index) };
+    ghost item = { λ p index. dyadic_on_items p.function (extended p.left.now index) (extended p.right.now index) };
 
     fn item_at(&self, index: &[u32]) -> Result<Item, Kind> {
         two(
@@ -99,7 +99,7 @@ impl<'a> ItemRule for Items<'a> {
 
     ghost result_type = { λ p. Nums };
 
-    ghost item = { λ p index. one_of p.function (item_of p.array.now index) };
+    ghost item = { λ p index. monadic_on_item p.function (item_of p.array.now index) };
 
     fn item_at(&self, index: &[u32]) -> Result<Item, Kind> {
         let position = position(self.array.shape(), index);
@@ -117,7 +117,7 @@ fn apply_to_numbers(
     requires within { IsWithinLimits shape.now.items }
     requires long { length numbers.now ≡ size_of shape.now.items }
     ensures { IsAnswerTo
-        (with_items Nums shape.now.items (items_of (all_or_first_error (results_of_one function numbers.now)))) result }
+        (with_items Nums shape.now.items (number_items (all_or_first_error (monadic_results function numbers.now)))) result }
 {
     let results = on_numbers(alloc, function, numbers)?;
     Ok(Array::from_numbers(shape, results))
@@ -133,9 +133,9 @@ fn apply_to_number_lists(
 ) -> Result<Array, ApplyFault>
     requires within { IsWithinLimits shape.now.items }
     requires fit { length left.now ≢ 1 → length right.now ≢ 1 → length left.now ≡ length right.now }
-    requires long { places_of left.now right.now ≡ size_of shape.now.items }
+    requires long { paired_length left.now right.now ≡ size_of shape.now.items }
     ensures { IsAnswerTo
-        (with_items Nums shape.now.items (items_of (all_or_first_error (results_of_two function left.now right.now)))) result }
+        (with_items Nums shape.now.items (number_items (all_or_first_error (dyadic_results function left.now right.now)))) result }
 {
     let results = on_number_lists(alloc, function, left, right)?;
     Ok(Array::from_numbers(shape, results))
@@ -144,7 +144,7 @@ fn apply_to_number_lists(
 /// A scalar function of an array, item by item (ISO/IEC 13751, "Monadic scalar functions"). The result is of numbers and has
 /// the array's shape; where several items fail, the error is that of the first in row-major order.
 pub fn apply_one(alloc: Global, function: Scalar1, array: &Array) -> Result<Array, ApplyFault>
-    ensures { IsAnswerTo (on_array function array.now) result }
+    ensures { IsAnswerTo (monadic_on_array function array.now) result }
 {
     let shape = array.shape();
     if let Some(numbers) = array.numbers() {
@@ -163,7 +163,7 @@ pub fn apply_two(
     left: &Array,
     right: &Array,
 ) -> Result<Array, ApplyFault>
-    ensures { IsAnswerTo (on_arrays function left.now right.now) result }
+    ensures { IsAnswerTo (dyadic_on_arrays function left.now right.now) result }
 {
     let shape = common_shape(left.shape(), right.shape())?;
     if let Some(numbers) = left.numbers() {

@@ -5,14 +5,14 @@ use Rattle.std.proofs.lemmas.Bool.Decides.{nat_tests}
 use Rattle.std.proofs.lemmas.List.{length-map}
 use Rattle.arrays_core.specs.Arrays.{ArrayValue}
 use Rattle.arrays_core.proofs.Shapes.{as_long}
-use Rattle.index_region.specs.ArgumentLists.{of_one}
+use Rattle.index_region.specs.ArgumentLists.{of_one_argument}
 use Rattle.index_region.specs.Arguments.{is_list, has_one_item, counts_as_numbers, none_negative, numbers, number_of}
 use Rattle.index_region.specs.Answers.{IsPlaceOf}
 use Rattle.index_region.proofs.Passing.{passed, place_inside}
 use Rattle.selection_fns.specs.IndexGenerator.{generator_form}
 
 -- there is one index
-pub has_index : (args : List ArrayValue) (index : List ℕ) → IsPlaceOf (of_one generator_form args) index → 0 < length index
+pub has_index : (args : List ArrayValue) (index : List ℕ) → IsPlaceOf (of_one_argument generator_form args) index → 0 < length index
 has_index [] index h = absurd h
 has_index (a ∷ b ∷ args) index h = absurd h
 has_index (n ∷ []) index h =

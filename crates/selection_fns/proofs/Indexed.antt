@@ -12,7 +12,7 @@ use Rattle.index_region.specs.Checks.{Form, whole}
 use Rattle.index_region.specs.Arguments.{is_scalar}
 use Rattle.index_region.specs.Answers.{IsPlaceOf}
 use Rattle.index_region.proofs.Passing.{passed, place_inside}
-use Rattle.selection_fns.specs.Index.{Position, count_written, positions_of, of_positions, are_numbers, are_on, indexed_shape, index_form}
+use Rattle.selection_fns.specs.Index.{Position, count_written, written_positions, of_array_and_positions, are_numbers, are_on, indexed_shape, index_form}
 
 -- what the checks say, of an index list of the result
 pub record HasPassed (a : ArrayValue) (written : List Bool) (positions : List Position) (index : List ℕ) : Type 0 where
@@ -20,16 +20,16 @@ pub record HasPassed (a : ArrayValue) (written : List Bool) (positions : List Po
   pub on : are_on a.shape positions ≡ true
   pub inside : is_index_of (indexed_shape a.shape positions) index ≡ true
 
-pub positions_long : (written : List Bool) (args : List ArrayValue) → length args ≡ count_written written → length (positions_of written args) ≡ length written
+pub positions_long : (written : List Bool) (args : List ArrayValue) → length args ≡ count_written written → length (written_positions written args) ≡ length written
 positions_long [] args h = refl
 positions_long (true ∷ written) [] h = absurd (omega arith)
 positions_long (true ∷ written) (p ∷ args) h = let rest = positions_long written args (omega arith) in omega arith
 positions_long (false ∷ written) args h = let rest = positions_long written args h in omega arith
 
 pub has_passed : (a : ArrayValue) (written : List Bool) (args : List ArrayValue) (index : List ℕ) → length args ≡ count_written written
-    → IsPlaceOf (index_form a (positions_of written args)) index → HasPassed a written (positions_of written args) index
+    → IsPlaceOf (index_form a (written_positions written args)) index → HasPassed a written (written_positions written args) index
 has_passed a written args index long h =
-    let positions = positions_of written args in
+    let positions = written_positions written args in
     let rank = passed (not (is_scalar a) && nat_eq (length positions) (length a.shape)) _ _ index h in
     let counted = passed (list_all are_numbers positions) _ _ index rank.place in
     let on = passed (are_on a.shape positions) _ _ index counted.place in
@@ -47,7 +47,7 @@ has_passed a written args index long h =
 
 pub whole_of_positions : (form : ArrayValue → List Position → Result Form Kind) (item : ArrayValue → List Position → List ℕ → Result Item Kind) (written : List Bool) (args : List ArrayValue)
     → length args ≡ suc (count_written written)
-    → whole (of_positions written form args) (λ index. of_positions written (λ a positions. item a positions index) args) ≡ of_positions written (λ a positions. whole (form a positions) (item a positions)) args
+    → whole (of_array_and_positions written form args) (λ index. of_array_and_positions written (λ a positions. item a positions index) args) ≡ of_array_and_positions written (λ a positions. whole (form a positions) (item a positions)) args
 whole_of_positions form item written [] h = absurd (omega arith)
 whole_of_positions form item written (a ∷ args) h = refl
 
@@ -56,17 +56,17 @@ abbrev pub ranks_agree : ArrayValue → List Position → Bool
 ranks_agree a positions = not (is_scalar a) && nat_eq (length positions) (length a.shape)
 
 pub ranks_do_agree : (a : ArrayValue) (written : List Bool) (args : List ArrayValue) → length args ≡ count_written written
-    → 0 < length a.shape → length written ≡ length a.shape → ranks_agree a (positions_of written args) ≡ true
+    → 0 < length a.shape → length written ≡ length a.shape → ranks_agree a (written_positions written args) ≡ true
 ranks_do_agree a written args long some same =
     let as_many = positions_long written args long in
-    both (length a.shape) (length (positions_of written args)) some (omega arith)
+    both (length a.shape) (length (written_positions written args)) some (omega arith)
   where
     both : (n m : ℕ) → 0 < n → m ≡ n → (not (nat_eq n 0) && nat_eq m n) ≡ true
     both n m some same = grind (arith, nat_tests)
 
 pub ranks_do_not_agree : (a : ArrayValue) (written : List Bool) (args : List ArrayValue) → length args ≡ count_written written
-    → (length written ≡ length a.shape → ⊥) → ranks_agree a (positions_of written args) ≡ false
-ranks_do_not_agree a written args long apart = either (not (is_scalar a)) (length (positions_of written args)) (length a.shape) (λ same. apart (let as_many = positions_long written args long in omega arith))
+    → (length written ≡ length a.shape → ⊥) → ranks_agree a (written_positions written args) ≡ false
+ranks_do_not_agree a written args long apart = either (not (is_scalar a)) (length (written_positions written args)) (length a.shape) (λ same. apart (let as_many = positions_long written args long in omega arith))
   where
     either : (b : Bool) (m n : ℕ) → (m ≡ n → ⊥) → (b && nat_eq m n) ≡ false
     either true m n apart = grind (arith, nat_tests)

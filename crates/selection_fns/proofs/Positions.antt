@@ -10,11 +10,11 @@ use Rattle.index_region.specs.Arguments.{number_of}
 use Rattle.std.proofs.lemmas.List.{length-append, length-drop, take_all, drop_more}
 use Rattle.arrays_core.specs.Arrays.{ArrayValue}
 use Rattle.arrays_core.specs.Shapes.{is_index_of}
-use Rattle.selection_fns.specs.Index.{count_written, positions_of, indexed_shape, is_place, is_on, are_on}
+use Rattle.selection_fns.specs.Index.{count_written, written_positions, indexed_shape, is_place, is_on, are_on}
 
 -- the first position where it is not written, and the rest
 pub record IsEmptyFirst (written : List Bool) (args : List ArrayValue) : Type 0 where
-  pub positions : positions_of written args ≡ None ∷ positions_of (drop 1 written) args
+  pub positions : written_positions written args ≡ None ∷ written_positions (drop 1 written) args
   pub counted : count_written (drop 1 written) ≡ count_written written
 
 pub empty_first : (written : List Bool) (args : List ArrayValue) → 0 < length written → get_or written 0 false ≡ false → IsEmptyFirst written args
@@ -24,7 +24,7 @@ empty_first (false ∷ written) args some h = record { positions = refl; counted
 
 -- the first position where it is written, and the rest
 pub record IsWrittenFirst (written : List Bool) (args : List ArrayValue) (a : ArrayValue) : Type 0 where
-  pub positions : positions_of written args ≡ Some (get_or args 0 a) ∷ positions_of (drop 1 written) (drop 1 args)
+  pub positions : written_positions written args ≡ Some (get_or args 0 a) ∷ written_positions (drop 1 written) (drop 1 args)
   pub counted : count_written (drop 1 written) + 1 ≡ count_written written
   pub there : 0 < length args
 
@@ -57,37 +57,37 @@ split_inside (n ∷ shape) rest (i ∷ index) h =
 -- the parts where the first position is written
 pub split_written : (axes : List ℕ) (written : List Bool) (args : List ArrayValue) (index : List ℕ) (p : ArrayValue)
     → length written ≡ length axes → length args ≡ count_written written → get_or written 0 false ≡ true → p ≡ get_or args 0 p
-    → is_index_of (indexed_shape axes (positions_of written args)) index ≡ true
-    → IsSplit p.shape (indexed_shape (drop 1 axes) (positions_of (drop 1 written) (drop 1 args))) index
+    → is_index_of (indexed_shape axes (written_positions written args)) index ≡ true
+    → IsSplit p.shape (indexed_shape (drop 1 axes) (written_positions (drop 1 written) (drop 1 args))) index
 split_written axes [] args index p same long h is inside = let no : ⊥ = cc in absurd no
 split_written axes (false ∷ written) args index p same long h is inside = let no : ⊥ = cc in absurd no
 split_written [] (true ∷ written) args index p same long h is inside = absurd (omega arith)
 split_written (n ∷ axes) (true ∷ written) [] index p same long h is inside = absurd (omega arith)
 split_written (n ∷ axes) (true ∷ written) (a ∷ args) index p same long h is inside =
-    split_inside p.shape (indexed_shape axes (positions_of written args)) index
-    (subst (λ q. is_index_of (q.shape ++ indexed_shape axes (positions_of written args)) index ≡ true) (sym is) inside)
+    split_inside p.shape (indexed_shape axes (written_positions written args)) index
+    (subst (λ q. is_index_of (q.shape ++ indexed_shape axes (written_positions written args)) index ≡ true) (sym is) inside)
 
 -- the same where it is not
 pub split_empty : (axes : List ℕ) (written : List Bool) (args : List ArrayValue) (index : List ℕ)
     → length written ≡ length axes → 0 < length written → get_or written 0 false ≡ false
-    → is_index_of (indexed_shape axes (positions_of written args)) index ≡ true
-    → IsSplit (get_or axes 0 0 ∷ []) (indexed_shape (drop 1 axes) (positions_of (drop 1 written) args)) index
+    → is_index_of (indexed_shape axes (written_positions written args)) index ≡ true
+    → IsSplit (get_or axes 0 0 ∷ []) (indexed_shape (drop 1 axes) (written_positions (drop 1 written) args)) index
 split_empty axes [] args index same some h inside = absurd (omega arith)
 split_empty axes (true ∷ written) args index same some h inside = let no : ⊥ = cc in absurd no
 split_empty [] (false ∷ written) args index same some h inside = absurd (omega arith)
-split_empty (n ∷ axes) (false ∷ written) args index same some h inside = split_inside (n ∷ []) (indexed_shape axes (positions_of written args)) index inside
+split_empty (n ∷ axes) (false ∷ written) args index same some h inside = split_inside (n ∷ []) (indexed_shape axes (written_positions written args)) index inside
 
 -- the axes of the first position, which is written, are among those of the result
 pub written_axes : (axes : List ℕ) (written : List Bool) (args : List ArrayValue) (p : ArrayValue)
     → length written ≡ length axes → length args ≡ count_written written → get_or written 0 false ≡ true → p ≡ get_or args 0 p
-    → length p.shape ≤ length (indexed_shape axes (positions_of written args))
+    → length p.shape ≤ length (indexed_shape axes (written_positions written args))
 written_axes axes [] args p same long h is = let no : ⊥ = cc in absurd no
 written_axes axes (false ∷ written) args p same long h is = let no : ⊥ = cc in absurd no
 written_axes [] (true ∷ written) args p same long h is = absurd (omega arith)
 written_axes (n ∷ axes) (true ∷ written) [] p same long h is = absurd (omega arith)
 written_axes (n ∷ axes) (true ∷ written) (a ∷ args) p same long h is =
-    let more = length-append a.shape (indexed_shape axes (positions_of written args)) in
-    subst (λ q. length q.shape ≤ length (a.shape ++ indexed_shape axes (positions_of written args))) (sym is) (omega arith)
+    let more = length-append a.shape (indexed_shape axes (written_positions written args)) in
+    subst (λ q. length q.shape ≤ length (a.shape ++ indexed_shape axes (written_positions written args))) (sym is) (omega arith)
 
 -- the magnitude of an index that is on an axis
 magnitude_within : (n : ℕ) (z : ℤ) → is_place n z ≡ true → unsigned_abs z ≤ n
@@ -120,7 +120,7 @@ fill_within n Chars = omega arith
 -- what the rest has where the first position is written
 pub record IsWrittenStep (axes : List ℕ) (written : List Bool) (args : List ArrayValue) : Type 0 where
   pub long : length (drop 1 args) ≡ count_written (drop 1 written)
-  pub on : are_on axes (positions_of written args) ≡ true → are_on (drop 1 axes) (positions_of (drop 1 written) (drop 1 args)) ≡ true
+  pub on : are_on axes (written_positions written args) ≡ true → are_on (drop 1 axes) (written_positions (drop 1 written) (drop 1 args)) ≡ true
 
 pub written_step : (axes : List ℕ) (written : List Bool) (args : List ArrayValue) → length written ≡ length axes → length args ≡ count_written written
     → get_or written 0 false ≡ true → IsWrittenStep axes written args

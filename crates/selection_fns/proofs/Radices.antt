@@ -4,7 +4,7 @@ use Rattle.std.specs.Prelude.{◌&&◌, nat_le}
 use Rattle.std.specs.Ordering.{int_eq}
 use Rattle.std.proofs.Math.Nat.{div-eq_of_lt, mod-eq_of_lt}
 use Rattle.std.proofs.lemmas.Int.{ints}
-use Rattle.scalar_fns.specs.Numbers.{residue, floor_div, held}
+use Rattle.scalar_fns.specs.Numbers.{residue, floor_div, number_or_limit}
 use Rattle.std.proofs.lemmas.Bool.Decides.{nat_tests}
 use Rattle.std.proofs.lemmas.List.{drop-drop, drop_more}
 use Rattle.arrays_core.specs.declared.item.Kind.{Kind}
@@ -45,9 +45,9 @@ zero_divided (negsuc a) =
 zero_carried : (radix : ℤ) → carried radix (pos 0) ≡ Ok (pos 0)
 zero_carried radix = decide (int_eq radix (pos 0))
   where
-    decide : (w : Bool) → cond {A = Result ℤ Kind} w (Ok (pos 0)) (held (floor_div (pos 0) radix)) ≡ Ok (pos 0)
+    decide : (w : Bool) → cond {A = Result ℤ Kind} w (Ok (pos 0)) (number_or_limit (floor_div (pos 0) radix)) ≡ Ok (pos 0)
     decide true = refl
-    decide false = ap held (zero_divided radix)
+    decide false = ap number_or_limit (zero_divided radix)
 
 pub zero_digit : (radix : ℤ) → residue radix (pos 0) ≡ pos 0
 zero_digit radix = decide (int_eq radix (pos 0))

@@ -10,7 +10,7 @@ use Rattle.arrays_core.specs.declared.item.Kind.TheVariants.{Rank}
 use Rattle.arrays_core.specs.Shapes.{size}
 use Rattle.arrays_core.specs.Arrays.{ArrayValue}
 use Rattle.index_region.specs.Checks.{limited}
-use Rattle.index_region.specs.ArgumentLists.{of_two}
+use Rattle.index_region.specs.ArgumentLists.{of_two_arguments}
 use Rattle.index_region.proofs.Passing.{two_arguments}
 use Rattle.selection_fns.specs.SameItem.{same_item}
 use Rattle.selection_fns.specs.IndexOf.{index_of_form, index_of_whole}
@@ -21,24 +21,24 @@ module _ (args : List ArrayValue) (a b : ArrayValue) (two : length args ≡ 2) (
   both : args ≡ a ∷ b ∷ []
   both = two_arguments args a b two first second
 
-  pub index_of_shape : of_two index_of_form args ≡ Ok (shape, item_type) → (shape ≡ b.shape) × (item_type ≡ Nums)
-  index_of_shape is = form_is b.shape shape Nums item_type (check_passed (nat_eq (length a.shape) 1) Rank (limited b.shape Nums) (shape, item_type) (ap (of_two index_of_form) (sym both) ∙ is))
+  pub index_of_shape : of_two_arguments index_of_form args ≡ Ok (shape, item_type) → (shape ≡ b.shape) × (item_type ≡ Nums)
+  index_of_shape is = form_is b.shape shape Nums item_type (check_passed (nat_eq (length a.shape) 1) Rank (limited b.shape Nums) (shape, item_type) (ap (of_two_arguments index_of_form) (sym both) ∙ is))
 
-  pub index_of_answer : of_two index_of_form args ≡ Ok (shape, item_type) → length b.items ≡ size b.shape
+  pub index_of_answer : of_two_arguments index_of_form args ≡ Ok (shape, item_type) → length b.items ≡ size b.shape
       → (zs : List ℤ) → zs ≡ map (λ x. pos (suc (position_or_len (same_item x) a.items))) b.items
-      → of_two index_of_whole args ≡ Ok (record { item_type = Nums; shape = shape; items = map (λ z. Num z) zs })
+      → of_two_arguments index_of_whole args ≡ Ok (record { item_type = Nums; shape = shape; items = map (λ z. Num z) zs })
   index_of_answer is long zs gives =
       let parts = index_of_shape is in
-      ap (of_two index_of_whole) both
-      ∙ flat_whole (λ x. pos (suc (position_or_len (same_item x) a.items))) b long (index_of_form a b) shape item_type zs (ap (of_two index_of_form) (sym both) ∙ is) parts.0 parts.1 gives
+      ap (of_two_arguments index_of_whole) both
+      ∙ flat_whole (λ x. pos (suc (position_or_len (same_item x) a.items))) b long (index_of_form a b) shape item_type zs (ap (of_two_arguments index_of_form) (sym both) ∙ is) parts.0 parts.1 gives
 
-  pub member_shape : of_two member_form args ≡ Ok (shape, item_type) → (shape ≡ a.shape) × (item_type ≡ Nums)
-  member_shape is = form_is a.shape shape Nums item_type (ap (of_two member_form) (sym both) ∙ is)
+  pub member_shape : of_two_arguments member_form args ≡ Ok (shape, item_type) → (shape ≡ a.shape) × (item_type ≡ Nums)
+  member_shape is = form_is a.shape shape Nums item_type (ap (of_two_arguments member_form) (sym both) ∙ is)
 
-  pub member_answer : of_two member_form args ≡ Ok (shape, item_type) → length a.items ≡ size a.shape
+  pub member_answer : of_two_arguments member_form args ≡ Ok (shape, item_type) → length a.items ≡ size a.shape
       → (zs : List ℤ) → zs ≡ map (λ x. truth (list_any (same_item x) b.items)) a.items
-      → of_two member_whole args ≡ Ok (record { item_type = Nums; shape = shape; items = map (λ z. Num z) zs })
+      → of_two_arguments member_whole args ≡ Ok (record { item_type = Nums; shape = shape; items = map (λ z. Num z) zs })
   member_answer is long zs gives =
       let parts = member_shape is in
-      ap (of_two member_whole) both
-      ∙ flat_whole (λ x. truth (list_any (same_item x) b.items)) a long (member_form a b) shape item_type zs (ap (of_two member_form) (sym both) ∙ is) parts.0 parts.1 gives
+      ap (of_two_arguments member_whole) both
+      ∙ flat_whole (λ x. truth (list_any (same_item x) b.items)) a long (member_form a b) shape item_type zs (ap (of_two_arguments member_form) (sym both) ∙ is) parts.0 parts.1 gives

@@ -14,7 +14,7 @@ use Rattle.arrays_core.proofs.Order.{given_in_order, index_after-within, places_
 use Rattle.index_region.specs.Checks.{Form, and_then}
 use Rattle.index_region.specs.Arguments.{numbers, number_of, is_scalar}
 use Rattle.index_region.proofs.Passing.{gives, limited_gives}
-use Rattle.selection_fns.specs.Index.{Position, count_written, positions_of, of_positions, are_numbers, are_on, is_place, indexed_shape, index_form, index_item, index_whole}
+use Rattle.selection_fns.specs.Index.{Position, count_written, written_positions, of_array_and_positions, are_numbers, are_on, is_place, indexed_shape, index_form, index_item, index_whole}
 use Rattle.selection_fns.proofs.Indexed.{positions_long}
 use Rattle.selection_fns.proofs.Positions.{place_in}
 
@@ -25,7 +25,7 @@ pub record OfVector (a p : ArrayValue) (shape : List ℕ) (item_type : ItemType)
   pub typed : item_type ≡ a.item_type
   pub form : index_form a (Some p ∷ []) ≡ Ok (shape, item_type)
 
-one_position : (written : List Bool) (p : ArrayValue) → 1 ≡ count_written written → length written ≡ 1 → positions_of written (p ∷ []) ≡ Some p ∷ []
+one_position : (written : List Bool) (p : ArrayValue) → 1 ≡ count_written written → length written ≡ 1 → written_positions written (p ∷ []) ≡ Some p ∷ []
 one_position [] p one long = absurd (omega arith)
 one_position (true ∷ []) p one long = refl
 one_position (false ∷ []) p one long = absurd (omega arith)
@@ -52,7 +52,7 @@ of_one_axis n a p shape item_type is form =
 -- the arguments of an index of a vector by one position
 pub record IsVectorIndex (written : List Bool) (args : List ArrayValue) (a p : ArrayValue) (shape : List ℕ) (item_type : ItemType) : Type 0 where
   pub args_are : args ≡ a ∷ p ∷ []
-  pub positions : positions_of written (p ∷ []) ≡ Some p ∷ []
+  pub positions : written_positions written (p ∷ []) ≡ Some p ∷ []
   pub axes : a.shape ≡ get_or a.shape 0 0 ∷ []
   pub facts : OfVector a p shape item_type
 
@@ -69,14 +69,14 @@ two_args (x ∷ y ∷ z ∷ rest) a p h d e = absurd (omega arith)
 
 pub is_vector_index : (written : List Bool) (args : List ArrayValue) (a p : ArrayValue) (shape : List ℕ) (item_type : ItemType)
     → length args ≡ suc (count_written written) → length args ≡ 2 → a ≡ get_or args 0 a → p ≡ get_or args 1 p → length a.shape ≡ 1
-    → of_positions written index_form args ≡ Ok (shape, item_type) → IsVectorIndex written args a p shape item_type
+    → of_array_and_positions written index_form args ≡ Ok (shape, item_type) → IsVectorIndex written args a p shape item_type
 is_vector_index written args a p shape item_type long two is_a is_p axis form =
     let pair = two_args args a p two is_a is_p in
-    let here : index_form a (positions_of written (p ∷ [])) ≡ Ok (shape, item_type) = subst (λ xs. of_positions written index_form xs ≡ Ok (shape, item_type)) pair form in
+    let here : index_form a (written_positions written (p ∷ [])) ≡ Ok (shape, item_type) = subst (λ xs. of_array_and_positions written index_form xs ≡ Ok (shape, item_type)) pair form in
     let axes = one_axis a.shape axis in
-    let ranks = gives (not (is_scalar a) && nat_eq (length (positions_of written (p ∷ []))) (length a.shape)) _ _ (shape, item_type) here in
+    let ranks = gives (not (is_scalar a) && nat_eq (length (written_positions written (p ∷ []))) (length a.shape)) _ _ (shape, item_type) here in
     let as_many = positions_long written (p ∷ []) (omega arith) in
-    let same = second_of (not (is_scalar a)) (length (positions_of written (p ∷ []))) (length a.shape) ranks.test in
+    let same = second_of (not (is_scalar a)) (length (written_positions written (p ∷ []))) (length a.shape) ranks.test in
     let positions = one_position written p (omega arith) (omega arith) in
     record {
       args_are = pair;

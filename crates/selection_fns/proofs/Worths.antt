@@ -11,7 +11,7 @@ use Rattle.arrays_core.specs.declared.item.ItemType.TheVariants.{Nums, Chars}
 use Rattle.arrays_core.specs.Items.{fill}
 use Rattle.arrays_core.specs.Shapes.{size, places_before, is_index_of}
 use Rattle.arrays_core.specs.Arrays.{ArrayValue}
-use Rattle.scalar_fns.specs.Numbers.{held}
+use Rattle.scalar_fns.specs.Numbers.{number_or_limit}
 use Rattle.index_region.specs.Checks.{and_then}
 use Rattle.index_region.specs.Arguments.{is_list, has_one_item, counts_as_numbers, numbers, number_of}
 use Rattle.index_region.specs.Axes.{places_along}
@@ -90,10 +90,10 @@ module _ (f : ℕ → ℤ × ℤ) where
   no_more_digits count before value h = let none : count - before ≡ 0 = omega arith in rw none refl
 
   pub one_more_digit : (count before : ℕ) (value : ℤ) → before < count
-      → worth value (behind count before) ≡ and_then (and_then (held (value *ℤ (f (before + 1)).0)) (λ product. held (product +ℤ (f (before + 1)).1))) (λ next. worth next (behind count (before + 1)))
+      → worth value (behind count before) ≡ and_then (and_then (number_or_limit (value *ℤ (f (before + 1)).0)) (λ product. number_or_limit (product +ℤ (f (before + 1)).1))) (λ next. worth next (behind count (before + 1)))
   one_more_digit count before value h =
       let some : count - before ≡ suc (count - (before + 1)) = omega arith in
-      rw some (regroup (held (value *ℤ (f (before + 1)).0)) (λ product. held (product +ℤ (f (before + 1)).1)) (λ next. worth next (behind count (before + 1))))
+      rw some (regroup (number_or_limit (value *ℤ (f (before + 1)).0)) (λ product. number_or_limit (product +ℤ (f (before + 1)).1)) (λ next. worth next (behind count (before + 1))))
     where
       regroup : (r : Result ℤ Kind) (g h : ℤ → Result ℤ Kind) → and_then r (λ product. and_then (g product) h) ≡ and_then (and_then r g) h
       regroup (Ok x) g h = refl

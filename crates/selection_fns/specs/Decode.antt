@@ -1,19 +1,17 @@
 -- Decode, A⊥B: the numbers of digits by radices.
-use Rattle.std.specs.Prelude.{ℕ, ◌-◌, nat_eq, ℤ, pos, ◌+ℤ◌, ◌*ℤ◌, ◌&&◌, ◌||◌, if◌then◌else◌, List, [], ◌∷◌, ◌++◌, map, length, get_or, drop, Result, Ok}
+use Rattle.std.specs.Prelude.{ℕ, nat_eq, ℤ, pos, ◌+ℤ◌, ◌*ℤ◌, ◌&&◌, ◌||◌, if◌then◌else◌, List, [], ◌∷◌, map, length, drop, Result, Ok}
 use Rattle.std.specs.List.{range_with_len}
-use Rattle.std.specs.Ordering.{int_eq}
 use Rattle.arrays_core.specs.declared.item.Item.{Item}
 use Rattle.arrays_core.specs.declared.item.ItemType.TheVariants.{Nums}
 use Rattle.arrays_core.specs.declared.item.Kind.{Kind}
 use Rattle.arrays_core.specs.declared.item.Kind.TheVariants.{Rank, Length, Domain}
 use Rattle.arrays_core.specs.Arrays.{ArrayValue, item_of}
-use Rattle.scalar_fns.specs.Numbers.{residue, floor_div, held}
+use Rattle.scalar_fns.specs.Numbers.{number_or_limit}
 use Rattle.scalar_fns.specs.Items.{number_item}
 use Rattle.scalar_fns.specs.ScalarExtension.{extended}
 use Rattle.index_region.specs.Checks.{Form, and_then, check, limited, whole}
-use Rattle.index_region.specs.Arguments.{is_scalar, is_list, has_one_item, counts_as_numbers, number_of, numbers}
+use Rattle.index_region.specs.Arguments.{is_scalar, is_list, has_one_item, counts_as_numbers, number_of}
 use Rattle.index_region.specs.Axes.{places_along}
-use Rattle.selection_fns.specs.Encode.{digit}
 
 abbrev pub decode_form : ArrayValue → ArrayValue → Result Form Kind
 decode_form a b =
@@ -38,7 +36,7 @@ digit_at b index k =
 -- the value so far, times each radix, plus the digit
 abbrev pub worth : ℤ → List (ℤ × ℤ) → Result ℤ Kind
 worth value [] = Ok value
-worth value (place ∷ rest) = and_then (held (value *ℤ place.0)) (λ product. and_then (held (product +ℤ place.1)) (λ next. worth next rest))
+worth value (place ∷ rest) = and_then (number_or_limit (value *ℤ place.0)) (λ product. and_then (number_or_limit (product +ℤ place.1)) (λ next. worth next rest))
 
 -- the first digit has no radix before it; no digit is 0
 abbrev pub decoded : List (ℤ × ℤ) → Result ℤ Kind

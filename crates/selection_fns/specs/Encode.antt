@@ -1,18 +1,15 @@
 -- Encode, A⊤B: numbers as digits by radices.
-use Rattle.std.specs.Prelude.{ℕ, ◌-◌, nat_eq, ℤ, pos, ◌+ℤ◌, ◌*ℤ◌, ◌&&◌, ◌||◌, if◌then◌else◌, List, [], ◌∷◌, ◌++◌, map, length, get_or, drop, Result, Ok}
-use Rattle.std.specs.List.{range_with_len}
+use Rattle.std.specs.Prelude.{ℕ, ◌-◌, ℤ, pos, ◌&&◌, if◌then◌else◌, List, [], ◌∷◌, ◌++◌, length, get_or, drop, Result, Ok}
 use Rattle.std.specs.Ordering.{int_eq}
 use Rattle.arrays_core.specs.declared.item.Item.{Item}
 use Rattle.arrays_core.specs.declared.item.ItemType.TheVariants.{Nums}
 use Rattle.arrays_core.specs.declared.item.Kind.{Kind}
-use Rattle.arrays_core.specs.declared.item.Kind.TheVariants.{Rank, Length, Domain}
+use Rattle.arrays_core.specs.declared.item.Kind.TheVariants.{Rank, Domain}
 use Rattle.arrays_core.specs.Arrays.{ArrayValue, item_of}
-use Rattle.scalar_fns.specs.Numbers.{residue, floor_div, held}
+use Rattle.scalar_fns.specs.Numbers.{residue, floor_div, number_or_limit}
 use Rattle.scalar_fns.specs.Items.{number_item}
-use Rattle.scalar_fns.specs.ScalarExtension.{extended}
 use Rattle.index_region.specs.Checks.{Form, and_then, check, limited, whole}
-use Rattle.index_region.specs.Arguments.{is_scalar, is_list, has_one_item, counts_as_numbers, number_of, numbers}
-use Rattle.index_region.specs.Axes.{places_along}
+use Rattle.index_region.specs.Arguments.{is_scalar, is_list, counts_as_numbers, number_of, numbers}
 
 abbrev pub encode_form : ArrayValue → ArrayValue → Result Form Kind
 encode_form a b =
@@ -22,7 +19,7 @@ encode_form a b =
 
 -- what goes on to the places before a radix
 abbrev pub carried : ℤ → ℤ → Result ℤ Kind
-carried radix z = if int_eq radix (pos 0) then Ok (pos 0) else held (floor_div z radix)
+carried radix z = if int_eq radix (pos 0) then Ok (pos 0) else number_or_limit (floor_div z radix)
 
 -- the same for some radices, the last first
 abbrev pub carried_through : List ℤ → ℤ → Result ℤ Kind

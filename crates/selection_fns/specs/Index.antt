@@ -66,10 +66,10 @@ index_whole a positions = whole (index_form a positions) (index_item a positions
 -- ---- lists of arguments: the indexed array, and then the positions that are written
 
 -- the positions, where it is known which are written
-abbrev pub positions_of : List Bool → List ArrayValue → List Position
-positions_of (true ∷ written) (p ∷ args) = Some p ∷ positions_of written args
-positions_of (false ∷ written) args = None ∷ positions_of written args
-positions_of written args = []
+abbrev pub written_positions : List Bool → List ArrayValue → List Position
+written_positions (true ∷ written) (p ∷ args) = Some p ∷ written_positions written args
+written_positions (false ∷ written) args = None ∷ written_positions written args
+written_positions written args = []
 
 -- how many are written
 abbrev pub count_written : List Bool → ℕ
@@ -78,6 +78,6 @@ count_written (true ∷ written) = suc (count_written written)
 count_written (false ∷ written) = count_written written
 
 -- a function of the array and its positions, given the list of arguments; of an empty list nothing is said
-abbrev pub of_positions : {A : Type 0} → List Bool → (ArrayValue → List Position → Result A Kind) → List ArrayValue → Result A Kind
-of_positions written f [] = Err Length
-of_positions written f (a ∷ args) = f a (positions_of written args)
+abbrev pub of_array_and_positions : {A : Type 0} → List Bool → (ArrayValue → List Position → Result A Kind) → List ArrayValue → Result A Kind
+of_array_and_positions written f [] = Err Length
+of_array_and_positions written f (a ∷ args) = f a (written_positions written args)

@@ -1,5 +1,5 @@
 -- Index generator, ⍳N: the numbers from 1 up.
-use Rattle.std.specs.Prelude.{ℕ, ◌-◌, pos, unsigned_abs, ◌&&◌, List, [], ◌∷◌, map, length, get_or, Result, Ok}
+use Rattle.std.specs.Prelude.{ℕ, pos, unsigned_abs, ◌&&◌, List, map, get_or, Result, Ok}
 use Rattle.arrays_core.specs.declared.item.Item.{Item}
 use Rattle.arrays_core.specs.declared.item.Item.TheVariants.{Num}
 use Rattle.arrays_core.specs.declared.item.ItemType.TheVariants.{Nums}

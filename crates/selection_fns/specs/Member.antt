@@ -1,15 +1,13 @@
 -- Membership, A∊B: which items of a are items of b.
-use Rattle.std.specs.Prelude.{ℕ, suc, nat_eq, pos, Bool, false, List, length, Result, Ok}
-use Rattle.std.specs.List.{list_any, position_or_len}
-use Rattle.std.specs.Ordering.{int_eq}
+use Rattle.std.specs.Prelude.{ℕ, List, Result, Ok}
+use Rattle.std.specs.List.{list_any}
 use Rattle.arrays_core.specs.declared.item.Item.{Item}
-use Rattle.arrays_core.specs.declared.item.Item.TheVariants.{Num, Char}
+use Rattle.arrays_core.specs.declared.item.Item.TheVariants.{Num}
 use Rattle.arrays_core.specs.declared.item.ItemType.TheVariants.{Nums}
 use Rattle.arrays_core.specs.declared.item.Kind.{Kind}
-use Rattle.arrays_core.specs.declared.item.Kind.TheVariants.{Rank}
 use Rattle.arrays_core.specs.Arrays.{ArrayValue, item_of}
 use Rattle.scalar_fns.specs.Numbers.{truth}
-use Rattle.index_region.specs.Checks.{Form, check, limited, whole}
+use Rattle.index_region.specs.Checks.{Form, limited, whole}
 use Rattle.selection_fns.specs.SameItem.{same_item}
 
 abbrev pub member_form : ArrayValue → ArrayValue → Result Form Kind

@@ -1,13 +1,11 @@
 -- Shape, ⍴B: the axis lengths of an array.
-use Rattle.std.specs.Prelude.{ℕ, ◌-◌, pos, unsigned_abs, ◌&&◌, List, [], ◌∷◌, map, length, get_or, Result, Ok}
+use Rattle.std.specs.Prelude.{ℕ, ◌-◌, pos, List, [], ◌∷◌, length, get_or, Result, Ok}
 use Rattle.arrays_core.specs.declared.item.Item.{Item}
 use Rattle.arrays_core.specs.declared.item.Item.TheVariants.{Num}
 use Rattle.arrays_core.specs.declared.item.ItemType.TheVariants.{Nums}
 use Rattle.arrays_core.specs.declared.item.Kind.{Kind}
-use Rattle.arrays_core.specs.declared.item.Kind.TheVariants.{Rank, Length, Domain}
 use Rattle.arrays_core.specs.Arrays.{ArrayValue}
-use Rattle.index_region.specs.Checks.{Form, check, limited, whole}
-use Rattle.index_region.specs.Arguments.{is_list, has_one_item, counts_as_numbers, numbers, none_negative}
+use Rattle.index_region.specs.Checks.{Form, limited, whole}
 
 abbrev pub shape_form : ArrayValue → Result Form Kind
 shape_form b = limited (length b.shape ∷ []) Nums

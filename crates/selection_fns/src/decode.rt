@@ -4,10 +4,10 @@ ghost use Rattle.std.specs.Prelude.{◌≡◌, ◌≢◌, ◌≤◌, ◌+ℤ◌,
 ghost use Rattle.arrays_core.specs.declared.item.Kind.TheVariants.{Length};
 ghost use Rattle.arrays_core.specs.Shapes.{is_index_of as is_below};
 ghost use Rattle.arrays_core.specs.Arrays.{IsAnswerTo};
-ghost use Rattle.scalar_fns.specs.Numbers.{held};
+ghost use Rattle.scalar_fns.specs.Numbers.{number_or_limit};
 ghost use Rattle.scalar_fns.specs.Items.{number_item};
 ghost use Rattle.index_region.specs.Checks.{and_then};
-ghost use Rattle.index_region.specs.ArgumentLists.{of_two};
+ghost use Rattle.index_region.specs.ArgumentLists.{of_two_arguments};
 ghost use Rattle.index_region.specs.Axes.{places_along};
 ghost use Rattle.index_region.specs.Arguments.{has_one_item};
 ghost use Rattle.index_region.specs.Answers.{IsPlaceOf};
@@ -114,7 +114,7 @@ fn with_digit(radices: &Seen, array: &Seen, index: &[u32], value: i64, k: u32) -
     requires place { IsPlaceOf (decode_form radices.now array.now) index.now }
     requires low { 1 ≤ k }
     requires high { k ≤ digits_of radices.now array.now }
-    ensures { result ≡ and_then (held (value *ℤ radix_of radices.now k)) (λ product. held (product +ℤ digit_of array.now index.now k)) }
+    ensures { result ≡ and_then (number_or_limit (value *ℤ radix_of radices.now k)) (λ product. number_or_limit (product +ℤ digit_of array.now index.now k)) }
 {
     let product = two_numbers(Scalar2::Times, value, radix_at(radices, k))?;
     two_numbers(Scalar2::Plus, product, digit_at(array, index, k))
@@ -140,7 +140,7 @@ impl Decode {
     /// The number of each list of digits of B.
     pub fn apply(&self, alloc: Global, args: &[Seen]) -> Result<Array, ApplyFault>
         requires { length args.now ≡ 2 }
-        ensures { IsAnswerTo (of_two decode_whole args.now) result }
+        ensures { IsAnswerTo (of_two_arguments decode_whole args.now) result }
     {
         apply(alloc, self, args)
     }
@@ -149,9 +149,9 @@ impl Decode {
 impl Primitive for Decode {
     ghost arity = { λ _. 2 };
 
-    ghost form = { λ _ args. of_two decode_form args };
+    ghost form = { λ _ args. of_two_arguments decode_form args };
 
-    ghost item = { λ _ args index. of_two (λ a b. decode_item a b index) args };
+    ghost item = { λ _ args index. of_two_arguments (λ a b. decode_item a b index) args };
 
     fn shape_of(&self, args: &[Seen]) -> Result<(Shape, ItemType), Kind> {
         let (radices, array) = (&args[0], &args[1]);

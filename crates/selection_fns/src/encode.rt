@@ -3,7 +3,7 @@
 ghost use Rattle.std.specs.Prelude.{◌≡◌, ◌≤◌, IsTrue, length};
 ghost use Rattle.arrays_core.specs.Arrays.{IsAnswerTo};
 ghost use Rattle.scalar_fns.specs.Items.{number_item};
-ghost use Rattle.index_region.specs.ArgumentLists.{of_two};
+ghost use Rattle.index_region.specs.ArgumentLists.{of_two_arguments};
 ghost use Rattle.index_region.specs.Arguments.{numbers};
 ghost use Rattle.index_region.specs.Answers.{IsPlaceOf};
 ghost use Rattle.selection_fns.specs.Encode.{carried as carried_number, digit as digit_of, encode_form, encode_item, encode_whole};
@@ -66,7 +66,7 @@ impl Encode {
     /// The digits of each number of B.
     pub fn apply(&self, alloc: Global, args: &[Seen]) -> Result<Array, ApplyFault>
         requires { length args.now ≡ 2 }
-        ensures { IsAnswerTo (of_two encode_whole args.now) result }
+        ensures { IsAnswerTo (of_two_arguments encode_whole args.now) result }
     {
         apply(alloc, self, args)
     }
@@ -75,9 +75,9 @@ impl Encode {
 impl Primitive for Encode {
     ghost arity = { λ _. 2 };
 
-    ghost form = { λ _ args. of_two encode_form args };
+    ghost form = { λ _ args. of_two_arguments encode_form args };
 
-    ghost item = { λ _ args index. of_two (λ a b. encode_item a b index) args };
+    ghost item = { λ _ args index. of_two_arguments (λ a b. encode_item a b index) args };
 
     fn shape_of(&self, args: &[Seen]) -> Result<(Shape, ItemType), Kind> {
         let (radices, array) = (&args[0], &args[1]);

@@ -9,7 +9,7 @@ ghost use Rattle.arrays_core.specs.Shapes.{size as size_of, is_index_of};
 ghost use Rattle.index_region.specs.Checks.{Form, is_within_limits};
 ghost use Rattle.index_region.specs.Arguments.{counts_as_numbers, number_of, numbers};
 ghost use Rattle.index_region.specs.Answers.{IsPlaceOf, source_value};
-ghost use Rattle.selection_fns.specs.Index.{Position, positions_of, count_written, of_positions, is_place, is_on as is_position_on, are_on as are_positions_on, are_numbers as are_positions_numbers, indexed_shape as shape_indexed, indexed_places as places_indexed, positions_checked, index_form, index_source, index_item, index_whole};
+ghost use Rattle.selection_fns.specs.Index.{Position, written_positions, count_written, of_array_and_positions, is_place, is_on as is_position_on, are_on as are_positions_on, are_numbers as are_positions_numbers, indexed_shape as shape_indexed, indexed_places as places_indexed, positions_checked, index_form, index_source, index_item, index_whole};
 
 use arrays_core::{ApplyFault, Array, Item, ItemType, Kind, Shape, append_axes};
 use index_region::{Primitive, Seen, Source, apply, item_from, limited};
@@ -22,7 +22,7 @@ const MOST_AXES: usize = 4;
 fn are_numbers(written: &[bool], positions: &[Seen]) -> bool
     requires few { length written.now ≤ 4 }
     requires long { length positions.now ≡ count_written written.now }
-    ensures { result ≡ list_all are_positions_numbers (positions_of written.now positions.now) }
+    ensures { result ≡ list_all are_positions_numbers (written_positions written.now positions.now) }
 {
     if written.is_empty() {
         return true;
@@ -54,7 +54,7 @@ fn are_on(axes: &[u32], written: &[bool], positions: &[Seen]) -> bool
     requires few { length written.now ≤ 4 }
     requires one_an_axis { length written.now ≡ length axes.now }
     requires long { length positions.now ≡ count_written written.now }
-    ensures { result ≡ are_positions_on axes.now (positions_of written.now positions.now) }
+    ensures { result ≡ are_positions_on axes.now (written_positions written.now positions.now) }
 {
     if written.is_empty() {
         return true;
@@ -72,8 +72,8 @@ fn are_on(axes: &[u32], written: &[bool], positions: &[Seen]) -> bool
 /// where one is not of numbers, INDEX where an index is not on its axis.
 fn check_positions(array: &Seen, written: &[bool], positions: &[Seen]) -> Result<(), Kind>
     requires long { length positions.now ≡ count_written written.now }
-    ensures passed { IfOk result (λ _. (rest : Result Form AKind) → positions_checked array.now (positions_of written.now positions.now) rest ≡ rest) }
-    ensures failed { IfErr result (λ kind. (rest : Result Form AKind) → positions_checked array.now (positions_of written.now positions.now) rest ≡ Err kind) }
+    ensures passed { IfOk result (λ _. (rest : Result Form AKind) → positions_checked array.now (written_positions written.now positions.now) rest ≡ rest) }
+    ensures failed { IfErr result (λ kind. (rest : Result Form AKind) → positions_checked array.now (written_positions written.now positions.now) rest ≡ Err kind) }
     ensures one_an_axis { IfOk result (λ _. length written.now ≡ length array.now.shape) }
 {
     let axes = array.shape().as_slice();
@@ -117,9 +117,9 @@ fn append_positions(
     requires inline { shape.old.capacity ≡ 4 }
     requires one_an_axis { length written.now ≡ length axes.now }
     requires long { length positions.now ≡ count_written written.now }
-    ensures items { IfOk result (λ _. shape.new.items ≡ shape.old.items ++ shape_indexed axes.now (positions_of written.now positions.now)) }
+    ensures items { IfOk result (λ _. shape.new.items ≡ shape.old.items ++ shape_indexed axes.now (written_positions written.now positions.now)) }
     ensures inline { shape.new.capacity ≡ 4 }
-    ensures beyond { IfErr result (λ kind. (kind ≡ Limit) × (4 < length shape.old.items + length (shape_indexed axes.now (positions_of written.now positions.now)))) }
+    ensures beyond { IfErr result (λ kind. (kind ≡ Limit) × (4 < length shape.old.items + length (shape_indexed axes.now (written_positions written.now positions.now)))) }
 {
     if written.is_empty() {
         return Ok(());
@@ -179,9 +179,9 @@ fn append_places(
     requires room { length places.old.items + length written.now ≤ 4 }
     requires one_an_axis { length written.now ≡ length axes.now }
     requires long { length positions.now ≡ count_written written.now }
-    requires on { IsTrue (are_positions_on axes.now (positions_of written.now positions.now)) }
-    requires inside { IsTrue (is_index_of (shape_indexed axes.now (positions_of written.now positions.now)) index.now) }
-    ensures { places.new.items ≡ places.old.items ++ places_indexed (positions_of written.now positions.now) index.now }
+    requires on { IsTrue (are_positions_on axes.now (written_positions written.now positions.now)) }
+    requires inside { IsTrue (is_index_of (shape_indexed axes.now (written_positions written.now positions.now)) index.now) }
+    ensures { places.new.items ≡ places.old.items ++ places_indexed (written_positions written.now positions.now) index.now }
 {
     if written.is_empty() {
         return;
@@ -214,8 +214,8 @@ impl<'w> Index<'w> {
     /// Where the item at an index list of the result comes from. It takes no memory.
     pub fn source_of(&self, array: &Seen, positions: &[Seen], index: &[u32]) -> Source
         requires count { length positions.now ≡ count_written self.now.written.now }
-        requires place { IsPlaceOf (index_form array.now (positions_of self.now.written.now positions.now)) index.now }
-        ensures { source_value result ≡ index_source (positions_of self.now.written.now positions.now) index.now }
+        requires place { IsPlaceOf (index_form array.now (written_positions self.now.written.now positions.now)) index.now }
+        ensures { source_value result ≡ index_source (written_positions self.now.written.now positions.now) index.now }
     {
         let axes = array.shape();
         let mut at = SmallVec::new(*axes.allocator());
@@ -226,7 +226,7 @@ impl<'w> Index<'w> {
     /// The array of the items at the indices. Those of a vector are picked one after another.
     pub fn apply(&self, alloc: Global, args: &[Seen]) -> Result<Array, ApplyFault>
         requires { length args.now ≡ suc (count_written self.now.written.now) }
-        ensures { IsAnswerTo (of_positions self.now.written.now index_whole args.now) result }
+        ensures { IsAnswerTo (of_array_and_positions self.now.written.now index_whole args.now) result }
     {
         let (shape, _) = self.shape_of(args)?;
         let array = &args[0];
@@ -243,9 +243,9 @@ impl<'w> Index<'w> {
 impl<'w> Primitive for Index<'w> {
     ghost arity = { λ r. suc (count_written r.written.now) };
 
-    ghost form = { λ r args. of_positions r.written.now index_form args };
+    ghost form = { λ r args. of_array_and_positions r.written.now index_form args };
 
-    ghost item = { λ r args index. of_positions r.written.now (λ a positions. index_item a positions index) args };
+    ghost item = { λ r args index. of_array_and_positions r.written.now (λ a positions. index_item a positions index) args };
 
     fn shape_of(&self, args: &[Seen]) -> Result<(Shape, ItemType), Kind> {
         let array = &args[0];

@@ -2,7 +2,7 @@
 
 ghost use Rattle.std.specs.Prelude.{◌≡◌, length};
 ghost use Rattle.arrays_core.specs.Arrays.{IsAnswerTo};
-ghost use Rattle.index_region.specs.ArgumentLists.{of_one};
+ghost use Rattle.index_region.specs.ArgumentLists.{of_one_argument};
 ghost use Rattle.selection_fns.specs.IndexGenerator.{generator_form, generator_item, generator_whole};
 
 use arrays_core::{ApplyFault, Array, Item, ItemType, Kind, Shape, shape_of};
@@ -19,7 +19,7 @@ impl IndexGenerator {
     /// The vector of 1 to N.
     pub fn apply(&self, alloc: Global, args: &[Seen]) -> Result<Array, ApplyFault>
         requires { length args.now ≡ 1 }
-        ensures { IsAnswerTo (of_one generator_whole args.now) result }
+        ensures { IsAnswerTo (of_one_argument generator_whole args.now) result }
     {
         apply(alloc, self, args)
     }
@@ -28,9 +28,9 @@ impl IndexGenerator {
 impl Primitive for IndexGenerator {
     ghost arity = { λ _. 1 };
 
-    ghost form = { λ _ args. of_one generator_form args };
+    ghost form = { λ _ args. of_one_argument generator_form args };
 
-    ghost item = { λ _ args index. of_one (λ n. generator_item n index) args };
+    ghost item = { λ _ args index. of_one_argument (λ n. generator_item n index) args };
 
     fn shape_of(&self, args: &[Seen]) -> Result<(Shape, ItemType), Kind> {
         let count = &args[0];

@@ -4,7 +4,7 @@ ghost use Rattle.std.specs.Prelude.{◌≡◌, ◌≢◌, IfOk, suc, pos, length
 ghost use Rattle.std.specs.List.{position_or_len};
 ghost use Rattle.arrays_core.specs.Arrays.{IsAnswerTo};
 ghost use Rattle.arrays_core.specs.Shapes.{size as size_of};
-ghost use Rattle.index_region.specs.ArgumentLists.{of_two};
+ghost use Rattle.index_region.specs.ArgumentLists.{of_two_arguments};
 ghost use Rattle.selection_fns.specs.SameItem.{same_item};
 ghost use Rattle.selection_fns.specs.IndexOf.{index_of_form, index_of_item, index_of_whole};
 
@@ -77,7 +77,7 @@ impl IndexOf {
     /// The first place of each item of B in A.
     pub fn apply(&self, alloc: Global, args: &[Seen]) -> Result<Array, ApplyFault>
         requires { length args.now ≡ 2 }
-        ensures { IsAnswerTo (of_two index_of_whole args.now) result }
+        ensures { IsAnswerTo (of_two_arguments index_of_whole args.now) result }
     {
         let (shape, _) = self.shape_of(args)?;
         let (array, sought) = (&args[0], &args[1]);
@@ -89,9 +89,9 @@ impl IndexOf {
 impl Primitive for IndexOf {
     ghost arity = { λ _. 2 };
 
-    ghost form = { λ _ args. of_two index_of_form args };
+    ghost form = { λ _ args. of_two_arguments index_of_form args };
 
-    ghost item = { λ _ args index. of_two (λ a b. index_of_item a b index) args };
+    ghost item = { λ _ args index. of_two_arguments (λ a b. index_of_item a b index) args };
 
     fn shape_of(&self, args: &[Seen]) -> Result<(Shape, ItemType), Kind> {
         if args[0].shape().len() != 1 {

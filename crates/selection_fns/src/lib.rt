@@ -1,22 +1,22 @@
 //! Functions that pick items, look them up, and split numbers into digits.
 #![tactic(auto)]
 
-mod member;
-mod index_generator;
 mod decode;
 mod encode;
-mod index_of;
 mod index;
+mod index_generator;
+mod index_of;
 mod lookup;
-mod shape;
+mod member;
 mod number_at;
 mod replicate;
+mod shape;
 
-pub use member::Member;
-pub use index_generator::IndexGenerator;
 pub use decode::Decode;
 pub use encode::Encode;
-pub use index_of::IndexOf;
 pub use index::Index;
-pub use shape::AxisLengths;
+pub use index_generator::IndexGenerator;
+pub use index_of::IndexOf;
+pub use member::Member;
 pub use replicate::Replicate;
+pub use shape::ShapeOf;

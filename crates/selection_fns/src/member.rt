@@ -5,7 +5,7 @@ ghost use Rattle.std.specs.List.{list_any};
 ghost use Rattle.arrays_core.specs.Arrays.{IsAnswerTo};
 ghost use Rattle.arrays_core.specs.Shapes.{size as size_of};
 ghost use Rattle.scalar_fns.specs.Numbers.{truth as truth_of};
-ghost use Rattle.index_region.specs.ArgumentLists.{of_two};
+ghost use Rattle.index_region.specs.ArgumentLists.{of_two_arguments};
 ghost use Rattle.selection_fns.specs.SameItem.{same_item};
 ghost use Rattle.selection_fns.specs.Member.{member_form, member_item, member_whole};
 
@@ -62,7 +62,7 @@ impl Member {
     /// 1 for each item of A that is an item of B, else 0.
     pub fn apply(&self, alloc: Global, args: &[Seen]) -> Result<Array, ApplyFault>
         requires { length args.now ≡ 2 }
-        ensures { IsAnswerTo (of_two member_whole args.now) result }
+        ensures { IsAnswerTo (of_two_arguments member_whole args.now) result }
     {
         let (shape, _) = self.shape_of(args)?;
         let (sought, array) = (&args[0], &args[1]);
@@ -74,9 +74,9 @@ impl Member {
 impl Primitive for Member {
     ghost arity = { λ _. 2 };
 
-    ghost form = { λ _ args. of_two member_form args };
+    ghost form = { λ _ args. of_two_arguments member_form args };
 
-    ghost item = { λ _ args index. of_two (λ a b. member_item a b index) args };
+    ghost item = { λ _ args index. of_two_arguments (λ a b. member_item a b index) args };
 
     fn shape_of(&self, args: &[Seen]) -> Result<(Shape, ItemType), Kind> {
         let shape = args[0].shape();

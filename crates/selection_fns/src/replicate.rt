@@ -6,7 +6,7 @@ ghost use Rattle.arrays_core.specs.declared.item.Kind.TheVariants.{Limit};
 ghost use Rattle.arrays_core.specs.Arrays.{IsAnswerTo};
 ghost use Rattle.arrays_core.specs.Shapes.{is_index_of};
 ghost use Rattle.index_region.specs.Checks.{Form};
-ghost use Rattle.index_region.specs.ArgumentLists.{of_two};
+ghost use Rattle.index_region.specs.ArgumentLists.{of_two_arguments};
 ghost use Rattle.index_region.specs.Arguments.{numbers};
 ghost use Rattle.index_region.specs.Axes.{axis_at as axis_meant, places_along as places_on};
 ghost use Rattle.index_region.specs.Answers.{IsFormAnswerTo, IsPlaceOf, source_value};
@@ -290,7 +290,7 @@ impl Replicate {
     /// after another.
     pub fn apply(&self, alloc: Global, args: &[Seen]) -> Result<Array, ApplyFault>
         requires { length args.now ≡ 2 }
-        ensures { IsAnswerTo (of_two (replicate_whole self.now.along) args.now) result }
+        ensures { IsAnswerTo (of_two_arguments (replicate_whole self.now.along) args.now) result }
     {
         self.copied(alloc, &args[0], &args[1])
     }
@@ -367,9 +367,9 @@ impl<'a, 'b, 'c> ItemRule for CopyRule<'a, 'b, 'c> {
 impl Primitive for Replicate {
     ghost arity = { λ _. 2 };
 
-    ghost form = { λ r args. of_two (replicate_form r.along) args };
+    ghost form = { λ r args. of_two_arguments (replicate_form r.along) args };
 
-    ghost item = { λ r args index. of_two (λ a b. replicate_item r.along a b index) args };
+    ghost item = { λ r args index. of_two_arguments (λ a b. replicate_item r.along a b index) args };
 
     fn shape_of(&self, args: &[Seen]) -> Result<(Shape, ItemType), Kind> {
         self.form(&args[0], &args[1])

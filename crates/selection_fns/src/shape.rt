@@ -2,7 +2,7 @@
 
 ghost use Rattle.std.specs.Prelude.{◌≡◌, length};
 ghost use Rattle.arrays_core.specs.Arrays.{IsAnswerTo};
-ghost use Rattle.index_region.specs.ArgumentLists.{of_one};
+ghost use Rattle.index_region.specs.ArgumentLists.{of_one_argument};
 ghost use Rattle.selection_fns.specs.Shape.{shape_form, shape_item, shape_whole};
 
 use arrays_core::{ApplyFault, Array, Item, ItemType, Kind, Shape, shape_of};
@@ -12,24 +12,24 @@ use std::alloc::Global;
 /// Shape, `⍴B` (ISO/IEC 13751, "Shape"): the lengths of the axes as a vector of numbers. It has no
 /// error.
 #[derive(Clone, Copy, PartialEq, Eq, Debug)]
-pub struct AxisLengths;
+pub struct ShapeOf;
 
-impl AxisLengths {
+impl ShapeOf {
     /// The vector of the lengths of the axes.
     pub fn apply(&self, alloc: Global, args: &[Seen]) -> Result<Array, ApplyFault>
         requires { length args.now ≡ 1 }
-        ensures { IsAnswerTo (of_one shape_whole args.now) result }
+        ensures { IsAnswerTo (of_one_argument shape_whole args.now) result }
     {
         apply(alloc, self, args)
     }
 }
 
-impl Primitive for AxisLengths {
+impl Primitive for ShapeOf {
     ghost arity = { λ _. 1 };
 
-    ghost form = { λ _ args. of_one shape_form args };
+    ghost form = { λ _ args. of_one_argument shape_form args };
 
-    ghost item = { λ _ args index. of_one (λ b. shape_item b index) args };
+    ghost item = { λ _ args index. of_one_argument (λ b. shape_item b index) args };
 
     fn shape_of(&self, args: &[Seen]) -> Result<(Shape, ItemType), Kind> {
         let shape = args[0].shape();

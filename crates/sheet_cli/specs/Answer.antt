@@ -11,7 +11,7 @@ use Rattle.arrays_core.specs.declared.fault.Fault.{Fault}
 use Rattle.arrays_core.specs.declared.item.Item.{Item}
 use Rattle.arrays_core.specs.declared.item.ItemType.{ItemType}
 use Rattle.arrays_core.specs.declared.item.ItemType.TheVariants.{Nums, Chars}
-use Rattle.array_text.specs.Text.{line_end, number_of, array_text, fault_text}
+use Rattle.array_text.specs.Text.{line_end, item_number, array_text, fault_text}
 use Rattle.array_text.specs.Tables.{table_text}
 use Rattle.sheet_recalc.specs.Live.{SheetValue}
 use Rattle.formula_core.specs.Meaning.{eval}
@@ -60,7 +60,7 @@ abbrev pub array_table : ArrayValue → List ℕ
 array_table a =
     if nat_lt 2 (length a.shape) then refusal_text why.Rank
     else if are_characters a.item_type a.items then refusal_text why.Domain
-    else table_text a.shape (map number_of a.items)
+    else table_text a.shape (map item_number a.items)
 
 -- what a name that is bound shows, as a table; an error prints as it is shown
 abbrev pub shown_table : Option Binding → Result ArrayValue Fault → List ℕ

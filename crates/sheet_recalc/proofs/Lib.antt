@@ -6,7 +6,7 @@ pub mod Removing
 pub mod Binding
 pub mod Live
 pub mod Cycles
-pub mod Outlines
+pub mod Proposed
 pub mod Working
 pub mod Rebound
 pub mod Refused

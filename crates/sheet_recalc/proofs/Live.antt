@@ -14,7 +14,7 @@ use Rattle.apl_expr.specs.Trees.{Tree}
 use Rattle.arrays_core.specs.declared.item.Kind.TheVariants.{Value}
 use Rattle.sheet_recalc.specs.Names.{Names, Data, Formula, binding, put, without, rebound, Refers}
 use Rattle.sheet_recalc.specs.Meaning.{shown, val, val_at}
-use Rattle.sheet_recalc.specs.Entries.{names_of, binding_of, held, holding, adopted}
+use Rattle.sheet_recalc.specs.Entries.{names_of, binding_of, entry_outcome, holding, adopted}
 use Rattle.sheet_recalc.specs.ProposedSheet.{standing, IsPlanned, bound, shown_by}
 use Rattle.sheet_recalc.specs.declared.entry.BindingRef.{BindingRef}
 use Rattle.sheet_recalc.specs.declared.entry.BindingRef.TheVariants as lent
@@ -89,7 +89,7 @@ val_data [] q a h = let never : None ≡ Some (Data a) = h in absurd cc
 val_data (e ∷ es) q a h = ap (λ b. shown q b (val_at (length es) (e ∷ es))) h
 
 -- what an entry shows once it has adopted the right result
-pub held_adopted : (names : Names) (q : List ℕ) (e : Entry) (o : Outcome) → binding names q ≡ Some (binding_of e) → o ≡ val names q → held (adopted e o) ≡ val names q
+pub held_adopted : (names : Names) (q : List ℕ) (e : Entry) (o : Outcome) → binding names q ≡ Some (binding_of e) → o ≡ val names q → entry_outcome (adopted e o) ≡ val names q
 held_adopted names q (entry.Data a) o is right = sym (val_data names q a is)
 held_adopted names q (entry.Formula f) o is right = right
 
@@ -117,7 +117,7 @@ live_empty {S} es users none empty =
 
 -- what `value` answers
 pub value_is : (es : List (List ℕ × Entry)) → IsCurrent es → (q : List ℕ) (o : Option Entry) → o ≡ lookup (bytes_eq q) es
-    → option_map held o ≡ (if is_some (binding (names_of es) q) then Some (val (names_of es) q) else None)
+    → option_map entry_outcome o ≡ (if is_some (binding (names_of es) q) then Some (val (names_of es) q) else None)
 value_is es current q (Some e) is = rw (binding_of_name es q, ← is) (ap Some (current q e (sym is)))
 value_is es current q None is = rw (binding_of_name es q, ← is) refl
 
@@ -159,24 +159,24 @@ module _ (names : Names) (es es' : List (List ℕ × Entry)) (rs rs' : List (Lis
         bound : binding names name ≡ Some (binding_of e)
         bound = ap (λ ns. binding ns name) (sym now.names_are) ∙ binding_of_name es name ∙ ap (option_map binding_of) found
 
-        done : (q : List ℕ) → IsSome (binding names q) → IsSome (lookup (bytes_eq q) rs') ⊎ ((f : Entry) → lookup (bytes_eq q) es' ≡ Some f → held f ≡ val names q)
+        done : (q : List ℕ) → IsSome (binding names q) → IsSome (lookup (bytes_eq q) rs') ⊎ ((f : Entry) → lookup (bytes_eq q) es' ≡ Some f → entry_outcome f ≡ val names q)
         done q present = by (bytes_eq name q) refl
           where
-            by : (b : Bool) → bytes_eq name q ≡ b → IsSome (lookup (bytes_eq q) rs') ⊎ ((f : Entry) → lookup (bytes_eq q) es' ≡ Some f → held f ≡ val names q)
+            by : (b : Bool) → bytes_eq name q ≡ b → IsSome (lookup (bytes_eq q) rs') ⊎ ((f : Entry) → lookup (bytes_eq q) es' ≡ Some f → entry_outcome f ≡ val names q)
             by true is = inr (λ f h.
                 let same : Some (adopted e o) ≡ Some f = rw is at (sym (changed q) ∙ h) in
                 let this : adopted e o ≡ f = cc in
-                subst (λ (g : Entry). held g ≡ val names q) this (subst (λ n. held (adopted e o) ≡ val names n) (equal-true name q is) (held_adopted names name e o bound right_now)))
+                subst (λ (g : Entry). entry_outcome g ≡ val names q) this (subst (λ n. entry_outcome (adopted e o) ≡ val names n) (equal-true name q is) (held_adopted names name e o bound right_now)))
             by false is = ⊎_elim (λ l. inl (still_to_come q is l)) (λ r. inr (λ f h. r f (rw is at (sym (changed q) ∙ h)))) (now.done q present)
 
   module _ (absent : lookup (bytes_eq name) es ≡ None) (kept : es' ≡ es) where
     pub adopting_none : Adopting names es' rs'
     adopting_none = record { names_are = ap names_of kept ∙ now.names_are; right = right_next; done = done }
       where
-        done : (q : List ℕ) → IsSome (binding names q) → IsSome (lookup (bytes_eq q) rs') ⊎ ((f : Entry) → lookup (bytes_eq q) es' ≡ Some f → held f ≡ val names q)
+        done : (q : List ℕ) → IsSome (binding names q) → IsSome (lookup (bytes_eq q) rs') ⊎ ((f : Entry) → lookup (bytes_eq q) es' ≡ Some f → entry_outcome f ≡ val names q)
         done q present = by (bytes_eq name q) refl
           where
-            by : (b : Bool) → bytes_eq name q ≡ b → IsSome (lookup (bytes_eq q) rs') ⊎ ((f : Entry) → lookup (bytes_eq q) es' ≡ Some f → held f ≡ val names q)
+            by : (b : Bool) → bytes_eq name q ≡ b → IsSome (lookup (bytes_eq q) rs') ⊎ ((f : Entry) → lookup (bytes_eq q) es' ≡ Some f → entry_outcome f ≡ val names q)
             by true is = inr (λ f h.
                 let none : lookup (bytes_eq q) es' ≡ None = subst (λ n. lookup (bytes_eq n) es' ≡ None) (equal-true name q is) (ap (λ xs. lookup (bytes_eq name) xs) kept ∙ absent) in
                 let never : Some f ≡ None = sym h ∙ none in absurd cc)
@@ -187,42 +187,42 @@ pub current_at_end : (names : Names) (es : List (List ℕ × Entry)) (rs : List 
 current_at_end names es (r ∷ rs) now none = absurd (none (omega arith))
 current_at_end names es [] now none = λ q e h.
     let present : IsSome (binding names q) = subst (λ ns. IsSome (binding ns q)) now.names_are (rw (binding_of_name es q, h) refl) in
-    ⊎_elim (λ l. absurd (false≢true l)) (λ r. subst (λ ns. held e ≡ val ns q) (sym now.names_are) (r e h)) (now.done q present)
+    ⊎_elim (λ l. absurd (false≢true l)) (λ r. subst (λ ns. entry_outcome e ≡ val ns q) (sym now.names_are) (r e h)) (now.done q present)
 
 -- what the entries hold is what the names show
 pub holding_val : (es : List (List ℕ × Entry)) → IsCurrent es → (q : List ℕ) → holding es q ≡ val (names_of es) q
 holding_val es current q = by (lookup (bytes_eq q) es) refl
   where
-    by : (o : Option Entry) → lookup (bytes_eq q) es ≡ o → unwrap_or (option_map held o) (Err (fault Value)) ≡ val (names_of es) q
+    by : (o : Option Entry) → lookup (bytes_eq q) es ≡ o → unwrap_or (option_map entry_outcome o) (Err (fault Value)) ≡ val (names_of es) q
     by None is = sym (val_absent (names_of es) (length (names_of es)) q (binding_of_name es q ∙ ap (option_map binding_of) is))
     by (Some e) is = current q e is
 
 -- planned results can be adopted once the name is bound anew
 pub adopting_planned : (es : List (List ℕ × Entry)) (name : List ℕ) (entry : Entry) (rs : List (List ℕ × Outcome))
-    → IsPlanned es name (held entry) (put (names_of es) name (binding_of entry)) rs
+    → IsPlanned es name (entry_outcome entry) (put (names_of es) name (binding_of entry)) rs
     → Adopting (put (names_of es) name (binding_of entry)) (insert_entry bytes_eq es name entry) rs
 adopting_planned es name entry rs planned = record {
   names_are = names_of_insert name entry es;
-  right = λ q r is. ap (λ o. unwrap_or o (standing es name (held entry) q)) (sym is) ∙ planned q;
+  right = λ q r is. ap (λ o. unwrap_or o (standing es name (entry_outcome entry) q)) (sym is) ∙ planned q;
   done = λ q present. by q (lookup (bytes_eq q) rs) refl;
 }
   where
-    there : (q : List ℕ) (e : Entry) → lookup (bytes_eq q) (insert_entry bytes_eq es name entry) ≡ Some e → standing es name (held entry) q ≡ held e
+    there : (q : List ℕ) (e : Entry) → lookup (bytes_eq q) (insert_entry bytes_eq es name entry) ≡ Some e → standing es name (entry_outcome entry) q ≡ entry_outcome e
     there q e is = choose (bytes_eq q name) refl
       where
-        choose : (t : Bool) → bytes_eq q name ≡ t → standing es name (held entry) q ≡ held e
+        choose : (t : Bool) → bytes_eq q name ≡ t → standing es name (entry_outcome entry) q ≡ entry_outcome e
         choose true t =
             let same : Some entry ≡ Some e = rw (names_equal.symm name q, t) at (sym (lookup_put name entry es q) ∙ is) in
             let this : entry ≡ e = cc in
-            rw t (ap held this)
+            rw t (ap entry_outcome this)
         choose false t =
             let same : lookup (bytes_eq q) es ≡ Some e = rw (names_equal.symm name q, t) at (sym (lookup_put name entry es q) ∙ is) in
-            rw t (ap (λ o. unwrap_or (option_map held o) (Err (fault Value))) same)
+            rw t (ap (λ o. unwrap_or (option_map entry_outcome o) (Err (fault Value))) same)
 
     by : (q : List ℕ) (o : Option Outcome) → lookup (bytes_eq q) rs ≡ o
-        → IsSome (lookup (bytes_eq q) rs) ⊎ ((e : Entry) → lookup (bytes_eq q) (insert_entry bytes_eq es name entry) ≡ Some e → held e ≡ val (put (names_of es) name (binding_of entry)) q)
+        → IsSome (lookup (bytes_eq q) rs) ⊎ ((e : Entry) → lookup (bytes_eq q) (insert_entry bytes_eq es name entry) ≡ Some e → entry_outcome e ≡ val (put (names_of es) name (binding_of entry)) q)
     by q (Some r) is = inl (subst (λ o. IsSome o) (sym is) refl)
-    by q None is = inr (λ e h. sym (there q e h) ∙ (ap (λ o. unwrap_or o (standing es name (held entry) q)) (sym is) ∙ planned q))
+    by q None is = inr (λ e h. sym (there q e h) ∙ (ap (λ o. unwrap_or o (standing es name (entry_outcome entry) q)) (sym is) ∙ planned q))
 
 -- planned results can be adopted once the name is removed
 pub adopting_removed : (es : List (List ℕ × Entry)) (name : List ℕ) (rs : List (List ℕ × Outcome))
@@ -233,18 +233,18 @@ adopting_removed es name rs planned = record {
   done = λ q present. by q (lookup (bytes_eq q) rs) refl;
 }
   where
-    there : (q : List ℕ) (e : Entry) → lookup (bytes_eq q) (others name es) ≡ Some e → standing es name (Err (fault Value)) q ≡ held e
+    there : (q : List ℕ) (e : Entry) → lookup (bytes_eq q) (others name es) ≡ Some e → standing es name (Err (fault Value)) q ≡ entry_outcome e
     there q e is = choose (bytes_eq q name) refl
       where
-        choose : (t : Bool) → bytes_eq q name ≡ t → standing es name (Err (fault Value)) q ≡ held e
+        choose : (t : Bool) → bytes_eq q name ≡ t → standing es name (Err (fault Value)) q ≡ entry_outcome e
         choose true t =
             let never : None ≡ Some e = rw (names_equal.symm name q, t) at (sym (lookup_others name es q) ∙ is) in absurd cc
         choose false t =
             let same : lookup (bytes_eq q) es ≡ Some e = rw (names_equal.symm name q, t) at (sym (lookup_others name es q) ∙ is) in
-            rw t (ap (λ o. unwrap_or (option_map held o) (Err (fault Value))) same)
+            rw t (ap (λ o. unwrap_or (option_map entry_outcome o) (Err (fault Value))) same)
 
     by : (q : List ℕ) (o : Option Outcome) → lookup (bytes_eq q) rs ≡ o
-        → IsSome (lookup (bytes_eq q) rs) ⊎ ((e : Entry) → lookup (bytes_eq q) (others name es) ≡ Some e → held e ≡ val (without (names_of es) name) q)
+        → IsSome (lookup (bytes_eq q) rs) ⊎ ((e : Entry) → lookup (bytes_eq q) (others name es) ≡ Some e → entry_outcome e ≡ val (without (names_of es) name) q)
     by q (Some r) is = inl (subst (λ o. IsSome o) (sym is) refl)
     by q None is = inr (λ e h. sym (there q e h) ∙ (ap (λ o. unwrap_or o (standing es name (Err (fault Value)) q)) (sym is) ∙ planned q))
 
@@ -261,7 +261,7 @@ standing_plain es name r q plain = by (bytes_eq q name) refl
     here (Some (lent.Formula f)) found = absurd (plain f.now.tree found)
     here None found = sym (val_absent new (length new) q found)
 
-    there : (o : Option Entry) → lookup (bytes_eq q) es ≡ o → binding new q ≡ option_map binding_of o → unwrap_or (option_map held o) (Err (fault Value)) ≡ val new q
+    there : (o : Option Entry) → lookup (bytes_eq q) es ≡ o → binding new q ≡ option_map binding_of o → unwrap_or (option_map entry_outcome o) (Err (fault Value)) ≡ val new q
     there None is found = sym (val_absent new (length new) q found)
     there (Some (entry.Data a)) is found = sym (val_data new q a found)
     there (Some (entry.Formula f)) is found = absurd (plain f.tree found)

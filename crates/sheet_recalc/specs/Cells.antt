@@ -25,9 +25,9 @@ abbrev pub is_on_axis : ℕ → ℕ → Bool
 is_on_axis axis index = nat_le 1 index && nat_le index axis
 
 -- the items of a literal
-abbrev pub items_of : Constant → List Item
-items_of (Numbers ns) = map (λ n. Num n) ns
-items_of (Text cs) = map (λ c. Char c) cs
+abbrev pub literal_items : Constant → List Item
+literal_items (Numbers ns) = map (λ n. Num n) ns
+literal_items (Text cs) = map (λ c. Char c) cs
 
 abbrev pub is_type : ItemType → ItemType → Bool
 is_type Nums Nums = true
@@ -51,7 +51,7 @@ cell_put None places literal = Err NotFound
 cell_put (Some (Formula t)) places literal = Err NotData
 cell_put (Some (Data a)) places literal =
     if length places == length a.shape
-    then (if is_index_of a.shape (index_of_numbers places) then item_put a (index_of_numbers places) (items_of literal) else Err Index)
+    then (if is_index_of a.shape (index_of_numbers places) then item_put a (index_of_numbers places) (literal_items literal) else Err Index)
     else Err Rank
 
 -- a call answers what was asked for, or want of memory

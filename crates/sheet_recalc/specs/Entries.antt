@@ -15,9 +15,9 @@ binding_of (entry.Data a) = Data a
 binding_of (entry.Formula f) = Formula f.tree
 
 -- what an entry shows
-abbrev pub held : Entry → Outcome
-held (entry.Data a) = Ok a
-held (entry.Formula f) = f.result
+abbrev pub entry_outcome : Entry → Outcome
+entry_outcome (entry.Data a) = Ok a
+entry_outcome (entry.Formula f) = f.result
 
 -- an entry with this result, if it is a formula
 abbrev pub adopted : Entry → Outcome → Entry
@@ -30,4 +30,4 @@ names_of entries = map (λ e. (e.0, binding_of e.1)) entries
 
 -- what a name shows, by what the entries hold
 abbrev pub holding : List (List ℕ × Entry) → List ℕ → Outcome
-holding entries name = unwrap_or (option_map held (lookup (bytes_eq name) entries)) (Err (fault Value))
+holding entries name = unwrap_or (option_map entry_outcome (lookup (bytes_eq name) entries)) (Err (fault Value))

@@ -9,10 +9,10 @@ use Rattle.sheet_recalc.specs.declared.refusal.Refusal.{Refusal}
 
 abbrev pub change_of : code.Change → Change
 change_of (made.Define name tree) = Define name (tree_of tree)
-change_of (made.Data name tree) = Store name (tree_of tree)
+change_of (made.Store name tree) = Store name (tree_of tree)
 change_of (made.Put name array) = Put name array
-change_of (made.Cell name places literal) = SetCell name places.items (constant_of literal)
-change_of (made.Row name literal) = AddRow name (constant_of literal)
+change_of (made.SetCell name places literal) = SetCell name places.items (constant_of literal)
+change_of (made.AddRow name literal) = AddRow name (constant_of literal)
 change_of (made.Erase name) = Erase name
 
 -- from old, the change may have this answer and lead to new

@@ -8,7 +8,7 @@ use Rattle.sheet_recalc.specs.Meaning.{val}
 use Rattle.sheet_recalc.specs.NameOrder.{IsKeptOrder}
 use Rattle.indexmap.specs.IndexSet.{IndexSet}
 use Rattle.dep_order.specs.Users.{Uses, HasNoEmptyBut}
-use Rattle.sheet_recalc.specs.Entries.{names_of, held}
+use Rattle.sheet_recalc.specs.Entries.{names_of, entry_outcome}
 use Rattle.sheet_recalc.specs.declared.entry.Entry.{Entry}
 
 -- a sheet: the list of its names
@@ -17,7 +17,7 @@ pub record SheetValue : Type 0 where
 
 -- each entry shows what its name shows from scratch
 abbrev pub IsCurrent : List (List ℕ × Entry) → Type 0
-IsCurrent entries = (q : List ℕ) (e : Entry) → lookup (bytes_eq q) entries ≡ Some e → held e ≡ val (names_of entries) q
+IsCurrent entries = (q : List ℕ) (e : Entry) → lookup (bytes_eq q) entries ≡ Some e → entry_outcome e ≡ val (names_of entries) q
 
 -- the table tells exactly who refers to whom
 abbrev pub IsTable : {S : Type 0} → Names → List (List ℕ × IndexSet (List ℕ) S) → Type 0
@@ -36,4 +36,4 @@ pub record IsLive {S : Type 0} (entries : List (List ℕ × Entry)) (users : Lis
 pub record Adopting (names : Names) (es : List (List ℕ × Entry)) (rs : List (List ℕ × Outcome)) : Type 0 where
   pub names_are : names_of es ≡ names
   pub right : (q : List ℕ) (r : Outcome) → lookup (bytes_eq q) rs ≡ Some r → r ≡ val names q
-  pub done : (q : List ℕ) → IsSome (binding names q) → IsSome (lookup (bytes_eq q) rs) ⊎ ((e : Entry) → lookup (bytes_eq q) es ≡ Some e → held e ≡ val names q)
+  pub done : (q : List ℕ) → IsSome (binding names q) → IsSome (lookup (bytes_eq q) rs) ⊎ ((e : Entry) → lookup (bytes_eq q) es ≡ Some e → entry_outcome e ≡ val names q)

@@ -11,7 +11,7 @@ use Rattle.dep_order.specs.Follows.{Follows}
 use Rattle.dep_order.specs.Reachability.{Reaches}
 use Rattle.sheet_recalc.specs.Entries.{names_of, holding}
 use Rattle.sheet_recalc.specs.declared.entry.Entry.{Entry}
-use Rattle.sheet_recalc.specs.declared.proposed_sheet.Outline.{Outline}
+use Rattle.sheet_recalc.specs.declared.proposed_sheet.ProposedSheet.{ProposedSheet}
 use Rattle.sheet_recalc.specs.Meaning.{val}
 use Rattle.sheet_recalc.specs.declared.entry.BindingRef.{BindingRef}
 use Rattle.sheet_recalc.specs.declared.entry.BindingRef.TheVariants as lent
@@ -22,8 +22,8 @@ bound (lent.Data a) = Data a.now
 bound (lent.Formula f) = Formula f.now.tree
 
 -- the names of a sheet with one of them bound anew, or removed
-abbrev pub outlined : Outline → Names
-outlined o = rebound (names_of o.entries.now.entries) o.name (option_map bound o.binding)
+abbrev pub proposed_names : ProposedSheet → Names
+proposed_names o = rebound (names_of o.entries.now.entries) o.name (option_map bound o.binding)
 
 -- what a lent binding shows now; a formula that is new shows VALUE ERROR, and so does a name that is bound to nothing
 abbrev pub shown_by : Option BindingRef → Outcome

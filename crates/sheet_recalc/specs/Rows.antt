@@ -8,7 +8,7 @@ use Rattle.arrays_core.specs.declared.item.Item.{Item}
 use Rattle.arrays_core.specs.declared.item.ItemType.{ItemType}
 use Rattle.index_region.specs.Checks.{is_within_limits}
 use Rattle.sheet_recalc.specs.Names.{Binding, Data, Formula}
-use Rattle.sheet_recalc.specs.Cells.{items_of, is_type}
+use Rattle.sheet_recalc.specs.Cells.{literal_items, is_type}
 use Rattle.sheet_recalc.specs.declared.refusal.Refusal.{Refusal}
 use Rattle.sheet_recalc.specs.declared.refusal.Refusal.TheVariants.{NotFound, NotData, Rank, Length, Domain, Limit}
 
@@ -47,4 +47,4 @@ row_items_put a (Some count) row = if length row == count then items_put a row e
 abbrev pub row_put : Option Binding → Constant → Result ArrayValue Refusal
 row_put None literal = Err NotFound
 row_put (Some (Formula t)) literal = Err NotData
-row_put (Some (Data a)) literal = row_items_put a (row_length a.shape) (items_of literal)
+row_put (Some (Data a)) literal = row_items_put a (row_length a.shape) (literal_items literal)

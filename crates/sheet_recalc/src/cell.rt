@@ -9,7 +9,7 @@ ghost use Rattle.arrays_core.specs.Items.{type_of};
 ghost use Rattle.arrays_core.specs.Shapes.{is_index_of};
 ghost use Rattle.sheet_recalc.specs.Names.{binding, Data};
 ghost use Rattle.sheet_recalc.specs.Entries.{names_of};
-ghost use Rattle.sheet_recalc.specs.Cells.{cell_put, index_of_number, index_of_numbers, is_on_axis, items_of, item_put, IsDataAnswer, IsOnlyItem};
+ghost use Rattle.sheet_recalc.specs.Cells.{cell_put, index_of_number, index_of_numbers, is_on_axis, literal_items, item_put, IsDataAnswer, IsOnlyItem};
 
 use crate::entry::Entry;
 use crate::refusal::Refusal;
@@ -51,7 +51,7 @@ fn with_cell(array: &Array, places: &[i64], literal: &Literal) -> Result<Array, 
 /// The array with a literal of one item of its type at an index list.
 fn with_literal(array: &Array, index: &Shape, literal: &Literal) -> Result<Array, Refusal>
     requires { is_index_of array.now.shape index.now.items ≡ true }
-    ensures { IsDataAnswer (item_put array.now index.now.items (items_of (constant_of literal.now))) result }
+    ensures { IsDataAnswer (item_put array.now index.now.items (literal_items (constant_of literal.now))) result }
 {
     let Some(item) = only_item(literal) else {
         return Err(Refusal::Length);
@@ -66,7 +66,7 @@ fn with_literal(array: &Array, index: &Shape, literal: &Literal) -> Result<Array
 
 /// The item of a literal that has one item.
 fn only_item(literal: &Literal) -> Option<Item>
-    ensures { IsOnlyItem (items_of (constant_of literal.now)) result }
+    ensures { IsOnlyItem (literal_items (constant_of literal.now)) result }
 {
     match literal {
         Literal::Num(number) => Some(Item::Num(*number)),

@@ -17,13 +17,13 @@ pub enum Change {
     /// Bind a name to a formula.
     Define(Name, Expr),
     /// Bind a name to the array that an expression has now.
-    Data(Name, Expr),
+    Store(Name, Expr),
     /// Bind a name to an array.
     Put(Name, Array),
     /// Replace one item of data.
-    Cell(Name, Vec<i64>, Literal),
+    SetCell(Name, Vec<i64>, Literal),
     /// Put a row at the end of data.
-    Row(Name, Literal),
+    AddRow(Name, Literal),
     /// Remove a name.
     Erase(Name),
 }
@@ -35,10 +35,10 @@ impl Sheet {
     {
         match change {
             Change::Define(name, tree) => self.define(name, tree),
-            Change::Data(name, tree) => self.data(name, tree),
+            Change::Store(name, tree) => self.data(name, tree),
             Change::Put(name, array) => self.put_array(name, array),
-            Change::Cell(name, places, literal) => self.set_cell(name, &places, &literal),
-            Change::Row(name, literal) => self.add_row(name, &literal),
+            Change::SetCell(name, places, literal) => self.set_cell(name, &places, &literal),
+            Change::AddRow(name, literal) => self.add_row(name, &literal),
             Change::Erase(name) => self.erase(name),
         }
     }

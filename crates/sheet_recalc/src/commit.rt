@@ -4,7 +4,7 @@ ghost use Rattle.std.specs.Prelude.{◌≡◌, ◌<◌, [], Err};
 ghost use Rattle.std.specs.Str.{bytes_eq};
 ghost use Rattle.indexmap.specs.IndexMap.{spare};
 ghost use Rattle.sheet_recalc.specs.Names.{put, without, referred, referred_by};
-ghost use Rattle.sheet_recalc.specs.Entries.{names_of, binding_of, held};
+ghost use Rattle.sheet_recalc.specs.Entries.{names_of, binding_of, entry_outcome};
 ghost use Rattle.arrays_core.specs.declared.item.Kind.TheVariants.{Value};
 ghost use Rattle.formula_core.specs.Outcomes.{fault};
 ghost use Rattle.sheet_recalc.specs.ProposedSheet.{IsPlanned};
@@ -26,7 +26,7 @@ pub(crate) fn commit(
     results: Results,
 )
     requires room { 0 < spare entries.old }
-    requires planned { IsPlanned entries.old.entries name (held entry) (put (names_of entries.old.entries) name (binding_of entry)) results.entries }
+    requires planned { IsPlanned entries.old.entries name (entry_outcome entry) (put (names_of entries.old.entries) name (binding_of entry)) results.entries }
     requires tells { IsTable (names_of entries.old.entries) users.old.entries }
     requires sets { HasRoomFor bytes_eq users.old.entries (referred (binding_of entry)) }
     requires used { HasNoEmptyBut bytes_eq users.old.entries (referred (binding_of entry)) }

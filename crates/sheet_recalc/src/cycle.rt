@@ -4,10 +4,10 @@ ghost use Rattle.std.specs.Prelude.{◌≡◌, ◌<◌, IfOk};
 ghost use Rattle.std.specs.Str.{bytes_eq};
 ghost use Rattle.std.specs.List.{Contains, position_or_len};
 ghost use Rattle.sheet_recalc.specs.Names.{Refers};
-ghost use Rattle.sheet_recalc.specs.ProposedSheet.{outlined, IsReaching};
+ghost use Rattle.sheet_recalc.specs.ProposedSheet.{proposed_names, IsReaching};
 ghost use Rattle.sheet_recalc.specs.Changes.{IsCycleFrom};
 
-use crate::proposed_sheet::Outline;
+use crate::proposed_sheet::ProposedSheet;
 use apl_tokens::Name;
 use dep_order::first_found;
 use indexmap::IndexSet;
@@ -17,35 +17,35 @@ use std::alloc::{AllocError, Global};
 /// first of its own references that reaches the name.
 pub(crate) fn cycle_through(
     alloc: Global,
-    outline: &Outline<'_>,
+    proposed: &ProposedSheet<'_>,
     found: &IndexSet<Name>,
     reference: Name,
 ) -> Result<Vec<Name>, AllocError>
-    requires reaching { IsReaching (outlined outline.now) outline.now.name found.now.keys }
-    requires refers { Refers (outlined outline.now) outline.now.name reference }
+    requires reaching { IsReaching (proposed_names proposed.now) proposed.now.name found.now.keys }
+    requires refers { Refers (proposed_names proposed.now) proposed.now.name reference }
     requires hit { Contains found.now.keys reference }
-    ensures { IfOk result (λ cycle. IsCycleFrom (Refers (outlined outline.now)) outline.now.name cycle.items) }
+    ensures { IfOk result (λ cycle. IsCycleFrom (Refers (proposed_names proposed.now)) proposed.now.name cycle.items) }
 {
     let mut cycle = Vec::new(alloc);
-    cycle.push(outline.name)?;
+    cycle.push(proposed.name)?;
     let mut next = reference;
-    while next != outline.name {
+    while next != proposed.name {
         cycle.push(next)?;
-        next = step_from(outline, found, next);
+        next = step_from(proposed, found, next);
     }
     Ok(cycle)
 }
 
 /// The first of a name's references that reaches the name that is bound anew.
-fn step_from(outline: &Outline<'_>, found: &IndexSet<Name>, from: Name) -> Name
-    requires reaching { IsReaching (outlined outline.now) outline.now.name found.now.keys }
+fn step_from(proposed: &ProposedSheet<'_>, found: &IndexSet<Name>, from: Name) -> Name
+    requires reaching { IsReaching (proposed_names proposed.now) proposed.now.name found.now.keys }
     requires hit { Contains found.now.keys from }
-    requires apart { from ≡ outline.now.name → ⊥ }
-    ensures refers { Refers (outlined outline.now) from result }
+    requires apart { from ≡ proposed.now.name → ⊥ }
+    ensures refers { Refers (proposed_names proposed.now) from result }
     ensures hit { Contains found.now.keys result }
     ensures later { position_or_len (bytes_eq from) found.now.keys < position_or_len (bytes_eq result) found.now.keys }
 {
-    match first_found(found, outline.references_of(from)) {
+    match first_found(found, proposed.references_of(from)) {
         Some(next) => next,
         None => unreachable!(),
     }

@@ -2,7 +2,7 @@
 
 ghost use Rattle.std.specs.Prelude.{◌≡◌, Some};
 ghost use Rattle.formula_core.specs.Outcomes.{read};
-ghost use Rattle.sheet_recalc.specs.Entries.{binding_of, held, adopted};
+ghost use Rattle.sheet_recalc.specs.Entries.{binding_of, entry_outcome, adopted};
 ghost use Rattle.sheet_recalc.specs.Names.{referred};
 ghost use Rattle.sheet_recalc.specs.ProposedSheet.{bound, shown_by};
 
@@ -47,7 +47,7 @@ impl Entry {
 
     /// What it shows: its data, or its formula's result.
     pub(crate) fn result(&self) -> Result<&Array, Fault>
-        ensures { read result ≡ held self.now }
+        ensures { read result ≡ entry_outcome self.now }
     {
         match self {
             Entry::Data(array) => Ok(array),

@@ -2,10 +2,10 @@
 #![tactic(auto)]
 
 mod cell;
+mod change;
 mod commit;
 mod cycle;
 mod entry;
-mod change;
 mod proposed_sheet;
 mod recalculation;
 mod refusal;

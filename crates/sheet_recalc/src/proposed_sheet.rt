@@ -5,7 +5,7 @@ ghost use Rattle.std.specs.Option.{option_map};
 ghost use Rattle.apl_expr.specs.Trees.{Tree};
 ghost use Rattle.formula_core.specs.Outcomes.{read};
 ghost use Rattle.sheet_recalc.specs.Names.{binding, referred_by, Formula as IsFormula};
-ghost use Rattle.sheet_recalc.specs.ProposedSheet.{bound, outlined, shown_by, standing};
+ghost use Rattle.sheet_recalc.specs.ProposedSheet.{bound, proposed_names, shown_by, standing};
 
 use crate::entry::{BindingRef, Entry};
 use crate::recalculation::absent;
@@ -17,17 +17,17 @@ use indexmap::IndexMap;
 /// The names of a sheet with one of them bound anew, or removed. A name that is bound anew keeps its place, a new one goes last; the
 /// names after one that is removed move up.
 #[derive(Clone, Copy)]
-pub(crate) struct Outline<'a> {
+pub(crate) struct ProposedSheet<'a> {
     pub(crate) entries: &'a IndexMap<Name, Entry>,
     pub(crate) name: Name,
     /// What the name is bound to then, or nothing where it is removed.
     pub(crate) binding: Option<BindingRef<'a>>,
 }
 
-impl<'a> Outline<'a> {
+impl<'a> ProposedSheet<'a> {
     /// What a name is bound to.
     pub(crate) fn binding_of(&self, name: Name) -> Option<BindingRef<'a>>
-        ensures { option_map bound result ≡ binding (outlined self.now) name }
+        ensures { option_map bound result ≡ binding (proposed_names self.now) name }
     {
         if name == self.name {
             return self.binding;
@@ -40,7 +40,7 @@ impl<'a> Outline<'a> {
 
     /// The names that stand in the formula that a name is bound to.
     pub(crate) fn references_of(&self, name: Name) -> &'a [Name]
-        ensures { result.now ≡ referred_by (outlined self.now) name }
+        ensures { result.now ≡ referred_by (proposed_names self.now) name }
     {
         match self.binding_of(name) {
             Some(binding) => binding.references(),
@@ -50,7 +50,7 @@ impl<'a> Outline<'a> {
 
     /// The formula that a name is bound to.
     pub(crate) fn formula_of(&self, name: Name) -> Option<&'a Formula>
-        ensures { MatchOption result ((t : Tree) → binding (outlined self.now) name ≡ Some (IsFormula t) → ⊥) (λ f. binding (outlined self.now) name ≡ Some (IsFormula f.now.tree)) }
+        ensures { MatchOption result ((t : Tree) → binding (proposed_names self.now) name ≡ Some (IsFormula t) → ⊥) (λ f. binding (proposed_names self.now) name ≡ Some (IsFormula f.now.tree)) }
     {
         match self.binding_of(name) {
             Some(BindingRef::Formula(formula)) => Some(formula),

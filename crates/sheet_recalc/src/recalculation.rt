@@ -8,10 +8,10 @@ ghost use Rattle.arrays_core.specs.declared.item.Kind.TheVariants.{Value};
 ghost use Rattle.formula_core.specs.Outcomes.{fault};
 ghost use Rattle.sheet_recalc.specs.Names.{Formula as IsFormula, Refers};
 ghost use Rattle.sheet_recalc.specs.Meaning.{shown, val, IsSettled};
-ghost use Rattle.sheet_recalc.specs.ProposedSheet.{outlined, shown_by, standing, IsPlanned};
+ghost use Rattle.sheet_recalc.specs.ProposedSheet.{proposed_names, shown_by, standing, IsPlanned};
 ghost use Rattle.dep_order.specs.Follows.{Follows};
 
-use crate::proposed_sheet::Outline;
+use crate::proposed_sheet::ProposedSheet;
 use apl_tokens::Name;
 use arrays_core::{Array, Fault, Kind};
 use formula_core::{Formula, Shows};
@@ -24,22 +24,22 @@ pub(crate) type Results = IndexMap<Name, Result<Array, Fault>>;
 /// What the names that are found show after the change, each formula worked out after all that it refers to.
 pub(crate) fn results_of(
     alloc: Global,
-    outline: &Outline<'_>,
+    proposed: &ProposedSheet<'_>,
     mut left: IndexSet<Name>,
 ) -> Result<Results, AllocError>
-    requires settled { IsSettled (outlined outline.now) }
-    requires closed { Follows (λ a b. Refers (outlined outline.now) b a) (λ x. ⊥) left.keys }
-    requires standing { (q : List ℕ) → (Contains left.keys q → ⊥) → standing outline.now.entries.now.entries outline.now.name (shown_by outline.now.binding) q ≡ val (outlined outline.now) q }
-    ensures { IfOk result (λ results. IsPlanned outline.now.entries.now.entries outline.now.name (shown_by outline.now.binding) (outlined outline.now) results.entries) }
+    requires settled { IsSettled (proposed_names proposed.now) }
+    requires closed { Follows (λ a b. Refers (proposed_names proposed.now) b a) (λ x. ⊥) left.keys }
+    requires standing { (q : List ℕ) → (Contains left.keys q → ⊥) → standing proposed.now.entries.now.entries proposed.now.name (shown_by proposed.now.binding) q ≡ val (proposed_names proposed.now) q }
+    ensures { IfOk result (λ results. IsPlanned proposed.now.entries.now.entries proposed.now.name (shown_by proposed.now.binding) (proposed_names proposed.now) results.entries) }
 {
     let _unique = left.len();
     let mut results = IndexMap::new(alloc);
     while let Some(name) = left.pop() {
-        let Some(formula) = outline.formula_of(name) else {
+        let Some(formula) = proposed.formula_of(name) else {
             continue;
         };
         let ahead = Ahead {
-            outline,
+            proposed,
             results: &results,
         };
         let outcome = result_of(name, formula, &ahead)?;
@@ -76,20 +76,20 @@ fn result_of<S: Shows>(
 /// What names show ahead of a change: their new results, and where there is none what is there.
 #[derive(Clone, Copy)]
 struct Ahead<'a, 'b> {
-    outline: &'b Outline<'a>,
+    proposed: &'b ProposedSheet<'a>,
     results: &'b Results,
 }
 
 impl Shows for Ahead<'_, '_> {
     ghost use Rattle.sheet_recalc.specs.ProposedSheet.{ahead, shown_by};
 
-    ghost shows = { λ a. ahead a.outline.now.entries.now.entries a.outline.now.name (shown_by a.outline.now.binding) a.results.now.entries };
+    ghost shows = { λ a. ahead a.proposed.now.entries.now.entries a.proposed.now.name (shown_by a.proposed.now.binding) a.results.now.entries };
 
     fn result_of(&self, name: Name) -> Result<&Array, Fault> {
         match self.results.get(&name) {
             Some(Ok(array)) => Ok(array),
             Some(Err(fault)) => Err(*fault),
-            None => self.outline.result_of(name),
+            None => self.proposed.result_of(name),
         }
     }
 }

@@ -6,7 +6,7 @@ ghost use Rattle.arrays_core.specs.Shapes.{size, IsWithinLimits};
 ghost use Rattle.formula_core.specs.Meaning.{array_of};
 ghost use Rattle.sheet_recalc.specs.Names.{binding, Data};
 ghost use Rattle.sheet_recalc.specs.Entries.{names_of};
-ghost use Rattle.sheet_recalc.specs.Cells.{items_of, IsDataAnswer};
+ghost use Rattle.sheet_recalc.specs.Cells.{literal_items, IsDataAnswer};
 ghost use Rattle.sheet_recalc.specs.Rows.{row_put, row_length, grown, are_of_type};
 
 use crate::entry::Entry;
@@ -67,7 +67,7 @@ fn row_length(shape: &[u32]) -> Option<usize>
 
 /// How many items a literal has.
 fn items_in(literal: &Literal) -> usize
-    ensures { result ≡ length (items_of (constant_of literal.now)) }
+    ensures { result ≡ length (literal_items (constant_of literal.now)) }
 {
     match literal {
         Literal::Num(_) | Literal::Char(_) => 1,
@@ -79,7 +79,7 @@ fn items_in(literal: &Literal) -> usize
 /// Each item of a literal is of this type.
 #[tactic(auto, using(crate::proofs::Rows::are_numbers, crate::proofs::Rows::are_characters))]
 fn is_of_type(literal: &Literal, item_type: ItemType) -> bool
-    ensures { result ≡ are_of_type item_type (items_of (constant_of literal.now)) }
+    ensures { result ≡ are_of_type item_type (literal_items (constant_of literal.now)) }
 {
     match literal {
         Literal::Num(_) => item_type == ItemType::Nums,
@@ -108,12 +108,12 @@ fn with_items(
     shape: &Shape,
 ) -> Result<Array, AllocError>
     requires within { IsWithinLimits shape.now.items }
-    requires one_item_a_place { length array.now.items + length (items_of (constant_of literal.now)) ≡ size shape.now.items }
-    requires typed { are_of_type array.now.item_type (items_of (constant_of literal.now)) ≡ true }
+    requires one_item_a_place { length array.now.items + length (literal_items (constant_of literal.now)) ≡ size shape.now.items }
+    requires typed { are_of_type array.now.item_type (literal_items (constant_of literal.now)) ≡ true }
     ensures { IfOk result (λ a. a ≡ record {
       item_type = array.now.item_type;
       shape = shape.now.items;
-      items = array.now.items ++ items_of (constant_of literal.now);
+      items = array.now.items ++ literal_items (constant_of literal.now);
     }) }
 {
     if items_in(literal) == 0 {
@@ -125,7 +125,7 @@ fn with_items(
 
 /// The array of a literal that has no more items than an array may have.
 fn row_of(alloc: Global, literal: &Literal) -> Result<Array, AllocError>
-    requires { length (items_of (constant_of literal.now)) ≤ 1048576 }
+    requires { length (literal_items (constant_of literal.now)) ≤ 1048576 }
     ensures { IfOk result (λ row. array_of (constant_of literal.now) ≡ Ok row) }
 {
     match array_of(alloc, literal) {

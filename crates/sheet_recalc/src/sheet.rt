@@ -20,7 +20,7 @@ use crate::cell::data_with_cell;
 use crate::commit::{commit, commit_removal};
 use crate::cycle::cycle_through;
 use crate::entry::{BindingRef, Entry};
-use crate::proposed_sheet::Outline;
+use crate::proposed_sheet::ProposedSheet;
 use crate::recalculation::{Results, absent, results_of};
 use crate::refusal::Refusal;
 use crate::row::data_with_row;
@@ -51,7 +51,7 @@ impl Model for Sheet {
     ghost Value = { SheetValue };
 
     ghost use Rattle.std.specs.Coded.{codes};
-    ghost use Rattle.formula_core.specs.Codes.{coded_tree};
+    ghost use Rattle.apl_expr.specs.Codes.{coded_tree};
     ghost use Rattle.sheet_recalc.specs.Codes.{coded_binding};
 
     ghost coded = { Prim.hlevel (codes, coded_tree, coded_binding) };
@@ -229,18 +229,18 @@ fn results_with<'a>(
     ensures refused { IfErr result (CannotPut (names_of entries.entry.now.entries) name (bound binding.entry)) }
 {
     let found = affected(alloc, users, name, entries.len())?;
-    let outline = Outline {
+    let proposed = ProposedSheet {
         entries,
         name,
         binding: Some(binding),
     };
     if let Some(reference) = first_found(&found, binding.references()) {
-        return Err(Refusal::Cycle(cycle_through(alloc, &outline, &found, reference)?));
+        return Err(Refusal::Cycle(cycle_through(alloc, &proposed, &found, reference)?));
     }
     if !has_room(entries, name) {
         return Err(Refusal::SheetFull);
     }
-    Ok(results_of(alloc, &outline, found)?)
+    Ok(results_of(alloc, &proposed, found)?)
 }
 
 /// There is room for a name: it is present, or fewer than 1,024 names are.
@@ -263,10 +263,10 @@ fn results_without(
     ensures sheet { OnOk result (IsSheet (without (names_of entries.entry.now.entries) name)) }
 {
     let found = affected(alloc, users, name, entries.len())?;
-    let outline = Outline {
+    let proposed = ProposedSheet {
         entries,
         name,
         binding: None,
     };
-    results_of(alloc, &outline, found)
+    results_of(alloc, &proposed, found)
 }

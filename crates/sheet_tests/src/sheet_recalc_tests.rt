@@ -88,7 +88,7 @@ fn put(alloc: Global, sheet: &mut Sheet, name: &str, numbers: Vec<i64>) -> Optio
 /// Puts a literal at the end of a name's data, where that is accepted.
 fn add_row(sheet: &mut Sheet, name: &str, row: Literal) -> Option<()> {
     let name = Name::read(name)?;
-    sheet.apply(Change::Row(name, row)).ok()
+    sheet.apply(Change::AddRow(name, row)).ok()
 }
 
 #[test]

@@ -1,8 +1,5 @@
 -- Worked cases of the definitions, computed.
-use Rattle.std.proofs.Common.{◌≡◌, refl, ℕ, ℤ, pos, negsuc, List, [], ◌∷◌, map, Result, Ok, Err}
-use Rattle.arrays_core.specs.declared.item.Item.TheVariants.{Num, Char}
-use Rattle.arrays_core.specs.declared.item.ItemType.TheVariants.{Nums, Chars}
-use Rattle.arrays_core.specs.declared.item.Kind.{Kind}
+use Rattle.std.proofs.Common.{◌≡◌, refl, ℕ, pos, negsuc, List, [], ◌∷◌}
 use Rattle.arrays_core.specs.declared.item.Kind.TheVariants.{Axis as AxisError, Rank, Length, Domain, Limit}
 use Rattle.arrays_core.specs.Arrays.{ArrayValue}
 use Rattle.arrays_core.proofs.CaseWords.{nums, ints, chars, is, fails, scalar, no_text, no_numbers}

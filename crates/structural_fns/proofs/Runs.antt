@@ -13,7 +13,7 @@ use Rattle.arrays_core.specs.Shapes.{size, index_after, places_before}
 use Rattle.arrays_core.specs.Arrays.{ArrayValue, item_if_there, collect, with_items}
 use Rattle.index_region.specs.Checks.{Form, check, limited, is_within_limits, and_then}
 use Rattle.index_region.specs.Arguments.{is_list, counts_as_numbers, none_negative, numbers}
-use Rattle.index_region.specs.ArgumentLists.{of_one, of_two}
+use Rattle.index_region.specs.ArgumentLists.{of_one_argument, of_two_arguments}
 use Rattle.index_region.specs.Sources.{item_from}
 use Rattle.structural_fns.specs.Reshape.{magnitudes, reshape_form, reshape_item, reshape_whole}
 use Rattle.structural_fns.specs.Ravel.{ravel_item, ravel_whole}
@@ -69,7 +69,7 @@ limited_is {asked = asked} {shape = shape} {asked_type = asked_type} {item_type 
 pub ravel_answer : (args : List ArrayValue) (b v : ArrayValue) (places : ℕ) (asked shape : List ℕ) (asked_type item_type : ItemType)
     → length args ≡ 1 → b ≡ get_or args 0 b → asked ≡ places ∷ [] → places ≡ size b.shape → places ≡ length b.items → asked_type ≡ b.item_type
     → limited asked asked_type ≡ Ok (shape, item_type) → v ≡ record { item_type = b.item_type; shape = shape; items = take (size shape) (drop 0 b.items) }
-    → of_one ravel_whole args ≡ Ok v
+    → of_one_argument ravel_whole args ≡ Ok v
 ravel_answer [] b v places asked shape asked_type item_type one same is_asked is_size is_length is_type passed made = absurd (omega arith)
 ravel_answer (a ∷ c ∷ args) b v places asked shape asked_type item_type one same is_asked is_size is_length is_type passed made = absurd (omega arith)
 ravel_answer (a ∷ []) b v places asked shape asked_type item_type one same is_asked is_size is_length is_type passed made =
@@ -113,8 +113,8 @@ module _ (a b : ArrayValue) (as_many : length b.items ≡ size b.shape) (few : s
       ∙ run_collected b.item_type (magnitudes a) (reshape_item a b) b.items 0 (fill b.item_type) (omega arith) reshaped_item
 
 pub reshape_answer : (args : List ArrayValue) (b v : ArrayValue) (shape : List ℕ) (item_type : ItemType)
-    → length args ≡ 2 → b ≡ get_or args 1 b → of_two reshape_form args ≡ Ok (shape, item_type) → length b.items ≡ size b.shape → size shape ≤ length b.items
-    → v ≡ record { item_type = b.item_type; shape = shape; items = take (size shape) (drop 0 b.items) } → of_two reshape_whole args ≡ Ok v
+    → length args ≡ 2 → b ≡ get_or args 1 b → of_two_arguments reshape_form args ≡ Ok (shape, item_type) → length b.items ≡ size b.shape → size shape ≤ length b.items
+    → v ≡ record { item_type = b.item_type; shape = shape; items = take (size shape) (drop 0 b.items) } → of_two_arguments reshape_whole args ≡ Ok v
 reshape_answer [] b v shape item_type two same passed as_many few made = absurd (omega arith)
 reshape_answer (a ∷ []) b v shape item_type two same passed as_many few made = absurd (omega arith)
 reshape_answer (a ∷ c ∷ d ∷ args) b v shape item_type two same passed as_many few made = absurd (omega arith)

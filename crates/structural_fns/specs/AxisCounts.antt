@@ -1,14 +1,10 @@
 -- What take and drop share: a count for each axis.
-use Rattle.std.specs.Prelude.{ℕ, suc, ◌+◌, ◌-◌, nat_eq, ℤ, pos, negsuc, unsigned_abs, if◌then◌else◌, List, [], ◌∷◌, length, replicate, Some, None, Result}
-use Rattle.arrays_core.specs.declared.item.Item.{Item}
+use Rattle.std.specs.Prelude.{ℕ, nat_eq, if◌then◌else◌, List, [], length, replicate, Result}
 use Rattle.arrays_core.specs.declared.item.Kind.{Kind}
 use Rattle.arrays_core.specs.declared.item.Kind.TheVariants.{Rank, Length, Domain}
 use Rattle.arrays_core.specs.Arrays.{ArrayValue}
-use Rattle.arrays_core.specs.Shapes.{is_index_of}
-use Rattle.index_region.specs.Checks.{check, Form, limited, whole}
-use Rattle.index_region.specs.Arguments.{is_scalar, is_list, counts_as_numbers, numbers}
-use Rattle.index_region.specs.Sources.{Source, item_from}
-use Rattle.structural_fns.specs.Reshape.{magnitudes}
+use Rattle.index_region.specs.Checks.{check, Form, limited}
+use Rattle.index_region.specs.Arguments.{is_scalar, is_list, counts_as_numbers}
 
 -- the shape that the counts of a speak of: a scalar has an axis of one place for each
 abbrev pub counted_shape : ArrayValue → ArrayValue → List ℕ

@@ -1,12 +1,10 @@
 -- Ravel, ,B: the items in row-major order, as a vector.
-use Rattle.std.specs.Prelude.{ℕ, ◌-◌, ◌%◌, unsigned_abs, ◌&&◌, if◌then◌else◌, List, [], ◌∷◌, map, get_or, Some, None, Result}
+use Rattle.std.specs.Prelude.{ℕ, ◌-◌, List, [], ◌∷◌, get_or, Some, Result}
 use Rattle.arrays_core.specs.declared.item.Item.{Item}
 use Rattle.arrays_core.specs.declared.item.Kind.{Kind}
-use Rattle.arrays_core.specs.declared.item.Kind.TheVariants.{Rank, Domain}
 use Rattle.arrays_core.specs.Arrays.{ArrayValue}
-use Rattle.arrays_core.specs.Shapes.{size, index_after, places_before}
-use Rattle.index_region.specs.Checks.{check, Form, limited, whole}
-use Rattle.index_region.specs.Arguments.{is_list, has_items, counts_as_numbers, numbers, none_negative}
+use Rattle.arrays_core.specs.Shapes.{size, index_after}
+use Rattle.index_region.specs.Checks.{Form, limited, whole}
 use Rattle.index_region.specs.Sources.{Source, item_from}
 
 abbrev pub ravel_form : ArrayValue → Result Form Kind

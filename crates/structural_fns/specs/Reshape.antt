@@ -1,5 +1,5 @@
 -- Reshape, A⍴B: the items in row-major order, again and again, under another shape.
-use Rattle.std.specs.Prelude.{ℕ, ◌-◌, ◌%◌, unsigned_abs, ◌&&◌, if◌then◌else◌, List, [], ◌∷◌, map, get_or, Some, None, Result}
+use Rattle.std.specs.Prelude.{ℕ, ◌%◌, unsigned_abs, ◌&&◌, if◌then◌else◌, List, map, Some, None, Result}
 use Rattle.arrays_core.specs.declared.item.Item.{Item}
 use Rattle.arrays_core.specs.declared.item.Kind.{Kind}
 use Rattle.arrays_core.specs.declared.item.Kind.TheVariants.{Rank, Domain}
@@ -12,7 +12,6 @@ use Rattle.index_region.specs.Sources.{Source, item_from}
 -- the lengths of axes that an array of numbers asks for, whatever their signs
 abbrev pub magnitudes : ArrayValue → List ℕ
 magnitudes a = map unsigned_abs (numbers a)
-
 
 abbrev pub reshape_form : ArrayValue → ArrayValue → Result Form Kind
 reshape_form a b =

@@ -1,14 +1,11 @@
 -- Reverse, ⌽B along an axis: its places from the last to the first. A scalar's index list is empty, and so nothing is set.
-use Rattle.std.specs.Prelude.{ℕ, suc, ◌-◌, nat_eq, ℤ, pos, ◌+ℤ◌, ◌-ℤ◌, unsigned_abs, ◌||◌, List, length, get_or, set, remove, Some, Result, bytes_eq}
+use Rattle.std.specs.Prelude.{ℕ, suc, ◌-◌, List, length, get_or, set, Some, Result}
 use Rattle.arrays_core.specs.declared.item.Item.{Item}
 use Rattle.arrays_core.specs.declared.item.Kind.{Kind}
-use Rattle.arrays_core.specs.declared.item.Kind.TheVariants.{Axis, Rank, Length, Domain}
+use Rattle.arrays_core.specs.declared.item.Kind.TheVariants.{Axis}
 use Rattle.arrays_core.specs.Arrays.{ArrayValue}
-use Rattle.scalar_fns.specs.ScalarExtension.{extended}
-use Rattle.scalar_fns.specs.Numbers.{residue}
 use Rattle.index_region.specs.declared.along.Along.{Along}
 use Rattle.index_region.specs.Checks.{check, Form, limited, whole}
-use Rattle.index_region.specs.Arguments.{has_one_item, counts_as_numbers, number_of}
 use Rattle.index_region.specs.Axes.{is_axis, axis_at, places_along}
 use Rattle.index_region.specs.Sources.{Source, item_from}
 

@@ -1,12 +1,11 @@
 -- Take, A↑B: the first places of each axis, or the last, and fill beyond them.
-use Rattle.std.specs.Prelude.{ℕ, suc, ◌+◌, ◌-◌, nat_eq, ℤ, pos, negsuc, unsigned_abs, if◌then◌else◌, List, [], ◌∷◌, length, replicate, Some, None, Result}
+use Rattle.std.specs.Prelude.{ℕ, suc, ◌+◌, ◌-◌, ℤ, pos, negsuc, if◌then◌else◌, List, [], ◌∷◌, Some, None, Result}
 use Rattle.arrays_core.specs.declared.item.Item.{Item}
 use Rattle.arrays_core.specs.declared.item.Kind.{Kind}
-use Rattle.arrays_core.specs.declared.item.Kind.TheVariants.{Rank, Length, Domain}
 use Rattle.arrays_core.specs.Arrays.{ArrayValue}
 use Rattle.arrays_core.specs.Shapes.{is_index_of}
-use Rattle.index_region.specs.Checks.{check, Form, limited, whole}
-use Rattle.index_region.specs.Arguments.{is_scalar, is_list, counts_as_numbers, numbers}
+use Rattle.index_region.specs.Checks.{Form, whole}
+use Rattle.index_region.specs.Arguments.{numbers}
 use Rattle.index_region.specs.Sources.{Source, item_from}
 use Rattle.structural_fns.specs.Reshape.{magnitudes}
 use Rattle.structural_fns.specs.AxisCounts.{counted_shape, uncounted, counted_form}

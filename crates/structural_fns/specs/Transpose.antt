@@ -1,12 +1,9 @@
 -- Transpose, ⍉B: the axes in reverse order.
-use Rattle.std.specs.Prelude.{ℕ, ◌-◌, max, min, nat_eq, ℤ, pos, int_le, unsigned_abs, Bool, ◌&&◌, List, [], ◌∷◌, map, length, get_or, reverse, zip, Option, Some, None, Result}
-use Rattle.std.specs.List.{filter, list_all, list_any, range_with_len}
+use Rattle.std.specs.Prelude.{ℕ, List, reverse, Some, Result}
 use Rattle.arrays_core.specs.declared.item.Item.{Item}
 use Rattle.arrays_core.specs.declared.item.Kind.{Kind}
-use Rattle.arrays_core.specs.declared.item.Kind.TheVariants.{Rank, Length, Domain}
 use Rattle.arrays_core.specs.Arrays.{ArrayValue}
-use Rattle.index_region.specs.Checks.{check, Form, limited, whole}
-use Rattle.index_region.specs.Arguments.{is_list, counts_as_numbers, numbers}
+use Rattle.index_region.specs.Checks.{Form, limited, whole}
 use Rattle.index_region.specs.Sources.{Source, item_from}
 
 abbrev pub transpose_form : ArrayValue → Result Form Kind

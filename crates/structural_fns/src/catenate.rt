@@ -7,7 +7,7 @@ ghost use Rattle.arrays_core.specs.Items.{fill, type_of};
 ghost use Rattle.arrays_core.specs.Shapes.{size, IsWithinLimits};
 ghost use Rattle.index_region.specs.Checks.{Form};
 ghost use Rattle.index_region.specs.Arguments.{has_items, is_scalar};
-ghost use Rattle.index_region.specs.ArgumentLists.{of_two};
+ghost use Rattle.index_region.specs.ArgumentLists.{of_two_arguments};
 ghost use Rattle.index_region.specs.Answers.{IsPlaceOf, source_value};
 ghost use Rattle.structural_fns.specs.Catenate.{joined_rank as rank_joined, joined_places as places_joined, other_axes as axes_other, ranks_join as do_ranks_join, axes_agree as do_axes_agree, types_join as do_types_join, joined_type as type_joined, joined_shape as shape_joined, sides_checked, in_side as index_in_side, catenate_form, catenate_source, catenate_item, catenate_whole};
 
@@ -237,7 +237,7 @@ impl Catenate {
     /// unless one of them is a scalar beside a matrix or more.
     pub fn apply(&self, alloc: Global, args: &[Seen]) -> Result<Array, ApplyFault>
         requires { length args.now ≡ 2 }
-        ensures { IsAnswerTo (of_two (catenate_whole self.now.along) args.now) result }
+        ensures { IsAnswerTo (of_two_arguments (catenate_whole self.now.along) args.now) result }
     {
         let (shape, _) = self.shape_of(args)?;
         let (left, right) = (&args[0], &args[1]);
@@ -254,9 +254,9 @@ impl Catenate {
 impl Primitive for Catenate {
     ghost arity = { λ _. 2 };
 
-    ghost form = { λ r args. of_two (catenate_form r.along) args };
+    ghost form = { λ r args. of_two_arguments (catenate_form r.along) args };
 
-    ghost item = { λ r args index. of_two (λ a b. catenate_item r.along a b index) args };
+    ghost item = { λ r args index. of_two_arguments (λ a b. catenate_item r.along a b index) args };
 
     fn shape_of(&self, args: &[Seen]) -> Result<(Shape, ItemType), Kind> {
         let left = &args[0];

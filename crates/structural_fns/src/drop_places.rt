@@ -3,7 +3,7 @@
 ghost use Rattle.std.specs.Prelude.{◌≡◌, ◌≤◌, ◌+◌, ℤ, pos, unsigned_abs, IsTrue, IfOk, Ok, All, length};
 ghost use Rattle.arrays_core.specs.Arrays.{IsAnswerTo, IsArray};
 ghost use Rattle.arrays_core.specs.Shapes.{IsWithinLimits, is_index_of as is_below};
-ghost use Rattle.index_region.specs.ArgumentLists.{of_two};
+ghost use Rattle.index_region.specs.ArgumentLists.{of_two_arguments};
 ghost use Rattle.index_region.specs.Arguments.{numbers};
 ghost use Rattle.index_region.specs.Answers.{IsPlaceOf, source_value};
 ghost use Rattle.structural_fns.specs.AxisCounts.{counted_shape as shape_counted};
@@ -96,7 +96,7 @@ impl DropPlaces {
     /// The array of the places that are left. Those of a vector are copied in one run.
     pub fn apply(&self, alloc: Global, args: &[Seen]) -> Result<Array, ApplyFault>
         requires { length args.now ≡ 2 }
-        ensures { IsAnswerTo (of_two drop_whole args.now) result }
+        ensures { IsAnswerTo (of_two_arguments drop_whole args.now) result }
     {
         let (shape, _) = self.shape_of(args)?;
         let array = &args[1];
@@ -111,9 +111,9 @@ impl DropPlaces {
 impl Primitive for DropPlaces {
     ghost arity = { λ _. 2 };
 
-    ghost form = { λ _ args. of_two drop_form args };
+    ghost form = { λ _ args. of_two_arguments drop_form args };
 
-    ghost item = { λ _ args index. of_two (λ a b. drop_item a b index) args };
+    ghost item = { λ _ args index. of_two_arguments (λ a b. drop_item a b index) args };
 
     fn shape_of(&self, args: &[Seen]) -> Result<(Shape, ItemType), Kind> {
         let counts = &args[0];

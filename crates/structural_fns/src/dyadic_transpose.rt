@@ -3,7 +3,7 @@
 ghost use Rattle.std.specs.Prelude.{◌≡◌, ◌≤◌, ◌<◌, get_or, List, ℕ, Option, Some, None, IfOk, IfErr, Err, if◌then◌else◌, ◌∷◌, length};
 ghost use Rattle.arrays_core.specs.declared.item.ItemType.{ItemType as AType};
 ghost use Rattle.arrays_core.specs.Arrays.{IsAnswerTo};
-ghost use Rattle.index_region.specs.ArgumentLists.{of_two};
+ghost use Rattle.index_region.specs.ArgumentLists.{of_two_arguments};
 ghost use Rattle.index_region.specs.Arguments.{numbers};
 ghost use Rattle.index_region.specs.Answers.{IsPlaceOf, IsFormAnswerTo, source_value};
 ghost use Rattle.structural_fns.specs.DyadicTranspose.{axes_to, greatest as greatest_of, least as least_of, all_positive as positive_all, occurs as does_occur, are_axes as do_name_axes, lengths_at, transposed_shape as shape_transposed, gathered as index_gathered, least_with, transpose_by_form, transpose_by_source, transpose_by_item, transpose_by_whole};
@@ -155,7 +155,7 @@ impl DyadicTranspose {
     /// The array whose axes have gone to those that are named.
     pub fn apply(&self, alloc: Global, args: &[Seen]) -> Result<Array, ApplyFault>
         requires { length args.now ≡ 2 }
-        ensures { IsAnswerTo (of_two transpose_by_whole args.now) result }
+        ensures { IsAnswerTo (of_two_arguments transpose_by_whole args.now) result }
     {
         apply(alloc, self, args)
     }
@@ -164,9 +164,9 @@ impl DyadicTranspose {
 impl Primitive for DyadicTranspose {
     ghost arity = { λ _. 2 };
 
-    ghost form = { λ _ args. of_two transpose_by_form args };
+    ghost form = { λ _ args. of_two_arguments transpose_by_form args };
 
-    ghost item = { λ _ args index. of_two (λ a b. transpose_by_item a b index) args };
+    ghost item = { λ _ args index. of_two_arguments (λ a b. transpose_by_item a b index) args };
 
     fn shape_of(&self, args: &[Seen]) -> Result<(Shape, ItemType), Kind> {
         let axes = &args[0];

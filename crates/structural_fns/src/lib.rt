@@ -2,10 +2,10 @@
 //! is fill.
 #![tactic(auto)]
 
-mod dyadic_transpose;
 mod axis_counts;
-mod drop_places;
 mod catenate;
+mod drop_places;
+mod dyadic_transpose;
 mod magnitudes;
 mod ravel;
 mod reshape;
@@ -14,9 +14,9 @@ mod rotate;
 mod take;
 mod transpose;
 
-pub use dyadic_transpose::DyadicTranspose;
-pub use drop_places::DropPlaces;
 pub use catenate::Catenate;
+pub use drop_places::DropPlaces;
+pub use dyadic_transpose::DyadicTranspose;
 pub use ravel::Ravel;
 pub use reshape::Reshape;
 pub use reverse::Reverse;

@@ -2,7 +2,7 @@
 
 ghost use Rattle.std.specs.Prelude.{◌≡◌, length};
 ghost use Rattle.arrays_core.specs.Arrays.{IsAnswerTo};
-ghost use Rattle.index_region.specs.ArgumentLists.{of_one};
+ghost use Rattle.index_region.specs.ArgumentLists.{of_one_argument};
 ghost use Rattle.index_region.specs.Answers.{IsPlaceOf, source_value};
 ghost use Rattle.structural_fns.specs.Ravel.{ravel_form, ravel_source, ravel_item, ravel_whole};
 
@@ -28,7 +28,7 @@ impl Ravel {
     /// The vector of the items. They are copied in one run.
     pub fn apply(&self, alloc: Global, args: &[Seen]) -> Result<Array, ApplyFault>
         requires { length args.now ≡ 1 }
-        ensures { IsAnswerTo (of_one ravel_whole args.now) result }
+        ensures { IsAnswerTo (of_one_argument ravel_whole args.now) result }
     {
         let array = &args[0];
         let (shape, _) = limited(shape_of(alloc, &[array.places()]), array.item_type())?;
@@ -40,9 +40,9 @@ impl Ravel {
 impl Primitive for Ravel {
     ghost arity = { λ _. 1 };
 
-    ghost form = { λ _ args. of_one ravel_form args };
+    ghost form = { λ _ args. of_one_argument ravel_form args };
 
-    ghost item = { λ _ args index. of_one (λ b. ravel_item b index) args };
+    ghost item = { λ _ args index. of_one_argument (λ b. ravel_item b index) args };
 
     fn shape_of(&self, args: &[Seen]) -> Result<(Shape, ItemType), Kind> {
         let array = &args[0];

@@ -2,7 +2,7 @@
 
 ghost use Rattle.std.specs.Prelude.{◌≡◌, length};
 ghost use Rattle.arrays_core.specs.Arrays.{IsAnswerTo};
-ghost use Rattle.index_region.specs.ArgumentLists.{of_two};
+ghost use Rattle.index_region.specs.ArgumentLists.{of_two_arguments};
 ghost use Rattle.index_region.specs.Answers.{IsPlaceOf, source_value};
 ghost use Rattle.structural_fns.specs.Reshape.{magnitudes as magnitudes_of, reshape_form, reshape_source, reshape_item, reshape_whole};
 
@@ -40,7 +40,7 @@ impl Reshape {
     /// The array of the shape that the left argument says. Where no item is needed twice they are copied in one run.
     pub fn apply(&self, alloc: Global, args: &[Seen]) -> Result<Array, ApplyFault>
         requires { length args.now ≡ 2 }
-        ensures { IsAnswerTo (of_two reshape_whole args.now) result }
+        ensures { IsAnswerTo (of_two_arguments reshape_whole args.now) result }
     {
         let (shape, _) = self.shape_of(args)?;
         let array = &args[1];
@@ -55,9 +55,9 @@ impl Reshape {
 impl Primitive for Reshape {
     ghost arity = { λ _. 2 };
 
-    ghost form = { λ _ args. of_two reshape_form args };
+    ghost form = { λ _ args. of_two_arguments reshape_form args };
 
-    ghost item = { λ _ args index. of_two (λ a b. reshape_item a b index) args };
+    ghost item = { λ _ args index. of_two_arguments (λ a b. reshape_item a b index) args };
 
     fn shape_of(&self, args: &[Seen]) -> Result<(Shape, ItemType), Kind> {
         let counts = &args[0];

@@ -4,7 +4,7 @@ ghost use Rattle.std.specs.Prelude.{◌≡◌, ◌≤◌, ◌-◌, suc, IsTrue, 
 ghost use Rattle.arrays_core.specs.Arrays.{IsAnswerTo};
 ghost use Rattle.arrays_core.specs.Shapes.{is_index_of};
 ghost use Rattle.index_region.specs.Axes.{is_axis, axis_at, places_along};
-ghost use Rattle.index_region.specs.ArgumentLists.{of_one};
+ghost use Rattle.index_region.specs.ArgumentLists.{of_one_argument};
 ghost use Rattle.index_region.specs.Answers.{IsPlaceOf, source_value};
 ghost use Rattle.structural_fns.specs.Reverse.{reverse_form, reverse_source, reverse_item, reverse_whole};
 
@@ -50,7 +50,7 @@ impl Reverse {
     /// The array whose places along the axis stand the other way round.
     pub fn apply(&self, alloc: Global, args: &[Seen]) -> Result<Array, ApplyFault>
         requires { length args.now ≡ 1 }
-        ensures { IsAnswerTo (of_one (reverse_whole self.now.along) args.now) result }
+        ensures { IsAnswerTo (of_one_argument (reverse_whole self.now.along) args.now) result }
     {
         apply(alloc, self, args)
     }
@@ -59,9 +59,9 @@ impl Reverse {
 impl Primitive for Reverse {
     ghost arity = { λ _. 1 };
 
-    ghost form = { λ r args. of_one (reverse_form r.along) args };
+    ghost form = { λ r args. of_one_argument (reverse_form r.along) args };
 
-    ghost item = { λ r args index. of_one (λ b. reverse_item r.along b index) args };
+    ghost item = { λ r args index. of_one_argument (λ b. reverse_item r.along b index) args };
 
     fn shape_of(&self, args: &[Seen]) -> Result<(Shape, ItemType), Kind> {
         let array = &args[0];

@@ -6,7 +6,7 @@ ghost use Rattle.arrays_core.specs.Arrays.{IsAnswerTo};
 ghost use Rattle.arrays_core.specs.Shapes.{is_index_of};
 ghost use Rattle.index_region.specs.Checks.{Form};
 ghost use Rattle.index_region.specs.Axes.{places_along};
-ghost use Rattle.index_region.specs.ArgumentLists.{of_two};
+ghost use Rattle.index_region.specs.ArgumentLists.{of_two_arguments};
 ghost use Rattle.index_region.specs.Answers.{IsPlaceOf, source_value};
 ghost use Rattle.structural_fns.specs.Rotate.{lines_checked, rotate_form, rotation, rotated_place as place_rotated, rotate_source, rotate_item, rotate_whole};
 
@@ -105,7 +105,7 @@ impl Rotate {
     /// The array whose lines along the axis are rotated.
     pub fn apply(&self, alloc: Global, args: &[Seen]) -> Result<Array, ApplyFault>
         requires { length args.now ≡ 2 }
-        ensures { IsAnswerTo (of_two (rotate_whole self.now.along) args.now) result }
+        ensures { IsAnswerTo (of_two_arguments (rotate_whole self.now.along) args.now) result }
     {
         apply(alloc, self, args)
     }
@@ -114,9 +114,9 @@ impl Rotate {
 impl Primitive for Rotate {
     ghost arity = { λ _. 2 };
 
-    ghost form = { λ r args. of_two (rotate_form r.along) args };
+    ghost form = { λ r args. of_two_arguments (rotate_form r.along) args };
 
-    ghost item = { λ r args index. of_two (λ a b. rotate_item r.along a b index) args };
+    ghost item = { λ r args index. of_two_arguments (λ a b. rotate_item r.along a b index) args };
 
     fn shape_of(&self, args: &[Seen]) -> Result<(Shape, ItemType), Kind> {
         let amounts = &args[0];

@@ -3,7 +3,7 @@
 ghost use Rattle.std.specs.Prelude.{◌≡◌, ◌≤◌, ℤ, unsigned_abs, IsTrue, IfOk, Ok, All, length};
 ghost use Rattle.arrays_core.specs.Arrays.{IsAnswerTo};
 ghost use Rattle.arrays_core.specs.Shapes.{IsWithinLimits, is_index_of as is_below, size as size_of};
-ghost use Rattle.index_region.specs.ArgumentLists.{of_two};
+ghost use Rattle.index_region.specs.ArgumentLists.{of_two_arguments};
 ghost use Rattle.index_region.specs.Arguments.{numbers};
 ghost use Rattle.index_region.specs.Answers.{IsPlaceOf, source_value};
 ghost use Rattle.structural_fns.specs.Reshape.{magnitudes as magnitudes_of};
@@ -83,7 +83,7 @@ impl Take {
     /// The array of the places that are taken. Those of a vector that has as many are copied in one run.
     pub fn apply(&self, alloc: Global, args: &[Seen]) -> Result<Array, ApplyFault>
         requires { length args.now ≡ 2 }
-        ensures { IsAnswerTo (of_two take_whole args.now) result }
+        ensures { IsAnswerTo (of_two_arguments take_whole args.now) result }
     {
         let (shape, _) = self.shape_of(args)?;
         let array = &args[1];
@@ -98,9 +98,9 @@ impl Take {
 impl Primitive for Take {
     ghost arity = { λ _. 2 };
 
-    ghost form = { λ _ args. of_two take_form args };
+    ghost form = { λ _ args. of_two_arguments take_form args };
 
-    ghost item = { λ _ args index. of_two (λ a b. take_item a b index) args };
+    ghost item = { λ _ args index. of_two_arguments (λ a b. take_item a b index) args };
 
     fn shape_of(&self, args: &[Seen]) -> Result<(Shape, ItemType), Kind> {
         let counts = &args[0];

@@ -2,7 +2,7 @@
 
 ghost use Rattle.std.specs.Prelude.{◌≡◌, ◌≤◌, length, reverse};
 ghost use Rattle.arrays_core.specs.Arrays.{IsAnswerTo};
-ghost use Rattle.index_region.specs.ArgumentLists.{of_one};
+ghost use Rattle.index_region.specs.ArgumentLists.{of_one_argument};
 ghost use Rattle.index_region.specs.Answers.{IsPlaceOf, source_value};
 ghost use Rattle.structural_fns.specs.Transpose.{transpose_form, transpose_source, transpose_item, transpose_whole};
 
@@ -42,7 +42,7 @@ impl Transpose {
     /// The array whose axes stand in reverse order.
     pub fn apply(&self, alloc: Global, args: &[Seen]) -> Result<Array, ApplyFault>
         requires { length args.now ≡ 1 }
-        ensures { IsAnswerTo (of_one transpose_whole args.now) result }
+        ensures { IsAnswerTo (of_one_argument transpose_whole args.now) result }
     {
         apply(alloc, self, args)
     }
@@ -51,9 +51,9 @@ impl Transpose {
 impl Primitive for Transpose {
     ghost arity = { λ _. 1 };
 
-    ghost form = { λ _ args. of_one transpose_form args };
+    ghost form = { λ _ args. of_one_argument transpose_form args };
 
-    ghost item = { λ _ args index. of_one (λ b. transpose_item b index) args };
+    ghost item = { λ _ args index. of_one_argument (λ b. transpose_item b index) args };
 
     fn shape_of(&self, args: &[Seen]) -> Result<(Shape, ItemType), Kind> {
         let array = &args[0];

@@ -1,7 +1,7 @@
 use Rattle.std.proofs.Common.{◌≡◌, ◌∙◌, ◌++◌, ◌<◌, ap, refl, sym, List, ℕ, length, map, get_or, arith}
 use Rattle.std.specs.Prelude.{string_bytes}
 use Rattle.std.proofs.lemmas.Bool.{eqb-true}
-use Rattle.array_text.specs.Text.{number_of}
+use Rattle.array_text.specs.Text.{item_number}
 use Rattle.array_text.specs.Tables.{record_text, records_text}
 use Rattle.array_text.proofs.Written.{table_none, numbers_in, one_record, many_records, no_items}
 use Rattle.array_text.proofs.table_writer.write_table.Goals as goal
@@ -10,7 +10,7 @@ use Rattle.array_text.proofs.table_writer.write_table.Goals.{then-axes-lt2+in_ok
 pub returns-in_default : goal.returns-in_default
 returns-in_default c =
     let a = c.args.array.now in
-    c.new-text.ensures.bytes ∙ sym (table_none a.shape (map number_of a.items) (no_items a.item_type a.items (c.in_default.ensures.none.0 refl) c.shape.ensures.sound.one_type c.requires.numbers))
+    c.new-text.ensures.bytes ∙ sym (table_none a.shape (map item_number a.items) (no_items a.item_type a.items (c.in_default.ensures.none.0 refl) c.shape.ensures.sound.one_type c.requires.numbers))
 
 pub returns-then-is_empty : goal.returns-then-is_empty
 returns-then-is_empty c =

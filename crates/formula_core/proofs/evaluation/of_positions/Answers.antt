@@ -1,7 +1,7 @@
 use Rattle.std.proofs.Common.{rules, ◌≡◌, length, drop, ◌++◌, List, [], ◌∷◌, Bool, true, false, Some, None, ap, sym, ◌∙◌, arith}
 use Rattle.std.proofs.lemmas.List.{length-drop}
 use Rattle.arrays_core.specs.Arrays.{ArrayValue}
-use Rattle.selection_fns.specs.Index.{Position, positions_of, count_written}
+use Rattle.selection_fns.specs.Index.{Position, written_positions, count_written}
 use Rattle.formula_core.specs.Operands.{position_in, array_in}
 use Rattle.formula_core.proofs.Indexing.{given_written, given_empty, count_more, count_same, taken_more, dropped_first, first_stays}
 use Rattle.formula_core.proofs.evaluation.of_positions.Goals as goal
@@ -22,9 +22,9 @@ loop-position-preserved c =
           let long : length (drop 1 args) ≡ count_written written = rw length-drop (rw inv.as_many (omega arith)) in
           record {
             so_far =
-                ap (λ (ws : List Bool). positions_of ws (drop 1 c.match-position.args.items)) pushed
-                ∙ ap (λ (xs : List ArrayValue). positions_of (written ++ true ∷ []) (drop 1 xs)) given
-                ∙ ap (positions_of (written ++ true ∷ [])) (dropped_first args a (rw inv.as_many (omega arith)))
+                ap (λ (ws : List Bool). written_positions ws (drop 1 c.match-position.args.items)) pushed
+                ∙ ap (λ (xs : List ArrayValue). written_positions (written ++ true ∷ []) (drop 1 xs)) given
+                ∙ ap (written_positions (written ++ true ∷ [])) (dropped_first args a (rw inv.as_many (omega arith)))
                 ∙ given_written written (drop 1 args) a long
                 ∙ ap (λ (qs : List Position). qs ++ Some a ∷ []) inv.so_far
                 ∙ sym (taken_more position_in ps k (Some w.in-Some.operand) (search rules) (search (rules, w.in-Some.is)));
@@ -37,8 +37,8 @@ loop-position-preserved c =
           let long : length (drop 1 args) ≡ count_written written = rw length-drop (rw inv.as_many (omega arith)) in
           record {
             so_far =
-                ap (λ (ws : List Bool). positions_of ws (drop 1 c.match-position.args.items)) pushed
-                ∙ ap (λ (xs : List ArrayValue). positions_of (written ++ false ∷ []) (drop 1 xs)) given
+                ap (λ (ws : List Bool). written_positions ws (drop 1 c.match-position.args.items)) pushed
+                ∙ ap (λ (xs : List ArrayValue). written_positions (written ++ false ∷ []) (drop 1 xs)) given
                 ∙ given_empty written (drop 1 args) long
                 ∙ ap (λ (qs : List Position). qs ++ None ∷ []) inv.so_far
                 ∙ sym (taken_more position_in ps k None (search rules) (search (rules, w.in-None.is)));

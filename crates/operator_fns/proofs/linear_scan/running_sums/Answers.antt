@@ -1,6 +1,6 @@
 use Rattle.std.proofs.Common.{subst}
 use Rattle.scalar_fns.specs.declared.function.Scalar2.TheVariants.{Plus as Sum}
-use Rattle.scalar_fns.specs.Numbers.{of_two}
+use Rattle.scalar_fns.specs.Numbers.{dyadic_on_numbers}
 use Rattle.scalar_fns.specs.NumberLists.{IsListAnswerTo}
 use Rattle.operator_fns.specs.Strides.{folded}
 use Rattle.operator_fns.specs.LinearScan.{folded_left, scanned}
@@ -14,7 +14,7 @@ returns-in_err-running-clause-is c =
     let zs = c.args.numbers.now in
     let s = c.args.stride in
     let n = c.args.count in
-    fault_passed (folded_left greatest_step) zs s n (scanned (folded (of_two Sum)) zs s n) c.in_err-running.field-0.0 _
+    fault_passed (folded_left greatest_step) zs s n (scanned (folded (dyadic_on_numbers Sum)) zs s n) c.in_err-running.field-0.0 _
     (λ k h. greatest_leaves zs s n c.requires.apart c.requires.some k h) c.in_err-running.ensures.read c.from_residual.ensures
 
 pub returns-in_err-running-2-clause-is : goal.returns-in_err-running-2-clause-is
@@ -22,7 +22,7 @@ returns-in_err-running-2-clause-is c =
     let zs = c.args.numbers.now in
     let s = c.args.stride in
     let n = c.args.count in
-    fault_passed (folded_left least_step) zs s n (scanned (folded (of_two Sum)) zs s n) c.in_err-running-2.field-0.0 _
+    fault_passed (folded_left least_step) zs s n (scanned (folded (dyadic_on_numbers Sum)) zs s n) c.in_err-running-2.field-0.0 _
     (λ k h. least_leaves zs s n c.requires.apart c.requires.some k h) c.in_err-running-2.ensures.read c.from_residual-in_err-running-2.ensures
 
 pub returns-clause-is : goal.returns-clause-is

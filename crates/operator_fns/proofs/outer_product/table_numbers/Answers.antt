@@ -2,7 +2,7 @@ use Rattle.std.proofs.Common.{◌≡◌, ◌∙◌, ◌+◌, ap, sym, get_or, ma
 use Rattle.std.proofs.lemmas.List.{take_all}
 use Rattle.std.proofs.lemmas.Int.{to_z-of_z}
 use Rattle.arrays_core.specs.Items.{all_or_first_error}
-use Rattle.operator_fns.specs.ResultTable.{table, behind}
+use Rattle.operator_fns.specs.ResultTable.{table, with_results}
 use Rattle.operator_fns.proofs.Tables.{row_more, rows_left, all_behind, error_in_front, row_failed, length-table, as_many_as}
 use Rattle.operator_fns.proofs.outer_product.table_numbers.Goals as goal
 
@@ -16,12 +16,12 @@ returns-in_err-push_row-clause-is g c =
     let fits : SFits w64 x = search rules in
     let same : to_z w64 (of_z w64 x) ≡ x = to_z-of_z w64 _ fits in
     let rows = table f (take k xs) ys in
-    row_failed (Unit {0}) (behind c.loop-number.numbers.items (map (f (to_z w64 (of_z w64 x))) ys)) (all_or_first_error (table f xs ys)) c.push_row.new.row.items c.in_err-push_row.field-0.0 _
+    row_failed (Unit {0}) (with_results c.loop-number.numbers.items (map (f (to_z w64 (of_z w64 x))) ys)) (all_or_first_error (table f xs ys)) c.push_row.new.row.items c.in_err-push_row.field-0.0 _
     (λ e failed.
     ap all_or_first_error (rows_left f ys xs (k + 1))
     ∙ error_in_front (table f (take (k + 1) xs) ys) (table f (drop (k + 1) xs) ys) e
     (ap all_or_first_error (row_more f ys xs k (omega arith)) ∙ all_behind rows (map (f x) ys) c.loop-number.numbers.items c.loop-number.invariant
-    ∙ ap (λ z. behind c.loop-number.numbers.items (map (f z) ys)) (sym same) ∙ failed))
+    ∙ ap (λ z. with_results c.loop-number.numbers.items (map (f z) ys)) (sym same) ∙ failed))
     c.in_err-push_row.ensures c.from_residual-in_err-push_row.ensures
 
 pub loop-number-preserved : goal.loop-number-preserved

@@ -1,6 +1,6 @@
 use Rattle.std.proofs.Common.{◌≡◌, ◌∙◌, ◌+◌, ◌-◌, ◌*◌, ap, sym, subst, get_or, length, arith, Ok, Err, drop}
 use Rattle.arrays_core.specs.Items.{fill}
-use Rattle.scalar_fns.specs.Items.{two_of}
+use Rattle.scalar_fns.specs.Items.{dyadic_on_items}
 use Rattle.operator_fns.specs.Strides.{strided, folded}
 use Rattle.operator_fns.proofs.Folds.{strided_last, strided_more, strided_error, some_folded, length-strided, place_high}
 use Rattle.operator_fns.proofs.Errors.{passed_on}
@@ -20,7 +20,7 @@ loop-before-init c =
     let ahead = (c.args.count - 1) * c.args.stride in
     let place : first + ahead - 1 ≡ first - 1 + ahead = omega (arith, c.requires.low) in
     record {
-      folded = strided_last d a.items (two_of c.args.function) (first - 1) c.args.stride c.args.count c.requires.some
+      folded = strided_last d a.items (dyadic_on_items c.args.function) (first - 1) c.args.stride c.args.count c.requires.some
           ∙ ap Ok (sym (c.item-result.ensures.is ∙ ap (λ m. get_or a.items m d) place));
       below = omega (arith, c.requires.some);
       typed_last = λ h. c.item-result.ensures.typed;
@@ -43,7 +43,7 @@ pub returns-in_err-result-clause-is : goal.returns-in_err-result-clause-is
 returns-in_err-result-clause-is c =
     let a = c.args.array.now in
     let d = fill a.item_type in
-    let f = two_of c.args.function in
+    let f = dyadic_on_items c.args.function in
     let from = c.args.first - 1 in
     let before = c.loop-before.before in
     let e : before ≡ before - 1 + 1 = omega arith in
@@ -63,7 +63,7 @@ pub loop-before-preserved : goal.loop-before-preserved
 loop-before-preserved c =
     let a = c.args.array.now in
     let d = fill a.item_type in
-    let f = two_of c.args.function in
+    let f = dyadic_on_items c.args.function in
     let from = c.args.first - 1 in
     let before = c.loop-before.before in
     let e : before ≡ before - 1 + 1 = omega arith in
@@ -88,4 +88,4 @@ returns-clause-is c =
     let xs = strided d a.items from c.args.stride c.args.count in
     let long = length-strided d a.items from c.args.stride c.args.count in
     let none : c.loop-before.before ≡ 0 = omega arith in
-    sym (some_folded c.args.function xs (omega arith) ∙ subst (λ j. folded (two_of c.args.function) (drop j xs) ≡ Ok c.loop-before.result) none c.loop-before.invariant.folded)
+    sym (some_folded c.args.function xs (omega arith) ∙ subst (λ j. folded (dyadic_on_items c.args.function) (drop j xs) ≡ Ok c.loop-before.result) none c.loop-before.invariant.folded)

@@ -1,6 +1,6 @@
 use Rattle.std.proofs.Common.{◌≡◌, ◌∙◌, ◌+◌, ◌-◌, ap, sym, subst, arith, Ok, Err}
 use Rattle.arrays_core.specs.Items.{fill}
-use Rattle.scalar_fns.specs.Items.{two_of}
+use Rattle.scalar_fns.specs.Items.{dyadic_on_items}
 use Rattle.operator_fns.specs.RowByColumn.{entry, met, last_error_or}
 use Rattle.operator_fns.proofs.Errors.{passed_on}
 use Rattle.operator_fns.proofs.Meetings.{FoldedTo, length-met, met_at, take-met, folded_last, one_more, last_entry_failed, entry_failed, fold_failed}
@@ -8,25 +8,25 @@ use Rattle.operator_fns.proofs.row_by_column.fold_row_of_items.Goals as goal
 
 pub returns-in_err-result-clause-is : goal.returns-in_err-result-clause-is
 returns-in_err-result-clause-is c =
-    let each = two_of c.args.each in
+    let each = dyadic_on_items c.args.each in
     let row = entry (fill c.args.left.now.item_type) c.args.left.now.items c.args.row in
     let column = entry (fill c.args.right.now.item_type) c.args.right.now.items c.args.column in
     let n = c.args.count in
     let e = c.in_err-result.field-0.0 in
     let long = length-met each row column n in
     passed_on _ e c.from_residual.ensures
-    ∙ sym (last_entry_failed (two_of c.args.fold) (met each row column n) (n - 1) e (omega arith)
+    ∙ sym (last_entry_failed (dyadic_on_items c.args.fold) (met each row column n) (n - 1) e (omega arith)
     (met_at each row column n (n - 1) (Err e) (omega arith) ∙ sym c.in_err-result.ensures.is))
 
 pub loop-place-init : goal.loop-place-init
 loop-place-init c =
-    let each = two_of c.args.each in
+    let each = dyadic_on_items c.args.each in
     let row = entry (fill c.args.left.now.item_type) c.args.left.now.items c.args.row in
     let column = entry (fill c.args.right.now.item_type) c.args.right.now.items c.args.column in
     let n = c.args.count in
     let z = c.in_ok-result.result in
     let long = length-met each row column n in
-    let made = folded_last (two_of c.args.fold) (met each row column n) (n - 1) z (omega arith)
+    let made = folded_last (dyadic_on_items c.args.fold) (met each row column n) (n - 1) z (omega arith)
     (met_at each row column n (n - 1) (Ok z) (omega arith) ∙ sym c.in_ok-result.ensures.is) in
     record {
       folded = made;
@@ -36,8 +36,8 @@ loop-place-init c =
 
 pub returns-in_err-item-clause-is : goal.returns-in_err-item-clause-is
 returns-in_err-item-clause-is c =
-    let f = two_of c.args.fold in
-    let each = two_of c.args.each in
+    let f = dyadic_on_items c.args.fold in
+    let each = dyadic_on_items c.args.each in
     let row = entry (fill c.args.left.now.item_type) c.args.left.now.items c.args.row in
     let column = entry (fill c.args.right.now.item_type) c.args.right.now.items c.args.column in
     let n = c.args.count in
@@ -53,8 +53,8 @@ returns-in_err-item-clause-is c =
 
 pub returns-in-Err-clause-is : goal.returns-in-Err-clause-is
 returns-in-Err-clause-is c =
-    let f = two_of c.args.fold in
-    let each = two_of c.args.each in
+    let f = dyadic_on_items c.args.fold in
+    let each = dyadic_on_items c.args.each in
     let row = entry (fill c.args.left.now.item_type) c.args.left.now.items c.args.row in
     let column = entry (fill c.args.right.now.item_type) c.args.right.now.items c.args.column in
     let n = c.args.count in
@@ -72,8 +72,8 @@ returns-in-Err-clause-is c =
 
 pub loop-place-preserved : goal.loop-place-preserved
 loop-place-preserved c =
-    let f = two_of c.args.fold in
-    let each = two_of c.args.each in
+    let f = dyadic_on_items c.args.fold in
+    let each = dyadic_on_items c.args.each in
     let row = entry (fill c.args.left.now.item_type) c.args.left.now.items c.args.row in
     let column = entry (fill c.args.right.now.item_type) c.args.right.now.items c.args.column in
     let n = c.args.count in

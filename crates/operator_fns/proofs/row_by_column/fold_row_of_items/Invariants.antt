@@ -1,14 +1,14 @@
 use Rattle.std.proofs.Common.{◌≡◌, ◌+◌, ◌≤◌}
 use Rattle.arrays_core.specs.declared.item.ItemType.TheVariants.{Nums}
 use Rattle.arrays_core.specs.Items.{fill, type_of}
-use Rattle.scalar_fns.specs.Items.{two_of}
+use Rattle.scalar_fns.specs.Items.{dyadic_on_items}
 use Rattle.operator_fns.specs.RowByColumn.{entry, met}
 use Rattle.operator_fns.proofs.Meetings.{FoldedTo}
 use Rattle.operator_fns.proofs.row_by_column.fold_row_of_items.Given as goal
 
 abbrev pub invariant-loop-place : goal.invariant-loop-place
 invariant-loop-place l = record {
-  folded : FoldedTo (two_of l.fold) (met (two_of l.each) (entry (fill l.left.item_type) l.left.items l.row) (entry (fill l.right.item_type) l.right.items l.column) l.count) l.place l.result;
+  folded : FoldedTo (dyadic_on_items l.fold) (met (dyadic_on_items l.each) (entry (fill l.left.item_type) l.left.items l.row) (entry (fill l.right.item_type) l.right.items l.column) l.count) l.place l.result;
   below : l.place + 1 ≤ l.count;
   typed : type_of l.result ≡ Nums;
 }

@@ -1,13 +1,13 @@
 use Rattle.std.proofs.Common.{◌≡◌, ◌∙◌, ◌+◌, ◌-◌, ap, sym, arith}
 use Rattle.arrays_core.specs.Items.{fill}
-use Rattle.scalar_fns.specs.Items.{two_of}
+use Rattle.scalar_fns.specs.Items.{dyadic_on_items}
 use Rattle.operator_fns.specs.RowByColumn.{entry, met, last_error_or}
 use Rattle.operator_fns.proofs.Meetings.{fine_entry, failed_entry}
 use Rattle.operator_fns.proofs.row_by_column.item_error.Goals as goal
 
 pub returns-in-Err : goal.returns-in-Err
 returns-in-Err c =
-    let f = two_of c.args.each in
+    let f = dyadic_on_items c.args.each in
     let row = entry (fill c.args.left.now.item_type) c.args.left.now.items c.args.row in
     let column = entry (fill c.args.right.now.item_type) c.args.right.now.items c.args.column in
     let k = c.loop-place.place - 1 in
@@ -17,7 +17,7 @@ returns-in-Err c =
 
 pub loop-place-preserved : goal.loop-place-preserved
 loop-place-preserved c =
-    let f = two_of c.args.each in
+    let f = dyadic_on_items c.args.each in
     let row = entry (fill c.args.left.now.item_type) c.args.left.now.items c.args.row in
     let column = entry (fill c.args.right.now.item_type) c.args.right.now.items c.args.column in
     let k = c.loop-place.place - 1 in

@@ -1,7 +1,7 @@
 use Rattle.std.proofs.Common.{◌∙◌, ap, sym, Ok, Global}
 use Rattle.arrays_core.specs.declared.item.ItemType.TheVariants.{Nums}
 use Rattle.arrays_core.specs.Arrays.{with_items}
-use Rattle.scalar_fns.specs.NumberLists.{items_of}
+use Rattle.scalar_fns.specs.NumberLists.{number_items}
 use Rattle.operator_fns.specs.Strides.{folded}
 use Rattle.operator_fns.specs.LinearScan.{scanned}
 use Rattle.operator_fns.proofs.Errors.{array_fault}
@@ -22,5 +22,5 @@ returns g c =
     let zs = c.args.numbers.now in
     let shape = c.args.shape.now.items in
     scan_collected f zs c.args.stride c.args.count shape c.requires.long
-    ∙ ap (λ r. with_items Nums shape (items_of r)) c.in_ok-numbers.ensures.is
+    ∙ ap (λ r. with_items Nums shape (number_items r)) c.in_ok-numbers.ensures.is
     ∙ ap Ok (sym c.from_numbers.ensures)

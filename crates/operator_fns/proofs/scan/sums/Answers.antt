@@ -2,8 +2,8 @@ use Rattle.std.proofs.Common.{◌∙◌, ap, sym, Ok, Global}
 use Rattle.arrays_core.specs.declared.item.ItemType.TheVariants.{Nums}
 use Rattle.arrays_core.specs.Arrays.{with_items}
 use Rattle.scalar_fns.specs.declared.function.Scalar2.TheVariants.{Plus}
-use Rattle.scalar_fns.specs.Numbers.{of_two}
-use Rattle.scalar_fns.specs.NumberLists.{items_of}
+use Rattle.scalar_fns.specs.Numbers.{dyadic_on_numbers}
+use Rattle.scalar_fns.specs.NumberLists.{number_items}
 use Rattle.operator_fns.specs.Strides.{folded}
 use Rattle.operator_fns.specs.LinearScan.{scanned}
 use Rattle.operator_fns.proofs.Errors.{array_fault}
@@ -12,7 +12,7 @@ use Rattle.operator_fns.proofs.scan.sums.Goals as goal
 
 pub returns-in_err-numbers : goal.returns-in_err-numbers
 returns-in_err-numbers c =
-    let f = (of_two Plus) in
+    let f = (dyadic_on_numbers Plus) in
     let zs = c.args.numbers.now in
     let shape = c.args.shape.now.items in
     rw (scan_collected f zs c.args.stride c.args.count shape c.requires.long)
@@ -20,9 +20,9 @@ returns-in_err-numbers c =
 
 pub returns : goal.returns
 returns c =
-    let f = (of_two Plus) in
+    let f = (dyadic_on_numbers Plus) in
     let zs = c.args.numbers.now in
     let shape = c.args.shape.now.items in
     scan_collected f zs c.args.stride c.args.count shape c.requires.long
-    ∙ ap (λ r. with_items Nums shape (items_of r)) c.in_ok-numbers.ensures.is
+    ∙ ap (λ r. with_items Nums shape (number_items r)) c.in_ok-numbers.ensures.is
     ∙ ap Ok (sym c.from_numbers.ensures)

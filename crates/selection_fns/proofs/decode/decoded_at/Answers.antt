@@ -1,7 +1,7 @@
 use Rattle.std.proofs.Common.{◌≡◌, ◌+◌, ◌∙◌, ap, sym, map, Ok, Err, ◌+ℤ◌, ◌*ℤ◌, to_z, of_z, w64, SFits, rules}
 use Rattle.std.specs.List.{range_with_len}
 use Rattle.std.proofs.lemmas.Int.{to_z-of_z}
-use Rattle.scalar_fns.specs.Numbers.{held}
+use Rattle.scalar_fns.specs.Numbers.{number_or_limit}
 use Rattle.scalar_fns.specs.Items.{number_item}
 use Rattle.index_region.specs.Checks.{and_then}
 use Rattle.selection_fns.specs.Decode.{radix_at, digit_at, worth, decoded, decode_item}
@@ -32,7 +32,7 @@ loop-before-preserved c =
     let v = c.in_ok-value.value in
     let fits : SFits w64 v = search rules in
     let same : to_z w64 (of_z w64 v) ≡ v = to_z-of_z w64 _ fits in
-    let gave : Ok v ≡ and_then (held (c.loop-before.value *ℤ radix_at a (k + 1))) (λ product. held (product +ℤ digit_at b index (k + 1))) = rw c.loop-before.value-is at c.in_ok-value.ensures in
+    let gave : Ok v ≡ and_then (number_or_limit (c.loop-before.value *ℤ radix_at a (k + 1))) (λ product. number_or_limit (product +ℤ digit_at b index (k + 1))) = rw c.loop-before.value-is at c.in_ok-value.ensures in
     ap (λ z. worth z (behind f count (k + 1))) same
     ∙ sym (more ∙ ap (λ r. and_then r (λ next. worth next (behind f count (k + 1)))) (sym gave))
     ∙ so_far
@@ -48,7 +48,7 @@ returns-in_err-value c =
     let more = one_more_digit f count k c.loop-before.value c.loop-before-test.true in
     let so_far : worth c.loop-before.value (behind f count k) ≡ decoded (map f (range_with_len 1 count)) = rw c.loop-before.value-is at c.loop-before.invariant in
     let e = c.in_err-value.field-0.0 in
-    let gave : Err e ≡ and_then (held (c.loop-before.value *ℤ radix_at a (k + 1))) (λ product. held (product +ℤ digit_at b index (k + 1))) = rw c.loop-before.value-is at c.in_err-value.ensures in
+    let gave : Err e ≡ and_then (number_or_limit (c.loop-before.value *ℤ radix_at a (k + 1))) (λ product. number_or_limit (product +ℤ digit_at b index (k + 1))) = rw c.loop-before.value-is at c.in_err-value.ensures in
     let failed : decode_item a b index ≡ Err e =
     ap (λ n. number_item (decoded (map f (range_with_len 1 n)))) (sym c.count_digits-count.ensures)
     ∙ ap number_item (sym so_far ∙ more ∙ ap (λ r. and_then r (λ next. worth next (behind f count (k + 1)))) (sym gave)) in

@@ -1,6 +1,6 @@
 use Rattle.std.proofs.Common.{rules, refl, ◌≡◌, false, true}
 use Rattle.std.specs.List.{list_all}
-use Rattle.selection_fns.specs.Index.{positions_of, are_numbers, are_on}
+use Rattle.selection_fns.specs.Index.{written_positions, are_numbers, are_on}
 use Rattle.selection_fns.proofs.Indexed.{ranks_do_agree, ranks_do_not_agree}
 use Rattle.selection_fns.proofs.index.check_positions.Goals as goal
 
@@ -11,19 +11,19 @@ returns-then-written-axes-clause-failed c rest =
 pub returns-then-not-are_numbers-clause-failed : goal.returns-then-not-are_numbers-clause-failed
 returns-then-not-are_numbers-clause-failed c rest =
     let agree = ranks_do_agree c.args.array.now c.args.written.now c.args.positions.now c.requires.long (search rules) (search rules) in
-    let numbers : list_all are_numbers (positions_of c.args.written.now c.args.positions.now) ≡ false = search rules in
+    let numbers : list_all are_numbers (written_positions c.args.written.now c.args.positions.now) ≡ false = search rules in
     rw (agree, numbers) refl
 
 pub returns-then-not-are_on-clause-failed : goal.returns-then-not-are_on-clause-failed
 returns-then-not-are_on-clause-failed c rest =
     let agree = ranks_do_agree c.args.array.now c.args.written.now c.args.positions.now c.requires.long (search rules) (search rules) in
-    let numbers : list_all are_numbers (positions_of c.args.written.now c.args.positions.now) ≡ true = search rules in
-    let on : are_on c.args.array.now.shape (positions_of c.args.written.now c.args.positions.now) ≡ false = search rules in
+    let numbers : list_all are_numbers (written_positions c.args.written.now c.args.positions.now) ≡ true = search rules in
+    let on : are_on c.args.array.now.shape (written_positions c.args.written.now c.args.positions.now) ≡ false = search rules in
     rw (agree, numbers, on) refl
 
 pub returns-clause-passed : goal.returns-clause-passed
 returns-clause-passed c rest =
     let agree = ranks_do_agree c.args.array.now c.args.written.now c.args.positions.now c.requires.long (search rules) (search rules) in
-    let numbers : list_all are_numbers (positions_of c.args.written.now c.args.positions.now) ≡ true = search rules in
-    let on : are_on c.args.array.now.shape (positions_of c.args.written.now c.args.positions.now) ≡ true = search rules in
+    let numbers : list_all are_numbers (written_positions c.args.written.now c.args.positions.now) ≡ true = search rules in
+    let on : are_on c.args.array.now.shape (written_positions c.args.written.now c.args.positions.now) ≡ true = search rules in
     rw (agree, numbers, on) refl

@@ -1,7 +1,7 @@
 use Rattle.std.proofs.Common.{◌∙◌, List, [], ◌∷◌, ◌++◌, ℕ, ap, arith}
 use Rattle.dep_order.proofs.Climbing.{chain_join}
 use Rattle.sheet_recalc.specs.Names.{Refers}
-use Rattle.sheet_recalc.specs.ProposedSheet.{outlined}
+use Rattle.sheet_recalc.specs.ProposedSheet.{proposed_names}
 use Rattle.sheet_recalc.proofs.Cycles.{place_within}
 use Rattle.sheet_recalc.proofs.cycle.cycle_through.Goals as goal
 
@@ -11,13 +11,13 @@ loop-next-smaller c =
 
 pub loop-next-preserved : goal.loop-next-preserved
 loop-next-preserved c =
-    let o = c.args.outline.now in
+    let o = c.args.proposed.now in
     let now = c.loop-next.invariant.walked in
     record {
       walked = (
         now.0 ++ c.loop-next.next ∷ [],
         c.in_ok-push-2.ensures.items ∙ ap (λ (names : List (List ℕ)). names ++ c.loop-next.next ∷ []) now.1,
-        chain_join (Refers (outlined o)) o.name now.0 c.loop-next.next [] c.step_from-next.result now.2 c.step_from-next.ensures.refers,
+        chain_join (Refers (proposed_names o)) o.name now.0 c.loop-next.next [] c.step_from-next.result now.2 c.step_from-next.ensures.refers,
       );
       hit = c.step_from-next.ensures.hit;
     }

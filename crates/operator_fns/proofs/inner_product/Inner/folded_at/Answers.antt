@@ -1,6 +1,6 @@
 use Rattle.std.proofs.Common.{◌∙◌, ap, sym, take, drop, arith}
 use Rattle.arrays_core.specs.Items.{fill}
-use Rattle.scalar_fns.specs.Items.{two_of}
+use Rattle.scalar_fns.specs.Items.{dyadic_on_items}
 use Rattle.index_region.specs.Checks.{and_then}
 use Rattle.operator_fns.specs.InnerProduct.{row_rank, all_or_last_error}
 use Rattle.operator_fns.specs.RightFold.{fold_right}
@@ -40,10 +40,10 @@ returns-clause-is c =
     let count = c.inner_length-count.result in
     let left = entry (fill a.item_type) a.items c.row_line-row.result in
     let right = entry (fill b.item_type) b.items c.column_line-column.result in
-    let long = length-met (two_of c.args.self.each) left right count in
+    let long = length-met (dyadic_on_items c.args.self.each) left right count in
     let same = products_met c.args.self.each a b row column left right count c.inner_length-count.ensures
     (rw (c.split_at.ensures.front, c.row_rank.ensures) at c.row_line-row.ensures.is)
     (rw (c.split_at.ensures.back, c.row_rank.ensures) at c.column_line-column.ensures.is) in
     c.fold_row_of_items.ensures.is
     ∙ sym (ap (λ rs. and_then (all_or_last_error rs) (fold_right c.args.self.fold)) same
-    ∙ fold_of_some c.args.self.fold (met (two_of c.args.self.each) left right count) (omega arith))
+    ∙ fold_of_some c.args.self.fold (met (dyadic_on_items c.args.self.each) left right count) (omega arith))

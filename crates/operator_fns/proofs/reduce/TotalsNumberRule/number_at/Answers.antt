@@ -1,7 +1,7 @@
 use Rattle.std.proofs.Common.{◌≡◌, ◌∙◌, ◌+◌, ◌-◌, ◌*◌, ◌/◌, ◌%◌, ◌≤◌, ap, length, drop, take, pos, arith}
 use Rattle.std.proofs.lemmas.Nat.{div-add-mod', mod_below}
 use Rattle.scalar_fns.specs.declared.function.Scalar2.TheVariants.{Plus}
-use Rattle.scalar_fns.specs.Numbers.{of_two}
+use Rattle.scalar_fns.specs.Numbers.{dyadic_on_numbers}
 use Rattle.operator_fns.specs.Strides.{strided, folded, line_start}
 use Rattle.operator_fns.proofs.Folds.{strided_run}
 use Rattle.operator_fns.proofs.Reduced.{whole_line}
@@ -22,6 +22,6 @@ returns c =
     let e : first + n - first ≡ n = omega arith in
     let high : first + n ≤ length xs = whole_line p t.places n (length xs) c.requires t.whole in
     c.sum_list.ensures
-    ∙ ap (λ m. folded (of_two Plus) (take m (drop first xs))) e
-    ∙ ap (folded (of_two Plus)) (strided_run (pos 0) xs first n high)
-    ∙ ap (λ m. folded (of_two Plus) (strided (pos 0) xs m 1 n)) start
+    ∙ ap (λ m. folded (dyadic_on_numbers Plus) (take m (drop first xs))) e
+    ∙ ap (folded (dyadic_on_numbers Plus)) (strided_run (pos 0) xs first n high)
+    ∙ ap (λ m. folded (dyadic_on_numbers Plus) (strided (pos 0) xs m 1 n)) start

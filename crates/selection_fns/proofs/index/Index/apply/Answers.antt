@@ -3,7 +3,7 @@ use Rattle.arrays_core.specs.Items.{fill}
 use Rattle.arrays_core.specs.Arrays.{IsAnswerTo, ArrayValue}
 use Rattle.arrays_core.specs.declared.item.ItemType.{ItemType}
 use Rattle.index_region.specs.Arguments.{numbers}
-use Rattle.selection_fns.specs.Index.{Position, of_positions, index_form, index_item, index_whole}
+use Rattle.selection_fns.specs.Index.{Position, of_array_and_positions, index_form, index_item, index_whole}
 use Rattle.selection_fns.proofs.Indexed.{whole_of_positions}
 use Rattle.selection_fns.proofs.Vectors.{is_vector_index, picked_long, picked_whole}
 use Rattle.selection_fns.proofs.index.Index.apply.Goals as goal
@@ -42,7 +42,7 @@ returns-then-len-eq1 c =
     facts.form ∙ ap (λ (s : List ℕ). Ok (s, c.in_ok-shape.field-0-1)) facts.shaped ∙ ap (λ (t : ItemType). Ok (p.shape, t)) facts.typed in
     let whole = picked_whole (get_or a.shape 0 0) a p known.axes facts.on c.places_before.ensures.long plain in
     let before : c.as_slice.result.now ≡ map (λ z. unsigned_abs z - 1) (numbers p) = search rules in
-    ap (λ (xs : List ArrayValue). of_positions written index_whole xs) known.args_are ∙ ap (λ (ps : List Position). index_whole a ps) known.positions ∙ whole
+    ap (λ (xs : List ArrayValue). of_array_and_positions written index_whole xs) known.args_are ∙ ap (λ (ps : List Position). index_whole a ps) known.positions ∙ whole
     ∙ sym (ap (λ (r : ArrayValue). Ok r) c.in_ok-picked.ensures
     ∙ ap (λ (s : List ℕ). Ok (record { item_type = a.item_type; shape = s; items = map (λ k. get_or a.items k (fill a.item_type)) c.as_slice.result.now })) facts.shaped
     ∙ ap (λ (xs : List ℕ). Ok (record { item_type = a.item_type; shape = p.shape; items = map (λ k. get_or a.items k (fill a.item_type)) xs })) before)

@@ -1,7 +1,7 @@
 use Rattle.std.proofs.Common.{◌≡◌, Ok, ap, sym, ◌∙◌, subst}
 use Rattle.arrays_core.specs.Arrays.{IsAnswerTo}
 use Rattle.index_region.specs.Axes.{axis_at}
-use Rattle.index_region.specs.ArgumentLists.{of_two}
+use Rattle.index_region.specs.ArgumentLists.{of_two_arguments}
 use Rattle.index_region.proofs.Arguments.{whole_of_two}
 use Rattle.index_region.proofs.Passing.{two_arguments}
 use Rattle.structural_fns.specs.Catenate.{joined_rank, catenate_form, catenate_item, catenate_whole}
@@ -16,7 +16,7 @@ joined_runs-requires-clause-one_item_a_place c =
     let two = two_arguments c.args.args.now a b c.requires c.index-args-0.is c.index-args-1.is in
     let rank = c.joined_rank-rank.ensures.is in
     let first : axis_at (joined_rank a b) along ≡ 0 = sym (c.axis_at-axis.ensures.is ∙ ap (λ n. axis_at n along) rank) ∙ c.if-axis-eq0.true in
-    let form : catenate_form along a b ≡ Ok (c.in_ok-shape.shape.items, c.in_ok-shape.field-0-1) = ap (of_two (catenate_form along)) (sym two) ∙ c.in_ok-shape.ensures.0 in
+    let form : catenate_form along a b ≡ Ok (c.in_ok-shape.shape.items, c.in_ok-shape.field-0-1) = ap (of_two_arguments (catenate_form along)) (sym two) ∙ c.in_ok-shape.ensures.0 in
     (joined_runs along a b c.in_ok-shape.shape.items c.in_ok-shape.field-0-1 form first c.is_run.ensures.sound c.is_run-then-is_run.ensures.sound
     (λ h. sym rank ∙ c.is_run.ensures.is.0 c.if-is_run.true h) (λ h. sym rank ∙ c.is_run-then-is_run.ensures.is.0 c.if-is_run-2.true h)).as_many
 
@@ -28,8 +28,8 @@ returns-then-is_run-2 c =
     let two = two_arguments c.args.args.now a b c.requires c.index-args-0.is c.index-args-1.is in
     let rank = c.joined_rank-rank.ensures.is in
     let first : axis_at (joined_rank a b) along ≡ 0 = sym (c.axis_at-axis.ensures.is ∙ ap (λ n. axis_at n along) rank) ∙ c.if-axis-eq0.true in
-    let form : catenate_form along a b ≡ Ok (c.in_ok-shape.shape.items, c.in_ok-shape.field-0-1) = ap (of_two (catenate_form along)) (sym two) ∙ c.in_ok-shape.ensures.0 in
-    ap (of_two (catenate_whole along)) two
+    let form : catenate_form along a b ≡ Ok (c.in_ok-shape.shape.items, c.in_ok-shape.field-0-1) = ap (of_two_arguments (catenate_form along)) (sym two) ∙ c.in_ok-shape.ensures.0 in
+    ap (of_two_arguments (catenate_whole along)) two
     ∙ (joined_runs along a b c.in_ok-shape.shape.items c.in_ok-shape.field-0-1 form first c.is_run.ensures.sound c.is_run-then-is_run.ensures.sound
     (λ h. sym rank ∙ c.is_run.ensures.is.0 c.if-is_run.true h) (λ h. sym rank ∙ c.is_run-then-is_run.ensures.is.0 c.if-is_run-2.true h)).whole
     ∙ ap (λ w. Ok w) (sym c.in_ok-runs.ensures)

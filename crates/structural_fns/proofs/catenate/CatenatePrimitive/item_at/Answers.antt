@@ -1,5 +1,5 @@
 use Rattle.std.proofs.Common.{sym, subst, ◌∙◌}
-use Rattle.index_region.specs.ArgumentLists.{of_two}
+use Rattle.index_region.specs.ArgumentLists.{of_two_arguments}
 use Rattle.index_region.specs.Answers.{IsPlaceOf, HasTypeOf}
 use Rattle.index_region.proofs.Passing.{two_arguments}
 use Rattle.structural_fns.specs.Catenate.{catenate_form}
@@ -14,7 +14,7 @@ returns-then-arg-eq0-clause-typed c =
     let two = two_arguments c.args.args.now a b c.requires.count c.index-args-0.is c.index-args-1.is in
     let item = c.item_of_side.result in
     let typed = join_typed along a b item (c.item_of_side.ensures.typed ∙ c.joined_type-item_type.ensures) in
-    subst (λ args. HasTypeOf (of_two (catenate_form along) args) item) (sym two) typed
+    subst (λ args. HasTypeOf (of_two_arguments (catenate_form along) args) item) (sym two) typed
 
 pub item_of_side-requires-else-arg-eq0 : goal.item_of_side-requires-else-arg-eq0
 item_of_side-requires-else-arg-eq0 c =
@@ -23,7 +23,7 @@ item_of_side-requires-else-arg-eq0 c =
     let a = c.index-args-0.result in
     let b = c.index-args-1.result in
     let two = two_arguments c.args.args.now a b c.requires.count c.index-args-0.is c.index-args-1.is in
-    let place = subst (λ args. IsPlaceOf (of_two (catenate_form along) args) c.args.index.now) two c.requires.place in
+    let place = subst (λ args. IsPlaceOf (of_two_arguments (catenate_form along) args) c.args.index.now) two c.requires.place in
     right_typed a b (join_types along a b c.args.index.now place) some ∙ sym c.joined_type-item_type.ensures
 
 pub returns-in-Place-clause-typed : goal.returns-in-Place-clause-typed
@@ -34,4 +34,4 @@ returns-in-Place-clause-typed c =
     let two = two_arguments c.args.args.now a b c.requires.count c.index-args-0.is c.index-args-1.is in
     let item = c.item_of_side-else-arg-eq0.result in
     let typed = join_typed along a b item (c.item_of_side-else-arg-eq0.ensures.typed ∙ c.joined_type-item_type.ensures) in
-    subst (λ args. HasTypeOf (of_two (catenate_form along) args) item) (sym two) typed
+    subst (λ args. HasTypeOf (of_two_arguments (catenate_form along) args) item) (sym two) typed

@@ -1,5 +1,5 @@
 use Rattle.std.proofs.Common.{sym, subst, ◌∙◌}
-use Rattle.index_region.specs.ArgumentLists.{of_two}
+use Rattle.index_region.specs.ArgumentLists.{of_two_arguments}
 use Rattle.index_region.specs.Answers.{HasTypeOf}
 use Rattle.index_region.proofs.Passing.{two_arguments}
 use Rattle.structural_fns.specs.Rotate.{rotate_form}
@@ -14,4 +14,4 @@ returns-clause-typed c =
     let two = two_arguments c.args.args.now a b c.requires.count c.index-args-0.is c.index-args-1.is in
     let item = c.item_from.result in
     let typed = rotation_typed along a b item (c.item_from.ensures.typed ∙ c.item_type.ensures.is) in
-    subst (λ args. HasTypeOf (of_two (rotate_form along) args) item) (sym two) typed
+    subst (λ args. HasTypeOf (of_two_arguments (rotate_form along) args) item) (sym two) typed

@@ -1,8 +1,8 @@
 use Rattle.std.proofs.Common.{◌∙◌, sym, ap, Some, None}
 use Rattle.std.specs.Option.{option_map}
 use Rattle.sheet_recalc.specs.ProposedSheet.{bound}
-use Rattle.sheet_recalc.proofs.Outlines.{bound_own, bound_other}
-use Rattle.sheet_recalc.proofs.proposed_sheet.Outline.binding_of.Goals as goal
+use Rattle.sheet_recalc.proofs.Proposed.{bound_own, bound_other}
+use Rattle.sheet_recalc.proofs.proposed_sheet.ProposedSheet.binding_of.Goals as goal
 
 pub returns-then-eq : goal.returns-then-eq
 returns-then-eq c =

@@ -1,4 +1,5 @@
--- A tree is told by its words in postfix order.
+-- Trees as lists of numbers. A type that contracts see must be a set: two proofs that two of its values are equal are one. That is so of a
+-- type whose values can be written as numbers, and read again. A tree is written as its words in postfix order.
 use Rattle.std.specs.Prelude.{◌≡◌, ℕ, zero, suc, ℤ, pos, List, [], ◌∷◌, ◌++◌, get_or, ◌⊎◌, refl}
 use Rattle.std.proofs.Common.{sym, ◌∙◌, ap, inl, inr, append_assoc, append-nil}
 use Rattle.std.specs.Coded.{Coded, code_by, coded×, coded⊎, coded_list, coded_ℕ, coded_ℤ}
