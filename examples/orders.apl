@@ -1,0 +1,18 @@
+⍝ aplsheet table ORDERS orders.csv orders.apl --header
+⍝ A week's orders, as a spreadsheet saved them: a row a product, a column a day. The line above says how this sheet is run.
+)DATA PRICE←3 7 45             ⍝ euros a piece, a price a product
+PIECES←+/ORDERS                ⍝ a total for each product
+DAY←+⌿ORDERS                   ⍝ a total for each day
+VALUE←PRICE+.×ORDERS           ⍝ euros a day
+ORDERS
+PIECES
+DAY
+VALUE
+)ROW ORDERS 8 8 10 9 12        ⍝ a fourth product comes in,
+VALUE                          ⍝ which has no price yet
+)ROW PRICE 20
+VALUE
+ORDERS[3;2]←6                  ⍝ an order that was late
+TOTALS←(ORDERS,PIECES)⍪DAY,+/DAY
+TOTALS
+)CSV TOTALS                    ⍝ the table with its totals, for the spreadsheet
