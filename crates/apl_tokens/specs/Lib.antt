@@ -1,8 +1,10 @@
+-- What public contracts mean.
 pub mod Stored
 pub mod Lexemes
 pub mod Characters
 pub mod Scans
-pub mod Scanner
 pub mod Scanning
-pub mod Order
 pub mod Spans
+-- What proofs and bodies use.
+pub mod Scanner
+pub mod Order

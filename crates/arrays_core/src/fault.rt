@@ -10,14 +10,18 @@ use std::alloc::{AllocError, AllocFailed};
 /// An error in the place of an array, with the name in whose formula it arose.
 #[derive(Clone, Copy, PartialEq, Eq, Debug)]
 pub struct Fault {
+    /// What is wrong.
     pub kind: Kind,
+    /// The name in whose formula it arose; none where it arose in the line itself.
     pub origin: Option<Name>,
 }
 
 /// Why a function could not be applied.
 #[derive(Clone, Copy, PartialEq, Eq, Debug)]
 pub enum ApplyFault {
+    /// A check failed, or an item could not be worked out.
     Kind(Kind),
+    /// The allocator refused memory.
     NoMemory,
 }
 

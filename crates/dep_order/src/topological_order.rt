@@ -91,6 +91,7 @@ fn missing(graph: &Graph, placed: &[bool], node: usize) -> Option<usize>
     ensures left { IfSome result (IsLeft placed.now) }
     ensures points { IfSome result (Points graph.now node) }
 {
+    // The length brings the fact that each reference is to a node.
     let _in_range = graph.len();
     for next in graph.references(node) {
         if !placed[*next] {

@@ -28,6 +28,7 @@ pub fn affected<N: Eq + Hash + Copy>(
 {
     let mut found = IndexSet::new(alloc);
     climb(users, node, height, &mut found)?;
+    // The length brings the fact that no node was found twice.
     let _distinct = found.len();
     Ok(found)
 }

@@ -3,7 +3,7 @@ use Rattle.std.specs.Prelude.{ℕ, ◌-◌, pos, int_le, unsigned_abs, Bool, tru
 use Rattle.index_region.specs.declared.along.Along.{Along}
 use Rattle.index_region.specs.declared.along.Along.TheVariants.{First, Last, Axis}
 
--- there is such an axis among so many
+-- there is such an axis among as many as the rank says
 abbrev pub is_axis : ℕ → Along → Bool
 is_axis rank First = true
 is_axis rank Last = true

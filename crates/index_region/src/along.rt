@@ -6,13 +6,16 @@ ghost use Rattle.index_region.specs.Axes.{is_axis as has_axis, axis_at as axis_m
 /// The axis that a function works along: the first or the last, or one that is written, counted from 1.
 #[derive(Clone, Copy, PartialEq, Eq, Debug)]
 pub enum Along {
+    /// The first axis.
     First,
+    /// The last axis.
     Last,
+    /// The axis of this number, counted from 1, whether there is one or not.
     Axis(i64),
 }
 
 impl Along {
-    /// There is such an axis among so many; where there is not, the function is AXIS ERROR. An array
+    /// There is such an axis among `rank` axes; where there is not, the function is AXIS ERROR. An array
     /// without axes has a first and a last one for functions that leave it as it is.
     pub fn is_axis(self, rank: u32) -> bool
         ensures { result ≡ has_axis rank self }

@@ -13,7 +13,7 @@ use Rattle.arrays_core.specs.declared.item.ItemType.{ItemType}
 use Rattle.arrays_core.specs.declared.item.ItemType.TheVariants.{Nums, Chars}
 use Rattle.array_text.specs.Text.{line_end, item_number, array_text, fault_text}
 use Rattle.array_text.specs.Tables.{table_text}
-use Rattle.sheet_recalc.specs.Live.{SheetValue}
+use Rattle.sheet_recalc.specs.Names.{SheetValue}
 use Rattle.formula_core.specs.Meaning.{eval}
 use Rattle.sheet_recalc.specs.Names.{Binding, binding}
 use Rattle.sheet_recalc.specs.Meaning.{val}

@@ -1,5 +1,5 @@
 -- What lines are answered, one after the other.
-use Rattle.std.specs.Prelude.{◌≡◌, ℕ, Bool, true, false, List, [], ◌∷◌, ◌++◌, length, codes, count_by}
+use Rattle.std.specs.Prelude.{◌≡◌, ℕ, Bool, true, false, List, [], ◌∷◌, ◌++◌, length, codes, count_by, ◌⊎◌}
 use Rattle.sheet_cli.specs.Answer.{State, IsAnswer}
 
 -- a line is answered so, or where it is flagged it was refused memory and changed nothing
@@ -35,6 +35,10 @@ pub record StoppedAt (old : State) (lines : List (List ℕ)) (written : List ℕ
   pub unwritten : List ℕ
   pub last_answer : IsFlaggedAnswer flag state last (part ++ unwritten) new
   pub written_is : written ≡ whole ++ part
+
+-- the answers to some of the lines are carried out, and written but for a last part
+abbrev pub IsWrittenInPart : State → List (List ℕ) → List ℕ → State → Type 0
+IsWrittenInPart old lines written new = StoppedAt old lines written new ⊎ ((refused : ℕ) × Answered old lines refused written new)
 
 -- a line has one answer, and leads to one state
 abbrev pub EachLineHasOneAnswer : Type 0

@@ -1,8 +1,10 @@
+-- What public contracts mean.
 pub mod Lines
 pub mod Answer
 pub mod Answers
-pub mod Edits
-pub mod Progress
 pub mod Run
 pub mod Devices
 pub mod Endings
+-- What proofs and bodies use.
+pub mod Edits
+pub mod Progress

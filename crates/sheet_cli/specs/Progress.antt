@@ -1,8 +1,8 @@
 -- How far a run is between two bytes.
-use Rattle.std.specs.Prelude.{◌≡◌, ℕ, zero, suc, ◌+◌, Bool, true, false, List, [], ◌∷◌, ◌++◌, length, take, ◌⊎◌}
+use Rattle.std.specs.Prelude.{◌≡◌, ℕ, zero, suc, ◌+◌, Bool, true, false, List, [], ◌∷◌, ◌++◌, length, take}
 use Rattle.sheet_cli.specs.Lines.{strip_bom, ended_lines, last_line, lines_of}
 use Rattle.sheet_cli.specs.Answer.{State}
-use Rattle.sheet_cli.specs.Answers.{IsFlaggedAnswer, Answered, StoppedAt}
+use Rattle.sheet_cli.specs.Answers.{IsFlaggedAnswer, Answered, StoppedAt, IsWrittenInPart}
 use Rattle.sheet_cli.specs.declared.run_loop.Tally.{Tally}
 
 -- the lines, the first without a byte order mark
@@ -10,12 +10,12 @@ unfoldable pub first_stripped : List (List ℕ) → List (List ℕ)
 first_stripped [] = []
 first_stripped (line ∷ lines) = strip_bom line ∷ lines
 
--- the line that stands behind these, without a byte order mark where it is the first
+-- the line that stands after these, without a byte order mark where it is the first
 unfoldable pub next_stripped : List (List ℕ) → List ℕ → List ℕ
 next_stripped [] line = strip_bom line
 next_stripped (first ∷ lines) line = line
 
--- the line that is answered when so many lines are: the first loses a byte order mark
+-- the line that is answered when n lines are: the first loses a byte order mark
 abbrev pub line_after : ℕ → List ℕ → List ℕ
 line_after zero line = strip_bom line
 line_after (suc n) line = line
@@ -62,10 +62,6 @@ pub record FinishesAll (old : State) (input text : List ℕ) (tally : Tally) (ne
 -- the end of the input leads on from here to the end of the run, writing the text
 abbrev pub Finishes : Standing → List ℕ → Tally → State → Type 0
 Finishes here text tally new = (old : State) (input before : List ℕ) → IsMidway old input here before → FinishesAll old input (before ++ text) tally new
-
--- the answers to some of the lines are carried out, and written but for a last part
-abbrev pub IsWrittenInPart : State → List (List ℕ) → List ℕ → State → Type 0
-IsWrittenInPart old lines written new = StoppedAt old lines written new ⊎ ((refused : ℕ) × Answered old lines refused written new)
 
 -- at the end of the input a part is written
 abbrev pub StopsAtEnd : Standing → List ℕ → State → Type 0

@@ -3,8 +3,7 @@ use Rattle.std.specs.Prelude.{◌≡◌, ℕ, ◌-◌, ◌^◌, Bool, true, List
 use Rattle.std.specs.Io.KnownBytes.{Appends, Consumes, IsAtEnd}
 use Rattle.sheet_cli.specs.Lines.{lines_of, whole_lines_of}
 use Rattle.sheet_cli.specs.Answer.{State}
-use Rattle.sheet_cli.specs.Answers.{Answered, IsOnlyAnswer}
-use Rattle.sheet_cli.specs.Progress.{IsWrittenInPart}
+use Rattle.sheet_cli.specs.Answers.{IsWrittenInPart, Answered, IsOnlyAnswer}
 use Rattle.sheet_cli.specs.declared.run_loop.Tally.{Tally}
 
 -- the whole input was read, and its lines answered

@@ -14,15 +14,20 @@ use std::alloc::{AllocError, Global};
 /// What a run counted.
 #[derive(Clone, Copy, Debug, PartialEq, Eq)]
 pub struct Tally {
+    /// The lines that were answered.
     pub lines: u64,
+    /// Those of them that were answered `NO MEMORY`.
     pub refused_for_memory: u64,
 }
 
 /// Why a run ended early.
 #[derive(Clone, Copy, Debug, PartialEq, Eq)]
 pub enum RunFault {
+    /// The source failed, or gave more bytes than can be counted.
     Read,
+    /// The sink failed.
     Write,
+    /// The buffer for lines was refused. Nothing was read or written.
     Memory,
 }
 

@@ -1,11 +1,13 @@
+-- What public contracts mean.
 pub mod Names
 pub mod Meaning
 pub mod Cells
 pub mod Rows
+pub mod Changes
+pub mod History
+-- What proofs and bodies use.
 pub mod Entries
 pub mod ProposedSheet
 pub mod NameOrder
-pub mod Changes
-pub mod Codes
 pub mod Live
-pub mod History
+pub mod Codes

@@ -11,10 +11,6 @@ use Rattle.dep_order.specs.Users.{Uses, HasNoEmptyBut}
 use Rattle.sheet_recalc.specs.Entries.{names_of, entry_outcome}
 use Rattle.sheet_recalc.specs.declared.entry.Entry.{Entry}
 
--- a sheet: the list of its names
-pub record SheetValue : Type 0 where
-  pub names : Names
-
 -- each entry shows what its name shows from scratch
 abbrev pub IsCurrent : List (List ℕ × Entry) → Type 0
 IsCurrent entries = (q : List ℕ) (e : Entry) → lookup (bytes_eq q) entries ≡ Some e → entry_outcome e ≡ val (names_of entries) q

@@ -61,6 +61,7 @@ pub(crate) fn commit_removal(
     ensures used { HasNoEmptyBut bytes_eq users.new.entries [] }
 {
     refer(users, name, references_of(entries, name), &[]);
+    // The length brings the fact that no two names are equal, so that one entry is all that goes.
     let _unique = entries.len();
     let _removed = entries.shift_remove(&name);
     adopt_all(entries, results);

@@ -32,6 +32,7 @@ pub(crate) fn results_of(
     requires standing { (q : List ℕ) → (Contains left.keys q → ⊥) → standing proposed.now.entries.now.entries proposed.now.name (shown_by proposed.now.binding) q ≡ val (proposed_names proposed.now) q }
     ensures { IfOk result (λ results. IsPlanned proposed.now.entries.now.entries proposed.now.name (shown_by proposed.now.binding) (proposed_names proposed.now) results.entries) }
 {
+    // The length brings the fact that no name stands here twice.
     let _unique = left.len();
     let mut results = IndexMap::new(alloc);
     while let Some(name) = left.pop() {

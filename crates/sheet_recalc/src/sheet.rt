@@ -46,7 +46,7 @@ pub struct Sheet {
 }
 
 impl Model for Sheet {
-    ghost use Rattle.sheet_recalc.specs.Live.{SheetValue};
+    ghost use Rattle.sheet_recalc.specs.Names.{SheetValue};
 
     ghost Value = { SheetValue };
 

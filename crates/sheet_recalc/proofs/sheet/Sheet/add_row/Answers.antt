@@ -1,7 +1,7 @@
 use Rattle.std.proofs.Common.{◌≡◌, subst, Ok}
 use Rattle.sheet_recalc.specs.Names.{binding}
 use Rattle.sheet_recalc.specs.Rows.{row_put}
-use Rattle.sheet_recalc.specs.Live.{SheetValue}
+use Rattle.sheet_recalc.specs.Names.{SheetValue}
 use Rattle.std.proofs.lemmas.Result.{IfErr-weaker}
 use Rattle.apl_expr.specs.Trees.{constant_of}
 use Rattle.sheet_recalc.proofs.Refused.{refused_row}

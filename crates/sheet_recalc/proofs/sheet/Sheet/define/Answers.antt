@@ -7,7 +7,8 @@ use Rattle.apl_expr.specs.Trees.{Tree, tree_of}
 use Rattle.sheet_recalc.specs.Names.{Names, Formula, Refers, put}
 use Rattle.sheet_recalc.proofs.Rebound.{live_after, live_same}
 use Rattle.sheet_recalc.specs.Entries.{names_of}
-use Rattle.sheet_recalc.specs.Live.{SheetValue, IsTable}
+use Rattle.sheet_recalc.specs.Live.{IsTable}
+use Rattle.sheet_recalc.specs.Names.{SheetValue}
 use Rattle.sheet_recalc.specs.Changes.{Refuses, CannotPut, Define, HasRoom}
 use Rattle.sheet_recalc.specs.declared.entry.Entry.{Entry}
 use Rattle.sheet_recalc.proofs.NameEquality.{equal-true}

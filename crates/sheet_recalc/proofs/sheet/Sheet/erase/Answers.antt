@@ -1,7 +1,7 @@
 use Rattle.std.proofs.Common.{◌≡◌, ◌∙◌, ap, sym, subst, None, IsSome}
 use Rattle.sheet_recalc.specs.Names.{binding, without}
 use Rattle.sheet_recalc.specs.Entries.{names_of}
-use Rattle.sheet_recalc.specs.Live.{SheetValue}
+use Rattle.sheet_recalc.specs.Names.{SheetValue}
 use Rattle.sheet_recalc.proofs.Live.{present_name, absent_name}
 use Rattle.sheet_recalc.proofs.Rebound.{live_after}
 use Rattle.sheet_recalc.proofs.sheet.Sheet.erase.Goals as goal

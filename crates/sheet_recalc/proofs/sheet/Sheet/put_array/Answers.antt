@@ -5,7 +5,8 @@ use Rattle.sheet_recalc.specs.Entries.{names_of}
 use Rattle.sheet_recalc.specs.declared.entry.Entry.{Entry}
 use Rattle.sheet_recalc.proofs.Rebound.{live_after}
 use Rattle.sheet_recalc.proofs.Refused.{refused_put}
-use Rattle.sheet_recalc.specs.Live.{SheetValue, IsTable}
+use Rattle.sheet_recalc.specs.Live.{IsTable}
+use Rattle.sheet_recalc.specs.Names.{SheetValue}
 use Rattle.sheet_recalc.specs.Changes.{Refuses, Put}
 use Rattle.sheet_recalc.proofs.sheet.Sheet.put_array.Goals as goal
 

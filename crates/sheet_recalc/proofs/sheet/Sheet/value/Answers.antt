@@ -1,7 +1,7 @@
 use Rattle.std.proofs.Common.{◌∙◌, ap, Some, None, is_some, if◌then◌else◌}
 use Rattle.sheet_recalc.specs.Names.{binding}
 use Rattle.sheet_recalc.specs.Meaning.{val}
-use Rattle.sheet_recalc.specs.Live.{SheetValue}
+use Rattle.sheet_recalc.specs.Names.{SheetValue}
 use Rattle.sheet_recalc.proofs.Live.{value_is}
 use Rattle.sheet_recalc.proofs.sheet.Sheet.value.Goals as goal
 
