@@ -1,5 +1,5 @@
 -- Results whose items are a run of those of an argument.
-use Rattle.std.proofs.Common.{◌≡◌, ℕ, ◌+◌, ◌-◌, ◌/◌, ◌%◌, ◌<◌, ◌≤◌, List, [], ◌∷◌, take, drop, length, get_or, Some, None, Result, Ok, Err, Bool, true, false, cond, refl, sym, ap, subst, ◌∙◌, arith}
+use Rattle.std.proofs.Common.{◌≡◌, ℕ, ◌+◌, ◌-◌, ◌/◌, ◌%◌, ◌<◌, ◌≤◌, List, [], ◌∷◌, map, take, drop, length, get_or, Some, None, Result, Ok, Err, Bool, true, false, cond, refl, sym, ap, subst, ◌∙◌, arith}
 use Rattle.std.specs.Prelude.{unwrap_or, not, nat_eq, ◌&&◌}
 use Rattle.std.proofs.lemmas.Bool.Decides.{nat_tests}
 use Rattle.std.proofs.Math.Nat.{div-one, mod-eq_of_lt}
@@ -8,14 +8,14 @@ use Rattle.arrays_core.specs.declared.item.Item.{Item}
 use Rattle.arrays_core.specs.declared.item.ItemType.{ItemType}
 use Rattle.arrays_core.specs.declared.item.Kind.{Kind}
 use Rattle.arrays_core.specs.declared.item.Kind.TheVariants.{Rank, Domain, Limit}
-use Rattle.arrays_core.specs.Items.{fill}
-use Rattle.arrays_core.specs.Shapes.{size, index_after, places_before}
+use Rattle.arrays_core.specs.Items.{fill, all_or_first_error}
+use Rattle.arrays_core.specs.Shapes.{size, indices, index_after, places_before}
 use Rattle.arrays_core.specs.Arrays.{ArrayValue, item_if_there, collect, with_items}
 use Rattle.index_region.specs.Checks.{Form, check, limited, is_within_limits, and_then}
-use Rattle.index_region.specs.Arguments.{is_list, counts_as_numbers, none_negative, numbers}
+use Rattle.index_region.specs.Arguments.{is_list, has_items, counts_as_numbers, none_negative, numbers}
 use Rattle.index_region.specs.ArgumentLists.{of_one_argument, of_two_arguments}
 use Rattle.index_region.specs.Sources.{item_from}
-use Rattle.structural_fns.specs.Reshape.{magnitudes, reshape_form, reshape_item, reshape_whole}
+use Rattle.structural_fns.specs.Reshape.{magnitudes, reshape_form, reshape_source, reshape_item, reshape_whole}
 use Rattle.structural_fns.specs.Ravel.{ravel_item, ravel_whole}
 use Rattle.arrays_core.proofs.Order.{given_in_order, index_after-within, places_before-index_after}
 
@@ -127,3 +127,52 @@ reshape_answer (a ∷ c ∷ []) b v shape item_type two same passed as_many few 
     let form : reshape_form a b ≡ Ok (magnitudes a, b.item_type) = here ∙ ap (λ xs. Ok (xs, item_type)) shaped ∙ ap (λ t. Ok (magnitudes a, t)) parts.1 in
     ap (λ x. reshape_whole a x) (sym same) ∙ reshaped a b as_many fits form
     ∙ ap (λ xs. Ok (record { item_type = b.item_type; shape = xs; items = take (size xs) (drop 0 b.items) })) (sym shaped) ∙ ap (λ w. Ok w) (sym made)
+
+-- what is known where the checks of reshape have passed
+pub record ReshapePassed (a b : ArrayValue) (shape : List ℕ) (item_type : ItemType) : Type 0 where
+  pub form : reshape_form a b ≡ Ok (shape, item_type)
+  pub shaped : shape ≡ magnitudes a
+  pub typed : item_type ≡ b.item_type
+
+reshape_passed : (a b : ArrayValue) (shape : List ℕ) (item_type : ItemType) → reshape_form a b ≡ Ok (shape, item_type) → ReshapePassed a b shape item_type
+reshape_passed a b shape item_type form =
+    let listed = check_passed (is_list a) Rank _ (shape, item_type) form in
+    let parts = limited_is (check_passed (counts_as_numbers a && none_negative (numbers a)) Domain (limited (magnitudes a) b.item_type) (shape, item_type) listed) in
+    record { form = form; shaped = parts.0; typed = parts.1 }
+
+pub reshape_typed : (args : List ArrayValue) (b : ArrayValue) (shape : List ℕ) (item_type : ItemType)
+    → length args ≡ 2 → b ≡ get_or args 1 b → of_two_arguments reshape_form args ≡ Ok (shape, item_type) → item_type ≡ b.item_type
+reshape_typed [] b shape item_type two same form = absurd (omega arith)
+reshape_typed (a ∷ []) b shape item_type two same form = absurd (omega arith)
+reshape_typed (a ∷ c ∷ d ∷ args) b shape item_type two same form = absurd (omega arith)
+reshape_typed (a ∷ c ∷ []) b shape item_type two same form =
+    (reshape_passed a c shape item_type form).typed ∙ ap (λ (x : ArrayValue). x.item_type) (sym same)
+
+-- the items come from b alone, whatever the left argument is
+from_right : (a b : ArrayValue) (item_type : ItemType) (shape index : List ℕ)
+    → item_from b b item_type (reshape_source shape b index) ≡ item_from a b item_type (reshape_source shape b index)
+from_right a b item_type shape index = decide (has_items b)
+  where
+    decide : (some : Bool) → item_from b b item_type (cond some (Some (1, index_after b.shape (places_before shape index % size b.shape))) None)
+        ≡ item_from a b item_type (cond some (Some (1, index_after b.shape (places_before shape index % size b.shape))) None)
+    decide true = refl
+    decide false = refl
+
+same_rules : {A : Type 0} (rule other : List ℕ → A) (xs : List (List ℕ)) → ((x : List ℕ) → rule x ≡ other x) → map rule xs ≡ map other xs
+same_rules rule other [] h = refl
+same_rules rule other (x ∷ xs) h = ap (λ y. y ∷ map rule xs) (h x) ∙ ap (λ ys. other x ∷ ys) (same_rules rule other xs h)
+
+-- the whole from the shape that the checks gave
+pub reshape_collected : (args : List ArrayValue) (b : ArrayValue) (shape : List ℕ) (item_type : ItemType)
+    → length args ≡ 2 → b ≡ get_or args 1 b → of_two_arguments reshape_form args ≡ Ok (shape, item_type)
+    → collect item_type shape (λ index. item_from b b b.item_type (reshape_source shape b index)) ≡ of_two_arguments reshape_whole args
+reshape_collected [] b shape item_type two same form = absurd (omega arith)
+reshape_collected (a ∷ []) b shape item_type two same form = absurd (omega arith)
+reshape_collected (a ∷ c ∷ d ∷ args) b shape item_type two same form = absurd (omega arith)
+reshape_collected (a ∷ c ∷ []) b shape item_type two same form =
+    let passed = reshape_passed a c shape item_type form in
+    ap (λ x. collect item_type shape (λ index. item_from x x x.item_type (reshape_source shape x index))) same
+    ∙ ap (λ rs. with_items item_type shape (all_or_first_error rs))
+    (same_rules (λ index. item_from c c c.item_type (reshape_source shape c index)) (reshape_item a c) (indices shape) (λ index.
+    from_right a c c.item_type shape index ∙ ap (λ asked. item_from a c c.item_type (reshape_source asked c index)) passed.shaped))
+    ∙ sym (ap (λ r. and_then r (λ f. collect f.1 f.0 (reshape_item a c))) form)

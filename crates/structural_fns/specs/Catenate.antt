@@ -23,10 +23,12 @@ joined_places rank axis a = if nat_eq (length a.shape) rank then get_or a.shape 
 abbrev pub other_axes : ℕ → ℕ → ArrayValue → List ℕ
 other_axes rank axis a = if nat_eq (length a.shape) rank then remove a.shape axis else a.shape
 
+-- a scalar joins any array; else the ranks differ by at most 1
 abbrev pub ranks_join : ArrayValue → ArrayValue → Bool
 ranks_join a b =
     (is_scalar a || is_scalar b) || (nat_le (length a.shape) (suc (length b.shape)) && nat_le (length b.shape) (suc (length a.shape)))
 
+-- a scalar is repeated over the other axes; else these are the same
 abbrev pub axes_agree : ℕ → ℕ → ArrayValue → ArrayValue → Bool
 axes_agree rank axis a b = (is_scalar a || is_scalar b) || bytes_eq (other_axes rank axis a) (other_axes rank axis b)
 
@@ -40,6 +42,7 @@ types_join a b =
 abbrev pub joined_type : ArrayValue → ArrayValue → ItemType
 joined_type a b = if not (has_items a) && has_items b then b.item_type else a.item_type
 
+-- the other axes, with the places of both sides along the axis
 abbrev pub joined_shape : ℕ → ℕ → ArrayValue → ArrayValue → List ℕ
 joined_shape rank axis a b =
     insert (other_axes rank axis (if is_scalar a then b else a)) axis (joined_places rank axis a + joined_places rank axis b)
@@ -51,6 +54,7 @@ sides_checked rank axis a b rest =
     (check (axes_agree rank axis a b) Length
     (check (types_join a b) Domain rest))
 
+-- the checks, and the shape and the type of the result
 abbrev pub catenate_form : Along → ArrayValue → ArrayValue → Result Form Kind
 catenate_form along a b =
     let rank = joined_rank a b in
@@ -73,8 +77,10 @@ catenate_source along a b index =
     let m = joined_places rank axis a in
     if nat_le i m then Some (0, in_side rank axis a index i) else Some (1, in_side rank axis b index (i - m))
 
+-- the item at an index list
 abbrev pub catenate_item : Along → ArrayValue → ArrayValue → List ℕ → Result Item Kind
 catenate_item along a b index = item_from a b (joined_type a b) (catenate_source along a b index)
 
+-- the whole result
 abbrev pub catenate_whole : Along → ArrayValue → ArrayValue → Result ArrayValue Kind
 catenate_whole along a b = whole (catenate_form along a b) (catenate_item along a b)

@@ -1,5 +1,5 @@
 -- Dyadic transpose, A⍉B: axis i of b goes to axis A[i].
-use Rattle.std.specs.Prelude.{ℕ, ◌-◌, max, min, nat_eq, ℤ, pos, int_le, unsigned_abs, Bool, ◌&&◌, List, [], ◌∷◌, map, length, get_or, zip, Option, Some, None, Result}
+use Rattle.std.specs.Prelude.{ℕ, ◌-◌, max, min, nat_eq, ℤ, pos, int_le, unsigned_abs, Bool, ◌&&◌, List, [], ◌∷◌, map, length, get_or, zip, Some, Result}
 use Rattle.std.specs.List.{filter, list_all, list_any, range_with_len}
 use Rattle.arrays_core.specs.declared.item.Item.{Item}
 use Rattle.arrays_core.specs.declared.item.Kind.{Kind}
@@ -13,18 +13,22 @@ use Rattle.index_region.specs.Sources.{Source, item_from}
 abbrev pub axes_to : ArrayValue → List ℕ
 axes_to a = map unsigned_abs (numbers a)
 
+-- the greatest of a list; 0 of none
 abbrev pub greatest : List ℕ → ℕ
 greatest [] = 0
 greatest (n ∷ rest) = max n (greatest rest)
 
+-- the least of a list; 0 of none
 abbrev pub least : List ℕ → ℕ
 least [] = 0
 least (n ∷ []) = n
 least (n ∷ m ∷ rest) = min n (least (m ∷ rest))
 
+-- none is below 1
 abbrev pub all_positive : List ℤ → Bool
 all_positive zs = list_all (λ z. int_le (pos 1) z) zs
 
+-- an axis of b goes to axis j
 abbrev pub occurs : List ℕ → ℕ → Bool
 occurs axes j = list_any (λ k. nat_eq k j) axes
 
@@ -42,6 +46,7 @@ lengths_at axes shape j = map (λ p. p.1) (filter (λ p. nat_eq p.0 j) (zip axes
 abbrev pub transposed_shape : List ℕ → List ℕ → List ℕ
 transposed_shape axes shape = map (λ j. least (lengths_at axes shape j)) (range_with_len 1 (greatest axes))
 
+-- the checks, and the shape and the type of the result
 abbrev pub transpose_by_form : ArrayValue → ArrayValue → Result Form Kind
 transpose_by_form a b =
     check (is_list a) Rank
@@ -49,20 +54,18 @@ transpose_by_form a b =
     (check (counts_as_numbers a && are_axes (numbers a)) Domain
     (limited (transposed_shape (axes_to a) b.shape) b.item_type)))
 
--- the least of the lengths, with the least of those before them where there were any
-abbrev pub least_with : Option ℕ → List ℕ → ℕ
-least_with None lengths = least lengths
-least_with (Some n) lengths = least (n ∷ lengths)
-
 -- all axes that go to one take its index
 abbrev pub gathered : List ℕ → List ℕ → List ℕ
 gathered axes index = map (λ j. get_or index (j - 1) 0) axes
 
+-- where the item at an index list comes from
 abbrev pub transpose_by_source : ArrayValue → ArrayValue → List ℕ → Source
 transpose_by_source a b index = Some (1, gathered (axes_to a) index)
 
+-- the item at an index list
 abbrev pub transpose_by_item : ArrayValue → ArrayValue → List ℕ → Result Item Kind
 transpose_by_item a b index = item_from a b b.item_type (transpose_by_source a b index)
 
+-- the whole result
 abbrev pub transpose_by_whole : ArrayValue → ArrayValue → Result ArrayValue Kind
 transpose_by_whole a b = whole (transpose_by_form a b) (transpose_by_item a b)

@@ -1,10 +1,13 @@
-pub mod Reverse
-pub mod Rotate
+-- What public contracts mean.
+pub mod AxisCounts
 pub mod Reshape
 pub mod Ravel
-pub mod Transpose
-pub mod DyadicTranspose
-pub mod AxisCounts
 pub mod Take
 pub mod Drop
 pub mod Catenate
+pub mod Reverse
+pub mod Rotate
+pub mod Transpose
+pub mod DyadicTranspose
+-- What proofs and bodies use.
+pub mod LeastLength

@@ -13,6 +13,7 @@ use Rattle.index_region.specs.Sources.{Source, item_from}
 abbrev pub magnitudes : ArrayValue → List ℕ
 magnitudes a = map unsigned_abs (numbers a)
 
+-- the checks, and the shape and the type of the result
 abbrev pub reshape_form : ArrayValue → ArrayValue → Result Form Kind
 reshape_form a b =
     check (is_list a) Rank
@@ -24,8 +25,10 @@ abbrev pub reshape_source : List ℕ → ArrayValue → List ℕ → Source
 reshape_source shape b index =
     if has_items b then Some (1, index_after b.shape (places_before shape index % size b.shape)) else None
 
+-- the item at an index list
 abbrev pub reshape_item : ArrayValue → ArrayValue → List ℕ → Result Item Kind
 reshape_item a b index = item_from a b b.item_type (reshape_source (magnitudes a) b index)
 
+-- the whole result
 abbrev pub reshape_whole : ArrayValue → ArrayValue → Result ArrayValue Kind
 reshape_whole a b = whole (reshape_form a b) (reshape_item a b)

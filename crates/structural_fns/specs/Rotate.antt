@@ -18,6 +18,7 @@ lines_checked axis a shape rest =
     check (has_one_item a || nat_eq (suc (length a.shape)) (length shape)) Rank
     (check (has_one_item a || bytes_eq a.shape (remove shape axis)) Length rest)
 
+-- the checks, and the shape and the type of the result
 abbrev pub rotate_form : Along → ArrayValue → ArrayValue → Result Form Kind
 rotate_form along a b =
     let axis = axis_at (length b.shape) along in
@@ -34,13 +35,16 @@ rotation axis a index = number_of (extended a (remove index axis))
 abbrev pub rotated_place : ℕ → ℤ → ℕ → ℕ
 rotated_place n amount i = suc (unsigned_abs (residue (pos n) ((pos i +ℤ amount) -ℤ pos 1)))
 
+-- where the item at an index list comes from
 abbrev pub rotate_source : Along → ArrayValue → ArrayValue → List ℕ → Source
 rotate_source along a b index =
     let axis = axis_at (length b.shape) along in
     Some (1, set index axis (rotated_place (places_along b.shape axis) (rotation axis a index) (get_or index axis 1)))
 
+-- the item at an index list
 abbrev pub rotate_item : Along → ArrayValue → ArrayValue → List ℕ → Result Item Kind
 rotate_item along a b index = item_from a b b.item_type (rotate_source along a b index)
 
+-- the whole result
 abbrev pub rotate_whole : Along → ArrayValue → ArrayValue → Result ArrayValue Kind
 rotate_whole along a b = whole (rotate_form along a b) (rotate_item along a b)

@@ -10,26 +10,31 @@ use Rattle.index_region.specs.Sources.{Source, item_from}
 use Rattle.structural_fns.specs.Reshape.{magnitudes}
 use Rattle.structural_fns.specs.AxisCounts.{counted_shape, uncounted, counted_form}
 
+-- the checks, and the shape and the type of the result
 abbrev pub take_form : ArrayValue → ArrayValue → Result Form Kind
 take_form a b = counted_form (magnitudes a) a b
 
 -- where place i of a taken axis stands on an axis of n places: a positive count keeps the first places, a
--- negative one the last. 0, and what is beyond n, is no place
+-- negative one the last. 0, and what lies after n, is no place
 abbrev pub taken_place : ℕ → ℤ → ℕ → ℕ
 taken_place n (pos count) i = i
 taken_place n (negsuc count) i = i + n - suc count
 
+-- the same for each axis
 abbrev pub taken_places : List ℕ → List ℤ → List ℕ → List ℕ
 taken_places (n ∷ shape) (count ∷ counts) (i ∷ index) = taken_place n count i ∷ taken_places shape counts index
 taken_places shape counts index = []
 
+-- where the item at an index list comes from
 abbrev pub take_source : ArrayValue → ArrayValue → List ℕ → Source
 take_source a b index =
     let place = taken_places (counted_shape a b) (numbers a) index in
     if is_index_of (counted_shape a b) place then Some (1, uncounted b place) else None
 
+-- the item at an index list
 abbrev pub take_item : ArrayValue → ArrayValue → List ℕ → Result Item Kind
 take_item a b index = item_from a b b.item_type (take_source a b index)
 
+-- the whole result
 abbrev pub take_whole : ArrayValue → ArrayValue → Result ArrayValue Kind
 take_whole a b = whole (take_form a b) (take_item a b)

@@ -6,14 +6,18 @@ use Rattle.arrays_core.specs.Arrays.{ArrayValue}
 use Rattle.index_region.specs.Checks.{Form, limited, whole}
 use Rattle.index_region.specs.Sources.{Source, item_from}
 
+-- the checks, and the shape and the type of the result
 abbrev pub transpose_form : ArrayValue → Result Form Kind
 transpose_form b = limited (reverse b.shape) b.item_type
 
+-- where the item at an index list comes from
 abbrev pub transpose_source : ArrayValue → List ℕ → Source
 transpose_source b index = Some (0, reverse index)
 
+-- the item at an index list
 abbrev pub transpose_item : ArrayValue → List ℕ → Result Item Kind
 transpose_item b index = item_from b b b.item_type (transpose_source b index)
 
+-- the whole result
 abbrev pub transpose_whole : ArrayValue → Result ArrayValue Kind
 transpose_whole b = whole (transpose_form b) (transpose_item b)

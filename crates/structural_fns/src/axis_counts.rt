@@ -9,7 +9,7 @@ use index_region::Seen;
 
 /// The checks of the counts: RANK where they are neither a scalar nor a vector, LENGTH where they are
 /// not as many as the axes (a scalar takes any), DOMAIN where they are not numbers.
-pub(crate) fn check_counts(counts: &Seen, array: &Seen) -> Result<(), Kind>
+pub(crate) fn check_axis_counts(counts: &Seen, array: &Seen) -> Result<(), Kind>
     ensures passed { IfOk result (λ _. (shape : List ℕ) → counted_form shape counts.now array.now ≡ limited shape array.now.item_type) }
     ensures failed { IfErr result (λ kind. (shape : List ℕ) → counted_form shape counts.now array.now ≡ Err kind) }
     ensures long { IfOk result (λ _. length counts.now.items ≡ length (shape_counted counts.now array.now)) }

@@ -1,12 +1,13 @@
 //! Catenate: two arrays after one another along an axis.
 
-ghost use Rattle.std.specs.Prelude.{◌≡◌, ◌≤◌, ◌<◌, ◌+◌, ◌++◌, ◌↔◌, IfOk, Err, IfErr, IsTrue, Result, true, if◌then◌else◌, length, unwrap_or};
+ghost use Rattle.std.specs.Prelude.{◌≡◌, ◌≤◌, ◌<◌, ◌+◌, ◌++◌, ◌↔◌, IfOk, Err, IfErr, IsTrue, Result, true, if◌then◌else◌, length, unwrap_or, nat_eq, ◌&&◌};
 ghost use Rattle.arrays_core.specs.declared.item.Kind.{Kind as AKind};
 ghost use Rattle.arrays_core.specs.Arrays.{IsAnswerTo, IsArray, item_if_there};
 ghost use Rattle.arrays_core.specs.Items.{fill, type_of};
 ghost use Rattle.arrays_core.specs.Shapes.{size, IsWithinLimits};
 ghost use Rattle.index_region.specs.Checks.{Form};
 ghost use Rattle.index_region.specs.Arguments.{has_items, is_scalar};
+ghost use Rattle.index_region.specs.Axes.{is_axis, axis_at};
 ghost use Rattle.index_region.specs.ArgumentLists.{of_two_arguments};
 ghost use Rattle.index_region.specs.Answers.{IsPlaceOf, source_value};
 ghost use Rattle.structural_fns.specs.Catenate.{joined_rank as rank_joined, joined_places as places_joined, other_axes as axes_other, ranks_join as do_ranks_join, axes_agree as do_axes_agree, types_join as do_types_join, joined_type as type_joined, joined_shape as shape_joined, sides_checked, in_side as index_in_side, catenate_form, catenate_source, catenate_item, catenate_whole};
@@ -185,7 +186,7 @@ fn is_run(side: &Seen, rank: usize) -> bool
     !side.shape().is_empty() || rank == 1
 }
 
-/// The items of both sides, one behind the other.
+/// The items of the left side, and then those of the right one.
 fn joined_runs(left: &Seen, right: &Seen, shape: &Shape) -> Result<Array, AllocError>
     requires within { IsWithinLimits shape.now.items }
     requires one_item_a_place { length left.now.items + length right.now.items ≡ size shape.now.items }
@@ -212,6 +213,7 @@ fn joined_runs(left: &Seen, right: &Seen, shape: &Shape) -> Result<Array, AllocE
 /// 1, LENGTH where other axes differ, DOMAIN where types differ, LIMIT beyond the limits of arrays.
 #[derive(Clone, Copy, PartialEq, Eq, Debug)]
 pub struct Catenate {
+    /// The axis along which the sides are joined.
     pub along: Along,
 }
 
@@ -233,17 +235,25 @@ impl Catenate {
         Source::Place { arg: 1, at }
     }
 
+    /// The axis is the first one of so many.
+    fn is_along_first(self, rank: usize) -> bool
+        requires low { 1 ≤ rank }
+        requires high { rank ≤ 4 }
+        ensures { result ≡ is_axis rank self.along && nat_eq (axis_at rank self.along) 0 }
+    {
+        self.along.is_axis(rank as u32) && self.along.axis_at(rank as u32) == 0
+    }
+
     /// The array of both sides. Along the first axis the items of each side are copied in one run,
     /// unless one of them is a scalar beside a matrix or more.
     pub fn apply(&self, alloc: Global, args: &[Seen]) -> Result<Array, ApplyFault>
         requires { length args.now ≡ 2 }
         ensures { IsAnswerTo (of_two_arguments (catenate_whole self.now.along) args.now) result }
     {
-        let (shape, _) = self.shape_of(args)?;
         let (left, right) = (&args[0], &args[1]);
         let rank = joined_rank(left, right);
-        let axis = self.along.axis_at(rank as u32);
-        if axis == 0 && is_run(left, rank) && is_run(right, rank) {
+        if self.is_along_first(rank) && is_run(left, rank) && is_run(right, rank) {
+            let (shape, _) = self.shape_of(args)?;
             let runs = joined_runs(left, right, &shape)?;
             return Ok(runs);
         }

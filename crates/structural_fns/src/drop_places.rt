@@ -1,4 +1,4 @@
-//! Drop: all but so many places of each axis.
+//! Drop: all places of each axis but a number of the first or of the last.
 
 ghost use Rattle.std.specs.Prelude.{◌≡◌, ◌≤◌, ◌+◌, ℤ, pos, unsigned_abs, IsTrue, IfOk, Ok, All, length};
 ghost use Rattle.arrays_core.specs.Arrays.{IsAnswerTo, IsArray};
@@ -9,13 +9,12 @@ ghost use Rattle.index_region.specs.Answers.{IsPlaceOf, source_value};
 ghost use Rattle.structural_fns.specs.AxisCounts.{counted_shape as shape_counted};
 ghost use Rattle.structural_fns.specs.Drop.{drop_form, drop_source, drop_item, drop_whole, dropped_shape as shape_dropped, kept_place as place_kept, kept_places as places_kept};
 
-use crate::axis_counts::{check_counts, counted_shape, uncounted};
+use crate::axis_counts::{check_axis_counts, counted_shape, uncounted};
+use crate::limits::MOST_AXES;
 use arrays_core::{ApplyFault, Array, Item, ItemType, Kind, Shape, size};
 use index_region::{Primitive, Seen, Source, apply, item_from, limited};
 use smallvec::SmallVec;
 use std::alloc::{AllocError, Global};
-
-const MOST_AXES: u32 = 4;
 
 /// The lengths that are left of the axes.
 fn dropped_shape(counts: &Seen, axes: &[u32]) -> Shape
@@ -98,9 +97,9 @@ impl DropPlaces {
         requires { length args.now ≡ 2 }
         ensures { IsAnswerTo (of_two_arguments drop_whole args.now) result }
     {
-        let (shape, _) = self.shape_of(args)?;
         let array = &args[1];
         if array.shape().len() == 1 {
+            let (shape, _) = self.shape_of(args)?;
             let run = kept_run(&args[0], array, &shape)?;
             return Ok(run);
         }
@@ -118,7 +117,7 @@ impl Primitive for DropPlaces {
     fn shape_of(&self, args: &[Seen]) -> Result<(Shape, ItemType), Kind> {
         let counts = &args[0];
         let array = &args[1];
-        check_counts(counts, array)?;
+        check_axis_counts(counts, array)?;
         if counts.places() > MOST_AXES {
             return Err(Kind::Limit);
         }

@@ -6,15 +6,15 @@ ghost use Rattle.arrays_core.specs.Arrays.{IsAnswerTo};
 ghost use Rattle.index_region.specs.ArgumentLists.{of_two_arguments};
 ghost use Rattle.index_region.specs.Arguments.{numbers};
 ghost use Rattle.index_region.specs.Answers.{IsPlaceOf, IsFormAnswerTo, source_value};
-ghost use Rattle.structural_fns.specs.DyadicTranspose.{axes_to, greatest as greatest_of, least as least_of, all_positive as positive_all, occurs as does_occur, are_axes as do_name_axes, lengths_at, transposed_shape as shape_transposed, gathered as index_gathered, least_with, transpose_by_form, transpose_by_source, transpose_by_item, transpose_by_whole};
+ghost use Rattle.structural_fns.specs.DyadicTranspose.{axes_to, greatest as greatest_of, least as least_of, all_positive as positive_all, occurs as does_occur, are_axes as do_name_axes, lengths_at, transposed_shape as shape_transposed, gathered as index_gathered, transpose_by_form, transpose_by_source, transpose_by_item, transpose_by_whole};
+ghost use Rattle.structural_fns.specs.LeastLength.{least_with};
 ghost use Rattle.index_region.specs.Checks.{limited as limited_form};
 
+use crate::limits::MOST_AXES;
 use arrays_core::{ApplyFault, Array, Item, ItemType, Kind, Shape};
 use index_region::{Primitive, Seen, Source, apply, item_from, limited};
 use smallvec::SmallVec;
 use std::alloc::Global;
-
-const MOST_AXES: u64 = 4;
 
 /// No entry is below 1.
 fn all_positive(axes: &Seen) -> bool
@@ -111,7 +111,7 @@ fn transposed_shape(axes: &Seen, lengths: &[u32]) -> Result<Shape, Kind>
     ensures beyond { IfErr result (λ kind. (t : AType) → limited_form (shape_transposed (axes_to axes.now) lengths.now) t ≡ Err kind) }
 {
     let rank = greatest(axes);
-    if rank > MOST_AXES {
+    if rank > u64::from(MOST_AXES) {
         return Err(Kind::Limit);
     }
     let mut shape = SmallVec::new(*axes.shape().allocator());

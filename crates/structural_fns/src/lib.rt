@@ -1,11 +1,12 @@
-//! Functions that give arrays their form: each item of a result comes from a place of an argument, or
-//! is fill.
+//! Functions that reorder arrays or change their shape: each item of a result comes from a place of an
+//! argument, or is fill.
 #![tactic(auto)]
 
 mod axis_counts;
 mod catenate;
 mod drop_places;
 mod dyadic_transpose;
+mod limits;
 mod magnitudes;
 mod ravel;
 mod reshape;

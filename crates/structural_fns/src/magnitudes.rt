@@ -5,13 +5,10 @@ ghost use Rattle.arrays_core.specs.declared.item.Kind.TheVariants.{Limit};
 ghost use Rattle.index_region.specs.Checks.{is_within_limits};
 ghost use Rattle.structural_fns.specs.Reshape.{magnitudes as magnitudes_of};
 
+use crate::limits::{LONGEST_AXIS, MOST_AXES};
 use arrays_core::{Kind, Shape};
 use index_region::Seen;
 use smallvec::SmallVec;
-
-const MOST_AXES: u32 = 4;
-
-const LONGEST_AXIS: u64 = 1_048_576;
 
 /// The magnitudes of the numbers of an argument, as the lengths of axes, or LIMIT where these are
 /// beyond the limits of arrays. It takes no memory.

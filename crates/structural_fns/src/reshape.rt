@@ -1,17 +1,56 @@
 //! Reshape: the ravel again and again, under another shape.
 
-ghost use Rattle.std.specs.Prelude.{◌≡◌, length};
+ghost use Rattle.std.specs.Prelude.{◌≡◌, IsTrue, length};
 ghost use Rattle.arrays_core.specs.Arrays.{IsAnswerTo};
+ghost use Rattle.arrays_core.specs.Shapes.{IsWithinLimits, is_index_of};
 ghost use Rattle.index_region.specs.ArgumentLists.{of_two_arguments};
+ghost use Rattle.index_region.specs.Sources.{item_from as item_of_source};
 ghost use Rattle.index_region.specs.Answers.{IsPlaceOf, source_value};
 ghost use Rattle.structural_fns.specs.Reshape.{magnitudes as magnitudes_of, reshape_form, reshape_source, reshape_item, reshape_whole};
 
 use crate::magnitudes::magnitudes;
 use arrays_core::{
-    ApplyFault, Array, Item, ItemType, Kind, Shape, index_of_position, position, size,
+    ApplyFault, Array, Item, ItemRule, ItemType, Kind, Shape, collect, index_of_position, position,
+    size,
 };
-use index_region::{Primitive, Seen, Source, apply, item_from, limited};
+use index_region::{Primitive, Seen, Source, item_from, limited};
 use std::alloc::Global;
+
+/// Where the item at an index list of a shape comes from.
+fn source_in(shape: &Shape, array: &Seen, index: &[u32]) -> Source
+    requires within { IsWithinLimits shape.now.items }
+    requires inside { IsTrue (is_index_of shape.now.items index.now) }
+    ensures { source_value result ≡ reshape_source shape.now.items array.now index.now }
+{
+    let places = array.places();
+    if places == 0 {
+        return Source::Fill;
+    }
+    let before = position(shape, index) - 1;
+    let at = index_of_position(array.shape(), before % places + 1);
+    Source::Place { arg: 1, at }
+}
+
+/// The items of an array under another shape, whose lengths are read from the counts once.
+#[derive(Drop)]
+struct Reshaped<'a, 'b> {
+    shape: &'a Shape,
+    array: &'a Seen<'b>,
+    ghost within: { IsWithinLimits shape.now.items },
+}
+
+impl<'a, 'b> ItemRule for Reshaped<'a, 'b> {
+    ghost result_shape = { λ r. r.shape.now.items };
+
+    ghost result_type = { λ r. r.array.now.item_type };
+
+    ghost item = { λ r index. item_of_source r.array.now r.array.now r.array.now.item_type (reshape_source r.shape.now.items r.array.now index) };
+
+    fn item_at(&self, index: &[u32]) -> Result<Item, Kind> {
+        let source = source_in(self.shape, self.array, index);
+        Ok(item_from(self.array, self.array, self.array.item_type(), source))
+    }
+}
 
 /// Reshape, `A⍴B` (ISO/IEC 13751, "Reshape"): an array of shape A whose items are those of B in
 /// row-major order, again and again; fill where B has none. RANK where A is neither a scalar nor a
@@ -25,16 +64,10 @@ impl Reshape {
         requires { IsPlaceOf (reshape_form counts.now array.now) index.now }
         ensures { source_value result ≡ reshape_source (magnitudes_of counts.now) array.now index.now }
     {
-        let places = array.places();
-        if places == 0 {
-            return Source::Fill;
+        match magnitudes(counts) {
+            Ok(shape) => source_in(&shape, array, index),
+            Err(_) => Source::Fill,
         }
-        let Ok(axes) = magnitudes(counts) else {
-            return Source::Fill;
-        };
-        let before = position(&axes, index) - 1;
-        let at = index_of_position(array.shape(), before % places + 1);
-        Source::Place { arg: 1, at }
     }
 
     /// The array of the shape that the left argument says. Where no item is needed twice they are copied in one run.
@@ -42,13 +75,17 @@ impl Reshape {
         requires { length args.now ≡ 2 }
         ensures { IsAnswerTo (of_two_arguments reshape_whole args.now) result }
     {
-        let (shape, _) = self.shape_of(args)?;
+        let (shape, item_type) = self.shape_of(args)?;
         let array = &args[1];
         if size(shape.as_slice()) <= array.places() {
             let begin = array.part(0, &shape)?;
             return Ok(begin);
         }
-        apply(alloc, self, args)
+        let items = Reshaped {
+            shape: &shape,
+            array,
+        };
+        collect(alloc, &items, item_type, &shape)
     }
 }
 

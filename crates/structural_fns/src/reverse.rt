@@ -33,6 +33,7 @@ fn reversed(alloc: Global, along: Along, axes: &[u32], index: &[u32]) -> Shape
 /// far from the other end. A scalar is itself. AXIS where the axis is not one of the array's.
 #[derive(Clone, Copy, PartialEq, Eq, Debug)]
 pub struct Reverse {
+    /// The axis that is turned round.
     pub along: Along,
 }
 

@@ -85,6 +85,7 @@ fn rotated(alloc: Global, axes: &[u32], axis: usize, amount: i64, index: &[u32])
 /// and LENGTH where its shape is not B's without the axis; DOMAIN where it is not of numbers.
 #[derive(Clone, Copy, PartialEq, Eq, Debug)]
 pub struct Rotate {
+    /// The axis along which places move.
     pub along: Along,
 }
 

@@ -1,6 +1,6 @@
-//! Take: so many places of each axis, from the first or up to the last, and fill beyond them.
+//! Take: a number of places of each axis, the first or the last, and fill beyond them.
 
-ghost use Rattle.std.specs.Prelude.{◌≡◌, ◌≤◌, ℤ, unsigned_abs, IsTrue, IfOk, Ok, All, length};
+ghost use Rattle.std.specs.Prelude.{◌≡◌, ◌≤◌, ℤ, pos, unsigned_abs, IsTrue, IfOk, Ok, All, length, get_or, nat_eq, nat_le, ◌&&◌};
 ghost use Rattle.arrays_core.specs.Arrays.{IsAnswerTo};
 ghost use Rattle.arrays_core.specs.Shapes.{IsWithinLimits, is_index_of as is_below, size as size_of};
 ghost use Rattle.index_region.specs.ArgumentLists.{of_two_arguments};
@@ -9,14 +9,14 @@ ghost use Rattle.index_region.specs.Answers.{IsPlaceOf, source_value};
 ghost use Rattle.structural_fns.specs.Reshape.{magnitudes as magnitudes_of};
 ghost use Rattle.structural_fns.specs.Take.{take_form, take_source, take_item, take_whole, taken_place as place_taken, taken_places as places_taken};
 
-use crate::axis_counts::{check_counts, counted_shape, uncounted};
+use crate::axis_counts::{check_axis_counts, counted_shape, uncounted};
 use crate::magnitudes::magnitudes;
-use arrays_core::{ApplyFault, Array, Item, ItemType, Kind, Shape, is_index_of, size};
+use arrays_core::{ApplyFault, Array, Item, ItemType, Kind, Shape, is_index_of};
 use index_region::{Primitive, Seen, Source, apply, item_from, limited};
 use smallvec::SmallVec;
 use std::alloc::{AllocError, Global};
 
-/// Where a place of a taken axis stands on the axis; 0, and what is beyond its end, is no place.
+/// Where a place of a taken axis stands on the axis; 0, and what lies after its end, is no place.
 fn taken_place(axis: u32, count: i64, i: u32) -> u32
     requires axis_within { axis ≤ 1048576 }
     requires count_within { unsigned_abs count ≤ 1048576 }
@@ -45,6 +45,13 @@ fn taken_places(counts: &Seen, axes: &[u32], index: &[u32]) -> Shape
         places.push_reserved(taken_place(axes[k], count, index[k]));
     }
     places
+}
+
+/// There is one count, and it asks for no more places than a vector has.
+fn has_places(counts: &Seen, vector: &Seen) -> bool
+    ensures { result ≡ nat_eq (length counts.now.items) 1 && nat_le (unsigned_abs (get_or (numbers counts.now) 0 (pos 0))) (length vector.now.items) }
+{
+    counts.places() == 1 && counts.number(1).unsigned_abs() <= u64::from(vector.places())
 }
 
 /// The places of a vector that are taken, where it has as many.
@@ -85,10 +92,10 @@ impl Take {
         requires { length args.now ≡ 2 }
         ensures { IsAnswerTo (of_two_arguments take_whole args.now) result }
     {
-        let (shape, _) = self.shape_of(args)?;
-        let array = &args[1];
-        if array.shape().len() == 1 && size(shape.as_slice()) <= array.places() {
-            let run = taken_run(&args[0], array, &shape)?;
+        let (counts, array) = (&args[0], &args[1]);
+        if array.shape().len() == 1 && has_places(counts, array) {
+            let (shape, _) = self.shape_of(args)?;
+            let run = taken_run(counts, array, &shape)?;
             return Ok(run);
         }
         apply(alloc, self, args)
@@ -105,7 +112,7 @@ impl Primitive for Take {
     fn shape_of(&self, args: &[Seen]) -> Result<(Shape, ItemType), Kind> {
         let counts = &args[0];
         let array = &args[1];
-        check_counts(counts, array)?;
+        check_axis_counts(counts, array)?;
         limited(magnitudes(counts)?, array.item_type())
     }
 

@@ -1,5 +1,6 @@
 use Rattle.std.proofs.Common.{◌≡◌, drop}
-use Rattle.structural_fns.specs.DyadicTranspose.{axes_to, lengths_at, least, least_with}
+use Rattle.structural_fns.specs.DyadicTranspose.{axes_to, lengths_at, least}
+use Rattle.structural_fns.specs.LeastLength.{least_with}
 use Rattle.structural_fns.proofs.dyadic_transpose.least_length.Given as goal
 
 abbrev pub invariant-loop-place : goal.invariant-loop-place

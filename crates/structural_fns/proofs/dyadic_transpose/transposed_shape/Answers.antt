@@ -6,13 +6,13 @@ use Rattle.structural_fns.proofs.Counting.{too_many}
 use Rattle.structural_fns.proofs.Entries.{range_more}
 use Rattle.structural_fns.proofs.dyadic_transpose.transposed_shape.Goals as goal
 
-pub returns-then-rank-gt-MOST_AXES-clause-beyond : goal.returns-then-rank-gt-MOST_AXES-clause-beyond
-returns-then-rank-gt-MOST_AXES-clause-beyond c =
+pub returns-then-rank-from-clause-beyond : goal.returns-then-rank-from-clause-beyond
+returns-then-rank-from-clause-beyond c =
     λ t.
     let axes = axes_to c.args.axes.now in
     let shape = c.args.lengths.now in
     let long = length-map-range_with_len (λ j. least (lengths_at axes shape j)) 1 (greatest axes) in
-    too_many (transposed_shape axes shape) t (omega (arith, long, c.greatest-rank.ensures, c.if-rank-gt-MOST_AXES.true))
+    too_many (transposed_shape axes shape) t (omega (arith, long, c.greatest-rank.ensures, c.if-rank-from.true, c.from.ensures))
 
 pub loop-axis-preserved : goal.loop-axis-preserved
 loop-axis-preserved c =

@@ -1,0 +1,8 @@
+-- The least of some lengths, found one by one.
+use Rattle.std.specs.Prelude.{ℕ, List, ◌∷◌, Option, Some, None}
+use Rattle.structural_fns.specs.DyadicTranspose.{least}
+
+-- the least of the lengths, with the least of those before them where there were any
+abbrev pub least_with : Option ℕ → List ℕ → ℕ
+least_with None lengths = least lengths
+least_with (Some n) lengths = least (n ∷ lengths)
