@@ -22,7 +22,7 @@ use Rattle.index_region.proofs.Passing.{gives, limited_gives}
 use Rattle.operator_fns.specs.RightFold.{fold_right}
 use Rattle.operator_fns.specs.Strides.{folded}
 use Rattle.operator_fns.specs.InnerProduct.{row_rank, row_length, column_length, inner_length, inner_form, inner_item, inner_whole, all_or_last_error}
-use Rattle.operator_fns.specs.RowByColumn.{entry, met, all_or_last, folded_all, row_at, column_at, cell, IsGridOf, grid_of}
+use Rattle.operator_fns.specs.RowByColumn.{entry, met, folded_all, row_at, column_at, cell, IsGridOf, grid_of}
 use Rattle.operator_fns.proofs.Joined.{parts, number_there, size-append}
 use Rattle.operator_fns.proofs.Lines.{size-drop-le}
 use Rattle.operator_fns.proofs.Meetings.{length-met}
@@ -37,9 +37,9 @@ met_numbers : (g : Scalar2) (x y : ℕ → ℤ) (places : List ℕ)
 met_numbers g x y [] = refl
 met_numbers g x y (k ∷ places) = ap (λ rs. number_item (dyadic_on_numbers g (x k) (y k)) ∷ rs) (met_numbers g x y places)
 
-all_numbers : (rs : List (Result ℤ Kind)) → all_or_last (map number_item rs) ≡ number_items (all_or_last rs)
+all_numbers : (rs : List (Result ℤ Kind)) → all_or_last_error (map number_item rs) ≡ number_items (all_or_last_error rs)
 all_numbers [] = refl
-all_numbers (r ∷ rs) = ap (λ rest. and_then rest (λ items. and_then (number_item r) (λ item. Ok (item ∷ items)))) (all_numbers rs) ∙ moved (all_or_last rs) r
+all_numbers (r ∷ rs) = ap (λ rest. and_then rest (λ items. and_then (number_item r) (λ item. Ok (item ∷ items)))) (all_numbers rs) ∙ moved (all_or_last_error rs) r
   where
     moved : (rest : Result (List ℤ) Kind) (r : Result ℤ Kind)
         → and_then (number_items rest) (λ items. and_then (number_item r) (λ item. Ok (item ∷ items))) ≡ number_items (and_then rest (λ zs. and_then r (λ z. Ok (z ∷ zs))))
@@ -62,7 +62,7 @@ fold_of_numbers f g x y count =
     let rs = met (dyadic_on_numbers g) x y count in
     ap (folded_all (dyadic_on_items f)) (met_numbers g x y (range_with_len 0 count))
     ∙ ap (λ r. and_then r (folded (dyadic_on_items f))) (all_numbers rs)
-    ∙ moved (all_or_last rs)
+    ∙ moved (all_or_last_error rs)
   where
     moved : (r : Result (List ℤ) Kind) → and_then (number_items r) (folded (dyadic_on_items f)) ≡ number_item (and_then r (folded (dyadic_on_numbers f)))
     moved (Ok zs) = folded_numbers f zs

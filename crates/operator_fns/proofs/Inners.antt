@@ -21,7 +21,7 @@ use Rattle.index_region.proofs.Passing.{passed, place_inside}
 use Rattle.operator_fns.specs.RightFold.{fold_right}
 use Rattle.operator_fns.specs.Strides.{folded}
 use Rattle.operator_fns.specs.InnerProduct.{row_rank, row_length, column_length, inner_length, inner_form, inner_item, all_or_last_error, products}
-use Rattle.operator_fns.specs.RowByColumn.{met, all_or_last, folded_all}
+use Rattle.operator_fns.specs.RowByColumn.{met, folded_all}
 use Rattle.operator_fns.proofs.Folds.{some_folded}
 use Rattle.operator_fns.proofs.Joined.{places-append, joined_inside, parts}
 use Rattle.operator_fns.proofs.Meetings.{length-met, met_at}
@@ -93,18 +93,14 @@ column_place a column k many h low =
 
 -- ---- the fold of a row and a column
 
-same_errors : (rs : List (Result Item Kind)) → all_or_last_error rs ≡ all_or_last rs
-same_errors [] = refl
-same_errors (x ∷ rs) = ap (λ r. and_then r (λ items. and_then x (λ item. Ok (item ∷ items)))) (same_errors rs)
-
 one_longer : (x : Result Item Kind) (rest : Result (List Item) Kind) (items : List Item) → and_then rest (λ items. and_then x (λ item. Ok (item ∷ items))) ≡ Ok items → 0 < length items
 one_longer (Ok x) (Ok rest) items h = let e : items ≡ x ∷ rest = cc in rw e (omega arith)
 one_longer (Err k) (Ok rest) items h = cc
 one_longer x (Err k) items h = cc
 
-some_all : (rs : List (Result Item Kind)) (items : List Item) → 0 < length rs → all_or_last rs ≡ Ok items → 0 < length items
+some_all : (rs : List (Result Item Kind)) (items : List Item) → 0 < length rs → all_or_last_error rs ≡ Ok items → 0 < length items
 some_all [] items h e = absurd (omega arith)
-some_all (x ∷ rs) items h e = one_longer x (all_or_last rs) items e
+some_all (x ∷ rs) items h e = one_longer x (all_or_last_error rs) items e
 
 then_folded : (f : Scalar2) (r : Result (List Item) Kind) → ((items : List Item) → r ≡ Ok items → 0 < length items)
     → and_then r (fold_right f) ≡ and_then r (folded (dyadic_on_items f))
@@ -112,8 +108,7 @@ then_folded f (Ok items) some = some_folded f items (some items refl)
 then_folded f (Err k) some = refl
 
 pub fold_of_some : (f : Scalar2) (rs : List (Result Item Kind)) → 0 < length rs → and_then (all_or_last_error rs) (fold_right f) ≡ folded_all (dyadic_on_items f) rs
-fold_of_some f rs h =
-    ap (λ r. and_then r (fold_right f)) (same_errors rs) ∙ then_folded f (all_or_last rs) (λ items e. some_all rs items h e)
+fold_of_some f rs h = then_folded f (all_or_last_error rs) (λ items e. some_all rs items h e)
 
 pub products_met : (g : Scalar2) (a b : ArrayValue) (row column : List ℕ) (left right : ℕ → Item) (count : ℕ) → count ≡ inner_length a b
     → ((k : ℕ) → k < count → left k ≡ extended a (row ++ (k + 1) ∷ []))

@@ -5,7 +5,8 @@ use Rattle.std.proofs.lemmas.List.FromFn.{length-map-range_with_len, get_or-map-
 use Rattle.arrays_core.specs.declared.item.Kind.{Kind}
 use Rattle.index_region.specs.Checks.{and_then}
 use Rattle.operator_fns.specs.Strides.{folded}
-use Rattle.operator_fns.specs.RowByColumn.{met, all_or_last, last_error_or, folded_all}
+use Rattle.operator_fns.specs.InnerProduct.{all_or_last_error}
+use Rattle.operator_fns.specs.RowByColumn.{met, last_error_or, folded_all}
 use Rattle.operator_fns.proofs.Folds.{fold_more}
 
 -- ---- the error of the last that has one
@@ -22,7 +23,7 @@ module _ {A : Type 0} where
   last_failed e (Err j ∷ rs) k = last_failed j rs k
 
   -- an error of the rest stands
-  pub later_error : (rs : List (Result A Kind)) (k : ℕ) (e : Kind) → k < length rs → all_or_last (drop k rs) ≡ Err e → all_or_last rs ≡ Err e
+  pub later_error : (rs : List (Result A Kind)) (k : ℕ) (e : Kind) → k < length rs → all_or_last_error (drop k rs) ≡ Err e → all_or_last_error rs ≡ Err e
   later_error [] k e h g = absurd (omega arith)
   later_error (x ∷ rs) zero e h g = g
   later_error (x ∷ rs) (suc k) e h g =
@@ -30,18 +31,18 @@ module _ {A : Type 0} where
 
   -- what follows a list that is fine at its end, where it fails whatever stands in front
   fails_after : {B : Type 0} (rs : List (Result A Kind)) (k : ℕ) (later : List A) (next : List A → Result B Kind) (e : Kind)
-      → all_or_last (drop k rs) ≡ Ok later → ((front : List A) → next (front ++ later) ≡ Err e)
-      → and_then (all_or_last rs) next ≡ Err (last_error_or e (take k rs))
+      → all_or_last_error (drop k rs) ≡ Ok later → ((front : List A) → next (front ++ later) ≡ Err e)
+      → and_then (all_or_last_error rs) next ≡ Err (last_error_or e (take k rs))
   fails_after rs zero later next e made fails = ap (λ r. and_then r next) made ∙ fails []
   fails_after [] (suc k) later next e made fails = ap (λ r. and_then r next) made ∙ fails []
   fails_after (Ok x ∷ rs) (suc k) later next e made fails =
-      moved (all_or_last rs) ∙ fails_after rs k later (λ items. next (x ∷ items)) e made (λ front. fails (x ∷ front))
+      moved (all_or_last_error rs) ∙ fails_after rs k later (λ items. next (x ∷ items)) e made (λ front. fails (x ∷ front))
     where
       moved : (r : Result (List A) Kind) → and_then (and_then r (λ items. Ok (x ∷ items))) next ≡ and_then r (λ items. next (x ∷ items))
       moved (Ok items) = refl
       moved (Err j) = refl
   fails_after (Err j ∷ rs) (suc k) later next e made fails =
-      moved (all_or_last rs) ∙ fails_after rs k later (λ items. Err j) j made (λ front. refl)
+      moved (all_or_last_error rs) ∙ fails_after rs k later (λ items. Err j) j made (λ front. refl)
     where
       moved : (r : Result (List A) Kind) → and_then {A = List A} (and_then r (λ items. Err j)) next ≡ and_then r (λ items. Err j)
       moved (Ok items) = refl
@@ -59,7 +60,7 @@ module _ {A : Type 0} (f : A → A → Result A Kind) where
   -- the rest from an entry on is fine, and folds to y
   pub record FoldedTo (rs : List (Result A Kind)) (k : ℕ) (y : A) : Type 0 where
     pub later : List A
-    pub made : all_or_last (drop k rs) ≡ Ok later
+    pub made : all_or_last_error (drop k rs) ≡ Ok later
     pub some : 0 < length later
     pub is : folded f later ≡ Ok y
 
@@ -86,20 +87,20 @@ module _ {A : Type 0} (f : A → A → Result A Kind) where
   last_entry_failed rs k e h here =
       let split : drop k rs ≡ get_or rs k (Err e) ∷ drop (k + 1) rs = drop_more rs k (Err e) (omega arith) in
       let none : drop (k + 1) rs ≡ [] = drop_all (k + 1) rs (omega arith) in
-      let there : all_or_last (drop k rs) ≡ Err e = rw (split, none, here) refl in
+      let there : all_or_last_error (drop k rs) ≡ Err e = rw (split, none, here) refl in
       ap (λ r. and_then r (folded f)) (later_error rs k e (omega arith) there)
 
   pub entry_failed : (rs : List (Result A Kind)) (k : ℕ) (y : A) (e : Kind) → k + 1 < length rs → FoldedTo rs (k + 1) y → get_or rs k (Err e) ≡ Err e → folded_all f rs ≡ Err e
   entry_failed rs k y e h so_far here =
       let split : drop k rs ≡ get_or rs k (Err e) ∷ drop (k + 1) rs = drop_more rs k (Err e) (omega arith) in
-      let there : all_or_last (drop k rs) ≡ Err e = rw (split, here, so_far.made) refl in
+      let there : all_or_last_error (drop k rs) ≡ Err e = rw (split, here, so_far.made) refl in
       ap (λ r. and_then r (folded f)) (later_error rs k e (omega arith) there)
 
   pub fold_failed : (rs : List (Result A Kind)) (k : ℕ) (x y : A) (e : Kind) → k + 1 < length rs → FoldedTo rs (k + 1) y → get_or rs k (Ok x) ≡ Ok x → f x y ≡ Err e
       → folded_all f rs ≡ Err (last_error_or e (take k rs))
   fold_failed rs k x y e h so_far here gave =
       let split : drop k rs ≡ get_or rs k (Ok x) ∷ drop (k + 1) rs = drop_more rs k (Ok x) (omega arith) in
-      let made : all_or_last (drop k rs) ≡ Ok (x ∷ so_far.later) = rw (split, here, so_far.made) refl in
+      let made : all_or_last_error (drop k rs) ≡ Ok (x ∷ so_far.later) = rw (split, here, so_far.made) refl in
       let fails : folded f (x ∷ so_far.later) ≡ Err e = fold_more f x so_far.later so_far.some ∙ ap (λ r. and_then r (f x)) so_far.is ∙ gave in
       fails_after rs k (x ∷ so_far.later) (folded f) e made (λ front. (still_fails front (x ∷ so_far.later) e (omega arith) fails).0)
 

@@ -34,7 +34,7 @@ inner_form a b =
     (limited (take (row_rank a) a.shape ++ drop 1 b.shape) Nums)
 
 -- all the items, or the error of the last that has one
-abbrev pub all_or_last_error : List (Result Item Kind) → Result (List Item) Kind
+abbrev pub all_or_last_error : {A : Type 0} → List (Result A Kind) → Result (List A) Kind
 all_or_last_error [] = Ok []
 all_or_last_error (x ∷ rest) = and_then (all_or_last_error rest) (λ items. and_then x (λ item. Ok (item ∷ items)))
 

@@ -19,7 +19,7 @@ abbrev pub run_to : {A : Type 0} → A → List A → (stride count place : ℕ)
 run_to default xs stride count place =
     strided default xs (place - depth stride count place * stride) stride (depth stride count place + 1)
 
--- the left fold of a list behind a first entry
+-- the left fold of a first entry and the list after it
 abbrev pub fold_on : {A : Type 0} → (A → A → Result A Kind) → A → List A → Result A Kind
 fold_on f x [] = Ok x
 fold_on f x (y ∷ rest) = and_then (f x y) (λ z. fold_on f z rest)

@@ -11,7 +11,7 @@ use Rattle.index_region.specs.Checks.{and_then}
 abbrev pub table : (ℤ → ℤ → Result ℤ Kind) → List ℤ → List ℤ → List (Result ℤ Kind)
 table f xs ys = flat_map (λ x. map (f x) ys) xs
 
--- all of a list's results behind some numbers, or the first error
+-- some numbers and then all of a list's results, or the first error
 abbrev pub with_results : List ℤ → List (Result ℤ Kind) → Result (List ℤ) Kind
 with_results zs rs = and_then (all_or_first_error rs) (λ more. Ok (zs ++ more))
 

@@ -8,25 +8,20 @@ use Rattle.index_region.specs.Checks.{and_then}
 use Rattle.index_region.specs.Arguments.{has_one_item}
 use Rattle.operator_fns.specs.declared.row_by_column.Line.{Line}
 use Rattle.operator_fns.specs.declared.grid.Grid.{Grid}
-use Rattle.operator_fns.specs.InnerProduct.{inner_length}
+use Rattle.operator_fns.specs.InnerProduct.{inner_length, all_or_last_error}
 use Rattle.operator_fns.specs.Strides.{folded}
 
 -- an entry of a line of a list
 abbrev pub entry : {A : Type 0} → A → List A → Line → ℕ → A
 entry default xs line k = get_or xs (line.first + k * line.stride) default
 
--- so many entries of a line lie within so many
+-- the first `count` entries of a line lie within a list of n
 abbrev pub IsInside : Line → ℕ → ℕ → Type 0
 IsInside line count n = (k : ℕ) → k < count → line.first + k * line.stride < n
 
 -- what a function gives for each entry of a row with the entry of a column that it meets
 abbrev pub met : {A : Type 0} → (A → A → Result A Kind) → (row column : ℕ → A) → ℕ → List (Result A Kind)
 met g row column count = map (λ k. g (row k) (column k)) (range_with_len 0 count)
-
--- what all of them give, or the error of the last that has one
-abbrev pub all_or_last : {A : Type 0} → List (Result A Kind) → Result (List A) Kind
-all_or_last [] = Ok []
-all_or_last (x ∷ rest) = and_then (all_or_last rest) (λ items. and_then x (λ item. Ok (item ∷ items)))
 
 -- the error of the last that has one, or another error
 abbrev pub last_error_or : {A : Type 0} → Kind → List (Result A Kind) → Kind
@@ -36,7 +31,7 @@ last_error_or other (Err e ∷ rest) = last_error_or e rest
 
 -- the right fold of what all of them give
 abbrev pub folded_all : {A : Type 0} → (A → A → Result A Kind) → List (Result A Kind) → Result A Kind
-folded_all f rs = and_then (all_or_last rs) (folded f)
+folded_all f rs = and_then (all_or_last_error rs) (folded f)
 
 -- ---- the rows of one list of numbers and the columns of another
 
@@ -51,7 +46,7 @@ column_at grid place = record { first = place % grid.columns; stride = grid.colu
 abbrev pub cell : (f g : ℤ → ℤ → Result ℤ Kind) → (xs ys : List ℤ) → Grid → ℕ → Result ℤ Kind
 cell f g xs ys grid place = folded_all f (met g (entry (pos 0) xs (row_at grid place)) (entry (pos 0) ys (column_at grid place)) grid.count)
 
--- the rows and the columns of so many places are not empty, and lie within lists of such lengths
+-- the rows and the columns of the places of a result are not empty, and lie within lists of n and m numbers
 pub record IsGridOf (grid : Grid) (places n m : ℕ) : Type 0 where
   pub some_columns : 0 < grid.columns
   pub some : 1 ≤ grid.count

@@ -5,7 +5,7 @@ use Rattle.arrays_core.specs.declared.item.Kind.{Kind}
 use Rattle.arrays_core.specs.declared.item.Kind.TheVariants.{Domain}
 use Rattle.index_region.specs.Checks.{and_then}
 
--- so many entries, the first with so many entries before it, each a stride behind the one before
+-- `count` entries of a list: the first stands after `first` others, each of the rest a stride after the one before
 abbrev pub strided : {A : Type 0} → A → List A → (first stride count : ℕ) → List A
 strided default xs first stride count = map (λ k. get_or xs (first + k * stride) default) (range_with_len 0 count)
 
@@ -15,7 +15,7 @@ folded f [] = Err Domain
 folded f (x ∷ []) = Ok x
 folded f (x ∷ y ∷ rest) = and_then (folded f (y ∷ rest)) (f x)
 
--- how many entries come before the first of the line of a place, where the lines have so many entries; without that
--- axis there are as many places as lines, and so many before that of the line
+-- how many entries come before the first of the line of a place of the result; each line has `count` entries, a stride
+-- apart, and gives one place
 abbrev pub line_start : (stride count place : ℕ) → ℕ
 line_start stride count place = place / stride * (count * stride) + place % stride

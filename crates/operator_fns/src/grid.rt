@@ -83,8 +83,7 @@ fn products_by<F: TwoNumbers, G: TwoNumbers>(
     collect_numbers(alloc, &rule, shape)
 }
 
-/// The same for functions that are chosen; those of the products that are mostly asked for have a loop of
-/// their own.
+/// The same for functions that are chosen; the most usual products have a loop of their own.
 pub(crate) fn grid_products(
     alloc: Global,
     fold: Scalar2,

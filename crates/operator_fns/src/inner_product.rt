@@ -12,6 +12,7 @@ ghost use Rattle.operator_fns.specs.InnerProduct.{row_rank as rank_of_rows, row_
 ghost use Rattle.operator_fns.specs.RowByColumn.{entry, IsInside, grid_of};
 
 use crate::grid::{Grid, grid_products};
+use crate::limits::MOST_AXES;
 use crate::right_fold::{identity_item, stride};
 use crate::row_by_column::{Line, fold_row_of_items};
 use arrays_core::{
@@ -141,7 +142,9 @@ fn grid(left: &Seen, right: &Seen) -> Grid
 /// beyond the limits of arrays.
 #[derive(Clone, Copy, PartialEq, Eq, Debug)]
 pub struct Inner {
+    /// f, which folds what the other function gives.
     pub fold: Scalar2,
+    /// g, the function of an item of a row and an item of a column.
     pub each: Scalar2,
 }
 
@@ -158,7 +161,7 @@ impl Inner {
         }
         let axes = left.shape();
         let (rows, columns) = (&axes.as_slice()[..row_rank(left)], column_axes(right));
-        if rows.len() + columns.len() > 4 {
+        if rows.len() + columns.len() > MOST_AXES {
             return Err(Kind::Limit);
         }
         let mut shape = shape_of(*axes.allocator(), rows);

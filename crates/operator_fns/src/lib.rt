@@ -3,6 +3,7 @@
 
 mod grid;
 mod inner_product;
+mod limits;
 mod linear_scan;
 mod number_rule;
 mod outer_product;

@@ -35,7 +35,7 @@ impl TwoNumbers for LeastEnding {
     }
 }
 
-/// The number at the place behind some results: as it is, or put together with the result a stride
+/// The number at the place after some results: as it is, or put together with the result a stride
 /// before it.
 fn next_result<S: TwoNumbers>(
     step: &S,
@@ -68,8 +68,7 @@ fn place_after(block_place: usize, block: usize) -> usize
     }
 }
 
-/// The left folds of the first numbers of each line, where the lines have so many numbers, a stride
-/// apart.
+/// The left folds of the first numbers of each line, where a line has `count` numbers, a stride apart.
 fn running<S: TwoNumbers>(
     alloc: Global,
     step: &S,

@@ -13,7 +13,7 @@ ghost use Rattle.scalar_fns.specs.NumberLists.{number_items, IsListAnswerTo};
 use arrays_core::{ApplyFault, Array, Kind, Shape, size};
 use std::alloc::Global;
 
-/// The number at each place of a result, told by how many places come before it in row-major order.
+/// The number at each place of a result; a place is given by how many come before it in row-major order.
 pub(crate) trait NumberRule {
     ghost places: { Self → ℕ };
 

@@ -13,6 +13,7 @@ ghost use Rattle.index_region.specs.Answers.{IsFormAnswerTo, IsPlaceOf, HasTypeO
 ghost use Rattle.operator_fns.specs.ResultTable.{table as table_of, with_results, LeavesOrFails};
 ghost use Rattle.operator_fns.specs.OuterProduct.{outer_form, outer_item, outer_whole};
 
+use crate::limits::MOST_AXES;
 use arrays_core::{
     ApplyFault, Array, Item, ItemType, Kind, Shape, append_axes, position, shape_of,
 };
@@ -71,7 +72,7 @@ fn table_by<S: TwoNumbers>(
     Ok(Array::from_numbers(shape, numbers))
 }
 
-/// The same for a function that is chosen; those that tables are mostly made of have a loop of their own.
+/// The same for a function that is chosen; the most usual ones have a loop of their own.
 fn table(
     alloc: Global,
     function: Scalar2,
@@ -100,6 +101,7 @@ fn table(
 /// arrays; where the function fails at several places, the error is that of the first in row-major order.
 #[derive(Clone, Copy, PartialEq, Eq, Debug)]
 pub struct Outer {
+    /// The function of each pair of items.
     pub function: Scalar2,
 }
 
@@ -111,7 +113,7 @@ impl Outer {
         ensures right_sound { IsArray right.now }
     {
         let (front, back) = (left.shape(), right.shape());
-        if front.len() + back.len() > 4 {
+        if front.len() + back.len() > MOST_AXES {
             return Err(Kind::Limit);
         }
         let mut shape = shape_of(*front.allocator(), front.as_slice());

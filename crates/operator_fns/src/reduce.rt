@@ -47,7 +47,7 @@ impl<'a, S: TwoNumbers> NumberRule for Lines<'a, S> {
     }
 }
 
-/// Lines that lie one behind another in a list of numbers, each summed up.
+/// Lines that lie one after another in a list of numbers, each summed up.
 #[derive(Drop)]
 struct Totals<'a> {
     numbers: &'a [i64],
@@ -120,8 +120,7 @@ fn folds_by<S: TwoNumbers>(
     collect_numbers(alloc, &lines, shape)
 }
 
-/// The same for a function that is chosen; those that sums, alternating sums, products, bounds and
-/// questions of all or any are made with have a loop of their own.
+/// The same for a function that is chosen; the most usual ones have a loop of their own.
 fn folds(
     alloc: Global,
     function: Scalar2,
@@ -156,7 +155,9 @@ fn folds(
 /// the axis is not one of the array's, LIMIT beyond the limits of arrays.
 #[derive(Clone, Copy, PartialEq, Eq, Debug)]
 pub struct Reduce {
+    /// The function that puts the items of a line together.
     pub function: Scalar2,
+    /// The axis that the lines lie along.
     pub along: Along,
 }
 

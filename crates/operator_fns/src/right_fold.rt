@@ -24,8 +24,8 @@ pub(crate) fn identity_item(function: Scalar2) -> Result<Item, Kind>
     }
 }
 
-/// The right fold of items of an array that stand a stride apart, so many of them, the first at a
-/// place counted from 1.
+/// The right fold of `count` items of an array that stand a stride apart, the first of them at the place
+/// `first`, counted from 1.
 pub(crate) fn fold_items(
     function: Scalar2,
     array: &Seen,
@@ -61,8 +61,7 @@ pub(crate) fn fold_list<S: TwoNumbers>(step: &S, numbers: &[i64]) -> Result<i64,
     Ok(result)
 }
 
-/// The right fold of numbers that stand a stride apart, so many of them, the first with so many before
-/// it.
+/// The right fold of `count` numbers that stand a stride apart, the first of them after `first` others.
 pub(crate) fn fold_numbers<S: TwoNumbers>(
     step: &S,
     numbers: &[i64],
@@ -84,7 +83,7 @@ pub(crate) fn fold_numbers<S: TwoNumbers>(
     Ok(result)
 }
 
-/// How far an item lies behind the one before it along an axis: the size of the axes after that one.
+/// How far apart two neighbours along an axis lie: the size of the axes after that one.
 pub(crate) fn stride(axes: &[u32], axis: usize) -> u32
     requires within { IsWithinLimits axes.now }
     requires there { axis < length axes.now }
@@ -96,8 +95,7 @@ pub(crate) fn stride(axes: &[u32], axis: usize) -> u32
     size(later)
 }
 
-/// The right fold of the first items, so many of them, of the line along an axis at an index list of the
-/// other axes.
+/// The right fold of the first `count` items of the line along an axis at an index list of the other axes.
 pub(crate) fn fold_line(
     function: Scalar2,
     array: &Seen,

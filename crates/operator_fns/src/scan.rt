@@ -147,7 +147,9 @@ fn scans(
 /// By `+ ⌈ ⌊ ∧ ∨` it takes time in proportion to the axis, by any other function to its square.
 #[derive(Clone, Copy, PartialEq, Eq, Debug)]
 pub struct Scan {
+    /// The function that puts the items of a line together.
     pub function: Scalar2,
+    /// The axis that the lines lie along.
     pub along: Along,
 }
 

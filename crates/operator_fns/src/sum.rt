@@ -6,15 +6,13 @@ ghost use Rattle.scalar_fns.specs.Numbers.{dyadic_on_numbers};
 ghost use Rattle.operator_fns.specs.Strides.{folded};
 ghost use Rattle.operator_fns.specs.Sum.{IsSmall, sum_of};
 
+use crate::limits::MOST_ITEMS;
 use crate::right_fold::fold_list;
 use arrays_core::Kind;
 use scalar_fns::kernels::Plus;
 
-/// As many numbers as an array may have, each nearer to 0 than this, have a sum of 64 bits.
+/// Numbers nearer to 0 than this, as many as an array may have, add up within 64 bits.
 const SMALL: i64 = 8_796_093_022_208;
-
-/// The most items of an array.
-const MOST_ITEMS: usize = 1_048_576;
 
 /// No number of a list is far from 0.
 fn are_small(numbers: &[i64]) -> bool
