@@ -9,7 +9,7 @@ ghost use Rattle.scalar_fns.specs.Items.{number_item};
 ghost use Rattle.operator_fns.specs.RowByColumn.{cell, IsGridOf};
 
 use crate::number_rule::{NumberRule, collect_numbers};
-use crate::row_by_column::{Line, fold_row};
+use crate::row_by_column::{Line, NumberLines, fold_row};
 use arrays_core::{ApplyFault, Array, Kind, Shape, size};
 use scalar_fns::Scalar2;
 use scalar_fns::kernels::{And, Equal, Maximum, Minimum, Or, Plus, Times, TwoNumbers};
@@ -52,9 +52,14 @@ impl<'a, F: TwoNumbers, G: TwoNumbers> NumberRule for Cells<'a, F, G> {
             first: place % grid.columns,
             stride: grid.column_stride,
         };
-        fold_row(
-            self.fold, self.each, self.left, row, self.right, column, grid.count,
-        )
+        let lines = NumberLines {
+            left: self.left,
+            row,
+            right: self.right,
+            column,
+            count: grid.count,
+        };
+        fold_row(self.fold, self.each, &lines)
     }
 }
 

@@ -14,7 +14,7 @@ ghost use Rattle.operator_fns.specs.RowByColumn.{entry, IsInside, grid_of};
 use crate::grid::{Grid, grid_products};
 use crate::limits::MOST_AXES;
 use crate::right_fold::{identity_item, stride};
-use crate::row_by_column::{Line, fold_row_of_items};
+use crate::row_by_column::{ItemLines, Line, fold_row_of_items};
 use arrays_core::{
     ApplyFault, Array, Item, ItemType, Kind, Shape, append_axes, position, shape_of, size,
     with_axis,
@@ -182,15 +182,14 @@ impl Inner {
         let (front, back) = index.split_at(row_rank(left));
         let row = row_line(left, front, count);
         let column = column_line(right, back, count);
-        fold_row_of_items(
-            self.fold,
-            self.each,
+        let lines = ItemLines {
             left,
             row,
             right,
             column,
-            count as usize,
-        )
+            count: count as usize,
+        };
+        fold_row_of_items(self.fold, self.each, &lines)
     }
 
     /// The rows of A folded with the columns of B.

@@ -8,9 +8,9 @@ use Rattle.operator_fns.proofs.row_by_column.fold_row.Goals as goal
 pub returns-in_err-result : goal.returns-in_err-result
 returns-in_err-result g c =
     let each = g.G.TwoNumbers.gives c.args.each.now in
-    let row = entry (pos 0) c.args.left.now c.args.row in
-    let column = entry (pos 0) c.args.right.now c.args.column in
-    let n = c.args.count in
+    let row = entry (pos 0) c.args.lines.now.left.now c.args.lines.now.row in
+    let column = entry (pos 0) c.args.lines.now.right.now c.args.lines.now.column in
+    let n = c.args.lines.now.count in
     let e = c.in_err-result.field-0.0 in
     let long = length-met each row column n in
     passed_on _ e c.from_residual.ensures
@@ -20,9 +20,9 @@ returns-in_err-result g c =
 pub loop-place-init : goal.loop-place-init
 loop-place-init g c =
     let each = g.G.TwoNumbers.gives c.args.each.now in
-    let row = entry (pos 0) c.args.left.now c.args.row in
-    let column = entry (pos 0) c.args.right.now c.args.column in
-    let n = c.args.count in
+    let row = entry (pos 0) c.args.lines.now.left.now c.args.lines.now.row in
+    let column = entry (pos 0) c.args.lines.now.right.now c.args.lines.now.column in
+    let n = c.args.lines.now.count in
     let z = c.in_ok-result.result in
     let fits : SFits w64 z = search rules in
     let same : to_z w64 (of_z w64 z) ≡ z = to_z-of_z w64 _ fits in
@@ -38,9 +38,9 @@ pub returns-in_err-number : goal.returns-in_err-number
 returns-in_err-number g c =
     let f = g.F.TwoNumbers.gives c.args.fold.now in
     let each = g.G.TwoNumbers.gives c.args.each.now in
-    let row = entry (pos 0) c.args.left.now c.args.row in
-    let column = entry (pos 0) c.args.right.now c.args.column in
-    let n = c.args.count in
+    let row = entry (pos 0) c.args.lines.now.left.now c.args.lines.now.row in
+    let column = entry (pos 0) c.args.lines.now.right.now c.args.lines.now.column in
+    let n = c.args.lines.now.count in
     let k = c.loop-place.place - 1 in
     let next : c.loop-place.place ≡ k + 1 = omega arith in
     let below = c.loop-place.invariant.below in
@@ -55,9 +55,9 @@ pub returns-in-Err : goal.returns-in-Err
 returns-in-Err g c =
     let f = g.F.TwoNumbers.gives c.args.fold.now in
     let each = g.G.TwoNumbers.gives c.args.each.now in
-    let row = entry (pos 0) c.args.left.now c.args.row in
-    let column = entry (pos 0) c.args.right.now c.args.column in
-    let n = c.args.count in
+    let row = entry (pos 0) c.args.lines.now.left.now c.args.lines.now.row in
+    let column = entry (pos 0) c.args.lines.now.right.now c.args.lines.now.column in
+    let n = c.args.lines.now.count in
     let k = c.loop-place.place - 1 in
     let next : c.loop-place.place ≡ k + 1 = omega arith in
     let below = c.loop-place.invariant.below in
@@ -76,9 +76,9 @@ pub loop-place-preserved : goal.loop-place-preserved
 loop-place-preserved g c =
     let f = g.F.TwoNumbers.gives c.args.fold.now in
     let each = g.G.TwoNumbers.gives c.args.each.now in
-    let row = entry (pos 0) c.args.left.now c.args.row in
-    let column = entry (pos 0) c.args.right.now c.args.column in
-    let n = c.args.count in
+    let row = entry (pos 0) c.args.lines.now.left.now c.args.lines.now.row in
+    let column = entry (pos 0) c.args.lines.now.right.now c.args.lines.now.column in
+    let n = c.args.lines.now.count in
     let k = c.loop-place.place - 1 in
     let next : c.loop-place.place ≡ k + 1 = omega arith in
     let below = c.loop-place.invariant.below in

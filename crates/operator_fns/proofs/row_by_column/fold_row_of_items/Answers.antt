@@ -9,9 +9,9 @@ use Rattle.operator_fns.proofs.row_by_column.fold_row_of_items.Goals as goal
 pub returns-in_err-result-clause-is : goal.returns-in_err-result-clause-is
 returns-in_err-result-clause-is c =
     let each = dyadic_on_items c.args.each in
-    let row = entry (fill c.args.left.now.item_type) c.args.left.now.items c.args.row in
-    let column = entry (fill c.args.right.now.item_type) c.args.right.now.items c.args.column in
-    let n = c.args.count in
+    let row = entry (fill c.args.lines.now.left.now.item_type) c.args.lines.now.left.now.items c.args.lines.now.row in
+    let column = entry (fill c.args.lines.now.right.now.item_type) c.args.lines.now.right.now.items c.args.lines.now.column in
+    let n = c.args.lines.now.count in
     let e = c.in_err-result.field-0.0 in
     let long = length-met each row column n in
     passed_on _ e c.from_residual.ensures
@@ -21,9 +21,9 @@ returns-in_err-result-clause-is c =
 pub loop-place-init : goal.loop-place-init
 loop-place-init c =
     let each = dyadic_on_items c.args.each in
-    let row = entry (fill c.args.left.now.item_type) c.args.left.now.items c.args.row in
-    let column = entry (fill c.args.right.now.item_type) c.args.right.now.items c.args.column in
-    let n = c.args.count in
+    let row = entry (fill c.args.lines.now.left.now.item_type) c.args.lines.now.left.now.items c.args.lines.now.row in
+    let column = entry (fill c.args.lines.now.right.now.item_type) c.args.lines.now.right.now.items c.args.lines.now.column in
+    let n = c.args.lines.now.count in
     let z = c.in_ok-result.result in
     let long = length-met each row column n in
     let made = folded_last (dyadic_on_items c.args.fold) (met each row column n) (n - 1) z (omega arith)
@@ -38,9 +38,9 @@ pub returns-in_err-item-clause-is : goal.returns-in_err-item-clause-is
 returns-in_err-item-clause-is c =
     let f = dyadic_on_items c.args.fold in
     let each = dyadic_on_items c.args.each in
-    let row = entry (fill c.args.left.now.item_type) c.args.left.now.items c.args.row in
-    let column = entry (fill c.args.right.now.item_type) c.args.right.now.items c.args.column in
-    let n = c.args.count in
+    let row = entry (fill c.args.lines.now.left.now.item_type) c.args.lines.now.left.now.items c.args.lines.now.row in
+    let column = entry (fill c.args.lines.now.right.now.item_type) c.args.lines.now.right.now.items c.args.lines.now.column in
+    let n = c.args.lines.now.count in
     let k = c.loop-place.place - 1 in
     let next : c.loop-place.place ≡ k + 1 = omega arith in
     let below = c.loop-place.invariant.below in
@@ -55,9 +55,9 @@ pub returns-in-Err-clause-is : goal.returns-in-Err-clause-is
 returns-in-Err-clause-is c =
     let f = dyadic_on_items c.args.fold in
     let each = dyadic_on_items c.args.each in
-    let row = entry (fill c.args.left.now.item_type) c.args.left.now.items c.args.row in
-    let column = entry (fill c.args.right.now.item_type) c.args.right.now.items c.args.column in
-    let n = c.args.count in
+    let row = entry (fill c.args.lines.now.left.now.item_type) c.args.lines.now.left.now.items c.args.lines.now.row in
+    let column = entry (fill c.args.lines.now.right.now.item_type) c.args.lines.now.right.now.items c.args.lines.now.column in
+    let n = c.args.lines.now.count in
     let k = c.loop-place.place - 1 in
     let next : c.loop-place.place ≡ k + 1 = omega arith in
     let below = c.loop-place.invariant.below in
@@ -74,9 +74,9 @@ pub loop-place-preserved : goal.loop-place-preserved
 loop-place-preserved c =
     let f = dyadic_on_items c.args.fold in
     let each = dyadic_on_items c.args.each in
-    let row = entry (fill c.args.left.now.item_type) c.args.left.now.items c.args.row in
-    let column = entry (fill c.args.right.now.item_type) c.args.right.now.items c.args.column in
-    let n = c.args.count in
+    let row = entry (fill c.args.lines.now.left.now.item_type) c.args.lines.now.left.now.items c.args.lines.now.row in
+    let column = entry (fill c.args.lines.now.right.now.item_type) c.args.lines.now.right.now.items c.args.lines.now.column in
+    let n = c.args.lines.now.count in
     let k = c.loop-place.place - 1 in
     let next : c.loop-place.place ≡ k + 1 = omega arith in
     let below = c.loop-place.invariant.below in

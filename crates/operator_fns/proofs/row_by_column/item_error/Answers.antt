@@ -8,8 +8,8 @@ use Rattle.operator_fns.proofs.row_by_column.item_error.Goals as goal
 pub returns-in-Err : goal.returns-in-Err
 returns-in-Err c =
     let f = dyadic_on_items c.args.each in
-    let row = entry (fill c.args.left.now.item_type) c.args.left.now.items c.args.row in
-    let column = entry (fill c.args.right.now.item_type) c.args.right.now.items c.args.column in
+    let row = entry (fill c.args.lines.now.left.now.item_type) c.args.lines.now.left.now.items c.args.lines.now.row in
+    let column = entry (fill c.args.lines.now.right.now.item_type) c.args.lines.now.right.now.items c.args.lines.now.column in
     let k = c.loop-place.place - 1 in
     let next : k + 1 ≡ c.loop-place.place = omega arith in
     sym (c.loop-place.invariant.same ∙ ap (λ n. last_error_or c.args.error (met f row column n)) (sym next)
@@ -18,8 +18,8 @@ returns-in-Err c =
 pub loop-place-preserved : goal.loop-place-preserved
 loop-place-preserved c =
     let f = dyadic_on_items c.args.each in
-    let row = entry (fill c.args.left.now.item_type) c.args.left.now.items c.args.row in
-    let column = entry (fill c.args.right.now.item_type) c.args.right.now.items c.args.column in
+    let row = entry (fill c.args.lines.now.left.now.item_type) c.args.lines.now.left.now.items c.args.lines.now.row in
+    let column = entry (fill c.args.lines.now.right.now.item_type) c.args.lines.now.right.now.items c.args.lines.now.column in
     let k = c.loop-place.place - 1 in
     let next : k + 1 ≡ c.loop-place.place = omega arith in
     record {

@@ -6,7 +6,7 @@ use Rattle.operator_fns.proofs.row_by_column.item_error.Given as goal
 
 abbrev pub invariant-loop-place : goal.invariant-loop-place
 invariant-loop-place l = record {
-  same : last_error_or l.error (met (dyadic_on_items l.each) (entry (fill l.left.item_type) l.left.items l.row) (entry (fill l.right.item_type) l.right.items l.column) l.count)
-      ≡ last_error_or l.error (met (dyadic_on_items l.each) (entry (fill l.left.item_type) l.left.items l.row) (entry (fill l.right.item_type) l.right.items l.column) l.place);
+  same : last_error_or l.error (met (dyadic_on_items l.each) (entry (fill l.lines.left.now.item_type) l.lines.left.now.items l.lines.row) (entry (fill l.lines.right.now.item_type) l.lines.right.now.items l.lines.column) l.count)
+      ≡ last_error_or l.error (met (dyadic_on_items l.each) (entry (fill l.lines.left.now.item_type) l.lines.left.now.items l.lines.row) (entry (fill l.lines.right.now.item_type) l.lines.right.now.items l.lines.column) l.place);
   below : l.place ≤ l.count;
 }

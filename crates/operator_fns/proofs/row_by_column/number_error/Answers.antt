@@ -6,8 +6,8 @@ use Rattle.operator_fns.proofs.row_by_column.number_error.Goals as goal
 pub returns-in-Err : goal.returns-in-Err
 returns-in-Err g c =
     let f = g.G.TwoNumbers.gives c.args.each.now in
-    let row = entry (pos 0) c.args.left.now c.args.row in
-    let column = entry (pos 0) c.args.right.now c.args.column in
+    let row = entry (pos 0) c.args.lines.now.left.now c.args.lines.now.row in
+    let column = entry (pos 0) c.args.lines.now.right.now c.args.lines.now.column in
     let k = c.loop-place.place - 1 in
     let next : k + 1 ≡ c.loop-place.place = omega arith in
     sym (c.loop-place.invariant.same ∙ ap (λ n. last_error_or c.args.error (met f row column n)) (sym next)
@@ -16,8 +16,8 @@ returns-in-Err g c =
 pub loop-place-preserved : goal.loop-place-preserved
 loop-place-preserved g c =
     let f = g.G.TwoNumbers.gives c.args.each.now in
-    let row = entry (pos 0) c.args.left.now c.args.row in
-    let column = entry (pos 0) c.args.right.now c.args.column in
+    let row = entry (pos 0) c.args.lines.now.left.now c.args.lines.now.row in
+    let column = entry (pos 0) c.args.lines.now.right.now c.args.lines.now.column in
     let k = c.loop-place.place - 1 in
     let next : k + 1 ≡ c.loop-place.place = omega arith in
     record {
