@@ -77,23 +77,23 @@ radix_there a k one some = number_there a (k - 1) ∙ ap (λ j. number_of (get_o
 abbrev pub digit_pair : ArrayValue → ArrayValue → List ℕ → ℕ → ℤ × ℤ
 digit_pair a b index k = (radix_at a k, digit_at b index k)
 
-module _ (f : ℕ → ℤ × ℤ) where
-  -- the digits behind so many
-  abbrev pub behind : ℕ → ℕ → List (ℤ × ℤ)
-  behind count before = map f (range_with_len (before + 1) (count - before))
+module _ (a b : ArrayValue) (index : List ℕ) where
+  -- the digits, with their radices, that come after the first few
+  abbrev pub digits_after : ℕ → ℕ → List (ℤ × ℤ)
+  digits_after count before = map (digit_pair a b index) (range_with_len (before + 1) (count - before))
 
-  pub first_digit : (count : ℕ) → (count ≢ 0) → worth ((f 1).1) (behind count 1) ≡ decoded (map f (range_with_len 1 count))
-  first_digit zero some = absurd (some refl)
-  first_digit (suc m) some = let same : suc m - 1 ≡ m = omega arith in rw same refl
+  pub all_digits : (count : ℕ) → worth (pos 0) (digits_after count 0) ≡ decoded (map (digit_pair a b index) (range_with_len 1 count))
+  all_digits count = let same : count - 0 ≡ count = omega arith in rw same refl
 
-  pub no_more_digits : (count before : ℕ) (value : ℤ) → count ≤ before → worth value (behind count before) ≡ Ok value
+  pub no_more_digits : (count before : ℕ) (value : ℤ) → count ≤ before → worth value (digits_after count before) ≡ Ok value
   no_more_digits count before value h = let none : count - before ≡ 0 = omega arith in rw none refl
 
   pub one_more_digit : (count before : ℕ) (value : ℤ) → before < count
-      → worth value (behind count before) ≡ and_then (and_then (number_or_limit (value *ℤ (f (before + 1)).0)) (λ product. number_or_limit (product +ℤ (f (before + 1)).1))) (λ next. worth next (behind count (before + 1)))
+      → worth value (digits_after count before)
+      ≡ and_then (and_then (number_or_limit (value *ℤ radix_at a (before + 1))) (λ product. number_or_limit (product +ℤ digit_at b index (before + 1)))) (λ next. worth next (digits_after count (before + 1)))
   one_more_digit count before value h =
       let some : count - before ≡ suc (count - (before + 1)) = omega arith in
-      rw some (regroup (number_or_limit (value *ℤ (f (before + 1)).0)) (λ product. number_or_limit (product +ℤ (f (before + 1)).1)) (λ next. worth next (behind count (before + 1))))
+      rw some (regroup (number_or_limit (value *ℤ radix_at a (before + 1))) (λ product. number_or_limit (product +ℤ digit_at b index (before + 1))) (λ next. worth next (digits_after count (before + 1))))
     where
       regroup : (r : Result ℤ Kind) (g h : ℤ → Result ℤ Kind) → and_then r (λ product. and_then (g product) h) ≡ and_then (and_then r g) h
       regroup (Ok x) g h = refl

@@ -33,15 +33,14 @@ abbrev pub digit_at : ArrayValue → List ℕ → ℕ → ℤ
 digit_at b index k =
     number_of (item_of b (if is_scalar b then [] else ((if nat_eq (places_along b.shape 0) 1 then 1 else k) ∷ index)))
 
--- the value so far, times each radix, plus the digit
+-- the value so far with further digits: for each, times its radix, plus the digit
 abbrev pub worth : ℤ → List (ℤ × ℤ) → Result ℤ Kind
 worth value [] = Ok value
-worth value (place ∷ rest) = and_then (number_or_limit (value *ℤ place.0)) (λ product. and_then (number_or_limit (product +ℤ place.1)) (λ next. worth next rest))
+worth value ((radix, digit) ∷ rest) = and_then (number_or_limit (value *ℤ radix)) (λ product. and_then (number_or_limit (product +ℤ digit)) (λ next. worth next rest))
 
--- the first digit has no radix before it; no digit is 0
+-- a number begins at 0, so the radix of its first digit has no part in it
 abbrev pub decoded : List (ℤ × ℤ) → Result ℤ Kind
-decoded [] = Ok (pos 0)
-decoded (first ∷ rest) = worth first.1 rest
+decoded digits = worth (pos 0) digits
 
 abbrev pub decode_item : ArrayValue → ArrayValue → List ℕ → Result Item Kind
 decode_item a b index = number_item (decoded (map (λ k. (radix_at a k, digit_at b index k)) (range_with_len 1 (digits a b))))

@@ -2,17 +2,18 @@
 
 ghost use Rattle.std.specs.Prelude.{◌≡◌, ◌≢◌, ◌≤◌, ◌+ℤ◌, ◌*ℤ◌, IsTrue, nat_eq, ◌||◌, if◌then◌else◌, drop, length, Ok, Err};
 ghost use Rattle.arrays_core.specs.declared.item.Kind.TheVariants.{Length};
-ghost use Rattle.arrays_core.specs.Shapes.{is_index_of as is_below};
+ghost use Rattle.arrays_core.specs.Shapes.{is_index_of};
 ghost use Rattle.arrays_core.specs.Arrays.{IsAnswerTo};
 ghost use Rattle.scalar_fns.specs.Numbers.{number_or_limit};
 ghost use Rattle.scalar_fns.specs.Items.{number_item};
 ghost use Rattle.index_region.specs.Checks.{and_then};
 ghost use Rattle.index_region.specs.ArgumentLists.{of_two_arguments};
-ghost use Rattle.index_region.specs.Axes.{places_along};
+ghost use Rattle.index_region.specs.Axes.{places_along as places_on};
 ghost use Rattle.index_region.specs.Arguments.{has_one_item};
 ghost use Rattle.index_region.specs.Answers.{IsPlaceOf};
 ghost use Rattle.selection_fns.specs.Decode.{decode_form, decode_item, decode_whole, digits as digits_of, radix_at as radix_of, digit_at as digit_of};
 
+use crate::axes::places_along;
 use crate::number_at::number_at;
 use arrays_core::{ApplyFault, Array, Item, ItemType, Kind, Shape, append_axes, shape_of};
 use index_region::{Primitive, Seen, apply, limited};
@@ -20,31 +21,21 @@ use scalar_fns::{Scalar2, two_numbers};
 use std::alloc::Global;
 
 /// Decode, `A⊥B` (ISO/IEC 13751, "Base value"): the axes of B but the first, along which stand the
-/// digits of a number, the most significant first. From the second digit on, the number so far is
-/// multiplied by the radix of the digit, and the digit is added; no digit is 0. One item of A is the
-/// radix of each digit, and a scalar B or a first axis of length 1 is the digit at each radix. RANK where
+/// digits of a number, the most significant first. The number so far, at first 0, is multiplied by the
+/// radix of the next digit, and the digit is added; without digits it is 0. One item of A is the radix
+/// of each digit, and a scalar B or a first axis of length 1 is the digit at each radix. RANK where
 /// A is neither a scalar nor a vector, LENGTH where there are not as many radices as digits, DOMAIN where
 /// A or B is not of numbers, LIMIT beyond the limits of arrays, and where a product or a sum is beyond 64
 /// bits.
 #[derive(Clone, Copy, PartialEq, Eq, Debug)]
 pub struct Decode;
 
-/// How many places the first axis has; a scalar has one place along it.
-fn first_axis(array: &Seen) -> u32
-    ensures { result ≡ places_along array.now.shape 0 }
-{
-    match array.shape().first() {
-        Some(places) => *places,
-        None => 1,
-    }
-}
-
 /// How many digits each number has.
 fn count_digits(radices: &Seen, array: &Seen) -> u32
     ensures { result ≡ digits_of radices.now array.now }
 {
     if radices.places() == 1 {
-        first_axis(array)
+        places_along(array.shape().as_slice(), 0)
     } else {
         radices.places()
     }
@@ -64,8 +55,8 @@ fn radix_at(radices: &Seen, k: u32) -> i64
     }
 }
 
-/// The place of a digit on an axis: one place is that of each digit.
-fn place_along(axis: u32, k: u32) -> u32
+/// The index of a digit on an axis: on an axis of length 1 that is 1 for each digit.
+fn index_along(axis: u32, k: u32) -> u32
     requires low { 1 ≤ k }
     requires high { axis ≢ 1 → k ≤ axis }
     ensures is { result ≡ if nat_eq axis 1 then 1 else k }
@@ -75,28 +66,28 @@ fn place_along(axis: u32, k: u32) -> u32
     if axis == 1 { 1 } else { k }
 }
 
-/// The digit at a place, counted from 1, of the number at an index list.
+/// A digit, counted from 1, of the number at an index list.
 fn digit_at(array: &Seen, index: &[u32], k: u32) -> i64
-    requires inside { IsTrue (is_below (drop 1 array.now.shape) index.now) }
+    requires inside { IsTrue (is_index_of (drop 1 array.now.shape) index.now) }
     requires low { 1 ≤ k }
-    requires high { places_along array.now.shape 0 ≢ 1 → k ≤ places_along array.now.shape 0 }
+    requires high { places_on array.now.shape 0 ≢ 1 → k ≤ places_on array.now.shape 0 }
     ensures { result ≡ digit_of array.now index.now k }
 {
     let shape = array.shape();
     if shape.len() == 0 {
         return number_at(array, &[]);
     }
-    let place = place_along(shape[0], k);
-    let mut at = shape_of(*shape.allocator(), &[place]);
+    let along = index_along(shape[0], k);
+    let mut at = shape_of(*shape.allocator(), &[along]);
     append_axes(&mut at, index);
     number_at(array, at.as_slice())
 }
 
-/// There are as many radices as digits, where neither stands for as many as there are of the other.
+/// The check of the lengths: LENGTH where radices are not as many as digits, and neither is one.
 fn check_length(radices: &Seen, array: &Seen) -> Result<(), Kind>
-    ensures { result ≡ if has_one_item radices.now || (nat_eq (places_along array.now.shape 0) 1 || nat_eq (length radices.now.items) (places_along array.now.shape 0)) then Ok tt else Err Length }
+    ensures { result ≡ if has_one_item radices.now || (nat_eq (places_on array.now.shape 0) 1 || nat_eq (length radices.now.items) (places_on array.now.shape 0)) then Ok tt else Err Length }
 {
-    let places = first_axis(array);
+    let places = places_along(array.shape().as_slice(), 0);
     if radices.places() == 1 {
         return Ok(());
     }
@@ -109,7 +100,7 @@ fn check_length(radices: &Seen, array: &Seen) -> Result<(), Kind>
     Err(Kind::Length)
 }
 
-/// The number of one more digit, counted from 1, behind those of a number so far.
+/// The number so far with one more digit, counted from 1: times its radix, plus the digit.
 fn with_digit(radices: &Seen, array: &Seen, index: &[u32], value: i64, k: u32) -> Result<i64, Kind>
     requires place { IsPlaceOf (decode_form radices.now array.now) index.now }
     requires low { 1 ≤ k }
@@ -126,11 +117,8 @@ fn decoded_at(radices: &Seen, array: &Seen, index: &[u32]) -> Result<i64, Kind>
     ensures { number_item result ≡ decode_item radices.now array.now index.now }
 {
     let count = count_digits(radices, array);
-    if count == 0 {
-        return Ok(0);
-    }
-    let mut value = digit_at(array, index, 1);
-    for before in 1..count {
+    let mut value = 0;
+    for before in 0..count {
         value = with_digit(radices, array, index, value, before + 1)?;
     }
     Ok(value)

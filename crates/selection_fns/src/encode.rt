@@ -8,6 +8,7 @@ ghost use Rattle.index_region.specs.Arguments.{numbers};
 ghost use Rattle.index_region.specs.Answers.{IsPlaceOf};
 ghost use Rattle.selection_fns.specs.Encode.{carried as carried_number, digit as digit_of, encode_form, encode_item, encode_whole};
 
+use crate::axes::MOST_AXES;
 use crate::number_at::number_at;
 use arrays_core::{ApplyFault, Array, Item, ItemType, Kind, Shape, append_axes, shape_of};
 use index_region::{Primitive, Seen, apply, limited};
@@ -16,7 +17,7 @@ use std::alloc::Global;
 
 /// Encode, `A⊤B` (ISO/IEC 13751, "Representation"): the axes of A, and then those of B. Along the axis
 /// of A stand the digits of a number of B by the radices A, each the residue by its radix of what the
-/// radices behind it leave: the number is divided by each of them, from the last one on, and rounded
+/// radices after it leave: the number is divided by each of them, from the last one on, and rounded
 /// down; a radix 0 leaves 0. A scalar A is the one radix. RANK where A is neither a scalar nor a vector,
 /// DOMAIN where A or B is not of numbers, LIMIT beyond the limits of arrays, and where a quotient is
 /// beyond 64 bits.
@@ -33,8 +34,8 @@ fn carried(radix: i64, number: i64) -> Result<i64, Kind>
     floor_quotient(number, radix)
 }
 
-/// The digit of a number at a place of the radices, counted from 1. Where 0 is left, each radix in front
-/// leaves 0 too, so a number above 0 is divided at most 63 times by radices above 1.
+/// The digit of a number at a place of the radices, counted from 1. Where 0 is left, each radix before
+/// it leaves 0 too, so a number above 0 is divided at most 63 times by radices above 1.
 fn digit(radices: &Seen, place: u32, number: i64) -> Result<i64, Kind>
     requires low { 1 ≤ place }
     requires high { place ≤ length radices.now.items }
@@ -91,7 +92,7 @@ impl Primitive for Encode {
         if !array.counts_as_numbers() {
             return Err(Kind::Domain);
         }
-        if rank + array.shape().len() > 4 {
+        if rank + array.shape().len() > MOST_AXES {
             return Err(Kind::Limit);
         }
         let mut shape = shape_of(*array.shape().allocator(), radices.shape().as_slice());

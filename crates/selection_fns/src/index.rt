@@ -11,12 +11,11 @@ ghost use Rattle.index_region.specs.Arguments.{counts_as_numbers, number_of, num
 ghost use Rattle.index_region.specs.Answers.{IsPlaceOf, source_value};
 ghost use Rattle.selection_fns.specs.Index.{Position, written_positions, count_written, of_array_and_positions, is_place, is_on as is_position_on, are_on as are_positions_on, are_numbers as are_positions_numbers, indexed_shape as shape_indexed, indexed_places as places_indexed, positions_checked, index_form, index_source, index_item, index_whole};
 
+use crate::axes::MOST_AXES;
 use arrays_core::{ApplyFault, Array, Item, ItemType, Kind, Shape, append_axes};
 use index_region::{Primitive, Seen, Source, apply, item_from, limited};
 use smallvec::SmallVec;
 use std::alloc::{AllocError, Global};
-
-const MOST_AXES: usize = 4;
 
 /// The positions are of numbers, where they have items.
 fn are_numbers(written: &[bool], positions: &[Seen]) -> bool
@@ -144,16 +143,16 @@ fn index_in(position: &Seen, at: &[u32], axis: u32) -> u32
     }
 }
 
-/// How many places of an axis come before an index.
-fn place_before(index: i64, axis: u32) -> u32
+/// An index of an axis, counted from 0.
+fn from_zero(index: i64, axis: u32) -> u32
     requires { IsTrue (is_place axis index) }
     ensures { result ≡ unsigned_abs index - 1 }
 {
     (index.unsigned_abs() - 1) as u32
 }
 
-/// How many places of an axis come before each index of a position.
-fn places_before(alloc: Global, position: &Seen, axis: u32) -> Result<Vec<u32>, AllocError>
+/// The indices of a position, counted from 0.
+fn indices_from_zero(alloc: Global, position: &Seen, axis: u32) -> Result<Vec<u32>, AllocError>
     requires { IsTrue (list_all (is_place axis) (numbers position.now)) }
     ensures is { IfOk result (λ before. before.items ≡ map (λ z. unsigned_abs z - 1) (numbers position.now)) }
     ensures long { length position.now.items ≡ size_of position.now.shape }
@@ -161,7 +160,7 @@ fn places_before(alloc: Global, position: &Seen, axis: u32) -> Result<Vec<u32>, 
     let places = position.places();
     let mut before = Vec::with_capacity(alloc, places as usize)?;
     for place in 0..places {
-        before.push(place_before(position.number(place + 1), axis))?;
+        before.push(from_zero(position.number(place + 1), axis))?;
     }
     Ok(before)
 }
@@ -207,6 +206,7 @@ fn append_places(
 /// INDEX where an index is below 1 or above its axis; LIMIT beyond the limits of arrays.
 #[derive(Drop, Clone, Copy)]
 pub struct Index<'w> {
+    /// For each axis of the array, whether its position is written.
     pub written: &'w [bool],
 }
 
@@ -232,7 +232,7 @@ impl<'w> Index<'w> {
         let array = &args[0];
         let axes = array.shape();
         if args.len() == 2 && axes.len() == 1 {
-            let before = places_before(alloc, &args[1], axes[0])?;
+            let before = indices_from_zero(alloc, &args[1], axes[0])?;
             let picked = array.picked(before.as_slice(), &shape)?;
             return Ok(picked);
         }

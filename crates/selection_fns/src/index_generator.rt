@@ -5,6 +5,7 @@ ghost use Rattle.arrays_core.specs.Arrays.{IsAnswerTo};
 ghost use Rattle.index_region.specs.ArgumentLists.{of_one_argument};
 ghost use Rattle.selection_fns.specs.IndexGenerator.{generator_form, generator_item, generator_whole};
 
+use crate::axes::LONGEST_AXIS;
 use arrays_core::{ApplyFault, Array, Item, ItemType, Kind, Shape, shape_of};
 use index_region::{Primitive, Seen, apply, limited};
 use std::alloc::Global;
@@ -48,7 +49,7 @@ impl Primitive for IndexGenerator {
         if number < 0 {
             return Err(Kind::Domain);
         }
-        if number > 1_048_576 {
+        if number.unsigned_abs() > LONGEST_AXIS {
             return Err(Kind::Limit);
         }
         limited(

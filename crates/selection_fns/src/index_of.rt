@@ -8,7 +8,7 @@ ghost use Rattle.index_region.specs.ArgumentLists.{of_two_arguments};
 ghost use Rattle.selection_fns.specs.SameItem.{same_item};
 ghost use Rattle.selection_fns.specs.IndexOf.{index_of_form, index_of_item, index_of_whole};
 
-use crate::lookup::{all_of, places_of};
+use crate::lookup::{all_of, first_places};
 use arrays_core::{ApplyFault, Array, Item, ItemType, Kind, Shape, position, shape_of};
 use index_region::{Primitive, Seen, limited};
 use std::alloc::{AllocError, Global};
@@ -53,19 +53,19 @@ fn no_places(alloc: Global, array: &Seen, sought: &Seen) -> Result<Vec<i64>, All
 }
 
 /// The first place in an array of each item that is sought. Both are gone over once.
-fn first_places_of(alloc: Global, array: &Seen, sought: &Seen) -> Result<Vec<i64>, AllocError>
+fn first_places_in(alloc: Global, array: &Seen, sought: &Seen) -> Result<Vec<i64>, AllocError>
     ensures is { IfOk result (λ v. v.items ≡ map (λ x. pos (suc (position_or_len (same_item x) array.now.items))) sought.now.items) }
     ensures long { length sought.now.items ≡ size_of sought.now.shape }
 {
     let _within_limits = (array.places(), sought.places());
     match array.numbers() {
         Some(items) => match sought.numbers() {
-            Some(numbers) => places_of(alloc, items, numbers),
+            Some(numbers) => first_places(alloc, items, numbers),
             None => no_places(alloc, array, sought),
         },
         None => match array.characters() {
             Some(items) => match sought.characters() {
-                Some(characters) => places_of(alloc, items, characters),
+                Some(characters) => first_places(alloc, items, characters),
                 None => no_places(alloc, array, sought),
             },
             None => no_places(alloc, array, sought),
@@ -81,7 +81,7 @@ impl IndexOf {
     {
         let (shape, _) = self.shape_of(args)?;
         let (array, sought) = (&args[0], &args[1]);
-        let places = first_places_of(alloc, array, sought)?;
+        let places = first_places_in(alloc, array, sought)?;
         Ok(Array::from_numbers(&shape, places))
     }
 }

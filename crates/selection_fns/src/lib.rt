@@ -1,6 +1,7 @@
 //! Functions that pick items, look them up, and split numbers into digits.
 #![tactic(auto)]
 
+mod axes;
 mod decode;
 mod encode;
 mod index;

@@ -10,8 +10,8 @@ use std::alloc::{AllocError, Global};
 use std::collections::HashMap;
 use std::hash::Hash;
 
-/// The first place of each item, counted from 0.
-fn first_places<T: Eq + Hash + Copy + Drop>(
+/// A table with the first place of each item, counted from 0.
+fn first_place_table<T: Eq + Hash + Copy + Drop>(
     alloc: Global,
     items: &[T],
 ) -> Result<HashMap<T, usize>, AllocError>
@@ -26,7 +26,7 @@ fn first_places<T: Eq + Hash + Copy + Drop>(
 
 /// How many places come before the first place of an item, or how many there are.
 #[inline]
-fn places_before<T: Eq + Hash + Copy + Drop>(
+fn before_first_place<T: Eq + Hash + Copy + Drop>(
     items: &[T],
     places: &HashMap<T, usize>,
     item: T,
@@ -43,7 +43,7 @@ fn places_before<T: Eq + Hash + Copy + Drop>(
 
 /// The first place of each of the items that are sought, counted from 1, or one more than there are
 /// places.
-pub(crate) fn places_of<T: Eq + Hash + Copy + Drop>(
+pub(crate) fn first_places<T: Eq + Hash + Copy + Drop>(
     alloc: Global,
     items: &[T],
     sought: &[T],
@@ -51,10 +51,10 @@ pub(crate) fn places_of<T: Eq + Hash + Copy + Drop>(
     requires { length items.now ≤ 1048576 }
     ensures { IfOk result (λ v. v.items ≡ map (λ x. pos (suc (position_or_len (T.eq x) items.now))) sought.now) }
 {
-    let places = first_places(alloc, items)?;
+    let places = first_place_table(alloc, items)?;
     let mut found = Vec::with_capacity(alloc, sought.len())?;
     for item in sought {
-        let before = places_before(items, &places, *item) as u32;
+        let before = before_first_place(items, &places, *item) as u32;
         found.push(i64::from(before + 1))?;
     }
     Ok(found)
@@ -62,7 +62,7 @@ pub(crate) fn places_of<T: Eq + Hash + Copy + Drop>(
 
 /// An item is one of the items.
 #[inline]
-fn is_member<T: Eq + Hash + Copy + Drop>(items: &[T], places: &HashMap<T, usize>, item: T) -> bool
+fn is_found<T: Eq + Hash + Copy + Drop>(items: &[T], places: &HashMap<T, usize>, item: T) -> bool
     requires { (q : T) → get T.eq places.now q ≡ position_from (T.eq q) 0 items.now }
     ensures { result ≡ list_any (T.eq item) items.now }
 {
@@ -77,16 +77,16 @@ pub(crate) fn members_of<T: Eq + Hash + Copy + Drop>(
 ) -> Result<Vec<i64>, AllocError>
     ensures { IfOk result (λ v. v.items ≡ map (λ x. truth (list_any (T.eq x) items.now)) sought.now) }
 {
-    let places = first_places(alloc, items)?;
+    let places = first_place_table(alloc, items)?;
     let mut found = Vec::with_capacity(alloc, sought.len())?;
     for item in sought {
-        let is_member = is_member(items, &places, *item);
+        let is_member = is_found(items, &places, *item);
         found.push(i64::from(is_member))?;
     }
     Ok(found)
 }
 
-/// A number so many times.
+/// A list of one number, `count` times.
 pub(crate) fn all_of(alloc: Global, number: i64, count: u32) -> Result<Vec<i64>, AllocError>
     ensures { IfOk result (λ v. v.items ≡ replicate count number) }
 {

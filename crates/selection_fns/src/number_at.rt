@@ -1,7 +1,7 @@
 //! Numbers at index lists.
 
 ghost use Rattle.std.specs.Prelude.{◌≡◌, IsTrue};
-ghost use Rattle.arrays_core.specs.Shapes.{is_index_of as is_below};
+ghost use Rattle.arrays_core.specs.Shapes.{is_index_of};
 ghost use Rattle.arrays_core.specs.Arrays.{item_of};
 ghost use Rattle.index_region.specs.Arguments.{number_of};
 
@@ -10,7 +10,7 @@ use index_region::Seen;
 
 /// The number at an index list; 0 for a character.
 pub(crate) fn number_at(array: &Seen, index: &[u32]) -> i64
-    requires { IsTrue (is_below array.now.shape index.now) }
+    requires { IsTrue (is_index_of array.now.shape index.now) }
     ensures { result ≡ number_of (item_of array.now index.now) }
 {
     match array.item(position(array.shape(), index)) {

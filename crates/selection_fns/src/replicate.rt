@@ -12,20 +12,10 @@ ghost use Rattle.index_region.specs.Axes.{axis_at as axis_meant, places_along as
 ghost use Rattle.index_region.specs.Answers.{IsFormAnswerTo, IsPlaceOf, source_value};
 ghost use Rattle.selection_fns.specs.Replicate.{times, counts_checked, maker as maker_of, copied_place as place_copied, replicate_form, replicate_source, replicate_item, replicate_whole};
 
+use crate::axes::{LONGEST_AXIS, places_along};
 use arrays_core::{ApplyFault, Array, Item, ItemRule, ItemType, Kind, Shape, collect, shape_of};
 use index_region::{Along, Primitive, Seen, Source, item_from, limited};
 use std::alloc::{AllocError, Global};
-
-const LONGEST_AXIS: u64 = 1_048_576;
-
-/// How many places an axis has; a scalar has one.
-fn places_along(axes: &[u32], axis: usize) -> u32
-    requires { All (λ n. n ≤ 1048576) axes.now }
-    ensures is { result ≡ places_on axes.now axis }
-    ensures within { result ≤ 1048576 }
-{
-    if axis < axes.len() { axes[axis] } else { 1 }
-}
 
 /// The checks of the counts for an axis: RANK where they are neither a scalar nor a vector, LENGTH where
 /// they are not as many as the places and neither is one, DOMAIN where they are not numbers, or one is
@@ -49,7 +39,8 @@ fn check_counts(counts: &Seen, places: u32) -> Result<(), Kind>
     Ok(())
 }
 
-/// So many places, each as often as one count; LIMIT where an axis may not have as many.
+/// How many copies there are of places that each have one count; LIMIT where they are more than an axis
+/// may have.
 fn repeated(count: u64, places: u32) -> Result<u32, Kind>
     requires { places ≤ 1048576 }
     ensures total { IfOk result (λ total. total ≡ places * count) }
@@ -68,7 +59,7 @@ fn repeated(count: u64, places: u32) -> Result<u32, Kind>
     Ok(total as u32)
 }
 
-/// The sum of the counts; LIMIT where an axis may not have as many places.
+/// The sum of the counts; LIMIT where it is more than the places that an axis may have.
 fn summed(counts: &Seen) -> Result<u32, Kind>
     ensures total { IfOk result (λ total. total ≡ sum (map unsigned_abs (numbers counts.now))) }
     ensures beyond { IfErr result (λ kind. (kind ≡ Limit) × (1048576 < sum (map unsigned_abs (numbers counts.now)))) }
@@ -87,7 +78,7 @@ fn summed(counts: &Seen) -> Result<u32, Kind>
     Ok(total as u32)
 }
 
-/// How many copies an axis has; LIMIT where that are more than an axis may have.
+/// How many copies there are; LIMIT where they are more than an axis may have.
 fn copies(counts: &Seen, places: u32) -> Result<u32, Kind>
     requires { places ≤ 1048576 }
     ensures total { IfOk result (λ total. total ≡ sum (times counts.now places)) }
@@ -100,7 +91,7 @@ fn copies(counts: &Seen, places: u32) -> Result<u32, Kind>
     }
 }
 
-/// The shape whose axis has so many places; a scalar's is a vector's.
+/// The shape with another number of places along one axis; that of a scalar is a vector's.
 fn replicated_shape(alloc: Global, axes: &[u32], axis: usize, places: u32) -> Shape
     requires rank { length axes.now ≤ 4 }
     requires there { axis < max 1 (length axes.now) }
@@ -249,6 +240,7 @@ fn index_of_copy(alloc: Global, axis: usize, before: &[u32], index: &[u32]) -> S
 /// DOMAIN where A is not of numbers, or one is negative, LIMIT beyond the limits of arrays.
 #[derive(Clone, Copy, PartialEq, Eq, Debug)]
 pub struct Replicate {
+    /// The axis whose places are copied.
     pub along: Along,
 }
 

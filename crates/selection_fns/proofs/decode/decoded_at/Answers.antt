@@ -5,7 +5,7 @@ use Rattle.scalar_fns.specs.Numbers.{number_or_limit}
 use Rattle.scalar_fns.specs.Items.{number_item}
 use Rattle.index_region.specs.Checks.{and_then}
 use Rattle.selection_fns.specs.Decode.{radix_at, digit_at, worth, decoded, decode_item}
-use Rattle.selection_fns.proofs.Worths.{behind, digit_pair, first_digit, one_more_digit}
+use Rattle.selection_fns.proofs.Worths.{digits_after, digit_pair, all_digits, one_more_digit}
 use Rattle.selection_fns.proofs.decode.decoded_at.Goals as goal
 
 pub loop-before-init : goal.loop-before-init
@@ -14,10 +14,7 @@ loop-before-init c =
     let b = c.args.array.now in
     let index = c.args.index.now in
     let count = c.count_digits-count.result in
-    let f = digit_pair a b index in
-    let fits : SFits w64 c.digit_at-value.result = record { sfits = c.digit_at-value.type_inv } in
-    let same : to_z w64 (of_z w64 c.digit_at-value.result) ≡ c.digit_at-value.result = to_z-of_z w64 _ fits in
-    ap (λ z. worth z (behind f count 1)) (same ∙ c.digit_at-value.ensures) ∙ first_digit f count c.if-count-eq0.false
+    all_digits a b index count
 
 pub loop-before-preserved : goal.loop-before-preserved
 loop-before-preserved c =
@@ -27,14 +24,14 @@ loop-before-preserved c =
     let count = c.count_digits-count.result in
     let f = digit_pair a b index in
     let k = c.loop-before.before in
-    let more = one_more_digit f count k c.loop-before.value c.loop-before-test.true in
-    let so_far : worth c.loop-before.value (behind f count k) ≡ decoded (map f (range_with_len 1 count)) = rw c.loop-before.value-is at c.loop-before.invariant in
+    let more = one_more_digit a b index count k c.loop-before.value c.loop-before-test.true in
+    let so_far : worth c.loop-before.value (digits_after a b index count k) ≡ decoded (map f (range_with_len 1 count)) = rw c.loop-before.value-is at c.loop-before.invariant in
     let v = c.in_ok-value.value in
     let fits : SFits w64 v = search rules in
     let same : to_z w64 (of_z w64 v) ≡ v = to_z-of_z w64 _ fits in
     let gave : Ok v ≡ and_then (number_or_limit (c.loop-before.value *ℤ radix_at a (k + 1))) (λ product. number_or_limit (product +ℤ digit_at b index (k + 1))) = rw c.loop-before.value-is at c.in_ok-value.ensures in
-    ap (λ z. worth z (behind f count (k + 1))) same
-    ∙ sym (more ∙ ap (λ r. and_then r (λ next. worth next (behind f count (k + 1)))) (sym gave))
+    ap (λ z. worth z (digits_after a b index count (k + 1))) same
+    ∙ sym (more ∙ ap (λ r. and_then r (λ next. worth next (digits_after a b index count (k + 1)))) (sym gave))
     ∙ so_far
 
 pub returns-in_err-value : goal.returns-in_err-value
@@ -45,12 +42,12 @@ returns-in_err-value c =
     let count = c.count_digits-count.result in
     let f = digit_pair a b index in
     let k = c.loop-before.before in
-    let more = one_more_digit f count k c.loop-before.value c.loop-before-test.true in
-    let so_far : worth c.loop-before.value (behind f count k) ≡ decoded (map f (range_with_len 1 count)) = rw c.loop-before.value-is at c.loop-before.invariant in
+    let more = one_more_digit a b index count k c.loop-before.value c.loop-before-test.true in
+    let so_far : worth c.loop-before.value (digits_after a b index count k) ≡ decoded (map f (range_with_len 1 count)) = rw c.loop-before.value-is at c.loop-before.invariant in
     let e = c.in_err-value.field-0.0 in
     let gave : Err e ≡ and_then (number_or_limit (c.loop-before.value *ℤ radix_at a (k + 1))) (λ product. number_or_limit (product +ℤ digit_at b index (k + 1))) = rw c.loop-before.value-is at c.in_err-value.ensures in
     let failed : decode_item a b index ≡ Err e =
     ap (λ n. number_item (decoded (map f (range_with_len 1 n)))) (sym c.count_digits-count.ensures)
-    ∙ ap number_item (sym so_far ∙ more ∙ ap (λ r. and_then r (λ next. worth next (behind f count (k + 1)))) (sym gave)) in
+    ∙ ap number_item (sym so_far ∙ more ∙ ap (λ r. and_then r (λ next. worth next (digits_after a b index count (k + 1)))) (sym gave)) in
     let answered : number_item c.from_residual.result ≡ Err e = search rules in
     answered ∙ sym failed

@@ -1,10 +1,14 @@
-use Rattle.std.proofs.Common.{◌-◌, arith}
-use Rattle.std.specs.HashMap.{get}
-use Rattle.selection_fns.proofs.Lookups.{one_more_first}
+use Rattle.std.proofs.Common.{◌≡◌, ◌+◌, add-one, ◌++◌, ◌∷◌, [], ◌∙◌, ap, suc, pos, to_z, of_z, w64, SFits, rules}
+use Rattle.std.proofs.lemmas.Int.{to_z-of_z}
+use Rattle.std.specs.List.{position_or_len}
+use Rattle.selection_fns.proofs.Lookups.{mapped_more}
 use Rattle.selection_fns.proofs.lookup.first_places.Goals as goal
 
-pub loop-place-preserved : goal.loop-place-preserved
-loop-place-preserved g c =
-    one_more_first g.met.T.Eq.laws c.args.items.now c.index-items-place.result (c.loop-place.place - 1) c.loop-place.place
-    (get g.T.PartialEq.eq c.loop-place.places) (get g.T.PartialEq.eq c.insert.new.self) (omega arith) (omega arith) c.index-items-place.is
-    c.loop-place.invariant c.in_ok-insert.ensures.updates.0
+pub loop-item-preserved : goal.loop-item-preserved
+loop-item-preserved g c =
+    let z = c.from.result in
+    let fits : SFits w64 z = search rules in
+    let same : to_z w64 (of_z w64 z) ≡ z = to_z-of_z w64 _ fits in
+    let items : c.push.new.self.items ≡ c.loop-item.found.items ++ z ∷ [] = rw same at c.in_ok-push.ensures.items in
+    mapped_more (λ x. pos (suc (position_or_len (g.T.PartialEq.eq x) c.args.items.now))) c.args.sought.now c.loop-item.item-index c.item-item.result c.loop-item.found.items c.push.new.self.items z
+    c.loop-item-test.true c.item-item.is c.loop-item.invariant (c.from.ensures ∙ ap (λ n. pos (n + 1)) c.before_first_place-before.ensures.is ∙ ap pos (add-one _)) items

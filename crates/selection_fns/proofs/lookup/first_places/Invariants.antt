@@ -1,7 +1,6 @@
-use Rattle.std.proofs.Common.{◌≡◌, drop}
-use Rattle.std.specs.List.{position_from}
-use Rattle.std.specs.HashMap.{get}
+use Rattle.std.proofs.Common.{◌≡◌, suc, pos, map, take}
+use Rattle.std.specs.List.{position_or_len}
 use Rattle.selection_fns.proofs.lookup.first_places.Given as goal
 
-abbrev pub invariant-loop-place : goal.invariant-loop-place
-invariant-loop-place g l = (q : g.row.T.Denot) → get g.T.PartialEq.eq l.places q ≡ position_from (g.T.PartialEq.eq q) l.place (drop l.place l.items)
+abbrev pub invariant-loop-item : goal.invariant-loop-item
+invariant-loop-item g l = l.found.items ≡ map (λ x. pos (suc (position_or_len (g.T.PartialEq.eq x) l.items))) (take l.item-index l.sought)

@@ -12,4 +12,4 @@ loop-item-preserved g c =
     let same : to_z w64 (of_z w64 z) ≡ z = to_z-of_z w64 _ fits in
     let items : c.push.new.self.items ≡ c.loop-item.found.items ++ z ∷ [] = rw same at c.in_ok-push.ensures.items in
     mapped_more (λ x. truth (list_any (g.T.PartialEq.eq x) c.args.items.now)) c.args.sought.now c.loop-item.item-index c.item-item.result c.loop-item.found.items c.push.new.self.items z
-    c.loop-item-test.true c.item-item.is c.loop-item.invariant (c.from.ensures ∙ truth_of_bool _ ∙ ap truth c.is_member-is_member.ensures) items
+    c.loop-item-test.true c.item-item.is c.loop-item.invariant (c.from.ensures ∙ truth_of_bool _ ∙ ap truth c.is_found-is_member.ensures) items

@@ -2,7 +2,7 @@ use Rattle.std.proofs.Common.{◌≡◌, ◌-◌, true, map, take, drop, unsigne
 use Rattle.std.specs.List.{list_all}
 use Rattle.index_region.specs.Arguments.{numbers}
 use Rattle.selection_fns.specs.Index.{is_place}
-use Rattle.selection_fns.proofs.index.places_before.Given as goal
+use Rattle.selection_fns.proofs.index.indices_from_zero.Given as goal
 
 abbrev pub invariant-loop-place : goal.invariant-loop-place
 invariant-loop-place l = record {

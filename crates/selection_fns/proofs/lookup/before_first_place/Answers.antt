@@ -1,6 +1,6 @@
 use Rattle.std.proofs.Common.{sym, ◌∙◌, arith}
 use Rattle.selection_fns.proofs.Lookups.{found_at, found_nowhere, position_within}
-use Rattle.selection_fns.proofs.lookup.places_before.Goals as goal
+use Rattle.selection_fns.proofs.lookup.before_first_place.Goals as goal
 
 pub returns-in-Some-clause-is : goal.returns-in-Some-clause-is
 returns-in-Some-clause-is g c =
