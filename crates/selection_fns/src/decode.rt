@@ -88,16 +88,10 @@ fn check_length(radices: &Seen, array: &Seen) -> Result<(), Kind>
     ensures { result ≡ if has_one_item radices.now || (nat_eq (places_on array.now.shape 0) 1 || nat_eq (length radices.now.items) (places_on array.now.shape 0)) then Ok tt else Err Length }
 {
     let places = places_along(array.shape().as_slice(), 0);
-    if radices.places() == 1 {
-        return Ok(());
+    if radices.places() != 1 && places != 1 && radices.places() != places {
+        return Err(Kind::Length);
     }
-    if places == 1 {
-        return Ok(());
-    }
-    if radices.places() == places {
-        return Ok(());
-    }
-    Err(Kind::Length)
+    Ok(())
 }
 
 /// The number so far with one more digit, counted from 1: times its radix, plus the digit.

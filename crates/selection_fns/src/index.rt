@@ -228,10 +228,10 @@ impl<'w> Index<'w> {
         requires { length args.now ≡ suc (count_written self.now.written.now) }
         ensures { IsAnswerTo (of_array_and_positions self.now.written.now index_whole args.now) result }
     {
-        let (shape, _) = self.shape_of(args)?;
         let array = &args[0];
         let axes = array.shape();
         if args.len() == 2 && axes.len() == 1 {
+            let (shape, _) = self.shape_of(args)?;
             let before = indices_from_zero(alloc, &args[1], axes[0])?;
             let picked = array.picked(before.as_slice(), &shape)?;
             return Ok(picked);

@@ -52,25 +52,19 @@ fn no_places(alloc: Global, array: &Seen, sought: &Seen) -> Result<Vec<i64>, All
     all_of(alloc, i64::from(array.places() + 1), sought.places())
 }
 
-/// The first place in an array of each item that is sought. Both are gone over once.
+/// The first place in an array of each item that is sought. Each of the two is read once.
 fn first_places_in(alloc: Global, array: &Seen, sought: &Seen) -> Result<Vec<i64>, AllocError>
     ensures is { IfOk result (λ v. v.items ≡ map (λ x. pos (suc (position_or_len (same_item x) array.now.items))) sought.now.items) }
     ensures long { length sought.now.items ≡ size_of sought.now.shape }
 {
     let _within_limits = (array.places(), sought.places());
-    match array.numbers() {
-        Some(items) => match sought.numbers() {
-            Some(numbers) => first_places(alloc, items, numbers),
-            None => no_places(alloc, array, sought),
-        },
-        None => match array.characters() {
-            Some(items) => match sought.characters() {
-                Some(characters) => first_places(alloc, items, characters),
-                None => no_places(alloc, array, sought),
-            },
-            None => no_places(alloc, array, sought),
-        },
+    if let (Some(items), Some(numbers)) = (array.numbers(), sought.numbers()) {
+        return first_places(alloc, items, numbers);
     }
+    if let (Some(items), Some(characters)) = (array.characters(), sought.characters()) {
+        return first_places(alloc, items, characters);
+    }
+    no_places(alloc, array, sought)
 }
 
 impl IndexOf {

@@ -37,25 +37,19 @@ fn no_members(alloc: Global, array: &Seen, sought: &Seen) -> Result<Vec<i64>, Al
     all_of(alloc, 0, sought.places())
 }
 
-/// Whether each item that is sought is one of an array. Both are gone over once.
+/// Whether each item that is sought is one of an array. Each of the two is read once.
 fn are_members(alloc: Global, array: &Seen, sought: &Seen) -> Result<Vec<i64>, AllocError>
     ensures is { IfOk result (λ v. v.items ≡ map (λ x. truth_of (list_any (same_item x) array.now.items)) sought.now.items) }
     ensures long { length sought.now.items ≡ size_of sought.now.shape }
 {
     let _within_limits = sought.places();
-    match array.numbers() {
-        Some(items) => match sought.numbers() {
-            Some(numbers) => members_of(alloc, items, numbers),
-            None => no_members(alloc, array, sought),
-        },
-        None => match array.characters() {
-            Some(items) => match sought.characters() {
-                Some(characters) => members_of(alloc, items, characters),
-                None => no_members(alloc, array, sought),
-            },
-            None => no_members(alloc, array, sought),
-        },
+    if let (Some(items), Some(numbers)) = (array.numbers(), sought.numbers()) {
+        return members_of(alloc, items, numbers);
     }
+    if let (Some(items), Some(characters)) = (array.characters(), sought.characters()) {
+        return members_of(alloc, items, characters);
+    }
+    no_members(alloc, array, sought)
 }
 
 impl Member {

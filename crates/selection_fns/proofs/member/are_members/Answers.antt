@@ -4,12 +4,14 @@ use Rattle.arrays_core.specs.declared.item.Item.TheVariants.{Num, Char}
 use Rattle.selection_fns.proofs.Searching.{members_as, same_numbers, same_characters}
 use Rattle.selection_fns.proofs.member.are_members.Goals as goal
 
-pub returns-in-Some-numbers-clause-is : goal.returns-in-Some-numbers-clause-is
-returns-in-Some-numbers-clause-is c =
-    rw (c.in-Some.ensures.is.1, c.in-Some-numbers.ensures.is.1, ← members_as (λ z. Num z) int_eq same_numbers c.in-Some.items.now c.in-Some-numbers.numbers.now)
+pub returns-in-Some-Some-clause-is : goal.returns-in-Some-Some-clause-is
+returns-in-Some-Some-clause-is c =
+    let both = c.in-Some-Some in
+    rw (both.ensures.is.1, both.ensures'.is.1, ← members_as (λ z. Num z) int_eq same_numbers both.items.now both.numbers.now)
     c.members_of.ensures
 
-pub returns-in-Some-characters-2-clause-is : goal.returns-in-Some-characters-2-clause-is
-returns-in-Some-characters-2-clause-is c =
-    rw (c.in-Some-characters.ensures.is.1, c.in-Some-characters-2.ensures.is.1, ← members_as (λ x. Char x) nat_eq same_characters c.in-Some-characters.items.now c.in-Some-characters-2.characters.now)
-    c.members_of-in-Some-characters-2.ensures
+pub returns-in-Some-Some-2-clause-is : goal.returns-in-Some-Some-2-clause-is
+returns-in-Some-Some-2-clause-is c =
+    let both = c.in-Some-Some-2 in
+    rw (both.ensures.is.1, both.ensures'.is.1, ← members_as (λ x. Char x) nat_eq same_characters both.items.now both.characters.now)
+    c.members_of-in-Some-Some-2.ensures
