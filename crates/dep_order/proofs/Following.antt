@@ -1,4 +1,4 @@
--- Lists in which each comes after all that it needs.
+-- Lists in which each entry comes after all that it needs.
 use Rattle.std.proofs.Common.{◌≡◌, ℕ, zero, suc, ◌<◌, ◌⊎◌, inl, inr, Bool, true, false, List, [], ◌∷◌, ◌++◌, take, length, slice_index_or, filter, refl, sym, ap, ◌∙◌, subst, arith, ⊎_elim}
 use Rattle.std.specs.List.{Contains}
 use Rattle.std.proofs.lemmas.Bool.{false≢true}
@@ -46,7 +46,7 @@ module _ {A : Type 0} where
   follows_front R D [] ys f = tt
   follows_front R D (x ∷ xs) ys f = (f.0, follows_front R (λ y. D y ⊎ (y ≡ x)) xs ys f.1)
 
-  -- what the one behind them needs
+  -- what the one after them needs
   pub follows_behind : (R : A → A → Type 0) (D : A → Type 0) (xs : List A) (x : A) (ys : List A) → Follows R D (xs ++ x ∷ ys) → (b : A) → R x b → D b ⊎ Contains xs b
   follows_behind R D [] x ys f b r = inl (f.0 b r)
   follows_behind R D (y ∷ xs) x ys f b r = ⊎_elim (λ l. ⊎_elim (λ d. inl d) (λ e. inr (subst (λ z. Contains (y ∷ xs) z) (sym e) (contains_here y xs))) l) (λ c. inr (contains_there y xs b c))

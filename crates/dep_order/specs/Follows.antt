@@ -1,13 +1,13 @@
--- Lists in which each comes after all that it needs.
+-- Lists in which each entry comes after all that it needs.
 use Rattle.std.specs.Prelude.{◌≡◌, ◌⊎◌, List, [], ◌∷◌}
 use Rattle.std.specs.List.{Contains}
 
--- each after all that it needs, but for what is done
+-- each entry comes after all that it needs, but for what is done already
 abbrev pub Follows : {A : Type 0} → (A → A → Type 0) → (A → Type 0) → List A → Type 0
 Follows Needs Done [] = Unit {0}
 Follows {A} Needs Done (a ∷ rest) = ((b : A) → Needs a b → Done b) × Follows Needs (λ x. Done x ⊎ (x ≡ a)) rest
 
--- no two are one
+-- no entry stands twice
 abbrev pub IsOnce : {A : Type 0} → List A → Type 0
 IsOnce [] = Unit {0}
 IsOnce (x ∷ xs) = (Contains xs x → ⊥) × IsOnce xs

@@ -36,6 +36,6 @@ abbrev pub IsCycleOf : List (List ℕ) → OrderFault → Type 0
 IsCycleOf graph (Cycle nodes) = IsCycle (Points graph) nodes.items
 IsCycleOf graph NoMemory = Unit {0}
 
--- b is the node, or has a mark
+-- b is the node, or has its mark
 abbrev pub IsHit : List Bool → ℕ → ℕ → Type 0
 IsHit marks node b = (b ≡ node) ⊎ IsPlaced marks b

@@ -7,23 +7,23 @@ use Rattle.indexmap.specs.IndexSet.{IndexSet, spare}
 use Rattle.dep_order.specs.Reachability.{Chain}
 use Rattle.dep_order.specs.Follows.{Follows}
 
--- nodes that are equal are one
+-- nodes that are equal by the test are the same node
 abbrev pub IsExact : {N : Type 0} → (N → N → Bool) → Type 0
 IsExact {N} eq = (a b : N) → eq a b ≡ true → a ≡ b
 
--- the nodes that the table tells to refer to this one
+-- the nodes that refer to this one, by the table
 abbrev pub users_of : {N S : Type 0} → (N → N → Bool) → List (N × IndexSet N S) → N → List N
 users_of {N} {S} eq table node = unwrap_or (option_map (λ (s : IndexSet N S). s.keys) (lookup (eq node) table)) []
 
--- the table tells that a refers to b
+-- by the table, a refers to b
 abbrev pub Uses : {N S : Type 0} → (N → N → Bool) → List (N × IndexSet N S) → N → N → Type 0
 Uses eq table a b = Contains (users_of eq table b) a
 
--- no chain of references to this node is longer
+-- each chain of references to this node is shorter than the height
 abbrev pub IsWithin : {N S : Type 0} → (N → N → Bool) → List (N × IndexSet N S) → ℕ → N → Type 0
 IsWithin {N} eq table height node = (a : N) (via : List N) → Chain (Uses eq table) a via node → length via < height
 
--- each after all that refer to it
+-- each node stands after all that refer to it
 abbrev pub IsClosed : {N S : Type 0} → (N → N → Bool) → List (N × IndexSet N S) → List N → Type 0
 IsClosed eq table found = Follows (λ a b. Uses eq table b a) (λ x. ⊥) found
 
@@ -31,7 +31,7 @@ IsClosed eq table found = Follows (λ a b. Uses eq table b a) (λ x. ⊥) found
 abbrev pub HasRoomFor : {N S : Type 0} → (N → N → Bool) → List (N × IndexSet N S) → List N → Type 0
 HasRoomFor {N} {S} eq table references = (b : N) → Contains references b → (s : IndexSet N S) × (lookup (eq b) table ≡ Some s) × (0 < spare s)
 
--- the same, or has the node already
+-- each of these has its set, with room for one more or with the node in it
 abbrev pub IsReadyFor : {N S : Type 0} → (N → N → Bool) → List (N × IndexSet N S) → N → List N → Type 0
 IsReadyFor {N} {S} eq table node references = (b : N) → Contains references b → (s : IndexSet N S) × (lookup (eq b) table ≡ Some s) × ((0 < spare s) ⊎ Contains s.keys node)
 

@@ -50,7 +50,7 @@ fn hit(graph: &Graph, marks: &[bool], from: usize, node: usize) -> Option<usize>
     ensures some { IfSome result (λ b. Points graph.now from b × IsHit marks.now node b) }
     ensures none { IfNone result ((b : ℕ) → Points graph.now from b → IsHit marks.now node b → ⊥) }
 {
-    // The length brings the fact that each reference is to a node.
+    // The length of a graph says that each reference is to one of its nodes.
     let _in_range = graph.len();
     for next in graph.references(from) {
         if *next == node || marks[*next] {

@@ -11,7 +11,7 @@ use std::alloc::{AllocError, AllocFailed, Global};
 /// Why there is no order.
 #[derive(Debug, Drop)]
 pub enum OrderFault {
-    /// A cycle, at least one node: each refers to the next, and the last to the first.
+    /// A cycle of at least one node: each refers to the next, and the last to the first.
     Cycle(Vec<usize>),
     /// The allocator refused memory.
     NoMemory,
@@ -91,7 +91,7 @@ fn missing(graph: &Graph, placed: &[bool], node: usize) -> Option<usize>
     ensures left { IfSome result (IsLeft placed.now) }
     ensures points { IfSome result (Points graph.now node) }
 {
-    // The length brings the fact that each reference is to a node.
+    // The length of a graph says that each reference is to one of its nodes.
     let _in_range = graph.len();
     for next in graph.references(node) {
         if !placed[*next] {

@@ -1,4 +1,4 @@
-//! Who refers to whom, kept from change to change: what a change of a node reaches is found by this, and no other node is looked at.
+//! Who refers to whom, kept from change to change: what a change of a node reaches is found by this table, and no other node is looked at.
 ghost use Rattle.std.specs.Prelude.{◌≡◌, ◌⊎◌, ◌↔◌, List, [], ◌∷◌, IfOk, OnOk, OnErr, MatchOption};
 ghost use Rattle.std.specs.List.{Contains, IsDistinct};
 ghost use Rattle.dep_order.specs.Reachability.{Reaches};
@@ -28,12 +28,12 @@ pub fn affected<N: Eq + Hash + Copy>(
 {
     let mut found = IndexSet::new(alloc);
     climb(users, node, height, &mut found)?;
-    // The length brings the fact that no node was found twice.
+    // The length of a set says that no key stands in it twice.
     let _distinct = found.len();
     Ok(found)
 }
 
-// Adds a node behind all that reach it, but for those that have been found before.
+// Adds a node after all that reach it, but for those that have been found before.
 fn climb<N: Eq + Hash + Copy>(
     users: &Users<N>,
     node: N,

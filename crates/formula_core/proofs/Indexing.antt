@@ -27,7 +27,7 @@ pub value_empty : (names : List ℕ → Outcome) (ps : List (Option Expr)) (k : 
     → eval_positions (positions_of (map position_of (drop k ps))) names ≡ empty_in_front (eval_positions (positions_of (map position_of (drop (k + 1) ps))) names)
 value_empty names ps k below is = rw (drop_more ps k None below, is) refl
 
--- one more position behind those that are given
+-- one more position after those that are given
 pub given_written : (written : List Bool) (args : List ArrayValue) (a : ArrayValue) → length args ≡ count_written written
     → written_positions (written ++ true ∷ []) (args ++ a ∷ []) ≡ written_positions written args ++ Some a ∷ []
 given_written [] [] a long = refl

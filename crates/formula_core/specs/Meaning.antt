@@ -126,13 +126,13 @@ applied2 f (Err e) left = Err e
 applied2 f (Ok b) (Err e) = Err e
 applied2 f (Ok b) (Ok a) = given (of_both f a b)
 
--- one more position in front of those that follow, whose error comes before its own
+-- one more written position before those that follow; their error comes before its own
 abbrev pub in_front : Outcome → Result (List Position) Fault → Result (List Position) Fault
 in_front first (Err e) = Err e
 in_front (Err e) (Ok positions) = Err e
 in_front (Ok p) (Ok positions) = Ok (Some p ∷ positions)
 
--- the same for an empty one
+-- the same for an empty position, which has no error
 abbrev pub empty_in_front : Result (List Position) Fault → Result (List Position) Fault
 empty_in_front (Err e) = Err e
 empty_in_front (Ok positions) = Ok (None ∷ positions)

@@ -8,10 +8,12 @@ use Rattle.formula_core.specs.declared.evaluation.Operand.{Operand}
 use Rattle.formula_core.specs.declared.evaluation.Operand.TheVariants.{Lent, Made}
 use Rattle.formula_core.specs.Outcomes.{Outcome}
 
+-- the array of an operand
 abbrev pub array_in : Operand → ArrayValue
 array_in (Lent a) = a.now
 array_in (Made a) = a
 
+-- the same, or the error in its place
 abbrev pub outcome_of : Result Operand Fault → Outcome
 outcome_of (Ok o) = Ok (array_in o)
 outcome_of (Err e) = Err e
@@ -21,6 +23,7 @@ abbrev pub position_in : Option Operand → Position
 position_in None = None
 position_in (Some o) = Some (array_in o)
 
+-- the same for all positions of an index, or the error in their place
 abbrev pub positions_in : Result (Vec (Option Operand)) Fault → Result (List Position) Fault
 positions_in (Ok operands) = Ok (map position_in operands.items)
 positions_in (Err e) = Err e

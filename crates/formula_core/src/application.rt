@@ -1,4 +1,4 @@
-//! The functions that signs stand for, of arrays.
+//! What the functions of an expression do to arrays.
 
 ghost use Rattle.arrays_core.specs.Arrays.{IsAnswerTo};
 ghost use Rattle.formula_core.specs.Meaning.{along_of, scalar2_of, of_right, of_both};
@@ -35,7 +35,7 @@ use structural_fns::{
     Catenate, DropPlaces, DyadicTranspose, Ravel, Reshape, Reverse, Rotate, Take, Transpose,
 };
 
-/// A function of one array.
+/// What a function gives of its one argument.
 pub(crate) fn of_right(alloc: Global, function: Monadic, array: &Array) -> Result<Array, ApplyFault>
     ensures { IsAnswerTo (of_right function array.now) result }
 {
@@ -51,7 +51,7 @@ pub(crate) fn of_right(alloc: Global, function: Monadic, array: &Array) -> Resul
     }
 }
 
-/// A function of two arrays.
+/// What a function gives of its two arguments.
 pub(crate) fn of_both(
     alloc: Global,
     function: Dyadic,

@@ -18,7 +18,7 @@ use index_region::Seen;
 use selection_fns::Index;
 use std::alloc::{AllocError, Global};
 
-/// Something that tells what names show.
+/// Something that knows what each name shows.
 pub trait Shows {
     ghost use Rattle.std.specs.Prelude.{◌≡◌, ℕ, List};
     ghost use Rattle.formula_core.specs.Outcomes.{Outcome, read};
@@ -34,11 +34,14 @@ pub trait Shows {
 /// An argument: an array that a name lends, or one that was made on the way.
 #[derive(Drop)]
 pub(crate) enum Operand<'a> {
+    /// An array that a name shows.
     Lent(&'a Array),
+    /// An array that a literal or a function gave.
     Made(Array),
 }
 
 impl<'a> Operand<'a> {
+    /// The array that it stands for.
     fn array(&self) -> &Array
         ensures { result.now ≡ array_in self.now }
     {
@@ -48,6 +51,7 @@ impl<'a> Operand<'a> {
         }
     }
 
+    /// The array itself; one that is lent is copied.
     fn into_array(self) -> Result<Array, AllocError>
         ensures { IfOk result (λ array. array ≡ array_in self.entry) }
     {
@@ -59,7 +63,7 @@ impl<'a> Operand<'a> {
 }
 
 /// The value of an expression, where the names show these arrays and errors. The right argument of a function is
-/// evaluated first, then the left, and the first error that is met is the result; an error of a function has no origin.
+/// evaluated first, then the left, and the first error that is met is the result; an error of a function has no origin yet.
 pub fn evaluate<S: Shows>(
     alloc: Global,
     tree: &Expr,
@@ -203,7 +207,7 @@ fn of_positions(
     index.apply(alloc, args.as_slice())
 }
 
-/// What a function gave as an argument of the next one. Its error has no origin.
+/// What a function gave, as an argument of the next one. Its error has no origin yet.
 fn made<'a>(applied: Result<Array, ApplyFault>) -> Result<Result<Operand<'a>, Fault>, AllocError>
     ensures { (wanted : Result ArrayValue AKind) → IsAnswerTo wanted applied → IfOk result (λ operand. outcome_of operand ≡ given wanted) }
 {

@@ -1,4 +1,4 @@
-//! What signs stand for, in the words of the crates that work them out.
+//! The functions that signs stand for, as the crates of functions name them.
 
 ghost use Rattle.std.specs.Prelude.{◌≡◌};
 ghost use Rattle.formula_core.specs.Meaning.{scalar1_of, scalar2_of, along_of};
@@ -49,7 +49,7 @@ pub(crate) fn scalar2_of(function: ScalarDyad) -> Scalar2
     }
 }
 
-/// The axis that is written.
+/// The axis that a sign is written for.
 pub(crate) fn along_of(along: Written) -> Along
     ensures { result ≡ along_of along }
 {

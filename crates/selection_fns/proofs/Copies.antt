@@ -104,7 +104,7 @@ beyond_limits axes k places item_type long h =
         and_false true = refl
         and_false false = refl
 
--- what the checks of replicate tell of an index list of the result
+-- what the checks of replicate say of an index list of the result
 pub replicated_inside : (along : Along) (a b : ArrayValue) (index : List ℕ) → IsPlaceOf (replicate_form along a b) index
     → is_index_of (replicated_shape a b.shape (axis_at (max 1 (length b.shape)) along)) index ≡ true
 replicated_inside along a b index h =
@@ -172,7 +172,7 @@ maker_positive (count ∷ counts) i = either (nat_le i count) (maker counts (i -
     either true m = omega arith
     either false m = omega arith
 
--- the copies of one place, behind those of the places before
+-- the copies of one place, after those of the places before
 pub maker_run : (counts : List ℕ) (k i : ℕ) → k < length counts → sum (take k counts) < i → i ≤ sum (take k counts) + get_or counts k 0 → maker counts i ≡ k + 1
 maker_run [] k i below low high = absurd (omega arith)
 maker_run (count ∷ counts) zero i below low high =
@@ -194,15 +194,15 @@ maker_run (count ∷ counts) (suc k) i below low high =
     next : (m : ℕ) → m ≡ k + 1 → suc m ≡ suc k + 1
     next m h = omega arith
 
--- what is told of each entry of a list stays told where copies of a number follow
-pub told_run : (xs : List ℕ) (count x : ℕ) (f : ℕ → ℕ) → ((i : ℕ) → i < length xs → get_or xs i 0 + 1 ≡ f i) → ((j : ℕ) → j < count → x + 1 ≡ f (length xs + j))
+-- what holds of each entry of a list still holds where copies of a number follow
+pub holds_with_run : (xs : List ℕ) (count x : ℕ) (f : ℕ → ℕ) → ((i : ℕ) → i < length xs → get_or xs i 0 + 1 ≡ f i) → ((j : ℕ) → j < count → x + 1 ≡ f (length xs + j))
     → (i : ℕ) → i < length xs + count → get_or (xs ++ replicate count x) i 0 + 1 ≡ f i
-told_run [] zero x f before run i h = absurd (omega arith)
-told_run [] (suc count) x f before run zero h = run 0 (omega arith)
-told_run [] (suc count) x f before run (suc i) h = told_run [] count x (λ j. f (suc j)) (λ j k. absurd (omega arith)) (λ j k. run (suc j) (omega arith) ∙ ap f (let next : 0 + suc j ≡ suc (0 + j) = omega arith in next)) i (omega arith)
-told_run (y ∷ xs) count x f before run zero h = before 0 (omega arith)
-told_run (y ∷ xs) count x f before run (suc i) h =
-    told_run xs count x (λ j. f (suc j)) (λ j k. before (suc j) (omega arith)) (λ j k. run j k ∙ ap f (let next : suc (length xs) + j ≡ suc (length xs + j) = omega arith in next)) i (omega arith)
+holds_with_run [] zero x f before run i h = absurd (omega arith)
+holds_with_run [] (suc count) x f before run zero h = run 0 (omega arith)
+holds_with_run [] (suc count) x f before run (suc i) h = holds_with_run [] count x (λ j. f (suc j)) (λ j k. absurd (omega arith)) (λ j k. run (suc j) (omega arith) ∙ ap f (let next : 0 + suc j ≡ suc (0 + j) = omega arith in next)) i (omega arith)
+holds_with_run (y ∷ xs) count x f before run zero h = before 0 (omega arith)
+holds_with_run (y ∷ xs) count x f before run (suc i) h =
+    holds_with_run xs count x (λ j. f (suc j)) (λ j k. before (suc j) (omega arith)) (λ j k. run j k ∙ ap f (let next : suc (length xs) + j ≡ suc (length xs + j) = omega arith in next)) i (omega arith)
 
 -- one more of the counts
 pub record CountStep (a : ArrayValue) (k : ℕ) : Type 0 where

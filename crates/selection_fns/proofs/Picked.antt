@@ -18,7 +18,7 @@ use Rattle.index_region.specs.Sources.{item_from}
 use Rattle.selection_fns.specs.Replicate.{times, copied_place, replicate_form, replicate_item, replicate_whole}
 use Rattle.selection_fns.proofs.Copies.{axis_below, replicate_gives}
 
--- the item behind so many places of a vector, or fill
+-- the item of a vector after k places, or fill
 read_vector : (b : ArrayValue) (n place : ℕ) → b.shape ≡ n ∷ [] → length b.items ≡ n → 1 ≤ place
     → unwrap_or (item_if_there b (place ∷ [])) (fill b.item_type) ≡ get_or b.items (place - 1) (fill b.item_type)
 read_vector b n place is as_many low = decide (nat_le place n) refl

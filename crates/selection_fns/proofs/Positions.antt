@@ -10,7 +10,7 @@ use Rattle.index_region.specs.Arguments.{number_of}
 use Rattle.std.proofs.lemmas.List.{length-append, length-drop, take_all, drop_more}
 use Rattle.arrays_core.specs.Arrays.{ArrayValue}
 use Rattle.arrays_core.specs.Shapes.{is_index_of}
-use Rattle.selection_fns.specs.Index.{count_written, written_positions, indexed_shape, is_place, is_on, are_on}
+use Rattle.selection_fns.specs.Index.{count_written, written_positions, indexed_shape, is_on_axis, is_on, are_on}
 
 -- the first position where it is not written, and the rest
 pub record IsEmptyFirst (written : List Bool) (args : List ArrayValue) : Type 0 where
@@ -90,7 +90,7 @@ written_axes (n ∷ axes) (true ∷ written) (a ∷ args) p same long h is =
     subst (λ q. length q.shape ≤ length (a.shape ++ indexed_shape axes (written_positions written args))) (sym is) (omega arith)
 
 -- the magnitude of an index that is on an axis
-magnitude_within : (n : ℕ) (z : ℤ) → is_place n z ≡ true → unsigned_abs z ≤ n
+magnitude_within : (n : ℕ) (z : ℤ) → is_on_axis n z ≡ true → unsigned_abs z ≤ n
 magnitude_within n (pos k) h = second (int_le (pos 1) (pos k)) h
   where
     second : (a : Bool) → (a && nat_le k n) ≡ true → k ≤ n
@@ -98,15 +98,15 @@ magnitude_within n (pos k) h = second (int_le (pos 1) (pos k)) h
     second false h = let no : ⊥ = cc in absurd no
 magnitude_within n (negsuc k) h = let no : ⊥ = cc in absurd no
 
-pub place_within : (n : ℕ) (items : List Item) (k : ℕ) (d : Item) → unsigned_abs (number_of d) ≤ n → list_all (is_place n) (map number_of items) ≡ true
+pub place_within : (n : ℕ) (items : List Item) (k : ℕ) (d : Item) → unsigned_abs (number_of d) ≤ n → list_all (is_on_axis n) (map number_of items) ≡ true
     → unsigned_abs (number_of (get_or items k d)) ≤ n
 place_within n [] k d low h = low
-place_within n (x ∷ items) zero d low h = magnitude_within n (number_of x) (and_first (is_place n (number_of x)) _ h)
+place_within n (x ∷ items) zero d low h = magnitude_within n (number_of x) (and_first (is_on_axis n (number_of x)) _ h)
   where
     and_first : (a b : Bool) → (a && b) ≡ true → a ≡ true
     and_first true b h = refl
     and_first false b h = let no : ⊥ = cc in absurd no
-place_within n (x ∷ items) (suc k) d low h = place_within n items k d low (and_second (is_place n (number_of x)) _ h)
+place_within n (x ∷ items) (suc k) d low h = place_within n items k d low (and_second (is_on_axis n (number_of x)) _ h)
   where
     and_second : (a b : Bool) → (a && b) ≡ true → b ≡ true
     and_second true b h = h
@@ -144,17 +144,17 @@ pub record IsPlaceIn (n : ℕ) (z : ℤ) : Type 0 where
   pub high : unsigned_abs z ≤ n
   pub is : z ≡ pos (unsigned_abs z)
 
-pub place_in : (n : ℕ) (z : ℤ) → is_place n z ≡ true → IsPlaceIn n z
+pub place_in : (n : ℕ) (z : ℤ) → is_on_axis n z ≡ true → IsPlaceIn n z
 place_in n (pos zero) h = let no : ⊥ = cc in absurd no
 place_in n (pos (suc k)) h = record { low = omega arith; high = magnitude_within n (pos (suc k)) h; is = refl }
 place_in n (negsuc k) h = let no : ⊥ = cc in absurd no
 
 -- the first of those that are all on an axis, and the rest
-pub place_first : (n : ℕ) (zs : List ℤ) (k : ℕ) (d : ℤ) → k < length zs → list_all (is_place n) (drop k zs) ≡ true
-    → (is_place n (get_or zs k d) ≡ true) × (list_all (is_place n) (drop (k + 1) zs) ≡ true)
+pub place_first : (n : ℕ) (zs : List ℤ) (k : ℕ) (d : ℤ) → k < length zs → list_all (is_on_axis n) (drop k zs) ≡ true
+    → (is_on_axis n (get_or zs k d) ≡ true) × (list_all (is_on_axis n) (drop (k + 1) zs) ≡ true)
 place_first n zs k d below h =
     let more = drop_more zs k d below in
-    and_both (is_place n (get_or zs k d)) _ (subst (λ ys. list_all (is_place n) ys ≡ true) more h)
+    and_both (is_on_axis n (get_or zs k d)) _ (subst (λ ys. list_all (is_on_axis n) ys ≡ true) more h)
   where
     and_both : (a b : Bool) → (a && b) ≡ true → (a ≡ true) × (b ≡ true)
     and_both true b h = (refl, h)

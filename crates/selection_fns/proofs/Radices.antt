@@ -18,7 +18,7 @@ use Rattle.index_region.specs.Answers.{IsPlaceOf}
 use Rattle.index_region.proofs.Passing.{passed, place_inside}
 use Rattle.selection_fns.specs.Encode.{carried, carried_through, encode_form}
 
--- an error behind is an error in front
+-- an error at a later radix is an error at those before it
 pub error_through : (radices : List ℤ) (n : ℕ) (z : ℤ) (e : Kind) → carried_through (drop n radices) z ≡ Err e → carried_through radices z ≡ Err e
 error_through radices zero z e h = h
 error_through [] (suc n) z e h = h
@@ -85,10 +85,10 @@ encode_rank a b index h = within (length a.shape) (passed (is_list a) _ _ index 
     within : (n : ℕ) → nat_le n 1 ≡ true → n ≤ 1
     within n e = grind (arith, nat_tests)
 
-pub behind : (front rest index : List ℕ) → is_index_of (front ++ rest) index ≡ true → is_index_of rest (drop (length front) index) ≡ true
-behind [] rest index h = h
-behind (n ∷ front) rest [] h = cc
-behind (n ∷ front) rest (i ∷ index) h = behind front rest index (head_of n i (front ++ rest) index h).rest
+pub after : (front rest index : List ℕ) → is_index_of (front ++ rest) index ≡ true → is_index_of rest (drop (length front) index) ≡ true
+after [] rest index h = h
+after (n ∷ front) rest [] h = cc
+after (n ∷ front) rest (i ∷ index) h = after front rest index (head_of n i (front ++ rest) index h).rest
 
 -- the index of the one axis in front
 pub record InFront (front index : List ℕ) : Type 0 where

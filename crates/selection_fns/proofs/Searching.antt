@@ -31,11 +31,15 @@ module _ {K : Type 0} (item : K → Item) (eq : K → K → Bool) (alike : (x y 
   members_as xs [] = refl
   members_as xs (y ∷ ys) = rw (any_as y xs, members_as xs ys) refl
 
+truth_is_1 : (w : Bool) → int_eq (truth w) (pos 1) ≡ w
+truth_is_1 true = refl
+truth_is_1 false = refl
+
 pub same_numbers : (x y : ℤ) → same_item (Num x) (Num y) ≡ int_eq x y
-same_numbers x y = refl
+same_numbers x y = truth_is_1 (int_eq x y)
 
 pub same_characters : (x y : ℕ) → same_item (Char x) (Char y) ≡ nat_eq x y
-same_characters x y = refl
+same_characters x y = truth_is_1 (nat_eq x y)
 
 -- ---- items of the other type
 
@@ -75,9 +79,9 @@ module _ (a b : ArrayValue) (in_a : All (λ item. type_of item ≡ a.item_type) 
 first_passes : (n : ℕ) → nat_le 1 (suc n) ≡ true
 first_passes n = grind (arith, nat_tests)
 
-behind_the_first : (m n : ℕ) (w : Bool) → nat_le (suc m) n ≡ w → nat_le (suc (1 + m)) (suc n) ≡ w
-behind_the_first m n true h = grind (arith, nat_tests)
-behind_the_first m n false h = grind (arith, nat_tests)
+after_the_first : (m n : ℕ) (w : Bool) → nat_le (suc m) n ≡ w → nat_le (suc (1 + m)) (suc n) ≡ w
+after_the_first m n true h = grind (arith, nat_tests)
+after_the_first m n false h = grind (arith, nat_tests)
 
 pub found_if_any : (p : Item → Bool) (xs : List Item) → nat_le (suc (position_or_len p xs)) (length xs) ≡ list_any p xs
 found_if_any p [] = refl
@@ -86,4 +90,4 @@ found_if_any p (x ∷ xs) = decide (p x) refl (found_if_any p xs)
     decide : (w : Bool) → p x ≡ w → nat_le (suc (position_or_len p xs)) (length xs) ≡ list_any p xs
         → nat_le (suc (position_or_len p (x ∷ xs))) (length (x ∷ xs)) ≡ list_any p (x ∷ xs)
     decide true e more = rw e (first_passes (length xs))
-    decide false e more = rw e (behind_the_first (position_or_len p xs) (length xs) (list_any p xs) more)
+    decide false e more = rw e (after_the_first (position_or_len p xs) (length xs) (list_any p xs) more)

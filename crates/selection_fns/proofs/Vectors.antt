@@ -14,13 +14,13 @@ use Rattle.arrays_core.proofs.Order.{given_in_order, index_after-within, places_
 use Rattle.index_region.specs.Checks.{Form, and_then}
 use Rattle.index_region.specs.Arguments.{numbers, number_of, is_scalar}
 use Rattle.index_region.proofs.Passing.{gives, limited_gives}
-use Rattle.selection_fns.specs.Index.{Position, count_written, written_positions, of_array_and_positions, are_numbers, are_on, is_place, indexed_shape, index_form, index_item, index_whole}
+use Rattle.selection_fns.specs.Index.{Position, count_written, written_positions, of_array_and_positions, are_numbers, are_on, is_on_axis, indexed_shape, index_form, index_item, index_whole}
 use Rattle.selection_fns.proofs.Indexed.{positions_long}
 use Rattle.selection_fns.proofs.Positions.{place_in}
 
 -- what is known of an index of a vector by one position, where the checks have passed
 pub record OfVector (a p : ArrayValue) (shape : List ℕ) (item_type : ItemType) : Type 0 where
-  pub on : list_all (is_place (get_or a.shape 0 0)) (numbers p) ≡ true
+  pub on : list_all (is_on_axis (get_or a.shape 0 0)) (numbers p) ≡ true
   pub shaped : shape ≡ p.shape
   pub typed : item_type ≡ a.item_type
   pub form : index_form a (Some p ∷ []) ≡ Ok (shape, item_type)
@@ -39,7 +39,7 @@ of_one_axis n a p shape item_type is form =
     let on = gives (are_on a.shape positions) _ _ (shape, item_type) counted.is in
     let asked = limited_gives (indexed_shape a.shape positions) a.item_type (shape, item_type) on.is in
     record {
-      on = subst (λ m. list_all (is_place m) (numbers p) ≡ true) (sym (ap (λ s. get_or s 0 0) is)) (first_of_all (list_all (is_place n) (numbers p)) (subst (λ s. are_on s positions ≡ true) is on.test));
+      on = subst (λ m. list_all (is_on_axis m) (numbers p) ≡ true) (sym (ap (λ s. get_or s 0 0) is)) (first_of_all (list_all (is_on_axis n) (numbers p)) (subst (λ s. are_on s positions ≡ true) is on.test));
       shaped = ap (λ (f : Form). f.0) asked ∙ ap (λ s. indexed_shape s positions) is ∙ append-nil p.shape;
       typed = ap (λ (f : Form). f.1) asked;
       form = form;
@@ -94,7 +94,7 @@ both_of true w h = (refl, h)
 both_of false w h = let no : ⊥ = cc in absurd no
 
 -- its items are picked one after another
-module _ (n : ℕ) (a p : ArrayValue) (is : a.shape ≡ n ∷ []) (on : list_all (is_place n) (numbers p) ≡ true) (as_many : length p.items ≡ size p.shape) where
+module _ (n : ℕ) (a p : ArrayValue) (is : a.shape ≡ n ∷ []) (on : list_all (is_on_axis n) (numbers p) ≡ true) (as_many : length p.items ≡ size p.shape) where
   abbrev before : List ℕ
   before = map (λ z. unsigned_abs z - 1) (numbers p)
 
@@ -130,10 +130,10 @@ module _ (n : ℕ) (a p : ArrayValue) (is : a.shape ≡ n ∷ []) (on : list_all
       number_there : (k : ℕ) → k < length p.items → number_of (get_or p.items k (fill p.item_type)) ≡ get_or (numbers p) k (pos 0)
       number_there k h = sym (get_or-map number_of p.items k (fill p.item_type) (pos 0) h)
 
-      all_there : (zs : List ℤ) (k : ℕ) → k < length zs → list_all (is_place n) zs ≡ true → is_place n (get_or zs k (pos 0)) ≡ true
+      all_there : (zs : List ℤ) (k : ℕ) → k < length zs → list_all (is_on_axis n) zs ≡ true → is_on_axis n (get_or zs k (pos 0)) ≡ true
       all_there [] k h all = absurd (omega arith)
-      all_there (z ∷ zs) zero h all = (both_of (is_place n z) _ all).0
-      all_there (z ∷ zs) (suc k) h all = all_there zs k (omega arith) (both_of (is_place n z) _ all).1
+      all_there (z ∷ zs) zero h all = (both_of (is_on_axis n z) _ all).0
+      all_there (z ∷ zs) (suc k) h all = all_there zs k (omega arith) (both_of (is_on_axis n z) _ all).1
 
       on_vector : (place : ℕ) → 1 ≤ place → place ≤ n → item_if_there a (place ∷ []) ≡ Some (get_or a.items (place - 1) (fill a.item_type))
       on_vector place low high =

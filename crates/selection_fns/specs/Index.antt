@@ -17,12 +17,12 @@ are_numbers (Some p) = counts_as_numbers p
 are_numbers None = true
 
 -- an index is on an axis of n places
-abbrev pub is_place : ℕ → ℤ → Bool
-is_place n z = int_le (pos 1) z && int_le z (pos n)
+abbrev pub is_on_axis : ℕ → ℤ → Bool
+is_on_axis n z = int_le (pos 1) z && int_le z (pos n)
 
--- the indices of a position are
+-- all indices of a position are on its axis
 abbrev pub is_on : ℕ → Position → Bool
-is_on n (Some p) = list_all (is_place n) (numbers p)
+is_on n (Some p) = list_all (is_on_axis n) (numbers p)
 is_on n None = true
 
 abbrev pub are_on : List ℕ → List Position → Bool
@@ -47,15 +47,15 @@ positions_checked a positions rest =
 abbrev pub index_form : ArrayValue → List Position → Result Form Kind
 index_form a positions = positions_checked a positions (limited (indexed_shape a.shape positions) a.item_type)
 
--- each position takes its own part of the index list
-abbrev pub indexed_places : List Position → List ℕ → List ℕ
-indexed_places [] index = []
-indexed_places (None ∷ positions) index = get_or index 0 0 ∷ indexed_places positions (drop 1 index)
-indexed_places (Some p ∷ positions) index =
-    unsigned_abs (number_of (item_of p (take (length p.shape) index))) ∷ indexed_places positions (drop (length p.shape) index)
+-- the index list of the indexed array: each position takes its own part of the index list, and gives the index on its axis
+abbrev pub source_index : List Position → List ℕ → List ℕ
+source_index [] index = []
+source_index (None ∷ positions) index = get_or index 0 0 ∷ source_index positions (drop 1 index)
+source_index (Some p ∷ positions) index =
+    unsigned_abs (number_of (item_of p (take (length p.shape) index))) ∷ source_index positions (drop (length p.shape) index)
 
 abbrev pub index_source : List Position → List ℕ → Source
-index_source positions index = Some (0, indexed_places positions index)
+index_source positions index = Some (0, source_index positions index)
 
 abbrev pub index_item : ArrayValue → List Position → List ℕ → Result Item Kind
 index_item a positions index = item_from a a a.item_type (index_source positions index)
@@ -71,13 +71,13 @@ written_positions (true ∷ written) (p ∷ args) = Some p ∷ written_positions
 written_positions (false ∷ written) args = None ∷ written_positions written args
 written_positions written args = []
 
--- how many are written
+-- how many positions are written
 abbrev pub count_written : List Bool → ℕ
 count_written [] = 0
 count_written (true ∷ written) = suc (count_written written)
 count_written (false ∷ written) = count_written written
 
--- a function of the array and its positions, given the list of arguments; of an empty list nothing is said
+-- a function of the array and its positions, given the list of arguments; no call has an empty list, which is LENGTH here
 abbrev pub of_array_and_positions : {A : Type 0} → List Bool → (ArrayValue → List Position → Result A Kind) → List ArrayValue → Result A Kind
 of_array_and_positions written f [] = Err Length
 of_array_and_positions written f (a ∷ args) = f a (written_positions written args)

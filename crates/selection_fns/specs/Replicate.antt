@@ -10,7 +10,7 @@ use Rattle.index_region.specs.Sources.{Source, item_from}
 use Rattle.index_region.specs.Arguments.{is_scalar, is_list, has_one_item, counts_as_numbers, number_of, numbers, none_negative}
 use Rattle.index_region.specs.Axes.{is_axis, axis_at, places_along}
 
--- how often each place of an axis of n places stands; a single count is that of every place
+-- how many copies each place of an axis of n places has; a single count is that of every place
 abbrev pub times : ArrayValue → ℕ → List ℕ
 times a n = if has_one_item a then replicate n (unsigned_abs (number_of (item_of a []))) else map unsigned_abs (numbers a)
 

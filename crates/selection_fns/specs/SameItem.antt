@@ -1,11 +1,18 @@
 -- When two items are the same.
-use Rattle.std.specs.Prelude.{nat_eq, Bool, false}
+use Rattle.std.specs.Prelude.{pos, Bool, false, Result, Ok, Err}
 use Rattle.std.specs.Ordering.{int_eq}
 use Rattle.arrays_core.specs.declared.item.Item.{Item}
 use Rattle.arrays_core.specs.declared.item.Item.TheVariants.{Num, Char}
+use Rattle.arrays_core.specs.declared.item.Kind.{Kind}
+use Rattle.scalar_fns.specs.declared.function.Scalar2.TheVariants.{Equal}
+use Rattle.scalar_fns.specs.Items.{dyadic_on_items}
 
--- items are compared as by =; a character is no number
+-- the answer of a comparison is 1
+abbrev pub is_1 : Result Item Kind → Bool
+is_1 (Ok (Num z)) = int_eq z (pos 1)
+is_1 (Ok (Char c)) = false
+is_1 (Err k) = false
+
+-- items are compared by =, so a character is no number
 abbrev pub same_item : Item → Item → Bool
-same_item (Num a) (Num b) = int_eq a b
-same_item (Char a) (Char b) = nat_eq a b
-same_item x y = false
+same_item x y = is_1 (dyadic_on_items Equal x y)

@@ -9,7 +9,7 @@ ghost use Rattle.arrays_core.specs.Shapes.{size as size_of, is_index_of};
 ghost use Rattle.index_region.specs.Checks.{Form, is_within_limits};
 ghost use Rattle.index_region.specs.Arguments.{counts_as_numbers, number_of, numbers};
 ghost use Rattle.index_region.specs.Answers.{IsPlaceOf, source_value};
-ghost use Rattle.selection_fns.specs.Index.{Position, written_positions, count_written, of_array_and_positions, is_place, is_on as is_position_on, are_on as are_positions_on, are_numbers as are_positions_numbers, indexed_shape as shape_indexed, indexed_places as places_indexed, positions_checked, index_form, index_source, index_item, index_whole};
+ghost use Rattle.selection_fns.specs.Index.{Position, written_positions, count_written, of_array_and_positions, is_on_axis, is_on as is_position_on, are_on as are_positions_on, are_numbers as are_positions_numbers, indexed_shape as shape_indexed, source_index, positions_checked, index_form, index_source, index_item, index_whole};
 
 use crate::axes::MOST_AXES;
 use arrays_core::{ApplyFault, Array, Item, ItemType, Kind, Shape, append_axes};
@@ -37,7 +37,7 @@ fn are_numbers(written: &[bool], positions: &[Seen]) -> bool
 
 /// The indices of a position are on an axis.
 fn is_on(position: &Seen, axis: u32) -> bool
-    ensures { result ≡ list_all (is_place axis) (numbers position.now) }
+    ensures { result ≡ list_all (is_on_axis axis) (numbers position.now) }
 {
     for place in 0..position.places() {
         let index = position.number(place + 1);
@@ -134,7 +134,7 @@ fn append_positions(
 /// The index that a position has at an index list of its own.
 fn index_in(position: &Seen, at: &[u32], axis: u32) -> u32
     requires inside { IsTrue (is_index_of position.now.shape at.now) }
-    requires on { IsTrue (list_all (is_place axis) (numbers position.now)) }
+    requires on { IsTrue (list_all (is_on_axis axis) (numbers position.now)) }
     ensures { result ≡ unsigned_abs (number_of (item_of position.now at.now)) }
 {
     match position.at(at) {
@@ -145,7 +145,7 @@ fn index_in(position: &Seen, at: &[u32], axis: u32) -> u32
 
 /// An index of an axis, counted from 0.
 fn from_zero(index: i64, axis: u32) -> u32
-    requires { IsTrue (is_place axis index) }
+    requires { IsTrue (is_on_axis axis index) }
     ensures { result ≡ unsigned_abs index - 1 }
 {
     (index.unsigned_abs() - 1) as u32
@@ -153,7 +153,7 @@ fn from_zero(index: i64, axis: u32) -> u32
 
 /// The indices of a position, counted from 0.
 fn indices_from_zero(alloc: Global, position: &Seen, axis: u32) -> Result<Vec<u32>, AllocError>
-    requires { IsTrue (list_all (is_place axis) (numbers position.now)) }
+    requires { IsTrue (list_all (is_on_axis axis) (numbers position.now)) }
     ensures is { IfOk result (λ before. before.items ≡ map (λ z. unsigned_abs z - 1) (numbers position.now)) }
     ensures long { length position.now.items ≡ size_of position.now.shape }
 {
@@ -167,36 +167,36 @@ fn indices_from_zero(alloc: Global, position: &Seen, axis: u32) -> Result<Vec<u3
 
 /// Puts the index on each axis of the array at the end of a list: each position takes its own part of
 /// the index list of the result.
-fn append_places(
-    places: &mut Shape,
+fn append_source_index(
+    at: &mut Shape,
     axes: &[u32],
     written: &[bool],
     positions: &[Seen],
     index: &[u32],
 )
-    requires inline { places.old.capacity ≡ 4 }
-    requires room { length places.old.items + length written.now ≤ 4 }
+    requires inline { at.old.capacity ≡ 4 }
+    requires room { length at.old.items + length written.now ≤ 4 }
     requires one_an_axis { length written.now ≡ length axes.now }
     requires long { length positions.now ≡ count_written written.now }
     requires on { IsTrue (are_positions_on axes.now (written_positions written.now positions.now)) }
     requires inside { IsTrue (is_index_of (shape_indexed axes.now (written_positions written.now positions.now)) index.now) }
-    ensures { places.new.items ≡ places.old.items ++ places_indexed (written_positions written.now positions.now) index.now }
+    ensures { at.new.items ≡ at.old.items ++ source_index (written_positions written.now positions.now) index.now }
 {
     if written.is_empty() {
         return;
     }
     if !written[0] {
         prove!(1 <= index.len());
-        places.push_reserved(index[0]);
-        append_places(places, &axes[1..], &written[1..], positions, &index[1..]);
+        at.push_reserved(index[0]);
+        append_source_index(at, &axes[1..], &written[1..], positions, &index[1..]);
         return;
     }
     let position = &positions[0];
     let rank = position.shape().len();
     prove!(rank <= index.len());
     let (own, others) = index.split_at(rank);
-    places.push_reserved(index_in(position, own, axes[0]));
-    append_places(places, &axes[1..], &written[1..], &positions[1..], others);
+    at.push_reserved(index_in(position, own, axes[0]));
+    append_source_index(at, &axes[1..], &written[1..], &positions[1..], others);
 }
 
 /// Indexed reference, `A[I;..]` (ISO/IEC 13751, "Indexed Reference"): the items of A at the indices of
@@ -219,7 +219,7 @@ impl<'w> Index<'w> {
     {
         let axes = array.shape();
         let mut at = SmallVec::new(*axes.allocator());
-        append_places(&mut at, axes.as_slice(), self.written, positions, index);
+        append_source_index(&mut at, axes.as_slice(), self.written, positions, index);
         Source::Place { arg: 0, at }
     }
 

@@ -57,6 +57,7 @@ fn first_places_in(alloc: Global, array: &Seen, sought: &Seen) -> Result<Vec<i64
     ensures is { IfOk result (λ v. v.items ≡ map (λ x. pos (suc (position_or_len (same_item x) array.now.items))) sought.now.items) }
     ensures long { length sought.now.items ≡ size_of sought.now.shape }
 {
+    // The numbers of places say that both arrays are within the limits.
     let _within_limits = (array.places(), sought.places());
     if let (Some(items), Some(numbers)) = (array.numbers(), sought.numbers()) {
         return first_places(alloc, items, numbers);

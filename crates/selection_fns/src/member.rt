@@ -33,7 +33,8 @@ fn no_members(alloc: Global, array: &Seen, sought: &Seen) -> Result<Vec<i64>, Al
     requires { array.now.item_type ≢ sought.now.item_type }
     ensures { IfOk result (λ v. v.items ≡ map (λ x. truth_of (list_any (same_item x) array.now.items)) sought.now.items) }
 {
-    let _within_limits = array.places();
+    // The number of places says that each item is of the type of its array.
+    let _one_type = array.places();
     all_of(alloc, 0, sought.places())
 }
 
@@ -42,7 +43,8 @@ fn are_members(alloc: Global, array: &Seen, sought: &Seen) -> Result<Vec<i64>, A
     ensures is { IfOk result (λ v. v.items ≡ map (λ x. truth_of (list_any (same_item x) array.now.items)) sought.now.items) }
     ensures long { length sought.now.items ≡ size_of sought.now.shape }
 {
-    let _within_limits = sought.places();
+    // The number of places says that there is one item for each place of the shape.
+    let _one_item_a_place = sought.places();
     if let (Some(items), Some(numbers)) = (array.numbers(), sought.numbers()) {
         return members_of(alloc, items, numbers);
     }

@@ -19,13 +19,13 @@ returns-in_err-rest c =
     let same : to_z w64 (of_z w64 c.number.result) ≡ c.number.result = to_z-of_z w64 _ fits in
     let gave : Err e ≡ carried c.number.result c.loop-before.rest = rw (same, c.loop-before.rest-is) at c.in_err-rest.ensures in
     let same_number : to_z w64 (of_z w64 c.args.number) ≡ c.args.number = to_z-of_z w64 _ c.ranges.number in
-    let behind : carried_through (drop (k + 1) radices) c.args.number ≡ Ok c.loop-before.rest =
+    let after : carried_through (drop (k + 1) radices) c.args.number ≡ Ok c.loop-before.rest =
     ap (λ n. carried_through (drop n radices) c.args.number) (sym next) ∙ (rw (same_number, c.loop-before.rest-is) at c.loop-before.invariant.carried) in
     let below : k < length radices = omega (arith, c.loop-before.auto.before, c.places-before.ensures.is) in
     let place : k + 1 - 1 ≡ k = omega arith in
     let radix : get_or radices k (pos 0) ≡ c.number.result = ap (λ n. get_or radices n (pos 0)) (sym place) ∙ sym c.number.ensures in
     let failed_here : carried_through (drop k radices) c.args.number ≡ Err e =
-    one_more_radix radices k c.args.number c.loop-before.rest below behind ∙ ap (λ r. carried r c.loop-before.rest) radix ∙ sym gave in
+    one_more_radix radices k c.args.number c.loop-before.rest below after ∙ ap (λ r. carried r c.loop-before.rest) radix ∙ sym gave in
     let failed : carried_through (drop c.args.place radices) c.args.number ≡ Err e =
     error_in_front radices c.args.place k c.args.number e (omega (arith, c.loop-before-test.true)) failed_here in
     rw failed (search rules)
@@ -50,7 +50,7 @@ returns-then-rest-eq0 c =
     let number = c.args.number in
     let same_number : to_z w64 (of_z w64 number) ≡ number = to_z-of_z w64 _ c.ranges.number in
     let nothing : to_z w64 c.loop-before.rest-bits ≡ pos 0 = ap (to_z w64) c.if-rest-eq0.true in
-    let behind : carried_through (drop c.loop-before.before radices) number ≡ Ok (pos 0) = (rw same_number at c.loop-before.invariant.carried) ∙ ap Ok nothing in
-    let front = zero_in_front radices place c.loop-before.before number c.loop-before.invariant.above behind in
+    let after : carried_through (drop c.loop-before.before radices) number ≡ Ok (pos 0) = (rw same_number at c.loop-before.invariant.carried) ∙ ap Ok nothing in
+    let front = zero_in_front radices place c.loop-before.before number c.loop-before.invariant.above after in
     let radix = get_or radices (place - 1) (pos 0) in
     sym (ap (λ r. and_then r (λ rest. Ok (residue radix rest))) front ∙ ap Ok (zero_digit radix))

@@ -6,7 +6,7 @@ use Rattle.arrays_core.specs.Arrays.{item_of}
 use Rattle.index_region.specs.Arguments.{numbers, number_of}
 use Rattle.scalar_fns.specs.Items.{number_item}
 use Rattle.selection_fns.specs.Encode.{digit}
-use Rattle.selection_fns.proofs.Radices.{encode_inside, encode_rank, behind, in_front}
+use Rattle.selection_fns.proofs.Radices.{encode_inside, encode_rank, after, in_front}
 use Rattle.selection_fns.proofs.encode.digit_at.Goals as goal
 
 the_rest : (index : List ℕ) → take (length index - 1) (drop 1 index) ≡ drop 1 index
@@ -19,7 +19,7 @@ number_at-requires-2 c =
     let index = c.args.index.now in
     let inside = encode_inside a b index c.requires in
     let one : length a.shape ≡ 1 = omega (arith, encode_rank a b index c.requires, c.if-rank-eq0.false, c.len-rank.ensures.value, ap length c.shape.ensures.is) in
-    let rest : is_index_of b.shape (drop 1 index) ≡ true = rw one at (behind a.shape b.shape index inside) in
+    let rest : is_index_of b.shape (drop 1 index) ≡ true = rw one at (after a.shape b.shape index inside) in
     rw the_rest (search rules)
 
 pub digit-requires-2-clause-low : goal.digit-requires-2-clause-low

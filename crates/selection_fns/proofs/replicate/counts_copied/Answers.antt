@@ -2,7 +2,7 @@ use Rattle.std.proofs.Common.{rules, ◌≡◌, ◌+◌, ◌++◌, length, get_o
 use Rattle.std.proofs.lemmas.List.{length-append, length-replicate}
 use Rattle.index_region.specs.Arguments.{numbers}
 use Rattle.selection_fns.specs.Replicate.{maker}
-use Rattle.selection_fns.proofs.Copies.{count_step, maker_run, told_run}
+use Rattle.selection_fns.proofs.Copies.{count_step, maker_run, holds_with_run}
 use Rattle.selection_fns.proofs.replicate.counts_copied.Goals as goal
 
 pub overflow_cast-count : goal.overflow_cast-count
@@ -28,7 +28,7 @@ loop-place-preserved c =
     let at : count ≡ get_or counts k 0 = search (rules, step.at) in
     let grown : c.append_copies.new.list.items ≡ before ++ replicate count k = search rules in
     let long : length c.append_copies.new.list.items ≡ length before + count = rw grown (simp (length-append, length-replicate) (omega arith)) in
-    let told = told_run before count k (λ i. maker counts (i + 1)) inv.is
+    let told = holds_with_run before count k (λ i. maker counts (i + 1)) inv.is
     (λ j h. sym (maker_run counts k (length before + j + 1) step.below (omega (arith, inv.first)) (omega (arith, inv.first, at)))) in
     record {
       long = omega (arith, long, at, step.rest, inv.long);

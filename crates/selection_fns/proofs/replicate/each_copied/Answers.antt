@@ -1,6 +1,6 @@
 use Rattle.std.proofs.Common.{rules, ◌≡◌, ◌+◌, ◌-◌, ◌++◌, length, get_or, replicate, subst, sym, ap, ◌∙◌, arith}
 use Rattle.selection_fns.specs.Replicate.{maker}
-use Rattle.selection_fns.proofs.Copies.{maker_positive, told_run}
+use Rattle.selection_fns.proofs.Copies.{maker_positive, holds_with_run}
 use Rattle.selection_fns.proofs.replicate.each_copied.Goals as goal
 
 pub overflow_sub-maker_of_each : goal.overflow_sub-maker_of_each
@@ -17,7 +17,7 @@ loop-copy-preserved c =
     let low = maker_positive counts (copy + 1) in
     let pushed : c.push.new.self.items ≡ before ++ replicate 1 (c.maker_of_each.result - 1) = search rules in
     let this : c.maker_of_each.result - 1 + 1 ≡ maker counts (copy + 1) = omega (arith, c.maker_of_each.ensures) in
-    let told = told_run before 1 (c.maker_of_each.result - 1) (λ i. maker counts (i + 1)) (λ i h. inv.is i (omega (arith, inv.long)))
+    let told = holds_with_run before 1 (c.maker_of_each.result - 1) (λ i. maker counts (i + 1)) (λ i h. inv.is i (omega (arith, inv.long)))
     (λ j h. this ∙ ap (λ i. maker counts (i + 1)) (let at : copy ≡ length before + j = omega (arith, inv.long) in at)) in
     record {
       long = search (rules, inv.long);

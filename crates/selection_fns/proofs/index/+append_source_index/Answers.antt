@@ -1,7 +1,7 @@
 use Rattle.std.proofs.Common.{rules, ◌≡◌, ◌<◌, ◌+◌, length, drop, arith}
 use Rattle.std.proofs.lemmas.List.{length_push, length-drop}
 use Rattle.selection_fns.proofs.Positions.{split_written, split_empty, written_step, tail_of}
-use Rattle.selection_fns.proofs.index.+append_places.Goals as goal
+use Rattle.selection_fns.proofs.index.+append_source_index.Goals as goal
 
 pub prove-unreachable-requires : goal.prove-unreachable-requires
 prove-unreachable-requires t c =
@@ -21,14 +21,14 @@ index_in-requires-clause-inside t c =
     let first = (split_written c.args.axes.now c.args.written.now c.args.positions.now c.args.index.now p c.requires.one_an_axis c.requires.long c.if-not-written.false c.index-positions-0.is c.requires.inside).first in
     search (rules, first)
 
-pub append_places-requires-2 : goal.append_places-requires-2
-append_places-requires-2 t c =
+pub append_source_index-requires-2 : goal.append_source_index-requires-2
+append_source_index-requires-2 t c =
     let p = c.index-positions-0.result in
     let others = (split_written c.args.axes.now c.args.written.now c.args.positions.now c.args.index.now p c.requires.one_an_axis c.requires.long c.if-not-written.false c.index-positions-0.is c.requires.inside).others in
     let step = written_step c.args.axes.now c.args.written.now c.args.positions.now c.requires.one_an_axis c.requires.long c.if-not-written.false in
     let long = step.long in
     let on = step.on c.requires.on in
-    let more : length c.push_reserved-2.new.self.items ≡ length c.args.places.now.items + 1 = rw c.push_reserved-2.ensures.items (length_push c.args.places.now.items c.index_in.result) in
+    let more : length c.push_reserved-2.new.self.items ≡ length c.args.at.now.items + 1 = rw c.push_reserved-2.ensures.items (length_push c.args.at.now.items c.index_in.result) in
     let room = c.requires.room in
     let some : 0 < length c.args.written.now = search rules in
     let parted : c.split_at.result.1.now ≡ drop (length p.shape) c.args.index.now = search rules in
