@@ -5,6 +5,7 @@ use Rattle.std.specs.Global.{Vec}
 use Rattle.apl_expr.specs.declared.expr.Literal as literal
 use Rattle.apl_expr.specs.Trees.{Constant, Numbers, Text, constant_of}
 use Rattle.apl_tokens.specs.Lexemes.{Lexeme, Number, Characters, Named, Sign}
+use Rattle.apl_tokens.specs.Signs.{left_arrow, right_bracket, semicolon}
 use Rattle.apl_expr.specs.declared.edit.Edit as code
 use Rattle.apl_expr.specs.declared.edit.Edit.TheVariants as edit
 use Rattle.apl_expr.specs.declared.fault.ParseFault.{ParseFault}
@@ -23,10 +24,10 @@ pub data Written : Type 0 where
   Write : List ℤ → Constant → Written
 
 abbrev pub after_position : List ℤ → ℕ → Option Edit
-after_position ps c = if c == 0x3b then Some (Open ps) else (if c == 0x5d then Some (Closed ps) else None)
+after_position ps c = if c == semicolon then Some (Open ps) else (if c == right_bracket then Some (Closed ps) else None)
 
 abbrev pub after_bracket : List ℤ → ℕ → Option Edit
-after_bracket ps c = if c == 0x2190 then Some (Items ps []) else None
+after_bracket ps c = if c == left_arrow then Some (Items ps []) else None
 
 abbrev pub edit_number : ℤ → Edit → Option Edit
 edit_number n (Open ps) = Some (Position (ps ++ n ∷ []))

@@ -1,6 +1,7 @@
 -- The first tokens of a line, by which it is told what it asks for.
 use Rattle.std.specs.Prelude.{ℕ, Option, Some, None, List, [], ◌∷◌, if◌then◌else◌, ◌==◌}
 use Rattle.apl_tokens.specs.Lexemes.{Lexeme, Named, Sign}
+use Rattle.apl_tokens.specs.Signs.{right_parenthesis, left_bracket}
 use Rattle.apl_expr.specs.Edits.{Open, Written, edits}
 
 abbrev pub name_and_sign : ℕ → Lexeme → Lexeme → List Lexeme → Option (List ℕ × List Lexeme)
@@ -14,7 +15,7 @@ name_before c (t ∷ []) = None
 name_before c (t ∷ u ∷ ts) = name_and_sign c t u ts
 
 abbrev pub sign_and_word : Lexeme → Lexeme → List Lexeme → Option (List ℕ × List Lexeme)
-sign_and_word (Sign c) (Named w) ts = if c == 0x29 then Some (w, ts) else None
+sign_and_word (Sign c) (Named w) ts = if c == right_parenthesis then Some (w, ts) else None
 sign_and_word t u ts = None
 
 -- the word at the front, behind `)`, and what is behind it
@@ -39,4 +40,4 @@ behind_name (Some x) = edits x.1 (Some (Open []))
 
 -- the edit of a cell that the tokens are: what is behind `NAME [`
 abbrev pub edit_in : List Lexeme → Option Written
-edit_in ts = behind_name (name_before 0x5b ts)
+edit_in ts = behind_name (name_before left_bracket ts)

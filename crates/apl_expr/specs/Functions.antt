@@ -2,6 +2,7 @@
 -- begins with a sign that goes on with a function.
 use Rattle.std.specs.Prelude.{ℕ, ℤ, Option, Some, None, is_some, option_and_then, List, [], ◌∷◌, ◌&&◌, ◌||◌, ◌==◌, if◌then◌else◌}
 use Rattle.apl_tokens.specs.Lexemes.{Lexeme, Number, Characters, Named, Sign}
+use Rattle.apl_tokens.specs.Signs.{jot, dot, left_bracket, right_bracket}
 use Rattle.apl_expr.specs.declared.expr.Monadic.{Monadic}
 use Rattle.apl_expr.specs.declared.expr.Dyadic.{Dyadic}
 use Rattle.apl_expr.specs.declared.functions.Function.{Function}
@@ -11,7 +12,7 @@ abbrev pub function : Option Monadic → Option Dyadic → ℕ → Function
 function f g n = record { alone = f; between = g; more = n }
 
 abbrev bracketed : Lexeme → Lexeme → Lexeme → Option ℤ
-bracketed (Sign c) (Number k) (Sign d) = if (c == 0x5b) && (d == 0x5d) then Some k else None
+bracketed (Sign c) (Number k) (Sign d) = if (c == left_bracket) && (d == right_bracket) then Some k else None
 bracketed t u v = None
 
 -- the axis at the front: [ num ]
@@ -22,7 +23,7 @@ axis_in (t ∷ u ∷ []) = None
 axis_in (t ∷ u ∷ v ∷ ts) = bracketed t u v
 
 abbrev dotted : ℕ → Lexeme → Lexeme → Option Dyadic
-dotted c (Sign e) (Sign d) = if e == 0x2e then (if c == 0x2218 then outer_of d else inner_of c d) else None
+dotted c (Sign e) (Sign d) = if e == dot then (if c == jot then outer_of d else inner_of c d) else None
 dotted c t u = None
 
 -- the product that the sign begins: ∘ . sf, or sf . sf

@@ -1,6 +1,7 @@
 -- What public contracts mean.
 pub mod Stored
 pub mod Lexemes
+pub mod Signs
 pub mod Characters
 pub mod Scans
 pub mod Scanning
