@@ -1,9 +1,10 @@
 //! Lines: what each asks for.
 
-ghost use Rattle.std.specs.Prelude.{◌≡◌, ◌<◌, ◌≤◌, ◌∷◌, length, None, Some, MatchOption};
+ghost use Rattle.std.specs.Prelude.{◌≡◌, ◌+◌, ◌<◌, ◌≤◌, ◌∷◌, length, None, Some, MatchOption};
 ghost use Rattle.std.specs.Str.{chars};
 ghost use Rattle.apl_tokens.specs.Lexemes.{lexemes, Named, Sign};
 ghost use Rattle.apl_tokens.specs.Signs.{left_arrow, right_parenthesis, left_bracket};
+ghost use Rattle.apl_expr.specs.Limits.{most_tokens};
 ghost use Rattle.apl_expr.specs.Lines.{data_word, row_word, erase_word, names_word, csv_word, IsCommand};
 ghost use Rattle.apl_expr.specs.Fronts.{name_before, name_first, only_name, command_word, edit_in};
 ghost use Rattle.apl_expr.specs.Answers.{IsAnswered};
@@ -97,7 +98,7 @@ fn command_word(tokens: &[Spanned]) -> Option<(Name, &[Spanned])>
 
 /// The definition with what is behind `NAME ←`.
 fn define(alloc: Global, name: Name, rest: &[Spanned]) -> Result<Command, ParseFault>
-    requires { length rest.now ≤ 4094 }
+    requires { 2 + length rest.now ≤ most_tokens }
     ensures { IsCommand (Named name ∷ Sign left_arrow ∷ lexemes rest.now) result }
 {
     let formula = parse(alloc, rest)?;
@@ -106,7 +107,7 @@ fn define(alloc: Global, name: Name, rest: &[Spanned]) -> Result<Command, ParseF
 
 /// The data with what is behind `) DATA`.
 fn data(alloc: Global, rest: &[Spanned]) -> Result<Command, ParseFault>
-    requires { length rest.now ≤ 4094 }
+    requires { 2 + length rest.now ≤ most_tokens }
     ensures { IsCommand (Sign right_parenthesis ∷ Named data_word ∷ lexemes rest.now) result }
 {
     let Some(found) = name_before(rest, '←') else {
@@ -118,7 +119,7 @@ fn data(alloc: Global, rest: &[Spanned]) -> Result<Command, ParseFault>
 
 /// The row with what is behind `) ROW`.
 fn row(alloc: Global, rest: &[Spanned]) -> Result<Command, ParseFault>
-    requires { length rest.now ≤ 4094 }
+    requires { 2 + length rest.now ≤ most_tokens }
     ensures { IsCommand (Sign right_parenthesis ∷ Named row_word ∷ lexemes rest.now) result }
 {
     let Some(found) = name_first(rest) else {
@@ -130,7 +131,7 @@ fn row(alloc: Global, rest: &[Spanned]) -> Result<Command, ParseFault>
 
 /// What is erased, with what is behind `) ERASE`.
 fn erase(rest: &[Spanned]) -> Result<Command, ParseFault>
-    requires { length rest.now ≤ 4094 }
+    requires { 2 + length rest.now ≤ most_tokens }
     ensures { IsCommand (Sign right_parenthesis ∷ Named erase_word ∷ lexemes rest.now) result }
 {
     match only_name(rest) {
@@ -141,7 +142,7 @@ fn erase(rest: &[Spanned]) -> Result<Command, ParseFault>
 
 /// The list of names, with what is behind `) NAMES`.
 fn names(rest: &[Spanned]) -> Result<Command, ParseFault>
-    requires { length rest.now ≤ 4094 }
+    requires { 2 + length rest.now ≤ most_tokens }
     ensures { IsCommand (Sign right_parenthesis ∷ Named names_word ∷ lexemes rest.now) result }
 {
     if rest.is_empty() {
@@ -153,7 +154,7 @@ fn names(rest: &[Spanned]) -> Result<Command, ParseFault>
 
 /// What is written as a table, with what is behind `) CSV`.
 fn csv(rest: &[Spanned]) -> Result<Command, ParseFault>
-    requires { length rest.now ≤ 4094 }
+    requires { 2 + length rest.now ≤ most_tokens }
     ensures { IsCommand (Sign right_parenthesis ∷ Named csv_word ∷ lexemes rest.now) result }
 {
     match only_name(rest) {
@@ -164,7 +165,7 @@ fn csv(rest: &[Spanned]) -> Result<Command, ParseFault>
 
 /// The command of this word, with what is behind it.
 fn worded(alloc: Global, word: Name, rest: &[Spanned]) -> Result<Command, ParseFault>
-    requires { length rest.now ≤ 4094 }
+    requires { 2 + length rest.now ≤ most_tokens }
     ensures { IsCommand (Sign right_parenthesis ∷ Named word ∷ lexemes rest.now) result }
 {
     match word.text() {
@@ -180,7 +181,7 @@ fn worded(alloc: Global, word: Name, rest: &[Spanned]) -> Result<Command, ParseF
 /// The expression to show.
 fn show(alloc: Global, tokens: &[Spanned]) -> Result<Command, ParseFault>
     requires some { 0 < length tokens.now }
-    requires short { length tokens.now ≤ 4096 }
+    requires short { length tokens.now ≤ most_tokens }
     requires no_definition { name_before left_arrow (lexemes tokens.now) ≡ None }
     requires no_word { command_word (lexemes tokens.now) ≡ None }
     requires no_edit { edit_in (lexemes tokens.now) ≡ None }
@@ -197,7 +198,7 @@ fn cell(
     name: Name,
     rest: &[Spanned],
 ) -> Result<Command, ParseFault>
-    requires short { length tokens.now ≤ 4096 }
+    requires short { length tokens.now ≤ most_tokens }
     requires begins { name_before left_bracket (lexemes tokens.now) ≡ Some (name, lexemes rest.now) }
     ensures { IsCommand (lexemes tokens.now) result }
 {

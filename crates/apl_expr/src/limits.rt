@@ -6,13 +6,13 @@ ghost use Rattle.apl_expr.specs.Trees.{tree_of, position_of, positions_of, heigh
 use crate::expr::Expr;
 
 /// The most tokens of a line.
-pub(crate) const MOST_TOKENS: usize = 4096;
+pub const MOST_TOKENS: usize = 4096;
 
 /// The greatest height of a tree.
-pub(crate) const MOST_HEIGHT: u32 = 256;
+pub const MOST_HEIGHT: u32 = 256;
 
 /// The most nodes of a tree.
-pub(crate) const MOST_NODES: u32 = 512;
+pub const MOST_NODES: u32 = 512;
 
 impl Expr {
     /// Whether the tree is at most `limit` high. It looks no deeper.

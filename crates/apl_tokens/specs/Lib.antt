@@ -2,6 +2,7 @@
 pub mod Stored
 pub mod Lexemes
 pub mod Signs
+pub mod Limits
 pub mod Characters
 pub mod Scans
 pub mod Scanning

@@ -3,18 +3,19 @@ use Rattle.std.specs.Prelude.{◌≡◌, ℕ, ◌-◌, ◌≤◌, true, List, �
 use Rattle.std.specs.Str.{is_utf8}
 use Rattle.std.proofs.Common.{sym, ◌∙◌, ap, arith}
 use Rattle.std.proofs.lemmas.List.{length-take-le, take-append-drop}
+use Rattle.apl_tokens.specs.Limits.{longest_name}
 use Rattle.apl_tokens.specs.declared.name.Name.TheInside.{Inside}
 
 -- a name as it is stored: its bytes, and then zeros
 abbrev pub stored : List ℕ → Inside
-stored bytes = record { bytes = bytes ++ replicate (63 - length bytes) 0; len = length bytes }
+stored bytes = record { bytes = bytes ++ replicate (longest_name - length bytes) 0; len = length bytes }
 
 abbrev pub IsStored : Inside → Type 0
-IsStored a = (a.len ≤ 63) × (length a.bytes ≡ 63) × (drop a.len a.bytes ≡ replicate (63 - a.len) 0) × (is_utf8 (take a.len a.bytes) ≡ true)
+IsStored a = (a.len ≤ longest_name) × (length a.bytes ≡ longest_name) × (drop a.len a.bytes ≡ replicate (longest_name - a.len) 0) × (is_utf8 (take a.len a.bytes) ≡ true)
 
 pub stored_again : (a : Inside) → IsStored a → stored (take a.len a.bytes) ≡ a
 stored_again a h =
     let n : length (take a.len a.bytes) ≡ a.len = length-take-le a.len a.bytes (omega arith) in
-    let b : take a.len a.bytes ++ replicate (63 - length (take a.len a.bytes)) 0 ≡ a.bytes =
-    ap (λ k. take a.len a.bytes ++ replicate (63 - k) 0) n ∙ (ap (λ ys. take a.len a.bytes ++ ys) (sym h.2) ∙ take-append-drop a.len a.bytes) in
+    let b : take a.len a.bytes ++ replicate (longest_name - length (take a.len a.bytes)) 0 ≡ a.bytes =
+    ap (λ k. take a.len a.bytes ++ replicate (longest_name - k) 0) n ∙ (ap (λ ys. take a.len a.bytes ++ ys) (sym h.2) ∙ take-append-drop a.len a.bytes) in
     ap (λ (p : List ℕ × ℕ). record { bytes = p.0; len = p.1 }) (λ j. (b j, n j))

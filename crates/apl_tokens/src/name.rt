@@ -3,18 +3,19 @@
 ghost use Rattle.std.specs.Prelude.{◌≡◌, ℕ, ◌<◌, ◌≤◌, true, List, length, IfSome, IfNone};
 ghost use Rattle.std.specs.Str.{is_utf8, chars};
 ghost use Rattle.apl_tokens.specs.Characters.{spells_name};
+ghost use Rattle.apl_tokens.specs.Limits.{longest_name};
 
 use crate::characters::spells_name;
 use std::hash::{Hash, Hasher};
 use std::marker::Model;
 
 /// The most bytes of a name.
-pub const MOST_BYTES: usize = 63;
+pub const LONGEST_NAME: usize = 63;
 
 /// A name, an identifier of ISO 8485: its text, at most 63 bytes of UTF-8.
 #[derive(Clone, Copy, Debug)]
 pub struct Name {
-    bytes: [u8; 63],
+    bytes: [u8; LONGEST_NAME],
     len: u8,
 }
 
@@ -38,8 +39,8 @@ impl Name {
     /// The name that the whole text is, where it is one: a letter `A` to `Z`, `a` to `z`, `∆` or `⍙`, and then letters,
     /// digits and `_`, at most 63 bytes in all. Any other text is none.
     pub fn read(text: &str) -> Option<Name>
-        ensures some { IfSome result (λ n. (spells_name (chars text.now) ≡ true) × (length text.now ≤ 63) × (n ≡ text.now)) }
-        ensures none { IfNone result (spells_name (chars text.now) ≡ true → 63 < length text.now) }
+        ensures some { IfSome result (λ n. (spells_name (chars text.now) ≡ true) × (length text.now ≤ longest_name) × (n ≡ text.now)) }
+        ensures none { IfNone result (spells_name (chars text.now) ≡ true → longest_name < length text.now) }
     {
         if !spells_name(text) {
             return None;
@@ -50,14 +51,14 @@ impl Name {
     /// The name of these bytes, unless they are too many.
     pub(crate) fn of_letters(letters: &str) -> Option<Name>
         ensures found { IfSome result (λ n. n ≡ letters.now) }
-        ensures none { IfNone result (63 < length letters.now) }
-        ensures room { IfSome result (λ n. length letters.now ≤ 63) }
+        ensures none { IfNone result (longest_name < length letters.now) }
+        ensures room { IfSome result (λ n. length letters.now ≤ longest_name) }
     {
         let from = letters.as_bytes();
-        if from.len() > MOST_BYTES {
+        if from.len() > LONGEST_NAME {
             return None;
         }
-        let mut bytes = [0; 63];
+        let mut bytes = [0; LONGEST_NAME];
         bytes[..from.len()].copy_from_slice(from);
         Some(Name {
             bytes,
@@ -69,7 +70,7 @@ impl Name {
     pub fn bytes(&self) -> &[u8]
         ensures bytes { result.now ≡ self.now }
         ensures utf8 { is_utf8 self.now ≡ true }
-        ensures short { length self.now ≤ 63 }
+        ensures short { length self.now ≤ longest_name }
     {
         &self.bytes[..self.len as usize]
     }
