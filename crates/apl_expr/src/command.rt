@@ -44,19 +44,11 @@ pub enum Command {
 fn name_before(tokens: &[Spanned], sign: char) -> Option<(Name, &[Spanned])>
     ensures { MatchOption result (name_before sign (lexemes tokens.now) ≡ None) (λ x. name_before sign (lexemes tokens.now) ≡ Some (x.0, lexemes x.1.now)) }
 {
-    let (first, rest) = tokens.split_first()?;
-    let (second, rest) = rest.split_first()?;
-    match &first.token {
-        Token::Word(name) => match &second.token {
-            Token::Mark(mark) => {
-                if *mark == sign {
-                    Some((*name, rest))
-                } else {
-                    None
-                }
-            }
-            _ => None,
-        },
+    let [first, second, rest @ ..] = tokens else {
+        return None;
+    };
+    match (&first.token, &second.token) {
+        (Token::Word(name), Token::Mark(mark)) if *mark == sign => Some((*name, rest)),
         _ => None,
     }
 }
@@ -76,11 +68,11 @@ fn name_first(tokens: &[Spanned]) -> Option<(Name, &[Spanned])>
 fn only_name(tokens: &[Spanned]) -> Option<Name>
     ensures { MatchOption result (only_name (lexemes tokens.now) ≡ None) (λ x. only_name (lexemes tokens.now) ≡ Some x) }
 {
-    match tokens {
-        [only] => match &only.token {
-            Token::Word(name) => Some(*name),
-            _ => None,
-        },
+    let [only] = tokens else {
+        return None;
+    };
+    match &only.token {
+        Token::Word(name) => Some(*name),
         _ => None,
     }
 }

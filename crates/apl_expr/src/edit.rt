@@ -38,16 +38,10 @@ fn edit_text(alloc: Global, text: &[char], edit: Edit) -> Result<Edit, ParseFaul
 fn edit_sign(alloc: Global, sign: char, edit: Edit) -> Result<Edit, ParseFault>
     ensures { EditSteps result (edit_sign sign (edit_of edit)) }
 {
-    match edit {
-        Edit::Position(place) => match sign {
-            ';' => Ok(Edit::Open(place)),
-            ']' => Ok(Edit::Closed(place)),
-            _ => Err(ParseFault::Syntax),
-        },
-        Edit::Closed(place) => match sign {
-            '←' => Ok(Edit::Items(place, Vec::new(alloc))),
-            _ => Err(ParseFault::Syntax),
-        },
+    match (edit, sign) {
+        (Edit::Position(place), ';') => Ok(Edit::Open(place)),
+        (Edit::Position(place), ']') => Ok(Edit::Closed(place)),
+        (Edit::Closed(place), '←') => Ok(Edit::Items(place, Vec::new(alloc))),
         _ => Err(ParseFault::Syntax),
     }
 }
@@ -56,21 +50,18 @@ fn edit_sign(alloc: Global, sign: char, edit: Edit) -> Result<Edit, ParseFault>
 fn edit_step(alloc: Global, token: &Token, edit: Edit) -> Result<Edit, ParseFault>
     ensures { EditSteps result (edit_step (lexeme token.now) (edit_of edit)) }
 {
-    match token {
-        Token::Num(n) => match edit {
-            Edit::Open(mut place) => {
-                place.push(*n)?;
-                Ok(Edit::Position(place))
-            }
-            Edit::Items(place, mut items) => {
-                items.push(*n)?;
-                Ok(Edit::Items(place, items))
-            }
-            _ => Err(ParseFault::Syntax),
-        },
-        Token::Text(text) => edit_text(alloc, text, edit),
-        Token::Word(_) => Err(ParseFault::Syntax),
-        Token::Mark(sign) => edit_sign(alloc, *sign, edit),
+    match (token, edit) {
+        (Token::Num(n), Edit::Open(mut place)) => {
+            place.push(*n)?;
+            Ok(Edit::Position(place))
+        }
+        (Token::Num(n), Edit::Items(place, mut items)) => {
+            items.push(*n)?;
+            Ok(Edit::Items(place, items))
+        }
+        (Token::Text(text), edit) => edit_text(alloc, text, edit),
+        (Token::Mark(sign), edit) => edit_sign(alloc, *sign, edit),
+        _ => Err(ParseFault::Syntax),
     }
 }
 

@@ -25,23 +25,11 @@ pub(crate) struct Function {
 fn axis_in(tokens: &[Spanned]) -> Option<i64>
     ensures { result ≡ axis_in (lexemes tokens.now) }
 {
-    let (open, rest) = tokens.split_first()?;
-    let (number, rest) = rest.split_first()?;
-    let (close, _) = rest.split_first()?;
-    match &open.token {
-        Token::Mark(left) => match &number.token {
-            Token::Num(axis) => match &close.token {
-                Token::Mark(right) => {
-                    if *left == '[' && *right == ']' {
-                        Some(*axis)
-                    } else {
-                        None
-                    }
-                }
-                _ => None,
-            },
-            _ => None,
-        },
+    let [open, number, close, ..] = tokens else {
+        return None;
+    };
+    match (&open.token, &number.token, &close.token) {
+        (Token::Mark('['), Token::Num(axis), Token::Mark(']')) => Some(*axis),
         _ => None,
     }
 }
@@ -50,21 +38,17 @@ fn axis_in(tokens: &[Spanned]) -> Option<i64>
 fn product_in(sign: char, tokens: &[Spanned]) -> Option<Dyadic>
     ensures { result ≡ product_in sign (lexemes tokens.now) }
 {
-    let (dot, rest) = tokens.split_first()?;
-    let (function, _) = rest.split_first()?;
-    match &dot.token {
-        Token::Mark(mark) => match &function.token {
-            Token::Mark(second) => {
-                if *mark != '.' {
-                    None
-                } else if sign == '∘' {
-                    outer_of(*second)
-                } else {
-                    inner_of(sign, *second)
-                }
+    let [dot, function, ..] = tokens else {
+        return None;
+    };
+    match (&dot.token, &function.token) {
+        (Token::Mark('.'), Token::Mark(second)) => {
+            if sign == '∘' {
+                outer_of(*second)
+            } else {
+                inner_of(sign, *second)
             }
-            _ => None,
-        },
+        }
         _ => None,
     }
 }

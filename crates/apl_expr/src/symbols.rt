@@ -53,7 +53,7 @@ fn scalar_dyad_of(sign: char) -> Option<ScalarDyad>
 
 /// The function of one argument that the sign stands for, if it is no scalar one.
 #[tactic(auto, unfolding(crate::specs::Symbols::array_monad))]
-fn monad_of(sign: char) -> Option<Monadic>
+fn array_monad(sign: char) -> Option<Monadic>
     ensures { result ≡ array_monad sign }
 {
     match sign {
@@ -69,7 +69,7 @@ fn monad_of(sign: char) -> Option<Monadic>
 
 /// The function of two arguments that the sign stands for, if it is no scalar one.
 #[tactic(auto, unfolding(crate::specs::Symbols::array_dyad))]
-fn dyad_of(sign: char) -> Option<Dyadic>
+fn array_dyad(sign: char) -> Option<Dyadic>
     ensures { result ≡ array_dyad sign }
 {
     match sign {
@@ -97,7 +97,7 @@ pub(crate) fn monadic_of(sign: char) -> Option<Monadic>
 {
     match scalar_monad_of(sign) {
         Some(function) => Some(Monadic::Scalar(function)),
-        None => monad_of(sign),
+        None => array_monad(sign),
     }
 }
 
@@ -107,7 +107,7 @@ pub(crate) fn dyadic_of(sign: char) -> Option<Dyadic>
 {
     match scalar_dyad_of(sign) {
         Some(function) => Some(Dyadic::Scalar(function)),
-        None => dyad_of(sign),
+        None => array_dyad(sign),
     }
 }
 
