@@ -35,7 +35,7 @@ pub finished : (result : Result (Vec ℤ × Literal) ParseFault) (ts : List Span
 unfolding edits
 finished result ts i s w h so_far given = subst (λ (o : Option Written). EditGives result o) (sym (ap (λ (xs : List Spanned). edits (lexemes xs) (Some s)) (drop_of_length-le ts h)) ∙ so_far) given
 
--- an edit ends behind its numbers, of which there must be some
+-- an edit ends after its numbers, of which there must be some
 pub no_items : (ps ns : List ℤ) (s : Edit) → s ≡ Items ps ns → length ns ≡ 0 → edit_end s ≡ None
 no_items ps [] s is none = ap edit_end is
 no_items ps (n ∷ ns) s is none = absurd (omega arith)

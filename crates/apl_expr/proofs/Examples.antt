@@ -56,12 +56,12 @@ chained : IsTreeOf (Named (0x41 ∷ []) ∷ Sign 0x5b ∷ Number (pos 1) ∷ Sig
 unfolding run
 chained = correct _ _ refl
 
--- 1 2[1] is no expression: an index behind a literal needs parentheses
+-- 1 2[1] is no expression: an index after a literal needs parentheses
 literal_indexed : (e : Tree) → IsTreeOf (Number (pos 1) ∷ Number (pos 2) ∷ Sign 0x5b ∷ Number (pos 1) ∷ Sign 0x5d ∷ []) e → ⊥
 unfolding run scalar_dyad_of
 literal_indexed e is = run_none 0 (Number (pos 1) ∷ Sign 0x5d ∷ []) e (complete is)
 
--- A/[2]B: the bracket behind a function is its axis
+-- A/[2]B: the bracket after a function is its axis
 along_an_axis : IsTreeOf (Named (0x41 ∷ []) ∷ Sign 0x2f ∷ Sign 0x5b ∷ Number (pos 2) ∷ Sign 0x5d ∷ Named (0x42 ∷ []) ∷ []) (Applied2 (dyadic.Replicate (along.Axis (pos 2))) (Variable (0x41 ∷ [])) (Variable (0x42 ∷ [])))
 unfolding run scalar_dyad_of monadic_along_of dyadic_along_of
 along_an_axis = correct _ _ refl
@@ -115,7 +115,7 @@ definition = change (define (correct _ _ refl))
 cell_edit : IsLine (Named (0x4d ∷ []) ∷ Sign 0x5b ∷ Number (pos 2) ∷ Sign 0x3b ∷ Number (pos 3) ∷ Sign 0x5d ∷ Sign 0x2190 ∷ Characters (0x78 ∷ []) ∷ []) (Cell (0x4d ∷ []) (pos 2 ∷ pos 3 ∷ []) (Text (0x78 ∷ [])))
 cell_edit = change (cell (further last) text_lit)
 
--- )ROW ROW 1 2: behind its word, ROW is a name
+-- )ROW ROW 1 2: after its word, ROW is a name
 row_of_row : IsLine (Sign 0x29 ∷ Named (codes "ROW") ∷ Named (codes "ROW") ∷ Number (pos 1) ∷ Number (pos 2) ∷ []) (Row (codes "ROW") (Numbers (pos 1 ∷ pos 2 ∷ [])))
 row_of_row = change (row (nums_lit (more one)) refl)
 

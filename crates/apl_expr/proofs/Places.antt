@@ -34,7 +34,7 @@ pub edit_read : {ts us : List Lexeme} {ps : List ℤ} {l : Constant} → IsPosit
 unfolding edits
 edit_read {ps = ps} p is = place_reads p [] ∙ literal_read is ps
 
--- behind a position, ts are the rest of the place with its bracket and the arrow, and us come after them
+-- after a position, ts are the rest of the place with its bracket and the arrow, and us come after them
 data IsRest : List Lexeme → List ℤ → List Lexeme → Type 0 where
   ends : {us : List Lexeme} → IsRest (Sign 0x5d ∷ Sign 0x2190 ∷ us) [] us
   goes_on : {ts us : List Lexeme} {ps : List ℤ} → IsPosition ts ps (Sign 0x5d ∷ Sign 0x2190 ∷ us) → IsRest (Sign 0x3b ∷ ts) ps us
@@ -43,7 +43,7 @@ place_of : {ts us : List Lexeme} {ps : List ℤ} (n : ℤ) → IsRest ts ps us �
 place_of n ends = last
 place_of n (goes_on p) = further p
 
--- what is left of a literal behind these numbers
+-- what is left of a literal after these numbers
 data IsRestOf : List ℤ → List Lexeme → Constant → Type 0 where
   rest_of_nums : {n : ℤ} {ns ms : List ℤ} {ts : List Lexeme} → IsStrand ts ms [] → IsRestOf (n ∷ ns) ts (Numbers (n ∷ ns ++ ms))
   whole_lit : {ts : List Lexeme} {l : Constant} → IsLit ts l → IsRestOf [] ts l

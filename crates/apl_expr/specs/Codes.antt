@@ -1,5 +1,5 @@
--- Trees as lists of numbers. A type that contracts see must be a set: two proofs that two of its values are equal are one. That is so of a
--- type whose values can be written as numbers, and read again. A tree is written as its words in postfix order.
+-- Trees as lists of numbers. A type that contracts see must be a set: two proofs that two of its values are equal are one. That
+-- is so of a type whose values can be written as numbers, and read again. A tree is written as its words in postfix order.
 use Rattle.std.specs.Prelude.{◌≡◌, ℕ, zero, suc, ℤ, pos, List, [], ◌∷◌, ◌++◌, get_or, ◌⊎◌, refl}
 use Rattle.std.proofs.Common.{sym, ◌∙◌, ap, inl, inr, append_assoc, append-nil}
 use Rattle.std.specs.Coded.{Coded, code_by, coded×, coded⊎, coded_list, coded_ℕ, coded_ℤ}
@@ -21,6 +21,7 @@ monads =
     scalar_monad.Conjugate ∷ scalar_monad.Negative ∷ scalar_monad.Direction ∷ scalar_monad.Reciprocal ∷
     scalar_monad.Magnitude ∷ scalar_monad.Ceiling ∷ scalar_monad.Floor ∷ scalar_monad.Not ∷ []
 
+-- the number of a scalar function of one argument
 abbrev number_of_monad : ScalarMonad → ℕ
 number_of_monad scalar_monad.Conjugate = 0
 number_of_monad scalar_monad.Negative = 1
@@ -31,6 +32,7 @@ number_of_monad scalar_monad.Ceiling = 5
 number_of_monad scalar_monad.Floor = 6
 number_of_monad scalar_monad.Not = 7
 
+-- the scalar function of a number
 abbrev monad_of_number : ℕ → ScalarMonad
 monad_of_number n = get_or monads n scalar_monad.Not
 
@@ -44,6 +46,7 @@ monad_again scalar_monad.Ceiling = refl
 monad_again scalar_monad.Floor = refl
 monad_again scalar_monad.Not = refl
 
+-- the same for scalar functions of two arguments
 abbrev dyads : List ScalarDyad
 dyads =
     scalar_dyad.Plus ∷ scalar_dyad.Minus ∷ scalar_dyad.Times ∷ scalar_dyad.Divide ∷ scalar_dyad.Power ∷
@@ -51,6 +54,7 @@ dyads =
     scalar_dyad.Equal ∷ scalar_dyad.GreaterOrEqual ∷ scalar_dyad.Greater ∷ scalar_dyad.NotEqual ∷ scalar_dyad.And ∷
     scalar_dyad.Or ∷ scalar_dyad.Nand ∷ scalar_dyad.Nor ∷ []
 
+-- the number of a scalar function of two arguments
 abbrev number_of_dyad : ScalarDyad → ℕ
 number_of_dyad scalar_dyad.Plus = 0
 number_of_dyad scalar_dyad.Minus = 1
@@ -71,6 +75,7 @@ number_of_dyad scalar_dyad.Or = 15
 number_of_dyad scalar_dyad.Nand = 16
 number_of_dyad scalar_dyad.Nor = 17
 
+-- the scalar function of a number
 abbrev dyad_of_number : ℕ → ScalarDyad
 dyad_of_number n = get_or dyads n scalar_dyad.Nor
 
@@ -99,14 +104,17 @@ dyad_again scalar_dyad.Nor = refl
 abbrev Code : Type 0
 Code = ℕ × (ℕ × (ℕ × ℤ))
 
+-- no axis, and no second function
 abbrev none : ℕ × ℤ
 none = (0, pos 0)
 
+-- an axis as numbers
 abbrev code_of_along : Along → ℕ × ℤ
 code_of_along First = (0, pos 0)
 code_of_along Last = (1, pos 0)
 code_of_along (Axis k) = (2, k)
 
+-- the axis of these numbers
 abbrev along_of_code : ℕ × ℤ → Along
 along_of_code (zero, k) = First
 along_of_code (suc zero, k) = Last
@@ -117,6 +125,7 @@ along_again First = refl
 along_again Last = refl
 along_again (Axis k) = refl
 
+-- a function of one argument as numbers
 abbrev code_of_monadic : Monadic → Code
 code_of_monadic (monadic.Scalar f) = (0, (number_of_monad f, none))
 code_of_monadic (monadic.Reverse a) = (1, (0, code_of_along a))
@@ -127,9 +136,11 @@ code_of_monadic monadic.Transpose = (4, (1, none))
 code_of_monadic monadic.Shape = (4, (2, none))
 code_of_monadic monadic.Iota = (4, (3, none))
 
+-- the functions of one argument that have neither an axis nor a scalar function
 abbrev plain_monads : List Monadic
 plain_monads = monadic.Ravel ∷ monadic.Transpose ∷ monadic.Shape ∷ monadic.Iota ∷ []
 
+-- the function of one argument of these numbers
 abbrev monadic_of_code : Code → Monadic
 monadic_of_code (zero, c) = monadic.Scalar (monad_of_number c.0)
 monadic_of_code (suc zero, c) = monadic.Reverse (along_of_code c.1)
@@ -147,6 +158,7 @@ monadic_again monadic.Transpose = refl
 monadic_again monadic.Shape = refl
 monadic_again monadic.Iota = refl
 
+-- a function of two arguments as numbers
 abbrev code_of_dyadic : Dyadic → Code
 code_of_dyadic (dyadic.Scalar f) = (0, (number_of_dyad f, none))
 code_of_dyadic (dyadic.Catenate a) = (1, (0, code_of_along a))
@@ -163,11 +175,13 @@ code_of_dyadic dyadic.Member = (6, (5, none))
 code_of_dyadic dyadic.Encode = (6, (6, none))
 code_of_dyadic dyadic.Decode = (6, (7, none))
 
+-- the functions of two arguments that have neither an axis nor a scalar function
 abbrev plain_dyads : List Dyadic
 plain_dyads =
     dyadic.Reshape ∷ dyadic.Take ∷ dyadic.Drop ∷ dyadic.Transpose ∷ dyadic.IndexOf ∷ dyadic.Member ∷
     dyadic.Encode ∷ dyadic.Decode ∷ []
 
+-- the function of two arguments of these numbers
 abbrev dyadic_of_code : Code → Dyadic
 dyadic_of_code (zero, c) = dyadic.Scalar (dyad_of_number c.0)
 dyadic_of_code (suc zero, c) = dyadic.Catenate (along_of_code c.1)
@@ -193,33 +207,36 @@ dyadic_again dyadic.Member = refl
 dyadic_again dyadic.Encode = refl
 dyadic_again dyadic.Decode = refl
 
--- one run of positions behind another
-abbrev behind : Positions → Positions → Positions
-behind NoPositions ps = ps
-behind (Empty qs) ps = Empty (behind qs ps)
-behind (Filled e qs) ps = Filled e (behind qs ps)
+-- one run of positions, and another after it
+abbrev followed_by : Positions → Positions → Positions
+followed_by NoPositions ps = ps
+followed_by (Empty qs) ps = Empty (followed_by qs ps)
+followed_by (Filled e qs) ps = Filled e (followed_by qs ps)
 
-behind_none : (qs : Positions) → behind qs NoPositions ≡ qs
-behind_none NoPositions = refl
-behind_none (Empty qs) = ap (λ rs. Empty rs) (behind_none qs)
-behind_none (Filled e qs) = ap (λ rs. Filled e rs) (behind_none qs)
+followed_by_none : (qs : Positions) → followed_by qs NoPositions ≡ qs
+followed_by_none NoPositions = refl
+followed_by_none (Empty qs) = ap (λ rs. Empty rs) (followed_by_none qs)
+followed_by_none (Filled e qs) = ap (λ rs. Filled e rs) (followed_by_none qs)
 
-behind_both : (qs rs ps : Positions) → behind (behind qs rs) ps ≡ behind qs (behind rs ps)
-behind_both NoPositions rs ps = refl
-behind_both (Empty qs) rs ps = ap (λ vs. Empty vs) (behind_both qs rs ps)
-behind_both (Filled e qs) rs ps = ap (λ vs. Filled e vs) (behind_both qs rs ps)
+followed_by_both : (qs rs ps : Positions) → followed_by (followed_by qs rs) ps ≡ followed_by qs (followed_by rs ps)
+followed_by_both NoPositions rs ps = refl
+followed_by_both (Empty qs) rs ps = ap (λ vs. Empty vs) (followed_by_both qs rs ps)
+followed_by_both (Filled e qs) rs ps = ap (λ vs. Filled e vs) (followed_by_both qs rs ps)
 
 -- numbers, characters, a name, a function of one or of two arguments, or a step of an index: its begin, an empty
 -- position, or one that is written
 abbrev Word : Type 0
 Word = List ℤ ⊎ (List ℕ ⊎ (List ℕ ⊎ (Code ⊎ (Code ⊎ ℕ))))
 
+-- the word of a function of one argument
 abbrev monad_word : Code → Word
 monad_word f = inr (inr (inr (inl f)))
 
+-- the word of a function of two arguments
 abbrev dyad_word : Code → Word
 dyad_word f = inr (inr (inr (inr (inl f))))
 
+-- the word of a step of an index
 abbrev index_word : ℕ → Word
 index_word n = inr (inr (inr (inr (inr n))))
 
@@ -237,23 +254,28 @@ abbrev mutual
   words_in (Empty ps) = index_word 1 ∷ words_in ps
   words_in (Filled e ps) = words e ++ (index_word 2 ∷ words_in ps)
 
+-- the last tree gets an index without positions
 abbrev begin_index : List Tree → List Tree
 begin_index [] = []
 begin_index (t ∷ stack) = Indexed t NoPositions ∷ stack
 
+-- the index of the last tree gets these positions at its end
 abbrev add_positions : Positions → List Tree → List Tree
-add_positions ps (Indexed t qs ∷ stack) = Indexed t (behind qs ps) ∷ stack
+add_positions ps (Indexed t qs ∷ stack) = Indexed t (followed_by qs ps) ∷ stack
 add_positions ps stack = stack
 
+-- the last tree becomes a position of the index before it
 abbrev add_written : List Tree → List Tree
 add_written [] = []
 add_written (e ∷ stack) = add_positions (Filled e NoPositions) stack
 
+-- what a step of an index does to the trees so far, the last first
 abbrev index_step : ℕ → List Tree → List Tree
 index_step zero stack = begin_index stack
 index_step (suc zero) stack = add_positions (Empty NoPositions) stack
 index_step (suc (suc n)) stack = add_written stack
 
+-- what a word does to the trees so far, the last first
 abbrev push : Word → List Tree → List Tree
 push (inl ns) stack = Literal (Numbers ns) ∷ stack
 push (inr (inl cs)) stack = Literal (Text cs) ∷ stack
@@ -265,10 +287,12 @@ push (inr (inr (inr (inr (inl f))))) (b ∷ []) = b ∷ []
 push (inr (inr (inr (inr (inl f))))) (b ∷ a ∷ stack) = Applied2 (dyadic_of_code f) a b ∷ stack
 push (inr (inr (inr (inr (inr n))))) stack = index_step n stack
 
+-- what the words do, one after the other
 abbrev build : List Word → List Tree → List Tree
 build [] stack = stack
 build (w ∷ ws) stack = build ws (push w stack)
 
+-- the last tree
 abbrev top : List Tree → Tree
 top [] = Variable []
 top (t ∷ ts) = t
@@ -291,21 +315,24 @@ mutual
       ∙ (again a (index_word 0 ∷ (words_in ps ++ ws)) stack ∙ positions_again ps ws a NoPositions stack)
 
   positions_again : (ps : Positions) (ws : List Word) (t : Tree) (qs : Positions) (stack : List Tree)
-      → build (words_in ps ++ ws) (Indexed t qs ∷ stack) ≡ build ws (Indexed t (behind qs ps) ∷ stack)
-  positions_again NoPositions ws t qs stack = ap (λ rs. build ws (Indexed t rs ∷ stack)) (sym (behind_none qs))
+      → build (words_in ps ++ ws) (Indexed t qs ∷ stack) ≡ build ws (Indexed t (followed_by qs ps) ∷ stack)
+  positions_again NoPositions ws t qs stack = ap (λ rs. build ws (Indexed t rs ∷ stack)) (sym (followed_by_none qs))
   positions_again (Empty ps) ws t qs stack =
-      positions_again ps ws t (behind qs (Empty NoPositions)) stack ∙ ap (λ rs. build ws (Indexed t rs ∷ stack)) (behind_both qs (Empty NoPositions) ps)
+      positions_again ps ws t (followed_by qs (Empty NoPositions)) stack ∙ ap (λ rs. build ws (Indexed t rs ∷ stack)) (followed_by_both qs (Empty NoPositions) ps)
   positions_again (Filled e ps) ws t qs stack =
       ap (λ vs. build vs (Indexed t qs ∷ stack)) (append_assoc (words e) (index_word 2 ∷ words_in ps) ws)
       ∙ (again e (index_word 2 ∷ (words_in ps ++ ws)) (Indexed t qs ∷ stack)
-      ∙ (positions_again ps ws t (behind qs (Filled e NoPositions)) stack ∙ ap (λ rs. build ws (Indexed t rs ∷ stack)) (behind_both qs (Filled e NoPositions) ps)))
+      ∙ (positions_again ps ws t (followed_by qs (Filled e NoPositions)) stack ∙ ap (λ rs. build ws (Indexed t rs ∷ stack)) (followed_by_both qs (Filled e NoPositions) ps)))
 
+-- the words of a tree build that tree
 pub same_again : (t : Tree) → top (build (words t) []) ≡ t
 same_again t = ap top (ap (λ ws. build ws []) (sym (append-nil (words t))) ∙ again t [] [])
 
+-- the numbers of functions can be written as numbers
 abbrev coded_code : Coded Code
 coded_code = coded× coded_ℕ (coded× coded_ℕ (coded× coded_ℕ coded_ℤ))
 
+-- so can trees
 abbrev pub coded_tree : Coded Tree
 coded_tree =
     code_by (List Word) (coded_list (coded⊎ (coded_list coded_ℤ) (coded⊎ (coded_list coded_ℕ) (coded⊎ (coded_list coded_ℕ) (coded⊎ coded_code (coded⊎ coded_code coded_ℕ))))))

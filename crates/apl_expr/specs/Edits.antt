@@ -1,5 +1,5 @@
--- The reader of a cell's edit as a machine: it reads the lexemes behind `NAME [`, one at a time. A literal alone is read as what is
--- behind `←`.
+-- The reader of a cell's edit as a machine: it reads the lexemes after `NAME [`, one at a time. A literal alone is read
+-- as what comes after `←`.
 use Rattle.std.specs.Prelude.{◌≡◌, ℕ, ℤ, Option, Some, None, Result, Ok, Err, List, [], ◌∷◌, ◌++◌, if◌then◌else◌, ◌==◌}
 use Rattle.std.specs.Global.{Vec}
 use Rattle.apl_expr.specs.declared.expr.Literal as literal
@@ -23,12 +23,15 @@ pub data Edit : Type 0 where
 pub data Written : Type 0 where
   Write : List ℤ → Constant → Written
 
+-- the sign after a position: `;` or `]`
 abbrev pub after_position : List ℤ → ℕ → Option Edit
 after_position ps c = if c == semicolon then Some (Open ps) else (if c == right_bracket then Some (Closed ps) else None)
 
+-- the sign after `]`: `←`
 abbrev pub after_bracket : List ℤ → ℕ → Option Edit
 after_bracket ps c = if c == left_arrow then Some (Items ps []) else None
 
+-- a number is read: a position, or an item
 abbrev pub edit_number : ℤ → Edit → Option Edit
 edit_number n (Open ps) = Some (Position (ps ++ n ∷ []))
 edit_number n (Position ps) = None
@@ -36,6 +39,7 @@ edit_number n (Closed ps) = None
 edit_number n (Items ps ns) = Some (Items ps (ns ++ n ∷ []))
 edit_number n (Quoted ps cs) = None
 
+-- a text is read: it is the whole literal
 abbrev pub edit_text : List ℕ → Edit → Option Edit
 edit_text cs (Open ps) = None
 edit_text cs (Position ps) = None
@@ -44,6 +48,7 @@ edit_text cs (Items ps []) = Some (Quoted ps cs)
 edit_text cs (Items ps (n ∷ ns)) = None
 edit_text cs (Quoted ps ds) = None
 
+-- a sign is read
 abbrev pub edit_sign : ℕ → Edit → Option Edit
 edit_sign c (Open ps) = None
 edit_sign c (Position ps) = after_position ps c
@@ -51,6 +56,7 @@ edit_sign c (Closed ps) = after_bracket ps c
 edit_sign c (Items ps ns) = None
 edit_sign c (Quoted ps cs) = None
 
+-- a lexeme is read
 abbrev pub edit_step : Lexeme → Edit → Option Edit
 edit_step (Number n) s = edit_number n s
 edit_step (Characters cs) s = edit_text cs s
@@ -66,12 +72,14 @@ edit_end (Items ps []) = None
 edit_end (Items ps (n ∷ ns)) = Some (Write ps (Numbers (n ∷ ns)))
 edit_end (Quoted ps cs) = Some (Write ps (Text cs))
 
+-- what the lexemes are, after what was read before them
 unfoldable pub edits : List Lexeme → Option Edit → Option Written
 edits [] None = None
 edits [] (Some s) = edit_end s
 edits (t ∷ ts) None = None
 edits (t ∷ ts) (Some s) = edits ts (edit_step t s)
 
+-- what the code has read
 abbrev pub edit_of : code.Edit → Edit
 edit_of (edit.Open ps) = Open ps.items
 edit_of (edit.Position ps) = Position ps.items

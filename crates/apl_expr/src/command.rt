@@ -40,7 +40,7 @@ pub enum Command {
     Csv(Name),
 }
 
-/// The name at the front that the sign follows, and what is behind them.
+/// The name at the front that the sign follows, and what comes after them.
 fn name_before(tokens: &[Spanned], sign: char) -> Option<(Name, &[Spanned])>
     ensures { MatchOption result (name_before sign (lexemes tokens.now) ≡ None) (λ x. name_before sign (lexemes tokens.now) ≡ Some (x.0, lexemes x.1.now)) }
 {
@@ -53,7 +53,7 @@ fn name_before(tokens: &[Spanned], sign: char) -> Option<(Name, &[Spanned])>
     }
 }
 
-/// The name at the front, and what is behind it.
+/// The name at the front, and what comes after it.
 fn name_first(tokens: &[Spanned]) -> Option<(Name, &[Spanned])>
     ensures { MatchOption result (name_first (lexemes tokens.now) ≡ None) (λ x. name_first (lexemes tokens.now) ≡ Some (x.0, lexemes x.1.now)) }
 {
@@ -77,7 +77,7 @@ fn only_name(tokens: &[Spanned]) -> Option<Name>
     }
 }
 
-/// The word at the front, behind `)`, and what is behind it.
+/// The word at the front, after `)`, and what comes after it.
 fn command_word(tokens: &[Spanned]) -> Option<(Name, &[Spanned])>
     ensures { MatchOption result (command_word (lexemes tokens.now) ≡ None) (λ x. command_word (lexemes tokens.now) ≡ Some (x.0, lexemes x.1.now)) }
 {
@@ -88,7 +88,7 @@ fn command_word(tokens: &[Spanned]) -> Option<(Name, &[Spanned])>
     }
 }
 
-/// The definition with what is behind `NAME ←`.
+/// The definition with what comes after `NAME ←`.
 fn define(alloc: Global, name: Name, rest: &[Spanned]) -> Result<Command, ParseFault>
     requires { 2 + length rest.now ≤ most_tokens }
     ensures { IsCommand (Named name ∷ Sign left_arrow ∷ lexemes rest.now) result }
@@ -97,7 +97,7 @@ fn define(alloc: Global, name: Name, rest: &[Spanned]) -> Result<Command, ParseF
     Ok(Command::Define(name, formula))
 }
 
-/// The data with what is behind `) DATA`.
+/// The data with what comes after `) DATA`.
 fn data(alloc: Global, rest: &[Spanned]) -> Result<Command, ParseFault>
     requires { 2 + length rest.now ≤ most_tokens }
     ensures { IsCommand (Sign right_parenthesis ∷ Named data_word ∷ lexemes rest.now) result }
@@ -109,7 +109,7 @@ fn data(alloc: Global, rest: &[Spanned]) -> Result<Command, ParseFault>
     Ok(Command::Data(found.0, value))
 }
 
-/// The row with what is behind `) ROW`.
+/// The row with what comes after `) ROW`.
 fn row(alloc: Global, rest: &[Spanned]) -> Result<Command, ParseFault>
     requires { 2 + length rest.now ≤ most_tokens }
     ensures { IsCommand (Sign right_parenthesis ∷ Named row_word ∷ lexemes rest.now) result }
@@ -121,7 +121,7 @@ fn row(alloc: Global, rest: &[Spanned]) -> Result<Command, ParseFault>
     Ok(Command::Row(found.0, items))
 }
 
-/// What is erased, with what is behind `) ERASE`.
+/// What is erased, with what comes after `) ERASE`.
 fn erase(rest: &[Spanned]) -> Result<Command, ParseFault>
     requires { 2 + length rest.now ≤ most_tokens }
     ensures { IsCommand (Sign right_parenthesis ∷ Named erase_word ∷ lexemes rest.now) result }
@@ -132,7 +132,7 @@ fn erase(rest: &[Spanned]) -> Result<Command, ParseFault>
     }
 }
 
-/// The list of names, with what is behind `) NAMES`.
+/// The list of names, with what comes after `) NAMES`.
 fn names(rest: &[Spanned]) -> Result<Command, ParseFault>
     requires { 2 + length rest.now ≤ most_tokens }
     ensures { IsCommand (Sign right_parenthesis ∷ Named names_word ∷ lexemes rest.now) result }
@@ -144,7 +144,7 @@ fn names(rest: &[Spanned]) -> Result<Command, ParseFault>
     }
 }
 
-/// What is written as a table, with what is behind `) CSV`.
+/// What is written as a table, with what comes after `) CSV`.
 fn csv(rest: &[Spanned]) -> Result<Command, ParseFault>
     requires { 2 + length rest.now ≤ most_tokens }
     ensures { IsCommand (Sign right_parenthesis ∷ Named csv_word ∷ lexemes rest.now) result }
@@ -155,7 +155,7 @@ fn csv(rest: &[Spanned]) -> Result<Command, ParseFault>
     }
 }
 
-/// The command of this word, with what is behind it.
+/// The command of this word, with what comes after it.
 fn worded(alloc: Global, word: Name, rest: &[Spanned]) -> Result<Command, ParseFault>
     requires { 2 + length rest.now ≤ most_tokens }
     ensures { IsCommand (Sign right_parenthesis ∷ Named word ∷ lexemes rest.now) result }
@@ -183,7 +183,7 @@ fn show(alloc: Global, tokens: &[Spanned]) -> Result<Command, ParseFault>
     Ok(Command::Show(shown))
 }
 
-/// The edit of a cell, with what is behind `NAME [`, if the tokens are one; else the expression to show.
+/// The edit of a cell, with what comes after `NAME [`, if the tokens are one; else the expression to show.
 fn cell(
     alloc: Global,
     tokens: &[Spanned],
@@ -228,7 +228,7 @@ fn command_of(alloc: Global, tokens: &[Spanned]) -> Result<Command, ParseFault>
 ///
 /// The first token fault from the left comes before all else. Then more than 4,096 tokens are `Limit`, whatever they are;
 /// then tokens that are no line of the grammar are `Syntax`; then an expression whose tree is more than 256 high or has
-/// more than 512 nodes is `Limit`. `DATA`, `ROW`, `ERASE`, `NAMES` and `CSV` are words only behind `)`, and ordinary
+/// more than 512 nodes is `Limit`. `DATA`, `ROW`, `ERASE`, `NAMES` and `CSV` are words only after `)`, and ordinary
 /// names elsewhere.
 pub fn line(alloc: Global, text: &str) -> Result<Command, LineFault>
     ensures { IsAnswered (chars text.now) result }

@@ -1,4 +1,4 @@
-//! The edit of a cell: its place and its literal, behind `NAME [`; and a literal that stands alone.
+//! The edit of a cell: its place and its literal, after `NAME [`; and a literal that stands alone.
 
 ghost use Rattle.std.specs.Prelude.{Some, []};
 ghost use Rattle.apl_tokens.specs.Lexemes.{lexeme, lexemes};
@@ -81,7 +81,7 @@ fn edit_end(edit: Edit) -> Result<(Vec<i64>, Literal), ParseFault>
     }
 }
 
-/// The place and the literal that the tokens are, behind what was read before them.
+/// The place and the literal that the tokens are, after what was read before them.
 fn read_on(
     alloc: Global,
     before: Edit,

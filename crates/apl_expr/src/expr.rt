@@ -64,11 +64,14 @@ pub enum ScalarDyad {
     Nor,
 }
 
-/// The axis that a function works along: the first or the last where none is written, else the one that is, counted from 1.
+/// The axis that a function works along: the first or the last where none is written, else the one that is.
 #[derive(Clone, Copy, Debug, PartialEq, Eq)]
 pub enum Along {
+    /// The first axis.
     First,
+    /// The last axis.
     Last,
+    /// The axis of this number, counted from 1.
     Axis(i64),
 }
 
@@ -102,11 +105,11 @@ pub enum Dyadic {
     Reshape,
     /// `A,B` and `A⍪B`, A and B joined along an axis.
     Catenate(Along),
-    /// `A↑B`, so many places of each axis.
+    /// `A↑B`, of each axis of B as many places as A says.
     Take,
-    /// `A↓B`, so many places of each axis left out.
+    /// `A↓B`, B without as many places of each axis as A says.
     Drop,
-    /// `A⌽B` and `A⊖B`, each line of an axis turned by so many places.
+    /// `A⌽B` and `A⊖B`, each line of an axis turned by as many places as A says.
     Rotate(Along),
     /// `A⍉B`, the axes of B where A says.
     Transpose,

@@ -12,12 +12,14 @@ use crate::symbols::{
 };
 use apl_tokens::{Spanned, Token};
 
-/// What a function is before its argument and between its arguments, if it is one there, and how many tokens it has behind
-/// its first.
+/// A function as it is written: what it is alone and between two arguments, if it is a function there, and how long it is.
 #[derive(Clone, Copy)]
 pub(crate) struct Function {
+    /// What it is before its argument.
     pub(crate) alone: Option<Monadic>,
+    /// What it is between its arguments.
     pub(crate) between: Option<Dyadic>,
+    /// How many tokens it has after its first.
     pub(crate) more: usize,
 }
 
@@ -78,7 +80,7 @@ fn fold_along_in(sign: char, tokens: &[Spanned]) -> Option<Monadic>
     }
 }
 
-/// The function before its argument that the sign is with an axis behind it.
+/// The function before its argument that the sign is with an axis after it.
 fn monadic_along_in(sign: char, tokens: &[Spanned]) -> Option<Monadic>
     ensures { result ≡ monadic_along_in sign (lexemes tokens.now) }
 {
@@ -86,7 +88,7 @@ fn monadic_along_in(sign: char, tokens: &[Spanned]) -> Option<Monadic>
     monadic_along_of(sign, axis)
 }
 
-/// The function between its arguments that the sign is with an axis behind it.
+/// The function between its arguments that the sign is with an axis after it.
 fn dyadic_along_in(sign: char, tokens: &[Spanned]) -> Option<Dyadic>
     ensures { result ≡ dyadic_along_in sign (lexemes tokens.now) }
 {
@@ -94,7 +96,7 @@ fn dyadic_along_in(sign: char, tokens: &[Spanned]) -> Option<Dyadic>
     dyadic_along_of(sign, axis)
 }
 
-/// The function that the sign begins, with these tokens behind it.
+/// The function that the sign begins, with these tokens after it.
 fn function_at(sign: char, tokens: &[Spanned]) -> Function
     ensures { result ≡ function_at sign (lexemes tokens.now) }
 {
@@ -126,11 +128,11 @@ fn function_at(sign: char, tokens: &[Spanned]) -> Function
             more: 1,
         };
     }
-    with_axis_or_alone(sign, tokens)
+    along_or_plain(sign, tokens)
 }
 
-/// The function that the sign is with an axis behind it, else the one that it is alone.
-fn with_axis_or_alone(sign: char, tokens: &[Spanned]) -> Function
+/// The function that the sign is with an axis after it, else the one that it is alone.
+fn along_or_plain(sign: char, tokens: &[Spanned]) -> Function
     ensures { result ≡ along_or_plain sign (monadic_along_in sign (lexemes tokens.now)) (dyadic_along_in sign (lexemes tokens.now)) }
 {
     let alone = monadic_along_in(sign, tokens);

@@ -54,7 +54,7 @@ impl Expr {
             }
             Expr::Index(operand, positions) => {
                 let rest = operand.nodes_left(below)?;
-                nodes_left_behind(positions, rest)
+                nodes_left_in(positions, rest)
             }
         }
     }
@@ -84,7 +84,7 @@ fn are_within_height(positions: &[Option<Expr>], limit: u32) -> bool
 
 /// How many nodes more than the trees at these positions have are allowed.
 #[cycle(nodes)]
-fn nodes_left_behind(positions: &[Option<Expr>], limit: u32) -> Option<u32>
+fn nodes_left_in(positions: &[Option<Expr>], limit: u32) -> Option<u32>
     ensures { MatchOption result (limit < nodes_in (positions_of (map position_of positions.now))) (λ left. left + nodes_in (positions_of (map position_of positions.now)) ≡ limit) }
 {
     let mut rest = limit;

@@ -14,7 +14,7 @@ use crate::limits::{MOST_HEIGHT, MOST_NODES, MOST_TOKENS};
 use apl_tokens::{Spanned, Token};
 use std::alloc::{AllocError, Global};
 
-/// An open bracket: a parenthesis, or the bracket of an index behind its operand, with the positions before this one.
+/// An open bracket: a parenthesis, or the bracket of an index after its operand, with the positions before this one.
 #[derive(Drop)]
 enum Bracket {
     Parenthesis,
@@ -153,7 +153,7 @@ fn position_ended(
     }
 }
 
-/// Reads a sign that closes a bracket, or ends a position in it, behind an operand.
+/// Reads a sign that closes a bracket, or ends a position in it, after an operand.
 fn closed(
     alloc: Global,
     sign: char,
@@ -220,7 +220,7 @@ fn begin(
     first(alloc, token, function, waiting)
 }
 
-/// Reads a token, or the function that it begins, behind an operand.
+/// Reads a token, or the function that it begins, after an operand.
 fn next(
     alloc: Global,
     token: &Token,
@@ -242,7 +242,7 @@ fn next(
     }
 }
 
-/// Reads a token, or the function that it begins, behind an operand that an index may follow.
+/// Reads a token, or the function that it begins, after an operand that an index may follow.
 fn after_reference(
     alloc: Global,
     token: &Token,
@@ -318,10 +318,10 @@ fn tree(alloc: Global, tokens: &[Spanned]) -> Result<Expr, ParseFault>
     let mut waiting = Vec::new(alloc);
     let mut reading = Reading::Nothing;
     let mut rest = tokens;
-    while let Some((first, behind)) = rest.split_first() {
-        let function = function_from(&first.token, behind);
+    while let Some((first, after)) = rest.split_first() {
+        let function = function_from(&first.token, after);
         reading = step(alloc, &first.token, function, reading, &mut waiting)?;
-        rest = &behind[function.more..];
+        rest = &after[function.more..];
     }
     finish(alloc, reading, &mut waiting)
 }

@@ -111,7 +111,7 @@ pub(crate) fn dyadic_of(sign: char) -> Option<Dyadic>
     }
 }
 
-/// The function of one argument that the sign stands for with an axis behind it.
+/// The function of one argument that the sign stands for with an axis after it.
 #[tactic(auto, unfolding(crate::specs::Symbols::monadic_along_of))]
 pub(crate) fn monadic_along_of(sign: char, axis: i64) -> Option<Monadic>
     ensures { result ≡ monadic_along_of sign axis }
@@ -122,7 +122,7 @@ pub(crate) fn monadic_along_of(sign: char, axis: i64) -> Option<Monadic>
     }
 }
 
-/// The function of two arguments that the sign stands for with an axis behind it.
+/// The function of two arguments that the sign stands for with an axis after it.
 #[tactic(auto, unfolding(crate::specs::Symbols::dyadic_along_of))]
 pub(crate) fn dyadic_along_of(sign: char, axis: i64) -> Option<Dyadic>
     ensures { result ≡ dyadic_along_of sign axis }
@@ -149,7 +149,7 @@ fn folding_of(function: ScalarDyad, folding: char) -> Option<Monadic>
     }
 }
 
-/// The same with an axis behind the sign.
+/// The same with an axis after the sign.
 #[tactic(auto, unfolding(crate::specs::Symbols::folding_along_of))]
 fn folding_along_of(function: ScalarDyad, folding: char, axis: i64) -> Option<Monadic>
     ensures { result ≡ folding_along_of function folding axis }
@@ -168,21 +168,21 @@ pub(crate) fn folded_of(function: char, folding: char) -> Option<Monadic>
     folding_of(scalar_dyad_of(function)?, folding)
 }
 
-/// The same with an axis behind them.
+/// The same with an axis after them.
 pub(crate) fn folded_along_of(function: char, folding: char, axis: i64) -> Option<Monadic>
     ensures { result ≡ folded_along_of function folding axis }
 {
     folding_along_of(scalar_dyad_of(function)?, folding, axis)
 }
 
-/// The outer product by the scalar function behind `∘.`.
+/// The outer product by the scalar function after `∘.`.
 pub(crate) fn outer_of(function: char) -> Option<Dyadic>
     ensures { result ≡ outer_of function }
 {
     Some(Dyadic::Outer(scalar_dyad_of(function)?))
 }
 
-/// The inner product by the scalar functions before and behind a dot.
+/// The inner product by the scalar functions before and after a dot.
 pub(crate) fn inner_of(first: char, second: char) -> Option<Dyadic>
     ensures { result ≡ inner_of first second }
 {

@@ -10,9 +10,11 @@ use Rattle.apl_tokens.specs.declared.name.Name.TheInside.{Inside}
 abbrev pub stored : List ℕ → Inside
 stored bytes = record { bytes = bytes ++ replicate (longest_name - length bytes) 0; len = length bytes }
 
+-- the room is full, holds UTF-8 up to the length, and zeros after it
 abbrev pub IsStored : Inside → Type 0
 IsStored a = (a.len ≤ longest_name) × (length a.bytes ≡ longest_name) × (drop a.len a.bytes ≡ replicate (longest_name - a.len) 0) × (is_utf8 (take a.len a.bytes) ≡ true)
 
+-- a name that is stored again is the same
 pub stored_again : (a : Inside) → IsStored a → stored (take a.len a.bytes) ≡ a
 stored_again a h =
     let n : length (take a.len a.bytes) ≡ a.len = length-take-le a.len a.bytes (omega arith) in

@@ -10,7 +10,7 @@ use thiserror::Error;
 /// Why a text has no tokens: the first fault from the left, with the bytes where it is.
 #[derive(Clone, Copy, Debug, PartialEq, Eq, Error)]
 pub enum TokenFault {
-    /// A character that begins no token; a high minus without a digit behind it; a text that does not close; or a number,
+    /// A character that begins no token; a high minus without a digit after it; a text that does not close; or a number,
     /// directly followed by a letter, `_` or a high minus.
     #[error("no token at bytes {0}")]
     Syntax(Span),

@@ -27,7 +27,7 @@ enum Scan {
     Quote(usize, Vec<char>),
 }
 
-/// Puts a token behind the others.
+/// Puts a token after the others.
 fn put(out: &mut Vec<Spanned>, token: Token, span: Span) -> Result<(), TokenFault>
     ensures { Finds result out.new.items (Ok (all_placed out.old.items ++ placed (lexeme token) span.start span.end ∷ [])) }
 {
@@ -102,7 +102,7 @@ fn ended(at: usize, scan: Scan, out: &mut Vec<Spanned>) -> Result<(), TokenFault
 }
 
 /// Ends what is being read, and begins to read at a character that stands at byte `at`.
-fn begun_behind(
+fn then_begun(
     alloc: Global,
     at: usize,
     c: char,
@@ -148,19 +148,19 @@ fn turn(
             if joins_number(c) {
                 return Err(TokenFault::Syntax(Span { start, end: at }));
             }
-            begun_behind(alloc, at, c, Scan::Digits(start, is_negative, digits), out)
+            then_begun(alloc, at, c, Scan::Digits(start, is_negative, digits), out)
         }
         Scan::Letters(start, mut letters) => {
             if is_name_part(c) {
                 letters.push(c)?;
                 return Ok(Scan::Letters(start, letters));
             }
-            begun_behind(alloc, at, c, Scan::Letters(start, letters), out)
+            then_begun(alloc, at, c, Scan::Letters(start, letters), out)
         }
         Scan::Quoted(start, chars) if c == '\'' => Ok(Scan::Quote(start, chars)),
         Scan::Quoted(start, chars) => quoted(start, chars, c),
         Scan::Quote(start, chars) if c == '\'' => quoted(start, chars, c),
-        Scan::Quote(start, chars) => begun_behind(alloc, at, c, Scan::Quote(start, chars), out),
+        Scan::Quote(start, chars) => then_begun(alloc, at, c, Scan::Quote(start, chars), out),
     }
 }
 
@@ -189,16 +189,17 @@ fn characters(alloc: Global, text: &str) -> Result<Vec<char>, AllocError>
 }
 
 /// The tokens of a line, the lexical units of ISO 8485; its comment, which `⍝` begins, and blanks between tokens are none.
-/// A sign is told in its first spelling, and a text literal by the characters between its quotes, a doubled quote once.
+/// A sign is given in its first spelling, and a text literal by the characters between its quotes, a doubled quote once.
 ///
 /// A line that has no tokens is answered its first fault from the left: `Syntax` for a character that begins no token, for
-/// a high minus without a digit behind it, for a text that does not close, from its quote to the end, and for a number that
+/// a high minus without a digit after it, for a text that does not close, from its quote to the end, and for a number that
 /// a letter, `_` or a high minus follows directly; `Limit` for a number that is out of range and for a name of more than 63
 /// bytes.
 #[tactic(auto, using(crate::proofs::Sound::are_tokens))]
 pub fn tokens(alloc: Global, text: &str) -> Result<Vec<Spanned>, TokenFault>
     ensures { AreTokensOf (chars text.now) result }
 {
+    // The length of a text is below 2^64, so no place in it overflows.
     let _len = text.len();
     let chars = characters(alloc, text)?;
     scanned(alloc, &chars)

@@ -1,7 +1,7 @@
 use Rattle.apl_tokens.specs.Scanner.{ended, begun}
 use Rattle.apl_tokens.specs.Scanning.{all_placed, scan_of}
 use Rattle.apl_tokens.proofs.Turns.{turns_on}
-use Rattle.apl_tokens.proofs.scanner.begun_behind.Goals as goal
+use Rattle.apl_tokens.proofs.scanner.then_begun.Goals as goal
 
 pub returns : goal.returns
 returns c =
