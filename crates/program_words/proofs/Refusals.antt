@@ -1,5 +1,5 @@
 -- Why words are refused.
-use Rattle.std.proofs.Common.{◌≡◌, sym, subst, List, ⊎_elim, Option}
+use Rattle.std.proofs.Common.{◌≡◌, sym, subst, List, ⊎_elim, [], Option}
 use Rattle.clap.specs.Words.{HasKind, IsAmong, Row, Text, fault_of, kind_of, subcommand_of}
 use Rattle.clap.specs.declared.error.Error.{Error}
 use Rattle.clap.specs.declared.error.kind.ErrorKind.{ErrorKind}
@@ -23,9 +23,9 @@ refused_by_clap words e (BadWords x) kinds h =
     ⊎_elim (λ m. absurd (h.1 m)) (λ among. subst (λ (k : ErrorKind). IsAmong k (fault_of aplsheet words)) (sym h.0) among) kinds
 
 -- words that `clap` takes
-pub refused_for_name : (words : List Text) (asked : Option (Text × List Row)) (f : WordsFault) → asked ≡ subcommand_of aplsheet words → IsForName (HasBadName asked) f
+pub refused_for_name : (words : List Text) (asked : Option (Text × List Row)) (f : WordsFault) → asked ≡ subcommand_of aplsheet words → fault_of aplsheet words ≡ [] → IsForName (HasBadName asked) f
     → IsRefusalOf words f
 unfolding IsRefusalOf
-refused_for_name words asked NoMemory is h = tt
-refused_for_name words asked BadName is h = subst HasBadName is h
-refused_for_name words asked (BadWords e) is h = absurd h
+refused_for_name words asked NoMemory is none h = tt
+refused_for_name words asked BadName is none h = (none, subst HasBadName is h)
+refused_for_name words asked (BadWords e) is none h = absurd h

@@ -1,5 +1,5 @@
 -- What the words of the program ask for.
-use Rattle.std.specs.Prelude.{◌≡◌, ◌↔◌, ◌≤◌, true, false, List, Bool, IsTrue, Option, Some, None, codes, length, option_map, string_bytes}
+use Rattle.std.specs.Prelude.{◌≡◌, ◌↔◌, ◌≤◌, true, false, List, [], Bool, IsTrue, Option, Some, None, codes, length, option_map, string_bytes}
 use Rattle.std.specs.declared.alloc.Global.{Global}
 use Rattle.std.specs.declared.string.String.{String}
 use Rattle.std.specs.Str.{bytes_eq, chars}
@@ -44,10 +44,10 @@ unfoldable pub HasBadName : Option (Text × List Row) → Type 0
 HasBadName None = ⊥
 HasBadName (Some p) = (is_table p.0 ≡ true) × HasNoName p.1
 
--- why words are refused: for want of memory; for the table's name; or by `clap`, for a fault that they have
+-- why words are refused: for want of memory; for the table's name, where `clap` has no fault to find; or for a fault that they have
 unfoldable pub IsRefusalOf : List Text → WordsFault → Type 0
 IsRefusalOf words NoMemory = Unit {0}
-IsRefusalOf words BadName = HasBadName (subcommand_of aplsheet words)
+IsRefusalOf words BadName = (fault_of aplsheet words ≡ []) × HasBadName (subcommand_of aplsheet words)
 IsRefusalOf words (BadWords e) = IsAmong (kind_of e) (fault_of aplsheet words)
 
 -- `clap` did not refuse the words

@@ -71,6 +71,7 @@ pub(crate) fn program<'a>(alloc: Global) -> Result<Command<'a>, AllocError>
     let command = Command::new(alloc, "aplsheet")
         .about(ABOUT)
         .after_help(EXAMPLES)
+        .bin_name("aplsheet")?
         .subcommand(run)?
         .subcommand(table)?;
     Ok(command)

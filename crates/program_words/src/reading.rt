@@ -1,6 +1,6 @@
 //! What the words ask for.
 
-ghost use Rattle.std.specs.Prelude.{◌≡◌, true, IfOk, IfErr, OnErr, Some, is_some, codes, option_map, string_bytes};
+ghost use Rattle.std.specs.Prelude.{◌≡◌, true, IfOk, IfErr, OnOk, [], Some, is_some, codes, option_map, string_bytes};
 ghost use Rattle.clap.specs.Words.{found_of, first_of, fault_of, kind_of, rows_of, subcommand_of, subcommand_rows_of, takes, IsAmong};
 ghost use Rattle.clap.specs.Walk.{texts};
 ghost use Rattle.program_words.specs.Program.{aplsheet};
@@ -42,10 +42,11 @@ impl From<AllocError> for WordsFault {
     }
 }
 
-/// Reads the words that the program is started with, its own name first. Each of `table` that is required is there in what is
-/// answered. Words that `clap` takes are refused for want of memory, and where the table's name is no name.
+/// Reads the words that the program is started with, its own name first. Words that have no fault by `clap`'s exact meaning are
+/// refused for want of memory, and where the table's name is no name; words that have one are never taken.
 pub fn read_words(alloc: Global, words: &[&str]) -> Result<Words, WordsFault>
     ensures ok { IfOk result (Means (subcommand_of aplsheet (texts words.now))) }
+    ensures faultless { OnOk result (fault_of aplsheet (texts words.now) ≡ []) }
     ensures refused { IfErr result (IsRefusalOf (texts words.now)) }
     ensures taken { takes aplsheet (texts words.now) ≡ true → IfErr result IsNotBadWords }
 {

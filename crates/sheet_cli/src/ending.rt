@@ -1,7 +1,7 @@
 //! How the program ends.
 
-ghost use Rattle.std.specs.Prelude.{◌≡◌, true, IfOk, IfErr};
-ghost use Rattle.clap.specs.Words.{subcommand_of, takes};
+ghost use Rattle.std.specs.Prelude.{◌≡◌, true, IfOk, IfErr, OnOk, []};
+ghost use Rattle.clap.specs.Words.{fault_of, subcommand_of, takes};
 ghost use Rattle.clap.specs.Walk.{texts};
 ghost use Rattle.program_words.specs.Asked.{IsNotBadWords, IsRefusalOf, Means};
 ghost use Rattle.program_words.specs.Program.{aplsheet};
@@ -72,10 +72,12 @@ pub fn status(ending: &Ending) -> u8
     }
 }
 
-/// What the words that the program is started with ask for, its own name first; or the ending that they come to. Words that `clap`
-/// takes are refused for want of memory, and where the table's name is no name.
+/// What the words that the program is started with ask for, its own name first; or the ending that they come to. Words that have no
+/// fault by `clap`'s exact meaning are refused for want of memory, and where the table's name is no name; words that have one are
+/// never taken.
 pub fn words(alloc: Global, words: &[&str]) -> Result<Words, Ending>
     ensures ok { IfOk result (Means (subcommand_of aplsheet (texts words.now))) }
+    ensures faultless { OnOk result (fault_of aplsheet (texts words.now) ≡ []) }
     ensures refused { IfErr result (OfWords (IsRefusalOf (texts words.now))) }
     ensures taken { takes aplsheet (texts words.now) ≡ true → IfErr result (OfWords IsNotBadWords) }
 {

@@ -1,10 +1,10 @@
-use Rattle.std.proofs.Common.{ap, subst, sym, ◌∙◌}
+use Rattle.std.proofs.Common.{subst, sym}
 use Rattle.std.proofs.lemmas.Result.{IfErr-weaker, IfOk-weaker, err_from_is_err_and}
-use Rattle.clap.specs.Words.{App, HasKind, app_of, fault_of, subcommand_rows_of}
+use Rattle.clap.specs.Words.{HasKind, app_of, fault_of, subcommand_rows_of}
 use Rattle.clap.specs.Walk.{texts}
 use Rattle.program_words.specs.Asked.{IsRefusalOf, Means}
 use Rattle.program_words.specs.Matched.{IsWholeTable}
-use Rattle.program_words.proofs.Exact.{is_free, matched}
+use Rattle.program_words.proofs.Exact.{is_free, matched, no_fault}
 use Rattle.program_words.proofs.Refusals.{refused_by_clap, refused_for_name}
 use Rattle.program_words.proofs.Required.{words_whole}
 use Rattle.program_words.proofs.reading.read_words.Goals as goal
@@ -17,7 +17,7 @@ pub words_of-requires : goal.words_of-requires
 words_of-requires c =
     let words = texts c.args.words.now in
     let app = app_of c.in_ok-command.command in
-    let none = sym (ap (λ (a : App). fault_of a words) c.in_ok-command.ensures) ∙ c.in-Ok.ensures.kinds (is_free app c.in_ok-command.ensures) in
+    let none = no_fault app words c.in_ok-command.ensures c.in-Ok.ensures.kinds in
     subst IsWholeTable (sym (matched app c.in-Ok.matches words c.in_ok-command.ensures c.in-Ok.ensures.matches)) (words_whole words none)
 
 pub returns-in-Ok-clause-ok : goal.returns-in-Ok-clause-ok
@@ -25,10 +25,18 @@ returns-in-Ok-clause-ok c =
     let is = matched (app_of c.in_ok-command.command) c.in-Ok.matches (texts c.args.words.now) c.in_ok-command.ensures c.in-Ok.ensures.matches in
     IfOk-weaker c.words_of.result _ _ (λ w h. subst (λ asked. Means asked w) is h) c.words_of.ensures.ok
 
+pub returns-in-Ok-clause-faultless : goal.returns-in-Ok-clause-faultless
+returns-in-Ok-clause-faultless c =
+    let none = no_fault (app_of c.in_ok-command.command) (texts c.args.words.now) c.in_ok-command.ensures c.in-Ok.ensures.kinds in
+    IfOk-weaker c.words_of.result _ _ (λ w h. none) c.words_of.ensures.ok
+
 pub returns-in-Ok-clause-refused : goal.returns-in-Ok-clause-refused
 returns-in-Ok-clause-refused c =
-    let is = matched (app_of c.in_ok-command.command) c.in-Ok.matches (texts c.args.words.now) c.in_ok-command.ensures c.in-Ok.ensures.matches in
-    IfErr-weaker c.words_of.result _ _ (λ f h. refused_for_name (texts c.args.words.now) (subcommand_rows_of c.in-Ok.matches) f is h) c.words_of.ensures.bad_name
+    let words = texts c.args.words.now in
+    let app = app_of c.in_ok-command.command in
+    let is = matched app c.in-Ok.matches words c.in_ok-command.ensures c.in-Ok.ensures.matches in
+    let none = no_fault app words c.in_ok-command.ensures c.in-Ok.ensures.kinds in
+    IfErr-weaker c.words_of.result _ _ (λ f h. refused_for_name words (subcommand_rows_of c.in-Ok.matches) f is none h) c.words_of.ensures.bad_name
 
 pub returns-in-Err-clause-refused : goal.returns-in-Err-clause-refused
 returns-in-Err-clause-refused c =
