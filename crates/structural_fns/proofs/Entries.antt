@@ -8,7 +8,7 @@ use Rattle.index_region.specs.Answers.{IsPlaceOf}
 use Rattle.index_region.proofs.Passing.{passed}
 use Rattle.structural_fns.specs.DyadicTranspose.{transpose_by_form}
 
--- the next of so many numbers in a row
+-- the next of some numbers in a row
 pub range_more : (n k : ℕ) → k < n → range_with_len (k + 1) (n - k) ≡ (k + 1) ∷ range_with_len (k + 1 + 1) (n - (k + 1))
 range_more n k h =
     let e : n - k ≡ suc (n - (k + 1)) = omega arith in

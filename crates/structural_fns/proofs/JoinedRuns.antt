@@ -19,7 +19,8 @@ use Rattle.index_region.specs.Arguments.{is_scalar}
 use Rattle.index_region.specs.Axes.{is_axis, axis_at}
 use Rattle.index_region.specs.Checks.{and_then}
 use Rattle.structural_fns.specs.Catenate.{joined_rank, joined_places, other_axes, ranks_join, axes_agree, joined_type, joined_shape, types_join, in_side, catenate_item, catenate_form, catenate_whole}
-use Rattle.structural_fns.proofs.Runs.{item_after, limited_is, check_passed, test_passed}
+use Rattle.index_region.proofs.Passing.{gives}
+use Rattle.structural_fns.proofs.Runs.{item_after, limited_is, positive}
 use Rattle.structural_fns.proofs.Sides.{shared_long}
 
 -- ---- a side whose items are taken once, in row-major order, beside the other axes of the result
@@ -33,9 +34,6 @@ of_parts item_type shape items = record { item_type = item_type; shape = shape; 
 
 scalar_whole : (item_type : ItemType) (items : List Item) (rank : ℕ) (others : List ℕ) → rank ≡ 1 → others ≡ [] → IsWhole rank others (of_parts item_type [] items)
 scalar_whole item_type items rank others one none = rw (one, none) (record { sized = refl; placed = λ x j h. refl })
-
-positive : (n : ℕ) → 0 < n → nat_eq n 0 ≡ false
-positive n h = grind (arith, nat_tests)
 
 zero_is : (n : ℕ) → n ≡ 0 → nat_eq n 0 ≡ true
 zero_is n h = grind (arith, nat_tests)
@@ -136,7 +134,7 @@ module _ (along : Along) (a b : ArrayValue) (others : List ℕ) (first : axis_at
       get_or_default b.items j (fill b.item_type) (fill (joined_type a b)) (omega arith) ∙ sym (get_or-append_right a.items b.items (length a.items) k (fill (joined_type a b)) refl past) in
       rw (first, test, place, remainder, right.placed (k / t + 1) j there, item_after b j there) (ap (λ x. Ok x) found)
 
-  -- both runs, one behind the other
+  -- both runs, one after the other
   runs_collected : IsWhole (joined_rank a b) others a → IsWhole (joined_rank a b) others b → length a.items ≡ size a.shape → length b.items ≡ size b.shape
       → (more : ℕ) → length a.items + length b.items ≡ size (more ∷ others)
       → collect (joined_type a b) (more ∷ others) (catenate_item along a b) ≡ Ok (record { item_type = joined_type a b; shape = more ∷ others; items = a.items ++ b.items })
@@ -162,16 +160,15 @@ module _ (along : Along) (a b : ArrayValue) (shape : List ℕ) (item_type : Item
   joined_runs left_sound right_sound left_run right_run =
       let rank = joined_rank a b in
       let axis = axis_at rank along in
-      let kept = check_passed (is_axis rank along) AxisKind _ (shape, item_type) form in
-      let ranks = test_passed (ranks_join a b) Rank _ (shape, item_type) kept in
-      let ranked = check_passed (ranks_join a b) Rank _ (shape, item_type) kept in
-      let agree = test_passed (axes_agree rank axis a b) Length _ (shape, item_type) ranked in
-      let agreeing = check_passed (axes_agree rank axis a b) Length _ (shape, item_type) ranked in
-      let parts = limited_is (check_passed (types_join a b) Domain _ (shape, item_type) agreeing) in
+      let there = gives (is_axis rank along) AxisKind _ (shape, item_type) form in
+      let ranks = gives (ranks_join a b) Rank _ (shape, item_type) there.is in
+      let agree = gives (axes_agree rank axis a b) Length _ (shape, item_type) ranks.is in
+      let types = gives (types_join a b) Domain _ (shape, item_type) agree.is in
+      let parts = limited_is types.is in
       let more = joined_places rank 0 a + joined_places rank 0 b in
       let shaped : shape ≡ more ∷ result_axes a b = parts.0 ∙ ap (λ n. joined_shape rank n a b) first in
-      let left = left_whole a b ranks left_run in
-      let right = right_whole a b ranks (ap (λ n. axes_agree rank n a b) (sym first) ∙ agree) right_run in
+      let left = left_whole a b ranks.test left_run in
+      let right = right_whole a b ranks.test (ap (λ n. axes_agree rank n a b) (sym first) ∙ agree.test) right_run in
       let left_sized = left.sized in
       let right_sized = right.sized in
       let left_long = left_sound.one_item_a_place in

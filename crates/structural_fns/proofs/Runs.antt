@@ -1,5 +1,5 @@
 -- Results whose items are a run of those of an argument.
-use Rattle.std.proofs.Common.{◌≡◌, ℕ, ◌+◌, ◌-◌, ◌/◌, ◌%◌, ◌<◌, ◌≤◌, List, [], ◌∷◌, map, take, drop, length, get_or, Some, None, Result, Ok, Err, Bool, true, false, cond, refl, sym, ap, subst, ◌∙◌, arith}
+use Rattle.std.proofs.Common.{◌≡◌, ℕ, ◌+◌, ◌-◌, ◌/◌, ◌%◌, ◌<◌, ◌≤◌, List, [], ◌∷◌, map, take, drop, length, get_or, Some, None, Result, Ok, Bool, true, false, cond, refl, sym, ap, subst, ◌∙◌, arith}
 use Rattle.std.specs.Prelude.{unwrap_or, not, nat_eq, ◌&&◌}
 use Rattle.std.proofs.lemmas.Bool.Decides.{nat_tests}
 use Rattle.std.proofs.Math.Nat.{div-one, mod-eq_of_lt}
@@ -7,19 +7,20 @@ use Rattle.std.proofs.lemmas.List.{length-take-le, length-drop, get_or-take, get
 use Rattle.arrays_core.specs.declared.item.Item.{Item}
 use Rattle.arrays_core.specs.declared.item.ItemType.{ItemType}
 use Rattle.arrays_core.specs.declared.item.Kind.{Kind}
-use Rattle.arrays_core.specs.declared.item.Kind.TheVariants.{Rank, Domain, Limit}
+use Rattle.arrays_core.specs.declared.item.Kind.TheVariants.{Rank, Domain}
 use Rattle.arrays_core.specs.Items.{fill, all_or_first_error}
 use Rattle.arrays_core.specs.Shapes.{size, indices, index_after, places_before}
 use Rattle.arrays_core.specs.Arrays.{ArrayValue, item_if_there, collect, with_items}
-use Rattle.index_region.specs.Checks.{Form, check, limited, is_within_limits, and_then}
+use Rattle.index_region.specs.Checks.{Form, limited, and_then}
 use Rattle.index_region.specs.Arguments.{is_list, has_items, counts_as_numbers, none_negative, numbers}
 use Rattle.index_region.specs.ArgumentLists.{of_one_argument, of_two_arguments}
 use Rattle.index_region.specs.Sources.{item_from}
 use Rattle.structural_fns.specs.Reshape.{magnitudes, reshape_form, reshape_source, reshape_item, reshape_whole}
 use Rattle.structural_fns.specs.Ravel.{ravel_item, ravel_whole}
+use Rattle.index_region.proofs.Passing.{gives, limited_gives}
 use Rattle.arrays_core.proofs.Order.{given_in_order, index_after-within, places_before-index_after}
 
--- the item at the index list that has so many before it
+-- the item at the index list that has k before it
 pub item_after : (b : ArrayValue) (k : ℕ) → k < size b.shape → item_if_there b (index_after b.shape k) ≡ Some (get_or b.items k (fill b.item_type))
 item_after b k h = rw (index_after-within b.shape k h, places_before-index_after b.shape k h) refl
 
@@ -56,15 +57,9 @@ module _ (b : ArrayValue) (inside : size b.shape ≤ length b.items) where
 
 -- the form that a passed check gives is what was asked for
 pub limited_is : {asked shape : List ℕ} {asked_type item_type : ItemType} → limited asked asked_type ≡ Ok (shape, item_type) → (shape ≡ asked) × (item_type ≡ asked_type)
-limited_is {asked = asked} {shape = shape} {asked_type = asked_type} {item_type = item_type} is = decide (is_within_limits asked) is
-  where
-    decide : (w : Bool) → cond {A = Result Form Kind} w (Ok (asked, asked_type)) (Err Limit) ≡ Ok (shape, item_type) → (shape ≡ asked) × (item_type ≡ asked_type)
-    decide true h =
-        let found : Form = (asked, asked_type) in
-        let wanted : Form = (shape, item_type) in
-        let same : found ≡ wanted = cc in
-        (sym (ap (λ (f : Form). f.0) same), sym (ap (λ (f : Form). f.1) same))
-    decide false h = let no : ⊥ = cc in absurd no
+limited_is {asked = asked} {shape = shape} {asked_type = asked_type} {item_type = item_type} is =
+    let same = limited_gives asked asked_type (shape, item_type) is in
+    (ap (λ (f : Form). f.0) same, ap (λ (f : Form). f.1) same)
 
 pub ravel_answer : (args : List ArrayValue) (b v : ArrayValue) (places : ℕ) (asked shape : List ℕ) (asked_type item_type : ItemType)
     → length args ≡ 1 → b ≡ get_or args 0 b → asked ≡ places ∷ [] → places ≡ size b.shape → places ≡ length b.items → asked_type ≡ b.item_type
@@ -84,13 +79,8 @@ ravel_answer (a ∷ []) b v places asked shape asked_type item_type one same is_
 
 -- ---- reshape, where no item is needed twice
 
-pub check_passed : {A : Type 0} (w : Bool) (kind : Kind) (rest : Result A Kind) (x : A) → check w kind rest ≡ Ok x → rest ≡ Ok x
-check_passed true kind rest x h = h
-check_passed false kind rest x h = let no : ⊥ = cc in absurd no
-
-pub test_passed : {A : Type 0} (w : Bool) (kind : Kind) (rest : Result A Kind) (x : A) → check w kind rest ≡ Ok x → w ≡ true
-test_passed true kind rest x h = refl
-test_passed false kind rest x h = let no : ⊥ = cc in absurd no
+pub positive : (n : ℕ) → 0 < n → nat_eq n 0 ≡ false
+positive n h = grind (arith, nat_tests)
 
 module _ (a b : ArrayValue) (as_many : length b.items ≡ size b.shape) (few : size (magnitudes a) ≤ length b.items) where
   reshaped_item : (k : ℕ) → k < size (magnitudes a) → reshape_item a b (index_after (magnitudes a) k) ≡ Ok (get_or b.items (0 + k) (fill b.item_type))
@@ -103,30 +93,11 @@ module _ (a b : ArrayValue) (as_many : length b.items ≡ size b.shape) (few : s
       ∙ ap (λ n. item_from a b b.item_type (Some (1, index_after b.shape n))) before
       ∙ ap (λ o. Ok (unwrap_or o (fill b.item_type))) (item_after b k below)
       ∙ ap (λ n. Ok (get_or b.items n (fill b.item_type))) (let same : k ≡ 0 + k = omega arith in same)
-    where
-      positive : (n : ℕ) → 0 < n → nat_eq n 0 ≡ false
-      positive n p = grind (arith, nat_tests)
 
   reshaped : reshape_form a b ≡ Ok (magnitudes a, b.item_type) → reshape_whole a b ≡ Ok (record { item_type = b.item_type; shape = magnitudes a; items = take (size (magnitudes a)) (drop 0 b.items) })
   reshaped is =
       ap (λ r. and_then r (λ f. collect f.1 f.0 (reshape_item a b))) is
       ∙ run_collected b.item_type (magnitudes a) (reshape_item a b) b.items 0 (fill b.item_type) (omega arith) reshaped_item
-
-pub reshape_answer : (args : List ArrayValue) (b v : ArrayValue) (shape : List ℕ) (item_type : ItemType)
-    → length args ≡ 2 → b ≡ get_or args 1 b → of_two_arguments reshape_form args ≡ Ok (shape, item_type) → length b.items ≡ size b.shape → size shape ≤ length b.items
-    → v ≡ record { item_type = b.item_type; shape = shape; items = take (size shape) (drop 0 b.items) } → of_two_arguments reshape_whole args ≡ Ok v
-reshape_answer [] b v shape item_type two same passed as_many few made = absurd (omega arith)
-reshape_answer (a ∷ []) b v shape item_type two same passed as_many few made = absurd (omega arith)
-reshape_answer (a ∷ c ∷ d ∷ args) b v shape item_type two same passed as_many few made = absurd (omega arith)
-reshape_answer (a ∷ c ∷ []) b v shape item_type two same passed as_many few made =
-    let here : reshape_form a b ≡ Ok (shape, item_type) = ap (λ x. reshape_form a x) same ∙ passed in
-    let last = check_passed (counts_as_numbers a && none_negative (numbers a)) Domain (limited (magnitudes a) b.item_type) (shape, item_type) (check_passed (is_list a) Rank _ (shape, item_type) here) in
-    let parts = limited_is last in
-    let shaped : shape ≡ magnitudes a = parts.0 in
-    let fits : size (magnitudes a) ≤ length b.items = subst (λ xs. size xs ≤ length b.items) shaped few in
-    let form : reshape_form a b ≡ Ok (magnitudes a, b.item_type) = here ∙ ap (λ xs. Ok (xs, item_type)) shaped ∙ ap (λ t. Ok (magnitudes a, t)) parts.1 in
-    ap (λ x. reshape_whole a x) (sym same) ∙ reshaped a b as_many fits form
-    ∙ ap (λ xs. Ok (record { item_type = b.item_type; shape = xs; items = take (size xs) (drop 0 b.items) })) (sym shaped) ∙ ap (λ w. Ok w) (sym made)
 
 -- what is known where the checks of reshape have passed
 pub record ReshapePassed (a b : ArrayValue) (shape : List ℕ) (item_type : ItemType) : Type 0 where
@@ -136,9 +107,25 @@ pub record ReshapePassed (a b : ArrayValue) (shape : List ℕ) (item_type : Item
 
 reshape_passed : (a b : ArrayValue) (shape : List ℕ) (item_type : ItemType) → reshape_form a b ≡ Ok (shape, item_type) → ReshapePassed a b shape item_type
 reshape_passed a b shape item_type form =
-    let listed = check_passed (is_list a) Rank _ (shape, item_type) form in
-    let parts = limited_is (check_passed (counts_as_numbers a && none_negative (numbers a)) Domain (limited (magnitudes a) b.item_type) (shape, item_type) listed) in
+    let listed = gives (is_list a) Rank _ (shape, item_type) form in
+    let counted = gives (counts_as_numbers a && none_negative (numbers a)) Domain _ (shape, item_type) listed.is in
+    let parts = limited_is counted.is in
     record { form = form; shaped = parts.0; typed = parts.1 }
+
+pub reshape_answer : (args : List ArrayValue) (b v : ArrayValue) (shape : List ℕ) (item_type : ItemType)
+    → length args ≡ 2 → b ≡ get_or args 1 b → of_two_arguments reshape_form args ≡ Ok (shape, item_type) → length b.items ≡ size b.shape → size shape ≤ length b.items
+    → v ≡ record { item_type = b.item_type; shape = shape; items = take (size shape) (drop 0 b.items) } → of_two_arguments reshape_whole args ≡ Ok v
+reshape_answer [] b v shape item_type two same passed as_many few made = absurd (omega arith)
+reshape_answer (a ∷ []) b v shape item_type two same passed as_many few made = absurd (omega arith)
+reshape_answer (a ∷ c ∷ d ∷ args) b v shape item_type two same passed as_many few made = absurd (omega arith)
+reshape_answer (a ∷ c ∷ []) b v shape item_type two same passed as_many few made =
+    let here : reshape_form a b ≡ Ok (shape, item_type) = ap (λ x. reshape_form a x) same ∙ passed in
+    let passed = reshape_passed a b shape item_type here in
+    let shaped = passed.shaped in
+    let fits : size (magnitudes a) ≤ length b.items = subst (λ xs. size xs ≤ length b.items) shaped few in
+    let form : reshape_form a b ≡ Ok (magnitudes a, b.item_type) = here ∙ ap (λ xs. Ok (xs, item_type)) shaped ∙ ap (λ t. Ok (magnitudes a, t)) passed.typed in
+    ap (λ x. reshape_whole a x) (sym same) ∙ reshaped a b as_many fits form
+    ∙ ap (λ xs. Ok (record { item_type = b.item_type; shape = xs; items = take (size xs) (drop 0 b.items) })) (sym shaped) ∙ ap (λ w. Ok w) (sym made)
 
 pub reshape_typed : (args : List ArrayValue) (b : ArrayValue) (shape : List ℕ) (item_type : ItemType)
     → length args ≡ 2 → b ≡ get_or args 1 b → of_two_arguments reshape_form args ≡ Ok (shape, item_type) → item_type ≡ b.item_type

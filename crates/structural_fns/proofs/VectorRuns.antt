@@ -18,8 +18,9 @@ use Rattle.structural_fns.specs.Reshape.{magnitudes}
 use Rattle.structural_fns.specs.AxisCounts.{counted_shape, counted_form}
 use Rattle.structural_fns.specs.Take.{taken_place, take_form, take_item, take_whole}
 use Rattle.structural_fns.specs.Drop.{kept_place, dropped_shape, drop_form, drop_item, drop_whole}
+use Rattle.index_region.proofs.Passing.{gives}
 use Rattle.structural_fns.proofs.Counting.{numbers_long}
-use Rattle.structural_fns.proofs.Runs.{item_after, run_collected, limited_is, check_passed, test_passed}
+use Rattle.structural_fns.proofs.Runs.{item_after, run_collected, limited_is}
 
 -- what is known where the checks of counts have passed
 pub record CountsPassed (asked : List ℕ) (a b : ArrayValue) (shape : List ℕ) (item_type : ItemType) : Type 0 where
@@ -30,12 +31,11 @@ pub record CountsPassed (asked : List ℕ) (a b : ArrayValue) (shape : List ℕ)
 pub counts_passed : (asked : List ℕ) (a b : ArrayValue) (shape : List ℕ) (item_type : ItemType) → counted_form asked a b ≡ Ok (shape, item_type)
     → CountsPassed asked a b shape item_type
 counts_passed asked a b shape item_type h =
-    let listed = check_passed (is_list a) Rank _ (shape, item_type) h in
-    let long = test_passed (nat_eq (length a.items) (length (counted_shape a b))) Length _ (shape, item_type) listed in
-    let counted = check_passed (nat_eq (length a.items) (length (counted_shape a b))) Length _ (shape, item_type) listed in
-    let last = check_passed (counts_as_numbers a) Domain _ (shape, item_type) counted in
-    let parts = limited_is last in
-    record { shaped = parts.0; typed = parts.1; long = eqb-true _ _ long }
+    let listed = gives (is_list a) Rank _ (shape, item_type) h in
+    let long = gives (nat_eq (length a.items) (length (counted_shape a b))) Length _ (shape, item_type) listed.is in
+    let last = gives (counts_as_numbers a) Domain _ (shape, item_type) long.is in
+    let parts = limited_is last.is in
+    record { shaped = parts.0; typed = parts.1; long = eqb-true _ _ long.test }
 
 -- a vector, by its parts
 abbrev of_vector : ItemType → ℕ → List Item → ArrayValue
@@ -49,14 +49,14 @@ only (x ∷ y ∷ xs) d h = absurd (omega arith)
 vector_is : (b : ArrayValue) → length b.shape ≡ 1 → b ≡ of_vector b.item_type (get_or b.shape 0 0) b.items
 vector_is b h = ap (λ xs. record { item_type = b.item_type; shape = xs; items = b.items }) (only b.shape 0 h)
 
--- the items of a run of places of b, behind so many
+-- the items of a run of places of b, after `skipped` others
 abbrev pub run_of : ArrayValue → List ℕ → ℕ → ArrayValue
 run_of b shape skipped = record { item_type = b.item_type; shape = shape; items = take (size shape) (drop skipped b.items) }
 
-pub run_answer : {E : Type 0} (r : Result ArrayValue E) (wanted : Result ArrayValue Kind) (b : ArrayValue) (shape : List ℕ) (skipped behind : ℕ)
-    → behind ≡ skipped → wanted ≡ Ok (run_of b shape skipped) → IfOk r (λ x. x ≡ run_of b shape behind) → IfOk r (λ x. wanted ≡ Ok x)
-run_answer r wanted b shape skipped behind same is h =
-    IfOk-weaker r (λ x. x ≡ run_of b shape behind) (λ x. wanted ≡ Ok x)
+pub run_answer : {E : Type 0} (r : Result ArrayValue E) (wanted : Result ArrayValue Kind) (b : ArrayValue) (shape : List ℕ) (skipped begin : ℕ)
+    → begin ≡ skipped → wanted ≡ Ok (run_of b shape skipped) → IfOk r (λ x. x ≡ run_of b shape begin) → IfOk r (λ x. wanted ≡ Ok x)
+run_answer r wanted b shape skipped begin same is h =
+    IfOk-weaker r (λ x. x ≡ run_of b shape begin) (λ x. wanted ≡ Ok x)
     (λ x e. is ∙ ap (λ m. Ok (run_of b shape m)) (sym same) ∙ ap (λ w. Ok w) (sym e)) h
 
 -- ---- take
