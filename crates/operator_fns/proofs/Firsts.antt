@@ -1,4 +1,4 @@
--- Results that a rule gives for so many places: all of them, or the first error.
+-- Results that a rule gives for n places: all of them, or the first error.
 use Rattle.std.proofs.Common.{◌≡◌, ℕ, zero, suc, ◌+◌, ◌<◌, ◌≤◌, List, [], ◌∷◌, length, get_or, map, refl, ap, sym, ◌∙◌, arith, Result, Ok, Err}
 use Rattle.std.specs.List.{range_with_len}
 use Rattle.std.proofs.lemmas.List.FromFn.{length-map-range_with_len, get_or-map-range_with_len}
@@ -82,7 +82,7 @@ module _ {A E : Type 0} where
         let inside : f.place < n = omega (arith, f.below) in
         record { place = f.place; below = inside; is = sym (get_or-map-range_with_len rule 0 n f.place f.place (Ok x) inside (omega arith)) ∙ f.is }
 
--- rules that give the same at each of so many places
+-- rules that give the same at each of n places
 pub same_rules : {B : Type 0} (rule other : ℕ → B) (n : ℕ) → ((k : ℕ) → k < n → rule k ≡ other k) → map rule (range_with_len 0 n) ≡ map other (range_with_len 0 n)
 same_rules {B = B} rule other n h = from 0 n (λ k below. h k (omega (arith, below.1)))
   where

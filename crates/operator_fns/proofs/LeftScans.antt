@@ -14,7 +14,7 @@ use Rattle.arrays_core.specs.declared.item.Kind.{Kind}
 use Rattle.arrays_core.specs.Items.{all_or_first_error}
 use Rattle.index_region.specs.Checks.{and_then}
 use Rattle.operator_fns.specs.LinearScan.{run_to, folded_left, HasRead}
-use Rattle.operator_fns.proofs.Runs.{first_row, later_row, behind, left_first, left_later}
+use Rattle.operator_fns.proofs.Runs.{first_row, later_row, past_stride, left_first, left_later}
 use Rattle.operator_fns.proofs.Firsts.{entry_of}
 
 module _ (f : ℤ → ℤ → Result ℤ Kind) (zs : List ℤ) (stride count : ℕ) (apart : 0 < stride) (some : 1 ≤ count) where
@@ -36,7 +36,7 @@ module _ (f : ℤ → ℤ → Result ℤ Kind) (zs : List ℤ) (stride count : �
         | inr h ↦
             let high : stride ≤ place % (count * stride) = omega (arith, here, h) in
             let deep = later_row stride count apart some place high in
-            let far = behind stride count apart some place deep in
+            let far = past_stride stride count apart some place deep in
             let rs = map left_at (range_with_len 0 (length zs)) in
             let long : length rs ≡ length zs = length-map-range_with_len left_at 0 (length zs) in
             let inside : place - stride < place = omega arith in

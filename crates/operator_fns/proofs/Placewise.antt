@@ -1,4 +1,4 @@
--- Arrays of numbers that are told place by place.
+-- Arrays of numbers that are given place by place.
 use Rattle.std.proofs.Common.{◌≡◌, ℕ, ◌<◌, true, List, [], map, ℤ, pos, Result, Ok, ap, sym, ◌∙◌, arith}
 use Rattle.std.specs.List.{range_with_len}
 use Rattle.std.proofs.lemmas.List.{length-map, ext_get_or, get_or_default}

@@ -66,8 +66,8 @@ module _ (stride count : ℕ) (apart : 0 < stride) (some : 1 ≤ count) where
       le_of_mod : (n m : ℕ) → n % m ≤ n
       le_of_mod n m = let e = mod-add-div n m in omega arith
 
-  pub behind : (place : ℕ) → 0 < depth stride count place → stride ≤ place
-  behind place h = decide (depth stride count place) h (depth_high place)
+  pub past_stride : (place : ℕ) → 0 < depth stride count place → stride ≤ place
+  past_stride place h = decide (depth stride count place) h (depth_high place)
     where
       decide : (d : ℕ) → 0 < d → d * stride ≤ place → stride ≤ place
       decide zero h e = absurd (omega arith)
@@ -75,7 +75,7 @@ module _ (stride count : ℕ) (apart : 0 < stride) (some : 1 ≤ count) where
 
   pub one_deeper : (place : ℕ) → 0 < depth stride count place → depth stride count place ≡ depth stride count (place - stride) + 1
   one_deeper place h =
-      let back = div-eq-sub-div apart (behind place h) in
+      let back = div-eq-sub-div apart (past_stride place h) in
       let q = (place - stride) / stride in
       let next : q + 1 ≡ suc q = omega arith in
       let e : depth stride count place ≡ suc q % count = ap (λ m. m % count) (back ∙ next) in

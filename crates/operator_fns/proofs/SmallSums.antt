@@ -12,7 +12,7 @@ pub sum_total : (x : ℤ) (rest : List ℤ) → total x rest ≡ sum_of (x ∷ r
 sum_total x [] = omega (arith, ints)
 sum_total x (y ∷ rest) = ap (λ z. x +ℤ z) (sum_total y rest)
 
--- the sums of the endings of so many small numbers
+-- the sums of the endings of a list of small numbers
 record Bounded (x : ℤ) (rest : List ℤ) : Type 0 where
   total_low : neg_ℤ (pos (8796093022207 * (length rest + 1))) ≤ℤ total x rest
   total_high : total x rest ≤ℤ pos (8796093022207 * (length rest + 1))

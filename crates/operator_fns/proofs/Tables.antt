@@ -15,7 +15,7 @@ use Rattle.arrays_core.specs.Items.{all_or_first_error, after}
 use Rattle.index_region.specs.Checks.{and_then}
 use Rattle.operator_fns.specs.ResultTable.{table, with_results, LeavesOrFails}
 
--- ---- results behind others
+-- ---- results after others
 
 again : (r : Result (List ℤ) Kind) → r ≡ and_then r (λ zs. Ok ([] ++ zs))
 again (Ok zs) = refl
@@ -25,17 +25,17 @@ after_parts : (x : ℤ) (r : Result (List ℤ) Kind) (all : List ℤ) (B : Type 
 after_parts x (Ok rest) all B h then = then rest refl (let e : x ∷ rest ≡ all = cc in sym e)
 after_parts x (Err e) all B h then = let none : ⊥ = cc in absurd none
 
-after_behind : (x : ℤ) (rest : List ℤ) (r : Result (List ℤ) Kind) → after x (and_then r (λ zs. Ok (rest ++ zs))) ≡ and_then r (λ zs. Ok (x ∷ (rest ++ zs)))
-after_behind x rest (Ok zs) = refl
-after_behind x rest (Err e) = refl
+after_more : (x : ℤ) (rest : List ℤ) (r : Result (List ℤ) Kind) → after x (and_then r (λ zs. Ok (rest ++ zs))) ≡ and_then r (λ zs. Ok (x ∷ (rest ++ zs)))
+after_more x rest (Ok zs) = refl
+after_more x rest (Err e) = refl
 
-pub all_behind : (front rs : List (Result ℤ Kind)) (zs : List ℤ) → all_or_first_error front ≡ Ok zs → all_or_first_error (front ++ rs) ≡ with_results zs rs
-all_behind [] rs zs h = let e : zs ≡ [] = cc in rw e (again (all_or_first_error rs))
-all_behind (Err e ∷ front) rs zs h = cc
-all_behind (Ok x ∷ front) rs zs h =
+pub all_then : (front rs : List (Result ℤ Kind)) (zs : List ℤ) → all_or_first_error front ≡ Ok zs → all_or_first_error (front ++ rs) ≡ with_results zs rs
+all_then [] rs zs h = let e : zs ≡ [] = cc in rw e (again (all_or_first_error rs))
+all_then (Err e ∷ front) rs zs h = cc
+all_then (Ok x ∷ front) rs zs h =
     after_parts x (all_or_first_error front) zs (all_or_first_error (Ok x ∷ front ++ rs) ≡ with_results zs rs) h (λ rest made is.
-    ap (after x) (all_behind front rs rest made)
-    ∙ after_behind x rest (all_or_first_error rs)
+    ap (after x) (all_then front rs rest made)
+    ∙ after_more x rest (all_or_first_error rs)
     ∙ sym (ap (λ ys. with_results ys rs) is))
 
 pub error_in_front : (front rs : List (Result ℤ Kind)) (e : Kind) → all_or_first_error front ≡ Err e → all_or_first_error (front ++ rs) ≡ Err e
@@ -47,7 +47,7 @@ error_in_front (Ok x ∷ front) rs e h = ap (after x) (error_in_front front rs e
     failed (Ok zs) g = cc
     failed (Err k) g = g
 
--- so many results of a list stand behind some numbers
+-- the first results of a list stand after some numbers
 pub record RowTo (old : List ℤ) (rs : List (Result ℤ Kind)) (k : ℕ) (items : List ℤ) : Type 0 where
   pub new : List ℤ
   pub made : all_or_first_error (take k rs) ≡ Ok new

@@ -28,6 +28,7 @@ column_length b = get_or b.shape 0 1
 abbrev pub inner_length : ArrayValue → ArrayValue → ℕ
 inner_length a b = if has_one_item a then column_length b else row_length a
 
+-- the checks, and the shape and the type of the result
 abbrev pub inner_form : ArrayValue → ArrayValue → Result Form Kind
 inner_form a b =
     check ((has_one_item a || has_one_item b) || nat_eq (row_length a) (column_length b)) Length
@@ -43,9 +44,11 @@ abbrev pub products : Scalar2 → ArrayValue → ArrayValue → List ℕ → Lis
 products g a b row column =
     map (λ j. dyadic_on_items g (extended a (row ++ j ∷ [])) (extended b (j ∷ column))) (range_with_len 1 (inner_length a b))
 
+-- the item at an index list: a row and a column, put together by g and folded by f
 abbrev pub inner_item : Scalar2 → Scalar2 → ArrayValue → ArrayValue → List ℕ → Result Item Kind
 inner_item f g a b index =
     and_then (all_or_last_error (products g a b (take (row_rank a) index) (drop (row_rank a) index))) (fold_right f)
 
+-- the whole result
 abbrev pub inner_whole : Scalar2 → Scalar2 → ArrayValue → ArrayValue → Result ArrayValue Kind
 inner_whole f g a b = whole (inner_form a b) (inner_item f g a b)

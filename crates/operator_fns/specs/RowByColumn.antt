@@ -6,17 +6,17 @@ use Rattle.arrays_core.specs.Shapes.{size}
 use Rattle.arrays_core.specs.Arrays.{ArrayValue}
 use Rattle.index_region.specs.Checks.{and_then}
 use Rattle.index_region.specs.Arguments.{has_one_item}
-use Rattle.operator_fns.specs.declared.row_by_column.Line.{Line}
+use Rattle.operator_fns.specs.declared.row_by_column.StridedLine.{StridedLine}
 use Rattle.operator_fns.specs.declared.grid.Grid.{Grid}
 use Rattle.operator_fns.specs.InnerProduct.{inner_length, all_or_last_error}
 use Rattle.operator_fns.specs.Strides.{folded}
 
 -- an entry of a line of a list
-abbrev pub entry : {A : Type 0} → A → List A → Line → ℕ → A
+abbrev pub entry : {A : Type 0} → A → List A → StridedLine → ℕ → A
 entry default xs line k = get_or xs (line.first + k * line.stride) default
 
 -- the first `count` entries of a line lie within a list of n
-abbrev pub IsInside : Line → ℕ → ℕ → Type 0
+abbrev pub IsInside : StridedLine → ℕ → ℕ → Type 0
 IsInside line count n = (k : ℕ) → k < count → line.first + k * line.stride < n
 
 -- what a function gives for each entry of a row with the entry of a column that it meets
@@ -36,10 +36,10 @@ folded_all f rs = and_then (all_or_last_error rs) (folded f)
 -- ---- the rows of one list of numbers and the columns of another
 
 -- the row and the column of a place of the result
-abbrev pub row_at : Grid → ℕ → Line
+abbrev pub row_at : Grid → ℕ → StridedLine
 row_at grid place = record { first = place / grid.columns * grid.count; stride = grid.row_stride }
 
-abbrev pub column_at : Grid → ℕ → Line
+abbrev pub column_at : Grid → ℕ → StridedLine
 column_at grid place = record { first = place % grid.columns; stride = grid.column_stride }
 
 -- the number at a place of the result

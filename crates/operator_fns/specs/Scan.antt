@@ -17,6 +17,7 @@ use Rattle.operator_fns.specs.RightFold.{fold_right, line}
 abbrev pub scan_type : ArrayValue → ℕ → ItemType
 scan_type b axis = if nat_lt (places_along b.shape axis) 2 then b.item_type else Nums
 
+-- the checks, and the shape and the type of the result
 abbrev pub scan_form : Along → ArrayValue → Result Form Kind
 scan_form along b =
     let axis = axis_at (length b.shape) along in
@@ -30,5 +31,6 @@ scan_item f along b index =
     let axis = axis_at (length b.shape) along in
     fold_right f (take (get_or index axis 1) (line b axis (remove index axis)))
 
+-- the whole result
 abbrev pub scan_whole : Scalar2 → Along → ArrayValue → Result ArrayValue Kind
 scan_whole f along b = whole (scan_form along b) (scan_item f along b)

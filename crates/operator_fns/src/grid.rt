@@ -9,19 +9,22 @@ ghost use Rattle.scalar_fns.specs.Items.{number_item};
 ghost use Rattle.operator_fns.specs.RowByColumn.{cell, IsGridOf};
 
 use crate::number_rule::{NumberRule, collect_numbers};
-use crate::row_by_column::{Line, NumberLines, fold_row};
+use crate::row_by_column::{NumberLines, StridedLine, fold_row};
 use arrays_core::{ApplyFault, Array, Kind, Shape, size};
 use scalar_fns::Scalar2;
 use scalar_fns::kernels::{And, Equal, Maximum, Minimum, Or, Plus, Times, TwoNumbers};
 use std::alloc::Global;
 
-/// How rows and columns lie: how many columns there are, how many numbers a row and a column have, and how
-/// far apart they stand. A row of one number stands still, and so does a column.
+/// How the rows of one list of numbers and the columns of another lie.
 #[derive(Clone, Copy)]
 pub(crate) struct Grid {
+    /// How many columns there are.
     pub(crate) columns: usize,
+    /// How many numbers a row and a column have.
     pub(crate) count: usize,
+    /// How far apart the numbers of a row stand; 0 where one number is all of them.
     pub(crate) row_stride: usize,
+    /// How far apart the numbers of a column stand; 0 where one number is all of them.
     pub(crate) column_stride: usize,
 }
 
@@ -44,11 +47,11 @@ impl<'a, F: TwoNumbers, G: TwoNumbers> NumberRule for Cells<'a, F, G> {
 
     fn number_at(&self, place: usize) -> Result<i64, Kind> {
         let grid = self.grid;
-        let row = Line {
+        let row = StridedLine {
             first: place / grid.columns * grid.count,
             stride: grid.row_stride,
         };
-        let column = Line {
+        let column = StridedLine {
             first: place % grid.columns,
             stride: grid.column_stride,
         };

@@ -14,7 +14,7 @@ ghost use Rattle.operator_fns.specs.RowByColumn.{entry, IsInside, grid_of};
 use crate::grid::{Grid, grid_products};
 use crate::limits::MOST_AXES;
 use crate::right_fold::{identity_item, stride};
-use crate::row_by_column::{ItemLines, Line, fold_row_of_items};
+use crate::row_by_column::{ItemLines, StridedLine, fold_row_of_items};
 use arrays_core::{
     ApplyFault, Array, Item, ItemType, Kind, Shape, append_axes, position, shape_of, size,
     with_axis,
@@ -73,7 +73,7 @@ fn inner_length(left: &Seen, right: &Seen) -> u32
 }
 
 /// Where the row at an index list of the other axes lies; one item is each item of its row.
-fn row_line(array: &Seen, row: &[u32], count: u32) -> Line
+fn row_line(array: &Seen, row: &[u32], count: u32) -> StridedLine
     requires inside { IsTrue (is_below (take (rank_of_rows array.now) array.now.shape) row.now) }
     requires some { 1 ≤ count }
     requires long { length array.now.items ≢ 1 → length_of_row array.now ≡ count }
@@ -82,21 +82,21 @@ fn row_line(array: &Seen, row: &[u32], count: u32) -> Line
     ensures few { length array.now.items ≤ 1048576 }
 {
     if array.places() == 1 {
-        return Line {
+        return StridedLine {
             first: 0,
             stride: 0,
         };
     }
     let shape = array.shape();
     let first = with_axis(*shape.allocator(), row, row.len(), 1);
-    Line {
+    StridedLine {
         first: position(shape, first.as_slice()) as usize - 1,
         stride: 1,
     }
 }
 
 /// Where the column at an index list of the other axes lies; one item is each item of its column.
-fn column_line(array: &Seen, column: &[u32], count: u32) -> Line
+fn column_line(array: &Seen, column: &[u32], count: u32) -> StridedLine
     requires inside { IsTrue (is_below (drop 1 array.now.shape) column.now) }
     requires some { 1 ≤ count }
     requires long { length array.now.items ≢ 1 → length_of_column array.now ≡ count }
@@ -105,14 +105,14 @@ fn column_line(array: &Seen, column: &[u32], count: u32) -> Line
     ensures few { length array.now.items ≤ 1048576 }
 {
     if array.places() == 1 {
-        return Line {
+        return StridedLine {
             first: 0,
             stride: 0,
         };
     }
     let shape = array.shape();
     let first = with_axis(*shape.allocator(), column, 0, 1);
-    Line {
+    StridedLine {
         first: position(shape, first.as_slice()) as usize - 1,
         stride: stride(shape.as_slice(), 0) as usize,
     }

@@ -45,7 +45,7 @@ fn next_result<S: TwoNumbers>(
     is_first: bool,
 ) -> Result<i64, Kind>
     requires apart { 0 < stride }
-    requires behind { is_first ≡ false → stride ≤ length results.now }
+    requires enough { is_first ≡ false → stride ≤ length results.now }
     ensures first { is_first ≡ true → result ≡ Ok number }
     ensures later { is_first ≡ false → result ≡ S.gives step.now (get_or results.now (length results.now - stride) (pos 0)) number }
 {

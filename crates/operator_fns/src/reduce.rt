@@ -209,12 +209,12 @@ impl Reduce {
         ensures { IsAnswerTo (of_one_argument (reduce_whole self.now.function self.now.along) args.now) result }
     {
         let array = &args[0];
-        if let Some(numbers) = array.numbers() {
-            if !numbers.is_empty() && !array.shape().is_empty() {
-                return self.of_numbers(alloc, array, numbers);
+        match array.numbers() {
+            Some(numbers) if !numbers.is_empty() && !array.shape().is_empty() => {
+                self.of_numbers(alloc, array, numbers)
             }
+            _ => apply(alloc, self, args),
         }
-        apply(alloc, self, args)
     }
 
     /// The folds of the lines of an array of numbers that has axes.

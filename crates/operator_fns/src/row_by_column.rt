@@ -11,11 +11,12 @@ use index_region::Seen;
 use scalar_fns::kernels::TwoNumbers;
 use scalar_fns::{Scalar2, two};
 
-/// Entries of a list that stand a stride apart: how many come before the first, and how far after it the
-/// next one stands.
+/// Entries of a list that stand a stride apart.
 #[derive(Clone, Copy)]
-pub(crate) struct Line {
+pub(crate) struct StridedLine {
+    /// How many entries of the list come before the first.
     pub(crate) first: usize,
+    /// How far each stands after the one before; 0 where all are one entry.
     pub(crate) stride: usize,
 }
 
@@ -23,9 +24,9 @@ pub(crate) struct Line {
 #[derive(Drop)]
 pub(crate) struct NumberLines<'a> {
     pub(crate) left: &'a [i64],
-    pub(crate) row: Line,
+    pub(crate) row: StridedLine,
     pub(crate) right: &'a [i64],
-    pub(crate) column: Line,
+    pub(crate) column: StridedLine,
     pub(crate) count: usize,
     ghost in_left: { IsInside row count (length left.now) },
     ghost in_right: { IsInside column count (length right.now) },
@@ -81,9 +82,9 @@ pub(crate) fn fold_row<F: TwoNumbers, G: TwoNumbers>(
 #[derive(Drop)]
 pub(crate) struct ItemLines<'a, 'b, 'c> {
     pub(crate) left: &'a Seen<'b>,
-    pub(crate) row: Line,
+    pub(crate) row: StridedLine,
     pub(crate) right: &'a Seen<'c>,
-    pub(crate) column: Line,
+    pub(crate) column: StridedLine,
     pub(crate) count: usize,
     ghost in_left: { IsInside row count (length left.now.items) },
     ghost in_right: { IsInside column count (length right.now.items) },

@@ -3,7 +3,7 @@ use Rattle.std.proofs.lemmas.List.{take_all}
 use Rattle.std.proofs.lemmas.Int.{to_z-of_z}
 use Rattle.arrays_core.specs.Items.{all_or_first_error}
 use Rattle.operator_fns.specs.ResultTable.{table, with_results}
-use Rattle.operator_fns.proofs.Tables.{row_more, rows_left, all_behind, error_in_front, row_failed, length-table, as_many_as}
+use Rattle.operator_fns.proofs.Tables.{row_more, rows_left, all_then, error_in_front, row_failed, length-table, as_many_as}
 use Rattle.operator_fns.proofs.outer_product.table_numbers.Goals as goal
 
 pub returns-in_err-push_row-clause-is : goal.returns-in_err-push_row-clause-is
@@ -20,7 +20,7 @@ returns-in_err-push_row-clause-is g c =
     (λ e failed.
     ap all_or_first_error (rows_left f ys xs (k + 1))
     ∙ error_in_front (table f (take (k + 1) xs) ys) (table f (drop (k + 1) xs) ys) e
-    (ap all_or_first_error (row_more f ys xs k (omega arith)) ∙ all_behind rows (map (f x) ys) c.loop-number.numbers.items c.loop-number.invariant
+    (ap all_or_first_error (row_more f ys xs k (omega arith)) ∙ all_then rows (map (f x) ys) c.loop-number.numbers.items c.loop-number.invariant
     ∙ ap (λ z. with_results c.loop-number.numbers.items (map (f z) ys)) (sym same) ∙ failed))
     c.in_err-push_row.ensures c.from_residual-in_err-push_row.ensures
 
@@ -35,7 +35,7 @@ loop-number-preserved g c =
     let same : to_z w64 (of_z w64 x) ≡ x = to_z-of_z w64 _ fits in
     let rows = table f (take k xs) ys in
     ap all_or_first_error (row_more f ys xs k (omega arith))
-    ∙ all_behind rows (map (f x) ys) c.loop-number.numbers.items c.loop-number.invariant
+    ∙ all_then rows (map (f x) ys) c.loop-number.numbers.items c.loop-number.invariant
     ∙ (rw same at c.in_ok-push_row.ensures)
 
 pub returns-clause-long : goal.returns-clause-long
