@@ -3,8 +3,7 @@ use Rattle.std.proofs.Common.{◌≡◌, ℕ, zero, suc, ◌+◌, ◌-◌, ◌*�
 use Rattle.std.specs.Prelude.{max, sum}
 use Rattle.std.specs.List.{list_all}
 use Rattle.std.proofs.lemmas.Bool.Decides.{nat_tests}
-use Rattle.std.proofs.lemmas.List.{length-map, get_or-map, drop_more, map-id, get_or_default, length-replicate}
-use Rattle.std.proofs.lemmas.List.Sums.{sum-map, sum_by-cons}
+use Rattle.std.proofs.lemmas.List.{length-map, get_or-map, drop_more, get_or_default, length-replicate}
 use Rattle.std.proofs.Math.Nat.{div-eq-sub-div, div-eq_of_lt}
 use Rattle.arrays_core.specs.declared.item.Item.{Item}
 use Rattle.arrays_core.specs.declared.item.ItemType.{ItemType}
@@ -22,12 +21,13 @@ use Rattle.index_region.specs.Axes.{is_axis, axis_at, places_along}
 use Rattle.index_region.specs.Arguments.{is_list, has_one_item, counts_as_numbers, none_negative, numbers, number_of}
 use Rattle.index_region.specs.Answers.{IsPlaceOf, HasTypeOf}
 use Rattle.index_region.proofs.Passing.{passed, place_inside, typed_check, typed_limited, gives, limited_gives}
+use Rattle.selection_fns.proofs.Repeated.{sum_front, sum_same, sum_within, walk, maker_is_walk, maker_most}
 use Rattle.selection_fns.specs.Replicate.{times, maker, counts_checked, copied_place, replicated_shape, replicate_form, replicate_source}
 
 -- the place that makes a copy where each is copied as often
-pub each_maker : (n count i : ℕ) → 1 ≤ i → i ≤ n * count → (i - 1) / count + 1 ≡ maker (replicate n count) i
-each_maker zero count i low high = absurd (omega arith)
-each_maker (suc n) count i low high = decide (λ j. each_maker n count j) (nat_le i count) refl
+each_walk : (n count i : ℕ) → 1 ≤ i → i ≤ n * count → (i - 1) / count + 1 ≡ walk (replicate n count) i
+each_walk zero count i low high = absurd (omega arith)
+each_walk (suc n) count i low high = decide (λ j. each_walk n count j) (nat_le i count) refl
   where
     positive : 0 < count
     positive = some count high
@@ -36,10 +36,10 @@ each_maker (suc n) count i low high = decide (λ j. each_maker n count j) (nat_l
         some zero h = absurd (let none : suc n * 0 ≡ 0 = omega arith in omega arith)
         some (suc c) h = omega arith
 
-    step : (b : Bool) → nat_le i count ≡ b → maker (replicate (suc n) count) i ≡ (if b then 1 else suc (maker (replicate n count) (i - count)))
-    step b h = ap (λ (w : Bool). if w then 1 else suc (maker (replicate n count) (i - count))) h
+    step : (b : Bool) → nat_le i count ≡ b → walk (replicate (suc n) count) i ≡ (if b then 1 else suc (walk (replicate n count) (i - count)))
+    step b h = ap (λ (w : Bool). if w then 1 else suc (walk (replicate n count) (i - count))) h
 
-    decide : ((j : ℕ) → 1 ≤ j → j ≤ n * count → (j - 1) / count + 1 ≡ maker (replicate n count) j) → (b : Bool) → nat_le i count ≡ b → (i - 1) / count + 1 ≡ maker (replicate (suc n) count) i
+    decide : ((j : ℕ) → 1 ≤ j → j ≤ n * count → (j - 1) / count + 1 ≡ walk (replicate n count) j) → (b : Bool) → nat_le i count ≡ b → (i - 1) / count + 1 ≡ walk (replicate (suc n) count) i
     decide before true h =
         let below : i ≤ count = grind (arith, nat_tests) in
         let first : (i - 1) / count ≡ 0 = div-eq_of_lt (omega arith) in
@@ -53,6 +53,11 @@ each_maker (suc n) count i low high = decide (λ j. each_maker n count j) (nat_l
       where
         plus_one : (a b : ℕ) → a + 1 ≡ b → a + 1 + 1 ≡ suc b
         plus_one a b h = omega arith
+
+pub each_maker : (n count i : ℕ) → 1 ≤ i → i ≤ n * count → (i - 1) / count + 1 ≡ maker (replicate n count) i
+each_maker n count i low high =
+    let all = sum_same n count in
+    each_walk n count i low high ∙ sym (maker_is_walk (replicate n count) i low (omega arith))
 
 -- an index list of a shape with one axis exchanged
 pub record IsCopied (axes : List ℕ) (k places : ℕ) (index : List ℕ) : Type 0 where
@@ -158,41 +163,32 @@ replicate_beyond along a b on pass below long =
     fits (n ∷ []) (suc k) h = absurd (omega arith)
     fits (n ∷ m ∷ axes) (suc k) h = let rest = fits (m ∷ axes) k (omega arith) in omega arith
 
-sum_front : (x : ℕ) (xs : List ℕ) → sum (x ∷ xs) ≡ x + sum xs
-sum_front x xs =
-    let all = sum-map (λ n. n) (x ∷ xs) in
-    let rest = sum-map (λ n. n) xs in
-    sym (ap sum (map-id (x ∷ xs))) ∙ all ∙ sum_by-cons (λ n. n) x xs ∙ ap (λ n. x + n) (sym rest ∙ ap sum (map-id xs))
-
-pub maker_positive : (counts : List ℕ) (i : ℕ) → 1 ≤ maker counts i
-maker_positive [] i = omega arith
-maker_positive (count ∷ counts) i = either (nat_le i count) (maker counts (i - count))
-  where
-    either : (b : Bool) (m : ℕ) → 1 ≤ (if b then 1 else suc m)
-    either true m = omega arith
-    either false m = omega arith
-
 -- the copies of one place, after those of the places before
-pub maker_run : (counts : List ℕ) (k i : ℕ) → k < length counts → sum (take k counts) < i → i ≤ sum (take k counts) + get_or counts k 0 → maker counts i ≡ k + 1
-maker_run [] k i below low high = absurd (omega arith)
-maker_run (count ∷ counts) zero i below low high =
+walk_run : (counts : List ℕ) (k i : ℕ) → k < length counts → sum (take k counts) < i → i ≤ sum (take k counts) + get_or counts k 0 → walk counts i ≡ k + 1
+walk_run [] k i below low high = absurd (omega arith)
+walk_run (count ∷ counts) zero i below low high =
     let first : nat_le i count ≡ true = at_most i count high in
-    ap (λ (w : Bool). if w then 1 else suc (maker counts (i - count))) first
+    ap (λ (w : Bool). if w then 1 else suc (walk counts (i - count))) first
   where
     at_most : (i count : ℕ) → i ≤ 0 + count → nat_le i count ≡ true
     at_most i count h = grind (arith, nat_tests)
-maker_run (count ∷ counts) (suc k) i below low high =
+walk_run (count ∷ counts) (suc k) i below low high =
     let least : count + sum (take k counts) < i = subst (λ n. n < i) (sum_front count (take k counts)) low in
     let most : i ≤ count + sum (take k counts) + get_or counts k 0 = subst (λ n. i ≤ n + get_or counts k 0) (sum_front count (take k counts)) high in
     let later : nat_le i count ≡ false = above i count (omega arith) in
-    let rest = maker_run counts k (i - count) (omega arith) (omega arith) (omega arith) in
-    ap (λ (w : Bool). if w then 1 else suc (maker counts (i - count))) later ∙ next _ rest
+    let rest = walk_run counts k (i - count) (omega arith) (omega arith) (omega arith) in
+    ap (λ (w : Bool). if w then 1 else suc (walk counts (i - count))) later ∙ next _ rest
   where
     above : (i count : ℕ) → count < i → nat_le i count ≡ false
     above i count h = grind (arith, nat_tests)
 
     next : (m : ℕ) → m ≡ k + 1 → suc m ≡ suc k + 1
     next m h = omega arith
+
+pub maker_run : (counts : List ℕ) (k i : ℕ) → k < length counts → sum (take k counts) < i → i ≤ sum (take k counts) + get_or counts k 0 → maker counts i ≡ k + 1
+maker_run counts k i below low high =
+    let within = sum_within counts k below in
+    maker_is_walk counts i (omega arith) (omega arith) ∙ walk_run counts k i below low high
 
 -- what holds of each entry of a list still holds where copies of a number follow
 pub holds_with_run : (xs : List ℕ) (count x : ℕ) (f : ℕ → ℕ) → ((i : ℕ) → i < length xs → get_or xs i 0 + 1 ≡ f i) → ((j : ℕ) → j < count → x + 1 ≡ f (length xs + j))
@@ -331,14 +327,6 @@ copies_within a n total before places counts long is =
     let most = copied_most (nat_eq n 1) (has_one_item a) (k + 1) in
     omega (arith, there, place, most)
   where
-    maker_most : (cs : List ℕ) (i : ℕ) → maker cs i ≤ length cs + 1
-    maker_most [] i = omega arith
-    maker_most (c ∷ cs) i = let rest = maker_most cs (i - c) in either (nat_le i c) (maker cs (i - c)) rest
-      where
-        either : (b : Bool) (m : ℕ) → m ≤ length cs + 1 → (if b then 1 else suc m) ≤ suc (length cs) + 1
-        either true m h = omega arith
-        either false m h = omega arith
-
     copied_most : (v w : Bool) (i : ℕ) → (if v then 1 else maker (if w then replicate n (unsigned_abs (number_of (item_of a []))) else map unsigned_abs (numbers a)) i) ≤ 1048577
     copied_most true w i = omega arith
     copied_most false true i = let most = maker_most (replicate n (unsigned_abs (number_of (item_of a [])))) i in let long = length-replicate n (unsigned_abs (number_of (item_of a []))) in omega arith

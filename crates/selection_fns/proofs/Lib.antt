@@ -1,6 +1,7 @@
 pub mod Generated
 pub mod Positions
 pub mod Indexed
+pub mod Repeated
 pub mod Copies
 pub mod Lookups
 pub mod Searching

@@ -1,5 +1,5 @@
 -- Replicate: each place of an axis as often as its count. A scalar is a vector of one item.
-use Rattle.std.specs.Prelude.{ℕ, suc, ◌-◌, nat_eq, nat_le, max, unsigned_abs, ◌&&◌, ◌||◌, if◌then◌else◌, List, [], ◌∷◌, map, length, get_or, set, replicate, insert, remove, sum, Some, Result}
+use Rattle.std.specs.Prelude.{ℕ, suc, ◌-◌, nat_eq, max, unsigned_abs, ◌&&◌, ◌||◌, if◌then◌else◌, List, [], ◌∷◌, ◌++◌, map, length, get_or, set, replicate, insert, remove, sum, Some, Result}
 use Rattle.arrays_core.specs.declared.item.Item.{Item}
 use Rattle.arrays_core.specs.declared.item.Kind.{Kind}
 use Rattle.arrays_core.specs.declared.item.Kind.TheVariants.{Axis, Rank, Length, Domain}
@@ -33,10 +33,14 @@ replicate_form along a b =
     (counts_checked a (places_along b.shape axis)
     (limited (replicated_shape a b.shape axis) b.item_type))
 
--- which of the counts, from 1, makes copy i
+-- the places from k on, each as often as its count
+abbrev pub places_repeated : ℕ → List ℕ → List ℕ
+places_repeated k [] = []
+places_repeated k (count ∷ counts) = replicate count k ++ places_repeated (suc k) counts
+
+-- the place that copy i is of, where each place has a count
 abbrev pub maker : List ℕ → ℕ → ℕ
-maker [] i = 1
-maker (count ∷ counts) i = if nat_le i count then 1 else suc (maker counts (i - count))
+maker counts i = get_or (places_repeated 1 counts) (i - 1) 1
 
 -- the place that copy i is of; on an axis of one place each is a copy of that
 abbrev pub copied_place : ArrayValue → ℕ → ℕ → ℕ

@@ -106,8 +106,10 @@ fn replicated_shape(alloc: Global, axes: &[u32], axis: usize, places: u32) -> Sh
     shape
 }
 
-/// Which of the counts makes a copy.
+/// The place that a copy is of, where each place has a count of its own.
 fn maker(counts: &Seen, copy: u32) -> u32
+    requires low { 1 ≤ copy }
+    requires high { copy ≤ sum (map unsigned_abs (numbers counts.now)) }
     ensures { result ≡ maker_of (map unsigned_abs (numbers counts.now)) copy }
 {
     let mut left = copy;
@@ -121,7 +123,7 @@ fn maker(counts: &Seen, copy: u32) -> u32
     counts.places() + 1
 }
 
-/// Which place makes a copy where each is copied as often.
+/// The place that a copy is of, where all places have one count.
 fn maker_of_each(count: u64, places: u32, copy: u32) -> u32
     requires low { 1 ≤ copy }
     requires high { copy ≤ places * count }
@@ -146,7 +148,7 @@ fn copied_place(counts: &Seen, places: u32, copy: u32) -> u32
     }
 }
 
-/// How many places come before that of each copy, where each place is copied as often.
+/// How many places come before that of each copy, where all places have one count.
 fn each_copied(alloc: Global, count: u64, places: u32, total: u32) -> Result<Vec<u32>, AllocError>
     requires { total ≡ places * count }
     ensures long { IfOk result (λ before. length before.items ≡ total) }

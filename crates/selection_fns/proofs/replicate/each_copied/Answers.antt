@@ -1,6 +1,7 @@
 use Rattle.std.proofs.Common.{rules, ◌≡◌, ◌+◌, ◌-◌, ◌++◌, length, get_or, replicate, subst, sym, ap, ◌∙◌, arith}
 use Rattle.selection_fns.specs.Replicate.{maker}
-use Rattle.selection_fns.proofs.Copies.{maker_positive, holds_with_run}
+use Rattle.selection_fns.proofs.Copies.{holds_with_run}
+use Rattle.selection_fns.proofs.Repeated.{maker_positive}
 use Rattle.selection_fns.proofs.replicate.each_copied.Goals as goal
 
 pub overflow_sub-maker_of_each : goal.overflow_sub-maker_of_each

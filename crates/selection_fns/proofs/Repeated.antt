@@ -1,0 +1,100 @@
+-- The places of an axis, each as often as its count, and the same by a walk over the counts.
+use Rattle.std.proofs.Common.{◌≡◌, ℕ, zero, suc, ◌+◌, ◌-◌, ◌*◌, ◌<◌, ◌≤◌, Bool, true, false, nat_le, if◌then◌else◌, List, [], ◌∷◌, ◌++◌, length, take, get_or, map, replicate, pos, unsigned_abs, refl, ap, sym, ◌∙◌, arith}
+use Rattle.std.specs.Prelude.{nat_eq, sum}
+use Rattle.std.proofs.lemmas.Bool.Decides.{nat_tests}
+use Rattle.std.proofs.lemmas.List.{map-id, get_or-map, length-replicate, get_or-replicate, get_or_append_left, get_or-append_right}
+use Rattle.std.proofs.lemmas.List.Sums.{sum-map, sum_by-cons}
+use Rattle.arrays_core.specs.Items.{fill}
+use Rattle.arrays_core.specs.Shapes.{places_before}
+use Rattle.arrays_core.specs.Arrays.{ArrayValue, item_of}
+use Rattle.index_region.specs.Arguments.{numbers, number_of}
+use Rattle.selection_fns.specs.Replicate.{times, places_repeated, maker}
+
+pub sum_front : (x : ℕ) (xs : List ℕ) → sum (x ∷ xs) ≡ x + sum xs
+sum_front x xs =
+    let all = sum-map (λ n. n) (x ∷ xs) in
+    let rest = sum-map (λ n. n) xs in
+    sym (ap sum (map-id (x ∷ xs))) ∙ all ∙ sum_by-cons (λ n. n) x xs ∙ ap (λ n. x + n) (sym rest ∙ ap sum (map-id xs))
+
+pub sum_same : (n count : ℕ) → sum (replicate n count) ≡ n * count
+sum_same zero count = let none : 0 * count ≡ 0 = omega arith in sym none
+sum_same (suc n) count = let rest = sum_same n count in let front = sum_front count (replicate n count) in omega arith
+
+-- a count and those before it sum up to no more than all
+pub sum_within : (xs : List ℕ) (k : ℕ) → k < length xs → sum (take k xs) + get_or xs k 0 ≤ sum xs
+sum_within [] k below = absurd (omega arith)
+sum_within (x ∷ xs) zero below = let front = sum_front x xs in omega arith
+sum_within (x ∷ xs) (suc k) below =
+    let front = sum_front x xs in
+    let taken = sum_front x (take k xs) in
+    let rest = sum_within xs k (omega arith) in
+    omega arith
+
+-- which of the counts, from 1, makes copy i
+abbrev pub walk : List ℕ → ℕ → ℕ
+walk [] i = 1
+walk (count ∷ counts) i = if nat_le i count then 1 else suc (walk counts (i - count))
+
+entry_is : (counts : List ℕ) (k i d : ℕ) → 1 ≤ i → i ≤ sum counts → get_or (places_repeated k counts) (i - 1) d + 1 ≡ k + walk counts i
+entry_is [] k i d low high = absurd (omega arith)
+entry_is (count ∷ counts) k i d low high = decide (λ j. entry_is counts (suc k) j d) (nat_le i count) refl
+  where
+    decide : ((j : ℕ) → 1 ≤ j → j ≤ sum counts → get_or (places_repeated (suc k) counts) (j - 1) d + 1 ≡ suc k + walk counts j)
+        → (b : Bool) → nat_le i count ≡ b → get_or (replicate count k ++ places_repeated (suc k) counts) (i - 1) d + 1 ≡ k + (if b then 1 else suc (walk counts (i - count)))
+    decide later true h =
+        let below : i ≤ count = grind (arith, nat_tests) in
+        let long = length-replicate count k in
+        let first = get_or_append_left (replicate count k) (places_repeated (suc k) counts) d (i - 1) (omega arith) in
+        let is = get_or-replicate count (i - 1) k d (omega arith) in
+        omega arith
+    decide later false h =
+        let above : count < i = grind (arith, nat_tests) in
+        let rest = get_or-append_right (replicate count k) (places_repeated (suc k) counts) count (i - 1) d (length-replicate count k) (omega arith) in
+        let order : i - 1 - count ≡ i - count - 1 = omega arith in
+        let front = sum_front count counts in
+        let more = later (i - count) (omega arith) (omega arith) in
+        ap (λ n. n + 1) (rest ∙ ap (λ j. get_or (places_repeated (suc k) counts) j d) order) ∙ more ∙ next (walk counts (i - count))
+      where
+        next : (m : ℕ) → suc k + m ≡ k + suc m
+        next m = omega arith
+
+pub maker_is_walk : (counts : List ℕ) (i : ℕ) → 1 ≤ i → i ≤ sum counts → maker counts i ≡ walk counts i
+maker_is_walk counts i low high = let entry = entry_is counts 1 i 1 low high in omega arith
+
+-- the places that are repeated are at least the first of them
+entries_least : (counts : List ℕ) (k j : ℕ) → 1 ≤ k → 1 ≤ get_or (places_repeated k counts) j 1
+entries_least [] k j low = omega arith
+entries_least (count ∷ counts) k j low = run count j (λ i. entries_least counts (suc k) i (omega arith))
+  where
+    run : (c j : ℕ) → ((i : ℕ) → 1 ≤ get_or (places_repeated (suc k) counts) i 1) → 1 ≤ get_or (replicate c k ++ places_repeated (suc k) counts) j 1
+    run zero j rest = rest j
+    run (suc c) zero rest = low
+    run (suc c) (suc j) rest = run c j rest
+
+-- and below that after the last
+entries_most : (counts : List ℕ) (k j m : ℕ) → k + length counts ≤ m → 1 ≤ m → get_or (places_repeated k counts) j 1 ≤ m
+entries_most [] k j m high some = omega arith
+entries_most (count ∷ counts) k j m high some = run count j (λ i. entries_most counts (suc k) i m (omega arith) some)
+  where
+    run : (c j : ℕ) → ((i : ℕ) → get_or (places_repeated (suc k) counts) i 1 ≤ m) → get_or (replicate c k ++ places_repeated (suc k) counts) j 1 ≤ m
+    run zero j rest = rest j
+    run (suc c) zero rest = omega arith
+    run (suc c) (suc j) rest = run c j rest
+
+pub maker_positive : (counts : List ℕ) (i : ℕ) → 1 ≤ maker counts i
+maker_positive counts i = entries_least counts 1 (i - 1) (omega arith)
+
+pub maker_most : (counts : List ℕ) (i : ℕ) → maker counts i ≤ length counts + 1
+maker_most counts i = entries_most counts 1 (i - 1) (length counts + 1) (omega arith) (omega arith)
+
+-- the count of each place, where there is one count
+pub times_of_one : (a : ArrayValue) (n : ℕ) → length a.items ≡ 1 → times a n ≡ replicate n (unsigned_abs (get_or (numbers a) 0 (pos 0)))
+times_of_one a n one =
+    let there = get_or-map number_of a.items 0 (fill a.item_type) (pos 0) (omega arith) in
+    ap (λ k. if nat_eq k 1 then replicate n (unsigned_abs (number_of (item_of a []))) else map unsigned_abs (numbers a)) one
+    ∙ ap (λ j. replicate n (unsigned_abs (number_of (get_or a.items j (fill a.item_type))))) (none_before a.shape)
+    ∙ ap (λ z. replicate n (unsigned_abs z)) (sym there)
+  where
+    none_before : (shape : List ℕ) → places_before shape [] ≡ 0
+    none_before [] = refl
+    none_before (n ∷ shape) = refl

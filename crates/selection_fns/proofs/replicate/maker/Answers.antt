@@ -1,0 +1,9 @@
+use Rattle.std.proofs.Common.{map, unsigned_abs, arith}
+use Rattle.index_region.specs.Arguments.{numbers}
+use Rattle.selection_fns.proofs.Repeated.{maker_is_walk}
+use Rattle.selection_fns.proofs.replicate.maker.Goals as goal
+
+pub loop-place-init : goal.loop-place-init
+loop-place-init c =
+    let same = maker_is_walk (map unsigned_abs (numbers c.args.counts.now)) c.args.copy c.requires.low c.requires.high in
+    omega arith
