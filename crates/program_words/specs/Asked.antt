@@ -4,6 +4,7 @@ use Rattle.std.specs.declared.alloc.Global.{Global}
 use Rattle.std.specs.declared.string.String.{String}
 use Rattle.std.specs.Str.{bytes_eq, chars}
 use Rattle.apl_tokens.specs.Characters.{spells_name}
+use Rattle.apl_tokens.specs.Limits.{longest_name}
 use Rattle.clap.specs.Words.{IsAmong, Row, Text, fault_of, first_of, kind_of, one_of, subcommand_of}
 use Rattle.clap.specs.declared.error.kind.ErrorKind.TheVariants.{InvalidValue}
 use Rattle.program_words.specs.declared.reading.Words.{Words}
@@ -13,7 +14,7 @@ use Rattle.program_words.specs.Program.{aplsheet}
 
 -- the text is a name
 abbrev pub IsName : Text → Type 0
-IsName text = (spells_name (chars text) ≡ true) × (length text ≤ 63)
+IsName text = (spells_name (chars text) ≡ true) × (length text ≤ longest_name)
 
 -- the table that the values of `table` ask for, by its name, its file, and whether its first record is a header
 pub record IsTable (values : List Row) (t : Text × Text × Bool) : Type 0 where
