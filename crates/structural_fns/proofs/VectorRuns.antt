@@ -142,11 +142,11 @@ kept_whole : (item_type : ItemType) (n : ℕ) (items : List Item) (a : ArrayValu
     → skipped + (n - unsigned_abs z) ≤ n → (0 < n - unsigned_abs z → skipped ≡ kept_place z 1 - 1)
     → drop_form a (of_vector item_type n items) ≡ Ok ((n - unsigned_abs z) ∷ [], item_type)
     → drop_whole a (of_vector item_type n items) ≡ Ok (run_of (of_vector item_type n items) ((n - unsigned_abs z) ∷ []) skipped)
-kept_whole item_type n items a z skipped counted long fits behind form =
+kept_whole item_type n items a z skipped counted long fits begins form =
     let b = of_vector item_type n items in
     ap (λ r. and_then r (λ f. collect f.1 f.0 (drop_item a b))) form
     ∙ run_collected item_type ((n - unsigned_abs z) ∷ []) (drop_item a b) items skipped (fill item_type) (omega arith)
-    (λ k h. kept_item item_type n items a z skipped k counted (kept_moves z k ∙ ap (λ m. (m + k) / 1 + 1) (sym (behind (omega arith)))) (omega arith))
+    (λ k h. kept_item item_type n items a z skipped k counted (kept_moves z k ∙ ap (λ m. (m + k) / 1 + 1) (sym (begins (omega arith)))) (omega arith))
 
 -- what is known of a vector and its counts, where the checks have passed
 pub record DroppedVector (a b : ArrayValue) (shape : List ℕ) : Type 0 where
@@ -193,7 +193,7 @@ first_kept a b shape form one_axis sound some =
 pub kept_run : (a b : ArrayValue) (shape : List ℕ) (skipped : ℕ) → drop_form a b ≡ Ok (shape, b.item_type) → length b.shape ≡ 1 → IsArray b
     → skipped + size shape ≤ length b.items → (0 < size shape → skipped ≡ kept_place (get_or (numbers a) 0 (pos 0)) 1 - 1)
     → drop_whole a b ≡ Ok (run_of b shape skipped)
-kept_run a b shape skipped form one_axis sound fits behind =
+kept_run a b shape skipped form one_axis sound fits begins =
     let z = get_or (numbers a) 0 (pos 0) in
     let n = get_or b.shape 0 0 in
     let v = of_vector b.item_type n b.items in
@@ -203,5 +203,5 @@ kept_run a b shape skipped form one_axis sound fits behind =
     let sized : size shape ≡ (n - unsigned_abs z) * 1 = ap size shaped in
     let long = d.long in
     let here : drop_form a v ≡ Ok ((n - unsigned_abs z) ∷ [], b.item_type) = ap (λ x. drop_form a x) (sym is) ∙ form ∙ ap (λ xs. Ok (xs, b.item_type)) shaped in
-    ap (λ x. drop_whole a x) is ∙ kept_whole b.item_type n b.items a z skipped d.counted long (omega arith) (λ some. behind (omega arith)) here
+    ap (λ x. drop_whole a x) is ∙ kept_whole b.item_type n b.items a z skipped d.counted long (omega arith) (λ some. begins (omega arith)) here
     ∙ ap (λ xs. Ok (run_of b xs skipped)) (sym shaped)

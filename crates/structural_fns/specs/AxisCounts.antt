@@ -6,15 +6,15 @@ use Rattle.arrays_core.specs.Arrays.{ArrayValue}
 use Rattle.index_region.specs.Checks.{check, Form, limited}
 use Rattle.index_region.specs.Arguments.{is_scalar, is_list, counts_as_numbers}
 
--- the shape that the counts of a speak of: a scalar has an axis of one place for each
+-- the shape that the counts of a are for: of a scalar, an axis of one place for each count
 abbrev pub counted_shape : ArrayValue → ArrayValue → List ℕ
 counted_shape a b = if is_scalar b then replicate (length a.items) 1 else b.shape
 
--- the index list of b itself
+-- the index list of b itself, from one of the shape that the counts are for
 abbrev pub uncounted : ArrayValue → List ℕ → List ℕ
 uncounted b index = if is_scalar b then [] else index
 
--- the checks of both, which differ in the shape
+-- the checks of take and of drop, which differ in the shape of the result
 abbrev pub counted_form : List ℕ → ArrayValue → ArrayValue → Result Form Kind
 counted_form shape a b =
     check (is_list a) Rank

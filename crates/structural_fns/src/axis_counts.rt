@@ -27,7 +27,7 @@ pub(crate) fn check_axis_counts(counts: &Seen, array: &Seen) -> Result<(), Kind>
     Ok(())
 }
 
-/// The shape that the counts speak of: a scalar has an axis of one place for each.
+/// The shape that the counts are for: of a scalar, an axis of one place for each count.
 pub(crate) fn counted_shape(counts: &Seen, array: &Seen) -> Shape
     requires { length counts.now.items ≤ 4 }
     ensures is { result.items ≡ shape_counted counts.now array.now }
@@ -44,7 +44,7 @@ pub(crate) fn counted_shape(counts: &Seen, array: &Seen) -> Shape
     }
 }
 
-/// The index list of the array itself, of one of the counted shape.
+/// The index list of the array itself, from one of the shape that the counts are for.
 pub(crate) fn uncounted(array: &Seen, index: Shape) -> Shape
     ensures { result.items ≡ index_uncounted array.now index.items }
 {

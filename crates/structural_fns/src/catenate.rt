@@ -235,7 +235,7 @@ impl Catenate {
         Source::Place { arg: 1, at }
     }
 
-    /// The axis is the first one of so many.
+    /// The sides are joined along the first of `rank` axes.
     fn is_along_first(self, rank: usize) -> bool
         requires low { 1 ≤ rank }
         requires high { rank ≤ 4 }

@@ -77,7 +77,7 @@ fn are_axes(axes: &Seen) -> bool
     true
 }
 
-/// The lesser of the least length so far and one more, where the axis goes there.
+/// The least length so far, or one more length where that is less and its axis goes there.
 fn lesser(least: Option<u32>, goes: bool, length: u32) -> Option<u32>
     ensures { (rest : List ℕ) → least_with result rest ≡ least_with least (if goes then length ∷ rest else rest) }
 {

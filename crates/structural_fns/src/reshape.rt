@@ -70,7 +70,7 @@ impl Reshape {
         }
     }
 
-    /// The array of the shape that the left argument says. Where no item is needed twice they are copied in one run.
+    /// The array of the shape that the left argument gives. Where no item is needed twice they are copied in one run.
     pub fn apply(&self, alloc: Global, args: &[Seen]) -> Result<Array, ApplyFault>
         requires { length args.now ≡ 2 }
         ensures { IsAnswerTo (of_two_arguments reshape_whole args.now) result }
