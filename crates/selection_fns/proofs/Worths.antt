@@ -17,15 +17,15 @@ use Rattle.index_region.specs.Arguments.{is_list, has_one_item, counts_as_number
 use Rattle.index_region.specs.Axes.{places_along}
 use Rattle.index_region.specs.Answers.{IsPlaceOf}
 use Rattle.index_region.proofs.Passing.{passed, place_inside}
-use Rattle.selection_fns.specs.Decode.{decode_form, digits, radix_at, digit_at, worth, decoded}
+use Rattle.selection_fns.specs.Decode.{decode_form, digit_count, radix_at, digit_at, worth, decoded}
 
 -- ---- what is known at a place of decode's result
 
 pub record Decodes (a b : ArrayValue) (index : List ℕ) : Type 0 where
   pub list : length a.shape ≤ 1
   pub inside : is_index_of (drop 1 b.shape) index ≡ true
-  pub radices : (k : ℕ) → k ≤ digits a b → length a.items ≢ 1 → k ≤ length a.items
-  pub axis : (k : ℕ) → k ≤ digits a b → places_along b.shape 0 ≢ 1 → k ≤ places_along b.shape 0
+  pub radices : (k : ℕ) → k ≤ digit_count a b → length a.items ≢ 1 → k ≤ length a.items
+  pub axis : (k : ℕ) → k ≤ digit_count a b → places_along b.shape 0 ≢ 1 → k ≤ places_along b.shape 0
 
 at_most_one : (n : ℕ) → nat_le n 1 ≡ true → n ≤ 1
 at_most_one n e = grind (arith, nat_tests)

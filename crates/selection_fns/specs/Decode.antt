@@ -13,6 +13,7 @@ use Rattle.index_region.specs.Checks.{Form, and_then, check, limited, whole}
 use Rattle.index_region.specs.Arguments.{is_scalar, is_list, has_one_item, counts_as_numbers, number_of}
 use Rattle.index_region.specs.Axes.{places_along}
 
+-- RANK, LENGTH and DOMAIN in this order; then numbers along the axes of b but the first
 abbrev pub decode_form : ArrayValue → ArrayValue → Result Form Kind
 decode_form a b =
     let n = places_along b.shape 0 in
@@ -22,13 +23,14 @@ decode_form a b =
     (limited (drop 1 b.shape) Nums)))
 
 -- how many digits there are: one item of a extends to those of b, else b's first axis of length 1 to those of a
-abbrev pub digits : ArrayValue → ArrayValue → ℕ
-digits a b = if has_one_item a then places_along b.shape 0 else length a.items
+abbrev pub digit_count : ArrayValue → ArrayValue → ℕ
+digit_count a b = if has_one_item a then places_along b.shape 0 else length a.items
 
+-- the radix of digit k; one item of a is that of each
 abbrev pub radix_at : ArrayValue → ℕ → ℤ
 radix_at a k = number_of (extended a (k ∷ []))
 
--- digit k at an index list of the other axes
+-- digit k at an index list of the other axes; on a first axis of length 1 each digit is the same
 abbrev pub digit_at : ArrayValue → List ℕ → ℕ → ℤ
 digit_at b index k =
     number_of (item_of b (if is_scalar b then [] else ((if nat_eq (places_along b.shape 0) 1 then 1 else k) ∷ index)))
@@ -42,8 +44,10 @@ worth value ((radix, digit) ∷ rest) = and_then (number_or_limit (value *ℤ ra
 abbrev pub decoded : List (ℤ × ℤ) → Result ℤ Kind
 decoded digits = worth (pos 0) digits
 
+-- the number of the digits at an index list
 abbrev pub decode_item : ArrayValue → ArrayValue → List ℕ → Result Item Kind
-decode_item a b index = number_item (decoded (map (λ k. (radix_at a k, digit_at b index k)) (range_with_len 1 (digits a b))))
+decode_item a b index = number_item (decoded (map (λ k. (radix_at a k, digit_at b index k)) (range_with_len 1 (digit_count a b))))
 
+-- the checks, and then the items
 abbrev pub decode_whole : ArrayValue → ArrayValue → Result ArrayValue Kind
 decode_whole a b = whole (decode_form a b) (decode_item a b)

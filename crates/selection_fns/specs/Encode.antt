@@ -11,32 +11,35 @@ use Rattle.scalar_fns.specs.Items.{number_item}
 use Rattle.index_region.specs.Checks.{Form, and_then, check, limited, whole}
 use Rattle.index_region.specs.Arguments.{is_scalar, is_list, counts_as_numbers, number_of, numbers}
 
+-- RANK and DOMAIN in this order; then numbers along the axes of a, and then those of b
 abbrev pub encode_form : ArrayValue → ArrayValue → Result Form Kind
 encode_form a b =
     check (is_list a) Rank
     (check (counts_as_numbers a && counts_as_numbers b) Domain
     (limited (a.shape ++ b.shape) Nums))
 
--- what goes on to the places before a radix
+-- what a radix leaves to the radices before it
 abbrev pub carried : ℤ → ℤ → Result ℤ Kind
 carried radix z = if int_eq radix (pos 0) then Ok (pos 0) else number_or_limit (floor_div z radix)
 
--- the same for some radices, the last first
+-- what some radices leave, the last of them taken first
 abbrev pub carried_through : List ℤ → ℤ → Result ℤ Kind
 carried_through [] z = Ok z
 carried_through (radix ∷ radices) z = and_then (carried_through radices z) (carried radix)
 
--- the digit of z at a place of the radices, from 1
+-- the digit of z by radix k, counted from 1, of what the radices after it leave
 abbrev pub digit : List ℤ → ℕ → ℤ → Result ℤ Kind
 digit radices k z = and_then (carried_through (drop k radices) z) (λ rest. Ok (residue (get_or radices (k - 1) (pos 0)) rest))
 
--- a scalar a has the one radix, and no axis
+-- which radix a digit is by: the index on the axis of a; a scalar a has one radix, and no axis
 abbrev pub radix_place : ArrayValue → List ℕ → ℕ
 radix_place a index = if is_scalar a then 1 else get_or index 0 1
 
+-- the digit at an index list
 abbrev pub encode_item : ArrayValue → ArrayValue → List ℕ → Result Item Kind
 encode_item a b index =
     number_item (digit (numbers a) (radix_place a index) (number_of (item_of b (drop (length a.shape) index))))
 
+-- the checks, and then the items
 abbrev pub encode_whole : ArrayValue → ArrayValue → Result ArrayValue Kind
 encode_whole a b = whole (encode_form a b) (encode_item a b)

@@ -9,9 +9,11 @@ use Rattle.index_region.specs.Checks.{Form, check, limited, whole}
 use Rattle.index_region.specs.Sources.{Source, item_from}
 use Rattle.index_region.specs.Arguments.{is_scalar, counts_as_numbers, number_of, numbers}
 
+-- the indices on one axis, or nothing: the whole axis
 abbrev pub Position : Type 0
 Position = Option ArrayValue
 
+-- a position that is written is of numbers
 abbrev pub are_numbers : Position → Bool
 are_numbers (Some p) = counts_as_numbers p
 are_numbers None = true
@@ -25,6 +27,7 @@ abbrev pub is_on : ℕ → Position → Bool
 is_on n (Some p) = list_all (is_on_axis n) (numbers p)
 is_on n None = true
 
+-- each position is on its axis
 abbrev pub are_on : List ℕ → List Position → Bool
 are_on shape positions = list_all (λ p. is_on p.0 p.1) (zip shape positions)
 
@@ -33,6 +36,7 @@ abbrev pub position_axes : ℕ → Position → List ℕ
 position_axes n (Some p) = p.shape
 position_axes n None = n ∷ []
 
+-- the axes that all positions give, joined
 abbrev pub indexed_shape : List ℕ → List Position → List ℕ
 indexed_shape (n ∷ shape) (position ∷ positions) = position_axes n position ++ indexed_shape shape positions
 indexed_shape shape positions = []
@@ -44,6 +48,7 @@ positions_checked a positions rest =
     (check (list_all are_numbers positions) Domain
     (check (are_on a.shape positions) Index rest))
 
+-- the checks of the positions, and then the joined axes
 abbrev pub index_form : ArrayValue → List Position → Result Form Kind
 index_form a positions = positions_checked a positions (limited (indexed_shape a.shape positions) a.item_type)
 
@@ -54,12 +59,15 @@ source_index (None ∷ positions) index = get_or index 0 0 ∷ source_index posi
 source_index (Some p ∷ positions) index =
     unsigned_abs (number_of (item_of p (take (length p.shape) index))) ∷ source_index positions (drop (length p.shape) index)
 
+-- each item comes from the indexed array
 abbrev pub index_source : List Position → List ℕ → Source
 index_source positions index = Some (0, source_index positions index)
 
+-- the item there
 abbrev pub index_item : ArrayValue → List Position → List ℕ → Result Item Kind
 index_item a positions index = item_from a a a.item_type (index_source positions index)
 
+-- the checks, and then the items
 abbrev pub index_whole : ArrayValue → List Position → Result ArrayValue Kind
 index_whole a positions = whole (index_form a positions) (index_item a positions)
 

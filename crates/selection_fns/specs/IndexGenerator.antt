@@ -9,6 +9,7 @@ use Rattle.arrays_core.specs.Arrays.{ArrayValue}
 use Rattle.index_region.specs.Checks.{Form, check, limited, whole}
 use Rattle.index_region.specs.Arguments.{is_list, has_one_item, counts_as_numbers, numbers, none_negative}
 
+-- RANK, LENGTH and DOMAIN in this order; then a vector of n numbers
 abbrev pub generator_form : ArrayValue → Result Form Kind
 generator_form n =
     check (is_list n) Rank
@@ -20,5 +21,6 @@ generator_form n =
 abbrev pub generator_item : ArrayValue → List ℕ → Result Item Kind
 generator_item n index = Ok (Num (pos (get_or index 0 0)))
 
+-- the checks, and then the items
 abbrev pub generator_whole : ArrayValue → Result ArrayValue Kind
 generator_whole n = whole (generator_form n) (generator_item n)

@@ -10,6 +10,7 @@ use Rattle.arrays_core.specs.Arrays.{ArrayValue, item_of}
 use Rattle.index_region.specs.Checks.{Form, check, limited, whole}
 use Rattle.selection_fns.specs.SameItem.{same_item}
 
+-- RANK where a is no vector; then numbers in the shape of b
 abbrev pub index_of_form : ArrayValue → ArrayValue → Result Form Kind
 index_of_form a b = check (nat_eq (length a.shape) 1) Rank (limited b.shape Nums)
 
@@ -17,5 +18,6 @@ index_of_form a b = check (nat_eq (length a.shape) 1) Rank (limited b.shape Nums
 abbrev pub index_of_item : ArrayValue → ArrayValue → List ℕ → Result Item Kind
 index_of_item a b index = Ok (Num (pos (suc (position_or_len (same_item (item_of b index)) a.items))))
 
+-- the checks, and then the items
 abbrev pub index_of_whole : ArrayValue → ArrayValue → Result ArrayValue Kind
 index_of_whole a b = whole (index_of_form a b) (index_of_item a b)

@@ -1,3 +1,4 @@
+-- What public contracts mean.
 pub mod Shape
 pub mod IndexGenerator
 pub mod Replicate

@@ -10,6 +10,7 @@ use Rattle.scalar_fns.specs.Numbers.{truth}
 use Rattle.index_region.specs.Checks.{Form, limited, whole}
 use Rattle.selection_fns.specs.SameItem.{same_item}
 
+-- numbers in the shape of a
 abbrev pub member_form : ArrayValue → ArrayValue → Result Form Kind
 member_form a b = limited a.shape Nums
 
@@ -17,5 +18,6 @@ member_form a b = limited a.shape Nums
 abbrev pub member_item : ArrayValue → ArrayValue → List ℕ → Result Item Kind
 member_item a b index = Ok (Num (truth (list_any (same_item (item_of a index)) b.items)))
 
+-- the items in that shape
 abbrev pub member_whole : ArrayValue → ArrayValue → Result ArrayValue Kind
 member_whole a b = whole (member_form a b) (member_item a b)

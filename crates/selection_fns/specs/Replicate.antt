@@ -14,7 +14,7 @@ use Rattle.index_region.specs.Axes.{is_axis, axis_at, places_along}
 abbrev pub times : ArrayValue → ℕ → List ℕ
 times a n = if has_one_item a then replicate n (unsigned_abs (number_of (item_of a []))) else map unsigned_abs (numbers a)
 
--- the axis has as many places as the counts say
+-- the shape with as many places along the axis as there are copies
 abbrev pub replicated_shape : ArrayValue → List ℕ → ℕ → List ℕ
 replicated_shape a shape axis = insert (remove shape axis) axis (sum (times a (places_along shape axis)))
 
@@ -25,6 +25,7 @@ counts_checked a n rest =
     (check (has_one_item a || (nat_eq n 1 || nat_eq (length a.items) n)) Length
     (check (counts_as_numbers a && none_negative (numbers a)) Domain rest))
 
+-- AXIS, and then the checks of the counts; then the shape with as many places along the axis as there are copies
 abbrev pub replicate_form : Along → ArrayValue → ArrayValue → Result Form Kind
 replicate_form along a b =
     let rank = max 1 (length b.shape) in
@@ -46,14 +47,17 @@ maker counts i = get_or (places_repeated 1 counts) (i - 1) 1
 abbrev pub copied_place : ArrayValue → ℕ → ℕ → ℕ
 copied_place a n i = if nat_eq n 1 then 1 else maker (times a n) i
 
+-- each item comes from b, at the place that the copy is of; a scalar b has one item
 abbrev pub replicate_source : Along → ArrayValue → ArrayValue → List ℕ → Source
 replicate_source along a b index =
     let axis = axis_at (max 1 (length b.shape)) along in
     let place = copied_place a (places_along b.shape axis) (get_or index axis 1) in
     Some (1, if is_scalar b then [] else set index axis place)
 
+-- the item there
 abbrev pub replicate_item : Along → ArrayValue → ArrayValue → List ℕ → Result Item Kind
 replicate_item along a b index = item_from a b b.item_type (replicate_source along a b index)
 
+-- the checks, and then the items
 abbrev pub replicate_whole : Along → ArrayValue → ArrayValue → Result ArrayValue Kind
 replicate_whole along a b = whole (replicate_form along a b) (replicate_item along a b)

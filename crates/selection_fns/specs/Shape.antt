@@ -7,11 +7,14 @@ use Rattle.arrays_core.specs.declared.item.Kind.{Kind}
 use Rattle.arrays_core.specs.Arrays.{ArrayValue}
 use Rattle.index_region.specs.Checks.{Form, limited, whole}
 
+-- a vector with a number for each axis
 abbrev pub shape_form : ArrayValue → Result Form Kind
 shape_form b = limited (length b.shape ∷ []) Nums
 
+-- the length of an axis
 abbrev pub shape_item : ArrayValue → List ℕ → Result Item Kind
 shape_item b index = Ok (Num (pos (get_or b.shape (get_or index 0 0 - 1) 0)))
 
+-- the lengths of all axes
 abbrev pub shape_whole : ArrayValue → Result ArrayValue Kind
 shape_whole b = whole (shape_form b) (shape_item b)

@@ -11,7 +11,7 @@ ghost use Rattle.index_region.specs.ArgumentLists.{of_two_arguments};
 ghost use Rattle.index_region.specs.Axes.{places_along as places_on};
 ghost use Rattle.index_region.specs.Arguments.{has_one_item};
 ghost use Rattle.index_region.specs.Answers.{IsPlaceOf};
-ghost use Rattle.selection_fns.specs.Decode.{decode_form, decode_item, decode_whole, digits as digits_of, radix_at as radix_of, digit_at as digit_of};
+ghost use Rattle.selection_fns.specs.Decode.{decode_form, decode_item, decode_whole, digit_count as count_of_digits, radix_at as radix_of, digit_at as digit_of};
 
 use crate::axes::places_along;
 use crate::number_at::number_at;
@@ -31,8 +31,8 @@ use std::alloc::Global;
 pub struct Decode;
 
 /// How many digits each number has.
-fn count_digits(radices: &Seen, array: &Seen) -> u32
-    ensures { result ≡ digits_of radices.now array.now }
+fn digit_count(radices: &Seen, array: &Seen) -> u32
+    ensures { result ≡ count_of_digits radices.now array.now }
 {
     if radices.places() == 1 {
         places_along(array.shape().as_slice(), 0)
@@ -98,7 +98,7 @@ fn check_length(radices: &Seen, array: &Seen) -> Result<(), Kind>
 fn with_digit(radices: &Seen, array: &Seen, index: &[u32], value: i64, k: u32) -> Result<i64, Kind>
     requires place { IsPlaceOf (decode_form radices.now array.now) index.now }
     requires low { 1 ≤ k }
-    requires high { k ≤ digits_of radices.now array.now }
+    requires high { k ≤ count_of_digits radices.now array.now }
     ensures { result ≡ and_then (number_or_limit (value *ℤ radix_of radices.now k)) (λ product. number_or_limit (product +ℤ digit_of array.now index.now k)) }
 {
     let product = two_numbers(Scalar2::Times, value, radix_at(radices, k))?;
@@ -110,7 +110,7 @@ fn decoded_at(radices: &Seen, array: &Seen, index: &[u32]) -> Result<i64, Kind>
     requires { IsPlaceOf (decode_form radices.now array.now) index.now }
     ensures { number_item result ≡ decode_item radices.now array.now index.now }
 {
-    let count = count_digits(radices, array);
+    let count = digit_count(radices, array);
     let mut value = 0;
     for before in 0..count {
         value = with_digit(radices, array, index, value, before + 1)?;
@@ -142,10 +142,7 @@ impl Primitive for Decode {
             return Err(Kind::Rank);
         }
         check_length(radices, array)?;
-        if !radices.counts_as_numbers() {
-            return Err(Kind::Domain);
-        }
-        if !array.counts_as_numbers() {
+        if !radices.counts_as_numbers() || !array.counts_as_numbers() {
             return Err(Kind::Domain);
         }
         let axes = match shape.as_slice() {

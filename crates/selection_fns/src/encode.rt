@@ -86,10 +86,7 @@ impl Primitive for Encode {
         if rank > 1 {
             return Err(Kind::Rank);
         }
-        if !radices.counts_as_numbers() {
-            return Err(Kind::Domain);
-        }
-        if !array.counts_as_numbers() {
+        if !radices.counts_as_numbers() || !array.counts_as_numbers() {
             return Err(Kind::Domain);
         }
         if rank + array.shape().len() > MOST_AXES {

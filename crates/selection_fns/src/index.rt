@@ -5,11 +5,11 @@ ghost use Rattle.std.specs.List.{list_all};
 ghost use Rattle.arrays_core.specs.declared.item.Kind.{Kind as AKind};
 ghost use Rattle.arrays_core.specs.declared.item.Kind.TheVariants.{Limit};
 ghost use Rattle.arrays_core.specs.Arrays.{ArrayValue, item_of, IsAnswerTo};
-ghost use Rattle.arrays_core.specs.Shapes.{size as size_of, is_index_of};
+ghost use Rattle.arrays_core.specs.Shapes.{size, is_index_of};
 ghost use Rattle.index_region.specs.Checks.{Form, is_within_limits};
 ghost use Rattle.index_region.specs.Arguments.{counts_as_numbers, number_of, numbers};
 ghost use Rattle.index_region.specs.Answers.{IsPlaceOf, source_value};
-ghost use Rattle.selection_fns.specs.Index.{Position, written_positions, count_written, of_array_and_positions, is_on_axis, is_on as is_position_on, are_on as are_positions_on, are_numbers as are_positions_numbers, indexed_shape as shape_indexed, source_index, positions_checked, index_form, index_source, index_item, index_whole};
+ghost use Rattle.selection_fns.specs.Index.{Position, written_positions, count_written, of_array_and_positions, is_on_axis, is_on as is_position_on, are_on as are_positions_on, are_numbers as are_positions_numbers, indexed_shape, source_index, positions_checked, index_form, index_source, index_item, index_whole};
 
 use crate::axes::MOST_AXES;
 use arrays_core::{ApplyFault, Array, Item, ItemType, Kind, Shape, append_axes};
@@ -116,9 +116,9 @@ fn append_positions(
     requires inline { shape.old.capacity ≡ 4 }
     requires one_an_axis { length written.now ≡ length axes.now }
     requires long { length positions.now ≡ count_written written.now }
-    ensures items { IfOk result (λ _. shape.new.items ≡ shape.old.items ++ shape_indexed axes.now (written_positions written.now positions.now)) }
+    ensures items { IfOk result (λ _. shape.new.items ≡ shape.old.items ++ indexed_shape axes.now (written_positions written.now positions.now)) }
     ensures inline { shape.new.capacity ≡ 4 }
-    ensures beyond { IfErr result (λ kind. (kind ≡ Limit) × (4 < length shape.old.items + length (shape_indexed axes.now (written_positions written.now positions.now)))) }
+    ensures beyond { IfErr result (λ kind. (kind ≡ Limit) × (4 < length shape.old.items + length (indexed_shape axes.now (written_positions written.now positions.now)))) }
 {
     if written.is_empty() {
         return Ok(());
@@ -155,7 +155,7 @@ fn from_zero(index: i64, axis: u32) -> u32
 fn indices_from_zero(alloc: Global, position: &Seen, axis: u32) -> Result<Vec<u32>, AllocError>
     requires { IsTrue (list_all (is_on_axis axis) (numbers position.now)) }
     ensures is { IfOk result (λ before. before.items ≡ map (λ z. unsigned_abs z - 1) (numbers position.now)) }
-    ensures long { length position.now.items ≡ size_of position.now.shape }
+    ensures long { length position.now.items ≡ size position.now.shape }
 {
     let places = position.places();
     let mut before = Vec::with_capacity(alloc, places as usize)?;
@@ -179,7 +179,7 @@ fn append_source_index(
     requires one_an_axis { length written.now ≡ length axes.now }
     requires long { length positions.now ≡ count_written written.now }
     requires on { IsTrue (are_positions_on axes.now (written_positions written.now positions.now)) }
-    requires inside { IsTrue (is_index_of (shape_indexed axes.now (written_positions written.now positions.now)) index.now) }
+    requires inside { IsTrue (is_index_of (indexed_shape axes.now (written_positions written.now positions.now)) index.now) }
     ensures { at.new.items ≡ at.old.items ++ source_index (written_positions written.now positions.now) index.now }
 {
     if written.is_empty() {

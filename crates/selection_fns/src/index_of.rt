@@ -3,7 +3,7 @@
 ghost use Rattle.std.specs.Prelude.{◌≡◌, ◌≢◌, IfOk, suc, pos, length, map};
 ghost use Rattle.std.specs.List.{position_or_len};
 ghost use Rattle.arrays_core.specs.Arrays.{IsAnswerTo};
-ghost use Rattle.arrays_core.specs.Shapes.{size as size_of};
+ghost use Rattle.arrays_core.specs.Shapes.{size};
 ghost use Rattle.index_region.specs.ArgumentLists.{of_two_arguments};
 ghost use Rattle.selection_fns.specs.SameItem.{same_item};
 ghost use Rattle.selection_fns.specs.IndexOf.{index_of_form, index_of_item, index_of_whole};
@@ -55,7 +55,7 @@ fn no_places(alloc: Global, array: &Seen, sought: &Seen) -> Result<Vec<i64>, All
 /// The first place in an array of each item that is sought. Each of the two is read once.
 fn first_places_in(alloc: Global, array: &Seen, sought: &Seen) -> Result<Vec<i64>, AllocError>
     ensures is { IfOk result (λ v. v.items ≡ map (λ x. pos (suc (position_or_len (same_item x) array.now.items))) sought.now.items) }
-    ensures long { length sought.now.items ≡ size_of sought.now.shape }
+    ensures long { length sought.now.items ≡ size sought.now.shape }
 {
     // The numbers of places say that both arrays are within the limits.
     let _within_limits = (array.places(), sought.places());

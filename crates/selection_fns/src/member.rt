@@ -3,7 +3,7 @@
 ghost use Rattle.std.specs.Prelude.{◌≡◌, ◌≢◌, IfOk, length, map};
 ghost use Rattle.std.specs.List.{list_any};
 ghost use Rattle.arrays_core.specs.Arrays.{IsAnswerTo};
-ghost use Rattle.arrays_core.specs.Shapes.{size as size_of};
+ghost use Rattle.arrays_core.specs.Shapes.{size};
 ghost use Rattle.scalar_fns.specs.Numbers.{truth as truth_of};
 ghost use Rattle.index_region.specs.ArgumentLists.{of_two_arguments};
 ghost use Rattle.selection_fns.specs.SameItem.{same_item};
@@ -41,7 +41,7 @@ fn no_members(alloc: Global, array: &Seen, sought: &Seen) -> Result<Vec<i64>, Al
 /// Whether each item that is sought is one of an array. Each of the two is read once.
 fn are_members(alloc: Global, array: &Seen, sought: &Seen) -> Result<Vec<i64>, AllocError>
     ensures is { IfOk result (λ v. v.items ≡ map (λ x. truth_of (list_any (same_item x) array.now.items)) sought.now.items) }
-    ensures long { length sought.now.items ≡ size_of sought.now.shape }
+    ensures long { length sought.now.items ≡ size sought.now.shape }
 {
     // The number of places says that there is one item for each place of the shape.
     let _one_item_a_place = sought.places();

@@ -149,7 +149,12 @@ fn copied_place(counts: &Seen, places: u32, copy: u32) -> u32
 }
 
 /// How many places come before that of each copy, where all places have one count.
-fn each_copied(alloc: Global, count: u64, places: u32, total: u32) -> Result<Vec<u32>, AllocError>
+fn before_copies_of_one_count(
+    alloc: Global,
+    count: u64,
+    places: u32,
+    total: u32,
+) -> Result<Vec<u32>, AllocError>
     requires { total ≡ places * count }
     ensures long { IfOk result (λ before. length before.items ≡ total) }
     ensures is { IfOk result (λ before. (i : ℕ) → i < total → get_or before.items i 0 + 1 ≡ maker_of (replicate places count) (i + 1)) }
@@ -171,7 +176,7 @@ fn append_copies(list: &mut Vec<u32>, count: u32, number: u32) -> Result<(), All
 }
 
 /// How many places come before that of each copy, where each place has a count of its own.
-fn counts_copied(alloc: Global, counts: &Seen, total: u32) -> Result<Vec<u32>, AllocError>
+fn before_copies_of_counts(alloc: Global, counts: &Seen, total: u32) -> Result<Vec<u32>, AllocError>
     requires total { total ≡ sum (map unsigned_abs (numbers counts.now)) }
     requires within { total ≤ 1048576 }
     ensures long { IfOk result (λ before. length before.items ≡ total) }
@@ -186,7 +191,7 @@ fn counts_copied(alloc: Global, counts: &Seen, total: u32) -> Result<Vec<u32>, A
 }
 
 /// How many places come before that of each copy.
-fn places_copied(
+fn before_each_copy(
     alloc: Global,
     counts: &Seen,
     places: u32,
@@ -204,9 +209,9 @@ fn places_copied(
         return Ok(zeros);
     }
     if is_single {
-        return each_copied(alloc, counts.number(1).unsigned_abs(), places, total);
+        return before_copies_of_one_count(alloc, counts.number(1).unsigned_abs(), places, total);
     }
-    counts_copied(alloc, counts, total)
+    before_copies_of_counts(alloc, counts, total)
 }
 
 /// The index list of the array itself, of one of the result.
@@ -297,7 +302,7 @@ impl Replicate {
         let axes = array.shape();
         let axis = self.along.axis_at(axes.len().max(1) as u32);
         let places = places_along(axes.as_slice(), axis);
-        let before = places_copied(alloc, counts, places, shape[axis])?;
+        let before = before_each_copy(alloc, counts, places, shape[axis])?;
         if axes.len() <= 1 {
             let picked = array.picked(before.as_slice(), &shape)?;
             return Ok(picked);

@@ -13,7 +13,7 @@ loop-before-init c =
     let a = c.args.radices.now in
     let b = c.args.array.now in
     let index = c.args.index.now in
-    let count = c.count_digits-count.result in
+    let count = c.digit_count-count.result in
     all_digits a b index count
 
 pub loop-before-preserved : goal.loop-before-preserved
@@ -21,7 +21,7 @@ loop-before-preserved c =
     let a = c.args.radices.now in
     let b = c.args.array.now in
     let index = c.args.index.now in
-    let count = c.count_digits-count.result in
+    let count = c.digit_count-count.result in
     let f = digit_pair a b index in
     let k = c.loop-before.before in
     let more = one_more_digit a b index count k c.loop-before.value c.loop-before-test.true in
@@ -39,7 +39,7 @@ returns-in_err-value c =
     let a = c.args.radices.now in
     let b = c.args.array.now in
     let index = c.args.index.now in
-    let count = c.count_digits-count.result in
+    let count = c.digit_count-count.result in
     let f = digit_pair a b index in
     let k = c.loop-before.before in
     let more = one_more_digit a b index count k c.loop-before.value c.loop-before-test.true in
@@ -47,7 +47,7 @@ returns-in_err-value c =
     let e = c.in_err-value.field-0.0 in
     let gave : Err e ≡ and_then (number_or_limit (c.loop-before.value *ℤ radix_at a (k + 1))) (λ product. number_or_limit (product +ℤ digit_at b index (k + 1))) = rw c.loop-before.value-is at c.in_err-value.ensures in
     let failed : decode_item a b index ≡ Err e =
-    ap (λ n. number_item (decoded (map f (range_with_len 1 n)))) (sym c.count_digits-count.ensures)
+    ap (λ n. number_item (decoded (map f (range_with_len 1 n)))) (sym c.digit_count-count.ensures)
     ∙ ap number_item (sym so_far ∙ more ∙ ap (λ r. and_then r (λ next. worth next (digits_after a b index count (k + 1)))) (sym gave)) in
     let answered : number_item c.from_residual.result ≡ Err e = search rules in
     answered ∙ sym failed

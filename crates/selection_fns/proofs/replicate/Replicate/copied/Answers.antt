@@ -18,8 +18,8 @@ bounds-deref-axis c =
     let place = exchanged_there along b.shape (sum (times c.args.counts.now (places_along b.shape (axis_at (max 1 (length b.shape)) along)))) known.axis in
     rw (axis, c.deref.ensures, known.shaped) place.there
 
-pub places_copied-requires-clause-total : goal.places_copied-requires-clause-total
-places_copied-requires-clause-total c =
+pub before_each_copy-requires-clause-total : goal.before_each_copy-requires-clause-total
+before_each_copy-requires-clause-total c =
     let along = c.args.self.along in
     let b = c.args.array.now in
     let known = replicate_gives along c.args.counts.now b c.in_ok-shape.shape.items c.in_ok-shape.item_type c.in_ok-shape.ensures.0 in
@@ -44,7 +44,7 @@ invariant_of-rule c =
     let is : (i : ℕ) → i < sum (times a n) → get_or c.in_ok-before.before.items i 0 + 1 ≡ copied_place a n (i + 1) =
     subst (λ m. (i : ℕ) → i < sum (times a n) → get_or c.in_ok-before.before.items i 0 + 1 ≡ copied_place a m (i + 1)) places
     (subst (λ m. (i : ℕ) → i < m → get_or c.in_ok-before.before.items i 0 + 1 ≡ copied_place a c.places_along-places.result (i + 1)) total c.in_ok-before.ensures.is) in
-    let within : All (λ m. m ≤ 1048576) c.in_ok-before.before.items = copies_within a n (sum (times a n)) c.in_ok-before.before.items (subst (λ m. m ≤ 1048576) places c.places_along-places.ensures.within) c.places_copied.ensures.few long is in
+    let within : All (λ m. m ≤ 1048576) c.in_ok-before.before.items = copies_within a n (sum (times a n)) c.in_ok-before.before.items (subst (λ m. m ≤ 1048576) places c.places_along-places.ensures.within) c.before_each_copy.ensures.few long is in
     let form : replicate_form along a b ≡ Ok (c.in_ok-shape.shape.items, b.item_type) = c.in_ok-shape.ensures.0 ∙ ap (λ (t : ItemType). Ok (c.in_ok-shape.shape.items, t)) known.typed in
     record {
       form = form;

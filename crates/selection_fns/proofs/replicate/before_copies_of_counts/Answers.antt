@@ -3,7 +3,7 @@ use Rattle.std.proofs.lemmas.List.{length-append, length-replicate}
 use Rattle.index_region.specs.Arguments.{numbers}
 use Rattle.selection_fns.specs.Replicate.{maker}
 use Rattle.selection_fns.proofs.Copies.{count_step, maker_run, holds_with_run}
-use Rattle.selection_fns.proofs.replicate.counts_copied.Goals as goal
+use Rattle.selection_fns.proofs.replicate.before_copies_of_counts.Goals as goal
 
 pub overflow_cast-count : goal.overflow_cast-count
 overflow_cast-count c =

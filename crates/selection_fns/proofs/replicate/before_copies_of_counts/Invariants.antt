@@ -2,7 +2,7 @@ use Rattle.std.proofs.Common.{◌≡◌, ◌+◌, ◌<◌, ℕ, length, get_or, 
 use Rattle.std.specs.Prelude.{sum}
 use Rattle.index_region.specs.Arguments.{numbers}
 use Rattle.selection_fns.specs.Replicate.{maker}
-use Rattle.selection_fns.proofs.replicate.counts_copied.Given as goal
+use Rattle.selection_fns.proofs.replicate.before_copies_of_counts.Given as goal
 
 abbrev pub invariant-loop-place : goal.invariant-loop-place
 invariant-loop-place l = record {

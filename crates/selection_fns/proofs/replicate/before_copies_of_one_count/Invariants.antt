@@ -1,6 +1,6 @@
 use Rattle.std.proofs.Common.{◌≡◌, ◌+◌, ◌<◌, ℕ, length, get_or, replicate}
 use Rattle.selection_fns.specs.Replicate.{maker}
-use Rattle.selection_fns.proofs.replicate.each_copied.Given as goal
+use Rattle.selection_fns.proofs.replicate.before_copies_of_one_count.Given as goal
 
 abbrev pub invariant-loop-copy : goal.invariant-loop-copy
 invariant-loop-copy l = record {

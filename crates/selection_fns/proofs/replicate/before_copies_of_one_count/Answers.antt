@@ -2,7 +2,7 @@ use Rattle.std.proofs.Common.{rules, ◌≡◌, ◌+◌, ◌-◌, ◌++◌, leng
 use Rattle.selection_fns.specs.Replicate.{maker}
 use Rattle.selection_fns.proofs.Copies.{holds_with_run}
 use Rattle.selection_fns.proofs.Repeated.{maker_positive}
-use Rattle.selection_fns.proofs.replicate.each_copied.Goals as goal
+use Rattle.selection_fns.proofs.replicate.before_copies_of_one_count.Goals as goal
 
 pub overflow_sub-maker_of_each : goal.overflow_sub-maker_of_each
 overflow_sub-maker_of_each c =
