@@ -1,5 +1,5 @@
 -- Results that are numbers, made from the items of an argument one by one.
-use Rattle.std.proofs.Common.{◌≡◌, ℕ, Bool, true, false, cond, List, length, get_or, map, ℤ, Result, Ok, Err, ap, sym, ◌∙◌}
+use Rattle.std.proofs.Common.{◌≡◌, ℕ, List, length, get_or, map, ℤ, Result, Ok, ap, sym, ◌∙◌}
 use Rattle.std.proofs.lemmas.List.{length-map}
 use Rattle.std.proofs.Math.ListN.{get_or-map}
 use Rattle.std.proofs.lemmas.Simd.{map-map}
@@ -8,29 +8,11 @@ use Rattle.arrays_core.specs.declared.item.Item.TheVariants.{Num}
 use Rattle.arrays_core.specs.declared.item.ItemType.{ItemType}
 use Rattle.arrays_core.specs.declared.item.ItemType.TheVariants.{Nums}
 use Rattle.arrays_core.specs.declared.item.Kind.{Kind}
-use Rattle.arrays_core.specs.declared.item.Kind.TheVariants.{Limit}
 use Rattle.arrays_core.specs.Items.{fill}
 use Rattle.arrays_core.specs.Shapes.{size}
 use Rattle.arrays_core.specs.Arrays.{ArrayValue, item_of, collect, with_items}
 use Rattle.arrays_core.proofs.Order.{given_in_order, places_before-index_after}
-use Rattle.index_region.specs.Checks.{Form, check, limited, is_within_limits, and_then, whole}
-
--- what follows a check that has passed
-pub check_passed : {A : Type 0} (w : Bool) (kind : Kind) (rest : Result A Kind) (x : A) → check w kind rest ≡ Ok x → rest ≡ Ok x
-check_passed true kind rest x h = h
-check_passed false kind rest x h = let no : ⊥ = cc in absurd no
-
--- the form that the last check gives is the one that was asked for
-pub form_is : (asked shape : List ℕ) (asked_type item_type : ItemType) → limited asked asked_type ≡ Ok (shape, item_type) → (shape ≡ asked) × (item_type ≡ asked_type)
-form_is asked shape asked_type item_type is = decide (is_within_limits asked) is
-  where
-    decide : (w : Bool) → cond {A = Result Form Kind} w (Ok (asked, asked_type)) (Err Limit) ≡ Ok (shape, item_type) → (shape ≡ asked) × (item_type ≡ asked_type)
-    decide true h =
-        let found : Form = (asked, asked_type) in
-        let wanted : Form = (shape, item_type) in
-        let same : found ≡ wanted = cc in
-        (sym (ap (λ (f : Form). f.0) same), sym (ap (λ (f : Form). f.1) same))
-    decide false h = let no : ⊥ = cc in absurd no
+use Rattle.index_region.specs.Checks.{Form, and_then, whole}
 
 module _ (f : Item → ℤ) (b : ArrayValue) (one_item_a_place : length b.items ≡ size b.shape) where
   abbrev at : List ℕ → Result Item Kind

@@ -9,20 +9,23 @@ use Rattle.arrays_core.specs.declared.item.ItemType.TheVariants.{Nums}
 use Rattle.arrays_core.specs.declared.item.Kind.TheVariants.{Rank}
 use Rattle.arrays_core.specs.Shapes.{size}
 use Rattle.arrays_core.specs.Arrays.{ArrayValue}
-use Rattle.index_region.specs.Checks.{limited}
+use Rattle.index_region.specs.Checks.{Form, limited}
 use Rattle.index_region.specs.ArgumentLists.{of_two_arguments}
-use Rattle.index_region.proofs.Passing.{two_arguments}
+use Rattle.index_region.proofs.Passing.{two_arguments, gives, limited_gives}
 use Rattle.selection_fns.specs.SameItem.{same_item}
 use Rattle.selection_fns.specs.IndexOf.{index_of_form, index_of_whole}
 use Rattle.selection_fns.specs.Member.{member_form, member_whole}
-use Rattle.selection_fns.proofs.Flat.{check_passed, form_is, flat_whole}
+use Rattle.selection_fns.proofs.Flat.{flat_whole}
 
 module _ (args : List ArrayValue) (a b : ArrayValue) (two : length args ≡ 2) (first : a ≡ get_or args 0 a) (second : b ≡ get_or args 1 b) (shape : List ℕ) (item_type : ItemType) where
   both : args ≡ a ∷ b ∷ []
   both = two_arguments args a b two first second
 
   pub index_of_shape : of_two_arguments index_of_form args ≡ Ok (shape, item_type) → (shape ≡ b.shape) × (item_type ≡ Nums)
-  index_of_shape is = form_is b.shape shape Nums item_type (check_passed (nat_eq (length a.shape) 1) Rank (limited b.shape Nums) (shape, item_type) (ap (of_two_arguments index_of_form) (sym both) ∙ is))
+  index_of_shape is =
+      let checked = gives (nat_eq (length a.shape) 1) Rank (limited b.shape Nums) (shape, item_type) (ap (of_two_arguments index_of_form) (sym both) ∙ is) in
+      let asked = limited_gives b.shape Nums (shape, item_type) checked.is in
+      (ap (λ (f : Form). f.0) asked, ap (λ (f : Form). f.1) asked)
 
   pub index_of_answer : of_two_arguments index_of_form args ≡ Ok (shape, item_type) → length b.items ≡ size b.shape
       → (zs : List ℤ) → zs ≡ map (λ x. pos (suc (position_or_len (same_item x) a.items))) b.items
@@ -33,7 +36,9 @@ module _ (args : List ArrayValue) (a b : ArrayValue) (two : length args ≡ 2) (
       ∙ flat_whole (λ x. pos (suc (position_or_len (same_item x) a.items))) b long (index_of_form a b) shape item_type zs (ap (of_two_arguments index_of_form) (sym both) ∙ is) parts.0 parts.1 gives
 
   pub member_shape : of_two_arguments member_form args ≡ Ok (shape, item_type) → (shape ≡ a.shape) × (item_type ≡ Nums)
-  member_shape is = form_is a.shape shape Nums item_type (ap (of_two_arguments member_form) (sym both) ∙ is)
+  member_shape is =
+      let asked = limited_gives a.shape Nums (shape, item_type) (ap (of_two_arguments member_form) (sym both) ∙ is) in
+      (ap (λ (f : Form). f.0) asked, ap (λ (f : Form). f.1) asked)
 
   pub member_answer : of_two_arguments member_form args ≡ Ok (shape, item_type) → length a.items ≡ size a.shape
       → (zs : List ℤ) → zs ≡ map (λ x. truth (list_any (same_item x) b.items)) a.items
