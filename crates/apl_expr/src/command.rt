@@ -195,10 +195,9 @@ fn cell(
     ensures { IsCommand (lexemes tokens.now) result }
 {
     match edited(alloc, rest) {
-        Ok(written) => Ok(Command::Cell(name, written.0, written.1)),
+        Ok((place, literal)) => Ok(Command::Cell(name, place, literal)),
         Err(ParseFault::Syntax) => show(alloc, tokens),
-        Err(ParseFault::Limit) => Err(ParseFault::Limit),
-        Err(ParseFault::NoMemory) => Err(ParseFault::NoMemory),
+        Err(fault) => Err(fault),
     }
 }
 

@@ -18,12 +18,19 @@ use std::alloc::{AllocError, Global};
 /// What is being read, with the byte at which it began.
 #[derive(Drop)]
 enum Scan {
+    /// Nothing: a token may begin.
     Between,
+    /// A comment.
     Comment,
+    /// A high minus, which takes these bytes.
     Minus(Span),
+    /// A number: where it begins, whether it has a high minus, and its digits so far.
     Digits(usize, bool, Vec<char>),
+    /// A name: where it begins, and its letters so far.
     Letters(usize, String),
+    /// A text: where it begins, and its characters so far.
     Quoted(usize, Vec<char>),
+    /// The same after a quote, which ends the text or is doubled.
     Quote(usize, Vec<char>),
 }
 
