@@ -211,13 +211,10 @@ fn begin(
 ) -> Result<Reading, ParseFault>
     ensures { Steps result waiting.new.items (begin (lexeme token.now) function (stack waiting.old.items)) }
 {
-    let Token::Mark(sign) = token else {
-        return first(alloc, token, function, waiting);
-    };
-    if ends_position(*sign) {
-        return skipped(alloc, *sign, waiting);
+    match token {
+        Token::Mark(sign) if ends_position(*sign) => skipped(alloc, *sign, waiting),
+        _ => first(alloc, token, function, waiting),
     }
-    first(alloc, token, function, waiting)
 }
 
 /// Reads a token, or the function that it begins, after an operand.
@@ -252,14 +249,13 @@ fn after_reference(
 ) -> Result<Reading, ParseFault>
     ensures { Steps result waiting.new.items (after_reference (lexeme token.now) function (stack waiting.old.items) (tree_of operand)) }
 {
-    let Token::Mark(sign) = token else {
-        return Err(ParseFault::Syntax);
-    };
-    if *sign == '[' {
-        waiting.push(Waiting::Inside(Bracket::Index(operand, Vec::new(alloc))))?;
-        return Ok(Reading::Position);
+    match token {
+        Token::Mark('[') => {
+            waiting.push(Waiting::Inside(Bracket::Index(operand, Vec::new(alloc))))?;
+            Ok(Reading::Position)
+        }
+        _ => next(alloc, token, function, operand, waiting),
     }
-    next(alloc, token, function, operand, waiting)
 }
 
 /// Reads a token, or the function that it begins.
