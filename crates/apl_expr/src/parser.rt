@@ -164,14 +164,7 @@ fn closed(
 {
     let Settled { value, bracket } = settle(alloc, operand, waiting)?;
     match bracket {
-        None => Err(ParseFault::Syntax),
-        Some(Bracket::Parenthesis) => {
-            if sign == ')' {
-                Ok(Reading::Reference(value))
-            } else {
-                Err(ParseFault::Syntax)
-            }
-        }
+        Some(Bracket::Parenthesis) if sign == ')' => Ok(Reading::Reference(value)),
         Some(Bracket::Index(indexed, positions)) => position_ended(
             alloc,
             sign,
@@ -180,6 +173,7 @@ fn closed(
             Some(value),
             waiting,
         ),
+        _ => Err(ParseFault::Syntax),
     }
 }
 
@@ -294,11 +288,9 @@ fn finish(alloc: Global, reading: Reading, waiting: &mut Vec<Waiting>) -> Result
     ensures { Gives result (finish (stack waiting.old.items) (reading_of reading)) }
 {
     let operand = match reading {
-        Reading::Nothing => return Err(ParseFault::Syntax),
-        Reading::Position => return Err(ParseFault::Syntax),
+        Reading::Nothing | Reading::Position => return Err(ParseFault::Syntax),
         Reading::Strand(numbers) => Expr::Const(literal(numbers)),
-        Reading::Whole(operand) => operand,
-        Reading::Reference(operand) => operand,
+        Reading::Whole(operand) | Reading::Reference(operand) => operand,
     };
     let whole = settle(alloc, operand, waiting)?;
     match whole.bracket {
