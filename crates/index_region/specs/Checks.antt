@@ -5,6 +5,7 @@ use Rattle.arrays_core.specs.declared.item.Item.{Item}
 use Rattle.arrays_core.specs.declared.item.ItemType.{ItemType}
 use Rattle.arrays_core.specs.declared.item.Kind.{Kind}
 use Rattle.arrays_core.specs.declared.item.Kind.TheVariants.{Limit}
+use Rattle.arrays_core.specs.Limits.{most_axes, longest_axis, most_places}
 use Rattle.arrays_core.specs.Shapes.{size}
 use Rattle.arrays_core.specs.Arrays.{ArrayValue, collect}
 
@@ -22,7 +23,7 @@ abbrev pub Form : Type 0
 Form = List ℕ × ItemType
 
 abbrev pub is_within_limits : List ℕ → Bool
-is_within_limits shape = (nat_le (length shape) 4 && list_all (λ n. nat_le n 1048576) shape) && nat_le (size shape) 1048576
+is_within_limits shape = (nat_le (length shape) most_axes && list_all (λ n. nat_le n longest_axis) shape) && nat_le (size shape) most_places
 
 -- the last check, of the shape
 abbrev pub limited : List ℕ → ItemType → Result Form Kind

@@ -1,9 +1,10 @@
 use Rattle.std.proofs.Common.{◌≡◌, ◌*◌, ◌≤◌, drop}
+use Rattle.arrays_core.specs.Limits.{most_places}
 use Rattle.arrays_core.specs.Shapes.{size as size_of}
 use Rattle.arrays_core.proofs.shape.are_places_within.Given as goal
 
 abbrev pub invariant-loop-axis : goal.invariant-loop-axis
 invariant-loop-axis l = record {
   product : l.places * size_of (drop l.axis-index l.axes) ≡ size_of l.axes;
-  within : l.places ≤ 1048576;
+  within : l.places ≤ most_places;
 }

@@ -1,0 +1,14 @@
+-- How large an array may be.
+use Rattle.std.specs.Prelude.{ℕ}
+
+-- the most axes of an array
+abbrev pub most_axes : ℕ
+most_axes = 4
+
+-- the greatest length of an axis
+abbrev pub longest_axis : ℕ
+longest_axis = 1048576
+
+-- the most places of an array
+abbrev pub most_places : ℕ
+most_places = 1048576
