@@ -8,9 +8,10 @@ ghost use Rattle.index_region.specs.Arguments.{numbers};
 ghost use Rattle.index_region.specs.Answers.{IsPlaceOf};
 ghost use Rattle.selection_fns.specs.Encode.{carried as carried_number, digit as digit_of, encode_form, encode_item, encode_whole};
 
-use crate::axes::MOST_AXES;
 use crate::number_at::number_at;
-use arrays_core::{ApplyFault, Array, Item, ItemType, Kind, Shape, append_axes, shape_of};
+use arrays_core::{
+    ApplyFault, Array, Item, ItemType, Kind, MOST_AXES, Shape, append_axes, shape_of,
+};
 use index_region::{Primitive, Seen, apply, limited};
 use scalar_fns::{Scalar2, floor_quotient, two_numbers};
 use std::alloc::Global;

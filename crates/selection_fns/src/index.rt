@@ -2,6 +2,7 @@
 
 ghost use Rattle.std.specs.Prelude.{◌≡◌, ◌<◌, ◌≤◌, ◌+◌, ◌-◌, ◌++◌, map, IsTrue, IfOk, IfErr, Result, Err, false, suc, length, ◌&&◌, pos, int_le, unsigned_abs, All};
 ghost use Rattle.std.specs.List.{list_all};
+ghost use Rattle.arrays_core.specs.Limits.{most_axes};
 ghost use Rattle.arrays_core.specs.declared.item.Kind.{Kind as AKind};
 ghost use Rattle.arrays_core.specs.declared.item.Kind.TheVariants.{Limit};
 ghost use Rattle.arrays_core.specs.Arrays.{ArrayValue, item_of, IsAnswerTo};
@@ -11,15 +12,14 @@ ghost use Rattle.index_region.specs.Arguments.{counts_as_numbers, number_of, num
 ghost use Rattle.index_region.specs.Answers.{IsPlaceOf, source_value};
 ghost use Rattle.selection_fns.specs.Index.{Position, written_positions, count_written, of_array_and_positions, is_on_axis, is_on as is_position_on, are_on as are_positions_on, are_numbers as are_positions_numbers, indexed_shape, source_index, positions_checked, index_form, index_source, index_item, index_whole};
 
-use crate::axes::MOST_AXES;
-use arrays_core::{ApplyFault, Array, Item, ItemType, Kind, Shape, append_axes};
+use arrays_core::{ApplyFault, Array, Item, ItemType, Kind, MOST_AXES, Shape, append_axes};
 use index_region::{Primitive, Seen, Source, apply, item_from, limited};
 use smallvec::SmallVec;
 use std::alloc::{AllocError, Global};
 
 /// The positions are of numbers, where they have items.
 fn are_numbers(written: &[bool], positions: &[Seen]) -> bool
-    requires few { length written.now ≤ 4 }
+    requires few { length written.now ≤ most_axes }
     requires long { length positions.now ≡ count_written written.now }
     ensures { result ≡ list_all are_positions_numbers (written_positions written.now positions.now) }
 {
@@ -50,7 +50,7 @@ fn is_on(position: &Seen, axis: u32) -> bool
 
 /// The indices of each position are on its axis; an empty position is on any.
 fn are_on(axes: &[u32], written: &[bool], positions: &[Seen]) -> bool
-    requires few { length written.now ≤ 4 }
+    requires few { length written.now ≤ most_axes }
     requires one_an_axis { length written.now ≡ length axes.now }
     requires long { length positions.now ≡ count_written written.now }
     ensures { result ≡ are_positions_on axes.now (written_positions written.now positions.now) }
@@ -175,7 +175,7 @@ fn append_source_index(
     index: &[u32],
 )
     requires inline { at.old.capacity ≡ 4 }
-    requires room { length at.old.items + length written.now ≤ 4 }
+    requires room { length at.old.items + length written.now ≤ most_axes }
     requires one_an_axis { length written.now ≡ length axes.now }
     requires long { length positions.now ≡ count_written written.now }
     requires on { IsTrue (are_positions_on axes.now (written_positions written.now positions.now)) }

@@ -4,6 +4,7 @@
 ghost use Rattle.std.specs.Prelude.{◌≡◌, ◌≤◌, suc, pos, IfOk, length, map, replicate};
 ghost use Rattle.std.specs.List.{list_any, position_from, position_or_len};
 ghost use Rattle.std.specs.HashMap.{get};
+ghost use Rattle.arrays_core.specs.Limits.{most_places};
 ghost use Rattle.scalar_fns.specs.Numbers.{truth};
 
 use std::alloc::{AllocError, Global};
@@ -48,7 +49,7 @@ pub(crate) fn first_places<T: Eq + Hash + Copy + Drop>(
     items: &[T],
     sought: &[T],
 ) -> Result<Vec<i64>, AllocError>
-    requires { length items.now ≤ 1048576 }
+    requires { length items.now ≤ most_places }
     ensures { IfOk result (λ v. v.items ≡ map (λ x. pos (suc (position_or_len (T.eq x) items.now))) sought.now) }
 {
     let places = first_place_table(alloc, items)?;

@@ -1,6 +1,7 @@
 //! Replicate: the places of an axis, each as often as its count.
 
 ghost use Rattle.std.specs.Prelude.{◌≡◌, ◌<◌, ◌≤◌, ◌+◌, ◌-◌, ◌*◌, ◌++◌, ℕ, All, Ok, Some, IsTrue, OnOk, IfOk, IfErr, Result, Err, unsigned_abs, length, map, max, sum, insert, remove, replicate, set, get_or};
+ghost use Rattle.arrays_core.specs.Limits.{most_axes, longest_axis};
 ghost use Rattle.arrays_core.specs.declared.item.Kind.{Kind as AKind};
 ghost use Rattle.arrays_core.specs.declared.item.Kind.TheVariants.{Limit};
 ghost use Rattle.arrays_core.specs.Arrays.{IsAnswerTo};
@@ -42,9 +43,9 @@ fn check_counts(counts: &Seen, places: u32) -> Result<(), Kind>
 /// How many copies there are of places that each have one count; LIMIT where they are more than an axis
 /// may have.
 fn repeated(count: u64, places: u32) -> Result<u32, Kind>
-    requires { places ≤ 1048576 }
+    requires { places ≤ longest_axis }
     ensures total { IfOk result (λ total. total ≡ places * count) }
-    ensures beyond { IfErr result (λ kind. (kind ≡ Limit) × (1048576 < places * count)) }
+    ensures beyond { IfErr result (λ kind. (kind ≡ Limit) × (longest_axis < places * count)) }
 {
     if places == 0 {
         return Ok(0);
@@ -62,7 +63,7 @@ fn repeated(count: u64, places: u32) -> Result<u32, Kind>
 /// The sum of the counts; LIMIT where it is more than the places that an axis may have.
 fn summed(counts: &Seen) -> Result<u32, Kind>
     ensures total { IfOk result (λ total. total ≡ sum (map unsigned_abs (numbers counts.now))) }
-    ensures beyond { IfErr result (λ kind. (kind ≡ Limit) × (1048576 < sum (map unsigned_abs (numbers counts.now)))) }
+    ensures beyond { IfErr result (λ kind. (kind ≡ Limit) × (longest_axis < sum (map unsigned_abs (numbers counts.now)))) }
 {
     let mut total = 0;
     for place in 0..counts.places() {
@@ -80,9 +81,9 @@ fn summed(counts: &Seen) -> Result<u32, Kind>
 
 /// How many copies there are; LIMIT where they are more than an axis may have.
 fn copies(counts: &Seen, places: u32) -> Result<u32, Kind>
-    requires { places ≤ 1048576 }
+    requires { places ≤ longest_axis }
     ensures total { IfOk result (λ total. total ≡ sum (times counts.now places)) }
-    ensures beyond { IfErr result (λ kind. (kind ≡ Limit) × (1048576 < sum (times counts.now places))) }
+    ensures beyond { IfErr result (λ kind. (kind ≡ Limit) × (longest_axis < sum (times counts.now places))) }
 {
     if counts.places() == 1 {
         repeated(counts.number(1).unsigned_abs(), places)
@@ -93,7 +94,7 @@ fn copies(counts: &Seen, places: u32) -> Result<u32, Kind>
 
 /// The shape with another number of places along one axis; that of a scalar is a vector's.
 fn replicated_shape(alloc: Global, axes: &[u32], axis: usize, places: u32) -> Shape
-    requires rank { length axes.now ≤ 4 }
+    requires rank { length axes.now ≤ most_axes }
     requires there { axis < max 1 (length axes.now) }
     ensures is { result.items ≡ insert (remove axes.now axis) axis places }
     ensures inline { result.capacity ≡ 4 }
@@ -168,7 +169,7 @@ fn before_copies_of_one_count(
 
 /// Puts copies of a number at the end of a list.
 fn append_copies(list: &mut Vec<u32>, count: u32, number: u32) -> Result<(), AllocError>
-    requires { length list.old.items + count ≤ 1048576 }
+    requires { length list.old.items + count ≤ longest_axis }
     ensures { OnOk result (list.new.items ≡ list.old.items ++ replicate count number) }
 {
     list.resize(list.len() + count as usize, number)?;
@@ -178,7 +179,7 @@ fn append_copies(list: &mut Vec<u32>, count: u32, number: u32) -> Result<(), All
 /// How many places come before that of each copy, where each place has a count of its own.
 fn before_copies_of_counts(alloc: Global, counts: &Seen, total: u32) -> Result<Vec<u32>, AllocError>
     requires total { total ≡ sum (map unsigned_abs (numbers counts.now)) }
-    requires within { total ≤ 1048576 }
+    requires within { total ≤ longest_axis }
     ensures long { IfOk result (λ before. length before.items ≡ total) }
     ensures is { IfOk result (λ before. (i : ℕ) → i < total → get_or before.items i 0 + 1 ≡ maker_of (map unsigned_abs (numbers counts.now)) (i + 1)) }
 {
@@ -198,10 +199,10 @@ fn before_each_copy(
     total: u32,
 ) -> Result<Vec<u32>, AllocError>
     requires total { total ≡ sum (times counts.now places) }
-    requires within { total ≤ 1048576 }
+    requires within { total ≤ longest_axis }
     ensures long { IfOk result (λ before. length before.items ≡ total) }
     ensures is { IfOk result (λ before. (i : ℕ) → i < total → get_or before.items i 0 + 1 ≡ place_copied counts.now places (i + 1)) }
-    ensures few { length counts.now.items ≤ 1048576 }
+    ensures few { length counts.now.items ≤ longest_axis }
 {
     let is_single = counts.places() == 1;
     if places == 1 {
@@ -216,7 +217,7 @@ fn before_each_copy(
 
 /// The index list of the array itself, of one of the result.
 fn copied_index(alloc: Global, counts: &Seen, axes: &[u32], axis: usize, index: &[u32]) -> Shape
-    requires rank { length axes.now ≤ 4 }
+    requires rank { length axes.now ≤ most_axes }
     requires there { axis < length axes.now }
     requires inside { IsTrue (is_index_of (insert (remove axes.now axis) axis (sum (times counts.now (places_on axes.now axis)))) index.now) }
     ensures { result.items ≡ set index.now axis (place_copied counts.now (places_on axes.now axis) (get_or index.now axis 1)) }
@@ -228,11 +229,11 @@ fn copied_index(alloc: Global, counts: &Seen, axes: &[u32], axis: usize, index: 
 
 /// The index list of the place that a copy is of.
 fn index_of_copy(alloc: Global, axis: usize, before: &[u32], index: &[u32]) -> Shape
-    requires rank { length index.now ≤ 4 }
+    requires rank { length index.now ≤ most_axes }
     requires there { axis < length index.now }
     requires low { 1 ≤ get_or index.now axis 0 }
     requires high { get_or index.now axis 0 ≤ length before.now }
-    requires within { All (λ n. n ≤ 1048576) before.now }
+    requires within { All (λ n. n ≤ longest_axis) before.now }
     ensures { result.items ≡ set index.now axis (get_or before.now (get_or index.now axis 0 - 1) 0 + 1) }
 {
     let mut at = shape_of(alloc, index);
@@ -329,7 +330,7 @@ struct CopyRule<'a, 'b, 'c> {
     ghost form: { replicate_form replicate.along counts.now array.now ≡ Ok (shape.now.items, array.now.item_type) },
     ghost long: { length before.now ≡ sum (times counts.now (places_on array.now.shape (axis_meant (max 1 (length array.now.shape)) replicate.along))) },
     ghost is: { (i : ℕ) → i < length before.now → get_or before.now i 0 + 1 ≡ place_copied counts.now (places_on array.now.shape (axis_meant (max 1 (length array.now.shape)) replicate.along)) (i + 1) },
-    ghost within: { All (λ n. n ≤ 1048576) before.now },
+    ghost within: { All (λ n. n ≤ longest_axis) before.now },
 }
 
 impl<'a, 'b, 'c> CopyRule<'a, 'b, 'c> {
