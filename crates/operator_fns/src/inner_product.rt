@@ -1,6 +1,7 @@
 //! Inner product: the rows of one array folded with the columns of another.
 
 ghost use Rattle.std.specs.Prelude.{◌≡◌, ◌≢◌, ℕ, ◌+◌, ◌<◌, ◌≤◌, ◌++◌, ◌∷◌, [], IsTrue, IfOk, length, map, take, drop};
+ghost use Rattle.arrays_core.specs.Limits.{most_places};
 ghost use Rattle.arrays_core.specs.declared.item.Item.TheVariants.{Num};
 ghost use Rattle.arrays_core.specs.Arrays.{IsAnswerTo, IsArray};
 ghost use Rattle.arrays_core.specs.Items.{fill};
@@ -12,12 +13,11 @@ ghost use Rattle.operator_fns.specs.InnerProduct.{row_rank as rank_of_rows, row_
 ghost use Rattle.operator_fns.specs.RowByColumn.{entry, IsInside, grid_of};
 
 use crate::grid::{Grid, grid_products};
-use crate::limits::MOST_AXES;
 use crate::right_fold::{identity_item, stride};
 use crate::row_by_column::{ItemLines, StridedLine, fold_row_of_items};
 use arrays_core::{
-    ApplyFault, Array, Item, ItemType, Kind, Shape, append_axes, position, shape_of, size,
-    with_axis,
+    ApplyFault, Array, Item, ItemType, Kind, MOST_AXES, Shape, append_axes, position, shape_of,
+    size, with_axis,
 };
 use index_region::{Primitive, Seen, apply, limited};
 use scalar_fns::Scalar2;
@@ -79,7 +79,7 @@ fn row_line(array: &Seen, row: &[u32], count: u32) -> StridedLine
     requires long { length array.now.items ≢ 1 → length_of_row array.now ≡ count }
     ensures is { (k : ℕ) → k < count → entry (fill array.now.item_type) array.now.items result k ≡ extended array.now (row.now ++ (k + 1) ∷ []) }
     ensures there { IsInside result count (length array.now.items) }
-    ensures few { length array.now.items ≤ 1048576 }
+    ensures few { length array.now.items ≤ most_places }
 {
     if array.places() == 1 {
         return StridedLine {
@@ -102,7 +102,7 @@ fn column_line(array: &Seen, column: &[u32], count: u32) -> StridedLine
     requires long { length array.now.items ≢ 1 → length_of_column array.now ≡ count }
     ensures is { (k : ℕ) → k < count → entry (fill array.now.item_type) array.now.items result k ≡ extended array.now ((k + 1) ∷ column.now) }
     ensures there { IsInside result count (length array.now.items) }
-    ensures few { length array.now.items ≤ 1048576 }
+    ensures few { length array.now.items ≤ most_places }
 {
     if array.places() == 1 {
         return StridedLine {

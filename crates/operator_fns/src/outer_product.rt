@@ -1,6 +1,7 @@
 //! Outer product: a function of each item of one array with each item of another.
 
 ghost use Rattle.std.specs.Prelude.{◌≡◌, ◌<◌, ◌≤◌, ◌*◌, ◌++◌, length, map, vec_len, IfOk};
+ghost use Rattle.arrays_core.specs.Limits.{most_places};
 ghost use Rattle.arrays_core.specs.declared.item.Item.TheVariants.{Num};
 ghost use Rattle.arrays_core.specs.declared.item.ItemType.TheVariants.{Nums};
 ghost use Rattle.arrays_core.specs.Items.{all_or_first_error};
@@ -13,9 +14,8 @@ ghost use Rattle.index_region.specs.Answers.{IsFormAnswerTo, IsPlaceOf, HasTypeO
 ghost use Rattle.operator_fns.specs.ResultTable.{table as table_of, with_results, LeavesOrFails};
 ghost use Rattle.operator_fns.specs.OuterProduct.{outer_form, outer_item, outer_whole};
 
-use crate::limits::MOST_AXES;
 use arrays_core::{
-    ApplyFault, Array, Item, ItemType, Kind, Shape, append_axes, position, shape_of,
+    ApplyFault, Array, Item, ItemType, Kind, MOST_AXES, Shape, append_axes, position, shape_of,
 };
 use index_region::{Primitive, Seen, apply, limited};
 use scalar_fns::kernels::{Equal, LessOrEqual, Maximum, Minimum, Minus, Plus, Times, TwoNumbers};
@@ -45,7 +45,7 @@ fn table_numbers<S: TwoNumbers>(
     left: &[i64],
     right: &[i64],
 ) -> Result<Vec<i64>, ApplyFault>
-    requires few { length left.now * length right.now ≤ 1048576 }
+    requires few { length left.now * length right.now ≤ most_places }
     ensures is { IsListAnswerTo (all_or_first_error (table_of (S.gives step.now) left.now right.now)) result }
     ensures long { IfOk result (λ v. vec_len v ≡ length left.now * length right.now) }
 {

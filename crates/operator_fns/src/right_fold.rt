@@ -1,6 +1,7 @@
 //! Right folds of lines: of items, and of numbers.
 
 ghost use Rattle.std.specs.Prelude.{◌≡◌, ◌<◌, ◌≤◌, ◌+◌, ◌-◌, ◌*◌, pos, length, IfOk, IsTrue, drop, take, remove, get_or};
+ghost use Rattle.arrays_core.specs.Limits.{most_places};
 ghost use Rattle.arrays_core.specs.Items.{fill, type_of};
 ghost use Rattle.arrays_core.specs.declared.item.ItemType.TheVariants.{Nums};
 ghost use Rattle.arrays_core.specs.Shapes.{is_index_of as is_below, size as size_of, IsWithinLimits};
@@ -35,7 +36,7 @@ pub(crate) fn fold_items(
 ) -> Result<Item, Kind>
     requires some { 1 ≤ count }
     requires low { 1 ≤ first }
-    requires few { length array.now.items ≤ 1048576 }
+    requires few { length array.now.items ≤ most_places }
     requires high { first + (count - 1) * stride ≤ length array.now.items }
     ensures is { result ≡ fold_right function (strided (fill array.now.item_type) array.now.items (first - 1) stride count) }
     ensures one { count ≡ 1 → IfOk result (λ x. type_of x ≡ array.now.item_type) }

@@ -1,6 +1,7 @@
 //! A row and a column taken entry by entry and folded: of numbers, and of items.
 
 ghost use Rattle.std.specs.Prelude.{◌≡◌, ◌<◌, ◌≤◌, pos, length, IfOk};
+ghost use Rattle.arrays_core.specs.Limits.{most_places};
 ghost use Rattle.arrays_core.specs.Items.{fill, type_of};
 ghost use Rattle.arrays_core.specs.declared.item.ItemType.TheVariants.{Nums};
 ghost use Rattle.scalar_fns.specs.Items.{dyadic_on_items};
@@ -88,8 +89,8 @@ pub(crate) struct ItemLines<'a, 'b, 'c> {
     pub(crate) count: usize,
     ghost in_left: { IsInside row count (length left.now.items) },
     ghost in_right: { IsInside column count (length right.now.items) },
-    ghost left_few: { length left.now.items ≤ 1048576 },
-    ghost right_few: { length right.now.items ≤ 1048576 },
+    ghost left_few: { length left.now.items ≤ most_places },
+    ghost right_few: { length right.now.items ≤ most_places },
 }
 
 /// What a function gives where a row and a column of items meet.

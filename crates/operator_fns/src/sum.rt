@@ -1,6 +1,7 @@
 //! Sums of lists of numbers.
 
 ghost use Rattle.std.specs.Prelude.{◌≡◌, ◌<◌, ◌≤◌, All, true, length};
+ghost use Rattle.arrays_core.specs.Limits.{most_places};
 ghost use Rattle.scalar_fns.specs.declared.function.Scalar2.TheVariants.{Plus as Sum};
 ghost use Rattle.scalar_fns.specs.Numbers.{dyadic_on_numbers};
 ghost use Rattle.operator_fns.specs.Strides.{folded};
@@ -30,7 +31,7 @@ fn are_small(numbers: &[i64]) -> bool
 /// The sum of small numbers, which no order of adding takes out of 64 bits.
 fn sum_of_small(numbers: &[i64]) -> i64
     requires small { All IsSmall numbers.now }
-    requires few { length numbers.now ≤ 1048576 }
+    requires few { length numbers.now ≤ most_places }
     ensures { result ≡ sum_of numbers.now }
 {
     let mut sum = 0;
