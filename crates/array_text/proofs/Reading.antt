@@ -12,7 +12,7 @@ use Rattle.csv.specs.declared.parser.Action.TheVariants as act
 use Rattle.array_text.specs.Tables.{Fields}
 use Rattle.array_text.specs.Reading.{AreLeft, IsNext}
 
--- where a byte ends a record, the end of the bytes behind it ends none
+-- where a byte ends a record, the end of the bytes after it ends none
 abbrev StopsBetween : State × Action → Type 0
 StopsBetween r = is_end r.1 ≡ true → ends_at_end r.0 ≡ false
 
@@ -52,7 +52,7 @@ step_stops st.AfterQuote c = copies (c == 34) st.InQuoted (in_field default_conf
 step_stops st.InComment c = skips (c == 10) st.StartRecord (st.InComment, act.Skip) (goes_on st.InComment act.Skip refl)
 step_stops st.AfterCr c = skips (c == 10) st.StartRecord (start_record default_config c) (start_record_stops c)
 
--- what is left behind a record is less, and does not begin inside one
+-- what is left after a record is less, and does not begin inside one
 abbrev Shrinks : State → List ℕ → Read → Type 0
 Shrinks s xs r = ((length r.2 < length xs) ⊎ ((xs ≡ []) × (r.2 ≡ []) × (ends_at_end s ≡ true))) × (ends_at_end r.1 ≡ false)
 
@@ -82,14 +82,14 @@ next_shrinks s f p (c ∷ rest) r h = at_byte (is_end (step default_config s c).
     state : State
     state = (step default_config s c).0
 
-    behind : Shrinks state rest r → Shrinks s (c ∷ rest) r
-    behind (inl less, out) = (inl (omega arith), out)
-    behind (inr (none, left, ends), out) = let short = ap length left in (inl (omega arith), out)
+    after : Shrinks state rest r → Shrinks s (c ∷ rest) r
+    after (inl less, out) = (inl (omega arith), out)
+    after (inr (none, left, ends), out) = let short = ap length left in (inl (omega arith), out)
 
     at_byte : (b : Bool) → is_end (step default_config s c).1 ≡ b → cond b (Some (fields, state, rest)) (next_record default_config state fields bytes rest) ≡ Some r
         → (next_record default_config state fields bytes rest ≡ Some r → Shrinks state rest r) → Shrinks s (c ∷ rest) r
     at_byte true e h deeper = subst (Shrinks s (c ∷ rest)) (some_is _ _ h) (inl (omega arith), step_stops s c e)
-    at_byte false e h deeper = behind (deeper h)
+    at_byte false e h deeper = after (deeper h)
 
 -- a record that was read is the first of those that are left
 pub next_left : (most : ℕ) (s : State) (xs : List ℕ) (r : Read) → next_record default_config s [] [] xs ≡ Some r → length xs < most → ends_at_end s ≡ false

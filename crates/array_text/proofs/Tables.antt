@@ -51,7 +51,7 @@ number_found old new all fs i f z h e some is_new so_far =
 
 -- the records of a table
 
--- so many records were read without a fault and gave these numbers, and these records are left
+-- `count` records were read without a fault and gave these numbers, and these records are left
 pub record Stands (header : Bool) (all : List Fields) (columns count : ℕ) (numbers : List ℤ) (rest : List Fields) : Type 0 where
   pub first : columns ≡ columns_of all
   pub faults : first_fault header columns (count + 1) rest ≡ first_fault header columns 1 all

@@ -1,4 +1,4 @@
--- What a reader of a file still gives.
+-- The records that a reader of a file has not read yet.
 use Rattle.std.specs.Prelude.{◌≡◌, ◌<◌, ℕ, Bool, true, false, List, [], ◌∷◌, length, Option, Some}
 use Rattle.csv.specs.Machine.{ends_at_end}
 use Rattle.csv.specs.Reading.{Ready, default_config, is_flexible, reader_config, reader_state, reader_trim, records_from, source_of}
@@ -6,7 +6,7 @@ use Rattle.csv.specs.declared.reader.Reader.{Reader}
 use Rattle.csv.specs.declared.reader.Trim.TheVariants as trim
 use Rattle.array_text.specs.Tables.{Fields}
 
--- a reader stands between two records, and these are left
+-- a reader stands between two records, and these records are left
 pub record AreLeft {R : Type 0} (known : R → Option (List ℕ)) (reader : Reader R) (rest : List Fields) : Type 0 where
   pub plain : reader_trim reader ≡ trim.None
   pub ready : Ready reader
@@ -19,7 +19,7 @@ pub record AreLeft {R : Type 0} (known : R → Option (List ℕ)) (reader : Read
   pub enough : length bytes < most
   pub are : rest ≡ records_from default_config most (reader_state reader) bytes
 
--- what the next read of a record shows: whether one was left, its fields, and those that are left behind it
+-- what the next read of a record shows: whether one was left, its fields, and the records that are left after it
 pub record IsNext (Left : List Fields → Type 0) (rest : List Fields) (found : Bool) (fields : Fields) : Type 0 where
   pub none : found ≡ false → rest ≡ []
   pub some : found ≡ true → (later : List Fields) × (rest ≡ fields ∷ later) × Left later

@@ -12,14 +12,15 @@ use Rattle.array_text.specs.Text.{line_end, part_of, text_by_rank}
 use Rattle.array_text.specs.declared.table_fault.TableFault.{TableFault}
 use Rattle.array_text.specs.declared.table_fault.TableFault.TheVariants as fault
 
--- the bytes of a field, and the fields of a record
+-- a field, as its bytes
 abbrev pub Field : Type 0
 Field = List ℕ
 
+-- a record, as its fields
 abbrev pub Fields : Type 0
 Fields = List Field
 
--- whether a minus stands at the front, `-` or `¯`, and what stands behind it, or behind a `+`
+-- whether a minus stands at the front, `-` or `¯`, and what stands after it, or after a `+`
 unfoldable pub sign_and_rest : List ℕ → Bool × List ℕ
 sign_and_rest [] = (false, [])
 sign_and_rest (b ∷ bytes) =
@@ -33,7 +34,7 @@ unfoldable pub digits_number : (is_negative : Bool) → List ℕ → Option ℤ
 digits_number is_negative digits =
     if nat_lt 0 (length digits) && fits_number is_negative (decimal_from 0 digits) then Some (signed is_negative (decimal_from 0 digits)) else None
 
--- digits, and behind them blanks up to the end
+-- the number of a field without its sign: digits, and after them blanks up to the end
 unfoldable pub unsigned_number : (is_negative : Bool) → List ℕ → Option ℤ
 unsigned_number is_negative bytes =
     let size = prefix_len is_ascii_digit bytes in
@@ -45,24 +46,25 @@ field_number field =
     let parts = sign_and_rest (drop (prefix_len is_blank field) field) in
     unsigned_number parts.0 parts.1
 
--- the item that a field becomes
+-- a number, or 0 where there is none
 abbrev pub number_or_zero : Option ℤ → ℤ
 number_or_zero None = pos 0
 number_or_zero (Some z) = z
 
+-- the numbers that the fields of a record spell
 abbrev pub numbers_of : Fields → List ℤ
 numbers_of fields = map (λ field. number_or_zero (field_number field)) fields
 
--- the first field that spells no number, the first of them counted as so much
+-- the first field that spells no number, where the first of these fields has the number `place`
 abbrev pub first_bad : ℕ → Fields → Option ℕ
 first_bad place [] = None
 first_bad place (field ∷ fields) = if is_some (field_number field) then first_bad (place + 1) fields else Some place
 
--- a matrix of so many rows and columns may be
+-- whether a matrix may have this many rows and columns
 abbrev pub is_matrix_within : (rows columns : ℕ) → Bool
 is_matrix_within rows columns = (nat_le rows 1048576 && nat_le columns 1048576) && nat_le (rows * columns) 1048576
 
--- how many rows the first so many records give: a header gives none
+-- the count of rows that the first `count` records give: a header gives none
 abbrev pub rows_of : (header : Bool) → (count : ℕ) → ℕ
 rows_of header count = if header then count - 1 else count
 
@@ -74,6 +76,7 @@ is_header header number = header && (number == 1)
 abbrev pub fields_read : (header : Bool) → (number : ℕ) → Fields → Fields
 fields_read header number fields = if is_header header number then [] else fields
 
+-- the fault of a record whose first bad field is given, or what is wrong next where it has none
 abbrev pub bad_field_fault : (number : ℕ) → Option ℕ → Option TableFault → Option TableFault
 bad_field_fault number (Some place) next = Some (fault.Field number place)
 bad_field_fault number None next = next
@@ -86,11 +89,12 @@ record_fault header columns number fields =
     else bad_field_fault number (first_bad 1 (fields_read header number fields))
     (if is_matrix_within (rows_of header number) columns then None else Some fault.Limit)
 
+-- the first of two faults
 abbrev pub or_else : Option TableFault → Option TableFault → Option TableFault
 or_else (Some f) later = Some f
 or_else None later = later
 
--- the fault of the first record that has one, the first of them numbered so
+-- the fault of the first record that has one, where the first of these records has this number
 abbrev pub first_fault : (header : Bool) → (columns number : ℕ) → List Fields → Option TableFault
 first_fault header columns number [] = None
 first_fault header columns number (fields ∷ rest) = or_else (record_fault header columns number fields) (first_fault header columns (number + 1) rest)
@@ -100,7 +104,7 @@ abbrev pub columns_of : List Fields → ℕ
 columns_of [] = 0
 columns_of (fields ∷ rest) = length fields
 
--- the numbers of the records, the first of them numbered so
+-- the numbers of the records, where the first of these records has this number
 abbrev pub numbers_from : (header : Bool) → (number : ℕ) → List Fields → List ℤ
 numbers_from header number [] = []
 numbers_from header number (fields ∷ rest) = numbers_of (fields_read header number fields) ++ numbers_from header (number + 1) rest
@@ -113,17 +117,19 @@ table_of header rows = record {
   items = map (λ z. Num z) (numbers_from header 1 rows);
 }
 
--- what reading records answers: their table where none has a fault, else the first fault; or want of memory
+-- a fault that may be answered: the one that is wanted, or want of memory
 abbrev pub AnswersFault : Option TableFault → TableFault → Type 0
 AnswersFault wanted (fault.Field row field) = wanted ≡ Some (fault.Field row field)
 AnswersFault wanted (fault.Length row) = wanted ≡ Some (fault.Length row)
 AnswersFault wanted fault.Limit = wanted ≡ Some fault.Limit
 AnswersFault wanted fault.NoMemory = Unit {0}
 
+-- an answer of reading: a value that holds where no fault is wanted, else that fault; or want of memory
 abbrev pub IsReadOf : {X : Type 0} → Option TableFault → (X → Type 0) → Result X TableFault → Type 0
 IsReadOf wanted Holds (Ok x) = (wanted ≡ None) × Holds x
 IsReadOf wanted Holds (Err f) = AnswersFault wanted f
 
+-- what reading records answers: their table where none has a fault, else the first fault; or want of memory
 abbrev pub IsTableOf : (header : Bool) → List Fields → Result ArrayValue TableFault → Type 0
 IsTableOf header rows result = IsReadOf (first_fault header (columns_of rows) 1 rows) (λ a. a ≡ table_of header rows) result
 

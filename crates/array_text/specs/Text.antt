@@ -10,9 +10,11 @@ use Rattle.arrays_core.specs.declared.item.Kind.{Kind}
 use Rattle.arrays_core.specs.declared.item.Kind.TheVariants.{Domain, Rank, Length, Index, Axis, Limit, Value}
 use Rattle.arrays_core.specs.declared.fault.Fault.{Fault}
 
+-- the blank between two numbers
 abbrev pub blank : List ℕ
 blank = 32 ∷ []
 
+-- the end of a line, LF
 abbrev pub line_end : List ℕ
 line_end = 10 ∷ []
 
@@ -26,11 +28,11 @@ unfoldable pub number_width : ℤ → ℕ
 number_width (pos n) = length (decimal n)
 number_width (negsuc n) = length (decimal (n + 1)) + 1
 
--- a number with so many blanks before it that it ends where its column ends
+-- a number after the blanks that fill a column of a width
 unfoldable pub right_justified : (width : ℕ) → ℤ → List ℕ
 right_justified width z = replicate (width - number_width z) 32 ++ number_text z
 
--- what stands before an item that has so many before it: what is put between two, or nothing before the first
+-- what stands before the item at a place: what is put between two items, but nothing before the first
 unfoldable pub gap : (between : List ℕ) → (place : ℕ) → List ℕ
 gap between place = if place == 0 then [] else between
 
@@ -50,7 +52,7 @@ number_at columns zs row column = get_or zs (row * columns + column) (pos 0)
 unfoldable pub column_width : (rows columns : ℕ) → List ℤ → (column : ℕ) → ℕ
 column_width rows columns zs column = fold max 0 (map (λ row. number_width (number_at columns zs row column)) (range_with_len 0 rows))
 
--- the items of one of the parts into which a list falls, each of so many items
+-- one of the parts, numbered from 0, of a list that is cut into parts of `size` items each
 abbrev pub part_of : {X : Type 0} → (size part : ℕ) → List X → List X
 part_of size part xs = take size (drop (part * size) xs)
 
@@ -70,11 +72,11 @@ number_plane rows columns zs = flat_map (λ row. number_row (column_widths rows 
 unfoldable pub character_plane : (rows columns : ℕ) → List ℕ → List ℕ
 character_plane rows columns cs = flat_map (λ row. character_line (part_of columns row cs)) (range_with_len 0 rows)
 
--- so many planes, each a matrix of its own, with one empty line between; nothing where there are no items
+-- `count` planes, each a matrix of its own, with one empty line between; nothing where there are no items
 unfoldable pub planes : {X : Type 0} → (plane : List X → List ℕ) → (count size : ℕ) → List X → List ℕ
 planes plane count size xs = if length xs == 0 then [] else join_by (λ part. plane (part_of size part xs)) line_end (range_with_len 0 count)
 
--- the items of a shape, by how a line and a matrix of them print. No array has more than four axes
+-- the items of an array of a shape, given the text of a line and of a matrix. No array has more than four axes
 unfoldable pub text_by_rank : {X : Type 0} → (line : List X → List ℕ) → (plane : ℕ → ℕ → List X → List ℕ) → (shape : List ℕ) → List X → List ℕ
 text_by_rank line plane [] xs = line xs
 text_by_rank line plane (n ∷ []) xs = line xs
@@ -83,26 +85,30 @@ text_by_rank line plane (n ∷ rows ∷ columns ∷ []) xs = planes (plane rows 
 text_by_rank line plane (n ∷ m ∷ rows ∷ columns ∷ []) xs = planes (plane rows columns) (n * m) (rows * columns) xs
 text_by_rank line plane (a ∷ b ∷ c ∷ d ∷ e ∷ shape) xs = []
 
+-- the items of an array of numbers
 abbrev pub numbers_text : (shape : List ℕ) → List ℤ → List ℕ
 numbers_text shape zs = text_by_rank number_line number_plane shape zs
 
+-- the items of an array of characters
 abbrev pub characters_text : (shape : List ℕ) → List ℕ → List ℕ
 characters_text shape cs = text_by_rank character_line character_plane shape cs
 
--- an item of an array of numbers, and one of an array of characters
+-- the number that an item is, 0 for a character
 abbrev pub item_number : Item → ℤ
 item_number (Num z) = z
 item_number (Char c) = pos 0
 
+-- the character that an item is, a blank for a number
 abbrev pub item_character : Item → ℕ
 item_character (Num z) = 32
 item_character (Char c) = c
 
--- an array
+-- the items of an array, by their type
 abbrev pub items_text : ItemType → (shape : List ℕ) → List Item → List ℕ
 items_text Nums shape items = numbers_text shape (map item_number items)
 items_text Chars shape items = characters_text shape (map item_character items)
 
+-- an array
 abbrev pub array_text : ArrayValue → List ℕ
 array_text a = items_text a.item_type a.shape a.items
 
@@ -116,11 +122,11 @@ kind_text Axis = codes "AXIS"
 kind_text Limit = codes "LIMIT"
 kind_text Value = codes "VALUE"
 
--- the name in whose formula it arose, if it arose in one
+-- the name in whose formula an error arose, if it arose in one
 abbrev pub origin_text : Option (List ℕ) → List ℕ
 origin_text None = []
 origin_text (Some name) = codes " IN " ++ name
 
--- an error
+-- the line of an error
 abbrev pub fault_text : Fault → List ℕ
 fault_text f = kind_text f.kind ++ codes " ERROR" ++ origin_text f.origin ++ line_end

@@ -1,10 +1,10 @@
-//! Characters, lines of them, and matrices.
+//! The text of an array of characters.
 
 ghost use Rattle.std.specs.Prelude.{◌≡◌, ◌+◌, ◌*◌, ◌^◌, ◌<◌, ◌++◌, length, OnOk, string_bytes};
 ghost use Rattle.arrays_core.specs.Shapes.{size as size_of, IsWithinLimits};
 ghost use Rattle.array_text.specs.Text.{character_line, character_plane, planes, characters_text};
 
-use crate::pieces::push_line_between;
+use crate::spacing::push_line_between;
 use std::alloc::AllocError;
 
 /// Adds a line of characters.

@@ -1,4 +1,4 @@
-//! The numbers that fields spell.
+//! The number that a field of a table spells.
 
 ghost use Rattle.std.specs.Prelude.{◌≡◌, ◌≤◌, length, true, false, MatchOption};
 ghost use Rattle.std.specs.List.{list_all, prefix_len};
@@ -6,16 +6,17 @@ ghost use Rattle.std.specs.Char.{is_ascii_digit};
 ghost use Rattle.apl_tokens.specs.Characters.{is_blank as blank_at, decimal_from, signed, fits_number};
 ghost use Rattle.array_text.specs.Tables.{sign_and_rest, digits_number as number_of_digits, unsigned_number as number_without_sign, field_number as number_of_field};
 
-/// The number that is one past the greatest.
+/// The number that is one more than the greatest.
 const TOP: u64 = 9_223_372_036_854_775_808;
 
+/// Whether a byte is a blank: a space or a tab.
 fn is_blank(byte: u8) -> bool
     ensures { result ≡ blank_at byte }
 {
     byte == b' ' || byte == b'\t'
 }
 
-/// How many blanks stand at the front.
+/// The count of blanks at the front.
 fn blanks_at(bytes: &[u8]) -> usize
     ensures is { result ≡ prefix_len blank_at bytes.now }
     ensures within { result ≤ length bytes.now }
@@ -28,7 +29,7 @@ fn blanks_at(bytes: &[u8]) -> usize
     bytes.len()
 }
 
-/// How many digits stand at the front.
+/// The count of digits at the front.
 fn digits_at(bytes: &[u8]) -> usize
     ensures is { result ≡ prefix_len is_ascii_digit bytes.now }
     ensures within { result ≤ length bytes.now }
@@ -41,14 +42,14 @@ fn digits_at(bytes: &[u8]) -> usize
     bytes.len()
 }
 
-/// There are only blanks.
+/// Whether all bytes are blanks.
 fn are_blanks(bytes: &[u8]) -> bool
     ensures { result ≡ list_all blank_at bytes.now }
 {
     bytes.iter().all(|byte| is_blank(*byte))
 }
 
-/// Whether a minus stands at the front, and the bytes behind the sign, if there is one.
+/// Whether a minus stands at the front, and the bytes after the sign, if there is one.
 #[tactic(auto, unfolding(crate::specs::Tables::sign_and_rest))]
 fn without_sign(bytes: &[u8]) -> (bool, &[u8])
     ensures { (result.0, result.1.now) ≡ sign_and_rest bytes.now }
@@ -64,7 +65,7 @@ fn without_sign(bytes: &[u8]) -> (bool, &[u8])
     }
 }
 
-/// The number with its sign, unless it is out of range.
+/// The number with this sign and magnitude, unless it is out of range.
 fn with_sign(is_negative: bool, magnitude: u64) -> Option<i64>
     ensures { MatchOption result (fits_number is_negative magnitude ≡ false) (λ n. (fits_number is_negative magnitude ≡ true) × (n ≡ signed is_negative magnitude)) }
 {
@@ -83,7 +84,7 @@ fn with_sign(is_negative: bool, magnitude: u64) -> Option<i64>
     }
 }
 
-/// The number of these digits, unless it is out of range.
+/// The number that these digits spell, unless it is out of range.
 fn number_in_range(is_negative: bool, digits: &[u8]) -> Option<i64>
     ensures { MatchOption result (fits_number is_negative (decimal_from 0 digits.now) ≡ false) (λ n. (fits_number is_negative (decimal_from 0 digits.now) ≡ true) × (n ≡ signed is_negative (decimal_from 0 digits.now))) }
 {
@@ -95,7 +96,7 @@ fn number_in_range(is_negative: bool, digits: &[u8]) -> Option<i64>
     with_sign(is_negative, magnitude)
 }
 
-/// The number of these digits, if there are any and it is in range.
+/// The number that these digits spell, if there are any and it is in range.
 #[tactic(auto, unfolding(crate::specs::Tables::digits_number))]
 fn digits_number(is_negative: bool, digits: &[u8]) -> Option<i64>
     ensures { result ≡ number_of_digits is_negative digits.now }
@@ -106,7 +107,7 @@ fn digits_number(is_negative: bool, digits: &[u8]) -> Option<i64>
     number_in_range(is_negative, digits)
 }
 
-/// The number of digits with blanks behind them.
+/// The number that digits with blanks after them spell, if it is in range.
 #[tactic(auto, unfolding(crate::specs::Tables::unsigned_number))]
 fn unsigned_number(is_negative: bool, bytes: &[u8]) -> Option<i64>
     ensures { result ≡ number_without_sign is_negative bytes.now }

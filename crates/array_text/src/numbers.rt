@@ -1,10 +1,10 @@
-//! Numbers, lines of them, and matrices.
+//! The text of an array of numbers.
 
 ghost use Rattle.std.specs.Prelude.{◌≡◌, ◌+◌, ◌*◌, ◌^◌, ◌<◌, ◌≤◌, ◌++◌, length, IfOk, OnOk, string_bytes};
 ghost use Rattle.arrays_core.specs.Shapes.{size as size_of, IsWithinLimits};
 ghost use Rattle.array_text.specs.Text.{number_text, number_width, right_justified, number_line, column_width, column_widths as widths_of, number_row, number_plane, planes, numbers_text};
 
-use crate::pieces::{push_blank_between, push_blanks, push_line_between};
+use crate::spacing::{push_blank_between, push_blanks, push_line_between};
 use itoa::Buffer;
 use std::alloc::{AllocError, Global};
 
@@ -19,7 +19,7 @@ fn push_number(out: &mut String, number: i64) -> Result<(), AllocError>
     out.push_str(buffer.format(number.unsigned_abs()))
 }
 
-/// How many characters a number takes.
+/// The width of a number, in characters.
 fn width_of(number: i64) -> usize
     ensures value { result ≡ number_width number }
     ensures small { result ≤ 41 }

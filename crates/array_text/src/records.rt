@@ -1,4 +1,4 @@
-//! The records of a file, one after the other.
+//! Reads the records of a file one after the other.
 
 ghost use Rattle.std.specs.Prelude.{◌≡◌, List, Some, IfOk};
 ghost use Rattle.csv.specs.Records.{fields_of};
@@ -19,7 +19,8 @@ pub(crate) fn reader_of(alloc: Global, bytes: &[u8]) -> Reader<&[u8]>
         .from_reader(alloc, bytes)
 }
 
-/// Reads the next record, if there is one. Of bytes in memory only want of memory is an error.
+/// Reads the next record into `row`, and answers whether there was one. Of bytes in memory only want of
+/// memory is an error.
 pub(crate) fn read_next<R: Read>(
     reader: &mut Reader<R>,
     row: &mut ByteRecord,

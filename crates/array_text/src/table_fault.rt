@@ -9,11 +9,20 @@ use std::alloc::{AllocError, AllocFailed};
 #[derive(Clone, Copy, PartialEq, Eq, Debug)]
 pub enum TableFault {
     /// A field of a record spells no number of 64 bits.
-    Field { row: u64, field: u64 },
+    Field {
+        /// The record.
+        row: u64,
+        /// The field of it.
+        field: u64,
+    },
     /// A record has not as many fields as the first.
-    Length { row: u64 },
+    Length {
+        /// The record.
+        row: u64,
+    },
     /// The table is larger than an array may be.
     Limit,
+    /// There is no memory for the table.
     NoMemory,
 }
 

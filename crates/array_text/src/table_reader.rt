@@ -1,4 +1,4 @@
-//! Tables that are read.
+//! Reads a table from the bytes of a file.
 
 ghost use Rattle.std.specs.Prelude.{◌≡◌, ◌≤◌, ◌*◌, ◌∷◌, ◌++◌, [], map, true, None, vec_len};
 ghost use Rattle.csv.specs.Records.{fields_of};
@@ -19,14 +19,14 @@ const MOST_PLACES: u64 = 1_048_576;
 /// The most records that are looked at: a header, the most rows, and one more.
 const MOST_RECORDS: u64 = MOST_PLACES + 2;
 
-/// Whether a table of numbers may have so many rows and columns.
+/// Whether a table of numbers may have `rows` rows and `columns` columns.
 fn is_matrix_within(rows: u64, columns: usize) -> bool
     ensures { result ≡ within_limits rows columns }
 {
     rows <= MOST_PLACES && columns as u64 <= MOST_PLACES && rows * columns as u64 <= MOST_PLACES
 }
 
-/// How many rows so many records give: a header gives none.
+/// The count of rows of a table with `count` records: a header is no row.
 fn rows_of(header: bool, count: u64) -> u64
     ensures { result ≡ rows_by_records header count }
 {
@@ -37,7 +37,7 @@ fn rows_of(header: bool, count: u64) -> u64
     }
 }
 
-/// The matrix of these numbers. It takes no memory but what it is given.
+/// The matrix of these numbers. It allocates nothing.
 fn matrix(alloc: Global, rows: u64, columns: usize, numbers: Vec<i64>) -> Array
     requires within { within_limits rows columns ≡ true }
     requires full { vec_len numbers ≡ rows * columns }
@@ -51,7 +51,7 @@ fn matrix(alloc: Global, rows: u64, columns: usize, numbers: Vec<i64>) -> Array
     Array::from_numbers(&shape, numbers)
 }
 
-/// Adds the numbers of a record's fields.
+/// Adds the numbers that the fields of a record spell.
 fn push_fields(row: &ByteRecord, number: u64, numbers: &mut Vec<i64>) -> Result<(), TableFault>
     ensures { IsReadOf (bad_field_fault number (first_bad 1 (fields_of row.now)) None)
         (λ _. numbers.new.items ≡ numbers.old.items ++ numbers_of (fields_of row.now)) result }

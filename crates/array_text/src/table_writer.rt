@@ -1,4 +1,4 @@
-//! Tables that are written.
+//! Writes a table as the text of a file.
 
 ghost use Rattle.std.specs.Prelude.{◌≡◌, ◌≤◌, ◌*◌, ◌++◌, length, All, IfOk, OnOk, map, string_bytes};
 ghost use Rattle.std.specs.Fmt.{signed_decimal};
@@ -22,7 +22,7 @@ fn push_comma_between(out: &mut String, place: usize) -> Result<(), AllocError>
     out.push(',')
 }
 
-/// Adds a field.
+/// Adds a number as a field.
 fn push_field(out: &mut String, number: i64) -> Result<(), AllocError>
     ensures { OnOk result (string_bytes out.new ≡ string_bytes out.old ++ signed_decimal number) }
 {
@@ -30,7 +30,7 @@ fn push_field(out: &mut String, number: i64) -> Result<(), AllocError>
     out.push_str(buffer.format(number))
 }
 
-/// Adds a record.
+/// Adds a record: the numbers with commas between.
 fn push_record(out: &mut String, numbers: &[i64]) -> Result<(), AllocError>
     ensures { OnOk result (string_bytes out.new ≡ string_bytes out.old ++ record_text numbers.now) }
 {
@@ -41,7 +41,7 @@ fn push_record(out: &mut String, numbers: &[i64]) -> Result<(), AllocError>
     out.push('\n')
 }
 
-/// Adds a record a row of a matrix.
+/// Adds the records of a matrix, one for each row.
 fn push_records(
     out: &mut String,
     rows: usize,

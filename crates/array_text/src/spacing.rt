@@ -1,4 +1,4 @@
-//! What stands between the pieces of a text.
+//! The blanks and empty lines between the items of a text.
 
 ghost use Rattle.std.specs.Prelude.{◌≡◌, ◌++◌, OnOk, string_bytes, replicate};
 ghost use Rattle.array_text.specs.Text.{blank, line_end, gap};

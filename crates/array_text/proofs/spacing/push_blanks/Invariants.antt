@@ -1,6 +1,6 @@
 use Rattle.std.proofs.Common.{◌≡◌, ◌++◌}
 use Rattle.std.specs.Prelude.{string_bytes, replicate}
-use Rattle.array_text.proofs.pieces.push_blanks.Given as goal
+use Rattle.array_text.proofs.spacing.push_blanks.Given as goal
 
 abbrev pub invariant-loop-blank : goal.invariant-loop-blank
 invariant-loop-blank l = string_bytes l.out ≡ string_bytes l.initial.out ++ replicate l._blank 32
