@@ -1,4 +1,4 @@
-//! Functions of arrays that are told by their checks and their items.
+//! Functions of arrays that are given by their checks and their items.
 
 ghost use Rattle.std.specs.Prelude.{◌≡◌, List, ℕ, Result, Ok, IfOk, length};
 ghost use Rattle.arrays_core.specs.declared.item.Item.{Item as AnItem};

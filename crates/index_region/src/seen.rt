@@ -105,7 +105,7 @@ impl<'a> Seen<'a> {
         self.array.characters()
     }
 
-    /// The items of a run of places, behind so many, as an array of another shape that has as many.
+    /// The items of a run of places, after `skipped` places, as an array of another shape that has as many.
     pub fn part(&self, skipped: u32, shape: &Shape) -> Result<Array, AllocError>
         requires within { IsWithinLimits shape.now.items }
         requires inside { skipped + size_of shape.now.items ≤ length self.now.items }
@@ -118,7 +118,7 @@ impl<'a> Seen<'a> {
         self.array.part(skipped, shape)
     }
 
-    /// The items, and behind them those of another array of their type, as an array of a shape that has
+    /// The items, and after them those of another array of their type, as an array of a shape that has
     /// as many.
     pub fn joined(&self, other: &Seen, shape: &Shape) -> Result<Array, AllocError>
         requires within { IsWithinLimits shape.now.items }
@@ -133,7 +133,7 @@ impl<'a> Seen<'a> {
         self.array.joined(other.array, shape)
     }
 
-    /// The items at places, each told by how many come before it in row-major order, as an array of a
+    /// The items at places, each given by how many come before it in row-major order, as an array of a
     /// shape that has as many; fill where there is no such place.
     pub fn picked(&self, before: &[u32], shape: &Shape) -> Result<Array, AllocError>
         requires within { IsWithinLimits shape.now.items }
