@@ -1,6 +1,6 @@
 -- The text and the width of a number.
-use Rattle.std.proofs.Common.{◌≡◌, ℕ, ℤ, pos, negsuc, ◌+◌, ◌*◌, true, false, List, [], ◌∷◌, ◌++◌, length, get_or, map, refl, sym, ap, ◌∙◌, arith, add-one, w64}
-use Rattle.std.specs.Prelude.{decimal, encode_utf8, max}
+use Rattle.std.proofs.Common.{◌≡◌, ℕ, ℤ, pos, negsuc, ◌+◌, ◌*◌, ◌^◌, ◌<◌, true, false, List, [], ◌∷◌, ◌++◌, length, get_or, map, refl, sym, ap, ◌∙◌, arith, w64}
+use Rattle.std.specs.Prelude.{decimal, encode_utf8, encode_utf8_all, max}
 use Rattle.std.specs.List.{range_with_len, fold}
 use Rattle.std.specs.Int.Signed.{lt_z}
 use Rattle.std.proofs.Math.IntN.{nat_abs}
@@ -8,25 +8,38 @@ use Rattle.std.proofs.lemmas.Int.{ints, to_z-of_z}
 use Rattle.std.proofs.lemmas.List.Sums.{fold-append}
 use Rattle.std.proofs.lemmas.List.FromFn.{map-range_with_len_more}
 use mir.Val.{to_z, of_z, SFits}
-use Rattle.array_text.specs.Text.{number_text, number_width, column_width, number_at}
+use Rattle.std.proofs.lemmas.Fmt.{IsAscii-decimal}
+use Rattle.std.proofs.lemmas.Str.Ascii.{encodes-IsAscii}
+use Rattle.array_text.specs.Text.{number_text, number_width, number_characters, column_width, number_at}
 
-minus_text : (z : ℤ) (n : ℕ) → n ≡ nat_abs z → lt_z z (pos 0) ≡ true → (number_text z ≡ encode_utf8 175 ++ decimal n) × (number_width z ≡ length (decimal n) + 1)
-unfolding number_text number_width
-minus_text (pos k) n e h = absurd (grind (arith, ints))
-minus_text (negsuc k) n e h = rw (e, add-one) (refl, refl)
+digits_are_their_bytes : (n : ℕ) → n < 2 ^ 64 → encode_utf8_all (decimal n) ≡ decimal n
+digits_are_their_bytes n h = encodes-IsAscii (decimal n) (IsAscii-decimal n h)
 
-plus_text : (z : ℤ) (n : ℕ) → n ≡ nat_abs z → lt_z z (pos 0) ≡ false → (number_text z ≡ decimal n) × (number_width z ≡ length (decimal n))
-unfolding number_text number_width
-plus_text (pos k) n e h = rw e (refl, refl)
-plus_text (negsuc k) n e h = absurd (grind (arith, ints))
+minus_text : (z : ℤ) (n : ℕ) → n < 2 ^ 64 → n ≡ nat_abs z → lt_z z (pos 0) ≡ true → (number_text z ≡ encode_utf8 175 ++ decimal n) × (number_width z ≡ length (decimal n) + 1)
+unfolding number_text number_width number_characters
+minus_text (pos k) n small e h = absurd (grind (arith, ints))
+minus_text (negsuc k) n small e h =
+    let is : k + 1 ≡ n = omega (arith, e) in (
+      ap (λ (m : ℕ). encode_utf8 175 ++ encode_utf8_all (decimal m)) is ∙ ap (λ (t : List ℕ). encode_utf8 175 ++ t) (digits_are_their_bytes n small),
+      let long = ap (λ (m : ℕ). length (decimal m)) is in omega (arith, long),
+    )
+
+plus_text : (z : ℤ) (n : ℕ) → n < 2 ^ 64 → n ≡ nat_abs z → lt_z z (pos 0) ≡ false → (number_text z ≡ decimal n) × (number_width z ≡ length (decimal n))
+unfolding number_text number_width number_characters
+plus_text (pos k) n small e h = rw e (digits_are_their_bytes k (omega (arith, small, e)), refl)
+plus_text (negsuc k) n small e h = absurd (grind (arith, ints))
+
+abs_small : (z : ℤ) (n : ℕ) → SFits w64 z → n ≡ nat_abs z → n < 2 ^ 64
+abs_small (pos k) n f e = omega (arith, f, e)
+abs_small (negsuc k) n f e = omega (arith, f, e)
 
 pub number_text-minus : (z : ℤ) (n : ℕ) → SFits w64 z → n ≡ nat_abs (to_z w64 (of_z w64 z)) → lt_z (to_z w64 (of_z w64 z)) (pos 0) ≡ true
     → (number_text z ≡ encode_utf8 175 ++ decimal n) × (number_width z ≡ length (decimal n) + 1)
-number_text-minus z n f e h = let same = to_z-of_z w64 z f in minus_text z n (e ∙ ap nat_abs same) (sym (ap (λ (x : ℤ). lt_z x (pos 0)) same) ∙ h)
+number_text-minus z n f e h = let same = to_z-of_z w64 z f in minus_text z n (abs_small z n f (e ∙ ap nat_abs same)) (e ∙ ap nat_abs same) (sym (ap (λ (x : ℤ). lt_z x (pos 0)) same) ∙ h)
 
 pub number_text-plus : (z : ℤ) (n : ℕ) → SFits w64 z → n ≡ nat_abs (to_z w64 (of_z w64 z)) → lt_z (to_z w64 (of_z w64 z)) (pos 0) ≡ false
     → (number_text z ≡ decimal n) × (number_width z ≡ length (decimal n))
-number_text-plus z n f e h = let same = to_z-of_z w64 z f in plus_text z n (e ∙ ap nat_abs same) (sym (ap (λ (x : ℤ). lt_z x (pos 0)) same) ∙ h)
+number_text-plus z n f e h = let same = to_z-of_z w64 z f in plus_text z n (abs_small z n f (e ∙ ap nat_abs same)) (e ∙ ap nat_abs same) (sym (ap (λ (x : ℤ). lt_z x (pos 0)) same) ∙ h)
 
 pub column_width-none : (columns : ℕ) (zs : List ℤ) (column : ℕ) → column_width 0 columns zs column ≡ 0
 unfolding column_width

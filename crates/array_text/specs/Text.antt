@@ -1,5 +1,5 @@
 -- The bytes that arrays and errors print. Each printed line ends with LF.
-use Rattle.std.specs.Prelude.{ℕ, ℤ, pos, negsuc, ◌+◌, ◌-◌, ◌*◌, ◌==◌, max, List, [], ◌∷◌, ◌++◌, if◌then◌else◌, Option, Some, None, length, map, get_or, take, drop, replicate, codes, decimal, encode_utf8, encode_utf8_all}
+use Rattle.std.specs.Prelude.{ℕ, ℤ, pos, negsuc, ◌+◌, ◌-◌, ◌*◌, ◌==◌, max, List, [], ◌∷◌, ◌++◌, if◌then◌else◌, Option, Some, None, length, map, get_or, take, drop, replicate, codes, decimal, encode_utf8_all}
 use Rattle.std.specs.List.{flat_map, range_with_len, fold, join_by}
 use Rattle.arrays_core.specs.Arrays.{ArrayValue}
 use Rattle.arrays_core.specs.declared.item.Item.{Item}
@@ -18,15 +18,18 @@ blank = 32 ∷ []
 abbrev pub line_end : List ℕ
 line_end = 10 ∷ []
 
--- a number: its digits, after a high minus sign (U+00AF) where it is negative
-unfoldable pub number_text : ℤ → List ℕ
-number_text (pos n) = decimal n
-number_text (negsuc n) = encode_utf8 0xAF ++ decimal (n + 1)
+-- the characters of a number: its digits, after a high minus sign (U+00AF) where it is negative
+unfoldable pub number_characters : ℤ → List ℕ
+number_characters (pos n) = decimal n
+number_characters (negsuc n) = 0xAF ∷ decimal (n + 1)
 
--- how many characters that is
+-- a number: its characters in UTF-8
+unfoldable pub number_text : ℤ → List ℕ
+number_text z = encode_utf8_all (number_characters z)
+
+-- the width of a number: the count of its characters
 unfoldable pub number_width : ℤ → ℕ
-number_width (pos n) = length (decimal n)
-number_width (negsuc n) = length (decimal (n + 1)) + 1
+number_width z = length (number_characters z)
 
 -- a number after the blanks that fill a column of a width
 unfoldable pub right_justified : (width : ℕ) → ℤ → List ℕ
