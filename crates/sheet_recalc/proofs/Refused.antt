@@ -6,7 +6,7 @@ use Rattle.dep_order.specs.Reachability.{IsAcyclic}
 use Rattle.apl_expr.specs.Trees.{Tree, Constant}
 use Rattle.arrays_core.specs.Arrays.{ArrayValue}
 use Rattle.formula_core.specs.Meaning.{eval}
-use Rattle.sheet_recalc.specs.Names.{Names, Binding, Data, Formula, binding, put, Refers}
+use Rattle.sheet_recalc.specs.Names.{Names, Binding, Data, Formula, binding, put, Refers, most_names}
 use Rattle.sheet_recalc.specs.Meaning.{val}
 use Rattle.sheet_recalc.specs.Cells.{cell_put}
 use Rattle.sheet_recalc.specs.Rows.{row_put}
@@ -103,9 +103,9 @@ module _ (names : Names) (name : List ℕ) (b : Binding) where
   absent_long : binding names name ≡ None → length (put names name b) ≡ length names + 1
   absent_long none = ap length (put_last name b names none) ∙ length-append names ((name, b) ∷ [])
 
-  pub few_put : length names ≤ 1024 → HasRoom names name → length (put names name b) ≤ 1024
+  pub few_put : length names ≤ most_names → HasRoom names name → length (put names name b) ≤ most_names
   few_put few room = ⊎_elim (λ there. omega (arith, few, present_long there)) (λ fewer. by (binding names name) refl fewer) room
     where
-      by : (o : Option Binding) → binding names name ≡ o → length names < 1024 → length (put names name b) ≤ 1024
+      by : (o : Option Binding) → binding names name ≡ o → length names < most_names → length (put names name b) ≤ most_names
       by (Some c) is fewer = omega (arith, few, present_long (subst (λ o. IsSome o) (sym is) refl))
       by None is fewer = omega (arith, fewer, absent_long is)

@@ -10,7 +10,7 @@ use Rattle.arrays_core.specs.declared.item.Item.{Item}
 use Rattle.arrays_core.specs.declared.item.ItemType.{ItemType}
 use Rattle.arrays_core.specs.declared.item.ItemType.TheVariants.{Nums, Chars}
 use Rattle.index_region.specs.Checks.{is_within_limits}
-use Rattle.sheet_recalc.specs.Cells.{literal_items, is_type}
+use Rattle.sheet_recalc.specs.Cells.{literal_items, is_same_type}
 use Rattle.sheet_recalc.specs.Rows.{row_length, grown, are_of_type, with_row, row_items_put}
 
 all_numbers : (ns : List ℤ) → are_of_type Nums (literal_items (Numbers ns)) ≡ true
@@ -22,12 +22,12 @@ all_characters [] = refl
 all_characters (c ∷ cs) = all_characters cs
 
 -- the items of a literal that has some are of its own type alone
-pub are_numbers : (item_type : ItemType) (ns : List ℤ) → (length ns == 0) ≡ false → are_of_type item_type (literal_items (Numbers ns)) ≡ is_type Nums item_type
+pub are_numbers : (item_type : ItemType) (ns : List ℤ) → (length ns == 0) ≡ false → are_of_type item_type (literal_items (Numbers ns)) ≡ is_same_type Nums item_type
 are_numbers item_type [] some = cc
 are_numbers Nums (n ∷ ns) some = all_numbers ns
 are_numbers Chars (n ∷ ns) some = refl
 
-pub are_characters : (item_type : ItemType) (cs : List ℕ) → (length cs == 0) ≡ false → are_of_type item_type (literal_items (Text cs)) ≡ is_type Chars item_type
+pub are_characters : (item_type : ItemType) (cs : List ℕ) → (length cs == 0) ≡ false → are_of_type item_type (literal_items (Text cs)) ≡ is_same_type Chars item_type
 are_characters item_type [] some = cc
 are_characters Nums (c ∷ cs) some = refl
 are_characters Chars (c ∷ cs) some = all_characters cs

@@ -17,6 +17,7 @@ abbrev pub index_of_number : ℤ → ℕ
 index_of_number (pos n) = n
 index_of_number (negsuc n) = 0
 
+-- numbers as an index list
 abbrev pub index_of_numbers : List ℤ → List ℕ
 index_of_numbers places = map index_of_number places
 
@@ -29,11 +30,12 @@ abbrev pub literal_items : Constant → List Item
 literal_items (Numbers ns) = map (λ n. Num n) ns
 literal_items (Text cs) = map (λ c. Char c) cs
 
-abbrev pub is_type : ItemType → ItemType → Bool
-is_type Nums Nums = true
-is_type Chars Chars = true
-is_type Nums Chars = false
-is_type Chars Nums = false
+-- whether two types of items are the same
+abbrev pub is_same_type : ItemType → ItemType → Bool
+is_same_type Nums Nums = true
+is_same_type Chars Chars = true
+is_same_type Nums Chars = false
+is_same_type Chars Nums = false
 
 -- the array with this item at an index list
 abbrev pub with_item : ArrayValue → List ℕ → Item → ArrayValue
@@ -42,7 +44,7 @@ with_item a index item = record a { items = set a.items (places_before a.shape i
 -- a literal of one item of the array's type takes the place of the item there
 abbrev pub item_put : ArrayValue → List ℕ → List Item → Result ArrayValue Refusal
 item_put a index [] = Err Length
-item_put a index (item ∷ []) = if is_type (type_of item) a.item_type then Ok (with_item a index item) else Err Domain
+item_put a index (item ∷ []) = if is_same_type (type_of item) a.item_type then Ok (with_item a index item) else Err Domain
 item_put a index (item ∷ other ∷ items) = Err Length
 
 -- the data with the literal in one cell, or why not: the positions are as many as the axes, then each lies on its axis

@@ -4,13 +4,14 @@ use Rattle.dep_order.specs.Reachability.{IsAcyclic, IsCycle}
 use Rattle.apl_expr.specs.Trees.{Tree, Constant}
 use Rattle.arrays_core.specs.Arrays.{ArrayValue}
 use Rattle.formula_core.specs.Meaning.{eval}
-use Rattle.sheet_recalc.specs.Names.{Names, Binding, Data, Formula, binding, put, without, Refers}
+use Rattle.sheet_recalc.specs.Names.{Names, Binding, Data, Formula, binding, put, without, Refers, most_names}
 use Rattle.sheet_recalc.specs.Meaning.{val}
 use Rattle.sheet_recalc.specs.Cells.{cell_put}
 use Rattle.sheet_recalc.specs.Rows.{row_put}
 use Rattle.sheet_recalc.specs.declared.refusal.Refusal.{Refusal}
 use Rattle.sheet_recalc.specs.declared.refusal.Refusal.TheVariants as why
 
+-- a change that a sheet is asked for
 pub data Change : Type 0 where
   -- bind a name to a formula
   Define : List ℕ → Tree → Change
@@ -25,9 +26,9 @@ pub data Change : Type 0 where
   -- remove a name
   Erase : List ℕ → Change
 
--- there is room for the name: it is present, or fewer than 1,024 names are
+-- there is room for the name: it is present, or fewer names are than a sheet has at most
 abbrev pub HasRoom : Names → List ℕ → Type 0
-HasRoom names name = IsSome (binding names name) ⊎ (length names < 1024)
+HasRoom names name = IsSome (binding names name) ⊎ (length names < most_names)
 
 -- the change takes old to new
 abbrev pub Accepts : Names → Change → Names → Type 0
@@ -43,9 +44,9 @@ abbrev pub IsCycleFrom : (List ℕ → List ℕ → Type 0) → List ℕ → Lis
 IsCycleFrom Refers name [] = ⊥
 IsCycleFrom Refers name (first ∷ others) = (first ≡ name) × IsCycle Refers (first ∷ others)
 
--- no room: the name is new, and 1,024 names are present
+-- no room: the name is new, and as many names are present as a sheet has at most
 abbrev pub IsFullFor : Names → List ℕ → Type 0
-IsFullFor names name = (binding names name ≡ None) × (1024 ≤ length names)
+IsFullFor names name = (binding names name ≡ None) × (most_names ≤ length names)
 
 -- why a name cannot be bound so: it would reach itself, or there is no room for it, or want of memory
 abbrev pub CannotPut : Names → List ℕ → Binding → Refusal → Type 0

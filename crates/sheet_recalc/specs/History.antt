@@ -7,6 +7,7 @@ use Rattle.sheet_recalc.specs.declared.change.Change as code
 use Rattle.sheet_recalc.specs.declared.change.Change.TheVariants as made
 use Rattle.sheet_recalc.specs.declared.refusal.Refusal.{Refusal}
 
+-- what the code's change asks for
 abbrev pub change_of : code.Change → Change
 change_of (made.Define name tree) = Define name (tree_of tree)
 change_of (made.Store name tree) = Store name (tree_of tree)

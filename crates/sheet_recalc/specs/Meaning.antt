@@ -10,6 +10,7 @@ use Rattle.sheet_recalc.specs.Names.{Names, Binding, Data, Formula, binding}
 abbrev pub in_formula : List ℕ → Fault → Fault
 in_formula name e = record { kind = e.kind; origin = if is_some e.origin then e.origin else Some name }
 
+-- an outcome in the formula of a name: an error gets its origin there
 abbrev pub with_origin : List ℕ → Outcome → Outcome
 with_origin name (Ok a) = Ok a
 with_origin name (Err e) = Err (in_formula name e)

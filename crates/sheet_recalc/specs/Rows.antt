@@ -8,7 +8,7 @@ use Rattle.arrays_core.specs.declared.item.Item.{Item}
 use Rattle.arrays_core.specs.declared.item.ItemType.{ItemType}
 use Rattle.index_region.specs.Checks.{is_within_limits}
 use Rattle.sheet_recalc.specs.Names.{Binding, Data, Formula}
-use Rattle.sheet_recalc.specs.Cells.{literal_items, is_type}
+use Rattle.sheet_recalc.specs.Cells.{literal_items, is_same_type}
 use Rattle.sheet_recalc.specs.declared.refusal.Refusal.{Refusal}
 use Rattle.sheet_recalc.specs.declared.refusal.Refusal.TheVariants.{NotFound, NotData, Rank, Length, Domain, Limit}
 
@@ -25,20 +25,20 @@ grown (n ∷ shape) = (n + 1) ∷ shape
 
 -- each of these items is of this type, so no items are of any
 abbrev pub are_of_type : ItemType → List Item → Bool
-are_of_type item_type items = list_all (λ item. is_type (type_of item) item_type) items
+are_of_type item_type items = list_all (λ item. is_same_type (type_of item) item_type) items
 
--- the array with these items behind its own
+-- the array with these items after its own
 abbrev pub with_row : ArrayValue → List Item → ArrayValue
 with_row a row = record a { shape = grown a.shape; items = a.items ++ row }
 
--- items of the array's type are put behind its own, where the limits leave room
+-- items of the array's type are put after its own, where the limits leave room
 abbrev pub items_put : ArrayValue → List Item → Result ArrayValue Refusal
 items_put a row =
     if are_of_type a.item_type row
     then (if is_within_limits (grown a.shape) then Ok (with_row a row) else Err Limit)
     else Err Domain
 
--- as many items as a row has are put behind the others
+-- as many items as a row has are put after the others
 abbrev pub row_items_put : ArrayValue → Option ℕ → List Item → Result ArrayValue Refusal
 row_items_put a None row = Err Rank
 row_items_put a (Some count) row = if length row == count then items_put a row else Err Length

@@ -13,7 +13,9 @@ use formula_core::Formula;
 /// Data, or a formula with its result.
 #[derive(Drop)]
 pub enum Entry {
+    /// The name is bound to an array, which it shows.
     Data(Array),
+    /// The name is bound to a formula, and shows its result.
     Formula(Formula),
 }
 

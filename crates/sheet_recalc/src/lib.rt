@@ -14,4 +14,4 @@ mod sheet;
 
 pub use change::Change;
 pub use refusal::Refusal;
-pub use sheet::Sheet;
+pub use sheet::{MOST_NAMES, Sheet};

@@ -100,7 +100,7 @@ fn grown(shape: &Shape) -> Shape
     grown
 }
 
-/// The array of a shape with the items of a literal of its type behind its own.
+/// The array of a shape with the items of a literal of its type after its own.
 fn with_items(
     alloc: Global,
     array: &Array,

@@ -34,8 +34,8 @@ use indexmap::map::Keys;
 use std::alloc::{AllocError, Global};
 use std::marker::Model;
 
-/// The most names of a sheet.
-const MOST_NAMES: usize = 1024;
+/// The most names of a sheet: a new name is refused where this many are present.
+pub const MOST_NAMES: usize = 1024;
 
 /// Names bound to data or to formulas, in the order in which they were first bound. Each formula's result is current.
 #[derive(Drop)]
@@ -102,7 +102,7 @@ impl Sheet {
     }
 
     /// The names, in the order in which they were first bound: no two are one, none reaches itself by references, and there
-    /// are at most 1,024.
+    /// are at most `MOST_NAMES`.
     #[tactic(auto, using(crate::proofs::Live::keys_of_names))]
     pub fn names(&self) -> Keys<'_, Name, Entry>
         ensures names { result ≡ keys_of self.now.names }
@@ -188,7 +188,7 @@ impl Sheet {
         Ok(())
     }
 
-    /// Binds a name to an array. It is refused where the name is new and 1,024 names are present, or for want of memory, and
+    /// Binds a name to an array. It is refused where the name is new and `MOST_NAMES` names are present, or for want of memory, and
     /// for nothing else.
     pub fn put_array(&mut self, name: Name, array: Array) -> Result<(), Refusal>
         ensures ok { OnOk result (Accepts self.old.names (Put name array) self.new.names) }
@@ -243,7 +243,7 @@ fn results_with<'a>(
     Ok(results_of(alloc, &proposed, found)?)
 }
 
-/// There is room for a name: it is present, or fewer than 1,024 names are.
+/// There is room for a name: it is present, or fewer than `MOST_NAMES` names are.
 fn has_room(entries: &IndexMap<Name, Entry>, name: Name) -> bool
     ensures { MatchBool result (HasRoom (names_of entries.now.entries) name) (IsFullFor (names_of entries.now.entries) name) }
 {
