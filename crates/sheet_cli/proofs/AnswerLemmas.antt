@@ -4,18 +4,18 @@ use Rattle.std.specs.Prelude.{◌&&◌}
 use Rattle.std.proofs.lemmas.Bool.{cases_lt, cond_both}
 use Rattle.std.proofs.lemmas.List.Sums.{sum_by-append}
 use Rattle.std.proofs.lemmas.List.{take_all, append-nil, length-take, length_push}
-use Rattle.sheet_cli.specs.Lines.{strip_cr, ended_lines, last_line}
+use Rattle.sheet_cli.specs.Lines.{longest_line, strip_cr, ended_lines, last_line}
 use Rattle.sheet_cli.specs.Answer.{State, IsTextAnswer, IsAnswer, too_long, not_text, of_text}
 use Rattle.std.specs.Str.{IsUtf8, chars}
 use Rattle.sheet_cli.specs.Answers.{IsFlaggedAnswer, Answers, no_lines, line_first, Answered, LinesHaveOneAnswer, IsOnlyAnswer}
-use Rattle.sheet_cli.specs.Progress.{next_stripped, line_after, count_of, AnswersLine}
+use Rattle.sheet_cli.specs.Progress.{most_kept, next_stripped, line_after, count_of, AnswersLine}
 use Rattle.sheet_cli.proofs.Cuts.{long_enough, kept_line}
 use Rattle.sheet_cli.proofs.OneAnswer.{line_one}
 
 -- a line of so many bytes is too long without its CR
-longer : (line : List ℕ) → 4098 ≤ length line → 4096 < length (strip_cr line)
+longer : (line : List ℕ) → 4098 ≤ length line → longest_line < length (strip_cr line)
 unfolding strip_cr
-longer line h = cond_both (ltb 0 (length line) && eqb (get_or line (length line - 1) 0) 13) (take (length line - 1) line) line (λ (x : List ℕ). 4096 < length x)
+longer line h = cond_both (ltb 0 (length line) && eqb (get_or line (length line - 1) 0) 13) (take (length line - 1) line) line (λ (x : List ℕ). longest_line < length x)
     (λ e. rw length-take (omega arith)) (λ e. omega arith)
 
 -- the first bytes of a line that is too long tell so
@@ -24,22 +24,22 @@ answer_of_long line line' h h' old new answer (too_long l) = too_long (longer li
 answer_of_long line line' h h' old new answer (not_text l n) = absurd (omega (arith, longer line h))
 answer_of_long line line' h h' old new answer (of_text l u a) = absurd (omega (arith, longer line h))
 
-answer_of_kept : (ls : List (List ℕ)) (line : List ℕ) (old new : State) (answer : List ℕ) → IsAnswer old (next_stripped ls (take 4101 line)) answer new → IsAnswer old (next_stripped ls line) answer new
-answer_of_kept ls line old new answer a = ⊎_elim whole cut (cases_lt 4101 (length line))
+answer_of_kept : (ls : List (List ℕ)) (line : List ℕ) (old new : State) (answer : List ℕ) → IsAnswer old (next_stripped ls (take most_kept line)) answer new → IsAnswer old (next_stripped ls line) answer new
+answer_of_kept ls line old new answer a = ⊎_elim whole cut (cases_lt most_kept (length line))
   where
-    whole : 4101 < length line → IsAnswer old (next_stripped ls line) answer new
-    whole h = answer_of_long _ _ (long_enough ls (take 4101 line) (rw length-take (omega arith))) (long_enough ls line (omega arith)) old new answer a
+    whole : most_kept < length line → IsAnswer old (next_stripped ls line) answer new
+    whole h = answer_of_long _ _ (long_enough ls (take most_kept line) (rw length-take (omega arith))) (long_enough ls line (omega arith)) old new answer a
 
-    cut : length line ≤ 4101 → IsAnswer old (next_stripped ls line) answer new
-    cut h = rw (take_all 4101 line h) at a
+    cut : length line ≤ most_kept → IsAnswer old (next_stripped ls line) answer new
+    cut h = rw (take_all most_kept line h) at a
 
 flagged_answer_of_kept : (flag : Bool) (ls : List (List ℕ)) (line : List ℕ) (old new : State) (answer : List ℕ) →
-    IsFlaggedAnswer flag old (next_stripped ls (take 4101 line)) answer new → IsFlaggedAnswer flag old (next_stripped ls line) answer new
+    IsFlaggedAnswer flag old (next_stripped ls (take most_kept line)) answer new → IsFlaggedAnswer flag old (next_stripped ls line) answer new
 flagged_answer_of_kept true ls line old new answer a = a
 flagged_answer_of_kept false ls line old new answer a = answer_of_kept ls line old new answer a
 
 -- what is answered to the bytes that are kept is answered to the line
-pub AnswersLine-kept : (old : State) (kept line input : List ℕ) (lines refused refused' : ℕ) (answer : List ℕ) (new : State) → kept ≡ take 4101 (last_line input) → lines ≡ length (ended_lines input) →
+pub AnswersLine-kept : (old : State) (kept line input : List ℕ) (lines refused refused' : ℕ) (answer : List ℕ) (new : State) → kept ≡ take most_kept (last_line input) → lines ≡ length (ended_lines input) →
     line ≡ line_after lines kept → AnswersLine old line refused refused' answer new → AnswersLine old (next_stripped (ended_lines input) (last_line input)) refused refused' answer new
 AnswersLine-kept old kept line input lines refused refused' answer new k n e a = record {
   flag = a.flag;
@@ -114,11 +114,11 @@ only_answer old lines refused answer new a z = λ answer' new' b.
     let same : b.flags ≡ a.flags = no_flags b.flags b.refused_is ∙ ap (λ (n : ℕ). replicate n false) (b.one_a_line ∙ sym a.one_a_line) ∙ sym (no_flags a.flags (a.refused_is ∙ z)) in
     answers_one old lines a.flags answer' answer new' new (rw same at b.answers) a.answers
 
-pub answered_too_long : (old : State) (line answer : List ℕ) → answer ≡ codes "LINE TOO LONG\n" → 4096 < length (strip_cr line) → IsAnswer old line answer old
+pub answered_too_long : (old : State) (line answer : List ℕ) → answer ≡ codes "LINE TOO LONG\n" → longest_line < length (strip_cr line) → IsAnswer old line answer old
 answered_too_long old line answer e h = rw e (too_long h)
 
-pub answered_not_text : (old : State) (line answer : List ℕ) → answer ≡ codes "NOT TEXT\n" → length (strip_cr line) ≤ 4096 → (IsUtf8 (strip_cr line) → ⊥) → IsAnswer old line answer old
+pub answered_not_text : (old : State) (line answer : List ℕ) → answer ≡ codes "NOT TEXT\n" → length (strip_cr line) ≤ longest_line → (IsUtf8 (strip_cr line) → ⊥) → IsAnswer old line answer old
 answered_not_text old line answer e h n = rw e (not_text h n)
 
-pub answered_text : (old new : State) (line answer : List ℕ) → length (strip_cr line) ≤ 4096 → IsUtf8 (strip_cr line) → IsTextAnswer old (chars (strip_cr line)) answer new → IsAnswer old line answer new
+pub answered_text : (old new : State) (line answer : List ℕ) → length (strip_cr line) ≤ longest_line → IsUtf8 (strip_cr line) → IsTextAnswer old (chars (strip_cr line)) answer new → IsAnswer old line answer new
 answered_text old new line answer h u a = of_text h u a

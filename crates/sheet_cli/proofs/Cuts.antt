@@ -6,7 +6,7 @@ use Rattle.std.proofs.lemmas.Bool.{and_parts, eqb-true, cases_lt, cond_both}
 use Rattle.std.proofs.lemmas.List.{take_all, take_more, length-take}
 use Rattle.std.proofs.Math.Seq.{take-append-add}
 use Rattle.sheet_cli.specs.Lines.{strip_bom, onto_first, ended_lines, onto_last, last_line, line_if_any, lines_of}
-use Rattle.sheet_cli.specs.Progress.{first_stripped, next_stripped, line_after}
+use Rattle.sheet_cli.specs.Progress.{most_kept, first_stripped, next_stripped, line_after}
 
 -- an LF ends the last line
 pub ended_lines-lf : (xs : List ℕ) → ended_lines (xs ++ 10 ∷ []) ≡ ended_lines xs ++ last_line xs ∷ []
@@ -224,20 +224,20 @@ bom_short (a ∷ []) = omega arith
 bom_short (a ∷ b ∷ []) = omega arith
 bom_short (a ∷ b ∷ c ∷ rest) = cond_both ((a == 239) && (b == 187) && (c == 191)) rest (a ∷ b ∷ c ∷ rest) (λ (x : List ℕ). length (a ∷ b ∷ c ∷ rest) ≤ length x + 3) (λ e. omega arith) (λ e. omega arith)
 
-pub long_enough : (ls : List (List ℕ)) (x : List ℕ) → 4101 ≤ length x → 4098 ≤ length (next_stripped ls x)
+pub long_enough : (ls : List (List ℕ)) (x : List ℕ) → most_kept ≤ length x → 4098 ≤ length (next_stripped ls x)
 unfolding next_stripped
 long_enough [] x h = omega (arith, bom_short x)
 long_enough (k ∷ ks) x h = omega arith
 
 -- what is kept of a line is empty where the line is
-pub kept_empty : (ls : List (List ℕ)) (x : List ℕ) → (length (next_stripped ls (take 4101 x)) ≡ 0 → length (next_stripped ls x) ≡ 0) × (0 < length (next_stripped ls (take 4101 x)) → 0 < length (next_stripped ls x))
-kept_empty ls x = ⊎_elim whole cut (cases_lt 4101 (length x))
+pub kept_empty : (ls : List (List ℕ)) (x : List ℕ) → (length (next_stripped ls (take most_kept x)) ≡ 0 → length (next_stripped ls x) ≡ 0) × (0 < length (next_stripped ls (take most_kept x)) → 0 < length (next_stripped ls x))
+kept_empty ls x = ⊎_elim whole cut (cases_lt most_kept (length x))
   where
-    whole : 4101 < length x → (length (next_stripped ls (take 4101 x)) ≡ 0 → length (next_stripped ls x) ≡ 0) × (0 < length (next_stripped ls (take 4101 x)) → 0 < length (next_stripped ls x))
-    whole h = let long = long_enough ls (take 4101 x) (rw length-take (omega arith)) in let long' = long_enough ls x (omega arith) in (λ e. omega (arith, long), λ e. omega (arith, long'))
+    whole : most_kept < length x → (length (next_stripped ls (take most_kept x)) ≡ 0 → length (next_stripped ls x) ≡ 0) × (0 < length (next_stripped ls (take most_kept x)) → 0 < length (next_stripped ls x))
+    whole h = let long = long_enough ls (take most_kept x) (rw length-take (omega arith)) in let long' = long_enough ls x (omega arith) in (λ e. omega (arith, long), λ e. omega (arith, long'))
 
-    cut : length x ≤ 4101 → (length (next_stripped ls (take 4101 x)) ≡ 0 → length (next_stripped ls x) ≡ 0) × (0 < length (next_stripped ls (take 4101 x)) → 0 < length (next_stripped ls x))
-    cut h = rw (take_all 4101 x h) ((λ e. e), (λ e. e))
+    cut : length x ≤ most_kept → (length (next_stripped ls (take most_kept x)) ≡ 0 → length (next_stripped ls x) ≡ 0) × (0 < length (next_stripped ls (take most_kept x)) → 0 < length (next_stripped ls x))
+    cut h = rw (take_all most_kept x h) ((λ e. e), (λ e. e))
 
 pub line_if_any-none : (x : List ℕ) → length x ≡ 0 → line_if_any x ≡ []
 line_if_any-none [] h = refl
@@ -251,7 +251,7 @@ pub lines_of-is : (input : List ℕ) → lines_of input ≡ first_stripped (ende
 unfolding lines_of
 lines_of-is input = rw (ended_lines-bom input, last_line-bom input) refl
 
-pub kept_line : (kept input : List ℕ) (lines : ℕ) → kept ≡ take 4101 (last_line input) → lines ≡ length (ended_lines input) → line_after lines kept ≡ next_stripped (ended_lines input) (take 4101 (last_line input))
+pub kept_line : (kept input : List ℕ) (lines : ℕ) → kept ≡ take most_kept (last_line input) → lines ≡ length (ended_lines input) → line_after lines kept ≡ next_stripped (ended_lines input) (take most_kept (last_line input))
 kept_line kept input lines k n = line_after-is lines (ended_lines input) kept n ∙ ap (λ (x : List ℕ). next_stripped (ended_lines input) x) k
 
 -- a byte that is no LF lets a piece without an LF grow

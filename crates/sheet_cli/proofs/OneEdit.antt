@@ -6,7 +6,7 @@ use Rattle.arrays_core.specs.Arrays.{ArrayValue}
 use Rattle.arrays_core.specs.declared.fault.Fault.{Fault}
 use Rattle.array_text.specs.Text.{fault_text}
 use Rattle.formula_core.specs.Meaning.{eval}
-use Rattle.sheet_recalc.specs.Names.{Names, Binding, Data, Formula, binding, put, Refers}
+use Rattle.sheet_recalc.specs.Names.{Names, Binding, Data, Formula, binding, put, Refers, most_names}
 use Rattle.sheet_recalc.specs.Meaning.{val}
 use Rattle.sheet_recalc.specs.Cells.{cell_put}
 use Rattle.sheet_recalc.specs.Rows.{row_put}
@@ -16,7 +16,7 @@ use Rattle.sheet_recalc.specs.declared.refusal.Refusal.TheVariants as why
 use Rattle.sheet_cli.specs.Answer.{State, refusal_text, IsEdited, accepted, refused}
 
 full_with_room : (names : Names) (name : List ℕ) → HasRoom names name → IsFullFor names name → ⊥
-full_with_room names name room full = ⊎_elim (λ present. false≢true (sym (ap is_some full.0) ∙ present)) (λ (few : length names < 1024). omega (arith, few, full.1)) room
+full_with_room names name room full = ⊎_elim (λ present. false≢true (sym (ap is_some full.0) ∙ present)) (λ (few : length names < most_names). omega (arith, few, full.1)) room
 
 -- a name for which there is only no room would not reach itself
 cycle_full : (names : Names) (name : List ℕ) (b : Binding) (cycle : List (List ℕ)) → CannotPut names name b why.SheetFull → IsCycleFrom (Refers (put names name b)) name cycle → ⊥

@@ -7,7 +7,7 @@ use Rattle.sheet_cli.specs.Lines.{ended_lines, last_line, lines_of, whole_lines_
 use Rattle.sheet_cli.specs.Answer.{State}
 use Rattle.sheet_cli.specs.Answers.{StoppedAt}
 use Rattle.sheet_cli.specs.Run.{Completes, BreaksOff, IsCut}
-use Rattle.sheet_cli.specs.Progress.{first_stripped, next_stripped, line_after, AnswersLine, Standing, standing, IsMidway, Feeds, StopsIn, Finishes, StopsAtEnd}
+use Rattle.sheet_cli.specs.Progress.{most_kept, first_stripped, next_stripped, line_after, AnswersLine, Standing, standing, IsMidway, Feeds, StopsIn, Finishes, StopsAtEnd}
 use Rattle.sheet_cli.proofs.Cuts.{ended_lines-lf, last_line-lf, ended_lines-piece, last_line-piece, take-piece, ended_lines-bom, first_stripped-push, first_stripped-append, length-first_stripped, ended_lines-append, kept_empty, line_if_any-none, line_if_any-some, lines_of-is, kept_line}
 use Rattle.sheet_cli.proofs.Devices.{Appends-none, Appends-more, Consumes-none, Consumes-more, Consumes-keeps}
 use Rattle.sheet_cli.proofs.AnswerLemmas.{AnswersLine-kept, Answered-push, Answered-none, only_answer}
@@ -18,10 +18,10 @@ unfolding ended_lines last_line first_stripped
 IsMidway-start old tally e = record { kept_is = refl; lines_is = ap (λ (t : Tally). t.lines) e; answered = rw e (Answered-none old) }
 
 -- bytes without an LF
-pub Feeds-piece : (bytes kept kept' : List ℕ) (tally : Tally) (state : State) → ended_lines bytes ≡ [] → kept' ≡ take 4101 (kept ++ bytes) →
+pub Feeds-piece : (bytes kept kept' : List ℕ) (tally : Tally) (state : State) → ended_lines bytes ≡ [] → kept' ≡ take most_kept (kept ++ bytes) →
     Feeds bytes (standing kept tally state) [] (standing kept' tally state)
 Feeds-piece bytes kept kept' tally state h e = λ old input before m. record {
-  kept_is = e ∙ rw (m.kept_is, last_line-piece input bytes h) (take-piece 4101 (last_line input) bytes);
+  kept_is = e ∙ rw (m.kept_is, last_line-piece input bytes h) (take-piece most_kept (last_line input) bytes);
   lines_is = rw (ended_lines-piece input bytes h) m.lines_is;
   answered = rw (ended_lines-piece input bytes h, append-nil) m.answered;
 }
@@ -103,7 +103,7 @@ Finishes-none kept line tally state h e = λ old input before m.
       counted = rw all (m.lines_is ∙ sym (length-first_stripped (ended_lines input)));
     }
 
-last_one_more : (kept line input : List ℕ) (lines : ℕ) → 0 < length line → line ≡ line_after lines kept → kept ≡ take 4101 (last_line input) → lines ≡ length (ended_lines input) →
+last_one_more : (kept line input : List ℕ) (lines : ℕ) → 0 < length line → line ≡ line_after lines kept → kept ≡ take most_kept (last_line input) → lines ≡ length (ended_lines input) →
     lines_of input ≡ first_stripped (ended_lines input) ++ next_stripped (ended_lines input) (last_line input) ∷ []
 last_one_more kept line input lines h e k n =
     let some : 0 < length (next_stripped (ended_lines input) (last_line input)) = (kept_empty (ended_lines input) (last_line input)).1 (rw (← (e ∙ kept_line kept input lines k n)) h) in

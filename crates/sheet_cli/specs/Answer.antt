@@ -21,7 +21,7 @@ use Rattle.sheet_recalc.specs.Changes.{Change, Accepts, Refuses}
 use Rattle.sheet_recalc.specs.Changes as change
 use Rattle.sheet_recalc.specs.declared.refusal.Refusal.{Refusal}
 use Rattle.sheet_recalc.specs.declared.refusal.Refusal.TheVariants as why
-use Rattle.sheet_cli.specs.Lines.{strip_cr}
+use Rattle.sheet_cli.specs.Lines.{longest_line, strip_cr}
 
 -- what a run keeps from line to line
 abbrev pub State : Type 0
@@ -93,6 +93,6 @@ pub data IsTextAnswer : State → List ℕ → List ℕ → State → Type 0 whe
 
 -- the answer to a line, and the state after it
 pub data IsAnswer : State → List ℕ → List ℕ → State → Type 0 where
-  too_long : {old : State} {line : List ℕ} → 4096 < length (strip_cr line) → IsAnswer old line (codes "LINE TOO LONG\n") old
-  not_text : {old : State} {line : List ℕ} → length (strip_cr line) ≤ 4096 → (IsUtf8 (strip_cr line) → ⊥) → IsAnswer old line (codes "NOT TEXT\n") old
-  of_text : {old new : State} {line answer : List ℕ} → length (strip_cr line) ≤ 4096 → IsUtf8 (strip_cr line) → IsTextAnswer old (chars (strip_cr line)) answer new → IsAnswer old line answer new
+  too_long : {old : State} {line : List ℕ} → longest_line < length (strip_cr line) → IsAnswer old line (codes "LINE TOO LONG\n") old
+  not_text : {old : State} {line : List ℕ} → length (strip_cr line) ≤ longest_line → (IsUtf8 (strip_cr line) → ⊥) → IsAnswer old line (codes "NOT TEXT\n") old
+  of_text : {old new : State} {line answer : List ℕ} → length (strip_cr line) ≤ longest_line → IsUtf8 (strip_cr line) → IsTextAnswer old (chars (strip_cr line)) answer new → IsAnswer old line answer new

@@ -1,9 +1,13 @@
 -- How far a run is between two bytes.
 use Rattle.std.specs.Prelude.{◌≡◌, ℕ, zero, suc, ◌+◌, Bool, true, false, List, [], ◌∷◌, ◌++◌, length, take}
-use Rattle.sheet_cli.specs.Lines.{strip_bom, ended_lines, last_line, lines_of}
+use Rattle.sheet_cli.specs.Lines.{longest_line, strip_bom, ended_lines, last_line, lines_of}
 use Rattle.sheet_cli.specs.Answer.{State}
 use Rattle.sheet_cli.specs.Answers.{IsFlaggedAnswer, Answered, StoppedAt, IsWrittenInPart}
 use Rattle.sheet_cli.specs.declared.run_loop.Tally.{Tally}
+
+-- the most bytes that are kept of a line that has not ended: a longest line, a CR, a byte too many and a byte order mark
+abbrev pub most_kept : ℕ
+most_kept = longest_line + 5
 
 -- the lines, the first without a byte order mark
 unfoldable pub first_stripped : List (List ℕ) → List (List ℕ)
@@ -31,6 +35,7 @@ pub record Standing : Type 0 where
   pub tally : Tally
   pub state : State
 
+-- the same from its parts
 abbrev pub standing : List ℕ → Tally → State → Standing
 standing kept tally state = record { kept = kept; tally = tally; state = state }
 
@@ -42,7 +47,7 @@ pub record AnswersLine (old : State) (line : List ℕ) (refused_old refused_new 
 
 -- all lines of the input so far that have ended are answered, and of the one that has not the first bytes are kept
 pub record IsMidway (old : State) (input : List ℕ) (here : Standing) (text : List ℕ) : Type 0 where
-  pub kept_is : here.kept ≡ take 4101 (last_line input)
+  pub kept_is : here.kept ≡ take most_kept (last_line input)
   pub lines_is : here.tally.lines ≡ length (ended_lines input)
   pub answered : Answered old (first_stripped (ended_lines input)) here.tally.refused_for_memory text here.state
 

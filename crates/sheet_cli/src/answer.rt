@@ -11,8 +11,8 @@ use apl_expr::{Command, LineFault, line};
 use sheet_recalc::Sheet;
 use std::alloc::{AllocError, Global};
 
-/// The most bytes of a line.
-const LONGEST_LINE: usize = 4096;
+/// The most bytes of a line, without the LF or CR LF that ends it.
+pub const LONGEST_LINE: usize = 4096;
 
 /// Answers a line of bytes, its CR included. The text is made whole; where memory is refused nothing changes.
 pub fn answer(alloc: Global, sheet: &mut Sheet, line: &[u8]) -> Result<String, AllocError>

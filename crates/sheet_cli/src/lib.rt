@@ -10,6 +10,7 @@ mod queries;
 mod refusals;
 mod run_loop;
 
+pub use answer::LONGEST_LINE;
 pub use device::{Device, Failed, Sink, Source};
 pub use ending::{Ending, status, words};
 pub use laws::{line_has_one_answer, lines_have_one_answer};

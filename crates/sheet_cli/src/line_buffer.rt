@@ -1,11 +1,13 @@
 // The line that has not ended yet.
 ghost use Rattle.std.specs.Prelude.{◌≡◌, ◌≤◌, List, ℕ, [], ◌++◌, take, length, IfOk, vec_len, vec_capacity};
+ghost use Rattle.sheet_cli.specs.Progress.{most_kept};
 
+use crate::answer::LONGEST_LINE;
 use std::alloc::{AllocError, Global};
 use std::marker::Model;
 
 /// As many bytes as tell what a line is answered: a longest line, a CR, a byte too many and a byte order mark.
-pub const KEPT: usize = 4101;
+pub const KEPT: usize = LONGEST_LINE + 5;
 
 /// The bytes of a line so far, of which the first `KEPT` are kept.
 #[derive(Drop)]
@@ -18,7 +20,7 @@ impl Model for Pending {
 
     ghost view = { λ p. p.bytes.items };
 
-    ghost invariant = { λ p. (4101 ≤ vec_capacity p.bytes) × (vec_len p.bytes ≤ 4101) };
+    ghost invariant = { λ p. (most_kept ≤ vec_capacity p.bytes) × (vec_len p.bytes ≤ most_kept) };
 }
 
 impl Pending {
@@ -31,6 +33,7 @@ impl Pending {
         })
     }
 
+    /// The bytes that are kept.
     pub fn as_slice(&self) -> &[u8]
         ensures { result.now ≡ self.now }
     {
@@ -39,12 +42,13 @@ impl Pending {
 
     /// Keeps as many more bytes as there is room for.
     pub fn append(&mut self, bytes: &[u8])
-        ensures { self.new ≡ take KEPT (self.old ++ bytes.now) }
+        ensures { self.new ≡ take most_kept (self.old ++ bytes.now) }
     {
         let room = (KEPT - self.bytes.len()).min(bytes.len());
         let _ = self.bytes.extend_from_slice(&bytes[..room]);
     }
 
+    /// Lets go of the bytes, for the next line. The memory stays.
     pub fn clear(&mut self)
         ensures { self.new ≡ [] }
     {
