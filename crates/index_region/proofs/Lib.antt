@@ -1,2 +1,4 @@
 pub mod Arguments
 pub mod Passing
+pub mod Boxes
+pub mod Patched

@@ -1,6 +1,9 @@
+-- What public contracts mean.
 pub mod Checks
 pub mod Arguments
 pub mod Axes
 pub mod Sources
 pub mod ArgumentLists
 pub mod Answers
+pub mod Boxes
+pub mod Patches

@@ -1,15 +1,25 @@
-//! What the functions of arrays share: arrays as they are seen, the axis that a function works along,
-//! the checks, and the whole result from the items of a function.
+//! What the functions of arrays share: boxes of places, patches, arrays as they are seen, the axis that a function
+//! works along, the checks, and the whole result from the items of a function.
 #![tactic(auto)]
 
 mod along;
 mod checks;
+mod delta;
+mod index_box;
+mod index_list;
+mod intervals;
+mod patch;
 mod primitive;
 mod seen;
 mod source;
 
 pub use along::Along;
 pub use checks::limited;
+pub use delta::Delta;
+pub use index_box::IndexBox;
+pub use index_list::IndexList;
+pub use intervals::Intervals;
+pub use patch::Patch;
 pub use primitive::{Primitive, apply};
 pub use seen::Seen;
 pub use source::{Source, item_from};

@@ -1,27 +1,76 @@
 //! Arrays as they are seen.
 
-ghost use Rattle.std.specs.Prelude.{◌≡◌, ◌+◌, ◌-◌, ◌≤◌, ◌↔◌, IfSome, IsNone, IfOk, not, length, map, take, drop, ◌++◌, get_or, pos};
-ghost use Rattle.arrays_core.specs.Arrays.{ArrayValue, IsArray, item_if_there};
+ghost use Rattle.std.specs.Prelude.{◌≡◌, ◌+◌, ◌-◌, ◌≤◌, ◌↔◌, IfSome, IsNone, IfOk, Ok, not, length, map, take, drop, ◌++◌, get_or, pos};
+ghost use Rattle.std.specs.Option.{option_copied};
+ghost use Rattle.index_region.specs.Patches.{seen, patched, FitsPatch, IsLaid};
+ghost use Rattle.arrays_core.specs.Arrays.{ArrayValue, IsArray, item_of, item_if_there};
 ghost use Rattle.arrays_core.specs.Shapes.{size as size_of, IsWithinLimits};
 ghost use Rattle.arrays_core.specs.declared.item.Item.TheVariants.{Num, Char};
 ghost use Rattle.arrays_core.specs.declared.item.ItemType.TheVariants.{Nums, Chars};
 ghost use Rattle.arrays_core.specs.Items.{fill, type_of};
 ghost use Rattle.index_region.specs.Arguments.{numbers, none_negative, counts_as_numbers};
 
-use arrays_core::{Array, Item, ItemType, Shape, size};
+use arrays_core::{Array, Item, ItemRule, ItemType, Kind, Shape, collect, index_of_position, size};
+use crate::patch::Patch;
 use std::alloc::AllocError;
 use std::marker::Model;
 
-/// An array that is lent. No item is copied.
+/// An array that is lent, with a patch laid over it where there is one. No item is copied.
 #[derive(Drop)]
 pub struct Seen<'a> {
     array: &'a Array,
+    patch: Option<&'a Patch>,
 }
 
 impl<'a> Model for Seen<'a> {
     ghost Value = { ArrayValue };
 
-    ghost view = { λ s. s.array.now };
+    ghost view = { λ s. seen s.array.now (option_copied s.patch) };
+
+    ghost invariant = { λ s. IsLaid s.array.now (option_copied s.patch) };
+}
+
+/// The item at an index list of an array with a patch laid over it.
+#[tactic(auto, using(crate::proofs::Patched::patched_if_there))]
+fn at_patched(array: &Array, patch: &Patch, index: &[u32]) -> Option<Item>
+    requires { FitsPatch array.now patch.now }
+    ensures is { result ≡ item_if_there (patched array.now patch.now) index.now }
+    ensures typed { IfSome result (λ x. type_of x ≡ array.now.item_type) }
+{
+    if patch.region().contains(index) {
+        return Some(patch.item(index));
+    }
+    array.at(index)
+}
+
+/// The item at a place, counted from 1, of an array with a patch laid over it.
+fn item_patched(array: &Array, patch: &Patch, position: u32) -> Item
+    requires fits { FitsPatch array.now patch.now }
+    requires low { 1 ≤ position }
+    requires high { position ≤ size_of array.now.shape }
+    ensures is { result ≡ get_or (patched array.now patch.now).items (position - 1) (fill array.now.item_type) }
+    ensures typed { type_of result ≡ array.now.item_type }
+{
+    let index = index_of_position(array.shape(), position);
+    match at_patched(array, patch, index.as_slice()) {
+        Some(item) => item,
+        None => array.item_type().fill(),
+    }
+}
+
+impl<'a> ItemRule for Seen<'a> {
+    ghost result_shape = { λ s. s.shape };
+
+    ghost result_type = { λ s. s.item_type };
+
+    ghost item = { λ s index. Ok (item_of s index) };
+
+    fn item_at(&self, index: &[u32]) -> Result<Item, Kind> {
+        match self.at(index) {
+            Some(item) => Ok(item),
+            None => Ok(self.item_type().fill()),
+        }
+    }
 }
 
 impl<'a> Seen<'a> {
@@ -29,7 +78,42 @@ impl<'a> Seen<'a> {
     pub fn plain(array: &'a Array) -> Seen<'a>
         ensures { result ≡ array.now }
     {
-        Seen { array }
+        let _sound = array.shape();
+        Seen { array, patch: None }
+    }
+
+    /// The array with a patch laid over it.
+    #[tactic(auto, using(crate::proofs::Patched::patched_sound))]
+    pub fn patched(array: &'a Array, patch: &'a Patch) -> Seen<'a>
+        requires { FitsPatch array.now patch.now }
+        ensures { result ≡ patched array.now patch.now }
+    {
+        let _sound = array.shape();
+        let _patch = patch.item_type();
+        Seen {
+            array,
+            patch: Some(patch),
+        }
+    }
+
+    /// The same view again.
+    pub fn again(&self) -> Seen<'a>
+        ensures { result ≡ self.now }
+    {
+        Seen {
+            array: self.array,
+            patch: self.patch,
+        }
+    }
+
+    /// The array itself, where there is no patch.
+    pub fn array(&self) -> Option<&'a Array>
+        ensures { IfSome result (λ a. a.now ≡ self.now) }
+    {
+        match self.patch {
+            None => Some(self.array),
+            Some(_) => None,
+        }
     }
 
     /// The type of the items.
@@ -64,6 +148,9 @@ impl<'a> Seen<'a> {
         ensures is { result ≡ item_if_there self.now index.now }
         ensures typed { IfSome result (λ x. type_of x ≡ self.now.item_type) }
     {
+        if let Some(patch) = self.patch {
+            return at_patched(self.array, patch, index);
+        }
         self.array.at(index)
     }
 
@@ -74,6 +161,9 @@ impl<'a> Seen<'a> {
         ensures is { result ≡ get_or self.now.items (position - 1) (fill self.now.item_type) }
         ensures typed { type_of result ≡ self.now.item_type }
     {
+        if let Some(patch) = self.patch {
+            return item_patched(self.array, patch, position);
+        }
         self.array.item(position)
     }
 
@@ -89,20 +179,30 @@ impl<'a> Seen<'a> {
         }
     }
 
-    /// The numbers of an array of numbers, in row-major order.
+    /// The numbers of an array of numbers, in row-major order, where they lie in one piece.
     pub fn numbers(&self) -> Option<&[i64]>
-        ensures none { IsNone result ↔ (self.now.item_type ≡ Chars) }
         ensures is { IfSome result (λ s. (self.now.item_type ≡ Nums) × (self.now.items ≡ map (λ z. Num z) s.now)) }
     {
-        self.array.numbers()
+        self.array()?.numbers()
     }
 
-    /// The characters of an array of characters, in row-major order.
+    /// The characters of an array of characters, in row-major order, where they lie in one piece.
     pub fn characters(&self) -> Option<&[char]>
-        ensures none { IsNone result ↔ (self.now.item_type ≡ Nums) }
         ensures is { IfSome result (λ s. (self.now.item_type ≡ Chars) × (self.now.items ≡ map (λ c. Char c) s.now)) }
     {
-        self.array.characters()
+        self.array()?.characters()
+    }
+
+    /// An array of its own with the same items.
+    #[tactic(auto, using(crate::proofs::Patched::own_items))]
+    pub fn copy(&self) -> Result<Array, AllocError>
+        ensures { IfOk result (λ a. a ≡ self.now) }
+    {
+        let shape = self.shape();
+        match collect(*shape.allocator(), self, self.item_type(), shape) {
+            Ok(array) => Ok(array),
+            Err(_) => Err(AllocError),
+        }
     }
 
     /// The items of a run of places, after `skipped` places, as an array of another shape that has as many.
@@ -115,7 +215,10 @@ impl<'a> Seen<'a> {
           items = take (size_of shape.now.items) (drop skipped self.now.items);
         }) }
     {
-        self.array.part(skipped, shape)
+        match self.array() {
+            Some(array) => array.part(skipped, shape),
+            None => self.copy()?.part(skipped, shape),
+        }
     }
 
     /// The items, and after them those of another array of their type, as an array of a shape that has
@@ -130,7 +233,14 @@ impl<'a> Seen<'a> {
           items = self.now.items ++ other.now.items;
         }) }
     {
-        self.array.joined(other.array, shape)
+        match (self.array(), other.array()) {
+            (Some(left), Some(right)) => left.joined(right, shape),
+            _ => {
+                let left = self.copy()?;
+                let right = other.copy()?;
+                left.joined(&right, shape)
+            }
+        }
     }
 
     /// The items at places, each given by how many come before it in row-major order, as an array of a
@@ -144,7 +254,10 @@ impl<'a> Seen<'a> {
           items = map (λ k. get_or self.now.items k (fill self.now.item_type)) before.now;
         }) }
     {
-        self.array.picked(before, shape)
+        match self.array() {
+            Some(array) => array.picked(before, shape),
+            None => self.copy()?.picked(before, shape),
+        }
     }
 
     /// One of the numbers is below 0.

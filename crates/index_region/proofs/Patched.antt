@@ -1,0 +1,124 @@
+-- Places in row-major order, and patched arrays.
+use Rattle.std.proofs.Common.{◌≡◌, ℕ, ◌+◌, ◌-◌, ◌*◌, ◌<◌, ◌≤◌, List, [], ◌∷◌, arith, mul_comm, IsTrue, ap, sym, ◌∙◌, refl, true, false, Bool, Some, None, Option, get_or, nat_lt, length, map, All, Result, Ok, if◌then◌else◌, ◌⊎◌, inl, inr}
+use Rattle.std.specs.List.{range_with_len}
+use Rattle.std.proofs.lemmas.List.{get_or_past}
+use Rattle.arrays_core.specs.declared.item.Item.{Item}
+use Rattle.arrays_core.specs.declared.item.Kind.{Kind}
+use Rattle.arrays_core.specs.declared.item.ItemType.{ItemType}
+use Rattle.arrays_core.specs.declared.item.ItemType.TheVariants.{Nums, Chars}
+use Rattle.std.proofs.lemmas.Nat.{mul-add-lt, mul-le}
+use Rattle.std.proofs.lemmas.Bool.{and_parts, and_from, leb-true, le-leb, false≢true, cases_Bool, ltb-true, ltb-false, cond-true, cond-false, both_ways}
+use Rattle.std.proofs.lemmas.List.FromFn.{get_or-map-range_with_len, length-map-range_with_len}
+use Rattle.arrays_core.specs.Arrays.{ArrayValue, IsArray, item_of, item_if_there, collect, with_items}
+use Rattle.arrays_core.specs.Items.{fill, type_of}
+use Rattle.arrays_core.specs.Shapes.{size, is_index_of, places_before, index_after}
+use Rattle.arrays_core.proofs.Shapes.{places_below}
+use Rattle.arrays_core.proofs.Order.{index_after-places_before, places_before-index_after, given_in_order, index_after-within}
+use Rattle.index_region.specs.Boxes.{Interval, is_within, box_offset, box_size, fits}
+use Rattle.index_region.specs.Patches.{PatchValue, FitsPatch, IsPatch, IsLaid, patched, patched_item, seen}
+
+-- a place of a row is below the size
+pub row_below : (i n w b : ℕ) → i < n → b < w → i * w + b < n * w
+row_below i n w b h k = rw (mul_comm n w) (mul-add-lt i w b n h k)
+
+pub on_interval : (intervals : List Interval) (index : List ℕ) (s : Interval) (i : ℕ) (ss : List Interval) (is : List ℕ) → intervals ≡ s ∷ ss → index ≡ i ∷ is → IsTrue (is_within intervals index) → i - s.0 < s.1 + 1 - s.0
+on_interval intervals index s i ss is e f h =
+    let k = rw (e, f) at h in
+    let first = and_parts _ _ (and_parts _ _ k).0 in
+    omega (arith, leb-true s.0 i first.0, leb-true i s.1 first.1)
+
+-- the item of a patched array at an index list
+pub patched_at : (a : ArrayValue) (p : PatchValue) (index : List ℕ) → IsTrue (is_index_of a.shape index) → item_of (patched a p) index ≡ patched_item a p index
+patched_at a p index h =
+    get_or-map-range_with_len (λ (place : ℕ). patched_item a p (index_after a.shape place)) 0 (size a.shape) (places_before a.shape index) (places_before a.shape index) _ (places_below a.shape index h) (omega arith)
+    ∙ ap (patched_item a p) (index_after-places_before a.shape index h)
+
+pub fits_within : (region : List Interval) (shape index : List ℕ) → fits region shape ≡ true → is_within region index ≡ true → is_index_of shape index ≡ true
+fits_within [] [] [] h k = refl
+fits_within [] [] (i ∷ index) h k = absurd (false≢true k)
+fits_within [] (n ∷ shape) index h k = absurd (false≢true h)
+fits_within (s ∷ region) [] index h k = absurd (false≢true h)
+fits_within (s ∷ region) (n ∷ shape) [] h k = absurd (false≢true k)
+fits_within (s ∷ region) (n ∷ shape) (i ∷ index) h k =
+    let hp = and_parts _ _ h in
+    let kp = and_parts _ _ k in
+    let h1 = and_parts _ _ hp.0 in
+    let k1 = and_parts _ _ kp.0 in
+    let first = and_parts _ _ h1.0 in
+    let low : 1 ≤ i = omega (arith, leb-true 1 s.0 first.0, leb-true s.0 i k1.0) in
+    let high : i ≤ n = omega (arith, leb-true s.1 n h1.1, leb-true i s.1 k1.1) in
+    and_from _ _ (and_from _ _ (le-leb 1 i low) (le-leb i n high)) (fits_within region shape index hp.1 kp.1)
+
+pub box_within_size : (region : List Interval) (shape : List ℕ) → fits region shape ≡ true → box_size region ≤ size shape
+box_within_size [] [] h = omega arith
+box_within_size [] (n ∷ shape) h = absurd (false≢true h)
+box_within_size (s ∷ region) [] h = absurd (false≢true h)
+box_within_size (s ∷ region) (n ∷ shape) h =
+    let hp = and_parts _ _ h in
+    let h1 = and_parts _ _ hp.0 in
+    let first = and_parts _ _ h1.0 in
+    let low = leb-true 1 s.0 first.0 in
+    let high = leb-true s.1 n h1.1 in
+    mul-le (s.1 + 1 - s.0) (box_size region) n (size shape) (omega arith) (box_within_size region shape hp.1)
+
+-- the item of a patched array at an index list, if there is one
+pub patched_if_there : (a : ArrayValue) (p : PatchValue) (index : List ℕ) → FitsPatch a p → item_if_there (patched a p) index
+    ≡ (if is_within p.region index then Some (get_or p.items (box_offset p.region index) (fill p.item_type)) else item_if_there a index)
+patched_if_there a p index h = elim (cases_Bool (is_index_of a.shape index)) [
+    inl t ↦ cond-true _ _ _ t ∙ ap (λ (x : Item). Some x) (patched_at a p index t) ∙ elim (cases_Bool (is_within p.region index)) [
+        inl w ↦ rw w refl
+      | inr o ↦ rw (o, t) refl ]
+  | inr f ↦ cond-false _ _ _ f ∙ elim (cases_Bool (is_within p.region index)) [
+        inl w ↦ absurd (both_ways _ f (fits_within p.region a.shape index h.inside w))
+      | inr o ↦ rw (o, f) refl ] ]
+
+fill_typed : (t : ItemType) → type_of (fill t) ≡ t
+fill_typed Nums = refl
+fill_typed Chars = refl
+
+any_typed : (t : ItemType) (xs : List Item) (k : ℕ) → All (λ x. type_of x ≡ t) xs → type_of (get_or xs k (fill t)) ≡ t
+any_typed t xs k h = elim (cases_Bool (nat_lt k (length xs))) [
+    inl b ↦ h k (fill t) (ltb-true _ _ b)
+  | inr o ↦ ap type_of (get_or_past xs k (fill t) (ltb-false _ _ o)) ∙ fill_typed t ]
+
+-- an array with a patch laid over it is an array
+pub patched_sound : (a : ArrayValue) (p : PatchValue) → IsArray a → IsPatch p → FitsPatch a p → IsArray (patched a p)
+patched_sound a p h k fit = record {
+    within = h.within;
+    one_item_a_place = length-map-range_with_len (λ (place : ℕ). patched_item a p (index_after a.shape place)) 0 (size a.shape);
+    one_type = λ k d b.
+        let count : length (patched a p).items ≡ size a.shape = length-map-range_with_len (λ (place : ℕ). patched_item a p (index_after a.shape place)) 0 (size a.shape) in
+        let below : k < size a.shape = omega arith in
+        ap type_of (get_or-map-range_with_len (λ (place : ℕ). patched_item a p (index_after a.shape place)) 0 (size a.shape) k k d below (omega arith)) ∙ typed (index_after a.shape k);
+  }
+  where
+    typed : (index : List ℕ) → type_of (patched_item a p index) ≡ a.item_type
+    typed index = elim (cases_Bool (is_within p.region index)) [
+        inl w ↦ rw w (any_typed p.item_type p.items _ k.one_type ∙ fit.typed)
+      | inr o ↦ rw o (any_typed a.item_type a.items _ h.one_type) ]
+
+pub seen_sound : (a : ArrayValue) (o : Option PatchValue) → IsLaid a o → IsArray (seen a o)
+seen_sound a None h = h
+seen_sound a (Some p) h = h.1.1
+
+-- a place of a patched array by its number
+pub patched_place : (a : ArrayValue) (p : PatchValue) (place : ℕ) → place < size a.shape → get_or (patched a p).items place (fill a.item_type) ≡ patched_item a p (index_after a.shape place)
+patched_place a p place h = get_or-map-range_with_len (λ (k : ℕ). patched_item a p (index_after a.shape k)) 0 (size a.shape) place place _ h (omega arith)
+
+-- the items at the index lists of an array, in their order, are the array
+pub own_items : (a : ArrayValue) → IsArray a → collect {E = Kind} a.item_type a.shape (λ index. Ok (item_of a index)) ≡ Ok a
+own_items a h = ap (with_items a.item_type a.shape) (given_in_order a.shape (λ index. Ok (item_of a index)) a.items (fill a.item_type) h.one_item_a_place
+    (λ k b. ap (λ (m : ℕ). Ok (get_or a.items m (fill a.item_type))) (places_before-index_after a.shape k b)))
+
+pub item_there : (a : ArrayValue) (p : PatchValue) (place : ℕ) → place < size a.shape → item_if_there (patched a p) (index_after a.shape place) ≡ Some (get_or (patched a p).items place (fill a.item_type))
+item_there a p place h =
+    let inside = index_after-within a.shape place h in
+    cond-true _ _ _ inside ∙ ap (λ (x : Item). Some x) (patched_at a p (index_after a.shape place) inside ∙ sym (patched_place a p place h))
+
+pub some_is : (a : ArrayValue) (p : PatchValue) (position : ℕ) (index : List ℕ) (x : Item) → 1 ≤ position → position ≤ size a.shape → index ≡ index_after a.shape (position - 1)
+    → Some x ≡ item_if_there (patched a p) index → x ≡ get_or (patched a p).items (position - 1) (fill a.item_type)
+some_is a p position index x low high e h = let k = h ∙ ap (item_if_there (patched a p)) e ∙ item_there a p (position - 1) (omega arith) in cc
+
+pub none_is : (a : ArrayValue) (p : PatchValue) (position : ℕ) (index : List ℕ) (x : Item) → 1 ≤ position → position ≤ size a.shape → index ≡ index_after a.shape (position - 1)
+    → None ≡ item_if_there (patched a p) index → x ≡ get_or (patched a p).items (position - 1) (fill a.item_type)
+none_is a p position index x low high e h = let k = h ∙ ap (item_if_there (patched a p)) e ∙ item_there a p (position - 1) (omega arith) in absurd (let no : ⊥ = cc in no)

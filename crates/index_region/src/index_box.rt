@@ -1,0 +1,232 @@
+//! Boxes of places.
+
+ghost use Rattle.std.specs.Prelude.{◌≡◌, ◌-◌, ◌≤◌, ◌<◌, ◌^◌, ℕ, List, length, IsTrue, IfSome, Some, None, if◌then◌else◌, true};
+ghost use Rattle.arrays_core.specs.Limits.{most_axes};
+ghost use Rattle.arrays_core.specs.Shapes.{IsWithinLimits, size as size_of};
+ghost use Rattle.index_region.specs.Boxes.{is_box, box_size, box_offset, is_within, hull_of, meet_of, met, unless_empty, walk_at, cover as covering, cover_between};
+
+use crate::index_list::IndexList;
+use crate::intervals::Intervals;
+use arrays_core::{MOST_AXES, Shape, index_of_position};
+use std::marker::Model;
+
+/// A box of places: an interval on each axis, with its first and its last place, counted from 1. It is never empty;
+/// that of a scalar is its one place. It takes no memory.
+#[derive(Drop)]
+pub struct IndexBox {
+    intervals: Intervals,
+}
+
+impl Model for IndexBox {
+    ghost Value = { List (ℕ × ℕ) };
+
+    ghost view = { λ b. b.intervals };
+
+    ghost invariant = { λ b. IsTrue (is_box b.intervals) };
+}
+
+impl IndexBox {
+    /// The box of these intervals: none where there are more than four, or where the first place of one is below 1 or
+    /// after its last. No interval is the one place of a scalar.
+    pub fn of(list: &[(u32, u32)]) -> Option<IndexBox>
+        ensures { result ≡ (if is_box list.now then Some list.now else None) }
+    {
+        if list.len() > MOST_AXES || list.iter().any(|(first, last)| *first < 1 || *last < *first) {
+            return None;
+        }
+        Some(IndexBox {
+            intervals: Intervals::of(list),
+        })
+    }
+
+    /// The box of what lies in a shape of some intervals, unless that is nothing.
+    pub fn inside(axes: &[u32], intervals: &Intervals) -> Option<IndexBox>
+        requires { length axes.now ≤ most_axes }
+        ensures { result ≡ unless_empty (met axes.now intervals.now) }
+    {
+        let intervals = intervals.met(axes);
+        if intervals.is_empty() {
+            return None;
+        }
+        Some(IndexBox { intervals })
+    }
+
+    /// The box that covers the places `first` to `last` of a shape, counted from 1 in row-major order: axes before the
+    /// first on which their index lists differ have their index, that axis runs from the one's index to the other's,
+    /// later axes are whole.
+    pub fn cover(shape: &Shape, first: u32, last: u32) -> IndexBox
+        requires within { IsWithinLimits shape.now.items }
+        requires low { 1 ≤ first }
+        requires order { first ≤ last }
+        requires high { last ≤ size_of shape.now.items }
+        ensures { result ≡ covering shape.now.items (first - 1) (last - 1) }
+    {
+        let from = index_of_position(shape, first);
+        let to = index_of_position(shape, last);
+        IndexBox {
+            intervals: covered(shape.as_slice(), from.as_slice(), to.as_slice()),
+        }
+    }
+
+    /// The same box.
+    pub fn copy(&self) -> IndexBox
+        ensures { result ≡ self.now }
+    {
+        IndexBox {
+            intervals: self.intervals.copy(),
+        }
+    }
+
+    /// The intervals.
+    pub fn intervals(&self) -> &Intervals
+        ensures is { result.now ≡ self.now }
+        ensures never_empty { IsTrue (is_box self.now) }
+    {
+        &self.intervals
+    }
+
+    /// The intervals as a list.
+    pub fn as_slice(&self) -> &[(u32, u32)]
+        ensures is { result.now ≡ self.now }
+        ensures never_empty { IsTrue (is_box self.now) }
+    {
+        self.intervals.as_slice()
+    }
+
+    /// The least box that holds both.
+    pub fn hull(&self, other: &IndexBox) -> IndexBox
+        requires { length self.now ≡ length other.now }
+        ensures { result ≡ hull_of self.now other.now }
+    {
+        let theirs = other.as_slice();
+        let mut intervals = Intervals::none();
+        for (axis, (first, last)) in self.as_slice().iter().enumerate() {
+            let (other_first, other_last) = theirs[axis];
+            intervals.push(*first.min(&other_first), *last.max(&other_last));
+        }
+        IndexBox { intervals }
+    }
+
+    /// The box of what lies in both, unless that is nothing.
+    pub fn meet(&self, other: &IndexBox) -> Option<IndexBox>
+        requires { length self.now ≡ length other.now }
+        ensures { result ≡ unless_empty (meet_of self.now other.now) }
+    {
+        let theirs = other.as_slice();
+        let mut intervals = Intervals::none();
+        for (axis, (first, last)) in self.as_slice().iter().enumerate() {
+            let (other_first, other_last) = theirs[axis];
+            intervals.push(*first.max(&other_first), *last.min(&other_last));
+        }
+        if intervals.is_empty() {
+            return None;
+        }
+        Some(IndexBox { intervals })
+    }
+
+    /// How many places there are.
+    pub fn size(&self) -> usize
+        requires { box_size self.now < 2 ^ 64 }
+        ensures { result ≡ box_size self.now }
+    {
+        size_of_intervals(self.as_slice())
+    }
+
+    /// The index list of the box that has `before` others before it in row-major order.
+    pub fn index_at(&self, before: usize) -> IndexList
+        requires size { box_size self.now < 2 ^ 64 }
+        requires below { before < box_size self.now }
+        ensures { result ≡ walk_at self.now before }
+    {
+        let intervals = self.as_slice();
+        let mut index = IndexList::none();
+        let mut left = before;
+        for (axis, (first, last)) in intervals.iter().enumerate() {
+            let size = size_of_intervals(&intervals[axis + 1..]);
+            let steps = left / size;
+            prove!(*first as usize + steps <= *last as usize);
+            index.push(*first + steps as u32);
+            left %= size;
+        }
+        index
+    }
+
+    /// The index list lies in the box.
+    pub fn contains(&self, index: &[u32]) -> bool
+        ensures { result ≡ is_within self.now index.now }
+    {
+        is_inside(self.as_slice(), index)
+    }
+
+    /// How many index lists of the box come before this one in row-major order.
+    pub fn offset(&self, index: &[u32]) -> usize
+        requires within { IsTrue (is_within self.now index.now) }
+        requires size { box_size self.now < 2 ^ 64 }
+        ensures is { result ≡ box_offset self.now index.now }
+        ensures below { result < box_size self.now }
+    {
+        offset_and_size(self.as_slice(), index).0
+    }
+}
+
+/// The intervals between two index lists of a shape.
+fn covered(axes: &[u32], from: &[u32], to: &[u32]) -> Intervals
+    requires few { length axes.now ≤ most_axes }
+    requires from { length from.now ≡ length axes.now }
+    requires to { length to.now ≡ length axes.now }
+    ensures { result ≡ cover_between axes.now from.now to.now }
+{
+    let mut intervals = Intervals::none();
+    for axis in 0..axes.len() {
+        intervals.push(from[axis], to[axis]);
+        if from[axis] != to[axis] {
+            return intervals.and_whole(&axes[axis + 1..]);
+        }
+    }
+    intervals
+}
+
+fn is_inside(intervals: &[(u32, u32)], index: &[u32]) -> bool
+    ensures { result ≡ is_within intervals.now index.now }
+{
+    match (intervals, index) {
+        ([(first, last), intervals @ ..], [i, index @ ..]) => {
+            *first <= *i && *i <= *last && is_inside(intervals, index)
+        }
+        ([], []) => true,
+        _ => false,
+    }
+}
+
+fn offset_and_size(intervals: &[(u32, u32)], index: &[u32]) -> (usize, usize)
+    requires within { IsTrue (is_within intervals.now index.now) }
+    requires size { box_size intervals.now < 2 ^ 64 }
+    ensures offset { result.0 ≡ box_offset intervals.now index.now }
+    ensures size { result.1 ≡ box_size intervals.now }
+    ensures below { result.0 < result.1 }
+{
+    let Some(((first, last), intervals)) = intervals.split_first() else {
+        return (0, 1);
+    };
+    let Some((i, index)) = index.split_first() else {
+        return (0, 1);
+    };
+    let (offset, size) = offset_and_size(intervals, index);
+    (
+        ((*i - *first) as usize) * size + offset,
+        (*last as usize + 1 - *first as usize) * size,
+    )
+}
+
+fn size_of_intervals(intervals: &[(u32, u32)]) -> usize
+    requires { box_size intervals.now < 2 ^ 64 }
+    ensures { result ≡ box_size intervals.now }
+{
+    let Some(((first, last), intervals)) = intervals.split_first() else {
+        return 1;
+    };
+    if *last < *first {
+        return 0;
+    }
+    (*last as usize + 1 - *first as usize) * size_of_intervals(intervals)
+}

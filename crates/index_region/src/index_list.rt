@@ -1,0 +1,51 @@
+//! Index lists that take no memory.
+
+ghost use Rattle.std.specs.Prelude.{◌≡◌, ◌≤◌, ◌<◌, ◌++◌, ◌∷◌, [], ℕ, List, length, take};
+ghost use Rattle.arrays_core.specs.Limits.{most_axes};
+
+use arrays_core::MOST_AXES;
+use std::marker::Model;
+
+/// An index list of at most four indices. It takes no memory.
+#[derive(Drop)]
+pub struct IndexList {
+    indices: [u32; MOST_AXES],
+    rank: usize,
+}
+
+impl Model for IndexList {
+    ghost Value = { List ℕ };
+
+    ghost view = { λ i. take i.rank i.indices };
+
+    ghost invariant = { λ i. i.rank ≤ 4 };
+}
+
+impl IndexList {
+    /// The index list of a scalar.
+    pub fn none() -> IndexList
+        ensures { result ≡ [] }
+    {
+        IndexList {
+            indices: [1; MOST_AXES],
+            rank: 0,
+        }
+    }
+
+    /// One more index, after the others.
+    pub fn push(&mut self, index: u32)
+        requires { length self.old < most_axes }
+        ensures { self.new ≡ self.old ++ index ∷ [] }
+    {
+        self.indices[self.rank] = index;
+        self.rank += 1;
+    }
+
+    /// The indices.
+    pub fn as_slice(&self) -> &[u32]
+        ensures is { result.now ≡ self.now }
+        ensures few { length self.now ≤ most_axes }
+    {
+        &self.indices[..self.rank]
+    }
+}

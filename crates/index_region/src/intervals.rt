@@ -1,0 +1,175 @@
+//! Intervals on the axes of an array.
+
+ghost use Rattle.std.specs.Prelude.{◌≡◌, ◌≤◌, ◌<◌, ◌+◌, ◌++◌, ◌∷◌, [], ℕ, List, length, take, map, set, insert, remove};
+ghost use Rattle.arrays_core.specs.Limits.{most_axes};
+ghost use Rattle.index_region.specs.Boxes.{whole_of, is_empty as has_empty, met as part_in};
+
+use arrays_core::MOST_AXES;
+use std::marker::Model;
+
+/// An interval of places, counted from 1, on each of at most four axes: its first and its last place. An interval may
+/// be empty, and may go beyond the axis; where none does, they are an `IndexBox`. They take no memory.
+#[derive(Drop)]
+pub struct Intervals {
+    intervals: [(u32, u32); MOST_AXES],
+    rank: usize,
+}
+
+impl Model for Intervals {
+    ghost Value = { List (ℕ × ℕ) };
+
+    ghost view = { λ b. take b.rank b.intervals };
+
+    ghost invariant = { λ b. b.rank ≤ 4 };
+}
+
+impl Intervals {
+    /// No interval: those of a scalar.
+    pub fn none() -> Intervals
+        ensures { result ≡ [] }
+    {
+        Intervals {
+            intervals: [(1, 1); MOST_AXES],
+            rank: 0,
+        }
+    }
+
+    /// One interval.
+    pub fn one(first: u32, last: u32) -> Intervals
+        ensures { result ≡ (first, last) ∷ [] }
+    {
+        Intervals {
+            intervals: [(first, last); MOST_AXES],
+            rank: 1,
+        }
+    }
+
+    /// The intervals of a list.
+    pub fn of(list: &[(u32, u32)]) -> Intervals
+        requires { length list.now ≤ most_axes }
+        ensures { result ≡ list.now }
+    {
+        Intervals::none().and_all(list)
+    }
+
+    /// Each axis whole.
+    pub fn whole(axes: &[u32]) -> Intervals
+        requires { length axes.now ≤ most_axes }
+        ensures { result ≡ whole_of axes.now }
+    {
+        Intervals::none().and_whole(axes)
+    }
+
+    /// The same intervals.
+    pub fn copy(&self) -> Intervals
+        ensures { result ≡ self.now }
+    {
+        Intervals {
+            intervals: self.intervals,
+            rank: self.rank,
+        }
+    }
+
+    /// The intervals as a list.
+    pub fn as_slice(&self) -> &[(u32, u32)]
+        ensures is { result.now ≡ self.now }
+        ensures few { length self.now ≤ most_axes }
+    {
+        &self.intervals[..self.rank]
+    }
+
+    /// One more interval, after the others.
+    pub fn push(&mut self, first: u32, last: u32)
+        requires { length self.old < most_axes }
+        ensures { self.new ≡ self.old ++ (first, last) ∷ [] }
+    {
+        self.intervals[self.rank] = (first, last);
+        self.rank += 1;
+    }
+
+    /// The intervals, and after them those of a list.
+    pub fn and_all(self, list: &[(u32, u32)]) -> Intervals
+        requires { length self + length list.now ≤ most_axes }
+        ensures { result ≡ self ++ list.now }
+    {
+        let mut all = self;
+        for (first, last) in list {
+            all.push(*first, *last);
+        }
+        all
+    }
+
+    /// The intervals, and after them more axes whole.
+    pub fn and_whole(self, axes: &[u32]) -> Intervals
+        requires { length self + length axes.now ≤ most_axes }
+        ensures { result ≡ self ++ whole_of axes.now }
+    {
+        let mut all = self;
+        for axis in axes {
+            all.push(1, *axis);
+        }
+        all
+    }
+
+    /// The same with another interval on an axis, where there is such an axis.
+    pub fn with(self, axis: usize, first: u32, last: u32) -> Intervals
+        ensures { result ≡ set self axis (first, last) }
+    {
+        let mut intervals = self.intervals;
+        if axis < self.rank {
+            intervals[axis] = (first, last);
+        }
+        Intervals {
+            intervals,
+            rank: self.rank,
+        }
+    }
+
+    /// The same with one more axis, before the axis of that number, and its interval.
+    pub fn with_axis(self, axis: usize, first: u32, last: u32) -> Intervals
+        requires few { length self < most_axes }
+        requires there { axis ≤ length self }
+        ensures { result ≡ insert self axis (first, last) }
+    {
+        let (before, after) = self.as_slice().split_at(axis);
+        let mut more = Intervals::of(before);
+        more.push(first, last);
+        more.and_all(after)
+    }
+
+    /// The same without an axis, where there is such an axis.
+    pub fn without_axis(self, axis: usize) -> Intervals
+        ensures { result ≡ remove self axis }
+    {
+        if self.rank <= axis {
+            return self;
+        }
+        let (before, after) = self.as_slice().split_at(axis);
+        Intervals::of(before).and_all(&after[1..])
+    }
+
+    /// An interval is empty.
+    pub fn is_empty(&self) -> bool
+        ensures { result ≡ has_empty self.now }
+    {
+        self.as_slice().iter().any(|(first, last)| *last < *first)
+    }
+
+    /// What of them lies in a shape; an axis without an interval is whole.
+    pub fn met(&self, axes: &[u32]) -> Intervals
+        requires { length axes.now ≤ most_axes }
+        ensures { result ≡ part_in axes.now self.now }
+    {
+        let intervals = self.as_slice();
+        let mut inside = Intervals::none();
+        for (axis, length) in axes.iter().enumerate() {
+            let (first, last) = if axis < intervals.len() {
+                intervals[axis]
+            } else {
+                (1, *length)
+            };
+            inside.push(first.max(1), last.min(*length));
+        }
+        inside
+    }
+}

@@ -1,0 +1,63 @@
+//! Patches: new items for a box of an array.
+
+ghost use Rattle.std.specs.Prelude.{◌≡◌, ◌-◌, ◌≤◌, ◌<◌, length, get_or, IsTrue};
+ghost use Rattle.arrays_core.specs.Arrays.{IsArray};
+ghost use Rattle.arrays_core.specs.Items.{fill, type_of};
+ghost use Rattle.index_region.specs.Boxes.{box_size, box_offset, is_within};
+ghost use Rattle.index_region.specs.Patches.{PatchValue, IsPatch};
+
+use crate::index_box::IndexBox;
+use arrays_core::{Array, Item, ItemType};
+use std::marker::Model;
+
+/// New items for the places of a box, in row-major order.
+#[derive(Drop)]
+pub struct Patch {
+    region: IndexBox,
+    values: Array,
+}
+
+impl Model for Patch {
+    ghost Value = { PatchValue };
+
+    ghost view = { λ p. record { region = p.region; item_type = p.values.item_type; items = p.values.items } };
+
+    ghost invariant = { λ p. length p.values.items ≡ box_size p.region };
+}
+
+impl Patch {
+    /// The patch of a box whose items are those of an array that has as many places, in row-major order.
+    pub fn of(region: IndexBox, values: Array) -> Patch
+        requires { length values.items ≡ box_size region }
+        ensures { result ≡ record { region = region; item_type = values.item_type; items = values.items } }
+    {
+        Patch { region, values }
+    }
+
+    /// The box.
+    pub fn region(&self) -> &IndexBox
+        ensures { result.now ≡ self.now.region }
+    {
+        &self.region
+    }
+
+    /// The type of the items.
+    pub fn item_type(&self) -> ItemType
+        ensures is { result ≡ self.now.item_type }
+        ensures sound { IsPatch self.now }
+    {
+        let _region = &self.region;
+        self.values.item_type()
+    }
+
+    /// The new item at an index list of the box.
+    pub fn item(&self, index: &[u32]) -> Item
+        requires { IsTrue (is_within self.now.region index.now) }
+        ensures is { result ≡ get_or self.now.items (box_offset self.now.region index.now) (fill self.now.item_type) }
+        ensures typed { type_of result ≡ self.now.item_type }
+    {
+        let _typed = self.values.shape();
+        let offset = self.region.offset(index);
+        self.values.item(offset as u32 + 1)
+    }
+}
