@@ -1,6 +1,5 @@
 -- Places in row-major order, and patched arrays.
-use Rattle.std.proofs.Common.{◌≡◌, ℕ, ◌+◌, ◌-◌, ◌*◌, ◌<◌, ◌≤◌, List, [], ◌∷◌, arith, mul_comm, IsTrue, ap, sym, ◌∙◌, refl, true, false, Bool, Some, None, Option, get_or, nat_lt, length, map, All, Result, Ok, if◌then◌else◌, ◌⊎◌, inl, inr}
-use Rattle.std.specs.List.{range_with_len}
+use Rattle.std.proofs.Common.{◌≡◌, ℕ, ◌+◌, ◌-◌, ◌*◌, ◌<◌, ◌≤◌, List, [], ◌∷◌, arith, mul_comm, IsTrue, ap, sym, ◌∙◌, refl, true, Some, None, Option, get_or, nat_lt, length, All, Ok, if◌then◌else◌, inl, inr}
 use Rattle.std.proofs.lemmas.List.{get_or_past}
 use Rattle.arrays_core.specs.declared.item.Item.{Item}
 use Rattle.arrays_core.specs.declared.item.Kind.{Kind}
@@ -65,12 +64,15 @@ box_within_size (s ∷ region) (n ∷ shape) h =
 pub patched_if_there : (a : ArrayValue) (p : PatchValue) (index : List ℕ) → FitsPatch a p → item_if_there (patched a p) index
     ≡ (if is_within p.region index then Some (get_or p.items (box_offset p.region index) (fill p.item_type)) else item_if_there a index)
 patched_if_there a p index h = elim (cases_Bool (is_index_of a.shape index)) [
-    inl t ↦ cond-true _ _ _ t ∙ ap (λ (x : Item). Some x) (patched_at a p index t) ∙ elim (cases_Bool (is_within p.region index)) [
-        inl w ↦ rw w refl
-      | inr o ↦ rw (o, t) refl ]
+  | inl t ↦ cond-true _ _ _ t ∙ ap (λ (x : Item). Some x) (patched_at a p index t) ∙ elim (cases_Bool (is_within p.region index)) [
+    | inl w ↦ rw w refl
+    | inr o ↦ rw (o, t) refl
+  ]
   | inr f ↦ cond-false _ _ _ f ∙ elim (cases_Bool (is_within p.region index)) [
-        inl w ↦ absurd (both_ways _ f (fits_within p.region a.shape index h.inside w))
-      | inr o ↦ rw (o, f) refl ] ]
+    | inl w ↦ absurd (both_ways _ f (fits_within p.region a.shape index h.inside w))
+    | inr o ↦ rw (o, f) refl
+  ]
+]
 
 fill_typed : (t : ItemType) → type_of (fill t) ≡ t
 fill_typed Nums = refl
@@ -78,24 +80,26 @@ fill_typed Chars = refl
 
 any_typed : (t : ItemType) (xs : List Item) (k : ℕ) → All (λ x. type_of x ≡ t) xs → type_of (get_or xs k (fill t)) ≡ t
 any_typed t xs k h = elim (cases_Bool (nat_lt k (length xs))) [
-    inl b ↦ h k (fill t) (ltb-true _ _ b)
-  | inr o ↦ ap type_of (get_or_past xs k (fill t) (ltb-false _ _ o)) ∙ fill_typed t ]
+  | inl b ↦ h k (fill t) (ltb-true _ _ b)
+  | inr o ↦ ap type_of (get_or_past xs k (fill t) (ltb-false _ _ o)) ∙ fill_typed t
+]
 
 -- an array with a patch laid over it is an array
 pub patched_sound : (a : ArrayValue) (p : PatchValue) → IsArray a → IsPatch p → FitsPatch a p → IsArray (patched a p)
 patched_sound a p h k fit = record {
-    within = h.within;
-    one_item_a_place = length-map-range_with_len (λ (place : ℕ). patched_item a p (index_after a.shape place)) 0 (size a.shape);
-    one_type = λ k d b.
-        let count : length (patched a p).items ≡ size a.shape = length-map-range_with_len (λ (place : ℕ). patched_item a p (index_after a.shape place)) 0 (size a.shape) in
-        let below : k < size a.shape = omega arith in
-        ap type_of (get_or-map-range_with_len (λ (place : ℕ). patched_item a p (index_after a.shape place)) 0 (size a.shape) k k d below (omega arith)) ∙ typed (index_after a.shape k);
-  }
+  within = h.within;
+  one_item_a_place = length-map-range_with_len (λ (place : ℕ). patched_item a p (index_after a.shape place)) 0 (size a.shape);
+  one_type = λ k d b.
+      let count : length (patched a p).items ≡ size a.shape = length-map-range_with_len (λ (place : ℕ). patched_item a p (index_after a.shape place)) 0 (size a.shape) in
+      let below : k < size a.shape = omega arith in
+      ap type_of (get_or-map-range_with_len (λ (place : ℕ). patched_item a p (index_after a.shape place)) 0 (size a.shape) k k d below (omega arith)) ∙ typed (index_after a.shape k);
+}
   where
     typed : (index : List ℕ) → type_of (patched_item a p index) ≡ a.item_type
     typed index = elim (cases_Bool (is_within p.region index)) [
-        inl w ↦ rw w (any_typed p.item_type p.items _ k.one_type ∙ fit.typed)
-      | inr o ↦ rw o (any_typed a.item_type a.items _ h.one_type) ]
+      | inl w ↦ rw w (any_typed p.item_type p.items _ k.one_type ∙ fit.typed)
+      | inr o ↦ rw o (any_typed a.item_type a.items _ h.one_type)
+    ]
 
 pub seen_sound : (a : ArrayValue) (o : Option PatchValue) → IsLaid a o → IsArray (seen a o)
 seen_sound a None h = h

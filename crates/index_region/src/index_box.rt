@@ -1,12 +1,13 @@
 //! Boxes of places.
 
-ghost use Rattle.std.specs.Prelude.{◌≡◌, ◌-◌, ◌≤◌, ◌<◌, ◌^◌, ℕ, List, length, IsTrue, IfSome, Some, None, if◌then◌else◌, true};
+ghost use Rattle.std.specs.Prelude.{◌≡◌, ◌-◌, ◌≤◌, ◌<◌, ◌^◌, ℕ, List, length, IsTrue, IfSome, Some, None, if◌then◌else◌, true, ◌&&◌, nat_le};
+ghost use Rattle.std.specs.List.{list_all};
 ghost use Rattle.arrays_core.specs.Limits.{most_axes};
 ghost use Rattle.arrays_core.specs.Shapes.{IsWithinLimits, size as size_of};
-ghost use Rattle.index_region.specs.Boxes.{is_box, box_size, box_offset, is_within, hull_of, meet_of, met, unless_empty, walk_at, cover as covering, cover_between};
+ghost use Rattle.index_region.specs.Boxes.{is_box, box_size, box_offset, is_within, hull_of as hull, meet_of as meet, met, unless_empty, walk_at, cover as covering, cover_between};
 
 use crate::index_list::IndexList;
-use crate::intervals::Intervals;
+use crate::intervals::{Intervals, hull_of, meet_of};
 use arrays_core::{MOST_AXES, Shape, index_of_position};
 use std::marker::Model;
 
@@ -31,12 +32,13 @@ impl IndexBox {
     pub fn of(list: &[(u32, u32)]) -> Option<IndexBox>
         ensures { result ≡ (if is_box list.now then Some list.now else None) }
     {
-        if list.len() > MOST_AXES || list.iter().any(|(first, last)| *first < 1 || *last < *first) {
-            return None;
+        if is_box_of(list) {
+            Some(IndexBox {
+                intervals: Intervals::of(list),
+            })
+        } else {
+            None
         }
-        Some(IndexBox {
-            intervals: Intervals::of(list),
-        })
     }
 
     /// The box of what lies in a shape of some intervals, unless that is nothing.
@@ -80,6 +82,7 @@ impl IndexBox {
     /// The intervals.
     pub fn intervals(&self) -> &Intervals
         ensures is { result.now ≡ self.now }
+        ensures few { length self.now ≤ most_axes }
         ensures never_empty { IsTrue (is_box self.now) }
     {
         &self.intervals
@@ -88,6 +91,7 @@ impl IndexBox {
     /// The intervals as a list.
     pub fn as_slice(&self) -> &[(u32, u32)]
         ensures is { result.now ≡ self.now }
+        ensures few { length self.now ≤ most_axes }
         ensures never_empty { IsTrue (is_box self.now) }
     {
         self.intervals.as_slice()
@@ -96,28 +100,19 @@ impl IndexBox {
     /// The least box that holds both.
     pub fn hull(&self, other: &IndexBox) -> IndexBox
         requires { length self.now ≡ length other.now }
-        ensures { result ≡ hull_of self.now other.now }
+        ensures { result ≡ hull self.now other.now }
     {
-        let theirs = other.as_slice();
-        let mut intervals = Intervals::none();
-        for (axis, (first, last)) in self.as_slice().iter().enumerate() {
-            let (other_first, other_last) = theirs[axis];
-            intervals.push(*first.min(&other_first), *last.max(&other_last));
+        IndexBox {
+            intervals: hull_of(self.as_slice(), other.as_slice()),
         }
-        IndexBox { intervals }
     }
 
     /// The box of what lies in both, unless that is nothing.
     pub fn meet(&self, other: &IndexBox) -> Option<IndexBox>
         requires { length self.now ≡ length other.now }
-        ensures { result ≡ unless_empty (meet_of self.now other.now) }
+        ensures { result ≡ unless_empty (meet self.now other.now) }
     {
-        let theirs = other.as_slice();
-        let mut intervals = Intervals::none();
-        for (axis, (first, last)) in self.as_slice().iter().enumerate() {
-            let (other_first, other_last) = theirs[axis];
-            intervals.push(*first.max(&other_first), *last.min(&other_last));
-        }
+        let intervals = meet_of(self.as_slice(), other.as_slice());
         if intervals.is_empty() {
             return None;
         }
@@ -141,11 +136,12 @@ impl IndexBox {
         let intervals = self.as_slice();
         let mut index = IndexList::none();
         let mut left = before;
-        for (axis, (first, last)) in intervals.iter().enumerate() {
+        for axis in 0..intervals.len() {
+            let (first, last) = intervals[axis];
             let size = size_of_intervals(&intervals[axis + 1..]);
             let steps = left / size;
-            prove!(*first as usize + steps <= *last as usize);
-            index.push(*first + steps as u32);
+            prove!(first as usize + steps <= last as usize);
+            index.push(first + steps as u32);
             left %= size;
         }
         index
@@ -167,6 +163,25 @@ impl IndexBox {
     {
         offset_and_size(self.as_slice(), index).0
     }
+}
+
+/// There are at most four intervals, and none is empty.
+fn is_box_of(list: &[(u32, u32)]) -> bool
+    ensures { result ≡ is_box list.now }
+{
+    list.len() <= MOST_AXES && are_filled(list)
+}
+
+/// None of the intervals is empty.
+fn are_filled(list: &[(u32, u32)]) -> bool
+    ensures { result ≡ list_all (λ s. nat_le 1 s.0 && nat_le s.0 s.1) list.now }
+{
+    for (first, last) in list {
+        if *first < 1 || *last < *first {
+            return false;
+        }
+    }
+    true
 }
 
 /// The intervals between two index lists of a shape.

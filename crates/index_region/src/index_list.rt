@@ -1,6 +1,6 @@
 //! Index lists that take no memory.
 
-ghost use Rattle.std.specs.Prelude.{◌≡◌, ◌≤◌, ◌<◌, ◌++◌, ◌∷◌, [], ℕ, List, length, take};
+ghost use Rattle.std.specs.Prelude.{◌≡◌, ◌≤◌, ◌<◌, ◌+◌, ◌++◌, ◌∷◌, [], ℕ, List, length, take};
 ghost use Rattle.arrays_core.specs.Limits.{most_axes};
 
 use arrays_core::MOST_AXES;
@@ -35,7 +35,8 @@ impl IndexList {
     /// One more index, after the others.
     pub fn push(&mut self, index: u32)
         requires { length self.old < most_axes }
-        ensures { self.new ≡ self.old ++ index ∷ [] }
+        ensures is { self.new ≡ self.old ++ index ∷ [] }
+        ensures long { length self.new ≡ length self.old + 1 }
     {
         self.indices[self.rank] = index;
         self.rank += 1;

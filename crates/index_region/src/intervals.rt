@@ -1,8 +1,8 @@
 //! Intervals on the axes of an array.
 
-ghost use Rattle.std.specs.Prelude.{◌≡◌, ◌≤◌, ◌<◌, ◌+◌, ◌++◌, ◌∷◌, [], ℕ, List, length, take, map, set, insert, remove};
+ghost use Rattle.std.specs.Prelude.{◌≡◌, ◌≤◌, ◌<◌, ◌+◌, ◌++◌, ◌∷◌, [], ℕ, List, length, take, map, set, insert, remove, get_or};
 ghost use Rattle.arrays_core.specs.Limits.{most_axes};
-ghost use Rattle.index_region.specs.Boxes.{whole_of, is_empty as has_empty, met as part_in};
+ghost use Rattle.index_region.specs.Boxes.{whole_of, is_empty as has_empty, met as part_in, hull_of as hull, meet_of as meet};
 
 use arrays_core::MOST_AXES;
 use std::marker::Model;
@@ -81,7 +81,8 @@ impl Intervals {
     /// One more interval, after the others.
     pub fn push(&mut self, first: u32, last: u32)
         requires { length self.old < most_axes }
-        ensures { self.new ≡ self.old ++ (first, last) ∷ [] }
+        ensures is { self.new ≡ self.old ++ (first, last) ∷ [] }
+        ensures long { length self.new ≡ length self.old + 1 }
     {
         self.intervals[self.rank] = (first, last);
         self.rank += 1;
@@ -115,10 +116,11 @@ impl Intervals {
     pub fn with(self, axis: usize, first: u32, last: u32) -> Intervals
         ensures { result ≡ set self axis (first, last) }
     {
-        let mut intervals = self.intervals;
-        if axis < self.rank {
-            intervals[axis] = (first, last);
+        if self.as_slice().len() <= axis {
+            return self;
         }
+        let mut intervals = self.intervals;
+        intervals[axis] = (first, last);
         Intervals {
             intervals,
             rank: self.rank,
@@ -141,11 +143,11 @@ impl Intervals {
     pub fn without_axis(self, axis: usize) -> Intervals
         ensures { result ≡ remove self axis }
     {
-        if self.rank <= axis {
+        let list = self.as_slice();
+        if list.len() <= axis {
             return self;
         }
-        let (before, after) = self.as_slice().split_at(axis);
-        Intervals::of(before).and_all(&after[1..])
+        Intervals::of(&list[..axis]).and_all(&list[axis + 1..])
     }
 
     /// An interval is empty.
@@ -163,13 +165,48 @@ impl Intervals {
         let intervals = self.as_slice();
         let mut inside = Intervals::none();
         for (axis, length) in axes.iter().enumerate() {
-            let (first, last) = if axis < intervals.len() {
-                intervals[axis]
-            } else {
-                (1, *length)
-            };
+            let (first, last) = interval_on(intervals, axis, *length);
             inside.push(first.max(1), last.min(*length));
         }
         inside
     }
+}
+
+/// The interval on an axis; the whole axis where there is none.
+fn interval_on(intervals: &[(u32, u32)], axis: usize, length: u32) -> (u32, u32)
+    ensures { result ≡ get_or intervals.now axis (1, length) }
+{
+    if axis < intervals.len() {
+        intervals[axis]
+    } else {
+        (1, length)
+    }
+}
+
+/// The least intervals that hold both.
+pub(crate) fn hull_of(ours: &[(u32, u32)], theirs: &[(u32, u32)]) -> Intervals
+    requires few { length ours.now ≤ most_axes }
+    requires as_many { length ours.now ≡ length theirs.now }
+    ensures { result ≡ hull ours.now theirs.now }
+{
+    let mut intervals = Intervals::none();
+    for axis in 0..ours.len() {
+        let ((first, last), (other_first, other_last)) = (ours[axis], theirs[axis]);
+        intervals.push(first.min(other_first), last.max(other_last));
+    }
+    intervals
+}
+
+/// What lies in both.
+pub(crate) fn meet_of(ours: &[(u32, u32)], theirs: &[(u32, u32)]) -> Intervals
+    requires few { length ours.now ≤ most_axes }
+    requires as_many { length ours.now ≡ length theirs.now }
+    ensures { result ≡ meet ours.now theirs.now }
+{
+    let mut intervals = Intervals::none();
+    for axis in 0..ours.len() {
+        let ((first, last), (other_first, other_last)) = (ours[axis], theirs[axis]);
+        intervals.push(first.max(other_first), last.min(other_last));
+    }
+    intervals
 }

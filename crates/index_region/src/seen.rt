@@ -10,8 +10,8 @@ ghost use Rattle.arrays_core.specs.declared.item.ItemType.TheVariants.{Nums, Cha
 ghost use Rattle.arrays_core.specs.Items.{fill, type_of};
 ghost use Rattle.index_region.specs.Arguments.{numbers, none_negative, counts_as_numbers};
 
-use arrays_core::{Array, Item, ItemRule, ItemType, Kind, Shape, collect, index_of_position, size};
 use crate::patch::Patch;
+use arrays_core::{Array, Item, ItemRule, ItemType, Kind, Shape, collect, index_of_position, size};
 use std::alloc::AllocError;
 use std::marker::Model;
 

@@ -3,4 +3,4 @@ use Rattle.index_region.specs.Boxes.{whole_of}
 use Rattle.index_region.proofs.intervals.Intervals.and_whole.Given as goal
 
 abbrev pub invariant-loop-axis : goal.invariant-loop-axis
-invariant-loop-axis l = l.all ≡ l.self ++ whole_of (take l.axis-index l.axes)
+invariant-loop-axis l = l.all ≡ l.fn.self ++ whole_of (take l.axis-index l.axes)
