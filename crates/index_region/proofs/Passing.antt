@@ -7,7 +7,7 @@ use Rattle.arrays_core.specs.declared.item.Kind.TheVariants.{Limit}
 use Rattle.arrays_core.specs.Arrays.{ArrayValue}
 use Rattle.arrays_core.specs.Items.{type_of}
 use Rattle.arrays_core.specs.Shapes.{is_index_of}
-use Rattle.index_region.specs.Checks.{check, Form, limited, is_within_limits}
+use Rattle.index_region.specs.Checks.{form_of, check, Form, limited, is_within_limits}
 use Rattle.index_region.specs.Answers.{IsPlaceOf, HasTypeOf}
 
 -- a check that has passed, and a place of what follows
@@ -19,7 +19,7 @@ pub passed : (holds : Bool) (kind : Kind) (rest : Result Form Kind) (index : Lis
 passed true kind rest index h = record { test = refl; place = h }
 passed false kind rest index h = absurd h
 
-inside_if : (holds : Bool) (kind : Kind) (shape : List ℕ) (item_type : ItemType) (index : List ℕ) → IsPlaceOf (check holds kind (Ok (shape, item_type))) index
+inside_if : (holds : Bool) (kind : Kind) (shape : List ℕ) (item_type : ItemType) (index : List ℕ) → IsPlaceOf (check holds kind (Ok (form_of shape item_type))) index
     → is_index_of shape index ≡ true
 inside_if true kind shape item_type index h = h
 inside_if false kind shape item_type index h = absurd h
@@ -34,7 +34,7 @@ typed_check true kind rest item h = h
 typed_check false kind rest item h = tt
 
 typed_if : (holds : Bool) (kind : Kind) (shape : List ℕ) (item_type : ItemType) (item : Item) → type_of item ≡ item_type
-    → HasTypeOf (check holds kind (Ok (shape, item_type))) item
+    → HasTypeOf (check holds kind (Ok (form_of shape item_type))) item
 typed_if true kind shape item_type item h = h
 typed_if false kind shape item_type item h = tt
 
@@ -58,9 +58,9 @@ gives true kind rest form h = record { test = refl; is = h }
 gives false kind rest form h = let no : ⊥ = cc in absurd no
 
 -- the form that the last check gives is what was asked for
-pub limited_gives : (shape : List ℕ) (item_type : ItemType) (form : Form) → limited shape item_type ≡ Ok form → form ≡ (shape, item_type)
+pub limited_gives : (shape : List ℕ) (item_type : ItemType) (form : Form) → limited shape item_type ≡ Ok form → form ≡ form_of shape item_type
 limited_gives shape item_type form h = decide (is_within_limits shape) h
   where
-    decide : (w : Bool) → check w Limit (Ok (shape, item_type)) ≡ Ok form → form ≡ (shape, item_type)
-    decide true h = let wanted : Form = (shape, item_type) in let same : wanted ≡ form = cc in sym same
+    decide : (w : Bool) → check w Limit (Ok (form_of shape item_type)) ≡ Ok form → form ≡ form_of shape item_type
+    decide true h = let wanted : Form = form_of shape item_type in let same : wanted ≡ form = cc in sym same
     decide false h = let no : ⊥ = cc in absurd no

@@ -1,32 +1,32 @@
 -- How calls answer what the definitions say.
 use Rattle.smallvec.specs.SmallVec.{SmallVec}
-use Rattle.std.specs.Prelude.{◌≡◌, IsTrue, ℕ, List, Some, None, Result, Ok, Err}
+use Rattle.std.specs.Prelude.{◌≡◌, IsTrue, ℕ, List, Result, Ok, Err}
 use Rattle.arrays_core.specs.declared.item.Item.{Item}
 use Rattle.arrays_core.specs.declared.item.ItemType.{ItemType}
 use Rattle.arrays_core.specs.declared.item.Kind.{Kind}
 use Rattle.arrays_core.specs.Items.{type_of}
 use Rattle.arrays_core.specs.Shapes.{IsWithinLimits, is_index_of}
 use Rattle.index_region.specs.declared.source.Source.{Source as SourceValue}
-use Rattle.index_region.specs.declared.source.Source.TheVariants.{Place, Fill}
-use Rattle.index_region.specs.Checks.{Form}
-use Rattle.index_region.specs.Sources.{Source}
+use Rattle.index_region.specs.declared.source.Source.TheVariants.{Place as PlaceValue, Fill as FillValue}
+use Rattle.index_region.specs.Checks.{Form, form_of}
+use Rattle.index_region.specs.Sources.{Source, Place, Fill}
 
 -- the shape that was asked for, inline and within the limits, and the type; or the error
 abbrev pub IsFormAnswerTo : Result Form Kind → Result (SmallVec ℕ × ItemType) Kind → Type 0
-IsFormAnswerTo wanted (Ok form) = (wanted ≡ Ok (form.0.items, form.1)) × (form.0.capacity ≡ 4) × IsWithinLimits form.0.items
+IsFormAnswerTo wanted (Ok form) = (wanted ≡ Ok (form_of form.0.items form.1)) × (form.0.capacity ≡ 4) × IsWithinLimits form.0.items
 IsFormAnswerTo wanted (Err kind) = wanted ≡ Err kind
 
 -- the checks pass, and index is an index list of the result
 abbrev pub IsPlaceOf : Result Form Kind → List ℕ → Type 0
-IsPlaceOf (Ok form) index = IsTrue (is_index_of form.0 index)
+IsPlaceOf (Ok form) index = IsTrue (is_index_of form.shape index)
 IsPlaceOf (Err kind) index = ⊥
 
 -- an item has the type that the checks gave
 abbrev pub HasTypeOf : Result Form Kind → Item → Type 0
-HasTypeOf (Ok form) item = type_of item ≡ form.1
+HasTypeOf (Ok form) item = type_of item ≡ form.item_type
 HasTypeOf (Err kind) item = Unit {0}
 
 -- what a source stands for
 abbrev pub source_value : SourceValue → Source
-source_value (Place arg at) = Some (arg, at.items)
-source_value Fill = None
+source_value (PlaceValue arg at) = Place arg at.items
+source_value FillValue = Fill

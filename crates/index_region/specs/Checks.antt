@@ -19,16 +19,20 @@ abbrev pub check : {A : Type 0} → Bool → Kind → Result A Kind → Result A
 check holds kind rest = if holds then rest else Err kind
 
 -- what the checks of a primitive give: the shape of its result and the type of its items
-abbrev pub Form : Type 0
-Form = List ℕ × ItemType
+pub record Form : Type 0 where
+  pub shape : List ℕ
+  pub item_type : ItemType
+
+abbrev pub form_of : List ℕ → ItemType → Form
+form_of shape item_type = record { shape = shape; item_type = item_type }
 
 abbrev pub is_within_limits : List ℕ → Bool
 is_within_limits shape = (nat_le (length shape) most_axes && list_all (λ n. nat_le n longest_axis) shape) && nat_le (size shape) most_places
 
 -- the last check, of the shape
 abbrev pub limited : List ℕ → ItemType → Result Form Kind
-limited shape item_type = check (is_within_limits shape) Limit (Ok (shape, item_type))
+limited shape item_type = check (is_within_limits shape) Limit (Ok (form_of shape item_type))
 
 -- the whole result: the checks, and then its items
 abbrev pub whole : Result Form Kind → (List ℕ → Result Item Kind) → Result ArrayValue Kind
-whole form item = and_then form (λ f. collect f.1 f.0 item)
+whole form item = and_then form (λ f. collect f.item_type f.shape item)

@@ -4,7 +4,7 @@ ghost use Rattle.std.specs.Prelude.{◌≡◌, List, ℕ, Result, Ok, IfOk, leng
 ghost use Rattle.arrays_core.specs.declared.item.Item.{Item as AnItem};
 ghost use Rattle.arrays_core.specs.declared.item.Kind.{Kind as AKind};
 ghost use Rattle.arrays_core.specs.Arrays.{ArrayValue, IsAnswerTo};
-ghost use Rattle.index_region.specs.Checks.{Form, whole};
+ghost use Rattle.index_region.specs.Checks.{Form, form_of, whole};
 ghost use Rattle.index_region.specs.Answers.{IsFormAnswerTo, IsPlaceOf, HasTypeOf};
 
 use crate::seen::Seen;
@@ -41,7 +41,7 @@ struct Applied<'a, 'b, P: Primitive> {
     shape: &'a Shape,
     item_type: ItemType,
     ghost count: { length args.now ≡ P.arity primitive.now },
-    ghost form: { P.form primitive.now args.now ≡ Ok (shape.now.items, item_type) },
+    ghost form: { P.form primitive.now args.now ≡ Ok (form_of shape.now.items item_type) },
 }
 
 impl<'a, 'b, P: Primitive> ItemRule for Applied<'a, 'b, P> {

@@ -256,18 +256,18 @@ module _ (a b : ArrayValue) (xs ys : List ℤ) (long_a : length a.items ≡ size
       let long = lengths_of (eqb (length a.items) 1) (eqb (length b.items) 1) (row_length a) (column_length b) (length a.items) (length b.items) refl refl test.test in
       record { is = limited_gives (take (row_rank a) a.shape ++ drop 1 b.shape) Nums form test.is; row = long.0; column = long.1 }
 
-  pub inner_grid : (form : Form) → inner_form a b ≡ Ok form → IsGridOf (grid_of a b) (size form.0) (length xs) (length ys)
+  pub inner_grid : (form : Form) → inner_form a b ≡ Ok form → IsGridOf (grid_of a b) (size form.shape) (length xs) (length ys)
   inner_grid form h =
       let c = checked form h in
-      subst (λ (g : Form). IsGridOf (grid_of a b) (size g.0) (length xs) (length ys)) (sym c.is) (grid_fits c.row c.column)
+      subst (λ (g : Form). IsGridOf (grid_of a b) (size g.shape) (length xs) (length ys)) (sym c.is) (grid_fits c.row c.column)
 
   pub inner_of_numbers : (f g : Scalar2) (form : Form) → inner_form a b ≡ Ok form
-      → collect Nums form.0 (λ index. number_item (cell (dyadic_on_numbers f) (dyadic_on_numbers g) xs ys (grid_of a b) (places_before form.0 index))) ≡ inner_whole f g a b
+      → collect Nums form.shape (λ index. number_item (cell (dyadic_on_numbers f) (dyadic_on_numbers g) xs ys (grid_of a b) (places_before form.shape index))) ≡ inner_whole f g a b
   inner_of_numbers f g form h =
       let c = checked form h in
       let shape = take (row_rank a) a.shape ++ drop 1 b.shape in
       let number = cell (dyadic_on_numbers f) (dyadic_on_numbers g) xs ys (grid_of a b) in
       sym (ap (λ r. whole r (inner_item f g a b)) h
-      ∙ ap (λ (w : Form). collect w.1 w.0 (inner_item f g a b)) c.is
-      ∙ sym (ap (λ (w : Form). collect Nums w.0 (λ index. number_item (number (places_before w.0 index)))) c.is
+      ∙ ap (λ (w : Form). collect w.item_type w.shape (inner_item f g a b)) c.is
+      ∙ sym (ap (λ (w : Form). collect Nums w.shape (λ index. number_item (number (places_before w.shape index)))) c.is
       ∙ collected_same Nums shape (λ index. number_item (number (places_before shape index))) (inner_item f g a b) (cell_there c.row c.column f g)))

@@ -48,12 +48,12 @@ module _ (f : Scalar2) (a b : ArrayValue) (xs ys : List ℤ) (long_a : length a.
       ∙ (rw (p.front_place, p.back_place, left, right) refl)
 
   pub outer_of_numbers : (form : Form) → outer_form a b ≡ Ok form
-      → with_items Nums form.0 (number_items (all_or_first_error (table (dyadic_on_numbers f) xs ys))) ≡ outer_whole f a b
+      → with_items Nums form.shape (number_items (all_or_first_error (table (dyadic_on_numbers f) xs ys))) ≡ outer_whole f a b
   outer_of_numbers form h =
       let shape = a.shape ++ b.shape in
       let is = limited_gives (a.shape ++ b.shape) Nums form h in
-      ap (λ (g : Form). with_items Nums g.0 (number_items (all_or_first_error (table (dyadic_on_numbers f) xs ys)))) is
+      ap (λ (g : Form). with_items Nums g.shape (number_items (all_or_first_error (table (dyadic_on_numbers f) xs ys)))) is
       ∙ ap (λ rs. with_items Nums shape (number_items (all_or_first_error rs))) (sym (places_of_table (dyadic_on_numbers f) ys xs (size shape) outer_places))
       ∙ sym (numbers_collected shape pair)
       ∙ collected_same Nums shape (λ index. number_item (pair (places_before shape index))) (outer_item f a b) pair_there
-      ∙ sym (ap (λ r. whole r (outer_item f a b)) h ∙ ap (λ (g : Form). collect g.1 g.0 (outer_item f a b)) is)
+      ∙ sym (ap (λ r. whole r (outer_item f a b)) h ∙ ap (λ (g : Form). collect g.item_type g.shape (outer_item f a b)) is)

@@ -18,7 +18,7 @@ use Rattle.scalar_fns.specs.declared.function.Scalar2.{Scalar2}
 use Rattle.scalar_fns.specs.Numbers.{dyadic_on_numbers}
 use Rattle.scalar_fns.specs.Items.{dyadic_on_items, number_item}
 use Rattle.index_region.specs.declared.along.Along.{Along}
-use Rattle.index_region.specs.Checks.{Form, and_then, limited}
+use Rattle.index_region.specs.Checks.{form_of, Form, and_then, limited}
 use Rattle.index_region.specs.Axes.{places_along, is_axis, axis_at}
 use Rattle.index_region.proofs.Passing.{gives, limited_gives}
 use Rattle.operator_fns.specs.Reduce.{reduce_type, reduce_form, reduce_item, reduce_whole}
@@ -181,12 +181,12 @@ pub record ReduceFacts (along : Along) (b : ArrayValue) (shape : List ℕ) (t : 
   pub shaped : shape ≡ remove b.shape (axis_at (length b.shape) along)
   pub typed : t ≡ reduce_type b (axis_at (length b.shape) along)
 
-pub reduce_facts : (along : Along) (b : ArrayValue) (shape : List ℕ) (t : ItemType) → reduce_form along b ≡ Ok (shape, t) → ReduceFacts along b shape t
+pub reduce_facts : (along : Along) (b : ArrayValue) (shape : List ℕ) (t : ItemType) → reduce_form along b ≡ Ok (form_of shape t) → ReduceFacts along b shape t
 reduce_facts along b shape t h =
     let axis = axis_at (length b.shape) along in
     let checked = gives (is_axis (length b.shape) along) _ (limited (remove b.shape axis) (reduce_type b axis)) (shape, t) h in
     let same = limited_gives (remove b.shape axis) (reduce_type b axis) (shape, t) checked.is in
-    record { on_axis = checked.test; shaped = ap (λ (f : Form). f.0) same; typed = ap (λ (f : Form). f.1) same }
+    record { on_axis = checked.test; shaped = ap (λ (f : Form). f.shape) same; typed = ap (λ (f : Form). f.item_type) same }
 
 same_type : (w : Bool) (t : ItemType) → t ≡ Nums → cond w t Nums ≡ Nums
 same_type true t h = h
@@ -205,14 +205,14 @@ lines_whole axis b shape n s there shaped n_is s_is some =
 
 module _ (f : Scalar2) (b : ArrayValue) (xs : List ℤ) (items : b.items ≡ map (λ z. Num z) xs) (typed : b.item_type ≡ Nums) where
   -- the whole reduction, place by place
-  pub reduced_whole : (along : Along) (shape : List ℕ) (t : ItemType) (axis n s : ℕ) → reduce_form along b ≡ Ok (shape, t) → axis ≡ axis_at (length b.shape) along
+  pub reduced_whole : (along : Along) (shape : List ℕ) (t : ItemType) (axis n s : ℕ) → reduce_form along b ≡ Ok (form_of shape t) → axis ≡ axis_at (length b.shape) along
       → axis < length b.shape → n ≡ get_or b.shape axis 0 → s ≡ size (drop (suc axis) b.shape) → 0 < size b.shape
       → reduce_whole f along b ≡ collect Nums shape (λ index. number_item (folded (dyadic_on_numbers f) (strided (pos 0) xs (line_start s n (places_before shape index)) s n)))
   reduced_whole along shape t axis n s form meant there n_is s_is some =
       let facts = reduce_facts along b shape t form in
       let t_is : t ≡ Nums = facts.typed ∙ same_type _ b.item_type typed in
       let shaped : shape ≡ remove b.shape axis = facts.shaped ∙ ap (remove b.shape) (sym meant) in
-      ap (λ r. and_then r (λ g. collect g.1 g.0 (reduce_item f along b))) form
+      ap (λ r. and_then r (λ g. collect g.item_type g.shape (reduce_item f along b))) form
       ∙ ap (λ u. collect u shape (reduce_item f along b)) t_is
       ∙ collected_same Nums shape (reduce_item f along b) _ (λ index inside.
       let below : is_index_of (remove b.shape axis) index ≡ true = ap (λ sh. is_index_of sh index) (sym shaped) ∙ inside in

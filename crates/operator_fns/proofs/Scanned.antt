@@ -19,7 +19,7 @@ use Rattle.scalar_fns.specs.Numbers.{dyadic_on_numbers}
 use Rattle.scalar_fns.specs.Items.{number_item}
 use Rattle.scalar_fns.specs.NumberLists.{number_items}
 use Rattle.index_region.specs.declared.along.Along.{Along}
-use Rattle.index_region.specs.Checks.{Form, and_then, limited}
+use Rattle.index_region.specs.Checks.{form_of, Form, and_then, limited}
 use Rattle.index_region.specs.Arguments.{counts_as_numbers, is_of_numbers}
 use Rattle.index_region.specs.Axes.{places_along, is_axis, axis_at}
 use Rattle.index_region.specs.Answers.{IsPlaceOf, HasTypeOf}
@@ -112,13 +112,13 @@ pub record ScanFacts (along : Along) (b : ArrayValue) (shape : List ℕ) (t : It
   pub shaped : shape ≡ b.shape
   pub typed : t ≡ scan_type b (axis_at (length b.shape) along)
 
-pub scan_facts : (along : Along) (b : ArrayValue) (shape : List ℕ) (t : ItemType) → scan_form along b ≡ Ok (shape, t) → ScanFacts along b shape t
+pub scan_facts : (along : Along) (b : ArrayValue) (shape : List ℕ) (t : ItemType) → scan_form along b ≡ Ok (form_of shape t) → ScanFacts along b shape t
 scan_facts along b shape t h =
     let axis = axis_at (length b.shape) along in
     let axis_checked = gives (is_axis (length b.shape) along) _ _ (shape, t) h in
     let checked = gives (nat_lt (places_along b.shape axis) 2 || counts_as_numbers b) _ (limited b.shape (scan_type b axis)) (shape, t) axis_checked.is in
     let same = limited_gives b.shape (scan_type b axis) (shape, t) checked.is in
-    record { on_axis = axis_checked.test; shaped = ap (λ (f : Form). f.0) same; typed = ap (λ (f : Form). f.1) same }
+    record { on_axis = axis_checked.test; shaped = ap (λ (f : Form). f.shape) same; typed = ap (λ (f : Form). f.item_type) same }
 
 -- what holds at an index list of a result
 pub record ScanPlace (along : Along) (b : ArrayValue) (index : List ℕ) : Type 0 where
@@ -188,13 +188,13 @@ of_numbers false t h = refl
 
 module _ (f : Scalar2) (b : ArrayValue) (xs : List ℤ) (items : b.items ≡ map (λ z. Num z) xs) (typed : b.item_type ≡ Nums) where
   -- the whole scan, place by place
-  pub scanned_whole : (along : Along) (shape : List ℕ) (t : ItemType) (axis n s : ℕ) → scan_form along b ≡ Ok (shape, t) → axis ≡ axis_at (length b.shape) along
+  pub scanned_whole : (along : Along) (shape : List ℕ) (t : ItemType) (axis n s : ℕ) → scan_form along b ≡ Ok (form_of shape t) → axis ≡ axis_at (length b.shape) along
       → axis < length b.shape → n ≡ get_or b.shape axis 0 → s ≡ size (drop (suc axis) b.shape) → 0 < size b.shape
       → scan_whole f along b ≡ collect Nums shape (λ index. number_item (folded (dyadic_on_numbers f) (run_to (pos 0) xs s n (places_before shape index))))
   scanned_whole along shape t axis n s form meant there n_is s_is some =
       let facts = scan_facts along b shape t form in
       let t_is : t ≡ Nums = facts.typed ∙ of_numbers _ b.item_type typed in
-      ap (λ r. and_then r (λ g. collect g.1 g.0 (scan_item f along b))) form
+      ap (λ r. and_then r (λ g. collect g.item_type g.shape (scan_item f along b))) form
       ∙ ap (λ u. collect u shape (scan_item f along b)) t_is
       ∙ collected_same Nums shape (scan_item f along b) _ (λ index inside.
       let below : is_index_of b.shape index ≡ true = ap (λ sh. is_index_of sh index) (sym facts.shaped) ∙ inside in

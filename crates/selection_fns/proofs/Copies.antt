@@ -15,8 +15,8 @@ use Rattle.arrays_core.specs.Shapes.{size, is_index_of}
 use Rattle.arrays_core.proofs.Shapes.{as_long, head_of}
 use Rattle.index_region.specs.declared.along.Along.{Along}
 use Rattle.index_region.specs.declared.along.Along.TheVariants as along
-use Rattle.index_region.specs.Checks.{Form, check, limited}
-use Rattle.index_region.specs.Sources.{Source}
+use Rattle.index_region.specs.Checks.{form_of, Form, check, limited}
+use Rattle.index_region.specs.Sources.{Place, Source}
 use Rattle.index_region.specs.Axes.{is_axis, axis_at, places_along}
 use Rattle.index_region.specs.Arguments.{is_list, has_one_item, counts_as_numbers, none_negative, numbers, number_of}
 use Rattle.index_region.specs.Answers.{IsPlaceOf, HasTypeOf}
@@ -90,8 +90,8 @@ pub beyond_limits : (axes : List ℕ) (k places : ℕ) (item_type : ItemType) �
     → limited (insert axes k places) item_type ≡ Err Limit
 beyond_limits axes k places item_type long h =
     let test = no_axis_within axes k h in
-    ap (λ (w : Bool). check ((nat_le (length (insert axes k places)) 4 && w) && nat_le (size (insert axes k places)) 1048576) Limit (Ok (insert axes k places, item_type))) test
-    ∙ ap (λ (w : Bool). check w Limit (Ok (insert axes k places, item_type))) (never (nat_le (length (insert axes k places)) 4) (nat_le (size (insert axes k places)) 1048576))
+    ap (λ (w : Bool). check ((nat_le (length (insert axes k places)) 4 && w) && nat_le (size (insert axes k places)) 1048576) Limit (Ok (form_of (insert axes k places) item_type))) test
+    ∙ ap (λ (w : Bool). check w Limit (Ok (form_of (insert axes k places) item_type))) (never (nat_le (length (insert axes k places)) 4) (nat_le (size (insert axes k places)) 1048576))
   where
     never : (a b : Bool) → ((a && false) && b) ≡ false
     never true b = refl
@@ -234,7 +234,7 @@ pub record ReplicateGives (along : Along) (a b : ArrayValue) (shape : List ℕ) 
   pub shaped : shape ≡ replicated_shape a b.shape (axis_at (max 1 (length b.shape)) along)
   pub typed : item_type ≡ b.item_type
 
-pub replicate_gives : (along : Along) (a b : ArrayValue) (shape : List ℕ) (item_type : ItemType) → replicate_form along a b ≡ Ok (shape, item_type)
+pub replicate_gives : (along : Along) (a b : ArrayValue) (shape : List ℕ) (item_type : ItemType) → replicate_form along a b ≡ Ok (form_of shape item_type)
     → ReplicateGives along a b shape item_type
 replicate_gives along a b shape item_type form =
     let rank = max 1 (length b.shape) in
@@ -245,7 +245,7 @@ replicate_gives along a b shape item_type form =
     let lengths = gives (has_one_item a || (nat_eq n 1 || nat_eq (length a.items) n)) _ _ (shape, item_type) ranks.is in
     let counted = gives (counts_as_numbers a && none_negative (numbers a)) _ _ (shape, item_type) lengths.is in
     let asked = limited_gives (replicated_shape a b.shape axis) b.item_type (shape, item_type) counted.is in
-    record { axis = axes.test; shaped = ap (λ (f : Form). f.0) asked; typed = ap (λ (f : Form). f.1) asked }
+    record { axis = axes.test; shaped = ap (λ (f : Form). f.shape) asked; typed = ap (λ (f : Form). f.item_type) asked }
 
 -- an axis below the rank, where the array has one
 pub axis_below : (along : Along) (rank : ℕ) → 0 < rank → is_axis rank along ≡ true → axis_at rank along < rank
@@ -274,7 +274,7 @@ pub record CopyFacts (along : Along) (a b : ArrayValue) (index : List ℕ) (k : 
   pub copied : IsCopied b.shape k (sum (times a (places_along b.shape k))) index
 
 pub copy_facts : (along : Along) (a b : ArrayValue) (shape : List ℕ) (item_type : ItemType) (index : List ℕ) (k : ℕ) → 0 < length b.shape
-    → replicate_form along a b ≡ Ok (shape, item_type) → is_index_of shape index ≡ true → k ≡ axis_at (length b.shape) along → CopyFacts along a b index k
+    → replicate_form along a b ≡ Ok (form_of shape item_type) → is_index_of shape index ≡ true → k ≡ axis_at (length b.shape) along → CopyFacts along a b index k
 copy_facts along a b shape item_type index k some form inside is =
     let known = replicate_gives along a b shape item_type form in
     let rank : max 1 (length b.shape) ≡ length b.shape = greatest (length b.shape) some in
@@ -293,7 +293,7 @@ copy_facts along a b shape item_type index k some form inside is =
 pub copy_source : (along : Along) (a b : ArrayValue) (index before : List ℕ) (k : ℕ) → 0 < length b.shape → CopyFacts along a b index k
     → length before ≡ sum (times a (places_along b.shape k))
     → ((i : ℕ) → i < length before → get_or before i 0 + 1 ≡ copied_place a (places_along b.shape k) (i + 1))
-    → Some (1, set index k (get_or before (get_or index k 0 - 1) 0 + 1)) ≡ replicate_source along a b index
+    → Place 1 (set index k (get_or before (get_or index k 0 - 1) 0 + 1)) ≡ replicate_source along a b index
 copy_source along a b index before k some facts long is =
     let low = facts.copied.low in
     let high = facts.copied.high in
@@ -305,14 +305,14 @@ copy_source along a b index before k some facts long is =
     let place : get_or before i 0 + 1 ≡ copied_place a (places_along b.shape k) (get_or index k 1) =
     is i (omega arith) ∙ ap (λ j. copied_place a (places_along b.shape k) j) (again ∙ there) in
     let array : nat_eq (length b.shape) 0 ≡ false = positive (length b.shape) some in
-    ap (λ p. Some (1, set index k p)) place
-    ∙ ap (λ m. Some (1, set index m (copied_place a (places_along b.shape m) (get_or index m 1)))) facts.axis
+    ap (λ p. Place 1 (set index k p)) place
+    ∙ ap (λ m. Place 1 (set index m (copied_place a (places_along b.shape m) (get_or index m 1)))) facts.axis
     ∙ sym (ap (λ (w : Bool). source_of w) array)
   where
     source_of : Bool → Source
     source_of w =
         let axis = axis_at (max 1 (length b.shape)) along in
-        Some (1, if w then [] else set index axis (copied_place a (places_along b.shape axis) (get_or index axis 1)))
+        Place 1 (if w then [] else set index axis (copied_place a (places_along b.shape axis) (get_or index axis 1)))
 
     positive : (n : ℕ) → 0 < n → nat_eq n 0 ≡ false
     positive n h = grind (arith, nat_tests)

@@ -12,7 +12,7 @@ use Rattle.arrays_core.specs.Items.{fill}
 use Rattle.arrays_core.specs.Shapes.{size}
 use Rattle.arrays_core.specs.Arrays.{ArrayValue, item_of, collect, with_items}
 use Rattle.arrays_core.proofs.Order.{given_in_order, places_before-index_after}
-use Rattle.index_region.specs.Checks.{Form, and_then, whole}
+use Rattle.index_region.specs.Checks.{form_of, Form, and_then, whole}
 
 module _ (f : Item → ℤ) (b : ArrayValue) (one_item_a_place : length b.items ≡ size b.shape) where
   abbrev at : List ℕ → Result Item Kind
@@ -28,10 +28,10 @@ module _ (f : Item → ℤ) (b : ArrayValue) (one_item_a_place : length b.items 
       ∙ ap (λ (x : Item). Ok x) (sym (get_or-map made b.items k (fill b.item_type)))))
 
   -- the array of the numbers that a function gives of the items of b
-  pub flat_whole : (form : Result Form Kind) (shape : List ℕ) (item_type : ItemType) (zs : List ℤ) → form ≡ Ok (shape, item_type) → shape ≡ b.shape → item_type ≡ Nums
+  pub flat_whole : (form : Result Form Kind) (shape : List ℕ) (item_type : ItemType) (zs : List ℤ) → form ≡ Ok (form_of shape item_type) → shape ≡ b.shape → item_type ≡ Nums
       → zs ≡ map f b.items → whole form at ≡ Ok (record { item_type = Nums; shape = shape; items = map (λ z. Num z) zs })
   flat_whole form shape item_type zs is shaped typed gives =
-      ap (λ r. and_then r (λ g. collect g.1 g.0 at)) (is ∙ ap (λ t. Ok (shape, t)) typed ∙ ap (λ s. Ok (s, Nums)) shaped)
+      ap (λ r. and_then r (λ g. collect g.item_type g.shape at)) (is ∙ ap (λ t. Ok (form_of shape t)) typed ∙ ap (λ s. Ok (form_of s Nums)) shaped)
       ∙ in_order
       ∙ ap (λ xs. Ok (record { item_type = Nums; shape = b.shape; items = xs })) (sym (ap (map (λ z. Num z)) gives ∙ map-map (λ z. Num z) f b.items))
       ∙ ap (λ s. Ok (record { item_type = Nums; shape = s; items = map (λ z. Num z) zs })) (sym shaped)

@@ -9,6 +9,7 @@ use Rattle.selection_fns.specs.IndexGenerator.{generator_form, generator_whole}
 use Rattle.selection_fns.specs.Replicate.{replicate_form, replicate_whole}
 use Rattle.selection_fns.specs.Index.{index_whole}
 use Rattle.arrays_core.proofs.CaseWords.{nums, ints, chars, is, fails, scalar, integer, no_text, no_numbers, minus, greatest, least}
+use Rattle.index_region.specs.Checks.{form_of}
 
 -- 2 3⍴⍳6
 abbrev table : ArrayValue
@@ -62,7 +63,7 @@ generator_of_0 : generator_whole (scalar 0) ≡ is no_numbers
 generator_of_0 = refl
 
 -- the longest
-generator_of_the_longest : generator_form (scalar 1048576) ≡ Ok ((1048576 ∷ []), Nums)
+generator_of_the_longest : generator_form (scalar 1048576) ≡ Ok (form_of (1048576 ∷ []) Nums)
 generator_of_the_longest = refl
 
 -- RANK goes before LENGTH and DOMAIN
@@ -296,7 +297,7 @@ replicate_domain_before_limit : replicate_whole Last (ints (2 ∷ []) (greatest 
 replicate_domain_before_limit = refl
 
 -- LIMIT of the sum, and of the shape
-replicate_of_the_longest : replicate_form Last (scalar 1048576) (scalar 5) ≡ Ok ((1048576 ∷ []), Nums)
+replicate_of_the_longest : replicate_form Last (scalar 1048576) (scalar 5) ≡ Ok (form_of (1048576 ∷ []) Nums)
 replicate_of_the_longest = refl
 
 replicate_limit : replicate_whole Last (scalar 1048577) (scalar 5) ≡ fails Limit

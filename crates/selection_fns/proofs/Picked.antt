@@ -12,9 +12,9 @@ use Rattle.arrays_core.specs.Shapes.{size, index_after}
 use Rattle.arrays_core.specs.Arrays.{ArrayValue, item_if_there, collect, with_items}
 use Rattle.arrays_core.proofs.Order.{given_in_order}
 use Rattle.index_region.specs.declared.along.Along.{Along}
-use Rattle.index_region.specs.Checks.{and_then}
+use Rattle.index_region.specs.Checks.{form_of, and_then}
 use Rattle.index_region.specs.Axes.{axis_at, places_along}
-use Rattle.index_region.specs.Sources.{item_from}
+use Rattle.index_region.specs.Sources.{Place, item_from}
 use Rattle.selection_fns.specs.Replicate.{times, copied_place, replicate_form, replicate_item, replicate_whole}
 use Rattle.selection_fns.proofs.Copies.{axis_below, replicate_gives}
 
@@ -45,7 +45,7 @@ read_vector b n place is as_many low = decide (nat_le place n) refl
 
 module _ (along : Along) (a b : ArrayValue) (shape before : List ℕ) (item_type : ItemType)
     (few : length b.shape ≤ 1) (as_many : length b.items ≡ size b.shape)
-    (form : replicate_form along a b ≡ Ok (shape, item_type))
+    (form : replicate_form along a b ≡ Ok (form_of shape item_type))
     (long : length before ≡ sum (times a (places_along b.shape (axis_at (max 1 (length b.shape)) along))))
     (is : (i : ℕ) → i < length before → get_or before i 0 + 1 ≡ copied_place a (places_along b.shape (axis_at (max 1 (length b.shape)) along)) (i + 1)) where
   abbrev picked : List Item
@@ -75,14 +75,14 @@ module _ (along : Along) (a b : ArrayValue) (shape before : List ℕ) (item_type
   copy_at : (k : ℕ) → k < length before → replicate_item along a b ((k / 1 + 1) ∷ []) ≡ Ok (get_or b.items (get_or before k 0) (fill b.item_type))
   copy_at k h =
       let index : List ℕ = (k / 1 + 1) ∷ [] in
-      ap (λ m. item_from a b b.item_type (Some (1, if nat_eq (length b.shape) 0 then [] else set index m (copied_place a (places_along b.shape m) (get_or index m 1))))) first_axis
+      ap (λ m. item_from a b b.item_type (Place 1 (if nat_eq (length b.shape) 0 then [] else set index m (copied_place a (places_along b.shape m) (get_or index m 1))))) first_axis
       ∙ by_rank b.shape refl few (is k h ∙ ap (λ m. copied_place a (places_along b.shape m) (k + 1)) first_axis)
     where
       next : k / 1 + 1 ≡ k + 1
       next = ap (λ m. m + 1) (div-one k)
 
       by_rank : (s : List ℕ) → b.shape ≡ s → length s ≤ 1 → get_or before k 0 + 1 ≡ copied_place a (places_along s 0) (k + 1)
-          → item_from a b b.item_type (Some (1, if nat_eq (length s) 0 then [] else set ((k / 1 + 1) ∷ []) 0 (copied_place a (places_along s 0) (k / 1 + 1))))
+          → item_from a b b.item_type (Place 1 (if nat_eq (length s) 0 then [] else set ((k / 1 + 1) ∷ []) 0 (copied_place a (places_along s 0) (k / 1 + 1))))
           ≡ Ok (get_or b.items (get_or before k 0) (fill b.item_type))
       by_rank [] same rank place =
           let none : get_or before k 0 ≡ 0 = omega arith in
@@ -103,7 +103,7 @@ module _ (along : Along) (a b : ArrayValue) (shape before : List ℕ) (item_type
   pub picked_copies : replicate_whole along a b ≡ Ok (record { item_type = b.item_type; shape = shape; items = picked })
   picked_copies =
       let known = replicate_gives along a b shape item_type form in
-      let plain : replicate_form along a b ≡ Ok (length before ∷ [], b.item_type) = form ∙ ap (λ (s : List ℕ). Ok (s, item_type)) one_axis ∙ ap (λ (t : ItemType). Ok (length before ∷ [], t)) known.typed in
-      ap (λ r. and_then r (λ f. collect f.1 f.0 (replicate_item along a b))) plain
+      let plain : replicate_form along a b ≡ Ok (form_of (length before ∷ []) b.item_type) = form ∙ ap (λ (s : List ℕ). Ok (form_of s item_type)) one_axis ∙ ap (λ (t : ItemType). Ok (form_of (length before ∷ []) t)) known.typed in
+      ap (λ r. and_then r (λ f. collect f.item_type f.shape (replicate_item along a b))) plain
       ∙ ap (with_items b.item_type (length before ∷ [])) (given_in_order (length before ∷ []) (replicate_item along a b) picked (fill b.item_type) (length-map before (λ k. get_or b.items k (fill b.item_type)) ∙ picked_long ∙ ap size one_axis) each)
       ∙ ap (λ (s : List ℕ). Ok (record { item_type = b.item_type; shape = s; items = picked })) (sym one_axis)

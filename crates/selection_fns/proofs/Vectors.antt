@@ -11,7 +11,7 @@ use Rattle.arrays_core.specs.Shapes.{size, index_after}
 use Rattle.arrays_core.specs.Arrays.{ArrayValue, item_of, item_if_there, collect, with_items}
 use Rattle.arrays_core.proofs.Shapes.{as_long}
 use Rattle.arrays_core.proofs.Order.{given_in_order, index_after-within, places_before-index_after}
-use Rattle.index_region.specs.Checks.{Form, and_then}
+use Rattle.index_region.specs.Checks.{form_of, Form, and_then}
 use Rattle.index_region.specs.Arguments.{numbers, number_of, is_scalar}
 use Rattle.index_region.proofs.Passing.{gives, limited_gives}
 use Rattle.selection_fns.specs.Index.{Position, count_written, written_positions, of_array_and_positions, are_numbers, are_on, is_on_axis, indexed_shape, index_form, index_item, index_whole}
@@ -23,7 +23,7 @@ pub record OfVector (a p : ArrayValue) (shape : List ℕ) (item_type : ItemType)
   pub on : list_all (is_on_axis (get_or a.shape 0 0)) (numbers p) ≡ true
   pub shaped : shape ≡ p.shape
   pub typed : item_type ≡ a.item_type
-  pub form : index_form a (Some p ∷ []) ≡ Ok (shape, item_type)
+  pub form : index_form a (Some p ∷ []) ≡ Ok (form_of shape item_type)
 
 one_position : (written : List Bool) (p : ArrayValue) → 1 ≡ count_written written → length written ≡ 1 → written_positions written (p ∷ []) ≡ Some p ∷ []
 one_position [] p one long = absurd (omega arith)
@@ -31,7 +31,7 @@ one_position (true ∷ []) p one long = refl
 one_position (false ∷ []) p one long = absurd (omega arith)
 one_position (w ∷ v ∷ written) p one long = absurd (omega arith)
 
-pub of_one_axis : (n : ℕ) (a p : ArrayValue) (shape : List ℕ) (item_type : ItemType) → a.shape ≡ n ∷ [] → index_form a (Some p ∷ []) ≡ Ok (shape, item_type) → OfVector a p shape item_type
+pub of_one_axis : (n : ℕ) (a p : ArrayValue) (shape : List ℕ) (item_type : ItemType) → a.shape ≡ n ∷ [] → index_form a (Some p ∷ []) ≡ Ok (form_of shape item_type) → OfVector a p shape item_type
 of_one_axis n a p shape item_type is form =
     let positions : List Position = Some p ∷ [] in
     let ranks = gives (not (is_scalar a) && nat_eq (length positions) (length a.shape)) _ _ (shape, item_type) form in
@@ -40,8 +40,8 @@ of_one_axis n a p shape item_type is form =
     let asked = limited_gives (indexed_shape a.shape positions) a.item_type (shape, item_type) on.is in
     record {
       on = subst (λ m. list_all (is_on_axis m) (numbers p) ≡ true) (sym (ap (λ s. get_or s 0 0) is)) (first_of_all (list_all (is_on_axis n) (numbers p)) (subst (λ s. are_on s positions ≡ true) is on.test));
-      shaped = ap (λ (f : Form). f.0) asked ∙ ap (λ s. indexed_shape s positions) is ∙ append-nil p.shape;
-      typed = ap (λ (f : Form). f.1) asked;
+      shaped = ap (λ (f : Form). f.shape) asked ∙ ap (λ s. indexed_shape s positions) is ∙ append-nil p.shape;
+      typed = ap (λ (f : Form). f.item_type) asked;
       form = form;
     }
   where
@@ -69,10 +69,10 @@ two_args (x ∷ y ∷ z ∷ rest) a p h d e = absurd (omega arith)
 
 pub is_vector_index : (written : List Bool) (args : List ArrayValue) (a p : ArrayValue) (shape : List ℕ) (item_type : ItemType)
     → length args ≡ suc (count_written written) → length args ≡ 2 → a ≡ get_or args 0 a → p ≡ get_or args 1 p → length a.shape ≡ 1
-    → of_array_and_positions written index_form args ≡ Ok (shape, item_type) → IsVectorIndex written args a p shape item_type
+    → of_array_and_positions written index_form args ≡ Ok (form_of shape item_type) → IsVectorIndex written args a p shape item_type
 is_vector_index written args a p shape item_type long two is_a is_p axis form =
     let pair = two_args args a p two is_a is_p in
-    let here : index_form a (written_positions written (p ∷ [])) ≡ Ok (shape, item_type) = subst (λ xs. of_array_and_positions written index_form xs ≡ Ok (shape, item_type)) pair form in
+    let here : index_form a (written_positions written (p ∷ [])) ≡ Ok (form_of shape item_type) = subst (λ xs. of_array_and_positions written index_form xs ≡ Ok (form_of shape item_type)) pair form in
     let axes = one_axis a.shape axis in
     let ranks = gives (not (is_scalar a) && nat_eq (length (written_positions written (p ∷ []))) (length a.shape)) _ _ (shape, item_type) here in
     let as_many = positions_long written (p ∷ []) (omega arith) in
@@ -82,7 +82,7 @@ is_vector_index written args a p shape item_type long two is_a is_p axis form =
       args_are = pair;
       positions = positions;
       axes = axes;
-      facts = of_one_axis (get_or a.shape 0 0) a p shape item_type axes (subst (λ ps. index_form a ps ≡ Ok (shape, item_type)) positions here);
+      facts = of_one_axis (get_or a.shape 0 0) a p shape item_type axes (subst (λ ps. index_form a ps ≡ Ok (form_of shape item_type)) positions here);
     }
   where
     second_of : (b : Bool) (m n : ℕ) → (b && nat_eq m n) ≡ true → m ≡ n
@@ -142,7 +142,7 @@ module _ (n : ℕ) (a p : ArrayValue) (is : a.shape ≡ n ∷ []) (on : list_all
           let one : (place - 1) * 1 + 0 ≡ place - 1 = omega arith in
           rw (is, lower, upper) (ap (λ j. Some (get_or a.items j (fill a.item_type))) one)
 
-  pub picked_whole : index_form a (Some p ∷ []) ≡ Ok (p.shape, a.item_type) → index_whole a (Some p ∷ []) ≡ Ok (record { item_type = a.item_type; shape = p.shape; items = items })
+  pub picked_whole : index_form a (Some p ∷ []) ≡ Ok (form_of p.shape a.item_type) → index_whole a (Some p ∷ []) ≡ Ok (record { item_type = a.item_type; shape = p.shape; items = items })
   picked_whole form =
-      ap (λ r. and_then r (λ f. collect f.1 f.0 (index_item a (Some p ∷ [])))) form
+      ap (λ r. and_then r (λ f. collect f.item_type f.shape (index_item a (Some p ∷ [])))) form
       ∙ ap (with_items a.item_type p.shape) (given_in_order p.shape (index_item a (Some p ∷ [])) items (fill a.item_type) (length-map before (λ k. get_or a.items k (fill a.item_type)) ∙ picked_long) item_at)

@@ -6,7 +6,7 @@ use Rattle.arrays_core.specs.declared.item.Kind.{Kind}
 use Rattle.arrays_core.specs.declared.item.Kind.TheVariants.{Rank, Length, Domain, Index}
 use Rattle.arrays_core.specs.Arrays.{ArrayValue, item_of}
 use Rattle.index_region.specs.Checks.{Form, check, limited, whole}
-use Rattle.index_region.specs.Sources.{Source, item_from}
+use Rattle.index_region.specs.Sources.{Place, Source, item_from}
 use Rattle.index_region.specs.Arguments.{is_scalar, counts_as_numbers, number_of, numbers}
 
 -- the indices on one axis, or nothing: the whole axis
@@ -61,7 +61,7 @@ source_index (Some p ∷ positions) index =
 
 -- each item comes from the indexed array
 abbrev pub index_source : List Position → List ℕ → Source
-index_source positions index = Some (0, source_index positions index)
+index_source positions index = Place 0 (source_index positions index)
 
 -- the item there
 abbrev pub index_item : ArrayValue → List Position → List ℕ → Result Item Kind

@@ -6,7 +6,7 @@ use Rattle.arrays_core.specs.declared.item.Kind.TheVariants.{Axis, Rank, Length,
 use Rattle.arrays_core.specs.Arrays.{ArrayValue, item_of}
 use Rattle.index_region.specs.declared.along.Along.{Along}
 use Rattle.index_region.specs.Checks.{Form, check, limited, whole}
-use Rattle.index_region.specs.Sources.{Source, item_from}
+use Rattle.index_region.specs.Sources.{Place, Source, item_from}
 use Rattle.index_region.specs.Arguments.{is_scalar, is_list, has_one_item, counts_as_numbers, number_of, numbers, none_negative}
 use Rattle.index_region.specs.Axes.{is_axis, axis_at, places_along}
 
@@ -52,7 +52,7 @@ abbrev pub replicate_source : Along → ArrayValue → ArrayValue → List ℕ �
 replicate_source along a b index =
     let axis = axis_at (max 1 (length b.shape)) along in
     let place = copied_place a (places_along b.shape axis) (get_or index axis 1) in
-    Some (1, if is_scalar b then [] else set index axis place)
+    Place 1 (if is_scalar b then [] else set index axis place)
 
 -- the item there
 abbrev pub replicate_item : Along → ArrayValue → ArrayValue → List ℕ → Result Item Kind

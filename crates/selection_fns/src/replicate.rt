@@ -6,10 +6,11 @@ ghost use Rattle.arrays_core.specs.declared.item.Kind.{Kind as AKind};
 ghost use Rattle.arrays_core.specs.declared.item.Kind.TheVariants.{Limit};
 ghost use Rattle.arrays_core.specs.Arrays.{IsAnswerTo};
 ghost use Rattle.arrays_core.specs.Shapes.{is_index_of};
-ghost use Rattle.index_region.specs.Checks.{Form};
+ghost use Rattle.index_region.specs.Checks.{form_of, Form};
 ghost use Rattle.index_region.specs.ArgumentLists.{of_two_arguments};
 ghost use Rattle.index_region.specs.Arguments.{numbers};
 ghost use Rattle.index_region.specs.Axes.{axis_at as axis_meant, places_along as places_on};
+ghost use Rattle.index_region.specs.Sources.{Place};
 ghost use Rattle.index_region.specs.Answers.{IsFormAnswerTo, IsPlaceOf, source_value};
 ghost use Rattle.selection_fns.specs.Replicate.{times, counts_checked, maker as maker_of, copied_place as place_copied, replicate_form, replicate_source, replicate_item, replicate_whole};
 
@@ -327,7 +328,7 @@ struct CopyRule<'a, 'b, 'c> {
     array: &'a Seen<'c>,
     before: &'a [u32],
     shape: &'a Shape,
-    ghost form: { replicate_form replicate.along counts.now array.now ≡ Ok (shape.now.items, array.now.item_type) },
+    ghost form: { replicate_form replicate.along counts.now array.now ≡ Ok (form_of shape.now.items array.now.item_type) },
     ghost long: { length before.now ≡ sum (times counts.now (places_on array.now.shape (axis_meant (max 1 (length array.now.shape)) replicate.along))) },
     ghost is: { (i : ℕ) → i < length before.now → get_or before.now i 0 + 1 ≡ place_copied counts.now (places_on array.now.shape (axis_meant (max 1 (length array.now.shape)) replicate.along)) (i + 1) },
     ghost within: { All (λ n. n ≤ longest_axis) before.now },
@@ -337,7 +338,7 @@ impl<'a, 'b, 'c> CopyRule<'a, 'b, 'c> {
     /// The index list of the array itself, of one of the result.
     fn index_of(&self, index: &[u32]) -> Shape
         requires { IsTrue (is_index_of self.now.shape.now.items index.now) }
-        ensures { Some (1, result.items) ≡ replicate_source self.now.replicate.along self.now.counts.now self.now.array.now index.now }
+        ensures { Place 1 result.items ≡ replicate_source self.now.replicate.along self.now.counts.now self.now.array.now index.now }
     {
         let axes = self.array.shape();
         let alloc = *axes.allocator();

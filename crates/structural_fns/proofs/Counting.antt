@@ -10,7 +10,7 @@ use Rattle.arrays_core.specs.Arrays.{ArrayValue}
 use Rattle.arrays_core.specs.Shapes.{size, IsWithinLimits, is_index_of}
 use Rattle.arrays_core.proofs.Shapes.{as_long, head_at}
 use Rattle.arrays_core.proofs.NextIndex.{drop_inside}
-use Rattle.index_region.specs.Checks.{check, Form, limited}
+use Rattle.index_region.specs.Checks.{form_of, check, Form, limited}
 use Rattle.index_region.specs.Arguments.{numbers, number_of, is_scalar}
 use Rattle.structural_fns.specs.Reshape.{magnitudes}
 use Rattle.structural_fns.specs.Take.{taken_place, taken_places}
@@ -108,7 +108,7 @@ left_at a b index k within long limits inside h =
     record { there = omega arith; four = omega (arith, limits.rank); bound = omega arith }
 
 abbrev limited_by : Bool → List ℕ → ItemType → Result Form Kind
-limited_by b shape item_type = check b Limit (Ok (shape, item_type))
+limited_by b shape item_type = check b Limit (Ok (form_of shape item_type))
 
 -- a shape of more axes than an array may have
 pub too_many : (shape : List ℕ) (item_type : ItemType) → 4 < length shape → limited shape item_type ≡ Err Limit

@@ -17,7 +17,7 @@ use Rattle.arrays_core.proofs.Order.{given_in_order}
 use Rattle.index_region.specs.declared.along.Along.{Along}
 use Rattle.index_region.specs.Arguments.{is_scalar}
 use Rattle.index_region.specs.Axes.{is_axis, axis_at}
-use Rattle.index_region.specs.Checks.{and_then}
+use Rattle.index_region.specs.Checks.{form_of, and_then}
 use Rattle.structural_fns.specs.Catenate.{joined_rank, joined_places, other_axes, ranks_join, axes_agree, joined_type, joined_shape, types_join, in_side, catenate_item, catenate_form, catenate_whole}
 use Rattle.index_region.proofs.Passing.{gives}
 use Rattle.structural_fns.proofs.Runs.{item_after, limited_is, positive}
@@ -155,7 +155,7 @@ pub record AreJoined (along : Along) (a b : ArrayValue) (shape : List ℕ) : Typ
   pub as_many : length a.items + length b.items ≡ size shape
   pub whole : catenate_whole along a b ≡ Ok (record { item_type = joined_type a b; shape = shape; items = a.items ++ b.items })
 
-module _ (along : Along) (a b : ArrayValue) (shape : List ℕ) (item_type : ItemType) (form : catenate_form along a b ≡ Ok (shape, item_type)) (first : axis_at (joined_rank a b) along ≡ 0) where
+module _ (along : Along) (a b : ArrayValue) (shape : List ℕ) (item_type : ItemType) (form : catenate_form along a b ≡ Ok (form_of shape item_type)) (first : axis_at (joined_rank a b) along ≡ 0) where
   pub joined_runs : IsArray a → IsArray b → (is_scalar a ≡ true → joined_rank a b ≡ 1) → (is_scalar b ≡ true → joined_rank a b ≡ 1) → AreJoined along a b shape
   joined_runs left_sound right_sound left_run right_run =
       let rank = joined_rank a b in
@@ -174,11 +174,11 @@ module _ (along : Along) (a b : ArrayValue) (shape : List ℕ) (item_type : Item
       let left_long = left_sound.one_item_a_place in
       let right_long = right_sound.one_item_a_place in
       let sized : length a.items + length b.items ≡ size (more ∷ result_axes a b) = omega arith in
-      let typed : catenate_form along a b ≡ Ok (shape, joined_type a b) = form ∙ ap (λ t. Ok (shape, t)) parts.1 in
-      let formed : catenate_form along a b ≡ Ok (more ∷ result_axes a b, joined_type a b) = typed ∙ ap (λ xs. Ok (xs, joined_type a b)) shaped in
+      let typed : catenate_form along a b ≡ Ok (form_of shape (joined_type a b)) = form ∙ ap (λ t. Ok (form_of shape t)) parts.1 in
+      let formed : catenate_form along a b ≡ Ok (form_of (more ∷ result_axes a b) (joined_type a b)) = typed ∙ ap (λ xs. Ok (form_of xs (joined_type a b))) shaped in
       record {
         as_many = sized ∙ ap size (sym shaped);
-        whole = ap (λ r. and_then r (λ f. collect f.1 f.0 (catenate_item along a b))) formed
+        whole = ap (λ r. and_then r (λ f. collect f.item_type f.shape (catenate_item along a b))) formed
             ∙ runs_collected along a b (result_axes a b) first left right left_long right_long more sized
             ∙ ap (λ xs. Ok (record { item_type = joined_type a b; shape = xs; items = a.items ++ b.items })) (sym shaped);
       }

@@ -11,10 +11,10 @@ use Rattle.arrays_core.specs.declared.item.Kind.TheVariants.{Rank, Domain}
 use Rattle.arrays_core.specs.Items.{fill, all_or_first_error}
 use Rattle.arrays_core.specs.Shapes.{size, indices, index_after, places_before}
 use Rattle.arrays_core.specs.Arrays.{ArrayValue, item_if_there, collect, with_items}
-use Rattle.index_region.specs.Checks.{Form, limited, and_then}
+use Rattle.index_region.specs.Checks.{form_of, Form, limited, and_then}
 use Rattle.index_region.specs.Arguments.{is_list, has_items, counts_as_numbers, none_negative, numbers}
 use Rattle.index_region.specs.ArgumentLists.{of_one_argument, of_two_arguments}
-use Rattle.index_region.specs.Sources.{item_from}
+use Rattle.index_region.specs.Sources.{Place, Fill, item_from}
 use Rattle.structural_fns.specs.Reshape.{magnitudes, reshape_form, reshape_source, reshape_item, reshape_whole}
 use Rattle.structural_fns.specs.Ravel.{ravel_item, ravel_whole}
 use Rattle.index_region.proofs.Passing.{gives, limited_gives}
@@ -46,24 +46,24 @@ module _ (b : ArrayValue) (inside : size b.shape ≤ length b.items) where
       let below : k < size b.shape = omega arith in
       let divided : k / 1 ≡ k = div-one k in
       let place : k / 1 + 1 - 1 ≡ k = omega arith in
-      ap (λ n. item_from b b b.item_type (Some (0, index_after b.shape n))) place
+      ap (λ n. item_from b b b.item_type (Place 0 (index_after b.shape n))) place
       ∙ ap (λ o. Ok (unwrap_or o (fill b.item_type))) (item_after b k below)
       ∙ ap (λ n. Ok (get_or b.items n (fill b.item_type))) (let same : k ≡ 0 + k = omega arith in same)
 
-  pub ravelled : limited (size b.shape ∷ []) b.item_type ≡ Ok (size b.shape ∷ [], b.item_type) → ravel_whole b ≡ Ok (record { item_type = b.item_type; shape = size b.shape ∷ []; items = take (size (size b.shape ∷ [])) (drop 0 b.items) })
+  pub ravelled : limited (size b.shape ∷ []) b.item_type ≡ Ok (form_of (size b.shape ∷ []) b.item_type) → ravel_whole b ≡ Ok (record { item_type = b.item_type; shape = size b.shape ∷ []; items = take (size (size b.shape ∷ [])) (drop 0 b.items) })
   ravelled is =
-      ap (λ r. and_then r (λ f. collect f.1 f.0 (ravel_item b))) is
+      ap (λ r. and_then r (λ f. collect f.item_type f.shape (ravel_item b))) is
       ∙ run_collected b.item_type (size b.shape ∷ []) (ravel_item b) b.items 0 (fill b.item_type) (omega arith) ravelled_item
 
 -- the form that a passed check gives is what was asked for
-pub limited_is : {asked shape : List ℕ} {asked_type item_type : ItemType} → limited asked asked_type ≡ Ok (shape, item_type) → (shape ≡ asked) × (item_type ≡ asked_type)
+pub limited_is : {asked shape : List ℕ} {asked_type item_type : ItemType} → limited asked asked_type ≡ Ok (form_of shape item_type) → (shape ≡ asked) × (item_type ≡ asked_type)
 limited_is {asked = asked} {shape = shape} {asked_type = asked_type} {item_type = item_type} is =
     let same = limited_gives asked asked_type (shape, item_type) is in
-    (ap (λ (f : Form). f.0) same, ap (λ (f : Form). f.1) same)
+    (ap (λ (f : Form). f.shape) same, ap (λ (f : Form). f.item_type) same)
 
 pub ravel_answer : (args : List ArrayValue) (b v : ArrayValue) (places : ℕ) (asked shape : List ℕ) (asked_type item_type : ItemType)
     → length args ≡ 1 → b ≡ get_or args 0 b → asked ≡ places ∷ [] → places ≡ size b.shape → places ≡ length b.items → asked_type ≡ b.item_type
-    → limited asked asked_type ≡ Ok (shape, item_type) → v ≡ record { item_type = b.item_type; shape = shape; items = take (size shape) (drop 0 b.items) }
+    → limited asked asked_type ≡ Ok (form_of shape item_type) → v ≡ record { item_type = b.item_type; shape = shape; items = take (size shape) (drop 0 b.items) }
     → of_one_argument ravel_whole args ≡ Ok v
 ravel_answer [] b v places asked shape asked_type item_type one same is_asked is_size is_length is_type passed made = absurd (omega arith)
 ravel_answer (a ∷ c ∷ args) b v places asked shape asked_type item_type one same is_asked is_size is_length is_type passed made = absurd (omega arith)
@@ -72,8 +72,8 @@ ravel_answer (a ∷ []) b v places asked shape asked_type item_type one same is_
     let parts = limited_is passed in
     let shaped : shape ≡ size b.shape ∷ [] = parts.0 ∙ vector in
     let typed : item_type ≡ b.item_type = parts.1 ∙ is_type in
-    let checked : limited (size b.shape ∷ []) b.item_type ≡ Ok (size b.shape ∷ [], b.item_type) =
-    ap (λ xs. limited xs b.item_type) (sym vector) ∙ ap (λ t. limited asked t) (sym is_type) ∙ passed ∙ ap (λ xs. Ok (xs, item_type)) shaped ∙ ap (λ t. Ok (size b.shape ∷ [], t)) typed in
+    let checked : limited (size b.shape ∷ []) b.item_type ≡ Ok (form_of (size b.shape ∷ []) b.item_type) =
+    ap (λ xs. limited xs b.item_type) (sym vector) ∙ ap (λ t. limited asked t) (sym is_type) ∙ passed ∙ ap (λ xs. Ok (form_of xs item_type)) shaped ∙ ap (λ t. Ok (form_of (size b.shape ∷ []) t)) typed in
     ap ravel_whole (sym same) ∙ ravelled b (omega arith) checked
     ∙ ap (λ xs. Ok (record { item_type = b.item_type; shape = xs; items = take (size xs) (drop 0 b.items) })) (sym shaped) ∙ ap (λ w. Ok w) (sym made)
 
@@ -89,23 +89,23 @@ module _ (a b : ArrayValue) (as_many : length b.items ≡ size b.shape) (few : s
       let before : places_before (magnitudes a) (index_after (magnitudes a) k) % size b.shape ≡ k =
       ap (λ n. n % size b.shape) (places_before-index_after (magnitudes a) k h) ∙ mod-eq_of_lt below in
       let some : nat_eq (length b.items) 0 ≡ false = positive (length b.items) (omega arith) in
-      ap (λ w. item_from a b b.item_type (cond (not w) (Some (1, index_after b.shape (places_before (magnitudes a) (index_after (magnitudes a) k) % size b.shape))) None)) some
-      ∙ ap (λ n. item_from a b b.item_type (Some (1, index_after b.shape n))) before
+      ap (λ w. item_from a b b.item_type (cond (not w) (Place 1 (index_after b.shape (places_before (magnitudes a) (index_after (magnitudes a) k) % size b.shape))) Fill)) some
+      ∙ ap (λ n. item_from a b b.item_type (Place 1 (index_after b.shape n))) before
       ∙ ap (λ o. Ok (unwrap_or o (fill b.item_type))) (item_after b k below)
       ∙ ap (λ n. Ok (get_or b.items n (fill b.item_type))) (let same : k ≡ 0 + k = omega arith in same)
 
-  reshaped : reshape_form a b ≡ Ok (magnitudes a, b.item_type) → reshape_whole a b ≡ Ok (record { item_type = b.item_type; shape = magnitudes a; items = take (size (magnitudes a)) (drop 0 b.items) })
+  reshaped : reshape_form a b ≡ Ok (form_of (magnitudes a) b.item_type) → reshape_whole a b ≡ Ok (record { item_type = b.item_type; shape = magnitudes a; items = take (size (magnitudes a)) (drop 0 b.items) })
   reshaped is =
-      ap (λ r. and_then r (λ f. collect f.1 f.0 (reshape_item a b))) is
+      ap (λ r. and_then r (λ f. collect f.item_type f.shape (reshape_item a b))) is
       ∙ run_collected b.item_type (magnitudes a) (reshape_item a b) b.items 0 (fill b.item_type) (omega arith) reshaped_item
 
 -- what is known where the checks of reshape have passed
 pub record ReshapePassed (a b : ArrayValue) (shape : List ℕ) (item_type : ItemType) : Type 0 where
-  pub form : reshape_form a b ≡ Ok (shape, item_type)
+  pub form : reshape_form a b ≡ Ok (form_of shape item_type)
   pub shaped : shape ≡ magnitudes a
   pub typed : item_type ≡ b.item_type
 
-reshape_passed : (a b : ArrayValue) (shape : List ℕ) (item_type : ItemType) → reshape_form a b ≡ Ok (shape, item_type) → ReshapePassed a b shape item_type
+reshape_passed : (a b : ArrayValue) (shape : List ℕ) (item_type : ItemType) → reshape_form a b ≡ Ok (form_of shape item_type) → ReshapePassed a b shape item_type
 reshape_passed a b shape item_type form =
     let listed = gives (is_list a) Rank _ (shape, item_type) form in
     let counted = gives (counts_as_numbers a && none_negative (numbers a)) Domain _ (shape, item_type) listed.is in
@@ -113,22 +113,22 @@ reshape_passed a b shape item_type form =
     record { form = form; shaped = parts.0; typed = parts.1 }
 
 pub reshape_answer : (args : List ArrayValue) (b v : ArrayValue) (shape : List ℕ) (item_type : ItemType)
-    → length args ≡ 2 → b ≡ get_or args 1 b → of_two_arguments reshape_form args ≡ Ok (shape, item_type) → length b.items ≡ size b.shape → size shape ≤ length b.items
+    → length args ≡ 2 → b ≡ get_or args 1 b → of_two_arguments reshape_form args ≡ Ok (form_of shape item_type) → length b.items ≡ size b.shape → size shape ≤ length b.items
     → v ≡ record { item_type = b.item_type; shape = shape; items = take (size shape) (drop 0 b.items) } → of_two_arguments reshape_whole args ≡ Ok v
 reshape_answer [] b v shape item_type two same passed as_many few made = absurd (omega arith)
 reshape_answer (a ∷ []) b v shape item_type two same passed as_many few made = absurd (omega arith)
 reshape_answer (a ∷ c ∷ d ∷ args) b v shape item_type two same passed as_many few made = absurd (omega arith)
 reshape_answer (a ∷ c ∷ []) b v shape item_type two same passed as_many few made =
-    let here : reshape_form a b ≡ Ok (shape, item_type) = ap (λ x. reshape_form a x) same ∙ passed in
+    let here : reshape_form a b ≡ Ok (form_of shape item_type) = ap (λ x. reshape_form a x) same ∙ passed in
     let passed = reshape_passed a b shape item_type here in
     let shaped = passed.shaped in
     let fits : size (magnitudes a) ≤ length b.items = subst (λ xs. size xs ≤ length b.items) shaped few in
-    let form : reshape_form a b ≡ Ok (magnitudes a, b.item_type) = here ∙ ap (λ xs. Ok (xs, item_type)) shaped ∙ ap (λ t. Ok (magnitudes a, t)) passed.typed in
+    let form : reshape_form a b ≡ Ok (form_of (magnitudes a) b.item_type) = here ∙ ap (λ xs. Ok (form_of xs item_type)) shaped ∙ ap (λ t. Ok (form_of (magnitudes a) t)) passed.typed in
     ap (λ x. reshape_whole a x) (sym same) ∙ reshaped a b as_many fits form
     ∙ ap (λ xs. Ok (record { item_type = b.item_type; shape = xs; items = take (size xs) (drop 0 b.items) })) (sym shaped) ∙ ap (λ w. Ok w) (sym made)
 
 pub reshape_typed : (args : List ArrayValue) (b : ArrayValue) (shape : List ℕ) (item_type : ItemType)
-    → length args ≡ 2 → b ≡ get_or args 1 b → of_two_arguments reshape_form args ≡ Ok (shape, item_type) → item_type ≡ b.item_type
+    → length args ≡ 2 → b ≡ get_or args 1 b → of_two_arguments reshape_form args ≡ Ok (form_of shape item_type) → item_type ≡ b.item_type
 reshape_typed [] b shape item_type two same form = absurd (omega arith)
 reshape_typed (a ∷ []) b shape item_type two same form = absurd (omega arith)
 reshape_typed (a ∷ c ∷ d ∷ args) b shape item_type two same form = absurd (omega arith)
@@ -140,8 +140,8 @@ from_right : (a b : ArrayValue) (item_type : ItemType) (shape index : List ℕ)
     → item_from b b item_type (reshape_source shape b index) ≡ item_from a b item_type (reshape_source shape b index)
 from_right a b item_type shape index = decide (has_items b)
   where
-    decide : (some : Bool) → item_from b b item_type (cond some (Some (1, index_after b.shape (places_before shape index % size b.shape))) None)
-        ≡ item_from a b item_type (cond some (Some (1, index_after b.shape (places_before shape index % size b.shape))) None)
+    decide : (some : Bool) → item_from b b item_type (cond some (Place 1 (index_after b.shape (places_before shape index % size b.shape))) Fill)
+        ≡ item_from a b item_type (cond some (Place 1 (index_after b.shape (places_before shape index % size b.shape))) Fill)
     decide true = refl
     decide false = refl
 
@@ -151,7 +151,7 @@ same_rules rule other (x ∷ xs) h = ap (λ y. y ∷ map rule xs) (h x) ∙ ap (
 
 -- the whole from the shape that the checks gave
 pub reshape_collected : (args : List ArrayValue) (b : ArrayValue) (shape : List ℕ) (item_type : ItemType)
-    → length args ≡ 2 → b ≡ get_or args 1 b → of_two_arguments reshape_form args ≡ Ok (shape, item_type)
+    → length args ≡ 2 → b ≡ get_or args 1 b → of_two_arguments reshape_form args ≡ Ok (form_of shape item_type)
     → collect item_type shape (λ index. item_from b b b.item_type (reshape_source shape b index)) ≡ of_two_arguments reshape_whole args
 reshape_collected [] b shape item_type two same form = absurd (omega arith)
 reshape_collected (a ∷ []) b shape item_type two same form = absurd (omega arith)
@@ -162,4 +162,4 @@ reshape_collected (a ∷ c ∷ []) b shape item_type two same form =
     ∙ ap (λ rs. with_items item_type shape (all_or_first_error rs))
     (same_rules (λ index. item_from c c c.item_type (reshape_source shape c index)) (reshape_item a c) (indices shape) (λ index.
     from_right a c c.item_type shape index ∙ ap (λ asked. item_from a c c.item_type (reshape_source asked c index)) passed.shaped))
-    ∙ sym (ap (λ r. and_then r (λ f. collect f.1 f.0 (reshape_item a c))) form)
+    ∙ sym (ap (λ r. and_then r (λ f. collect f.item_type f.shape (reshape_item a c))) form)

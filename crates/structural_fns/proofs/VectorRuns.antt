@@ -12,7 +12,7 @@ use Rattle.arrays_core.specs.Items.{fill}
 use Rattle.arrays_core.specs.Shapes.{size}
 use Rattle.arrays_core.specs.Arrays.{ArrayValue, IsArray, collect}
 use Rattle.arrays_core.proofs.Order.{index_after-within}
-use Rattle.index_region.specs.Checks.{and_then}
+use Rattle.index_region.specs.Checks.{form_of, and_then}
 use Rattle.index_region.specs.Arguments.{is_list, counts_as_numbers, numbers}
 use Rattle.structural_fns.specs.Reshape.{magnitudes}
 use Rattle.structural_fns.specs.AxisCounts.{counted_shape, counted_form}
@@ -28,7 +28,7 @@ pub record CountsPassed (asked : List ℕ) (a b : ArrayValue) (shape : List ℕ)
   pub typed : item_type ≡ b.item_type
   pub long : length a.items ≡ length (counted_shape a b)
 
-pub counts_passed : (asked : List ℕ) (a b : ArrayValue) (shape : List ℕ) (item_type : ItemType) → counted_form asked a b ≡ Ok (shape, item_type)
+pub counts_passed : (asked : List ℕ) (a b : ArrayValue) (shape : List ℕ) (item_type : ItemType) → counted_form asked a b ≡ Ok (form_of shape item_type)
     → CountsPassed asked a b shape item_type
 counts_passed asked a b shape item_type h =
     let listed = gives (is_list a) Rank _ (shape, item_type) h in
@@ -83,12 +83,12 @@ first_fits n (pos c) h = omega arith
 first_fits n (negsuc c) h = omega arith
 
 taken_whole : (item_type : ItemType) (n : ℕ) (items : List Item) (a : ArrayValue) (z : ℤ) → numbers a ≡ z ∷ [] → n ≡ length items → unsigned_abs z ≤ n
-    → take_form a (of_vector item_type n items) ≡ Ok (unsigned_abs z ∷ [], item_type)
+    → take_form a (of_vector item_type n items) ≡ Ok (form_of (unsigned_abs z ∷ []) item_type)
     → take_whole a (of_vector item_type n items) ≡ Ok (run_of (of_vector item_type n items) (unsigned_abs z ∷ []) (taken_place n z 1 - 1))
 taken_whole item_type n items a z counted long few form =
     let b = of_vector item_type n items in
     let fits = first_fits n z few in
-    ap (λ r. and_then r (λ f. collect f.1 f.0 (take_item a b))) form
+    ap (λ r. and_then r (λ f. collect f.item_type f.shape (take_item a b))) form
     ∙ run_collected item_type (unsigned_abs z ∷ []) (take_item a b) items (taken_place n z 1 - 1) (fill item_type) (omega arith)
     (λ k h. taken_item item_type n items a z (taken_place n z 1 - 1) k counted (place_moves n z k few) (omega arith))
 
@@ -96,14 +96,14 @@ taken_whole item_type n items a z counted long few form =
 one_number : (a : ArrayValue) → length a.items ≡ 1 → numbers a ≡ get_or (numbers a) 0 (pos 0) ∷ []
 one_number a h = let long = numbers_long a in only (numbers a) (pos 0) (omega arith)
 
-pub taken_run : (a b : ArrayValue) (shape : List ℕ) → take_form a b ≡ Ok (shape, b.item_type) → length b.shape ≡ 1 → IsArray b → size shape ≤ length b.items
+pub taken_run : (a b : ArrayValue) (shape : List ℕ) → take_form a b ≡ Ok (form_of shape b.item_type) → length b.shape ≡ 1 → IsArray b → size shape ≤ length b.items
     → take_whole a b ≡ Ok (run_of b shape (taken_place (length b.items) (get_or (numbers a) 0 (pos 0)) 1 - 1))
 taken_run a b shape form one_axis sound few =
     let z = get_or (numbers a) 0 (pos 0) in
     let n = get_or b.shape 0 0 in
     let v = of_vector b.item_type n b.items in
     let is = vector_is b one_axis in
-    let here : take_form a v ≡ Ok (shape, b.item_type) = ap (λ x. take_form a x) (sym is) ∙ form in
+    let here : take_form a v ≡ Ok (form_of shape b.item_type) = ap (λ x. take_form a x) (sym is) ∙ form in
     let passed = counts_passed (magnitudes a) a v shape b.item_type here in
     let counted = one_number a passed.long in
     let shaped : shape ≡ unsigned_abs z ∷ [] = passed.shaped ∙ ap (λ zs. map unsigned_abs zs) counted in
@@ -111,7 +111,7 @@ taken_run a b shape form one_axis sound few =
     let whole : length b.items ≡ n * 1 = sound.one_item_a_place ∙ ap size (only b.shape 0 one_axis) in
     let long : n ≡ length b.items = omega arith in
     let fits : unsigned_abs z ≤ n = omega arith in
-    ap (λ x. take_whole a x) is ∙ taken_whole b.item_type n b.items a z counted long fits (here ∙ ap (λ xs. Ok (xs, b.item_type)) shaped)
+    ap (λ x. take_whole a x) is ∙ taken_whole b.item_type n b.items a z counted long fits (here ∙ ap (λ xs. Ok (form_of xs b.item_type)) shaped)
     ∙ ap (λ xs. Ok (run_of b xs (taken_place n z 1 - 1))) (sym shaped) ∙ ap (λ m. Ok (run_of b shape (taken_place m z 1 - 1))) long
 
 -- ---- drop
@@ -140,11 +140,11 @@ kept_fits n (negsuc c) h = omega arith
 -- the run begins at any place where no items are left
 kept_whole : (item_type : ItemType) (n : ℕ) (items : List Item) (a : ArrayValue) (z : ℤ) (skipped : ℕ) → numbers a ≡ z ∷ [] → n ≡ length items
     → skipped + (n - unsigned_abs z) ≤ n → (0 < n - unsigned_abs z → skipped ≡ kept_place z 1 - 1)
-    → drop_form a (of_vector item_type n items) ≡ Ok ((n - unsigned_abs z) ∷ [], item_type)
+    → drop_form a (of_vector item_type n items) ≡ Ok (form_of ((n - unsigned_abs z) ∷ []) item_type)
     → drop_whole a (of_vector item_type n items) ≡ Ok (run_of (of_vector item_type n items) ((n - unsigned_abs z) ∷ []) skipped)
 kept_whole item_type n items a z skipped counted long fits begins form =
     let b = of_vector item_type n items in
-    ap (λ r. and_then r (λ f. collect f.1 f.0 (drop_item a b))) form
+    ap (λ r. and_then r (λ f. collect f.item_type f.shape (drop_item a b))) form
     ∙ run_collected item_type ((n - unsigned_abs z) ∷ []) (drop_item a b) items skipped (fill item_type) (omega arith)
     (λ k h. kept_item item_type n items a z skipped k counted (kept_moves z k ∙ ap (λ m. (m + k) / 1 + 1) (sym (begins (omega arith)))) (omega arith))
 
@@ -156,12 +156,12 @@ pub record DroppedVector (a b : ArrayValue) (shape : List ℕ) : Type 0 where
   pub within : length b.items ≤ 1048576
   pub one : length a.items ≡ 1
 
-pub dropped_vector : (a b : ArrayValue) (shape : List ℕ) → drop_form a b ≡ Ok (shape, b.item_type) → length b.shape ≡ 1 → IsArray b → DroppedVector a b shape
+pub dropped_vector : (a b : ArrayValue) (shape : List ℕ) → drop_form a b ≡ Ok (form_of shape b.item_type) → length b.shape ≡ 1 → IsArray b → DroppedVector a b shape
 dropped_vector a b shape form one_axis sound =
     let n = get_or b.shape 0 0 in
     let v = of_vector b.item_type n b.items in
     let is = vector_is b one_axis in
-    let here : drop_form a v ≡ Ok (shape, b.item_type) = ap (λ x. drop_form a x) (sym is) ∙ form in
+    let here : drop_form a v ≡ Ok (form_of shape b.item_type) = ap (λ x. drop_form a x) (sym is) ∙ form in
     let passed = counts_passed (dropped_shape (counted_shape a v) (numbers a)) a v shape b.item_type here in
     let counted = one_number a passed.long in
     let whole : length b.items ≡ n * 1 = sound.one_item_a_place ∙ ap size (only b.shape 0 one_axis) in
@@ -180,7 +180,7 @@ pub record FirstKept (a b : ArrayValue) (shape : List ℕ) : Type 0 where
   pub bound : 1 + unsigned_abs (get_or (numbers a) 0 (pos 0)) ≤ 1048576
   pub fits : kept_place (get_or (numbers a) 0 (pos 0)) 1 - 1 + size shape ≤ length b.items
 
-pub first_kept : (a b : ArrayValue) (shape : List ℕ) → drop_form a b ≡ Ok (shape, b.item_type) → length b.shape ≡ 1 → IsArray b → 0 < size shape → FirstKept a b shape
+pub first_kept : (a b : ArrayValue) (shape : List ℕ) → drop_form a b ≡ Ok (form_of shape b.item_type) → length b.shape ≡ 1 → IsArray b → 0 < size shape → FirstKept a b shape
 first_kept a b shape form one_axis sound some =
     let z = get_or (numbers a) 0 (pos 0) in
     let d = dropped_vector a b shape form one_axis sound in
@@ -190,7 +190,7 @@ first_kept a b shape form one_axis sound some =
     let fits = kept_fits (length b.items) z below in
     record { bound = omega arith; fits = omega arith }
 
-pub kept_run : (a b : ArrayValue) (shape : List ℕ) (skipped : ℕ) → drop_form a b ≡ Ok (shape, b.item_type) → length b.shape ≡ 1 → IsArray b
+pub kept_run : (a b : ArrayValue) (shape : List ℕ) (skipped : ℕ) → drop_form a b ≡ Ok (form_of shape b.item_type) → length b.shape ≡ 1 → IsArray b
     → skipped + size shape ≤ length b.items → (0 < size shape → skipped ≡ kept_place (get_or (numbers a) 0 (pos 0)) 1 - 1)
     → drop_whole a b ≡ Ok (run_of b shape skipped)
 kept_run a b shape skipped form one_axis sound fits begins =
@@ -202,6 +202,6 @@ kept_run a b shape skipped form one_axis sound fits begins =
     let shaped : shape ≡ (n - unsigned_abs z) ∷ [] = d.shaped ∙ ap (λ m. (m - unsigned_abs z) ∷ []) (sym d.long) in
     let sized : size shape ≡ (n - unsigned_abs z) * 1 = ap size shaped in
     let long = d.long in
-    let here : drop_form a v ≡ Ok ((n - unsigned_abs z) ∷ [], b.item_type) = ap (λ x. drop_form a x) (sym is) ∙ form ∙ ap (λ xs. Ok (xs, b.item_type)) shaped in
+    let here : drop_form a v ≡ Ok (form_of ((n - unsigned_abs z) ∷ []) b.item_type) = ap (λ x. drop_form a x) (sym is) ∙ form ∙ ap (λ xs. Ok (form_of xs b.item_type)) shaped in
     ap (λ x. drop_whole a x) is ∙ kept_whole b.item_type n b.items a z skipped d.counted long (omega arith) (λ some. begins (omega arith)) here
     ∙ ap (λ xs. Ok (run_of b xs skipped)) (sym shaped)

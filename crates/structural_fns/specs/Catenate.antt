@@ -9,7 +9,7 @@ use Rattle.index_region.specs.declared.along.Along.{Along}
 use Rattle.index_region.specs.Checks.{check, Form, limited, whole}
 use Rattle.index_region.specs.Arguments.{is_scalar, has_items, is_of_numbers}
 use Rattle.index_region.specs.Axes.{is_axis, axis_at}
-use Rattle.index_region.specs.Sources.{Source, item_from}
+use Rattle.index_region.specs.Sources.{Place, Source, item_from}
 
 -- the result has the greater rank, and at least 1
 abbrev pub joined_rank : ArrayValue → ArrayValue → ℕ
@@ -75,7 +75,7 @@ catenate_source along a b index =
     let axis = axis_at rank along in
     let i = get_or index axis 0 in
     let m = joined_places rank axis a in
-    if nat_le i m then Some (0, in_side rank axis a index i) else Some (1, in_side rank axis b index (i - m))
+    if nat_le i m then Place 0 (in_side rank axis a index i) else Place 1 (in_side rank axis b index (i - m))
 
 -- the item at an index list
 abbrev pub catenate_item : Along → ArrayValue → ArrayValue → List ℕ → Result Item Kind

@@ -5,7 +5,7 @@ use Rattle.arrays_core.specs.declared.item.Kind.{Kind}
 use Rattle.arrays_core.specs.Arrays.{ArrayValue}
 use Rattle.index_region.specs.Checks.{Form, whole}
 use Rattle.index_region.specs.Arguments.{numbers}
-use Rattle.index_region.specs.Sources.{Source, item_from}
+use Rattle.index_region.specs.Sources.{Place, Source, item_from}
 use Rattle.structural_fns.specs.AxisCounts.{counted_shape, uncounted, counted_form}
 
 -- the lengths that are left of the axes
@@ -29,7 +29,7 @@ kept_places counts index = []
 
 -- where the item at an index list comes from
 abbrev pub drop_source : ArrayValue → ArrayValue → List ℕ → Source
-drop_source a b index = Some (1, uncounted b (kept_places (numbers a) index))
+drop_source a b index = Place 1 (uncounted b (kept_places (numbers a) index))
 
 -- the item at an index list
 abbrev pub drop_item : ArrayValue → ArrayValue → List ℕ → Result Item Kind

@@ -7,7 +7,7 @@ use Rattle.arrays_core.specs.declared.item.Kind.TheVariants.{Rank, Length, Domai
 use Rattle.arrays_core.specs.Arrays.{ArrayValue}
 use Rattle.index_region.specs.Checks.{check, Form, limited, whole}
 use Rattle.index_region.specs.Arguments.{is_list, counts_as_numbers, numbers}
-use Rattle.index_region.specs.Sources.{Source, item_from}
+use Rattle.index_region.specs.Sources.{Place, Source, item_from}
 
 -- the axes that the axes of b go to, counted from 1
 abbrev pub axes_to : ArrayValue → List ℕ
@@ -60,7 +60,7 @@ gathered axes index = map (λ j. get_or index (j - 1) 0) axes
 
 -- where the item at an index list comes from
 abbrev pub transpose_by_source : ArrayValue → ArrayValue → List ℕ → Source
-transpose_by_source a b index = Some (1, gathered (axes_to a) index)
+transpose_by_source a b index = Place 1 (gathered (axes_to a) index)
 
 -- the item at an index list
 abbrev pub transpose_by_item : ArrayValue → ArrayValue → List ℕ → Result Item Kind

@@ -5,7 +5,7 @@ use Rattle.arrays_core.specs.declared.item.Kind.{Kind}
 use Rattle.arrays_core.specs.Arrays.{ArrayValue}
 use Rattle.arrays_core.specs.Shapes.{size, index_after}
 use Rattle.index_region.specs.Checks.{Form, limited, whole}
-use Rattle.index_region.specs.Sources.{Source, item_from}
+use Rattle.index_region.specs.Sources.{Place, Source, item_from}
 
 -- the checks, and the shape and the type of the result
 abbrev pub ravel_form : ArrayValue → Result Form Kind
@@ -13,7 +13,7 @@ ravel_form b = limited (size b.shape ∷ []) b.item_type
 
 -- where the item at an index list comes from
 abbrev pub ravel_source : ArrayValue → List ℕ → Source
-ravel_source b index = Some (0, index_after b.shape (get_or index 0 0 - 1))
+ravel_source b index = Place 0 (index_after b.shape (get_or index 0 0 - 1))
 
 -- the item at an index list
 abbrev pub ravel_item : ArrayValue → List ℕ → Result Item Kind

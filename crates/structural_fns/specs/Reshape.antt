@@ -7,7 +7,7 @@ use Rattle.arrays_core.specs.Arrays.{ArrayValue}
 use Rattle.arrays_core.specs.Shapes.{size, index_after, places_before}
 use Rattle.index_region.specs.Checks.{check, Form, limited, whole}
 use Rattle.index_region.specs.Arguments.{is_list, has_items, counts_as_numbers, numbers, none_negative}
-use Rattle.index_region.specs.Sources.{Source, item_from}
+use Rattle.index_region.specs.Sources.{Place, Fill, Source, item_from}
 
 -- the lengths of axes that an array of numbers asks for, whatever their signs
 abbrev pub magnitudes : ArrayValue → List ℕ
@@ -23,7 +23,7 @@ reshape_form a b =
 -- the ravel of b, again and again
 abbrev pub reshape_source : List ℕ → ArrayValue → List ℕ → Source
 reshape_source shape b index =
-    if has_items b then Some (1, index_after b.shape (places_before shape index % size b.shape)) else None
+    if has_items b then Place 1 (index_after b.shape (places_before shape index % size b.shape)) else Fill
 
 -- the item at an index list
 abbrev pub reshape_item : ArrayValue → ArrayValue → List ℕ → Result Item Kind

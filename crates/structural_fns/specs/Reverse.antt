@@ -7,7 +7,7 @@ use Rattle.arrays_core.specs.Arrays.{ArrayValue}
 use Rattle.index_region.specs.declared.along.Along.{Along}
 use Rattle.index_region.specs.Checks.{check, Form, limited, whole}
 use Rattle.index_region.specs.Axes.{is_axis, axis_at, places_along}
-use Rattle.index_region.specs.Sources.{Source, item_from}
+use Rattle.index_region.specs.Sources.{Place, Source, item_from}
 
 -- the checks, and the shape and the type of the result
 abbrev pub reverse_form : Along → ArrayValue → Result Form Kind
@@ -17,7 +17,7 @@ reverse_form along b = check (is_axis (length b.shape) along) Axis (limited b.sh
 abbrev pub reverse_source : Along → ArrayValue → List ℕ → Source
 reverse_source along b index =
     let axis = axis_at (length b.shape) along in
-    Some (0, set index axis (suc (places_along b.shape axis) - get_or index axis 1))
+    Place 0 (set index axis (suc (places_along b.shape axis) - get_or index axis 1))
 
 -- the item at an index list
 abbrev pub reverse_item : Along → ArrayValue → List ℕ → Result Item Kind

@@ -10,7 +10,7 @@ use Rattle.index_region.specs.declared.along.Along.{Along}
 use Rattle.index_region.specs.Checks.{check, Form, limited, whole}
 use Rattle.index_region.specs.Arguments.{has_one_item, counts_as_numbers, number_of}
 use Rattle.index_region.specs.Axes.{is_axis, axis_at, places_along}
-use Rattle.index_region.specs.Sources.{Source, item_from}
+use Rattle.index_region.specs.Sources.{Place, Source, item_from}
 
 -- one amount, or one for each line of a shape along an axis
 abbrev pub lines_checked : ℕ → ArrayValue → List ℕ → Result Form Kind → Result Form Kind
@@ -39,7 +39,7 @@ rotated_place n amount i = suc (unsigned_abs (residue (pos n) ((pos i +ℤ amoun
 abbrev pub rotate_source : Along → ArrayValue → ArrayValue → List ℕ → Source
 rotate_source along a b index =
     let axis = axis_at (length b.shape) along in
-    Some (1, set index axis (rotated_place (places_along b.shape axis) (rotation axis a index) (get_or index axis 1)))
+    Place 1 (set index axis (rotated_place (places_along b.shape axis) (rotation axis a index) (get_or index axis 1)))
 
 -- the item at an index list
 abbrev pub rotate_item : Along → ArrayValue → ArrayValue → List ℕ → Result Item Kind

@@ -6,7 +6,7 @@ use Rattle.arrays_core.specs.Arrays.{ArrayValue}
 use Rattle.arrays_core.specs.Shapes.{is_index_of}
 use Rattle.index_region.specs.Checks.{Form, whole}
 use Rattle.index_region.specs.Arguments.{numbers}
-use Rattle.index_region.specs.Sources.{Source, item_from}
+use Rattle.index_region.specs.Sources.{Place, Fill, Source, item_from}
 use Rattle.structural_fns.specs.Reshape.{magnitudes}
 use Rattle.structural_fns.specs.AxisCounts.{counted_shape, uncounted, counted_form}
 
@@ -29,7 +29,7 @@ taken_places shape counts index = []
 abbrev pub take_source : ArrayValue → ArrayValue → List ℕ → Source
 take_source a b index =
     let place = taken_places (counted_shape a b) (numbers a) index in
-    if is_index_of (counted_shape a b) place then Some (1, uncounted b place) else None
+    if is_index_of (counted_shape a b) place then Place 1 (uncounted b place) else Fill
 
 -- the item at an index list
 abbrev pub take_item : ArrayValue → ArrayValue → List ℕ → Result Item Kind

@@ -4,7 +4,7 @@ use Rattle.arrays_core.specs.declared.item.Item.{Item}
 use Rattle.arrays_core.specs.declared.item.Kind.{Kind}
 use Rattle.arrays_core.specs.Arrays.{ArrayValue}
 use Rattle.index_region.specs.Checks.{Form, limited, whole}
-use Rattle.index_region.specs.Sources.{Source, item_from}
+use Rattle.index_region.specs.Sources.{Place, Source, item_from}
 
 -- the checks, and the shape and the type of the result
 abbrev pub transpose_form : ArrayValue → Result Form Kind
@@ -12,7 +12,7 @@ transpose_form b = limited (reverse b.shape) b.item_type
 
 -- where the item at an index list comes from
 abbrev pub transpose_source : ArrayValue → List ℕ → Source
-transpose_source b index = Some (0, reverse index)
+transpose_source b index = Place 0 (reverse index)
 
 -- the item at an index list
 abbrev pub transpose_item : ArrayValue → List ℕ → Result Item Kind

@@ -9,6 +9,7 @@ ghost use Rattle.index_region.specs.Answers.{IsPlaceOf, source_value};
 ghost use Rattle.structural_fns.specs.AxisCounts.{counted_shape as shape_counted};
 ghost use Rattle.structural_fns.specs.Drop.{drop_form, drop_source, drop_item, drop_whole, dropped_shape as shape_dropped, kept_place as place_kept, kept_places as places_kept};
 
+ghost use Rattle.index_region.specs.Checks.{form_of};
 use crate::axis_counts::{check_axis_counts, counted_shape, uncounted};
 use crate::limits::MOST_AXES;
 use arrays_core::{ApplyFault, Array, Item, ItemType, Kind, Shape, size};
@@ -62,7 +63,7 @@ fn kept_places(counts: &Seen, array: &Seen, index: &[u32]) -> Shape
 
 /// The places of a vector that are left.
 fn kept_run(counts: &Seen, vector: &Seen, shape: &Shape) -> Result<Array, AllocError>
-    requires form { drop_form counts.now vector.now ≡ Ok (shape.now.items, vector.now.item_type) }
+    requires form { drop_form counts.now vector.now ≡ Ok (form_of shape.now.items vector.now.item_type) }
     requires one_axis { length vector.now.shape ≡ 1 }
     requires sound { IsArray vector.now }
     ensures { IfOk result (λ a. drop_whole counts.now vector.now ≡ Ok a) }

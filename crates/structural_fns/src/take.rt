@@ -9,6 +9,7 @@ ghost use Rattle.index_region.specs.Answers.{IsPlaceOf, source_value};
 ghost use Rattle.structural_fns.specs.Reshape.{magnitudes as magnitudes_of};
 ghost use Rattle.structural_fns.specs.Take.{take_form, take_source, take_item, take_whole, taken_place as place_taken, taken_places as places_taken};
 
+ghost use Rattle.index_region.specs.Checks.{form_of};
 use crate::axis_counts::{check_axis_counts, counted_shape, uncounted};
 use crate::magnitudes::magnitudes;
 use arrays_core::{ApplyFault, Array, Item, ItemType, Kind, Shape, is_index_of};
@@ -56,7 +57,7 @@ fn has_places(counts: &Seen, vector: &Seen) -> bool
 
 /// The places of a vector that are taken, where it has as many.
 fn taken_run(counts: &Seen, vector: &Seen, shape: &Shape) -> Result<Array, AllocError>
-    requires form { take_form counts.now vector.now ≡ Ok (shape.now.items, vector.now.item_type) }
+    requires form { take_form counts.now vector.now ≡ Ok (form_of shape.now.items vector.now.item_type) }
     requires one_axis { length vector.now.shape ≡ 1 }
     requires there { size_of shape.now.items ≤ length vector.now.items }
     ensures { IfOk result (λ a. take_whole counts.now vector.now ≡ Ok a) }

@@ -7,6 +7,7 @@ use Rattle.selection_fns.specs.Index.{Position, of_array_and_positions, index_fo
 use Rattle.selection_fns.proofs.Indexed.{whole_of_positions}
 use Rattle.selection_fns.proofs.Vectors.{is_vector_index, picked_long, picked_whole}
 use Rattle.selection_fns.proofs.index.Index.apply.Goals as goal
+use Rattle.index_region.specs.Checks.{form_of}
 
 pub indices_from_zero-requires : goal.indices_from_zero-requires
 indices_from_zero-requires c =
@@ -38,8 +39,8 @@ returns-then-len-eq1 c =
     let form = c.in_ok-shape.ensures.0 in
     let known = is_vector_index written c.args.args.now a p c.in_ok-shape.shape.items c.in_ok-shape.field-0-1 c.requires c.if-args-eq2.true c.index-args-0.is c.index-args-1.is axis form in
     let facts = known.facts in
-    let plain : index_form a (Some p ∷ []) ≡ Ok (p.shape, a.item_type) =
-    facts.form ∙ ap (λ (s : List ℕ). Ok (s, c.in_ok-shape.field-0-1)) facts.shaped ∙ ap (λ (t : ItemType). Ok (p.shape, t)) facts.typed in
+    let plain : index_form a (Some p ∷ []) ≡ Ok (form_of p.shape a.item_type) =
+    facts.form ∙ ap (λ (s : List ℕ). Ok (form_of s c.in_ok-shape.field-0-1)) facts.shaped ∙ ap (λ (t : ItemType). Ok (form_of p.shape t)) facts.typed in
     let whole = picked_whole (get_or a.shape 0 0) a p known.axes facts.on c.indices_from_zero.ensures.long plain in
     let before : c.as_slice.result.now ≡ map (λ z. unsigned_abs z - 1) (numbers p) = search rules in
     ap (λ (xs : List ArrayValue). of_array_and_positions written index_whole xs) known.args_are ∙ ap (λ (ps : List Position). index_whole a ps) known.positions ∙ whole

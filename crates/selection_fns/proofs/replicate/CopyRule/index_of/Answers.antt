@@ -4,6 +4,7 @@ use Rattle.std.specs.Prelude.{sum}
 use Rattle.selection_fns.specs.Replicate.{times, copied_place}
 use Rattle.selection_fns.proofs.Copies.{copy_facts, copy_source}
 use Rattle.selection_fns.proofs.replicate.CopyRule.index_of.Goals as goal
+use Rattle.index_region.specs.Sources.{Place}
 
 pub index_of_copy-requires-clause-rank : goal.index_of_copy-requires-clause-rank
 index_of_copy-requires-clause-rank c =
@@ -58,4 +59,4 @@ returns c =
     self.long ∙ ap (λ m. sum (times self.counts.now (places_along b.shape m))) (sym facts.axis) in
     let is : (i : ℕ) → i < length self.before.now → get_or self.before.now i 0 + 1 ≡ copied_place self.counts.now (places_along b.shape k) (i + 1) =
     subst (λ m. (i : ℕ) → i < length self.before.now → get_or self.before.now i 0 + 1 ≡ copied_place self.counts.now (places_along b.shape m) (i + 1)) (sym facts.axis) self.is in
-    ap (λ xs. Some (1, xs)) c.index_of_copy.ensures ∙ copy_source self.replicate.along self.counts.now b c.args.index.now self.before.now k some facts long is
+    ap (λ xs. Place 1 xs) c.index_of_copy.ensures ∙ copy_source self.replicate.along self.counts.now b c.args.index.now self.before.now k some facts long is

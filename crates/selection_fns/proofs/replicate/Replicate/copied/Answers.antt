@@ -8,6 +8,7 @@ use Rattle.selection_fns.specs.Replicate.{times, copied_place, replicate_form}
 use Rattle.selection_fns.proofs.Picked.{picked_long, picked_copies}
 use Rattle.selection_fns.proofs.Copies.{replicate_gives, exchanged_there, copies_within}
 use Rattle.selection_fns.proofs.replicate.Replicate.copied.Goals as goal
+use Rattle.index_region.specs.Checks.{form_of}
 
 pub bounds-deref-axis : goal.bounds-deref-axis
 bounds-deref-axis c =
@@ -45,7 +46,7 @@ invariant_of-rule c =
     subst (λ m. (i : ℕ) → i < sum (times a n) → get_or c.in_ok-before.before.items i 0 + 1 ≡ copied_place a m (i + 1)) places
     (subst (λ m. (i : ℕ) → i < m → get_or c.in_ok-before.before.items i 0 + 1 ≡ copied_place a c.places_along-places.result (i + 1)) total c.in_ok-before.ensures.is) in
     let within : All (λ m. m ≤ 1048576) c.in_ok-before.before.items = copies_within a n (sum (times a n)) c.in_ok-before.before.items (subst (λ m. m ≤ 1048576) places c.places_along-places.ensures.within) c.before_each_copy.ensures.few long is in
-    let form : replicate_form along a b ≡ Ok (c.in_ok-shape.shape.items, b.item_type) = c.in_ok-shape.ensures.0 ∙ ap (λ (t : ItemType). Ok (c.in_ok-shape.shape.items, t)) known.typed in
+    let form : replicate_form along a b ≡ Ok (form_of c.in_ok-shape.shape.items b.item_type) = c.in_ok-shape.ensures.0 ∙ ap (λ (t : ItemType). Ok (form_of c.in_ok-shape.shape.items t)) known.typed in
     record {
       form = form;
       long = rw before long;
