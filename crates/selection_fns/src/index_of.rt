@@ -53,19 +53,32 @@ fn no_places(alloc: Global, array: &Seen, sought: &Seen) -> Result<Vec<i64>, All
 }
 
 /// The first place in an array of each item that is sought. Each of the two is read once.
-fn first_places_in(alloc: Global, array: &Seen, sought: &Seen) -> Result<Vec<i64>, AllocError>
-    ensures is { IfOk result (λ v. v.items ≡ map (λ x. pos (suc (position_or_len (same_item x) array.now.items))) sought.now.items) }
-    ensures long { length sought.now.items ≡ size sought.now.shape }
+fn first_places_in_array(alloc: Global, array: &Array, sought: &Array) -> Result<Vec<i64>, AllocError>
+    ensures { IfOk result (λ v. v.items ≡ map (λ x. pos (suc (position_or_len (same_item x) array.now.items))) sought.now.items) }
 {
-    // The numbers of places say that both arrays are within the limits.
-    let _within_limits = (array.places(), sought.places());
+    // The shape says that there are no more places than an array may have.
+    let _within_limits = array.shape();
     if let (Some(items), Some(numbers)) = (array.numbers(), sought.numbers()) {
         return first_places(alloc, items, numbers);
     }
     if let (Some(items), Some(characters)) = (array.characters(), sought.characters()) {
         return first_places(alloc, items, characters);
     }
-    no_places(alloc, array, sought)
+    no_places(alloc, &Seen::plain(array), &Seen::plain(sought))
+}
+
+/// The same of arrays as they are seen; where one has a patch, they are copied first.
+fn first_places_in(alloc: Global, array: &Seen, sought: &Seen) -> Result<Vec<i64>, AllocError>
+    ensures is { IfOk result (λ v. v.items ≡ map (λ x. pos (suc (position_or_len (same_item x) array.now.items))) sought.now.items) }
+    ensures long { length sought.now.items ≡ size sought.now.shape }
+{
+    // The number of places says that there is one item for each place of the shape.
+    let _one_item_a_place = sought.places();
+    if let (Some(array), Some(sought)) = (array.array(), sought.array()) {
+        return first_places_in_array(alloc, array, sought);
+    }
+    let (array, sought) = (array.copy()?, sought.copy()?);
+    first_places_in_array(alloc, &array, &sought)
 }
 
 impl IndexOf {

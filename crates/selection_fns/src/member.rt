@@ -39,19 +39,30 @@ fn no_members(alloc: Global, array: &Seen, sought: &Seen) -> Result<Vec<i64>, Al
 }
 
 /// Whether each item that is sought is one of an array. Each of the two is read once.
-fn are_members(alloc: Global, array: &Seen, sought: &Seen) -> Result<Vec<i64>, AllocError>
-    ensures is { IfOk result (λ v. v.items ≡ map (λ x. truth_of (list_any (same_item x) array.now.items)) sought.now.items) }
-    ensures long { length sought.now.items ≡ size sought.now.shape }
+fn are_members_of_array(alloc: Global, array: &Array, sought: &Array) -> Result<Vec<i64>, AllocError>
+    ensures { IfOk result (λ v. v.items ≡ map (λ x. truth_of (list_any (same_item x) array.now.items)) sought.now.items) }
 {
-    // The number of places says that there is one item for each place of the shape.
-    let _one_item_a_place = sought.places();
     if let (Some(items), Some(numbers)) = (array.numbers(), sought.numbers()) {
         return members_of(alloc, items, numbers);
     }
     if let (Some(items), Some(characters)) = (array.characters(), sought.characters()) {
         return members_of(alloc, items, characters);
     }
-    no_members(alloc, array, sought)
+    no_members(alloc, &Seen::plain(array), &Seen::plain(sought))
+}
+
+/// The same of arrays as they are seen; where one has a patch, they are copied first.
+fn are_members(alloc: Global, array: &Seen, sought: &Seen) -> Result<Vec<i64>, AllocError>
+    ensures is { IfOk result (λ v. v.items ≡ map (λ x. truth_of (list_any (same_item x) array.now.items)) sought.now.items) }
+    ensures long { length sought.now.items ≡ size sought.now.shape }
+{
+    // The number of places says that there is one item for each place of the shape.
+    let _one_item_a_place = sought.places();
+    if let (Some(array), Some(sought)) = (array.array(), sought.array()) {
+        return are_members_of_array(alloc, array, sought);
+    }
+    let (array, sought) = (array.copy()?, sought.copy()?);
+    are_members_of_array(alloc, &array, &sought)
 }
 
 impl Member {
