@@ -1,0 +1,102 @@
+-- What an argument adds to what may change.
+use Rattle.std.proofs.Common.{◌≡◌, ℕ, suc, zero, ◌+◌, ◌<◌, ◌≤◌, List, [], ◌∷◌, length, drop, get_or, refl, ap, ◌∙◌, sym, subst, arith, Bool, true, false, ◌||◌, Option, Some, None, is_some, not}
+use Rattle.std.proofs.lemmas.Bool.{true≢false}
+use Rattle.std.proofs.lemmas.List.{drop_all}
+use Rattle.arrays_core.specs.Arrays.{ArrayValue}
+use Rattle.change_core.proofs.Covers.{changed-fits}
+use Rattle.change_core.proofs.Regions.{HasFit, bounded-fits, fits-length}
+use Rattle.change_core.specs.Reaches.{AllFit, Fits, bounded, changed, changed_by, is_anew}
+use Rattle.change_core.specs.RuleModels.{FitsAt, Use, box_at}
+use Rattle.index_region.specs.Boxes.{Interval, join_boxes}
+
+abbrev pub anew_by : Bool → Option (List Interval) → Bool → Bool
+anew_by selects None rest = rest
+anew_by selects (Some region) rest = selects || rest
+
+anew_first : (s : Bool) (m n : Option (List Interval)) (selectors : List Bool) (ms : List (Option (List Interval))) → m ≡ n → is_anew (s ∷ selectors) (n ∷ ms) ≡ anew_by s m (is_anew selectors ms)
+anew_first s m n selectors ms e = by_cases s n ∙ ap (λ (o : Option (List Interval)). anew_by s o (is_anew selectors ms)) (sym e)
+  where
+    by_cases : (s : Bool) (n : Option (List Interval)) → is_anew (s ∷ selectors) (n ∷ ms) ≡ anew_by s n (is_anew selectors ms)
+    by_cases true None = refl
+    by_cases true (Some r) = refl
+    by_cases false None = refl
+    by_cases false (Some r) = refl
+
+pub anew_at : (selectors : List Bool) (ms : List (Option (List Interval))) (which : ℕ) (m : Option (List Interval)) → which < length ms → which < length selectors → m ≡ get_or ms which m → is_anew (drop which selectors) (drop which ms) ≡ anew_by (get_or selectors which false) m (is_anew (drop (suc which) selectors) (drop (suc which) ms))
+anew_at selectors [] which m l k e = absurd (omega arith)
+anew_at [] (n ∷ ms) which m l k e = absurd (omega arith)
+anew_at (s ∷ selectors) (n ∷ ms) zero m l k e = anew_first s m n selectors ms e
+anew_at (s ∷ selectors) (n ∷ ms) (suc which) m l k e = anew_at selectors ms which m (omega arith) (omega arith) e
+
+-- what one argument changes
+abbrev pub moved_at : List ℕ → List Use → ℕ → Option (List Interval) → Option (List Interval)
+moved_at shape uses which None = None
+moved_at shape uses which (Some region) = bounded shape (box_at uses which region)
+
+changed_first : (shape : List ℕ) (uses : List Use) (m n : Option (List Interval)) (ms : List (Option (List Interval))) → m ≡ n → changed shape uses (n ∷ ms) ≡ join_boxes (moved_at shape uses 0 m) (changed shape (drop 1 uses) ms)
+changed_first shape uses m n ms e = by_cases uses n ∙ ap (λ (o : Option (List Interval)). join_boxes (moved_at shape uses 0 o) (changed shape (drop 1 uses) ms)) (sym e)
+  where
+    by_cases : (uses : List Use) (n : Option (List Interval)) → changed shape uses (n ∷ ms) ≡ join_boxes (moved_at shape uses 0 n) (changed shape (drop 1 uses) ms)
+    by_cases [] None = refl
+    by_cases [] (Some r) = refl
+    by_cases (u ∷ us) None = refl
+    by_cases (u ∷ us) (Some r) = refl
+
+pub changed_at : (shape : List ℕ) (uses : List Use) (ms : List (Option (List Interval))) (which : ℕ) (m : Option (List Interval)) → which < length ms → m ≡ get_or ms which m → changed shape (drop which uses) (drop which ms) ≡ join_boxes (moved_at shape uses which m) (changed shape (drop (suc which) uses) (drop (suc which) ms))
+changed_at shape uses [] which m l e = absurd (omega arith)
+changed_at shape uses (n ∷ ms) zero m l e = changed_first shape uses m n ms e
+changed_at shape [] (n ∷ ms) (suc which) m l e = nothing m
+  where
+    nothing : (m : Option (List Interval)) → changed shape (drop (suc which) []) (drop (suc which) (n ∷ ms)) ≡ join_boxes (moved_at shape [] (suc which) m) (changed shape (drop (suc (suc which)) []) (drop (suc (suc which)) (n ∷ ms)))
+    nothing None = refl
+    nothing (Some r) = refl
+changed_at shape (u ∷ us) (n ∷ ms) (suc which) m l e = changed_at shape us ms which m (omega arith) e
+
+changed_nothing : (shape : List ℕ) (uses : List Use) → None ≡ changed shape uses []
+changed_nothing shape [] = refl
+changed_nothing shape (u ∷ us) = refl
+
+pub changed_past : (shape : List ℕ) (uses : List Use) (ms : List (Option (List Interval))) (which : ℕ) → which ≡ length ms → None ≡ changed shape (drop which uses) (drop which ms)
+changed_past shape uses ms which e = changed_nothing shape (drop which uses) ∙ sym (ap (changed shape (drop which uses)) (drop_all which ms (omega arith)))
+
+pub same_rank : (shape : List ℕ) (p q : Option (List Interval)) → HasFit shape p → HasFit shape q → (a b : List Interval) → p ≡ Some a → q ≡ Some b → length a ≡ length b
+same_rank shape p q hp hq a b ea eb =
+    let ha = subst (HasFit shape) ea hp in
+    let hb = subst (HasFit shape) eb hq in
+    fits-length a shape ha ∙ sym (fits-length b shape hb)
+
+pub anew_none : (selectors : List Bool) (ms : List (Option (List Interval))) (which : ℕ) (m : Option (List Interval)) (none result : Bool) → (which ≡ length ms → ⊥) → which ≤ length ms → length ms ≡ length selectors → m ≡ get_or ms which m → is_some m ≡ not none → none ≡ true → result ≡ is_anew (drop (which + 1) selectors) (drop (which + 1) ms) → result ≡ is_anew (drop which selectors) (drop which ms)
+anew_none selectors ms which m none result differs within count e f h r =
+    let l : which < length ms = omega arith in
+    let next : which + 1 ≡ suc which = omega arith in
+    r ∙ ap (λ (k : ℕ). is_anew (drop k selectors) (drop k ms)) next ∙ sym (anew_at selectors ms which m l (omega arith) e ∙ no_more m (f ∙ ap not h))
+  where
+    no_more : (m : Option (List Interval)) → is_some m ≡ false → anew_by (get_or selectors which false) m (is_anew (drop (suc which) selectors) (drop (suc which) ms)) ≡ is_anew (drop (suc which) selectors) (drop (suc which) ms)
+    no_more None f = refl
+    no_more (Some r) f = absurd (true≢false f)
+
+pub changed_none : (shape : List ℕ) (uses : List Use) (ms : List (Option (List Interval))) (which : ℕ) (m rest : Option (List Interval)) → (which ≡ length ms → ⊥) → which ≤ length ms → m ≡ get_or ms which m → m ≡ None → rest ≡ changed shape (drop (which + 1) uses) (drop (which + 1) ms) → rest ≡ changed shape (drop which uses) (drop which ms)
+changed_none shape uses ms which m rest differs within e f r =
+    let l : which < length ms = omega arith in
+    let next : which + 1 ≡ suc which = omega arith in
+    r ∙ ap (λ (k : ℕ). changed shape (drop k uses) (drop k ms)) next
+    ∙ sym (changed_at shape uses ms which m l e ∙ ap (λ (o : Option (List Interval)). join_boxes (moved_at shape uses which o) (changed shape (drop (suc which) uses) (drop (suc which) ms))) f)
+
+pub changed_some : (shape : List ℕ) (uses : List Use) (ms : List (Option (List Interval))) (which : ℕ) (m box this rest joined : Option (List Interval)) (region : List Interval) → (which ≡ length ms → ⊥) → which ≤ length ms → m ≡ get_or ms which m → m ≡ Some region → box ≡ box_at uses which region → this ≡ bounded shape box → rest ≡ changed shape (drop (which + 1) uses) (drop (which + 1) ms) → joined ≡ join_boxes this rest → joined ≡ changed shape (drop which uses) (drop which ms)
+changed_some shape uses ms which m box this rest joined region differs within e f b t r j =
+    let l : which < length ms = omega arith in
+    let next : which + 1 ≡ suc which = omega arith in
+    let first : this ≡ bounded shape (box_at uses which region) = t ∙ ap (bounded shape) b in
+    let later : rest ≡ changed shape (drop (suc which) uses) (drop (suc which) ms) = r ∙ ap (λ (k : ℕ). changed shape (drop k uses) (drop k ms)) next in
+    j ∙ (λ i. join_boxes (first i) (later i))
+    ∙ sym (changed_at shape uses ms which m l e ∙ ap (λ (o : Option (List Interval)). join_boxes (moved_at shape uses which o) (changed shape (drop (suc which) uses) (drop (suc which) ms))) f)
+
+pub changed_ranks : (shape : List ℕ) (uses : List Use) (ms : List (Option (List Interval))) (box this rest : Option (List Interval)) → this ≡ bounded shape box → rest ≡ changed shape uses ms → (a b : List Interval) → this ≡ Some a → rest ≡ Some b → length a ≡ length b
+changed_ranks shape uses ms box this rest t r = same_rank shape this rest (subst (HasFit shape) (sym t) (bounded-fits shape box)) (subst (HasFit shape) (sym r) (changed-fits shape uses ms))
+
+-- a changed box lies in its own argument
+pub fit_at : (args : List ArrayValue) (ms : List (Option (List Interval))) (which : ℕ) (m : Option (List Interval)) (region : List Interval) → length ms ≡ length args → AllFit args ms → m ≡ get_or ms which m → m ≡ Some region → FitsAt args which region
+fit_at [] ms which m region n h e f = tt
+fit_at (a ∷ args) [] which m region n h e f = absurd (omega arith)
+fit_at (a ∷ args) (x ∷ ms) zero m region n h e f = subst (Fits a) (sym e ∙ f) h.0
+fit_at (a ∷ args) (x ∷ ms) (suc which) m region n h e f = fit_at args ms which m region (omega arith) h.1 e f

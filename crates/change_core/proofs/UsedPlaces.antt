@@ -1,0 +1,143 @@
+-- Uses by place and by search are covered.
+use Rattle.std.proofs.Common.{◌≡◌, ◌≢◌, ℕ, suc, zero, ◌+◌, ◌-◌, ◌*◌, ◌/◌, ◌%◌, ◌≤◌, ◌<◌, List, [], ◌∷◌, length, map, refl, ap, ◌∙◌, sym, subst, arith, IsTrue, true, false, Bool, ◌&&◌, Option, Some, None, ◌⊎◌, inl, inr, nat_le, nat_lt, nat_eq, cond, min, max}
+use Rattle.std.proofs.lemmas.Bool.{and_parts, leb-true, ltb-true, ltb-false, eqb-true, false≢true, cases_Bool, cond-true, cond-false, and_from, le-leb, lt-ltb, cases_order, both_ways}
+use Rattle.std.proofs.lemmas.Nat.{div-mul-add, mod-mul-add, mod_below, div-add-mod', mul-le}
+use Rattle.std.proofs.Math.Nat.{mod-eq_of_lt}
+use Rattle.arrays_core.specs.Shapes.{is_index_of, size, places_before, index_after}
+use Rattle.arrays_core.proofs.Shapes.{places_below}
+use Rattle.change_core.proofs.UsedWays.{within-whole}
+use Rattle.change_core.specs.Laws.{Covered, Each}
+use Rattle.change_core.specs.Places.{by_place, cover_in, first_hit, first_of_box, last_hit, last_of_box, lies_in, searched}
+use Rattle.change_core.specs.Reaches.{is_moved}
+use Rattle.change_core.specs.RuleModels.{Use}
+use Rattle.change_core.specs.Ways.{Axis, IsSound}
+use Rattle.index_region.specs.Boxes.{Interval, cover, fits, is_within, whole_of}
+
+pub first_hit-le : (test : ℕ → Bool) (from n i : ℕ) → from ≤ i → i < from + n → test i ≡ true → first_hit test from n ≤ i
+first_hit-le test from zero i l u h = absurd (omega arith)
+first_hit-le test from (suc n) i l u h = elim (cases_Bool (test from)) [
+  | inl t ↦ subst (λ (x : ℕ). x ≤ i) (sym (cond-true _ _ _ t)) l
+  | inr f ↦ elim (cases_order from i) [
+    | inl e ↦ absurd (both_ways _ f (ap test e ∙ h))
+    | inr o ↦
+        let later : from + 1 ≤ i = elim o [ inl m ↦ omega arith | inr m ↦ absurd (omega arith) ] in
+        subst (λ (x : ℕ). x ≤ i) (sym (cond-false _ _ _ f)) (first_hit-le test (from + 1) n i later (omega arith) h)
+  ]
+]
+
+pub last_hit-le : (test : ℕ → Bool) (n i : ℕ) → 1 ≤ i → i ≤ n → test i ≡ true → i ≤ last_hit test n
+last_hit-le test zero i l u h = absurd (omega arith)
+last_hit-le test (suc n) i l u h = elim (cases_Bool (test (suc n))) [
+  | inl t ↦ subst (λ (x : ℕ). i ≤ x) (sym (cond-true _ _ _ t)) u
+  | inr f ↦ elim (cases_order i (suc n)) [
+    | inl e ↦ absurd (both_ways _ f (ap test (sym e) ∙ h))
+    | inr o ↦
+        let before : i ≤ n = elim o [ inl m ↦ omega arith | inr m ↦ absurd (omega arith) ] in
+        subst (λ (x : ℕ). i ≤ x) (sym (cond-false _ _ _ f)) (last_hit-le test n i l before h)
+  ]
+]
+
+-- an axis by a table
+pub searched-sound : (n : ℕ) (source : ℕ → ℕ) → IsSound (searched n source)
+searched-sound n source = record {
+  low = λ s i l u f h k. first_hit-le (λ j. lies_in s (source j)) 1 n i l (omega arith) (and_from _ _ (le-leb _ _ h) (le-leb _ _ k));
+  high = λ s i l u f h k. last_hit-le (λ j. lies_in s (source j)) n i l u (and_from _ _ (le-leb _ _ h) (le-leb _ _ k));
+}
+
+row_le : (a x w b o : ℕ) → a * w + b ≤ x * w + o → o < w → a ≤ x
+row_le a x w b o h l = elim (cases_order a x) [
+  | inl e ↦ omega arith
+  | inr s ↦ elim s [
+    | inl m ↦ omega arith
+    | inr m ↦
+        let next : (x + 1) * w ≤ a * w = mul-le (x + 1) w a w (omega arith) (omega arith) in
+        let more : (x + 1) * w ≡ x * w + w = grind arith in
+        absurd (omega arith)
+  ]
+]
+
+same_row : (a x w b o : ℕ) → a ≡ x → a * w + b ≤ x * w + o → b ≤ o
+same_row a x w b o e h = let k = rw e at h in omega arith
+
+pub cover-within : (axes index : List ℕ) (p q : ℕ) → is_index_of axes index ≡ true → p ≤ places_before axes index → places_before axes index ≤ q → q < size axes → is_within (cover axes p q) index ≡ true
+cover-within [] [] p q place l u b = refl
+cover-within [] (i ∷ index) p q place l u b = absurd (false≢true place)
+cover-within (n ∷ axes) [] p q place l u b = absurd (false≢true place)
+cover-within (n ∷ axes) (i ∷ index) p q place l u b =
+    let parts = and_parts _ _ place in
+    let low : 1 ≤ i = leb-true 1 i (and_parts _ _ parts.0).0 in
+    let w = size axes in
+    let o = places_before axes index in
+    let below : o < w = places_below axes index parts.1 in
+    let positive : 0 < w = omega arith in
+    let dp : p / w * w + p % w ≡ p = div-add-mod' p w in
+    let dq : q / w * w + q % w ≡ q = div-add-mod' q w in
+    let mq : q % w < w = mod_below q w positive in
+    let lp : p / w * w + p % w ≤ (i - 1) * w + o = omega arith in
+    let lq : (i - 1) * w + o ≤ q / w * w + q % w = omega arith in
+    let first : p / w ≤ i - 1 = row_le (p / w) (i - 1) w (p % w) o lp below in
+    let last : i - 1 ≤ q / w = row_le (i - 1) (q / w) w o (q % w) lq mq in
+    let here : (nat_le (p / w + 1) i && nat_le i (q / w + 1)) ≡ true = and_from _ _ (le-leb (p / w + 1) i (omega arith)) (le-leb i (q / w + 1) (omega arith)) in
+    let deep = λ (r : List Interval). is_within r index ≡ true in
+    elim (cases_Bool (nat_eq (p / w + 1) (q / w + 1))) [
+      | inl t ↦
+          let same : p / w + 1 ≡ q / w + 1 = eqb-true _ _ t in
+          let pi : p / w ≡ i - 1 = omega arith in
+          let qi : i - 1 ≡ q / w = omega arith in
+          and_from _ _ here (subst deep (sym (cond-true _ _ _ t)) (cover-within axes index (p % w) (q % w) parts.1 (same_row _ _ w _ _ pi lp) (same_row _ _ w _ _ qi lq) mq))
+      | inr f ↦ and_from _ _ here (subst deep (sym (cond-false _ _ _ f)) (within-whole axes index ∙ parts.1))
+    ]
+
+-- an index list in the box lies between the box's first and last in the ravel
+pub offset_between : (axes : List ℕ) (region : List Interval) (index : List ℕ) → is_within region index ≡ true → (places_before axes (first_of_box region) ≤ places_before axes index) × (places_before axes index ≤ places_before axes (last_of_box region))
+offset_between axes [] [] h = (omega arith, omega arith)
+offset_between axes [] (i ∷ index) h = absurd (false≢true h)
+offset_between axes (s ∷ region) [] h = absurd (false≢true h)
+offset_between [] (s ∷ region) (i ∷ index) h = (omega arith, omega arith)
+offset_between (n ∷ axes) (s ∷ region) (i ∷ index) h =
+    let parts = and_parts _ _ h in
+    let first = and_parts _ _ parts.0 in
+    let low : s.0 ≤ i = leb-true s.0 i first.0 in
+    let high : i ≤ s.1 = leb-true i s.1 first.1 in
+    let rest = offset_between axes region index parts.1 in
+    let r0 : places_before axes (first_of_box region) ≤ places_before axes index = rest.0 in
+    let r1 : places_before axes index ≤ places_before axes (last_of_box region) = rest.1 in
+    let a : (s.0 - 1) * size axes ≤ (i - 1) * size axes = mul-le (s.0 - 1) (size axes) (i - 1) (size axes) (omega arith) (omega arith) in
+    let b : (i - 1) * size axes ≤ (s.1 - 1) * size axes = mul-le (i - 1) (size axes) (s.1 - 1) (size axes) (omega arith) (omega arith) in
+    (omega arith, omega arith)
+
+pub places_before-index_after : (axes : List ℕ) (p : ℕ) → p < size axes → places_before axes (index_after axes p) ≡ p
+places_before-index_after [] p h = omega arith
+places_before-index_after (n ∷ axes) p h =
+    let positive : 0 < size axes = grind arith in
+    let rest = places_before-index_after axes (p % size axes) (mod_below p (size axes) positive) in
+    let one : p / size axes + 1 - 1 ≡ p / size axes = omega arith in
+    rw (one, rest) (div-add-mod' p (size axes))
+
+by_place-within : (from shape : List ℕ) (region : List Interval) (index : List ℕ) → is_index_of shape index ≡ true → size shape ≤ size from → is_within region (index_after from (places_before shape index % size from)) ≡ true → is_moved (cover_in shape (places_before from (first_of_box region)) (places_before from (last_of_box region))) index ≡ true
+by_place-within from shape region index place few inside =
+    let lo = places_before from (first_of_box region) in
+    let hi = places_before from (last_of_box region) in
+    let at = places_before shape index in
+    let below : at < size shape = places_below shape index place in
+    let within_from : at < size from = omega arith in
+    let same : at % size from ≡ at = mod-eq_of_lt within_from in
+    let here : is_within region (index_after from at) ≡ true = subst (λ (p : ℕ). is_within region (index_after from p) ≡ true) same inside in
+    let between = offset_between from region (index_after from at) here in
+    let back : places_before from (index_after from at) ≡ at = places_before-index_after from at within_from in
+    let low : lo ≤ at = subst (λ (p : ℕ). lo ≤ p) back between.0 in
+    let high : at ≤ hi = subst (λ (p : ℕ). p ≤ hi) back between.1 in
+    let there : nat_lt lo (size shape) ≡ true = lt-ltb lo (size shape) (omega arith) in
+    let least : at ≤ min hi (size shape - 1) = omega arith in
+    let last : min hi (size shape - 1) < size shape = omega arith in
+    ap (λ (o : Option (List Interval)). is_moved o index) (cond-true _ _ _ there) ∙ cover-within shape index lo (min hi (size shape - 1)) place low least last
+
+-- reshape and ravel
+pub by_place-covered : (from shape : List ℕ) → Covered from shape (by_place from shape)
+by_place-covered from shape region index fit place = (inside, tt)
+  where
+    inside : is_within region (index_after from (places_before shape index % size from)) ≡ true → is_moved ((by_place from shape).box region) index ≡ true
+    inside h = elim (cases_Bool (nat_lt (size from) (size shape))) [
+      | inl t ↦ ap (λ (o : Option (List Interval)). is_moved o index) (cond-true _ _ _ t) ∙ within-whole shape index ∙ place
+      | inr f ↦ ap (λ (o : Option (List Interval)). is_moved o index) (cond-false _ _ _ f) ∙ by_place-within from shape region index place (ltb-false _ _ f) h
+    ]

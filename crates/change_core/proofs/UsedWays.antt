@@ -1,0 +1,262 @@
+-- Each way to use an argument is covered.
+use Rattle.std.proofs.Common.{◌≡◌, ◌≢◌, ℕ, suc, zero, ◌+◌, ◌-◌, ◌≤◌, ◌<◌, List, [], ◌∷◌, ◌++◌, length, map, take, drop, set, get_or, insert, remove, refl, ap, ◌∙◌, sym, subst, arith, IsTrue, true, false, Bool, ◌&&◌, Option, Some, None, ◌⊎◌, inl, inr, nat_le, nat_lt, nat_eq, cond, min, max, if◌then◌else◌}
+use Rattle.std.specs.List.{range_with_len}
+use Rattle.std.proofs.lemmas.Bool.{and_parts, leb-true, ltb-true, ltb-false, eqb-true, false≢true, cases_Bool, cond-true, cond-false, and_from, le-leb}
+use Rattle.arrays_core.specs.Shapes.{is_index_of}
+use Rattle.change_core.specs.Laws.{Covered, Each}
+use Rattle.change_core.specs.Reaches.{is_moved}
+use Rattle.change_core.specs.RuleModels.{Use}
+use Rattle.change_core.specs.Ways.{Axis, IsSound, across, alike, along, back, both_intervals, by_axes, everywhere, front, images, lengths, lines, meet_at, meets, on_box, permuted, read_all, scalar_by_axes, sources, then_by, unread}
+use Rattle.index_region.specs.Boxes.{Interval, fits, is_within, whole_of}
+
+pub each_map : {A B : Type 0} (P : B → Type 0) (f : A → B) (xs : List A) → Each (λ x. P (f x)) xs → Each P (map f xs)
+each_map P f [] h = tt
+each_map P f (x ∷ xs) h = (h.0, each_map P f xs h.1)
+
+pub each_all : {A : Type 0} (P : A → Type 0) (xs : List A) → ((x : A) → P x) → Each P xs
+each_all P [] h = tt
+each_all P (x ∷ xs) h = (h x, each_all P xs h)
+
+pub each_range : (P : ℕ → Type 0) (from n : ℕ) → ((k : ℕ) → from ≤ k → k < from + n → P k) → Each P (range_with_len from n)
+each_range P from zero h = tt
+each_range P from (suc n) h = (h from (omega arith) (omega arith), each_range P (from + 1) n (λ k l u. h k (omega arith) (omega arith)))
+
+pub within-whole : (axes index : List ℕ) → is_within (whole_of axes) index ≡ is_index_of axes index
+within-whole [] [] = refl
+within-whole (n ∷ axes) (i ∷ index) = ap (λ (b : Bool). (nat_le 1 i && nat_le i n) && b) (within-whole axes index)
+within-whole [] (i ∷ index) = refl
+within-whole (n ∷ axes) [] = refl
+
+pub unread-covered : (from shape : List ℕ) → Covered from shape unread
+unread-covered from shape region index fit place = tt
+
+pub alike-covered : (from shape : List ℕ) → Covered from shape alike
+alike-covered from shape region index fit place = ((λ h. h), tt)
+
+pub everywhere-covered : (from shape : List ℕ) (reads : List ℕ → List (List ℕ)) → Covered from shape (everywhere shape reads)
+everywhere-covered from shape reads region index fit place = each_all _ (reads index) (λ j h. within-whole shape index ∙ place)
+
+pub images-within : (axes : List Axis) (from : List ℕ) (region : List Interval) (index : List ℕ) → Each IsSound axes → fits region from ≡ true → is_index_of (lengths axes) index ≡ true → is_within region (sources axes index) ≡ true → is_within (images axes region) index ≡ true
+images-within [] from region [] h fit place inside = refl
+images-within [] from region (i ∷ index) h fit place inside = absurd (false≢true place)
+images-within (x ∷ axes) from region [] h fit place inside = absurd (false≢true place)
+images-within (x ∷ axes) from [] (i ∷ index) h fit place inside = absurd (false≢true inside)
+images-within (x ∷ axes) [] (s ∷ region) (i ∷ index) h fit place inside = absurd (false≢true fit)
+images-within (x ∷ axes) (m ∷ from) (s ∷ region) (i ∷ index) h fit place inside =
+    let pp = and_parts _ _ place in
+    let p1 = and_parts _ _ pp.0 in
+    let ip = and_parts _ _ inside in
+    let i1 = and_parts _ _ ip.0 in
+    let fp = and_parts _ _ fit in
+    let f1 = and_parts _ _ (and_parts _ _ fp.0).0 in
+    let low = h.0.low s i (leb-true 1 i p1.0) (leb-true i x.len p1.1) (leb-true 1 s.0 f1.0) (leb-true s.0 (x.source i) i1.0) (leb-true (x.source i) s.1 i1.1) in
+    let high = h.0.high s i (leb-true 1 i p1.0) (leb-true i x.len p1.1) (leb-true 1 s.0 f1.0) (leb-true s.0 (x.source i) i1.0) (leb-true (x.source i) s.1 i1.1) in
+    and_from _ _ (and_from _ _ (le-leb _ _ low) (le-leb _ _ high)) (images-within axes from region index h.1 fp.1 pp.1 ip.1)
+
+-- one fact an axis
+pub by_axes-covered : (from : List ℕ) (axes : List Axis) → Each IsSound axes → Covered from (lengths axes) (by_axes axes)
+by_axes-covered from axes h region index fit place = (images-within axes from region index h fit place, tt)
+
+index-length : (shape index : List ℕ) → is_index_of shape index ≡ true → length index ≡ length shape
+index-length [] [] h = refl
+index-length (n ∷ shape) (i ∷ index) h = let k = index-length shape index (and_parts _ _ h).1 in omega (arith, k)
+index-length [] (i ∷ index) h = absurd (false≢true h)
+index-length (n ∷ shape) [] h = absurd (false≢true h)
+
+within-insert : (axis j : ℕ) (region : List Interval) (index : List ℕ) → axis ≤ length index → is_within region (insert index axis j) ≡ true → is_within (remove region axis) index ≡ true
+within-insert zero j [] index l h = absurd (false≢true h)
+within-insert zero j (s ∷ region) index l h = (and_parts _ _ h).1
+within-insert (suc axis) j region [] l h = absurd (omega arith)
+within-insert (suc axis) j [] (i ∷ index) l h = absurd (false≢true h)
+within-insert (suc axis) j (s ∷ region) (i ∷ index) l h =
+    let parts = and_parts _ _ h in
+    and_from _ _ parts.0 (within-insert axis j region index (omega arith) parts.1)
+
+-- reduction
+pub lines-covered : (from shape : List ℕ) (axis len : ℕ) → axis ≤ length shape → Covered from shape (lines axis len)
+lines-covered from shape axis len l region index fit place =
+    let few : axis ≤ length index = omega (arith, index-length shape index place) in
+    each_map _ (insert index axis) (range_with_len 1 len) (each_all _ (range_with_len 1 len) (λ j. within-insert axis j region index few))
+
+-- what an interval changes on an item's own line
+abbrev pub Follows : (Interval → Interval) → ℕ → ℕ → Type 0
+Follows image i j = (s : Interval) → 1 ≤ s.0 → s.0 ≤ j → j ≤ s.1 → ((image s).0 ≤ i) × (i ≤ (image s).1)
+
+-- d stands where an index list has no such axis, which does not come to be asked
+pub within-set : (d axis j : ℕ) (image : Interval → Interval) (from : List ℕ) (region : List Interval) (index : List ℕ) → fits region from ≡ true → (axis < length index → Follows image (get_or index axis d) j) → is_within region (set index axis j) ≡ true → is_within (set region axis (image (get_or region axis (0, 0)))) index ≡ true
+within-set d zero j image from [] [] fit f h = refl
+within-set d zero j image from (s ∷ region) [] fit f h = absurd (false≢true h)
+within-set d zero j image from [] (i ∷ index) fit f h = absurd (false≢true h)
+within-set d zero j image [] (s ∷ region) (i ∷ index) fit f h = absurd (false≢true fit)
+within-set d zero j image (m ∷ from) (s ∷ region) (i ∷ index) fit f h =
+    let parts = and_parts _ _ h in
+    let p1 = and_parts _ _ parts.0 in
+    let first = leb-true 1 s.0 (and_parts _ _ (and_parts _ _ (and_parts _ _ fit).0).0).0 in
+    let there = f (omega arith) s first (leb-true s.0 j p1.0) (leb-true j s.1 p1.1) in
+    and_from _ _ (and_from _ _ (le-leb _ _ there.0) (le-leb _ _ there.1)) parts.1
+within-set d (suc axis) j image from [] [] fit f h = refl
+within-set d (suc axis) j image from (s ∷ region) [] fit f h = absurd (false≢true h)
+within-set d (suc axis) j image from [] (i ∷ index) fit f h = absurd (false≢true h)
+within-set d (suc axis) j image [] (s ∷ region) (i ∷ index) fit f h = absurd (false≢true fit)
+within-set d (suc axis) j image (m ∷ from) (s ∷ region) (i ∷ index) fit f h =
+    let parts = and_parts _ _ h in
+    and_from _ _ parts.0 (within-set d axis j image from region index (and_parts _ _ fit).1 (λ l. f (omega arith)) parts.1)
+
+each_more : {A : Type 0} (P Q : A → Type 0) (xs : List A) → ((x : A) → P x → Q x) → Each P xs → Each Q xs
+each_more P Q [] f h = tt
+each_more P Q (x ∷ xs) f h = (f x h.0, each_more P Q xs f h.1)
+
+-- scan, rotation
+pub along-covered : (from shape : List ℕ) (axis : ℕ) (places : List ℕ → List ℕ) (image : Interval → Interval) → ((index : List ℕ) → is_index_of shape index ≡ true → axis < length index → Each (Follows image (get_or index axis 0)) (places index)) → Covered from shape (along axis places image)
+along-covered from shape axis places image f region index fit place =
+    each_map _ (set index axis) (places index) (elim (cases_Bool (nat_lt axis (length index))) [
+      | inl t ↦ each_more _ _ (places index) (λ j follows. within-set 0 axis j image from region index fit (λ _. follows)) (f index place (ltb-true _ _ t))
+      | inr o ↦
+          let past : length index ≤ axis = ltb-false _ _ o in
+          each_all _ (places index) (λ j. within-set 0 axis j image from region index fit (λ l. absurd (omega arith)))
+    ])
+
+within-remove : (axis : ℕ) (place : Interval) (region : List Interval) (index : List ℕ) → axis < length index → place.0 ≤ get_or index axis 0 → get_or index axis 0 ≤ place.1 → is_within region (remove index axis) ≡ true → is_within (insert region axis place) index ≡ true
+within-remove axis place region [] l low high h = absurd (omega arith)
+within-remove zero place region (i ∷ index) l low high h = and_from _ _ (and_from _ _ (le-leb _ _ low) (le-leb _ _ high)) h
+within-remove (suc axis) place [] (i ∷ index) l low high h = absurd (false≢true h)
+within-remove (suc axis) place (s ∷ region) (i ∷ index) l low high h =
+    let parts = and_parts _ _ h in
+    and_from _ _ parts.0 (within-remove axis place region index (omega arith) low high parts.1)
+
+-- an argument that lacks an axis
+pub across-covered : (from shape : List ℕ) (axis : ℕ) (place : Interval) → axis < length shape → Covered from shape (across axis place)
+across-covered from shape axis place l region index fit here =
+    let few : axis < length index = omega (arith, index-length shape index here) in
+    let there = λ (p : List ℕ). is_within region p ≡ true → is_within (insert region axis place) index ≡ true in
+    elim (cases_Bool (nat_le place.0 (get_or index axis 0) && nat_le (get_or index axis 0) place.1)) [
+      | inl t ↦
+          let parts = and_parts _ _ t in
+          subst (Each there) (sym (cond-true _ _ _ t)) (within-remove axis place region index few (leb-true _ _ parts.0) (leb-true _ _ parts.1), tt)
+      | inr f ↦ subst (Each there) (sym (cond-false _ _ _ f)) tt
+    ]
+
+within-take : (first rest : List ℕ) (region : List Interval) (index : List ℕ) → is_index_of (first ++ rest) index ≡ true → is_within region (take (length first) index) ≡ true → is_within (region ++ whole_of rest) index ≡ true
+within-take [] rest [] index place h = within-whole rest index ∙ place
+within-take [] rest (s ∷ region) index place h = absurd (false≢true h)
+within-take (n ∷ first) rest region [] place h = absurd (false≢true place)
+within-take (n ∷ first) rest [] (i ∷ index) place h = absurd (false≢true h)
+within-take (n ∷ first) rest (s ∷ region) (i ∷ index) place h =
+    let parts = and_parts _ _ h in
+    and_from _ _ parts.0 (within-take first rest region index (and_parts _ _ place).1 parts.1)
+
+within-drop : (first rest : List ℕ) (region : List Interval) (index : List ℕ) → is_index_of (first ++ rest) index ≡ true → is_within region (drop (length first) index) ≡ true → is_within (whole_of first ++ region) index ≡ true
+within-drop [] rest region index place h = h
+within-drop (n ∷ first) rest region [] place h = absurd (false≢true place)
+within-drop (n ∷ first) rest region (i ∷ index) place h =
+    let parts = and_parts _ _ place in
+    and_from _ _ parts.0 (within-drop first rest region index parts.1 h)
+
+pub index-take : (first rest index : List ℕ) → is_index_of (first ++ rest) index ≡ true → is_index_of first (take (length first) index) ≡ true
+index-take [] rest index place = refl
+index-take (n ∷ first) rest [] place = absurd (false≢true place)
+index-take (n ∷ first) rest (i ∷ index) place =
+    let parts = and_parts _ _ place in
+    and_from _ _ parts.0 (index-take first rest index parts.1)
+
+pub index-drop : (first rest index : List ℕ) → is_index_of (first ++ rest) index ≡ true → is_index_of rest (drop (length first) index) ≡ true
+index-drop [] rest index place = place
+index-drop (n ∷ first) rest [] place = absurd (false≢true place)
+index-drop (n ∷ first) rest (i ∷ index) place = index-drop first rest index (and_parts _ _ place).1
+
+-- covered whatever the box of the argument, and at its places alone
+pub record IsOnto (mid shape : List ℕ) (u : Use) : Type 0 where
+  pub covered : (region : List Interval) (index : List ℕ) → is_index_of shape index ≡ true → Each (λ place. is_within region place ≡ true → is_moved (u.box region) index ≡ true) (u.reads index)
+  pub places : (index : List ℕ) → is_index_of shape index ≡ true → Each (λ place. is_index_of mid place ≡ true) (u.reads index)
+
+-- outer product
+pub front-onto : (first rest : List ℕ) → IsOnto first (first ++ rest) (front (length first) rest)
+front-onto first rest = record {
+  covered = λ region index place. (within-take first rest region index place, tt);
+  places = λ index place. (index-take first rest index place, tt);
+}
+
+pub back-onto : (first rest : List ℕ) → IsOnto rest (first ++ rest) (back first)
+back-onto first rest = record {
+  covered = λ region index place. (within-drop first rest region index place, tt);
+  places = λ index place. (index-drop first rest index place, tt);
+}
+
+pub onto_covered : (from shape : List ℕ) (u : Use) → IsOnto from shape u → Covered from shape u
+onto_covered from shape u h region index fit place = h.covered region index place
+
+each_append : {A : Type 0} (P : A → Type 0) (xs ys : List A) → Each P xs → Each P ys → Each P (xs ++ ys)
+each_append P [] ys h k = k
+each_append P (x ∷ xs) ys h k = (h.0, each_append P xs ys h.1 k)
+
+-- inner product
+pub then_by-covered : (from mid shape : List ℕ) (inner outer : Use) → Covered from mid inner → IsOnto mid shape outer → Covered from shape (then_by inner outer)
+then_by-covered from mid shape inner outer h k region index fit place =
+    through (inner.box region) (λ j here. h region j fit here) (k.places index place)
+  where
+    all_through : (mids : List (List ℕ)) (box : Option (List Interval)) → ((j : List ℕ) → is_index_of mid j ≡ true → Each (λ p. is_within region p ≡ true → is_moved box j ≡ true) (inner.reads j)) → Each (λ j. is_index_of mid j ≡ true) mids → Each (λ j. is_moved box j ≡ true → is_moved (on_box outer.box box) index ≡ true) mids → Each (λ p. is_within region p ≡ true → is_moved (on_box outer.box box) index ≡ true) (read_all inner.reads mids)
+    all_through [] box f here there = tt
+    all_through (j ∷ mids) box f here there =
+        each_append _ (inner.reads j) (read_all inner.reads mids) (each_more _ _ (inner.reads j) (λ p g w. there.0 (g w)) (f j here.0)) (all_through mids box f here.1 there.1)
+
+    through : (box : Option (List Interval)) → ((j : List ℕ) → is_index_of mid j ≡ true → Each (λ p. is_within region p ≡ true → is_moved box j ≡ true) (inner.reads j)) → Each (λ j. is_index_of mid j ≡ true) (outer.reads index) → Each (λ p. is_within region p ≡ true → is_moved (on_box outer.box box) index ≡ true) (read_all inner.reads (outer.reads index))
+    through None f here = all_through (outer.reads index) None f here (each_all _ (outer.reads index) (λ j w. absurd (false≢true w)))
+    through (Some q) f here = all_through (outer.reads index) (Some q) f here (k.covered q index place)
+
+meet_at-within : (axes : List ℕ) (region : List Interval) (index : List ℕ) (axis n : ℕ) → 1 ≤ get_or index axis 0 → get_or index axis 0 ≤ n → is_within region (map (λ to. get_or index to 0) axes) ≡ true → ((meet_at axis n axes region).0 ≤ get_or index axis 0) × (get_or index axis 0 ≤ (meet_at axis n axes region).1)
+meet_at-within [] region index axis n low high h = (low, high)
+meet_at-within (to ∷ axes) [] index axis n low high h = (low, high)
+meet_at-within (to ∷ axes) (s ∷ region) index axis n low high h =
+    let parts = and_parts _ _ h in
+    let first = and_parts _ _ parts.0 in
+    let rest = meet_at-within axes region index axis n low high parts.1 in
+    let r0 : (meet_at axis n axes region).0 ≤ get_or index axis 0 = rest.0 in
+    let r1 : get_or index axis 0 ≤ (meet_at axis n axes region).1 = rest.1 in
+    let There = λ (t : Interval). (t.0 ≤ get_or index axis 0) × (get_or index axis 0 ≤ t.1) in
+    elim (cases_Bool (nat_eq to axis)) [
+      | inl t ↦
+          let same : get_or index to 0 ≡ get_or index axis 0 = ap (λ (k : ℕ). get_or index k 0) (eqb-true to axis t) in
+          let l0 : s.0 ≤ get_or index to 0 = leb-true _ _ first.0 in
+          let l1 : get_or index to 0 ≤ s.1 = leb-true _ _ first.1 in
+          subst There (sym (cond-true _ _ _ t)) (omega arith, omega arith)
+      | inr f ↦ subst There (sym (cond-false _ _ _ f)) (r0, r1)
+    ]
+
+meets-within : (axes : List ℕ) (region : List Interval) (index : List ℕ) (axis : ℕ) (shape rest : List ℕ) → ((k : ℕ) → get_or rest k 0 ≡ get_or index (axis + k) 0) → is_index_of shape rest ≡ true → is_within region (map (λ to. get_or index to 0) axes) ≡ true → is_within (meets axes region axis shape) rest ≡ true
+meets-within axes region index axis [] [] at place h = refl
+meets-within axes region index axis [] (i ∷ rest) at place h = absurd (false≢true place)
+meets-within axes region index axis (n ∷ shape) [] at place h = absurd (false≢true place)
+meets-within axes region index axis (n ∷ shape) (i ∷ rest) at place h =
+    let parts = and_parts _ _ place in
+    let first = and_parts _ _ parts.0 in
+    let zero_more : axis + 0 ≡ axis = omega arith in
+    let here : i ≡ get_or index axis 0 = at 0 ∙ ap (λ (k : ℕ). get_or index k 0) zero_more in
+    let l0 : 1 ≤ i = leb-true 1 i first.0 in
+    let l1 : i ≤ n = leb-true i n first.1 in
+    let there = meet_at-within axes region index axis n (omega arith) (omega arith) h in
+    let t0 : (meet_at axis n axes region).0 ≤ get_or index axis 0 = there.0 in
+    let t1 : get_or index axis 0 ≤ (meet_at axis n axes region).1 = there.1 in
+    let next : (k : ℕ) → get_or rest k 0 ≡ get_or index (axis + 1 + k) 0 = λ k. let e : axis + suc k ≡ axis + 1 + k = omega arith in at (suc k) ∙ ap (λ (m : ℕ). get_or index m 0) e in
+    let f0 : (meet_at axis n axes region).0 ≤ i = omega arith in
+    let f1 : i ≤ (meet_at axis n axes region).1 = omega arith in
+    and_from _ _ (and_from _ _ (le-leb _ _ f0) (le-leb _ _ f1)) (meets-within axes region index (axis + 1) shape rest next parts.1 h)
+
+-- transpositions
+pub permuted-covered : (from axes shape : List ℕ) → Covered from shape (permuted axes shape)
+permuted-covered from axes shape region index fit place =
+    (meets-within axes region index 0 shape index (λ k. let e : k ≡ 0 + k = omega arith in ap (λ (m : ℕ). get_or index m 0) e) place, tt)
+
+fits-ones : (axes : List Axis) → fits (whole_of (map (λ _. 1) axes)) (map (λ _. 1) axes) ≡ true
+fits-ones [] = refl
+fits-ones (x ∷ axes) = fits-ones axes
+
+-- what is read under a test alone
+pub each_if : {A : Type 0} (P : A → Type 0) (test : Bool) (x : A) → (test ≡ true → P x) → Each P (if test then x ∷ [] else [])
+each_if P true x h = (h refl, tt)
+each_if P false x h = tt
+
+pub scalar_by_axes-covered : (axes : List Axis) → Each IsSound axes → Covered [] (lengths axes) (scalar_by_axes axes)
+scalar_by_axes-covered axes h region index fit place =
+    let ones = map {A = Axis} (λ _. 1) axes in
+    each_if (λ (p : List ℕ). is_within region p ≡ true → is_within (images axes (whole_of ones)) index ≡ true) (is_index_of ones (sources axes index)) []
+    (λ t _. images-within axes ones (whole_of ones) index h (fits-ones axes) place (within-whole ones (sources axes index) ∙ t))

@@ -1,0 +1,103 @@
+-- The law of a rule: all that changes of a result lies in the box that the rule gives.
+use Rattle.std.specs.Prelude.{◌≡◌, ◌≢◌, ℕ, List, [], ◌∷◌, Bool, true, false, Option, Some, None, Result, Ok, IsTrue, IsOk, IfOk, map, length, replicate}
+use Rattle.arrays_core.specs.declared.item.Item.{Item}
+use Rattle.arrays_core.specs.declared.item.Kind.{Kind}
+use Rattle.arrays_core.specs.Arrays.{ArrayValue, item_of, item_if_there}
+use Rattle.arrays_core.specs.Items.{fill}
+use Rattle.arrays_core.specs.Shapes.{is_index_of}
+use Rattle.index_region.specs.Boxes.{Interval, is_within, fits}
+use Rattle.index_region.specs.Checks.{Form}
+use Rattle.change_core.specs.declared.reach.Reach.{Reach}
+use Rattle.change_core.specs.declared.reach.Reach.TheVariants.{Anew}
+use Rattle.change_core.specs.RuleModels.{Use, RuleModel}
+use Rattle.change_core.specs.Reaches.{Fits, is_moved, is_reached, reach_of, LiesIn}
+
+-- an array of which no item is known but how many there are
+abbrev pub blank : ArrayValue → ArrayValue
+blank a = record { item_type = a.item_type; shape = a.shape; items = replicate (length a.items) (fill a.item_type) }
+
+-- a selector as it is, of another argument no item
+abbrev pub framed : Bool → ArrayValue → ArrayValue
+framed true a = a
+framed false a = blank a
+
+-- the arguments, of which only selectors show their items
+abbrev pub frames : List Bool → List ArrayValue → List ArrayValue
+frames (selects ∷ selectors) (a ∷ args) = framed selects a ∷ frames selectors args
+frames _ _ = []
+
+-- for each argument the items that an item of the result reads, where there are such
+abbrev pub gathered : List ArrayValue → List Use → List ℕ → List (List (Option Item))
+gathered (a ∷ args) (u ∷ uses) index = map (item_if_there a) (u.reads index) ∷ gathered args uses index
+gathered _ _ index = []
+
+-- it holds of each
+abbrev pub Each : {A : Type 0} → (A → Type 0) → List A → Type 0
+Each P [] = Unit {0}
+Each P (x ∷ xs) = P x × Each P xs
+
+-- an item that reads a place of a changed box lies in what that box may change
+abbrev pub Covered : List ℕ → List ℕ → Use → Type 0
+Covered from shape u = (region : List Interval) (index : List ℕ) → fits region from ≡ true → is_index_of shape index ≡ true
+    → Each (λ place. is_within region place ≡ true → is_moved (u.box region) index ≡ true) (u.reads index)
+
+abbrev pub AllCovered : List ℕ → List ArrayValue → List Use → Type 0
+AllCovered shape args [] = Unit {0}
+AllCovered shape [] (u ∷ uses) = Unit {0}
+AllCovered shape (a ∷ args) (u ∷ uses) = Covered a.shape shape u × AllCovered shape args uses
+
+-- the law of a rule, of one call: selectors, types and shapes settle what the checks give where they pass; with the items
+-- that an item reads they settle that item; and the items that read a changed place lie in the boxes
+pub record IsTight (p : RuleModel) : Type 0 where
+  pub settled : (old new : List ArrayValue) → frames p.selectors old ≡ frames p.selectors new → IsOk (p.form old) → IsOk (p.form new) → p.form old ≡ p.form new
+  pub determined : (old new : List ArrayValue) (f : Form) (index : List ℕ) → length old ≡ length p.selectors → length new ≡ length p.selectors
+      → frames p.selectors old ≡ frames p.selectors new → p.form new ≡ Ok f → is_index_of f.0 index ≡ true
+      → gathered old (p.uses f.0 new) index ≡ gathered new (p.uses f.0 new) index → p.item old index ≡ p.item new index
+  pub covered : (args : List ArrayValue) (f : Form) → length args ≡ length p.selectors → p.form args ≡ Ok f → AllCovered f.0 args (p.uses f.0 args)
+
+-- an argument before and after, and the box of what changed of it
+pub record ArgumentChange : Type 0 where
+  pub old : ArrayValue
+  pub new : ArrayValue
+  pub moved : Option (List Interval)
+
+abbrev pub olds : List ArgumentChange → List ArrayValue
+olds changes = map (λ c. c.old) changes
+
+abbrev pub news : List ArgumentChange → List ArrayValue
+news changes = map (λ c. c.new) changes
+
+abbrev pub moves : List ArgumentChange → List (Option (List Interval))
+moves changes = map (λ c. c.moved) changes
+
+-- before and after there is one type and shape, and one item at each index list outside what changed
+pub record Agrees (c : ArgumentChange) : Type 0 where
+  pub fit : Fits c.new c.moved
+  pub kind : c.old.item_type ≡ c.new.item_type
+  pub shape : c.old.shape ≡ c.new.shape
+  pub count : length c.old.items ≡ length c.new.items
+  pub same : c.moved ≡ None → c.old ≡ c.new
+  pub outside : (index : List ℕ) → IsTrue (is_index_of c.new.shape index) → is_moved c.moved index ≡ false → item_of c.old index ≡ item_of c.new index
+
+abbrev pub AllAgree : List ArgumentChange → Type 0
+AllAgree [] = Unit {0}
+AllAgree (c ∷ changes) = Agrees c × AllAgree changes
+
+-- the checks pass, and the index list names a place of the result
+abbrev pub IsPlace : Result Form Kind → List ℕ → Type 0
+IsPlace form index = IfOk form (λ f. IsTrue (is_index_of f.0 index))
+
+-- the result has one shape and type before and after, and one item (or error) at each place that is not reached
+pub record Covers (p : RuleModel) (old new : List ArrayValue) (reach : Reach) : Type 0 where
+  pub form : p.form old ≡ p.form new
+  pub outside : (index : List ℕ) → IsPlace (p.form new) index → is_reached reach index ≡ false → p.item old index ≡ p.item new index
+
+-- where the arguments agree outside their changed boxes, and the checks pass before and after, all that changes of the
+-- result is reached
+abbrev pub ReachCovers : RuleModel → Type 0
+ReachCovers p = (changes : List ArgumentChange) → length changes ≡ length p.selectors → AllAgree changes → IsOk (p.form (olds changes)) → IsOk (p.form (news changes))
+    → reach_of p (news changes) (moves changes) ≢ Anew → Covers p (olds changes) (news changes) (reach_of p (news changes) (moves changes))
+
+-- a box of what may change lies in the result
+abbrev pub ReachLies : RuleModel → Type 0
+ReachLies p = (args : List ArrayValue) (moves : List (Option (List Interval))) → LiesIn (p.form args) (reach_of p args moves)

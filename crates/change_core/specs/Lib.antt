@@ -1,0 +1,9 @@
+-- What public contracts mean.
+pub mod RuleModels
+pub mod Reaches
+pub mod Laws
+pub mod Meters
+-- What rules say.
+pub mod Ways
+pub mod Places
+pub mod Sourced

@@ -1,0 +1,102 @@
+//! Functions of arrays that say what a change of their arguments changes of their result.
+
+ghost use Rattle.std.specs.Prelude.{◌≡◌, ◌<◌, ℕ, List, Bool, length, get_or, false};
+ghost use Rattle.arrays_core.specs.Arrays.{ArrayValue, IsAnswerTo};
+ghost use Rattle.index_region.specs.Checks.{whole};
+ghost use Rattle.change_core.specs.RuleModels.{Use, FitsAt, HasShape, box_at, form_size};
+ghost use Rattle.change_core.specs.Laws.{IsTight};
+
+use crate::meter::Meter;
+use crate::rule::{Rule, Tight};
+use arrays_core::{ApplyFault, Array, Item, ItemType, Kind, Shape, size};
+use index_region::{IndexBox, Intervals, Primitive, Seen, apply};
+use std::alloc::Global;
+
+/// A function of arrays that says what a change of its arguments changes of its result: it is a `Rule`.
+pub trait Announced: Primitive {
+    /// The arguments that say by their items what is read of the others: a change of one makes the result anew.
+    ghost selectors: { Self → List Bool };
+
+    /// How its results use its arguments, given the shape of the result.
+    ghost uses: { Self → List ℕ → List ArrayValue → List Use };
+
+    /// A change of the argument makes the result anew.
+    fn selects(&self, which: usize) -> bool
+        ensures { result ≡ get_or (selectors self.now) which false };
+
+    /// The intervals of the result that a changed box of an argument may change. The shape of the result is given.
+    fn box_of(
+        &self,
+        args: &[Seen],
+        shape: &[u32],
+        which: usize,
+        region: &IndexBox,
+    ) -> Option<Intervals>
+        requires count { length args.now ≡ Self.arity self.now }
+        requires below { which < length args.now }
+        requires fit { FitsAt args.now which region.now }
+        requires checked { HasShape (Self.form self.now args.now) shape.now }
+        ensures { result ≡ box_at (uses self.now shape.now args.now) which region.now };
+
+    /// The whole result.
+    fn whole(&self, alloc: Global, args: &[Seen]) -> Result<Array, ApplyFault>
+        requires { length args.now ≡ Self.arity self.now }
+        ensures { IsAnswerTo (whole (Self.form self.now args.now) (Self.item self.now args.now)) result }
+    {
+        apply(alloc, self, args)
+    }
+
+    ghost counted: { (rule : Self) → length (selectors rule) ≡ Self.arity rule };
+}
+
+/// A function of arrays whose boxes hold all that changes of its result: it is a `Tight` rule.
+pub trait Lawful: Announced {
+    ghost tight: { (rule : Self) → IsTight (record { selectors = Self.selectors rule; form = Self.form rule; item = Self.item rule; uses = Self.uses rule }) };
+}
+
+/// How many places the result has; none where a check fails.
+fn places<P: Primitive>(primitive: &P, args: &[Seen]) -> u32
+    requires { length args.now ≡ P.arity primitive.now }
+    ensures { result ≡ form_size (P.form primitive.now args.now) }
+{
+    match primitive.shape_of(args) {
+        Ok((shape, _)) => size(shape.as_slice()),
+        Err(_) => 0,
+    }
+}
+
+impl<P: Announced> Rule for P {
+    ghost model = { λ rule. record { selectors = P.selectors rule; form = P.form rule; item = P.item rule; uses = P.uses rule } };
+
+    fn shape(&self, args: &[Seen]) -> Result<(Shape, ItemType), Kind> {
+        self.shape_of(args)
+    }
+
+    fn item(&self, args: &[Seen], index: &[u32], meter: &mut Meter) -> Result<Item, Kind> {
+        meter.tick();
+        self.item_at(args, index)
+    }
+
+    fn all(&self, alloc: Global, args: &[Seen], meter: &mut Meter) -> Result<Array, ApplyFault> {
+        meter.add(places(self, args));
+        self.whole(alloc, args)
+    }
+
+    fn selects(&self, which: usize) -> bool {
+        Announced::selects(self, which)
+    }
+
+    fn box_of(
+        &self,
+        args: &[Seen],
+        shape: &[u32],
+        which: usize,
+        region: &IndexBox,
+    ) -> Option<Intervals> {
+        Announced::box_of(self, args, shape, which, region)
+    }
+}
+
+impl<P: Lawful> Tight for P {
+    ghost tight = { P.tight };
+}

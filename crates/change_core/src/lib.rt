@@ -1,0 +1,12 @@
+//! What a change rule is: what changes of a result where boxes of the arguments changed.
+#![tactic(auto)]
+
+mod announced;
+mod meter;
+mod reach;
+mod rule;
+
+pub use announced::{Announced, Lawful};
+pub use meter::Meter;
+pub use reach::{Reach, reach_covers};
+pub use rule::{Rule, Tight};

@@ -1,0 +1,60 @@
+//! What may change of a result by all its arguments.
+
+ghost use Rattle.std.specs.Prelude.{◌≡◌, ◌≤◌, ℕ, List, length, Some};
+ghost use Rattle.arrays_core.specs.Limits.{most_axes};
+ghost use Rattle.index_region.specs.Boxes.{join_boxes};
+ghost use Rattle.change_core.specs.Reaches.{bounded, as_reach as reach_of_box};
+ghost use Rattle.change_core.specs.Laws.{ReachCovers, ReachLies};
+
+use crate::rule::Tight;
+use index_region::{IndexBox, Intervals};
+
+/// What may change of a result.
+#[derive(Drop)]
+pub enum Reach {
+    /// Nothing.
+    Unmoved,
+    /// The places of a box.
+    Inside(IndexBox),
+    /// All of it, its shape too.
+    Anew,
+}
+
+/// The least box that holds both, where there are two.
+pub(crate) fn join_boxes(left: Option<IndexBox>, right: Option<IndexBox>) -> Option<IndexBox>
+    requires { (a b : List (ℕ × ℕ)) → left ≡ Some a → right ≡ Some b → length a ≡ length b }
+    ensures { result ≡ join_boxes left right }
+{
+    match (left, right) {
+        (None, right) => right,
+        (Some(left), None) => Some(left),
+        (Some(left), Some(right)) => Some(left.hull(&right)),
+    }
+}
+
+/// The box of what lies in a shape, unless that is nothing.
+pub(crate) fn bounded(shape: &[u32], region: Option<Intervals>) -> Option<IndexBox>
+    requires { length shape.now ≤ most_axes }
+    ensures { result ≡ bounded shape.now region }
+{
+    IndexBox::inside(shape, &region?)
+}
+
+/// The reach of a box, if there is one.
+pub(crate) fn as_reach(region: Option<IndexBox>) -> Reach
+    ensures { result ≡ reach_of_box region }
+{
+    match region {
+        None => Reach::Unmoved,
+        Some(region) => Reach::Inside(region),
+    }
+}
+
+/// What the law of a rule gives: where arguments agree outside their changed boxes, results agree outside what is
+/// reached, which lies in the result.
+pub fn reach_covers<R: Tight>(rule: &R)
+    ensures covers { ReachCovers (R.model rule.now) }
+    ensures lies { ReachLies (R.model rule.now) }
+{
+    let _rule = rule;
+}

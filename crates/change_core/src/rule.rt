@@ -1,0 +1,105 @@
+//! What a change rule is.
+
+ghost use Rattle.std.specs.Prelude.{◌≡◌, ◌≤◌, ◌<◌, length, get_or, IfOk, false};
+ghost use Rattle.arrays_core.specs.Arrays.{IsAnswerTo};
+ghost use Rattle.arrays_core.specs.Limits.{most_axes};
+ghost use Rattle.index_region.specs.Checks.{whole};
+ghost use Rattle.index_region.specs.Answers.{IsFormAnswerTo, IsPlaceOf, HasTypeOf};
+
+use crate::meter::Meter;
+use crate::reach::{Reach, as_reach, bounded, join_boxes};
+use arrays_core::{ApplyFault, Array, Item, ItemType, Kind, Shape};
+use index_region::{IndexBox, Intervals, Seen};
+use std::alloc::Global;
+
+/// A function of arrays, by its checks, its items, and what a change of its arguments changes of its result. None of
+/// `shape`, `item` and `reach` takes memory.
+pub trait Rule {
+    ghost use Rattle.change_core.specs.RuleModels.{RuleModel, FitsAt, HasShape, box_at, form_size};
+    ghost use Rattle.change_core.specs.Reaches.{AllFit, reach_of};
+    ghost use Rattle.change_core.specs.Meters.{ticked};
+
+    /// Its checks, its items, and how its results use its arguments.
+    ghost model: { Self → RuleModel };
+
+    /// The checks in their order, and the shape and the type of the result.
+    fn shape(&self, args: &[Seen]) -> Result<(Shape, ItemType), Kind>
+        requires { length args.now ≡ length (model self.now).selectors }
+        ensures { IsFormAnswerTo ((model self.now).form args.now) result };
+
+    /// The item at an index list of the result. It ticks once.
+    fn item(&self, args: &[Seen], index: &[u32], meter: &mut Meter) -> Result<Item, Kind>
+        requires count { length args.now ≡ length (model self.now).selectors }
+        requires place { IsPlaceOf ((model self.now).form args.now) index.now }
+        ensures is { result ≡ (model self.now).item args.now index.now }
+        ensures typed { IfOk result (HasTypeOf ((model self.now).form args.now)) }
+        ensures ticks { meter.new ≡ ticked meter.old 1 };
+
+    /// The whole result. It ticks as often as the result has places.
+    fn all(&self, alloc: Global, args: &[Seen], meter: &mut Meter) -> Result<Array, ApplyFault>
+        requires { length args.now ≡ length (model self.now).selectors }
+        ensures is { IsAnswerTo (whole ((model self.now).form args.now) ((model self.now).item args.now)) result }
+        ensures ticks { meter.new ≡ ticked meter.old (form_size ((model self.now).form args.now)) };
+
+    /// A change of the argument makes the result anew, its shape too.
+    fn selects(&self, which: usize) -> bool
+        ensures { result ≡ get_or (model self.now).selectors which false };
+
+    /// The intervals of the result that a changed box of an argument may change. The shape of the result is given.
+    fn box_of(
+        &self,
+        args: &[Seen],
+        shape: &[u32],
+        which: usize,
+        region: &IndexBox,
+    ) -> Option<Intervals>
+        requires count { length args.now ≡ length (model self.now).selectors }
+        requires below { which < length args.now }
+        requires fit { FitsAt args.now which region.now }
+        requires checked { HasShape ((model self.now).form args.now) shape.now }
+        ensures { result ≡ box_at ((model self.now).uses shape.now args.now) which region.now };
+
+    /// What may change of the result, whose shape is given, where the arguments are these now, and changed in the boxes
+    /// that are given.
+    fn reach_in(&self, args: &[Seen], shape: &[u32], moved: &[Option<IndexBox>]) -> Reach
+        requires count { length args.now ≡ length (model self.now).selectors }
+        requires moves { length moved.now ≡ length args.now }
+        requires fit { AllFit args.now moved.now }
+        requires checked { HasShape ((model self.now).form args.now) shape.now }
+        requires rank { length shape.now ≤ most_axes }
+        ensures { result ≡ reach_of (model self.now) args.now moved.now }
+    {
+        let mut reached = None;
+        for later in 0..moved.len() {
+            let which = moved.len() - 1 - later;
+            if let Some(region) = &moved[which] {
+                if self.selects(which) {
+                    return Reach::Anew;
+                }
+                let changed = bounded(shape, self.box_of(args, shape, which, region));
+                reached = join_boxes(changed, reached);
+            }
+        }
+        as_reach(reached)
+    }
+
+    /// What may change of the result, where the arguments are these now, and changed in the boxes that are given.
+    fn reach(&self, args: &[Seen], moved: &[Option<IndexBox>]) -> Reach
+        requires count { length args.now ≡ length (model self.now).selectors }
+        requires moves { length moved.now ≡ length args.now }
+        requires fit { AllFit args.now moved.now }
+        ensures { result ≡ reach_of (model self.now) args.now moved.now }
+    {
+        match self.shape(args) {
+            Ok((shape, _)) => self.reach_in(args, shape.as_slice(), moved),
+            Err(_) => Reach::Anew,
+        }
+    }
+}
+
+/// A rule whose boxes hold all that changes.
+pub trait Tight: Rule {
+    ghost use Rattle.change_core.specs.Laws.{IsTight};
+
+    ghost tight: { (rule : Self) → IsTight (Self.model rule) };
+}
