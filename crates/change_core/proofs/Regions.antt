@@ -1,10 +1,10 @@
 -- Boxes met with a result, and hulls of them.
-use Rattle.std.proofs.Common.{◌≡◌, ℕ, ◌+◌, ◌≤◌, ◌<◌, List, [], ◌∷◌, length, map, refl, ap, ◌∙◌, sym, subst, arith, IsTrue, true, false, Bool, ◌||◌, ◌&&◌, Option, Some, None, ◌⊎◌, inl, inr, nat_le, nat_lt, cond, min, max}
-use Rattle.std.proofs.lemmas.Bool.{and_parts, or_cases, leb-true, ltb-true, ltb-false, false≢true, cases_Bool, cond-true, cond-false, both_ways, or_parts, or_from, and_from, le-leb, le-ltb}
+use Rattle.std.proofs.Common.{◌≡◌, ℕ, ◌≤◌, List, [], ◌∷◌, length, refl, ap, ◌∙◌, sym, subst, arith, true, false, Option, Some, None, inl, inr, min, max}
+use Rattle.std.proofs.lemmas.Bool.{and_parts, leb-true, ltb-false, false≢true, cases_Bool, cond-true, cond-false, both_ways, or_parts, or_from, and_from, le-leb, le-ltb}
 use Rattle.arrays_core.specs.Shapes.{is_index_of}
 use Rattle.change_core.specs.Reaches.{bounded, is_moved}
 use Rattle.index_region.proofs.Boxes.{within-hull_left, within-hull_right}
-use Rattle.index_region.specs.Boxes.{Interval, fits, hull_of, is_empty, is_within, join_boxes, met, unless_empty, whole_of}
+use Rattle.index_region.specs.Boxes.{Interval, fits, hull_of, is_empty, is_within, join_boxes, met, unless_empty}
 
 pub length-met : (shape : List ℕ) (intervals : List Interval) → length (met shape intervals) ≡ length shape
 length-met [] intervals = refl

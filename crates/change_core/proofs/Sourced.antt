@@ -1,5 +1,5 @@
 -- Results whose items come from places of their arguments keep to their boxes.
-use Rattle.std.proofs.Common.{◌≡◌, ℕ, zero, suc, ◌+◌, List, [], ◌∷◌, length, map, refl, ap, ◌∙◌, sym, subst, arith, Bool, true, false, Option, Some, None, Result, Ok, Err, IsOk, unwrap_or, replicate}
+use Rattle.std.proofs.Common.{◌≡◌, ℕ, zero, suc, List, [], ◌∷◌, length, map, refl, ap, ◌∙◌, sym, subst, arith, Bool, true, false, Option, Some, None, Result, Ok, IsOk, unwrap_or}
 use Rattle.std.proofs.lemmas.Bool.{false≢true}
 use Rattle.std.proofs.lemmas.List.{length-replicate}
 use Rattle.arrays_core.specs.declared.item.Item.{Item}
@@ -10,10 +10,10 @@ use Rattle.arrays_core.specs.Items.{fill}
 use Rattle.arrays_core.specs.Shapes.{is_index_of}
 use Rattle.change_core.specs.Laws.{AllCovered, Covered, Each, IsTight, blank, framed, frames, gathered}
 use Rattle.change_core.specs.Reaches.{is_moved}
-use Rattle.change_core.specs.RuleModels.{RuleModel, Use}
+use Rattle.change_core.specs.RuleModels.{Use}
 use Rattle.change_core.specs.Sourced.{Spread, left_of, left_used, one_rule, one_sourced, other, right_of, right_used, two_rule, two_sourced, uses_of_one, uses_of_two}
 use Rattle.index_region.specs.ArgumentLists.{of_one_argument, of_two_arguments}
-use Rattle.index_region.specs.Boxes.{Interval, is_within}
+use Rattle.index_region.specs.Boxes.{is_within}
 use Rattle.index_region.specs.Checks.{Form}
 use Rattle.index_region.specs.Sources.{Source, item_from}
 

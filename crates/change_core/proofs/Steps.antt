@@ -1,11 +1,10 @@
--- What an argument adds to what may change.
-use Rattle.std.proofs.Common.{◌≡◌, ℕ, suc, zero, ◌+◌, ◌<◌, ◌≤◌, List, [], ◌∷◌, length, drop, get_or, refl, ap, ◌∙◌, sym, subst, arith, Bool, true, false, ◌||◌, Option, Some, None, is_some, not}
-use Rattle.std.proofs.lemmas.Bool.{true≢false}
+-- What may change by an argument and those after it.
+use Rattle.std.proofs.Common.{◌≡◌, ℕ, suc, zero, ◌<◌, List, [], ◌∷◌, length, drop, get_or, refl, ap, ◌∙◌, sym, subst, arith, Bool, true, false, ◌||◌, Option, Some, None}
 use Rattle.std.proofs.lemmas.List.{drop_all}
 use Rattle.arrays_core.specs.Arrays.{ArrayValue}
 use Rattle.change_core.proofs.Covers.{changed-fits}
 use Rattle.change_core.proofs.Regions.{HasFit, bounded-fits, fits-length}
-use Rattle.change_core.specs.Reaches.{AllFit, Fits, bounded, changed, changed_by, is_anew}
+use Rattle.change_core.specs.Reaches.{AllFit, Fits, bounded, changed, is_anew}
 use Rattle.change_core.specs.RuleModels.{FitsAt, Use, box_at}
 use Rattle.index_region.specs.Boxes.{Interval, join_boxes}
 
@@ -27,6 +26,39 @@ anew_at selectors [] which m l k e = absurd (omega arith)
 anew_at [] (n ∷ ms) which m l k e = absurd (omega arith)
 anew_at (s ∷ selectors) (n ∷ ms) zero m l k e = anew_first s m n selectors ms e
 anew_at (s ∷ selectors) (n ∷ ms) (suc which) m l k e = anew_at selectors ms which m (omega arith) (omega arith) e
+
+anew_nothing : (selectors : List Bool) → is_anew selectors [] ≡ false
+anew_nothing [] = refl
+anew_nothing (true ∷ selectors) = refl
+anew_nothing (false ∷ selectors) = refl
+
+-- past all arguments none is a selector
+pub anew_past : (selectors : List Bool) (ms : List (Option (List Interval))) (which : ℕ) → which ≡ length ms → is_anew (drop which selectors) (drop which ms) ≡ false
+anew_past selectors ms which e = ap (is_anew (drop which selectors)) (drop_all which ms (omega arith)) ∙ anew_nothing (drop which selectors)
+
+-- one more argument, which is no selector or did not change
+pub anew_step : (selectors : List Bool) (ms : List (Option (List Interval))) (which from next : ℕ) (m : Option (List Interval)) → from ≡ which → next ≡ suc which → which < length ms → length ms ≡ length selectors
+    → m ≡ get_or ms which m → anew_by (get_or selectors which false) m false ≡ false → is_anew (drop next selectors) (drop next ms) ≡ false → is_anew (drop from selectors) (drop from ms) ≡ false
+anew_step selectors ms which from next m f n l count e h kept =
+    ap (λ (k : ℕ). is_anew (drop k selectors) (drop k ms)) f
+    ∙ anew_at selectors ms which m l (omega arith) e
+    ∙ ap (λ (b : Bool). anew_by (get_or selectors which false) m b) (ap (λ (k : ℕ). is_anew (drop k selectors) (drop k ms)) (sym n) ∙ kept)
+    ∙ h
+
+-- a selector changed
+pub anew_there : (selectors : List Bool) (ms : List (Option (List Interval))) (which : ℕ) (m : Option (List Interval)) (region : List Interval) → which < length ms → length ms ≡ length selectors
+    → m ≡ get_or ms which m → m ≡ Some region → get_or selectors which false ≡ true → is_anew selectors ms ≡ true
+anew_there selectors [] which m region l count e f h = absurd (omega arith)
+anew_there [] (n ∷ ms) which m region l count e f h = absurd (omega arith)
+anew_there (s ∷ selectors) (n ∷ ms) zero m region l count e f h =
+    let changed = sym e ∙ f in
+    λ i. is_anew (h i ∷ selectors) (changed i ∷ ms)
+anew_there (s ∷ selectors) (n ∷ ms) (suc which) m region l count e f h = later s n (anew_there selectors ms which m region (omega arith) (omega arith) e f h)
+  where
+    later : (s : Bool) (n : Option (List Interval)) → is_anew selectors ms ≡ true → is_anew (s ∷ selectors) (n ∷ ms) ≡ true
+    later true (Some r) h = refl
+    later true None h = h
+    later false n h = h
 
 -- what one argument changes
 abbrev pub moved_at : List ℕ → List Use → ℕ → Option (List Interval) → Option (List Interval)
@@ -56,6 +88,7 @@ changed_nothing : (shape : List ℕ) (uses : List Use) → None ≡ changed shap
 changed_nothing shape [] = refl
 changed_nothing shape (u ∷ us) = refl
 
+-- past all arguments nothing changes
 pub changed_past : (shape : List ℕ) (uses : List Use) (ms : List (Option (List Interval))) (which : ℕ) → which ≡ length ms → None ≡ changed shape (drop which uses) (drop which ms)
 changed_past shape uses ms which e = changed_nothing shape (drop which uses) ∙ sym (ap (changed shape (drop which uses)) (drop_all which ms (omega arith)))
 
@@ -65,31 +98,13 @@ same_rank shape p q hp hq a b ea eb =
     let hb = subst (HasFit shape) eb hq in
     fits-length a shape ha ∙ sym (fits-length b shape hb)
 
-pub anew_none : (selectors : List Bool) (ms : List (Option (List Interval))) (which : ℕ) (m : Option (List Interval)) (none result : Bool) → (which ≡ length ms → ⊥) → which ≤ length ms → length ms ≡ length selectors → m ≡ get_or ms which m → is_some m ≡ not none → none ≡ true → result ≡ is_anew (drop (which + 1) selectors) (drop (which + 1) ms) → result ≡ is_anew (drop which selectors) (drop which ms)
-anew_none selectors ms which m none result differs within count e f h r =
-    let l : which < length ms = omega arith in
-    let next : which + 1 ≡ suc which = omega arith in
-    r ∙ ap (λ (k : ℕ). is_anew (drop k selectors) (drop k ms)) next ∙ sym (anew_at selectors ms which m l (omega arith) e ∙ no_more m (f ∙ ap not h))
-  where
-    no_more : (m : Option (List Interval)) → is_some m ≡ false → anew_by (get_or selectors which false) m (is_anew (drop (suc which) selectors) (drop (suc which) ms)) ≡ is_anew (drop (suc which) selectors) (drop (suc which) ms)
-    no_more None f = refl
-    no_more (Some r) f = absurd (true≢false f)
-
-pub changed_none : (shape : List ℕ) (uses : List Use) (ms : List (Option (List Interval))) (which : ℕ) (m rest : Option (List Interval)) → (which ≡ length ms → ⊥) → which ≤ length ms → m ≡ get_or ms which m → m ≡ None → rest ≡ changed shape (drop (which + 1) uses) (drop (which + 1) ms) → rest ≡ changed shape (drop which uses) (drop which ms)
-changed_none shape uses ms which m rest differs within e f r =
-    let l : which < length ms = omega arith in
-    let next : which + 1 ≡ suc which = omega arith in
-    r ∙ ap (λ (k : ℕ). changed shape (drop k uses) (drop k ms)) next
-    ∙ sym (changed_at shape uses ms which m l e ∙ ap (λ (o : Option (List Interval)). join_boxes (moved_at shape uses which o) (changed shape (drop (suc which) uses) (drop (suc which) ms))) f)
-
-pub changed_some : (shape : List ℕ) (uses : List Use) (ms : List (Option (List Interval))) (which : ℕ) (m box this rest joined : Option (List Interval)) (region : List Interval) → (which ≡ length ms → ⊥) → which ≤ length ms → m ≡ get_or ms which m → m ≡ Some region → box ≡ box_at uses which region → this ≡ bounded shape box → rest ≡ changed shape (drop (which + 1) uses) (drop (which + 1) ms) → joined ≡ join_boxes this rest → joined ≡ changed shape (drop which uses) (drop which ms)
-changed_some shape uses ms which m box this rest joined region differs within e f b t r j =
-    let l : which < length ms = omega arith in
-    let next : which + 1 ≡ suc which = omega arith in
-    let first : this ≡ bounded shape (box_at uses which region) = t ∙ ap (bounded shape) b in
-    let later : rest ≡ changed shape (drop (suc which) uses) (drop (suc which) ms) = r ∙ ap (λ (k : ℕ). changed shape (drop k uses) (drop k ms)) next in
-    j ∙ (λ i. join_boxes (first i) (later i))
-    ∙ sym (changed_at shape uses ms which m l e ∙ ap (λ (o : Option (List Interval)). join_boxes (moved_at shape uses which o) (changed shape (drop (suc which) uses) (drop (suc which) ms))) f)
+-- one more argument
+pub changed_step : (shape : List ℕ) (uses : List Use) (ms : List (Option (List Interval))) (which from next : ℕ) (m rest : Option (List Interval)) → from ≡ which → next ≡ suc which → which < length ms
+    → m ≡ get_or ms which m → rest ≡ changed shape (drop next uses) (drop next ms) → join_boxes (moved_at shape uses which m) rest ≡ changed shape (drop from uses) (drop from ms)
+changed_step shape uses ms which from next m rest f n l e r =
+    ap (join_boxes (moved_at shape uses which m)) (r ∙ ap (λ (k : ℕ). changed shape (drop k uses) (drop k ms)) n)
+    ∙ sym (changed_at shape uses ms which m l e)
+    ∙ ap (λ (k : ℕ). changed shape (drop k uses) (drop k ms)) (sym f)
 
 pub changed_ranks : (shape : List ℕ) (uses : List Use) (ms : List (Option (List Interval))) (box this rest : Option (List Interval)) → this ≡ bounded shape box → rest ≡ changed shape uses ms → (a b : List Interval) → this ≡ Some a → rest ≡ Some b → length a ≡ length b
 changed_ranks shape uses ms box this rest t r = same_rank shape this rest (subst (HasFit shape) (sym t) (bounded-fits shape box)) (subst (HasFit shape) (sym r) (changed-fits shape uses ms))

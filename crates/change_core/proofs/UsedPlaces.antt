@@ -1,17 +1,16 @@
 -- Uses by place and by search are covered.
-use Rattle.std.proofs.Common.{◌≡◌, ◌≢◌, ℕ, suc, zero, ◌+◌, ◌-◌, ◌*◌, ◌/◌, ◌%◌, ◌≤◌, ◌<◌, List, [], ◌∷◌, length, map, refl, ap, ◌∙◌, sym, subst, arith, IsTrue, true, false, Bool, ◌&&◌, Option, Some, None, ◌⊎◌, inl, inr, nat_le, nat_lt, nat_eq, cond, min, max}
-use Rattle.std.proofs.lemmas.Bool.{and_parts, leb-true, ltb-true, ltb-false, eqb-true, false≢true, cases_Bool, cond-true, cond-false, and_from, le-leb, lt-ltb, cases_order, both_ways}
-use Rattle.std.proofs.lemmas.Nat.{div-mul-add, mod-mul-add, mod_below, div-add-mod', mul-le}
+use Rattle.std.proofs.Common.{◌≡◌, ℕ, suc, zero, ◌+◌, ◌-◌, ◌*◌, ◌/◌, ◌%◌, ◌≤◌, ◌<◌, List, [], ◌∷◌, refl, ap, ◌∙◌, sym, subst, arith, true, Bool, ◌&&◌, Option, inl, inr, nat_le, nat_lt, nat_eq, min}
+use Rattle.std.proofs.lemmas.Bool.{and_parts, leb-true, ltb-false, eqb-true, false≢true, cases_Bool, cond-true, cond-false, and_from, le-leb, lt-ltb, cases_order, both_ways}
+use Rattle.std.proofs.lemmas.Nat.{mod_below, div-add-mod', mul-le}
 use Rattle.std.proofs.Math.Nat.{mod-eq_of_lt}
 use Rattle.arrays_core.specs.Shapes.{is_index_of, size, places_before, index_after}
 use Rattle.arrays_core.proofs.Shapes.{places_below}
 use Rattle.change_core.proofs.UsedWays.{within-whole}
-use Rattle.change_core.specs.Laws.{Covered, Each}
+use Rattle.change_core.specs.Laws.{Covered}
 use Rattle.change_core.specs.Places.{by_place, cover_in, first_hit, first_of_box, last_hit, last_of_box, lies_in, searched}
 use Rattle.change_core.specs.Reaches.{is_moved}
-use Rattle.change_core.specs.RuleModels.{Use}
-use Rattle.change_core.specs.Ways.{Axis, IsSound}
-use Rattle.index_region.specs.Boxes.{Interval, cover, fits, is_within, whole_of}
+use Rattle.change_core.specs.Ways.{IsSound}
+use Rattle.index_region.specs.Boxes.{Interval, cover, is_within}
 
 pub first_hit-le : (test : ℕ → Bool) (from n i : ℕ) → from ≤ i → i < from + n → test i ≡ true → first_hit test from n ≤ i
 first_hit-le test from zero i l u h = absurd (omega arith)

@@ -1,12 +1,12 @@
 -- Each way to use an argument is covered.
-use Rattle.std.proofs.Common.{◌≡◌, ◌≢◌, ℕ, suc, zero, ◌+◌, ◌-◌, ◌≤◌, ◌<◌, List, [], ◌∷◌, ◌++◌, length, map, take, drop, set, get_or, insert, remove, refl, ap, ◌∙◌, sym, subst, arith, IsTrue, true, false, Bool, ◌&&◌, Option, Some, None, ◌⊎◌, inl, inr, nat_le, nat_lt, nat_eq, cond, min, max, if◌then◌else◌}
+use Rattle.std.proofs.Common.{◌≡◌, ℕ, suc, zero, ◌+◌, ◌≤◌, ◌<◌, List, [], ◌∷◌, ◌++◌, length, map, take, drop, set, get_or, insert, remove, refl, ap, ◌∙◌, sym, subst, arith, true, false, Bool, ◌&&◌, Option, Some, None, inl, inr, nat_le, nat_lt, nat_eq, if◌then◌else◌}
 use Rattle.std.specs.List.{range_with_len}
 use Rattle.std.proofs.lemmas.Bool.{and_parts, leb-true, ltb-true, ltb-false, eqb-true, false≢true, cases_Bool, cond-true, cond-false, and_from, le-leb}
 use Rattle.arrays_core.specs.Shapes.{is_index_of}
 use Rattle.change_core.specs.Laws.{Covered, Each}
 use Rattle.change_core.specs.Reaches.{is_moved}
 use Rattle.change_core.specs.RuleModels.{Use}
-use Rattle.change_core.specs.Ways.{Axis, IsSound, across, alike, along, back, both_intervals, by_axes, everywhere, front, images, lengths, lines, meet_at, meets, on_box, permuted, read_all, scalar_by_axes, sources, then_by, unread}
+use Rattle.change_core.specs.Ways.{Axis, IsSound, across, alike, along, back, by_axes, everywhere, front, images, lengths, lines, meet_at, meets, on_box, permuted, read_all, scalar_by_axes, sources, then_by, unread}
 use Rattle.index_region.specs.Boxes.{Interval, fits, is_within, whole_of}
 
 pub each_map : {A B : Type 0} (P : B → Type 0) (f : A → B) (xs : List A) → Each (λ x. P (f x)) xs → Each P (map f xs)

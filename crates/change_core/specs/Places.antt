@@ -1,5 +1,5 @@
 -- Uses by the place in the ravel, and by a search on an axis.
-use Rattle.std.specs.Prelude.{◌≡◌, ℕ, suc, zero, ◌+◌, ◌-◌, ◌/◌, ◌%◌, ◌≤◌, List, [], ◌∷◌, Bool, ◌&&◌, Option, Some, None, if◌then◌else◌, nat_le, nat_lt, map, min}
+use Rattle.std.specs.Prelude.{ℕ, suc, zero, ◌+◌, ◌-◌, ◌%◌, List, [], ◌∷◌, Bool, ◌&&◌, Option, Some, None, if◌then◌else◌, nat_le, nat_lt, map, min}
 use Rattle.arrays_core.specs.Shapes.{size, places_before, index_after}
 use Rattle.change_core.specs.RuleModels.{Use}
 use Rattle.change_core.specs.Ways.{Axis}

@@ -1,5 +1,5 @@
 -- The ways in which a result uses an argument.
-use Rattle.std.specs.Prelude.{◌≡◌, ℕ, ◌+◌, ◌-◌, ◌≤◌, List, [], ◌∷◌, ◌++◌, Bool, true, false, ◌&&◌, Option, Some, None, if◌then◌else◌, nat_le, nat_lt, nat_eq, length, map, take, drop, set, get_or, insert, remove, min, max}
+use Rattle.std.specs.Prelude.{ℕ, ◌+◌, ◌≤◌, List, [], ◌∷◌, ◌++◌, ◌&&◌, Option, Some, None, if◌then◌else◌, nat_le, nat_eq, length, map, take, drop, set, get_or, insert, remove, min, max}
 use Rattle.std.specs.List.{range_with_len}
 use Rattle.arrays_core.specs.Shapes.{is_index_of}
 use Rattle.change_core.specs.RuleModels.{Use}
