@@ -24,13 +24,13 @@ changed-fits shape (u ∷ uses) (m ∷ ms) = join_fits shape _ _ (changed_by-fit
 changed-fits shape [] ms = tt
 changed-fits shape (u ∷ uses) [] = tt
 
-as_reach-lies : (f : Form) (o : Option (List Interval)) → HasFit f.0 o → LiesIn (Ok f) (as_reach o)
+as_reach-lies : (f : Form) (o : Option (List Interval)) → HasFit f.shape o → LiesIn (Ok f) (as_reach o)
 as_reach-lies f None h = tt
 as_reach-lies f (Some region) h = h
 
 reach_by-lies : (form : Result Form Kind) (uses : List ℕ → List ArrayValue → List Use) (args : List ArrayValue) (ms : List (Option (List Interval))) → LiesIn form (reach_by form uses args ms)
 reach_by-lies (Err k) uses args ms = tt
-reach_by-lies (Ok f) uses args ms = as_reach-lies f _ (changed-fits f.0 (uses f.0 args) ms)
+reach_by-lies (Ok f) uses args ms = as_reach-lies f _ (changed-fits f.shape (uses f.shape args) ms)
 
 anew_lies : (form : Result Form Kind) → LiesIn form Anew
 anew_lies (Err k) = tt
@@ -115,7 +115,7 @@ length-olds (c ∷ changes) = let k = length-olds changes in omega (arith, k)
 items_same : (p : RuleModel) → IsTight p → (changes : List ArgumentChange) (form : Result Form Kind) (index : List ℕ) → length changes ≡ length p.selectors → AllAgree changes → p.form (news changes) ≡ form → frames p.selectors (olds changes) ≡ frames p.selectors (news changes) → IsPlace form index → is_reached (reach_by form p.uses (news changes) (moves changes)) index ≡ false → p.item (olds changes) index ≡ p.item (news changes) index
 items_same p tight changes (Err k) index n h e same place u = absurd (true≢false u)
 items_same p tight changes (Ok f) index n h e same place u =
-    tight.determined _ _ f index (length-olds changes ∙ n) (length-news changes ∙ n) same e place (gathered_same f.0 changes (p.uses f.0 (news changes)) index h (tight.covered (news changes) f (length-news changes ∙ n) e) place (unmoved_reach f.0 _ index u))
+    tight.determined _ _ f index (length-olds changes ∙ n) (length-news changes ∙ n) same e place (gathered_same f.shape changes (p.uses f.shape (news changes)) index h (tight.covered (news changes) f (length-news changes ∙ n) e) place (unmoved_reach f.shape _ index u))
 
 -- where the law of a rule holds, all that changes is reached
 pub covers : (p : RuleModel) → IsTight p → ReachCovers p

@@ -15,14 +15,14 @@ use Rattle.change_core.specs.Sourced.{Spread, left_of, left_used, one_rule, one_
 use Rattle.index_region.specs.ArgumentLists.{of_one_argument, of_two_arguments}
 use Rattle.index_region.specs.Boxes.{is_within}
 use Rattle.index_region.specs.Checks.{Form}
-use Rattle.index_region.specs.Sources.{Source, item_from}
+use Rattle.index_region.specs.Sources.{Source, Place, Fill, item_from}
 
 -- an item is what its source says, so it is the same where that is read alike
 pub item_from_same : (a b c d : ArrayValue) (t : ItemType) (s : Source) → map (item_if_there a) (left_of s) ≡ map (item_if_there c) (left_of s)
     → map (item_if_there b) (right_of s) ≡ map (item_if_there d) (right_of s) → item_from a b t s ≡ item_from c d t s
-item_from_same a b c d t None h k = refl
-item_from_same a b c d t (Some (zero, index)) h k = let same : item_if_there a index ≡ item_if_there c index = cc in ap (λ (o : Option Item). Ok (unwrap_or o (fill t))) same
-item_from_same a b c d t (Some (suc n, index)) h k = let same : item_if_there b index ≡ item_if_there d index = cc in ap (λ (o : Option Item). Ok (unwrap_or o (fill t))) same
+item_from_same a b c d t Fill h k = refl
+item_from_same a b c d t (Place zero index) h k = let same : item_if_there a index ≡ item_if_there c index = cc in ap (λ (o : Option Item). Ok (unwrap_or o (fill t))) same
+item_from_same a b c d t (Place (suc n) index) h k = let same : item_if_there b index ≡ item_if_there d index = cc in ap (λ (o : Option Item). Ok (unwrap_or o (fill t))) same
 
 -- the same for a function of one argument, which it gives as both
 pub item_from_same_one : (a c : ArrayValue) (t : ItemType) (s : Source) → right_of s ≡ [] → map (item_if_there a) (left_of s) ≡ map (item_if_there c) (left_of s)
@@ -61,9 +61,9 @@ as_other false a c alike = let r = reframed a c alike in (r.is, record { count =
 -- what the author of a function of one array shows: the checks see no items, an item is settled by what it reads, and the box is right
 pub record OneTight (form : ArrayValue → Result Form Kind) (item : ArrayValue → List ℕ → Result Item Kind) (use_of : List ℕ → ArrayValue → Use) : Type 0 where
   pub blind : (d : ArrayValue) (xs : List Item) → length xs ≡ length d.items → form (other d xs) ≡ form d
-  pub settled : (d : ArrayValue) (xs : List Item) (f : Form) (index : List ℕ) → length xs ≡ length d.items → form d ≡ Ok f → is_index_of f.0 index ≡ true
-      → map (item_if_there (other d xs)) ((use_of f.0 d).reads index) ≡ map (item_if_there d) ((use_of f.0 d).reads index) → item (other d xs) index ≡ item d index
-  pub covered : (b : ArrayValue) (f : Form) → form b ≡ Ok f → Covered b.shape f.0 (use_of f.0 b)
+  pub settled : (d : ArrayValue) (xs : List Item) (f : Form) (index : List ℕ) → length xs ≡ length d.items → form d ≡ Ok f → is_index_of f.shape index ≡ true
+      → map (item_if_there (other d xs)) ((use_of f.shape d).reads index) ≡ map (item_if_there d) ((use_of f.shape d).reads index) → item (other d xs) index ≡ item d index
+  pub covered : (b : ArrayValue) (f : Form) → form b ≡ Ok f → Covered b.shape f.shape (use_of f.shape b)
 
 pub one_tight : (form : ArrayValue → Result Form Kind) (item : ArrayValue → List ℕ → Result Item Kind) (use_of : List ℕ → ArrayValue → Use) → OneTight form item use_of → IsTight (one_rule form item use_of)
 one_tight form item use_of h = record { settled = settled; determined = determined; covered = all_covered }
@@ -75,11 +75,11 @@ one_tight form item use_of h = record { settled = settled; determined = determin
     settled (a ∷ []) [] same g k = absurd (let no : ⊥ = cc in no)
     settled (a ∷ []) (b ∷ x ∷ rest) same g k = absurd (let no : ⊥ = cc in no)
 
-    determined : (old new : List ArrayValue) (f : Form) (index : List ℕ) → length old ≡ 1 → length new ≡ 1 → frames (false ∷ []) old ≡ frames (false ∷ []) new → of_one_argument form new ≡ Ok f → is_index_of f.0 index ≡ true
-        → gathered old (uses_of_one use_of f.0 new) index ≡ gathered new (uses_of_one use_of f.0 new) index → of_one_argument (λ b. item b index) old ≡ of_one_argument (λ b. item b index) new
+    determined : (old new : List ArrayValue) (f : Form) (index : List ℕ) → length old ≡ 1 → length new ≡ 1 → frames (false ∷ []) old ≡ frames (false ∷ []) new → of_one_argument form new ≡ Ok f → is_index_of f.shape index ≡ true
+        → gathered old (uses_of_one use_of f.shape new) index ≡ gathered new (uses_of_one use_of f.shape new) index → of_one_argument (λ b. item b index) old ≡ of_one_argument (λ b. item b index) new
     determined (a ∷ []) (b ∷ []) f index m n same e place read =
         let r = reframed a b (head_same (blank a) (blank b) [] [] same) in
-        let reads = (use_of f.0 b).reads index in
+        let reads = (use_of f.shape b).reads index in
         ap (λ (x : ArrayValue). item x index) r.is
         ∙ h.settled b a.items f index r.count e place (sym (ap (λ (x : ArrayValue). map (item_if_there x) reads) r.is) ∙ head_same _ _ [] [] read)
     determined [] new f index m n same e place read = absurd (omega arith)
@@ -87,7 +87,7 @@ one_tight form item use_of h = record { settled = settled; determined = determin
     determined (a ∷ []) [] f index m n same e place read = absurd (omega arith)
     determined (a ∷ []) (b ∷ x ∷ rest) f index m n same e place read = absurd (omega arith)
 
-    all_covered : (args : List ArrayValue) (f : Form) → length args ≡ 1 → of_one_argument form args ≡ Ok f → AllCovered f.0 args (uses_of_one use_of f.0 args)
+    all_covered : (args : List ArrayValue) (f : Form) → length args ≡ 1 → of_one_argument form args ≡ Ok f → AllCovered f.shape args (uses_of_one use_of f.shape args)
     all_covered (b ∷ []) f n e = (h.covered b f e, tt)
     all_covered [] f n e = absurd (omega arith)
     all_covered (b ∷ x ∷ rest) f n e = absurd (omega arith)
@@ -95,11 +95,11 @@ one_tight form item use_of h = record { settled = settled; determined = determin
 -- the same for a function of two arrays. Where the left one is a selector, it is known whole
 pub record TwoTight (selects : Bool) (form : ArrayValue → ArrayValue → Result Form Kind) (item : ArrayValue → ArrayValue → List ℕ → Result Item Kind) (left right : List ℕ → ArrayValue → ArrayValue → Use) : Type 0 where
   pub blind : (c d : ArrayValue) (xs ys : List Item) → IsOther selects c xs → length ys ≡ length d.items → form (other c xs) (other d ys) ≡ form c d
-  pub settled : (c d : ArrayValue) (xs ys : List Item) (f : Form) (index : List ℕ) → IsOther selects c xs → length ys ≡ length d.items → form c d ≡ Ok f → is_index_of f.0 index ≡ true
-      → map (item_if_there (other c xs)) ((left f.0 c d).reads index) ≡ map (item_if_there c) ((left f.0 c d).reads index)
-      → map (item_if_there (other d ys)) ((right f.0 c d).reads index) ≡ map (item_if_there d) ((right f.0 c d).reads index) → item (other c xs) (other d ys) index ≡ item c d index
-  pub covered_left : (a b : ArrayValue) (f : Form) → form a b ≡ Ok f → Covered a.shape f.0 (left f.0 a b)
-  pub covered_right : (a b : ArrayValue) (f : Form) → form a b ≡ Ok f → Covered b.shape f.0 (right f.0 a b)
+  pub settled : (c d : ArrayValue) (xs ys : List Item) (f : Form) (index : List ℕ) → IsOther selects c xs → length ys ≡ length d.items → form c d ≡ Ok f → is_index_of f.shape index ≡ true
+      → map (item_if_there (other c xs)) ((left f.shape c d).reads index) ≡ map (item_if_there c) ((left f.shape c d).reads index)
+      → map (item_if_there (other d ys)) ((right f.shape c d).reads index) ≡ map (item_if_there d) ((right f.shape c d).reads index) → item (other c xs) (other d ys) index ≡ item c d index
+  pub covered_left : (a b : ArrayValue) (f : Form) → form a b ≡ Ok f → Covered a.shape f.shape (left f.shape a b)
+  pub covered_right : (a b : ArrayValue) (f : Form) → form a b ≡ Ok f → Covered b.shape f.shape (right f.shape a b)
 
 pub two_tight : (selects : Bool) (form : ArrayValue → ArrayValue → Result Form Kind) (item : ArrayValue → ArrayValue → List ℕ → Result Item Kind) (left right : List ℕ → ArrayValue → ArrayValue → Use)
     → TwoTight selects form item left right → IsTight (two_rule selects form item left right)
@@ -117,15 +117,15 @@ two_tight selects form item left right h = record { settled = settled; determine
     settled (a ∷ b ∷ []) (c ∷ []) same g k = absurd (let no : ⊥ = cc in no)
     settled (a ∷ b ∷ []) (c ∷ d ∷ x ∷ rest) same g k = absurd (let no : ⊥ = cc in no)
 
-    determined : (old new : List ArrayValue) (f : Form) (index : List ℕ) → length old ≡ 2 → length new ≡ 2 → frames (selects ∷ false ∷ []) old ≡ frames (selects ∷ false ∷ []) new → of_two_arguments form new ≡ Ok f → is_index_of f.0 index ≡ true
-        → gathered old (uses_of_two left right f.0 new) index ≡ gathered new (uses_of_two left right f.0 new) index → of_two_arguments (λ a b. item a b index) old ≡ of_two_arguments (λ a b. item a b index) new
+    determined : (old new : List ArrayValue) (f : Form) (index : List ℕ) → length old ≡ 2 → length new ≡ 2 → frames (selects ∷ false ∷ []) old ≡ frames (selects ∷ false ∷ []) new → of_two_arguments form new ≡ Ok f → is_index_of f.shape index ≡ true
+        → gathered old (uses_of_two left right f.shape new) index ≡ gathered new (uses_of_two left right f.shape new) index → of_two_arguments (λ a b. item a b index) old ≡ of_two_arguments (λ a b. item a b index) new
     determined (a ∷ b ∷ []) (c ∷ d ∷ []) f index m n same e place read =
         let p = as_other selects a c (head_same _ _ _ _ same) in
         let q = reframed b d (head_same _ _ _ _ (tail_same _ _ _ _ same)) in
         (λ i. item (p.0 i) (q.is i) index)
         ∙ h.settled c d a.items b.items f index p.1 q.count e place
-        (sym (ap (λ (x : ArrayValue). map (item_if_there x) ((left f.0 c d).reads index)) p.0) ∙ head_same _ _ _ _ read)
-        (sym (ap (λ (x : ArrayValue). map (item_if_there x) ((right f.0 c d).reads index)) q.is) ∙ head_same _ _ _ _ (tail_same _ _ _ _ read))
+        (sym (ap (λ (x : ArrayValue). map (item_if_there x) ((left f.shape c d).reads index)) p.0) ∙ head_same _ _ _ _ read)
+        (sym (ap (λ (x : ArrayValue). map (item_if_there x) ((right f.shape c d).reads index)) q.is) ∙ head_same _ _ _ _ (tail_same _ _ _ _ read))
     determined [] new f index m n same e place read = absurd (omega arith)
     determined (a ∷ []) new f index m n same e place read = absurd (omega arith)
     determined (a ∷ b ∷ x ∷ rest) new f index m n same e place read = absurd (omega arith)
@@ -133,7 +133,7 @@ two_tight selects form item left right h = record { settled = settled; determine
     determined (a ∷ b ∷ []) (c ∷ []) f index m n same e place read = absurd (omega arith)
     determined (a ∷ b ∷ []) (c ∷ d ∷ x ∷ rest) f index m n same e place read = absurd (omega arith)
 
-    all_covered : (args : List ArrayValue) (f : Form) → length args ≡ 2 → of_two_arguments form args ≡ Ok f → AllCovered f.0 args (uses_of_two left right f.0 args)
+    all_covered : (args : List ArrayValue) (f : Form) → length args ≡ 2 → of_two_arguments form args ≡ Ok f → AllCovered f.shape args (uses_of_two left right f.shape args)
     all_covered (a ∷ b ∷ []) f n e = (h.covered_left a b f e, (h.covered_right a b f e, tt))
     all_covered [] f n e = absurd (omega arith)
     all_covered (a ∷ []) f n e = absurd (omega arith)
@@ -144,7 +144,7 @@ pub one_sourced-tight : (form : ArrayValue → Result Form Kind) (source : Array
     → ((d : ArrayValue) (xs : List Item) → length xs ≡ length d.items → form (other d xs) ≡ form d)
     → ((d : ArrayValue) (xs : List Item) (index : List ℕ) → length xs ≡ length d.items → source (other d xs) index ≡ source d index)
     → ((b : ArrayValue) (index : List ℕ) → right_of (source b index) ≡ [])
-    → ((b : ArrayValue) (f : Form) → form b ≡ Ok f → Covered b.shape f.0 (left_used (source b) (box f.0 b))) → IsTight (one_sourced form source box)
+    → ((b : ArrayValue) (f : Form) → form b ≡ Ok f → Covered b.shape f.shape (left_used (source b) (box f.shape b))) → IsTight (one_sourced form source box)
 one_sourced-tight form source box blind blind_source only covered = one_tight form _ _ (record {
   blind = blind;
   settled = λ d xs f index n e place read.
@@ -157,8 +157,8 @@ pub two_sourced-tight : (selects : Bool) (form : ArrayValue → ArrayValue → R
     → ((c d : ArrayValue) (xs ys : List Item) → IsOther selects c xs → length ys ≡ length d.items → form (other c xs) (other d ys) ≡ form c d)
     → ((c d : ArrayValue) (xs ys : List Item) → IsOther selects c xs → length ys ≡ length d.items → item_type (other c xs) (other d ys) ≡ item_type c d)
     → ((c d : ArrayValue) (xs ys : List Item) (index : List ℕ) → IsOther selects c xs → length ys ≡ length d.items → source (other c xs) (other d ys) index ≡ source c d index)
-    → ((a b : ArrayValue) (f : Form) → form a b ≡ Ok f → Covered a.shape f.0 (left_used (source a b) (left f.0 a b)))
-    → ((a b : ArrayValue) (f : Form) → form a b ≡ Ok f → Covered b.shape f.0 (right_used (source a b) (right f.0 a b)))
+    → ((a b : ArrayValue) (f : Form) → form a b ≡ Ok f → Covered a.shape f.shape (left_used (source a b) (left f.shape a b)))
+    → ((a b : ArrayValue) (f : Form) → form a b ≡ Ok f → Covered b.shape f.shape (right_used (source a b) (right f.shape a b)))
     → IsTight (two_sourced selects form item_type source left right)
 two_sourced-tight selects form item_type source left right blind blind_type blind_source covered_left covered_right = two_tight selects form _ _ _ (record {
   blind = blind;
@@ -175,7 +175,7 @@ pub selected_sourced-tight : (form : ArrayValue → ArrayValue → Result Form K
     → ((a d : ArrayValue) (ys : List Item) → length ys ≡ length d.items → item_type a (other d ys) ≡ item_type a d)
     → ((a d : ArrayValue) (ys : List Item) (index : List ℕ) → length ys ≡ length d.items → source a (other d ys) index ≡ source a d index)
     → ((a b : ArrayValue) (index : List ℕ) → left_of (source a b index) ≡ [])
-    → ((a b : ArrayValue) (f : Form) → form a b ≡ Ok f → Covered b.shape f.0 (right_used (source a b) (box f.0 a b)))
+    → ((a b : ArrayValue) (f : Form) → form a b ≡ Ok f → Covered b.shape f.shape (right_used (source a b) (box f.shape a b)))
     → IsTight (two_sourced true form item_type source (λ shape a b region. None) box)
 selected_sourced-tight form item_type source box blind blind_type blind_source only covered = two_sourced-tight true form item_type source (λ shape a b region. None) box
     (λ c d xs ys p q. ap (λ (x : ArrayValue). form x (other d ys)) (kept c xs p) ∙ blind c d ys q)

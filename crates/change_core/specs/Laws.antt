@@ -51,9 +51,9 @@ AllCovered shape (a ∷ args) (u ∷ uses) = Covered a.shape shape u × AllCover
 pub record IsTight (p : RuleModel) : Type 0 where
   pub settled : (old new : List ArrayValue) → frames p.selectors old ≡ frames p.selectors new → IsOk (p.form old) → IsOk (p.form new) → p.form old ≡ p.form new
   pub determined : (old new : List ArrayValue) (f : Form) (index : List ℕ) → length old ≡ length p.selectors → length new ≡ length p.selectors
-      → frames p.selectors old ≡ frames p.selectors new → p.form new ≡ Ok f → is_index_of f.0 index ≡ true
-      → gathered old (p.uses f.0 new) index ≡ gathered new (p.uses f.0 new) index → p.item old index ≡ p.item new index
-  pub covered : (args : List ArrayValue) (f : Form) → length args ≡ length p.selectors → p.form args ≡ Ok f → AllCovered f.0 args (p.uses f.0 args)
+      → frames p.selectors old ≡ frames p.selectors new → p.form new ≡ Ok f → is_index_of f.shape index ≡ true
+      → gathered old (p.uses f.shape new) index ≡ gathered new (p.uses f.shape new) index → p.item old index ≡ p.item new index
+  pub covered : (args : List ArrayValue) (f : Form) → length args ≡ length p.selectors → p.form args ≡ Ok f → AllCovered f.shape args (p.uses f.shape args)
 
 -- an argument before and after, and the box of what changed of it
 pub record ArgumentChange : Type 0 where
@@ -85,7 +85,7 @@ AllAgree (c ∷ changes) = Agrees c × AllAgree changes
 
 -- the checks pass, and the index list names a place of the result
 abbrev pub IsPlace : Result Form Kind → List ℕ → Type 0
-IsPlace form index = IfOk form (λ f. IsTrue (is_index_of f.0 index))
+IsPlace form index = IfOk form (λ f. IsTrue (is_index_of f.shape index))
 
 -- the result has one shape and type before and after, and one item (or error) at each place that is not reached
 pub record Covers (p : RuleModel) (old new : List ArrayValue) (reach : Reach) : Type 0 where

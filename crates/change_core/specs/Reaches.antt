@@ -46,7 +46,7 @@ as_reach (Some region) = Inside region
 -- what may change where no selector changed
 abbrev pub reach_by : Result Form Kind → (List ℕ → List ArrayValue → List Use) → List ArrayValue → List (Option (List Interval)) → Reach
 reach_by (Err kind) uses args moves = Anew
-reach_by (Ok f) uses args moves = as_reach (changed f.0 (uses f.0 args) moves)
+reach_by (Ok f) uses args moves = as_reach (changed f.shape (uses f.shape args) moves)
 
 -- what may change of the result, by the new arguments and the changed box of each
 abbrev pub reach_of : RuleModel → List ArrayValue → List (Option (List Interval)) → Reach
@@ -65,5 +65,5 @@ is_reached Anew index = true
 
 -- a box of what may change lies in the result
 abbrev pub LiesIn : Result Form Kind → Reach → Type 0
-LiesIn (Ok f) (Inside region) = IsTrue (fits region f.0)
+LiesIn (Ok f) (Inside region) = IsTrue (fits region f.shape)
 LiesIn _ _ = Unit {0}

@@ -35,10 +35,10 @@ FitsAt (a ∷ args) (suc which) region = FitsAt args which region
 
 -- the checks pass, and this is the shape of the result
 abbrev pub HasShape : Result Form Kind → List ℕ → Type 0
-HasShape (Ok f) shape = f.0 ≡ shape
+HasShape (Ok f) shape = f.shape ≡ shape
 HasShape (Err kind) shape = ⊥
 
 -- how many places the result has; none where a check fails
 abbrev pub form_size : Result Form Kind → ℕ
-form_size (Ok f) = size f.0
+form_size (Ok f) = size f.shape
 form_size (Err kind) = 0

@@ -7,7 +7,7 @@ use Rattle.arrays_core.specs.Arrays.{ArrayValue}
 use Rattle.index_region.specs.ArgumentLists.{of_one_argument, of_two_arguments}
 use Rattle.index_region.specs.Boxes.{Interval}
 use Rattle.index_region.specs.Checks.{Form}
-use Rattle.index_region.specs.Sources.{Source, item_from}
+use Rattle.index_region.specs.Sources.{Source, Place, Fill, item_from}
 use Rattle.change_core.specs.RuleModels.{Use, RuleModel}
 
 -- the intervals of a result for a changed box of an argument
@@ -20,15 +20,15 @@ on_axis axis image region = Some (set region axis (image (get_or region axis (0,
 
 -- the place of the left or only argument that a source names
 abbrev pub left_of : Source → List (List ℕ)
-left_of (Some (zero, index)) = index ∷ []
-left_of (Some (suc n, index)) = []
-left_of None = []
+left_of (Place zero at) = at ∷ []
+left_of (Place (suc n) at) = []
+left_of Fill = []
 
 -- the place of the right argument that a source names
 abbrev pub right_of : Source → List (List ℕ)
-right_of (Some (zero, index)) = []
-right_of (Some (suc n, index)) = index ∷ []
-right_of None = []
+right_of (Place zero at) = []
+right_of (Place (suc n) at) = at ∷ []
+right_of Fill = []
 
 -- an array of the same type and shape with other items
 abbrev pub other : ArrayValue → List Item → ArrayValue
