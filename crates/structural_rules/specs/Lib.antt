@@ -1,0 +1,2 @@
+-- What public contracts mean.
+-- The laws that the impls cite.

@@ -1,0 +1,6 @@
+//! Change rules of the structural functions: what a change of their arguments changes of their results.
+#![tactic(auto)]
+
+mod ruled;
+
+pub use ruled::Ruled;
