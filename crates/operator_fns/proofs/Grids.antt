@@ -16,7 +16,7 @@ use Rattle.scalar_fns.specs.Numbers.{dyadic_on_numbers}
 use Rattle.scalar_fns.specs.Items.{dyadic_on_items, number_item}
 use Rattle.scalar_fns.specs.NumberLists.{number_items}
 use Rattle.scalar_fns.specs.ScalarExtension.{extended}
-use Rattle.index_region.specs.Checks.{Form, and_then, whole, limited}
+use Rattle.index_region.specs.Checks.{form_of, Form, and_then, whole, limited}
 use Rattle.index_region.specs.Arguments.{has_one_item}
 use Rattle.index_region.proofs.Passing.{gives, limited_gives}
 use Rattle.operator_fns.specs.RightFold.{fold_right}
@@ -246,7 +246,7 @@ module _ (a b : ArrayValue) (xs ys : List ℤ) (long_a : length a.items ≡ size
 
   -- what is known where the checks have given a form
   record Checked (form : Form) : Type 0 where
-    is : form ≡ (take (row_rank a) a.shape ++ drop 1 b.shape, Nums)
+    is : form ≡ form_of (take (row_rank a) a.shape ++ drop 1 b.shape) Nums
     row : length a.items ≢ 1 → row_length a ≡ inner_length a b
     column : length b.items ≢ 1 → column_length b ≡ inner_length a b
 

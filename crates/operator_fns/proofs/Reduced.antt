@@ -184,8 +184,8 @@ pub record ReduceFacts (along : Along) (b : ArrayValue) (shape : List ℕ) (t : 
 pub reduce_facts : (along : Along) (b : ArrayValue) (shape : List ℕ) (t : ItemType) → reduce_form along b ≡ Ok (form_of shape t) → ReduceFacts along b shape t
 reduce_facts along b shape t h =
     let axis = axis_at (length b.shape) along in
-    let checked = gives (is_axis (length b.shape) along) _ (limited (remove b.shape axis) (reduce_type b axis)) (shape, t) h in
-    let same = limited_gives (remove b.shape axis) (reduce_type b axis) (shape, t) checked.is in
+    let checked = gives (is_axis (length b.shape) along) _ (limited (remove b.shape axis) (reduce_type b axis)) (form_of shape t) h in
+    let same = limited_gives (remove b.shape axis) (reduce_type b axis) (form_of shape t) checked.is in
     record { on_axis = checked.test; shaped = ap (λ (f : Form). f.shape) same; typed = ap (λ (f : Form). f.item_type) same }
 
 same_type : (w : Bool) (t : ItemType) → t ≡ Nums → cond w t Nums ≡ Nums

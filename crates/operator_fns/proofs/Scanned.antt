@@ -115,9 +115,9 @@ pub record ScanFacts (along : Along) (b : ArrayValue) (shape : List ℕ) (t : It
 pub scan_facts : (along : Along) (b : ArrayValue) (shape : List ℕ) (t : ItemType) → scan_form along b ≡ Ok (form_of shape t) → ScanFacts along b shape t
 scan_facts along b shape t h =
     let axis = axis_at (length b.shape) along in
-    let axis_checked = gives (is_axis (length b.shape) along) _ _ (shape, t) h in
-    let checked = gives (nat_lt (places_along b.shape axis) 2 || counts_as_numbers b) _ (limited b.shape (scan_type b axis)) (shape, t) axis_checked.is in
-    let same = limited_gives b.shape (scan_type b axis) (shape, t) checked.is in
+    let axis_checked = gives (is_axis (length b.shape) along) _ _ (form_of shape t) h in
+    let checked = gives (nat_lt (places_along b.shape axis) 2 || counts_as_numbers b) _ (limited b.shape (scan_type b axis)) (form_of shape t) axis_checked.is in
+    let same = limited_gives b.shape (scan_type b axis) (form_of shape t) checked.is in
     record { on_axis = axis_checked.test; shaped = ap (λ (f : Form). f.shape) same; typed = ap (λ (f : Form). f.item_type) same }
 
 -- what holds at an index list of a result

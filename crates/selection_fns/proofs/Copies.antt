@@ -1,5 +1,5 @@
 -- Copies of the places of an axis.
-use Rattle.std.proofs.Common.{◌≡◌, ℕ, zero, suc, ◌+◌, ◌-◌, ◌*◌, ◌/◌, ◌<◌, ◌≤◌, Bool, true, false, nat_le, if◌then◌else◌, ◌&&◌, ◌||◌, nat_eq, All, Some, Result, Ok, Err, List, [], ◌∷◌, length, ◌++◌, map, take, drop, pos, negsuc, int_le, unsigned_abs, get_or, set, replicate, insert, remove, refl, ap, sym, subst, ◌∙◌, arith}
+use Rattle.std.proofs.Common.{◌≡◌, ℕ, zero, suc, ◌+◌, ◌-◌, ◌*◌, ◌/◌, ◌<◌, ◌≤◌, Bool, true, false, nat_le, if◌then◌else◌, ◌&&◌, ◌||◌, nat_eq, All, Result, Ok, Err, List, [], ◌∷◌, length, ◌++◌, map, take, drop, pos, negsuc, int_le, unsigned_abs, get_or, set, replicate, insert, remove, refl, ap, sym, subst, ◌∙◌, arith}
 use Rattle.std.specs.Prelude.{max, sum}
 use Rattle.std.specs.List.{list_all}
 use Rattle.std.proofs.lemmas.Bool.Decides.{nat_tests}
@@ -240,11 +240,11 @@ replicate_gives along a b shape item_type form =
     let rank = max 1 (length b.shape) in
     let axis = axis_at rank along in
     let n = places_along b.shape axis in
-    let axes = gives (is_axis rank along) _ _ (shape, item_type) form in
-    let ranks = gives (is_list a) _ _ (shape, item_type) axes.is in
-    let lengths = gives (has_one_item a || (nat_eq n 1 || nat_eq (length a.items) n)) _ _ (shape, item_type) ranks.is in
-    let counted = gives (counts_as_numbers a && none_negative (numbers a)) _ _ (shape, item_type) lengths.is in
-    let asked = limited_gives (replicated_shape a b.shape axis) b.item_type (shape, item_type) counted.is in
+    let axes = gives (is_axis rank along) _ _ (form_of shape item_type) form in
+    let ranks = gives (is_list a) _ _ (form_of shape item_type) axes.is in
+    let lengths = gives (has_one_item a || (nat_eq n 1 || nat_eq (length a.items) n)) _ _ (form_of shape item_type) ranks.is in
+    let counted = gives (counts_as_numbers a && none_negative (numbers a)) _ _ (form_of shape item_type) lengths.is in
+    let asked = limited_gives (replicated_shape a b.shape axis) b.item_type (form_of shape item_type) counted.is in
     record { axis = axes.test; shaped = ap (λ (f : Form). f.shape) asked; typed = ap (λ (f : Form). f.item_type) asked }
 
 -- an axis below the rank, where the array has one

@@ -23,8 +23,8 @@ module _ (args : List ArrayValue) (a b : ArrayValue) (two : length args ≡ 2) (
 
   pub index_of_shape : of_two_arguments index_of_form args ≡ Ok (form_of shape item_type) → (shape ≡ b.shape) × (item_type ≡ Nums)
   index_of_shape is =
-      let checked = gives (nat_eq (length a.shape) 1) Rank (limited b.shape Nums) (shape, item_type) (ap (of_two_arguments index_of_form) (sym both) ∙ is) in
-      let asked = limited_gives b.shape Nums (shape, item_type) checked.is in
+      let checked = gives (nat_eq (length a.shape) 1) Rank (limited b.shape Nums) (form_of shape item_type) (ap (of_two_arguments index_of_form) (sym both) ∙ is) in
+      let asked = limited_gives b.shape Nums (form_of shape item_type) checked.is in
       (ap (λ (f : Form). f.shape) asked, ap (λ (f : Form). f.item_type) asked)
 
   pub index_of_answer : of_two_arguments index_of_form args ≡ Ok (form_of shape item_type) → length b.items ≡ size b.shape
@@ -37,7 +37,7 @@ module _ (args : List ArrayValue) (a b : ArrayValue) (two : length args ≡ 2) (
 
   pub member_shape : of_two_arguments member_form args ≡ Ok (form_of shape item_type) → (shape ≡ a.shape) × (item_type ≡ Nums)
   member_shape is =
-      let asked = limited_gives a.shape Nums (shape, item_type) (ap (of_two_arguments member_form) (sym both) ∙ is) in
+      let asked = limited_gives a.shape Nums (form_of shape item_type) (ap (of_two_arguments member_form) (sym both) ∙ is) in
       (ap (λ (f : Form). f.shape) asked, ap (λ (f : Form). f.item_type) asked)
 
   pub member_answer : of_two_arguments member_form args ≡ Ok (form_of shape item_type) → length a.items ≡ size a.shape

@@ -34,10 +34,10 @@ one_position (w ∷ v ∷ written) p one long = absurd (omega arith)
 pub of_one_axis : (n : ℕ) (a p : ArrayValue) (shape : List ℕ) (item_type : ItemType) → a.shape ≡ n ∷ [] → index_form a (Some p ∷ []) ≡ Ok (form_of shape item_type) → OfVector a p shape item_type
 of_one_axis n a p shape item_type is form =
     let positions : List Position = Some p ∷ [] in
-    let ranks = gives (not (is_scalar a) && nat_eq (length positions) (length a.shape)) _ _ (shape, item_type) form in
-    let counted = gives (list_all are_numbers positions) _ _ (shape, item_type) ranks.is in
-    let on = gives (are_on a.shape positions) _ _ (shape, item_type) counted.is in
-    let asked = limited_gives (indexed_shape a.shape positions) a.item_type (shape, item_type) on.is in
+    let ranks = gives (not (is_scalar a) && nat_eq (length positions) (length a.shape)) _ _ (form_of shape item_type) form in
+    let counted = gives (list_all are_numbers positions) _ _ (form_of shape item_type) ranks.is in
+    let on = gives (are_on a.shape positions) _ _ (form_of shape item_type) counted.is in
+    let asked = limited_gives (indexed_shape a.shape positions) a.item_type (form_of shape item_type) on.is in
     record {
       on = subst (λ m. list_all (is_on_axis m) (numbers p) ≡ true) (sym (ap (λ s. get_or s 0 0) is)) (first_of_all (list_all (is_on_axis n) (numbers p)) (subst (λ s. are_on s positions ≡ true) is on.test));
       shaped = ap (λ (f : Form). f.shape) asked ∙ ap (λ s. indexed_shape s positions) is ∙ append-nil p.shape;
@@ -74,7 +74,7 @@ is_vector_index written args a p shape item_type long two is_a is_p axis form =
     let pair = two_args args a p two is_a is_p in
     let here : index_form a (written_positions written (p ∷ [])) ≡ Ok (form_of shape item_type) = subst (λ xs. of_array_and_positions written index_form xs ≡ Ok (form_of shape item_type)) pair form in
     let axes = one_axis a.shape axis in
-    let ranks = gives (not (is_scalar a) && nat_eq (length (written_positions written (p ∷ []))) (length a.shape)) _ _ (shape, item_type) here in
+    let ranks = gives (not (is_scalar a) && nat_eq (length (written_positions written (p ∷ []))) (length a.shape)) _ _ (form_of shape item_type) here in
     let as_many = positions_long written (p ∷ []) (omega arith) in
     let same = second_of (not (is_scalar a)) (length (written_positions written (p ∷ []))) (length a.shape) ranks.test in
     let positions = one_position written p (omega arith) (omega arith) in

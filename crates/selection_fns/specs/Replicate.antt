@@ -1,5 +1,5 @@
 -- Replicate: each place of an axis as often as its count. A scalar is a vector of one item.
-use Rattle.std.specs.Prelude.{ℕ, suc, ◌-◌, nat_eq, max, unsigned_abs, ◌&&◌, ◌||◌, if◌then◌else◌, List, [], ◌∷◌, ◌++◌, map, length, get_or, set, replicate, insert, remove, sum, Some, Result}
+use Rattle.std.specs.Prelude.{ℕ, suc, ◌-◌, nat_eq, max, unsigned_abs, ◌&&◌, ◌||◌, if◌then◌else◌, List, [], ◌∷◌, ◌++◌, map, length, get_or, set, replicate, insert, remove, sum, Result}
 use Rattle.arrays_core.specs.declared.item.Item.{Item}
 use Rattle.arrays_core.specs.declared.item.Kind.{Kind}
 use Rattle.arrays_core.specs.declared.item.Kind.TheVariants.{Axis, Rank, Length, Domain}

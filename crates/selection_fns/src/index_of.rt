@@ -53,7 +53,11 @@ fn no_places(alloc: Global, array: &Seen, sought: &Seen) -> Result<Vec<i64>, All
 }
 
 /// The first place in an array of each item that is sought. Each of the two is read once.
-fn first_places_in_array(alloc: Global, array: &Array, sought: &Array) -> Result<Vec<i64>, AllocError>
+fn first_places_in_array(
+    alloc: Global,
+    array: &Array,
+    sought: &Array,
+) -> Result<Vec<i64>, AllocError>
     ensures { IfOk result (λ v. v.items ≡ map (λ x. pos (suc (position_or_len (same_item x) array.now.items))) sought.now.items) }
 {
     // The shape says that there are no more places than an array may have.
@@ -77,7 +81,8 @@ fn first_places_in(alloc: Global, array: &Seen, sought: &Seen) -> Result<Vec<i64
     if let (Some(array), Some(sought)) = (array.array(), sought.array()) {
         return first_places_in_array(alloc, array, sought);
     }
-    let (array, sought) = (array.copy()?, sought.copy()?);
+    let array = array.copy()?;
+    let sought = sought.copy()?;
     first_places_in_array(alloc, &array, &sought)
 }
 

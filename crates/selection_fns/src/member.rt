@@ -39,7 +39,11 @@ fn no_members(alloc: Global, array: &Seen, sought: &Seen) -> Result<Vec<i64>, Al
 }
 
 /// Whether each item that is sought is one of an array. Each of the two is read once.
-fn are_members_of_array(alloc: Global, array: &Array, sought: &Array) -> Result<Vec<i64>, AllocError>
+fn are_members_of_array(
+    alloc: Global,
+    array: &Array,
+    sought: &Array,
+) -> Result<Vec<i64>, AllocError>
     ensures { IfOk result (λ v. v.items ≡ map (λ x. truth_of (list_any (same_item x) array.now.items)) sought.now.items) }
 {
     if let (Some(items), Some(numbers)) = (array.numbers(), sought.numbers()) {
@@ -61,7 +65,8 @@ fn are_members(alloc: Global, array: &Seen, sought: &Seen) -> Result<Vec<i64>, A
     if let (Some(array), Some(sought)) = (array.array(), sought.array()) {
         return are_members_of_array(alloc, array, sought);
     }
-    let (array, sought) = (array.copy()?, sought.copy()?);
+    let array = array.copy()?;
+    let sought = sought.copy()?;
     are_members_of_array(alloc, &array, &sought)
 }
 

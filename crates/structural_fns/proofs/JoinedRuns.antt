@@ -160,10 +160,10 @@ module _ (along : Along) (a b : ArrayValue) (shape : List ℕ) (item_type : Item
   joined_runs left_sound right_sound left_run right_run =
       let rank = joined_rank a b in
       let axis = axis_at rank along in
-      let there = gives (is_axis rank along) AxisKind _ (shape, item_type) form in
-      let ranks = gives (ranks_join a b) Rank _ (shape, item_type) there.is in
-      let agree = gives (axes_agree rank axis a b) Length _ (shape, item_type) ranks.is in
-      let types = gives (types_join a b) Domain _ (shape, item_type) agree.is in
+      let there = gives (is_axis rank along) AxisKind _ (form_of shape item_type) form in
+      let ranks = gives (ranks_join a b) Rank _ (form_of shape item_type) there.is in
+      let agree = gives (axes_agree rank axis a b) Length _ (form_of shape item_type) ranks.is in
+      let types = gives (types_join a b) Domain _ (form_of shape item_type) agree.is in
       let parts = limited_is types.is in
       let more = joined_places rank 0 a + joined_places rank 0 b in
       let shaped : shape ≡ more ∷ result_axes a b = parts.0 ∙ ap (λ n. joined_shape rank n a b) first in

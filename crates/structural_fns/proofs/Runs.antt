@@ -1,5 +1,5 @@
 -- Results whose items are a run of those of an argument.
-use Rattle.std.proofs.Common.{◌≡◌, ℕ, ◌+◌, ◌-◌, ◌/◌, ◌%◌, ◌<◌, ◌≤◌, List, [], ◌∷◌, map, take, drop, length, get_or, Some, None, Result, Ok, Bool, true, false, cond, refl, sym, ap, subst, ◌∙◌, arith}
+use Rattle.std.proofs.Common.{◌≡◌, ℕ, ◌+◌, ◌-◌, ◌/◌, ◌%◌, ◌<◌, ◌≤◌, List, [], ◌∷◌, map, take, drop, length, get_or, Some, Result, Ok, Bool, true, false, cond, refl, sym, ap, subst, ◌∙◌, arith}
 use Rattle.std.specs.Prelude.{unwrap_or, not, nat_eq, ◌&&◌}
 use Rattle.std.proofs.lemmas.Bool.Decides.{nat_tests}
 use Rattle.std.proofs.Math.Nat.{div-one, mod-eq_of_lt}
@@ -58,7 +58,7 @@ module _ (b : ArrayValue) (inside : size b.shape ≤ length b.items) where
 -- the form that a passed check gives is what was asked for
 pub limited_is : {asked shape : List ℕ} {asked_type item_type : ItemType} → limited asked asked_type ≡ Ok (form_of shape item_type) → (shape ≡ asked) × (item_type ≡ asked_type)
 limited_is {asked = asked} {shape = shape} {asked_type = asked_type} {item_type = item_type} is =
-    let same = limited_gives asked asked_type (shape, item_type) is in
+    let same = limited_gives asked asked_type (form_of shape item_type) is in
     (ap (λ (f : Form). f.shape) same, ap (λ (f : Form). f.item_type) same)
 
 pub ravel_answer : (args : List ArrayValue) (b v : ArrayValue) (places : ℕ) (asked shape : List ℕ) (asked_type item_type : ItemType)
@@ -107,8 +107,8 @@ pub record ReshapePassed (a b : ArrayValue) (shape : List ℕ) (item_type : Item
 
 reshape_passed : (a b : ArrayValue) (shape : List ℕ) (item_type : ItemType) → reshape_form a b ≡ Ok (form_of shape item_type) → ReshapePassed a b shape item_type
 reshape_passed a b shape item_type form =
-    let listed = gives (is_list a) Rank _ (shape, item_type) form in
-    let counted = gives (counts_as_numbers a && none_negative (numbers a)) Domain _ (shape, item_type) listed.is in
+    let listed = gives (is_list a) Rank _ (form_of shape item_type) form in
+    let counted = gives (counts_as_numbers a && none_negative (numbers a)) Domain _ (form_of shape item_type) listed.is in
     let parts = limited_is counted.is in
     record { form = form; shaped = parts.0; typed = parts.1 }
 

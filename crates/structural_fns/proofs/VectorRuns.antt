@@ -31,9 +31,9 @@ pub record CountsPassed (asked : List ℕ) (a b : ArrayValue) (shape : List ℕ)
 pub counts_passed : (asked : List ℕ) (a b : ArrayValue) (shape : List ℕ) (item_type : ItemType) → counted_form asked a b ≡ Ok (form_of shape item_type)
     → CountsPassed asked a b shape item_type
 counts_passed asked a b shape item_type h =
-    let listed = gives (is_list a) Rank _ (shape, item_type) h in
-    let long = gives (nat_eq (length a.items) (length (counted_shape a b))) Length _ (shape, item_type) listed.is in
-    let last = gives (counts_as_numbers a) Domain _ (shape, item_type) long.is in
+    let listed = gives (is_list a) Rank _ (form_of shape item_type) h in
+    let long = gives (nat_eq (length a.items) (length (counted_shape a b))) Length _ (form_of shape item_type) listed.is in
+    let last = gives (counts_as_numbers a) Domain _ (form_of shape item_type) long.is in
     let parts = limited_is last.is in
     record { shaped = parts.0; typed = parts.1; long = eqb-true _ _ long.test }
 

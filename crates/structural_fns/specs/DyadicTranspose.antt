@@ -1,5 +1,5 @@
 -- Dyadic transpose, A⍉B: axis i of b goes to axis A[i].
-use Rattle.std.specs.Prelude.{ℕ, ◌-◌, max, min, nat_eq, ℤ, pos, int_le, unsigned_abs, Bool, ◌&&◌, List, [], ◌∷◌, map, length, get_or, zip, Some, Result}
+use Rattle.std.specs.Prelude.{ℕ, ◌-◌, max, min, nat_eq, ℤ, pos, int_le, unsigned_abs, Bool, ◌&&◌, List, [], ◌∷◌, map, length, get_or, zip, Result}
 use Rattle.std.specs.List.{filter, list_all, list_any, range_with_len}
 use Rattle.arrays_core.specs.declared.item.Item.{Item}
 use Rattle.arrays_core.specs.declared.item.Kind.{Kind}

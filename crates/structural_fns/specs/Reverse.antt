@@ -1,5 +1,5 @@
 -- Reverse, ⌽B along an axis: its places from the last to the first. A scalar's index list is empty, and so nothing is set.
-use Rattle.std.specs.Prelude.{ℕ, suc, ◌-◌, List, length, get_or, set, Some, Result}
+use Rattle.std.specs.Prelude.{ℕ, suc, ◌-◌, List, length, get_or, set, Result}
 use Rattle.arrays_core.specs.declared.item.Item.{Item}
 use Rattle.arrays_core.specs.declared.item.Kind.{Kind}
 use Rattle.arrays_core.specs.declared.item.Kind.TheVariants.{Axis}

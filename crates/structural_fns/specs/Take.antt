@@ -1,5 +1,5 @@
 -- Take, A↑B: the first places of each axis, or the last, and fill beyond them.
-use Rattle.std.specs.Prelude.{ℕ, suc, ◌+◌, ◌-◌, ℤ, pos, negsuc, if◌then◌else◌, List, [], ◌∷◌, Some, None, Result}
+use Rattle.std.specs.Prelude.{ℕ, suc, ◌+◌, ◌-◌, ℤ, pos, negsuc, if◌then◌else◌, List, [], ◌∷◌, Result}
 use Rattle.arrays_core.specs.declared.item.Item.{Item}
 use Rattle.arrays_core.specs.declared.item.Kind.{Kind}
 use Rattle.arrays_core.specs.Arrays.{ArrayValue}

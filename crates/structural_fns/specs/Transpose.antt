@@ -1,5 +1,5 @@
 -- Transpose, ⍉B: the axes in reverse order.
-use Rattle.std.specs.Prelude.{ℕ, List, reverse, Some, Result}
+use Rattle.std.specs.Prelude.{ℕ, List, reverse, Result}
 use Rattle.arrays_core.specs.declared.item.Item.{Item}
 use Rattle.arrays_core.specs.declared.item.Kind.{Kind}
 use Rattle.arrays_core.specs.Arrays.{ArrayValue}

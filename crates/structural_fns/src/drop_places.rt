@@ -8,8 +8,8 @@ ghost use Rattle.index_region.specs.Arguments.{numbers};
 ghost use Rattle.index_region.specs.Answers.{IsPlaceOf, source_value};
 ghost use Rattle.structural_fns.specs.AxisCounts.{counted_shape as shape_counted};
 ghost use Rattle.structural_fns.specs.Drop.{drop_form, drop_source, drop_item, drop_whole, dropped_shape as shape_dropped, kept_place as place_kept, kept_places as places_kept};
-
 ghost use Rattle.index_region.specs.Checks.{form_of};
+
 use crate::axis_counts::{check_axis_counts, counted_shape, uncounted};
 use crate::limits::MOST_AXES;
 use arrays_core::{ApplyFault, Array, Item, ItemType, Kind, Shape, size};

@@ -8,8 +8,8 @@ ghost use Rattle.index_region.specs.Arguments.{numbers};
 ghost use Rattle.index_region.specs.Answers.{IsPlaceOf, source_value};
 ghost use Rattle.structural_fns.specs.Reshape.{magnitudes as magnitudes_of};
 ghost use Rattle.structural_fns.specs.Take.{take_form, take_source, take_item, take_whole, taken_place as place_taken, taken_places as places_taken};
-
 ghost use Rattle.index_region.specs.Checks.{form_of};
+
 use crate::axis_counts::{check_axis_counts, counted_shape, uncounted};
 use crate::magnitudes::magnitudes;
 use arrays_core::{ApplyFault, Array, Item, ItemType, Kind, Shape, is_index_of};

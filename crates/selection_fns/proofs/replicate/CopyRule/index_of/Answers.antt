@@ -1,4 +1,4 @@
-use Rattle.std.proofs.Common.{rules, ℕ, Some, ◌≡◌, ◌+◌, ◌<◌, length, get_or, subst, sym, ap, ◌∙◌, arith}
+use Rattle.std.proofs.Common.{rules, ℕ, ◌≡◌, ◌+◌, ◌<◌, length, get_or, subst, sym, ap, ◌∙◌, arith}
 use Rattle.index_region.specs.Axes.{axis_at, places_along}
 use Rattle.std.specs.Prelude.{sum}
 use Rattle.selection_fns.specs.Replicate.{times, copied_place}
