@@ -2,3 +2,5 @@ pub mod Arguments
 pub mod Passing
 pub mod Boxes
 pub mod Patched
+pub mod Walks
+pub mod Written

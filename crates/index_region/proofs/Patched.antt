@@ -1,20 +1,19 @@
 -- Places in row-major order, and patched arrays.
-use Rattle.std.proofs.Common.{◌≡◌, ℕ, ◌+◌, ◌-◌, ◌*◌, ◌<◌, ◌≤◌, List, [], ◌∷◌, arith, mul_comm, IsTrue, ap, sym, ◌∙◌, refl, true, Some, None, Option, get_or, nat_lt, length, All, Ok, if◌then◌else◌, inl, inr}
+use Rattle.std.proofs.Common.{◌≡◌, ℕ, ◌+◌, ◌-◌, ◌*◌, ◌<◌, ◌≤◌, List, [], ◌∷◌, arith, mul_comm, IsTrue, ap, sym, ◌∙◌, refl, true, Some, None, get_or, nat_lt, length, All, if◌then◌else◌, inl, inr}
 use Rattle.std.proofs.lemmas.List.{get_or_past}
 use Rattle.arrays_core.specs.declared.item.Item.{Item}
-use Rattle.arrays_core.specs.declared.item.Kind.{Kind}
 use Rattle.arrays_core.specs.declared.item.ItemType.{ItemType}
 use Rattle.arrays_core.specs.declared.item.ItemType.TheVariants.{Nums, Chars}
 use Rattle.std.proofs.lemmas.Nat.{mul-add-lt, mul-le}
 use Rattle.std.proofs.lemmas.Bool.{and_parts, and_from, leb-true, le-leb, false≢true, cases_Bool, ltb-true, ltb-false, cond-true, cond-false, both_ways}
 use Rattle.std.proofs.lemmas.List.FromFn.{get_or-map-range_with_len, length-map-range_with_len}
-use Rattle.arrays_core.specs.Arrays.{ArrayValue, IsArray, item_of, item_if_there, collect, with_items}
+use Rattle.arrays_core.specs.Arrays.{ArrayValue, IsArray, item_of, item_if_there}
 use Rattle.arrays_core.specs.Items.{fill, type_of}
 use Rattle.arrays_core.specs.Shapes.{size, is_index_of, places_before, index_after}
 use Rattle.arrays_core.proofs.Shapes.{places_below}
-use Rattle.arrays_core.proofs.Order.{index_after-places_before, places_before-index_after, given_in_order, index_after-within}
+use Rattle.arrays_core.proofs.Order.{index_after-places_before, index_after-within}
 use Rattle.index_region.specs.Boxes.{Interval, is_within, box_offset, box_size, fits}
-use Rattle.index_region.specs.Patches.{PatchValue, FitsPatch, IsPatch, IsLaid, patched, patched_item, seen}
+use Rattle.index_region.specs.Patches.{PatchValue, FitsPatch, IsPatch, patched, patched_item}
 
 -- a place of a row is below the size
 pub row_below : (i n w b : ℕ) → i < n → b < w → i * w + b < n * w
@@ -101,18 +100,9 @@ patched_sound a p h k fit = record {
       | inr o ↦ rw o (any_typed a.item_type a.items _ h.one_type)
     ]
 
-pub seen_sound : (a : ArrayValue) (o : Option PatchValue) → IsLaid a o → IsArray (seen a o)
-seen_sound a None h = h
-seen_sound a (Some p) h = h.1.1
-
 -- a place of a patched array by its number
 pub patched_place : (a : ArrayValue) (p : PatchValue) (place : ℕ) → place < size a.shape → get_or (patched a p).items place (fill a.item_type) ≡ patched_item a p (index_after a.shape place)
 patched_place a p place h = get_or-map-range_with_len (λ (k : ℕ). patched_item a p (index_after a.shape k)) 0 (size a.shape) place place _ h (omega arith)
-
--- the items at the index lists of an array, in their order, are the array
-pub own_items : (a : ArrayValue) → IsArray a → collect {E = Kind} a.item_type a.shape (λ index. Ok (item_of a index)) ≡ Ok a
-own_items a h = ap (with_items a.item_type a.shape) (given_in_order a.shape (λ index. Ok (item_of a index)) a.items (fill a.item_type) h.one_item_a_place
-    (λ k b. ap (λ (m : ℕ). Ok (get_or a.items m (fill a.item_type))) (places_before-index_after a.shape k b)))
 
 pub item_there : (a : ArrayValue) (p : PatchValue) (place : ℕ) → place < size a.shape → item_if_there (patched a p) (index_after a.shape place) ≡ Some (get_or (patched a p).items place (fill a.item_type))
 item_there a p place h =

@@ -4,10 +4,10 @@ ghost use Rattle.std.specs.Prelude.{◌≡◌, ◌-◌, ◌≤◌, ◌<◌, leng
 ghost use Rattle.arrays_core.specs.Arrays.{IsArray};
 ghost use Rattle.arrays_core.specs.Items.{fill, type_of};
 ghost use Rattle.index_region.specs.Boxes.{box_size, box_offset, is_within};
-ghost use Rattle.index_region.specs.Patches.{PatchValue, IsPatch};
+ghost use Rattle.index_region.specs.Patches.{PatchValue, IsPatch, FitsPatch, patched};
 
 use crate::index_box::IndexBox;
-use arrays_core::{Array, Item, ItemType};
+use arrays_core::{Array, Item, ItemType, position, size};
 use std::marker::Model;
 
 /// New items for the places of a box, in row-major order.
@@ -59,5 +59,20 @@ impl Patch {
         let _typed = self.values.shape();
         let offset = self.region.offset(index);
         self.values.item(offset as u32 + 1)
+    }
+
+    /// Writes the new items into an array: it is then what the array is with the patch laid over it.
+    pub fn write_into(&self, array: &mut Array)
+        requires { FitsPatch array.old self.now }
+        ensures { array.new ≡ patched array.old self.now }
+    {
+        let items = size(self.values.shape().as_slice());
+        // The shape of the array says that it has one item for each place.
+        let _one_item_a_place = array.shape();
+        for before in 0..items {
+            let index = self.region.index_at(before as usize);
+            let place = position(array.shape(), index.as_slice());
+            array.write_at(place, self.values.item(before + 1));
+        }
     }
 }

@@ -11,7 +11,7 @@ ghost use Rattle.arrays_core.specs.Items.{fill, type_of};
 ghost use Rattle.index_region.specs.Arguments.{numbers, none_negative, counts_as_numbers};
 
 use crate::patch::Patch;
-use arrays_core::{Array, Item, ItemRule, ItemType, Kind, Shape, collect, index_of_position, size};
+use arrays_core::{Array, Item, ItemType, Shape, index_of_position, size};
 use std::alloc::AllocError;
 use std::marker::Model;
 
@@ -55,21 +55,6 @@ fn item_patched(array: &Array, patch: &Patch, position: u32) -> Item
     match at_patched(array, patch, index.as_slice()) {
         Some(item) => item,
         None => array.item_type().fill(),
-    }
-}
-
-impl<'a> ItemRule for Seen<'a> {
-    ghost result_shape = { λ s. s.shape };
-
-    ghost result_type = { λ s. s.item_type };
-
-    ghost item = { λ s index. Ok (item_of s index) };
-
-    fn item_at(&self, index: &[u32]) -> Result<Item, Kind> {
-        match self.at(index) {
-            Some(item) => Ok(item),
-            None => Ok(self.item_type().fill()),
-        }
     }
 }
 
@@ -193,16 +178,15 @@ impl<'a> Seen<'a> {
         self.array()?.characters()
     }
 
-    /// An array of its own with the same items.
-    #[tactic(auto, using(crate::proofs::Patched::own_items))]
+    /// An array of its own with the same items: a copy of the array, with the items of the patch written into it.
     pub fn copy(&self) -> Result<Array, AllocError>
         ensures { IfOk result (λ a. a ≡ self.now) }
     {
-        let shape = self.shape();
-        match collect(*shape.allocator(), self, self.item_type(), shape) {
-            Ok(array) => Ok(array),
-            Err(_) => Err(AllocError),
+        let mut array = self.array.copy()?;
+        if let Some(patch) = self.patch {
+            patch.write_into(&mut array);
         }
+        Ok(array)
     }
 
     /// The items of a run of places, after `skipped` places, as an array of another shape that has as many.
