@@ -2,13 +2,13 @@
 use Rattle.std.proofs.Common.{◌≡◌, ℕ, ◌+◌, ◌<◌, ◌≤◌, subst, Option, Some, None, Result, Err, List, [], ◌∷◌, length, drop, get_or, sym, ap, ◌∙◌, refl, drop-cons, add-one, arith, Bool, true, false}
 use Rattle.std.specs.Prelude.{ℤ, ◌==◌}
 use Rattle.std.specs.Global.{Vec}
-use Rattle.apl_expr.specs.declared.expr.Literal.{Literal}
+use Rattle.apl_expr.specs.declared.expr.Literal as code
 use Rattle.std.proofs.Math.ListN.{drop_of_length-le}
 use Rattle.apl_tokens.specs.declared.token.Spanned.{Spanned}
 use Rattle.apl_tokens.specs.Lexemes.{Lexeme, lexeme, lexemes}
 use Rattle.apl_expr.specs.declared.fault.ParseFault.{ParseFault}
 use Rattle.apl_expr.specs.declared.fault.ParseFault.TheVariants.{Syntax, Limit, NoMemory}
-use Rattle.apl_expr.specs.Trees.{Constant, Numbers}
+use Rattle.apl_expr.specs.Trees.{Literal, Numbers}
 use Rattle.apl_expr.specs.Edits.{Edit, Items, Written, Write, edit_step, edit_end, edits, EditSteps, EditGives}
 
 edits_next : (ts : List Spanned) (i : ℕ) (d : Spanned) (s : Edit) → i < length ts → edits (lexemes (drop i ts)) (Some s) ≡ edits (lexemes (drop (i + 1) ts)) (edit_step (lexeme (get_or ts i d).token) s)
@@ -31,7 +31,7 @@ failed Limit ts i x s w h is so_far fault = fault
 failed NoMemory ts i x s w h is so_far fault = tt
 
 -- the tokens are read
-pub finished : (result : Result (Vec ℤ × Literal) ParseFault) (ts : List Spanned) (i : ℕ) (s : Edit) (w : Option Written) → length ts ≤ i → edits (lexemes (drop i ts)) (Some s) ≡ w → EditGives result (edit_end s) → EditGives result w
+pub finished : (result : Result (Vec ℤ × code.Literal) ParseFault) (ts : List Spanned) (i : ℕ) (s : Edit) (w : Option Written) → length ts ≤ i → edits (lexemes (drop i ts)) (Some s) ≡ w → EditGives result (edit_end s) → EditGives result w
 unfolding edits
 finished result ts i s w h so_far given = subst (λ (o : Option Written). EditGives result o) (sym (ap (λ (xs : List Spanned). edits (lexemes xs) (Some s)) (drop_of_length-le ts h)) ∙ so_far) given
 
@@ -43,6 +43,6 @@ no_items ps (n ∷ ns) s is none = absurd (omega arith)
 pub not_none : (n : ℕ) (is_none : Bool) → is_none ≡ (n == 0) → is_none ≡ false → n ≡ 0 → ⊥
 not_none n is_none tested refused none = let found : (n == 0) ≡ true = ap (λ (m : ℕ). m == 0) none in cc
 
-pub some_items : (ps ns : List ℤ) (s : Edit) (l : Constant) → s ≡ Items ps ns → (length ns ≡ 0 → ⊥) → l ≡ Numbers ns → edit_end s ≡ Some (Write ps l)
+pub some_items : (ps ns : List ℤ) (s : Edit) (l : Literal) → s ≡ Items ps ns → (length ns ≡ 0 → ⊥) → l ≡ Numbers ns → edit_end s ≡ Some (Write ps l)
 some_items ps [] s l is some says = absurd (some refl)
-some_items ps (n ∷ ns) s l is some says = ap edit_end is ∙ ap (λ (c : Constant). Some (Write ps c)) (sym says)
+some_items ps (n ∷ ns) s l is some says = ap edit_end is ∙ ap (λ (c : Literal). Some (Write ps c)) (sym says)

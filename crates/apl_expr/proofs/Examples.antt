@@ -8,7 +8,7 @@ use Rattle.apl_expr.specs.declared.expr.Monadic.TheVariants as monadic
 use Rattle.apl_expr.specs.declared.expr.Dyadic.TheVariants as dyadic
 use Rattle.apl_expr.specs.declared.expr.Along.TheVariants as along
 use Rattle.apl_expr.specs.Symbols.{scalar_monad_of, scalar_dyad_of, array_monad, array_dyad, folding_of, folding_along_of, monadic_along_of, dyadic_along_of}
-use Rattle.apl_expr.specs.Trees.{Tree, Numbers, Text, Literal, Variable, Applied1, Applied2, Indexed, Filled, Empty, NoPositions}
+use Rattle.apl_expr.specs.Trees.{Tree, Numbers, Text, Const, Name, Monad, Dyad, Index, Filled, Empty, NoPositions}
 use Rattle.apl_expr.specs.Machine.{run}
 use Rattle.apl_expr.specs.Grammar.{IsTreeOf, one, more}
 use Rattle.apl_expr.specs.Lines.{IsLine, show, change, cell, define, row, erase, word, about, nums_lit, text_lit, last, further, Define, Cell, Row, Erase, Show, Names, Csv}
@@ -16,10 +16,10 @@ use Rattle.apl_expr.proofs.Complete.{complete}
 use Rattle.apl_expr.proofs.Sound.{correct, run_none}
 
 abbrev number : ℕ → Tree
-number n = Literal (Numbers (pos n ∷ []))
+number n = Const (Numbers (pos n ∷ []))
 
 abbrev minus : Tree → Tree → Tree
-minus a b = Applied2 (dyadic.Scalar dyad.Minus) a b
+minus a b = Dyad (dyadic.Scalar dyad.Minus) a b
 
 -- 10-5-2: a function takes all that stands at its right
 to_the_right : IsTreeOf (Number (pos 10) ∷ Sign 0x2d ∷ Number (pos 5) ∷ Sign 0x2d ∷ Number (pos 2) ∷ []) (minus (number 10) (minus (number 5) (number 2)))
@@ -37,22 +37,22 @@ unfolding run scalar_monad_of scalar_dyad_of
 side_by_side e is = run_none 0 [] e (complete is)
 
 -- A[1]
-indexed : IsTreeOf (Named (0x41 ∷ []) ∷ Sign 0x5b ∷ Number (pos 1) ∷ Sign 0x5d ∷ []) (Indexed (Variable (0x41 ∷ [])) (Filled (number 1) NoPositions))
+indexed : IsTreeOf (Named (0x41 ∷ []) ∷ Sign 0x5b ∷ Number (pos 1) ∷ Sign 0x5d ∷ []) (Index (Name (0x41 ∷ [])) (Filled (number 1) NoPositions))
 unfolding run
 indexed = correct _ _ refl
 
 -- A[;2]: the first position is empty
-empty_position : IsTreeOf (Named (0x41 ∷ []) ∷ Sign 0x5b ∷ Sign 0x3b ∷ Number (pos 2) ∷ Sign 0x5d ∷ []) (Indexed (Variable (0x41 ∷ [])) (Empty (Filled (number 2) NoPositions)))
+empty_position : IsTreeOf (Named (0x41 ∷ []) ∷ Sign 0x5b ∷ Sign 0x3b ∷ Number (pos 2) ∷ Sign 0x5d ∷ []) (Index (Name (0x41 ∷ [])) (Empty (Filled (number 2) NoPositions)))
 unfolding run
 empty_position = correct _ _ refl
 
 -- A[B[1]]
-nested : IsTreeOf (Named (0x41 ∷ []) ∷ Sign 0x5b ∷ Named (0x42 ∷ []) ∷ Sign 0x5b ∷ Number (pos 1) ∷ Sign 0x5d ∷ Sign 0x5d ∷ []) (Indexed (Variable (0x41 ∷ [])) (Filled (Indexed (Variable (0x42 ∷ [])) (Filled (number 1) NoPositions)) NoPositions))
+nested : IsTreeOf (Named (0x41 ∷ []) ∷ Sign 0x5b ∷ Named (0x42 ∷ []) ∷ Sign 0x5b ∷ Number (pos 1) ∷ Sign 0x5d ∷ Sign 0x5d ∷ []) (Index (Name (0x41 ∷ [])) (Filled (Index (Name (0x42 ∷ [])) (Filled (number 1) NoPositions)) NoPositions))
 unfolding run
 nested = correct _ _ refl
 
 -- A[1][2]: an index of what the first one gives
-chained : IsTreeOf (Named (0x41 ∷ []) ∷ Sign 0x5b ∷ Number (pos 1) ∷ Sign 0x5d ∷ Sign 0x5b ∷ Number (pos 2) ∷ Sign 0x5d ∷ []) (Indexed (Indexed (Variable (0x41 ∷ [])) (Filled (number 1) NoPositions)) (Filled (number 2) NoPositions))
+chained : IsTreeOf (Named (0x41 ∷ []) ∷ Sign 0x5b ∷ Number (pos 1) ∷ Sign 0x5d ∷ Sign 0x5b ∷ Number (pos 2) ∷ Sign 0x5d ∷ []) (Index (Index (Name (0x41 ∷ [])) (Filled (number 1) NoPositions)) (Filled (number 2) NoPositions))
 unfolding run
 chained = correct _ _ refl
 
@@ -62,17 +62,17 @@ unfolding run scalar_dyad_of
 literal_indexed e is = run_none 0 (Number (pos 1) ∷ Sign 0x5d ∷ []) e (complete is)
 
 -- A/[2]B: the bracket after a function is its axis
-along_an_axis : IsTreeOf (Named (0x41 ∷ []) ∷ Sign 0x2f ∷ Sign 0x5b ∷ Number (pos 2) ∷ Sign 0x5d ∷ Named (0x42 ∷ []) ∷ []) (Applied2 (dyadic.Replicate (along.Axis (pos 2))) (Variable (0x41 ∷ [])) (Variable (0x42 ∷ [])))
+along_an_axis : IsTreeOf (Named (0x41 ∷ []) ∷ Sign 0x2f ∷ Sign 0x5b ∷ Number (pos 2) ∷ Sign 0x5d ∷ Named (0x42 ∷ []) ∷ []) (Dyad (dyadic.Replicate (along.Axis (pos 2))) (Name (0x41 ∷ [])) (Name (0x42 ∷ [])))
 unfolding run scalar_dyad_of monadic_along_of dyadic_along_of
 along_an_axis = correct _ _ refl
 
 -- ⌈⍀[1]B: a scan, with its axis
-scanned : IsTreeOf (Sign 0x2308 ∷ Sign 0x2340 ∷ Sign 0x5b ∷ Number (pos 1) ∷ Sign 0x5d ∷ Named (0x42 ∷ []) ∷ []) (Applied1 (monadic.Scan dyad.Maximum (along.Axis (pos 1))) (Variable (0x42 ∷ [])))
+scanned : IsTreeOf (Sign 0x2308 ∷ Sign 0x2340 ∷ Sign 0x5b ∷ Number (pos 1) ∷ Sign 0x5d ∷ Named (0x42 ∷ []) ∷ []) (Monad (monadic.Scan dyad.Maximum (along.Axis (pos 1))) (Name (0x42 ∷ [])))
 unfolding run scalar_dyad_of folding_along_of
 scanned = correct _ _ refl
 
 -- A/+/B: the first sign is a function between two arguments, the other one makes a reduction
-replicated_sum : IsTreeOf (Named (0x41 ∷ []) ∷ Sign 0x2f ∷ Sign 0x2b ∷ Sign 0x2f ∷ Named (0x42 ∷ []) ∷ []) (Applied2 (dyadic.Replicate along.Last) (Variable (0x41 ∷ [])) (Applied1 (monadic.Reduce dyad.Plus along.Last) (Variable (0x42 ∷ []))))
+replicated_sum : IsTreeOf (Named (0x41 ∷ []) ∷ Sign 0x2f ∷ Sign 0x2b ∷ Sign 0x2f ∷ Named (0x42 ∷ []) ∷ []) (Dyad (dyadic.Replicate along.Last) (Name (0x41 ∷ [])) (Monad (monadic.Reduce dyad.Plus along.Last) (Name (0x42 ∷ []))))
 unfolding run scalar_dyad_of array_dyad folding_of
 replicated_sum = correct _ _ refl
 
@@ -87,12 +87,12 @@ unfolding run scalar_monad_of scalar_dyad_of array_monad array_dyad
 no_function_folded e is = run_none 0 (Named (0x42 ∷ []) ∷ []) e (complete is)
 
 -- A∘.+B∘.×C
-outer_products : IsTreeOf (Named (0x41 ∷ []) ∷ Sign 0x2218 ∷ Sign 0x2e ∷ Sign 0x2b ∷ Named (0x42 ∷ []) ∷ Sign 0x2218 ∷ Sign 0x2e ∷ Sign 0xd7 ∷ Named (0x43 ∷ []) ∷ []) (Applied2 (dyadic.Outer dyad.Plus) (Variable (0x41 ∷ [])) (Applied2 (dyadic.Outer dyad.Times) (Variable (0x42 ∷ [])) (Variable (0x43 ∷ []))))
+outer_products : IsTreeOf (Named (0x41 ∷ []) ∷ Sign 0x2218 ∷ Sign 0x2e ∷ Sign 0x2b ∷ Named (0x42 ∷ []) ∷ Sign 0x2218 ∷ Sign 0x2e ∷ Sign 0xd7 ∷ Named (0x43 ∷ []) ∷ []) (Dyad (dyadic.Outer dyad.Plus) (Name (0x41 ∷ [])) (Dyad (dyadic.Outer dyad.Times) (Name (0x42 ∷ [])) (Name (0x43 ∷ []))))
 unfolding run scalar_dyad_of
 outer_products = correct _ _ refl
 
 -- M+.×⍉M
-inner_product : IsTreeOf (Named (0x4d ∷ []) ∷ Sign 0x2b ∷ Sign 0x2e ∷ Sign 0xd7 ∷ Sign 0x2349 ∷ Named (0x4d ∷ []) ∷ []) (Applied2 (dyadic.Inner dyad.Plus dyad.Times) (Variable (0x4d ∷ [])) (Applied1 monadic.Transpose (Variable (0x4d ∷ []))))
+inner_product : IsTreeOf (Named (0x4d ∷ []) ∷ Sign 0x2b ∷ Sign 0x2e ∷ Sign 0xd7 ∷ Sign 0x2349 ∷ Named (0x4d ∷ []) ∷ []) (Dyad (dyadic.Inner dyad.Plus dyad.Times) (Name (0x4d ∷ [])) (Monad monadic.Transpose (Name (0x4d ∷ []))))
 unfolding run scalar_monad_of scalar_dyad_of array_monad
 inner_product = correct _ _ refl
 
@@ -102,12 +102,12 @@ unfolding run scalar_dyad_of array_dyad
 product_of_one e is = run_none 0 (Sign 0x2e ∷ Sign 0x7e ∷ Named (0x42 ∷ []) ∷ []) e (complete is)
 
 -- D[1] asks for its value
-query : IsLine (Named (0x44 ∷ []) ∷ Sign 0x5b ∷ Number (pos 1) ∷ Sign 0x5d ∷ []) (Show (Indexed (Variable (0x44 ∷ [])) (Filled (number 1) NoPositions)))
+query : IsLine (Named (0x44 ∷ []) ∷ Sign 0x5b ∷ Number (pos 1) ∷ Sign 0x5d ∷ []) (Show (Index (Name (0x44 ∷ [])) (Filled (number 1) NoPositions)))
 unfolding run
 query = show (correct _ _ refl)
 
 -- A←-B
-definition : IsLine (Named (0x41 ∷ []) ∷ Sign 0x2190 ∷ Sign 0x2d ∷ Named (0x42 ∷ []) ∷ []) (Define (0x41 ∷ []) (Applied1 (monadic.Scalar monad.Negative) (Variable (0x42 ∷ []))))
+definition : IsLine (Named (0x41 ∷ []) ∷ Sign 0x2190 ∷ Sign 0x2d ∷ Named (0x42 ∷ []) ∷ []) (Define (0x41 ∷ []) (Monad (monadic.Scalar monad.Negative) (Name (0x42 ∷ []))))
 unfolding run scalar_monad_of scalar_dyad_of
 definition = change (define (correct _ _ refl))
 

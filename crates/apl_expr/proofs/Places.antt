@@ -6,7 +6,7 @@ use Rattle.std.specs.Prelude.{ℤ, ◌==◌}
 use Rattle.apl_tokens.specs.Lexemes.{Lexeme, Number, Characters, Named, Sign}
 use Rattle.apl_expr.specs.Grammar.{IsNums, one, more}
 use Rattle.apl_expr.specs.Lines.{IsPosition, last, further, IsLit, nums_lit, text_lit}
-use Rattle.apl_expr.specs.Trees.{Constant, Numbers, Text}
+use Rattle.apl_expr.specs.Trees.{Literal, Numbers, Text}
 use Rattle.apl_expr.specs.Edits.{Edit, Open, Position, Closed, Items, Quoted, Written, Write, edit_text, edit_end, after_position, after_bracket, edits}
 use Rattle.apl_expr.proofs.Sound.{IsStrand, none, strand_nums}
 use Rattle.apl_expr.proofs.Sound as strand
@@ -25,12 +25,12 @@ unfolding edits
 items_read (one {n = n}) end ps before = ap (λ (xs : List Lexeme). edits xs (Some (Items ps (before ++ n ∷ [])))) end ∙ end_items ps before n
 items_read (more {n = n} {ns = ns} r) end ps before = items_read r end ps (before ++ n ∷ []) ∙ ap (λ (ms : List ℤ). Some (Write ps (Numbers ms))) (append_assoc before (n ∷ []) ns)
 
-pub literal_read : {ts : List Lexeme} {l : Constant} → IsLit ts l → (ps : List ℤ) → edits ts (Some (Items ps [])) ≡ Some (Write ps l)
+pub literal_read : {ts : List Lexeme} {l : Literal} → IsLit ts l → (ps : List ℤ) → edits ts (Some (Items ps [])) ≡ Some (Write ps l)
 unfolding edits
 literal_read (nums_lit n) ps = items_read n refl ps []
 literal_read text_lit ps = refl
 
-pub edit_read : {ts us : List Lexeme} {ps : List ℤ} {l : Constant} → IsPosition ts ps (Sign 0x5d ∷ Sign 0x2190 ∷ us) → IsLit us l → edits ts (Some (Open [])) ≡ Some (Write ps l)
+pub edit_read : {ts us : List Lexeme} {ps : List ℤ} {l : Literal} → IsPosition ts ps (Sign 0x5d ∷ Sign 0x2190 ∷ us) → IsLit us l → edits ts (Some (Open [])) ≡ Some (Write ps l)
 unfolding edits
 edit_read {ps = ps} p is = place_reads p [] ∙ literal_read is ps
 
@@ -44,12 +44,12 @@ place_of n ends = last
 place_of n (goes_on p) = further p
 
 -- what is left of a literal after these numbers
-data IsRestOf : List ℤ → List Lexeme → Constant → Type 0 where
+data IsRestOf : List ℤ → List Lexeme → Literal → Type 0 where
   rest_of_nums : {n : ℤ} {ns ms : List ℤ} {ts : List Lexeme} → IsStrand ts ms [] → IsRestOf (n ∷ ns) ts (Numbers (n ∷ ns ++ ms))
-  whole_lit : {ts : List Lexeme} {l : Constant} → IsLit ts l → IsRestOf [] ts l
+  whole_lit : {ts : List Lexeme} {l : Literal} → IsLit ts l → IsRestOf [] ts l
 
 -- what the machine's reading in a state says of the grammar
-abbrev Explains : List Lexeme → Edit → List ℤ → Constant → Type 0
+abbrev Explains : List Lexeme → Edit → List ℤ → Literal → Type 0
 Explains ts (Open before) ps l = (qs : List ℤ) × (us : List Lexeme) × IsPosition ts qs (Sign 0x5d ∷ Sign 0x2190 ∷ us) × IsLit us l × (before ++ qs ≡ ps)
 Explains ts (Position before) ps l = (qs : List ℤ) × (us : List Lexeme) × IsRest ts qs us × IsLit us l × (before ++ qs ≡ ps)
 Explains ts (Closed before) ps l = (us : List Lexeme) × (ts ≡ Sign 0x2190 ∷ us) × IsLit us l × (before ≡ ps)
@@ -61,36 +61,36 @@ unfolding edits
 edits_none [] w h = cc
 edits_none (t ∷ ts) w h = cc
 
-literal_of : {ts : List Lexeme} {l : Constant} (n : ℤ) → IsRestOf (n ∷ []) ts l → IsLit (Number n ∷ ts) l
-literal_of n (rest_of_nums s) = nums_lit (strand_nums n s)
+lit_with_number : {ts : List Lexeme} {l : Literal} (n : ℤ) → IsRestOf (n ∷ []) ts l → IsLit (Number n ∷ ts) l
+lit_with_number n (rest_of_nums s) = nums_lit (strand_nums n s)
 
-one_number_more : {ts : List Lexeme} {l : Constant} (n : ℤ) (ns : List ℤ) → IsRestOf (ns ++ n ∷ []) ts l → IsRestOf ns (Number n ∷ ts) l
-one_number_more n [] r = whole_lit (literal_of n r)
+one_number_more : {ts : List Lexeme} {l : Literal} (n : ℤ) (ns : List ℤ) → IsRestOf (ns ++ n ∷ []) ts l → IsRestOf ns (Number n ∷ ts) l
+one_number_more n [] r = whole_lit (lit_with_number n r)
 one_number_more {ts = ts} n (m ∷ ns) (rest_of_nums {ms = ms} s) = subst (λ (xs : List ℤ). IsRestOf (m ∷ ns) (Number n ∷ ts) (Numbers (m ∷ xs))) (sym (append_assoc ns (n ∷ []) ms)) (rest_of_nums (strand.further s))
 
-lit_of_rest : {ts : List Lexeme} {l : Constant} → IsRestOf [] ts l → IsLit ts l
+lit_of_rest : {ts : List Lexeme} {l : Literal} → IsRestOf [] ts l → IsLit ts l
 lit_of_rest (whole_lit is) = is
 
 abbrev Sound : List Lexeme → Type 0
-Sound ts = (s : Edit) (ps : List ℤ) (l : Constant) → edits ts (Some s) ≡ Some (Write ps l) → Explains ts s ps l
+Sound ts = (s : Edit) (ps : List ℤ) (l : Literal) → edits ts (Some s) ≡ Some (Write ps l) → Explains ts s ps l
 
 module _ (ts : List Lexeme) (sound : Sound ts) where
-  number_explains : (n : ℤ) (before ps : List ℤ) (l : Constant) → edits ts (Some (Position (before ++ n ∷ []))) ≡ Some (Write ps l) → Explains (Number n ∷ ts) (Open before) ps l
+  number_explains : (n : ℤ) (before ps : List ℤ) (l : Literal) → edits ts (Some (Position (before ++ n ∷ []))) ≡ Some (Write ps l) → Explains (Number n ∷ ts) (Open before) ps l
   number_explains n before ps l h =
       let x = sound (Position (before ++ n ∷ [])) ps l h in
       (n ∷ x.0, x.1, place_of n x.2, x.3, sym (append_assoc before (n ∷ []) x.0) ∙ x.4)
 
-  item_explains : (n : ℤ) (before items ps : List ℤ) (l : Constant) → edits ts (Some (Items before (items ++ n ∷ []))) ≡ Some (Write ps l) → Explains (Number n ∷ ts) (Items before items) ps l
+  item_explains : (n : ℤ) (before items ps : List ℤ) (l : Literal) → edits ts (Some (Items before (items ++ n ∷ []))) ≡ Some (Write ps l) → Explains (Number n ∷ ts) (Items before items) ps l
   item_explains n before items ps l h = let x = sound (Items before (items ++ n ∷ [])) ps l h in (one_number_more n items x.0, x.1)
 
-  text_explains : (cs : List ℕ) (before items ps : List ℤ) (l : Constant) → edits ts (edit_text cs (Items before items)) ≡ Some (Write ps l) → Explains (Characters cs ∷ ts) (Items before items) ps l
+  text_explains : (cs : List ℕ) (before items ps : List ℤ) (l : Literal) → edits ts (edit_text cs (Items before items)) ≡ Some (Write ps l) → Explains (Characters cs ∷ ts) (Items before items) ps l
   text_explains cs before [] ps l h =
       let x = sound (Quoted before cs) ps l h in
-      let is : IsLit (Characters cs ∷ ts) l = subst (λ (xs : List Lexeme). IsLit (Characters cs ∷ xs) l) (sym x.0) (subst (λ (k : Constant). IsLit (Characters cs ∷ []) k) x.1 text_lit) in
+      let is : IsLit (Characters cs ∷ ts) l = subst (λ (xs : List Lexeme). IsLit (Characters cs ∷ xs) l) (sym x.0) (subst (λ (k : Literal). IsLit (Characters cs ∷ []) k) x.1 text_lit) in
       (whole_lit is, x.2)
   text_explains cs before (n ∷ items) ps l h = absurd (edits_none ts (Write ps l) h)
 
-  position_explains : (c : ℕ) (before ps : List ℤ) (l : Constant) → edits ts (after_position before c) ≡ Some (Write ps l) → Explains (Sign c ∷ ts) (Position before) ps l
+  position_explains : (c : ℕ) (before ps : List ℤ) (l : Literal) → edits ts (after_position before c) ≡ Some (Write ps l) → Explains (Sign c ∷ ts) (Position before) ps l
   position_explains c before ps l h = semicolon (c == 0x3b) refl h
     where
       bracket : (b : Bool) → (c == 0x5d) ≡ b → edits ts (cond b (Some (Closed before)) None) ≡ Some (Write ps l) → Explains (Sign c ∷ ts) (Position before) ps l
@@ -106,7 +106,7 @@ module _ (ts : List Lexeme) (sound : Sound ts) where
           (x.0, x.1, subst (λ (n : ℕ). IsRest (Sign n ∷ ts) x.0 x.1) (sym (eqb-true c 0x3b is)) (goes_on x.2), x.3, x.4)
       semicolon false is h = bracket (c == 0x5d) refl h
 
-  arrow_explains : (c : ℕ) (before ps : List ℤ) (l : Constant) → edits ts (after_bracket before c) ≡ Some (Write ps l) → Explains (Sign c ∷ ts) (Closed before) ps l
+  arrow_explains : (c : ℕ) (before ps : List ℤ) (l : Literal) → edits ts (after_bracket before c) ≡ Some (Write ps l) → Explains (Sign c ∷ ts) (Closed before) ps l
   arrow_explains c before ps l h = arrow (c == 0x2190) refl h
     where
       arrow : (b : Bool) → (c == 0x2190) ≡ b → edits ts (cond b (Some (Items before [])) None) ≡ Some (Write ps l) → Explains (Sign c ∷ ts) (Closed before) ps l
@@ -124,7 +124,7 @@ sound_of [] (Items before []) ps l h = let no : ⊥ = cc in absurd no
 sound_of [] (Items before (n ∷ items)) ps l h =
     let same : Numbers (n ∷ items) ≡ l = cc in
     let same_place : before ≡ ps = cc in
-    (subst (λ (k : Constant). IsRestOf (n ∷ items) [] k) (ap (λ (ms : List ℤ). Numbers ms) (append-nil (n ∷ items)) ∙ same) (rest_of_nums none), same_place)
+    (subst (λ (k : Literal). IsRestOf (n ∷ items) [] k) (ap (λ (ms : List ℤ). Numbers ms) (append-nil (n ∷ items)) ∙ same) (rest_of_nums none), same_place)
 sound_of [] (Quoted before cs) ps l h = (refl, cc, cc)
 sound_of (Number n ∷ ts) (Open before) ps l h = number_explains ts (sound_of ts) n before ps l h
 sound_of (Number n ∷ ts) (Position before) ps l h = absurd (edits_none ts (Write ps l) h)
@@ -143,12 +143,12 @@ sound_of (Sign c ∷ ts) (Closed before) ps l h = arrow_explains ts (sound_of ts
 sound_of (Sign c ∷ ts) (Items before items) ps l h = absurd (edits_none ts (Write ps l) h)
 sound_of (Sign c ∷ ts) (Quoted before cs) ps l h = absurd (edits_none ts (Write ps l) h)
 
-pub edit_correct : (ts : List Lexeme) (ps : List ℤ) (l : Constant) → edits ts (Some (Open [])) ≡ Some (Write ps l) → (us : List Lexeme) × IsPosition ts ps (Sign 0x5d ∷ Sign 0x2190 ∷ us) × IsLit us l
+pub edit_correct : (ts : List Lexeme) (ps : List ℤ) (l : Literal) → edits ts (Some (Open [])) ≡ Some (Write ps l) → (us : List Lexeme) × IsPosition ts ps (Sign 0x5d ∷ Sign 0x2190 ∷ us) × IsLit us l
 edit_correct ts ps l h = let x = sound_of ts (Open []) ps l h in (x.1, subst (λ (qs : List ℤ). IsPosition ts qs (Sign 0x5d ∷ Sign 0x2190 ∷ x.1)) x.4 x.2, x.3)
 
-pub literal_correct : (ts : List Lexeme) (l : Constant) → edits ts (Some (Items [] [])) ≡ Some (Write [] l) → IsLit ts l
+pub literal_correct : (ts : List Lexeme) (l : Literal) → edits ts (Some (Items [] [])) ≡ Some (Write [] l) → IsLit ts l
 literal_correct ts l h = let x = sound_of ts (Items [] []) [] l h in lit_of_rest x.0
 
 -- a literal alone has no place
-pub placed_nowhere : (ts : List Lexeme) (ps : List ℤ) (l : Constant) → edits ts (Some (Items [] [])) ≡ Some (Write ps l) → edits ts (Some (Items [] [])) ≡ Some (Write [] l)
+pub placed_nowhere : (ts : List Lexeme) (ps : List ℤ) (l : Literal) → edits ts (Some (Items [] [])) ≡ Some (Write ps l) → edits ts (Some (Items [] [])) ≡ Some (Write [] l)
 placed_nowhere ts ps l h = let x = sound_of ts (Items [] []) ps l h in h ∙ ap (λ (qs : List ℤ). Some (Write qs l)) (sym x.1)

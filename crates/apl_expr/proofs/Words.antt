@@ -3,7 +3,7 @@ use Rattle.std.proofs.Common.{◌≡◌, ℕ, Option, Some, None, List, [], ◌�
 use Rattle.std.specs.Str.{bytes_eq}
 use Rattle.std.proofs.lemmas.Slice.Eq.{bytes_eq-Decides}
 use Rattle.apl_tokens.specs.Lexemes.{Lexeme, Named, Sign}
-use Rattle.apl_expr.specs.Trees.{Tree, Constant}
+use Rattle.apl_expr.specs.Trees.{Tree, Literal}
 use Rattle.apl_expr.specs.Grammar.{IsTreeOf}
 use Rattle.apl_expr.specs.Lines.{Meaning, Data, Row, Erase, Names, Csv, data_word, row_word, erase_word, names_word, csv_word, row_change, name_change, word_query, name_query, IsLit}
 use Rattle.apl_expr.proofs.Parsed.{one_tree_of}
@@ -12,7 +12,7 @@ use Rattle.apl_expr.proofs.Places.{literal_read}
 -- what comes after a word, and what the line asks for
 pub data After : List ℕ → List Lexeme → Meaning → Type 0 where
   data_line : {n : List ℕ} {ts : List Lexeme} {e : Tree} → IsTreeOf ts e → After data_word (Named n ∷ Sign 0x2190 ∷ ts) (Data n e)
-  row_line : {n : List ℕ} {ts : List Lexeme} {l : Constant} → IsLit ts l → After row_word (Named n ∷ ts) (Row n l)
+  row_line : {n : List ℕ} {ts : List Lexeme} {l : Literal} → IsLit ts l → After row_word (Named n ∷ ts) (Row n l)
   erase_line : {n : List ℕ} → After erase_word (Named n ∷ []) (Erase n)
   names_line : After names_word [] Names
   csv_line : {n : List ℕ} → After csv_word (Named n ∷ []) (Csv n)
@@ -28,7 +28,7 @@ looked_up w v x m h = tested (bytes_eq w v) refl h
 follows_as : {w v : List ℕ} {ts : List Lexeme} {x m : Meaning} → (w ≡ v) × (x ≡ m) → After v ts x → After w ts m
 follows_as {w = w} {ts = ts} {x = x} found is = subst (λ (k : Meaning). After w ts k) found.1 (subst (λ (k : List ℕ). After k ts x) (sym found.0) is)
 
-pub row_follows : {w n : List ℕ} {ts : List Lexeme} {l : Constant} {m : Meaning} → IsLit ts l → row_change w n l ≡ Some m → After w (Named n ∷ ts) m
+pub row_follows : {w n : List ℕ} {ts : List Lexeme} {l : Literal} {m : Meaning} → IsLit ts l → row_change w n l ≡ Some m → After w (Named n ∷ ts) m
 row_follows {w = w} {n = n} {l = l} {m = m} is h = follows_as (looked_up w row_word (Row n l) m h) (row_line is)
 
 pub erase_follows : {w n : List ℕ} {m : Meaning} → name_change w n ≡ Some m → After w (Named n ∷ []) m
@@ -48,7 +48,7 @@ pub after_data : {w : List ℕ} {us : List Lexeme} {m : Meaning} → After w us 
 after_data (data_line {n = n} {ts = ts} {e = e} is) same = (n, ts, e, refl, is, refl)
 after_data {w = w} other same = absurd (differ w data_word refl same)
 
-pub after_row : {w : List ℕ} {us : List Lexeme} {m : Meaning} → After w us m → w ≡ row_word → (n : List ℕ) × (ts : List Lexeme) × (l : Constant) × (us ≡ Named n ∷ ts) × IsLit ts l × (m ≡ Row n l)
+pub after_row : {w : List ℕ} {us : List Lexeme} {m : Meaning} → After w us m → w ≡ row_word → (n : List ℕ) × (ts : List Lexeme) × (l : Literal) × (us ≡ Named n ∷ ts) × IsLit ts l × (m ≡ Row n l)
 after_row (row_line {n = n} {ts = ts} {l = l} is) same = (n, ts, l, refl, is, refl)
 after_row {w = w} other same = absurd (differ w row_word refl same)
 
@@ -84,7 +84,7 @@ one_after (data_line {n = k} {ts = ts} {e = e} is) other = let x = after_data ot
         cc
 one_after (row_line {n = k} {ts = ts} {l = l} is) other = let x = after_row other refl in same x.0 x.1 x.2 x.3 x.4 x.5
   where
-    same : {n : Meaning} (j : List ℕ) (vs : List Lexeme) (d : Constant) → Named k ∷ ts ≡ Named j ∷ vs → IsLit vs d → n ≡ Row j d → Row k l ≡ n
+    same : {n : Meaning} (j : List ℕ) (vs : List Lexeme) (d : Literal) → Named k ∷ ts ≡ Named j ∷ vs → IsLit vs d → n ≡ Row j d → Row k l ≡ n
     same j vs d h literal found =
         let same_name : k ≡ j = cc in
         let same_rest : vs ≡ ts = cc in

@@ -3,7 +3,7 @@
 use Rattle.std.specs.Prelude.{◌≡◌, ℕ, zero, suc, ℤ, pos, List, [], ◌∷◌, ◌++◌, get_or, ◌⊎◌, refl}
 use Rattle.std.proofs.Common.{sym, ◌∙◌, ap, inl, inr, append_assoc, append-nil}
 use Rattle.std.specs.Coded.{Coded, code_by, coded×, coded⊎, coded_list, coded_ℕ, coded_ℤ}
-use Rattle.apl_expr.specs.Trees.{Tree, Literal, Variable, Applied1, Applied2, Indexed, Positions, NoPositions, Empty, Filled, Numbers, Text}
+use Rattle.apl_expr.specs.Trees.{Tree, Const, Name, Monad, Dyad, Index, Positions, NoPositions, Empty, Filled, Numbers, Text}
 use Rattle.apl_expr.specs.declared.expr.ScalarMonad.{ScalarMonad}
 use Rattle.apl_expr.specs.declared.expr.ScalarMonad.TheVariants as scalar_monad
 use Rattle.apl_expr.specs.declared.expr.ScalarDyad.{ScalarDyad}
@@ -242,12 +242,12 @@ index_word n = inr (inr (inr (inr (inr n))))
 
 abbrev mutual
   words : Tree → List Word
-  words (Literal (Numbers ns)) = inl ns ∷ []
-  words (Literal (Text cs)) = inr (inl cs) ∷ []
-  words (Variable x) = inr (inr (inl x)) ∷ []
-  words (Applied1 f b) = words b ++ monad_word (code_of_monadic f) ∷ []
-  words (Applied2 f a b) = words a ++ (words b ++ dyad_word (code_of_dyadic f) ∷ [])
-  words (Indexed a ps) = words a ++ (index_word 0 ∷ words_in ps)
+  words (Const (Numbers ns)) = inl ns ∷ []
+  words (Const (Text cs)) = inr (inl cs) ∷ []
+  words (Name x) = inr (inr (inl x)) ∷ []
+  words (Monad f b) = words b ++ monad_word (code_of_monadic f) ∷ []
+  words (Dyad f a b) = words a ++ (words b ++ dyad_word (code_of_dyadic f) ∷ [])
+  words (Index a ps) = words a ++ (index_word 0 ∷ words_in ps)
 
   words_in : Positions → List Word
   words_in NoPositions = []
@@ -257,11 +257,11 @@ abbrev mutual
 -- the last tree gets an index without positions
 abbrev begin_index : List Tree → List Tree
 begin_index [] = []
-begin_index (t ∷ stack) = Indexed t NoPositions ∷ stack
+begin_index (t ∷ stack) = Index t NoPositions ∷ stack
 
 -- the index of the last tree gets these positions at its end
 abbrev add_positions : Positions → List Tree → List Tree
-add_positions ps (Indexed t qs ∷ stack) = Indexed t (followed_by qs ps) ∷ stack
+add_positions ps (Index t qs ∷ stack) = Index t (followed_by qs ps) ∷ stack
 add_positions ps stack = stack
 
 -- the last tree becomes a position of the index before it
@@ -277,14 +277,14 @@ index_step (suc (suc n)) stack = add_written stack
 
 -- what a word does to the trees so far, the last first
 abbrev push : Word → List Tree → List Tree
-push (inl ns) stack = Literal (Numbers ns) ∷ stack
-push (inr (inl cs)) stack = Literal (Text cs) ∷ stack
-push (inr (inr (inl x))) stack = Variable x ∷ stack
+push (inl ns) stack = Const (Numbers ns) ∷ stack
+push (inr (inl cs)) stack = Const (Text cs) ∷ stack
+push (inr (inr (inl x))) stack = Name x ∷ stack
 push (inr (inr (inr (inl f)))) [] = []
-push (inr (inr (inr (inl f)))) (b ∷ stack) = Applied1 (monadic_of_code f) b ∷ stack
+push (inr (inr (inr (inl f)))) (b ∷ stack) = Monad (monadic_of_code f) b ∷ stack
 push (inr (inr (inr (inr (inl f))))) [] = []
 push (inr (inr (inr (inr (inl f))))) (b ∷ []) = b ∷ []
-push (inr (inr (inr (inr (inl f))))) (b ∷ a ∷ stack) = Applied2 (dyadic_of_code f) a b ∷ stack
+push (inr (inr (inr (inr (inl f))))) (b ∷ a ∷ stack) = Dyad (dyadic_of_code f) a b ∷ stack
 push (inr (inr (inr (inr (inr n))))) stack = index_step n stack
 
 -- what the words do, one after the other
@@ -294,35 +294,35 @@ build (w ∷ ws) stack = build ws (push w stack)
 
 -- the last tree
 abbrev top : List Tree → Tree
-top [] = Variable []
+top [] = Name []
 top (t ∷ ts) = t
 
 mutual
   again : (t : Tree) (ws : List Word) (stack : List Tree) → build (words t ++ ws) stack ≡ build ws (t ∷ stack)
-  again (Literal (Numbers ns)) ws stack = refl
-  again (Literal (Text cs)) ws stack = refl
-  again (Variable x) ws stack = refl
-  again (Applied1 f b) ws stack =
+  again (Const (Numbers ns)) ws stack = refl
+  again (Const (Text cs)) ws stack = refl
+  again (Name x) ws stack = refl
+  again (Monad f b) ws stack =
       let word = monad_word (code_of_monadic f) in
       ap (λ vs. build vs stack) (append_assoc (words b) (word ∷ []) ws)
-      ∙ (again b (word ∷ ws) stack ∙ ap (λ g. build ws (Applied1 g b ∷ stack)) (monadic_again f))
-  again (Applied2 f a b) ws stack =
+      ∙ (again b (word ∷ ws) stack ∙ ap (λ g. build ws (Monad g b ∷ stack)) (monadic_again f))
+  again (Dyad f a b) ws stack =
       let word = dyad_word (code_of_dyadic f) in
       ap (λ vs. build vs stack) (append_assoc (words a) (words b ++ word ∷ []) ws ∙ ap (λ vs. words a ++ vs) (append_assoc (words b) (word ∷ []) ws))
-      ∙ (again a (words b ++ (word ∷ ws)) stack ∙ (again b (word ∷ ws) (a ∷ stack) ∙ ap (λ g. build ws (Applied2 g a b ∷ stack)) (dyadic_again f)))
-  again (Indexed a ps) ws stack =
+      ∙ (again a (words b ++ (word ∷ ws)) stack ∙ (again b (word ∷ ws) (a ∷ stack) ∙ ap (λ g. build ws (Dyad g a b ∷ stack)) (dyadic_again f)))
+  again (Index a ps) ws stack =
       ap (λ vs. build vs stack) (append_assoc (words a) (index_word 0 ∷ words_in ps) ws)
       ∙ (again a (index_word 0 ∷ (words_in ps ++ ws)) stack ∙ positions_again ps ws a NoPositions stack)
 
   positions_again : (ps : Positions) (ws : List Word) (t : Tree) (qs : Positions) (stack : List Tree)
-      → build (words_in ps ++ ws) (Indexed t qs ∷ stack) ≡ build ws (Indexed t (followed_by qs ps) ∷ stack)
-  positions_again NoPositions ws t qs stack = ap (λ rs. build ws (Indexed t rs ∷ stack)) (sym (followed_by_none qs))
+      → build (words_in ps ++ ws) (Index t qs ∷ stack) ≡ build ws (Index t (followed_by qs ps) ∷ stack)
+  positions_again NoPositions ws t qs stack = ap (λ rs. build ws (Index t rs ∷ stack)) (sym (followed_by_none qs))
   positions_again (Empty ps) ws t qs stack =
-      positions_again ps ws t (followed_by qs (Empty NoPositions)) stack ∙ ap (λ rs. build ws (Indexed t rs ∷ stack)) (followed_by_both qs (Empty NoPositions) ps)
+      positions_again ps ws t (followed_by qs (Empty NoPositions)) stack ∙ ap (λ rs. build ws (Index t rs ∷ stack)) (followed_by_both qs (Empty NoPositions) ps)
   positions_again (Filled e ps) ws t qs stack =
-      ap (λ vs. build vs (Indexed t qs ∷ stack)) (append_assoc (words e) (index_word 2 ∷ words_in ps) ws)
-      ∙ (again e (index_word 2 ∷ (words_in ps ++ ws)) (Indexed t qs ∷ stack)
-      ∙ (positions_again ps ws t (followed_by qs (Filled e NoPositions)) stack ∙ ap (λ rs. build ws (Indexed t rs ∷ stack)) (followed_by_both qs (Filled e NoPositions) ps)))
+      ap (λ vs. build vs (Index t qs ∷ stack)) (append_assoc (words e) (index_word 2 ∷ words_in ps) ws)
+      ∙ (again e (index_word 2 ∷ (words_in ps ++ ws)) (Index t qs ∷ stack)
+      ∙ (positions_again ps ws t (followed_by qs (Filled e NoPositions)) stack ∙ ap (λ rs. build ws (Index t rs ∷ stack)) (followed_by_both qs (Filled e NoPositions) ps)))
 
 -- the words of a tree build that tree
 pub same_again : (t : Tree) → top (build (words t) []) ≡ t

@@ -3,7 +3,7 @@
 use Rattle.std.specs.Prelude.{◌≡◌, ℕ, ℤ, Option, Some, None, Result, Ok, Err, List, [], ◌∷◌, ◌++◌, if◌then◌else◌, ◌==◌}
 use Rattle.std.specs.Global.{Vec}
 use Rattle.apl_expr.specs.declared.expr.Literal as literal
-use Rattle.apl_expr.specs.Trees.{Constant, Numbers, Text, constant_of}
+use Rattle.apl_expr.specs.Trees.{Literal, Numbers, Text, literal_of}
 use Rattle.apl_tokens.specs.Lexemes.{Lexeme, Number, Characters, Named, Sign}
 use Rattle.apl_tokens.specs.Signs.{left_arrow, right_bracket, semicolon}
 use Rattle.apl_expr.specs.declared.edit.Edit as code
@@ -21,7 +21,7 @@ pub data Edit : Type 0 where
 
 -- the place and the literal of an edit
 pub data Written : Type 0 where
-  Write : List ℤ → Constant → Written
+  Write : List ℤ → Literal → Written
 
 -- the sign after a position: `;` or `]`
 abbrev pub after_position : List ℤ → ℕ → Option Edit
@@ -96,14 +96,14 @@ EditSteps (Err NoMemory) o = Unit {0}
 
 -- the same for the whole
 abbrev pub EditGives : Result (Vec ℤ × literal.Literal) ParseFault → Option Written → Type 0
-EditGives (Ok w) o = o ≡ Some (Write w.0.items (constant_of w.1))
+EditGives (Ok w) o = o ≡ Some (Write w.0.items (literal_of w.1))
 EditGives (Err Syntax) o = o ≡ None
 EditGives (Err Limit) o = ⊥
 EditGives (Err NoMemory) o = Unit {0}
 
 -- the same for a literal alone
 abbrev pub LiteralGives : Result literal.Literal ParseFault → Option Written → Type 0
-LiteralGives (Ok l) o = o ≡ Some (Write [] (constant_of l))
+LiteralGives (Ok l) o = o ≡ Some (Write [] (literal_of l))
 LiteralGives (Err Syntax) o = o ≡ None
 LiteralGives (Err Limit) o = ⊥
 LiteralGives (Err NoMemory) o = Unit {0}

@@ -5,7 +5,7 @@ ghost use Rattle.std.specs.Prelude.{◌≡◌, Some, [], ◌∷◌, IfOk, map};
 ghost use Rattle.apl_tokens.specs.Lexemes.{lexeme, lexemes};
 ghost use Rattle.apl_expr.specs.Machine.{first, settle, position_ended, closed, skipped, ends_position, begin, next, after_reference, step, finish, run, state, Nothing};
 ghost use Rattle.apl_expr.specs.Parsing.{stack, reading_of, Settles, Steps, Gives, IsParsed};
-ghost use Rattle.apl_expr.specs.Trees.{Numbers, Text, constant_of, IsPlain, tree_of, position_of};
+ghost use Rattle.apl_expr.specs.Trees.{Numbers, Text, literal_of, IsPlain, tree_of, position_of};
 
 use crate::expr::{Dyadic, Expr, Literal, Monadic};
 use crate::fault::ParseFault;
@@ -49,7 +49,7 @@ enum Reading {
 
 /// The literal of these numbers: one number is a scalar.
 pub(crate) fn literal(numbers: Vec<i64>) -> Literal
-    ensures numbers { constant_of result ≡ Numbers numbers.items }
+    ensures numbers { literal_of result ≡ Numbers numbers.items }
     ensures plain { IsPlain result }
 {
     match numbers.as_slice() {
@@ -60,7 +60,7 @@ pub(crate) fn literal(numbers: Vec<i64>) -> Literal
 
 /// The literal of a text: one character is a scalar.
 pub(crate) fn text_literal(characters: Vec<char>) -> Literal
-    ensures characters { constant_of result ≡ Text characters.items }
+    ensures characters { literal_of result ≡ Text characters.items }
     ensures plain { IsPlain result }
 {
     match characters.as_slice() {

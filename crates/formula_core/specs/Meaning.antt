@@ -1,6 +1,6 @@
 -- What an expression means, where the names show these arrays and errors.
 use Rattle.std.specs.Prelude.{ℕ, List, [], ◌∷◌, ◌++◌, Some, None, Result, Ok, Err}
-use Rattle.apl_expr.specs.Trees.{Tree, Literal, Variable, Applied1, Applied2, Indexed, Positions, NoPositions, Empty, Filled, Constant, Numbers, Text}
+use Rattle.apl_expr.specs.Trees.{Tree, Const, Name, Monad, Dyad, Index, Positions, NoPositions, Empty, Filled, Literal, Numbers, Text}
 use Rattle.apl_expr.specs.declared.expr.ScalarMonad.{ScalarMonad}
 use Rattle.apl_expr.specs.declared.expr.ScalarMonad.TheVariants as scalar_monad
 use Rattle.apl_expr.specs.declared.expr.ScalarDyad.{ScalarDyad}
@@ -45,7 +45,7 @@ use Rattle.arrays_core.specs.declared.fault.Fault.{Fault}
 use Rattle.formula_core.specs.Outcomes.{Outcome, given}
 
 -- one number is a scalar, several are a vector; so it is with the characters of a text
-abbrev pub array_of : Constant → Result ArrayValue Kind
+abbrev pub array_of : Literal → Result ArrayValue Kind
 array_of (Numbers []) = vector_of []
 array_of (Numbers (n ∷ [])) = Ok (scalar_of n)
 array_of (Numbers (n ∷ m ∷ ns)) = vector_of (n ∷ m ∷ ns)
@@ -146,11 +146,11 @@ indexed (Ok positions) (Ok a) = given (index_whole a positions)
 abbrev mutual
   -- the value of an expression, where the names show these
   pub eval : Tree → (List ℕ → Outcome) → Outcome
-  eval (Literal c) names = given (array_of c)
-  eval (Variable x) names = names x
-  eval (Applied1 f b) names = applied1 f (eval b names)
-  eval (Applied2 f a b) names = applied2 f (eval b names) (eval a names)
-  eval (Indexed a ps) names = indexed (eval_positions ps names) (eval a names)
+  eval (Const c) names = given (array_of c)
+  eval (Name x) names = names x
+  eval (Monad f b) names = applied1 f (eval b names)
+  eval (Dyad f a b) names = applied2 f (eval b names) (eval a names)
+  eval (Index a ps) names = indexed (eval_positions ps names) (eval a names)
 
   -- the values of positions; the error of the last that has one
   pub eval_positions : Positions → (List ℕ → Outcome) → Result (List Position) Fault
@@ -161,11 +161,11 @@ abbrev mutual
 abbrev mutual
   -- the names that stand in an expression, from the left
   pub names_in : Tree → List (List ℕ)
-  names_in (Literal c) = []
-  names_in (Variable x) = x ∷ []
-  names_in (Applied1 f b) = names_in b
-  names_in (Applied2 f a b) = names_in a ++ names_in b
-  names_in (Indexed a ps) = names_in a ++ names_in_positions ps
+  names_in (Const c) = []
+  names_in (Name x) = x ∷ []
+  names_in (Monad f b) = names_in b
+  names_in (Dyad f a b) = names_in a ++ names_in b
+  names_in (Index a ps) = names_in a ++ names_in_positions ps
 
   pub names_in_positions : Positions → List (List ℕ)
   names_in_positions NoPositions = []

@@ -1,7 +1,7 @@
 -- An edit has one outcome, but for want of memory.
 use Rattle.std.proofs.Common.{◌≡◌, ◌≢◌, ℕ, ℤ, ◌<◌, ◌⊎◌, ⊎_elim, inl, inr, List, [], ◌∷◌, length, codes, is_some, None, Result, Ok, Err, refl, sym, ap, ◌∙◌, arith}
 use Rattle.std.proofs.lemmas.Bool.{false≢true}
-use Rattle.apl_expr.specs.Trees.{Tree, Constant}
+use Rattle.apl_expr.specs.Trees.{Tree, Literal}
 use Rattle.arrays_core.specs.Arrays.{ArrayValue}
 use Rattle.arrays_core.specs.declared.fault.Fault.{Fault}
 use Rattle.array_text.specs.Text.{fault_text}
@@ -104,7 +104,7 @@ put_cause names n a why.Domain h other = absurd h
 put_cause names n a why.Limit h other = absurd h
 put_cause names n a (why.Fault e) h other = absurd h
 
-cell_cause : (names : Names) (n : List ℕ) (places : List ℤ) (literal : Constant) (cause : Refusal) → Refuses names (SetCell n places literal) cause → cause ≢ why.NoMemory → cell_put (binding names n) places literal ≡ Err cause
+cell_cause : (names : Names) (n : List ℕ) (places : List ℤ) (literal : Literal) (cause : Refusal) → Refuses names (SetCell n places literal) cause → cause ≢ why.NoMemory → cell_put (binding names n) places literal ≡ Err cause
 cell_cause names n places literal why.NoMemory h other = absurd (other refl)
 cell_cause names n places literal (why.Cycle c) h other = h
 cell_cause names n places literal why.NotFound h other = h
@@ -117,7 +117,7 @@ cell_cause names n places literal why.Limit h other = h
 cell_cause names n places literal why.SheetFull h other = h
 cell_cause names n places literal (why.Fault e) h other = h
 
-row_cause : (names : Names) (n : List ℕ) (literal : Constant) (cause : Refusal) → Refuses names (AddRow n literal) cause → cause ≢ why.NoMemory → row_put (binding names n) literal ≡ Err cause
+row_cause : (names : Names) (n : List ℕ) (literal : Literal) (cause : Refusal) → Refuses names (AddRow n literal) cause → cause ≢ why.NoMemory → row_put (binding names n) literal ≡ Err cause
 row_cause names n literal why.NoMemory h other = absurd (other refl)
 row_cause names n literal (why.Cycle c) h other = h
 row_cause names n literal why.NotFound h other = h

@@ -6,7 +6,7 @@ use Rattle.arrays_core.specs.declared.item.Item.TheVariants.{Num, Char}
 use Rattle.arrays_core.specs.declared.item.ItemType.TheVariants.{Nums, Chars}
 use Rattle.arrays_core.specs.declared.item.Kind.{Kind}
 use Rattle.arrays_core.specs.declared.item.Kind.TheVariants as kind
-use Rattle.apl_expr.specs.Trees.{Tree, Literal, Numbers, Text, Variable, Applied2}
+use Rattle.apl_expr.specs.Trees.{Tree, Const, Numbers, Text, Name, Dyad}
 use Rattle.apl_expr.specs.declared.expr.ScalarDyad.{ScalarDyad}
 use Rattle.apl_expr.specs.declared.expr.ScalarDyad.TheVariants.{Plus, Times, Divide}
 use Rattle.apl_expr.specs.declared.expr.Dyadic.TheVariants.{Scalar}
@@ -37,14 +37,14 @@ abbrev U : List ℕ
 U = 0x55 ∷ []
 
 abbrev both : ScalarDyad → Tree → Tree → Tree
-both f a b = Applied2 (Scalar f) a b
+both f a b = Dyad (Scalar f) a b
 
 abbrev number : ℕ → Tree
-number n = Literal (Numbers (pos n ∷ []))
+number n = Const (Numbers (pos n ∷ []))
 
 -- T←D×2 and U←T+D, over these data of D
 abbrev sheet : ArrayValue → Names
-sheet a = put (put (put [] D (Data a)) T (Formula (both Times (Variable D) (number 2)))) U (Formula (both Plus (Variable T) (Variable D)))
+sheet a = put (put (put [] D (Data a)) T (Formula (both Times (Name D) (number 2)))) U (Formula (both Plus (Name T) (Name D)))
 
 u_shows_3_6_9 : val (sheet (numbers (pos 1 ∷ pos 2 ∷ pos 3 ∷ []))) U ≡ Ok (numbers (pos 3 ∷ pos 6 ∷ pos 9 ∷ []))
 u_shows_3_6_9 = refl
@@ -120,11 +120,11 @@ abbrev error_in : Kind → List ℕ → Outcome
 error_in k name = Err (record { kind = k; origin = Some name })
 
 -- A←B+1, where B is absent
-value_error : val (put [] A (Formula (both Plus (Variable B) (number 1)))) A ≡ error_in kind.Value A
+value_error : val (put [] A (Formula (both Plus (Name B) (number 1)))) A ≡ error_in kind.Value A
 value_error = refl
 
 -- A←1÷0 and B←A+1
-origin_kept : val (put (put [] A (Formula (both Divide (number 1) (number 0)))) B (Formula (both Plus (Variable A) (number 1)))) B ≡ error_in kind.Domain A
+origin_kept : val (put (put [] A (Formula (both Divide (number 1) (number 0)))) B (Formula (both Plus (Name A) (number 1)))) B ≡ error_in kind.Domain A
 origin_kept = refl
 
 -- A←9223372036854775807+1
@@ -132,13 +132,13 @@ limit_error : val (put [] A (Formula (both Plus (number 9223372036854775807) (nu
 limit_error = refl
 
 -- A←1 2+1 2 3
-length_error : val (put [] A (Formula (both Plus (Literal (Numbers (pos 1 ∷ pos 2 ∷ []))) (Literal (Numbers (pos 1 ∷ pos 2 ∷ pos 3 ∷ [])))))) A ≡ error_in kind.Length A
+length_error : val (put [] A (Formula (both Plus (Const (Numbers (pos 1 ∷ pos 2 ∷ []))) (Const (Numbers (pos 1 ∷ pos 2 ∷ pos 3 ∷ [])))))) A ≡ error_in kind.Length A
 length_error = refl
 
 -- A shown over a matrix B: A←B+1 2
-rank_error : val (put (put [] B (Data (record { item_type = Nums; shape = 1 ∷ 2 ∷ []; items = Num (pos 1) ∷ Num (pos 2) ∷ [] }))) A (Formula (both Plus (Variable B) (Literal (Numbers (pos 1 ∷ pos 2 ∷ [])))))) A ≡ error_in kind.Rank A
+rank_error : val (put (put [] B (Data (record { item_type = Nums; shape = 1 ∷ 2 ∷ []; items = Num (pos 1) ∷ Num (pos 2) ∷ [] }))) A (Formula (both Plus (Name B) (Const (Numbers (pos 1 ∷ pos 2 ∷ [])))))) A ≡ error_in kind.Rank A
 rank_error = refl
 
 -- (1 2+1 2 3)×B, shown: the right argument is evaluated first, and the error has no origin
-right_first : eval (both Times (both Plus (Literal (Numbers (pos 1 ∷ pos 2 ∷ []))) (Literal (Numbers (pos 1 ∷ pos 2 ∷ pos 3 ∷ [])))) (Variable B)) (val []) ≡ Err (fault kind.Value)
+right_first : eval (both Times (both Plus (Const (Numbers (pos 1 ∷ pos 2 ∷ []))) (Const (Numbers (pos 1 ∷ pos 2 ∷ pos 3 ∷ [])))) (Name B)) (val []) ≡ Err (fault kind.Value)
 right_first = refl

@@ -3,7 +3,7 @@ use Rattle.std.proofs.Common.{◌≡◌, ◌≤◌, ◌<◌, ◌+◌, ◌∙◌,
 use Rattle.std.proofs.lemmas.Bool.{false≢true}
 use Rattle.std.proofs.lemmas.List.{length-map, length-append}
 use Rattle.dep_order.specs.Reachability.{IsAcyclic}
-use Rattle.apl_expr.specs.Trees.{Tree, Constant}
+use Rattle.apl_expr.specs.Trees.{Tree, Literal}
 use Rattle.arrays_core.specs.Arrays.{ArrayValue}
 use Rattle.formula_core.specs.Meaning.{eval}
 use Rattle.sheet_recalc.specs.Names.{Names, Binding, Data, Formula, binding, put, Refers, most_names}
@@ -75,21 +75,21 @@ only_memory names name a present why.Limit h = absurd h
 only_memory names name a present (why.Fault e) h = absurd h
 
 -- a cell was edited, so its name is present
-pub cell_present : (b : Option Binding) (places : List ℤ) (literal : Constant) (a : ArrayValue) → cell_put b places literal ≡ Ok a → IsSome b
+pub cell_present : (b : Option Binding) (places : List ℤ) (literal : Literal) (a : ArrayValue) → cell_put b places literal ≡ Ok a → IsSome b
 cell_present None places literal a h = let never : Err why.NotFound ≡ Ok a = h in absurd cc
 cell_present (Some b) places literal a h = refl
 
-pub refused_cell : (names : Names) (name : List ℕ) (places : List ℤ) (literal : Constant) (a : ArrayValue) → cell_put (binding names name) places literal ≡ Ok a
+pub refused_cell : (names : Names) (name : List ℕ) (places : List ℤ) (literal : Literal) (a : ArrayValue) → cell_put (binding names name) places literal ≡ Ok a
     → (cause : Refusal) → Refuses names (Put name a) cause → Refuses names (SetCell name places literal) cause
 refused_cell names name places literal a is cause h =
     subst (λ (y : Refusal). Refuses names (SetCell name places literal) y) (sym (only_memory names name a (cell_present (binding names name) places literal a is) cause h)) tt
 
 -- a row was added to data, so its name is present
-pub row_present : (b : Option Binding) (literal : Constant) (a : ArrayValue) → row_put b literal ≡ Ok a → IsSome b
+pub row_present : (b : Option Binding) (literal : Literal) (a : ArrayValue) → row_put b literal ≡ Ok a → IsSome b
 row_present None literal a h = let never : Err why.NotFound ≡ Ok a = h in absurd cc
 row_present (Some b) literal a h = refl
 
-pub refused_row : (names : Names) (name : List ℕ) (literal : Constant) (a : ArrayValue) → row_put (binding names name) literal ≡ Ok a
+pub refused_row : (names : Names) (name : List ℕ) (literal : Literal) (a : ArrayValue) → row_put (binding names name) literal ≡ Ok a
     → (cause : Refusal) → Refuses names (Put name a) cause → Refuses names (AddRow name literal) cause
 refused_row names name literal a is cause h =
     subst (λ (y : Refusal). Refuses names (AddRow name literal) y) (sym (only_memory names name a (row_present (binding names name) literal a is) cause h)) tt

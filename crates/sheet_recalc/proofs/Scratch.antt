@@ -5,7 +5,7 @@ use Rattle.std.specs.List.{Contains}
 use Rattle.std.proofs.lemmas.List.{get_or-take, get_or_default, length-take}
 use Rattle.std.proofs.lemmas.List.Elements.{Contains-append_left, Contains-append_right}
 use Rattle.dep_order.specs.Reachability.{Chain, IsAcyclic}
-use Rattle.apl_expr.specs.Trees.{Tree, Literal, Variable, Applied1, Applied2, Indexed, Positions, NoPositions, Empty, Filled}
+use Rattle.apl_expr.specs.Trees.{Tree, Const, Name, Monad, Dyad, Index, Positions, NoPositions, Empty, Filled}
 use Rattle.arrays_core.specs.declared.item.Kind.TheVariants.{Value}
 use Rattle.formula_core.specs.Outcomes.{Outcome, fault}
 use Rattle.formula_core.specs.Meaning.{eval, eval_positions, applied1, applied2, indexed, in_front, empty_in_front, names_in, names_in_positions}
@@ -16,13 +16,13 @@ use Rattle.sheet_recalc.specs.NameOrder.{IsNameOrder}
 -- only the names that stand in an expression matter
 mutual
   pub eval_same : (t : Tree) (f g : List ℕ → Outcome) → ((x : List ℕ) → Contains (names_in t) x → f x ≡ g x) → eval t f ≡ eval t g
-  eval_same (Literal c) f g h = refl
-  eval_same (Variable x) f g h = h x (0, omega arith, refl)
-  eval_same (Applied1 k b) f g h = ap (applied1 k) (eval_same b f g h)
-  eval_same (Applied2 k a b) f g h =
+  eval_same (Const c) f g h = refl
+  eval_same (Name x) f g h = h x (0, omega arith, refl)
+  eval_same (Monad k b) f g h = ap (applied1 k) (eval_same b f g h)
+  eval_same (Dyad k a b) f g h =
       ap (λ r. applied2 k r (eval a f)) (eval_same b f g (λ x o. h x (Contains-append_right (names_in a) (names_in b) x o)))
       ∙ ap (λ r. applied2 k (eval b g) r) (eval_same a f g (λ x o. h x (Contains-append_left (names_in a) (names_in b) x o)))
-  eval_same (Indexed a ps) f g h =
+  eval_same (Index a ps) f g h =
       ap (λ r. indexed r (eval a f)) (positions_same ps f g (λ x o. h x (Contains-append_right (names_in a) (names_in_positions ps) x o)))
       ∙ ap (λ r. indexed (eval_positions ps g) r) (eval_same a f g (λ x o. h x (Contains-append_left (names_in a) (names_in_positions ps) x o)))
 

@@ -1,6 +1,6 @@
 -- An edit of one cell.
 use Rattle.std.specs.Prelude.{◌≡◌, ℕ, ℤ, pos, negsuc, ◌==◌, ◌&&◌, nat_le, Bool, true, false, List, [], ◌∷◌, map, length, set, Option, Some, None, Result, Ok, Err, if◌then◌else◌}
-use Rattle.apl_expr.specs.Trees.{Constant, Numbers, Text}
+use Rattle.apl_expr.specs.Trees.{Literal, Numbers, Text}
 use Rattle.arrays_core.specs.Arrays.{ArrayValue}
 use Rattle.arrays_core.specs.Items.{type_of}
 use Rattle.arrays_core.specs.Shapes.{is_index_of, places_before}
@@ -26,7 +26,7 @@ abbrev pub is_on_axis : ℕ → ℕ → Bool
 is_on_axis axis index = nat_le 1 index && nat_le index axis
 
 -- the items of a literal
-abbrev pub literal_items : Constant → List Item
+abbrev pub literal_items : Literal → List Item
 literal_items (Numbers ns) = map (λ n. Num n) ns
 literal_items (Text cs) = map (λ c. Char c) cs
 
@@ -48,7 +48,7 @@ item_put a index (item ∷ []) = if is_same_type (type_of item) a.item_type then
 item_put a index (item ∷ other ∷ items) = Err Length
 
 -- the data with the literal in one cell, or why not: the positions are as many as the axes, then each lies on its axis
-abbrev pub cell_put : Option Binding → List ℤ → Constant → Result ArrayValue Refusal
+abbrev pub cell_put : Option Binding → List ℤ → Literal → Result ArrayValue Refusal
 cell_put None places literal = Err NotFound
 cell_put (Some (Formula t)) places literal = Err NotData
 cell_put (Some (Data a)) places literal =

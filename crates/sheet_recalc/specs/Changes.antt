@@ -1,7 +1,7 @@
 -- What a change to a sheet gives, or why it is refused.
 use Rattle.std.specs.Prelude.{◌≡◌, ℕ, ◌<◌, ◌≤◌, ◌⊎◌, ℤ, List, [], ◌∷◌, None, Ok, Err, IsSome, length}
 use Rattle.dep_order.specs.Reachability.{IsAcyclic, IsCycle}
-use Rattle.apl_expr.specs.Trees.{Tree, Constant}
+use Rattle.apl_expr.specs.Trees.{Tree, Literal}
 use Rattle.arrays_core.specs.Arrays.{ArrayValue}
 use Rattle.formula_core.specs.Meaning.{eval}
 use Rattle.sheet_recalc.specs.Names.{Names, Binding, Data, Formula, binding, put, without, Refers, most_names}
@@ -20,9 +20,9 @@ pub data Change : Type 0 where
   -- bind a name to an array
   Put : List ℕ → ArrayValue → Change
   -- replace one item of data
-  SetCell : List ℕ → List ℤ → Constant → Change
+  SetCell : List ℕ → List ℤ → Literal → Change
   -- put a row at the end of data
-  AddRow : List ℕ → Constant → Change
+  AddRow : List ℕ → Literal → Change
   -- remove a name
   Erase : List ℕ → Change
 

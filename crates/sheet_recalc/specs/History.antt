@@ -1,7 +1,7 @@
 -- What a list of changes is answered, and where it leads.
 use Rattle.std.specs.Prelude.{◌≡◌, List, [], ◌∷◌, Result, Ok, Err}
 use Rattle.sheet_recalc.specs.Names.{Names}
-use Rattle.apl_expr.specs.Trees.{tree_of, constant_of}
+use Rattle.apl_expr.specs.Trees.{tree_of, literal_of}
 use Rattle.sheet_recalc.specs.Changes.{Change, Define, Store, Put, SetCell, AddRow, Erase, Accepts, Refuses}
 use Rattle.sheet_recalc.specs.declared.change.Change as code
 use Rattle.sheet_recalc.specs.declared.change.Change.TheVariants as made
@@ -12,8 +12,8 @@ abbrev pub change_of : code.Change → Change
 change_of (made.Define name tree) = Define name (tree_of tree)
 change_of (made.Store name tree) = Store name (tree_of tree)
 change_of (made.Put name array) = Put name array
-change_of (made.SetCell name places literal) = SetCell name places.items (constant_of literal)
-change_of (made.AddRow name literal) = AddRow name (constant_of literal)
+change_of (made.SetCell name places literal) = SetCell name places.items (literal_of literal)
+change_of (made.AddRow name literal) = AddRow name (literal_of literal)
 change_of (made.Erase name) = Erase name
 
 -- from old, the change may have this answer and lead to new

@@ -1,7 +1,7 @@
 -- A row at the end of data.
 use Rattle.std.specs.Prelude.{ℕ, ◌+◌, ◌==◌, Bool, List, [], ◌∷◌, ◌++◌, length, Option, Some, None, Result, Ok, Err, if◌then◌else◌}
 use Rattle.std.specs.List.{list_all}
-use Rattle.apl_expr.specs.Trees.{Constant}
+use Rattle.apl_expr.specs.Trees.{Literal}
 use Rattle.arrays_core.specs.Arrays.{ArrayValue}
 use Rattle.arrays_core.specs.Items.{type_of}
 use Rattle.arrays_core.specs.declared.item.Item.{Item}
@@ -44,7 +44,7 @@ row_items_put a None row = Err Rank
 row_items_put a (Some count) row = if length row == count then items_put a row else Err Length
 
 -- the data with the literal as its last row, or why not
-abbrev pub row_put : Option Binding → Constant → Result ArrayValue Refusal
+abbrev pub row_put : Option Binding → Literal → Result ArrayValue Refusal
 row_put None literal = Err NotFound
 row_put (Some (Formula t)) literal = Err NotData
 row_put (Some (Data a)) literal = row_items_put a (row_length a.shape) (literal_items literal)

@@ -3,7 +3,7 @@
 ghost use Rattle.std.specs.Prelude.{◌≡◌, ◌≢◌, IfOk, IfErr, IfSome, MatchOption, MatchResult, Ok, Err, Option, true, false, [], ◌∷◌, ◌≤◌, length};
 ghost use Rattle.std.specs.Str.{bytes_eq};
 ghost use Rattle.std.specs.Map.{lookup};
-ghost use Rattle.apl_expr.specs.Trees.{constant_of};
+ghost use Rattle.apl_expr.specs.Trees.{literal_of};
 ghost use Rattle.arrays_core.specs.Arrays.{IsArray};
 ghost use Rattle.arrays_core.specs.Items.{type_of};
 ghost use Rattle.arrays_core.specs.Shapes.{is_index_of};
@@ -26,7 +26,7 @@ pub(crate) fn data_with_cell(
     places: &[i64],
     literal: &Literal,
 ) -> Result<Array, Refusal>
-    ensures { IsDataAnswer (cell_put (binding (names_of entries.now.entries) name) places.now (constant_of literal.now)) result }
+    ensures { IsDataAnswer (cell_put (binding (names_of entries.now.entries) name) places.now (literal_of literal.now)) result }
 {
     match entries.get(&name) {
         None => Err(Refusal::NotFound),
@@ -37,7 +37,7 @@ pub(crate) fn data_with_cell(
 
 /// The array with a literal in one cell, or why not.
 fn with_cell(array: &Array, places: &[i64], literal: &Literal) -> Result<Array, Refusal>
-    ensures { IsDataAnswer (cell_put (Some (Data array.now)) places.now (constant_of literal.now)) result }
+    ensures { IsDataAnswer (cell_put (Some (Data array.now)) places.now (literal_of literal.now)) result }
 {
     if places.len() != array.shape().len() {
         return Err(Refusal::Rank);
@@ -51,7 +51,7 @@ fn with_cell(array: &Array, places: &[i64], literal: &Literal) -> Result<Array, 
 /// The array with a literal of one item of its type at an index list.
 fn with_literal(array: &Array, index: &Shape, literal: &Literal) -> Result<Array, Refusal>
     requires { is_index_of array.now.shape index.now.items ≡ true }
-    ensures { IsDataAnswer (item_put array.now index.now.items (literal_items (constant_of literal.now))) result }
+    ensures { IsDataAnswer (item_put array.now index.now.items (literal_items (literal_of literal.now))) result }
 {
     let Some(item) = only_item(literal) else {
         return Err(Refusal::Length);
@@ -66,7 +66,7 @@ fn with_literal(array: &Array, index: &Shape, literal: &Literal) -> Result<Array
 
 /// The item of a literal that has one item.
 fn only_item(literal: &Literal) -> Option<Item>
-    ensures { IsOnlyItem (literal_items (constant_of literal.now)) result }
+    ensures { IsOnlyItem (literal_items (literal_of literal.now)) result }
 {
     match literal {
         Literal::Num(number) => Some(Item::Num(*number)),

@@ -1,7 +1,7 @@
 //! Rows at the end of data.
 
 ghost use Rattle.std.specs.Prelude.{◌≡◌, ◌+◌, ◌++◌, ◌<◌, ◌≤◌, IfOk, true, length};
-ghost use Rattle.apl_expr.specs.Trees.{constant_of};
+ghost use Rattle.apl_expr.specs.Trees.{literal_of};
 ghost use Rattle.arrays_core.specs.Shapes.{size, IsWithinLimits};
 ghost use Rattle.formula_core.specs.Meaning.{array_of};
 ghost use Rattle.sheet_recalc.specs.Names.{binding, Data};
@@ -25,7 +25,7 @@ pub(crate) fn data_with_row(
     name: Name,
     literal: &Literal,
 ) -> Result<Array, Refusal>
-    ensures { IsDataAnswer (row_put (binding (names_of entries.now.entries) name) (constant_of literal.now)) result }
+    ensures { IsDataAnswer (row_put (binding (names_of entries.now.entries) name) (literal_of literal.now)) result }
 {
     match entries.get(&name) {
         None => Err(Refusal::NotFound),
@@ -36,7 +36,7 @@ pub(crate) fn data_with_row(
 
 /// The array with a literal as its last row, or why not.
 fn with_row(alloc: Global, array: &Array, literal: &Literal) -> Result<Array, Refusal>
-    ensures { IsDataAnswer (row_put (Some (Data array.now)) (constant_of literal.now)) result }
+    ensures { IsDataAnswer (row_put (Some (Data array.now)) (literal_of literal.now)) result }
 {
     let Some(count) = row_length(array.shape().as_slice()) else {
         return Err(Refusal::Rank);
@@ -67,7 +67,7 @@ fn row_length(shape: &[u32]) -> Option<usize>
 
 /// How many items a literal has.
 fn items_in(literal: &Literal) -> usize
-    ensures { result ≡ length (literal_items (constant_of literal.now)) }
+    ensures { result ≡ length (literal_items (literal_of literal.now)) }
 {
     match literal {
         Literal::Num(_) | Literal::Char(_) => 1,
@@ -79,7 +79,7 @@ fn items_in(literal: &Literal) -> usize
 /// Each item of a literal is of this type.
 #[tactic(auto, using(crate::proofs::Rows::are_numbers, crate::proofs::Rows::are_characters))]
 fn is_of_type(literal: &Literal, item_type: ItemType) -> bool
-    ensures { result ≡ are_of_type item_type (literal_items (constant_of literal.now)) }
+    ensures { result ≡ are_of_type item_type (literal_items (literal_of literal.now)) }
 {
     match literal {
         Literal::Num(_) => item_type == ItemType::Nums,
@@ -108,12 +108,12 @@ fn with_items(
     shape: &Shape,
 ) -> Result<Array, AllocError>
     requires within { IsWithinLimits shape.now.items }
-    requires one_item_a_place { length array.now.items + length (literal_items (constant_of literal.now)) ≡ size shape.now.items }
-    requires typed { are_of_type array.now.item_type (literal_items (constant_of literal.now)) ≡ true }
+    requires one_item_a_place { length array.now.items + length (literal_items (literal_of literal.now)) ≡ size shape.now.items }
+    requires typed { are_of_type array.now.item_type (literal_items (literal_of literal.now)) ≡ true }
     ensures { IfOk result (λ a. a ≡ record {
       item_type = array.now.item_type;
       shape = shape.now.items;
-      items = array.now.items ++ literal_items (constant_of literal.now);
+      items = array.now.items ++ literal_items (literal_of literal.now);
     }) }
 {
     if items_in(literal) == 0 {
@@ -125,8 +125,8 @@ fn with_items(
 
 /// The array of a literal that has no more items than an array may have.
 fn row_of(alloc: Global, literal: &Literal) -> Result<Array, AllocError>
-    requires { length (literal_items (constant_of literal.now)) ≤ 1048576 }
-    ensures { IfOk result (λ row. array_of (constant_of literal.now) ≡ Ok row) }
+    requires { length (literal_items (literal_of literal.now)) ≤ 1048576 }
+    ensures { IfOk result (λ row. array_of (literal_of literal.now) ≡ Ok row) }
 {
     match array_of(alloc, literal) {
         Ok(row) => Ok(row),

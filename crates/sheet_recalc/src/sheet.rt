@@ -3,7 +3,7 @@
 ghost use Rattle.std.specs.Prelude.{◌≡◌, [], IfOk, IfErr, OnOk, OnErr, Some, None, Err, is_some, if◌then◌else◌, MatchBool};
 ghost use Rattle.std.specs.Map.{keys_of};
 ghost use Rattle.std.specs.Option.{option_map};
-ghost use Rattle.apl_expr.specs.Trees.{tree_of, constant_of};
+ghost use Rattle.apl_expr.specs.Trees.{tree_of, literal_of};
 ghost use Rattle.dep_order.specs.Reachability.{IsAcyclic};
 ghost use Rattle.arrays_core.specs.declared.item.Kind.TheVariants.{Value};
 ghost use Rattle.formula_core.specs.Outcomes.{fault, read};
@@ -154,8 +154,8 @@ impl Sheet {
 
     /// Replaces one item of data.
     pub fn set_cell(&mut self, name: Name, places: &[i64], literal: &Literal) -> Result<(), Refusal>
-        ensures ok { OnOk result (Accepts self.old.names (SetCell name places.now (constant_of literal.now)) self.new.names) }
-        ensures refused { IfErr result (Refuses self.old.names (SetCell name places.now (constant_of literal.now))) }
+        ensures ok { OnOk result (Accepts self.old.names (SetCell name places.now (literal_of literal.now)) self.new.names) }
+        ensures refused { IfErr result (Refuses self.old.names (SetCell name places.now (literal_of literal.now))) }
         ensures err { OnErr result (self.new ≡ self.old) }
     {
         let array = data_with_cell(&self.entries, name, places, literal)?;
@@ -166,8 +166,8 @@ impl Sheet {
     /// the name is absent, or bound to a formula; the data is of another rank; the literal has not as many items as a row, or
     /// items of the other type; the data would go beyond the limits of arrays.
     pub fn add_row(&mut self, name: Name, literal: &Literal) -> Result<(), Refusal>
-        ensures ok { OnOk result (Accepts self.old.names (AddRow name (constant_of literal.now)) self.new.names) }
-        ensures refused { IfErr result (Refuses self.old.names (AddRow name (constant_of literal.now))) }
+        ensures ok { OnOk result (Accepts self.old.names (AddRow name (literal_of literal.now)) self.new.names) }
+        ensures refused { IfErr result (Refuses self.old.names (AddRow name (literal_of literal.now))) }
         ensures err { OnErr result (self.new ≡ self.old) }
     {
         let array = data_with_row(self.alloc, &self.entries, name, literal)?;

@@ -1,5 +1,5 @@
 use Rattle.std.proofs.Common.{◌≡◌, ◌∙◌, ◌++◌, ℕ, List, length, true, refl, sym, ap, subst, Some, Ok}
-use Rattle.apl_expr.specs.Trees.{constant_of}
+use Rattle.apl_expr.specs.Trees.{literal_of}
 use Rattle.arrays_core.specs.Shapes.{IsWithinLimits}
 use Rattle.sheet_recalc.specs.Cells.{literal_items}
 use Rattle.sheet_recalc.specs.Rows.{row_length, grown, are_of_type}
@@ -9,7 +9,7 @@ use Rattle.sheet_recalc.proofs.row.with_row.Goals as goal
 pub returns : goal.returns
 returns c =
     let a = c.args.array.now in
-    let row = literal_items (constant_of c.args.literal.now) in
+    let row = literal_items (literal_of c.args.literal.now) in
     let has : row_length a.shape ≡ Some c.in-Some.count = cc in
     let long : length row ≡ c.in-Some.count = cc in
     let typed : are_of_type a.item_type row ≡ true = cc in
