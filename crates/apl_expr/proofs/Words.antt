@@ -7,7 +7,7 @@ use Rattle.apl_expr.specs.Trees.{Tree, Literal}
 use Rattle.apl_expr.specs.Grammar.{IsTreeOf}
 use Rattle.apl_expr.specs.Lines.{Meaning, Data, Row, Erase, Names, Csv, data_word, row_word, erase_word, names_word, csv_word, row_change, name_change, word_query, name_query, IsLit}
 use Rattle.apl_expr.proofs.Parsed.{one_tree_of}
-use Rattle.apl_expr.proofs.Places.{literal_read}
+use Rattle.apl_expr.proofs.CellEdits.{literal_read}
 
 -- what comes after a word, and what the line asks for
 pub data After : List ℕ → List Lexeme → Meaning → Type 0 where

@@ -15,7 +15,7 @@ use Rattle.apl_expr.specs.declared.expr.Monadic.TheVariants as monadic
 use Rattle.apl_expr.specs.declared.expr.Dyadic.{Dyadic}
 use Rattle.apl_expr.specs.declared.expr.Dyadic.TheVariants as dyadic
 
--- the number of a scalar function is its place here
+-- the number of a scalar function is how many stand before it here
 abbrev monads : List ScalarMonad
 monads =
     scalar_monad.Conjugate ∷ scalar_monad.Negative ∷ scalar_monad.Direction ∷ scalar_monad.Reciprocal ∷
@@ -99,7 +99,7 @@ dyad_again scalar_dyad.Or = refl
 dyad_again scalar_dyad.Nand = refl
 dyad_again scalar_dyad.Nor = refl
 
--- a function has a number, a number of its scalar function or of its place among those without, and two of its axis or of
+-- a function has a number, a number of its scalar function or its own among those without, and two of its axis or of
 -- its second scalar function
 abbrev Code : Type 0
 Code = ℕ × (ℕ × (ℕ × ℤ))

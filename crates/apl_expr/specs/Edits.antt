@@ -19,7 +19,7 @@ pub data Edit : Type 0 where
   Items : List ℤ → List ℤ → Edit
   Quoted : List ℤ → List ℕ → Edit
 
--- the place and the literal of an edit
+-- the positions and the literal of an edit
 pub data Written : Type 0 where
   Write : List ℤ → Literal → Written
 

@@ -26,7 +26,7 @@ pub enum Command {
     Define(Name, Expr),
     /// `) DATA NAME ← expr`: the name is given the value that the expression has now.
     Data(Name, Expr),
-    /// `NAME [ place ] ← literal`: the item at the place becomes the literal's.
+    /// `NAME [ positions ] ← literal`: the item at the positions becomes the literal's.
     Cell(Name, Vec<i64>, Literal),
     /// `) ROW NAME literal`: the name's array gains the literal's items at its end, as one place more along its first axis.
     Row(Name, Literal),
@@ -195,7 +195,7 @@ fn cell(
     ensures { IsCommand (lexemes tokens.now) result }
 {
     match edited(alloc, rest) {
-        Ok((place, literal)) => Ok(Command::Cell(name, place, literal)),
+        Ok((positions, literal)) => Ok(Command::Cell(name, positions, literal)),
         Err(ParseFault::Syntax) => show(alloc, tokens),
         Err(fault) => Err(fault),
     }

@@ -1,4 +1,4 @@
-//! The edit of a cell: its place and its literal, after `NAME [`; and a literal that stands alone.
+//! The edit of a cell: its positions and its literal, after `NAME [`; and a literal that stands alone.
 
 ghost use Rattle.std.specs.Prelude.{Some, []};
 ghost use Rattle.apl_tokens.specs.Lexemes.{lexeme, lexemes};
@@ -24,11 +24,11 @@ enum Edit {
 fn edit_text(alloc: Global, text: &[char], edit: Edit) -> Result<Edit, ParseFault>
     ensures { EditSteps result (edit_text text.now (edit_of edit)) }
 {
-    let Edit::Items(place, numbers) = edit else {
+    let Edit::Items(positions, numbers) = edit else {
         return Err(ParseFault::Syntax);
     };
     if numbers.is_empty() {
-        Ok(Edit::Quoted(place, text.to_vec(alloc)?))
+        Ok(Edit::Quoted(positions, text.to_vec(alloc)?))
     } else {
         Err(ParseFault::Syntax)
     }
@@ -39,9 +39,9 @@ fn edit_sign(alloc: Global, sign: char, edit: Edit) -> Result<Edit, ParseFault>
     ensures { EditSteps result (edit_sign sign (edit_of edit)) }
 {
     match (edit, sign) {
-        (Edit::Position(place), ';') => Ok(Edit::Open(place)),
-        (Edit::Position(place), ']') => Ok(Edit::Closed(place)),
-        (Edit::Closed(place), '←') => Ok(Edit::Items(place, Vec::new(alloc))),
+        (Edit::Position(positions), ';') => Ok(Edit::Open(positions)),
+        (Edit::Position(positions), ']') => Ok(Edit::Closed(positions)),
+        (Edit::Closed(positions), '←') => Ok(Edit::Items(positions, Vec::new(alloc))),
         _ => Err(ParseFault::Syntax),
     }
 }
@@ -51,13 +51,13 @@ fn edit_step(alloc: Global, token: &Token, edit: Edit) -> Result<Edit, ParseFaul
     ensures { EditSteps result (edit_step (lexeme token.now) (edit_of edit)) }
 {
     match (token, edit) {
-        (Token::Num(n), Edit::Open(mut place)) => {
-            place.push(*n)?;
-            Ok(Edit::Position(place))
+        (Token::Num(n), Edit::Open(mut positions)) => {
+            positions.push(*n)?;
+            Ok(Edit::Position(positions))
         }
-        (Token::Num(n), Edit::Items(place, mut items)) => {
+        (Token::Num(n), Edit::Items(positions, mut items)) => {
             items.push(*n)?;
-            Ok(Edit::Items(place, items))
+            Ok(Edit::Items(positions, items))
         }
         (Token::Text(text), edit) => edit_text(alloc, text, edit),
         (Token::Mark(sign), edit) => edit_sign(alloc, *sign, edit),
@@ -65,23 +65,23 @@ fn edit_step(alloc: Global, token: &Token, edit: Edit) -> Result<Edit, ParseFaul
     }
 }
 
-/// The place and the literal where the tokens end.
+/// The positions and the literal where the tokens end.
 fn edit_end(edit: Edit) -> Result<(Vec<i64>, Literal), ParseFault>
     ensures { EditGives result (edit_end (edit_of edit)) }
 {
     match edit {
-        Edit::Items(place, items) => {
+        Edit::Items(positions, items) => {
             if items.is_empty() {
                 return Err(ParseFault::Syntax);
             }
-            Ok((place, literal(items)))
+            Ok((positions, literal(items)))
         }
-        Edit::Quoted(place, text) => Ok((place, text_literal(text))),
+        Edit::Quoted(positions, text) => Ok((positions, text_literal(text))),
         _ => Err(ParseFault::Syntax),
     }
 }
 
-/// The place and the literal that the tokens are, after what was read before them.
+/// The positions and the literal that the tokens are, after what was read before them.
 fn read_on(
     alloc: Global,
     before: Edit,
@@ -96,7 +96,7 @@ fn read_on(
     edit_end(edit)
 }
 
-/// The place and the literal of the edit that the tokens are.
+/// The positions and the literal of the edit that the tokens are.
 pub(crate) fn edited(alloc: Global, tokens: &[Spanned]) -> Result<(Vec<i64>, Literal), ParseFault>
     ensures { EditGives result (edits (lexemes tokens.now) (Some (Open []))) }
 {

@@ -4,4 +4,4 @@ pub mod Walk
 pub mod Sound
 pub mod Complete
 pub mod Names
-pub mod Places
+pub mod Order

@@ -1,4 +1,4 @@
--- How a place of a line prints.
+-- How a span prints.
 use Rattle.std.specs.Prelude.{ℕ, List, ◌++◌, codes, decimal}
 use Rattle.apl_tokens.specs.declared.token.Span.{Span}
 

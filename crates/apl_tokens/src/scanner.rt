@@ -4,9 +4,9 @@ ghost use Rattle.std.specs.Prelude.{◌≡◌, ◌+◌, ◌<◌, ◌^◌, [], �
 ghost use Rattle.std.specs.Char.{len_utf8};
 ghost use Rattle.std.specs.Str.{chars};
 ghost use Rattle.apl_tokens.specs.Lexemes.{lexeme};
-ghost use Rattle.apl_tokens.specs.Scans.{with_front, placed};
+ghost use Rattle.apl_tokens.specs.Scans.{with_front, spanned};
 ghost use Rattle.apl_tokens.specs.Scanner.{begun, ended, then_begun, turn, scan, Between, Digits, Quoted, Goes};
-ghost use Rattle.apl_tokens.specs.Scanning.{scan_of, all_placed, prepended, Turns, Finds, Gives, AreTokensOf};
+ghost use Rattle.apl_tokens.specs.Scanning.{scan_of, all_spanned, prepended, Turns, Finds, Gives, AreTokensOf};
 
 use crate::characters::{is_blank, is_letter, is_name_part, joins_number, sign_of};
 use crate::fault::TokenFault;
@@ -36,7 +36,7 @@ enum Scan {
 
 /// Puts a token after the others.
 fn put(out: &mut Vec<Spanned>, token: Token, span: Span) -> Result<(), TokenFault>
-    ensures { Finds result out.new.items (Ok (all_placed out.old.items ++ placed (lexeme token) span.start span.end ∷ [])) }
+    ensures { Finds result out.new.items (Ok (all_spanned out.old.items ++ spanned (lexeme token) span.start span.end ∷ [])) }
 {
     out.push(Spanned { token, span })?;
     Ok(())
@@ -54,7 +54,7 @@ fn first_digit(alloc: Global, start: usize, is_negative: bool, c: char) -> Resul
 /// Begins to read at a character that stands at byte `at`.
 fn begun(alloc: Global, at: usize, c: char, out: &mut Vec<Spanned>) -> Result<Scan, TokenFault>
     requires { at + len_utf8 c < 2 ^ 64 }
-    ensures { Turns result out.new.items (prepended (all_placed out.old.items) (begun at c)) }
+    ensures { Turns result out.new.items (prepended (all_spanned out.old.items) (begun at c)) }
 {
     let end = at + c.len_utf8();
     if is_blank(c) {
@@ -83,7 +83,7 @@ fn begun(alloc: Global, at: usize, c: char, out: &mut Vec<Spanned>) -> Result<Sc
 
 /// Ends what is being read, before byte `at`.
 fn ended(at: usize, scan: Scan, out: &mut Vec<Spanned>) -> Result<(), TokenFault>
-    ensures { Finds result out.new.items (with_front (all_placed out.old.items) (ended at (scan_of scan))) }
+    ensures { Finds result out.new.items (with_front (all_spanned out.old.items) (ended at (scan_of scan))) }
 {
     match scan {
         Scan::Between => Ok(()),
@@ -117,7 +117,7 @@ fn then_begun(
     out: &mut Vec<Spanned>,
 ) -> Result<Scan, TokenFault>
     requires { at + len_utf8 c < 2 ^ 64 }
-    ensures { Turns result out.new.items (prepended (all_placed out.old.items) (then_begun (ended at (scan_of scan)) (begun at c))) }
+    ensures { Turns result out.new.items (prepended (all_spanned out.old.items) (then_begun (ended at (scan_of scan)) (begun at c))) }
 {
     ended(at, scan, out)?;
     begun(alloc, at, c, out)
@@ -140,7 +140,7 @@ fn turn(
     out: &mut Vec<Spanned>,
 ) -> Result<Scan, TokenFault>
     requires { at + len_utf8 c < 2 ^ 64 }
-    ensures { Turns result out.new.items (prepended (all_placed out.old.items) (turn at c (scan_of scan))) }
+    ensures { Turns result out.new.items (prepended (all_spanned out.old.items) (turn at c (scan_of scan))) }
 {
     match scan {
         Scan::Between => begun(alloc, at, c, out),
@@ -206,7 +206,7 @@ fn characters(alloc: Global, text: &str) -> Result<Vec<char>, AllocError>
 pub fn tokens(alloc: Global, text: &str) -> Result<Vec<Spanned>, TokenFault>
     ensures { AreTokensOf (chars text.now) result }
 {
-    // The length of a text is below 2^64, so no place in it overflows.
+    // The length of a text is below 2^64, so no byte offset in it overflows.
     let _len = text.len();
     let chars = characters(alloc, text)?;
     scanned(alloc, &chars)

@@ -37,11 +37,11 @@ pub enum Token {
     Mark(char),
 }
 
-/// A token with its place.
+/// A token with its span.
 #[derive(Debug, Drop)]
 pub struct Spanned {
     /// What it says.
     pub token: Token,
-    /// Where it stands.
+    /// The bytes that it takes.
     pub span: Span,
 }

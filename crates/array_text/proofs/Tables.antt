@@ -88,7 +88,7 @@ clean header columns number fields h = by (eqb (length fields) columns) refl h
     at_limits false e = absurd (none-some fault.Limit (sym e))
 
     at_fields : (bad : Option ℕ) (b : Bool) → bad_field_fault number bad (cond b None (Some fault.Limit)) ≡ None → b ≡ true
-    at_fields (Some place) b e = absurd (none-some (fault.Field number place) (sym e))
+    at_fields (Some field) b e = absurd (none-some (fault.Field number field) (sym e))
     at_fields None b e = at_limits b e
 
     by : (b : Bool) → eqb (length fields) columns ≡ b
@@ -136,7 +136,7 @@ fault_here header all columns count numbers fields later f s answers = by f answ
     whole g e = ap (λ (n : ℕ). first_fault header n 1 all) (sym s.first) ∙ sym s.faults ∙ ap (λ (o : Option TableFault). or_else o (first_fault header columns (count + 1 + 1) later)) e
 
     by : (g : TableFault) → AnswersFault (record_fault header columns (count + 1) fields) g → AnswersFault (first_fault header (columns_of all) 1 all) g
-    by (fault.Field row place) e = whole (fault.Field row place) e
+    by (fault.Field row field) e = whole (fault.Field row field) e
     by (fault.Length row) e = whole (fault.Length row) e
     by fault.Limit e = whole fault.Limit e
     by fault.NoMemory e = tt

@@ -55,10 +55,10 @@ number_or_zero (Some z) = z
 abbrev pub numbers_of : Fields → List ℤ
 numbers_of fields = map (λ field. number_or_zero (field_number field)) fields
 
--- the first field that spells no number, where the first of these fields has the number `place`
+-- the number of the first field that spells none, where these fields are numbered from `first` on
 abbrev pub first_bad : ℕ → Fields → Option ℕ
-first_bad place [] = None
-first_bad place (field ∷ fields) = if is_some (field_number field) then first_bad (place + 1) fields else Some place
+first_bad first [] = None
+first_bad first (field ∷ fields) = if is_some (field_number field) then first_bad (first + 1) fields else Some first
 
 -- whether a matrix may have this many rows and columns
 abbrev pub is_matrix_within : (rows columns : ℕ) → Bool
@@ -78,7 +78,7 @@ fields_read header number fields = if is_header header number then [] else field
 
 -- the fault of a record whose first bad field is given, or what is wrong next where it has none
 abbrev pub bad_field_fault : (number : ℕ) → Option ℕ → Option TableFault → Option TableFault
-bad_field_fault number (Some place) next = Some (fault.Field number place)
+bad_field_fault number (Some field) next = Some (fault.Field number field)
 bad_field_fault number None next = next
 
 -- what is wrong with a record: that it has not as many fields as the first; else its first field that spells no number; else

@@ -35,9 +35,9 @@ number_width z = length (number_characters z)
 unfoldable pub right_justified : (width : ℕ) → ℤ → List ℕ
 right_justified width z = replicate (width - number_width z) 32 ++ number_text z
 
--- what stands before the item at a place: what is put between two items, but nothing before the first
-unfoldable pub gap : (between : List ℕ) → (place : ℕ) → List ℕ
-gap between place = if place == 0 then [] else between
+-- what stands before an item, by how many come earlier: what is put between two items, but nothing before the first
+unfoldable pub gap : (between : List ℕ) → (earlier : ℕ) → List ℕ
+gap between earlier = if earlier == 0 then [] else between
 
 -- a scalar or vector of numbers: the numbers with one blank between
 unfoldable pub number_line : List ℤ → List ℕ

@@ -21,9 +21,9 @@ fn blanks_at(bytes: &[u8]) -> usize
     ensures is { result ≡ prefix_len blank_at bytes.now }
     ensures within { result ≤ length bytes.now }
 {
-    for (place, byte) in bytes.iter().enumerate() {
+    for (offset, byte) in bytes.iter().enumerate() {
         if !is_blank(*byte) {
-            return place;
+            return offset;
         }
     }
     bytes.len()
@@ -34,9 +34,9 @@ fn digits_at(bytes: &[u8]) -> usize
     ensures is { result ≡ prefix_len is_ascii_digit bytes.now }
     ensures within { result ≤ length bytes.now }
 {
-    for (place, byte) in bytes.iter().enumerate() {
+    for (offset, byte) in bytes.iter().enumerate() {
         if !byte.is_ascii_digit() {
-            return place;
+            return offset;
         }
     }
     bytes.len()

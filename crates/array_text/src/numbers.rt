@@ -33,8 +33,8 @@ fn width_of(number: i64) -> usize
 fn push_line(out: &mut String, numbers: &[i64]) -> Result<(), AllocError>
     ensures { OnOk result (string_bytes out.new ≡ string_bytes out.old ++ number_line numbers.now) }
 {
-    for (place, number) in numbers.iter().enumerate() {
-        push_blank_between(out, place)?;
+    for (earlier, number) in numbers.iter().enumerate() {
+        push_blank_between(out, earlier)?;
         push_number(out, *number)?;
     }
     out.push('\n')

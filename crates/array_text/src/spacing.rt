@@ -5,23 +5,23 @@ ghost use Rattle.array_text.specs.Text.{blank, line_end, gap};
 
 use std::alloc::AllocError;
 
-/// Adds the blank before each number of a line but the first.
+/// Adds the blank before each number of a line but the first, by how many come earlier.
 #[tactic(auto, unfolding(crate::specs::Text::gap))]
-pub(crate) fn push_blank_between(out: &mut String, place: usize) -> Result<(), AllocError>
-    ensures { OnOk result (string_bytes out.new ≡ string_bytes out.old ++ gap blank place) }
+pub(crate) fn push_blank_between(out: &mut String, earlier: usize) -> Result<(), AllocError>
+    ensures { OnOk result (string_bytes out.new ≡ string_bytes out.old ++ gap blank earlier) }
 {
-    if place == 0 {
+    if earlier == 0 {
         return Ok(());
     }
     out.push(' ')
 }
 
-/// Adds the empty line before each plane but the first.
+/// Adds the empty line before each plane but the first, by how many come earlier.
 #[tactic(auto, unfolding(crate::specs::Text::gap))]
-pub(crate) fn push_line_between(out: &mut String, place: usize) -> Result<(), AllocError>
-    ensures { OnOk result (string_bytes out.new ≡ string_bytes out.old ++ gap line_end place) }
+pub(crate) fn push_line_between(out: &mut String, earlier: usize) -> Result<(), AllocError>
+    ensures { OnOk result (string_bytes out.new ≡ string_bytes out.old ++ gap line_end earlier) }
 {
-    if place == 0 {
+    if earlier == 0 {
         return Ok(());
     }
     out.push('\n')

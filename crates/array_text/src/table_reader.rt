@@ -56,14 +56,14 @@ fn push_fields(row: &ByteRecord, number: u64, numbers: &mut Vec<i64>) -> Result<
     ensures { IsReadOf (bad_field_fault number (first_bad 1 (fields_of row.now)) None)
         (λ _. numbers.new.items ≡ numbers.old.items ++ numbers_of (fields_of row.now)) result }
 {
-    for place in 0..row.len() {
-        let Some(field) = row.get(place) else {
+    for column in 0..row.len() {
+        let Some(field) = row.get(column) else {
             unreachable!();
         };
         let Some(value) = field_number(field) else {
             return Err(TableFault::Field {
                 row: number,
-                field: place as u64 + 1,
+                field: column as u64 + 1,
             });
         };
         numbers.push(value)?;

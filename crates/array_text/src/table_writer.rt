@@ -11,12 +11,12 @@ use arrays_core::Array;
 use itoa::Buffer;
 use std::alloc::{AllocError, Global};
 
-/// Adds the comma before each field of a record but the first.
+/// Adds the comma before each field of a record but the first, by how many come earlier.
 #[tactic(auto, unfolding(crate::specs::Text::gap))]
-fn push_comma_between(out: &mut String, place: usize) -> Result<(), AllocError>
-    ensures { OnOk result (string_bytes out.new ≡ string_bytes out.old ++ gap comma place) }
+fn push_comma_between(out: &mut String, earlier: usize) -> Result<(), AllocError>
+    ensures { OnOk result (string_bytes out.new ≡ string_bytes out.old ++ gap comma earlier) }
 {
-    if place == 0 {
+    if earlier == 0 {
         return Ok(());
     }
     out.push(',')
@@ -34,8 +34,8 @@ fn push_field(out: &mut String, number: i64) -> Result<(), AllocError>
 fn push_record(out: &mut String, numbers: &[i64]) -> Result<(), AllocError>
     ensures { OnOk result (string_bytes out.new ≡ string_bytes out.old ++ record_text numbers.now) }
 {
-    for (place, number) in numbers.iter().enumerate() {
-        push_comma_between(out, place)?;
+    for (column, number) in numbers.iter().enumerate() {
+        push_comma_between(out, column)?;
         push_field(out, *number)?;
     }
     out.push('\n')

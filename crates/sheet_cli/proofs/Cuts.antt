@@ -258,7 +258,7 @@ kept_line kept input lines k n = line_after-is lines (ended_lines input) kept n 
 pub ended_lines-step : (bytes : List ℕ) (i : ℕ) → i < length bytes → eqb (get_or bytes i 0) 10 ≡ false → ended_lines (take i bytes) ≡ [] → ended_lines (take (i + 1) bytes) ≡ []
 ended_lines-step bytes i h n e = rw (take_more bytes i 0 h) (ended_lines-push (take i bytes) (get_or bytes i 0) n ∙ e)
 
--- the place of an LF, and what stands up to it and with it
+-- how many bytes stand before an LF, and what stands up to it and with it
 pub take-lf : (bytes : List ℕ) (i : ℕ) → i < length bytes → get_or bytes i 0 ≡ 10 → take (i + 1) bytes ≡ take i bytes ++ 10 ∷ []
 take-lf bytes i h e = take_more bytes i 0 h ∙ rw e refl
 

@@ -1,7 +1,7 @@
 -- What is printed for what a line asks for.
 use Rattle.std.proofs.Common.{◌≡◌, ℕ, List, codes, Result, Ok, Err, IfErr, OnOk, OnErr}
 use Rattle.std.proofs.lemmas.List.{length-map}
-use Rattle.apl_tokens.specs.Scans.{Placed}
+use Rattle.apl_tokens.specs.Scans.{SpannedLexeme}
 use Rattle.apl_expr.specs.declared.command.Command.{Command}
 use Rattle.apl_expr.specs.declared.fault.LineFault.TheVariants.{Syntax, Limit}
 use Rattle.apl_expr.specs.Lines.{meaning}
@@ -23,4 +23,4 @@ pub answered_too_large : (old : State) (cs answer : List ℕ) → IsAnswered cs 
 answered_too_large old cs answer h e = rw e (too_large h)
 
 pub answered_carried_out : (old new : State) (cs answer : List ℕ) (c : Command) → IsAnswered cs (Ok c) → IsCarriedOut old (meaning c) answer new → IsTextAnswer old cs answer new
-answered_carried_out old new cs answer c h d = carried_out (meaning c) (h.0, h.1, rw (← length-map h.0 (λ (t : Placed). t.lexeme)) h.2.0, h.2.1, h.2.2) d
+answered_carried_out old new cs answer c h d = carried_out (meaning c) (h.0, h.1, rw (← length-map h.0 (λ (t : SpannedLexeme). t.lexeme)) h.2.0, h.2.1, h.2.2) d

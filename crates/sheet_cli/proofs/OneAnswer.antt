@@ -1,7 +1,7 @@
 -- A line has one answer, and leads to one state.
 use Rattle.std.proofs.Common.{◌≡◌, ℕ, ◌<◌, ◌≤◌, ◌⊎◌, inl, inr, List, length, Ok, Err, refl, sym, ap, subst, ◌∙◌, arith}
 use Rattle.std.proofs.lemmas.List.{length-map}
-use Rattle.apl_tokens.specs.Scans.{Scans, Placed, Fault, SyntaxAt, LimitAt}
+use Rattle.apl_tokens.specs.Scans.{Scans, SpannedLexeme, Fault, SyntaxAt, LimitAt}
 use Rattle.apl_tokens.proofs.Complete.{one_answer_of}
 use Rattle.apl_expr.specs.declared.fault.LineFault.TheVariants.{Syntax, Limit}
 use Rattle.apl_expr.specs.Grammar.{IsTooLarge}
@@ -14,21 +14,21 @@ use Rattle.sheet_cli.specs.Answers.{EachLineHasOneAnswer}
 use Rattle.sheet_cli.proofs.OneEdit.{edit_one}
 
 module _ (cs : List ℕ) where
-  tokens_one : (ts us : List Placed) → Scans 0 cs (Ok ts) → Scans 0 cs (Ok us) → us ≡ ts
+  tokens_one : (ts us : List SpannedLexeme) → Scans 0 cs (Ok ts) → Scans 0 cs (Ok us) → us ≡ ts
   tokens_one ts us a b = let e : Ok us ≡ Ok ts = one_answer_of 0 cs (Ok us) (Ok ts) b a in cc
 
-  tokens_or_fault : (ts : List Placed) (f : Fault) → Scans 0 cs (Ok ts) → Scans 0 cs (Err f) → ⊥
+  tokens_or_fault : (ts : List SpannedLexeme) (f : Fault) → Scans 0 cs (Ok ts) → Scans 0 cs (Err f) → ⊥
   tokens_or_fault ts f a b = let e : Ok ts ≡ Err f = one_answer_of 0 cs (Ok ts) (Err f) a b in absurd cc
 
   syntax_or_limit : (m n m' n' : ℕ) → Scans 0 cs (Err (SyntaxAt m n)) → Scans 0 cs (Err (LimitAt m' n')) → ⊥
   syntax_or_limit m n m' n' a b = let e : Err (SyntaxAt m n) ≡ Err (LimitAt m' n') = one_answer_of 0 cs (Err (SyntaxAt m n)) (Err (LimitAt m' n')) a b in absurd cc
 
   -- a line of the grammar, in tokens that are the same
-  line_in : (ts us : List Placed) (m : Meaning) → Scans 0 cs (Ok ts) → Scans 0 cs (Ok us) → IsLine (lexemes_of us) m → IsLine (lexemes_of ts) m
-  line_in ts us m a b l = subst (λ (xs : List Placed). IsLine (lexemes_of xs) m) (tokens_one ts us a b) l
+  line_in : (ts us : List SpannedLexeme) (m : Meaning) → Scans 0 cs (Ok ts) → Scans 0 cs (Ok us) → IsLine (lexemes_of us) m → IsLine (lexemes_of ts) m
+  line_in ts us m a b l = subst (λ (xs : List SpannedLexeme). IsLine (lexemes_of xs) m) (tokens_one ts us a b) l
 
-  short_in : (ts us : List Placed) → Scans 0 cs (Ok ts) → Scans 0 cs (Ok us) → length (lexemes_of us) ≤ 4096 → 4096 < length (lexemes_of ts) → ⊥
-  short_in ts us a b short long = let e : length (lexemes_of us) ≡ length (lexemes_of ts) = ap (λ (xs : List Placed). length (lexemes_of xs)) (tokens_one ts us a b) in omega (arith, e, short, long)
+  short_in : (ts us : List SpannedLexeme) → Scans 0 cs (Ok ts) → Scans 0 cs (Ok us) → length (lexemes_of us) ≤ 4096 → 4096 < length (lexemes_of ts) → ⊥
+  short_in ts us a b short long = let e : length (lexemes_of us) ≡ length (lexemes_of ts) = ap (λ (xs : List SpannedLexeme). length (lexemes_of xs)) (tokens_one ts us a b) in omega (arith, e, short, long)
 
   no_line_or_too_large : IsAnswered cs (Err Syntax) → IsAnswered cs (Err Limit) → ⊥
   no_line_or_too_large (inl a) (inl b) = syntax_or_limit a.0 a.1 b.0 b.1 a.2 b.2
@@ -49,7 +49,7 @@ module _ (cs : List ℕ) where
   too_large_or_read m (inr a) b = by a.2
     where
       by : (4096 < length (lexemes_of a.0)) ⊎ ((k : Meaning) × IsLine (lexemes_of a.0) k × HasTree IsTooLarge k) → ⊥
-      by (inl long) = short_in a.0 b.0 a.1 b.1 (rw (length-map b.0 (λ (t : Placed). t.lexeme)) b.2) long
+      by (inl long) = short_in a.0 b.0 a.1 b.1 (rw (length-map b.0 (λ (t : SpannedLexeme). t.lexeme)) b.2) long
       by (inr l) = b.4 (subst (λ (k : Meaning). HasTree IsTooLarge k) (one_meaning_of l.1 m (line_in a.0 b.0 m a.1 b.1 b.3)) l.2)
 
   read_one : (m n : Meaning) → IsReadAs cs m → IsReadAs cs n → n ≡ m
@@ -59,7 +59,7 @@ carried_out_one : (old : State) (m : Meaning) (text₁ text₂ : List ℕ) (new�
 carried_out_one old Nothing text₁ text₂ new₁ new₂ a b = (a.0 ∙ sym b.0, a.1 ∙ sym b.1)
 carried_out_one old (Define n t) text₁ text₂ new₁ new₂ a b = edit_one old (change.Define n t) text₁ text₂ new₁ new₂ a b
 carried_out_one old (Data n t) text₁ text₂ new₁ new₂ a b = edit_one old (change.Store n t) text₁ text₂ new₁ new₂ a b
-carried_out_one old (Cell n places literal) text₁ text₂ new₁ new₂ a b = edit_one old (change.SetCell n places literal) text₁ text₂ new₁ new₂ a b
+carried_out_one old (Cell n positions literal) text₁ text₂ new₁ new₂ a b = edit_one old (change.SetCell n positions literal) text₁ text₂ new₁ new₂ a b
 carried_out_one old (Row n literal) text₁ text₂ new₁ new₂ a b = edit_one old (change.AddRow n literal) text₁ text₂ new₁ new₂ a b
 carried_out_one old (Erase n) text₁ text₂ new₁ new₂ a b = edit_one old (change.Erase n) text₁ text₂ new₁ new₂ a b
 carried_out_one old (Show t) text₁ text₂ new₁ new₂ a b = (a.0 ∙ sym b.0, a.1 ∙ sym b.1)

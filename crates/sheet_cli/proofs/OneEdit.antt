@@ -104,18 +104,18 @@ put_cause names n a why.Domain h other = absurd h
 put_cause names n a why.Limit h other = absurd h
 put_cause names n a (why.Fault e) h other = absurd h
 
-cell_cause : (names : Names) (n : List ℕ) (places : List ℤ) (literal : Literal) (cause : Refusal) → Refuses names (SetCell n places literal) cause → cause ≢ why.NoMemory → cell_put (binding names n) places literal ≡ Err cause
-cell_cause names n places literal why.NoMemory h other = absurd (other refl)
-cell_cause names n places literal (why.Cycle c) h other = h
-cell_cause names n places literal why.NotFound h other = h
-cell_cause names n places literal why.NotData h other = h
-cell_cause names n places literal why.Rank h other = h
-cell_cause names n places literal why.Length h other = h
-cell_cause names n places literal why.Index h other = h
-cell_cause names n places literal why.Domain h other = h
-cell_cause names n places literal why.Limit h other = h
-cell_cause names n places literal why.SheetFull h other = h
-cell_cause names n places literal (why.Fault e) h other = h
+cell_cause : (names : Names) (n : List ℕ) (positions : List ℤ) (literal : Literal) (cause : Refusal) → Refuses names (SetCell n positions literal) cause → cause ≢ why.NoMemory → cell_put (binding names n) positions literal ≡ Err cause
+cell_cause names n positions literal why.NoMemory h other = absurd (other refl)
+cell_cause names n positions literal (why.Cycle c) h other = h
+cell_cause names n positions literal why.NotFound h other = h
+cell_cause names n positions literal why.NotData h other = h
+cell_cause names n positions literal why.Rank h other = h
+cell_cause names n positions literal why.Length h other = h
+cell_cause names n positions literal why.Index h other = h
+cell_cause names n positions literal why.Domain h other = h
+cell_cause names n positions literal why.Limit h other = h
+cell_cause names n positions literal why.SheetFull h other = h
+cell_cause names n positions literal (why.Fault e) h other = h
 
 row_cause : (names : Names) (n : List ℕ) (literal : Literal) (cause : Refusal) → Refuses names (AddRow n literal) cause → cause ≢ why.NoMemory → row_put (binding names n) literal ≡ Err cause
 row_cause names n literal why.NoMemory h other = absurd (other refl)
@@ -149,7 +149,7 @@ accepts_one : (names : Names) (edit : Change) (new₁ new₂ : Names) → Accept
 accepts_one names (Define n t) new₁ new₂ a b = a.0 ∙ sym b.0
 accepts_one names (Store n t) new₁ new₂ a b = a.2 ∙ ap (λ (x : ArrayValue). put names n (Data x)) (one_ok a.1 b.1) ∙ sym b.2
 accepts_one names (Put n x) new₁ new₂ a b = a.0 ∙ sym b.0
-accepts_one names (SetCell n places literal) new₁ new₂ a b = a.2 ∙ ap (λ (x : ArrayValue). put names n (Data x)) (one_ok a.1 b.1) ∙ sym b.2
+accepts_one names (SetCell n positions literal) new₁ new₂ a b = a.2 ∙ ap (λ (x : ArrayValue). put names n (Data x)) (one_ok a.1 b.1) ∙ sym b.2
 accepts_one names (AddRow n literal) new₁ new₂ a b = a.2 ∙ ap (λ (x : ArrayValue). put names n (Data x)) (one_ok a.1 b.1) ∙ sym b.2
 accepts_one names (Erase n) new₁ new₂ a b = a.1 ∙ sym b.1
 
@@ -166,7 +166,7 @@ accepted_refused names (Store n t) new cause a r other = by (store_cause names n
     by (inl c) = ok_or_err a.1 c.1
     by (inr c) = full_with_room names n a.3 c.2
 accepted_refused names (Put n x) new cause a r other = full_with_room names n a.1 (put_cause names n x cause r other).0
-accepted_refused names (SetCell n places literal) new cause a r other = ok_or_err a.1 (cell_cause names n places literal cause r other)
+accepted_refused names (SetCell n positions literal) new cause a r other = ok_or_err a.1 (cell_cause names n positions literal cause r other)
 accepted_refused names (AddRow n literal) new cause a r other = ok_or_err a.1 (row_cause names n literal cause r other)
 accepted_refused names (Erase n) new cause a r other = false≢true (sym (ap is_some (erase_cause names n cause r other).0) ∙ a.0)
 
@@ -175,8 +175,8 @@ refusals_one : (names : Names) (edit : Change) (cause₁ cause₂ : Refusal) →
 refusals_one names (Define n t) cause₁ cause₂ r₁ o₁ r₂ o₂ = define_one names n t _ _ (define_cause names n t cause₁ r₁ o₁) (define_cause names n t cause₂ r₂ o₂)
 refusals_one names (Store n t) cause₁ cause₂ r₁ o₁ r₂ o₂ = store_one names n t _ _ (store_cause names n t cause₁ r₁ o₁) (store_cause names n t cause₂ r₂ o₂)
 refusals_one names (Put n x) cause₁ cause₂ r₁ o₁ r₂ o₂ = (put_cause names n x cause₁ r₁ o₁).1 ∙ sym (put_cause names n x cause₂ r₂ o₂).1
-refusals_one names (SetCell n places literal) cause₁ cause₂ r₁ o₁ r₂ o₂ =
-    ap refusal_text (one_err (cell_cause names n places literal cause₁ r₁ o₁) (cell_cause names n places literal cause₂ r₂ o₂))
+refusals_one names (SetCell n positions literal) cause₁ cause₂ r₁ o₁ r₂ o₂ =
+    ap refusal_text (one_err (cell_cause names n positions literal cause₁ r₁ o₁) (cell_cause names n positions literal cause₂ r₂ o₂))
 refusals_one names (AddRow n literal) cause₁ cause₂ r₁ o₁ r₂ o₂ = ap refusal_text (one_err (row_cause names n literal cause₁ r₁ o₁) (row_cause names n literal cause₂ r₂ o₂))
 refusals_one names (Erase n) cause₁ cause₂ r₁ o₁ r₂ o₂ = (erase_cause names n cause₁ r₁ o₁).1 ∙ sym (erase_cause names n cause₂ r₂ o₂).1
 

@@ -41,7 +41,7 @@ refusal_text why.SheetFull = codes "SHEET FULL\n"
 refusal_text why.NoMemory = codes "NO MEMORY\n"
 refusal_text (why.Fault f) = fault_text f
 
--- what a shown value prints, or the error in its place
+-- what a shown value prints, or its error
 abbrev pub shown_text : Result ArrayValue Fault → List ℕ
 shown_text (Ok a) = array_text a
 shown_text (Err f) = fault_text f

@@ -51,8 +51,8 @@ fn carry_out(alloc: Global, sheet: &mut Sheet, command: Command) -> Result<Strin
         Command::Nothing => Ok(String::new(alloc)),
         Command::Define(name, expr) => edit_text(alloc, sheet.define(name, expr)),
         Command::Data(name, expr) => edit_text(alloc, sheet.data(name, expr)),
-        Command::Cell(name, place, literal) => {
-            edit_text(alloc, sheet.set_cell(name, &place, &literal))
+        Command::Cell(name, positions, literal) => {
+            edit_text(alloc, sheet.set_cell(name, &positions, &literal))
         }
         Command::Row(name, literal) => edit_text(alloc, sheet.add_row(name, &literal)),
         Command::Erase(name) => edit_text(alloc, sheet.erase(name)),

@@ -19,7 +19,7 @@ use std::alloc::{AllocError, Global};
 /// The most axes of a table.
 const MOST_AXES: usize = 2;
 
-/// The text of an expression's value, or of the error in its place.
+/// The text of an expression's value, or of its error.
 pub(crate) fn show(alloc: Global, sheet: &Sheet, expr: &Expr) -> Result<String, AllocError>
     ensures { IfOk result (λ text. string_bytes text ≡ shown_text (eval (tree_of expr.now) (val sheet.now.names))) }
 {

@@ -117,7 +117,7 @@ fn line_of(pending: &Pending, lines: u64) -> &[u8]
     }
 }
 
-/// The place of the first LF.
+/// How many bytes stand before the first LF.
 fn find_line_feed(bytes: &[u8]) -> Option<usize>
     ensures { MatchOption result (ended_lines bytes.now ≡ [])
         (λ i. (i < length bytes.now) × (ended_lines (take i bytes.now) ≡ []) × (slice_index bytes.now i ≡ 10)) }

@@ -30,8 +30,8 @@ stands_before Needs Done (z ∷ zs) x y follows c needs none = by (bytes_eq y z)
         let less = rest there needs (λ d. ⊎_elim none (λ e. false≢true (sym at ∙ equal-same x z e)) d) in
         rw (is, at) (omega (arith, less))
 
-pub place_within : (found : List (List ℕ)) (x : List ℕ) → position_or_len (bytes_eq x) found ≤ length found
-place_within found x = prefix_len-le-length (λ y. not (bytes_eq x y)) found
+pub number_within : (found : List (List ℕ)) (x : List ℕ) → position_or_len (bytes_eq x) found ≤ length found
+number_within found x = prefix_len-le-length (λ y. not (bytes_eq x y)) found
 
 -- from each that is found and is not the name, one of its references leads on to the name, and stands further behind
 module _ (names : Names) (name : List ℕ) (found : List (List ℕ)) (reaching : IsReaching names name found) where

@@ -236,23 +236,23 @@ module _ (old new : Names) (name : List ℕ) (same : (q : List ℕ) → q ≢ na
     absent_same : (x : List ℕ) → x ≢ name → binding new x ≡ None → val new x ≡ val old x
     absent_same x apart none = val_absent new (length new) x none ∙ sym (val_absent old (length old) x (sym (same x apart) ∙ none))
 
-    abbrev at_place : ℕ → List ℕ
-    at_place i = slice_index_or order i []
+    abbrev name_at : ℕ → List ℕ
+    name_at i = slice_index_or order i []
 
-    unaffected_at : (n i : ℕ) → i < n → i < length order → (Contains found (at_place i) → ⊥) → val new (at_place i) ≡ val old (at_place i)
+    unaffected_at : (n i : ℕ) → i < n → i < length order → (Contains found (name_at i) → ⊥) → val new (name_at i) ≡ val old (name_at i)
     unaffected_at zero i p h none = absurd (omega arith)
     unaffected_at (suc n) i p h none =
-        val_is new order o (at_place i)
-        ∙ (shown_same (at_place i) (binding new (at_place i)) (val new) (val old)
+        val_is new order o (name_at i)
+        ∙ (shown_same (name_at i) (binding new (name_at i)) (val new) (val old)
         (λ t x is stands.
-        let r : Refers new (at_place i) x = (t, is, stands) in
-        let x_none = refers_apart (at_place i) x none r in
+        let r : Refers new (name_at i) x = (t, is, stands) in
+        let x_none = refers_apart (name_at i) x none r in
         cases_binding new (val new x ≡ val old x) x (absent_same x (apart_from x x_none))
         (λ present.
         let k = front [] order i x h (o.after i x h r present) in
         subst (λ y. val new y ≡ val old y) k.2
         (unaffected_at n k.0 (omega (arith, k.1)) (omega (arith, k.1)) (subst (λ y. Contains found y → ⊥) (sym k.2) x_none))))
-        ∙ (ap (λ b. shown (at_place i) b (val old)) (same (at_place i) (apart_from (at_place i) none)) ∙ sym (step (at_place i))))
+        ∙ (ap (λ b. shown (name_at i) b (val old)) (same (name_at i) (apart_from (name_at i) none)) ∙ sym (step (name_at i))))
 
     pub unaffected : (q : List ℕ) → (Contains found q → ⊥) → val new q ≡ val old q
     unaffected q none = cases_binding new (val new q ≡ val old q) q (absent_same q (apart_from q none))

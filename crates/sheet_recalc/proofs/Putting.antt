@@ -28,7 +28,7 @@ module _ {X : Type 0} (name : List ℕ) (v : X) where
           rw (is, other, at) refl
       by false false is at rest = rw (is, at) rest
 
-  -- a name that is present keeps its place
+  -- a name that is present stays where it is
   pub keys_put : (es : List (List ℕ × X)) → IsSome (lookup (bytes_eq name) es) → keys_of (with_name es) ≡ keys_of es
   keys_put [] h = absurd (false≢true h)
   keys_put (e ∷ es) h = by (bytes_eq name e.0) refl (keys_put es) h

@@ -75,14 +75,14 @@ only_memory names name a present why.Limit h = absurd h
 only_memory names name a present (why.Fault e) h = absurd h
 
 -- a cell was edited, so its name is present
-pub cell_present : (b : Option Binding) (places : List ℤ) (literal : Literal) (a : ArrayValue) → cell_put b places literal ≡ Ok a → IsSome b
-cell_present None places literal a h = let never : Err why.NotFound ≡ Ok a = h in absurd cc
-cell_present (Some b) places literal a h = refl
+pub cell_present : (b : Option Binding) (positions : List ℤ) (literal : Literal) (a : ArrayValue) → cell_put b positions literal ≡ Ok a → IsSome b
+cell_present None positions literal a h = let never : Err why.NotFound ≡ Ok a = h in absurd cc
+cell_present (Some b) positions literal a h = refl
 
-pub refused_cell : (names : Names) (name : List ℕ) (places : List ℤ) (literal : Literal) (a : ArrayValue) → cell_put (binding names name) places literal ≡ Ok a
-    → (cause : Refusal) → Refuses names (Put name a) cause → Refuses names (SetCell name places literal) cause
-refused_cell names name places literal a is cause h =
-    subst (λ (y : Refusal). Refuses names (SetCell name places literal) y) (sym (only_memory names name a (cell_present (binding names name) places literal a is) cause h)) tt
+pub refused_cell : (names : Names) (name : List ℕ) (positions : List ℤ) (literal : Literal) (a : ArrayValue) → cell_put (binding names name) positions literal ≡ Ok a
+    → (cause : Refusal) → Refuses names (Put name a) cause → Refuses names (SetCell name positions literal) cause
+refused_cell names name positions literal a is cause h =
+    subst (λ (y : Refusal). Refuses names (SetCell name positions literal) y) (sym (only_memory names name a (cell_present (binding names name) positions literal a is) cause h)) tt
 
 -- a row was added to data, so its name is present
 pub row_present : (b : Option Binding) (literal : Literal) (a : ArrayValue) → row_put b literal ≡ Ok a → IsSome b

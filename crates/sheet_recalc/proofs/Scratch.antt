@@ -57,23 +57,23 @@ module _ (names : Names) where
       by (Some b) e = present (subst (λ o. IsSome o) (sym e) refl)
 
   module _ (order : List (List ℕ)) (o : IsNameOrder names order) where
-    abbrev at_place : ℕ → List ℕ
-    at_place i = slice_index_or order i []
+    abbrev name_at : ℕ → List ℕ
+    name_at i = slice_index_or order i []
 
-    -- past its place in the order, the depth does not matter
-    pub stable : (d e i : ℕ) → i < length order → i < d → i < e → val_at d names (at_place i) ≡ val_at e names (at_place i)
+    -- past its number in the order, the depth does not matter
+    pub stable : (d e i : ℕ) → i < length order → i < d → i < e → val_at d names (name_at i) ≡ val_at e names (name_at i)
     stable zero e i h p q = absurd (omega arith)
     stable (suc d) zero i h p q = absurd (omega arith)
     stable (suc d) (suc e) i h p q =
-        shown_same (at_place i) (binding names (at_place i)) (val_at d names) (val_at e names)
+        shown_same (name_at i) (binding names (name_at i)) (val_at d names) (val_at e names)
         (λ t x is stands. cases_binding (val_at d names x ≡ val_at e names x) x
         (λ none. val_absent d x none ∙ sym (val_absent e x none))
         (λ present.
         let k = front [] order i x h (o.after i x h (t, is, stands) present) in
         subst (λ y. val_at d names y ≡ val_at e names y) k.2 (stable d e k.0 (omega (arith, k.1)) (omega (arith, k.1)) (omega (arith, k.1)))))
 
-    place_in : (name : List ℕ) → IsSome (binding names name) → (i : ℕ) × (i < length order) × (at_place i ≡ name)
-    place_in name present =
+    number_in : (name : List ℕ) → IsSome (binding names name) → (i : ℕ) × (i < length order) × (name_at i ≡ name)
+    number_in name present =
         let at = o.all name present in
         (at.0, at.1, get_or_default order at.0 [] name at.1 ∙ at.2)
 
@@ -82,7 +82,7 @@ module _ (names : Names) where
     val_is name = cases_binding (val names name ≡ shown name (binding names name) (val names)) name
         (λ none. val_absent (length names) name none ∙ sym (ap (λ b. shown name b (val names)) none))
         (λ present.
-        let at = place_in name present in
+        let at = number_in name present in
         subst (λ y. val_at (length names) names y ≡ val_at (suc (length names)) names y) at.2
         (stable (length names) (suc (length names)) at.0 at.1 (omega (arith, at.1, o.short)) (omega (arith, at.1, o.short))))
 
@@ -91,14 +91,14 @@ module _ (names : Names) where
     present_of a (x ∷ xs) b r = subst (λ s. IsSome s) (sym r.0.1) refl
 
     -- a chain leads back in the order
-    down : (via : List (List ℕ)) (i : ℕ) (b : List ℕ) → i < length order → Chain (Refers names) (at_place i) via b → IsSome (binding names b) → (k : ℕ) × (k < i) × (at_place k ≡ b)
+    down : (via : List (List ℕ)) (i : ℕ) (b : List ℕ) → i < length order → Chain (Refers names) (name_at i) via b → IsSome (binding names b) → (k : ℕ) × (k < i) × (name_at k ≡ b)
     down [] i b h r present = front [] order i b h (o.after i b h r present)
     down (x ∷ xs) i b h r present =
         let k = front [] order i x h (o.after i x h r.0 (present_of x xs b r.1)) in
         let m = down xs k.0 b (omega (arith, k.1)) (subst (λ y. Chain (Refers names) y xs b) (sym k.2) r.1) present in
         (m.0, omega (arith, m.1, k.1), m.2)
 
-    never : (a : List ℕ) (via : List (List ℕ)) → Chain (Refers names) a via a → (n i : ℕ) → i < n → i < length order → at_place i ≡ a → ⊥
+    never : (a : List ℕ) (via : List (List ℕ)) → Chain (Refers names) a via a → (n i : ℕ) → i < n → i < length order → name_at i ≡ a → ⊥
     never a via r zero i p h e = absurd (omega arith)
     never a via r (suc n) i p h e =
         let k = down via i a h (subst (λ y. Chain (Refers names) y via a) (sym e) r) (present_of a via a r) in
@@ -106,5 +106,5 @@ module _ (names : Names) where
 
     pub acyclic_from_order : IsAcyclic (Refers names)
     acyclic_from_order a r =
-        let at = place_in a (present_of a r.0 a r.1) in
+        let at = number_in a (present_of a r.0 a r.1) in
         never a r.0 r.1 (suc at.0) at.0 (omega arith) at.1 at.2

@@ -19,7 +19,7 @@ index_of_number (negsuc n) = 0
 
 -- numbers as an index list
 abbrev pub index_of_numbers : List ℤ → List ℕ
-index_of_numbers places = map index_of_number places
+index_of_numbers positions = map index_of_number positions
 
 -- an index lies on an axis of this length
 abbrev pub is_on_axis : ℕ → ℕ → Bool
@@ -41,7 +41,7 @@ is_same_type Chars Nums = false
 abbrev pub with_item : ArrayValue → List ℕ → Item → ArrayValue
 with_item a index item = record a { items = set a.items (places_before a.shape index) item }
 
--- a literal of one item of the array's type takes the place of the item there
+-- a literal of one item of the array's type replaces the item there
 abbrev pub item_put : ArrayValue → List ℕ → List Item → Result ArrayValue Refusal
 item_put a index [] = Err Length
 item_put a index (item ∷ []) = if is_same_type (type_of item) a.item_type then Ok (with_item a index item) else Err Domain
@@ -49,11 +49,11 @@ item_put a index (item ∷ other ∷ items) = Err Length
 
 -- the data with the literal in one cell, or why not: the positions are as many as the axes, then each lies on its axis
 abbrev pub cell_put : Option Binding → List ℤ → Literal → Result ArrayValue Refusal
-cell_put None places literal = Err NotFound
-cell_put (Some (Formula t)) places literal = Err NotData
-cell_put (Some (Data a)) places literal =
-    if length places == length a.shape
-    then (if is_index_of a.shape (index_of_numbers places) then item_put a (index_of_numbers places) (literal_items literal) else Err Index)
+cell_put None positions literal = Err NotFound
+cell_put (Some (Formula t)) positions literal = Err NotData
+cell_put (Some (Data a)) positions literal =
+    if length positions == length a.shape
+    then (if is_index_of a.shape (index_of_numbers positions) then item_put a (index_of_numbers positions) (literal_items literal) else Err Index)
     else Err Rank
 
 -- a call answers what was asked for, or want of memory

@@ -35,7 +35,7 @@ abbrev pub Accepts : Names → Change → Names → Type 0
 Accepts old (Define n t) new = (new ≡ put old n (Formula t)) × IsAcyclic (Refers new) × HasRoom old n
 Accepts old (Store n t) new = (a : ArrayValue) × (eval t (val old) ≡ Ok a) × (new ≡ put old n (Data a)) × HasRoom old n
 Accepts old (Put n a) new = (new ≡ put old n (Data a)) × HasRoom old n
-Accepts old (SetCell n places literal) new = (a : ArrayValue) × (cell_put (binding old n) places literal ≡ Ok a) × (new ≡ put old n (Data a))
+Accepts old (SetCell n positions literal) new = (a : ArrayValue) × (cell_put (binding old n) positions literal ≡ Ok a) × (new ≡ put old n (Data a))
 Accepts old (AddRow n literal) new = (a : ArrayValue) × (row_put (binding old n) literal ≡ Ok a) × (new ≡ put old n (Data a))
 Accepts old (Erase n) new = IsSome (binding old n) × (new ≡ without old n)
 
@@ -58,7 +58,7 @@ CannotPut old name b cause = ⊥
 -- the change is refused for this cause, or for want of memory, which may come at any time
 abbrev pub Refuses : Names → Change → Refusal → Type 0
 Refuses old change why.NoMemory = Unit {0}
-Refuses old (SetCell n places literal) cause = cell_put (binding old n) places literal ≡ Err cause
+Refuses old (SetCell n positions literal) cause = cell_put (binding old n) positions literal ≡ Err cause
 Refuses old (AddRow n literal) cause = row_put (binding old n) literal ≡ Err cause
 Refuses old (Define n t) cause = CannotPut old n (Formula t) cause
 Refuses old (Store n t) (why.Fault e) = eval t (val old) ≡ Err e

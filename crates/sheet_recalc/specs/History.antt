@@ -12,7 +12,7 @@ abbrev pub change_of : code.Change → Change
 change_of (made.Define name tree) = Define name (tree_of tree)
 change_of (made.Store name tree) = Store name (tree_of tree)
 change_of (made.Put name array) = Put name array
-change_of (made.SetCell name places literal) = SetCell name places.items (literal_of literal)
+change_of (made.SetCell name positions literal) = SetCell name positions.items (literal_of literal)
 change_of (made.AddRow name literal) = AddRow name (literal_of literal)
 change_of (made.Erase name) = Erase name
 

@@ -23,26 +23,26 @@ use smallvec::SmallVec;
 pub(crate) fn data_with_cell(
     entries: &IndexMap<Name, Entry>,
     name: Name,
-    places: &[i64],
+    positions: &[i64],
     literal: &Literal,
 ) -> Result<Array, Refusal>
-    ensures { IsDataAnswer (cell_put (binding (names_of entries.now.entries) name) places.now (literal_of literal.now)) result }
+    ensures { IsDataAnswer (cell_put (binding (names_of entries.now.entries) name) positions.now (literal_of literal.now)) result }
 {
     match entries.get(&name) {
         None => Err(Refusal::NotFound),
         Some(Entry::Formula(_)) => Err(Refusal::NotData),
-        Some(Entry::Data(array)) => with_cell(array, places, literal),
+        Some(Entry::Data(array)) => with_cell(array, positions, literal),
     }
 }
 
 /// The array with a literal in one cell, or why not.
-fn with_cell(array: &Array, places: &[i64], literal: &Literal) -> Result<Array, Refusal>
-    ensures { IsDataAnswer (cell_put (Some (Data array.now)) places.now (literal_of literal.now)) result }
+fn with_cell(array: &Array, positions: &[i64], literal: &Literal) -> Result<Array, Refusal>
+    ensures { IsDataAnswer (cell_put (Some (Data array.now)) positions.now (literal_of literal.now)) result }
 {
-    if places.len() != array.shape().len() {
+    if positions.len() != array.shape().len() {
         return Err(Refusal::Rank);
     }
-    let Some(index) = index_of(array.shape(), places) else {
+    let Some(index) = index_of(array.shape(), positions) else {
         return Err(Refusal::Index);
     };
     with_literal(array, &index, literal)
@@ -89,15 +89,15 @@ fn only_item(literal: &Literal) -> Option<Item>
 }
 
 /// Positions as an index list, where each lies on its axis.
-fn index_of(shape: &Shape, places: &[i64]) -> Option<Shape>
-    requires rank { length places.now ≡ length shape.now.items }
+fn index_of(shape: &Shape, positions: &[i64]) -> Option<Shape>
+    requires rank { length positions.now ≡ length shape.now.items }
     requires inline { length shape.now.items ≤ 4 }
-    ensures { MatchOption result (is_index_of shape.now.items (index_of_numbers places.now) ≡ false)
-        (λ index. (index.items ≡ index_of_numbers places.now) × (is_index_of shape.now.items (index_of_numbers places.now) ≡ true)) }
+    ensures { MatchOption result (is_index_of shape.now.items (index_of_numbers positions.now) ≡ false)
+        (λ index. (index.items ≡ index_of_numbers positions.now) × (is_index_of shape.now.items (index_of_numbers positions.now) ≡ true)) }
 {
     let mut index: Shape = SmallVec::new(*shape.allocator());
-    for (axis, place) in places.iter().enumerate() {
-        let Some(on_axis) = index_on_axis(*place, shape[axis]) else {
+    for (axis, number) in positions.iter().enumerate() {
+        let Some(on_axis) = index_on_axis(*number, shape[axis]) else {
             return None;
         };
         index.push_reserved(on_axis);
@@ -106,12 +106,12 @@ fn index_of(shape: &Shape, places: &[i64]) -> Option<Shape>
 }
 
 /// A position as an index, where it lies on an axis of this length.
-fn index_on_axis(place: i64, axis: u32) -> Option<u32>
-    ensures { MatchOption result (is_on_axis axis (index_of_number place) ≡ false)
-        (λ index. (index ≡ index_of_number place) × (is_on_axis axis (index_of_number place) ≡ true)) }
+fn index_on_axis(number: i64, axis: u32) -> Option<u32>
+    ensures { MatchOption result (is_on_axis axis (index_of_number number) ≡ false)
+        (λ index. (index ≡ index_of_number number) × (is_on_axis axis (index_of_number number) ≡ true)) }
 {
-    if place < 1 || place > i64::from(axis) {
+    if number < 1 || number > i64::from(axis) {
         return None;
     }
-    Some(place as u32)
+    Some(number as u32)
 }

@@ -37,7 +37,7 @@ impl Sheet {
             Change::Define(name, tree) => self.define(name, tree),
             Change::Store(name, tree) => self.data(name, tree),
             Change::Put(name, array) => self.put_array(name, array),
-            Change::SetCell(name, places, literal) => self.set_cell(name, &places, &literal),
+            Change::SetCell(name, positions, literal) => self.set_cell(name, &positions, &literal),
             Change::AddRow(name, literal) => self.add_row(name, &literal),
             Change::Erase(name) => self.erase(name),
         }

@@ -14,7 +14,7 @@ use arrays_core::{Array, Fault};
 use formula_core::Formula;
 use indexmap::IndexMap;
 
-/// The names of a sheet with one of them bound anew, or removed. A name that is bound anew keeps its place, a new one goes last; the
+/// The names of a sheet with one of them bound anew, or removed. A name that is bound anew stays where it is, a new one goes last; the
 /// names after one that is removed move up.
 #[derive(Clone, Copy)]
 pub(crate) struct ProposedSheet<'a> {

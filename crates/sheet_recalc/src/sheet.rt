@@ -153,12 +153,17 @@ impl Sheet {
     }
 
     /// Replaces one item of data.
-    pub fn set_cell(&mut self, name: Name, places: &[i64], literal: &Literal) -> Result<(), Refusal>
-        ensures ok { OnOk result (Accepts self.old.names (SetCell name places.now (literal_of literal.now)) self.new.names) }
-        ensures refused { IfErr result (Refuses self.old.names (SetCell name places.now (literal_of literal.now))) }
+    pub fn set_cell(
+        &mut self,
+        name: Name,
+        positions: &[i64],
+        literal: &Literal,
+    ) -> Result<(), Refusal>
+        ensures ok { OnOk result (Accepts self.old.names (SetCell name positions.now (literal_of literal.now)) self.new.names) }
+        ensures refused { IfErr result (Refuses self.old.names (SetCell name positions.now (literal_of literal.now))) }
         ensures err { OnErr result (self.new ≡ self.old) }
     {
-        let array = data_with_cell(&self.entries, name, places, literal)?;
+        let array = data_with_cell(&self.entries, name, positions, literal)?;
         self.put_array(name, array)
     }
 

@@ -1,4 +1,4 @@
-use Rattle.apl_tokens.proofs.Places.{in_order}
+use Rattle.apl_tokens.proofs.Order.{in_order}
 use Rattle.apl_tokens.proofs.tokens_in_order.Goals as goal
 
 pub returns : goal.returns

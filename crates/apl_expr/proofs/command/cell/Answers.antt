@@ -5,10 +5,10 @@ use Rattle.apl_expr.proofs.command.cell.Goals as goal
 
 pub returns-in-Ok : goal.returns-in-Ok
 returns-in-Ok c =
-    let place = c.in-Ok.place-is in
+    let positions = c.in-Ok.positions-is in
     let literal = c.in-Ok.literal-is in
     let read = c.in-Ok.ensures in
-    cell_ok c.args.name (lexemes c.args.tokens.now) (lexemes c.args.rest.now) c.requires.begins c.in-Ok.place c.in-Ok.literal (simp length-map c.requires.short) cc
+    cell_ok c.args.name (lexemes c.args.tokens.now) (lexemes c.args.rest.now) c.requires.begins c.in-Ok.positions c.in-Ok.literal (simp length-map c.requires.short) cc
 
 pub returns-in-Err-Syntax : goal.returns-in-Err-Syntax
 returns-in-Err-Syntax c = c.show.ensures

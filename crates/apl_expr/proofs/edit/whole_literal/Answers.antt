@@ -1,7 +1,7 @@
 use Rattle.apl_tokens.specs.Lexemes.{lexemes}
 use Rattle.apl_expr.specs.Trees.{literal_of}
-use Rattle.apl_expr.proofs.Places.{placed_nowhere}
+use Rattle.apl_expr.proofs.CellEdits.{no_positions}
 use Rattle.apl_expr.proofs.edit.whole_literal.Goals as goal
 
 pub returns : goal.returns
-returns c = placed_nowhere (lexemes c.args.tokens.now) c.in_ok-found.field-0-0.items (literal_of c.in_ok-found.found) (let read = c.in_ok-found.ensures in cc)
+returns c = no_positions (lexemes c.args.tokens.now) c.in_ok-found.field-0-0.items (literal_of c.in_ok-found.found) (let read = c.in_ok-found.ensures in cc)

@@ -3,5 +3,5 @@ use Rattle.std.specs.List.{prefix_len}
 use Rattle.std.specs.Char.{is_ascii_digit}
 use Rattle.array_text.proofs.fields.digits_at.Given as goal
 
-abbrev pub invariant-loop-place : goal.invariant-loop-place
-invariant-loop-place l = l.place + prefix_len is_ascii_digit (drop l.place l.bytes) ≡ prefix_len is_ascii_digit l.bytes
+abbrev pub invariant-loop-offset : goal.invariant-loop-offset
+invariant-loop-offset l = l.offset + prefix_len is_ascii_digit (drop l.offset l.bytes) ≡ prefix_len is_ascii_digit l.bytes

@@ -10,21 +10,21 @@ use Rattle.array_text.specs.Tables.{comma, record_text}
 use Rattle.array_text.proofs.Writing.{pushed, grown_twice, join_by-more}
 use Rattle.array_text.proofs.table_writer.push_record.Goals as goal
 
-pub loop-place-preserved : goal.loop-place-preserved
-loop-place-preserved c =
+pub loop-column-preserved : goal.loop-column-preserved
+loop-column-preserved c =
     let zs = c.args.numbers.now in
-    let k = c.loop-place.place in
+    let k = c.loop-column.column in
     let fits : SFits w64 (get_or zs k (pos 0)) = search rules in
     let same = ap signed_decimal (to_z-of_z w64 (get_or zs k (pos 0)) fits) in
     grown_twice _ _ _ _ _ _ _ _ (c.in_ok-push_field.ensures ∙ ap (λ (t : List ℕ). string_bytes c.push_comma_between.new.out ++ t) same)
-    c.in_ok-push_comma_between.ensures c.loop-place.invariant (join_by-more signed_decimal comma zs k (pos 0) c.loop-place-test.true)
+    c.in_ok-push_comma_between.ensures c.loop-column.invariant (join_by-more signed_decimal comma zs k (pos 0) c.loop-column-test.true)
 
 pub returns : goal.returns
 unfolding record_text encode
 returns c =
     let zs = c.args.numbers.now in
     let before = string_bytes c.args.out.now in
-    let all : string_bytes c.loop-place.out ≡ before ++ join_by signed_decimal comma zs =
-    c.loop-place.invariant ∙ ap (λ t. before ++ join_by signed_decimal comma t) (take_all c.loop-place.place zs c.loop-place-test.false) in
-    pushed c.push.result _ (string_bytes c.loop-place.out) (10 ∷ []) _ c.push.ensures.bytes
+    let all : string_bytes c.loop-column.out ≡ before ++ join_by signed_decimal comma zs =
+    c.loop-column.invariant ∙ ap (λ t. before ++ join_by signed_decimal comma t) (take_all c.loop-column.column zs c.loop-column-test.false) in
+    pushed c.push.result _ (string_bytes c.loop-column.out) (10 ∷ []) _ c.push.ensures.bytes
     (ap (λ (t : List ℕ). t ++ 10 ∷ []) all ∙ append_assoc before (join_by signed_decimal comma zs) (10 ∷ []))

@@ -5,5 +5,5 @@ use Rattle.std.specs.List.{join_by}
 use Rattle.array_text.specs.Tables.{comma}
 use Rattle.array_text.proofs.table_writer.push_record.Given as goal
 
-abbrev pub invariant-loop-place : goal.invariant-loop-place
-invariant-loop-place l = string_bytes l.out ≡ string_bytes l.initial.out ++ join_by signed_decimal comma (take l.place l.numbers)
+abbrev pub invariant-loop-column : goal.invariant-loop-column
+invariant-loop-column l = string_bytes l.out ≡ string_bytes l.initial.out ++ join_by signed_decimal comma (take l.column l.numbers)

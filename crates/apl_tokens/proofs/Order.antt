@@ -1,10 +1,10 @@
--- The tokens of a text stand in the order of their places.
+-- The tokens of a text stand in the order of their spans.
 use Rattle.std.proofs.Common.{◌≡◌, ℕ, ◌+◌, ◌<◌, ◌≤◌, List, [], ◌∷◌, ◌++◌, length, Ok, Err, refl, subst, arith, Bool}
 use Rattle.std.specs.Prelude.{encode_utf8_all}
 use Rattle.std.specs.Char.{is_ascii_digit, len_utf8}
 use Rattle.std.proofs.lemmas.Str.{len_utf8_bounds}
 use Rattle.apl_tokens.specs.Characters.{doubled, quoted}
-use Rattle.apl_tokens.specs.Scans.{Placed, with_front, IsRun, stop, more, IsNumber, plain, minus, Scans, done, comment, blank, sign, text, number, word, strange, open_text, lone_minus, joined, too_great, too_long}
+use Rattle.apl_tokens.specs.Scans.{SpannedLexeme, with_front, IsRun, stop, more, IsNumber, plain, minus, Scans, done, comment, blank, sign, text, number, word, strange, open_text, lone_minus, joined, too_great, too_long}
 use Rattle.apl_tokens.specs.Order.{InOrder}
 use Rattle.apl_tokens.proofs.Sound.{Found, digit_len, width, width_cons, width_append}
 
@@ -25,20 +25,20 @@ number_bytes (minus {d = d} {ds = ds} {cs = cs} is r) =
     let one = digit_len d is in let m = width_cons 0xaf (d ∷ cs) in let p = width_cons d cs in let q = run_bytes r in let e = digits_bytes r in (omega arith, omega arith)
 
 -- a token in front of the others
-front : (m n : ℕ) (t : Placed) (r : Found) (ts : List Placed) → t.start ≡ m → m < t.end → with_front (t ∷ []) r ≡ Ok ts → ((us : List Placed) → r ≡ Ok us → InOrder t.end us n) → InOrder m ts n
+front : (m n : ℕ) (t : SpannedLexeme) (r : Found) (ts : List SpannedLexeme) → t.start ≡ m → m < t.end → with_front (t ∷ []) r ≡ Ok ts → ((us : List SpannedLexeme) → r ≡ Ok us → InOrder t.end us n) → InOrder m ts n
 front m n t (Ok us) ts starts ends is rest =
     let same : t ∷ us ≡ ts = cc in
-    subst (λ (xs : List Placed). InOrder m xs n) same (omega arith, omega arith, rest us refl)
+    subst (λ (xs : List SpannedLexeme). InOrder m xs n) same (omega arith, omega arith, rest us refl)
 front m n t (Err f) ts starts ends is rest = let no : ⊥ = cc in absurd no
 
-none : (m n : ℕ) (r : Found) (ts : List Placed) → r ≡ Ok [] → r ≡ Ok ts → m ≤ n → InOrder m ts n
-none m n r ts nil is here = let same : [] ≡ ts = cc in subst (λ (xs : List Placed). InOrder m xs n) same here
+none : (m n : ℕ) (r : Found) (ts : List SpannedLexeme) → r ≡ Ok [] → r ≡ Ok ts → m ≤ n → InOrder m ts n
+none m n r ts nil is here = let same : [] ≡ ts = cc in subst (λ (xs : List SpannedLexeme). InOrder m xs n) same here
 
-later : (m k n : ℕ) (ts : List Placed) → m ≤ k → InOrder k ts n → InOrder m ts n
+later : (m k n : ℕ) (ts : List SpannedLexeme) → m ≤ k → InOrder k ts n → InOrder m ts n
 later m k n [] before rest = omega arith
 later m k n (t ∷ ts) before rest = (omega arith, rest.1, rest.2)
 
-in_order_to : {m : ℕ} {cs : List ℕ} {r : Found} → Scans m cs r → (n : ℕ) → n ≡ m + width cs → (ts : List Placed) → r ≡ Ok ts → InOrder m ts n
+in_order_to : {m : ℕ} {cs : List ℕ} {r : Found} → Scans m cs r → (n : ℕ) → n ≡ m + width cs → (ts : List SpannedLexeme) → r ≡ Ok ts → InOrder m ts n
 unfolding width
 in_order_to (done {n = m}) n is ts h = none m n _ ts refl h (omega arith)
 in_order_to (comment {n = m} {cs = cs}) n is ts h = none m n _ ts refl h (omega arith)
@@ -69,6 +69,6 @@ in_order_to (joined a b) n is ts h = let no : ⊥ = cc in absurd no
 in_order_to (too_great a b c) n is ts h = let no : ⊥ = cc in absurd no
 in_order_to (too_long a b c) n is ts h = let no : ⊥ = cc in absurd no
 
-pub in_order : (cs : List ℕ) (ts : List Placed) → Scans 0 cs (Ok ts) → InOrder 0 ts (length (encode_utf8_all cs))
+pub in_order : (cs : List ℕ) (ts : List SpannedLexeme) → Scans 0 cs (Ok ts) → InOrder 0 ts (length (encode_utf8_all cs))
 unfolding width
 in_order cs ts s = in_order_to s (length (encode_utf8_all cs)) (omega arith) ts refl

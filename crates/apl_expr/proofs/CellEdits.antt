@@ -5,16 +5,16 @@ use Rattle.std.proofs.lemmas.Bool.{eqb-true}
 use Rattle.std.specs.Prelude.{ℤ, ◌==◌}
 use Rattle.apl_tokens.specs.Lexemes.{Lexeme, Number, Characters, Named, Sign}
 use Rattle.apl_expr.specs.Grammar.{IsNums, one, more}
-use Rattle.apl_expr.specs.Lines.{IsPosition, last, further, IsLit, nums_lit, text_lit}
+use Rattle.apl_expr.specs.Lines.{IsCellPositions, last, further, IsLit, nums_lit, text_lit}
 use Rattle.apl_expr.specs.Trees.{Literal, Numbers, Text}
 use Rattle.apl_expr.specs.Edits.{Edit, Open, Position, Closed, Items, Quoted, Written, Write, edit_text, edit_end, after_position, after_bracket, edits}
 use Rattle.apl_expr.proofs.Sound.{IsStrand, none, strand_nums}
 use Rattle.apl_expr.proofs.Sound as strand
 
-place_reads : {ts us : List Lexeme} {ps : List ℤ} → IsPosition ts ps us → (before : List ℤ) → edits ts (Some (Open before)) ≡ edits us (Some (Position (before ++ ps)))
+cell_positions_read : {ts us : List Lexeme} {ps : List ℤ} → IsCellPositions ts ps us → (before : List ℤ) → edits ts (Some (Open before)) ≡ edits us (Some (Position (before ++ ps)))
 unfolding edits
-place_reads last before = refl
-place_reads (further {n = n} {us = us} {ps = ps} p) before = place_reads p (before ++ n ∷ []) ∙ ap (λ (qs : List ℤ). edits us (Some (Position qs))) (append_assoc before (n ∷ []) ps)
+cell_positions_read last before = refl
+cell_positions_read (further {n = n} {us = us} {ps = ps} p) before = cell_positions_read p (before ++ n ∷ []) ∙ ap (λ (qs : List ℤ). edits us (Some (Position qs))) (append_assoc before (n ∷ []) ps)
 
 end_items : (ps ns : List ℤ) (n : ℤ) → edit_end (Items ps (ns ++ n ∷ [])) ≡ Some (Write ps (Numbers (ns ++ n ∷ [])))
 end_items ps [] n = refl
@@ -30,18 +30,18 @@ unfolding edits
 literal_read (nums_lit n) ps = items_read n refl ps []
 literal_read text_lit ps = refl
 
-pub edit_read : {ts us : List Lexeme} {ps : List ℤ} {l : Literal} → IsPosition ts ps (Sign 0x5d ∷ Sign 0x2190 ∷ us) → IsLit us l → edits ts (Some (Open [])) ≡ Some (Write ps l)
+pub edit_read : {ts us : List Lexeme} {ps : List ℤ} {l : Literal} → IsCellPositions ts ps (Sign 0x5d ∷ Sign 0x2190 ∷ us) → IsLit us l → edits ts (Some (Open [])) ≡ Some (Write ps l)
 unfolding edits
-edit_read {ps = ps} p is = place_reads p [] ∙ literal_read is ps
+edit_read {ps = ps} p is = cell_positions_read p [] ∙ literal_read is ps
 
--- after a position, ts are the rest of the place with its bracket and the arrow, and us come after them
+-- after a position, ts are the rest of the positions with their bracket and the arrow, and us come after them
 data IsRest : List Lexeme → List ℤ → List Lexeme → Type 0 where
   ends : {us : List Lexeme} → IsRest (Sign 0x5d ∷ Sign 0x2190 ∷ us) [] us
-  goes_on : {ts us : List Lexeme} {ps : List ℤ} → IsPosition ts ps (Sign 0x5d ∷ Sign 0x2190 ∷ us) → IsRest (Sign 0x3b ∷ ts) ps us
+  goes_on : {ts us : List Lexeme} {ps : List ℤ} → IsCellPositions ts ps (Sign 0x5d ∷ Sign 0x2190 ∷ us) → IsRest (Sign 0x3b ∷ ts) ps us
 
-place_of : {ts us : List Lexeme} {ps : List ℤ} (n : ℤ) → IsRest ts ps us → IsPosition (Number n ∷ ts) (n ∷ ps) (Sign 0x5d ∷ Sign 0x2190 ∷ us)
-place_of n ends = last
-place_of n (goes_on p) = further p
+cell_positions_of : {ts us : List Lexeme} {ps : List ℤ} (n : ℤ) → IsRest ts ps us → IsCellPositions (Number n ∷ ts) (n ∷ ps) (Sign 0x5d ∷ Sign 0x2190 ∷ us)
+cell_positions_of n ends = last
+cell_positions_of n (goes_on p) = further p
 
 -- what is left of a literal after these numbers
 data IsRestOf : List ℤ → List Lexeme → Literal → Type 0 where
@@ -50,7 +50,7 @@ data IsRestOf : List ℤ → List Lexeme → Literal → Type 0 where
 
 -- what the machine's reading in a state says of the grammar
 abbrev Explains : List Lexeme → Edit → List ℤ → Literal → Type 0
-Explains ts (Open before) ps l = (qs : List ℤ) × (us : List Lexeme) × IsPosition ts qs (Sign 0x5d ∷ Sign 0x2190 ∷ us) × IsLit us l × (before ++ qs ≡ ps)
+Explains ts (Open before) ps l = (qs : List ℤ) × (us : List Lexeme) × IsCellPositions ts qs (Sign 0x5d ∷ Sign 0x2190 ∷ us) × IsLit us l × (before ++ qs ≡ ps)
 Explains ts (Position before) ps l = (qs : List ℤ) × (us : List Lexeme) × IsRest ts qs us × IsLit us l × (before ++ qs ≡ ps)
 Explains ts (Closed before) ps l = (us : List Lexeme) × (ts ≡ Sign 0x2190 ∷ us) × IsLit us l × (before ≡ ps)
 Explains ts (Items before items) ps l = IsRestOf items ts l × (before ≡ ps)
@@ -78,7 +78,7 @@ module _ (ts : List Lexeme) (sound : Sound ts) where
   number_explains : (n : ℤ) (before ps : List ℤ) (l : Literal) → edits ts (Some (Position (before ++ n ∷ []))) ≡ Some (Write ps l) → Explains (Number n ∷ ts) (Open before) ps l
   number_explains n before ps l h =
       let x = sound (Position (before ++ n ∷ [])) ps l h in
-      (n ∷ x.0, x.1, place_of n x.2, x.3, sym (append_assoc before (n ∷ []) x.0) ∙ x.4)
+      (n ∷ x.0, x.1, cell_positions_of n x.2, x.3, sym (append_assoc before (n ∷ []) x.0) ∙ x.4)
 
   item_explains : (n : ℤ) (before items ps : List ℤ) (l : Literal) → edits ts (Some (Items before (items ++ n ∷ []))) ≡ Some (Write ps l) → Explains (Number n ∷ ts) (Items before items) ps l
   item_explains n before items ps l h = let x = sound (Items before (items ++ n ∷ [])) ps l h in (one_number_more n items x.0, x.1)
@@ -123,8 +123,8 @@ sound_of [] (Closed before) ps l h = let no : ⊥ = cc in absurd no
 sound_of [] (Items before []) ps l h = let no : ⊥ = cc in absurd no
 sound_of [] (Items before (n ∷ items)) ps l h =
     let same : Numbers (n ∷ items) ≡ l = cc in
-    let same_place : before ≡ ps = cc in
-    (subst (λ (k : Literal). IsRestOf (n ∷ items) [] k) (ap (λ (ms : List ℤ). Numbers ms) (append-nil (n ∷ items)) ∙ same) (rest_of_nums none), same_place)
+    let same_positions : before ≡ ps = cc in
+    (subst (λ (k : Literal). IsRestOf (n ∷ items) [] k) (ap (λ (ms : List ℤ). Numbers ms) (append-nil (n ∷ items)) ∙ same) (rest_of_nums none), same_positions)
 sound_of [] (Quoted before cs) ps l h = (refl, cc, cc)
 sound_of (Number n ∷ ts) (Open before) ps l h = number_explains ts (sound_of ts) n before ps l h
 sound_of (Number n ∷ ts) (Position before) ps l h = absurd (edits_none ts (Write ps l) h)
@@ -143,12 +143,12 @@ sound_of (Sign c ∷ ts) (Closed before) ps l h = arrow_explains ts (sound_of ts
 sound_of (Sign c ∷ ts) (Items before items) ps l h = absurd (edits_none ts (Write ps l) h)
 sound_of (Sign c ∷ ts) (Quoted before cs) ps l h = absurd (edits_none ts (Write ps l) h)
 
-pub edit_correct : (ts : List Lexeme) (ps : List ℤ) (l : Literal) → edits ts (Some (Open [])) ≡ Some (Write ps l) → (us : List Lexeme) × IsPosition ts ps (Sign 0x5d ∷ Sign 0x2190 ∷ us) × IsLit us l
-edit_correct ts ps l h = let x = sound_of ts (Open []) ps l h in (x.1, subst (λ (qs : List ℤ). IsPosition ts qs (Sign 0x5d ∷ Sign 0x2190 ∷ x.1)) x.4 x.2, x.3)
+pub edit_correct : (ts : List Lexeme) (ps : List ℤ) (l : Literal) → edits ts (Some (Open [])) ≡ Some (Write ps l) → (us : List Lexeme) × IsCellPositions ts ps (Sign 0x5d ∷ Sign 0x2190 ∷ us) × IsLit us l
+edit_correct ts ps l h = let x = sound_of ts (Open []) ps l h in (x.1, subst (λ (qs : List ℤ). IsCellPositions ts qs (Sign 0x5d ∷ Sign 0x2190 ∷ x.1)) x.4 x.2, x.3)
 
 pub literal_correct : (ts : List Lexeme) (l : Literal) → edits ts (Some (Items [] [])) ≡ Some (Write [] l) → IsLit ts l
 literal_correct ts l h = let x = sound_of ts (Items [] []) [] l h in lit_of_rest x.0
 
--- a literal alone has no place
-pub placed_nowhere : (ts : List Lexeme) (ps : List ℤ) (l : Literal) → edits ts (Some (Items [] [])) ≡ Some (Write ps l) → edits ts (Some (Items [] [])) ≡ Some (Write [] l)
-placed_nowhere ts ps l h = let x = sound_of ts (Items [] []) ps l h in h ∙ ap (λ (qs : List ℤ). Some (Write qs l)) (sym x.1)
+-- a literal alone has no positions
+pub no_positions : (ts : List Lexeme) (ps : List ℤ) (l : Literal) → edits ts (Some (Items [] [])) ≡ Some (Write ps l) → edits ts (Some (Items [] [])) ≡ Some (Write [] l)
+no_positions ts ps l h = let x = sound_of ts (Items [] []) ps l h in h ∙ ap (λ (qs : List ℤ). Some (Write qs l)) (sym x.1)
