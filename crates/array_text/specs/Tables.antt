@@ -5,6 +5,7 @@ use Rattle.std.specs.List.{flat_map, range_with_len, join_by, list_all, prefix_l
 use Rattle.std.specs.Char.{is_ascii_digit}
 use Rattle.csv.specs.Reading.{default_config, records, strip_bom}
 use Rattle.apl_tokens.specs.Characters.{is_blank, decimal_from, signed, fits_number}
+use Rattle.arrays_core.specs.Limits.{longest_axis, most_places}
 use Rattle.arrays_core.specs.Arrays.{ArrayValue}
 use Rattle.arrays_core.specs.declared.item.Item.TheVariants.{Num}
 use Rattle.arrays_core.specs.declared.item.ItemType.TheVariants.{Nums}
@@ -62,7 +63,7 @@ first_bad first (field ∷ fields) = if is_some (field_number field) then first_
 
 -- whether a matrix may have this many rows and columns
 abbrev pub is_matrix_within : (rows columns : ℕ) → Bool
-is_matrix_within rows columns = (nat_le rows 1048576 && nat_le columns 1048576) && nat_le (rows * columns) 1048576
+is_matrix_within rows columns = (nat_le rows longest_axis && nat_le columns longest_axis) && nat_le (rows * columns) most_places
 
 -- the count of rows that the first `count` records give: a header gives none
 abbrev pub rows_of : (header : Bool) → (count : ℕ) → ℕ

@@ -13,13 +13,13 @@ use Rattle.sheet_cli.proofs.Cuts.{long_enough, kept_line}
 use Rattle.sheet_cli.proofs.OneAnswer.{line_one}
 
 -- a line of so many bytes is too long without its CR
-longer : (line : List ℕ) → 4098 ≤ length line → longest_line < length (strip_cr line)
+longer : (line : List ℕ) → longest_line + 2 ≤ length line → longest_line < length (strip_cr line)
 unfolding strip_cr
 longer line h = cond_both (ltb 0 (length line) && eqb (get_or line (length line - 1) 0) 13) (take (length line - 1) line) line (λ (x : List ℕ). longest_line < length x)
     (λ e. rw length-take (omega arith)) (λ e. omega arith)
 
 -- the first bytes of a line that is too long tell so
-answer_of_long : (line line' : List ℕ) → 4098 ≤ length line → 4098 ≤ length line' → (old new : State) (answer : List ℕ) → IsAnswer old line answer new → IsAnswer old line' answer new
+answer_of_long : (line line' : List ℕ) → longest_line + 2 ≤ length line → longest_line + 2 ≤ length line' → (old new : State) (answer : List ℕ) → IsAnswer old line answer new → IsAnswer old line' answer new
 answer_of_long line line' h h' old new answer (too_long l) = too_long (longer line' h')
 answer_of_long line line' h h' old new answer (not_text l n) = absurd (omega (arith, longer line h))
 answer_of_long line line' h h' old new answer (of_text l u a) = absurd (omega (arith, longer line h))

@@ -5,7 +5,7 @@ use Rattle.std.specs.Result.{IsOk}
 use Rattle.std.proofs.lemmas.Bool.{and_parts, eqb-true, cases_lt, cond_both}
 use Rattle.std.proofs.lemmas.List.{take_all, take_more, length-take}
 use Rattle.std.proofs.Math.Seq.{take-append-add}
-use Rattle.sheet_cli.specs.Lines.{strip_bom, onto_first, ended_lines, onto_last, last_line, line_if_any, lines_of}
+use Rattle.sheet_cli.specs.Lines.{strip_bom, onto_first, ended_lines, onto_last, last_line, line_if_any, lines_of, longest_line}
 use Rattle.sheet_cli.specs.Progress.{most_kept, first_stripped, next_stripped, line_after}
 
 -- an LF ends the last line
@@ -224,7 +224,7 @@ bom_short (a ∷ []) = omega arith
 bom_short (a ∷ b ∷ []) = omega arith
 bom_short (a ∷ b ∷ c ∷ rest) = cond_both ((a == 239) && (b == 187) && (c == 191)) rest (a ∷ b ∷ c ∷ rest) (λ (x : List ℕ). length (a ∷ b ∷ c ∷ rest) ≤ length x + 3) (λ e. omega arith) (λ e. omega arith)
 
-pub long_enough : (ls : List (List ℕ)) (x : List ℕ) → most_kept ≤ length x → 4098 ≤ length (next_stripped ls x)
+pub long_enough : (ls : List (List ℕ)) (x : List ℕ) → most_kept ≤ length x → longest_line + 2 ≤ length (next_stripped ls x)
 unfolding next_stripped
 long_enough [] x h = omega (arith, bom_short x)
 long_enough (k ∷ ks) x h = omega arith

@@ -3,6 +3,7 @@ use Rattle.std.proofs.Common.{◌≡◌, ℕ, ◌<◌, ◌≤◌, ◌⊎◌, inl
 use Rattle.std.proofs.lemmas.List.{length-map}
 use Rattle.apl_tokens.specs.Scans.{Scans, SpannedLexeme, Fault, SyntaxAt, LimitAt}
 use Rattle.apl_tokens.proofs.Complete.{one_answer_of}
+use Rattle.apl_expr.specs.Limits.{most_tokens}
 use Rattle.apl_expr.specs.declared.fault.LineFault.TheVariants.{Syntax, Limit}
 use Rattle.apl_expr.specs.Grammar.{IsTooLarge}
 use Rattle.apl_expr.specs.Lines.{Meaning, Nothing, Define, Data, Cell, Row, Erase, Show, Names, Csv, IsLine, HasTree}
@@ -27,7 +28,7 @@ module _ (cs : List ℕ) where
   line_in : (ts us : List SpannedLexeme) (m : Meaning) → Scans 0 cs (Ok ts) → Scans 0 cs (Ok us) → IsLine (lexemes_of us) m → IsLine (lexemes_of ts) m
   line_in ts us m a b l = subst (λ (xs : List SpannedLexeme). IsLine (lexemes_of xs) m) (tokens_one ts us a b) l
 
-  short_in : (ts us : List SpannedLexeme) → Scans 0 cs (Ok ts) → Scans 0 cs (Ok us) → length (lexemes_of us) ≤ 4096 → 4096 < length (lexemes_of ts) → ⊥
+  short_in : (ts us : List SpannedLexeme) → Scans 0 cs (Ok ts) → Scans 0 cs (Ok us) → length (lexemes_of us) ≤ most_tokens → most_tokens < length (lexemes_of ts) → ⊥
   short_in ts us a b short long = let e : length (lexemes_of us) ≡ length (lexemes_of ts) = ap (λ (xs : List SpannedLexeme). length (lexemes_of xs)) (tokens_one ts us a b) in omega (arith, e, short, long)
 
   no_line_or_too_large : IsAnswered cs (Err Syntax) → IsAnswered cs (Err Limit) → ⊥
@@ -36,7 +37,7 @@ module _ (cs : List ℕ) where
   no_line_or_too_large (inr a) (inl b) = tokens_or_fault a.0 (LimitAt b.0 b.1) a.1 b.2
   no_line_or_too_large (inr a) (inr b) = by b.2
     where
-      by : (4096 < length (lexemes_of b.0)) ⊎ ((m : Meaning) × IsLine (lexemes_of b.0) m × HasTree IsTooLarge m) → ⊥
+      by : (most_tokens < length (lexemes_of b.0)) ⊎ ((m : Meaning) × IsLine (lexemes_of b.0) m × HasTree IsTooLarge m) → ⊥
       by (inl long) = short_in b.0 a.0 b.1 a.1 a.2.0 long
       by (inr l) = a.2.1 l.0 (line_in a.0 b.0 l.0 a.1 b.1 l.1)
 
@@ -48,7 +49,7 @@ module _ (cs : List ℕ) where
   too_large_or_read m (inl a) b = tokens_or_fault b.0 (LimitAt a.0 a.1) b.1 a.2
   too_large_or_read m (inr a) b = by a.2
     where
-      by : (4096 < length (lexemes_of a.0)) ⊎ ((k : Meaning) × IsLine (lexemes_of a.0) k × HasTree IsTooLarge k) → ⊥
+      by : (most_tokens < length (lexemes_of a.0)) ⊎ ((k : Meaning) × IsLine (lexemes_of a.0) k × HasTree IsTooLarge k) → ⊥
       by (inl long) = short_in a.0 b.0 a.1 b.1 (rw (length-map b.0 (λ (t : SpannedLexeme). t.lexeme)) b.2) long
       by (inr l) = b.4 (subst (λ (k : Meaning). HasTree IsTooLarge k) (one_meaning_of l.1 m (line_in a.0 b.0 m a.1 b.1 b.3)) l.2)
 

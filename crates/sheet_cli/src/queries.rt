@@ -17,7 +17,7 @@ use sheet_recalc::{Refusal, Sheet};
 use std::alloc::{AllocError, Global};
 
 /// The most axes of a table.
-const MOST_AXES: usize = 2;
+const MOST_TABLE_AXES: usize = 2;
 
 /// The text of an expression's value, or of its error.
 pub(crate) fn show(alloc: Global, sheet: &Sheet, expr: &Expr) -> Result<String, AllocError>
@@ -56,7 +56,7 @@ pub(crate) fn table(alloc: Global, sheet: &Sheet, name: Name) -> Result<String, 
 fn array_table(alloc: Global, array: &Array) -> Result<String, AllocError>
     ensures { IfOk result (λ text. string_bytes text ≡ array_table array.now) }
 {
-    if array.shape().len() > MOST_AXES {
+    if array.shape().len() > MOST_TABLE_AXES {
         return refusal_text(alloc, &Refusal::Rank);
     }
     if are_characters(array) {

@@ -4,6 +4,7 @@ use Rattle.std.specs.Prelude.{◌==◌, nat_le}
 use Rattle.std.proofs.lemmas.Bool.{le-leb}
 use Rattle.std.proofs.lemmas.List.Sums.{list_all-from_AllPass}
 use Rattle.apl_expr.specs.Trees.{Numbers, Text}
+use Rattle.arrays_core.specs.Limits.{most_axes, longest_axis, most_places}
 use Rattle.arrays_core.specs.Arrays.{ArrayValue}
 use Rattle.arrays_core.specs.Shapes.{size, IsWithinLimits}
 use Rattle.arrays_core.specs.declared.item.Item.{Item}
@@ -34,8 +35,8 @@ are_characters Chars (c ∷ cs) some = all_characters cs
 
 within : (shape : List ℕ) → IsWithinLimits shape → is_within_limits shape ≡ true
 within shape h =
-    let axes = list_all-from_AllPass (λ (n : ℕ). nat_le n 1048576) shape (λ k d below. le-leb (get_or shape k d) 1048576 (h.axes k d below)) in
-    rw (le-leb (length shape) 4 h.rank, axes, le-leb (size shape) 1048576 h.size_within) refl
+    let axes = list_all-from_AllPass (λ (n : ℕ). nat_le n longest_axis) shape (λ k d below. le-leb (get_or shape k d) longest_axis (h.axes k d below)) in
+    rw (le-leb (length shape) most_axes h.rank, axes, le-leb (size shape) most_places h.size_within) refl
 
 -- a row that passes each check is put
 pub row_is_put : (a : ArrayValue) (count : ℕ) (row : List Item) → row_length a.shape ≡ Some count → length row ≡ count → are_of_type a.item_type row ≡ true → IsWithinLimits (grown a.shape)

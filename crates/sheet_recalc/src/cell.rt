@@ -4,6 +4,7 @@ ghost use Rattle.std.specs.Prelude.{◌≡◌, ◌≢◌, IfOk, IfErr, IfSome, M
 ghost use Rattle.std.specs.Str.{bytes_eq};
 ghost use Rattle.std.specs.Map.{lookup};
 ghost use Rattle.apl_expr.specs.Trees.{literal_of};
+ghost use Rattle.arrays_core.specs.Limits.{most_axes};
 ghost use Rattle.arrays_core.specs.Arrays.{IsArray};
 ghost use Rattle.arrays_core.specs.Items.{type_of};
 ghost use Rattle.arrays_core.specs.Shapes.{is_index_of};
@@ -91,7 +92,7 @@ fn only_item(literal: &Literal) -> Option<Item>
 /// Positions as an index list, where each lies on its axis.
 fn index_of(shape: &Shape, positions: &[i64]) -> Option<Shape>
     requires rank { length positions.now ≡ length shape.now.items }
-    requires inline { length shape.now.items ≤ 4 }
+    requires inline { length shape.now.items ≤ most_axes }
     ensures { MatchOption result (is_index_of shape.now.items (index_of_numbers positions.now) ≡ false)
         (λ index. (index.items ≡ index_of_numbers positions.now) × (is_index_of shape.now.items (index_of_numbers positions.now) ≡ true)) }
 {

@@ -2,6 +2,7 @@
 
 ghost use Rattle.std.specs.Prelude.{◌≡◌, ◌+◌, ◌++◌, ◌<◌, ◌≤◌, IfOk, true, length};
 ghost use Rattle.apl_expr.specs.Trees.{literal_of};
+ghost use Rattle.arrays_core.specs.Limits.{most_places};
 ghost use Rattle.arrays_core.specs.Shapes.{size, IsWithinLimits};
 ghost use Rattle.formula_core.specs.Meaning.{array_of};
 ghost use Rattle.sheet_recalc.specs.Names.{binding, Data};
@@ -125,7 +126,7 @@ fn with_items(
 
 /// The array of a literal that has no more items than an array may have.
 fn row_of(alloc: Global, literal: &Literal) -> Result<Array, AllocError>
-    requires { length (literal_items (literal_of literal.now)) ≤ 1048576 }
+    requires { length (literal_items (literal_of literal.now)) ≤ most_places }
     ensures { IfOk result (λ row. array_of (literal_of literal.now) ≡ Ok row) }
 {
     match array_of(alloc, literal) {

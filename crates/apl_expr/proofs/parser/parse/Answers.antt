@@ -2,6 +2,7 @@ use Rattle.std.proofs.Common.{◌<◌, ◌≤◌, inl, inr, arith}
 use Rattle.std.proofs.lemmas.List.{length-map}
 use Rattle.std.proofs.lemmas.Result.{err_from_is_err_and}
 use Rattle.apl_tokens.specs.Lexemes.{lexemes}
+use Rattle.apl_expr.specs.Limits.{most_height, most_nodes}
 use Rattle.apl_expr.specs.Trees.{tree_of, height, nodes}
 use Rattle.apl_expr.proofs.Sizes.{above_limit}
 use Rattle.apl_expr.proofs.Parsed.{refused, too_large, read_tree}
@@ -15,19 +16,19 @@ returns-in_err-expr c =
 pub returns-then-not-is_within_height : goal.returns-then-not-is_within_height
 returns-then-not-is_within_height c =
     let above = above_limit (height (tree_of c.in_ok-expr.expr)) _ c.is_within_height.result c.is_within_height.ensures c.if-not-is_within_height.true in
-    let high : 256 < height (tree_of c.in_ok-expr.expr) = omega arith in
+    let high : most_height < height (tree_of c.in_ok-expr.expr) = omega arith in
     too_large (lexemes c.args.tokens.now) (tree_of c.in_ok-expr.expr) c.in_ok-expr.ensures (inl high)
 
 pub returns-then-not-is_within_nodes : goal.returns-then-not-is_within_nodes
 returns-then-not-is_within_nodes c =
     let above = above_limit (nodes (tree_of c.in_ok-expr.expr)) _ c.is_within_nodes.result c.is_within_nodes.ensures c.if-not-is_within_nodes.true in
-    let many : 512 < nodes (tree_of c.in_ok-expr.expr) = omega arith in
+    let many : most_nodes < nodes (tree_of c.in_ok-expr.expr) = omega arith in
     too_large (lexemes c.args.tokens.now) (tree_of c.in_ok-expr.expr) c.in_ok-expr.ensures (inr many)
 
 pub returns : goal.returns
 returns c =
     let within_height = c.is_within_height.ensures.0 c.if-not-is_within_height.false in
     let within_nodes = c.is_within_nodes.ensures.0 c.if-not-is_within_nodes.false in
-    let low : height (tree_of c.in_ok-expr.expr) ≤ 256 = omega arith in
-    let few : nodes (tree_of c.in_ok-expr.expr) ≤ 512 = omega arith in
+    let low : height (tree_of c.in_ok-expr.expr) ≤ most_height = omega arith in
+    let few : nodes (tree_of c.in_ok-expr.expr) ≤ most_nodes = omega arith in
     (simp length-map (omega arith), read_tree (lexemes c.args.tokens.now) (tree_of c.in_ok-expr.expr) c.in_ok-expr.ensures, low, few)
