@@ -40,26 +40,36 @@ pub enum Command {
     Csv(Name),
 }
 
+/// The name or the word that stands at the front of a line, and the tokens after what stands there.
+#[derive(Clone, Copy)]
+struct Front<'a> {
+    name: Name,
+    rest: &'a [Spanned],
+}
+
 /// The name at the front that the sign follows, and what comes after them.
-fn name_before(tokens: &[Spanned], sign: char) -> Option<(Name, &[Spanned])>
-    ensures { MatchOption result (name_before sign (lexemes tokens.now) ≡ None) (λ x. name_before sign (lexemes tokens.now) ≡ Some (x.0, lexemes x.1.now)) }
+fn name_before(tokens: &[Spanned], sign: char) -> Option<Front<'_>>
+    ensures { MatchOption result (name_before sign (lexemes tokens.now) ≡ None) (λ front. name_before sign (lexemes tokens.now) ≡ Some (front.name, lexemes front.rest.now)) }
 {
     let [first, second, rest @ ..] = tokens else {
         return None;
     };
     match (&first.token, &second.token) {
-        (Token::Word(name), Token::Mark(mark)) if *mark == sign => Some((*name, rest)),
+        (Token::Word(name), Token::Mark(mark)) if *mark == sign => Some(Front {
+            name: *name,
+            rest,
+        }),
         _ => None,
     }
 }
 
 /// The name at the front, and what comes after it.
-fn name_first(tokens: &[Spanned]) -> Option<(Name, &[Spanned])>
-    ensures { MatchOption result (name_first (lexemes tokens.now) ≡ None) (λ x. name_first (lexemes tokens.now) ≡ Some (x.0, lexemes x.1.now)) }
+fn name_first(tokens: &[Spanned]) -> Option<Front<'_>>
+    ensures { MatchOption result (name_first (lexemes tokens.now) ≡ None) (λ front. name_first (lexemes tokens.now) ≡ Some (front.name, lexemes front.rest.now)) }
 {
     let (first, rest) = tokens.split_first()?;
     match &first.token {
-        Token::Word(name) => Some((*name, rest)),
+        Token::Word(name) => Some(Front { name: *name, rest }),
         _ => None,
     }
 }
@@ -78,8 +88,8 @@ fn only_name(tokens: &[Spanned]) -> Option<Name>
 }
 
 /// The word at the front, after `)`, and what comes after it.
-fn command_word(tokens: &[Spanned]) -> Option<(Name, &[Spanned])>
-    ensures { MatchOption result (command_word (lexemes tokens.now) ≡ None) (λ x. command_word (lexemes tokens.now) ≡ Some (x.0, lexemes x.1.now)) }
+fn command_word(tokens: &[Spanned]) -> Option<Front<'_>>
+    ensures { MatchOption result (command_word (lexemes tokens.now) ≡ None) (λ front. command_word (lexemes tokens.now) ≡ Some (front.name, lexemes front.rest.now)) }
 {
     let (first, rest) = tokens.split_first()?;
     match &first.token {
@@ -102,11 +112,11 @@ fn data(alloc: Global, rest: &[Spanned]) -> Result<Command, ParseFault>
     requires { 2 + length rest.now ≤ most_tokens }
     ensures { IsCommand (Sign right_parenthesis ∷ Named data_word ∷ lexemes rest.now) result }
 {
-    let Some(found) = name_before(rest, '←') else {
+    let Some(front) = name_before(rest, '←') else {
         return Err(ParseFault::Syntax);
     };
-    let value = parse(alloc, found.1)?;
-    Ok(Command::Data(found.0, value))
+    let value = parse(alloc, front.rest)?;
+    Ok(Command::Data(front.name, value))
 }
 
 /// The row with what comes after `) ROW`.
@@ -114,11 +124,11 @@ fn row(alloc: Global, rest: &[Spanned]) -> Result<Command, ParseFault>
     requires { 2 + length rest.now ≤ most_tokens }
     ensures { IsCommand (Sign right_parenthesis ∷ Named row_word ∷ lexemes rest.now) result }
 {
-    let Some(found) = name_first(rest) else {
+    let Some(front) = name_first(rest) else {
         return Err(ParseFault::Syntax);
     };
-    let items = whole_literal(alloc, found.1)?;
-    Ok(Command::Row(found.0, items))
+    let items = whole_literal(alloc, front.rest)?;
+    Ok(Command::Row(front.name, items))
 }
 
 /// What is erased, with what comes after `) ERASE`.
@@ -211,14 +221,14 @@ fn command_of(alloc: Global, tokens: &[Spanned]) -> Result<Command, ParseFault>
     if tokens.is_empty() {
         return Ok(Command::Nothing);
     }
-    if let Some(found) = name_before(tokens, '←') {
-        return define(alloc, found.0, found.1);
+    if let Some(front) = name_before(tokens, '←') {
+        return define(alloc, front.name, front.rest);
     }
-    if let Some(found) = command_word(tokens) {
-        return worded(alloc, found.0, found.1);
+    if let Some(front) = command_word(tokens) {
+        return worded(alloc, front.name, front.rest);
     }
-    if let Some(found) = name_before(tokens, '[') {
-        return cell(alloc, tokens, found.0, found.1);
+    if let Some(front) = name_before(tokens, '[') {
+        return cell(alloc, tokens, front.name, front.rest);
     }
     show(alloc, tokens)
 }
