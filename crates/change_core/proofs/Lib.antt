@@ -4,3 +4,6 @@ pub mod Sourced
 pub mod UsedWays
 pub mod UsedPlaces
 pub mod Steps
+pub mod Collected
+pub mod Walking
+pub mod Filling

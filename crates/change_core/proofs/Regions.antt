@@ -1,15 +1,10 @@
 -- Boxes met with a result, and hulls of them.
 use Rattle.std.proofs.Common.{◌≡◌, ℕ, ◌≤◌, List, [], ◌∷◌, length, refl, ap, ◌∙◌, sym, subst, arith, true, false, Option, Some, None, inl, inr, min, max}
-use Rattle.std.proofs.lemmas.Bool.{and_parts, leb-true, ltb-false, false≢true, cases_Bool, cond-true, cond-false, both_ways, or_parts, or_from, and_from, le-leb, le-ltb}
+use Rattle.std.proofs.lemmas.Bool.{and_parts, leb-true, false≢true, cases_Bool, cond-true, cond-false, both_ways, or_from, and_from, le-leb, le-ltb}
 use Rattle.arrays_core.specs.Shapes.{is_index_of}
 use Rattle.change_core.specs.Reaches.{bounded, is_moved}
-use Rattle.index_region.proofs.Boxes.{within-hull_left, within-hull_right}
+use Rattle.index_region.proofs.Boxes.{within-hull_left, within-hull_right, fits-met, fits_length}
 use Rattle.index_region.specs.Boxes.{Interval, fits, hull_of, is_empty, is_within, join_boxes, met, unless_empty}
-
-pub length-met : (shape : List ℕ) (intervals : List Interval) → length (met shape intervals) ≡ length shape
-length-met [] intervals = refl
-length-met (n ∷ axes) [] = let k = length-met axes [] in omega (arith, k)
-length-met (n ∷ axes) (s ∷ intervals) = let k = length-met axes intervals in omega (arith, k)
 
 -- a place of the result that lies in the box lies in the part of it that is in the result
 pub within-met : (shape : List ℕ) (intervals : List Interval) (index : List ℕ) → is_index_of shape index ≡ true → is_within intervals index ≡ true → is_within (met shape intervals) index ≡ true
@@ -35,18 +30,6 @@ within-some (s ∷ intervals) (i ∷ index) h =
     let h1 = and_parts _ _ hp.0 in
     let order : s.0 ≤ s.1 = omega (arith, leb-true s.0 i h1.0, leb-true i s.1 h1.1) in
     or_from _ _ (le-ltb _ _ order) (within-some intervals index hp.1)
-
--- what is met and not empty lies in the result
-pub fits-met : (shape : List ℕ) (intervals : List Interval) → is_empty (met shape intervals) ≡ false → fits (met shape intervals) shape ≡ true
-fits-met [] intervals h = refl
-fits-met (n ∷ axes) [] h =
-    let parts = or_parts _ _ h in
-    let some : 1 ≤ n = ltb-false n 1 parts.0 in
-    and_from _ _ (and_from _ _ (le-leb 1 n some) (le-leb n n (omega arith))) (fits-met axes [] parts.1)
-fits-met (n ∷ axes) (s ∷ intervals) h =
-    let parts = or_parts _ _ h in
-    let some : max 1 s.0 ≤ min s.1 n = ltb-false (min s.1 n) (max 1 s.0) parts.0 in
-    and_from _ _ (and_from _ _ (and_from _ _ (le-leb 1 (max 1 s.0) (omega arith)) (le-leb _ _ some)) (le-leb (min s.1 n) n (omega arith))) (fits-met axes intervals parts.1)
 
 pub hull_fits : (a b : List Interval) (shape : List ℕ) → fits a shape ≡ true → fits b shape ≡ true → fits (hull_of a b) shape ≡ true
 hull_fits [] [] shape h k = h
@@ -75,12 +58,6 @@ abbrev pub HasFit : List ℕ → Option (List Interval) → Type 0
 HasFit shape None = Unit {0}
 HasFit shape (Some region) = fits region shape ≡ true
 
-pub fits-length : (region : List Interval) (axes : List ℕ) → fits region axes ≡ true → length region ≡ length axes
-fits-length [] [] h = refl
-fits-length (s ∷ region) (n ∷ axes) h = let k = fits-length region axes (and_parts _ _ h).1 in omega (arith, k)
-fits-length [] (n ∷ axes) h = absurd (false≢true h)
-fits-length (s ∷ region) [] h = absurd (false≢true h)
-
 pub unless_empty-fits : (shape : List ℕ) (intervals : List Interval) → HasFit shape (unless_empty (met shape intervals))
 unless_empty-fits shape intervals = elim (cases_Bool (is_empty (met shape intervals))) [
   | inl t ↦ subst (HasFit shape) (sym (cond-true _ _ _ t)) tt
@@ -102,7 +79,7 @@ outside_hull a b index e h = (
 pub join_unmoved : (shape : List ℕ) (p q : Option (List Interval)) (index : List ℕ) → HasFit shape p → HasFit shape q → is_moved (join_boxes p q) index ≡ false → (is_moved p index ≡ false) × (is_moved q index ≡ false)
 join_unmoved shape None q index hp hq u = (refl, u)
 join_unmoved shape (Some a) None index hp hq u = (u, refl)
-join_unmoved shape (Some a) (Some b) index hp hq u = outside_hull a b index (fits-length a shape hp ∙ sym (fits-length b shape hq)) u
+join_unmoved shape (Some a) (Some b) index hp hq u = outside_hull a b index (fits_length a shape hp ∙ sym (fits_length b shape hq)) u
 
 -- a place of the box is announced
 pub unless_empty-within : (shape : List ℕ) (intervals : List Interval) (index : List ℕ) → is_index_of shape index ≡ true → is_within intervals index ≡ true → is_moved (unless_empty (met shape intervals)) index ≡ true

@@ -1,5 +1,5 @@
 -- Results whose items come from places of their arguments keep to their boxes.
-use Rattle.std.proofs.Common.{◌≡◌, ℕ, zero, suc, List, [], ◌∷◌, length, map, refl, ap, ◌∙◌, sym, subst, arith, Bool, true, false, Option, Some, None, Result, Ok, IsOk, unwrap_or}
+use Rattle.std.proofs.Common.{◌≡◌, ℕ, zero, suc, List, [], ◌∷◌, length, map, refl, ap, ◌∙◌, sym, subst, arith, Bool, true, false, Option, None, Result, Ok, IsOk, unwrap_or}
 use Rattle.std.proofs.lemmas.Bool.{false≢true}
 use Rattle.std.proofs.lemmas.List.{length-replicate}
 use Rattle.arrays_core.specs.declared.item.Item.{Item}

@@ -3,7 +3,8 @@ use Rattle.std.proofs.Common.{◌≡◌, ℕ, suc, zero, ◌<◌, List, [], ◌�
 use Rattle.std.proofs.lemmas.List.{drop_all}
 use Rattle.arrays_core.specs.Arrays.{ArrayValue}
 use Rattle.change_core.proofs.Covers.{changed-fits}
-use Rattle.change_core.proofs.Regions.{HasFit, bounded-fits, fits-length}
+use Rattle.change_core.proofs.Regions.{HasFit, bounded-fits}
+use Rattle.index_region.proofs.Boxes.{fits_length}
 use Rattle.change_core.specs.Reaches.{AllFit, Fits, bounded, changed, is_anew}
 use Rattle.change_core.specs.RuleModels.{FitsAt, Use, box_at}
 use Rattle.index_region.specs.Boxes.{Interval, join_boxes}
@@ -96,7 +97,7 @@ pub same_rank : (shape : List ℕ) (p q : Option (List Interval)) → HasFit sha
 same_rank shape p q hp hq a b ea eb =
     let ha = subst (HasFit shape) ea hp in
     let hb = subst (HasFit shape) eb hq in
-    fits-length a shape ha ∙ sym (fits-length b shape hb)
+    fits_length a shape ha ∙ sym (fits_length b shape hb)
 
 -- one more argument
 pub changed_step : (shape : List ℕ) (uses : List Use) (ms : List (Option (List Interval))) (which from next : ℕ) (m rest : Option (List Interval)) → from ≡ which → next ≡ suc which → which < length ms

@@ -5,6 +5,7 @@ use Rattle.std.proofs.lemmas.Nat.{mod_below, div-add-mod', mul-le}
 use Rattle.std.proofs.Math.Nat.{mod-eq_of_lt}
 use Rattle.arrays_core.specs.Shapes.{is_index_of, size, places_before, index_after}
 use Rattle.arrays_core.proofs.Shapes.{places_below}
+use Rattle.arrays_core.proofs.Order.{places_before-index_after}
 use Rattle.change_core.proofs.UsedWays.{within-whole}
 use Rattle.change_core.specs.Laws.{Covered}
 use Rattle.change_core.specs.Places.{by_place, cover_in, first_hit, first_of_box, last_hit, last_of_box, lies_in, searched}
@@ -104,14 +105,6 @@ offset_between (n ∷ axes) (s ∷ region) (i ∷ index) h =
     let a : (s.0 - 1) * size axes ≤ (i - 1) * size axes = mul-le (s.0 - 1) (size axes) (i - 1) (size axes) (omega arith) (omega arith) in
     let b : (i - 1) * size axes ≤ (s.1 - 1) * size axes = mul-le (i - 1) (size axes) (s.1 - 1) (size axes) (omega arith) (omega arith) in
     (omega arith, omega arith)
-
-pub places_before-index_after : (axes : List ℕ) (p : ℕ) → p < size axes → places_before axes (index_after axes p) ≡ p
-places_before-index_after [] p h = omega arith
-places_before-index_after (n ∷ axes) p h =
-    let positive : 0 < size axes = grind arith in
-    let rest = places_before-index_after axes (p % size axes) (mod_below p (size axes) positive) in
-    let one : p / size axes + 1 - 1 ≡ p / size axes = omega arith in
-    rw (one, rest) (div-add-mod' p (size axes))
 
 by_place-within : (from shape : List ℕ) (region : List Interval) (index : List ℕ) → is_index_of shape index ≡ true → size shape ≤ size from → is_within region (index_after from (places_before shape index % size from)) ≡ true → is_moved (cover_in shape (places_before from (first_of_box region)) (places_before from (last_of_box region))) index ≡ true
 by_place-within from shape region index place few inside =

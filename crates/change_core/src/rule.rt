@@ -1,14 +1,16 @@
 //! What a change rule is.
 
-ghost use Rattle.std.specs.Prelude.{◌≡◌, ◌≤◌, ◌<◌, length, get_or, IfOk, false};
+ghost use Rattle.std.specs.Prelude.{◌≡◌, ◌+◌, ◌≤◌, ◌<◌, length, get_or, IfOk, IsTrue, Ok, false};
 ghost use Rattle.arrays_core.specs.Arrays.{IsAnswerTo};
 ghost use Rattle.arrays_core.specs.Limits.{most_axes};
-ghost use Rattle.index_region.specs.Checks.{whole};
+ghost use Rattle.arrays_core.specs.Shapes.{IsWithinLimits};
+ghost use Rattle.index_region.specs.Boxes.{box_size, fits};
+ghost use Rattle.index_region.specs.Checks.{whole, form_of};
 ghost use Rattle.index_region.specs.Answers.{IsFormAnswerTo, IsPlaceOf, HasTypeOf};
 
 use crate::meter::Meter;
 use crate::reach::{Reach, as_reach, bounded, join_boxes};
-use arrays_core::{ApplyFault, Array, Item, ItemType, Kind, Shape};
+use arrays_core::{ApplyFault, Array, Item, ItemType, Kind, Shape, shape_of};
 use index_region::{IndexBox, Intervals, Seen};
 use std::alloc::Global;
 
@@ -18,6 +20,7 @@ pub trait Rule {
     ghost use Rattle.change_core.specs.RuleModels.{RuleModel, FitsAt, HasShape, box_at, form_size};
     ghost use Rattle.change_core.specs.Reaches.{AllFit, reach_of};
     ghost use Rattle.change_core.specs.Meters.{ticked};
+    ghost use Rattle.change_core.specs.Parts.{HoldsItems, items_in};
 
     /// Its checks, its items, and how its results use its arguments.
     ghost model: { Self → RuleModel };
@@ -40,6 +43,37 @@ pub trait Rule {
         requires { length args.now ≡ length (model self.now).selectors }
         ensures is { IsAnswerTo (whole ((model self.now).form args.now) ((model self.now).item args.now)) result }
         ensures ticks { meter.new ≡ ticked meter.old (form_size ((model self.now).form args.now)) };
+
+    /// The items of a box of the result in row-major order, as an array of any shape, or the first error among them. It
+    /// ticks at most as often as the box has places, and as often where it answers Ok.
+    fn part(
+        &self,
+        alloc: Global,
+        args: &[Seen],
+        shape: &[u32],
+        item_type: ItemType,
+        region: &IndexBox,
+        meter: &mut Meter,
+    ) -> Result<Array, ApplyFault>
+        requires count { length args.now ≡ length (model self.now).selectors }
+        requires checked { (model self.now).form args.now ≡ Ok (form_of shape.now item_type) }
+        requires within { IsWithinLimits shape.now }
+        requires fit { IsTrue (fits region.now shape.now) }
+        ensures items { HoldsItems item_type (items_in ((model self.now).item args.now) region.now) result }
+        ensures ticks { meter.new ≤ meter.old + box_size region.now }
+        ensures exact { IfOk result (λ _. meter.new ≡ ticked meter.old (box_size region.now)) }
+    {
+        let places = region.size();
+        let mut values = Array::filled(alloc, item_type, &shape_of(alloc, &[places as u32]))?;
+        for place in 0..places {
+            let index = region.index_at(place);
+            match self.item(args, index.as_slice(), meter) {
+                Ok(item) => values.write_at(place as u32 + 1, item),
+                Err(kind) => return Err(ApplyFault::Kind(kind)),
+            }
+        }
+        Ok(values)
+    }
 
     /// A change of the argument makes the result anew, its shape too.
     fn selects(&self, which: usize) -> bool

@@ -1,0 +1,103 @@
+-- The items along the walk of a box.
+use Rattle.std.proofs.Common.{◌≡◌, ℕ, suc, zero, ◌+◌, ◌-◌, ◌*◌, ◌/◌, ◌%◌, ◌<◌, ◌≤◌, List, [], ◌∷◌, ◌++◌, length, map, refl, ap, ◌∙◌, sym, arith, true, Result, Ok, Err}
+use Rattle.std.specs.List.{range_with_len}
+use Rattle.std.proofs.lemmas.List.{append_assoc, append-nil, ext_get_or, length-map}
+use Rattle.std.proofs.lemmas.List.FromFn.{get_or-map-range_with_len, length-map-range_with_len}
+use Rattle.std.proofs.Math.ListN.{get_or-map}
+use Rattle.arrays_core.proofs.Order.{length-indices, get_or-indices}
+use Rattle.std.proofs.lemmas.Bool.{and_from, le-leb}
+use Rattle.std.proofs.lemmas.Nat.{div_below, mod_below}
+use Rattle.arrays_core.specs.declared.item.Item.{Item}
+use Rattle.arrays_core.specs.declared.item.Kind.{Kind}
+use Rattle.arrays_core.specs.Shapes.{size, indices, index_after}
+use Rattle.change_core.proofs.Collected.{put_first, collected, along}
+use Rattle.index_region.specs.Boxes.{Interval, box_size, interval_length, is_within, walk_at, whole_of}
+
+-- the factors of a sized that has a place
+size_parts : (p n w : ℕ) → p < n * w → 0 < w
+size_parts p n w h = grind arith
+
+pub walk_within : (region : List Interval) (p : ℕ) → p < box_size region → is_within region (walk_at region p) ≡ true
+walk_within [] p h = refl
+walk_within (s ∷ intervals) p h =
+    let positive = size_parts p (interval_length s) (box_size intervals) h in
+    let steps = div_below p (box_size intervals) (interval_length s) positive h in
+    let low : s.0 ≤ s.0 + p / box_size intervals = omega arith in
+    let high : s.0 + p / box_size intervals ≤ s.1 = omega arith in
+    and_from _ _ (and_from _ _ (le-leb _ _ low) (le-leb _ _ high)) (walk_within intervals (p % box_size intervals) (mod_below p (box_size intervals) positive))
+
+pub box_size-whole : (axes : List ℕ) → box_size (whole_of axes) ≡ size axes
+box_size-whole [] = refl
+box_size-whole (n ∷ axes) = let one : n + 1 - 1 ≡ n = omega arith in rw (one, box_size-whole axes) refl
+
+-- the walk of the box of all places is that of the shape
+pub walk-whole : (axes : List ℕ) (p : ℕ) → walk_at (whole_of axes) p ≡ index_after axes p
+walk-whole [] p = refl
+walk-whole (n ∷ axes) p =
+    let sized = box_size-whole axes in
+    let head : 1 + p / box_size (whole_of axes) ≡ p / size axes + 1 = rw sized (omega arith) in
+    let tail : walk_at (whole_of axes) (p % box_size (whole_of axes)) ≡ index_after axes (p % size axes) = rw sized (walk-whole axes (p % size axes)) in
+    λ i. head i ∷ tail i
+
+-- so the items of that box are those of all index lists in their order
+pub walk_is : (shape : List ℕ) (item : List ℕ → Result Item Kind) → along item (whole_of shape) ≡ map item (indices shape)
+walk_is shape item =
+    let f = λ (p : ℕ). item (walk_at (whole_of shape) p) in
+    let n = box_size (whole_of shape) in
+    let many : n ≡ size shape = box_size-whole shape in
+    let long : length (map f (range_with_len 0 n)) ≡ n = length-map-range_with_len f 0 n in
+    let wide : length (map item (indices shape)) ≡ size shape = length-map (indices shape) item ∙ length-indices shape in
+    ext_get_or (item []) (map f (range_with_len 0 n)) (map item (indices shape)) (omega arith) (λ i h.
+    let below : i < n = omega arith in
+    let under : i < size shape = omega arith in
+    get_or-map-range_with_len f 0 n i i (item []) below (omega arith)
+    ∙ ap item (walk-whole shape i)
+    ∙ sym (get_or-map item (indices shape) i [] ∙ ap item (get_or-indices shape i under)))
+
+-- items before a list of items or an error
+abbrev pub prepend : List Item → Result (List Item) Kind → Result (List Item) Kind
+prepend xs (Ok ys) = Ok (xs ++ ys)
+prepend xs (Err k) = Err k
+
+-- what the places from p on give
+abbrev pub rest_from : (ℕ → Result Item Kind) → ℕ → ℕ → Result (List Item) Kind
+rest_from f n p = collected (map f (range_with_len p (n - p)))
+
+pub prepend-nil : (r : Result (List Item) Kind) → prepend [] r ≡ r
+prepend-nil (Ok ys) = refl
+prepend-nil (Err k) = refl
+
+prepend-put : (xs : List Item) (x : Item) (r : Result (List Item) Kind) → prepend xs (put_first (Ok x) r) ≡ prepend (xs ++ x ∷ []) r
+prepend-put xs x (Ok ys) = ap (λ (l : List Item). Ok l) (sym (append_assoc xs (x ∷ []) ys))
+prepend-put xs x (Err k) = refl
+
+one_more : (f : ℕ → Result Item Kind) (n p : ℕ) → p < n → rest_from f n p ≡ put_first (f p) (rest_from f n (p + 1))
+one_more f n p h =
+    let e : n - p ≡ suc (n - (p + 1)) = omega arith in
+    ap (λ (m : ℕ). collected (map f (range_with_len p m))) e
+
+pub rest_ok : (f : ℕ → Result Item Kind) (n p : ℕ) (xs : List Item) (x : Item) → p < n → f p ≡ Ok x → prepend xs (rest_from f n p) ≡ prepend (xs ++ x ∷ []) (rest_from f n (p + 1))
+rest_ok f n p xs x h e = ap (prepend xs) (one_more f n p h ∙ ap (λ (r : Result Item Kind). put_first r (rest_from f n (p + 1))) e) ∙ prepend-put xs x (rest_from f n (p + 1))
+
+pub rest_err : (f : ℕ → Result Item Kind) (n p : ℕ) (xs : List Item) (k : Kind) → p < n → f p ≡ Err k → prepend xs (rest_from f n p) ≡ Err k
+rest_err f n p xs k h e = ap (prepend xs) (one_more f n p h ∙ ap (λ (r : Result Item Kind). put_first r (rest_from f n (p + 1))) e)
+
+pub rest_end : (f : ℕ → Result Item Kind) (n p : ℕ) (xs : List Item) → n ≤ p → prepend xs (rest_from f n p) ≡ Ok xs
+rest_end f n p xs h =
+    let e : n - p ≡ zero = omega arith in
+    ap (λ (m : ℕ). prepend xs (collected (map f (range_with_len p m)))) e ∙ ap (λ (l : List Item). Ok l) (append-nil xs)
+
+put_length : (r : Result Item Kind) (rest : Result (List Item) Kind) (xs : List Item) (n : ℕ) → ((ys : List Item) → rest ≡ Ok ys → length ys ≡ n) → put_first r rest ≡ Ok xs → length xs ≡ suc n
+put_length (Ok x) (Ok ys) xs n h e =
+    let same : x ∷ ys ≡ xs = cc in
+    sym (ap length same) ∙ ap suc (h ys refl)
+put_length (Ok x) (Err k) xs n h e = absurd cc
+put_length (Err k) rest xs n h e = absurd cc
+
+length-collected : (f : ℕ → Result Item Kind) (n a : ℕ) (xs : List Item) → collected (map f (range_with_len a n)) ≡ Ok xs → length xs ≡ n
+length-collected f zero a xs e = let same : [] ≡ xs = cc in sym (ap length same)
+length-collected f (suc n) a xs e = put_length (f a) (collected (map f (range_with_len (a + 1) n))) xs n (λ ys h. length-collected f n (a + 1) ys h) e
+
+-- as many items as places
+pub length-along : (item : List ℕ → Result Item Kind) (region : List Interval) (xs : List Item) → collected (along item region) ≡ Ok xs → length xs ≡ box_size region
+length-along item region xs e = length-collected (λ p. item (walk_at region p)) (box_size region) 0 xs e

@@ -1,0 +1,18 @@
+use Rattle.std.proofs.Common.{◌≡◌, ◌≤◌, ◌<◌, ◌+◌, take, length}
+use Rattle.index_region.specs.Boxes.{box_size, walk_at}
+use Rattle.change_core.proofs.Collected.{along, collected}
+use Rattle.change_core.specs.Meters.{ticked}
+use Rattle.change_core.proofs.Walking.{prepend, rest_from}
+use Rattle.change_core.proofs.rule.Rule.part.Given as goal
+
+abbrev pub invariant-loop-place : goal.invariant-loop-place
+invariant-loop-place g l =
+    let item = (g.Self.Rule.model l.self).item l.args in
+    record {
+      none : l.place ≡ 0 → l.meter ≡ l.initial.meter;
+      some : 0 < l.place → l.meter ≡ ticked l.initial.meter l.place;
+      ticks : l.meter ≤ l.initial.meter + l.place;
+      many : length l.values.items ≡ box_size l.region;
+      typed : l.values.item_type ≡ l.fn.item_type;
+      rest : prepend (take l.place l.values.items) (rest_from (λ p. item (walk_at l.region p)) (box_size l.region) l.place) ≡ collected (along item l.region);
+    }
