@@ -1,0 +1,69 @@
+-- What a change says is so of the result.
+use Rattle.std.proofs.Common.{◌≡◌, inl, inr, ◌+◌, List, Result, Ok, Err, IfOk, true, refl, ap, ◌∙◌, sym, subst, arith}
+use Rattle.std.specs.declared.alloc.AllocError.{AllocError}
+use Rattle.std.proofs.lemmas.Bool.{cases_Bool, cond-true, cond-false}
+use Rattle.arrays_core.specs.declared.item.Item.{Item}
+use Rattle.arrays_core.specs.declared.item.Kind.{Kind}
+use Rattle.arrays_core.specs.Arrays.{ArrayValue}
+use Rattle.arrays_core.specs.Items.{fill}
+use Rattle.index_region.specs.declared.delta.Delta.{Delta}
+use Rattle.index_region.specs.Answers.{IsPlaceOf}
+use Rattle.index_region.specs.Boxes.{Interval, fits, is_within, walk_at, box_offset, box_size}
+use Rattle.index_region.specs.Checks.{Form, whole}
+use Rattle.index_region.proofs.Patched.{fits_within}
+use Rattle.change_core.specs.declared.reach.Reach.{Reach}
+use Rattle.change_core.specs.declared.reach.Reach.TheVariants.{Unmoved, Inside, Anew}
+use Rattle.change_core.specs.Parts.{items_in}
+use Rattle.change_core.specs.Reaches.{LiesIn}
+use Rattle.change_core.specs.RuleModels.{RuleModel}
+use Rattle.change_core.proofs.Collected.{items_are}
+use Rattle.change_core.proofs.Covers.{reaches_inside}
+use Rattle.change_core.proofs.Walking.{walk_within}
+use Rattle.change_rules.specs.Currency.{IsRight}
+use Rattle.change_rules.specs.Nodes.{Argument, views, moved, all_same, starts_anew, node_delta, node_reach, patch_delta, reached_delta}
+use Rattle.change_rules.specs.Outcomes.{Outcome, given}
+use Rattle.change_rules.proofs.PatchRight.{collected_in, first_error, walk-box_offset, box_offset-below}
+
+patch_is_right : (p : RuleModel) (args : List ArrayValue) (f : Form) (region : List Interval) (r : Result (List Item) Kind) → p.form args ≡ Ok f → fits region f.shape ≡ true → items_in (p.item args) region ≡ r
+    → IsRight p args (patch_delta f.item_type region r)
+patch_is_right p args f region (Ok xs) e fit is = record {
+  form = f;
+  passes = e;
+  fit = fit;
+  typed = refl;
+  items = λ index h.
+      ap (p.item args) (sym (walk-box_offset region index h))
+      ∙ collected_in (fill f.item_type) (λ q. p.item args (walk_at region q)) (box_size region) xs (items_are (p.item args) region ∙ is) (box_offset region index) (box_offset-below region index h);
+}
+patch_is_right p args f region (Err k) e fit is =
+    let first = first_error (λ q. p.item args (walk_at region q)) (box_size region) 0 k (items_are (p.item args) region ∙ is) in
+    let index = walk_at region (0 + first.place) in
+    let inside : is_within region index ≡ true = walk_within region (0 + first.place) (let below = first.below in omega arith) in
+    inr (record {
+      kind = k;
+      index = index;
+      place = subst (λ (x : Result Form Kind). IsPlaceOf x index) (sym e) (fits_within region f.shape index fit inside);
+      fails = first.fails;
+      is = refl;
+    })
+
+reached_is_right : (p : RuleModel) (args : List ArrayValue) (form : Result Form Kind) (reach : Reach) → p.form args ≡ form → LiesIn form reach → IsRight p args (reached_delta form (p.item args) reach)
+reached_is_right p args (Err k) reach e lies = inl (ap (λ (x : Result Form Kind). given (whole x (p.item args))) (sym e))
+reached_is_right p args (Ok f) Unmoved e lies = tt
+reached_is_right p args (Ok f) Anew e lies = inl (ap (λ (x : Result Form Kind). given (whole x (p.item args))) (sym e))
+reached_is_right p args (Ok f) (Inside region) e lies = patch_is_right p args f region (items_in (p.item args) region) e lies refl
+
+pub node_is_right : (p : RuleModel) (args : List Argument) (old : Outcome) → IsRight p (views args) (node_delta p args old)
+node_is_right p args old = elim (cases_Bool (all_same args)) [
+  | inl t ↦ subst (IsRight p (views args)) (sym (cond-true _ _ _ t)) tt
+  | inr f ↦ elim (cases_Bool (starts_anew args old)) [
+    | inl t ↦ subst (IsRight p (views args)) (sym (cond-false _ _ _ f ∙ cond-true _ _ _ t)) (inl refl)
+    | inr g ↦ subst (IsRight p (views args)) (sym (cond-false _ _ _ f ∙ cond-false _ _ _ g))
+        (reached_is_right p (views args) (p.form (views args)) (node_reach p args) refl (reaches_inside p (views args) (moved args)))
+  ]
+]
+
+-- what holds of the change that was asked for holds of an answer that is that change
+pub answered : (P : Delta → Type 0) (r : Result Delta AllocError) (wanted : Delta) → IfOk r (λ d. d ≡ wanted) → P wanted → IfOk r P
+answered P (Ok d) wanted e h = subst P (sym e) h
+answered P (Err e) wanted is h = tt

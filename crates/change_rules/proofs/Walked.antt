@@ -1,0 +1,53 @@
+-- The whole evaluation along the box of all places.
+use Rattle.std.proofs.Common.{◌≡◌, ℕ, List, map, refl, ap, ◌∙◌, Result, Ok, Err}
+use Rattle.arrays_core.specs.declared.item.Item.{Item}
+use Rattle.arrays_core.specs.declared.item.Kind.{Kind}
+use Rattle.arrays_core.specs.Items.{all_or_first_error}
+use Rattle.arrays_core.specs.Arrays.{with_items}
+use Rattle.arrays_core.specs.Shapes.{indices}
+use Rattle.index_region.specs.declared.delta.Delta.{Delta}
+use Rattle.index_region.specs.declared.delta.Delta.TheVariants.{Same, Whole}
+use Rattle.index_region.specs.Boxes.{whole_of}
+use Rattle.index_region.specs.Checks.{Form, whole}
+use Rattle.change_core.specs.declared.reach.Reach.{Reach}
+use Rattle.change_core.specs.declared.reach.Reach.TheVariants.{Unmoved, Inside, Anew}
+use Rattle.change_core.proofs.Collected.{collected, along, collected_is, items_are}
+use Rattle.change_core.proofs.Walking.{walk_is}
+use Rattle.change_rules.specs.Outcomes.{Outcome, fault, given}
+use Rattle.change_rules.specs.Nodes.{patch_delta, reached_delta}
+
+abbrev pub failing : Kind → Outcome
+failing k = Err (fault k)
+
+abbrev pub array_of : Form → Result (List Item) Kind → Outcome
+array_of f (Ok xs) = Ok (record { item_type = f.item_type; shape = f.shape; items = xs })
+array_of f (Err k) = failing k
+
+-- the checks, and then the items along the box of all places
+abbrev pub walked : Result Form Kind → (List ℕ → Result Item Kind) → Outcome
+walked (Ok f) item = array_of f (collected (along item (whole_of f.shape)))
+walked (Err k) item = failing k
+
+array_is : (f : Form) (r : Result (List Item) Kind) → array_of f r ≡ given (with_items f.item_type f.shape r)
+array_is f (Ok xs) = refl
+array_is f (Err k) = refl
+
+pub walked_is : (form : Result Form Kind) (item : List ℕ → Result Item Kind) → walked form item ≡ given (whole form item)
+walked_is (Ok f) item =
+    ap (λ (rs : List (Result Item Kind)). array_of f (collected rs)) (walk_is f.shape item)
+    ∙ ap (array_of f) (collected_is (map item (indices f.shape)))
+    ∙ array_is f (all_or_first_error (map item (indices f.shape)))
+walked_is (Err k) item = refl
+
+-- the change of a node, an item at a time
+abbrev pub walked_delta : Result Form Kind → (List ℕ → Result Item Kind) → Reach → Delta
+walked_delta (Err k) item reach = Whole (failing k)
+walked_delta (Ok f) item Unmoved = Same
+walked_delta (Ok f) item (Inside region) = patch_delta f.item_type region (collected (along item region))
+walked_delta (Ok f) item Anew = Whole (walked (Ok f) item)
+
+pub walked_delta_is : (form : Result Form Kind) (item : List ℕ → Result Item Kind) (reach : Reach) → walked_delta form item reach ≡ reached_delta form item reach
+walked_delta_is (Err k) item reach = refl
+walked_delta_is (Ok f) item Unmoved = refl
+walked_delta_is (Ok f) item (Inside region) = ap (patch_delta f.item_type region) (items_are item region)
+walked_delta_is (Ok f) item Anew = ap (λ (r : Outcome). Whole r) (walked_is (Ok f) item)

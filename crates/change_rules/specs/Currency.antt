@@ -1,0 +1,63 @@
+-- What makes a change right.
+use Rattle.std.specs.Prelude.{◌≡◌, ◌⊎◌, true, ℕ, List, [], ◌∷◌, Ok, Err, IsTrue, IfOk, map, get_or}
+use Rattle.arrays_core.specs.declared.item.Kind.{Kind}
+use Rattle.arrays_core.specs.Arrays.{ArrayValue, IsArray}
+use Rattle.arrays_core.specs.Items.{fill}
+use Rattle.index_region.specs.declared.delta.Delta.{Delta}
+use Rattle.index_region.specs.declared.delta.Delta.TheVariants.{Same, Patch, Whole}
+use Rattle.index_region.specs.Answers.{IsPlaceOf}
+use Rattle.index_region.specs.Boxes.{is_within, fits, box_offset}
+use Rattle.index_region.specs.Checks.{Form}
+use Rattle.index_region.specs.Patches.{PatchValue, patched}
+use Rattle.change_core.specs.RuleModels.{RuleModel}
+use Rattle.change_rules.specs.Outcomes.{Outcome, fault, evaluation}
+use Rattle.change_rules.specs.Nodes.{Argument, views}
+
+-- what a change makes of an array or an error
+abbrev pub applied : Delta → Outcome → Outcome
+applied Same old = old
+applied (Patch p) (Ok a) = Ok (patched a p)
+applied (Patch p) (Err f) = Err f
+applied (Whole r) old = r
+
+-- the argument is what its change makes of what it was, which was an array or an error
+pub record Became (old : Outcome) (a : Argument) : Type 0 where
+  pub becomes : applied a.1.now old ≡ Ok a.0
+  pub sound : IfOk old IsArray
+
+-- so is each argument
+abbrev pub Shows : List Outcome → List Argument → Type 0
+Shows [] [] = Unit {0}
+Shows (old ∷ olds) (a ∷ args) = Became old a × Shows olds args
+Shows _ _ = ⊥
+
+-- it is the whole evaluation of these arguments, where all are arrays
+abbrev pub IsEvaluation : RuleModel → List Outcome → Outcome → Type 0
+IsEvaluation p olds old = (arrays : List ArrayValue) → olds ≡ map (λ a. Ok a) arrays → old ≡ evaluation p arrays
+
+-- whatever the arguments were, if the node held the whole evaluation of those, the change makes of it that of the new ones
+abbrev pub BringsUpToDate : RuleModel → List Argument → Outcome → Delta → Type 0
+BringsUpToDate p args old d = (olds : List Outcome) → Shows olds args → IsEvaluation p olds old → applied d old ≡ evaluation p (views args)
+
+-- the patch lies in the result, and each of its items is the item of the result at its place
+pub record IsRightPatch (p : RuleModel) (args : List ArrayValue) (patch : PatchValue) : Type 0 where
+  pub form : Form
+  pub passes : p.form args ≡ Ok form
+  pub fit : fits patch.region form.shape ≡ true
+  pub typed : patch.item_type ≡ form.item_type
+  pub items : (index : List ℕ) → IsTrue (is_within patch.region index) → p.item args index ≡ Ok (get_or patch.items (box_offset patch.region index) (fill patch.item_type))
+
+-- the error of an item of the result
+pub record IsItemError (p : RuleModel) (args : List ArrayValue) (r : Outcome) : Type 0 where
+  pub kind : Kind
+  pub index : List ℕ
+  pub place : IsPlaceOf (p.form args) index
+  pub fails : p.item args index ≡ Err kind
+  pub is : r ≡ Err (fault kind)
+
+-- what a change says is so of the result: the items of a patch are its items, and a whole is the whole evaluation, or the
+-- error of an item
+abbrev pub IsRight : RuleModel → List ArrayValue → Delta → Type 0
+IsRight p args Same = Unit {0}
+IsRight p args (Patch patch) = IsRightPatch p args patch
+IsRight p args (Whole r) = (r ≡ evaluation p args) ⊎ IsItemError p args r

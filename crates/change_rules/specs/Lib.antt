@@ -1,0 +1,4 @@
+-- What public contracts mean.
+pub mod Outcomes
+pub mod Nodes
+pub mod Currency

@@ -1,0 +1,67 @@
+//! The arguments of a node as they are handed in: each as it is now, with what changed of it.
+
+ghost use Rattle.std.specs.Prelude.{◌≡◌, IfOk, is_ok, not, ◌||◌};
+ghost use Rattle.change_rules.specs.Nodes.{views, moved, moved_by as box_moved_by, all_same as all_are_same, starts_anew as anew, is_whole};
+ghost use Rattle.std.specs.List.{list_any};
+
+use arrays_core::{Array, Fault};
+use index_region::{Delta, IndexBox, Seen};
+use std::alloc::{AllocError, Global};
+
+/// The arguments as they are now.
+pub(crate) fn views_of<'a>(
+    alloc: Global,
+    args: &[(Seen<'a>, &Delta)],
+) -> Result<Vec<Seen<'a>>, AllocError>
+    ensures { IfOk result (λ v. v.items ≡ views args.now) }
+{
+    let mut views = Vec::new(alloc);
+    for (view, _) in args {
+        views.push(view.again())?;
+    }
+    Ok(views)
+}
+
+/// The changed boxes of the arguments.
+pub(crate) fn moves_of(
+    alloc: Global,
+    args: &[(Seen, &Delta)],
+) -> Result<Vec<Option<IndexBox>>, AllocError>
+    ensures { IfOk result (λ v. v.items ≡ moved args.now) }
+{
+    let mut moves = Vec::new(alloc);
+    for (_, delta) in args {
+        moves.push(moved_by(delta))?;
+    }
+    Ok(moves)
+}
+
+/// The changed box of an argument.
+pub(crate) fn moved_by(delta: &Delta) -> Option<IndexBox>
+    ensures { result ≡ box_moved_by delta.now }
+{
+    match delta {
+        Delta::Patch(patch) => Some(patch.region().copy()),
+        _ => None,
+    }
+}
+
+pub(crate) fn all_same(args: &[(Seen, &Delta)]) -> bool
+    ensures { result ≡ all_are_same args.now }
+{
+    args.iter().all(|(_, delta)| matches!(delta, Delta::Same))
+}
+
+fn any_whole(args: &[(Seen, &Delta)]) -> bool
+    ensures { result ≡ list_any (λ a. is_whole a.1.now) args.now }
+{
+    args.iter()
+        .any(|(_, delta)| matches!(delta, Delta::Whole(_)))
+}
+
+/// An argument is another array, or the node held an error.
+pub(crate) fn starts_anew(args: &[(Seen, &Delta)], old: &Result<Array, Fault>) -> bool
+    ensures { result ≡ anew args.now old.now }
+{
+    any_whole(args) || old.is_err()
+}

@@ -1,0 +1,155 @@
+//! The change of a node, from the changes of its arguments.
+
+ghost use Rattle.std.specs.Prelude.{◌≡◌, ◌+◌, ◌≤◌, length, IfOk, false};
+ghost use Rattle.change_core.specs.Reaches.{AllFit, reach_of};
+ghost use Rattle.change_rules.specs.Nodes.{views, moved, all_same as all_are_same, node_delta, node_cost, reached_delta, reach_size};
+ghost use Rattle.change_rules.specs.Currency.{BringsUpToDate, IsRight};
+
+use crate::arguments::{all_same, moved_by, moves_of, starts_anew, views_of};
+use crate::result::{evaluate, patch_of};
+use arrays_core::{Array, Fault};
+use change_core::{Meter, Reach, Rule, Tight};
+use index_region::{Delta, IndexBox, Seen};
+use std::alloc::{AllocError, Global};
+
+/// The change of a node that held an array, where arguments were patched.
+fn reached<R: Rule>(
+    alloc: Global,
+    rule: &R,
+    args: &[Seen],
+    boxes: &[Option<IndexBox>],
+    meter: &mut Meter,
+) -> Result<Delta, AllocError>
+    requires count { length args.now ≡ length (R.model rule.now).selectors }
+    requires boxes { length boxes.now ≡ length args.now }
+    requires fit { AllFit args.now boxes.now }
+    ensures delta { IfOk result (λ d. d ≡ reached_delta ((R.model rule.now).form args.now) ((R.model rule.now).item args.now) (reach_of (R.model rule.now) args.now boxes.now)) }
+    ensures ticks { meter.new ≤ meter.old + reach_size ((R.model rule.now).form args.now) (reach_of (R.model rule.now) args.now boxes.now) }
+{
+    match rule.shape(args) {
+        Err(kind) => Ok(Delta::Whole(Err(Fault { kind, origin: None }))),
+        Ok(form) => match rule.reach_in(args, form.0.as_slice(), boxes) {
+            Reach::Unmoved => Ok(Delta::Same),
+            Reach::Inside(region) => patch_of(alloc, rule, args, &form, region, meter),
+            Reach::Anew => Ok(Delta::Whole(evaluate(alloc, rule, args, meter)?)),
+        },
+    }
+}
+
+/// The change of a node of which some argument changed.
+fn change_from<R: Rule>(
+    alloc: Global,
+    rule: &R,
+    seen: &[Seen],
+    boxes: &[Option<IndexBox>],
+    args: &[(Seen, &Delta)],
+    old: &Result<Array, Fault>,
+    meter: &mut Meter,
+) -> Result<Delta, AllocError>
+    requires count { length args.now ≡ length (R.model rule.now).selectors }
+    requires fit { AllFit (views args.now) (moved args.now) }
+    requires seen { seen.now ≡ views args.now }
+    requires boxes { boxes.now ≡ moved args.now }
+    requires some { all_are_same args.now ≡ false }
+    ensures delta { IfOk result (λ d. d ≡ node_delta (R.model rule.now) args.now old.now) }
+    ensures ticks { meter.new ≤ meter.old + node_cost (R.model rule.now) args.now old.now }
+{
+    if starts_anew(args, old) {
+        return Ok(Delta::Whole(evaluate(alloc, rule, seen, meter)?));
+    }
+    reached(alloc, rule, seen, boxes, meter)
+}
+
+/// The change of a node. Views and boxes of up to five arguments take no memory.
+fn change_of<R: Rule>(
+    alloc: Global,
+    rule: &R,
+    args: &[(Seen, &Delta)],
+    old: &Result<Array, Fault>,
+    meter: &mut Meter,
+) -> Result<Delta, AllocError>
+    requires count { length args.now ≡ length (R.model rule.now).selectors }
+    requires fit { AllFit (views args.now) (moved args.now) }
+    ensures delta { IfOk result (λ d. d ≡ node_delta (R.model rule.now) args.now old.now) }
+    ensures ticks { meter.new ≤ meter.old + node_cost (R.model rule.now) args.now old.now }
+{
+    if all_same(args) {
+        return Ok(Delta::Same);
+    }
+    match args {
+        [(a, d)] => {
+            let seen = [a.again()];
+            let boxes = [moved_by(d)];
+            change_from(alloc, rule, &seen, &boxes, args, old, meter)
+        }
+        [(a, d), (b, e)] => {
+            let seen = [a.again(), b.again()];
+            let boxes = [moved_by(d), moved_by(e)];
+            change_from(alloc, rule, &seen, &boxes, args, old, meter)
+        }
+        [(a, d), (b, e), (c, f)] => {
+            let seen = [a.again(), b.again(), c.again()];
+            let boxes = [moved_by(d), moved_by(e), moved_by(f)];
+            change_from(alloc, rule, &seen, &boxes, args, old, meter)
+        }
+        [(a, d), (b, e), (c, f), (x, g)] => {
+            let seen = [a.again(), b.again(), c.again(), x.again()];
+            let boxes = [moved_by(d), moved_by(e), moved_by(f), moved_by(g)];
+            change_from(alloc, rule, &seen, &boxes, args, old, meter)
+        }
+        [(a, d), (b, e), (c, f), (x, g), (y, h)] => {
+            let seen = [a.again(), b.again(), c.again(), x.again(), y.again()];
+            let boxes = [
+                moved_by(d),
+                moved_by(e),
+                moved_by(f),
+                moved_by(g),
+                moved_by(h),
+            ];
+            change_from(alloc, rule, &seen, &boxes, args, old, meter)
+        }
+        _ => {
+            let seen = views_of(alloc, args)?;
+            let boxes = moves_of(alloc, args)?;
+            change_from(alloc, rule, &seen, &boxes, args, old, meter)
+        }
+    }
+}
+
+/// The change of a node, from the changes of its arguments, by a rule whose boxes hold all that changes: where `old` was
+/// the whole evaluation, what the change makes of it is the whole evaluation of the new arguments. Where no argument
+/// changed nothing does. Each item that it computes ticks.
+pub fn refresh<R: Tight>(
+    alloc: Global,
+    rule: &R,
+    args: &[(Seen, &Delta)],
+    old: &Result<Array, Fault>,
+    meter: &mut Meter,
+) -> Result<Delta, AllocError>
+    requires count { length args.now ≡ length (R.model rule.now).selectors }
+    requires fit { AllFit (views args.now) (moved args.now) }
+    ensures delta { IfOk result (λ d. d ≡ node_delta (R.model rule.now) args.now old.now) }
+    ensures ticks { meter.new ≤ meter.old + node_cost (R.model rule.now) args.now old.now }
+    ensures right { IfOk result (λ d. IsRight (R.model rule.now) (views args.now) d) }
+    ensures whole { IfOk result (λ d. BringsUpToDate (R.model rule.now) args.now old.now d) }
+{
+    refresh_loose(alloc, rule, args, old, meter)
+}
+
+/// The change of a node, from the changes of its arguments, by any rule: a patch holds items of the new result, and a
+/// whole is the new result, or the error of an item of it.
+pub fn refresh_loose<R: Rule>(
+    alloc: Global,
+    rule: &R,
+    args: &[(Seen, &Delta)],
+    old: &Result<Array, Fault>,
+    meter: &mut Meter,
+) -> Result<Delta, AllocError>
+    requires count { length args.now ≡ length (R.model rule.now).selectors }
+    requires fit { AllFit (views args.now) (moved args.now) }
+    ensures delta { IfOk result (λ d. d ≡ node_delta (R.model rule.now) args.now old.now) }
+    ensures ticks { meter.new ≤ meter.old + node_cost (R.model rule.now) args.now old.now }
+    ensures right { IfOk result (λ d. IsRight (R.model rule.now) (views args.now) d) }
+{
+    change_of(alloc, rule, args, old, meter)
+}
