@@ -1,2 +1,4 @@
 -- What public contracts mean.
+pub mod Reverse
 -- The laws that the impls cite.
+pub mod ReverseLaw
