@@ -1,0 +1,2 @@
+pub mod ScalarAnswers
+mod ScalarCases
