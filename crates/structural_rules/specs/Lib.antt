@@ -1,4 +1,7 @@
 -- What public contracts mean.
 pub mod Reverse
+pub mod Rotate
+pub mod Transpose
+pub mod DyadicTranspose
 -- The laws that the impls cite.
 pub mod ReverseLaw
