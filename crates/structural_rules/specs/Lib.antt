@@ -5,3 +5,5 @@ pub mod Transpose
 pub mod DyadicTranspose
 -- The laws that the impls cite.
 pub mod ReverseLaw
+pub mod TransposeLaw
+pub mod DyadicTransposeLaw

@@ -5,10 +5,11 @@ ghost use Rattle.std.proofs.Common.{rules};
 ghost use Rattle.arrays_core.specs.Limits.{most_axes};
 ghost use Rattle.change_core.specs.Ways.{meet_at as meet_on_axis, meets as meets_on_axes};
 ghost use Rattle.structural_rules.specs.DyadicTranspose.{axes_from_zero, transpose_by_rule};
+ghost use Rattle.structural_rules.specs.DyadicTransposeLaw.{transpose_by_tight};
 
 use crate::ruled::Ruled;
 use arrays_core::{ApplyFault, Array};
-use change_core::Announced;
+use change_core::{Announced, Lawful};
 use index_region::{IndexBox, Intervals, Seen};
 use std::alloc::Global;
 use structural_fns::DyadicTranspose;
@@ -85,4 +86,8 @@ impl Announced for Ruled<DyadicTranspose> {
     }
 
     ghost counted = { λ _. Prim.search rules };
+}
+
+impl Lawful for Ruled<DyadicTranspose> {
+    ghost tight = { λ _. transpose_by_tight };
 }

@@ -3,10 +3,11 @@
 ghost use Rattle.std.specs.Prelude.{◌≡◌, reverse};
 ghost use Rattle.std.proofs.Common.{rules};
 ghost use Rattle.structural_rules.specs.Transpose.{transpose_rule};
+ghost use Rattle.structural_rules.specs.TransposeLaw.{transpose_tight};
 
 use crate::ruled::Ruled;
 use arrays_core::{ApplyFault, Array};
-use change_core::Announced;
+use change_core::{Announced, Lawful};
 use index_region::{IndexBox, Intervals, Seen};
 use std::alloc::Global;
 use structural_fns::Transpose;
@@ -48,4 +49,8 @@ impl Announced for Ruled<Transpose> {
     }
 
     ghost counted = { λ _. Prim.search rules };
+}
+
+impl Lawful for Ruled<Transpose> {
+    ghost tight = { λ _. transpose_tight };
 }
