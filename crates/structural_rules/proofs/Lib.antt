@@ -1,3 +1,6 @@
 pub mod Intervals
 pub mod Meets
 mod TurnedCases
+pub mod BoxPlaces
+pub mod Calls
+pub mod Moved

@@ -3,7 +3,13 @@ pub mod Reverse
 pub mod Rotate
 pub mod Transpose
 pub mod DyadicTranspose
+pub mod Ravel
+pub mod Reshape
+pub mod AxisCounts
+pub mod Take
+pub mod Drop
 -- The laws that the impls cite.
 pub mod ReverseLaw
 pub mod TransposeLaw
 pub mod DyadicTransposeLaw
+pub mod CountedAxes

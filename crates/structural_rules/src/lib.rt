@@ -6,5 +6,11 @@ mod reverse;
 mod rotate;
 mod ruled;
 mod transpose;
+mod axis_counts;
+mod drop_places;
+mod places;
+mod ravel;
+mod reshape;
+mod take;
 
 pub use ruled::Ruled;

@@ -1,0 +1,39 @@
+//! Ravel as a rule.
+
+ghost use Rattle.std.proofs.Common.{rules};
+ghost use Rattle.structural_rules.specs.Ravel.{ravel_rule};
+
+use crate::places::places_of;
+use crate::ruled::Ruled;
+use arrays_core::{ApplyFault, Array};
+use change_core::Announced;
+use index_region::{IndexBox, Intervals, Seen};
+use std::alloc::Global;
+use structural_fns::Ravel;
+
+impl Announced for Ruled<Ravel> {
+    ghost selectors = { λ _. ravel_rule.selectors };
+
+    ghost uses = { λ _. ravel_rule.uses };
+
+    fn selects(&self, _which: usize) -> bool {
+        false
+    }
+
+    fn box_of(
+        &self,
+        args: &[Seen],
+        _shape: &[u32],
+        _which: usize,
+        region: &IndexBox,
+    ) -> Option<Intervals> {
+        let (first, last) = places_of(&args[0], region);
+        Some(Intervals::one(first, last))
+    }
+
+    fn whole(&self, alloc: Global, args: &[Seen]) -> Result<Array, ApplyFault> {
+        self.function.apply(alloc, args)
+    }
+
+    ghost counted = { λ _. Prim.search rules };
+}
