@@ -5,7 +5,8 @@ use Rattle.arrays_core.specs.Arrays.{ArrayValue}
 use Rattle.index_region.specs.ArgumentLists.{of_two_arguments}
 use Rattle.index_region.specs.Boxes.{Interval, fits}
 use Rattle.index_region.specs.Checks.{Form}
-use Rattle.change_core.specs.RuleModels.{FitsAt, HasShape}
+use Rattle.change_core.specs.RuleModels.{Use, FitsAt, HasShape, box_at}
+use Rattle.change_core.specs.Sourced.{uses_of_two}
 
 -- the checks have passed, and this is the shape of the result
 pub record IsForm (checked : Result Form Kind) (shape : List ℕ) : Type 0 where
@@ -31,3 +32,14 @@ fit_of_right args a b which region e below other fit =
     decide zero h o fit = absurd (omega arith)
     decide (suc zero) h o fit = fit
     decide (suc (suc w)) h o fit = absurd (omega arith)
+
+pub box_of_right : (left right : List ℕ → ArrayValue → ArrayValue → Use) (shape : List ℕ) (args : List ArrayValue) (a b : ArrayValue) (which : ℕ) (region : List Interval) → args ≡ a ∷ b ∷ []
+    → which < length args → 0 < which → box_at (uses_of_two left right shape args) which region ≡ (right shape a b).box region
+box_of_right left right shape args a b which region e below other =
+    subst (λ (r : List ArrayValue). box_at (uses_of_two left right shape r) which region ≡ (right shape a b).box region) (sym e)
+    (decide which (subst (λ (r : List ArrayValue). which < length r) e below) other)
+  where
+    decide : (w : ℕ) → w < 2 → 0 < w → box_at (uses_of_two left right shape (a ∷ b ∷ [])) w region ≡ (right shape a b).box region
+    decide zero h o = absurd (omega arith)
+    decide (suc zero) h o = refl
+    decide (suc (suc w)) h o = absurd (omega arith)

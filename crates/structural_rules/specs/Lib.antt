@@ -8,8 +8,10 @@ pub mod Reshape
 pub mod AxisCounts
 pub mod Take
 pub mod Drop
+pub mod Catenate
 -- The laws that the impls cite.
 pub mod ReverseLaw
 pub mod TransposeLaw
 pub mod DyadicTransposeLaw
 pub mod CountedAxes
+pub mod JoinedAxes

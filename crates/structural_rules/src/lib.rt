@@ -7,6 +7,7 @@ mod rotate;
 mod ruled;
 mod transpose;
 mod axis_counts;
+mod catenate;
 mod drop_places;
 mod places;
 mod ravel;

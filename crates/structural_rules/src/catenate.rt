@@ -1,0 +1,78 @@
+//! Catenate as a rule.
+
+ghost use Rattle.std.specs.Prelude.{◌≡◌, ◌≤◌, ◌<◌, Some, IsTrue, length};
+ghost use Rattle.std.proofs.Common.{rules};
+ghost use Rattle.index_region.specs.Boxes.{fits};
+ghost use Rattle.structural_fns.specs.Catenate.{joined_places as places_joined};
+ghost use Rattle.structural_rules.specs.Catenate.{side_box as box_of_side, catenate_rule};
+ghost use Rattle.structural_rules.specs.JoinedAxes.{IsSide};
+
+use crate::ruled::Ruled;
+use arrays_core::{ApplyFault, Array};
+use change_core::Announced;
+use index_region::{IndexBox, Intervals, Seen};
+use std::alloc::Global;
+use structural_fns::Catenate;
+
+/// How many places a side takes along the axis of a result of so many axes.
+fn joined_places(side: &Seen, rank: usize, axis: usize) -> u32
+    requires { axis < rank }
+    ensures is { result ≡ places_joined rank axis side.now }
+    ensures within { result ≤ 1048576 }
+{
+    let axes = side.shape().as_slice();
+    if axes.len() == rank { axes[axis] } else { 1 }
+}
+
+/// The intervals of a result for a changed box of a side that stands after so many places of the axis.
+fn side_box(side: &Seen, shape: &[u32], axis: usize, before: u32, region: &IndexBox) -> Intervals
+    requires rank { length shape.now ≤ 4 }
+    requires there { axis < length shape.now }
+    requires near { IsSide side.now (length shape.now) }
+    requires within { before ≤ 1048576 }
+    requires fit { IsTrue (fits region.now side.now.shape) }
+    ensures { Some result ≡ box_of_side shape.now axis before side.now region.now }
+{
+    let rank = side.shape().len();
+    if rank == 0 {
+        return Intervals::whole(shape).with(axis, before + 1, before + 1);
+    }
+    let intervals = region.intervals().copy();
+    if rank == shape.len() {
+        let (first, last) = region.as_slice()[axis];
+        return intervals.with(axis, before + first, before + last);
+    }
+    intervals.with_axis(axis, before + 1, before + 1)
+}
+
+impl Announced for Ruled<Catenate> {
+    ghost selectors = { λ r. (catenate_rule r.function.along).selectors };
+
+    ghost uses = { λ r. (catenate_rule r.function.along).uses };
+
+    fn selects(&self, _which: usize) -> bool {
+        false
+    }
+
+    fn box_of(
+        &self,
+        args: &[Seen],
+        shape: &[u32],
+        which: usize,
+        region: &IndexBox,
+    ) -> Option<Intervals> {
+        let (left, right) = (&args[0], &args[1]);
+        let axis = self.function.along.axis_at(shape.len() as u32);
+        if which == 0 {
+            return Some(side_box(left, shape, axis, 0, region));
+        }
+        let before = joined_places(left, shape.len(), axis);
+        Some(side_box(right, shape, axis, before, region))
+    }
+
+    fn whole(&self, alloc: Global, args: &[Seen]) -> Result<Array, ApplyFault> {
+        self.function.apply(alloc, args)
+    }
+
+    ghost counted = { λ _. Prim.search rules };
+}
