@@ -1,6 +1,12 @@
 //! Change rules of the selection functions: what a change of their arguments changes of their results.
 #![tactic(auto)]
 
+mod decode;
+mod encode;
+mod index_generator;
+mod index_of;
+mod member;
 mod ruled;
+mod shape;
 
 pub use ruled::Ruled;

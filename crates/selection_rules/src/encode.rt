@@ -1,0 +1,46 @@
+//! Encode as a change rule.
+
+ghost use Rattle.std.specs.Prelude.{◌≡◌};
+ghost use Rattle.std.proofs.Common.{rules};
+ghost use Rattle.selection_rules.specs.Encode.{encode_rule};
+
+use crate::ruled::Ruled;
+use arrays_core::{ApplyFault, Array};
+use change_core::Announced;
+use index_region::{IndexBox, Intervals, Seen};
+use selection_fns::Encode;
+use std::alloc::Global;
+
+impl Announced for Ruled<Encode> {
+    ghost selectors = { λ _. encode_rule.selectors };
+
+    ghost uses = { λ _ shape args. encode_rule.uses shape args };
+
+    fn selects(&self, _which: usize) -> bool {
+        false
+    }
+
+    fn box_of(
+        &self,
+        args: &[Seen],
+        shape: &[u32],
+        which: usize,
+        region: &IndexBox,
+    ) -> Option<Intervals> {
+        let radices = args[0].shape().as_slice();
+        if which == 1 {
+            return Some(Intervals::whole(radices).and_all(region.as_slice()));
+        }
+        if radices.is_empty() {
+            return Some(Intervals::whole(shape));
+        }
+        let (_, last) = region.as_slice()[0];
+        Some(Intervals::one(1, last).and_whole(args[1].shape().as_slice()))
+    }
+
+    fn whole(&self, alloc: Global, args: &[Seen]) -> Result<Array, ApplyFault> {
+        self.function.apply(alloc, args)
+    }
+
+    ghost counted = { λ _. Prim.search rules };
+}

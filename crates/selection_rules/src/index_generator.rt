@@ -1,0 +1,38 @@
+//! Index generator as a change rule.
+
+ghost use Rattle.std.specs.Prelude.{◌≡◌};
+ghost use Rattle.std.proofs.Common.{rules};
+ghost use Rattle.selection_rules.specs.IndexGenerator.{generator_rule};
+
+use crate::ruled::Ruled;
+use arrays_core::{ApplyFault, Array};
+use change_core::Announced;
+use index_region::{IndexBox, Intervals, Seen};
+use selection_fns::IndexGenerator;
+use std::alloc::Global;
+
+impl Announced for Ruled<IndexGenerator> {
+    ghost selectors = { λ _. generator_rule.selectors };
+
+    ghost uses = { λ _ shape args. generator_rule.uses shape args };
+
+    fn selects(&self, which: usize) -> bool {
+        which == 0
+    }
+
+    fn box_of(
+        &self,
+        _args: &[Seen],
+        _shape: &[u32],
+        _which: usize,
+        _region: &IndexBox,
+    ) -> Option<Intervals> {
+        None
+    }
+
+    fn whole(&self, alloc: Global, args: &[Seen]) -> Result<Array, ApplyFault> {
+        self.function.apply(alloc, args)
+    }
+
+    ghost counted = { λ _. Prim.search rules };
+}

@@ -1,0 +1,41 @@
+//! Index of as a change rule.
+
+ghost use Rattle.std.specs.Prelude.{◌≡◌};
+ghost use Rattle.std.proofs.Common.{rules};
+ghost use Rattle.selection_rules.specs.IndexOf.{index_of_rule};
+
+use crate::ruled::Ruled;
+use arrays_core::{ApplyFault, Array};
+use change_core::Announced;
+use index_region::{IndexBox, Intervals, Seen};
+use selection_fns::IndexOf;
+use std::alloc::Global;
+
+impl Announced for Ruled<IndexOf> {
+    ghost selectors = { λ _. index_of_rule.selectors };
+
+    ghost uses = { λ _ shape args. index_of_rule.uses shape args };
+
+    fn selects(&self, _which: usize) -> bool {
+        false
+    }
+
+    fn box_of(
+        &self,
+        _args: &[Seen],
+        shape: &[u32],
+        which: usize,
+        region: &IndexBox,
+    ) -> Option<Intervals> {
+        if which == 0 {
+            return Some(Intervals::whole(shape));
+        }
+        Some(region.intervals().copy())
+    }
+
+    fn whole(&self, alloc: Global, args: &[Seen]) -> Result<Array, ApplyFault> {
+        self.function.apply(alloc, args)
+    }
+
+    ghost counted = { λ _. Prim.search rules };
+}

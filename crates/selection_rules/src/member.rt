@@ -1,0 +1,41 @@
+//! Membership as a change rule.
+
+ghost use Rattle.std.specs.Prelude.{◌≡◌};
+ghost use Rattle.std.proofs.Common.{rules};
+ghost use Rattle.selection_rules.specs.Member.{member_rule};
+
+use crate::ruled::Ruled;
+use arrays_core::{ApplyFault, Array};
+use change_core::Announced;
+use index_region::{IndexBox, Intervals, Seen};
+use selection_fns::Member;
+use std::alloc::Global;
+
+impl Announced for Ruled<Member> {
+    ghost selectors = { λ _. member_rule.selectors };
+
+    ghost uses = { λ _ shape args. member_rule.uses shape args };
+
+    fn selects(&self, _which: usize) -> bool {
+        false
+    }
+
+    fn box_of(
+        &self,
+        _args: &[Seen],
+        shape: &[u32],
+        which: usize,
+        region: &IndexBox,
+    ) -> Option<Intervals> {
+        if which == 0 {
+            return Some(region.intervals().copy());
+        }
+        Some(Intervals::whole(shape))
+    }
+
+    fn whole(&self, alloc: Global, args: &[Seen]) -> Result<Array, ApplyFault> {
+        self.function.apply(alloc, args)
+    }
+
+    ghost counted = { λ _. Prim.search rules };
+}

@@ -1,0 +1,38 @@
+//! Shape as a change rule.
+
+ghost use Rattle.std.specs.Prelude.{◌≡◌};
+ghost use Rattle.std.proofs.Common.{rules};
+ghost use Rattle.selection_rules.specs.Shape.{shape_rule};
+
+use crate::ruled::Ruled;
+use arrays_core::{ApplyFault, Array};
+use change_core::Announced;
+use index_region::{IndexBox, Intervals, Seen};
+use selection_fns::ShapeOf;
+use std::alloc::Global;
+
+impl Announced for Ruled<ShapeOf> {
+    ghost selectors = { λ _. shape_rule.selectors };
+
+    ghost uses = { λ _ shape args. shape_rule.uses shape args };
+
+    fn selects(&self, _which: usize) -> bool {
+        false
+    }
+
+    fn box_of(
+        &self,
+        _args: &[Seen],
+        _shape: &[u32],
+        _which: usize,
+        _region: &IndexBox,
+    ) -> Option<Intervals> {
+        None
+    }
+
+    fn whole(&self, alloc: Global, args: &[Seen]) -> Result<Array, ApplyFault> {
+        self.function.apply(alloc, args)
+    }
+
+    ghost counted = { λ _. Prim.search rules };
+}
