@@ -6,6 +6,7 @@ mod encode;
 mod index_generator;
 mod index_of;
 mod member;
+mod replicate;
 mod ruled;
 mod shape;
 

@@ -1,0 +1,2 @@
+pub mod Intervals
+pub mod Copied
