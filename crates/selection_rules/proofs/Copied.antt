@@ -1,5 +1,5 @@
 -- What the checks of replicate say of the copies.
-use Rattle.std.proofs.Common.{◌≡◌, ℕ, zero, suc, ◌*◌, ◌≤◌, ◌<◌, Bool, true, false, nat_le, ◌&&◌, ◌||◌, nat_eq, List, [], ◌∷◌, length, take, replicate, get_or, refl, sym, ap, ◌∙◌, subst, arith, Result, Ok, Err}
+use Rattle.std.proofs.Common.{◌≡◌, ℕ, zero, suc, ◌*◌, ◌≤◌, ◌<◌, Bool, true, false, nat_le, ◌&&◌, ◌||◌, nat_eq, List, [], ◌∷◌, length, take, replicate, get_or, refl, sym, ap, subst, arith, Result, Ok, Err}
 use Rattle.std.specs.Prelude.{max, sum}
 use Rattle.std.specs.List.{list_all}
 use Rattle.std.proofs.lemmas.Bool.{and_parts, leb-true}
@@ -16,7 +16,7 @@ use Rattle.index_region.proofs.Passing.{gives}
 use Rattle.change_core.specs.RuleModels.{HasShape}
 use Rattle.selection_fns.specs.Replicate.{times, replicated_shape, replicate_form}
 use Rattle.selection_fns.proofs.Repeated.{sum_front}
-use Rattle.selection_fns.proofs.Copies.{axis_below, exchanged_there}
+use Rattle.selection_fns.proofs.Copies.{exchanged_there}
 
 pub sum_first_same : (first places count : ℕ) → first ≤ places → sum (take first (replicate places count)) ≡ first * count
 sum_first_same zero places count h = let none : 0 * count ≡ 0 = omega arith in sym none

@@ -1,2 +1,3 @@
 pub mod Intervals
 pub mod Copied
+pub mod Positions

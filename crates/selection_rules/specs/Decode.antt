@@ -1,5 +1,5 @@
 -- What a change of an argument of decode, A⊥B, changes of the result.
-use Rattle.std.specs.Prelude.{ℕ, false, if◌then◌else◌, List, [], ◌∷◌, map, drop, Some}
+use Rattle.std.specs.Prelude.{false, if◌then◌else◌, [], ◌∷◌, map, drop, Some}
 use Rattle.std.specs.List.{range_with_len}
 use Rattle.arrays_core.specs.Arrays.{ArrayValue}
 use Rattle.arrays_core.specs.Shapes.{indices}

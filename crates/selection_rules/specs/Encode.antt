@@ -4,7 +4,7 @@ use Rattle.std.specs.List.{range_with_len}
 use Rattle.arrays_core.specs.Arrays.{ArrayValue}
 use Rattle.index_region.specs.Arguments.{is_scalar}
 use Rattle.index_region.specs.Boxes.{whole_of}
-use Rattle.change_core.specs.RuleModels.{Use, RuleModel}
+use Rattle.change_core.specs.RuleModels.{RuleModel}
 use Rattle.change_core.specs.Sourced.{Spread, two_rule}
 use Rattle.change_core.specs.Ways.{back}
 use Rattle.selection_fns.specs.Encode.{encode_form, encode_item}

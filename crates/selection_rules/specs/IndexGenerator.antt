@@ -1,5 +1,5 @@
 -- What a change of the argument of the index generator, ⍳N, changes of the result: all of it, its shape too.
-use Rattle.std.specs.Prelude.{List, [], ◌∷◌, true}
+use Rattle.std.specs.Prelude.{[], ◌∷◌, true}
 use Rattle.change_core.specs.RuleModels.{RuleModel}
 use Rattle.change_core.specs.Sourced.{uses_of_one}
 use Rattle.change_core.specs.Ways.{unread}

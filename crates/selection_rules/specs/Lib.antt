@@ -7,5 +7,6 @@ pub mod Encode
 pub mod Decode
 pub mod Replicate
 pub mod Index
-
--- The laws that the impls cite.
+-- What the laws and the bodies use.
+pub mod PositionAxes
+pub mod IndexLaw

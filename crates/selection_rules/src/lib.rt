@@ -3,6 +3,7 @@
 
 mod decode;
 mod encode;
+mod index;
 mod index_generator;
 mod index_of;
 mod member;

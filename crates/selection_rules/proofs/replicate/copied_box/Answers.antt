@@ -1,9 +1,8 @@
-use Rattle.std.proofs.Common.{rules, ◌≡◌, ◌<◌, ◌≤◌, ℕ, List, length, get_or, ap, sym, subst, ◌∙◌, arith}
-use Rattle.std.specs.Prelude.{max, sum}
+use Rattle.std.proofs.Common.{rules, ◌≡◌, ◌<◌, ℕ, length, get_or, ap, ◌∙◌, arith}
+use Rattle.std.specs.Prelude.{max}
 use Rattle.std.proofs.lemmas.List.{get_or_default}
 use Rattle.index_region.specs.Axes.{axis_at, places_along}
 use Rattle.index_region.proofs.Boxes.{fits_length}
-use Rattle.selection_fns.specs.Replicate.{times}
 use Rattle.selection_rules.proofs.Copied.{copied_along}
 use Rattle.selection_rules.proofs.Intervals.{interval_on}
 use Rattle.selection_rules.proofs.replicate.copied_box.Goals as goal

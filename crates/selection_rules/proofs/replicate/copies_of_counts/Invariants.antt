@@ -1,4 +1,4 @@
-use Rattle.std.proofs.Common.{◌≡◌, ◌≤◌, map, take, unsigned_abs}
+use Rattle.std.proofs.Common.{◌≡◌, map, take, unsigned_abs}
 use Rattle.std.specs.Prelude.{sum}
 use Rattle.index_region.specs.Arguments.{numbers}
 use Rattle.selection_rules.proofs.replicate.copies_of_counts.Given as goal

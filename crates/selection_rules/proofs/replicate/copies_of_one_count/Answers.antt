@@ -1,4 +1,4 @@
-use Rattle.std.proofs.Common.{◌≡◌, ◌∙◌, ◌*◌, ap, sym}
+use Rattle.std.proofs.Common.{◌∙◌, ◌*◌, ap, sym}
 use Rattle.selection_rules.proofs.Copied.{sum_first_same}
 use Rattle.selection_rules.proofs.replicate.copies_of_one_count.Goals as goal
 
