@@ -1,2 +1,7 @@
 -- What public contracts mean.
+pub mod Reduce
+pub mod Scan
+pub mod OuterProduct
+pub mod InnerProduct
+
 -- The laws that the impls cite.

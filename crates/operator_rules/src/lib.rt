@@ -1,6 +1,10 @@
 //! Change rules of the operators: what a change of their arguments changes of their results.
 #![tactic(auto)]
 
+mod inner_product;
+mod outer_product;
+mod reduce;
 mod ruled;
+mod scan;
 
 pub use ruled::Ruled;
