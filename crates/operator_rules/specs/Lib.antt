@@ -3,5 +3,6 @@ pub mod Reduce
 pub mod Scan
 pub mod OuterProduct
 pub mod InnerProduct
-
 -- The laws that the impls cite.
+pub mod ReadLines
+pub mod ReduceLaw

@@ -4,10 +4,11 @@ ghost use Rattle.std.specs.Prelude.{◌∷◌, [], false};
 ghost use Rattle.std.proofs.Common.{rules};
 ghost use Rattle.change_core.specs.Sourced.{uses_of_one};
 ghost use Rattle.operator_rules.specs.Reduce.{reduce_use};
+ghost use Rattle.operator_rules.specs.ReduceLaw.{reduce_tight};
 
 use crate::ruled::Ruled;
 use arrays_core::{ApplyFault, Array};
-use change_core::Announced;
+use change_core::{Announced, Lawful};
 use index_region::{IndexBox, Intervals, Seen};
 use operator_fns::Reduce;
 use std::alloc::Global;
@@ -37,4 +38,8 @@ impl Announced for Ruled<Reduce> {
     }
 
     ghost counted = { λ _. Prim.search rules };
+}
+
+impl Lawful for Ruled<Reduce> {
+    ghost tight = { λ r. reduce_tight r.function.function r.function.along };
 }
