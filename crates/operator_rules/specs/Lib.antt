@@ -6,3 +6,4 @@ pub mod InnerProduct
 -- The laws that the impls cite.
 pub mod ReadLines
 pub mod ReduceLaw
+pub mod ScanLaw

@@ -6,10 +6,11 @@ ghost use Rattle.arrays_core.specs.Limits.{most_axes};
 ghost use Rattle.index_region.specs.Axes.{places_along};
 ghost use Rattle.change_core.specs.Sourced.{uses_of_one};
 ghost use Rattle.operator_rules.specs.Scan.{scan_use};
+ghost use Rattle.operator_rules.specs.ScanLaw.{scan_tight};
 
 use crate::ruled::Ruled;
 use arrays_core::{ApplyFault, Array};
-use change_core::Announced;
+use change_core::{Announced, Lawful};
 use index_region::{IndexBox, Intervals, Seen};
 use operator_fns::Scan;
 use std::alloc::Global;
@@ -53,4 +54,8 @@ impl Announced for Ruled<Scan> {
     }
 
     ghost counted = { λ _. Prim.search rules };
+}
+
+impl Lawful for Ruled<Scan> {
+    ghost tight = { λ s. scan_tight s.function.function s.function.along };
 }
