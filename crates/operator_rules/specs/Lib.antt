@@ -7,3 +7,4 @@ pub mod InnerProduct
 pub mod ReadLines
 pub mod ReduceLaw
 pub mod ScanLaw
+pub mod OuterProductLaw

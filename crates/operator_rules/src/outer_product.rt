@@ -4,10 +4,11 @@ ghost use Rattle.std.specs.Prelude.{◌∷◌, [], false};
 ghost use Rattle.std.proofs.Common.{rules};
 ghost use Rattle.change_core.specs.Sourced.{uses_of_two};
 ghost use Rattle.operator_rules.specs.OuterProduct.{front_use, back_use};
+ghost use Rattle.operator_rules.specs.OuterProductLaw.{outer_tight};
 
 use crate::ruled::Ruled;
 use arrays_core::{ApplyFault, Array};
-use change_core::Announced;
+use change_core::{Announced, Lawful};
 use index_region::{IndexBox, Intervals, Seen};
 use operator_fns::Outer;
 use std::alloc::Global;
@@ -41,4 +42,8 @@ impl Announced for Ruled<Outer> {
     }
 
     ghost counted = { λ _. Prim.search rules };
+}
+
+impl Lawful for Ruled<Outer> {
+    ghost tight = { λ o. outer_tight o.function.function };
 }
