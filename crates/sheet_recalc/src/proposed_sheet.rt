@@ -14,8 +14,8 @@ use arrays_core::{Array, Fault};
 use formula_core::Formula;
 use indexmap::IndexMap;
 
-/// The names of a sheet with one of them bound anew, or removed. A name that is bound anew stays where it is, a new one goes last; the
-/// names after one that is removed move up.
+/// The names of a sheet with one of them bound anew, or removed. A name that is bound anew stays where it is, a new one
+/// goes last; the names after one that is removed move up.
 #[derive(Clone, Copy)]
 pub(crate) struct ProposedSheet<'a> {
     pub(crate) entries: &'a IndexMap<Name, Entry>,

@@ -37,8 +37,8 @@ use std::marker::Model;
 /// The most names of a sheet: a new name is refused where this many are present.
 pub const MOST_NAMES: usize = 1024;
 
-/// Names bound to data or to formulas, in the order in which they were first bound. Each formula's result is current. A sheet is
-/// to a run what a workspace is to a session (ISO/IEC 13751, "Workspaces").
+/// Names bound to data or to formulas, in the order in which they were first bound. Each formula's result is current. A
+/// sheet is to a run what a workspace is to a session (ISO/IEC 13751, "Workspaces").
 #[derive(Drop)]
 pub struct Sheet {
     alloc: Global,
@@ -140,7 +140,8 @@ impl Sheet {
         Ok(())
     }
 
-    /// Binds a name to the array that an expression has now, as an assignment does (ISO/IEC 13751, "Evaluate-Assignment").
+    /// Binds a name to the array that an expression has now, as an assignment does (ISO/IEC 13751,
+    /// "Evaluate-Assignment").
     pub fn data(&mut self, name: Name, tree: Expr) -> Result<(), Refusal>
         ensures ok { OnOk result (Accepts self.old.names (Store name (tree_of tree)) self.new.names) }
         ensures refused { IfErr result (Refuses self.old.names (Store name (tree_of tree))) }
@@ -180,8 +181,8 @@ impl Sheet {
         self.put_array(name, array)
     }
 
-    /// Removes a name, as the command `)ERASE` does (ISO/IEC 13751, "System Commands"). The names after it move up, and what
-    /// refers to it shows VALUE ERROR from then on.
+    /// Removes a name, as the command `)ERASE` does (ISO/IEC 13751, "System Commands"). The names after it move up, and
+    /// what refers to it shows VALUE ERROR from then on.
     pub fn erase(&mut self, name: Name) -> Result<(), Refusal>
         ensures ok { OnOk result (Accepts self.old.names (Erase name) self.new.names) }
         ensures refused { IfErr result (Refuses self.old.names (Erase name)) }
