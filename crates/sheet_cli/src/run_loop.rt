@@ -255,7 +255,7 @@ fn finish<W: Sink>(
 const CHUNK: usize = 4096;
 
 /// Reads lines from the source to its end, writes the answers to the sink, each before the next bytes are asked for, and
-/// flushes it at the end: a session (ISO/IEC 13751, "Sessions").
+/// flushes it at the end.
 pub fn run<R: Source, W: Sink>(
     alloc: Global,
     sheet: &mut Sheet,

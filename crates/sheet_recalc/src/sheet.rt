@@ -38,7 +38,7 @@ use std::marker::Model;
 pub const MOST_NAMES: usize = 1024;
 
 /// Names bound to data or to formulas, in the order in which they were first bound. Each formula's result is current. A
-/// sheet is to a run what a workspace is to a session (ISO/IEC 13751, "Workspaces").
+/// sheet is to a run what a workspace is to a session.
 #[derive(Drop)]
 pub struct Sheet {
     alloc: Global,
