@@ -1,0 +1,9 @@
+//! Tests of change rules: what they reach, row by row, and the change of a node.
+#![tactic(auto)]
+
+#[cfg(test)]
+mod fixtures;
+#[cfg(test)]
+mod reach_tests;
+#[cfg(test)]
+mod refresh_tests;
