@@ -81,8 +81,8 @@ impl<'a> Seen<'a> {
         }
     }
 
-    /// The same view again.
-    pub fn again(&self) -> Seen<'a>
+    /// The same view again, for as long as this one is lent.
+    pub fn again<'b>(&'b self) -> Seen<'b>
         ensures { result ≡ self.now }
     {
         Seen {
