@@ -4,3 +4,4 @@ pub mod Nodes
 pub mod Refreshed
 pub mod Right
 pub mod Items
+pub mod Copied

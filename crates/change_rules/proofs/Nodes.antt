@@ -4,7 +4,7 @@ use Rattle.std.proofs.lemmas.Bool.{cond-true, cond-false}
 use Rattle.index_region.specs.declared.delta.Delta.TheVariants.{Same, Whole}
 use Rattle.change_core.specs.RuleModels.{RuleModel, form_size}
 use Rattle.change_rules.specs.Outcomes.{Outcome, evaluation}
-use Rattle.change_rules.specs.Nodes.{Argument, views, all_same, starts_anew, node_delta, node_cost, node_reach, reached_delta, reach_size}
+use Rattle.change_rules.specs.Nodes.{Argument, views, all_same, starts_anew, node_delta, node_cost, moved, reached_delta, reached_cost}
 
 pub delta_same : (p : RuleModel) (args : List Argument) (old : Outcome) → all_same args ≡ true → Same ≡ node_delta p args old
 delta_same p args old h = sym (cond-true _ _ _ h)
@@ -13,11 +13,11 @@ pub delta_whole : (p : RuleModel) (args : List Argument) (old : Outcome) → all
 delta_whole p args old h k = sym (cond-false _ _ _ h ∙ cond-true _ _ _ k)
 
 pub delta_reached : (p : RuleModel) (args : List Argument) (old : Outcome) → all_same args ≡ false → starts_anew args old ≡ false
-    → reached_delta (p.form (views args)) (p.item (views args)) (node_reach p args) ≡ node_delta p args old
+    → reached_delta p (views args) (moved args) ≡ node_delta p args old
 delta_reached p args old h k = sym (cond-false _ _ _ h ∙ cond-false _ _ _ k)
 
 pub cost_whole : (p : RuleModel) (args : List Argument) (old : Outcome) → all_same args ≡ false → starts_anew args old ≡ true → node_cost p args old ≡ form_size (p.form (views args))
 cost_whole p args old h k = cond-false _ _ _ h ∙ cond-true _ _ _ k
 
-pub cost_reached : (p : RuleModel) (args : List Argument) (old : Outcome) → all_same args ≡ false → starts_anew args old ≡ false → node_cost p args old ≡ reach_size (p.form (views args)) (node_reach p args)
+pub cost_reached : (p : RuleModel) (args : List Argument) (old : Outcome) → all_same args ≡ false → starts_anew args old ≡ false → node_cost p args old ≡ reached_cost p (views args) (moved args)
 cost_reached p args old h k = cond-false _ _ _ h ∙ cond-false _ _ _ k

@@ -22,7 +22,7 @@ use Rattle.change_rules.proofs.PatchRight.{error_right, patch_right}
 use Rattle.change_rules.proofs.Walked.{array_of, walked, walked_is, walked_delta, walked_delta_is}
 use Rattle.change_rules.specs.Currency.{IsEvaluation, BringsUpToDate, Shows, applied}
 use Rattle.change_core.specs.RuleModels.{RuleModel}
-use Rattle.change_rules.specs.Nodes.{Argument, all_same, is_same, is_whole, moved, moved_by, node_delta, node_reach, patch_delta, reached_delta, starts_anew, views}
+use Rattle.change_rules.specs.Nodes.{Argument, all_same, is_same, is_whole, moved, moved_by, node_delta, patch_delta, delta_in, starts_anew, views}
 use Rattle.change_rules.specs.Outcomes.{Outcome, evaluation}
 use Rattle.index_region.proofs.Patched.{patched_at}
 use Rattle.index_region.specs.Boxes.{Interval, box_size, walk_at, whole_of}
@@ -163,7 +163,7 @@ ok_form (Ok g) f e = refl
 ok_form (Err k) f e = absurd cc
 
 kept_right : (p : RuleModel) → ReachCovers p → (os : List Outcome) (ds : List Delta) (ns : List ArrayValue) (old : Outcome) → length ns ≡ length p.selectors → LiesIn (p.form ns) (reach_of p ns (map moved_by ds))
-    → Before os ds ns → IsEvaluation p os old → is_ok old ≡ true → applied (reached_delta (p.form ns) (p.item ns) (reach_of p ns (map moved_by ds))) old ≡ evaluation p ns
+    → Before os ds ns → IsEvaluation p os old → is_ok old ≡ true → applied (delta_in (p.form ns) (p.item ns) (reach_of p ns (map moved_by ds))) old ≡ evaluation p ns
 kept_right p law os ds ns (Err x) count lies before evaluated ok = absurd (false≢true ok)
 kept_right p law os ds ns (Ok a) count lies before evaluated ok =
     let ch = before.changes in
@@ -182,7 +182,7 @@ kept_right p law os ds ns (Ok a) count lies before evaluated ok =
     ∙ walked_is (p.form ns) (p.item ns)
 
 -- the change of a node makes of the old whole evaluation the new one
-pub brings_up_to_date : (p : RuleModel) → ReachCovers p → (args : List Argument) (old : Outcome) → length args ≡ length p.selectors → LiesIn (p.form (views args)) (node_reach p args) → AllFit (views args) (moved args)
+pub brings_up_to_date : (p : RuleModel) → ReachCovers p → (args : List Argument) (old : Outcome) → length args ≡ length p.selectors → LiesIn (p.form (views args)) (reach_of p (views args) (moved args)) → AllFit (views args) (moved args)
     → BringsUpToDate p args old (node_delta p args old)
 brings_up_to_date p law args old count lies fit os shows evaluated =
     let boxes = moved_deltas args in
@@ -197,7 +197,7 @@ brings_up_to_date p law args old count lies fit os shows evaluated =
             let parts = or_parts (list_any (λ (a : Argument). is_whole a.1.now) args) (not (is_ok old)) g in
             let before = arguments_before os (deltas args) (views args) all (whole_deltas args ∙ parts.0) (subst (AllFit (views args)) boxes fit) in
             ap then (cond-false _ _ _ f ∙ cond-false _ _ _ g)
-            ∙ ap (λ (m : List (Option (List Interval))). applied (reached_delta (p.form (views args)) (p.item (views args)) (reach_of p (views args) m)) old) boxes
+            ∙ ap (λ (m : List (Option (List Interval))). applied (delta_in (p.form (views args)) (p.item (views args)) (reach_of p (views args) m)) old) boxes
             ∙ kept_right p law os (deltas args) (views args) old many (subst (λ (m : List (Option (List Interval))). LiesIn (p.form (views args)) (reach_of p (views args) m)) boxes lies) before evaluated (not-false (is_ok old) parts.1)
       ]
     ]

@@ -14,13 +14,13 @@ use Rattle.index_region.proofs.Patched.{fits_within}
 use Rattle.change_core.specs.declared.reach.Reach.{Reach}
 use Rattle.change_core.specs.declared.reach.Reach.TheVariants.{Unmoved, Inside, Anew}
 use Rattle.change_core.specs.Parts.{items_in}
-use Rattle.change_core.specs.Reaches.{LiesIn}
+use Rattle.change_core.specs.Reaches.{LiesIn, reach_of}
 use Rattle.change_core.specs.RuleModels.{RuleModel}
 use Rattle.change_core.proofs.Collected.{items_are}
 use Rattle.change_core.proofs.Covers.{reaches_inside}
 use Rattle.change_core.proofs.Walking.{walk_within}
 use Rattle.change_rules.specs.Currency.{IsRight}
-use Rattle.change_rules.specs.Nodes.{Argument, views, moved, all_same, starts_anew, node_delta, node_reach, patch_delta, reached_delta}
+use Rattle.change_rules.specs.Nodes.{Argument, views, moved, all_same, starts_anew, node_delta, patch_delta, delta_in}
 use Rattle.change_rules.specs.Outcomes.{Outcome, given}
 use Rattle.change_rules.proofs.PatchRight.{collected_in, first_error, walk-box_offset, box_offset-below}
 
@@ -47,7 +47,7 @@ patch_is_right p args f region (Err k) e fit is =
       is = refl;
     })
 
-reached_is_right : (p : RuleModel) (args : List ArrayValue) (form : Result Form Kind) (reach : Reach) → p.form args ≡ form → LiesIn form reach → IsRight p args (reached_delta form (p.item args) reach)
+reached_is_right : (p : RuleModel) (args : List ArrayValue) (form : Result Form Kind) (reach : Reach) → p.form args ≡ form → LiesIn form reach → IsRight p args (delta_in form (p.item args) reach)
 reached_is_right p args (Err k) reach e lies = inl (ap (λ (x : Result Form Kind). given (whole x (p.item args))) (sym e))
 reached_is_right p args (Ok f) Unmoved e lies = tt
 reached_is_right p args (Ok f) Anew e lies = inl (ap (λ (x : Result Form Kind). given (whole x (p.item args))) (sym e))
@@ -59,7 +59,7 @@ node_is_right p args old = elim (cases_Bool (all_same args)) [
   | inr f ↦ elim (cases_Bool (starts_anew args old)) [
     | inl t ↦ subst (IsRight p (views args)) (sym (cond-false _ _ _ f ∙ cond-true _ _ _ t)) (inl refl)
     | inr g ↦ subst (IsRight p (views args)) (sym (cond-false _ _ _ f ∙ cond-false _ _ _ g))
-        (reached_is_right p (views args) (p.form (views args)) (node_reach p args) refl (reaches_inside p (views args) (moved args)))
+        (reached_is_right p (views args) (p.form (views args)) (reach_of p (views args) (moved args)) refl (reaches_inside p (views args) (moved args)))
   ]
 ]
 

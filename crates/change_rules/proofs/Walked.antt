@@ -14,7 +14,7 @@ use Rattle.change_core.specs.declared.reach.Reach.TheVariants.{Unmoved, Inside, 
 use Rattle.change_core.proofs.Collected.{collected, along, collected_is, items_are}
 use Rattle.change_core.proofs.Walking.{walk_is}
 use Rattle.change_rules.specs.Outcomes.{Outcome, fault, given}
-use Rattle.change_rules.specs.Nodes.{patch_delta, reached_delta}
+use Rattle.change_rules.specs.Nodes.{patch_delta, delta_in}
 
 abbrev pub failing : Kind → Outcome
 failing k = Err (fault k)
@@ -46,7 +46,7 @@ walked_delta (Ok f) item Unmoved = Same
 walked_delta (Ok f) item (Inside region) = patch_delta f.item_type region (collected (along item region))
 walked_delta (Ok f) item Anew = Whole (walked (Ok f) item)
 
-pub walked_delta_is : (form : Result Form Kind) (item : List ℕ → Result Item Kind) (reach : Reach) → walked_delta form item reach ≡ reached_delta form item reach
+pub walked_delta_is : (form : Result Form Kind) (item : List ℕ → Result Item Kind) (reach : Reach) → walked_delta form item reach ≡ delta_in form item reach
 walked_delta_is (Err k) item reach = refl
 walked_delta_is (Ok f) item Unmoved = refl
 walked_delta_is (Ok f) item (Inside region) = ap (patch_delta f.item_type region) (items_are item region)

@@ -2,3 +2,5 @@
 pub mod Outcomes
 pub mod Nodes
 pub mod Currency
+-- What bodies use.
+pub mod Copies

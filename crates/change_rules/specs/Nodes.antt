@@ -48,39 +48,42 @@ all_same args = list_all (λ a. is_same a.1.now) args
 abbrev pub starts_anew : List Argument → Outcome → Bool
 starts_anew args old = list_any (λ a. is_whole a.1.now) args || not (is_ok old)
 
--- what may change of the node
-abbrev pub node_reach : RuleModel → List Argument → Reach
-node_reach p args = reach_of p (views args) (moved args)
-
 -- a patch of the items of a box, or the first error among them
 abbrev pub patch_delta : ItemType → List Interval → Result (List Item) Kind → Delta
 patch_delta item_type region (Ok items) = Patch (record { region = region; item_type = item_type; items = items })
 patch_delta item_type region (Err kind) = Whole (Err (fault kind))
 
--- the change of a node that held an array, where arguments were patched: the checks are made again
-abbrev pub reached_delta : Result Form Kind → (List ℕ → Result Item Kind) → Reach → Delta
-reached_delta (Err kind) item reach = Whole (Err (fault kind))
-reached_delta (Ok f) item Unmoved = Same
-reached_delta (Ok f) item (Inside region) = patch_delta f.item_type region (items_in item region)
-reached_delta (Ok f) item Anew = Whole (given (whole (Ok f) item))
+-- nothing, a patch of the box, or the whole, by what may change of the result; or the error of the checks
+abbrev pub delta_in : Result Form Kind → (List ℕ → Result Item Kind) → Reach → Delta
+delta_in (Err kind) item reach = Whole (Err (fault kind))
+delta_in (Ok f) item Unmoved = Same
+delta_in (Ok f) item (Inside region) = patch_delta f.item_type region (items_in item region)
+delta_in (Ok f) item Anew = Whole (given (whole (Ok f) item))
+
+-- the change of a node that held an array, where arguments changed in boxes: the checks are made again
+abbrev pub reached_delta : RuleModel → List ArrayValue → List (Option (List Interval)) → Delta
+reached_delta p args moves = delta_in (p.form args) (p.item args) (reach_of p args moves)
 
 -- the change of a node, by its rule, its arguments and what it held
 abbrev pub node_delta : RuleModel → List Argument → Outcome → Delta
 node_delta p args old =
     if all_same args then Same
     else if starts_anew args old then Whole (evaluation p (views args))
-    else reached_delta (p.form (views args)) (p.item (views args)) (node_reach p args)
+    else reached_delta p (views args) (moved args)
 
--- how many items of the result a reach has
-abbrev pub reach_size : Result Form Kind → Reach → ℕ
-reach_size (Err kind) reach = 0
-reach_size (Ok f) Unmoved = 0
-reach_size (Ok f) (Inside region) = box_size region
-reach_size (Ok f) Anew = size f.shape
+-- how many places of the result may change
+abbrev pub size_in : Result Form Kind → Reach → ℕ
+size_in (Err kind) reach = 0
+size_in (Ok f) Unmoved = 0
+size_in (Ok f) (Inside region) = box_size region
+size_in (Ok f) Anew = size f.shape
+
+abbrev pub reached_cost : RuleModel → List ArrayValue → List (Option (List Interval)) → ℕ
+reached_cost p args moves = size_in (p.form args) (reach_of p args moves)
 
 -- how many items of the result a change computes at most
 abbrev pub node_cost : RuleModel → List Argument → Outcome → ℕ
 node_cost p args old =
     if all_same args then 0
     else if starts_anew args old then form_size (p.form (views args))
-    else reach_size (p.form (views args)) (node_reach p args)
+    else reached_cost p (views args) (moved args)

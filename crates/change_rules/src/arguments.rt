@@ -9,10 +9,10 @@ use index_region::{Delta, IndexBox, Seen};
 use std::alloc::{AllocError, Global};
 
 /// The arguments as they are now.
-pub(crate) fn views_of<'a>(
+pub(crate) fn views_of<'x>(
     alloc: Global,
-    args: &[(Seen<'a>, &Delta)],
-) -> Result<Vec<Seen<'a>>, AllocError>
+    args: &'x [(Seen, &Delta)],
+) -> Result<Vec<Seen<'x>>, AllocError>
     ensures { IfOk result (λ v. v.items ≡ views args.now) }
 {
     let mut views = Vec::new(alloc);

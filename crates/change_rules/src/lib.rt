@@ -2,7 +2,8 @@
 #![tactic(auto)]
 
 mod arguments;
+mod evaluation;
 mod node;
-mod result;
+mod patch;
 
 pub use node::{refresh, refresh_loose};

@@ -1,12 +1,13 @@
 //! The change of a node, from the changes of its arguments.
 
 ghost use Rattle.std.specs.Prelude.{◌≡◌, ◌+◌, ◌≤◌, length, IfOk, false};
-ghost use Rattle.change_core.specs.Reaches.{AllFit, reach_of};
-ghost use Rattle.change_rules.specs.Nodes.{views, moved, all_same as all_are_same, node_delta, node_cost, reached_delta, reach_size};
+ghost use Rattle.change_core.specs.Reaches.{AllFit};
+ghost use Rattle.change_rules.specs.Nodes.{views, moved, all_same as all_are_same, node_delta, node_cost, reached_delta, reached_cost};
 ghost use Rattle.change_rules.specs.Currency.{BringsUpToDate, IsRight};
 
 use crate::arguments::{all_same, moved_by, moves_of, starts_anew, views_of};
-use crate::result::{evaluate, patch_of};
+use crate::evaluation::evaluate;
+use crate::patch::patch_of;
 use arrays_core::{Array, Fault};
 use change_core::{Meter, Reach, Rule, Tight};
 use index_region::{Delta, IndexBox, Seen};
@@ -23,8 +24,8 @@ fn reached<R: Rule>(
     requires count { length args.now ≡ length (R.model rule.now).selectors }
     requires boxes { length boxes.now ≡ length args.now }
     requires fit { AllFit args.now boxes.now }
-    ensures delta { IfOk result (λ d. d ≡ reached_delta ((R.model rule.now).form args.now) ((R.model rule.now).item args.now) (reach_of (R.model rule.now) args.now boxes.now)) }
-    ensures ticks { meter.new ≤ meter.old + reach_size ((R.model rule.now).form args.now) (reach_of (R.model rule.now) args.now boxes.now) }
+    ensures delta { IfOk result (λ d. d ≡ reached_delta (R.model rule.now) args.now boxes.now) }
+    ensures ticks { meter.new ≤ meter.old + reached_cost (R.model rule.now) args.now boxes.now }
 {
     match rule.shape(args) {
         Err(kind) => Ok(Delta::Whole(Err(Fault { kind, origin: None }))),

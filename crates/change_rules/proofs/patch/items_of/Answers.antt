@@ -3,7 +3,7 @@ use Rattle.arrays_core.specs.Shapes.{size}
 use Rattle.index_region.specs.Boxes.{box_size}
 use Rattle.change_core.proofs.Filling.{few_places}
 use Rattle.change_rules.proofs.Items.{all_places, all_holds}
-use Rattle.change_rules.proofs.result.items_of.Goals as goal
+use Rattle.change_rules.proofs.patch.items_of.Goals as goal
 
 pub size-requires : goal.size-requires
 size-requires g c = omega (arith, few_places c.args.region.now c.args.form.now.0.items c.requires.fit c.requires.checked.2)
@@ -13,4 +13,4 @@ returns-then-size-clause-items g c =
     let model = g.R.Rule.model c.args.rule.now in
     let shape = c.args.form.now.0.items in
     let many : box_size c.args.region.now ≡ size shape = sym c.size.ensures ∙ c.if-size.true ∙ c.size-2.ensures ∙ ap size c.as_slice-shape.ensures in
-    all_holds (model.form c.args.args.now) (model.item c.args.args.now) shape c.args.form.now.1 c.args.region.now c.all.result c.requires.checked.0 (all_places c.args.region.now shape c.requires.fit many) c.all.ensures.is
+    all_holds (model.form c.args.args.now) (model.item c.args.args.now) shape c.args.form.now.1 c.args.region.now c.all_of.result c.requires.checked.0 (all_places c.args.region.now shape c.requires.fit many) c.all_of.ensures.is

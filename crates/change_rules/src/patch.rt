@@ -1,35 +1,16 @@
-//! The new result of a node, or the new items of a box of it.
+//! The new items of a box of a result.
 
 ghost use Rattle.std.specs.Prelude.{◌≡◌, ◌+◌, ◌≤◌, length, Ok, IsTrue, IfOk};
 ghost use Rattle.index_region.specs.Answers.{IsFormAnswerTo};
 ghost use Rattle.index_region.specs.Boxes.{box_size, fits};
-ghost use Rattle.change_core.specs.RuleModels.{form_size};
 ghost use Rattle.change_core.specs.Parts.{HoldsItems, items_in};
-ghost use Rattle.change_rules.specs.Outcomes.{evaluation};
 ghost use Rattle.change_rules.specs.Nodes.{patch_delta};
 
+use crate::evaluation::all_of;
 use arrays_core::{ApplyFault, Array, Fault, ItemType, Shape, size};
 use change_core::{Meter, Rule};
 use index_region::{Delta, IndexBox, Patch, Seen};
 use std::alloc::{AllocError, Global};
-
-/// The whole evaluation.
-pub(crate) fn evaluate<R: Rule>(
-    alloc: Global,
-    rule: &R,
-    args: &[Seen],
-    meter: &mut Meter,
-) -> Result<Result<Array, Fault>, AllocError>
-    requires { length args.now ≡ length (R.model rule.now).selectors }
-    ensures is { IfOk result (λ r. r ≡ evaluation (R.model rule.now) args.now) }
-    ensures ticks { meter.new ≤ meter.old + form_size ((R.model rule.now).form args.now) }
-{
-    match rule.all(alloc, args, meter) {
-        Ok(array) => Ok(Ok(array)),
-        Err(ApplyFault::Kind(kind)) => Ok(Err(Fault { kind, origin: None })),
-        Err(ApplyFault::NoMemory) => Err(AllocError),
-    }
-}
 
 /// The items of a box of the result, whose shape and type are given. Where the box is all of the result, they are made
 /// as a whole.
@@ -49,7 +30,7 @@ fn items_of<R: Rule>(
 {
     let shape = form.0.as_slice();
     if region.size() == size(shape) as usize {
-        rule.all(alloc, args, meter)
+        all_of(alloc, rule, args, meter)
     } else {
         rule.part(alloc, args, shape, form.1, region, meter)
     }

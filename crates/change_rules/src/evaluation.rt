@@ -1,0 +1,91 @@
+//! The whole evaluation of a node.
+
+ghost use Rattle.std.specs.Prelude.{◌≡◌, ◌+◌, ◌≤◌, length, IfOk, IfSome};
+ghost use Rattle.arrays_core.specs.Arrays.{IsAnswerTo};
+ghost use Rattle.index_region.specs.Checks.{whole};
+ghost use Rattle.change_core.specs.RuleModels.{form_size};
+ghost use Rattle.change_rules.specs.Copies.{AreCopies};
+ghost use Rattle.change_rules.specs.Outcomes.{evaluation};
+
+use arrays_core::{ApplyFault, Array, Fault};
+use change_core::{Meter, Rule};
+use index_region::Seen;
+use std::alloc::{AllocError, Global};
+
+/// The whole evaluation.
+pub(crate) fn evaluate<R: Rule>(
+    alloc: Global,
+    rule: &R,
+    args: &[Seen],
+    meter: &mut Meter,
+) -> Result<Result<Array, Fault>, AllocError>
+    requires { length args.now ≡ length (R.model rule.now).selectors }
+    ensures is { IfOk result (λ r. r ≡ evaluation (R.model rule.now) args.now) }
+    ensures ticks { meter.new ≤ meter.old + form_size ((R.model rule.now).form args.now) }
+{
+    match all_of(alloc, rule, args, meter) {
+        Ok(array) => Ok(Ok(array)),
+        Err(ApplyFault::Kind(kind)) => Ok(Err(Fault { kind, origin: None })),
+        Err(ApplyFault::NoMemory) => Err(AllocError),
+    }
+}
+
+/// The whole result, of arguments without patches: one with a patch is copied once, so that its items lie in one piece.
+pub(crate) fn all_of<R: Rule>(
+    alloc: Global,
+    rule: &R,
+    args: &[Seen],
+    meter: &mut Meter,
+) -> Result<Array, ApplyFault>
+    requires { length args.now ≡ length (R.model rule.now).selectors }
+    ensures is { IsAnswerTo (whole ((R.model rule.now).form args.now) ((R.model rule.now).item args.now)) result }
+    ensures ticks { meter.new ≤ meter.old + form_size ((R.model rule.now).form args.now) }
+{
+    if args.iter().all(|arg| arg.array().is_some()) {
+        return rule.all(alloc, args, meter);
+    }
+    let copies = copies_of(alloc, args)?;
+    let views = views_of_copies(alloc, args, &copies)?;
+    rule.all(alloc, &views, meter)
+}
+
+/// For each argument that is seen with a patch an array of its own.
+fn copies_of(alloc: Global, args: &[Seen]) -> Result<Vec<Option<Array>>, AllocError>
+    ensures { IfOk result (λ v. AreCopies args.now v.items) }
+{
+    let mut copies = Vec::new(alloc);
+    for arg in args {
+        copies.push(copy_of(arg)?)?;
+    }
+    Ok(copies)
+}
+
+/// An array of its own for an argument that is seen with a patch.
+fn copy_of(arg: &Seen) -> Result<Option<Array>, AllocError>
+    ensures { IfOk result (λ copy. IfSome copy (λ a. a ≡ arg.now)) }
+{
+    match arg.array() {
+        Some(_) => Ok(None),
+        None => Ok(Some(arg.copy()?)),
+    }
+}
+
+/// The arguments, each by its copy where there is one.
+fn views_of_copies<'x>(
+    alloc: Global,
+    args: &'x [Seen],
+    copies: &'x [Option<Array>],
+) -> Result<Vec<Seen<'x>>, AllocError>
+    requires { AreCopies args.now copies.now }
+    ensures { IfOk result (λ v. v.items ≡ args.now) }
+{
+    let mut views = Vec::new(alloc);
+    for (which, arg) in args.iter().enumerate() {
+        let view = match copies.get(which) {
+            Some(Some(array)) => Seen::plain(array),
+            _ => arg.again(),
+        };
+        views.push(view)?;
+    }
+    Ok(views)
+}
