@@ -15,3 +15,4 @@ pub mod TransposeLaw
 pub mod DyadicTransposeLaw
 pub mod CountedAxes
 pub mod JoinedAxes
+pub mod RavelLaw

@@ -1,12 +1,13 @@
 //! Ravel as a rule.
 
 ghost use Rattle.std.proofs.Common.{rules};
+ghost use Rattle.structural_rules.specs.RavelLaw.{ravel_tight};
 ghost use Rattle.structural_rules.specs.Ravel.{ravel_rule};
 
 use crate::places::places_of;
 use crate::ruled::Ruled;
 use arrays_core::{ApplyFault, Array};
-use change_core::Announced;
+use change_core::{Announced, Lawful};
 use index_region::{IndexBox, Intervals, Seen};
 use std::alloc::Global;
 use structural_fns::Ravel;
@@ -36,4 +37,8 @@ impl Announced for Ruled<Ravel> {
     }
 
     ghost counted = { λ _. Prim.search rules };
+}
+
+impl Lawful for Ruled<Ravel> {
+    ghost tight = { λ _. ravel_tight };
 }
