@@ -15,4 +15,6 @@ pub mod TransposeLaw
 pub mod DyadicTransposeLaw
 pub mod CountedAxes
 pub mod JoinedAxes
+pub mod PlacesOrFill
 pub mod RavelLaw
+pub mod ReshapeLaw

@@ -4,12 +4,13 @@ ghost use Rattle.std.specs.Prelude.{◌≡◌, ◌-◌, ◌≤◌};
 ghost use Rattle.std.proofs.Common.{rules};
 ghost use Rattle.arrays_core.specs.Shapes.{IsWithinLimits};
 ghost use Rattle.change_core.specs.Places.{cover_in};
+ghost use Rattle.structural_rules.specs.ReshapeLaw.{reshape_tight};
 ghost use Rattle.structural_rules.specs.Reshape.{reshape_rule};
 
 use crate::places::places_of;
 use crate::ruled::Ruled;
 use arrays_core::{ApplyFault, Array, shape_of, size};
-use change_core::Announced;
+use change_core::{Announced, Lawful};
 use index_region::{IndexBox, Intervals, Seen};
 use std::alloc::Global;
 use structural_fns::Reshape;
@@ -63,4 +64,8 @@ impl Announced for Ruled<Reshape> {
     }
 
     ghost counted = { λ _. Prim.search rules };
+}
+
+impl Lawful for Ruled<Reshape> {
+    ghost tight = { λ _. reshape_tight };
 }
