@@ -1,14 +1,16 @@
 -- What the checks of take and drop have shown, and the axes that the counts are for.
-use Rattle.std.proofs.Common.{◌≡◌, ◌≤◌, ℕ, zero, suc, Bool, true, false, if◌then◌else◌, nat_eq, List, length, map, replicate, refl, ap, sym, ◌∙◌, arith, unsigned_abs, Result, Ok}
+use Rattle.std.proofs.Common.{◌≡◌, ◌≤◌, ℕ, zero, suc, Bool, true, false, if◌then◌else◌, nat_eq, List, [], length, replicate, refl, ap, ◌∙◌, Ok}
 use Rattle.std.proofs.lemmas.Bool.{and_parts, eqb-true, leb-true}
 use Rattle.std.proofs.lemmas.List.{length-map}
 use Rattle.arrays_core.specs.Arrays.{ArrayValue}
 use Rattle.arrays_core.specs.Limits.{most_axes}
+use Rattle.arrays_core.specs.Shapes.{is_index_of}
+use Rattle.change_core.proofs.UsedWays.{within-whole}
 use Rattle.index_region.specs.Arguments.{is_scalar, is_list, counts_as_numbers, number_of, numbers}
-use Rattle.index_region.specs.Boxes.{Interval, fits, whole_of}
+use Rattle.index_region.specs.Boxes.{Interval, fits, is_within, whole_of}
 use Rattle.index_region.specs.Checks.{Form, is_within_limits}
 use Rattle.index_region.proofs.Passing.{gives, limited_gives}
-use Rattle.structural_fns.specs.AxisCounts.{counted_shape, counted_form}
+use Rattle.structural_fns.specs.AxisCounts.{counted_shape, counted_form, uncounted}
 use Rattle.structural_rules.specs.AxisCounts.{counted_box}
 
 -- what the checks have shown
@@ -43,3 +45,12 @@ counted_fits a b region h = decide (is_scalar b)
     decide : (scalar : Bool) → fits (if scalar then whole_of (if scalar then replicate (length a.items) 1 else b.shape) else region) (if scalar then replicate (length a.items) 1 else b.shape) ≡ true
     decide true = fits_ones (length a.items)
     decide false = h
+
+-- an index list on these axes lies in the box there, where the one of the array itself lies in the box
+pub counted_within : (a b : ArrayValue) (region : List Interval) (at : List ℕ) → is_index_of (counted_shape a b) at ≡ true → is_within region (uncounted b at) ≡ true → is_within (counted_box a b region) at ≡ true
+counted_within a b region at = decide (is_scalar b)
+  where
+    decide : (scalar : Bool) → is_index_of (if scalar then replicate (length a.items) 1 else b.shape) at ≡ true → is_within region (if scalar then [] else at) ≡ true
+        → is_within (if scalar then whole_of (if scalar then replicate (length a.items) 1 else b.shape) else region) at ≡ true
+    decide true t h = within-whole (replicate (length a.items) 1) at ∙ t
+    decide false t h = h

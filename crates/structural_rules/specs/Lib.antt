@@ -18,3 +18,4 @@ pub mod JoinedAxes
 pub mod PlacesOrFill
 pub mod RavelLaw
 pub mod ReshapeLaw
+pub mod TakeLaw

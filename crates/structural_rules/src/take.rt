@@ -6,12 +6,13 @@ ghost use Rattle.index_region.specs.Arguments.{numbers};
 ghost use Rattle.index_region.specs.Boxes.{fits};
 ghost use Rattle.change_core.specs.Ways.{images};
 ghost use Rattle.structural_fns.specs.Reshape.{magnitudes};
+ghost use Rattle.structural_rules.specs.TakeLaw.{take_tight};
 ghost use Rattle.structural_rules.specs.Take.{taken, taken_axes, take_rule};
 
 use crate::axis_counts::{counted_axes, counted_box};
 use crate::ruled::Ruled;
 use arrays_core::{ApplyFault, Array};
-use change_core::Announced;
+use change_core::{Announced, Lawful};
 use index_region::{IndexBox, Intervals, Seen};
 use std::alloc::Global;
 use structural_fns::Take;
@@ -80,4 +81,8 @@ impl Announced for Ruled<Take> {
     }
 
     ghost counted = { λ _. Prim.search rules };
+}
+
+impl Lawful for Ruled<Take> {
+    ghost tight = { λ _. take_tight };
 }
