@@ -19,3 +19,4 @@ pub mod PlacesOrFill
 pub mod RavelLaw
 pub mod ReshapeLaw
 pub mod TakeLaw
+pub mod DropLaw

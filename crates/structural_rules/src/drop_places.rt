@@ -4,12 +4,13 @@ ghost use Rattle.std.specs.Prelude.{◌≡◌, ◌≤◌, ℕ, length};
 ghost use Rattle.std.proofs.Common.{rules};
 ghost use Rattle.index_region.specs.Arguments.{numbers};
 ghost use Rattle.change_core.specs.Ways.{images};
+ghost use Rattle.structural_rules.specs.DropLaw.{drop_tight};
 ghost use Rattle.structural_rules.specs.Drop.{kept, kept_axes, drop_rule};
 
 use crate::axis_counts::{counted_axes, counted_box};
 use crate::ruled::Ruled;
 use arrays_core::{ApplyFault, Array};
-use change_core::Announced;
+use change_core::{Announced, Lawful};
 use index_region::{IndexBox, Intervals, Seen};
 use std::alloc::Global;
 use structural_fns::DropPlaces;
@@ -75,4 +76,8 @@ impl Announced for Ruled<DropPlaces> {
     }
 
     ghost counted = { λ _. Prim.search rules };
+}
+
+impl Lawful for Ruled<DropPlaces> {
+    ghost tight = { λ _. drop_tight };
 }
