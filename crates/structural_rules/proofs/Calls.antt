@@ -1,5 +1,5 @@
 -- What a call of a rule's box is given.
-use Rattle.std.proofs.Common.{◌≡◌, ◌<◌, ℕ, zero, suc, List, [], ◌∷◌, length, true, Result, Ok, Err, arith, refl, IsTrue, subst, sym}
+use Rattle.std.proofs.Common.{◌≡◌, ◌<◌, ℕ, zero, suc, List, [], ◌∷◌, length, true, Result, Ok, Err, arith, refl, subst, sym}
 use Rattle.arrays_core.specs.declared.item.Kind.{Kind}
 use Rattle.arrays_core.specs.Arrays.{ArrayValue}
 use Rattle.index_region.specs.ArgumentLists.{of_two_arguments}

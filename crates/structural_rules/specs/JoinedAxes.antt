@@ -1,5 +1,5 @@
 -- What the checks of catenate have shown of the axes.
-use Rattle.std.proofs.Common.{◌≡◌, ◌≤◌, ◌<◌, ◌+◌, ◌-◌, ℕ, suc, Bool, true, false, ◌||◌, ◌&&◌, if◌then◌else◌, nat_eq, nat_le, List, length, get_or, refl, ap, sym, ◌∙◌, subst, arith, Result, Ok, inl, inr, ◌⊎◌, pos, negsuc, int_le}
+use Rattle.std.proofs.Common.{◌≡◌, ◌≤◌, ◌<◌, ◌+◌, ◌-◌, ℕ, suc, true, ◌||◌, ◌&&◌, if◌then◌else◌, nat_le, List, length, get_or, ap, sym, ◌∙◌, subst, arith, Ok, inl, inr, ◌⊎◌, pos, negsuc, int_le}
 use Rattle.std.proofs.lemmas.Bool.{and_parts, or_cases, eqb-true, leb-true, false≢true}
 use Rattle.std.proofs.lemmas.List.Edits.{length-insert, get_or-insert_at}
 use Rattle.arrays_core.specs.Arrays.{ArrayValue}

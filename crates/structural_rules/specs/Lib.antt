@@ -20,3 +20,4 @@ pub mod RavelLaw
 pub mod ReshapeLaw
 pub mod TakeLaw
 pub mod DropLaw
+pub mod CatenateLaw

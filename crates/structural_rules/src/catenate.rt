@@ -5,11 +5,12 @@ ghost use Rattle.std.proofs.Common.{rules};
 ghost use Rattle.index_region.specs.Boxes.{fits};
 ghost use Rattle.structural_fns.specs.Catenate.{joined_places as places_joined};
 ghost use Rattle.structural_rules.specs.Catenate.{side_box as box_of_side, catenate_rule};
+ghost use Rattle.structural_rules.specs.CatenateLaw.{catenate_tight};
 ghost use Rattle.structural_rules.specs.JoinedAxes.{IsSide};
 
 use crate::ruled::Ruled;
 use arrays_core::{ApplyFault, Array};
-use change_core::Announced;
+use change_core::{Announced, Lawful};
 use index_region::{IndexBox, Intervals, Seen};
 use std::alloc::Global;
 use structural_fns::Catenate;
@@ -75,4 +76,8 @@ impl Announced for Ruled<Catenate> {
     }
 
     ghost counted = { λ _. Prim.search rules };
+}
+
+impl Lawful for Ruled<Catenate> {
+    ghost tight = { λ r. catenate_tight r.function.along };
 }

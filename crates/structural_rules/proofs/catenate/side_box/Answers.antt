@@ -1,4 +1,4 @@
-use Rattle.std.proofs.Common.{◌≡◌, ◌≤◌, ◌<◌, length, get_or, arith}
+use Rattle.std.proofs.Common.{◌≤◌, ◌<◌, length, get_or, arith}
 use Rattle.structural_rules.proofs.Moved.{interval_on}
 use Rattle.structural_rules.proofs.catenate.side_box.Goals as goal
 
