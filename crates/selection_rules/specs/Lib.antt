@@ -9,4 +9,6 @@ pub mod Replicate
 pub mod Index
 -- What the laws and the bodies use.
 pub mod PositionAxes
+pub mod ShapeLaw
+pub mod IndexGeneratorLaw
 pub mod IndexLaw

@@ -3,10 +3,11 @@
 ghost use Rattle.std.specs.Prelude.{◌≡◌};
 ghost use Rattle.std.proofs.Common.{rules};
 ghost use Rattle.selection_rules.specs.IndexGenerator.{generator_rule};
+ghost use Rattle.selection_rules.specs.IndexGeneratorLaw.{generator_tight};
 
 use crate::ruled::Ruled;
 use arrays_core::{ApplyFault, Array};
-use change_core::Announced;
+use change_core::{Announced, Lawful};
 use index_region::{IndexBox, Intervals, Seen};
 use selection_fns::IndexGenerator;
 use std::alloc::Global;
@@ -35,4 +36,8 @@ impl Announced for Ruled<IndexGenerator> {
     }
 
     ghost counted = { λ _. Prim.search rules };
+}
+
+impl Lawful for Ruled<IndexGenerator> {
+    ghost tight = { λ _. generator_tight };
 }
