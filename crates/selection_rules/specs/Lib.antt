@@ -11,4 +11,5 @@ pub mod Index
 pub mod PositionAxes
 pub mod ShapeLaw
 pub mod IndexGeneratorLaw
+pub mod ReplicateLaw
 pub mod IndexLaw

@@ -8,10 +8,11 @@ ghost use Rattle.index_region.specs.Boxes.{fits};
 ghost use Rattle.change_core.specs.RuleModels.{HasShape};
 ghost use Rattle.selection_fns.specs.Replicate.{times, replicate_form};
 ghost use Rattle.selection_rules.specs.Replicate.{replicate_rule, replicate_box, copies_before as copies_of_first, copied_interval as interval_of_copies};
+ghost use Rattle.selection_rules.specs.ReplicateLaw.{replicate_tight};
 
 use crate::ruled::Ruled;
 use arrays_core::{ApplyFault, Array};
-use change_core::Announced;
+use change_core::{Announced, Lawful};
 use index_region::{Along, IndexBox, Intervals, Seen};
 use selection_fns::Replicate;
 use std::alloc::Global;
@@ -119,4 +120,8 @@ impl Announced for Ruled<Replicate> {
     }
 
     ghost counted = { λ _. Prim.search rules };
+}
+
+impl Lawful for Ruled<Replicate> {
+    ghost tight = { λ r. replicate_tight r.function.along };
 }
