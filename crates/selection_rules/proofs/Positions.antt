@@ -17,6 +17,7 @@ use Rattle.change_core.proofs.UsedPlaces.{places_before-index_after}
 use Rattle.selection_fns.specs.Index.{Position, count_written, written_positions, of_array_and_positions, index_form, indexed_shape, are_numbers, are_on}
 use Rattle.selection_fns.proofs.Indexed.{positions_long}
 use Rattle.selection_rules.specs.Index.{least_box, place_named, point, position_uses, unselected}
+use Rattle.selection_rules.specs.LeastBoxes.{length-point}
 use Rattle.selection_rules.specs.PositionAxes.{axes_before, count_axes}
 use Rattle.selection_rules.proofs.Copied.{has_form, limited_within}
 
@@ -45,10 +46,6 @@ between_same (n ∷ axes) (i ∷ index) h =
 -- the box from a place to itself
 pub cover_one : (shape : List ℕ) (k : ℕ) → cover shape k k ≡ point (index_after shape k)
 cover_one shape k = between_same shape (index_after shape k) (length-index_after shape k)
-
-pub length-point : (index : List ℕ) → length (point index) ≡ length index
-length-point [] = refl
-length-point (i ∷ index) = let k = length-point index in omega (arith, k)
 
 -- one more place of a shape, which passes the test or does not
 pub one_more_hit : (shape : List ℕ) (test : List ℕ → Bool) (k : ℕ) (found next : Option (List Interval)) (place : List Interval) → found ≡ least_box shape test k → test (index_after shape k) ≡ true

@@ -12,4 +12,5 @@ pub mod PositionAxes
 pub mod ShapeLaw
 pub mod IndexGeneratorLaw
 pub mod ReplicateLaw
+pub mod LeastBoxes
 pub mod IndexLaw

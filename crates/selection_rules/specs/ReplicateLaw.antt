@@ -1,5 +1,5 @@
 -- The law of replicate.
-use Rattle.std.proofs.Common.{◌≡◌, ◌≢◌, ℕ, zero, suc, ◌+◌, ◌-◌, ◌<◌, ◌≤◌, Bool, true, false, nat_eq, nat_le, List, [], ◌∷◌, length, take, get_or, insert, remove, set, refl, sym, ap, ◌∙◌, subst, arith, Option, Some, Ok, if◌then◌else◌, inl, inr}
+use Rattle.std.proofs.Common.{◌≡◌, ℕ, zero, suc, ◌-◌, ◌<◌, ◌≤◌, true, false, nat_eq, nat_le, List, [], ◌∷◌, length, take, get_or, insert, remove, set, refl, sym, ap, ◌∙◌, subst, arith, Option, Ok, if◌then◌else◌, inl, inr}
 use Rattle.std.specs.Prelude.{max, sum}
 use Rattle.std.proofs.lemmas.Bool.{cases_Bool, cond-true, cond-false, eqb-false, leb-true}
 use Rattle.std.proofs.lemmas.Bool.Decides.{nat_tests}
@@ -9,14 +9,14 @@ use Rattle.arrays_core.specs.Shapes.{is_index_of}
 use Rattle.index_region.specs.declared.along.Along.{Along}
 use Rattle.index_region.specs.Arguments.{is_scalar}
 use Rattle.index_region.specs.Axes.{axis_at, places_along}
-use Rattle.index_region.specs.Boxes.{Interval, fits, is_within, whole_of}
+use Rattle.index_region.specs.Boxes.{Interval, is_within}
 use Rattle.index_region.specs.Checks.{Form}
 use Rattle.change_core.specs.Laws.{Covered, IsTight}
 use Rattle.change_core.specs.Reaches.{is_moved}
-use Rattle.change_core.specs.Sourced.{on_axis, right_used}
+use Rattle.change_core.specs.Sourced.{right_used}
 use Rattle.change_core.proofs.Sourced.{selected_sourced-tight}
 use Rattle.change_core.proofs.UsedWays.{Follows, within-set, within-whole}
-use Rattle.selection_fns.specs.Replicate.{times, maker, copied_place, replicate_form, replicate_source, replicated_shape}
+use Rattle.selection_fns.specs.Replicate.{times, copied_place, replicate_form, replicate_source}
 use Rattle.selection_fns.proofs.Copies.{axis_below, exchanged_there, is_copied, replicate_gives}
 use Rattle.selection_fns.proofs.Repeated.{maker_is_walk, sum_front, walk}
 use Rattle.selection_rules.specs.Replicate.{copied_interval, replicate_box, replicate_rule}

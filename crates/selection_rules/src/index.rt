@@ -8,11 +8,11 @@ ghost use Rattle.change_core.specs.RuleModels.{FitsAt, box_at};
 ghost use Rattle.selection_fns.specs.Index.{count_written, written_positions};
 ghost use Rattle.selection_rules.specs.Index.{index_rule, position_box as box_in_position, position_uses, indexed_box as box_in_result};
 ghost use Rattle.selection_rules.specs.PositionAxes.{count_axes, axes_before as axes_before_position};
-ghost use Rattle.selection_rules.specs.IndexLaw.{length-selectors};
+ghost use Rattle.selection_rules.specs.IndexLaw.{index_tight, length-selectors};
 
 use crate::ruled::Ruled;
 use arrays_core::{ApplyFault, Array};
-use change_core::Announced;
+use change_core::{Announced, Lawful};
 use index_region::{IndexBox, Intervals, Seen};
 use selection_fns::Index;
 use std::alloc::Global;
@@ -147,4 +147,8 @@ impl<'w> Announced for Ruled<Index<'w>> {
     }
 
     ghost counted = { λ r. length-selectors r.function.written.now };
+}
+
+impl<'w> Lawful for Ruled<Index<'w>> {
+    ghost tight = { λ r. index_tight r.function.written.now };
 }
