@@ -8,3 +8,4 @@ pub mod ReadLines
 pub mod ReduceLaw
 pub mod ScanLaw
 pub mod OuterProductLaw
+pub mod InnerProductReads
