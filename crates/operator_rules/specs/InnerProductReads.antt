@@ -1,12 +1,12 @@
 -- What settles an item of an inner product, and what a changed box reaches.
-use Rattle.std.proofs.Common.{◌≡◌, ◌≢◌, ℕ, ◌+◌, ◌-◌, ◌*◌, ◌<◌, ◌≤◌, zero, suc, Bool, true, false, nat_eq, nat_le, ◌&&◌, List, [], ◌∷◌, ◌++◌, length, get_or, map, take, drop, Option, Result, Ok, if◌then◌else◌, refl, sym, ap, subst, ◌∙◌, arith, inl, inr}
+use Rattle.std.proofs.Common.{◌≡◌, ◌≢◌, ℕ, ◌+◌, ◌-◌, ◌*◌, ◌<◌, ◌≤◌, zero, suc, true, nat_eq, nat_le, ◌&&◌, List, [], ◌∷◌, ◌++◌, length, get_or, map, take, drop, Option, Result, Ok, if◌then◌else◌, refl, sym, ap, subst, ◌∙◌, arith, inl, inr}
 use Rattle.std.specs.Prelude.{◌==◌}
 use Rattle.std.specs.List.{range_with_len}
 use Rattle.std.proofs.lemmas.Bool.{and_from, and_parts, cases_Bool, cond-false, cond-true, eqb-false, eqb-true, false≢true, leb-true}
 use Rattle.std.proofs.lemmas.List.{take-append-le, take_all}
 use Rattle.arrays_core.specs.declared.item.Item.{Item}
 use Rattle.arrays_core.specs.declared.item.Kind.{Kind}
-use Rattle.arrays_core.specs.Arrays.{ArrayValue, IsArray, item_of, item_if_there}
+use Rattle.arrays_core.specs.Arrays.{ArrayValue, IsArray, item_if_there}
 use Rattle.arrays_core.specs.Items.{fill}
 use Rattle.arrays_core.specs.Shapes.{is_index_of, places_before, size}
 use Rattle.arrays_core.proofs.Shapes.{as_long}
@@ -14,7 +14,7 @@ use Rattle.scalar_fns.specs.declared.function.Scalar2.{Scalar2}
 use Rattle.scalar_fns.specs.Items.{dyadic_on_items}
 use Rattle.scalar_fns.specs.ScalarExtension.{extended}
 use Rattle.index_region.specs.Answers.{IsPlaceOf}
-use Rattle.index_region.specs.Boxes.{Interval, fits, is_within, whole_of}
+use Rattle.index_region.specs.Boxes.{Interval, is_within, whole_of}
 use Rattle.index_region.specs.Checks.{Form, and_then}
 use Rattle.change_core.specs.Laws.{Covered, Each}
 use Rattle.change_core.specs.Sourced.{other}
@@ -46,6 +46,7 @@ ones_first : (shape : List ℕ) → places_before shape (ones shape) ≡ 0
 ones_first [] = refl
 ones_first (n ∷ shape) = let rest = ones_first shape in omega arith
 
+-- the one index of an axis of one place
 only : (n i : ℕ) → n ≡ 1 → (nat_le 1 i && nat_le i n) ≡ true → i ≡ 1
 only n i one h =
     let parts = and_parts _ _ h in

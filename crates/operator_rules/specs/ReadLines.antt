@@ -1,5 +1,5 @@
 -- Lines of arrays that are read alike.
-use Rattle.std.proofs.Common.{◌≡◌, ℕ, ◌+◌, ◌-◌, ◌<◌, ◌≤◌, zero, suc, pos, negsuc, true, false, List, [], ◌∷◌, length, map, insert, remove, Some, refl, sym, ◌∙◌, arith}
+use Rattle.std.proofs.Common.{◌≡◌, ℕ, ◌+◌, ◌<◌, ◌≤◌, zero, suc, pos, negsuc, true, List, [], ◌∷◌, length, map, remove, Some, refl, sym, ◌∙◌, arith}
 use Rattle.std.specs.List.{range_with_len}
 use Rattle.std.proofs.lemmas.Bool.{and_parts, cond-true, false≢true, leb-true}
 use Rattle.arrays_core.specs.Arrays.{ArrayValue, item_of, item_if_there}

@@ -1,5 +1,5 @@
 -- The law of scan.
-use Rattle.std.proofs.Common.{◌≡◌, ℕ, ◌+◌, ◌<◌, ◌≤◌, zero, suc, true, nat_eq, nat_le, nat_lt, ◌&&◌, List, [], ◌∷◌, length, get_or, map, take, insert, remove, set, refl, sym, ap, ◌∙◌, arith, inl, inr}
+use Rattle.std.proofs.Common.{◌≡◌, ℕ, ◌<◌, ◌≤◌, zero, suc, true, nat_eq, List, [], ◌∷◌, length, get_or, map, take, insert, remove, set, refl, sym, ap, ◌∙◌, arith, inl, inr}
 use Rattle.std.specs.List.{range_with_len}
 use Rattle.std.proofs.lemmas.Bool.{and_from, and_parts, cases_Bool, eqb-true, eqb-false, false≢true, le-leb, leb-true}
 use Rattle.std.proofs.lemmas.List.{get_or_default}
@@ -7,10 +7,10 @@ use Rattle.std.proofs.lemmas.List.FromFn.{take-map-range_with_len}
 use Rattle.arrays_core.specs.declared.item.Item.{Item}
 use Rattle.arrays_core.specs.Arrays.{ArrayValue, item_of, item_if_there}
 use Rattle.arrays_core.specs.Shapes.{is_index_of}
+use Rattle.arrays_core.proofs.Shapes.{as_long}
 use Rattle.scalar_fns.specs.declared.function.Scalar2.{Scalar2}
 use Rattle.index_region.specs.declared.along.Along.{Along}
 use Rattle.index_region.specs.Axes.{axis_at, places_along}
-use Rattle.index_region.specs.Boxes.{Interval}
 use Rattle.change_core.specs.Laws.{IsTight, Covered}
 use Rattle.change_core.specs.Sourced.{other}
 use Rattle.change_core.proofs.Sourced.{one_tight}
@@ -18,7 +18,6 @@ use Rattle.change_core.proofs.UsedWays.{Follows, along-covered, each_range}
 use Rattle.operator_fns.specs.Scan.{scan_form, scan_item}
 use Rattle.operator_fns.specs.RightFold.{fold_right, line}
 use Rattle.operator_fns.proofs.Scanned.{at_axis, scan_facts}
-use Rattle.arrays_core.proofs.Shapes.{as_long}
 use Rattle.operator_rules.specs.ReadLines.{axis_below, item_same, items_same, no_axes, scalar_line}
 use Rattle.operator_rules.specs.Scan.{run_use, scan_rule, scan_use}
 

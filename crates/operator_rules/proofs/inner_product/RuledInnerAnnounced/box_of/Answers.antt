@@ -1,6 +1,6 @@
 use Rattle.std.proofs.Common.{◌≡◌, ℕ, ◌-◌, List, length, ap, ◌∙◌, arith}
 use Rattle.std.proofs.lemmas.List.{length-drop, length-map, length-take}
-use Rattle.index_region.specs.Boxes.{Interval, whole_of}
+use Rattle.index_region.specs.Boxes.{Interval}
 use Rattle.operator_rules.proofs.Ranks.{few_rows_and_columns}
 use Rattle.operator_rules.proofs.inner_product.RuledInnerAnnounced.box_of.Goals as goal
 
