@@ -3,7 +3,7 @@ use Rattle.std.proofs.Common.{◌≡◌, ℕ, List, [], ◌∷◌, length, map, 
 use Rattle.std.proofs.lemmas.Bool.{true≢false, cases_Bool, cond-true, cond-false, both_ways}
 use Rattle.arrays_core.specs.declared.item.Item.{Item}
 use Rattle.arrays_core.specs.declared.item.Kind.{Kind}
-use Rattle.arrays_core.specs.Arrays.{ArrayValue, item_if_there}
+use Rattle.arrays_core.specs.Arrays.{ArrayValue, IsArray, item_if_there}
 use Rattle.arrays_core.specs.Shapes.{is_index_of}
 use Rattle.arrays_core.specs.Items.{fill}
 use Rattle.change_core.specs.declared.reach.Reach.{Reach}
@@ -108,6 +108,10 @@ length-news : (changes : List ArgumentChange) → length (news changes) ≡ leng
 length-news [] = refl
 length-news (c ∷ changes) = let k = length-news changes in omega (arith, k)
 
+all_sound : (changes : List ArgumentChange) → AllAgree changes → Each IsArray (news changes)
+all_sound [] h = tt
+all_sound (c ∷ changes) h = (h.0.sound, all_sound changes h.1)
+
 length-olds : (changes : List ArgumentChange) → length (olds changes) ≡ length changes
 length-olds [] = refl
 length-olds (c ∷ changes) = let k = length-olds changes in omega (arith, k)
@@ -115,7 +119,7 @@ length-olds (c ∷ changes) = let k = length-olds changes in omega (arith, k)
 items_same : (p : RuleModel) → IsTight p → (changes : List ArgumentChange) (form : Result Form Kind) (index : List ℕ) → length changes ≡ length p.selectors → AllAgree changes → p.form (news changes) ≡ form → frames p.selectors (olds changes) ≡ frames p.selectors (news changes) → IsPlace form index → is_reached (reach_by form p.uses (news changes) (moves changes)) index ≡ false → p.item (olds changes) index ≡ p.item (news changes) index
 items_same p tight changes (Err k) index n h e same place u = absurd (true≢false u)
 items_same p tight changes (Ok f) index n h e same place u =
-    tight.determined _ _ f index (length-olds changes ∙ n) (length-news changes ∙ n) same e place (gathered_same f.shape changes (p.uses f.shape (news changes)) index h (tight.covered (news changes) f (length-news changes ∙ n) e) place (unmoved_reach f.shape _ index u))
+    tight.determined _ _ f index (length-olds changes ∙ n) (length-news changes ∙ n) (all_sound changes h) same e place (gathered_same f.shape changes (p.uses f.shape (news changes)) index h (tight.covered (news changes) f (length-news changes ∙ n) e) place (unmoved_reach f.shape _ index u))
 
 -- where the law of a rule holds, all that changes is reached
 pub covers : (p : RuleModel) → IsTight p → ReachCovers p

@@ -5,7 +5,7 @@ use Rattle.std.proofs.lemmas.List.{length-replicate}
 use Rattle.arrays_core.specs.declared.item.Item.{Item}
 use Rattle.arrays_core.specs.declared.item.ItemType.{ItemType}
 use Rattle.arrays_core.specs.declared.item.Kind.{Kind}
-use Rattle.arrays_core.specs.Arrays.{ArrayValue, item_if_there}
+use Rattle.arrays_core.specs.Arrays.{ArrayValue, IsArray, item_if_there}
 use Rattle.arrays_core.specs.Items.{fill}
 use Rattle.arrays_core.specs.Shapes.{is_index_of}
 use Rattle.change_core.specs.Laws.{AllCovered, Covered, Each, IsTight, blank, framed, frames, gathered}
@@ -75,35 +75,36 @@ one_tight form item use_of h = record { settled = settled; determined = determin
     settled (a ∷ []) [] same g k = absurd (let no : ⊥ = cc in no)
     settled (a ∷ []) (b ∷ x ∷ rest) same g k = absurd (let no : ⊥ = cc in no)
 
-    determined : (old new : List ArrayValue) (f : Form) (index : List ℕ) → length old ≡ 1 → length new ≡ 1 → frames (false ∷ []) old ≡ frames (false ∷ []) new → of_one_argument form new ≡ Ok f → is_index_of f.shape index ≡ true
+    determined : (old new : List ArrayValue) (f : Form) (index : List ℕ) → length old ≡ 1 → length new ≡ 1 → Each IsArray new → frames (false ∷ []) old ≡ frames (false ∷ []) new → of_one_argument form new ≡ Ok f → is_index_of f.shape index ≡ true
         → gathered old (uses_of_one use_of f.shape new) index ≡ gathered new (uses_of_one use_of f.shape new) index → of_one_argument (λ b. item b index) old ≡ of_one_argument (λ b. item b index) new
-    determined (a ∷ []) (b ∷ []) f index m n same e place read =
+    determined (a ∷ []) (b ∷ []) f index m n sound same e place read =
         let r = reframed a b (head_same (blank a) (blank b) [] [] same) in
         let reads = (use_of f.shape b).reads index in
         ap (λ (x : ArrayValue). item x index) r.is
         ∙ h.settled b a.items f index r.count e place (sym (ap (λ (x : ArrayValue). map (item_if_there x) reads) r.is) ∙ head_same _ _ [] [] read)
-    determined [] new f index m n same e place read = absurd (omega arith)
-    determined (a ∷ x ∷ rest) new f index m n same e place read = absurd (omega arith)
-    determined (a ∷ []) [] f index m n same e place read = absurd (omega arith)
-    determined (a ∷ []) (b ∷ x ∷ rest) f index m n same e place read = absurd (omega arith)
+    determined [] new f index m n sound same e place read = absurd (omega arith)
+    determined (a ∷ x ∷ rest) new f index m n sound same e place read = absurd (omega arith)
+    determined (a ∷ []) [] f index m n sound same e place read = absurd (omega arith)
+    determined (a ∷ []) (b ∷ x ∷ rest) f index m n sound same e place read = absurd (omega arith)
 
     all_covered : (args : List ArrayValue) (f : Form) → length args ≡ 1 → of_one_argument form args ≡ Ok f → AllCovered f.shape args (uses_of_one use_of f.shape args)
     all_covered (b ∷ []) f n e = (h.covered b f e, tt)
     all_covered [] f n e = absurd (omega arith)
     all_covered (b ∷ x ∷ rest) f n e = absurd (omega arith)
 
--- the same for a function of two arrays. Where the left one is a selector, it is known whole
-pub record TwoTight (selects : Bool) (form : ArrayValue → ArrayValue → Result Form Kind) (item : ArrayValue → ArrayValue → List ℕ → Result Item Kind) (left right : List ℕ → ArrayValue → ArrayValue → Use) : Type 0 where
+-- the same for a function of two arrays. Where the left one is a selector, it is known whole. That both are arrays is known
+-- of the new ones, whose items these are
+pub record TwoArraysTight (selects : Bool) (form : ArrayValue → ArrayValue → Result Form Kind) (item : ArrayValue → ArrayValue → List ℕ → Result Item Kind) (left right : List ℕ → ArrayValue → ArrayValue → Use) : Type 0 where
   pub blind : (c d : ArrayValue) (xs ys : List Item) → IsOther selects c xs → length ys ≡ length d.items → form (other c xs) (other d ys) ≡ form c d
-  pub settled : (c d : ArrayValue) (xs ys : List Item) (f : Form) (index : List ℕ) → IsOther selects c xs → length ys ≡ length d.items → form c d ≡ Ok f → is_index_of f.shape index ≡ true
+  pub settled : (c d : ArrayValue) (xs ys : List Item) (f : Form) (index : List ℕ) → IsArray c → IsArray d → IsOther selects c xs → length ys ≡ length d.items → form c d ≡ Ok f → is_index_of f.shape index ≡ true
       → map (item_if_there (other c xs)) ((left f.shape c d).reads index) ≡ map (item_if_there c) ((left f.shape c d).reads index)
       → map (item_if_there (other d ys)) ((right f.shape c d).reads index) ≡ map (item_if_there d) ((right f.shape c d).reads index) → item (other c xs) (other d ys) index ≡ item c d index
   pub covered_left : (a b : ArrayValue) (f : Form) → form a b ≡ Ok f → Covered a.shape f.shape (left f.shape a b)
   pub covered_right : (a b : ArrayValue) (f : Form) → form a b ≡ Ok f → Covered b.shape f.shape (right f.shape a b)
 
-pub two_tight : (selects : Bool) (form : ArrayValue → ArrayValue → Result Form Kind) (item : ArrayValue → ArrayValue → List ℕ → Result Item Kind) (left right : List ℕ → ArrayValue → ArrayValue → Use)
-    → TwoTight selects form item left right → IsTight (two_rule selects form item left right)
-two_tight selects form item left right h = record { settled = settled; determined = determined; covered = all_covered }
+pub two_arrays_tight : (selects : Bool) (form : ArrayValue → ArrayValue → Result Form Kind) (item : ArrayValue → ArrayValue → List ℕ → Result Item Kind) (left right : List ℕ → ArrayValue → ArrayValue → Use)
+    → TwoArraysTight selects form item left right → IsTight (two_rule selects form item left right)
+two_arrays_tight selects form item left right h = record { settled = settled; determined = determined; covered = all_covered }
   where
     settled : (old new : List ArrayValue) → frames (selects ∷ false ∷ []) old ≡ frames (selects ∷ false ∷ []) new → IsOk (of_two_arguments form old) → IsOk (of_two_arguments form new) → of_two_arguments form old ≡ of_two_arguments form new
     settled (a ∷ b ∷ []) (c ∷ d ∷ []) same g k =
@@ -117,27 +118,45 @@ two_tight selects form item left right h = record { settled = settled; determine
     settled (a ∷ b ∷ []) (c ∷ []) same g k = absurd (let no : ⊥ = cc in no)
     settled (a ∷ b ∷ []) (c ∷ d ∷ x ∷ rest) same g k = absurd (let no : ⊥ = cc in no)
 
-    determined : (old new : List ArrayValue) (f : Form) (index : List ℕ) → length old ≡ 2 → length new ≡ 2 → frames (selects ∷ false ∷ []) old ≡ frames (selects ∷ false ∷ []) new → of_two_arguments form new ≡ Ok f → is_index_of f.shape index ≡ true
+    determined : (old new : List ArrayValue) (f : Form) (index : List ℕ) → length old ≡ 2 → length new ≡ 2 → Each IsArray new → frames (selects ∷ false ∷ []) old ≡ frames (selects ∷ false ∷ []) new → of_two_arguments form new ≡ Ok f → is_index_of f.shape index ≡ true
         → gathered old (uses_of_two left right f.shape new) index ≡ gathered new (uses_of_two left right f.shape new) index → of_two_arguments (λ a b. item a b index) old ≡ of_two_arguments (λ a b. item a b index) new
-    determined (a ∷ b ∷ []) (c ∷ d ∷ []) f index m n same e place read =
+    determined (a ∷ b ∷ []) (c ∷ d ∷ []) f index m n sound same e place read =
         let p = as_other selects a c (head_same _ _ _ _ same) in
         let q = reframed b d (head_same _ _ _ _ (tail_same _ _ _ _ same)) in
         (λ i. item (p.0 i) (q.is i) index)
-        ∙ h.settled c d a.items b.items f index p.1 q.count e place
+        ∙ h.settled c d a.items b.items f index sound.0 sound.1.0 p.1 q.count e place
         (sym (ap (λ (x : ArrayValue). map (item_if_there x) ((left f.shape c d).reads index)) p.0) ∙ head_same _ _ _ _ read)
         (sym (ap (λ (x : ArrayValue). map (item_if_there x) ((right f.shape c d).reads index)) q.is) ∙ head_same _ _ _ _ (tail_same _ _ _ _ read))
-    determined [] new f index m n same e place read = absurd (omega arith)
-    determined (a ∷ []) new f index m n same e place read = absurd (omega arith)
-    determined (a ∷ b ∷ x ∷ rest) new f index m n same e place read = absurd (omega arith)
-    determined (a ∷ b ∷ []) [] f index m n same e place read = absurd (omega arith)
-    determined (a ∷ b ∷ []) (c ∷ []) f index m n same e place read = absurd (omega arith)
-    determined (a ∷ b ∷ []) (c ∷ d ∷ x ∷ rest) f index m n same e place read = absurd (omega arith)
+    determined [] new f index m n sound same e place read = absurd (omega arith)
+    determined (a ∷ []) new f index m n sound same e place read = absurd (omega arith)
+    determined (a ∷ b ∷ x ∷ rest) new f index m n sound same e place read = absurd (omega arith)
+    determined (a ∷ b ∷ []) [] f index m n sound same e place read = absurd (omega arith)
+    determined (a ∷ b ∷ []) (c ∷ []) f index m n sound same e place read = absurd (omega arith)
+    determined (a ∷ b ∷ []) (c ∷ d ∷ x ∷ rest) f index m n sound same e place read = absurd (omega arith)
 
     all_covered : (args : List ArrayValue) (f : Form) → length args ≡ 2 → of_two_arguments form args ≡ Ok f → AllCovered f.shape args (uses_of_two left right f.shape args)
     all_covered (a ∷ b ∷ []) f n e = (h.covered_left a b f e, (h.covered_right a b f e, tt))
     all_covered [] f n e = absurd (omega arith)
     all_covered (a ∷ []) f n e = absurd (omega arith)
     all_covered (a ∷ b ∷ x ∷ rest) f n e = absurd (omega arith)
+
+-- where that is of no use
+pub record TwoTight (selects : Bool) (form : ArrayValue → ArrayValue → Result Form Kind) (item : ArrayValue → ArrayValue → List ℕ → Result Item Kind) (left right : List ℕ → ArrayValue → ArrayValue → Use) : Type 0 where
+  pub blind : (c d : ArrayValue) (xs ys : List Item) → IsOther selects c xs → length ys ≡ length d.items → form (other c xs) (other d ys) ≡ form c d
+  pub settled : (c d : ArrayValue) (xs ys : List Item) (f : Form) (index : List ℕ) → IsOther selects c xs → length ys ≡ length d.items → form c d ≡ Ok f → is_index_of f.shape index ≡ true
+      → map (item_if_there (other c xs)) ((left f.shape c d).reads index) ≡ map (item_if_there c) ((left f.shape c d).reads index)
+      → map (item_if_there (other d ys)) ((right f.shape c d).reads index) ≡ map (item_if_there d) ((right f.shape c d).reads index) → item (other c xs) (other d ys) index ≡ item c d index
+  pub covered_left : (a b : ArrayValue) (f : Form) → form a b ≡ Ok f → Covered a.shape f.shape (left f.shape a b)
+  pub covered_right : (a b : ArrayValue) (f : Form) → form a b ≡ Ok f → Covered b.shape f.shape (right f.shape a b)
+
+pub two_tight : (selects : Bool) (form : ArrayValue → ArrayValue → Result Form Kind) (item : ArrayValue → ArrayValue → List ℕ → Result Item Kind) (left right : List ℕ → ArrayValue → ArrayValue → Use)
+    → TwoTight selects form item left right → IsTight (two_rule selects form item left right)
+two_tight selects form item left right h = two_arrays_tight selects form item left right (record {
+  blind = h.blind;
+  settled = λ c d xs ys f index left_sound right_sound. h.settled c d xs ys f index;
+  covered_left = h.covered_left;
+  covered_right = h.covered_right;
+})
 
 -- where items come from places, it is enough that neither the checks nor the sources see items
 pub one_sourced-tight : (form : ArrayValue → Result Form Kind) (source : ArrayValue → List ℕ → Source) (box : List ℕ → ArrayValue → Spread)

@@ -2,7 +2,7 @@
 use Rattle.std.specs.Prelude.{◌≡◌, ◌≢◌, ℕ, List, [], ◌∷◌, Bool, true, false, Option, None, Result, Ok, IsTrue, IsOk, IfOk, map, length, replicate}
 use Rattle.arrays_core.specs.declared.item.Item.{Item}
 use Rattle.arrays_core.specs.declared.item.Kind.{Kind}
-use Rattle.arrays_core.specs.Arrays.{ArrayValue, item_of, item_if_there}
+use Rattle.arrays_core.specs.Arrays.{ArrayValue, IsArray, item_of, item_if_there}
 use Rattle.arrays_core.specs.Items.{fill}
 use Rattle.arrays_core.specs.Shapes.{is_index_of}
 use Rattle.index_region.specs.Boxes.{Interval, is_within, fits}
@@ -47,11 +47,11 @@ AllCovered shape [] (u ∷ uses) = Unit {0}
 AllCovered shape (a ∷ args) (u ∷ uses) = Covered a.shape shape u × AllCovered shape args uses
 
 -- the law of a rule, of one call: selectors, types and shapes settle what the checks give where they pass; with the items
--- that an item reads they settle that item; and the items that read a changed place lie in the boxes
+-- that an item reads of arrays they settle that item; and the items that read a changed place lie in the boxes
 pub record IsTight (p : RuleModel) : Type 0 where
   pub settled : (old new : List ArrayValue) → frames p.selectors old ≡ frames p.selectors new → IsOk (p.form old) → IsOk (p.form new) → p.form old ≡ p.form new
   pub determined : (old new : List ArrayValue) (f : Form) (index : List ℕ) → length old ≡ length p.selectors → length new ≡ length p.selectors
-      → frames p.selectors old ≡ frames p.selectors new → p.form new ≡ Ok f → is_index_of f.shape index ≡ true
+      → Each IsArray new → frames p.selectors old ≡ frames p.selectors new → p.form new ≡ Ok f → is_index_of f.shape index ≡ true
       → gathered old (p.uses f.shape new) index ≡ gathered new (p.uses f.shape new) index → p.item old index ≡ p.item new index
   pub covered : (args : List ArrayValue) (f : Form) → length args ≡ length p.selectors → p.form args ≡ Ok f → AllCovered f.shape args (p.uses f.shape args)
 
@@ -72,6 +72,7 @@ moves changes = map (λ c. c.moved) changes
 
 -- before and after there is one type and shape, and one item at each index list outside what changed
 pub record Agrees (c : ArgumentChange) : Type 0 where
+  pub sound : IsArray c.new
   pub fit : Fits c.new c.moved
   pub kind : c.old.item_type ≡ c.new.item_type
   pub shape : c.old.shape ≡ c.new.shape
