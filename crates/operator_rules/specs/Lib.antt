@@ -9,3 +9,4 @@ pub mod ReduceLaw
 pub mod ScanLaw
 pub mod OuterProductLaw
 pub mod InnerProductReads
+pub mod InnerProductLaw

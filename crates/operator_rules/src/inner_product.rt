@@ -4,10 +4,11 @@ ghost use Rattle.std.specs.Prelude.{◌≡◌, ◌-◌, ◌∷◌, [], false, Li
 ghost use Rattle.std.proofs.Common.{rules};
 ghost use Rattle.change_core.specs.Sourced.{uses_of_two};
 ghost use Rattle.operator_rules.specs.InnerProduct.{row_use, column_use};
+ghost use Rattle.operator_rules.specs.InnerProductLaw.{inner_tight};
 
 use crate::ruled::Ruled;
 use arrays_core::{ApplyFault, Array};
-use change_core::Announced;
+use change_core::{Announced, Lawful};
 use index_region::{IndexBox, Intervals, Seen};
 use operator_fns::Inner;
 use std::alloc::Global;
@@ -60,4 +61,8 @@ impl Announced for Ruled<Inner> {
     }
 
     ghost counted = { λ _. Prim.search rules };
+}
+
+impl Lawful for Ruled<Inner> {
+    ghost tight = { λ i. inner_tight i.function.fold i.function.each };
 }
