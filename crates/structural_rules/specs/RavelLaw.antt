@@ -10,7 +10,8 @@ use Rattle.change_core.specs.Laws.{IsTight, Covered}
 use Rattle.change_core.specs.Places.{first_of_box, last_of_box}
 use Rattle.change_core.specs.Sourced.{left_used}
 use Rattle.change_core.proofs.Sourced.{one_sourced-tight}
-use Rattle.change_core.proofs.UsedPlaces.{offset_between, places_before-index_after}
+use Rattle.arrays_core.proofs.Order.{places_before-index_after}
+use Rattle.change_core.proofs.UsedPlaces.{offset_between}
 use Rattle.structural_fns.specs.Ravel.{ravel_form, ravel_source}
 use Rattle.structural_rules.specs.Ravel.{ravel_box, ravel_rule}
 
