@@ -16,7 +16,7 @@ use Rattle.change_core.specs.declared.reach.Reach.TheVariants.{Unmoved, Inside, 
 use Rattle.change_core.proofs.Collected.{along, collected}
 use Rattle.change_core.proofs.UsedWays.{within-whole}
 use Rattle.change_core.proofs.Walking.{walk_within}
-use Rattle.change_core.specs.Laws.{ReachCovers, AllAgree, ArgumentChange, Covers, IsPlace, moves, news, olds}
+use Rattle.change_core.specs.Laws.{Each, ReachCovers, AllAgree, ArgumentChange, Covers, IsPlace, moves, news, olds}
 use Rattle.change_core.specs.Reaches.{AllFit, LiesIn, reach_of, is_moved, is_reached}
 use Rattle.change_rules.proofs.PatchRight.{error_right, patch_right}
 use Rattle.change_rules.proofs.Walked.{array_of, walked, walked_is, walked_delta, walked_delta_is}
@@ -93,10 +93,10 @@ as_many o a p n e q h =
     let sound : IsArray a = subst (λ (x : Outcome). IfOk x IsArray) e h in
     sound.one_item_a_place ∙ sym (length-map-range_with_len (λ (place : ℕ). patched_item a p (index_after a.shape place)) 0 (size a.shape)) ∙ ap (λ (x : ArrayValue). length x.items) q
 
-pub arguments_before : (os : List Outcome) (ds : List Delta) (ns : List ArrayValue) → ShowsAll os ds ns → list_any is_whole ds ≡ false → AllFit ns (map moved_by ds) → Before os ds ns
-arguments_before [] [] [] h k f = record { changes = []; old = refl; new = refl; moved = refl; agree = tt }
-arguments_before (o ∷ os) (Same ∷ ds) (n ∷ ns) h k f =
-    let rest = arguments_before os ds ns h.1 k f.1 in
+pub arguments_before : (os : List Outcome) (ds : List Delta) (ns : List ArrayValue) → ShowsAll os ds ns → list_any is_whole ds ≡ false → AllFit ns (map moved_by ds) → Each IsArray ns → Before os ds ns
+arguments_before [] [] [] h k f sound = record { changes = []; old = refl; new = refl; moved = refl; agree = tt }
+arguments_before (o ∷ os) (Same ∷ ds) (n ∷ ns) h k f sound =
+    let rest = arguments_before os ds ns h.1 k f.1 sound.1 in
     let here = h.0.becomes in
     let ro = rest.old in
     let rn = rest.new in
@@ -106,10 +106,10 @@ arguments_before (o ∷ os) (Same ∷ ds) (n ∷ ns) h k f =
       old = λ i. here i ∷ ro i;
       new = λ i. n ∷ rn i;
       moved = λ i. None ∷ rm i;
-      agree = (record { fit = tt; kind = refl; shape = refl; count = refl; same = λ _. refl; outside = λ index p u. refl }, rest.agree);
+      agree = (record { sound = sound.0; fit = tt; kind = refl; shape = refl; count = refl; same = λ _. refl; outside = λ index p u. refl }, rest.agree);
     }
-arguments_before (o ∷ os) (Patch p ∷ ds) (n ∷ ns) h k f =
-    let rest = arguments_before os ds ns h.1 k f.1 in
+arguments_before (o ∷ os) (Patch p ∷ ds) (n ∷ ns) h k f sound =
+    let rest = arguments_before os ds ns h.1 k f.1 sound.1 in
     let part = part_of o p n h.0.becomes in
     let here = part.1 in
     let ro = rest.old in
@@ -120,13 +120,13 @@ arguments_before (o ∷ os) (Patch p ∷ ds) (n ∷ ns) h k f =
       old = λ i. here i ∷ ro i;
       new = λ i. n ∷ rn i;
       moved = λ i. Some p.region ∷ rm i;
-      agree = (record { fit = f.0; count = as_many o part.0 p n part.1 part.2 h.0.sound; same = λ e. absurd cc; kind = ap (λ (v : ArrayValue). v.item_type) part.2; shape = ap (λ (v : ArrayValue). v.shape) part.2; outside = outside_patch part.0 n p part.2 }, rest.agree);
+      agree = (record { sound = sound.0; fit = f.0; count = as_many o part.0 p n part.1 part.2 h.0.sound; same = λ e. absurd cc; kind = ap (λ (v : ArrayValue). v.item_type) part.2; shape = ap (λ (v : ArrayValue). v.shape) part.2; outside = outside_patch part.0 n p part.2 }, rest.agree);
     }
-arguments_before (o ∷ os) (Whole r ∷ ds) (n ∷ ns) h k f = absurd (true≢false k)
-arguments_before [] [] (n ∷ ns) h k f = absurd h
-arguments_before [] (d ∷ ds) ns h k f = absurd h
-arguments_before (o ∷ os) [] ns h k f = absurd h
-arguments_before (o ∷ os) (d ∷ ds) [] h k f = absurd h
+arguments_before (o ∷ os) (Whole r ∷ ds) (n ∷ ns) h k f sound = absurd (true≢false k)
+arguments_before [] [] (n ∷ ns) h k f sound = absurd h
+arguments_before [] (d ∷ ds) ns h k f sound = absurd h
+arguments_before (o ∷ os) [] ns h k f sound = absurd h
+arguments_before (o ∷ os) (d ∷ ds) [] h k f sound = absurd h
 
 -- the same items make the same array
 same_whole : (f : Form) (old new : List ℕ → Result Item Kind) → ((index : List ℕ) → IsTrue (is_index_of f.shape index) → old index ≡ new index) → walked (Ok f) old ≡ walked (Ok f) new
@@ -183,8 +183,8 @@ kept_right p law os ds ns (Ok a) count lies before evaluated ok =
 
 -- the change of a node makes of the old whole evaluation the new one
 pub brings_up_to_date : (p : RuleModel) → ReachCovers p → (args : List Argument) (old : Outcome) → length args ≡ length p.selectors → LiesIn (p.form (views args)) (reach_of p (views args) (moved args)) → AllFit (views args) (moved args)
-    → BringsUpToDate p args old (node_delta p args old)
-brings_up_to_date p law args old count lies fit os shows evaluated =
+    → Each IsArray (views args) → BringsUpToDate p args old (node_delta p args old)
+brings_up_to_date p law args old count lies fit sound os shows evaluated =
     let boxes = moved_deltas args in
     let all = shows_all os args shows in
     let many : length (views args) ≡ length p.selectors = length-map args (λ (a : Argument). a.0) ∙ count in
@@ -195,7 +195,7 @@ brings_up_to_date p law args old count lies fit os shows evaluated =
         | inl t ↦ ap then (cond-false _ _ _ f ∙ cond-true _ _ _ t)
         | inr g ↦
             let parts = or_parts (list_any (λ (a : Argument). is_whole a.1.now) args) (not (is_ok old)) g in
-            let before = arguments_before os (deltas args) (views args) all (whole_deltas args ∙ parts.0) (subst (AllFit (views args)) boxes fit) in
+            let before = arguments_before os (deltas args) (views args) all (whole_deltas args ∙ parts.0) (subst (AllFit (views args)) boxes fit) sound in
             ap then (cond-false _ _ _ f ∙ cond-false _ _ _ g)
             ∙ ap (λ (m : List (Option (List Interval))). applied (delta_in (p.form (views args)) (p.item (views args)) (reach_of p (views args) m)) old) boxes
             ∙ kept_right p law os (deltas args) (views args) old many (subst (λ (m : List (Option (List Interval))). LiesIn (p.form (views args)) (reach_of p (views args) m)) boxes lies) before evaluated (not-false (is_ok old) parts.1)

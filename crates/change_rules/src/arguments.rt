@@ -3,6 +3,8 @@
 ghost use Rattle.std.specs.Prelude.{◌≡◌, IfOk, is_ok, not, ◌||◌};
 ghost use Rattle.change_rules.specs.Nodes.{views, moved, moved_by as box_moved_by, all_same as all_are_same, starts_anew as anew, is_whole};
 ghost use Rattle.std.specs.List.{list_any};
+ghost use Rattle.arrays_core.specs.Arrays.{IsArray};
+ghost use Rattle.change_core.specs.Laws.{Each};
 
 use arrays_core::{Array, Fault};
 use index_region::{Delta, IndexBox, Seen};
@@ -20,6 +22,16 @@ pub(crate) fn views_of<'x>(
         views.push(view.again())?;
     }
     Ok(views)
+}
+
+/// The arguments are arrays: each view says so with its shape.
+pub(crate) fn views_are_arrays(args: &[(Seen, &Delta)])
+    ensures { Each IsArray (views args.now) }
+{
+    if let Some(((view, _), args)) = args.split_first() {
+        let _is_array = view.shape();
+        views_are_arrays(args);
+    }
 }
 
 /// The changed boxes of the arguments.

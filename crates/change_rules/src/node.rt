@@ -5,7 +5,7 @@ ghost use Rattle.change_core.specs.Reaches.{AllFit};
 ghost use Rattle.change_rules.specs.Nodes.{views, moved, all_same as all_are_same, node_delta, node_cost, reached_delta, reached_cost};
 ghost use Rattle.change_rules.specs.Currency.{BringsUpToDate, IsRight};
 
-use crate::arguments::{all_same, moved_by, moves_of, starts_anew, views_of};
+use crate::arguments::{all_same, moved_by, moves_of, starts_anew, views_are_arrays, views_of};
 use crate::evaluation::evaluate;
 use crate::patch::patch_of;
 use arrays_core::{Array, Fault};
@@ -134,6 +134,7 @@ pub fn refresh<R: Tight>(
     ensures right { IfOk result (λ d. IsRight (R.model rule.now) (views args.now) d) }
     ensures whole { IfOk result (λ d. BringsUpToDate (R.model rule.now) args.now old.now d) }
 {
+    views_are_arrays(args);
     refresh_loose(alloc, rule, args, old, meter)
 }
 

@@ -13,7 +13,7 @@ use Rattle.index_region.specs.Checks.{form_of}
 use Rattle.index_region.proofs.Boxes.{fits_length, length-index_after}
 use Rattle.index_region.proofs.Passing.{gives}
 use Rattle.change_core.specs.RuleModels.{FitsAt, HasShape, box_at}
-use Rattle.change_core.proofs.UsedPlaces.{places_before-index_after}
+use Rattle.arrays_core.proofs.Order.{places_before-index_after}
 use Rattle.selection_fns.specs.Index.{Position, count_written, written_positions, of_array_and_positions, index_form, indexed_shape, are_numbers, are_on}
 use Rattle.selection_fns.proofs.Indexed.{positions_long}
 use Rattle.selection_rules.specs.Index.{least_box, place_named, point, position_uses, unselected}

@@ -11,4 +11,4 @@ returns-clause-whole g c =
     let model = g.R.Rule.model rule in
     let args = c.args.args.now in
     answered (BringsUpToDate model args c.args.old.now) c.refresh_loose.result _ c.refresh_loose.ensures.delta
-    (brings_up_to_date model (covers model (g.met.R.Tight.tight rule)) args c.args.old.now c.requires.count (reaches_inside model (views args) (moved args)) c.requires.fit)
+    (brings_up_to_date model (covers model (g.met.R.Tight.tight rule)) args c.args.old.now c.requires.count (reaches_inside model (views args) (moved args)) c.requires.fit c.views_are_arrays.ensures)
