@@ -4,3 +4,4 @@ pub mod Boxes
 pub mod Patched
 pub mod Walks
 pub mod Written
+pub mod Advancing

@@ -6,7 +6,7 @@ use Rattle.index_region.specs.Boxes.{Interval, box_size, box_offset, interval_le
 use Rattle.index_region.proofs.Patched.{row_below}
 
 -- a box with a place has one on each of its later axes
-rest_positive : (p n w : ℕ) → p < n * w → 0 < w
+pub rest_positive : (p n w : ℕ) → p < n * w → 0 < w
 rest_positive p n w h = grind arith
 
 pub walk_within : (region : List Interval) (p : ℕ) → p < box_size region → is_within region (walk_at region p) ≡ true

@@ -7,3 +7,5 @@ pub mod ArgumentLists
 pub mod Answers
 pub mod Boxes
 pub mod Patches
+-- What bodies use.
+pub mod Advancing

@@ -1,6 +1,6 @@
 //! Boxes of places.
 
-ghost use Rattle.std.specs.Prelude.{◌≡◌, ◌-◌, ◌≤◌, ◌<◌, ◌^◌, ℕ, List, length, IsTrue, IfSome, Some, None, if◌then◌else◌, true, ◌&&◌, nat_le};
+ghost use Rattle.std.specs.Prelude.{◌≡◌, ◌+◌, ◌-◌, ◌≤◌, ◌<◌, ◌^◌, ℕ, List, length, IsTrue, IfSome, Some, None, if◌then◌else◌, true, ◌&&◌, nat_le};
 ghost use Rattle.std.specs.List.{list_all};
 ghost use Rattle.arrays_core.specs.Limits.{most_axes};
 ghost use Rattle.arrays_core.specs.Shapes.{IsWithinLimits, size as size_of};
@@ -145,6 +145,14 @@ impl IndexBox {
             left %= size;
         }
         index
+    }
+
+    /// The next index list of the box in row-major order; after the last one the first again.
+    pub fn advance(&self, index: &mut IndexList)
+        ensures next { (before : ℕ) → before + 1 < box_size self.now → index.old ≡ walk_at self.now before → index.new ≡ walk_at self.now (before + 1) }
+        ensures around { (before : ℕ) → before + 1 ≡ box_size self.now → index.old ≡ walk_at self.now before → index.new ≡ walk_at self.now 0 }
+    {
+        index.advance(self.as_slice());
     }
 
     /// The index list lies in the box.

@@ -2,6 +2,7 @@
 
 ghost use Rattle.std.specs.Prelude.{◌≡◌, ◌≤◌, ◌<◌, ◌+◌, ◌++◌, ◌∷◌, [], ℕ, List, length, take};
 ghost use Rattle.arrays_core.specs.Limits.{most_axes};
+ghost use Rattle.index_region.specs.Advancing.{next_in};
 
 use arrays_core::MOST_AXES;
 use std::marker::Model;
@@ -49,4 +50,33 @@ impl IndexList {
     {
         &self.indices[..self.rank]
     }
+
+    /// The next index list of some intervals in row-major order; after the last, the first again.
+    pub(crate) fn advance(&mut self, intervals: &[(u32, u32)])
+        ensures { self.new ≡ (next_in intervals.now self.old).0 }
+    {
+        advance_in(intervals, &mut self.indices[..self.rank]);
+    }
+}
+
+/// The next index list in its place, and whether it is the first again.
+fn advance_in(intervals: &[(u32, u32)], index: &mut [u32]) -> bool
+    ensures is { index.new ≡ (next_in intervals.now index.old).0 }
+    ensures around { result ≡ (next_in intervals.now index.old).1 }
+{
+    let Some(((first, last), intervals)) = intervals.split_first() else {
+        return true;
+    };
+    let Some((i, index)) = index.split_first_mut() else {
+        return true;
+    };
+    if !advance_in(intervals, index) {
+        return false;
+    }
+    if *i < *last {
+        *i += 1;
+        return false;
+    }
+    *i = *first;
+    true
 }
