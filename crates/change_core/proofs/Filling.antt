@@ -1,4 +1,5 @@
 -- A list of items filled from the front.
+use Rattle.index_region.proofs.Walks.{walk_within}
 use Rattle.std.proofs.Common.{◌≡◌, ℕ, zero, suc, ◌+◌, ◌-◌, ◌*◌, ◌<◌, ◌≤◌, List, [], ◌∷◌, length, map, get_or, take, set, replicate, refl, ap, ◌∙◌, sym, subst, arith, IsTrue, Result, Ok}
 use Rattle.std.specs.List.{range_with_len}
 use Rattle.std.proofs.lemmas.List.{take_more_set, take_all, length-set, length-replicate}
@@ -9,7 +10,7 @@ use Rattle.arrays_core.specs.Items.{fill, type_of}
 use Rattle.arrays_core.specs.Arrays.{ArrayValue}
 use Rattle.arrays_core.specs.Shapes.{size, IsWithinLimits, is_index_of}
 use Rattle.change_core.proofs.Collected.{collected}
-use Rattle.change_core.proofs.Walking.{prepend, prepend-nil, rest_end, rest_from, rest_ok, walk_within}
+use Rattle.change_core.proofs.Walking.{prepend, prepend-nil, rest_end, rest_from, rest_ok}
 use Rattle.index_region.proofs.Patched.{box_within_size, fits_within}
 use Rattle.index_region.specs.Answers.{HasTypeOf, IsPlaceOf}
 use Rattle.std.proofs.lemmas.Bool.{and_parts, leb-true, false≢true}

@@ -1,30 +1,15 @@
 -- The items along the walk of a box.
-use Rattle.std.proofs.Common.{◌≡◌, ℕ, suc, zero, ◌+◌, ◌-◌, ◌*◌, ◌/◌, ◌%◌, ◌<◌, ◌≤◌, List, [], ◌∷◌, ◌++◌, length, map, refl, ap, ◌∙◌, sym, arith, true, Result, Ok, Err}
+use Rattle.std.proofs.Common.{◌≡◌, ℕ, suc, zero, ◌+◌, ◌-◌, ◌/◌, ◌%◌, ◌<◌, ◌≤◌, List, [], ◌∷◌, ◌++◌, length, map, refl, ap, ◌∙◌, sym, arith, Result, Ok, Err}
 use Rattle.std.specs.List.{range_with_len}
 use Rattle.std.proofs.lemmas.List.{append_assoc, append-nil, ext_get_or, length-map}
 use Rattle.std.proofs.lemmas.List.FromFn.{get_or-map-range_with_len, length-map-range_with_len}
 use Rattle.std.proofs.Math.ListN.{get_or-map}
 use Rattle.arrays_core.proofs.Order.{length-indices, get_or-indices}
-use Rattle.std.proofs.lemmas.Bool.{and_from, le-leb}
-use Rattle.std.proofs.lemmas.Nat.{div_below, mod_below}
 use Rattle.arrays_core.specs.declared.item.Item.{Item}
 use Rattle.arrays_core.specs.declared.item.Kind.{Kind}
 use Rattle.arrays_core.specs.Shapes.{size, indices, index_after}
 use Rattle.change_core.proofs.Collected.{put_first, collected, along}
-use Rattle.index_region.specs.Boxes.{Interval, box_size, interval_length, is_within, walk_at, whole_of}
-
--- the factors of a sized that has a place
-size_parts : (p n w : ℕ) → p < n * w → 0 < w
-size_parts p n w h = grind arith
-
-pub walk_within : (region : List Interval) (p : ℕ) → p < box_size region → is_within region (walk_at region p) ≡ true
-walk_within [] p h = refl
-walk_within (s ∷ intervals) p h =
-    let positive = size_parts p (interval_length s) (box_size intervals) h in
-    let steps = div_below p (box_size intervals) (interval_length s) positive h in
-    let low : s.0 ≤ s.0 + p / box_size intervals = omega arith in
-    let high : s.0 + p / box_size intervals ≤ s.1 = omega arith in
-    and_from _ _ (and_from _ _ (le-leb _ _ low) (le-leb _ _ high)) (walk_within intervals (p % box_size intervals) (mod_below p (box_size intervals) positive))
+use Rattle.index_region.specs.Boxes.{Interval, box_size, walk_at, whole_of}
 
 pub box_size-whole : (axes : List ℕ) → box_size (whole_of axes) ≡ size axes
 box_size-whole [] = refl

@@ -65,12 +65,13 @@ pub trait Rule {
     {
         let places = region.size();
         let mut values = Array::filled(alloc, item_type, &shape_of(alloc, &[places as u32]))?;
+        let mut index = region.index_at(0);
         for place in 0..places {
-            let index = region.index_at(place);
             match self.item(args, index.as_slice(), meter) {
                 Ok(item) => values.write_at(place as u32 + 1, item),
                 Err(kind) => return Err(ApplyFault::Kind(kind)),
             }
+            region.advance(&mut index);
         }
         Ok(values)
     }

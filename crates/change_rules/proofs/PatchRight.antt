@@ -1,8 +1,9 @@
 -- A patch of the announced box makes the whole evaluation.
-use Rattle.std.proofs.Common.{◌≡◌, ℕ, suc, zero, ◌+◌, ◌-◌, ◌*◌, ◌/◌, ◌%◌, ◌<◌, ◌≤◌, List, [], ◌∷◌, map, get_or, refl, ap, ◌∙◌, sym, subst, arith, IsTrue, true, false, Result, Ok, Err, ◌⊎◌, inl, inr, add-zero}
+use Rattle.index_region.proofs.Walks.{walk_within, offset_below, walk_of_offset, offset_of_walk}
+use Rattle.std.proofs.Common.{◌≡◌, ℕ, suc, zero, ◌+◌, ◌-◌, ◌*◌, ◌<◌, ◌≤◌, List, [], ◌∷◌, map, get_or, refl, ap, ◌∙◌, sym, subst, arith, IsTrue, true, false, Result, Ok, Err, ◌⊎◌, inl, inr, add-zero}
 use Rattle.std.specs.List.{range_with_len}
 use Rattle.std.proofs.lemmas.Bool.{and_parts, leb-true, false≢true, cases_Bool, cond-true, cond-false, cases_order}
-use Rattle.std.proofs.lemmas.Nat.{div-mul-add, mod-mul-add, mod_below, div-add-mod', mul-le}
+use Rattle.std.proofs.lemmas.Nat.{mul-le}
 use Rattle.arrays_core.specs.declared.item.Item.{Item}
 use Rattle.arrays_core.specs.declared.item.Kind.{Kind}
 use Rattle.arrays_core.specs.Arrays.{ArrayValue}
@@ -12,31 +13,12 @@ use Rattle.arrays_core.proofs.Shapes.{places_below}
 use Rattle.arrays_core.proofs.Order.{index_after-places_before, places_before-index_after}
 use Rattle.change_core.proofs.Collected.{along, collected, put_first}
 use Rattle.change_core.proofs.UsedWays.{within-whole}
-use Rattle.change_core.proofs.Walking.{walk-whole, box_size-whole, walk_within}
+use Rattle.change_core.proofs.Walking.{walk-whole, box_size-whole}
 use Rattle.change_rules.proofs.Walked.{array_of, failing, walked}
-use Rattle.index_region.proofs.Patched.{fits_within, on_interval, row_below}
-use Rattle.index_region.specs.Boxes.{Interval, box_offset, box_size, fits, interval_length, is_within, walk_at, whole_of}
+use Rattle.index_region.proofs.Patched.{fits_within}
+use Rattle.index_region.specs.Boxes.{Interval, box_offset, box_size, fits, is_within, walk_at, whole_of}
 use Rattle.index_region.specs.Checks.{Form}
 use Rattle.index_region.specs.Patches.{PatchValue, patched, patched_item}
-
-pub box_offset-below : (region : List Interval) (index : List ℕ) → is_within region index ≡ true → box_offset region index < box_size region
-box_offset-below [] [] h = omega arith
-box_offset-below (s ∷ intervals) (i ∷ index) h =
-    row_below (i - s.0) (interval_length s) (box_size intervals) (box_offset intervals index) (on_interval (s ∷ intervals) (i ∷ index) s i intervals index refl refl h) (box_offset-below intervals index (and_parts _ _ h).1)
-box_offset-below [] (i ∷ index) h = absurd (false≢true h)
-box_offset-below (s ∷ intervals) [] h = absurd (false≢true h)
-
-pub walk-box_offset : (region : List Interval) (index : List ℕ) → is_within region index ≡ true → walk_at region (box_offset region index) ≡ index
-walk-box_offset [] [] h = refl
-walk-box_offset (s ∷ intervals) (i ∷ index) h =
-    let parts = and_parts _ _ h in
-    let below = box_offset-below intervals index parts.1 in
-    let low : s.0 ≤ i = leb-true s.0 i (and_parts _ _ parts.0).0 in
-    let head : s.0 + ((i - s.0) * box_size intervals + box_offset intervals index) / box_size intervals ≡ i = rw (div-mul-add (i - s.0) (box_size intervals) (box_offset intervals index) below) (omega arith) in
-    let tail : walk_at intervals (((i - s.0) * box_size intervals + box_offset intervals index) % box_size intervals) ≡ index = rw (mod-mul-add (i - s.0) (box_size intervals) (box_offset intervals index) below) (walk-box_offset intervals index parts.1) in
-    λ j. head j ∷ tail j
-walk-box_offset [] (i ∷ index) h = absurd (false≢true h)
-walk-box_offset (s ∷ intervals) [] h = absurd (false≢true h)
 
 put_parts : (r : Result Item Kind) (rest : Result (List Item) Kind) (ys : List Item) → put_first r rest ≡ Ok ys → (x : Item) × (xs : List Item) × (r ≡ Ok x) × (rest ≡ Ok xs) × (ys ≡ x ∷ xs)
 put_parts (Ok x) (Ok xs) ys e = let s : x ∷ xs ≡ ys = cc in (x, xs, refl, refl, sym s)
@@ -82,8 +64,8 @@ patch_right f old new region a xs outside e c =
     let is_place : is_index_of f.shape (index_after f.shape p) ≡ true = sym (within-whole f.shape (index_after f.shape p)) ∙ ap (is_within (whole_of f.shape)) (sym index) ∙ here in
     ap new index ∙ elim (cases_Bool (is_within region (index_after f.shape p))) [
       | inl t ↦
-          ap new (sym (walk-box_offset region (index_after f.shape p) t))
-          ∙ collected_in (fill f.item_type) (λ q. new (walk_at region q)) (box_size region) xs c (box_offset region (index_after f.shape p)) (box_offset-below region (index_after f.shape p) t)
+          ap new (sym (walk_of_offset region (index_after f.shape p) t))
+          ∙ collected_in (fill f.item_type) (λ q. new (walk_at region q)) (box_size region) xs c (box_offset region (index_after f.shape p)) (offset_below region (index_after f.shape p) t)
           ∙ ap (λ (x : Item). Ok x) (sym (cond-true _ _ _ t))
       | inr o ↦
           sym (outside (index_after f.shape p) is_place o)
@@ -140,14 +122,6 @@ from_first h (suc n) a k (suc p) l e f =
     let here : h a ≡ Ok x.0 = ap h (sym (add-zero a)) ∙ x.1 in
     λ t. put_first (here t) (later t)
 
-pub box_offset-walk_at : (region : List Interval) (p : ℕ) → p < box_size region → box_offset region (walk_at region p) ≡ p
-box_offset-walk_at [] p h = omega arith
-box_offset-walk_at (s ∷ intervals) p h =
-    let positive : 0 < box_size intervals = grind arith in
-    let rest = box_offset-walk_at intervals (p % box_size intervals) (mod_below p (box_size intervals) positive) in
-    let one : s.0 + p / box_size intervals - s.0 ≡ p / box_size intervals = omega arith in
-    rw (one, rest) (div-add-mod' p (box_size intervals))
-
 -- a row before another row is wholly before it
 rows_apart : (i j w a b : ℕ) → i < j → a < w → i * w + a < j * w + b
 rows_apart i j w a b h k =
@@ -173,7 +147,7 @@ offset_order (n ∷ axes) (s ∷ intervals) (i ∷ is) (j ∷ js) hi hj wi wj l 
           let later = offset_order axes intervals is js pi.1 pj.1 qi.1 qj.1 tail in
           same_box i j s.0 (box_size intervals) (box_offset intervals is) (box_offset intervals js) e later
       | inr o ↦ elim o [
-        | inl m ↦ rows_apart (i - s.0) (j - s.0) (box_size intervals) (box_offset intervals is) (box_offset intervals js) (omega arith) (box_offset-below intervals is qi.1)
+        | inl m ↦ rows_apart (i - s.0) (j - s.0) (box_size intervals) (box_offset intervals is) (box_offset intervals js) (omega arith) (offset_below intervals is qi.1)
         | inr m ↦
             let back = rows_apart (j - 1) (i - 1) (size axes) (places_before axes js) (places_before axes is) (omega arith) (places_below axes js pj.1) in
             absurd (omega arith)
@@ -217,10 +191,10 @@ error_right f old new region a k outside fit e c =
       | inl t ↦
           let order : places_before f.shape i < places_before f.shape index = subst (λ (m : ℕ). m < p) (sym (places_before-index_after f.shape r low_size)) l in
           let earlier : box_offset region i < box_offset region index = offset_order f.shape region i index i_place is_place t inside order in
-          let least : box_offset region i < q = subst (λ (m : ℕ). box_offset region i < m) (box_offset-walk_at region q first.below) earlier in
+          let least : box_offset region i < q = subst (λ (m : ℕ). box_offset region i < m) (offset_of_walk region q first.below) earlier in
           let y = first.before (box_offset region i) least in
           let zero_b : box_offset region i ≡ 0 + box_offset region i = omega arith in
-          (y.0, here ∙ ap new (sym (walk-box_offset region i t)) ∙ ap (λ (m : ℕ). new (walk_at region m)) zero_b ∙ y.1)
+          (y.0, here ∙ ap new (sym (walk_of_offset region i t)) ∙ ap (λ (m : ℕ). new (walk_at region m)) zero_b ∙ y.1)
       | inr o ↦
           let kept = collected_at (fill f.item_type) (λ m. old (walk_at (whole_of f.shape) m)) n 0 parts.0 parts.1 r low in
           (get_or parts.0 r (fill f.item_type), here ∙ sym (outside i i_place o) ∙ ap old (sym at) ∙ ap (λ (m : ℕ). old (walk_at (whole_of f.shape) m)) (sym zero_r) ∙ kept)

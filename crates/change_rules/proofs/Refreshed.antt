@@ -1,4 +1,5 @@
 -- The change of a node makes the whole evaluation of the new arguments.
+use Rattle.index_region.proofs.Walks.{walk_within}
 use Rattle.std.proofs.Common.{◌≡◌, ◌≢◌, ℕ, zero, suc, ◌+◌, ◌<◌, List, [], ◌∷◌, length, map, refl, ap, ◌∙◌, sym, subst, arith, IsTrue, true, false, Bool, ◌&&◌, ◌||◌, not, Option, Some, None, Result, Ok, Err, inl, inr, is_ok, IsOk, IfOk}
 use Rattle.std.proofs.lemmas.List.{length-map}
 use Rattle.std.proofs.lemmas.List.FromFn.{length-map-range_with_len}
@@ -15,7 +16,6 @@ use Rattle.change_core.specs.declared.reach.Reach.{Reach}
 use Rattle.change_core.specs.declared.reach.Reach.TheVariants.{Unmoved, Inside, Anew}
 use Rattle.change_core.proofs.Collected.{along, collected}
 use Rattle.change_core.proofs.UsedWays.{within-whole}
-use Rattle.change_core.proofs.Walking.{walk_within}
 use Rattle.change_core.specs.Laws.{Each, ReachCovers, AllAgree, ArgumentChange, Covers, IsPlace, moves, news, olds}
 use Rattle.change_core.specs.Reaches.{AllFit, LiesIn, reach_of, is_moved, is_reached}
 use Rattle.change_rules.proofs.PatchRight.{error_right, patch_right}

@@ -1,4 +1,5 @@
 -- What a change says is so of the result.
+use Rattle.index_region.proofs.Walks.{walk_within, walk_of_offset, offset_below}
 use Rattle.std.proofs.Common.{◌≡◌, inl, inr, ◌+◌, List, Result, Ok, Err, IfOk, true, refl, ap, ◌∙◌, sym, subst, arith}
 use Rattle.std.specs.declared.alloc.AllocError.{AllocError}
 use Rattle.std.proofs.lemmas.Bool.{cases_Bool, cond-true, cond-false}
@@ -18,11 +19,10 @@ use Rattle.change_core.specs.Reaches.{LiesIn, reach_of}
 use Rattle.change_core.specs.RuleModels.{RuleModel}
 use Rattle.change_core.proofs.Collected.{items_are}
 use Rattle.change_core.proofs.Covers.{reaches_inside}
-use Rattle.change_core.proofs.Walking.{walk_within}
 use Rattle.change_rules.specs.Currency.{IsRight}
 use Rattle.change_rules.specs.Nodes.{Argument, views, moved, all_same, starts_anew, node_delta, patch_delta, delta_in}
 use Rattle.change_rules.specs.Outcomes.{Outcome, given}
-use Rattle.change_rules.proofs.PatchRight.{collected_in, first_error, walk-box_offset, box_offset-below}
+use Rattle.change_rules.proofs.PatchRight.{collected_in, first_error}
 
 patch_is_right : (p : RuleModel) (args : List ArrayValue) (f : Form) (region : List Interval) (r : Result (List Item) Kind) → p.form args ≡ Ok f → fits region f.shape ≡ true → items_in (p.item args) region ≡ r
     → IsRight p args (patch_delta f.item_type region r)
@@ -32,8 +32,8 @@ patch_is_right p args f region (Ok xs) e fit is = record {
   fit = fit;
   typed = refl;
   items = λ index h.
-      ap (p.item args) (sym (walk-box_offset region index h))
-      ∙ collected_in (fill f.item_type) (λ q. p.item args (walk_at region q)) (box_size region) xs (items_are (p.item args) region ∙ is) (box_offset region index) (box_offset-below region index h);
+      ap (p.item args) (sym (walk_of_offset region index h))
+      ∙ collected_in (fill f.item_type) (λ q. p.item args (walk_at region q)) (box_size region) xs (items_are (p.item args) region ∙ is) (box_offset region index) (offset_below region index h);
 }
 patch_is_right p args f region (Err k) e fit is =
     let first = first_error (λ q. p.item args (walk_at region q)) (box_size region) 0 k (items_are (p.item args) region ∙ is) in

@@ -14,6 +14,7 @@ loop-place-init g c =
       none = λ _. refl;
       some = λ h. absurd (omega arith);
       ticks = omega arith;
+      at = λ _. c.index_at-index.ensures;
       many = filled_many c.in_ok-values.values c.args.item_type c.shape_of.result.items c.size-places.result (box_size c.args.region.now) c.in_ok-values.ensures c.shape_of.ensures.items c.size-places.ensures;
       typed = ap (λ (a : ArrayValue). a.item_type) c.in_ok-values.ensures;
       rest = nothing_filled (λ p. item (walk_at c.args.region.now p)) (box_size c.args.region.now) c.in_ok-values.values.items;
@@ -22,14 +23,14 @@ loop-place-init g c =
 pub item-requires-clause-place : goal.item-requires-clause-place
 item-requires-clause-place g c =
     let below : c.loop-place.place < box_size c.args.region.now = omega (arith, c.size-places.ensures, c.loop-place-test.true) in
-    place_of ((g.Self.Rule.model c.args.self.now).form c.args.args.now) c.args.shape.now c.args.item_type c.args.region.now c.loop-place.place _ c.requires.checked c.requires.fit below (c.as_slice.ensures.is ∙ c.index_at-index.ensures)
+    place_of ((g.Self.Rule.model c.args.self.now).form c.args.args.now) c.args.shape.now c.args.item_type c.args.region.now c.loop-place.place _ c.requires.checked c.requires.fit below (c.as_slice.ensures.is ∙ c.loop-place.invariant.at below)
 
 pub returns-in-Err-clause-items : goal.returns-in-Err-clause-items
 returns-in-Err-clause-items g c =
     let item = (g.Self.Rule.model c.args.self.now).item c.args.args.now in
     let region = c.args.region.now in
     let below : c.loop-place.place < box_size region = omega (arith, c.size-places.ensures, c.loop-place-test.true) in
-    let failed : item (walk_at region c.loop-place.place) ≡ Err c.in-Err.kind = ap item (sym (c.as_slice.ensures.is ∙ c.index_at-index.ensures)) ∙ sym c.in-Err.ensures.is in
+    let failed : item (walk_at region c.loop-place.place) ≡ Err c.in-Err.kind = ap item (sym (c.as_slice.ensures.is ∙ c.loop-place.invariant.at below)) ∙ sym c.in-Err.ensures.is in
     sym (items_are item region) ∙ sym c.loop-place.invariant.rest ∙ rest_err (λ p. item (walk_at region p)) (box_size region) c.loop-place.place (take c.loop-place.place c.loop-place.values.items) c.in-Err.kind below failed
 
 pub write_at-requires-clause-high : goal.write_at-requires-clause-high
@@ -43,11 +44,12 @@ loop-place-preserved g c =
     let item = (g.Self.Rule.model c.args.self.now).item c.args.args.now in
     let region = c.args.region.now in
     let below : c.loop-place.place < box_size region = omega (arith, c.size-places.ensures, c.loop-place-test.true) in
-    let given : item (walk_at region c.loop-place.place) ≡ Ok c.in-Ok.item = ap item (sym (c.as_slice.ensures.is ∙ c.index_at-index.ensures)) ∙ sym c.in-Ok.ensures.is in
+    let given : item (walk_at region c.loop-place.place) ≡ Ok c.in-Ok.item = ap item (sym (c.as_slice.ensures.is ∙ c.loop-place.invariant.at below)) ∙ sym c.in-Ok.ensures.is in
     record {
       none = λ h. absurd (omega arith);
       some = λ _. one_more_tick c.args.meter.now c.loop-place.place c.loop-place.meter _ c.loop-place.invariant.none c.loop-place.invariant.some c.in-Ok.ensures.ticks;
       ticks = omega (arith, c.in-Ok.ensures.ticks, c.loop-place.invariant.ticks);
+      at = λ more. c.advance.ensures.next c.loop-place.place more (c.loop-place.invariant.at below);
       many = as_many_written c.loop-place.values c.write_at.new.self (box_size region) c.loop-place.place c.in-Ok.item c.loop-place.invariant.many c.write_at.ensures;
       typed = ap (λ (a : ArrayValue). a.item_type) c.write_at.ensures ∙ c.loop-place.invariant.typed;
       rest = one_filled c.loop-place.values c.write_at.new.self (λ p. item (walk_at region p)) (box_size region) c.loop-place.place c.in-Ok.item _ c.loop-place.invariant.many below given c.write_at.ensures c.loop-place.invariant.rest;
@@ -75,3 +77,6 @@ returns-clause-exact g c =
     let last : c.loop-place.place ≡ box_size c.args.region.now = omega (arith, c.size-places.ensures, c.loop-place-test.false) in
     let some : 0 < c.loop-place.place = omega (arith, some_place c.args.region.now c.args.shape.now c.requires.fit) in
     c.loop-place.invariant.some some ∙ ap (ticked c.args.meter.now) last
+
+pub index_at-index-requires-clause-below : goal.index_at-index-requires-clause-below
+index_at-index-requires-clause-below g c = some_place c.args.region.now c.args.shape.now c.requires.fit

@@ -12,6 +12,7 @@ invariant-loop-place g l =
       none : l.place ≡ 0 → l.meter ≡ l.initial.meter;
       some : 0 < l.place → l.meter ≡ ticked l.initial.meter l.place;
       ticks : l.meter ≤ l.initial.meter + l.place;
+      at : l.place < box_size l.region → l.index ≡ walk_at l.region l.place;
       many : length l.values.items ≡ box_size l.region;
       typed : l.values.item_type ≡ l.fn.item_type;
       rest : prepend (take l.place l.values.items) (rest_from (λ p. item (walk_at l.region p)) (box_size l.region) l.place) ≡ collected (along item l.region);
