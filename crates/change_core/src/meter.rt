@@ -44,6 +44,7 @@ impl Meter {
     pub fn ticks(&self) -> u64
         ensures { result ≡ self.now }
     {
-        self.count
+        let Meter { count } = self;
+        *count
     }
 }
