@@ -21,3 +21,5 @@ pub mod ReshapeLaw
 pub mod TakeLaw
 pub mod DropLaw
 pub mod CatenateLaw
+pub mod OneItem
+pub mod RotateLaw
