@@ -4,3 +4,4 @@ mod TurnedCases
 pub mod BoxPlaces
 pub mod Calls
 pub mod Moved
+pub mod PlaceBoxes
