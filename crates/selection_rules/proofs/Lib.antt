@@ -1,3 +1,4 @@
 pub mod Intervals
 pub mod Copied
 pub mod Positions
+pub mod BoxCases
