@@ -5,3 +5,4 @@ pub mod Patched
 pub mod Walks
 pub mod Written
 pub mod Advancing
+pub mod OnAxes

@@ -1,9 +1,10 @@
 -- How calls answer what the definitions say.
 use Rattle.smallvec.specs.SmallVec.{SmallVec}
-use Rattle.std.specs.Prelude.{◌≡◌, IsTrue, ℕ, List, Result, Ok, Err}
+use Rattle.std.specs.Prelude.{◌≡◌, IsTrue, ℕ, zero, suc, List, Result, Ok, Err}
 use Rattle.arrays_core.specs.declared.item.Item.{Item}
 use Rattle.arrays_core.specs.declared.item.ItemType.{ItemType}
 use Rattle.arrays_core.specs.declared.item.Kind.{Kind}
+use Rattle.arrays_core.specs.Arrays.{ArrayValue}
 use Rattle.arrays_core.specs.Items.{type_of}
 use Rattle.arrays_core.specs.Shapes.{IsWithinLimits, is_index_of}
 use Rattle.index_region.specs.declared.source.Source.{Source as SourceValue}
@@ -30,3 +31,9 @@ HasTypeOf (Err kind) item = Unit {0}
 abbrev pub source_value : SourceValue → Source
 source_value (PlaceValue arg at) = Place arg at.items
 source_value FillValue = Fill
+
+-- the place that a source names lies in its argument, and its index list lies inline; the arguments are a and b
+abbrev pub IsSourceIn : ArrayValue → ArrayValue → SourceValue → Type 0
+IsSourceIn a b (PlaceValue zero at) = IsTrue (is_index_of a.shape at.items) × (at.capacity ≡ 4)
+IsSourceIn a b (PlaceValue (suc n) at) = IsTrue (is_index_of b.shape at.items) × (at.capacity ≡ 4)
+IsSourceIn a b FillValue = Unit {0}

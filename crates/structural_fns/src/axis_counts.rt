@@ -46,7 +46,9 @@ pub(crate) fn counted_shape(counts: &Seen, array: &Seen) -> Shape
 
 /// The index list of the array itself, from one of the shape that the counts are for.
 pub(crate) fn uncounted(array: &Seen, index: Shape) -> Shape
-    ensures { result.items ≡ index_uncounted array.now index.items }
+    requires { index.capacity ≡ 4 }
+    ensures is { result.items ≡ index_uncounted array.now index.items }
+    ensures inline { result.capacity ≡ 4 }
 {
     let shape = array.shape();
     if shape.is_empty() {

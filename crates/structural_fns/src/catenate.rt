@@ -9,7 +9,7 @@ ghost use Rattle.index_region.specs.Checks.{Form};
 ghost use Rattle.index_region.specs.Arguments.{has_items, is_scalar};
 ghost use Rattle.index_region.specs.Axes.{is_axis, axis_at};
 ghost use Rattle.index_region.specs.ArgumentLists.{of_two_arguments};
-ghost use Rattle.index_region.specs.Answers.{IsPlaceOf, source_value};
+ghost use Rattle.index_region.specs.Answers.{IsPlaceOf, IsSourceIn, source_value};
 ghost use Rattle.structural_fns.specs.Catenate.{joined_rank as rank_joined, joined_places as places_joined, other_axes as axes_other, ranks_join as do_ranks_join, axes_agree as do_axes_agree, types_join as do_types_join, joined_type as type_joined, joined_shape as shape_joined, sides_checked, in_side as index_in_side, catenate_form, catenate_source, catenate_item, catenate_whole};
 
 use arrays_core::{
@@ -148,7 +148,8 @@ fn in_side(side: &Seen, rank: usize, axis: usize, index: &[u32], i: u32) -> Shap
     requires there { axis < rank }
     requires long { length index.now ≡ rank }
     requires high { rank ≤ 4 }
-    ensures { result.items ≡ index_in_side rank axis side.now index.now i }
+    ensures is { result.items ≡ index_in_side rank axis side.now index.now i }
+    ensures inline { result.capacity ≡ 4 }
 {
     let shape = side.shape();
     let alloc = *shape.allocator();
@@ -221,7 +222,8 @@ impl Catenate {
     /// Where the item at an index list of the result comes from. It takes no memory.
     pub fn source_of(self, left: &Seen, right: &Seen, index: &[u32]) -> Source
         requires { IsPlaceOf (catenate_form self.along left.now right.now) index.now }
-        ensures { source_value result ≡ catenate_source self.along left.now right.now index.now }
+        ensures is { source_value result ≡ catenate_source self.along left.now right.now index.now }
+        ensures inside { IsSourceIn left.now right.now result }
     {
         let rank = joined_rank(left, right);
         let axis = self.along.axis_at(rank as u32);

@@ -5,7 +5,7 @@ ghost use Rattle.arrays_core.specs.Arrays.{IsAnswerTo, IsArray};
 ghost use Rattle.arrays_core.specs.Shapes.{IsWithinLimits, is_index_of as is_below};
 ghost use Rattle.index_region.specs.ArgumentLists.{of_two_arguments};
 ghost use Rattle.index_region.specs.Arguments.{numbers};
-ghost use Rattle.index_region.specs.Answers.{IsPlaceOf, source_value};
+ghost use Rattle.index_region.specs.Answers.{IsPlaceOf, IsSourceIn, source_value};
 ghost use Rattle.structural_fns.specs.AxisCounts.{counted_shape as shape_counted};
 ghost use Rattle.structural_fns.specs.Drop.{drop_form, drop_source, drop_item, drop_whole, dropped_shape as shape_dropped, kept_place as place_kept, kept_places as places_kept};
 ghost use Rattle.index_region.specs.Checks.{form_of};
@@ -87,7 +87,8 @@ impl DropPlaces {
     /// Where the item at an index list of the result comes from. It takes no memory.
     pub fn source_of(self, counts: &Seen, array: &Seen, index: &[u32]) -> Source
         requires { IsPlaceOf (drop_form counts.now array.now) index.now }
-        ensures { source_value result ≡ drop_source counts.now array.now index.now }
+        ensures is { source_value result ≡ drop_source counts.now array.now index.now }
+        ensures inside { IsSourceIn counts.now array.now result }
     {
         let at = uncounted(array, kept_places(counts, array, index));
         Source::Place { arg: 1, at }

@@ -5,7 +5,7 @@ ghost use Rattle.arrays_core.specs.declared.item.ItemType.{ItemType as AType};
 ghost use Rattle.arrays_core.specs.Arrays.{IsAnswerTo};
 ghost use Rattle.index_region.specs.ArgumentLists.{of_two_arguments};
 ghost use Rattle.index_region.specs.Arguments.{numbers};
-ghost use Rattle.index_region.specs.Answers.{IsPlaceOf, IsFormAnswerTo, source_value};
+ghost use Rattle.index_region.specs.Answers.{IsPlaceOf, IsSourceIn, IsFormAnswerTo, source_value};
 ghost use Rattle.structural_fns.specs.DyadicTranspose.{axes_to, greatest as greatest_of, least as least_of, all_positive as positive_all, occurs as does_occur, are_axes as do_name_axes, lengths_at, transposed_shape as shape_transposed, gathered as index_gathered, transpose_by_form, transpose_by_source, transpose_by_item, transpose_by_whole};
 ghost use Rattle.structural_fns.specs.LeastLength.{least_with};
 ghost use Rattle.index_region.specs.Checks.{limited as limited_form};
@@ -146,7 +146,8 @@ impl DyadicTranspose {
     /// Where the item at an index list of the result comes from. It takes no memory.
     pub fn source_of(self, axes: &Seen, array: &Seen, index: &[u32]) -> Source
         requires { IsPlaceOf (transpose_by_form axes.now array.now) index.now }
-        ensures { source_value result ≡ transpose_by_source axes.now array.now index.now }
+        ensures is { source_value result ≡ transpose_by_source axes.now array.now index.now }
+        ensures inside { IsSourceIn axes.now array.now result }
     {
         let at = gathered(*array.shape().allocator(), axes, index);
         Source::Place { arg: 1, at }

@@ -3,7 +3,7 @@
 ghost use Rattle.std.specs.Prelude.{◌≡◌, length};
 ghost use Rattle.arrays_core.specs.Arrays.{IsAnswerTo};
 ghost use Rattle.index_region.specs.ArgumentLists.{of_one_argument};
-ghost use Rattle.index_region.specs.Answers.{IsPlaceOf, source_value};
+ghost use Rattle.index_region.specs.Answers.{IsPlaceOf, IsSourceIn, source_value};
 ghost use Rattle.structural_fns.specs.Ravel.{ravel_form, ravel_source, ravel_item, ravel_whole};
 
 use arrays_core::{ApplyFault, Array, Item, ItemType, Kind, Shape, index_of_position, shape_of};
@@ -19,7 +19,8 @@ impl Ravel {
     /// Where the item at an index list of the result comes from. It takes no memory.
     pub fn source_of(self, array: &Seen, index: &[u32]) -> Source
         requires { IsPlaceOf (ravel_form array.now) index.now }
-        ensures { source_value result ≡ ravel_source array.now index.now }
+        ensures is { source_value result ≡ ravel_source array.now index.now }
+        ensures inside { IsSourceIn array.now array.now result }
     {
         let at = index_of_position(array.shape(), index[0]);
         Source::Place { arg: 0, at }

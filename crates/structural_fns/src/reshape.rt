@@ -1,11 +1,11 @@
 //! Reshape: the ravel again and again, under another shape.
 
 ghost use Rattle.std.specs.Prelude.{◌≡◌, IsTrue, length};
-ghost use Rattle.arrays_core.specs.Arrays.{IsAnswerTo};
+ghost use Rattle.arrays_core.specs.Arrays.{ArrayValue, IsAnswerTo};
 ghost use Rattle.arrays_core.specs.Shapes.{IsWithinLimits, is_index_of};
 ghost use Rattle.index_region.specs.ArgumentLists.{of_two_arguments};
 ghost use Rattle.index_region.specs.Sources.{item_from as item_of_source};
-ghost use Rattle.index_region.specs.Answers.{IsPlaceOf, source_value};
+ghost use Rattle.index_region.specs.Answers.{IsPlaceOf, IsSourceIn, source_value};
 ghost use Rattle.structural_fns.specs.Reshape.{magnitudes as magnitudes_of, reshape_form, reshape_source, reshape_item, reshape_whole};
 
 use crate::magnitudes::magnitudes;
@@ -20,7 +20,8 @@ use std::alloc::Global;
 fn source_in(shape: &Shape, array: &Seen, index: &[u32]) -> Source
     requires within { IsWithinLimits shape.now.items }
     requires inside { IsTrue (is_index_of shape.now.items index.now) }
-    ensures { source_value result ≡ reshape_source shape.now.items array.now index.now }
+    ensures is { source_value result ≡ reshape_source shape.now.items array.now index.now }
+    ensures inside { (left : ArrayValue) → IsSourceIn left array.now result }
 {
     let places = array.places();
     if places == 0 {
@@ -62,7 +63,8 @@ impl Reshape {
     /// Where the item at an index list of the result comes from. It takes no memory.
     pub fn source_of(self, counts: &Seen, array: &Seen, index: &[u32]) -> Source
         requires { IsPlaceOf (reshape_form counts.now array.now) index.now }
-        ensures { source_value result ≡ reshape_source (magnitudes_of counts.now) array.now index.now }
+        ensures is { source_value result ≡ reshape_source (magnitudes_of counts.now) array.now index.now }
+        ensures inside { IsSourceIn counts.now array.now result }
     {
         match magnitudes(counts) {
             Ok(shape) => source_in(&shape, array, index),

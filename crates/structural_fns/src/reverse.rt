@@ -5,7 +5,7 @@ ghost use Rattle.arrays_core.specs.Arrays.{IsAnswerTo};
 ghost use Rattle.arrays_core.specs.Shapes.{is_index_of};
 ghost use Rattle.index_region.specs.Axes.{is_axis, axis_at, places_along};
 ghost use Rattle.index_region.specs.ArgumentLists.{of_one_argument};
-ghost use Rattle.index_region.specs.Answers.{IsPlaceOf, source_value};
+ghost use Rattle.index_region.specs.Answers.{IsPlaceOf, IsSourceIn, source_value};
 ghost use Rattle.structural_fns.specs.Reverse.{reverse_form, reverse_source, reverse_item, reverse_whole};
 
 use arrays_core::{ApplyFault, Array, Item, ItemType, Kind, Shape, shape_of};
@@ -18,8 +18,9 @@ fn reversed(alloc: Global, along: Along, axes: &[u32], index: &[u32]) -> Shape
     requires axes_in { All (λ n. n ≤ 1048576) axes.now }
     requires axis { IsTrue (is_axis (length axes.now) along) }
     requires in_range { IsTrue (is_index_of axes.now index.now) }
-    ensures { let axis = axis_at (length axes.now) along in
+    ensures is { let axis = axis_at (length axes.now) along in
         result.items ≡ set index.now axis (suc (places_along axes.now axis) - get_or index.now axis 1) }
+    ensures inline { result.capacity ≡ 4 }
 {
     let mut at = shape_of(alloc, index);
     if !axes.is_empty() {
@@ -41,7 +42,8 @@ impl Reverse {
     /// Where the item at an index list of the result comes from. It takes no memory.
     pub fn source_of(self, array: &Seen, index: &[u32]) -> Source
         requires { IsPlaceOf (reverse_form self.along array.now) index.now }
-        ensures { source_value result ≡ reverse_source self.along array.now index.now }
+        ensures is { source_value result ≡ reverse_source self.along array.now index.now }
+        ensures inside { IsSourceIn array.now array.now result }
     {
         let shape = array.shape();
         let at = reversed(*shape.allocator(), self.along, shape.as_slice(), index);

@@ -7,7 +7,7 @@ ghost use Rattle.arrays_core.specs.Shapes.{is_index_of};
 ghost use Rattle.index_region.specs.Checks.{Form};
 ghost use Rattle.index_region.specs.Axes.{places_along};
 ghost use Rattle.index_region.specs.ArgumentLists.{of_two_arguments};
-ghost use Rattle.index_region.specs.Answers.{IsPlaceOf, source_value};
+ghost use Rattle.index_region.specs.Answers.{IsPlaceOf, IsSourceIn, source_value};
 ghost use Rattle.structural_fns.specs.Rotate.{lines_checked, rotate_form, rotation, rotated_place as place_rotated, rotate_source, rotate_item, rotate_whole};
 
 use arrays_core::{
@@ -70,7 +70,8 @@ fn rotated(alloc: Global, axes: &[u32], axis: usize, amount: i64, index: &[u32])
     requires axes_in { All (λ n. n ≤ 1048576) axes.now }
     requires there { 0 < length axes.now → axis < length axes.now }
     requires in_range { IsTrue (is_index_of axes.now index.now) }
-    ensures { result.items ≡ set index.now axis (place_rotated (places_along axes.now axis) amount (get_or index.now axis 1)) }
+    ensures is { result.items ≡ set index.now axis (place_rotated (places_along axes.now axis) amount (get_or index.now axis 1)) }
+    ensures inline { result.capacity ≡ 4 }
 {
     let mut at = shape_of(alloc, index);
     if !axes.is_empty() {
@@ -93,7 +94,8 @@ impl Rotate {
     /// Where the item at an index list of the result comes from. It takes no memory.
     pub fn source_of(self, amounts: &Seen, array: &Seen, index: &[u32]) -> Source
         requires { IsPlaceOf (rotate_form self.along amounts.now array.now) index.now }
-        ensures { source_value result ≡ rotate_source self.along amounts.now array.now index.now }
+        ensures is { source_value result ≡ rotate_source self.along amounts.now array.now index.now }
+        ensures inside { IsSourceIn amounts.now array.now result }
     {
         let shape = array.shape();
         let axes = shape.as_slice();

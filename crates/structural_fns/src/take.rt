@@ -5,7 +5,7 @@ ghost use Rattle.arrays_core.specs.Arrays.{IsAnswerTo};
 ghost use Rattle.arrays_core.specs.Shapes.{IsWithinLimits, is_index_of as is_below, size as size_of};
 ghost use Rattle.index_region.specs.ArgumentLists.{of_two_arguments};
 ghost use Rattle.index_region.specs.Arguments.{numbers};
-ghost use Rattle.index_region.specs.Answers.{IsPlaceOf, source_value};
+ghost use Rattle.index_region.specs.Answers.{IsPlaceOf, IsSourceIn, source_value};
 ghost use Rattle.structural_fns.specs.Reshape.{magnitudes as magnitudes_of};
 ghost use Rattle.structural_fns.specs.Take.{take_form, take_source, take_item, take_whole, taken_place as place_taken, taken_places as places_taken};
 ghost use Rattle.index_region.specs.Checks.{form_of};
@@ -77,7 +77,8 @@ impl Take {
     /// Where the item at an index list of the result comes from. It takes no memory.
     pub fn source_of(self, counts: &Seen, array: &Seen, index: &[u32]) -> Source
         requires { IsPlaceOf (take_form counts.now array.now) index.now }
-        ensures { source_value result ≡ take_source counts.now array.now index.now }
+        ensures is { source_value result ≡ take_source counts.now array.now index.now }
+        ensures inside { IsSourceIn counts.now array.now result }
     {
         let axes = counted_shape(counts, array);
         let at = taken_places(counts, axes.as_slice(), index);

@@ -3,7 +3,7 @@
 ghost use Rattle.std.specs.Prelude.{◌≡◌, ◌≤◌, length, reverse};
 ghost use Rattle.arrays_core.specs.Arrays.{IsAnswerTo};
 ghost use Rattle.index_region.specs.ArgumentLists.{of_one_argument};
-ghost use Rattle.index_region.specs.Answers.{IsPlaceOf, source_value};
+ghost use Rattle.index_region.specs.Answers.{IsPlaceOf, IsSourceIn, source_value};
 ghost use Rattle.structural_fns.specs.Transpose.{transpose_form, transpose_source, transpose_item, transpose_whole};
 
 use arrays_core::{ApplyFault, Array, Item, ItemType, Kind, Shape};
@@ -33,7 +33,8 @@ impl Transpose {
     /// Where the item at an index list of the result comes from. It takes no memory.
     pub fn source_of(self, array: &Seen, index: &[u32]) -> Source
         requires { IsPlaceOf (transpose_form array.now) index.now }
-        ensures { source_value result ≡ transpose_source array.now index.now }
+        ensures is { source_value result ≡ transpose_source array.now index.now }
+        ensures inside { IsSourceIn array.now array.now result }
     {
         let at = from_last(*array.shape().allocator(), index);
         Source::Place { arg: 0, at }

@@ -42,8 +42,8 @@ bounds-deref_mut-axis c =
 refill_all : (xs ws : List ℕ) → length ws ≡ length xs → take (length xs) (ws ++ drop (length ws) xs) ≡ ws
 refill_all xs ws e = take_at ws (drop (length ws) xs) (length xs) e
 
-pub returns-then-not-is_empty : goal.returns-then-not-is_empty
-returns-then-not-is_empty c =
+pub returns-then-not-is_empty-clause-is : goal.returns-then-not-is_empty-clause-is
+returns-then-not-is_empty-clause-is c =
     let axes = c.args.axes.now in
     let index = c.args.index.now in
     let k = c.args.axis in

@@ -1,8 +1,9 @@
-use Rattle.std.proofs.Common.{◌≡◌, IsTrue, subst, sym, length, ap, arith, remove, ◌∙◌}
+use Rattle.std.proofs.Common.{◌≡◌, IsTrue, subst, sym, length, ap, arith, remove, ◌∙◌, w64, to_z, of_z}
 use Rattle.arrays_core.specs.Shapes.{is_index_of}
 use Rattle.arrays_core.proofs.Shapes.{as_long}
 use Rattle.index_region.specs.Axes.{axis_at}
 use Rattle.structural_fns.proofs.Turning.{rotation_facts, removed_inside}
+use Rattle.structural_fns.proofs.SourcePlaces.{rotated_inside}
 use Rattle.structural_fns.proofs.rotate.Rotate.source_of.Goals as goal
 
 pub amount_at-amount-requires-clause-rank : goal.amount_at-amount-requires-clause-rank
@@ -44,3 +45,12 @@ rotated-at-requires-clause-in_range c =
     let b = c.args.array.now in
     let facts = rotation_facts c.args.self.along c.args.amounts.now b c.args.index.now c.requires in
     subst (λ axes. IsTrue (is_index_of axes c.args.index.now)) (sym (c.as_slice-axes.ensures ∙ c.shape-shape.ensures.is)) facts.inside
+
+pub returns-clause-inside : goal.returns-clause-inside
+returns-clause-inside c =
+    let b = c.args.array.now in
+    let index = c.args.index.now in
+    let facts = rotation_facts c.args.self.along c.args.amounts.now b index c.requires in (
+      rw (c.rotated-at.ensures.is, c.as_slice-axes.ensures, c.shape-shape.ensures.is) (rotated_inside b.shape index c.axis_at-axis.result (to_z w64 (of_z w64 c.amount_at-amount.result)) facts.inside),
+      c.rotated-at.ensures.inline,
+    )
