@@ -14,3 +14,4 @@ pub mod SearchCases
 pub mod DigitCases
 pub mod Vectors
 pub mod Picked
+pub mod SourcePlaces

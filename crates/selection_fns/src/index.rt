@@ -9,7 +9,7 @@ ghost use Rattle.arrays_core.specs.Arrays.{ArrayValue, item_of, IsAnswerTo};
 ghost use Rattle.arrays_core.specs.Shapes.{size, is_index_of};
 ghost use Rattle.index_region.specs.Checks.{Form, is_within_limits};
 ghost use Rattle.index_region.specs.Arguments.{counts_as_numbers, number_of, numbers};
-ghost use Rattle.index_region.specs.Answers.{IsPlaceOf, source_value};
+ghost use Rattle.index_region.specs.Answers.{IsPlaceOf, IsSourceIn, source_value};
 ghost use Rattle.selection_fns.specs.Index.{Position, written_positions, count_written, of_array_and_positions, is_on_axis, is_on as is_position_on, are_on as are_positions_on, are_numbers as are_positions_numbers, indexed_shape, source_index, positions_checked, index_form, index_source, index_item, index_whole};
 
 use arrays_core::{ApplyFault, Array, Item, ItemType, Kind, MOST_AXES, Shape, append_axes};
@@ -180,7 +180,9 @@ fn append_source_index(
     requires long { length positions.now ≡ count_written written.now }
     requires on { IsTrue (are_positions_on axes.now (written_positions written.now positions.now)) }
     requires inside { IsTrue (is_index_of (indexed_shape axes.now (written_positions written.now positions.now)) index.now) }
-    ensures { at.new.items ≡ at.old.items ++ source_index (written_positions written.now positions.now) index.now }
+    ensures items { at.new.items ≡ at.old.items ++ source_index (written_positions written.now positions.now) index.now }
+    ensures inside { IsTrue (is_index_of axes.now (source_index (written_positions written.now positions.now) index.now)) }
+    ensures inline { at.new.capacity ≡ 4 }
 {
     if written.is_empty() {
         return;
@@ -215,7 +217,8 @@ impl<'w> Index<'w> {
     pub fn source_of(&self, array: &Seen, positions: &[Seen], index: &[u32]) -> Source
         requires count { length positions.now ≡ count_written self.now.written.now }
         requires place { IsPlaceOf (index_form array.now (written_positions self.now.written.now positions.now)) index.now }
-        ensures { source_value result ≡ index_source (written_positions self.now.written.now positions.now) index.now }
+        ensures is { source_value result ≡ index_source (written_positions self.now.written.now positions.now) index.now }
+        ensures inside { IsSourceIn array.now array.now result }
     {
         let axes = array.shape();
         let mut at = SmallVec::new(*axes.allocator());

@@ -11,7 +11,7 @@ ghost use Rattle.index_region.specs.ArgumentLists.{of_two_arguments};
 ghost use Rattle.index_region.specs.Arguments.{numbers};
 ghost use Rattle.index_region.specs.Axes.{axis_at as axis_meant, places_along as places_on};
 ghost use Rattle.index_region.specs.Sources.{Place};
-ghost use Rattle.index_region.specs.Answers.{IsFormAnswerTo, IsPlaceOf, source_value};
+ghost use Rattle.index_region.specs.Answers.{IsFormAnswerTo, IsPlaceOf, IsSourceIn, source_value};
 ghost use Rattle.selection_fns.specs.Replicate.{times, counts_checked, maker as maker_of, copied_place as place_copied, replicate_form, replicate_source, replicate_item, replicate_whole};
 
 use crate::axes::{LONGEST_AXIS, places_along};
@@ -221,7 +221,8 @@ fn copied_index(alloc: Global, counts: &Seen, axes: &[u32], axis: usize, index: 
     requires rank { length axes.now ≤ most_axes }
     requires there { axis < length axes.now }
     requires inside { IsTrue (is_index_of (insert (remove axes.now axis) axis (sum (times counts.now (places_on axes.now axis)))) index.now) }
-    ensures { result.items ≡ set index.now axis (place_copied counts.now (places_on axes.now axis) (get_or index.now axis 1)) }
+    ensures is { result.items ≡ set index.now axis (place_copied counts.now (places_on axes.now axis) (get_or index.now axis 1)) }
+    ensures inline { result.capacity ≡ 4 }
 {
     let mut at = shape_of(alloc, index);
     at[axis] = copied_place(counts, axes[axis], index[axis]);
@@ -257,7 +258,8 @@ impl Replicate {
     /// Where the item at an index list of the result comes from. It takes no memory.
     pub fn source_of(self, counts: &Seen, array: &Seen, index: &[u32]) -> Source
         requires { IsPlaceOf (replicate_form self.along counts.now array.now) index.now }
-        ensures { source_value result ≡ replicate_source self.along counts.now array.now index.now }
+        ensures is { source_value result ≡ replicate_source self.along counts.now array.now index.now }
+        ensures inside { IsSourceIn counts.now array.now result }
     {
         let axes = array.shape();
         let alloc = *axes.allocator();
