@@ -1,13 +1,13 @@
 //! Where items come from.
 
-ghost use Rattle.std.specs.Prelude.{◌≡◌, Ok, unwrap_or};
-ghost use Rattle.arrays_core.specs.Items.{fill, type_of};
-ghost use Rattle.arrays_core.specs.Arrays.{item_if_there};
+ghost use Rattle.std.specs.Prelude.{◌≡◌, Ok, true};
+ghost use Rattle.arrays_core.specs.Items.{type_of};
+ghost use Rattle.index_region.specs.Arguments.{has_items};
 ghost use Rattle.index_region.specs.Sources.{item_from as item_of_source};
-ghost use Rattle.index_region.specs.Answers.{source_value};
+ghost use Rattle.index_region.specs.Answers.{IsSourceIn, source_value};
 
 use crate::seen::Seen;
-use arrays_core::{Item, ItemType, Shape};
+use arrays_core::{Item, ItemType, Shape, position};
 
 /// Where an item of a result comes from: an index list of an argument (0 the left or only one, 1 the
 /// right), or fill.
@@ -17,32 +17,20 @@ pub enum Source {
     Fill,
 }
 
-/// The item at an index list, or fill where there is none.
-fn item_or_fill(array: &Seen, at: &[u32], item_type: ItemType) -> Item
-    ensures is { result ≡ unwrap_or (item_if_there array.now at.now) (fill item_type) }
-    ensures typed { array.now.item_type ≡ item_type → type_of result ≡ item_type }
-{
-    match array.at(at) {
-        Some(item) => item,
-        None => item_type.fill(),
-    }
-}
-
-/// The item of a source, where the arguments are `left` and `right`; a function of one argument gives
-/// it as both.
+/// The item of a source that lies in its argument, where the arguments are `left` and `right`; a function
+/// of one argument gives it as both. An argument without items is of no source, so it may have another
+/// type.
 pub fn item_from<'a>(left: &Seen<'a>, right: &Seen<'a>, item_type: ItemType, source: Source) -> Item
-    requires left_typed { left.now.item_type ≡ item_type }
-    requires right_typed { right.now.item_type ≡ item_type }
+    requires inside { IsSourceIn left.now right.now source }
+    requires left_typed { has_items left.now ≡ true → left.now.item_type ≡ item_type }
+    requires right_typed { has_items right.now ≡ true → right.now.item_type ≡ item_type }
     ensures is { Ok result ≡ item_of_source left.now right.now item_type (source_value source) }
     ensures typed { type_of result ≡ item_type }
 {
     match source {
         Source::Place { arg, at } => {
-            if arg == 0 {
-                item_or_fill(left, at.as_slice(), item_type)
-            } else {
-                item_or_fill(right, at.as_slice(), item_type)
-            }
+            let array = if arg == 0 { left } else { right };
+            array.item(position(array.shape(), at.as_slice()))
         }
         Source::Fill => item_type.fill(),
     }

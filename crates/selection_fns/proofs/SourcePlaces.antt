@@ -2,7 +2,7 @@
 use Rattle.std.proofs.Common.{◌≡◌, ℕ, zero, suc, ◌-◌, ◌<◌, ◌≤◌, ℤ, pos, Bool, true, false, ◌||◌, nat_eq, nat_le, if◌then◌else◌, unsigned_abs, List, [], ◌∷◌, length, map, get_or, take, drop, set, insert, remove, replicate, refl, ap, subst, ◌∙◌, arith}
 use Rattle.std.specs.Prelude.{max, sum}
 use Rattle.std.specs.List.{list_all}
-use Rattle.std.proofs.lemmas.Bool.{and_parts, and_from, le-leb, eqb-true, false≢true}
+use Rattle.std.proofs.lemmas.Bool.{and_parts, and_from, le-leb, eqb-true, eqb-false, false≢true}
 use Rattle.std.proofs.lemmas.Bool.Decides.{nat_tests}
 use Rattle.std.proofs.lemmas.Grind.{get_or_default_zero}
 use Rattle.std.proofs.lemmas.List.{length-map, length-replicate, get_or-map}
@@ -11,16 +11,17 @@ use Rattle.arrays_core.specs.Arrays.{ArrayValue, IsArray, item_of}
 use Rattle.arrays_core.specs.Shapes.{is_index_of, places_before}
 use Rattle.arrays_core.proofs.Shapes.{places_below}
 use Rattle.index_region.specs.declared.along.Along.{Along}
-use Rattle.index_region.specs.Arguments.{is_list, has_one_item, number_of, numbers}
+use Rattle.index_region.specs.Arguments.{is_scalar, is_list, has_one_item, number_of, numbers}
 use Rattle.index_region.specs.Axes.{is_axis, axis_at, places_along}
 use Rattle.index_region.specs.Answers.{IsPlaceOf}
+use Rattle.index_region.specs.Sources.{Place}
 use Rattle.index_region.proofs.Passing.{passed}
 use Rattle.index_region.proofs.OnAxes.{OnAxis}
 use Rattle.selection_fns.specs.Index.{is_on_axis, are_on, written_positions, count_written, indexed_shape, source_index}
-use Rattle.selection_fns.specs.Replicate.{times, maker, copied_place, replicate_form}
+use Rattle.selection_fns.specs.Replicate.{times, maker, copied_place, replicate_form, replicate_source}
 use Rattle.selection_fns.proofs.Positions.{place_in, split_inside}
 use Rattle.selection_fns.proofs.Repeated.{sum_front, walk, maker_is_walk, maker_positive}
-use Rattle.selection_fns.proofs.Copies.{is_copied}
+use Rattle.selection_fns.proofs.Copies.{is_copied, replicated_inside, on_axis, axis_below}
 
 -- ---- indexes
 
@@ -129,3 +130,26 @@ counts_fit along a b index k e h =
     let on_axis = passed (is_axis (max 1 (length b.shape)) along) _ _ index h in
     let ranks = passed (is_list a) _ _ index on_axis.place in
     rw e (passed (has_one_item a || (nat_eq n 1 || nat_eq (length a.items) n)) _ _ index ranks.place).test
+
+-- where a copy comes from lies in the array
+pub replicate_inside : (along : Along) (a b : ArrayValue) (index at : List ℕ) → Place 1 at ≡ replicate_source along a b index → IsPlaceOf (replicate_form along a b) index
+    → is_index_of b.shape at ≡ true
+replicate_inside along a b index at e h = by_test (is_scalar b) refl e
+  where
+    k : ℕ
+    k = axis_at (max 1 (length b.shape)) along
+
+    none_left : (shape at : List ℕ) → length shape ≡ 0 → at ≡ [] → is_index_of shape at ≡ true
+    none_left [] at n e = rw e refl
+    none_left (n ∷ shape) at e none = absurd (omega arith)
+
+    by_test : (scalar : Bool) → is_scalar b ≡ scalar
+        → Place 1 at ≡ Place 1 (if scalar then [] else set index k (copied_place a (places_along b.shape k) (get_or index k 1))) → is_index_of b.shape at ≡ true
+    by_test true t e = none_left b.shape at (eqb-true (length b.shape) 0 t) cc
+    by_test false t e =
+        let there = eqb-false (length b.shape) 0 t in
+        let rank : max 1 (length b.shape) ≡ length b.shape = omega arith in
+        let axis = on_axis along a b index h in
+        let below : k < length b.shape = omega (arith, rank, axis_below along (max 1 (length b.shape)) (omega arith) axis) in
+        let is : at ≡ set index k (copied_place a (places_along b.shape k) (get_or index k 1)) = cc in
+        rw is (copied_inside a b.shape index k below (counts_fit along a b index k refl h) (replicated_inside along a b index h))

@@ -236,7 +236,8 @@ fn index_of_copy(alloc: Global, axis: usize, before: &[u32], index: &[u32]) -> S
     requires low { 1 ≤ get_or index.now axis 0 }
     requires high { get_or index.now axis 0 ≤ length before.now }
     requires within { All (λ n. n ≤ longest_axis) before.now }
-    ensures { result.items ≡ set index.now axis (get_or before.now (get_or index.now axis 0 - 1) 0 + 1) }
+    ensures is { result.items ≡ set index.now axis (get_or before.now (get_or index.now axis 0 - 1) 0 + 1) }
+    ensures inline { result.capacity ≡ 4 }
 {
     let mut at = shape_of(alloc, index);
     at[axis] = before[(index[axis] - 1) as usize] + 1;
@@ -340,7 +341,9 @@ impl<'a, 'b, 'c> CopyRule<'a, 'b, 'c> {
     /// The index list of the array itself, of one of the result.
     fn index_of(&self, index: &[u32]) -> Shape
         requires { IsTrue (is_index_of self.now.shape.now.items index.now) }
-        ensures { Place 1 result.items ≡ replicate_source self.now.replicate.along self.now.counts.now self.now.array.now index.now }
+        ensures is { Place 1 result.items ≡ replicate_source self.now.replicate.along self.now.counts.now self.now.array.now index.now }
+        ensures inside { IsTrue (is_index_of self.now.array.now.shape result.items) }
+        ensures inline { result.capacity ≡ 4 }
     {
         let axes = self.array.shape();
         let alloc = *axes.allocator();

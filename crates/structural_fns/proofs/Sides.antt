@@ -1,15 +1,14 @@
 -- The two sides of a catenation.
-use Rattle.std.proofs.Common.{◌≡◌, ℕ, suc, ◌+◌, ◌<◌, ◌≤◌, Bool, true, false, not, ◌&&◌, ◌||◌, if◌then◌else◌, nat_eq, nat_le, List, length, remove, unwrap_or, refl, sym, ◌∙◌, inl, inr, arith}
-use Rattle.std.proofs.lemmas.Bool.{and_parts, or_cases, eqb-true, eqb-false, leb-true, false_from_ne_true, true≢false, false≢true}
+use Rattle.std.proofs.Common.{◌≡◌, ℕ, suc, ◌+◌, ◌<◌, ◌≤◌, Bool, true, false, not, ◌&&◌, ◌||◌, if◌then◌else◌, nat_eq, nat_le, List, length, remove, refl, sym, ◌∙◌, inl, inr, arith}
+use Rattle.std.proofs.lemmas.Bool.{and_parts, or_cases, eqb-true, eqb-false, leb-true, true≢false, false≢true}
 use Rattle.std.proofs.lemmas.List.Edits.{length-insert, length-remove}
 use Rattle.arrays_core.specs.declared.item.Item.{Item}
 use Rattle.arrays_core.specs.declared.item.ItemType.{ItemType}
 use Rattle.arrays_core.specs.declared.item.ItemType.TheVariants.{Nums, Chars}
 use Rattle.arrays_core.specs.declared.item.Kind.TheVariants.{Axis as AxisKind, Rank, Length, Domain}
 use Rattle.arrays_core.specs.Items.{type_of}
-use Rattle.arrays_core.specs.Arrays.{ArrayValue, IsArray, item_if_there}
-use Rattle.arrays_core.specs.Shapes.{is_index_of}
-use Rattle.arrays_core.proofs.Shapes.{as_long, places_below}
+use Rattle.arrays_core.specs.Arrays.{ArrayValue}
+use Rattle.arrays_core.proofs.Shapes.{as_long}
 use Rattle.index_region.specs.declared.along.Along.{Along}
 use Rattle.index_region.specs.Checks.{check, limited}
 use Rattle.index_region.specs.Arguments.{is_scalar, has_items, is_of_numbers}
@@ -17,13 +16,6 @@ use Rattle.index_region.specs.Axes.{is_axis, axis_at}
 use Rattle.index_region.specs.Answers.{IsPlaceOf, HasTypeOf}
 use Rattle.index_region.proofs.Passing.{passed, place_inside, typed_check, typed_limited}
 use Rattle.structural_fns.specs.Catenate.{joined_rank, joined_places, other_axes, ranks_join, axes_agree, types_join, joined_type, joined_shape, catenate_form}
-
--- an array without items has none at any index list
-pub nothing_there : (a : ArrayValue) (at : List ℕ) (d : Item) → IsArray a → length a.items ≡ 0 → unwrap_or (item_if_there a at) d ≡ d
-nothing_there a at d sound none =
-    let outside : is_index_of a.shape at ≡ false =
-    false_from_ne_true _ (λ h. let below = places_below a.shape at h in let long = sound.one_item_a_place in absurd (omega arith)) in
-    rw outside refl
 
 same_types : (left right : Bool) (s t : ItemType)
     → ((not left || not right) || ((is_of_numbers s && is_of_numbers t) || (not (is_of_numbers s) && not (is_of_numbers t)))) ≡ true → right ≡ true

@@ -1,12 +1,11 @@
 //! Catenate: two arrays after one another along an axis.
 
-ghost use Rattle.std.specs.Prelude.{◌≡◌, ◌≤◌, ◌<◌, ◌+◌, ◌++◌, ◌↔◌, IfOk, Err, IfErr, IsTrue, Result, true, if◌then◌else◌, length, unwrap_or, nat_eq, ◌&&◌};
+ghost use Rattle.std.specs.Prelude.{◌≡◌, ◌≤◌, ◌<◌, ◌+◌, ◌++◌, ◌↔◌, IfOk, Err, IfErr, IsTrue, Result, true, if◌then◌else◌, length, nat_eq, ◌&&◌};
 ghost use Rattle.arrays_core.specs.declared.item.Kind.{Kind as AKind};
-ghost use Rattle.arrays_core.specs.Arrays.{IsAnswerTo, IsArray, item_if_there};
-ghost use Rattle.arrays_core.specs.Items.{fill, type_of};
+ghost use Rattle.arrays_core.specs.Arrays.{IsAnswerTo, IsArray};
 ghost use Rattle.arrays_core.specs.Shapes.{size, IsWithinLimits};
 ghost use Rattle.index_region.specs.Checks.{Form};
-ghost use Rattle.index_region.specs.Arguments.{has_items, is_scalar};
+ghost use Rattle.index_region.specs.Arguments.{is_scalar};
 ghost use Rattle.index_region.specs.Axes.{is_axis, axis_at};
 ghost use Rattle.index_region.specs.ArgumentLists.{of_two_arguments};
 ghost use Rattle.index_region.specs.Answers.{IsPlaceOf, IsSourceIn, source_value};
@@ -15,7 +14,7 @@ ghost use Rattle.structural_fns.specs.Catenate.{joined_rank as rank_joined, join
 use arrays_core::{
     ApplyFault, Array, Item, ItemType, Kind, Shape, shape_of, with_axis, without_axis,
 };
-use index_region::{Along, Primitive, Seen, Source, apply, limited};
+use index_region::{Along, Primitive, Seen, Source, apply, item_from, limited};
 use std::alloc::{AllocError, Global};
 
 /// The rank of the result: the greater one, and at least 1.
@@ -164,21 +163,6 @@ fn in_side(side: &Seen, rank: usize, axis: usize, index: &[u32], i: u32) -> Shap
     at
 }
 
-/// The item of a side at an index list, or fill.
-fn item_of_side(side: &Seen, at: &[u32], item_type: ItemType) -> Item
-    requires { has_items side.now ≡ true → side.now.item_type ≡ item_type }
-    ensures is { result ≡ unwrap_or (item_if_there side.now at.now) (fill item_type) }
-    ensures typed { type_of result ≡ item_type }
-{
-    if side.places() == 0 {
-        return item_type.fill();
-    }
-    match side.at(at) {
-        Some(item) => item,
-        None => item_type.fill(),
-    }
-}
-
 /// A side is taken once, item by item in row-major order: no scalar is repeated over other axes.
 fn is_run(side: &Seen, rank: usize) -> bool
     ensures is { IsTrue result ↔ (is_scalar side.now ≡ true → rank ≡ 1) }
@@ -288,16 +272,7 @@ impl Primitive for Catenate {
     fn item_at(&self, args: &[Seen], index: &[u32]) -> Result<Item, Kind> {
         let left = &args[0];
         let right = &args[1];
-        let item_type = joined_type(left, right);
-        match self.source_of(left, right, index) {
-            Source::Place { arg, at } => {
-                if arg == 0 {
-                    Ok(item_of_side(left, at.as_slice(), item_type))
-                } else {
-                    Ok(item_of_side(right, at.as_slice(), item_type))
-                }
-            }
-            Source::Fill => Ok(item_type.fill()),
-        }
+        let source = self.source_of(left, right, index);
+        Ok(item_from(left, right, joined_type(left, right), source))
     }
 }

@@ -1,7 +1,7 @@
 //! Reshape: the ravel again and again, under another shape.
 
 ghost use Rattle.std.specs.Prelude.{◌≡◌, IsTrue, length};
-ghost use Rattle.arrays_core.specs.Arrays.{ArrayValue, IsAnswerTo};
+ghost use Rattle.arrays_core.specs.Arrays.{IsAnswerTo};
 ghost use Rattle.arrays_core.specs.Shapes.{IsWithinLimits, is_index_of};
 ghost use Rattle.index_region.specs.ArgumentLists.{of_two_arguments};
 ghost use Rattle.index_region.specs.Sources.{item_from as item_of_source};
@@ -21,7 +21,7 @@ fn source_in(shape: &Shape, array: &Seen, index: &[u32]) -> Source
     requires within { IsWithinLimits shape.now.items }
     requires inside { IsTrue (is_index_of shape.now.items index.now) }
     ensures is { source_value result ≡ reshape_source shape.now.items array.now index.now }
-    ensures inside { (left : ArrayValue) → IsSourceIn left array.now result }
+    ensures inside { IsSourceIn array.now array.now result }
 {
     let places = array.places();
     if places == 0 {

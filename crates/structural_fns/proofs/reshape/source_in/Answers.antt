@@ -4,7 +4,6 @@ use Rattle.structural_fns.proofs.reshape.source_in.Goals as goal
 
 pub returns-clause-inside : goal.returns-clause-inside
 returns-clause-inside c =
-    λ left.
     let before = c.position-before.result - 1 in
     let places = c.places-places.result in
     let back : before % places + 1 - 1 ≡ before % places = omega arith in (

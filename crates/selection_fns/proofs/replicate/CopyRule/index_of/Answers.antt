@@ -3,6 +3,8 @@ use Rattle.index_region.specs.Axes.{axis_at, places_along}
 use Rattle.std.specs.Prelude.{sum}
 use Rattle.selection_fns.specs.Replicate.{times, copied_place}
 use Rattle.selection_fns.proofs.Copies.{copy_facts, copy_source}
+use Rattle.selection_fns.proofs.SourcePlaces.{replicate_inside}
+use Rattle.index_region.specs.Answers.{IsPlaceOf}
 use Rattle.selection_fns.proofs.replicate.CopyRule.index_of.Goals as goal
 use Rattle.index_region.specs.Sources.{Place}
 
@@ -47,8 +49,8 @@ index_of_copy-requires-clause-high c =
     let high = facts.copied.high in
     omega arith
 
-pub returns : goal.returns
-returns c =
+pub returns-clause-is : goal.returns-clause-is
+returns-clause-is c =
     let self = c.args.self.now in
     let b = self.array.now in
     let k = c.axis_at-axis.result in
@@ -59,4 +61,10 @@ returns c =
     self.long ∙ ap (λ m. sum (times self.counts.now (places_along b.shape m))) (sym facts.axis) in
     let is : (i : ℕ) → i < length self.before.now → get_or self.before.now i 0 + 1 ≡ copied_place self.counts.now (places_along b.shape k) (i + 1) =
     subst (λ m. (i : ℕ) → i < length self.before.now → get_or self.before.now i 0 + 1 ≡ copied_place self.counts.now (places_along b.shape m) (i + 1)) (sym facts.axis) self.is in
-    ap (λ xs. Place 1 xs) c.index_of_copy.ensures ∙ copy_source self.replicate.along self.counts.now b c.args.index.now self.before.now k some facts long is
+    ap (λ xs. Place 1 xs) c.index_of_copy.ensures.is ∙ copy_source self.replicate.along self.counts.now b c.args.index.now self.before.now k some facts long is
+
+pub returns-clause-inside : goal.returns-clause-inside
+returns-clause-inside c =
+    let self = c.args.self.now in
+    let index = c.args.index.now in
+    replicate_inside self.replicate.along self.counts.now self.array.now index c.index_of_copy.result.items (returns-clause-is c) (subst (λ form. IsPlaceOf form index) (sym self.form) c.requires)

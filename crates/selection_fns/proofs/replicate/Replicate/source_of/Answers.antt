@@ -1,10 +1,10 @@
-use Rattle.std.proofs.Common.{rules, ◌≡◌, ℕ, ◌<◌, true, length, ap, sym, subst, ◌∙◌, arith}
-use Rattle.arrays_core.specs.Shapes.{is_index_of}
-use Rattle.selection_fns.specs.Replicate.{replicated_shape}
+use Rattle.std.proofs.Common.{rules, ◌≡◌, ◌<◌, length, ap, ◌∙◌}
+use Rattle.selection_fns.specs.Replicate.{replicate_source}
+use Rattle.index_region.specs.Sources.{Place}
 use Rattle.std.specs.Prelude.{max}
 use Rattle.index_region.specs.Axes.{axis_at}
 use Rattle.selection_fns.proofs.Copies.{replicated_inside}
-use Rattle.selection_fns.proofs.SourcePlaces.{copied_inside, counts_fit}
+use Rattle.selection_fns.proofs.SourcePlaces.{replicate_inside}
 use Rattle.selection_fns.proofs.replicate.Replicate.source_of.Goals as goal
 
 pub copied_index-at-requires-clause-inside : goal.copied_index-at-requires-clause-inside
@@ -23,11 +23,5 @@ returns-clause-inside c =
     let a = c.args.counts.now in
     let b = c.args.array.now in
     let index = c.args.index.now in
-    let k = c.axis_at-axis.result in
-    let axes : c.as_slice.result.now ≡ b.shape = search rules in
-    let some : 0 < length b.shape = search rules in
-    let rank : c.len.result ≡ max 1 (length b.shape) = search rules in
-    let axis : k ≡ axis_at (max 1 (length b.shape)) along = c.axis_at-axis.ensures.is ∙ ap (λ n. axis_at n along) rank in
-    let below : k < length b.shape = omega (arith, c.axis_at-axis.ensures.below (omega (arith, rank)), rank) in
-    let inside = subst (λ (j : ℕ). is_index_of (replicated_shape a b.shape j) index ≡ true) (sym axis) (replicated_inside along a b index c.requires) in
-    (rw (c.copied_index-at.ensures.is, axes) (copied_inside a b.shape index k below (counts_fit along a b index k axis c.requires) inside), c.copied_index-at.ensures.inline)
+    let is : Place 1 c.copied_index-at.result.items ≡ replicate_source along a b index = search rules in
+    (replicate_inside along a b index c.copied_index-at.result.items is c.requires, c.copied_index-at.ensures.inline)
