@@ -8,6 +8,15 @@ pub record OnAxis (n i : ℕ) : Type 0 where
   pub low : 1 ≤ i
   pub high : i ≤ n
 
+-- a scalar has the empty index list
+pub scalar_inside : (shape : List ℕ) → length shape ≡ 0 → is_index_of shape [] ≡ true
+scalar_inside [] e = refl
+scalar_inside (n ∷ shape) e = absurd (omega arith)
+
+-- one more index, which is on its axis
+pub one_more_inside : (n i : ℕ) (shape index : List ℕ) → OnAxis n i → is_index_of shape index ≡ true → is_index_of (n ∷ shape) (i ∷ index) ≡ true
+one_more_inside n i shape index on rest = and_from _ _ (and_from _ _ (le-leb 1 i on.low) (le-leb i n on.high)) rest
+
 -- each index of an index list is on its axis
 pub on_axis : (shape index : List ℕ) (k : ℕ) → is_index_of shape index ≡ true → k < length shape → OnAxis (get_or shape k 0) (get_or index k 0)
 on_axis [] index k h below = absurd (omega arith)
@@ -24,8 +33,7 @@ inside_by_axes [] [] e h = refl
 inside_by_axes [] (i ∷ index) e h = absurd (omega arith)
 inside_by_axes (n ∷ shape) [] e h = absurd (omega arith)
 inside_by_axes (n ∷ shape) (i ∷ index) e h =
-    let first = h 0 (omega arith) in
-    and_from _ _ (and_from _ _ (le-leb 1 i first.low) (le-leb i n first.high)) (inside_by_axes shape index (omega arith) (λ k below. h (suc k) (omega arith)))
+    one_more_inside n i shape index (h 0 (omega arith)) (inside_by_axes shape index (omega arith) (λ k below. h (suc k) (omega arith)))
 
 -- an index list with another index on one of its axes
 pub set_inside : (shape index : List ℕ) (k i : ℕ) → is_index_of shape index ≡ true → (k < length shape → OnAxis (get_or shape k 0) i)
@@ -33,9 +41,7 @@ pub set_inside : (shape index : List ℕ) (k i : ℕ) → is_index_of shape inde
 set_inside [] [] k i h on = refl
 set_inside [] (j ∷ index) k i h on = absurd (false≢true h)
 set_inside (n ∷ shape) [] k i h on = absurd (false≢true h)
-set_inside (n ∷ shape) (j ∷ index) zero i h on =
-    let first = on (omega arith) in
-    and_from _ _ (and_from _ _ (le-leb 1 i first.low) (le-leb i n first.high)) (and_parts _ _ h).1
+set_inside (n ∷ shape) (j ∷ index) zero i h on = one_more_inside n i shape index (on (omega arith)) (and_parts _ _ h).1
 set_inside (n ∷ shape) (j ∷ index) (suc k) i h on =
     let parts = and_parts _ _ h in
     and_from _ _ parts.0 (set_inside shape index k i parts.1 (λ below. on (omega arith)))

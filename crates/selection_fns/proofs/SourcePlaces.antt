@@ -2,7 +2,7 @@
 use Rattle.std.proofs.Common.{◌≡◌, ℕ, zero, suc, ◌-◌, ◌<◌, ◌≤◌, ℤ, pos, Bool, true, false, ◌||◌, nat_eq, nat_le, if◌then◌else◌, unsigned_abs, List, [], ◌∷◌, length, map, get_or, take, drop, set, insert, remove, replicate, refl, ap, subst, ◌∙◌, arith}
 use Rattle.std.specs.Prelude.{max, sum}
 use Rattle.std.specs.List.{list_all}
-use Rattle.std.proofs.lemmas.Bool.{and_parts, and_from, le-leb, eqb-true, eqb-false, false≢true}
+use Rattle.std.proofs.lemmas.Bool.{and_parts, and_from, eqb-true, eqb-false, false≢true}
 use Rattle.std.proofs.lemmas.Bool.Decides.{nat_tests}
 use Rattle.std.proofs.lemmas.Grind.{get_or_default_zero}
 use Rattle.std.proofs.lemmas.List.{length-map, length-replicate, get_or-map}
@@ -16,7 +16,7 @@ use Rattle.index_region.specs.Axes.{is_axis, axis_at, places_along}
 use Rattle.index_region.specs.Answers.{IsPlaceOf}
 use Rattle.index_region.specs.Sources.{Place}
 use Rattle.index_region.proofs.Passing.{passed}
-use Rattle.index_region.proofs.OnAxes.{OnAxis}
+use Rattle.index_region.proofs.OnAxes.{OnAxis, scalar_inside, one_more_inside}
 use Rattle.selection_fns.specs.Index.{is_on_axis, are_on, written_positions, count_written, indexed_shape, source_index}
 use Rattle.selection_fns.specs.Replicate.{times, maker, copied_place, replicate_form, replicate_source}
 use Rattle.selection_fns.proofs.Positions.{place_in, split_inside}
@@ -43,9 +43,6 @@ index_on_axis n p at sound inside on =
     let place = place_in n (get_or (numbers p) k (pos 0)) (each_on n (numbers p) k on (omega arith)) in
     let same : unsigned_abs (get_or (numbers p) k (pos 0)) ≡ unsigned_abs (number_of (item_of p at)) = ap unsigned_abs read in
     record { low = omega (arith, place.low); high = omega (arith, place.high) }
-
-pub one_more_inside : (n i : ℕ) (shape index : List ℕ) → OnAxis n i → is_index_of shape index ≡ true → is_index_of (n ∷ shape) (i ∷ index) ≡ true
-one_more_inside n i shape index on rest = and_from _ _ (and_from _ _ (le-leb 1 i on.low) (le-leb i n on.high)) rest
 
 -- the index list that positions give, where the first is written
 pub written_inside : (axes : List ℕ) (written : List Bool) (args : List ArrayValue) (index : List ℕ) (p : ArrayValue)
@@ -139,13 +136,11 @@ replicate_inside along a b index at e h = by_test (is_scalar b) refl e
     k : ℕ
     k = axis_at (max 1 (length b.shape)) along
 
-    none_left : (shape at : List ℕ) → length shape ≡ 0 → at ≡ [] → is_index_of shape at ≡ true
-    none_left [] at n e = rw e refl
-    none_left (n ∷ shape) at e none = absurd (omega arith)
-
     by_test : (scalar : Bool) → is_scalar b ≡ scalar
         → Place 1 at ≡ Place 1 (if scalar then [] else set index k (copied_place a (places_along b.shape k) (get_or index k 1))) → is_index_of b.shape at ≡ true
-    by_test true t e = none_left b.shape at (eqb-true (length b.shape) 0 t) cc
+    by_test true t e =
+        let none : at ≡ [] = cc in
+        rw none (scalar_inside b.shape (eqb-true (length b.shape) 0 t))
     by_test false t e =
         let there = eqb-false (length b.shape) 0 t in
         let rank : max 1 (length b.shape) ≡ length b.shape = omega arith in

@@ -1,6 +1,6 @@
 -- The place in a side that an item of a catenation comes from lies in that side.
 use Rattle.std.proofs.Common.{◌≡◌, ℕ, zero, suc, ◌+◌, ◌<◌, ◌≤◌, Bool, true, false, ◌||◌, if◌then◌else◌, nat_eq, List, [], ◌∷◌, length, get_or, set, insert, remove, bytes_eq, refl, ap, sym, subst, ◌∙◌, arith}
-use Rattle.std.proofs.lemmas.Bool.{and_parts, and_from, le-leb, eqb-true, false≢true}
+use Rattle.std.proofs.lemmas.Bool.{and_parts, and_from, eqb-true, false≢true}
 use Rattle.std.proofs.lemmas.Slice.Eq.{bytes_eq-Decides}
 use Rattle.arrays_core.specs.Arrays.{ArrayValue}
 use Rattle.arrays_core.specs.Shapes.{is_index_of}
@@ -10,7 +10,7 @@ use Rattle.index_region.specs.Arguments.{is_scalar}
 use Rattle.index_region.specs.Axes.{is_axis, axis_at}
 use Rattle.index_region.specs.Answers.{IsPlaceOf}
 use Rattle.index_region.proofs.Passing.{passed, place_inside}
-use Rattle.index_region.proofs.OnAxes.{OnAxis}
+use Rattle.index_region.proofs.OnAxes.{OnAxis, scalar_inside, one_more_inside}
 use Rattle.structural_fns.specs.Catenate.{joined_rank, joined_places, other_axes, ranks_join, axes_agree, types_join, joined_type, joined_shape, in_side, catenate_form}
 use Rattle.structural_fns.proofs.Sides.{shared_long}
 
@@ -37,7 +37,7 @@ put_inside : (shape index : List ℕ) (k i : ℕ) → k < length shape → k < l
     → is_index_of shape (set index k i) ≡ true
 put_inside [] index k i s l h on = absurd (omega arith)
 put_inside (n ∷ shape) [] k i s l h on = absurd (omega arith)
-put_inside (n ∷ shape) (j ∷ index) zero i s l h on = and_from _ _ (and_from _ _ (le-leb 1 i on.low) (le-leb i n on.high)) h
+put_inside (n ∷ shape) (j ∷ index) zero i s l h on = one_more_inside n i shape index on h
 put_inside (n ∷ shape) (j ∷ index) (suc k) i s l h on =
     let parts = and_parts _ _ h in
     and_from _ _ parts.0 (put_inside shape index k i (omega arith) (omega arith) parts.1 on)
@@ -48,10 +48,6 @@ in_side_inside : (rank axis : ℕ) (s : ArrayValue) (index : List ℕ) (i : ℕ)
     → is_index_of s.shape (in_side rank axis s index i) ≡ true
 in_side_inside rank axis s index i below there others on = decide (is_scalar s) refl
   where
-    none_left : (shape : List ℕ) → length shape ≡ 0 → is_index_of shape [] ≡ true
-    none_left [] e = refl
-    none_left (n ∷ shape) e = absurd (omega arith)
-
     by_rank : (same : Bool) → nat_eq (length s.shape) rank ≡ same → is_index_of (if same then remove s.shape axis else s.shape) (remove index axis) ≡ true
         → OnAxis (if same then get_or s.shape axis 0 else 1) i → is_index_of s.shape (if same then set index axis i else remove index axis) ≡ true
     by_rank true e h on = let long = eqb-true (length s.shape) rank e in put_inside s.shape index axis i (omega arith) there h on
@@ -59,7 +55,7 @@ in_side_inside rank axis s index i below there others on = decide (is_scalar s) 
 
     decide : (scalar : Bool) → is_scalar s ≡ scalar
         → is_index_of s.shape (if scalar then [] else (if nat_eq (length s.shape) rank then set index axis i else remove index axis)) ≡ true
-    decide true e = none_left s.shape (eqb-true (length s.shape) 0 e)
+    decide true e = scalar_inside s.shape (eqb-true (length s.shape) 0 e)
     decide false e = by_rank (nat_eq (length s.shape) rank) refl (others e) on
 
 -- what is known of an index list of a catenation

@@ -2,7 +2,7 @@
 use Rattle.std.proofs.Common.{◌≡◌, ℕ, zero, suc, ◌≤◌, map, zip, ◌+◌, ◌-◌, ◌<◌, ◌%◌, nat_eq, ◌&&◌, ℤ, pos, negsuc, ◌+ℤ◌, ◌-ℤ◌, unsigned_abs, Bool, true, false, if◌then◌else◌, List, [], ◌∷◌, length, get_or, replicate, set, reverse, refl, subst, arith}
 use Rattle.std.specs.Int.{int_rem_euclid}
 use Rattle.std.specs.List.{filter}
-use Rattle.std.proofs.lemmas.Bool.{and_parts, and_from, le-leb, leb-true, eqb-true, eq-eqb, false≢true}
+use Rattle.std.proofs.lemmas.Bool.{and_parts, leb-true, eqb-true, eq-eqb, false≢true}
 use Rattle.std.proofs.lemmas.List.{length-map, get_or-map, length-reverse, get_or-reverse}
 use Rattle.std.proofs.lemmas.List.FromFn.{get_or-map-range_with_len, length-map-range_with_len}
 use Rattle.std.proofs.lemmas.Grind.{get_or_default_zero}
@@ -15,7 +15,7 @@ use Rattle.index_region.specs.Axes.{places_along}
 use Rattle.index_region.specs.Arguments.{is_scalar, is_list, counts_as_numbers, numbers}
 use Rattle.index_region.specs.Answers.{IsPlaceOf}
 use Rattle.index_region.proofs.Passing.{passed, place_inside}
-use Rattle.index_region.proofs.OnAxes.{OnAxis, on_axis, inside_by_axes, set_inside}
+use Rattle.index_region.proofs.OnAxes.{OnAxis, scalar_inside, one_more_inside, on_axis, inside_by_axes, set_inside}
 use Rattle.structural_fns.specs.Ravel.{ravel_form}
 use Rattle.structural_fns.specs.Transpose.{transpose_form}
 use Rattle.structural_fns.specs.Rotate.{rotated_place}
@@ -86,13 +86,9 @@ rotated_inside shape index k amount h =
 pub uncounted_inside : (a b : ArrayValue) (index : List ℕ) → is_index_of (counted_shape a b) index ≡ true → is_index_of b.shape (uncounted b index) ≡ true
 uncounted_inside a b index h = by_test (is_scalar b) refl h
   where
-    none_left : (shape : List ℕ) → length shape ≡ 0 → is_index_of shape [] ≡ true
-    none_left [] e = refl
-    none_left (n ∷ shape) e = absurd (omega arith)
-
     by_test : (scalar : Bool) → is_scalar b ≡ scalar → is_index_of (if scalar then replicate (length a.items) 1 else b.shape) index ≡ true
         → is_index_of b.shape (if scalar then [] else index) ≡ true
-    by_test true e h = none_left b.shape (eqb-true (length b.shape) 0 e)
+    by_test true e h = scalar_inside b.shape (eqb-true (length b.shape) 0 e)
     by_test false e h = h
 
 pub kept_inside : (shape : List ℕ) (counts : List ℤ) (index : List ℕ) → length counts ≡ length shape → is_index_of (dropped_shape shape counts) index ≡ true
@@ -103,12 +99,11 @@ kept_inside (n ∷ shape) [] index e h = absurd (omega arith)
 kept_inside (n ∷ shape) (count ∷ counts) [] e h = absurd (false≢true h)
 kept_inside (n ∷ shape) (pos m ∷ counts) (i ∷ index) e h =
     let head = head_of (n - m) i (dropped_shape shape counts) index h in
-    and_from _ _ (and_from _ _ (le-leb 1 (i + m) (omega (arith, head.low))) (le-leb (i + m) n (omega (arith, head.high, head.low))))
+    one_more_inside n (i + m) shape (kept_places counts index) (record { low = omega (arith, head.low); high = omega (arith, head.high, head.low) })
     (kept_inside shape counts index (omega arith) head.rest)
 kept_inside (n ∷ shape) (negsuc m ∷ counts) (i ∷ index) e h =
     let head = head_of (n - suc m) i (dropped_shape shape counts) index h in
-    and_from _ _ (and_from _ _ (le-leb 1 i head.low) (le-leb i n (omega (arith, head.high))))
-    (kept_inside shape counts index (omega arith) head.rest)
+    one_more_inside n i shape (kept_places counts index) (record { low = head.low; high = omega (arith, head.high) }) (kept_inside shape counts index (omega arith) head.rest)
 
 -- ---- dyadic transpose
 
