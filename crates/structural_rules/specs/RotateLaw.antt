@@ -1,4 +1,4 @@
--- All that changes of A⌽B lies in its boxes, and what an item reads settles it where A has an item a place.
+-- All that changes of A⌽B lies in its boxes.
 use Rattle.std.proofs.Common.{◌≡◌, ℕ, zero, suc, ◌≤◌, ◌<◌, true, false, eqb, ◌&&◌, nat_le, pos, negsuc, int_le, List, [], ◌∷◌, length, get_or, set, insert, remove, map, refl, sym, subst, ◌∙◌, arith, inl, inr, Ok, Result, if◌then◌else◌}
 use Rattle.std.proofs.lemmas.Bool.{and_parts, and_from, leb-true, le-leb, eqb-true, eqb-false, cases_Bool, cond-true, cond-false, false≢true}
 use Rattle.arrays_core.specs.declared.item.Item.{Item}
@@ -16,15 +16,15 @@ use Rattle.index_region.specs.Boxes.{Interval, is_within}
 use Rattle.index_region.specs.Checks.{Form}
 use Rattle.index_region.specs.Sources.{Place, item_from}
 use Rattle.index_region.proofs.Passing.{passed}
-use Rattle.change_core.specs.Laws.{Covered, Each}
+use Rattle.change_core.specs.Laws.{Covered, Each, IsTight}
 use Rattle.change_core.specs.Reaches.{is_moved}
 use Rattle.change_core.specs.Sourced.{other, right_used}
-use Rattle.change_core.proofs.Sourced.{item_from_same}
+use Rattle.change_core.proofs.Sourced.{item_from_same, two_arrays_tight}
 use Rattle.change_core.proofs.UsedWays.{across-covered, within-set, within-whole}
 use Rattle.structural_fns.specs.Rotate.{rotate_form, rotate_item, rotate_source, rotated_place}
 use Rattle.structural_fns.proofs.Turning.{rotation_facts, removed_inside}
 use Rattle.structural_rules.specs.OneItem.{extended_same, only_index}
-use Rattle.structural_rules.specs.Rotate.{amounts_box, amounts_use, rotate_box}
+use Rattle.structural_rules.specs.Rotate.{amounts_box, amounts_use, rotate_box, rotate_rule}
 
 -- an axis that the checks let through is one of the array's, where it has one
 axis_below : (along : Along) (rank : ℕ) → 0 < rank → is_axis rank along ≡ true → axis_at rank along < rank
@@ -55,11 +55,11 @@ placed : (along : Along) (a b : ArrayValue) (f : Form) (index : List ℕ) → ro
 placed along a b f index e place = subst (λ (r : Result Form Kind). IsPlaceOf r index) (sym e) place
 
 -- the checks see no items but how many there are
-pub rotate_blind : (along : Along) (c d : ArrayValue) (xs ys : List Item) → length xs ≡ length c.items → rotate_form along (other c xs) (other d ys) ≡ rotate_form along c d
+rotate_blind : (along : Along) (c d : ArrayValue) (xs ys : List Item) → length xs ≡ length c.items → rotate_form along (other c xs) (other d ys) ≡ rotate_form along c d
 rotate_blind along c d xs ys p = rw p refl
 
 -- what an item reads of B lies on its own line
-pub rotate_covered : (along : Along) (a b : ArrayValue) (f : Form) → rotate_form along a b ≡ Ok f → Covered b.shape f.shape (right_used (rotate_source along a b) (rotate_box along b))
+rotate_covered : (along : Along) (a b : ArrayValue) (f : Form) → rotate_form along a b ≡ Ok f → Covered b.shape f.shape (right_used (rotate_source along a b) (rotate_box along b))
 rotate_covered along a b f e region index fit place =
     let axis = axis_at (length b.shape) along in
     let facts = rotation_facts along a b index (placed along a b f index e place) in (
@@ -95,7 +95,7 @@ read_line shape line place = elim (cases_Bool (eqb (size shape) 1)) [
 ]
 
 -- an item whose amount changed lies in the changed lines
-pub amounts_covered : (along : Along) (a b : ArrayValue) (f : Form) → rotate_form along a b ≡ Ok f → Covered a.shape f.shape (amounts_use along f.shape a b)
+amounts_covered : (along : Along) (a b : ArrayValue) (f : Form) → rotate_form along a b ≡ Ok f → Covered a.shape f.shape (amounts_use along f.shape a b)
 amounts_covered along a b f e region index fit place = (inside, tt)
   where
     lines_within : (length a.items ≡ 1 → ⊥) → is_within region (if eqb (size a.shape) 1 then map (λ _. 1) a.shape else remove index (axis_at (length b.shape) along)) ≡ true
@@ -119,7 +119,7 @@ amounts_covered along a b f e region index fit place = (inside, tt)
     ]
 
 -- an item is the same where its amount and the place that it comes from are read alike, if A has an item a place
-pub rotate_settled : (along : Along) (c d : ArrayValue) (xs ys : List Item) (f : Form) (index : List ℕ) → length c.items ≡ size c.shape → rotate_form along c d ≡ Ok f → is_index_of f.shape index ≡ true
+rotate_settled : (along : Along) (c d : ArrayValue) (xs ys : List Item) (f : Form) (index : List ℕ) → length c.items ≡ size c.shape → rotate_form along c d ≡ Ok f → is_index_of f.shape index ≡ true
     → map (item_if_there (other c xs)) ((amounts_use along f.shape c d).reads index) ≡ map (item_if_there c) ((amounts_use along f.shape c d).reads index)
     → map (item_if_there (other d ys)) ((right_used (rotate_source along c d) (rotate_box along d)).reads index) ≡ map (item_if_there d) ((right_used (rotate_source along c d) (rotate_box along d)).reads index)
     → rotate_item along (other c xs) (other d ys) index ≡ rotate_item along c d index
@@ -129,3 +129,11 @@ rotate_settled along c d xs ys f index full e place left right =
     extended_same c xs (remove index axis) (λ many. (lines_of along c d index (placed along c d f index e place) (λ one. many (sym full ∙ one))).line) left in
     (λ i. item_from (other c xs) (other d ys) d.item_type (Place 1 (set index axis (rotated_place (places_along d.shape axis) (number_of (amount i)) (get_or index axis 1)))))
     ∙ item_from_same (other c xs) (other d ys) c d d.item_type (rotate_source along c d index) refl right
+
+pub rotate_tight : (along : Along) → IsTight (rotate_rule along)
+rotate_tight along = two_arrays_tight false (rotate_form along) (rotate_item along) _ _ (record {
+  blind = λ c d xs ys p q. rotate_blind along c d xs ys p.count;
+  settled = λ c d xs ys f index in_c in_d p q. rotate_settled along c d xs ys f index in_c.one_item_a_place;
+  covered_left = amounts_covered along;
+  covered_right = rotate_covered along;
+})

@@ -4,10 +4,11 @@ ghost use Rattle.std.specs.Prelude.{◌≡◌};
 ghost use Rattle.std.proofs.Common.{rules};
 ghost use Rattle.index_region.specs.Axes.{places_along as length_along};
 ghost use Rattle.structural_rules.specs.Rotate.{rotate_rule};
+ghost use Rattle.structural_rules.specs.RotateLaw.{rotate_tight};
 
 use crate::ruled::Ruled;
 use arrays_core::{ApplyFault, Array};
-use change_core::Announced;
+use change_core::{Announced, Lawful};
 use index_region::{IndexBox, Intervals, Seen};
 use std::alloc::Global;
 use structural_fns::Rotate;
@@ -54,4 +55,8 @@ impl Announced for Ruled<Rotate> {
     }
 
     ghost counted = { λ _. Prim.search rules };
+}
+
+impl Lawful for Ruled<Rotate> {
+    ghost tight = { λ r. rotate_tight r.function.along };
 }
