@@ -10,7 +10,7 @@ use Rattle.index_region.specs.ArgumentLists.{of_two_arguments}
 use Rattle.index_region.specs.Boxes.{Interval}
 use Rattle.index_region.specs.Checks.{Form, check, form_of, is_within_limits, limited}
 use Rattle.change_core.specs.RuleModels.{FitsAt, HasShape}
-use Rattle.change_core.proofs.Regions.{fits-length}
+use Rattle.index_region.proofs.Boxes.{fits_length}
 use Rattle.operator_fns.specs.InnerProduct.{row_rank, inner_form}
 
 -- checks that give a shape have passed
@@ -38,4 +38,4 @@ few_rows_and_columns (x ∷ y ∷ []) a (suc zero) region shape n e u o fit h =
     let axes = take (row_rank x) x.shape ++ drop 1 y.shape in
     let few : length axes ≤ most_axes = few_axes axes _ shape (rest_of_checks _ _ (limited axes _) shape h) in
     let same : length a.shape ≡ length x.shape = ap (λ (b : ArrayValue). length b.shape) e in
-    omega (arith, length-append (take (row_rank x) x.shape) (drop 1 y.shape), length-take (row_rank x) x.shape, length-drop 1 y.shape, fits-length region y.shape fit)
+    omega (arith, length-append (take (row_rank x) x.shape) (drop 1 y.shape), length-take (row_rank x) x.shape, length-drop 1 y.shape, fits_length region y.shape fit)
