@@ -5,14 +5,14 @@ use Rattle.std.proofs.lemmas.Bool.{and_parts, and_from, false≢true, cond-true,
 use Rattle.std.proofs.lemmas.List.{drop-drop}
 use Rattle.arrays_core.specs.declared.item.Kind.{Kind}
 use Rattle.arrays_core.specs.declared.item.Kind.TheVariants.{Rank, Domain, Index}
-use Rattle.arrays_core.specs.Arrays.{ArrayValue, IsArray, item_if_there, item_of}
+use Rattle.arrays_core.specs.Arrays.{ArrayValue, item_of, item_if_there}
 use Rattle.arrays_core.specs.Shapes.{size, is_index_of}
 use Rattle.index_region.specs.Arguments.{is_scalar}
 use Rattle.index_region.specs.Boxes.{Interval, is_within, whole_of}
 use Rattle.index_region.specs.Checks.{Form, check, form_of, limited}
 use Rattle.index_region.specs.Sources.{Place, item_from}
 use Rattle.index_region.proofs.Passing.{gives, limited_gives}
-use Rattle.change_core.specs.Laws.{AllCovered, Each, IsTight, blank, frames, gathered}
+use Rattle.change_core.specs.Laws.{AllCovered, IsTight, blank, frames, gathered}
 use Rattle.change_core.specs.Places.{lies_in}
 use Rattle.change_core.specs.Reaches.{is_moved}
 use Rattle.change_core.proofs.Sourced.{item_from_same_one}
@@ -20,7 +20,6 @@ use Rattle.change_core.proofs.UsedWays.{index-take, index-drop, within-whole}
 use Rattle.selection_fns.specs.Index.{Position, are_numbers, are_on, count_written, indexed_shape, index_form, index_item, of_array_and_positions, source_index, written_positions}
 use Rattle.selection_rules.specs.Index.{indexed_box, index_rule, index_uses, place_named, position_box, position_uses, unselected}
 use Rattle.selection_rules.specs.LeastBoxes.{beside-within, least_rank, least_within}
-use Rattle.selection_rules.specs.Reads.{item_same}
 
 -- ---- the box of the indexed array
 
@@ -140,6 +139,11 @@ settles written (a ∷ old) (b ∷ new) same g k =
 
 -- ---- the items
 
+item_same : (p q : ArrayValue) (index : List ℕ) → is_index_of p.shape index ≡ true → is_index_of q.shape index ≡ true → item_if_there p index ≡ item_if_there q index → item_of p index ≡ item_of q index
+item_same p q index m n h =
+    let both : Some (item_of p index) ≡ Some (item_of q index) = sym (cond-true _ _ _ m) ∙ h ∙ cond-true _ _ _ n in
+    cc
+
 -- positions that are read alike name the same places
 places_same : (written : List Bool) (axes : List ℕ) (old new : List ArrayValue) (shape : List ℕ) (before : ℕ) (whole index : List ℕ) → length old ≡ count_written written → length new ≡ count_written written
     → length (written_positions written new) ≡ length axes → frames (unselected written) old ≡ frames (unselected written) new → is_index_of (indexed_shape axes (written_positions written new)) index ≡ true
@@ -184,12 +188,12 @@ pub length-selectors : (written : List Bool) → suc (length (unselected written
 length-selectors written = ap suc (length-unselected written)
 
 determines : (written : List Bool) (old new : List ArrayValue) (f : Form) (index : List ℕ) → length old ≡ suc (length (unselected written)) → length new ≡ suc (length (unselected written))
-    → Each IsArray new → frames (false ∷ unselected written) old ≡ frames (false ∷ unselected written) new → of_array_and_positions written index_form new ≡ Ok f → is_index_of f.shape index ≡ true
+    → frames (false ∷ unselected written) old ≡ frames (false ∷ unselected written) new → of_array_and_positions written index_form new ≡ Ok f → is_index_of f.shape index ≡ true
     → gathered old (index_uses written f.shape new) index ≡ gathered new (index_uses written f.shape new) index
     → of_array_and_positions written (λ a positions. index_item a positions index) old ≡ of_array_and_positions written (λ a positions. index_item a positions index) new
-determines written [] new f index m n sound same e place got = absurd (omega arith)
-determines written (a ∷ old) [] f index m n sound same e place got = absurd (omega arith)
-determines written (a ∷ old) (b ∷ new) f index m n sound same e place got =
+determines written [] new f index m n same e place got = absurd (omega arith)
+determines written (a ∷ old) [] f index m n same e place got = absurd (omega arith)
+determines written (a ∷ old) (b ∷ new) f index m n same e place got =
     let later : frames (unselected written) old ≡ frames (unselected written) new = cc in
     let alike : blank a ≡ blank b = cc in
     let positions = written_positions written new in
@@ -215,6 +219,6 @@ all_covered written (a ∷ args) f e =
 pub index_tight : (written : List Bool) → IsTight (index_rule written)
 index_tight written = record {
   settled = settles written;
-  determined = determines written;
+  determined = λ old new f index m n sound same e place got. determines written old new f index m n same e place got;
   covered = λ args f n e. all_covered written args f e;
 }
