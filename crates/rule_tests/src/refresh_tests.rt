@@ -28,7 +28,7 @@ fn doubles_one_place(rt: HostRuntime) -> Result<(), Fail> {
         assert!(rt; false);
         return Ok(());
     };
-    assert!(rt; found.region().as_slice() == [(2, 2)]);
+    assert!(rt; found.region().as_slice() == [(2, 2)].as_slice());
     assert_eq!(rt; found.item(&[2]), Item::Num(14));
     Ok(())
 }
