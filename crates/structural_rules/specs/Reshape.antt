@@ -6,7 +6,7 @@ use Rattle.change_core.specs.RuleModels.{RuleModel}
 use Rattle.change_core.specs.Sourced.{Spread, two_sourced}
 use Rattle.structural_fns.specs.Reshape.{magnitudes, reshape_form, reshape_source}
 
--- all where items are needed again; else the places from the first of the box in the ravel to the last, as far as there are such
+-- all where items are needed again; else from the first place of the box in the ravel to the last, as far as there are such
 abbrev pub reshape_box : List ℕ → ArrayValue → ArrayValue → Spread
 reshape_box shape a b = (by_place b.shape shape).box
 

@@ -1,6 +1,6 @@
 //! Catenate as a rule.
 
-ghost use Rattle.std.specs.Prelude.{◌≡◌, ◌≤◌, ◌<◌, Some, IsTrue, length};
+ghost use Rattle.std.specs.Prelude.{◌≡◌, ◌+◌, ◌≤◌, ◌<◌, Some, IsTrue, length};
 ghost use Rattle.std.proofs.Common.{rules};
 ghost use Rattle.index_region.specs.Boxes.{fits};
 ghost use Rattle.structural_fns.specs.Catenate.{joined_places as places_joined};
@@ -25,6 +25,17 @@ fn joined_places(side: &Seen, rank: usize, axis: usize) -> u32
     if axes.len() == rank { axes[axis] } else { 1 }
 }
 
+/// Where an interval goes of a side that stands after so many places of the axis.
+fn moved_interval(before: u32, interval: (u32, u32)) -> (u32, u32)
+    requires within { before ≤ 1048576 }
+    requires order { interval.0 ≤ interval.1 }
+    requires high { interval.1 ≤ 1048576 }
+    ensures { result ≡ (before + interval.0, before + interval.1) }
+{
+    let (first, last) = interval;
+    (before + first, before + last)
+}
+
 /// The intervals of a result for a changed box of a side that stands after so many places of the axis.
 fn side_box(side: &Seen, shape: &[u32], axis: usize, before: u32, region: &IndexBox) -> Intervals
     requires rank { length shape.now ≤ 4 }
@@ -40,8 +51,8 @@ fn side_box(side: &Seen, shape: &[u32], axis: usize, before: u32, region: &Index
     }
     let intervals = region.intervals().copy();
     if rank == shape.len() {
-        let (first, last) = region.as_slice()[axis];
-        return intervals.with(axis, before + first, before + last);
+        let (first, last) = moved_interval(before, region.as_slice()[axis]);
+        return intervals.with(axis, first, last);
     }
     intervals.with_axis(axis, before + 1, before + 1)
 }

@@ -15,7 +15,7 @@ use index_region::{IndexBox, Intervals, Seen};
 use std::alloc::Global;
 use structural_fns::DropPlaces;
 
-/// Where drop puts an interval of an axis of which so many places are left out, the first or by a negative count the last.
+/// Where drop puts an interval of an axis of which so many places are left out, by a negative count the last ones.
 fn kept_interval(count: i64, interval: (u32, u32)) -> (u32, u32)
     ensures { (n : ℕ) → result ≡ (kept n count).image interval }
 {

@@ -17,7 +17,7 @@ use index_region::{IndexBox, Intervals, Seen};
 use std::alloc::Global;
 use structural_fns::Take;
 
-/// Where take puts an interval of an axis of which so many places are taken, the first or by a negative count the last.
+/// Where take puts an interval of an axis of which so many places are taken, by a negative count the last ones.
 fn taken_interval(axis: u32, count: i64, places: u32, interval: (u32, u32)) -> (u32, u32)
     requires magnitude { places ≡ unsigned_abs count }
     requires order { interval.0 ≤ interval.1 }

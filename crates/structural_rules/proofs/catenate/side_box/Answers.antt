@@ -2,22 +2,12 @@ use Rattle.std.proofs.Common.{◌≤◌, ◌<◌, length, get_or, arith}
 use Rattle.structural_rules.proofs.Moved.{interval_on}
 use Rattle.structural_rules.proofs.catenate.side_box.Goals as goal
 
-pub overflow_add-before-then-rank-shape : goal.overflow_add-before-then-rank-shape
-overflow_add-before-then-rank-shape c =
+pub moved_interval-first-requires-clause-high : goal.moved_interval-first-requires-clause-high
+moved_interval-first-requires-clause-high c =
     let axis = c.args.axis in
     let shape = c.args.side.now.shape in
     let rank = rw c.shape.ensures.is at c.len-rank.ensures.value in
     let below : axis < length shape = omega arith in
     let on = interval_on c.args.region.now shape axis c.requires.fit below in
     let bound : get_or shape axis 0 ≤ 1048576 = c.shape.ensures.sound.within.axes axis 0 below in
-    rw c.as_slice.ensures.is (omega (arith, on.order, on.high))
-
-pub overflow_add-before-then-rank-shape-2 : goal.overflow_add-before-then-rank-shape-2
-overflow_add-before-then-rank-shape-2 c =
-    let axis = c.args.axis in
-    let shape = c.args.side.now.shape in
-    let rank = rw c.shape.ensures.is at c.len-rank.ensures.value in
-    let below : axis < length shape = omega arith in
-    let on = interval_on c.args.region.now shape axis c.requires.fit below in
-    let bound : get_or shape axis 0 ≤ 1048576 = c.shape.ensures.sound.within.axes axis 0 below in
-    rw c.as_slice.ensures.is (omega (arith, on.order, on.high))
+    rw c.as_slice.ensures.is (omega (arith, on.high))
