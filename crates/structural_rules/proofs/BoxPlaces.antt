@@ -1,5 +1,5 @@
 -- The first and the last index list of a box.
-use Rattle.std.proofs.Common.{◌≡◌, ◌≤◌, ℕ, List, [], ◌∷◌, arith, true}
+use Rattle.std.proofs.Common.{◌≡◌, ◌≤◌, ℕ, List, [], ◌∷◌, arith, true, ◌&&◌, nat_le}
 use Rattle.std.proofs.lemmas.Bool.{and_parts, and_from, leb-true, le-leb, false≢true}
 use Rattle.arrays_core.specs.Shapes.{is_index_of, places_before}
 use Rattle.index_region.specs.Boxes.{Interval, fits, is_within}
@@ -12,9 +12,9 @@ first_inside [] [] h = h
 first_inside [] (n ∷ shape) h = absurd (false≢true h)
 first_inside (s ∷ region) [] h = absurd (false≢true h)
 first_inside (s ∷ region) (n ∷ shape) h =
-    let parts = and_parts _ _ h in
-    let on_axis = and_parts _ _ parts.0 in
-    let first = and_parts _ _ on_axis.0 in
+    let parts = and_parts (nat_le 1 s.0 && nat_le s.0 s.1 && nat_le s.1 n) (fits region shape) h in
+    let on_axis = and_parts (nat_le 1 s.0 && nat_le s.0 s.1) (nat_le s.1 n) parts.0 in
+    let first = and_parts (nat_le 1 s.0) (nat_le s.0 s.1) on_axis.0 in
     let high : s.0 ≤ n = omega (arith, leb-true s.0 s.1 first.1, leb-true s.1 n on_axis.1) in
     and_from _ _ (and_from _ _ first.0 (le-leb s.0 n high)) (first_inside region shape parts.1)
 
@@ -23,9 +23,9 @@ last_inside [] [] h = h
 last_inside [] (n ∷ shape) h = absurd (false≢true h)
 last_inside (s ∷ region) [] h = absurd (false≢true h)
 last_inside (s ∷ region) (n ∷ shape) h =
-    let parts = and_parts _ _ h in
-    let on_axis = and_parts _ _ parts.0 in
-    let first = and_parts _ _ on_axis.0 in
+    let parts = and_parts (nat_le 1 s.0 && nat_le s.0 s.1 && nat_le s.1 n) (fits region shape) h in
+    let on_axis = and_parts (nat_le 1 s.0 && nat_le s.0 s.1) (nat_le s.1 n) parts.0 in
+    let first = and_parts (nat_le 1 s.0) (nat_le s.0 s.1) on_axis.0 in
     let low : 1 ≤ s.1 = omega (arith, leb-true 1 s.0 first.0, leb-true s.0 s.1 first.1) in
     and_from _ _ (and_from _ _ (le-leb 1 s.1 low) on_axis.1) (last_inside region shape parts.1)
 
@@ -35,8 +35,8 @@ first_within [] [] h = h
 first_within [] (n ∷ shape) h = absurd (false≢true h)
 first_within (s ∷ region) [] h = absurd (false≢true h)
 first_within (s ∷ region) (n ∷ shape) h =
-    let parts = and_parts _ _ h in
-    let first = and_parts _ _ (and_parts _ _ parts.0).0 in
+    let parts = and_parts (nat_le 1 s.0 && nat_le s.0 s.1 && nat_le s.1 n) (fits region shape) h in
+    let first = and_parts (nat_le 1 s.0) (nat_le s.0 s.1) (and_parts (nat_le 1 s.0 && nat_le s.0 s.1) (nat_le s.1 n) parts.0).0 in
     and_from _ _ (and_from _ _ (le-leb s.0 s.0 (omega arith)) first.1) (first_within region shape parts.1)
 
 -- the first is not after the last

@@ -1,5 +1,5 @@
 -- Intervals that take and drop move, one axis after another.
-use Rattle.std.proofs.Common.{◌≡◌, ◌+◌, ◌<◌, ◌≤◌, ℕ, zero, suc, ℤ, pos, List, [], ◌∷◌, length, get_or, drop, refl, true, arith}
+use Rattle.std.proofs.Common.{◌≡◌, ◌+◌, ◌<◌, ◌≤◌, ℕ, zero, suc, ℤ, pos, List, [], ◌∷◌, length, get_or, drop, refl, true, ◌&&◌, nat_le, arith}
 use Rattle.std.proofs.lemmas.Bool.{and_parts, leb-true, false≢true}
 use Rattle.std.proofs.lemmas.List.{drop_more}
 use Rattle.index_region.specs.Boxes.{Interval, fits}
@@ -35,4 +35,4 @@ pub fits_long : (region : List Interval) (shape : List ℕ) → fits region shap
 fits_long [] [] h = refl
 fits_long [] (n ∷ shape) h = absurd (false≢true h)
 fits_long (s ∷ region) [] h = absurd (false≢true h)
-fits_long (s ∷ region) (n ∷ shape) h = let k = fits_long region shape (and_parts _ _ h).1 in omega (arith, k)
+fits_long (s ∷ region) (n ∷ shape) h = let k = fits_long region shape (and_parts (nat_le 1 s.0 && nat_le s.0 s.1 && nat_le s.1 n) (fits region shape) h).1 in omega (arith, k)
