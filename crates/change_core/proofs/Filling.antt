@@ -13,11 +13,9 @@ use Rattle.change_core.proofs.Collected.{collected}
 use Rattle.change_core.proofs.Walking.{prepend, prepend-nil, rest_end, rest_from, rest_ok}
 use Rattle.index_region.proofs.Patched.{box_within_size, fits_within}
 use Rattle.index_region.specs.Answers.{HasTypeOf, IsPlaceOf}
-use Rattle.std.proofs.lemmas.Bool.{and_parts, leb-true, false≢true}
-use Rattle.std.proofs.lemmas.Nat.{mul-le}
 use Rattle.index_region.specs.Checks.{Form, form_of}
 use Rattle.change_core.specs.Meters.{ticked}
-use Rattle.index_region.specs.Boxes.{Interval, interval_length, box_size, walk_at, fits}
+use Rattle.index_region.specs.Boxes.{Interval, box_size, walk_at, fits}
 
 pub filled_many : (values : ArrayValue) (t : ItemType) (shape : List ℕ) (n m : ℕ) → values ≡ record { item_type = t; shape = shape; items = replicate (size shape) (fill t) } → shape ≡ n ∷ [] → n ≡ m → length values.items ≡ m
 filled_many values t shape n m v s e =
@@ -56,17 +54,6 @@ place_of form shape t region p index e fit below is =
 
 pub typed_item : (form : Result Form Kind) (shape : List ℕ) (t : ItemType) (x : Item) → form ≡ Ok (form_of shape t) → HasTypeOf form x → type_of x ≡ t
 typed_item form shape t x e h = subst (λ (f : Result Form Kind). HasTypeOf f x) e h
-
-pub some_place : (region : List Interval) (shape : List ℕ) → IsTrue (fits region shape) → 0 < box_size region
-some_place [] [] fit = omega arith
-some_place (s ∷ region) (n ∷ shape) fit =
-    let parts = and_parts _ _ fit in
-    let order : s.0 ≤ s.1 = leb-true s.0 s.1 (and_parts _ _ (and_parts _ _ parts.0).0).1 in
-    let rest : 1 ≤ box_size region = omega (arith, some_place region shape parts.1) in
-    let most : 1 * 1 ≤ interval_length s * box_size region = mul-le 1 1 (interval_length s) (box_size region) (omega arith) rest in
-    omega arith
-some_place [] (n ∷ shape) fit = absurd (false≢true fit)
-some_place (s ∷ region) [] fit = absurd (false≢true fit)
 
 pub vector_within : (n : ℕ) (shape : List ℕ) → shape ≡ n ∷ [] → n ≤ 1048576 → IsWithinLimits shape
 vector_within n shape e h = subst IsWithinLimits (sym e) (record { rank = omega arith; axes = axes; size_within = omega arith })

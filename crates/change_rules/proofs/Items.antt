@@ -18,7 +18,7 @@ use Rattle.change_core.specs.declared.reach.Reach.TheVariants.{Inside}
 use Rattle.change_core.specs.Parts.{HoldsItems, items_in}
 use Rattle.change_core.specs.Reaches.{LiesIn}
 use Rattle.change_core.proofs.Collected.{items_are}
-use Rattle.change_core.proofs.Filling.{some_place}
+use Rattle.index_region.proofs.Walks.{some_place}
 use Rattle.change_core.proofs.Walking.{walk_is, length-along}
 
 -- factors are the greatest where their product is

@@ -1,8 +1,8 @@
 -- The walk of a box in row-major order: its index lists and how many come before each correspond one to one.
-use Rattle.std.proofs.Common.{◌≡◌, ℕ, ◌+◌, ◌-◌, ◌*◌, ◌/◌, ◌%◌, ◌<◌, ◌≤◌, List, [], ◌∷◌, refl, arith, true}
+use Rattle.std.proofs.Common.{◌≡◌, ℕ, ◌+◌, ◌-◌, ◌*◌, ◌/◌, ◌%◌, ◌<◌, ◌≤◌, List, [], ◌∷◌, refl, arith, true, IsTrue}
 use Rattle.std.proofs.lemmas.Bool.{and_parts, and_from, leb-true, le-leb, false≢true}
-use Rattle.std.proofs.lemmas.Nat.{div_below, mod_below, div-add-mod', div-mul-add, mod-mul-add}
-use Rattle.index_region.specs.Boxes.{Interval, box_size, box_offset, interval_length, is_within, walk_at}
+use Rattle.std.proofs.lemmas.Nat.{div_below, mod_below, div-add-mod', div-mul-add, mod-mul-add, mul-le}
+use Rattle.index_region.specs.Boxes.{Interval, box_size, box_offset, interval_length, is_within, walk_at, fits}
 use Rattle.index_region.proofs.Patched.{row_below}
 
 -- a box with a place has one on each of its later axes
@@ -52,3 +52,15 @@ walk_of_offset (s ∷ region) (i ∷ index) h =
     let left : ((i - s.0) * w + rest) % w ≡ rest = mod-mul-add (i - s.0) w rest below in
     let first : s.0 + (i - s.0) ≡ i = omega arith in
     rw (steps, left, first, walk_of_offset region index parts.1) refl
+
+-- a box that lies in a shape has a place
+pub some_place : (region : List Interval) (shape : List ℕ) → IsTrue (fits region shape) → 0 < box_size region
+some_place [] [] fit = omega arith
+some_place (s ∷ region) (n ∷ shape) fit =
+    let parts = and_parts _ _ fit in
+    let order : s.0 ≤ s.1 = leb-true s.0 s.1 (and_parts _ _ (and_parts _ _ parts.0).0).1 in
+    let rest : 1 ≤ box_size region = omega (arith, some_place region shape parts.1) in
+    let most : 1 * 1 ≤ interval_length s * box_size region = mul-le 1 1 (interval_length s) (box_size region) (omega arith) rest in
+    omega arith
+some_place [] (n ∷ shape) fit = absurd (false≢true fit)
+some_place (s ∷ region) [] fit = absurd (false≢true fit)

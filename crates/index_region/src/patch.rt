@@ -69,10 +69,11 @@ impl Patch {
         let items = size(self.values.shape().as_slice());
         // The shape of the array says that it has one item for each place.
         let _one_item_a_place = array.shape();
+        let mut index = self.region.index_at(0);
         for before in 0..items {
-            let index = self.region.index_at(before as usize);
             let place = position(array.shape(), index.as_slice());
             array.write_at(place, self.values.item(before + 1));
+            self.region.advance(&mut index);
         }
     }
 }

@@ -4,21 +4,22 @@ use Rattle.arrays_core.specs.Shapes.{size, is_index_of, places_before}
 use Rattle.arrays_core.specs.Items.{fill}
 use Rattle.index_region.specs.Boxes.{Interval, box_size, walk_at}
 use Rattle.index_region.specs.Patches.{PatchValue}
-use Rattle.index_region.proofs.Walks.{walk_within}
+use Rattle.index_region.proofs.Walks.{walk_within, some_place}
 use Rattle.index_region.proofs.Patched.{fits_within}
 use Rattle.index_region.proofs.Written.{IsWritten, written_none, written_more, written_all}
 use Rattle.index_region.proofs.patch.Patch.write_into.Goals as goal
 
 pub loop-before-init : goal.loop-before-init
-loop-before-init c = written_none c.args.array.now c.args.self.now c.shape-one_item_a_place.ensures.sound
+loop-before-init c = record {
+  written = written_none c.args.array.now c.args.self.now c.shape-one_item_a_place.ensures.sound;
+  at = λ _. c.index_at-index.ensures ∙ ap (λ (q : PatchValue). walk_at q.region 0) c.self.view_is;
+}
 
--- as many items as the box has places
 pub index_at-index-requires-clause-below : goal.index_at-index-requires-clause-below
 index_at-index-requires-clause-below c =
-    let many : c.size-items.result ≡ box_size c.self.inside.region =
-    c.size-items.ensures ∙ ap size (c.as_slice.ensures ∙ c.shape.ensures.is) ∙ sym c.shape.ensures.sound.one_item_a_place ∙ c.self.invariant in
-    omega (arith, c.loop-before-test.true)
+    subst (λ (r : List Interval). 0 < box_size r) (sym (ap (λ (q : PatchValue). q.region) c.self.view_is)) (some_place c.args.self.now.region c.args.array.now.shape c.requires.inside)
 
+-- as many items as the box has places
 pub index_at-index-requires-clause-size : goal.index_at-index-requires-clause-size
 index_at-index-requires-clause-size c =
     let many : c.size-items.result ≡ box_size c.self.inside.region =
@@ -35,8 +36,8 @@ position-place-requires-clause-in_range c =
     let below : c.loop-before.before < box_size p.region = subst (λ (r : List Interval). c.loop-before.before < box_size r) region (omega (arith, c.loop-before-test.true)) in
     let within = fits_within p.region a.shape (walk_at p.region c.loop-before.before) c.requires.inside (walk_within p.region c.loop-before.before below) in
     let index : c.as_slice-in-loop-before.result.now ≡ walk_at p.region c.loop-before.before =
-    c.as_slice-in-loop-before.ensures.is ∙ c.index_at-index.ensures ∙ ap (λ (r : List Interval). walk_at r c.loop-before.before) region in
-    let shape : c.shape-in-loop-before.result.now.items ≡ a.shape = c.shape-in-loop-before.ensures.is ∙ c.loop-before.invariant.shaped in
+    c.as_slice-in-loop-before.ensures.is ∙ c.loop-before.invariant.at below in
+    let shape : c.shape-in-loop-before.result.now.items ≡ a.shape = c.shape-in-loop-before.ensures.is ∙ c.loop-before.invariant.written.shaped in
     (ap (λ (s : List ℕ). is_index_of s c.as_slice-in-loop-before.result.now) shape ∙ ap (is_index_of a.shape) index) ∙ within
 
 pub loop-before-preserved : goal.loop-before-preserved
@@ -47,10 +48,10 @@ loop-before-preserved c =
     let many : c.size-items.result ≡ box_size c.self.inside.region =
     c.size-items.ensures ∙ ap size (c.as_slice.ensures ∙ c.shape.ensures.is) ∙ sym c.shape.ensures.sound.one_item_a_place ∙ c.self.invariant in
     let below : c.loop-before.before < box_size p.region = subst (λ (r : List Interval). c.loop-before.before < box_size r) region (omega (arith, c.loop-before-test.true)) in
-    let more = written_more a p c.loop-before.before c.loop-before.array c.requires c.loop-before.invariant below in
+    let more = written_more a p c.loop-before.before c.loop-before.array c.requires c.loop-before.invariant.written below in
     let index : c.as_slice-in-loop-before.result.now ≡ walk_at p.region c.loop-before.before =
-    c.as_slice-in-loop-before.ensures.is ∙ c.index_at-index.ensures ∙ ap (λ (r : List Interval). walk_at r c.loop-before.before) region in
-    let shape : c.shape-in-loop-before.result.now.items ≡ a.shape = c.shape-in-loop-before.ensures.is ∙ c.loop-before.invariant.shaped in
+    c.as_slice-in-loop-before.ensures.is ∙ c.loop-before.invariant.at below in
+    let shape : c.shape-in-loop-before.result.now.items ≡ a.shape = c.shape-in-loop-before.ensures.is ∙ c.loop-before.invariant.written.shaped in
     let counted : places_before c.shape-in-loop-before.result.now.items c.as_slice-in-loop-before.result.now ≡ places_before a.shape (walk_at p.region c.loop-before.before) =
     λ i. places_before (shape i) (index i) in
     let place : c.position-place.result - 1 ≡ places_before a.shape (walk_at p.region c.loop-before.before) = omega (arith, c.position-place.ensures.is, counted) in
@@ -59,9 +60,13 @@ loop-before-preserved c =
     c.item.ensures.is
     ∙ ap (λ (n : ℕ). get_or c.self.inside.values.items n (fill c.self.inside.values.item_type)) before
     ∙ ap (λ (q : PatchValue). get_or q.items c.loop-before.before (fill q.item_type)) c.self.view_is in
-    subst (λ (now : ArrayValue). IsWritten a p (c.loop-before.before + 1) now)
-    (sym (c.write_at.ensures ∙ (λ i. record c.loop-before.array { items = set c.loop-before.array.items (place i) (item i) })))
-    more
+    record {
+      written = subst (λ (now : ArrayValue). IsWritten a p (c.loop-before.before + 1) now)
+          (sym (c.write_at.ensures ∙ (λ i. record c.loop-before.array { items = set c.loop-before.array.items (place i) (item i) })))
+          more;
+      at = subst (λ (r : List Interval). c.loop-before.before + 1 < box_size r → c.advance.new.index ≡ walk_at r (c.loop-before.before + 1)) region
+          (λ later. c.advance.ensures.next c.loop-before.before later (c.loop-before.invariant.at below ∙ ap (λ (r : List Interval). walk_at r c.loop-before.before) (sym region)));
+    }
 
 pub returns : goal.returns
 returns c =
@@ -71,4 +76,4 @@ returns c =
     c.size-items.ensures ∙ ap size (c.as_slice.ensures ∙ c.shape.ensures.is) ∙ sym c.shape.ensures.sound.one_item_a_place ∙ c.self.invariant in
     let ended : c.loop-before.before ≡ c.size-items.result = omega (arith, c.loop-before-test.false, c.loop-before.auto.before-end) in
     let all : c.loop-before.before ≡ box_size p.region = ended ∙ many ∙ ap box_size region in
-    written_all c.args.array.now p c.loop-before.array (subst (λ (n : ℕ). IsWritten c.args.array.now p n c.loop-before.array) all c.loop-before.invariant)
+    written_all c.args.array.now p c.loop-before.array (subst (λ (n : ℕ). IsWritten c.args.array.now p n c.loop-before.array) all c.loop-before.invariant.written)
