@@ -9,7 +9,8 @@ use Rattle.arrays_core.specs.Items.{fill}
 use Rattle.change_core.specs.declared.reach.Reach.{Reach}
 use Rattle.change_core.specs.declared.reach.Reach.TheVariants.{Anew}
 use Rattle.change_core.proofs.Regions.{HasFit, bounded-fits, bounded-within, join_fits, join_unmoved}
-use Rattle.change_core.specs.Laws.{Agrees, AllAgree, AllCovered, ArgumentChange, Covered, Each, IsPlace, IsTight, ReachCovers, ReachLies, blank, frames, gathered, moves, news, olds}
+use Rattle.index_region.specs.Answers.{IsPlaceOf}
+use Rattle.change_core.specs.Laws.{Agrees, AllAgree, AllCovered, ArgumentChange, Covered, Each, IsTight, ReachCovers, ReachLies, blank, frames, gathered, moves, news, olds}
 use Rattle.change_core.specs.Reaches.{Fits, LiesIn, as_reach, bounded, changed, changed_by, is_anew, is_moved, is_reached, reach_by}
 use Rattle.change_core.specs.RuleModels.{RuleModel, Use}
 use Rattle.index_region.specs.Boxes.{Interval, fits, is_within}
@@ -116,7 +117,7 @@ length-olds : (changes : List ArgumentChange) → length (olds changes) ≡ leng
 length-olds [] = refl
 length-olds (c ∷ changes) = let k = length-olds changes in omega (arith, k)
 
-items_same : (p : RuleModel) → IsTight p → (changes : List ArgumentChange) (form : Result Form Kind) (index : List ℕ) → length changes ≡ length p.selectors → AllAgree changes → p.form (news changes) ≡ form → frames p.selectors (olds changes) ≡ frames p.selectors (news changes) → IsPlace form index → is_reached (reach_by form p.uses (news changes) (moves changes)) index ≡ false → p.item (olds changes) index ≡ p.item (news changes) index
+items_same : (p : RuleModel) → IsTight p → (changes : List ArgumentChange) (form : Result Form Kind) (index : List ℕ) → length changes ≡ length p.selectors → AllAgree changes → p.form (news changes) ≡ form → frames p.selectors (olds changes) ≡ frames p.selectors (news changes) → IsPlaceOf form index → is_reached (reach_by form p.uses (news changes) (moves changes)) index ≡ false → p.item (olds changes) index ≡ p.item (news changes) index
 items_same p tight changes (Err k) index n h e same place u = absurd (true≢false u)
 items_same p tight changes (Ok f) index n h e same place u =
     tight.determined _ _ f index (length-olds changes ∙ n) (length-news changes ∙ n) (all_sound changes h) same e place (gathered_same f.shape changes (p.uses f.shape (news changes)) index h (tight.covered (news changes) f (length-news changes ∙ n) e) place (unmoved_reach f.shape _ index u))

@@ -1,10 +1,10 @@
 -- The law of a rule: all that changes of a result lies in the box that the rule gives.
-use Rattle.std.specs.Prelude.{◌≡◌, ◌≢◌, ℕ, List, [], ◌∷◌, Bool, true, false, Option, None, Result, Ok, IsTrue, IsOk, IfOk, map, length, replicate}
+use Rattle.std.specs.Prelude.{◌≡◌, ◌≢◌, ℕ, List, [], ◌∷◌, Bool, true, false, Option, None, Ok, IsTrue, IsOk, map, length, replicate}
 use Rattle.arrays_core.specs.declared.item.Item.{Item}
-use Rattle.arrays_core.specs.declared.item.Kind.{Kind}
 use Rattle.arrays_core.specs.Arrays.{ArrayValue, IsArray, item_of, item_if_there}
 use Rattle.arrays_core.specs.Items.{fill}
 use Rattle.arrays_core.specs.Shapes.{is_index_of}
+use Rattle.index_region.specs.Answers.{IsPlaceOf}
 use Rattle.index_region.specs.Boxes.{Interval, is_within, fits}
 use Rattle.index_region.specs.Checks.{Form}
 use Rattle.change_core.specs.declared.reach.Reach.{Reach}
@@ -84,14 +84,10 @@ abbrev pub AllAgree : List ArgumentChange → Type 0
 AllAgree [] = Unit {0}
 AllAgree (c ∷ changes) = Agrees c × AllAgree changes
 
--- the checks pass, and the index list names a place of the result
-abbrev pub IsPlace : Result Form Kind → List ℕ → Type 0
-IsPlace form index = IfOk form (λ f. IsTrue (is_index_of f.shape index))
-
 -- the result has one shape and type before and after, and one item (or error) at each place that is not reached
 pub record Covers (p : RuleModel) (old new : List ArrayValue) (reach : Reach) : Type 0 where
   pub form : p.form old ≡ p.form new
-  pub outside : (index : List ℕ) → IsPlace (p.form new) index → is_reached reach index ≡ false → p.item old index ≡ p.item new index
+  pub outside : (index : List ℕ) → IsPlaceOf (p.form new) index → is_reached reach index ≡ false → p.item old index ≡ p.item new index
 
 -- where the arguments agree outside their changed boxes, and the checks pass before and after, all that changes of the
 -- result is reached

@@ -16,7 +16,8 @@ use Rattle.change_core.specs.declared.reach.Reach.{Reach}
 use Rattle.change_core.specs.declared.reach.Reach.TheVariants.{Unmoved, Inside, Anew}
 use Rattle.change_core.proofs.Collected.{along, collected}
 use Rattle.change_core.proofs.UsedWays.{within-whole}
-use Rattle.change_core.specs.Laws.{Each, ReachCovers, AllAgree, ArgumentChange, Covers, IsPlace, moves, news, olds}
+use Rattle.index_region.specs.Answers.{IsPlaceOf}
+use Rattle.change_core.specs.Laws.{Each, ReachCovers, AllAgree, ArgumentChange, Covers, moves, news, olds}
 use Rattle.change_core.specs.Reaches.{AllFit, LiesIn, reach_of, is_moved, is_reached}
 use Rattle.change_rules.proofs.PatchRight.{error_right, patch_right}
 use Rattle.change_rules.proofs.Walked.{array_of, walked, walked_is, walked_delta, walked_delta_is}
@@ -177,7 +178,7 @@ kept_right p law os ds ns (Ok a) count lies before evaluated ok =
     (law ch many before.agree was_ok)) in
     ap (λ (d : Delta). applied d (Ok a)) (sym (walked_delta_is (p.form ns) (p.item ns) (reach_of p ns ms)))
     ∙ reached_right (p.form ns) (p.item (olds ch)) (p.item ns) (reach_of p ns ms) a lies
-    (λ f e r index q u. (here (ok_form _ f e) r).outside index (subst (λ (x : Result Form Kind). IsPlace x index) (sym e) q) u)
+    (λ f e r index q u. (here (ok_form _ f e) r).outside index (subst (λ (x : Result Form Kind). IsPlaceOf x index) (sym e) q) u)
     (λ f e r. was ∙ ap (λ (x : Result Form Kind). walked x (p.item (olds ch))) ((here (ok_form _ f e) r).form ∙ e))
     ∙ walked_is (p.form ns) (p.item ns)
 
