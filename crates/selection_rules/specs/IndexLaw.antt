@@ -1,7 +1,7 @@
 -- The law of indexed reference.
 use Rattle.std.proofs.Common.{◌≡◌, ℕ, zero, suc, ◌+◌, List, [], ◌∷◌, ◌++◌, length, take, drop, refl, ap, ◌∙◌, sym, arith, true, false, Bool, not, ◌&&◌, nat_eq, Some, None, Result, Ok, IsOk}
 use Rattle.std.specs.List.{list_all}
-use Rattle.std.proofs.lemmas.Bool.{and_parts, and_from, false≢true, cond-true, eqb-true}
+use Rattle.std.proofs.lemmas.Bool.{and_parts, and_from, false≢true, eqb-true}
 use Rattle.std.proofs.lemmas.List.{drop-drop}
 use Rattle.arrays_core.specs.declared.item.Kind.{Kind}
 use Rattle.arrays_core.specs.declared.item.Kind.TheVariants.{Rank, Domain, Index}
@@ -20,6 +20,7 @@ use Rattle.change_core.proofs.UsedWays.{index-take, index-drop, within-whole}
 use Rattle.selection_fns.specs.Index.{Position, are_numbers, are_on, count_written, indexed_shape, index_form, index_item, of_array_and_positions, source_index, written_positions}
 use Rattle.selection_rules.specs.Index.{indexed_box, index_rule, index_uses, place_named, position_box, position_uses, unselected}
 use Rattle.selection_rules.specs.LeastBoxes.{beside-within, least_rank, least_within}
+use Rattle.selection_rules.specs.Reads.{item_same}
 
 -- ---- the box of the indexed array
 
@@ -138,11 +139,6 @@ settles written (a ∷ old) (b ∷ new) same g k =
     passed_form a (written_positions written old) g ∙ (λ i. limited (shape i) (alike i).item_type) ∙ sym (passed_form b (written_positions written new) k)
 
 -- ---- the items
-
-item_same : (p q : ArrayValue) (index : List ℕ) → is_index_of p.shape index ≡ true → is_index_of q.shape index ≡ true → item_if_there p index ≡ item_if_there q index → item_of p index ≡ item_of q index
-item_same p q index m n h =
-    let both : Some (item_of p index) ≡ Some (item_of q index) = sym (cond-true _ _ _ m) ∙ h ∙ cond-true _ _ _ n in
-    cc
 
 -- positions that are read alike name the same places
 places_same : (written : List Bool) (axes : List ℕ) (old new : List ArrayValue) (shape : List ℕ) (before : ℕ) (whole index : List ℕ) → length old ≡ count_written written → length new ≡ count_written written

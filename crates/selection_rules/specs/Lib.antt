@@ -11,6 +11,7 @@ pub mod Index
 pub mod PositionAxes
 pub mod ShapeLaw
 pub mod IndexGeneratorLaw
+pub mod Reads
 pub mod ReplicateLaw
 pub mod LeastBoxes
 pub mod IndexLaw
