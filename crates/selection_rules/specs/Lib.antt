@@ -12,6 +12,8 @@ pub mod PositionAxes
 pub mod ShapeLaw
 pub mod IndexGeneratorLaw
 pub mod Reads
+pub mod IndexOfLaw
+pub mod MemberLaw
 pub mod ReplicateLaw
 pub mod LeastBoxes
 pub mod IndexLaw

@@ -3,10 +3,11 @@
 ghost use Rattle.std.specs.Prelude.{◌≡◌};
 ghost use Rattle.std.proofs.Common.{rules};
 ghost use Rattle.selection_rules.specs.IndexOf.{index_of_rule};
+ghost use Rattle.selection_rules.specs.IndexOfLaw.{index_of_tight};
 
 use crate::ruled::Ruled;
 use arrays_core::{ApplyFault, Array};
-use change_core::Announced;
+use change_core::{Announced, Lawful};
 use index_region::{IndexBox, Intervals, Seen};
 use selection_fns::IndexOf;
 use std::alloc::Global;
@@ -38,4 +39,8 @@ impl Announced for Ruled<IndexOf> {
     }
 
     ghost counted = { λ _. Prim.search rules };
+}
+
+impl Lawful for Ruled<IndexOf> {
+    ghost tight = { λ _. index_of_tight };
 }

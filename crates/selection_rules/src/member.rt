@@ -3,10 +3,11 @@
 ghost use Rattle.std.specs.Prelude.{◌≡◌};
 ghost use Rattle.std.proofs.Common.{rules};
 ghost use Rattle.selection_rules.specs.Member.{member_rule};
+ghost use Rattle.selection_rules.specs.MemberLaw.{member_tight};
 
 use crate::ruled::Ruled;
 use arrays_core::{ApplyFault, Array};
-use change_core::Announced;
+use change_core::{Announced, Lawful};
 use index_region::{IndexBox, Intervals, Seen};
 use selection_fns::Member;
 use std::alloc::Global;
@@ -38,4 +39,8 @@ impl Announced for Ruled<Member> {
     }
 
     ghost counted = { λ _. Prim.search rules };
+}
+
+impl Lawful for Ruled<Member> {
+    ghost tight = { λ _. member_tight };
 }
