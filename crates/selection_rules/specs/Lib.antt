@@ -14,6 +14,7 @@ pub mod IndexGeneratorLaw
 pub mod Reads
 pub mod IndexOfLaw
 pub mod MemberLaw
+pub mod EncodeLaw
 pub mod ReplicateLaw
 pub mod LeastBoxes
 pub mod IndexLaw

@@ -3,10 +3,11 @@
 ghost use Rattle.std.specs.Prelude.{◌≡◌};
 ghost use Rattle.std.proofs.Common.{rules};
 ghost use Rattle.selection_rules.specs.Encode.{encode_rule};
+ghost use Rattle.selection_rules.specs.EncodeLaw.{encode_tight};
 
 use crate::ruled::Ruled;
 use arrays_core::{ApplyFault, Array};
-use change_core::Announced;
+use change_core::{Announced, Lawful};
 use index_region::{IndexBox, Intervals, Seen};
 use selection_fns::Encode;
 use std::alloc::Global;
@@ -43,4 +44,8 @@ impl Announced for Ruled<Encode> {
     }
 
     ghost counted = { λ _. Prim.search rules };
+}
+
+impl Lawful for Ruled<Encode> {
+    ghost tight = { λ _. encode_tight };
 }
