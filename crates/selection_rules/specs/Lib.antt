@@ -15,6 +15,7 @@ pub mod Reads
 pub mod IndexOfLaw
 pub mod MemberLaw
 pub mod EncodeLaw
+pub mod DecodeLaw
 pub mod ReplicateLaw
 pub mod LeastBoxes
 pub mod IndexLaw

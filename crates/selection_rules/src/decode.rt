@@ -3,10 +3,11 @@
 ghost use Rattle.std.specs.Prelude.{◌≡◌};
 ghost use Rattle.std.proofs.Common.{rules};
 ghost use Rattle.selection_rules.specs.Decode.{decode_rule};
+ghost use Rattle.selection_rules.specs.DecodeLaw.{decode_tight};
 
 use crate::ruled::Ruled;
 use arrays_core::{ApplyFault, Array};
-use change_core::Announced;
+use change_core::{Announced, Lawful};
 use index_region::{IndexBox, Intervals, Seen};
 use selection_fns::Decode;
 use std::alloc::Global;
@@ -41,4 +42,8 @@ impl Announced for Ruled<Decode> {
     }
 
     ghost counted = { λ _. Prim.search rules };
+}
+
+impl Lawful for Ruled<Decode> {
+    ghost tight = { λ _. decode_tight };
 }
