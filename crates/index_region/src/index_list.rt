@@ -19,7 +19,7 @@ impl Model for IndexList {
 
     ghost view = { λ i. take i.rank i.indices };
 
-    ghost invariant = { λ i. i.rank ≤ 4 };
+    ghost invariant = { λ i. i.rank ≤ most_axes };
 }
 
 impl IndexList {

@@ -20,7 +20,7 @@ impl Model for Intervals {
 
     ghost view = { λ b. take b.rank b.intervals };
 
-    ghost invariant = { λ b. b.rank ≤ 4 };
+    ghost invariant = { λ b. b.rank ≤ most_axes };
 }
 
 impl Intervals {

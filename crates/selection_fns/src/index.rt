@@ -96,7 +96,7 @@ fn append_within(shape: &mut Shape, axes: &[u32]) -> Result<(), Kind>
     requires { shape.old.capacity ≡ 4 }
     ensures items { IfOk result (λ _. shape.new.items ≡ shape.old.items ++ axes.now) }
     ensures inline { shape.new.capacity ≡ 4 }
-    ensures beyond { IfErr result (λ kind. (kind ≡ Limit) × (4 < length shape.old.items + length axes.now)) }
+    ensures beyond { IfErr result (λ kind. (kind ≡ Limit) × (most_axes < length shape.old.items + length axes.now)) }
 {
     if shape.len() + axes.len() > MOST_AXES {
         return Err(Kind::Limit);
@@ -118,7 +118,7 @@ fn append_positions(
     requires long { length positions.now ≡ count_written written.now }
     ensures items { IfOk result (λ _. shape.new.items ≡ shape.old.items ++ indexed_shape axes.now (written_positions written.now positions.now)) }
     ensures inline { shape.new.capacity ≡ 4 }
-    ensures beyond { IfErr result (λ kind. (kind ≡ Limit) × (4 < length shape.old.items + length (indexed_shape axes.now (written_positions written.now positions.now)))) }
+    ensures beyond { IfErr result (λ kind. (kind ≡ Limit) × (most_axes < length shape.old.items + length (indexed_shape axes.now (written_positions written.now positions.now)))) }
 {
     if written.is_empty() {
         return Ok(());

@@ -1,6 +1,7 @@
 //! What take and drop share: a count for each axis.
 
 ghost use Rattle.std.specs.Prelude.{◌≡◌, ◌≤◌, All, IfOk, IfErr, List, ℕ, length};
+ghost use Rattle.arrays_core.specs.Limits.{most_axes, longest_axis};
 ghost use Rattle.index_region.specs.Checks.{limited};
 ghost use Rattle.structural_fns.specs.AxisCounts.{counted_shape as shape_counted, counted_form, uncounted as index_uncounted};
 
@@ -29,9 +30,9 @@ pub(crate) fn check_axis_counts(counts: &Seen, array: &Seen) -> Result<(), Kind>
 
 /// The shape that the counts are for: of a scalar, an axis of one place for each count.
 pub(crate) fn counted_shape(counts: &Seen, array: &Seen) -> Shape
-    requires { length counts.now.items ≤ 4 }
+    requires { length counts.now.items ≤ most_axes }
     ensures is { result.items ≡ shape_counted counts.now array.now }
-    ensures within { All (λ n. n ≤ 1048576) result.items }
+    ensures within { All (λ n. n ≤ longest_axis) result.items }
     ensures inline { result.capacity ≡ 4 }
 {
     let shape = array.shape();

@@ -1,6 +1,7 @@
 //! Catenate: two arrays after one another along an axis.
 
 ghost use Rattle.std.specs.Prelude.{◌≡◌, ◌≤◌, ◌<◌, ◌+◌, ◌++◌, ◌↔◌, IfOk, Err, IfErr, IsTrue, Result, true, if◌then◌else◌, length, nat_eq, ◌&&◌};
+ghost use Rattle.arrays_core.specs.Limits.{most_axes, longest_axis};
 ghost use Rattle.arrays_core.specs.declared.item.Kind.{Kind as AKind};
 ghost use Rattle.arrays_core.specs.Arrays.{IsAnswerTo, IsArray};
 ghost use Rattle.arrays_core.specs.Shapes.{size, IsWithinLimits};
@@ -21,7 +22,7 @@ use std::alloc::{AllocError, Global};
 fn joined_rank(left: &Seen, right: &Seen) -> usize
     ensures is { result ≡ rank_joined left.now right.now }
     ensures low { 1 ≤ result }
-    ensures high { result ≤ 4 }
+    ensures high { result ≤ most_axes }
 {
     let rank = left.shape().len().max(right.shape().len());
     rank.max(1)
@@ -31,7 +32,7 @@ fn joined_rank(left: &Seen, right: &Seen) -> usize
 fn joined_places(side: &Seen, rank: usize, axis: usize) -> u32
     requires { axis < rank }
     ensures is { result ≡ places_joined rank axis side.now }
-    ensures within { result ≤ 1048576 }
+    ensures within { result ≤ longest_axis }
 {
     let axes = side.shape().as_slice();
     if axes.len() == rank { axes[axis] } else { 1 }
@@ -132,7 +133,7 @@ fn shared_axes(left: &Seen, right: &Seen, rank: usize, axis: usize) -> Shape
 fn joined_shape(left: &Seen, right: &Seen, rank: usize, axis: usize) -> Shape
     requires there { axis < rank }
     requires greatest { rank ≡ rank_joined left.now right.now }
-    requires high { rank ≤ 4 }
+    requires high { rank ≤ most_axes }
     requires ranks { IsTrue (do_ranks_join left.now right.now) }
     ensures is { result.items ≡ shape_joined rank axis left.now right.now }
     ensures inline { result.capacity ≡ 4 }
@@ -146,7 +147,7 @@ fn joined_shape(left: &Seen, right: &Seen, rank: usize, axis: usize) -> Shape
 fn in_side(side: &Seen, rank: usize, axis: usize, index: &[u32], i: u32) -> Shape
     requires there { axis < rank }
     requires long { length index.now ≡ rank }
-    requires high { rank ≤ 4 }
+    requires high { rank ≤ most_axes }
     ensures is { result.items ≡ index_in_side rank axis side.now index.now i }
     ensures inline { result.capacity ≡ 4 }
 {
@@ -224,7 +225,7 @@ impl Catenate {
     /// The sides are joined along the first of `rank` axes.
     fn is_along_first(self, rank: usize) -> bool
         requires low { 1 ≤ rank }
-        requires high { rank ≤ 4 }
+        requires high { rank ≤ most_axes }
         ensures { result ≡ is_axis rank self.along && nat_eq (axis_at rank self.along) 0 }
     {
         self.along.is_axis(rank as u32) && self.along.axis_at(rank as u32) == 0

@@ -1,6 +1,7 @@
 //! Drop: all places of each axis but a number of the first or of the last.
 
 ghost use Rattle.std.specs.Prelude.{◌≡◌, ◌≤◌, ◌+◌, ℤ, pos, unsigned_abs, IsTrue, IfOk, Ok, All, length};
+ghost use Rattle.arrays_core.specs.Limits.{most_axes, longest_axis};
 ghost use Rattle.arrays_core.specs.Arrays.{IsAnswerTo, IsArray};
 ghost use Rattle.arrays_core.specs.Shapes.{IsWithinLimits, is_index_of as is_below};
 ghost use Rattle.index_region.specs.ArgumentLists.{of_two_arguments};
@@ -20,7 +21,7 @@ use std::alloc::{AllocError, Global};
 /// The lengths that are left of the axes.
 fn dropped_shape(counts: &Seen, axes: &[u32]) -> Shape
     requires long { length counts.now.items ≡ length axes.now }
-    requires rank { length axes.now ≤ 4 }
+    requires rank { length axes.now ≤ most_axes }
     ensures is { result.items ≡ shape_dropped axes.now (numbers counts.now) }
     ensures inline { result.capacity ≡ 4 }
 {
@@ -35,7 +36,7 @@ fn dropped_shape(counts: &Seen, axes: &[u32]) -> Shape
 
 /// Where a place of what is left of an axis stands on the axis.
 fn kept_place(count: i64, i: u32) -> u32
-    requires { i + unsigned_abs count ≤ 1048576 }
+    requires { i + unsigned_abs count ≤ longest_axis }
     ensures { result ≡ place_kept count i }
 {
     if count >= 0 {

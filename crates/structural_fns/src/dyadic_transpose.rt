@@ -1,6 +1,7 @@
 //! Dyadic transpose: each axis goes to the axis that is named for it.
 
 ghost use Rattle.std.specs.Prelude.{◌≡◌, ◌≤◌, ◌<◌, get_or, List, ℕ, Option, Some, None, IfOk, IfErr, Err, if◌then◌else◌, ◌∷◌, length};
+ghost use Rattle.arrays_core.specs.Limits.{most_axes, most_places};
 ghost use Rattle.arrays_core.specs.declared.item.ItemType.{ItemType as AType};
 ghost use Rattle.arrays_core.specs.Arrays.{IsAnswerTo};
 ghost use Rattle.index_region.specs.ArgumentLists.{of_two_arguments};
@@ -31,7 +32,7 @@ fn all_positive(axes: &Seen) -> bool
 /// The magnitude of an entry.
 fn entry(axes: &Seen, place: u32) -> u64
     requires there { place < length axes.now.items }
-    requires within { length axes.now.items ≤ 1048576 }
+    requires within { length axes.now.items ≤ most_places }
     ensures is { result ≡ get_or (axes_to axes.now) place 0 }
     ensures there { place < length (axes_to axes.now) }
 {
@@ -123,7 +124,7 @@ fn transposed_shape(axes: &Seen, lengths: &[u32]) -> Result<Shape, Kind>
 
 /// The index of each axis: that of the axis that it goes to.
 fn gathered(alloc: Global, axes: &Seen, index: &[u32]) -> Shape
-    requires { length axes.now.items ≤ 4 }
+    requires { length axes.now.items ≤ most_axes }
     ensures is { result.items ≡ index_gathered (axes_to axes.now) index.now }
     ensures inline { result.capacity ≡ 4 }
 {

@@ -1,6 +1,7 @@
 //! Reverse: the places of an axis from the last to the first.
 
 ghost use Rattle.std.specs.Prelude.{◌≡◌, ◌≤◌, ◌-◌, suc, IsTrue, length, All, set, get_or};
+ghost use Rattle.arrays_core.specs.Limits.{most_axes, longest_axis};
 ghost use Rattle.arrays_core.specs.Arrays.{IsAnswerTo};
 ghost use Rattle.arrays_core.specs.Shapes.{is_index_of};
 ghost use Rattle.index_region.specs.Axes.{is_axis, axis_at, places_along};
@@ -14,8 +15,8 @@ use std::alloc::Global;
 
 /// The index list of the same place counted from the other end of an axis.
 fn reversed(alloc: Global, along: Along, axes: &[u32], index: &[u32]) -> Shape
-    requires rank { length axes.now ≤ 4 }
-    requires axes_in { All (λ n. n ≤ 1048576) axes.now }
+    requires rank { length axes.now ≤ most_axes }
+    requires axes_in { All (λ n. n ≤ longest_axis) axes.now }
     requires axis { IsTrue (is_axis (length axes.now) along) }
     requires in_range { IsTrue (is_index_of axes.now index.now) }
     ensures is { let axis = axis_at (length axes.now) along in

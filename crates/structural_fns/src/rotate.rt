@@ -1,6 +1,7 @@
 //! Rotate: the places of an axis moved along it, and round its end.
 
 ghost use Rattle.std.specs.Prelude.{◌≡◌, ◌≤◌, ◌<◌, ◌≢◌, IfOk, Err, IfErr, IsTrue, Result, length, All, set, get_or, remove};
+ghost use Rattle.arrays_core.specs.Limits.{most_axes, longest_axis};
 ghost use Rattle.arrays_core.specs.declared.item.Kind.{Kind as AKind};
 ghost use Rattle.arrays_core.specs.Arrays.{IsAnswerTo};
 ghost use Rattle.arrays_core.specs.Shapes.{is_index_of};
@@ -19,7 +20,7 @@ use std::alloc::Global;
 /// The checks of the amounts: where there is not one alone, RANK where they have not one axis less, and
 /// LENGTH where there is not one for each line.
 fn check_lines(amounts: &Seen, axes: &[u32], axis: usize) -> Result<(), Kind>
-    requires rank { length axes.now ≤ 4 }
+    requires rank { length axes.now ≤ most_axes }
     requires there { 0 < length axes.now → axis < length axes.now }
     ensures passed { IfOk result (λ _. (rest : Result Form AKind) → lines_checked axis amounts.now axes.now rest ≡ rest) }
     ensures failed { IfErr result (λ kind. (rest : Result Form AKind) → lines_checked axis amounts.now axes.now rest ≡ Err kind) }
@@ -40,7 +41,7 @@ fn check_lines(amounts: &Seen, axes: &[u32], axis: usize) -> Result<(), Kind>
 
 /// How far the line of an index list is rotated.
 fn amount_at(amounts: &Seen, axis: usize, index: &[u32]) -> i64
-    requires rank { length index.now ≤ 4 }
+    requires rank { length index.now ≤ most_axes }
     requires there { length amounts.now.items ≢ 1 → axis < length index.now }
     requires line { length amounts.now.items ≢ 1 → IsTrue (is_index_of amounts.now.shape (remove index.now axis)) }
     ensures { result ≡ rotation axis amounts.now index.now }
@@ -57,7 +58,7 @@ fn amount_at(amounts: &Seen, axis: usize, index: &[u32]) -> i64
 fn rotated_place(axis: u32, amount: i64, i: u32) -> u32
     requires low { 1 ≤ i }
     requires high { i ≤ axis }
-    requires within { axis ≤ 1048576 }
+    requires within { axis ≤ longest_axis }
     ensures { result ≡ place_rotated axis amount i }
 {
     let place = i128::from(i) + i128::from(amount) - 1;
@@ -66,8 +67,8 @@ fn rotated_place(axis: u32, amount: i64, i: u32) -> u32
 
 /// The index list of the place that comes to an index list.
 fn rotated(alloc: Global, axes: &[u32], axis: usize, amount: i64, index: &[u32]) -> Shape
-    requires rank { length axes.now ≤ 4 }
-    requires axes_in { All (λ n. n ≤ 1048576) axes.now }
+    requires rank { length axes.now ≤ most_axes }
+    requires axes_in { All (λ n. n ≤ longest_axis) axes.now }
     requires there { 0 < length axes.now → axis < length axes.now }
     requires in_range { IsTrue (is_index_of axes.now index.now) }
     ensures is { result.items ≡ set index.now axis (place_rotated (places_along axes.now axis) amount (get_or index.now axis 1)) }

@@ -1,6 +1,7 @@
 //! Take: a number of places of each axis, the first or the last, and fill beyond them.
 
 ghost use Rattle.std.specs.Prelude.{◌≡◌, ◌≤◌, ℤ, pos, unsigned_abs, IsTrue, IfOk, Ok, All, length, get_or, nat_eq, nat_le, ◌&&◌};
+ghost use Rattle.arrays_core.specs.Limits.{longest_axis};
 ghost use Rattle.arrays_core.specs.Arrays.{IsAnswerTo};
 ghost use Rattle.arrays_core.specs.Shapes.{IsWithinLimits, is_index_of as is_below, size as size_of};
 ghost use Rattle.index_region.specs.ArgumentLists.{of_two_arguments};
@@ -19,9 +20,9 @@ use std::alloc::{AllocError, Global};
 
 /// Where a place of a taken axis stands on the axis; 0, and what lies after its end, is no place.
 fn taken_place(axis: u32, count: i64, i: u32) -> u32
-    requires axis_within { axis ≤ 1048576 }
-    requires count_within { unsigned_abs count ≤ 1048576 }
-    requires index_within { i ≤ 1048576 }
+    requires axis_within { axis ≤ longest_axis }
+    requires count_within { unsigned_abs count ≤ longest_axis }
+    requires index_within { i ≤ longest_axis }
     ensures { result ≡ place_taken axis count i }
 {
     if count >= 0 {
@@ -34,7 +35,7 @@ fn taken_place(axis: u32, count: i64, i: u32) -> u32
 /// The places of a taken index list on each axis.
 fn taken_places(counts: &Seen, axes: &[u32], index: &[u32]) -> Shape
     requires long { length counts.now.items ≡ length axes.now }
-    requires axes_within { All (λ n. n ≤ 1048576) axes.now }
+    requires axes_within { All (λ n. n ≤ longest_axis) axes.now }
     requires within { IsWithinLimits (magnitudes_of counts.now) }
     requires inside { IsTrue (is_below (magnitudes_of counts.now) index.now) }
     ensures is { result.items ≡ places_taken axes.now (numbers counts.now) index.now }

@@ -1,6 +1,7 @@
 //! Transpose: the axes in reverse order.
 
 ghost use Rattle.std.specs.Prelude.{◌≡◌, ◌≤◌, length, reverse};
+ghost use Rattle.arrays_core.specs.Limits.{most_axes};
 ghost use Rattle.arrays_core.specs.Arrays.{IsAnswerTo};
 ghost use Rattle.index_region.specs.ArgumentLists.{of_one_argument};
 ghost use Rattle.index_region.specs.Answers.{IsPlaceOf, IsSourceIn, source_value};
@@ -13,7 +14,7 @@ use std::alloc::Global;
 
 /// A list of at most four, from its last to its first. It takes no memory.
 fn from_last(alloc: Global, list: &[u32]) -> Shape
-    requires { length list.now ≤ 4 }
+    requires { length list.now ≤ most_axes }
     ensures is { result.items ≡ reverse list.now }
     ensures inline { result.capacity ≡ 4 }
 {
