@@ -4,7 +4,8 @@ use Rattle.arrays_core.specs.declared.item.Kind.{Kind}
 use Rattle.arrays_core.specs.declared.item.Kind.TheVariants.{Length}
 use Rattle.arrays_core.specs.Arrays.{ArrayValue}
 
--- a function of one argument, given the list of its arguments; of a list of another length nothing is said
+-- a function of one argument, given the list of its arguments. Each call has as many arguments as its function takes, so the
+-- last case, LENGTH, is never met
 abbrev pub of_one_argument : {A : Type 0} → (ArrayValue → Result A Kind) → List ArrayValue → Result A Kind
 of_one_argument f (b ∷ []) = f b
 of_one_argument f args = Err Length

@@ -24,6 +24,12 @@ abbrev pub is_of_numbers : ItemType → Bool
 is_of_numbers Nums = true
 is_of_numbers Chars = false
 
+abbrev pub is_same_type : ItemType → ItemType → Bool
+is_same_type Nums Nums = true
+is_same_type Chars Chars = true
+is_same_type Nums Chars = false
+is_same_type Chars Nums = false
+
 -- of numbers, or without items
 abbrev pub counts_as_numbers : ArrayValue → Bool
 counts_as_numbers a = is_of_numbers a.item_type || not (has_items a)

@@ -1,6 +1,6 @@
 -- Scalar functions of arrays: of one array item by item; of two arrays of equal shapes, or of an array
 -- of one item beside any other.
-use Rattle.std.specs.Prelude.{ℕ, ◌==◌, nat_lt, List, length, get_or, if◌then◌else◌, Result, Ok, Err, bytes_eq}
+use Rattle.std.specs.Prelude.{ℕ, ◌==◌, nat_lt, Bool, List, length, get_or, if◌then◌else◌, Result, Ok, Err, bytes_eq}
 use Rattle.arrays_core.specs.declared.item.Item.{Item}
 use Rattle.arrays_core.specs.declared.item.ItemType.TheVariants.{Nums}
 use Rattle.arrays_core.specs.declared.item.Kind.{Kind}
@@ -12,6 +12,9 @@ use Rattle.scalar_fns.specs.declared.function.Scalar1.{Scalar1}
 use Rattle.scalar_fns.specs.declared.function.Scalar2.{Scalar2}
 use Rattle.scalar_fns.specs.Items.{monadic_on_item, dyadic_on_items}
 
+abbrev pub same_shape : List ℕ → List ℕ → Bool
+same_shape = bytes_eq
+
 -- the shape of the greater rank
 abbrev pub of_greater_rank : List ℕ → List ℕ → List ℕ
 of_greater_rank a b = if nat_lt (length a) (length b) then b else a
@@ -21,7 +24,7 @@ abbrev pub common : List ℕ → List ℕ → Result (List ℕ) Kind
 common a b =
     if size a == 1 then Ok (if size b == 1 then of_greater_rank a b else b)
     else (if size b == 1 then Ok a
-    else (if length a == length b then (if bytes_eq a b then Ok a else Err Length) else Err Rank))
+    else (if length a == length b then (if same_shape a b then Ok a else Err Length) else Err Rank))
 
 -- the item at an index list of the common shape; an array of one item gives it everywhere
 abbrev pub extended : ArrayValue → List ℕ → Item

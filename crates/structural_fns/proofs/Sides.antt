@@ -11,14 +11,14 @@ use Rattle.arrays_core.specs.Arrays.{ArrayValue}
 use Rattle.arrays_core.proofs.Shapes.{as_long}
 use Rattle.index_region.specs.declared.along.Along.{Along}
 use Rattle.index_region.specs.Checks.{check, limited}
-use Rattle.index_region.specs.Arguments.{is_scalar, has_items, is_of_numbers}
+use Rattle.index_region.specs.Arguments.{is_scalar, has_items, is_same_type}
 use Rattle.index_region.specs.Axes.{is_axis, axis_at}
 use Rattle.index_region.specs.Answers.{IsPlaceOf, HasTypeOf}
 use Rattle.index_region.proofs.Passing.{passed, place_inside, typed_check, typed_limited}
 use Rattle.structural_fns.specs.Catenate.{joined_rank, joined_places, other_axes, ranks_join, axes_agree, types_join, joined_type, joined_shape, catenate_form}
 
 same_types : (left right : Bool) (s t : ItemType)
-    → ((not left || not right) || ((is_of_numbers s && is_of_numbers t) || (not (is_of_numbers s) && not (is_of_numbers t)))) ≡ true → right ≡ true
+    → ((not left || not right) || is_same_type s t) ≡ true → right ≡ true
     → t ≡ (if not left && right then t else s)
 same_types left false s t h e = absurd (false≢true e)
 same_types false true s t h e = refl

@@ -1,13 +1,14 @@
 -- Catenate: two arrays after one another along an axis.
-use Rattle.std.specs.Prelude.{ℕ, suc, ◌+◌, ◌-◌, max, nat_eq, nat_le, Bool, not, ◌&&◌, ◌||◌, if◌then◌else◌, List, [], length, get_or, set, insert, remove, Result, bytes_eq}
+use Rattle.std.specs.Prelude.{ℕ, suc, ◌+◌, ◌-◌, max, nat_eq, nat_le, Bool, not, ◌&&◌, ◌||◌, if◌then◌else◌, List, [], length, get_or, set, insert, remove, Result}
 use Rattle.arrays_core.specs.declared.item.Item.{Item}
 use Rattle.arrays_core.specs.declared.item.ItemType.{ItemType}
 use Rattle.arrays_core.specs.declared.item.Kind.{Kind}
 use Rattle.arrays_core.specs.declared.item.Kind.TheVariants.{Axis, Rank, Length, Domain}
 use Rattle.arrays_core.specs.Arrays.{ArrayValue}
+use Rattle.scalar_fns.specs.ScalarExtension.{same_shape}
 use Rattle.index_region.specs.declared.along.Along.{Along}
 use Rattle.index_region.specs.Checks.{check, Form, limited, whole}
-use Rattle.index_region.specs.Arguments.{is_scalar, has_items, is_of_numbers}
+use Rattle.index_region.specs.Arguments.{is_scalar, has_items, is_same_type}
 use Rattle.index_region.specs.Axes.{is_axis, axis_at}
 use Rattle.index_region.specs.Sources.{Place, Source, item_from}
 
@@ -30,13 +31,11 @@ ranks_join a b =
 
 -- a scalar is repeated over the other axes; else these are the same
 abbrev pub axes_agree : ℕ → ℕ → ArrayValue → ArrayValue → Bool
-axes_agree rank axis a b = (is_scalar a || is_scalar b) || bytes_eq (other_axes rank axis a) (other_axes rank axis b)
+axes_agree rank axis a b = (is_scalar a || is_scalar b) || same_shape (other_axes rank axis a) (other_axes rank axis b)
 
 -- an array without items has no type of its own
 abbrev pub types_join : ArrayValue → ArrayValue → Bool
-types_join a b =
-    (not (has_items a) || not (has_items b)) || ((is_of_numbers a.item_type && is_of_numbers b.item_type)
-    || (not (is_of_numbers a.item_type) && not (is_of_numbers b.item_type)))
+types_join a b = (not (has_items a) || not (has_items b)) || is_same_type a.item_type b.item_type
 
 -- that of the side that has items
 abbrev pub joined_type : ArrayValue → ArrayValue → ItemType

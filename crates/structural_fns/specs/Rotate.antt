@@ -1,10 +1,10 @@
 -- Rotate, A⌽B along an axis: its places moved along it, and round its end.
-use Rattle.std.specs.Prelude.{ℕ, suc, nat_eq, ℤ, pos, ◌+ℤ◌, ◌-ℤ◌, unsigned_abs, ◌||◌, List, length, get_or, set, remove, Result, bytes_eq}
+use Rattle.std.specs.Prelude.{ℕ, suc, nat_eq, ℤ, pos, ◌+ℤ◌, ◌-ℤ◌, unsigned_abs, ◌||◌, List, length, get_or, set, remove, Result}
 use Rattle.arrays_core.specs.declared.item.Item.{Item}
 use Rattle.arrays_core.specs.declared.item.Kind.{Kind}
 use Rattle.arrays_core.specs.declared.item.Kind.TheVariants.{Axis, Rank, Length, Domain}
 use Rattle.arrays_core.specs.Arrays.{ArrayValue}
-use Rattle.scalar_fns.specs.ScalarExtension.{extended}
+use Rattle.scalar_fns.specs.ScalarExtension.{same_shape, extended}
 use Rattle.scalar_fns.specs.Numbers.{residue}
 use Rattle.index_region.specs.declared.along.Along.{Along}
 use Rattle.index_region.specs.Checks.{check, Form, limited, whole}
@@ -16,7 +16,7 @@ use Rattle.index_region.specs.Sources.{Place, Source, item_from}
 abbrev pub lines_checked : ℕ → ArrayValue → List ℕ → Result Form Kind → Result Form Kind
 lines_checked axis a shape rest =
     check (has_one_item a || nat_eq (suc (length a.shape)) (length shape)) Rank
-    (check (has_one_item a || bytes_eq a.shape (remove shape axis)) Length rest)
+    (check (has_one_item a || same_shape a.shape (remove shape axis)) Length rest)
 
 -- the checks, and the shape and the type of the result
 abbrev pub rotate_form : Along → ArrayValue → ArrayValue → Result Form Kind
