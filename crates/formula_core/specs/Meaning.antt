@@ -1,5 +1,5 @@
 -- What an expression means, where the names show these arrays and errors.
-use Rattle.std.specs.Prelude.{ℕ, List, [], ◌∷◌, ◌++◌, Some, None, Result, Ok, Err}
+use Rattle.std.specs.Prelude.{ℕ, List, [], ◌∷◌, ◌++◌, Some, None, Result, Ok}
 use Rattle.apl_expr.specs.Trees.{Tree, Const, Name, Monad, Dyad, Index, Positions, NoPositions, Empty, Filled, Literal, Numbers, Text}
 use Rattle.apl_expr.specs.declared.expr.ScalarMonad.{ScalarMonad}
 use Rattle.apl_expr.specs.declared.expr.ScalarMonad.TheVariants as scalar_monad
@@ -20,6 +20,7 @@ use Rattle.scalar_fns.specs.declared.function.Scalar2.TheVariants as two
 use Rattle.scalar_fns.specs.ScalarExtension.{monadic_on_array, dyadic_on_arrays}
 use Rattle.index_region.specs.declared.along.Along.{Along}
 use Rattle.index_region.specs.declared.along.Along.TheVariants.{First, Last, Axis}
+use Rattle.index_region.specs.Checks.{and_then}
 use Rattle.structural_fns.specs.Reshape.{reshape_whole}
 use Rattle.structural_fns.specs.Ravel.{ravel_whole}
 use Rattle.structural_fns.specs.Catenate.{catenate_whole}
@@ -117,31 +118,23 @@ of_both (dyadic.Outer f) a b = outer_whole (scalar2_of f) a b
 of_both (dyadic.Inner f g) a b = inner_whole (scalar2_of f) (scalar2_of g) a b
 
 abbrev pub applied1 : Monadic → Outcome → Outcome
-applied1 f (Err e) = Err e
-applied1 f (Ok b) = given (of_right f b)
+applied1 f right = and_then right (λ b. given (of_right f b))
 
 -- the right argument's error comes before the left's
 abbrev pub applied2 : Dyadic → (right left : Outcome) → Outcome
-applied2 f (Err e) left = Err e
-applied2 f (Ok b) (Err e) = Err e
-applied2 f (Ok b) (Ok a) = given (of_both f a b)
+applied2 f right left = and_then right (λ b. and_then left (λ a. given (of_both f a b)))
 
 -- one more written position before those that follow; their error comes before its own
 abbrev pub in_front : Outcome → Result (List Position) Fault → Result (List Position) Fault
-in_front first (Err e) = Err e
-in_front (Err e) (Ok positions) = Err e
-in_front (Ok p) (Ok positions) = Ok (Some p ∷ positions)
+in_front first others = and_then others (λ positions. and_then first (λ p. Ok (Some p ∷ positions)))
 
 -- the same for an empty position, which has no error
 abbrev pub empty_in_front : Result (List Position) Fault → Result (List Position) Fault
-empty_in_front (Err e) = Err e
-empty_in_front (Ok positions) = Ok (None ∷ positions)
+empty_in_front others = and_then others (λ positions. Ok (None ∷ positions))
 
 -- the positions' error comes before that of what is indexed
 abbrev pub indexed : Result (List Position) Fault → (operand : Outcome) → Outcome
-indexed (Err e) a = Err e
-indexed (Ok positions) (Err e) = Err e
-indexed (Ok positions) (Ok a) = given (index_whole a positions)
+indexed others operand = and_then others (λ positions. and_then operand (λ a. given (index_whole a positions)))
 
 abbrev mutual
   -- the value of an expression, where the names show these
