@@ -1,5 +1,6 @@
 -- Folds of what a row and a column give, from the last entry to the first.
-use Rattle.std.proofs.Common.{◌≡◌, ℕ, zero, suc, ◌+◌, ◌<◌, ◌≤◌, List, [], ◌∷◌, ◌++◌, length, get_or, drop, take, refl, ap, sym, ◌∙◌, arith, Result, Ok, Err}
+use Rattle.std.proofs.Common.{◌≡◌, ℕ, zero, suc, ◌+◌, ◌<◌, ◌≤◌, List, [], ◌∷◌, ◌++◌, length, get_or, drop, take, map, refl, ap, sym, ◌∙◌, arith, Result, Ok, Err}
+use Rattle.std.specs.List.{range_with_len}
 use Rattle.std.proofs.lemmas.List.{drop_more, drop_all, take_more, take_all, length-take, get_or-take, ext_get_or}
 use Rattle.std.proofs.lemmas.List.FromFn.{length-map-range_with_len, get_or-map-range_with_len}
 use Rattle.arrays_core.specs.declared.item.Kind.{Kind}
@@ -104,38 +105,49 @@ module _ {A : Type 0} (f : A → A → Result A Kind) where
       let fails : folded f (x ∷ so_far.later) ≡ Err e = fold_more f x so_far.later so_far.some ∙ ap (λ r. and_then r (f x)) so_far.is ∙ gave in
       fails_after rs k (x ∷ so_far.later) (folded f) e made (λ front. (still_fails front (x ∷ so_far.later) e (omega arith) fails).0)
 
+-- ---- what a rule gives at the first places
+
+module _ {A : Type 0} (rule : ℕ → Result A Kind) where
+  abbrev pub firsts : ℕ → List (Result A Kind)
+  firsts count = map rule (range_with_len 0 count)
+
+  pub length-firsts : (count : ℕ) → length (firsts count) ≡ count
+  length-firsts count = length-map-range_with_len rule 0 count
+
+  pub first_at : (count k : ℕ) (d : Result A Kind) → k < count → get_or (firsts count) k d ≡ rule k
+  first_at count k d h = get_or-map-range_with_len rule 0 count k k d h (omega arith)
+
+  pub take-firsts : (count k : ℕ) → k ≤ count → take k (firsts count) ≡ firsts k
+  take-firsts count k h =
+      let long = length-firsts count in
+      let short = length-firsts k in
+      let taken = length-take k (firsts count) in
+      ext_get_or (rule 0) (take k (firsts count)) (firsts k) (omega arith) (λ i below.
+      let inside : i < k = omega arith in
+      get_or-take k (firsts count) i (rule 0) inside
+      ∙ first_at count i (rule 0) (omega arith)
+      ∙ sym (first_at k i (rule 0) inside))
+
+  pub firsts_more : (k : ℕ) → firsts (k + 1) ≡ firsts k ++ rule k ∷ []
+  firsts_more k =
+      let ys = firsts (k + 1) in
+      let long = length-firsts (k + 1) in
+      sym (take_all (k + 1) ys (omega arith))
+      ∙ take_more ys k (rule k) (omega arith)
+      ∙ (rw (take-firsts (k + 1) k (omega arith), first_at (k + 1) k (rule k) (omega arith)) refl)
+
+  -- one entry fewer that is fine, or that has the error
+  pub fine_entry : (e : Kind) (k : ℕ) (x : A) → rule k ≡ Ok x → last_error_or e (firsts (k + 1)) ≡ last_error_or e (firsts k)
+  fine_entry e k x here = ap (last_error_or e) (firsts_more k ∙ ap (λ r. firsts k ++ r ∷ []) here) ∙ last_fine e (firsts k) x
+
+  pub failed_entry : (e : Kind) (k : ℕ) (j : Kind) → rule k ≡ Err j → last_error_or e (firsts (k + 1)) ≡ j
+  failed_entry e k j here = ap (last_error_or e) (firsts_more k ∙ ap (λ r. firsts k ++ r ∷ []) here) ∙ last_failed e (firsts k) j
+
 -- ---- what is met
 
 module _ {A : Type 0} (g : A → A → Result A Kind) (row column : ℕ → A) where
   pub length-met : (count : ℕ) → length (met g row column count) ≡ count
-  length-met count = length-map-range_with_len (λ k. g (row k) (column k)) 0 count
+  length-met count = length-firsts (λ k. g (row k) (column k)) count
 
   pub met_at : (count k : ℕ) (d : Result A Kind) → k < count → get_or (met g row column count) k d ≡ g (row k) (column k)
-  met_at count k d h = get_or-map-range_with_len (λ j. g (row j) (column j)) 0 count k k d h (omega arith)
-
-  pub take-met : (count k : ℕ) → k ≤ count → take k (met g row column count) ≡ met g row column k
-  take-met count k h =
-      let ys = met g row column count in
-      let long = length-met count in
-      let short = length-met k in
-      let taken = length-take k ys in
-      ext_get_or (g (row 0) (column 0)) (take k ys) (met g row column k) (omega arith) (λ i below.
-      let inside : i < k = omega arith in
-      get_or-take k ys i (g (row 0) (column 0)) inside
-      ∙ met_at count i (g (row 0) (column 0)) (omega arith)
-      ∙ sym (met_at k i (g (row 0) (column 0)) inside))
-
-  pub met_more : (k : ℕ) → met g row column (k + 1) ≡ met g row column k ++ g (row k) (column k) ∷ []
-  met_more k =
-      let ys = met g row column (k + 1) in
-      let long = length-met (k + 1) in
-      sym (take_all (k + 1) ys (omega arith))
-      ∙ take_more ys k (g (row k) (column k)) (omega arith)
-      ∙ (rw (take-met (k + 1) k (omega arith), met_at (k + 1) k (g (row k) (column k)) (omega arith)) refl)
-
-  -- one entry fewer that is fine, or that has the error
-  pub fine_entry : (e : Kind) (k : ℕ) (x : A) → g (row k) (column k) ≡ Ok x → last_error_or e (met g row column (k + 1)) ≡ last_error_or e (met g row column k)
-  fine_entry e k x here = ap (last_error_or e) (met_more k ∙ ap (λ r. met g row column k ++ r ∷ []) here) ∙ last_fine e (met g row column k) x
-
-  pub failed_entry : (e : Kind) (k : ℕ) (j : Kind) → g (row k) (column k) ≡ Err j → last_error_or e (met g row column (k + 1)) ≡ j
-  failed_entry e k j here = ap (last_error_or e) (met_more k ∙ ap (λ r. met g row column k ++ r ∷ []) here) ∙ last_failed e (met g row column k) j
+  met_at count k d h = first_at (λ k. g (row k) (column k)) count k d h

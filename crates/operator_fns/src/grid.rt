@@ -56,13 +56,15 @@ impl<'a, F: TwoNumbers, G: TwoNumbers> NumberRule for Cells<'a, F, G> {
             stride: grid.column_stride,
         };
         let lines = NumberLines {
+            fold: self.fold,
+            each: self.each,
             left: self.left,
             row,
             right: self.right,
             column,
             count: grid.count,
         };
-        fold_row(self.fold, self.each, &lines)
+        fold_row(&lines)
     }
 }
 

@@ -14,7 +14,7 @@ ghost use Rattle.operator_fns.specs.RowByColumn.{entry, IsInside, grid_of};
 
 use crate::grid::{Grid, grid_products};
 use crate::right_fold::{identity_item, stride};
-use crate::row_by_column::{ItemLines, StridedLine, fold_row_of_items};
+use crate::row_by_column::{ItemLines, StridedLine, fold_row};
 use arrays_core::{
     ApplyFault, Array, Item, ItemType, Kind, MOST_AXES, Shape, append_axes, position, shape_of,
     size, with_axis,
@@ -183,13 +183,15 @@ impl Inner {
         let row = row_line(left, front, count);
         let column = column_line(right, back, count);
         let lines = ItemLines {
+            fold: self.fold,
+            each: self.each,
             left,
             row,
             right,
             column,
             count: count as usize,
         };
-        fold_row_of_items(self.fold, self.each, &lines)
+        fold_row(&lines)
     }
 
     /// The rows of A folded with the columns of B.

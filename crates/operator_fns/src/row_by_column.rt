@@ -1,11 +1,13 @@
-//! A row and a column taken entry by entry and folded: of numbers, and of items.
+//! A row and a column that meet entry by entry, and the fold of what a function gives there: of numbers, and of items.
 
-ghost use Rattle.std.specs.Prelude.{◌≡◌, ◌<◌, ◌≤◌, pos, length, IfOk};
+ghost use Rattle.std.specs.Prelude.{◌≡◌, ◌<◌, ◌≤◌, ℕ, Result, pos, map, length, IfOk};
+ghost use Rattle.std.specs.List.{range_with_len};
 ghost use Rattle.arrays_core.specs.Limits.{most_places};
 ghost use Rattle.arrays_core.specs.Items.{fill, type_of};
 ghost use Rattle.arrays_core.specs.declared.item.ItemType.TheVariants.{Nums};
+ghost use Rattle.arrays_core.specs.declared.item.Kind.{Kind as AKind};
 ghost use Rattle.scalar_fns.specs.Items.{dyadic_on_items};
-ghost use Rattle.operator_fns.specs.RowByColumn.{entry, IsInside, met, last_error_or, folded_all};
+ghost use Rattle.operator_fns.specs.RowByColumn.{entry, IsInside, last_error_or, folded_all};
 
 use arrays_core::{Item, Kind};
 use index_region::Seen;
@@ -21,9 +23,72 @@ pub(crate) struct StridedLine {
     pub(crate) stride: usize,
 }
 
+/// A row and a column that meet: what a function gives at each place, and how that is folded.
+pub(crate) trait Meeting {
+    /// What the function gives, and the fold.
+    type Output: Copy;
+
+    ghost places: { Self → ℕ };
+
+    ghost met: { Self → ℕ → Result Self.Output AKind };
+
+    ghost fold: { Self → Self.Output → Self.Output → Result Self.Output AKind };
+
+    ghost is_output: { Self → Self.Output → Type 0 };
+
+    /// How many places there are.
+    fn count(&self) -> usize
+        ensures { result ≡ places self.now };
+
+    /// What the function gives at a place.
+    fn met_at(&self, place: usize) -> Result<Self::Output, Kind>
+        requires { place < places self.now }
+        ensures is { result ≡ met self.now place }
+        ensures typed { IfOk result (is_output self.now) };
+
+    /// What it gives at a place, folded with what comes of the later places.
+    fn folded(&self, here: Self::Output, later: Self::Output) -> Result<Self::Output, Kind>
+        ensures is { result ≡ fold self.now here later }
+        ensures typed { IfOk result (is_output self.now) };
+}
+
+/// The error of the last of the first `count` places where the function has one, or another error.
+fn last_error<M: Meeting>(lines: &M, count: usize, error: Kind) -> Kind
+    requires { count ≤ M.places lines.now }
+    ensures { result ≡ last_error_or error (map (M.met lines.now) (range_with_len 0 count)) }
+{
+    for place in (0..count).rev() {
+        if let Err(kind) = lines.met_at(place) {
+            return kind;
+        }
+    }
+    error
+}
+
+/// The right fold of what a function gives where a row and a column meet. It is folded on the way from the
+/// last place to the first; where the fold has an error, the places before it are still looked at.
+pub(crate) fn fold_row<M: Meeting>(lines: &M) -> Result<M::Output, Kind>
+    requires { 1 ≤ M.places lines.now }
+    ensures is { result ≡ folded_all (M.fold lines.now) (map (M.met lines.now) (range_with_len 0 (M.places lines.now))) }
+    ensures typed { IfOk result (M.is_output lines.now) }
+{
+    let last = lines.count() - 1;
+    let mut result = lines.met_at(last)?;
+    for place in (0..last).rev() {
+        let here = lines.met_at(place)?;
+        result = match lines.folded(here, result) {
+            Ok(folded) => folded,
+            Err(kind) => return Err(last_error(lines, place, kind)),
+        };
+    }
+    Ok(result)
+}
+
 /// A row of one list of numbers and a column of another, each of `count` entries.
 #[derive(Drop)]
-pub(crate) struct NumberLines<'a> {
+pub(crate) struct NumberLines<'a, F: TwoNumbers, G: TwoNumbers> {
+    pub(crate) fold: &'a F,
+    pub(crate) each: &'a G,
     pub(crate) left: &'a [i64],
     pub(crate) row: StridedLine,
     pub(crate) right: &'a [i64],
@@ -33,55 +98,39 @@ pub(crate) struct NumberLines<'a> {
     ghost in_right: { IsInside column count (length right.now) },
 }
 
-/// What a function gives where a row and a column of numbers meet.
-#[inline]
-fn number_met<G: TwoNumbers>(each: &G, lines: &NumberLines, place: usize) -> Result<i64, Kind>
-    requires { place < lines.now.count }
-    ensures { result ≡ G.gives each.now (entry (pos 0) lines.now.left.now lines.now.row place) (entry (pos 0) lines.now.right.now lines.now.column place) }
-{
-    let number = lines.left[lines.row.first + place * lines.row.stride];
-    let other = lines.right[lines.column.first + place * lines.column.stride];
-    each.at(number, other)
-}
+impl<'a, F: TwoNumbers, G: TwoNumbers> Meeting for NumberLines<'a, F, G> {
+    type Output = i64;
 
-/// The error of the last of the first `count` places where the function has one, or another error.
-fn number_error<G: TwoNumbers>(each: &G, lines: &NumberLines, count: usize, error: Kind) -> Kind
-    requires { count ≤ lines.now.count }
-    ensures { result ≡ last_error_or error (met (G.gives each.now) (entry (pos 0) lines.now.left.now lines.now.row) (entry (pos 0) lines.now.right.now lines.now.column) count) }
-{
-    for place in (0..count).rev() {
-        if let Err(kind) = number_met(each, lines, place) {
-            return kind;
-        }
-    }
-    error
-}
+    ghost places = { λ r. r.count };
 
-/// The right fold of what a function gives where a row and a column of numbers meet. It is folded on the
-/// way from the last place to the first; where the fold has an error, the places before it are still
-/// looked at.
-pub(crate) fn fold_row<F: TwoNumbers, G: TwoNumbers>(
-    fold: &F,
-    each: &G,
-    lines: &NumberLines,
-) -> Result<i64, Kind>
-    requires { 1 ≤ lines.now.count }
-    ensures { result ≡ folded_all (F.gives fold.now) (met (G.gives each.now) (entry (pos 0) lines.now.left.now lines.now.row) (entry (pos 0) lines.now.right.now lines.now.column) lines.now.count) }
-{
-    let mut result = number_met(each, lines, lines.count - 1)?;
-    for place in (0..lines.count - 1).rev() {
-        let number = number_met(each, lines, place)?;
-        result = match fold.at(number, result) {
-            Ok(folded) => folded,
-            Err(kind) => return Err(number_error(each, lines, place, kind)),
-        };
+    ghost met = { λ r place. G.gives r.each.now (entry (pos 0) r.left.now r.row place) (entry (pos 0) r.right.now r.column place) };
+
+    ghost fold = { λ r. F.gives r.fold.now };
+
+    ghost is_output = { λ _ _. Unit {0} };
+
+    fn count(&self) -> usize {
+        self.count
     }
-    Ok(result)
+
+    #[inline]
+    fn met_at(&self, place: usize) -> Result<i64, Kind> {
+        let number = self.left[self.row.first + place * self.row.stride];
+        let other = self.right[self.column.first + place * self.column.stride];
+        self.each.at(number, other)
+    }
+
+    #[inline]
+    fn folded(&self, here: i64, later: i64) -> Result<i64, Kind> {
+        self.fold.at(here, later)
+    }
 }
 
 /// A row of one array and a column of another, each of `count` entries.
 #[derive(Drop)]
 pub(crate) struct ItemLines<'a, 'b, 'c> {
+    pub(crate) fold: Scalar2,
+    pub(crate) each: Scalar2,
     pub(crate) left: &'a Seen<'b>,
     pub(crate) row: StridedLine,
     pub(crate) right: &'a Seen<'c>,
@@ -93,50 +142,30 @@ pub(crate) struct ItemLines<'a, 'b, 'c> {
     ghost right_few: { length right.now.items ≤ most_places },
 }
 
-/// What a function gives where a row and a column of items meet.
-fn item_met(each: Scalar2, lines: &ItemLines, place: usize) -> Result<Item, Kind>
-    requires { place < lines.now.count }
-    ensures is { result ≡ dyadic_on_items each (entry (fill lines.now.left.now.item_type) lines.now.left.now.items lines.now.row place) (entry (fill lines.now.right.now.item_type) lines.now.right.now.items lines.now.column place) }
-    ensures typed { IfOk result (λ x. type_of x ≡ Nums) }
-{
-    let before = lines.row.first + place * lines.row.stride;
-    let item = lines.left.item(before as u32 + 1);
-    let before = lines.column.first + place * lines.column.stride;
-    let other = lines.right.item(before as u32 + 1);
-    two(each, item, other)
-}
+impl<'a, 'b, 'c> Meeting for ItemLines<'a, 'b, 'c> {
+    type Output = Item;
 
-/// The error of the last of the first `count` places where the function has one, or another error.
-fn item_error(each: Scalar2, lines: &ItemLines, count: usize, error: Kind) -> Kind
-    requires { count ≤ lines.now.count }
-    ensures { result ≡ last_error_or error (met (dyadic_on_items each) (entry (fill lines.now.left.now.item_type) lines.now.left.now.items lines.now.row) (entry (fill lines.now.right.now.item_type) lines.now.right.now.items lines.now.column) count) }
-{
-    for place in (0..count).rev() {
-        if let Err(kind) = item_met(each, lines, place) {
-            return kind;
-        }
-    }
-    error
-}
+    ghost places = { λ r. r.count };
 
-/// The right fold of what a function gives where a row and a column of items meet, in the order of that
-/// of numbers.
-pub(crate) fn fold_row_of_items(
-    fold: Scalar2,
-    each: Scalar2,
-    lines: &ItemLines,
-) -> Result<Item, Kind>
-    requires { 1 ≤ lines.now.count }
-    ensures is { result ≡ folded_all (dyadic_on_items fold) (met (dyadic_on_items each) (entry (fill lines.now.left.now.item_type) lines.now.left.now.items lines.now.row) (entry (fill lines.now.right.now.item_type) lines.now.right.now.items lines.now.column) lines.now.count) }
-    ensures typed { IfOk result (λ x. type_of x ≡ Nums) }
-{
-    let mut result = item_met(each, lines, lines.count - 1)?;
-    for place in (0..lines.count - 1).rev() {
-        let item = item_met(each, lines, place)?;
-        result = match two(fold, item, result) {
-            Ok(folded) => folded,
-            Err(kind) => return Err(item_error(each, lines, place, kind)),
-        };
+    ghost met = { λ r place. dyadic_on_items r.each (entry (fill r.left.now.item_type) r.left.now.items r.row place) (entry (fill r.right.now.item_type) r.right.now.items r.column place) };
+
+    ghost fold = { λ r. dyadic_on_items r.fold };
+
+    ghost is_output = { λ _ item. type_of item ≡ Nums };
+
+    fn count(&self) -> usize {
+        self.count
     }
-    Ok(result)
+
+    fn met_at(&self, place: usize) -> Result<Item, Kind> {
+        let before = self.row.first + place * self.row.stride;
+        let item = self.left.item(before as u32 + 1);
+        let before = self.column.first + place * self.column.stride;
+        let other = self.right.item(before as u32 + 1);
+        two(self.each, item, other)
+    }
+
+    fn folded(&self, here: Item, later: Item) -> Result<Item, Kind> {
+        two(self.fold, here, later)
+    }
 }

@@ -44,6 +44,6 @@ returns-clause-is c =
     let same = products_met c.args.self.each a b row column left right count c.inner_length-count.ensures
     (rw (c.split_at.ensures.front, c.row_rank.ensures) at c.row_line-row.ensures.is)
     (rw (c.split_at.ensures.back, c.row_rank.ensures) at c.column_line-column.ensures.is) in
-    c.fold_row_of_items.ensures.is
+    c.fold_row.ensures.is
     ∙ sym (ap (λ rs. and_then (all_or_last_error rs) (fold_right c.args.self.fold)) same
     ∙ fold_of_some c.args.self.fold (met (dyadic_on_items c.args.self.each) left right count) (omega arith))
