@@ -4,7 +4,7 @@ ghost use Rattle.std.specs.Prelude.{◌≡◌, ◌+◌, ◌-◌, ◌≤◌, ◌<
 ghost use Rattle.std.specs.List.{list_all};
 ghost use Rattle.arrays_core.specs.Limits.{most_axes};
 ghost use Rattle.arrays_core.specs.Shapes.{IsWithinLimits, size as size_of};
-ghost use Rattle.index_region.specs.Boxes.{is_box, box_size, box_offset, is_within, hull_of as hull, meet_of as meet, met, unless_empty, walk_at, cover as covering, cover_between};
+ghost use Rattle.index_region.specs.Boxes.{fits, is_box, box_size, box_offset, is_within, hull_of as hull, meet_of as meet, met, unless_empty, walk_at, cover as covering, cover_between};
 
 use crate::index_list::IndexList;
 use crate::intervals::{Intervals, hull_of, meet_of};
@@ -155,6 +155,13 @@ impl IndexBox {
         index.advance(self.as_slice());
     }
 
+    /// The box lies in a shape.
+    pub fn lies_in(&self, axes: &[u32]) -> bool
+        ensures { result ≡ fits self.now axes.now }
+    {
+        are_on(self.as_slice(), axes)
+    }
+
     /// The index list lies in the box.
     pub fn contains(&self, index: &[u32]) -> bool
         ensures { result ≡ is_within self.now index.now }
@@ -207,6 +214,19 @@ fn covered(axes: &[u32], from: &[u32], to: &[u32]) -> Intervals
         }
     }
     intervals
+}
+
+/// Each interval lies on its axis, and is not empty.
+fn are_on(intervals: &[(u32, u32)], axes: &[u32]) -> bool
+    ensures { result ≡ fits intervals.now axes.now }
+{
+    match (intervals, axes) {
+        ([(first, last), intervals @ ..], [length, axes @ ..]) => {
+            1 <= *first && *first <= *last && *last <= *length && are_on(intervals, axes)
+        }
+        ([], []) => true,
+        _ => false,
+    }
 }
 
 fn is_inside(intervals: &[(u32, u32)], index: &[u32]) -> bool

@@ -1,7 +1,6 @@
 //! Arrays, and what a rule reaches where a box of one of them changed.
 
-ghost use Rattle.std.specs.Prelude.{◌≡◌, length};
-ghost use Rattle.arrays_core.specs.Shapes.{IsWithinLimits};
+ghost use Rattle.std.specs.Prelude.{◌≡◌, IfSome, IsTrue, length};
 ghost use Rattle.index_region.specs.Boxes.{fits};
 
 use arrays_core::{Array, ItemType, is_within_limits, shape_of};
@@ -32,7 +31,7 @@ pub(crate) fn lies_in(intervals: &[(u32, u32)], axes: &[u32]) -> bool
 
 /// The box of a list of intervals, if it is one and lies in the array.
 fn box_in(array: &Array, intervals: &[(u32, u32)]) -> Option<IndexBox>
-    ensures { IfSome result (λ b. fits b array.now.shape ≡ true) }
+    ensures { IfSome result (λ b. IsTrue (fits b array.now.shape)) }
 {
     let region = IndexBox::of(intervals)?;
     if lies_in(region.as_slice(), array.shape().as_slice()) {
