@@ -16,25 +16,12 @@ pub(crate) fn zeros(alloc: Global, axes: &[u32]) -> Option<Array> {
     Array::filled(alloc, ItemType::Nums, &shape_of(alloc, axes)).ok()
 }
 
-/// The box lies in the shape.
-pub(crate) fn lies_in(intervals: &[(u32, u32)], axes: &[u32]) -> bool
-    ensures { result ≡ fits intervals.now axes.now }
-{
-    match (intervals, axes) {
-        ([(first, last), intervals @ ..], [n, axes @ ..]) => {
-            1 <= *first && *first <= *last && *last <= *n && lies_in(intervals, axes)
-        }
-        ([], []) => true,
-        _ => false,
-    }
-}
-
 /// The box of a list of intervals, if it is one and lies in the array.
 fn box_in(array: &Array, intervals: &[(u32, u32)]) -> Option<IndexBox>
     ensures { IfSome result (λ b. IsTrue (fits b array.now.shape)) }
 {
     let region = IndexBox::of(intervals)?;
-    if lies_in(region.as_slice(), array.shape().as_slice()) {
+    if region.lies_in(array.shape().as_slice()) {
         Some(region)
     } else {
         None
