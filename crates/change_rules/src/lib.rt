@@ -6,4 +6,4 @@ mod evaluation;
 mod node;
 mod patch;
 
-pub use node::{refresh, refresh_loose};
+pub use node::refresh;

@@ -135,23 +135,5 @@ pub fn refresh<R: Tight>(
     ensures whole { IfOk result (λ d. BringsUpToDate (R.model rule.now) args.now old.now d) }
 {
     views_are_arrays(args);
-    refresh_loose(alloc, rule, args, old, meter)
-}
-
-/// The change of a node, from the changes of its arguments, by any rule: a patch holds items of the new result, and a
-/// whole is the new result, or the error of an item of it.
-pub fn refresh_loose<R: Rule>(
-    alloc: Global,
-    rule: &R,
-    args: &[(Seen, &Delta)],
-    old: &Result<Array, Fault>,
-    meter: &mut Meter,
-) -> Result<Delta, AllocError>
-    requires count { length args.now ≡ length (R.model rule.now).selectors }
-    requires fit { AllFit (views args.now) (moved args.now) }
-    ensures delta { IfOk result (λ d. d ≡ node_delta (R.model rule.now) args.now old.now) }
-    ensures ticks { meter.new ≤ meter.old + node_cost (R.model rule.now) args.now old.now }
-    ensures right { IfOk result (λ d. IsRight (R.model rule.now) (views args.now) d) }
-{
     change_of(alloc, rule, args, old, meter)
 }
