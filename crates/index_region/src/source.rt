@@ -18,8 +18,8 @@ pub enum Source {
 }
 
 /// The item of a source that lies in its argument, where the arguments are `left` and `right`; a function
-/// of one argument gives it as both. An argument without items is of no source, so it may have another
-/// type.
+/// whose items all come from one argument gives it as both. No place lies in an argument without items, so
+/// that may have another type.
 pub fn item_from<'a>(left: &Seen<'a>, right: &Seen<'a>, item_type: ItemType, source: Source) -> Item
     requires inside { IsSourceIn left.now right.now source }
     requires left_typed { has_items left.now ≡ true → left.now.item_type ≡ item_type }
