@@ -29,7 +29,11 @@ fn box_in(array: &Array, intervals: &[(u32, u32)]) -> Option<IndexBox>
 }
 
 /// What a rule of one argument reaches where a box of it changed.
-pub(crate) fn reach_of_one<R: Rule>(rule: &R, array: &Array, changed: &[(u32, u32)]) -> Option<Reach>
+pub(crate) fn reach_of_one<R: Rule>(
+    rule: &R,
+    array: &Array,
+    changed: &[(u32, u32)],
+) -> Option<Reach>
     requires { length (R.model rule.now).selectors ≡ 1 }
 {
     let region = box_in(array, changed)?;
@@ -37,7 +41,12 @@ pub(crate) fn reach_of_one<R: Rule>(rule: &R, array: &Array, changed: &[(u32, u3
 }
 
 /// What a rule of two arguments reaches where a box of the left one changed.
-pub(crate) fn reach_of_left<R: Rule>(rule: &R, left: &Array, right: &Array, changed: &[(u32, u32)]) -> Option<Reach>
+pub(crate) fn reach_of_left<R: Rule>(
+    rule: &R,
+    left: &Array,
+    right: &Array,
+    changed: &[(u32, u32)],
+) -> Option<Reach>
     requires { length (R.model rule.now).selectors ≡ 2 }
 {
     let region = box_in(left, changed)?;
@@ -46,7 +55,12 @@ pub(crate) fn reach_of_left<R: Rule>(rule: &R, left: &Array, right: &Array, chan
 }
 
 /// What a rule of two arguments reaches where a box of the right one changed.
-pub(crate) fn reach_of_right<R: Rule>(rule: &R, left: &Array, right: &Array, changed: &[(u32, u32)]) -> Option<Reach>
+pub(crate) fn reach_of_right<R: Rule>(
+    rule: &R,
+    left: &Array,
+    right: &Array,
+    changed: &[(u32, u32)],
+) -> Option<Reach>
     requires { length (R.model rule.now).selectors ≡ 2 }
 {
     let region = box_in(right, changed)?;

@@ -19,9 +19,14 @@ fn doubles_one_place(rt: HostRuntime) -> Result<(), Fail> {
         return Ok(());
     };
     let old: Result<Array, Fault> = Ok(Array::vector(alloc, vec![in alloc; 2, 4, 6]?)?);
-    let rule = EachDyadic { function: Scalar2::Times };
+    let rule = EachDyadic {
+        function: Scalar2::Times,
+    };
     let mut meter = Meter::new();
-    let args = [(Seen::patched(&numbers, laid), &moved), (Seen::plain(&two), &Delta::Same)];
+    let args = [
+        (Seen::patched(&numbers, laid), &moved),
+        (Seen::plain(&two), &Delta::Same),
+    ];
     let delta = refresh(alloc, &rule, &args, &old, &mut meter)?;
     assert_eq!(rt; meter.ticks(), 1);
     let Delta::Patch(found) = &delta else {
