@@ -1,1 +1,3 @@
 pub mod Indexing
+pub mod Tabled
+pub mod Rooted

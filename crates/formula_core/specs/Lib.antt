@@ -2,5 +2,7 @@
 pub mod Outcomes
 pub mod Meaning
 pub mod Values
+pub mod Tables
+pub mod FormulaTables
 -- What proofs and bodies use.
 pub mod Operands

@@ -4,10 +4,13 @@
 mod application;
 mod evaluation;
 mod formula;
+mod formula_table;
 mod literals;
 mod names;
 mod symbols;
+mod table;
 
 pub use evaluation::{Shows, evaluate};
 pub use formula::Formula;
+pub use formula_table::FormulaTable;
 pub use literals::array_of;

@@ -1,0 +1,96 @@
+-- A formula is its table.
+use Rattle.std.proofs.Common.{◌≡◌, ℕ, ◌+◌, ◌-◌, ◌<◌, true, false, List, [], ◌∷◌, ◌++◌, length, take, get_or, refl, sym, ap, ◌∙◌, subst, arith, append_assoc, inl, cond}
+use Rattle.std.specs.List.{count_by}
+use Rattle.std.proofs.lemmas.List.{length-append}
+use Rattle.std.proofs.lemmas.List.Sums.{sum_by-append, count_by_more_yes, count_by_more_no}
+use Rattle.apl_expr.specs.Trees.{Tree, Const, Name, Monad, Dyad, Index, Numbers}
+use Rattle.formula_core.specs.declared.table.Operand.TheVariants as operand
+use Rattle.formula_core.specs.declared.table.Node.{Node}
+use Rattle.formula_core.specs.declared.table.Node.TheVariants as node
+use Rattle.formula_core.specs.Meaning.{names_in}
+use Rattle.formula_core.specs.Tables.{inside, inside_positions, subtrees, tree_at, tree_of_node, trees_after, applies, IsTable, IsLowered}
+use Rattle.formula_core.specs.FormulaTables.{root_of, IsFormulaTable, IsTableOf, is_operation, operations}
+use Rattle.formula_core.proofs.Tabled.{trees_long, trees_more, table_more, at_last}
+
+-- a tree stands last among its subtrees
+abbrev pub before_root : Tree → List Tree
+before_root (Const c) = []
+before_root (Name x) = []
+before_root (Monad f b) = inside b
+before_root (Dyad f a b) = inside a ++ inside b
+before_root (Index a ps) = inside a ++ inside_positions ps
+
+pub root_last : (t : Tree) → subtrees t ≡ before_root t ++ t ∷ []
+root_last (Const c) = refl
+root_last (Name x) = refl
+root_last (Monad f b) = refl
+root_last (Dyad f a b) = sym (append_assoc (inside a) (inside b) (Dyad f a b ∷ []))
+root_last (Index a ps) = sym (append_assoc (inside a) (inside_positions ps) (Index a ps ∷ []))
+
+pub root_found : (names : List (List ℕ)) (nodes : List Node) (t : Tree) → trees_after names [] nodes ≡ subtrees t → root_of names nodes ≡ t
+root_found names nodes t is =
+    let long : length nodes - 1 ≡ length (before_root t) = omega (arith, trees_long names [] nodes, ap (λ ts. length ts) (is ∙ root_last t), length-append (before_root t) (t ∷ [])) in
+    ap (λ ts. tree_at ts (length nodes - 1)) (is ∙ root_last t) ∙ (ap (λ k. tree_at (before_root t ++ t ∷ []) k) long ∙ at_last (Const (Numbers [])) (before_root t) t [])
+
+append_none : {X : Type 0} (xs : List X) → xs ++ [] ≡ xs
+append_none [] = refl
+append_none (x ∷ xs) = ap (λ rest. x ∷ rest) (append_none xs)
+
+table_made : (names : List (List ℕ)) (nodes : List Node) (t : Tree) → names ≡ names_in t → trees_after names [] nodes ≡ subtrees t → IsTable (length names) 0 nodes → IsTableOf names nodes t
+table_made names nodes t named is table =
+    let root : root_of names nodes ≡ t = root_found names nodes t is in
+    record { formula = record { named = named ∙ ap names_in (sym root); trees = is ∙ ap subtrees (sym root); table = table; each = inl refl }; root = root }
+
+-- the trees where no further names follow
+plain : (names : List (List ℕ)) (nodes : List Node) (ts : List Tree) → trees_after (names ++ []) [] nodes ≡ ts → trees_after names [] nodes ≡ ts
+plain names nodes ts is = ap (λ ns. trees_after ns [] nodes) (sym (append_none names)) ∙ is
+
+below_none : (names : List (List ℕ)) (nodes : List Node) (k : ℕ) → trees_after (names ++ []) [] nodes ≡ [] → k < length nodes → ⊥
+below_none names nodes k is below = omega (arith, below, trees_long (names ++ []) [] nodes, ap (λ ts. length ts) is)
+
+pub rooted_node : (names : List (List ℕ)) (nodes : List Node) (t : Tree) (k : ℕ) → IsLowered [] names [] nodes t (operand.Node k) → IsTableOf names nodes t
+rooted_node names nodes (Name x) k l = absurd (below_none names nodes k (l.trees []) (l.below (length names) (omega arith)))
+rooted_node names nodes (Const c) k l = table_made names nodes (Const c) l.named (plain names nodes (inside (Const c)) (l.trees [])) (l.table (length names) (omega arith) tt)
+rooted_node names nodes (Monad f b) k l = table_made names nodes (Monad f b) l.named (plain names nodes (inside (Monad f b)) (l.trees [])) (l.table (length names) (omega arith) tt)
+rooted_node names nodes (Dyad f a b) k l = table_made names nodes (Dyad f a b) l.named (plain names nodes (inside (Dyad f a b)) (l.trees [])) (l.table (length names) (omega arith) tt)
+rooted_node names nodes (Index a ps) k l = table_made names nodes (Index a ps) l.named (plain names nodes (inside (Index a ps)) (l.trees [])) (l.table (length names) (omega arith) tt)
+
+pub rooted_name : (names : List (List ℕ)) (nodes new : List Node) (t : Tree) (k : ℕ) → IsLowered [] names [] nodes t (operand.Name k) → new ≡ nodes ++ node.Name k ∷ [] → IsTableOf names new t
+rooted_name names nodes new t k l is =
+    let x = get_or names k [] in
+    let name : t ≡ Name x = sym (ap (λ ns. Name (get_or ns k [])) (sym (append_none names)) ∙ l.stands []) in
+    let none : trees_after names [] nodes ≡ [] = plain names nodes (inside t) (l.trees []) ∙ ap inside name in
+    let long : length nodes ≡ 0 = omega (arith, trees_long names [] nodes, ap (λ ts. length ts) none) in
+    table_made names new t l.named
+    (ap (λ ns. trees_after names [] ns) is ∙ (trees_more names [] nodes (node.Name k ∷ []) ∙ (ap (λ ts. ts ++ Name x ∷ []) none ∙ ap subtrees (sym name))))
+    (subst (λ (ns : List Node). IsTable (length names) 0 ns) (sym is) (table_more (length names) 0 nodes (node.Name k) (l.table (length names) (omega arith) tt) (l.below (length names) (omega arith))))
+
+-- a node applies a function where its tree does
+node_applies : (names : List (List ℕ)) (trees : List Tree) (n : Node) → is_operation (tree_of_node names trees n) ≡ applies n
+node_applies names trees (node.Constant l) = refl
+node_applies names trees (node.Name k) = refl
+node_applies names trees (node.Monad f b) = refl
+node_applies names trees (node.Dyad f a b) = refl
+node_applies names trees (node.Index a ps) = refl
+
+applying : (names : List (List ℕ)) (trees : List Tree) (nodes : List Node) → count_by is_operation (trees_after names trees nodes) ≡ count_by is_operation trees + count_by applies nodes
+applying names trees [] = omega arith
+applying names trees (n ∷ nodes) =
+    let t = tree_of_node names trees n in
+    omega (
+      arith,
+      applying names (trees ++ t ∷ []) nodes,
+      sum_by-append (λ u. cond (is_operation u) 1 0) trees (t ∷ []),
+      sum_by-append (λ m. cond (applies m) 1 0) (n ∷ []) nodes,
+      ap (λ b. 0 + cond b 1 0) (node_applies names trees n),
+    )
+
+pub operations_counted : (names : List (List ℕ)) (nodes : List Node) (results : _) → IsFormulaTable names nodes results → count_by applies nodes ≡ operations (root_of names nodes)
+operations_counted names nodes results f = omega (arith, applying names [] nodes, ap (count_by is_operation) f.trees)
+
+-- one node more is counted, or not
+pub counted_yes : (nodes : List Node) (k c : ℕ) (n : Node) → c ≡ count_by applies (take k nodes) → k < length nodes → n ≡ get_or nodes k n → applies n ≡ true → c + 1 ≡ count_by applies (take (k + 1) nodes)
+counted_yes nodes k c n is below at true_then = ap (λ m. m + 1) is ∙ sym (count_by_more_yes applies nodes k n below (ap applies (sym at) ∙ true_then))
+
+pub counted_no : (nodes : List Node) (k c : ℕ) (n : Node) → c ≡ count_by applies (take k nodes) → k < length nodes → n ≡ get_or nodes k n → applies n ≡ false → c ≡ count_by applies (take (k + 1) nodes)
+counted_no nodes k c n is below at false_then = is ∙ sym (count_by_more_no applies nodes k n below (ap applies (sym at) ∙ false_then))

@@ -1,0 +1,89 @@
+use Rattle.std.proofs.Common.{◌∙◌, List, Option, map, take, sym, ap, subst}
+use Rattle.std.specs.Prelude.{IfOk}
+use Rattle.apl_expr.specs.Trees.{Tree, Const, Monad, Dyad, Index, tree_of, position_of, positions_of, literal_of}
+use Rattle.apl_expr.specs.declared.expr.Expr.{Expr}
+use Rattle.apl_expr.proofs.Rows.{tree_index}
+use Rattle.formula_core.specs.declared.table.Node.TheVariants as node
+use Rattle.formula_core.specs.Tables.{IsLowered, ArePositionsLowered}
+use Rattle.formula_core.proofs.Tabled.{lowered_const, lowered_monad, lowered_dyad, lowered_index, as_lowered, position_more, filled_position, empty_position}
+use Rattle.formula_core.proofs.table.+lower.Goals.{lower_positions-in-Some+in_ok-lower-in-Some, lower_positions-in-None}
+use Rattle.formula_core.proofs.table.+lower.Goals as goal
+
+pub lower-returns-in_ok-copy_of-in-Const : goal.lower-returns-in_ok-copy_of-in-Const
+lower-returns-in_ok-copy_of-in-Const t c =
+    let names = c.args.names.now.items in
+    let old = c.args.nodes.now.items in
+    let copy = c.in_ok-copy_of-in-Const.field-0 in
+    subst (λ (u : Tree). IfOk c.push.result (λ o. IsLowered names names old c.push.new.nodes.items u o)) (sym (ap tree_of c.in-Const.is))
+    (as_lowered names names old old c.push.new.nodes.items (node.Constant copy) (Const (literal_of c.in-Const.literal)) c.push.result c.push.ensures.nodes c.push.ensures.place
+    (λ is. lowered_const names old c.push.new.nodes.items c.in-Const.literal copy c.in_ok-copy_of-in-Const.ensures is))
+
+pub lower-returns-in_ok-right-in-Monad : goal.lower-returns-in_ok-right-in-Monad
+lower-returns-in_ok-right-in-Monad t c =
+    let names = c.args.names.now.items in
+    let names' = c.lower.new.names.items in
+    let old = c.args.nodes.now.items in
+    let mid = c.lower.new.nodes.items in
+    let right = c.in_ok-right-in-Monad.right in
+    let f = c.in-Monad.function in
+    let b = tree_of c.in-Monad.right.value in
+    subst (λ (u : Tree). IfOk c.push-in-Monad.result (λ o. IsLowered names names' old c.push-in-Monad.new.nodes.items u o)) (sym (ap tree_of c.in-Monad.is))
+    (as_lowered names names' old mid c.push-in-Monad.new.nodes.items (node.Monad f right) (Monad f b) c.push-in-Monad.result c.push-in-Monad.ensures.nodes c.push-in-Monad.ensures.place
+    (λ is. lowered_monad names names' old mid c.push-in-Monad.new.nodes.items f b right (subst (λ (e : Expr). IsLowered names names' old mid (tree_of e) right) c.deref.ensures c.in_ok-right-in-Monad.ensures) is))
+
+pub lower-returns-in_ok-right-in-Dyad : goal.lower-returns-in_ok-right-in-Dyad
+lower-returns-in_ok-right-in-Dyad t c =
+    let names = c.args.names.now.items in
+    let names' = c.lower-in-Dyad.new.names.items in
+    let names'' = c.lower-in-Dyad-2.new.names.items in
+    let old = c.args.nodes.now.items in
+    let mid = c.lower-in-Dyad.new.nodes.items in
+    let last = c.lower-in-Dyad-2.new.nodes.items in
+    let left = c.in_ok-left-in-Dyad.left in
+    let right = c.in_ok-right-in-Dyad.right in
+    let f = c.in-Dyad.function in
+    let a = tree_of c.in-Dyad.left.value in
+    let b = tree_of c.in-Dyad.right.value in
+    let new = c.push-in-Dyad.new.nodes.items in
+    subst (λ (u : Tree). IfOk c.push-in-Dyad.result (λ o. IsLowered names names'' old new u o)) (sym (ap tree_of c.in-Dyad.is))
+    (as_lowered names names'' old last new (node.Dyad f left right) (Dyad f a b) c.push-in-Dyad.result c.push-in-Dyad.ensures.nodes c.push-in-Dyad.ensures.place
+    (λ is. lowered_dyad names names' names'' old mid last new f a b left right
+    (subst (λ (e : Expr). IsLowered names names' old mid (tree_of e) left) c.deref-in-Dyad.ensures c.in_ok-left-in-Dyad.ensures)
+    (subst (λ (e : Expr). IsLowered names' names'' mid last (tree_of e) right) c.deref-in-Dyad-2.ensures c.in_ok-right-in-Dyad.ensures) is))
+
+pub lower-returns-in_ok-positions-in-Index : goal.lower-returns-in_ok-positions-in-Index
+lower-returns-in_ok-positions-in-Index t c =
+    let names = c.args.names.now.items in
+    let names' = c.lower-in-Index.new.names.items in
+    let names'' = c.lower_positions.new.names.items in
+    let old = c.args.nodes.now.items in
+    let mid = c.lower-in-Index.new.nodes.items in
+    let last = c.lower_positions.new.nodes.items in
+    let array = c.in_ok-operand-in-Index.operand in
+    let operands = c.in_ok-positions-in-Index.positions in
+    let a = tree_of c.in-Index.operand.value in
+    let ps = map position_of c.in-Index.positions.items in
+    let new = c.push-in-Index.new.nodes.items in
+    let made = ap tree_of c.in-Index.is ∙ tree_index c.in-Index.operand c.in-Index.positions in
+    let lowered : ArePositionsLowered names' names'' mid last ps operands.items =
+    subst (λ (xs : List (Option Expr)). ArePositionsLowered names' names'' mid last (map position_of xs) operands.items) c.deref-in-Index-2.ensures.value c.in_ok-positions-in-Index.ensures in
+    subst (λ (u : Tree). IfOk c.push-in-Index.result (λ o. IsLowered names names'' old new u o)) (sym made)
+    (as_lowered names names'' old last new (node.Index array operands) (Index a (positions_of ps)) c.push-in-Index.result c.push-in-Index.ensures.nodes c.push-in-Index.ensures.place
+    (λ is. lowered_index names names' names'' old mid last new a ps array operands (subst (λ (e : Expr). IsLowered names names' old mid (tree_of e) array) c.deref-in-Index.ensures c.in_ok-operand-in-Index.ensures) lowered is))
+
+pub lower_positions-loop-position-preserved : goal.lower_positions-loop-position-preserved
+lower_positions-loop-position-preserved t c =
+    let names = c.args.names.now.items in
+    let old = c.args.nodes.now.items in
+    let xs = c.args.positions.now in
+    let k = c.loop-position.position-index in
+    let x = c.position-item.result in
+    let os = c.loop-position.operands.items in
+    position_more names c.match-position.names.items old c.match-position.nodes.items xs k x os c.push.new.self.items c.match-position.operand c.loop-position-test.true c.position-item.is c.in_ok-push.ensures.items
+    (elim c.match-position.branch [
+      | lower_positions-in-Some+in_ok-lower-in-Some w ↦ rw (w.names-is, w.nodes-is, w.operand-is, w.in-Some.is)
+          (filled_position names c.loop-position.names.items w.lower.new.names.items old c.loop-position.nodes.items w.lower.new.nodes.items (map position_of (take k xs)) os (tree_of w.in-Some.tree) w.in_ok-lower-in-Some.field-0
+          c.loop-position.invariant w.in_ok-lower-in-Some.ensures)
+      | lower_positions-in-None w ↦ rw (w.names-is, w.nodes-is, w.operand-is, w.in-None.is)
+          (empty_position names c.loop-position.names.items old c.loop-position.nodes.items (map position_of (take k xs)) os c.loop-position.invariant)
+    ])

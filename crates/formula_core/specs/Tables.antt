@@ -1,0 +1,95 @@
+-- A formula as a table of nodes, each after those whose results it takes: what each node stands for.
+use Rattle.std.specs.Prelude.{◌≡◌, ◌<◌, ◌≤◌, ℕ, suc, List, [], ◌∷◌, ◌++◌, Bool, true, false, Option, Some, None, length, map, get_or}
+use Rattle.std.specs.Option.{option_map}
+use Rattle.apl_expr.specs.Trees.{Tree, Const, Name, Monad, Dyad, Index, Positions, NoPositions, Empty, Filled, Numbers, literal_of, positions_of}
+use Rattle.formula_core.specs.declared.table.Operand.{Operand}
+use Rattle.formula_core.specs.declared.table.Operand.TheVariants as operand
+use Rattle.formula_core.specs.declared.table.Node.{Node}
+use Rattle.formula_core.specs.declared.table.Node.TheVariants as node
+use Rattle.formula_core.specs.Meaning.{names_in, names_in_positions}
+
+abbrev mutual
+  -- the trees of the literals and operations in a tree, each after those in it; a name is lent, and has no node
+  pub inside : Tree → List Tree
+  inside (Const c) = Const c ∷ []
+  inside (Name x) = []
+  inside (Monad f b) = inside b ++ Monad f b ∷ []
+  inside (Dyad f a b) = inside a ++ (inside b ++ Dyad f a b ∷ [])
+  inside (Index a ps) = inside a ++ (inside_positions ps ++ Index a ps ∷ [])
+
+  pub inside_positions : Positions → List Tree
+  inside_positions NoPositions = []
+  inside_positions (Empty ps) = inside_positions ps
+  inside_positions (Filled e ps) = inside e ++ inside_positions ps
+
+-- the trees that have a node: those in a tree, the tree itself last, also where it is a name
+abbrev pub subtrees : Tree → List Tree
+subtrees (Name x) = Name x ∷ []
+subtrees t = inside t
+
+abbrev pub tree_at : List Tree → ℕ → Tree
+tree_at trees place = get_or trees place (Const (Numbers []))
+
+-- the tree of an argument, from the names and the trees of the nodes
+abbrev pub tree_of_operand : List (List ℕ) → List Tree → Operand → Tree
+tree_of_operand names trees (operand.Name place) = Name (get_or names place [])
+tree_of_operand names trees (operand.Node place) = tree_at trees place
+
+-- the tree of a node, from the names and the trees of the nodes before it
+abbrev pub tree_of_node : List (List ℕ) → List Tree → Node → Tree
+tree_of_node names trees (node.Constant literal) = Const (literal_of literal)
+tree_of_node names trees (node.Name place) = Name (get_or names place [])
+tree_of_node names trees (node.Monad f right) = Monad f (tree_of_operand names trees right)
+tree_of_node names trees (node.Dyad f left right) = Dyad f (tree_of_operand names trees left) (tree_of_operand names trees right)
+tree_of_node names trees (node.Index array positions) = Index (tree_of_operand names trees array) (positions_of (map (option_map (tree_of_operand names trees)) positions.items))
+
+-- it applies a function to arguments
+abbrev pub applies : Node → Bool
+applies (node.Constant literal) = false
+applies (node.Name place) = false
+applies _ = true
+
+-- the trees of further nodes, behind these
+abbrev pub trees_after : List (List ℕ) → List Tree → List Node → List Tree
+trees_after names trees [] = trees
+trees_after names trees (node ∷ nodes) = trees_after names (trees ++ tree_of_node names trees node ∷ []) nodes
+
+-- an argument is one of the names, or of the nodes before a place
+abbrev pub IsOperand : ℕ → ℕ → Operand → Type 0
+IsOperand names place (operand.Name k) = k < names
+IsOperand names place (operand.Node k) = k < place
+
+-- so is each that is written
+abbrev pub AreOperands : ℕ → ℕ → List (Option Operand) → Type 0
+AreOperands names place [] = Unit {0}
+AreOperands names place (None ∷ operands) = AreOperands names place operands
+AreOperands names place (Some o ∷ operands) = IsOperand names place o × AreOperands names place operands
+
+-- so are the arguments of the node at the place
+abbrev pub IsNode : ℕ → ℕ → Node → Type 0
+IsNode names place (node.Constant literal) = Unit {0}
+IsNode names place (node.Name k) = k < names
+IsNode names place (node.Monad f right) = IsOperand names place right
+IsNode names place (node.Dyad f left right) = IsOperand names place left × IsOperand names place right
+IsNode names place (node.Index array positions) = IsOperand names place array × AreOperands names place positions.items
+
+-- so are those of all nodes, the first of which stands at the place
+abbrev pub IsTable : ℕ → ℕ → List Node → Type 0
+IsTable names place [] = Unit {0}
+IsTable names place (node ∷ nodes) = IsNode names place node × IsTable names (suc place) nodes
+
+-- the names and nodes of a tree were added, and this argument stands for it, whatever names follow
+pub record IsLowered (names names' : List (List ℕ)) (nodes nodes' : List Node) (t : Tree) (operand : Operand) : Type 0 where
+  pub named : names' ≡ names ++ names_in t
+  pub trees : (later : List (List ℕ)) → trees_after (names' ++ later) [] nodes' ≡ trees_after (names' ++ later) [] nodes ++ inside t
+  pub stands : (later : List (List ℕ)) → tree_of_operand (names' ++ later) (trees_after (names' ++ later) [] nodes') operand ≡ t
+  pub table : (count : ℕ) → length names' ≤ count → IsTable count 0 nodes → IsTable count 0 nodes'
+  pub below : (count : ℕ) → length names' ≤ count → IsOperand count (length nodes') operand
+
+-- the same for the positions of an index
+pub record ArePositionsLowered (names names' : List (List ℕ)) (nodes nodes' : List Node) (positions : List (Option Tree)) (operands : List (Option Operand)) : Type 0 where
+  pub named : names' ≡ names ++ names_in_positions (positions_of positions)
+  pub trees : (later : List (List ℕ)) → trees_after (names' ++ later) [] nodes' ≡ trees_after (names' ++ later) [] nodes ++ inside_positions (positions_of positions)
+  pub stand : (later : List (List ℕ)) → map (option_map (tree_of_operand (names' ++ later) (trees_after (names' ++ later) [] nodes'))) operands ≡ positions
+  pub table : (count : ℕ) → length names' ≤ count → IsTable count 0 nodes → IsTable count 0 nodes'
+  pub below : (count : ℕ) → length names' ≤ count → AreOperands count (length nodes') operands

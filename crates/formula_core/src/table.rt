@@ -1,0 +1,121 @@
+//! The nodes of an expression, each after those whose results it takes.
+
+ghost use Rattle.std.specs.Prelude.{◌≡◌, ◌++◌, [], ◌∷◌, length, map, IfOk, OnOk};
+ghost use Rattle.apl_expr.specs.Trees.{tree_of, position_of, positions_of, literal_of};
+ghost use Rattle.formula_core.specs.declared.table.Operand.TheVariants.{Node as NodeAt};
+ghost use Rattle.formula_core.specs.Tables.{IsLowered, ArePositionsLowered, applies};
+
+use apl_expr::{Dyadic, Expr, Literal, Monadic};
+use apl_tokens::Name;
+use std::alloc::{AllocError, Global};
+
+/// What a node takes as an argument: what a name shows, by its place among the references, or the result of a node
+/// before it.
+#[derive(Clone, Copy, PartialEq, Eq, Debug)]
+pub(crate) enum Operand {
+    /// The name at this place of the references.
+    Name(usize),
+    /// The node at this place of the table.
+    Node(usize),
+}
+
+/// A node: a literal, an operation, or a name where that is the whole expression. A name inside an expression is no node.
+#[derive(Drop)]
+pub(crate) enum Node {
+    /// A literal.
+    Constant(Literal),
+    /// The name at this place of the references.
+    Name(usize),
+    /// A function of one argument.
+    Monad(Monadic, Operand),
+    /// A function of two arguments, the left one and the right one.
+    Dyad(Dyadic, Operand, Operand),
+    /// An array and the positions of its index, each of which may be empty.
+    Index(Operand, Vec<Option<Operand>>),
+}
+
+impl Node {
+    /// It applies a function to arguments.
+    pub(crate) fn applies(&self) -> bool
+        ensures { result ≡ applies self.now }
+    {
+        !matches!(self, Node::Constant(_) | Node::Name(_))
+    }
+}
+
+/// Adds the names and the nodes of an expression behind these, and tells what stands for it as an argument.
+#[cycle(lower)]
+pub(crate) fn lower(
+    alloc: Global,
+    names: &mut Vec<Name>,
+    nodes: &mut Vec<Node>,
+    tree: &Expr,
+) -> Result<Operand, AllocError>
+    ensures { IfOk result (λ operand. IsLowered names.old.items names.new.items nodes.old.items nodes.new.items (tree_of tree.now) operand) }
+{
+    match tree {
+        Expr::Const(literal) => push(nodes, Node::Constant(copy_of(alloc, literal)?)),
+        Expr::Name(name) => {
+            let place = names.len();
+            names.push(*name)?;
+            Ok(Operand::Name(place))
+        }
+        Expr::Monad(function, right) => {
+            let right = lower(alloc, names, nodes, right)?;
+            push(nodes, Node::Monad(*function, right))
+        }
+        Expr::Dyad(function, left, right) => {
+            let left = lower(alloc, names, nodes, left)?;
+            let right = lower(alloc, names, nodes, right)?;
+            push(nodes, Node::Dyad(*function, left, right))
+        }
+        Expr::Index(operand, positions) => {
+            let operand = lower(alloc, names, nodes, operand)?;
+            let positions = lower_positions(alloc, names, nodes, positions)?;
+            push(nodes, Node::Index(operand, positions))
+        }
+    }
+}
+
+/// The same for the positions of an index, from the left.
+#[cycle(lower)]
+fn lower_positions(
+    alloc: Global,
+    names: &mut Vec<Name>,
+    nodes: &mut Vec<Node>,
+    positions: &[Option<Expr>],
+) -> Result<Vec<Option<Operand>>, AllocError>
+    ensures { IfOk result (λ operands. ArePositionsLowered names.old.items names.new.items nodes.old.items nodes.new.items (map position_of positions.now) operands.items) }
+{
+    let mut operands = Vec::new(alloc);
+    for position in positions {
+        let operand = match position {
+            Some(tree) => Some(lower(alloc, names, nodes, tree)?),
+            None => None,
+        };
+        operands.push(operand)?;
+    }
+    Ok(operands)
+}
+
+/// Adds a node, and tells what stands for it as an argument.
+fn push(nodes: &mut Vec<Node>, node: Node) -> Result<Operand, AllocError>
+    ensures nodes { OnOk result (nodes.new.items ≡ nodes.old.items ++ node ∷ []) }
+    ensures place { IfOk result (λ operand. operand ≡ NodeAt (length nodes.old.items)) }
+{
+    let place = nodes.len();
+    nodes.push(node)?;
+    Ok(Operand::Node(place))
+}
+
+/// Another literal that says the same.
+fn copy_of(alloc: Global, literal: &Literal) -> Result<Literal, AllocError>
+    ensures { IfOk result (λ copy. literal_of copy ≡ literal_of literal.now) }
+{
+    match literal {
+        Literal::Num(number) => Ok(Literal::Num(*number)),
+        Literal::Nums(numbers) => Ok(Literal::Nums(numbers.to_vec(alloc)?)),
+        Literal::Char(character) => Ok(Literal::Char(*character)),
+        Literal::Text(characters) => Ok(Literal::Text(characters.to_vec(alloc)?)),
+    }
+}
