@@ -1,3 +1,4 @@
 pub mod Indexing
 pub mod Tabled
 pub mod Rooted
+pub mod Meant

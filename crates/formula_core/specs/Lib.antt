@@ -4,5 +4,6 @@ pub mod Meaning
 pub mod Values
 pub mod Tables
 pub mod FormulaTables
+pub mod Rules
 -- What proofs and bodies use.
 pub mod Operands

@@ -7,6 +7,7 @@ mod formula;
 mod formula_table;
 mod literals;
 mod names;
+mod refreshing;
 mod symbols;
 mod table;
 

@@ -1,0 +1,6 @@
+use Rattle.std.proofs.Common.{◌∙◌, sym}
+use Rattle.selection_rules.specs.IndexLaw.{length-selectors}
+use Rattle.formula_core.proofs.refreshing.Operation.of_positions.Goals as goal
+
+pub by-requires-clause-count : goal.by-requires-clause-count
+by-requires-clause-count c = c.requires.count ∙ sym (length-selectors c.args.written.now)

@@ -1,0 +1,67 @@
+-- The change rule of each function of an expression.
+use Rattle.std.specs.Prelude.{◌≡◌, ◌+◌, ◌≤◌, ℕ, List, Result, IfOk}
+use Rattle.std.specs.declared.alloc.AllocError.{AllocError}
+use Rattle.apl_expr.specs.declared.expr.Monadic.{Monadic}
+use Rattle.apl_expr.specs.declared.expr.Monadic.TheVariants as monadic
+use Rattle.apl_expr.specs.declared.expr.Dyadic.{Dyadic}
+use Rattle.apl_expr.specs.declared.expr.Dyadic.TheVariants as dyadic
+use Rattle.change_core.specs.RuleModels.{RuleModel}
+use Rattle.index_region.specs.declared.delta.Delta.{Delta}
+use Rattle.change_rules.specs.Nodes.{Argument, node_delta, node_cost}
+use Rattle.change_rules.specs.Outcomes.{Outcome}
+use Rattle.scalar_rules.specs.EachMonadic.{each_monadic_rule}
+use Rattle.scalar_rules.specs.EachDyadic.{each_dyadic_rule}
+use Rattle.structural_rules.specs.Reshape.{reshape_rule}
+use Rattle.structural_rules.specs.Ravel.{ravel_rule}
+use Rattle.structural_rules.specs.Catenate.{catenate_rule}
+use Rattle.structural_rules.specs.Take.{take_rule}
+use Rattle.structural_rules.specs.Drop.{drop_rule}
+use Rattle.structural_rules.specs.Reverse.{reverse_rule}
+use Rattle.structural_rules.specs.Rotate.{rotate_rule}
+use Rattle.structural_rules.specs.Transpose.{transpose_rule}
+use Rattle.structural_rules.specs.DyadicTranspose.{transpose_by_rule}
+use Rattle.selection_rules.specs.Shape.{shape_rule}
+use Rattle.selection_rules.specs.IndexGenerator.{generator_rule}
+use Rattle.selection_rules.specs.Replicate.{replicate_rule}
+use Rattle.selection_rules.specs.IndexOf.{index_of_rule}
+use Rattle.selection_rules.specs.Member.{member_rule}
+use Rattle.selection_rules.specs.Encode.{encode_rule}
+use Rattle.selection_rules.specs.Decode.{decode_rule}
+use Rattle.operator_rules.specs.Reduce.{reduce_rule}
+use Rattle.operator_rules.specs.Scan.{scan_rule}
+use Rattle.operator_rules.specs.OuterProduct.{outer_rule}
+use Rattle.operator_rules.specs.InnerProduct.{inner_rule}
+use Rattle.formula_core.specs.Meaning.{scalar1_of, scalar2_of, along_of}
+
+-- of a function of one array
+abbrev pub right_rule : Monadic → RuleModel
+right_rule (monadic.Scalar f) = each_monadic_rule (scalar1_of f)
+right_rule monadic.Ravel = ravel_rule
+right_rule (monadic.Reverse k) = reverse_rule (along_of k)
+right_rule monadic.Transpose = transpose_rule
+right_rule monadic.Shape = shape_rule
+right_rule monadic.Iota = generator_rule
+right_rule (monadic.Reduce f k) = reduce_rule (scalar2_of f) (along_of k)
+right_rule (monadic.Scan f k) = scan_rule (scalar2_of f) (along_of k)
+
+-- of a function of two arrays
+abbrev pub both_rule : Dyadic → RuleModel
+both_rule (dyadic.Scalar f) = each_dyadic_rule (scalar2_of f)
+both_rule dyadic.Reshape = reshape_rule
+both_rule (dyadic.Catenate k) = catenate_rule (along_of k)
+both_rule dyadic.Take = take_rule
+both_rule dyadic.Drop = drop_rule
+both_rule (dyadic.Rotate k) = rotate_rule (along_of k)
+both_rule dyadic.Transpose = transpose_by_rule
+both_rule (dyadic.Replicate k) = replicate_rule (along_of k)
+both_rule dyadic.IndexOf = index_of_rule
+both_rule dyadic.Member = member_rule
+both_rule dyadic.Encode = encode_rule
+both_rule dyadic.Decode = decode_rule
+both_rule (dyadic.Outer f) = outer_rule (scalar2_of f)
+both_rule (dyadic.Inner f g) = inner_rule (scalar2_of f) (scalar2_of g)
+
+-- what the refresh of an operation answers by its rule, and how far the meter rises by it
+pub record IsRefreshed (rule : RuleModel) (args : List Argument) (held : Outcome) (before after : ℕ) (r : Result Delta AllocError) : Type 0 where
+  pub delta : IfOk r (λ d. d ≡ node_delta rule args held)
+  pub ticks : after ≤ before + node_cost rule args held

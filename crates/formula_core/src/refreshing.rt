@@ -1,0 +1,215 @@
+//! The change of an operation, from the changes of its arguments.
+
+ghost use Rattle.std.specs.Prelude.{◌≡◌, suc, length};
+ghost use Rattle.change_core.specs.Reaches.{AllFit};
+ghost use Rattle.change_rules.specs.Nodes.{views, moved};
+ghost use Rattle.selection_fns.specs.Index.{count_written};
+ghost use Rattle.selection_rules.specs.Index.{index_rule};
+ghost use Rattle.formula_core.specs.Meaning.{scalar1_of, scalar2_of, along_of};
+ghost use Rattle.formula_core.specs.Rules.{right_rule, both_rule, IsRefreshed};
+
+use crate::symbols::{along_of, scalar1_of, scalar2_of};
+use apl_expr::{Along, Dyadic, Monadic, ScalarDyad, ScalarMonad};
+use arrays_core::{Array, Fault};
+use change_core::{Meter, Rule};
+use change_rules::refresh_loose;
+use index_region::{Delta, Seen};
+use operator_fns::{Inner, Outer, Reduce, Scan};
+use operator_rules::Ruled as OperatorRule;
+use scalar_rules::{EachDyadic, EachMonadic};
+use selection_fns::{Decode, Encode, Index, IndexGenerator, IndexOf, Member, Replicate, ShapeOf};
+use selection_rules::Ruled as SelectionRule;
+use std::alloc::{AllocError, Global};
+use structural_fns::{
+    Catenate, DropPlaces, DyadicTranspose, Ravel, Reshape, Reverse, Rotate, Take, Transpose,
+};
+use structural_rules::Ruled as StructuralRule;
+
+/// The arguments of an operation as they are now, each with what changed of it, and what the operation gave before.
+#[derive(Drop)]
+pub(crate) struct Operation<'a> {
+    /// What new items are made with.
+    pub(crate) alloc: Global,
+    /// The arguments.
+    pub(crate) args: &'a [(Seen<'a>, &'a Delta)],
+    /// What it gave before.
+    pub(crate) held: &'a Result<Array, Fault>,
+}
+
+impl<'a> Operation<'a> {
+    /// Its change, where it follows this rule.
+    fn by<R: Rule>(&self, rule: &R, meter: &mut Meter) -> Result<Delta, AllocError>
+        requires count { length self.now.args.now ≡ length (R.model rule.now).selectors }
+        requires fit { AllFit (views self.now.args.now) (moved self.now.args.now) }
+        ensures { IsRefreshed (R.model rule.now) self.now.args.now self.now.held.now meter.old meter.new result }
+    {
+        refresh_loose(self.alloc, rule, self.args, self.held, meter)
+    }
+
+    /// The change of a function of one argument.
+    pub(crate) fn of_right(&self, function: Monadic, meter: &mut Meter) -> Result<Delta, AllocError>
+        requires count { length self.now.args.now ≡ 1 }
+        requires fit { AllFit (views self.now.args.now) (moved self.now.args.now) }
+        ensures { IsRefreshed (right_rule function) self.now.args.now self.now.held.now meter.old meter.new result }
+    {
+        match function {
+            Monadic::Scalar(scalar) => self.by(&each_item(scalar), meter),
+            Monadic::Ravel => self.by(&StructuralRule { function: Ravel }, meter),
+            Monadic::Reverse(along) => self.by(&reverse(along), meter),
+            Monadic::Transpose => self.by(
+                &StructuralRule {
+                    function: Transpose,
+                },
+                meter,
+            ),
+            Monadic::Shape => self.by(&SelectionRule { function: ShapeOf }, meter),
+            Monadic::Iota => self.by(
+                &SelectionRule {
+                    function: IndexGenerator,
+                },
+                meter,
+            ),
+            Monadic::Reduce(scalar, along) => self.by(&reduce(scalar, along), meter),
+            Monadic::Scan(scalar, along) => self.by(&scan(scalar, along), meter),
+        }
+    }
+
+    /// The change of a function of two arguments, the left one first.
+    pub(crate) fn of_both(&self, function: Dyadic, meter: &mut Meter) -> Result<Delta, AllocError>
+        requires count { length self.now.args.now ≡ 2 }
+        requires fit { AllFit (views self.now.args.now) (moved self.now.args.now) }
+        ensures { IsRefreshed (both_rule function) self.now.args.now self.now.held.now meter.old meter.new result }
+    {
+        match function {
+            Dyadic::Scalar(scalar) => self.by(&between_items(scalar), meter),
+            Dyadic::Reshape => self.by(&StructuralRule { function: Reshape }, meter),
+            Dyadic::Catenate(along) => self.by(&catenate(along), meter),
+            Dyadic::Take => self.by(&StructuralRule { function: Take }, meter),
+            Dyadic::Drop => self.by(
+                &StructuralRule {
+                    function: DropPlaces,
+                },
+                meter,
+            ),
+            Dyadic::Rotate(along) => self.by(&rotate(along), meter),
+            Dyadic::Transpose => self.by(
+                &StructuralRule {
+                    function: DyadicTranspose,
+                },
+                meter,
+            ),
+            Dyadic::Replicate(along) => self.by(&replicate(along), meter),
+            Dyadic::IndexOf => self.by(&SelectionRule { function: IndexOf }, meter),
+            Dyadic::Member => self.by(&SelectionRule { function: Member }, meter),
+            Dyadic::Encode => self.by(&SelectionRule { function: Encode }, meter),
+            Dyadic::Decode => self.by(&SelectionRule { function: Decode }, meter),
+            Dyadic::Outer(scalar) => self.by(&outer(scalar), meter),
+            Dyadic::Inner(fold, each) => self.by(&inner(fold, each), meter),
+        }
+    }
+
+    /// The change of an index: the array, and then the positions that are written.
+    pub(crate) fn of_positions(
+        &self,
+        written: &[bool],
+        meter: &mut Meter,
+    ) -> Result<Delta, AllocError>
+        requires count { length self.now.args.now ≡ suc (count_written written.now) }
+        requires fit { AllFit (views self.now.args.now) (moved self.now.args.now) }
+        ensures { IsRefreshed (index_rule written.now) self.now.args.now self.now.held.now meter.old meter.new result }
+    {
+        let function = Index { written };
+        self.by(&SelectionRule { function }, meter)
+    }
+}
+
+fn each_item(function: ScalarMonad) -> EachMonadic
+    ensures { result ≡ record { function = scalar1_of function } }
+{
+    EachMonadic {
+        function: scalar1_of(function),
+    }
+}
+
+fn between_items(function: ScalarDyad) -> EachDyadic
+    ensures { result ≡ record { function = scalar2_of function } }
+{
+    EachDyadic {
+        function: scalar2_of(function),
+    }
+}
+
+fn reverse(along: Along) -> StructuralRule<Reverse>
+    ensures { result ≡ record { function = record { along = along_of along } } }
+{
+    let function = Reverse {
+        along: along_of(along),
+    };
+    StructuralRule { function }
+}
+
+fn catenate(along: Along) -> StructuralRule<Catenate>
+    ensures { result ≡ record { function = record { along = along_of along } } }
+{
+    let function = Catenate {
+        along: along_of(along),
+    };
+    StructuralRule { function }
+}
+
+fn rotate(along: Along) -> StructuralRule<Rotate>
+    ensures { result ≡ record { function = record { along = along_of along } } }
+{
+    let function = Rotate {
+        along: along_of(along),
+    };
+    StructuralRule { function }
+}
+
+fn replicate(along: Along) -> SelectionRule<Replicate>
+    ensures { result ≡ record { function = record { along = along_of along } } }
+{
+    let function = Replicate {
+        along: along_of(along),
+    };
+    SelectionRule { function }
+}
+
+fn reduce(function: ScalarDyad, along: Along) -> OperatorRule<Reduce>
+    ensures { result ≡ record { function = record { function = scalar2_of function; along = along_of along } } }
+{
+    let function = Reduce {
+        function: scalar2_of(function),
+        along: along_of(along),
+    };
+    OperatorRule { function }
+}
+
+fn scan(function: ScalarDyad, along: Along) -> OperatorRule<Scan>
+    ensures { result ≡ record { function = record { function = scalar2_of function; along = along_of along } } }
+{
+    let function = Scan {
+        function: scalar2_of(function),
+        along: along_of(along),
+    };
+    OperatorRule { function }
+}
+
+fn outer(function: ScalarDyad) -> OperatorRule<Outer>
+    ensures { result ≡ record { function = record { function = scalar2_of function } } }
+{
+    let function = Outer {
+        function: scalar2_of(function),
+    };
+    OperatorRule { function }
+}
+
+fn inner(fold: ScalarDyad, each: ScalarDyad) -> OperatorRule<Inner>
+    ensures { result ≡ record { function = record { fold = scalar2_of fold; each = scalar2_of each } } }
+{
+    let function = Inner {
+        fold: scalar2_of(fold),
+        each: scalar2_of(each),
+    };
+    OperatorRule { function }
+}
