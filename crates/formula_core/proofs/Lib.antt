@@ -2,3 +2,4 @@ pub mod Indexing
 pub mod Tabled
 pub mod Rooted
 pub mod Meant
+pub mod Changed

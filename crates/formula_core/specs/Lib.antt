@@ -5,5 +5,6 @@ pub mod Values
 pub mod Tables
 pub mod FormulaTables
 pub mod Rules
+pub mod Changes
 -- What proofs and bodies use.
 pub mod Operands

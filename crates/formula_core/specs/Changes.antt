@@ -1,0 +1,138 @@
+-- What a change of the names changes of the result of each node of a formula that holds results.
+use Rattle.std.specs.Prelude.{◌≡◌, ℕ, List, [], ◌∷◌, Bool, true, false, Result, Ok, Err, IfOk, if◌then◌else◌}
+use Rattle.std.specs.List.{list_all}
+use Rattle.apl_expr.specs.Trees.{Tree, Const, Name, Monad, Dyad, Index, Positions, NoPositions, Empty, Filled}
+use Rattle.apl_expr.specs.declared.expr.Monadic.{Monadic}
+use Rattle.apl_expr.specs.declared.expr.Dyadic.{Dyadic}
+use Rattle.arrays_core.specs.Arrays.{ArrayValue, IsArray}
+use Rattle.arrays_core.specs.declared.fault.Fault.{Fault}
+use Rattle.index_region.specs.declared.delta.Delta.{Delta}
+use Rattle.index_region.specs.declared.delta.Delta.TheVariants.{Same, Patch, Whole}
+use Rattle.index_region.specs.Patches.{FitsPatch}
+use Rattle.change_core.specs.Laws.{ReachCovers}
+use Rattle.change_core.specs.RuleModels.{RuleModel}
+use Rattle.change_rules.specs.Currency.{applied}
+use Rattle.change_rules.specs.Nodes.{Argument, is_same, node_delta, node_cost}
+use Rattle.change_rules.specs.Outcomes.{evaluation}
+use Rattle.selection_rules.specs.Index.{index_rule}
+use Rattle.formula_core.specs.Outcomes.{Outcome}
+use Rattle.formula_core.specs.Meaning.{eval}
+use Rattle.formula_core.specs.Rules.{right_rule, both_rule}
+
+-- what each name shows before and after, and what changed of it
+pub record Change : Type 0 where
+  pub old : List ℕ → Outcome
+  pub new : List ℕ → Outcome
+  pub delta : List ℕ → Delta
+
+-- an argument before the others, whose error comes before its own
+abbrev pub argument_in_front : Outcome → Result (List ArrayValue) Fault → Result (List ArrayValue) Fault
+argument_in_front o (Err e) = Err e
+argument_in_front (Err e) (Ok arrays) = Err e
+argument_in_front (Ok a) (Ok arrays) = Ok (a ∷ arrays)
+
+-- all arguments as arrays; the error of the last that has one
+abbrev pub arguments : List Outcome → Result (List ArrayValue) Fault
+arguments [] = Ok []
+arguments (o ∷ os) = argument_in_front o (arguments os)
+
+-- what a function gives by its rule
+abbrev pub result_of : RuleModel → Result (List ArrayValue) Fault → Outcome
+result_of p (Ok arrays) = evaluation p arrays
+result_of p (Err e) = Err e
+
+-- arrays, each with what changed of it, wherever that lies
+abbrev pub paired : List ArrayValue → List Delta → List Argument
+paired (a ∷ arrays) (d ∷ deltas) = (a, record { ref_ptr = (0, 0); now = d }) ∷ paired arrays deltas
+paired _ _ = []
+
+-- the change of an operation, from its arguments as they are now, their changes, and what it gave before
+abbrev pub operation_delta : RuleModel → Result (List ArrayValue) Fault → List Delta → (held : Outcome) → Delta
+operation_delta p (Ok arrays) deltas held = node_delta p (paired arrays deltas) held
+operation_delta p (Err e) deltas held = if list_all is_same deltas then Same else Whole (Err e)
+
+-- what it costs: nothing beside an error
+abbrev pub operation_cost : RuleModel → Result (List ArrayValue) Fault → List Delta → (held : Outcome) → ℕ
+operation_cost p (Ok arrays) deltas held = node_cost p (paired arrays deltas) held
+operation_cost p (Err e) deltas held = 0
+
+-- which positions are written
+abbrev pub written : Positions → List Bool
+written NoPositions = []
+written (Empty ps) = false ∷ written ps
+written (Filled e ps) = true ∷ written ps
+
+-- what those give that are
+abbrev pub values_of : Positions → (List ℕ → Outcome) → List Outcome
+values_of NoPositions names = []
+values_of (Empty ps) names = values_of ps names
+values_of (Filled e ps) names = eval e names ∷ values_of ps names
+
+abbrev mutual
+  -- what changes of the result of a tree
+  pub change : Change → Tree → Delta
+  change c (Const l) = Same
+  change c (Name x) = c.delta x
+  change c (Monad f b) = operation_delta (right_rule f) (arguments (eval b c.new ∷ [])) (change c b ∷ []) (eval (Monad f b) c.old)
+  change c (Dyad f a b) = operation_delta (both_rule f) (arguments (eval a c.new ∷ eval b c.new ∷ [])) (change c a ∷ change c b ∷ []) (eval (Dyad f a b) c.old)
+  change c (Index a ps) = operation_delta (index_rule (written ps)) (arguments (eval a c.new ∷ values_of ps c.new)) (change c a ∷ changes c ps) (eval (Index a ps) c.old)
+
+  pub changes : Change → Positions → List Delta
+  changes c NoPositions = []
+  changes c (Empty ps) = changes c ps
+  changes c (Filled e ps) = change c e ∷ changes c ps
+
+-- what the change of the node of a tree costs
+abbrev pub cost_at : Change → Tree → ℕ
+cost_at c (Const l) = 0
+cost_at c (Name x) = 0
+cost_at c (Monad f b) = operation_cost (right_rule f) (arguments (eval b c.new ∷ [])) (change c b ∷ []) (eval (Monad f b) c.old)
+cost_at c (Dyad f a b) = operation_cost (both_rule f) (arguments (eval a c.new ∷ eval b c.new ∷ [])) (change c a ∷ change c b ∷ []) (eval (Dyad f a b) c.old)
+cost_at c (Index a ps) = operation_cost (index_rule (written ps)) (arguments (eval a c.new ∷ values_of ps c.new)) (change c a ∷ changes c ps) (eval (Index a ps) c.old)
+
+-- the box of a patch lies in what is patched, and its items are of its type
+abbrev pub FitsIn : Delta → Outcome → Type 0
+FitsIn (Patch p) (Ok a) = FitsPatch a p
+FitsIn _ _ = Unit {0}
+
+-- what was, with its change, is what is; both are arrays or errors
+pub record IsChanged (old : Outcome) (d : Delta) (new : Outcome) : Type 0 where
+  pub right : applied d old ≡ new
+  pub fit : FitsIn d new
+  pub sound_old : IfOk old IsArray
+  pub sound_new : IfOk new IsArray
+
+-- a tree gives an array of a sound shape and type, or an error, before and after
+pub record IsSoundAt (c : Change) (t : Tree) : Type 0 where
+  pub old : IfOk (eval t c.old) IsArray
+  pub new : IfOk (eval t c.new) IsArray
+
+abbrev mutual
+  -- so does each tree in a tree
+  pub AreSoundIn : Change → Tree → Type 0
+  AreSoundIn c (Const l) = Unit {0}
+  AreSoundIn c (Name x) = Unit {0}
+  AreSoundIn c (Monad f b) = IsSoundAt c b × AreSoundIn c b
+  AreSoundIn c (Dyad f a b) = (IsSoundAt c a × AreSoundIn c a) × (IsSoundAt c b × AreSoundIn c b)
+  AreSoundIn c (Index a ps) = (IsSoundAt c a × AreSoundIn c a) × AreSoundInPositions c ps
+
+  pub AreSoundInPositions : Change → Positions → Type 0
+  AreSoundInPositions c NoPositions = Unit {0}
+  AreSoundInPositions c (Empty ps) = AreSoundInPositions c ps
+  AreSoundInPositions c (Filled e ps) = (IsSoundAt c e × AreSoundIn c e) × AreSoundInPositions c ps
+
+-- what a name showed, with its change, is what it shows
+pub record IsNameChanged (c : Change) (x : List ℕ) : Type 0 where
+  pub right : applied (c.delta x) (c.old x) ≡ c.new x
+  pub fit : FitsIn (c.delta x) (c.new x)
+
+-- so is what a tree gave
+pub record IsTreeChanged (c : Change) (t : Tree) : Type 0 where
+  pub right : applied (change c t) (eval t c.old) ≡ eval t c.new
+  pub fit : FitsIn (change c t) (eval t c.new)
+
+-- the law of each rule: where arguments agree outside their changed boxes, results agree outside what is reached
+pub record RulesCover : Type 0 where
+  pub of_right : (f : Monadic) → ReachCovers (right_rule f)
+  pub of_both : (f : Dyadic) → ReachCovers (both_rule f)
+  pub of_positions : (positions : List Bool) → ReachCovers (index_rule positions)
