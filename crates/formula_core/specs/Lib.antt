@@ -6,5 +6,6 @@ pub mod Tables
 pub mod FormulaTables
 pub mod Rules
 pub mod Changes
+pub mod Inputs
 -- What proofs and bodies use.
 pub mod Operands
