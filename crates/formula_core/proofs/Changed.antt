@@ -56,7 +56,7 @@ front_ok o (Err e) arrays h = absurd (let no : ⊥ = cc in no)
 front_ok (Err e) (Ok xs) arrays h = absurd (let no : ⊥ = cc in no)
 front_ok (Ok a) (Ok xs) arrays h = record { first = a; rest = xs; first_is = refl; rest_is = refl; all = let e : arrays ≡ a ∷ xs = cc in e }
 
-all_arrays : (ns : List Outcome) (arrays : List ArrayValue) → arguments ns ≡ Ok arrays → ns ≡ map (λ a. Ok a) arrays
+pub all_arrays : (ns : List Outcome) (arrays : List ArrayValue) → arguments ns ≡ Ok arrays → ns ≡ map (λ a. Ok a) arrays
 all_arrays [] arrays h = let e : [] ≡ arrays = cc in ap (λ xs. map (λ a. Ok a) xs) e
 all_arrays (n ∷ ns) arrays h =
     let front = front_ok n (arguments ns) arrays h in

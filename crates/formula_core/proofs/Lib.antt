@@ -3,3 +3,4 @@ pub mod Tabled
 pub mod Rooted
 pub mod Meant
 pub mod Changed
+pub mod Stepping
