@@ -1,5 +1,5 @@
 -- What a contract sees of what a name or a node gives, with what changed of it.
-use Rattle.std.specs.Prelude.{◌≡◌, ◌+◌, ◌≤◌, ℕ, List, Bool, true, false, not, Result, Ok, Err, IfOk, map}
+use Rattle.std.specs.Prelude.{◌≡◌, ◌+◌, ◌≤◌, ℕ, List, Bool, true, false, not, Result, Ok, Err, IfOk, map, length, get_or, ◌<◌}
 use Rattle.std.specs.declared.alloc.AllocError.{AllocError}
 use Rattle.index_region.specs.declared.delta.Delta.{Delta}
 use Rattle.index_region.specs.declared.delta.Delta.TheVariants.{Same, Whole}
@@ -7,7 +7,11 @@ use Rattle.change_core.specs.RuleModels.{RuleModel}
 use Rattle.change_rules.specs.Nodes.{is_same}
 use Rattle.formula_core.specs.declared.input.Input.{Input}
 use Rattle.formula_core.specs.declared.input.Input.TheVariants.{Good, Bad}
-use Rattle.formula_core.specs.Outcomes.{Outcome}
+use Rattle.arrays_core.specs.declared.item.Kind.TheVariants.{Value}
+use Rattle.change_rules.specs.Currency.{applied}
+use Rattle.formula_core.specs.declared.table.Operand.{Operand}
+use Rattle.formula_core.specs.declared.table.Operand.TheVariants as operand
+use Rattle.formula_core.specs.Outcomes.{Outcome, fault}
 use Rattle.formula_core.specs.Changes.{FitsIn, arguments, operation_delta, operation_cost}
 
 -- the array or the error
@@ -46,3 +50,17 @@ HasFit (Bad fault changed) = Unit {0}
 pub record IsOperationChange (rule : RuleModel) (operands : List Input) (held : Outcome) (before after : ℕ) (r : Result Delta AllocError) : Type 0 where
   pub delta : IfOk r (λ d. d ≡ operation_delta rule (arguments (map shown operands)) (map delta_of operands) held)
   pub ticks : after ≤ before + operation_cost rule (arguments (map shown operands)) (map delta_of operands) held
+
+-- what an argument of a node gives now: what a name shows, or what a node before it held, with its change
+abbrev pub operand_now : List Input → List Outcome → List Delta → Operand → Outcome
+operand_now inputs results changes (operand.Name k) = shown (get_or inputs k (Bad (fault Value) false))
+operand_now inputs results changes (operand.Node k) = applied (get_or changes k Same) (get_or results k (Err (fault Value)))
+
+-- what changed of it
+abbrev pub operand_delta : List Input → List Delta → Operand → Delta
+operand_delta inputs changes (operand.Name k) = delta_of (get_or inputs k (Bad (fault Value) false))
+operand_delta inputs changes (operand.Node k) = get_or changes k Same
+
+-- the changes lie in what the nodes held
+abbrev pub AllFitIn : List Delta → List Outcome → Type 0
+AllFitIn changes results = (k : ℕ) → k < length changes → FitsIn (get_or changes k Same) (get_or results k (Err (fault Value)))

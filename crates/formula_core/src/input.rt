@@ -1,11 +1,13 @@
 //! What the names and the nodes give, with what changed of it.
 
-ghost use Rattle.std.specs.Prelude.{◌≡◌};
+ghost use Rattle.std.specs.Prelude.{◌≡◌, ◌≤◌, length};
 ghost use Rattle.change_rules.specs.Currency.{applied};
 ghost use Rattle.change_rules.specs.Nodes.{is_same};
 ghost use Rattle.formula_core.specs.Changes.{FitsIn};
-ghost use Rattle.formula_core.specs.Inputs.{shown, stays, IsInput};
+ghost use Rattle.formula_core.specs.Tables.{IsOperand};
+ghost use Rattle.formula_core.specs.Inputs.{shown, stays, operand_now, operand_delta, AllFitIn, IsInput};
 
+use crate::table::Operand;
 use arrays_core::{Array, Fault};
 use index_region::{Delta, Seen};
 
@@ -64,6 +66,25 @@ impl<'a> Input<'a> {
                 fault: *fault,
                 changed: !matches!(change, Delta::Same),
             },
+        }
+    }
+
+    /// What an argument of a node gives, where the names show these, and the nodes before it held these results, which
+    /// changed so.
+    pub(crate) fn of_operand(
+        operand: Operand,
+        inputs: &'a [Input<'a>],
+        results: &'a [Result<Array, Fault>],
+        changes: &'a [Delta],
+    ) -> Input<'a>
+        requires within { IsOperand (length inputs.now) (length changes.now) operand }
+        requires held { length changes.now ≤ length results.now }
+        requires fit { AllFitIn changes.now results.now }
+        ensures { IsInput (operand_now inputs.now results.now changes.now operand) (operand_delta inputs.now changes.now operand) result }
+    {
+        match operand {
+            Operand::Name(place) => inputs[place].again(),
+            Operand::Node(place) => Input::of_node(&results[place], &changes[place]),
         }
     }
 }
