@@ -1,6 +1,7 @@
 //! Formulas: what an expression means, and an expression with the result that it was last given.
 #![tactic(auto)]
 
+mod adoption;
 mod application;
 mod evaluation;
 mod formula;
