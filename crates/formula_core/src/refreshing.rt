@@ -11,8 +11,8 @@ ghost use Rattle.formula_core.specs.Rules.{right_rule, both_rule, IsRefreshed};
 use crate::symbols::{along_of, scalar1_of, scalar2_of};
 use apl_expr::{Along, Dyadic, Monadic, ScalarDyad, ScalarMonad};
 use arrays_core::{Array, Fault};
-use change_core::{Meter, Rule};
-use change_rules::refresh_loose;
+use change_core::{Meter, Tight};
+use change_rules::refresh;
 use index_region::{Delta, Seen};
 use operator_fns::{Inner, Outer, Reduce, Scan};
 use operator_rules::Ruled as OperatorRule;
@@ -38,12 +38,12 @@ pub(crate) struct Operation<'a> {
 
 impl<'a> Operation<'a> {
     /// Its change, where it follows this rule.
-    fn by<R: Rule>(&self, rule: &R, meter: &mut Meter) -> Result<Delta, AllocError>
+    fn by<R: Tight>(&self, rule: &R, meter: &mut Meter) -> Result<Delta, AllocError>
         requires count { length self.now.args.now ≡ length (R.model rule.now).selectors }
         requires fit { AllFit (views self.now.args.now) (moved self.now.args.now) }
         ensures { IsRefreshed (R.model rule.now) self.now.args.now self.now.held.now meter.old meter.new result }
     {
-        refresh_loose(self.alloc, rule, self.args, self.held, meter)
+        refresh(self.alloc, rule, self.args, self.held, meter)
     }
 
     /// The change of a function of one argument.
