@@ -1,6 +1,6 @@
 //! Patches: new items for a box of an array.
 
-ghost use Rattle.std.specs.Prelude.{◌≡◌, ◌-◌, ◌≤◌, ◌<◌, length, get_or, IsTrue};
+ghost use Rattle.std.specs.Prelude.{◌≡◌, ◌-◌, ◌≤◌, ◌<◌, length, get_or, IsTrue, IfOk};
 ghost use Rattle.arrays_core.specs.Arrays.{IsArray};
 ghost use Rattle.arrays_core.specs.Items.{fill, type_of};
 ghost use Rattle.index_region.specs.Boxes.{box_size, box_offset, is_within};
@@ -8,6 +8,7 @@ ghost use Rattle.index_region.specs.Patches.{PatchValue, IsPatch, FitsPatch, pat
 
 use crate::index_box::IndexBox;
 use arrays_core::{Array, Item, ItemType, position, size};
+use std::alloc::AllocError;
 use std::marker::Model;
 
 /// New items for the places of a box, in row-major order.
@@ -32,6 +33,16 @@ impl Patch {
         ensures { result ≡ record { region = region; item_type = values.item_type; items = values.items } }
     {
         Patch { region, values }
+    }
+
+    /// A patch of its own with the same box and items.
+    pub fn copy(&self) -> Result<Patch, AllocError>
+        ensures { IfOk result (λ p. p ≡ self.now) }
+    {
+        Ok(Patch {
+            region: self.region.copy(),
+            values: self.values.copy()?,
+        })
     }
 
     /// The box.
