@@ -9,7 +9,7 @@ use Rattle.arrays_core.specs.declared.item.ItemType.{ItemType}
 use Rattle.arrays_core.specs.declared.item.Kind.{Kind}
 use Rattle.arrays_core.specs.Arrays.{ArrayValue, IsAnswerTo, with_items}
 use Rattle.arrays_core.specs.Items.{all_or_first_error}
-use Rattle.arrays_core.specs.Shapes.{size, indices}
+use Rattle.arrays_core.specs.Shapes.{IsWithinLimits, size, indices}
 use Rattle.index_region.specs.Boxes.{Interval, interval_length, box_size, fits, whole_of}
 use Rattle.index_region.specs.Checks.{Form, form_of, whole}
 use Rattle.index_region.proofs.Patched.{box_within_size}
@@ -18,6 +18,7 @@ use Rattle.change_core.specs.declared.reach.Reach.TheVariants.{Inside}
 use Rattle.change_core.specs.Parts.{HoldsItems, items_in}
 use Rattle.change_core.specs.Reaches.{LiesIn}
 use Rattle.change_core.proofs.Collected.{items_are}
+use Rattle.change_core.proofs.Filling.{few_places}
 use Rattle.index_region.proofs.Walks.{some_place}
 use Rattle.change_core.proofs.Walking.{walk_is, length-along}
 
@@ -75,3 +76,7 @@ as_many item region xs e = length-along item region xs (items_are item region �
 -- what may change lies in the result
 pub inside_fit : (form : Result Form Kind) (shape : List ℕ) (t : ItemType) (reach : Reach) (region : List Interval) → form ≡ Ok (form_of shape t) → Inside region ≡ reach → LiesIn form reach → IsTrue (fits region shape)
 inside_fit form shape t reach region e w lies = subst (λ (r : Reach). LiesIn (Ok (form_of shape t)) r) (sym w) (subst (λ (x : Result Form Kind). LiesIn x reach) e lies)
+
+-- so it has no more places than an array can have
+pub few_inside : (form : Result Form Kind) (shape : List ℕ) (t : ItemType) (reach : Reach) (region : List Interval) → form ≡ Ok (form_of shape t) → Inside region ≡ reach → LiesIn form reach → IsWithinLimits shape → box_size region ≤ 1048576
+few_inside form shape t reach region e w lies limits = few_places region shape (inside_fit form shape t reach region e w lies) limits

@@ -1,6 +1,6 @@
 -- What a change says is so of the result.
 use Rattle.index_region.proofs.Walks.{walk_within, walk_of_offset, offset_below}
-use Rattle.std.proofs.Common.{◌≡◌, inl, inr, ◌+◌, List, Result, Ok, Err, IfOk, true, refl, ap, ◌∙◌, sym, subst, arith}
+use Rattle.std.proofs.Common.{◌≡◌, ℕ, inl, inr, ◌+◌, List, Result, Ok, Err, IfOk, true, refl, ap, ◌∙◌, sym, subst, arith}
 use Rattle.std.specs.declared.alloc.AllocError.{AllocError}
 use Rattle.std.proofs.lemmas.Bool.{cases_Bool, cond-true, cond-false}
 use Rattle.arrays_core.specs.declared.item.Item.{Item}
@@ -63,7 +63,7 @@ node_is_right p args old = elim (cases_Bool (all_same args)) [
   ]
 ]
 
--- what holds of the change that was asked for holds of an answer that is that change
-pub answered : (P : Delta → Type 0) (r : Result Delta AllocError) (wanted : Delta) → IfOk r (λ d. d ≡ wanted) → P wanted → IfOk r P
-answered P (Ok d) wanted e h = subst P (sym e) h
+-- what holds of the change that was asked for holds of an answer that is that change, with its cost
+pub answered : (P : Delta → Type 0) (r : Result (Delta × ℕ) AllocError) (wanted : Delta) → IfOk r (λ x. x.0 ≡ wanted) → P wanted → IfOk r (λ x. P x.0)
+answered P (Ok x) wanted e h = subst P (sym e) h
 answered P (Err e) wanted is h = tt

@@ -7,7 +7,7 @@ ghost use Rattle.change_core.specs.RuleModels.{form_size};
 ghost use Rattle.change_rules.specs.Copies.{AreCopies};
 ghost use Rattle.change_rules.specs.Outcomes.{evaluation};
 
-use arrays_core::{ApplyFault, Array, Fault};
+use arrays_core::{ApplyFault, Array, Fault, size};
 use change_core::{Meter, Rule};
 use index_region::Seen;
 use std::alloc::{AllocError, Global};
@@ -27,6 +27,17 @@ pub(crate) fn evaluate<R: Rule>(
         Ok(array) => Ok(Ok(array)),
         Err(ApplyFault::Kind(kind)) => Ok(Err(Fault { kind, origin: None })),
         Err(ApplyFault::NoMemory) => Err(AllocError),
+    }
+}
+
+/// How many places the result has; none where a check fails.
+pub(crate) fn places<R: Rule>(rule: &R, args: &[Seen]) -> u32
+    requires { length args.now ≡ length (R.model rule.now).selectors }
+    ensures { result ≡ form_size ((R.model rule.now).form args.now) }
+{
+    match rule.shape(args) {
+        Ok(form) => size(form.0.as_slice()),
+        Err(_) => 0,
     }
 }
 

@@ -6,4 +6,4 @@ mod evaluation;
 mod node;
 mod patch;
 
-pub use node::refresh;
+pub use node::{refresh, refresh_with_cost};

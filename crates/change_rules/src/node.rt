@@ -6,38 +6,47 @@ ghost use Rattle.change_rules.specs.Nodes.{views, moved, all_same as all_are_sam
 ghost use Rattle.change_rules.specs.Currency.{BringsUpToDate, IsRight};
 
 use crate::arguments::{all_same, moved_by, moves_of, starts_anew, views_are_arrays, views_of};
-use crate::evaluation::evaluate;
+use crate::evaluation::{evaluate, places};
 use crate::patch::patch_of;
-use arrays_core::{Array, Fault};
+use arrays_core::{Array, Fault, size};
 use change_core::{Meter, Reach, Rule, Tight};
 use index_region::{Delta, IndexBox, Seen};
 use std::alloc::{AllocError, Global};
 
-/// The change of a node that held an array, where arguments were patched.
+/// The change of a node that held an array, where arguments were patched, and what it costs.
 fn reached<R: Rule>(
     alloc: Global,
     rule: &R,
     args: &[Seen],
     boxes: &[Option<IndexBox>],
     meter: &mut Meter,
-) -> Result<Delta, AllocError>
+) -> Result<(Delta, u32), AllocError>
     requires count { length args.now ≡ length (R.model rule.now).selectors }
     requires boxes { length boxes.now ≡ length args.now }
     requires fit { AllFit args.now boxes.now }
-    ensures delta { IfOk result (λ d. d ≡ reached_delta (R.model rule.now) args.now boxes.now) }
+    ensures delta { IfOk result (λ r. r.0 ≡ reached_delta (R.model rule.now) args.now boxes.now) }
+    ensures cost { IfOk result (λ r. r.1 ≡ reached_cost (R.model rule.now) args.now boxes.now) }
     ensures ticks { meter.new ≤ meter.old + reached_cost (R.model rule.now) args.now boxes.now }
 {
     match rule.shape(args) {
-        Err(kind) => Ok(Delta::Whole(Err(Fault { kind, origin: None }))),
+        Err(kind) => Ok((Delta::Whole(Err(Fault { kind, origin: None })), 0)),
         Ok(form) => match rule.reach_in(args, form.0.as_slice(), boxes) {
-            Reach::Unmoved => Ok(Delta::Same),
-            Reach::Inside(region) => patch_of(alloc, rule, args, &form, region, meter),
-            Reach::Anew => Ok(Delta::Whole(evaluate(alloc, rule, args, meter)?)),
+            Reach::Unmoved => Ok((Delta::Same, 0)),
+            Reach::Inside(region) => {
+                let cost = region.size() as u32;
+                let delta = patch_of(alloc, rule, args, &form, region, meter)?;
+                Ok((delta, cost))
+            }
+            Reach::Anew => {
+                let cost = size(form.0.as_slice());
+                let whole = evaluate(alloc, rule, args, meter)?;
+                Ok((Delta::Whole(whole), cost))
+            }
         },
     }
 }
 
-/// The change of a node of which some argument changed.
+/// The change of a node of which some argument changed, and what it costs.
 fn change_from<R: Rule>(
     alloc: Global,
     rule: &R,
@@ -46,36 +55,39 @@ fn change_from<R: Rule>(
     args: &[(Seen, &Delta)],
     old: &Result<Array, Fault>,
     meter: &mut Meter,
-) -> Result<Delta, AllocError>
+) -> Result<(Delta, u32), AllocError>
     requires count { length args.now ≡ length (R.model rule.now).selectors }
     requires fit { AllFit (views args.now) (moved args.now) }
     requires seen { seen.now ≡ views args.now }
     requires boxes { boxes.now ≡ moved args.now }
     requires some { all_are_same args.now ≡ false }
-    ensures delta { IfOk result (λ d. d ≡ node_delta (R.model rule.now) args.now old.now) }
+    ensures delta { IfOk result (λ r. r.0 ≡ node_delta (R.model rule.now) args.now old.now) }
+    ensures cost { IfOk result (λ r. r.1 ≡ node_cost (R.model rule.now) args.now old.now) }
     ensures ticks { meter.new ≤ meter.old + node_cost (R.model rule.now) args.now old.now }
 {
     if starts_anew(args, old) {
-        return Ok(Delta::Whole(evaluate(alloc, rule, seen, meter)?));
+        let whole = evaluate(alloc, rule, seen, meter)?;
+        return Ok((Delta::Whole(whole), places(rule, seen)));
     }
     reached(alloc, rule, seen, boxes, meter)
 }
 
-/// The change of a node. Views and boxes of up to five arguments take no memory.
+/// The change of a node, and what it costs. Views and boxes of up to five arguments take no memory.
 fn change_of<R: Rule>(
     alloc: Global,
     rule: &R,
     args: &[(Seen, &Delta)],
     old: &Result<Array, Fault>,
     meter: &mut Meter,
-) -> Result<Delta, AllocError>
+) -> Result<(Delta, u32), AllocError>
     requires count { length args.now ≡ length (R.model rule.now).selectors }
     requires fit { AllFit (views args.now) (moved args.now) }
-    ensures delta { IfOk result (λ d. d ≡ node_delta (R.model rule.now) args.now old.now) }
+    ensures delta { IfOk result (λ r. r.0 ≡ node_delta (R.model rule.now) args.now old.now) }
+    ensures cost { IfOk result (λ r. r.1 ≡ node_cost (R.model rule.now) args.now old.now) }
     ensures ticks { meter.new ≤ meter.old + node_cost (R.model rule.now) args.now old.now }
 {
     if all_same(args) {
-        return Ok(Delta::Same);
+        return Ok((Delta::Same, 0));
     }
     match args {
         [(a, d)] => {
@@ -133,6 +145,25 @@ pub fn refresh<R: Tight>(
     ensures ticks { meter.new ≤ meter.old + node_cost (R.model rule.now) args.now old.now }
     ensures right { IfOk result (λ d. IsRight (R.model rule.now) (views args.now) d) }
     ensures whole { IfOk result (λ d. BringsUpToDate (R.model rule.now) args.now old.now d) }
+{
+    Ok(refresh_with_cost(alloc, rule, args, old, meter)?.0)
+}
+
+/// The same change, and what it costs: how many items of the result it computes at most.
+pub fn refresh_with_cost<R: Tight>(
+    alloc: Global,
+    rule: &R,
+    args: &[(Seen, &Delta)],
+    old: &Result<Array, Fault>,
+    meter: &mut Meter,
+) -> Result<(Delta, u32), AllocError>
+    requires count { length args.now ≡ length (R.model rule.now).selectors }
+    requires fit { AllFit (views args.now) (moved args.now) }
+    ensures delta { IfOk result (λ r. r.0 ≡ node_delta (R.model rule.now) args.now old.now) }
+    ensures cost { IfOk result (λ r. r.1 ≡ node_cost (R.model rule.now) args.now old.now) }
+    ensures ticks { meter.new ≤ meter.old + node_cost (R.model rule.now) args.now old.now }
+    ensures right { IfOk result (λ r. IsRight (R.model rule.now) (views args.now) r.0) }
+    ensures whole { IfOk result (λ r. BringsUpToDate (R.model rule.now) args.now old.now r.0) }
 {
     views_are_arrays(args);
     change_of(alloc, rule, args, old, meter)

@@ -3,7 +3,7 @@ use Rattle.change_rules.specs.Currency.{BringsUpToDate, IsRight}
 use Rattle.change_rules.specs.Nodes.{views, moved}
 use Rattle.change_rules.proofs.Refreshed.{brings_up_to_date}
 use Rattle.change_rules.proofs.Right.{answered, node_is_right}
-use Rattle.change_rules.proofs.node.refresh.Goals as goal
+use Rattle.change_rules.proofs.node.refresh_with_cost.Goals as goal
 
 pub returns-clause-right : goal.returns-clause-right
 returns-clause-right g c =
