@@ -3,4 +3,5 @@ pub mod Tabled
 pub mod Rooted
 pub mod Meant
 pub mod Changed
+pub mod Covering
 pub mod Stepping

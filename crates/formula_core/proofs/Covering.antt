@@ -1,0 +1,68 @@
+-- The law of the rule of each function of an expression.
+use Rattle.apl_expr.specs.declared.expr.Monadic.{Monadic}
+use Rattle.apl_expr.specs.declared.expr.Monadic.TheVariants as monadic
+use Rattle.apl_expr.specs.declared.expr.Dyadic.{Dyadic}
+use Rattle.apl_expr.specs.declared.expr.Dyadic.TheVariants as dyadic
+use Rattle.change_core.specs.Laws.{IsTight}
+use Rattle.change_core.proofs.Covers.{covers}
+use Rattle.scalar_rules.specs.EachMonadicLaw.{each_monadic_tight}
+use Rattle.scalar_rules.specs.EachDyadicLaw.{each_dyadic_tight}
+use Rattle.structural_rules.specs.ReshapeLaw.{reshape_tight}
+use Rattle.structural_rules.specs.RavelLaw.{ravel_tight}
+use Rattle.structural_rules.specs.CatenateLaw.{catenate_tight}
+use Rattle.structural_rules.specs.TakeLaw.{take_tight}
+use Rattle.structural_rules.specs.DropLaw.{drop_tight}
+use Rattle.structural_rules.specs.ReverseLaw.{reverse_tight}
+use Rattle.structural_rules.specs.RotateLaw.{rotate_tight}
+use Rattle.structural_rules.specs.TransposeLaw.{transpose_tight}
+use Rattle.structural_rules.specs.DyadicTransposeLaw.{transpose_by_tight}
+use Rattle.selection_rules.specs.ShapeLaw.{shape_tight}
+use Rattle.selection_rules.specs.IndexGeneratorLaw.{generator_tight}
+use Rattle.selection_rules.specs.ReplicateLaw.{replicate_tight}
+use Rattle.selection_rules.specs.Index.{index_rule}
+use Rattle.selection_rules.specs.IndexLaw.{index_tight}
+use Rattle.selection_rules.specs.IndexOfLaw.{index_of_tight}
+use Rattle.selection_rules.specs.MemberLaw.{member_tight}
+use Rattle.selection_rules.specs.EncodeLaw.{encode_tight}
+use Rattle.selection_rules.specs.DecodeLaw.{decode_tight}
+use Rattle.operator_rules.specs.ReduceLaw.{reduce_tight}
+use Rattle.operator_rules.specs.ScanLaw.{scan_tight}
+use Rattle.operator_rules.specs.OuterProductLaw.{outer_tight}
+use Rattle.operator_rules.specs.InnerProductLaw.{inner_tight}
+use Rattle.formula_core.specs.Meaning.{scalar1_of, scalar2_of, along_of}
+use Rattle.formula_core.specs.Rules.{right_rule, both_rule}
+use Rattle.formula_core.specs.Changes.{RulesCover}
+
+right_tight : (f : Monadic) → IsTight (right_rule f)
+right_tight (monadic.Scalar f) = each_monadic_tight (scalar1_of f)
+right_tight monadic.Ravel = ravel_tight
+right_tight (monadic.Reverse k) = reverse_tight (along_of k)
+right_tight monadic.Transpose = transpose_tight
+right_tight monadic.Shape = shape_tight
+right_tight monadic.Iota = generator_tight
+right_tight (monadic.Reduce f k) = reduce_tight (scalar2_of f) (along_of k)
+right_tight (monadic.Scan f k) = scan_tight (scalar2_of f) (along_of k)
+
+both_tight : (f : Dyadic) → IsTight (both_rule f)
+both_tight (dyadic.Scalar f) = each_dyadic_tight (scalar2_of f)
+both_tight dyadic.Reshape = reshape_tight
+both_tight (dyadic.Catenate k) = catenate_tight (along_of k)
+both_tight dyadic.Take = take_tight
+both_tight dyadic.Drop = drop_tight
+both_tight (dyadic.Rotate k) = rotate_tight (along_of k)
+both_tight dyadic.Transpose = transpose_by_tight
+both_tight (dyadic.Replicate k) = replicate_tight (along_of k)
+both_tight dyadic.IndexOf = index_of_tight
+both_tight dyadic.Member = member_tight
+both_tight dyadic.Encode = encode_tight
+both_tight dyadic.Decode = decode_tight
+both_tight (dyadic.Outer f) = outer_tight (scalar2_of f)
+both_tight (dyadic.Inner f g) = inner_tight (scalar2_of f) (scalar2_of g)
+
+-- the law of the rule of each function, and of an index with positions
+pub rules_cover : RulesCover
+rules_cover = record {
+  of_right = λ f. covers (right_rule f) (right_tight f);
+  of_both = λ f. covers (both_rule f) (both_tight f);
+  of_positions = λ positions. covers (index_rule positions) (index_tight positions);
+}
