@@ -4,4 +4,5 @@ pub mod Rooted
 pub mod Meant
 pub mod Changed
 pub mod Covering
+pub mod Alike
 pub mod Stepping
