@@ -12,6 +12,8 @@ mod array_text_tests;
 #[cfg(test)]
 mod arrays_core_tests;
 #[cfg(test)]
+mod cost_tests;
+#[cfg(test)]
 mod dep_order_tests;
 #[cfg(test)]
 mod fixtures;
