@@ -3,40 +3,20 @@
 use Rattle.std.proofs.Common.{◌≡◌, ℕ, zero, suc, ◌<◌, List, [], ◌∷◌, take, length, slice_index_or, Option, Some, None, Err, IsSome, refl, sym, ap, ◌∙◌, subst, arith}
 use Rattle.std.specs.List.{Contains}
 use Rattle.std.proofs.lemmas.List.{get_or-take, get_or_default, length-take}
-use Rattle.std.proofs.lemmas.List.Elements.{Contains-append_left, Contains-append_right}
 use Rattle.dep_order.specs.Reachability.{Chain, IsAcyclic}
-use Rattle.apl_expr.specs.Trees.{Tree, Const, Name, Monad, Dyad, Index, Positions, NoPositions, Empty, Filled}
+use Rattle.apl_expr.specs.Trees.{Tree}
 use Rattle.arrays_core.specs.declared.item.Kind.TheVariants.{Value}
 use Rattle.formula_core.specs.Outcomes.{Outcome, fault}
-use Rattle.formula_core.specs.Meaning.{eval, eval_positions, applied1, applied2, indexed, in_front, empty_in_front, names_in, names_in_positions}
+use Rattle.formula_core.specs.Meaning.{names_in}
+use Rattle.formula_core.proofs.Alike.{eval_alike}
 use Rattle.sheet_recalc.specs.Names.{Names, Binding, Data, Formula, binding, Refers}
 use Rattle.sheet_recalc.specs.Meaning.{shown, with_origin, val_at, val}
 use Rattle.sheet_recalc.specs.NameOrder.{IsNameOrder}
 
--- only the names that stand in an expression matter
-mutual
-  pub eval_same : (t : Tree) (f g : List ℕ → Outcome) → ((x : List ℕ) → Contains (names_in t) x → f x ≡ g x) → eval t f ≡ eval t g
-  eval_same (Const c) f g h = refl
-  eval_same (Name x) f g h = h x (0, omega arith, refl)
-  eval_same (Monad k b) f g h = ap (applied1 k) (eval_same b f g h)
-  eval_same (Dyad k a b) f g h =
-      ap (λ r. applied2 k r (eval a f)) (eval_same b f g (λ x o. h x (Contains-append_right (names_in a) (names_in b) x o)))
-      ∙ ap (λ r. applied2 k (eval b g) r) (eval_same a f g (λ x o. h x (Contains-append_left (names_in a) (names_in b) x o)))
-  eval_same (Index a ps) f g h =
-      ap (λ r. indexed r (eval a f)) (positions_same ps f g (λ x o. h x (Contains-append_right (names_in a) (names_in_positions ps) x o)))
-      ∙ ap (λ r. indexed (eval_positions ps g) r) (eval_same a f g (λ x o. h x (Contains-append_left (names_in a) (names_in_positions ps) x o)))
-
-  positions_same : (ps : Positions) (f g : List ℕ → Outcome) → ((x : List ℕ) → Contains (names_in_positions ps) x → f x ≡ g x) → eval_positions ps f ≡ eval_positions ps g
-  positions_same NoPositions f g h = refl
-  positions_same (Empty ps) f g h = ap empty_in_front (positions_same ps f g h)
-  positions_same (Filled e ps) f g h =
-      ap (λ r. in_front r (eval_positions ps f)) (eval_same e f g (λ x o. h x (Contains-append_left (names_in e) (names_in_positions ps) x o)))
-      ∙ ap (λ r. in_front (eval e g) r) (positions_same ps f g (λ x o. h x (Contains-append_right (names_in e) (names_in_positions ps) x o)))
-
 pub shown_same : (name : List ℕ) (b : Option Binding) (f g : List ℕ → Outcome) → ((t : Tree) (x : List ℕ) → b ≡ Some (Formula t) → Contains (names_in t) x → f x ≡ g x) → shown name b f ≡ shown name b g
 shown_same name None f g h = refl
 shown_same name (Some (Data a)) f g h = refl
-shown_same name (Some (Formula t)) f g h = ap (with_origin name) (eval_same t f g (λ x o. h t x refl o))
+shown_same name (Some (Formula t)) f g h = ap (with_origin name) (eval_alike t f g (λ x o. h t x refl o))
 
 pub front : {A : Type 0} (d : A) (xs : List A) (i : ℕ) (x : A) → i < length xs → Contains (take i xs) x → (k : ℕ) × (k < i) × (slice_index_or xs k d ≡ x)
 front d xs i x h c =
@@ -44,10 +24,6 @@ front d xs i x h c =
     (c.0, below, get_or_default xs c.0 d x (omega arith) ∙ (sym (get_or-take i xs c.0 x below) ∙ c.2))
 
 module _ (names : Names) where
-  pub val_absent : (d : ℕ) (x : List ℕ) → binding names x ≡ None → val_at d names x ≡ Err (fault Value)
-  val_absent zero x e = refl
-  val_absent (suc d) x e = ap (λ b. shown x b (val_at d names)) e
-
   -- a binding is there, or not
   pub cases_binding : (P : Type 0) → (x : List ℕ) → (binding names x ≡ None → P) → (IsSome (binding names x) → P) → P
   cases_binding P x absent present = by (binding names x) refl
@@ -60,45 +36,63 @@ module _ (names : Names) where
     abbrev name_at : ℕ → List ℕ
     name_at i = slice_index_or order i []
 
-    -- past its number in the order, the depth does not matter
-    pub stable : (d e i : ℕ) → i < length order → i < d → i < e → val_at d names (name_at i) ≡ val_at e names (name_at i)
-    stable zero e i h p q = absurd (omega arith)
-    stable (suc d) zero i h p q = absurd (omega arith)
-    stable (suc d) (suc e) i h p q =
-        shown_same (name_at i) (binding names (name_at i)) (val_at d names) (val_at e names)
-        (λ t x is stands. cases_binding (val_at d names x ≡ val_at e names x) x
-        (λ none. val_absent d x none ∙ sym (val_absent e x none))
-        (λ present.
-        let k = front [] order i x h (o.after i x h (t, is, stands) present) in
-        subst (λ y. val_at d names y ≡ val_at e names y) k.2 (stable d e k.0 (omega (arith, k.1)) (omega (arith, k.1)) (omega (arith, k.1)))))
-
     number_in : (name : List ℕ) → IsSome (binding names name) → (i : ℕ) × (i < length order) × (name_at i ≡ name)
     number_in name present =
         let at = o.all name present in
         (at.0, at.1, get_or_default order at.0 [] name at.1 ∙ at.2)
 
+    -- what is worked out of each name to a depth: one step more each time, from what was worked out of the names that it refers to
+    module _ {A : Type 0} (worked : ℕ → List ℕ → A) (step : List ℕ → (List ℕ → A) → A)
+        (deeper : (d : ℕ) (q : List ℕ) → worked (suc d) q ≡ step q (worked d))
+        (same : (q : List ℕ) (f g : List ℕ → A) → ((x : List ℕ) → Refers names q x → f x ≡ g x) → step q f ≡ step q g)
+        (absent : (d e : ℕ) (x : List ℕ) → binding names x ≡ None → worked d x ≡ worked e x) where
+      -- past its number in the order, the depth does not matter
+      pub stable : (d e i : ℕ) → i < length order → i < d → i < e → worked d (name_at i) ≡ worked e (name_at i)
+      stable zero e i h p q = absurd (omega arith)
+      stable (suc d) zero i h p q = absurd (omega arith)
+      stable (suc d) (suc e) i h p q =
+          deeper d (name_at i)
+          ∙ (same (name_at i) (worked d) (worked e)
+          (λ x refers. cases_binding (worked d x ≡ worked e x) x (λ none. absent d e x none)
+          (λ present.
+          let k = front [] order i x h (o.after i x h refers present) in
+          subst (λ y. worked d y ≡ worked e y) k.2 (stable d e k.0 (omega (arith, k.1)) (omega (arith, k.1)) (omega (arith, k.1)))))
+          ∙ sym (deeper e (name_at i)))
+
+      -- to the depth of the number of names, it is one step from itself
+      pub settles : (q : List ℕ) → worked (length names) q ≡ step q (worked (length names))
+      settles q = cases_binding (worked (length names) q ≡ worked (suc (length names)) q) q
+          (λ none. absent (length names) (suc (length names)) q none)
+          (λ present.
+          let at = number_in q present in
+          subst (λ y. worked (length names) y ≡ worked (suc (length names)) y) at.2
+          (stable (length names) (suc (length names)) at.0 at.1 (omega (arith, at.1, o.short)) (omega (arith, at.1, o.short))))
+          ∙ deeper (length names) q
+
+  pub val_absent : (d : ℕ) (x : List ℕ) → binding names x ≡ None → val_at d names x ≡ Err (fault Value)
+  val_absent zero x e = refl
+  val_absent (suc d) x e = ap (λ b. shown x b (val_at d names)) e
+
+  module _ (order : List (List ℕ)) (o : IsNameOrder names order) where
     -- what a name shows is one step from what all names show
     pub val_is : (name : List ℕ) → val names name ≡ shown name (binding names name) (val names)
-    val_is name = cases_binding (val names name ≡ shown name (binding names name) (val names)) name
-        (λ none. val_absent (length names) name none ∙ sym (ap (λ b. shown name b (val names)) none))
-        (λ present.
-        let at = number_in name present in
-        subst (λ y. val_at (length names) names y ≡ val_at (suc (length names)) names y) at.2
-        (stable (length names) (suc (length names)) at.0 at.1 (omega (arith, at.1, o.short)) (omega (arith, at.1, o.short))))
+    val_is name = settles order o (λ d. val_at d names) (λ q f. shown q (binding names q) f) (λ d q. refl)
+        (λ q f g h. shown_same q (binding names q) f g (λ t x is stands. h x (t, is, stands)))
+        (λ d e x none. val_absent d x none ∙ sym (val_absent e x none)) name
 
     present_of : (a : List ℕ) (via : List (List ℕ)) (b : List ℕ) → Chain (Refers names) a via b → IsSome (binding names a)
     present_of a [] b r = subst (λ s. IsSome s) (sym r.1) refl
     present_of a (x ∷ xs) b r = subst (λ s. IsSome s) (sym r.0.1) refl
 
     -- a chain leads back in the order
-    down : (via : List (List ℕ)) (i : ℕ) (b : List ℕ) → i < length order → Chain (Refers names) (name_at i) via b → IsSome (binding names b) → (k : ℕ) × (k < i) × (name_at k ≡ b)
+    down : (via : List (List ℕ)) (i : ℕ) (b : List ℕ) → i < length order → Chain (Refers names) (name_at order o i) via b → IsSome (binding names b) → (k : ℕ) × (k < i) × (name_at order o k ≡ b)
     down [] i b h r present = front [] order i b h (o.after i b h r present)
     down (x ∷ xs) i b h r present =
         let k = front [] order i x h (o.after i x h r.0 (present_of x xs b r.1)) in
         let m = down xs k.0 b (omega (arith, k.1)) (subst (λ y. Chain (Refers names) y xs b) (sym k.2) r.1) present in
         (m.0, omega (arith, m.1, k.1), m.2)
 
-    never : (a : List ℕ) (via : List (List ℕ)) → Chain (Refers names) a via a → (n i : ℕ) → i < n → i < length order → name_at i ≡ a → ⊥
+    never : (a : List ℕ) (via : List (List ℕ)) → Chain (Refers names) a via a → (n i : ℕ) → i < n → i < length order → name_at order o i ≡ a → ⊥
     never a via r zero i p h e = absurd (omega arith)
     never a via r (suc n) i p h e =
         let k = down via i a h (subst (λ y. Chain (Refers names) y via a) (sym e) r) (present_of a via a r) in
@@ -106,5 +100,5 @@ module _ (names : Names) where
 
     pub acyclic_from_order : IsAcyclic (Refers names)
     acyclic_from_order a r =
-        let at = number_in a (present_of a r.0 a r.1) in
+        let at = number_in order o a (present_of a r.0 a r.1) in
         never a r.0 r.1 (suc at.0) at.0 (omega arith) at.1 at.2
