@@ -12,4 +12,6 @@ pub mod Rebound
 pub mod Refused
 pub mod Indices
 pub mod Rows
+pub mod Deltas
+pub mod Sums
 pub mod Examples
