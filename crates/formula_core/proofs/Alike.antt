@@ -1,5 +1,5 @@
 -- Only what the names in a tree show matters to what it gives, to its change and to what that costs.
-use Rattle.std.proofs.Common.{◌≡◌, ℕ, ◌+◌, List, [], ◌∷◌, ◌++◌, true, Result, Ok, Err, refl, ap, ◌∙◌, subst, sym}
+use Rattle.std.proofs.Common.{◌≡◌, ℕ, ◌+◌, List, [], ◌∷◌, ◌++◌, Bool, true, false, Result, Ok, Err, refl, ap, ◌∙◌, subst, sym}
 use Rattle.std.specs.List.{Contains, list_all, sum_by}
 use Rattle.std.proofs.lemmas.Bool.{false≢true, cond-true}
 use Rattle.std.proofs.lemmas.List.Elements.{Contains-append_left, Contains-append_right, Contains-push}
@@ -16,9 +16,10 @@ use Rattle.change_rules.specs.Nodes.{is_same, all_same}
 use Rattle.selection_rules.specs.Index.{index_rule}
 use Rattle.formula_core.specs.Outcomes.{Outcome}
 use Rattle.formula_core.specs.Meaning.{eval, eval_positions, applied1, applied2, indexed, in_front, empty_in_front, names_in, names_in_positions}
-use Rattle.formula_core.specs.Tables.{inside, inside_positions}
+use Rattle.formula_core.specs.Tables.{inside, inside_positions, subtrees}
 use Rattle.formula_core.specs.Rules.{right_rule, both_rule}
-use Rattle.formula_core.specs.Changes.{Change, arguments, paired, operation_delta, operation_cost, written, values_of, change, changes, cost_at}
+use Rattle.formula_core.specs.Changes.{Change, arguments, paired, operation_delta, operation_cost, written, values_of, change, changes, cost_at, operation_size, size_at}
+use Rattle.formula_core.specs.Plans.{node_cost_at, tree_cost}
 
 -- what holds of each name in an expression holds of each in a part of it
 in_left : (P : List ℕ → Type 0) (xs ys : List (List ℕ)) → ((x : List ℕ) → Contains (xs ++ ys) x → P x) → (x : List ℕ) → Contains xs x → P x
@@ -130,33 +131,71 @@ cost_alike (Index l ps) c d h =
 sum_of_parts : (g : Tree → ℕ) (ts us : List Tree) (t : Tree) → sum_by g (ts ++ (us ++ t ∷ [])) ≡ sum_by g ts + (sum_by g us + g t)
 sum_of_parts g ts us t = sum_by-append g ts (us ++ t ∷ []) ∙ ap (λ n. sum_by g ts + n) (sum_by_push g us t)
 
-mutual
-  -- and what the changes of all nodes in it cost
-  pub costs_alike : (t : Tree) (c d : Change) → ((x : List ℕ) → Contains (names_in t) x → IsAlikeAt c d x) → sum_by (cost_at c) (inside t) ≡ sum_by (cost_at d) (inside t)
-  costs_alike (Const l) c d h = refl
-  costs_alike (Name x) c d h = refl
-  costs_alike (Monad f r) c d h =
-      let below = costs_alike r c d h in
-      let here = cost_alike (Monad f r) c d h in
-      sum_by_push (cost_at c) (inside r) (Monad f r) ∙ ((λ i. below i + here i) ∙ sym (sum_by_push (cost_at d) (inside r) (Monad f r)))
-  costs_alike (Dyad f l r) c d h =
-      let left = costs_alike l c d (in_left _ (names_in l) (names_in r) h) in
-      let right = costs_alike r c d (in_right _ (names_in l) (names_in r) h) in
-      let here = cost_alike (Dyad f l r) c d h in
-      sum_of_parts (cost_at c) (inside l) (inside r) (Dyad f l r) ∙ ((λ i. left i + (right i + here i)) ∙ sym (sum_of_parts (cost_at d) (inside l) (inside r) (Dyad f l r)))
-  costs_alike (Index l ps) c d h =
-      let left = costs_alike l c d (in_left _ (names_in l) (names_in_positions ps) h) in
-      let positions = positions_cost_alike ps c d (in_right _ (names_in l) (names_in_positions ps) h) in
-      let here = cost_alike (Index l ps) c d h in
-      sum_of_parts (cost_at c) (inside l) (inside_positions ps) (Index l ps) ∙ ((λ i. left i + (positions i + here i)) ∙ sym (sum_of_parts (cost_at d) (inside l) (inside_positions ps) (Index l ps)))
+-- a number of each tree that is told by what holds of the names in it
+module _ (P : List ℕ → Type 0) (f g : Tree → ℕ) (same : (t : Tree) → ((x : List ℕ) → Contains (names_in t) x → P x) → f t ≡ g t) where
+  mutual
+    -- adds up to the same over all that have a node in a tree
+    pub sums_alike : (t : Tree) → ((x : List ℕ) → Contains (names_in t) x → P x) → sum_by f (inside t) ≡ sum_by g (inside t)
+    sums_alike (Const l) h = ap (λ n. 0 + n) (same (Const l) h)
+    sums_alike (Name x) h = refl
+    sums_alike (Monad k r) h =
+        let below = sums_alike r h in
+        let here = same (Monad k r) h in
+        sum_by_push f (inside r) (Monad k r) ∙ ((λ i. below i + here i) ∙ sym (sum_by_push g (inside r) (Monad k r)))
+    sums_alike (Dyad k l r) h =
+        let left = sums_alike l (in_left _ (names_in l) (names_in r) h) in
+        let right = sums_alike r (in_right _ (names_in l) (names_in r) h) in
+        let here = same (Dyad k l r) h in
+        sum_of_parts f (inside l) (inside r) (Dyad k l r) ∙ ((λ i. left i + (right i + here i)) ∙ sym (sum_of_parts g (inside l) (inside r) (Dyad k l r)))
+    sums_alike (Index l ps) h =
+        let left = sums_alike l (in_left _ (names_in l) (names_in_positions ps) h) in
+        let positions = position_sums_alike ps (in_right _ (names_in l) (names_in_positions ps) h) in
+        let here = same (Index l ps) h in
+        sum_of_parts f (inside l) (inside_positions ps) (Index l ps) ∙ ((λ i. left i + (positions i + here i)) ∙ sym (sum_of_parts g (inside l) (inside_positions ps) (Index l ps)))
 
-  pub positions_cost_alike : (ps : Positions) (c d : Change) → ((x : List ℕ) → Contains (names_in_positions ps) x → IsAlikeAt c d x) → sum_by (cost_at c) (inside_positions ps) ≡ sum_by (cost_at d) (inside_positions ps)
-  positions_cost_alike NoPositions c d h = refl
-  positions_cost_alike (Empty ps) c d h = positions_cost_alike ps c d h
-  positions_cost_alike (Filled e ps) c d h =
-      let first = costs_alike e c d (in_left _ (names_in e) (names_in_positions ps) h) in
-      let others = positions_cost_alike ps c d (in_right _ (names_in e) (names_in_positions ps) h) in
-      sum_by-append (cost_at c) (inside e) (inside_positions ps) ∙ ((λ i. first i + others i) ∙ sym (sum_by-append (cost_at d) (inside e) (inside_positions ps)))
+    pub position_sums_alike : (ps : Positions) → ((x : List ℕ) → Contains (names_in_positions ps) x → P x) → sum_by f (inside_positions ps) ≡ sum_by g (inside_positions ps)
+    position_sums_alike NoPositions h = refl
+    position_sums_alike (Empty ps) h = position_sums_alike ps h
+    position_sums_alike (Filled e ps) h =
+        let first = sums_alike e (in_left _ (names_in e) (names_in_positions ps) h) in
+        let others = position_sums_alike ps (in_right _ (names_in e) (names_in_positions ps) h) in
+        sum_by-append f (inside e) (inside_positions ps) ∙ ((λ i. first i + others i) ∙ sym (sum_by-append g (inside e) (inside_positions ps)))
+
+  -- so it does with the tree itself
+  pub subtree_sums_alike : (t : Tree) → ((x : List ℕ) → Contains (names_in t) x → P x) → sum_by f (subtrees t) ≡ sum_by g (subtrees t)
+  subtree_sums_alike (Name x) h = ap (λ n. 0 + n) (same (Name x) h)
+  subtree_sums_alike (Const l) h = sums_alike (Const l) h
+  subtree_sums_alike (Monad k r) h = sums_alike (Monad k r) h
+  subtree_sums_alike (Dyad k l r) h = sums_alike (Dyad k l r) h
+  subtree_sums_alike (Index l ps) h = sums_alike (Index l ps) h
+
+-- and what the changes of all nodes in it cost
+pub costs_alike : (t : Tree) (c d : Change) → ((x : List ℕ) → Contains (names_in t) x → IsAlikeAt c d x) → sum_by (cost_at c) (inside t) ≡ sum_by (cost_at d) (inside t)
+costs_alike t c d h = sums_alike (λ x. IsAlikeAt c d x) (cost_at c) (cost_at d) (λ u k. cost_alike u c d k) t h
+
+-- where the names in a tree show the same, what it gives has as many places
+pub size_alike : (t : Tree) (a b : List ℕ → Outcome) → ((x : List ℕ) → Contains (names_in t) x → a x ≡ b x) → size_at a t ≡ size_at b t
+size_alike (Const l) a b h = refl
+size_alike (Name x) a b h = refl
+size_alike (Monad f r) a b h =
+    let right = eval_alike r a b h in
+    λ i. operation_size (right_rule f) (arguments (right i ∷ []))
+size_alike (Dyad f l r) a b h =
+    let left = eval_alike l a b (in_left _ (names_in l) (names_in r) h) in
+    let right = eval_alike r a b (in_right _ (names_in l) (names_in r) h) in
+    λ i. operation_size (both_rule f) (arguments (left i ∷ right i ∷ []))
+size_alike (Index l ps) a b h =
+    let left = eval_alike l a b (in_left _ (names_in l) (names_in_positions ps) h) in
+    let positions = values_alike ps a b (in_right _ (names_in l) (names_in_positions ps) h) in
+    λ i. operation_size (index_rule (written ps)) (arguments (left i ∷ positions i))
+
+node_cost_alike : (is_new : Bool) (t : Tree) (c d : Change) → ((x : List ℕ) → Contains (names_in t) x → IsAlikeAt c d x) → node_cost_at is_new c t ≡ node_cost_at is_new d t
+node_cost_alike true t c d h = size_alike t c.new d.new (λ x o. (h x o).new)
+node_cost_alike false t c d h = cost_alike t c d h
+
+-- a tree, new or not, costs the same where the names in it showed, show and changed the same
+pub tree_cost_alike : (is_new : Bool) (t : Tree) (c d : Change) → ((x : List ℕ) → Contains (names_in t) x → IsAlikeAt c d x) → tree_cost is_new c t ≡ tree_cost is_new d t
+tree_cost_alike is_new t c d h = subtree_sums_alike (λ x. IsAlikeAt c d x) (node_cost_at is_new c) (node_cost_at is_new d) (λ u k. node_cost_alike is_new u c d k) t h
 
 -- arrays of which nothing changed
 all_paired : (arrays : List ArrayValue) (ds : List Delta) → list_all is_same ds ≡ true → all_same (paired arrays ds) ≡ true
@@ -205,3 +244,11 @@ mutual
       let first = unchanged_costs_nothing e c (in_left _ (names_in e) (names_in_positions ps) h) in
       let others = unchanged_positions_cost_nothing ps c (in_right _ (names_in e) (names_in_positions ps) h) in
       (same_in_front (change c e) (changes c ps) first.0 others.0, sum_by-append (cost_at c) (inside e) (inside_positions ps) ∙ (λ i. first.1 i + others.1 i))
+
+-- so it costs nothing with the tree itself
+pub unchanged_tree_costs_nothing : (t : Tree) (c : Change) → ((x : List ℕ) → Contains (names_in t) x → c.delta x ≡ Same) → tree_cost false c t ≡ 0
+unchanged_tree_costs_nothing (Name x) c h = refl
+unchanged_tree_costs_nothing (Const l) c h = refl
+unchanged_tree_costs_nothing (Monad f r) c h = (unchanged_costs_nothing (Monad f r) c h).1
+unchanged_tree_costs_nothing (Dyad f l r) c h = (unchanged_costs_nothing (Dyad f l r) c h).1
+unchanged_tree_costs_nothing (Index l ps) c h = (unchanged_costs_nothing (Index l ps) c h).1

@@ -1,8 +1,7 @@
 -- The change of a node makes of what it held what it now gives.
-use Rattle.std.proofs.Common.{◌≡◌, ℕ, suc, List, [], ◌∷◌, length, map, Bool, true, false, Result, Ok, Err, refl, sym, ap, ◌∙◌, subst, inl, inr}
-use Rattle.std.specs.List.{Contains, list_all}
+use Rattle.std.proofs.Common.{◌≡◌, ℕ, suc, List, [], ◌∷◌, length, map, Bool, true, false, ◌||◌, Result, Ok, Err, refl, sym, ap, ◌∙◌, subst, inl, inr}
+use Rattle.std.specs.List.{list_all, list_any}
 use Rattle.std.proofs.lemmas.Bool.{false≢true, cases_Bool, cond-true, cond-false}
-use Rattle.std.proofs.lemmas.List.Elements.{Contains-append_left, Contains-append_right, Contains-push}
 use Rattle.apl_expr.specs.Trees.{Tree, Const, Name, Monad, Dyad, Index, Positions, NoPositions, Empty, Filled}
 use Rattle.apl_expr.specs.declared.expr.Monadic.{Monadic}
 use Rattle.apl_expr.specs.declared.expr.Monadic.TheVariants as monadic
@@ -19,13 +18,13 @@ use Rattle.index_region.specs.declared.delta.Delta.{Delta}
 use Rattle.index_region.specs.declared.delta.Delta.TheVariants.{Same, Patch, Whole}
 use Rattle.index_region.specs.Boxes.{fits}
 use Rattle.index_region.specs.Checks.{Form, whole}
-use Rattle.index_region.specs.Patches.{PatchValue}
+use Rattle.index_region.specs.Patches.{PatchValue, FitsPatch, patched}
 use Rattle.change_core.specs.Laws.{ReachCovers, Each}
 use Rattle.change_core.specs.Reaches.{AllFit}
 use Rattle.change_core.specs.RuleModels.{RuleModel}
 use Rattle.change_core.proofs.Covers.{reaches_inside}
-use Rattle.change_rules.specs.Currency.{applied, Shows, IsRight}
-use Rattle.change_rules.specs.Nodes.{views, moved, is_same, node_delta}
+use Rattle.change_rules.specs.Currency.{applied, Shows, IsRight, IsRightPatch}
+use Rattle.change_rules.specs.Nodes.{Argument, views, moved, is_same, is_whole, all_same, node_delta}
 use Rattle.change_rules.specs.Outcomes.{evaluation}
 use Rattle.change_rules.proofs.Refreshed.{brings_up_to_date}
 use Rattle.change_rules.proofs.Right.{node_is_right}
@@ -35,7 +34,8 @@ use Rattle.selection_rules.specs.IndexLaw.{length-selectors}
 use Rattle.formula_core.specs.Outcomes.{Outcome, given}
 use Rattle.formula_core.specs.Meaning.{eval, eval_positions, names_in, names_in_positions, applied1, applied2, in_front, empty_in_front, indexed}
 use Rattle.formula_core.specs.Rules.{right_rule, both_rule}
-use Rattle.formula_core.specs.Changes.{Change, argument_in_front, arguments, result_of, paired, operation_delta, written, values_of, change, changes, FitsIn, IsChanged, IsSoundAt, AreSoundIn, AreSoundInPositions, IsNameChanged, IsTreeChanged, RulesCover}
+use Rattle.formula_core.specs.Changes.{Change, argument_in_front, arguments, result_of, paired, operation_delta, written, values_of, change, changes, FitsIn, IsChanged, IsTreeChanged}
+use Rattle.formula_core.proofs.Covering.{rules_cover}
 use Rattle.formula_core.proofs.Meant.{right_meant, both_meant, index_meant}
 
 -- so is each argument
@@ -110,16 +110,37 @@ handed (o ∷ os) [] arrays h = absurd h
 handed (o ∷ os) (d ∷ ds) [] h = absurd h
 
 -- a patch of a result lies in it
-in_shape : (q : PatchValue) (item_type : ItemType) (shape : List ℕ) (r : Result (List Item) Kind) → fits q.region shape ≡ true → q.item_type ≡ item_type → FitsIn (Patch q) (given (with_items item_type shape r))
-in_shape q item_type shape (Ok items) h e = record { inside = h; typed = e }
-in_shape q item_type shape (Err k) h e = tt
+in_shape : (q : PatchValue) (b : ArrayValue) (item_type : ItemType) (shape : List ℕ) (r : Result (List Item) Kind) → fits q.region shape ≡ true → q.item_type ≡ item_type → Ok b ≡ given (with_items item_type shape r) → FitsPatch b q
+in_shape q b item_type shape (Ok items) h e is =
+    let same : b ≡ record { item_type = item_type; shape = shape; items = items } = cc in
+    subst (λ (a : ArrayValue). FitsPatch a q) (sym same) (record { inside = h; typed = e })
+in_shape q b item_type shape (Err k) h e is = absurd (let no : ⊥ = cc in no)
 
-fit_of : (p : RuleModel) (arrays : List ArrayValue) (d : Delta) → IsRight p arrays d → FitsIn d (evaluation p arrays)
-fit_of p arrays Same h = tt
-fit_of p arrays (Whole r) h = tt
-fit_of p arrays (Patch q) h =
-    subst (λ (f : Result Form Kind). FitsIn (Patch q) (given (whole f (p.item arrays)))) (sym h.passes)
-    (in_shape q h.form.item_type h.form.shape (all_or_first_error (map (p.item arrays) (indices h.form.shape))) h.fit h.typed)
+patch_fits : (p : RuleModel) (arrays : List ArrayValue) (q : PatchValue) (b : ArrayValue) → IsRightPatch p arrays q → Ok b ≡ evaluation p arrays → FitsPatch b q
+patch_fits p arrays q b h is =
+    in_shape q b h.form.item_type h.form.shape (all_or_first_error (map (p.item arrays) (indices h.form.shape))) h.fit h.typed
+    (is ∙ ap (λ (f : Result Form Kind). given (whole f (p.item arrays))) h.passes)
+
+-- beside an error there is no patch
+or_yes : (b : Bool) → (b || true) ≡ true
+or_yes true = refl
+or_yes false = refl
+
+no_patch : (p : RuleModel) (args : List Argument) (e : Fault) (q : PatchValue) → node_delta p args (Err e) ≡ Patch q → ⊥
+no_patch p args e q is = elim (cases_Bool (all_same args)) [
+  | inl t ↦ let h : Same ≡ Patch q = sym (cond-true _ _ _ t) ∙ is in let no : ⊥ = cc in no
+  | inr f ↦
+      let h : Whole (evaluation p (views args)) ≡ Patch q = sym (cond-false _ _ _ f ∙ cond-true _ _ _ (or_yes (list_any (λ a. is_whole a.1.now) args))) ∙ is in
+      let no : ⊥ = cc in
+      no
+]
+
+fit_of : (p : RuleModel) (args : List Argument) (old : Outcome) (d : Delta) → node_delta p args old ≡ d → IsRight p (views args) d → applied d old ≡ evaluation p (views args) → FitsIn d (evaluation p (views args))
+fit_of p args old Same is h becomes = tt
+fit_of p args old (Whole r) is h becomes = tt
+fit_of p args (Err e) (Patch q) is h becomes = absurd (no_patch p args e q is)
+fit_of p args (Ok a) (Patch q) is h becomes =
+    subst (λ (o : Outcome). FitsIn (Patch q) o) becomes (patch_fits p (views args) q (patched a q) h becomes)
 
 -- an operation, by the law of its rule
 module _ (p : RuleModel) (law : ReachCovers p) (os : List Outcome) (ds : List Delta) (ns : List Outcome) (all : AllChanged os ds ns) (count : length ds ≡ length p.selectors) where
@@ -143,15 +164,17 @@ module _ (p : RuleModel) (law : ReachCovers p) (os : List Outcome) (ds : List De
   operation_fits (Ok arrays) is =
       let given_all = handed os ds arrays (subst (λ (xs : List Outcome). AllChanged os ds xs) (all_arrays ns arrays is) all) in
       let args = paired arrays ds in
-      let d = node_delta p args (result_of p (arguments os)) in
-      fit_of p arrays d (subst (λ (xs : List ArrayValue). IsRight p xs d) given_all.seen (node_is_right p args (result_of p (arguments os))))
+      let old = result_of p (arguments os) in
+      let seen : evaluation p (views args) ≡ evaluation p arrays = ap (evaluation p) given_all.seen in
+      subst (λ (o : Outcome). FitsIn (node_delta p args old) o) seen
+      (fit_of p args old (node_delta p args old) refl (node_is_right p args old) (operation_becomes (Ok arrays) is ∙ sym seen))
 
 -- what a function gives by its rule is what its expression means
-monad_meant : (f : Monadic) (o : Outcome) → result_of (right_rule f) (arguments (o ∷ [])) ≡ applied1 f o
+pub monad_meant : (f : Monadic) (o : Outcome) → result_of (right_rule f) (arguments (o ∷ [])) ≡ applied1 f o
 monad_meant f (Err e) = refl
 monad_meant f (Ok b) = right_meant f b
 
-dyad_meant : (f : Dyadic) (a b : Outcome) → result_of (both_rule f) (arguments (a ∷ b ∷ [])) ≡ applied2 f b a
+pub dyad_meant : (f : Dyadic) (a b : Outcome) → result_of (both_rule f) (arguments (a ∷ b ∷ [])) ≡ applied2 f b a
 dyad_meant f a (Err e) = refl
 dyad_meant f (Err e) (Ok b) = refl
 dyad_meant f (Ok a) (Ok b) = both_meant f a b
@@ -183,7 +206,7 @@ index_by_rule ws a (Err e) = refl
 index_by_rule ws (Err e) (Ok arrays) = refl
 index_by_rule ws (Ok a) (Ok arrays) = index_meant ws a arrays
 
-indexing_meant : (a : Tree) (ps : Positions) (names : List ℕ → Outcome) → result_of (index_rule (written ps)) (arguments (eval a names ∷ values_of ps names)) ≡ eval (Index a ps) names
+pub indexing_meant : (a : Tree) (ps : Positions) (names : List ℕ → Outcome) → result_of (index_rule (written ps)) (arguments (eval a names ∷ values_of ps names)) ≡ eval (Index a ps) names
 indexing_meant a ps names = index_by_rule (written ps) (eval a names) (arguments (values_of ps names)) ∙ ap (λ r. indexed r (eval a names)) (sym (positions_meant ps names))
 
 one_selector : (f : Monadic) → 1 ≡ length (right_rule f).selectors
@@ -226,38 +249,21 @@ operation_changed p law os ds ns old new all count was is =
     (subst (λ (n : Outcome). (applied (operation_delta p (arguments ns) ds (result_of p (arguments os))) (result_of p (arguments os)) ≡ n) × FitsIn (operation_delta p (arguments ns) ds (result_of p (arguments os))) n) is
     (operation_becomes p law os ds ns all count (arguments ns) refl, operation_fits p law os ds ns all count (arguments ns) refl))
 
-module _ (laws : RulesCover) (c : Change) where
-  as_argument : (t : Tree) → IsSoundAt c t → IsTreeChanged c t → IsChanged (eval t c.old) (change c t) (eval t c.new)
-  as_argument t s h = record { right = h.right; fit = h.fit; sound_old = s.old; sound_new = s.new }
+-- the change of an operation makes of what it gave what it gives, where that of each argument does
+pub monad_changed : (c : Change) (f : Monadic) (b : Tree) → IsChanged (eval b c.old) (change c b) (eval b c.new) → IsTreeChanged c (Monad f b)
+monad_changed c f b right =
+    let h = operation_changed (right_rule f) (rules_cover.of_right f) (eval b c.old ∷ []) (change c b ∷ []) (eval b c.new ∷ []) (eval (Monad f b) c.old) (eval (Monad f b) c.new)
+    (right, tt) (one_selector f) (monad_meant f (eval b c.old)) (monad_meant f (eval b c.new)) in
+    record { right = h.0; fit = h.1 }
 
-  mutual
-    -- the change of a tree makes of what it gave what it gives
-    pub changed : (t : Tree) → ((x : List ℕ) → Contains (names_in t) x → IsNameChanged c x) → AreSoundIn c t → IsTreeChanged c t
-    changed (Const l) told sound = record { right = refl; fit = tt }
-    changed (Name x) told sound = let h = told x (Contains-push [] x) in record { right = h.right; fit = h.fit }
-    changed (Monad f b) told sound =
-        let h = operation_changed (right_rule f) (laws.of_right f) (eval b c.old ∷ []) (change c b ∷ []) (eval b c.new ∷ []) (eval (Monad f b) c.old) (eval (Monad f b) c.new)
-        (as_argument b sound.0 (changed b told sound.1), tt) (one_selector f) (monad_meant f (eval b c.old)) (monad_meant f (eval b c.new)) in
-        record { right = h.0; fit = h.1 }
-    changed (Dyad f a b) told sound =
-        let h = operation_changed (both_rule f) (laws.of_both f) (eval a c.old ∷ eval b c.old ∷ []) (change c a ∷ change c b ∷ []) (eval a c.new ∷ eval b c.new ∷ []) (eval (Dyad f a b) c.old) (eval (Dyad f a b) c.new) (
-          as_argument a sound.0.0 (changed a (λ x o. told x (Contains-append_left (names_in a) (names_in b) x o)) sound.0.1),
-          (as_argument b sound.1.0 (changed b (λ x o. told x (Contains-append_right (names_in a) (names_in b) x o)) sound.1.1), tt),
-        )
-        (two_selectors f) (dyad_meant f (eval a c.old) (eval b c.old)) (dyad_meant f (eval a c.new) (eval b c.new)) in
-        record { right = h.0; fit = h.1 }
-    changed (Index a ps) told sound =
-        let h = operation_changed (index_rule (written ps)) (laws.of_positions (written ps)) (eval a c.old ∷ values_of ps c.old) (change c a ∷ changes c ps) (eval a c.new ∷ values_of ps c.new) (eval (Index a ps) c.old) (eval (Index a ps) c.new) (
-          as_argument a sound.0.0 (changed a (λ x o. told x (Contains-append_left (names_in a) (names_in_positions ps) x o)) sound.0.1),
-          positions_changed ps (λ x o. told x (Contains-append_right (names_in a) (names_in_positions ps) x o)) sound.1,
-        )
-        (ap suc (written_many c ps) ∙ sym (length-selectors (written ps))) (indexing_meant a ps c.old) (indexing_meant a ps c.new) in
-        record { right = h.0; fit = h.1 }
+pub dyad_changed : (c : Change) (f : Dyadic) (a b : Tree) → IsChanged (eval a c.old) (change c a) (eval a c.new) → IsChanged (eval b c.old) (change c b) (eval b c.new) → IsTreeChanged c (Dyad f a b)
+dyad_changed c f a b left right =
+    let h = operation_changed (both_rule f) (rules_cover.of_both f) (eval a c.old ∷ eval b c.old ∷ []) (change c a ∷ change c b ∷ []) (eval a c.new ∷ eval b c.new ∷ []) (eval (Dyad f a b) c.old) (eval (Dyad f a b) c.new)
+    (left, (right, tt)) (two_selectors f) (dyad_meant f (eval a c.old) (eval b c.old)) (dyad_meant f (eval a c.new) (eval b c.new)) in
+    record { right = h.0; fit = h.1 }
 
-    positions_changed : (ps : Positions) → ((x : List ℕ) → Contains (names_in_positions ps) x → IsNameChanged c x) → AreSoundInPositions c ps → AllChanged (values_of ps c.old) (changes c ps) (values_of ps c.new)
-    positions_changed NoPositions told sound = tt
-    positions_changed (Empty ps) told sound = positions_changed ps told sound
-    positions_changed (Filled e ps) told sound = (
-      as_argument e sound.0.0 (changed e (λ x o. told x (Contains-append_left (names_in e) (names_in_positions ps) x o)) sound.0.1),
-      positions_changed ps (λ x o. told x (Contains-append_right (names_in e) (names_in_positions ps) x o)) sound.1,
-    )
+pub index_changed : (c : Change) (a : Tree) (ps : Positions) → IsChanged (eval a c.old) (change c a) (eval a c.new) → AllChanged (values_of ps c.old) (changes c ps) (values_of ps c.new) → IsTreeChanged c (Index a ps)
+index_changed c a ps array positions =
+    let h = operation_changed (index_rule (written ps)) (rules_cover.of_positions (written ps)) (eval a c.old ∷ values_of ps c.old) (change c a ∷ changes c ps) (eval a c.new ∷ values_of ps c.new) (eval (Index a ps) c.old) (eval (Index a ps) c.new)
+    (array, positions) (ap suc (written_many c ps) ∙ sym (length-selectors (written ps))) (indexing_meant a ps c.old) (indexing_meant a ps c.new) in
+    record { right = h.0; fit = h.1 }

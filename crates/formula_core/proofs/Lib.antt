@@ -2,7 +2,12 @@ pub mod Indexing
 pub mod Tabled
 pub mod Rooted
 pub mod Meant
-pub mod Changed
 pub mod Covering
+pub mod Changed
 pub mod Alike
 pub mod Stepping
+pub mod Gathered
+pub mod Steps
+pub mod Adopted
+pub mod Placed
+pub mod Planned

@@ -1,5 +1,5 @@
 -- A formula is its table.
-use Rattle.std.proofs.Common.{◌≡◌, ℕ, ◌+◌, ◌-◌, ◌<◌, true, false, List, [], ◌∷◌, ◌++◌, length, take, get_or, refl, sym, ap, ◌∙◌, subst, arith, append_assoc, inl, cond}
+use Rattle.std.proofs.Common.{◌≡◌, ℕ, ◌+◌, ◌-◌, ◌<◌, true, false, List, [], ◌∷◌, ◌++◌, length, take, get_or, refl, sym, ap, ◌∙◌, subst, arith, append_assoc, cond}
 use Rattle.std.specs.List.{count_by}
 use Rattle.std.proofs.lemmas.List.{length-append}
 use Rattle.std.proofs.lemmas.List.Sums.{sum_by-append, count_by_more_yes, count_by_more_no}
@@ -9,7 +9,8 @@ use Rattle.formula_core.specs.declared.table.Node.{Node}
 use Rattle.formula_core.specs.declared.table.Node.TheVariants as node
 use Rattle.formula_core.specs.Meaning.{names_in}
 use Rattle.formula_core.specs.Tables.{inside, inside_positions, subtrees, tree_at, tree_of_node, trees_after, applies, IsTable, IsLowered}
-use Rattle.formula_core.specs.FormulaTables.{root_of, IsFormulaTable, IsTableOf, is_operation, operations}
+use Rattle.formula_core.specs.Outcomes.{Outcome}
+use Rattle.formula_core.specs.Formulas.{root_of, IsFormula, IsTableOf, is_operation, operations}
 use Rattle.formula_core.proofs.Tabled.{trees_long, trees_more, table_more, at_last}
 
 -- a tree stands last among its subtrees
@@ -37,9 +38,11 @@ append_none [] = refl
 append_none (x ∷ xs) = ap (λ rest. x ∷ rest) (append_none xs)
 
 table_made : (names : List (List ℕ)) (nodes : List Node) (t : Tree) → names ≡ names_in t → trees_after names [] nodes ≡ subtrees t → IsTable (length names) 0 nodes → IsTableOf names nodes t
-table_made names nodes t named is table =
-    let root : root_of names nodes ≡ t = root_found names nodes t is in
-    record { formula = record { named = named ∙ ap names_in (sym root); trees = is ∙ ap subtrees (sym root); table = table; each = inl refl }; root = root }
+table_made names nodes t named is table = record { root = root_found names nodes t is; named = named; trees = is; table = table }
+
+-- a formula of the tree, with a result for each node
+pub formula_made : (names : List (List ℕ)) (nodes : List Node) (t : Tree) (results : List Outcome) → IsTableOf names nodes t → length results ≡ length nodes → IsFormula names nodes results
+formula_made names nodes t results table each = record { table = subst (λ (u : Tree). IsTableOf names nodes u) (sym table.root) table; each = each }
 
 -- the trees where no further names follow
 plain : (names : List (List ℕ)) (nodes : List Node) (ts : List Tree) → trees_after (names ++ []) [] nodes ≡ ts → trees_after names [] nodes ≡ ts
@@ -85,8 +88,8 @@ applying names trees (n ∷ nodes) =
       ap (λ b. 0 + cond b 1 0) (node_applies names trees n),
     )
 
-pub operations_counted : (names : List (List ℕ)) (nodes : List Node) (results : _) → IsFormulaTable names nodes results → count_by applies nodes ≡ operations (root_of names nodes)
-operations_counted names nodes results f = omega (arith, applying names [] nodes, ap (count_by is_operation) f.trees)
+pub operations_counted : (names : List (List ℕ)) (nodes : List Node) (results : List Outcome) → IsFormula names nodes results → count_by applies nodes ≡ operations (root_of names nodes)
+operations_counted names nodes results f = omega (arith, applying names [] nodes, ap (count_by is_operation) f.table.trees)
 
 -- one node more is counted, or not
 pub counted_yes : (nodes : List Node) (k c : ℕ) (n : Node) → c ≡ count_by applies (take k nodes) → k < length nodes → n ≡ get_or nodes k n → applies n ≡ true → c + 1 ≡ count_by applies (take (k + 1) nodes)

@@ -1,24 +1,29 @@
 -- The change of an operation, worked out from what its operands give, is the change of its tree.
-use Rattle.std.proofs.Common.{◌≡◌, ℕ, ◌+◌, ◌≤◌, List, [], ◌∷◌, map, Bool, true, false, ◌&&◌, Result, Ok, Err, refl, sym, ap, ◌∙◌, subst, IfOk, if◌then◌else◌}
+use Rattle.std.proofs.Common.{◌≡◌, ℕ, ◌+◌, ◌≤◌, List, [], ◌∷◌, ◌++◌, length, map, Bool, true, false, ◌&&◌, Option, Some, None, is_some, Result, Ok, Err, refl, sym, ap, ◌∙◌, subst, arith, IfOk, if◌then◌else◌}
 use Rattle.std.specs.List.{list_all}
 use Rattle.std.specs.declared.alloc.AllocError.{AllocError}
-use Rattle.apl_expr.specs.Trees.{Tree, Monad, Dyad}
+use Rattle.std.proofs.lemmas.Bool.{false≢true}
+use Rattle.std.proofs.lemmas.List.{length-map}
+use Rattle.apl_expr.specs.Trees.{Tree, Monad, Dyad, Index, Positions, positions_of}
 use Rattle.apl_expr.specs.declared.expr.Monadic.{Monadic}
 use Rattle.apl_expr.specs.declared.expr.Dyadic.{Dyadic}
 use Rattle.arrays_core.specs.Arrays.{ArrayValue}
 use Rattle.arrays_core.specs.declared.fault.Fault.{Fault}
 use Rattle.index_region.specs.declared.delta.Delta.{Delta}
-use Rattle.index_region.specs.declared.delta.Delta.TheVariants.{Same, Whole}
-use Rattle.change_core.specs.RuleModels.{RuleModel}
-use Rattle.change_rules.specs.Nodes.{is_same, node_delta, node_cost}
+use Rattle.index_region.specs.declared.delta.Delta.TheVariants.{Same, Patch, Whole}
+use Rattle.change_core.specs.RuleModels.{RuleModel, form_size}
+use Rattle.change_rules.specs.Nodes.{views, is_same, is_whole, node_delta, node_cost}
+use Rattle.change_rules.specs.Outcomes.{evaluation}
+use Rattle.selection_rules.specs.Index.{index_rule}
 use Rattle.formula_core.specs.declared.input.Input.{Input}
 use Rattle.formula_core.specs.declared.input.Input.TheVariants.{Good, Bad}
 use Rattle.formula_core.specs.Outcomes.{Outcome}
 use Rattle.formula_core.specs.Meaning.{eval}
 use Rattle.formula_core.specs.Rules.{right_rule, both_rule}
-use Rattle.formula_core.specs.Changes.{Change, arguments, paired, operation_delta, operation_cost, change, cost_at}
-use Rattle.formula_core.specs.Inputs.{shown, stays, delta_of, IsInput, IsOperationChange}
-use Rattle.formula_core.proofs.Changed.{all_arrays}
+use Rattle.formula_core.specs.Changes.{Change, arguments, result_of, paired, operation_delta, operation_cost, operation_size, written, values_of, change, changes, cost_at, size_at}
+use Rattle.formula_core.specs.Inputs.{shown, stays, delta_of, written_inputs, AllHaveFit, IsInput, IsOperationChange}
+use Rattle.formula_core.specs.Stages.{IsReady, AreReady, IsStep}
+use Rattle.formula_core.proofs.Changed.{all_arrays, monad_meant, dyad_meant, indexing_meant}
 
 -- each operand gives what it should
 abbrev pub AllInputs : List Outcome → List Delta → List Input → Type 0
@@ -26,7 +31,7 @@ AllInputs [] [] [] = Unit {0}
 AllInputs (o ∷ os) (d ∷ ds) (i ∷ is) = IsInput o d i × AllInputs os ds is
 AllInputs _ _ _ = ⊥
 
-stays_same : (i : Input) → stays i ≡ is_same (delta_of i)
+pub stays_same : (i : Input) → stays i ≡ is_same (delta_of i)
 stays_same (Good array delta) = refl
 stays_same (Bad fault true) = refl
 stays_same (Bad fault false) = refl
@@ -74,21 +79,147 @@ module _ (p : RuleModel) (os : List Outcome) (ds : List Delta) (is : List Input)
   pub cost_stepped : operation_cost p (arguments (map shown is)) (map delta_of is) held ≡ operation_cost p (arguments os) ds held
   cost_stepped = ap (λ xs. operation_cost p (arguments xs) (map delta_of is) held) (all_shown os ds is all) ∙ cost_by (arguments os) refl
 
--- what the node of a tree answers, and how far the meter rises by it
-pub record IsStep (c : Change) (t : Tree) (before after : ℕ) (r : Result Delta AllocError) : Type 0 where
-  pub delta : IfOk r (λ d. d ≡ change c t)
-  pub ticks : after ≤ before + cost_at c t
-
-pub monad_step : (c : Change) (f : Monadic) (b : Tree) (right : Input) (before after : ℕ) (r : Result Delta AllocError) → IsInput (eval b c.new) (change c b) right
-    → IsOperationChange (right_rule f) (right ∷ []) (eval (Monad f b) c.old) before after r → IsStep c (Monad f b) before after r
-monad_step c f b right before after r h made = record {
-  delta = subst (λ (x : Delta). IfOk r (λ d. d ≡ x)) (delta_stepped (right_rule f) (eval b c.new ∷ []) (change c b ∷ []) (right ∷ []) (h, tt) (eval (Monad f b) c.old)) made.delta;
-  ticks = subst (λ (x : ℕ). after ≤ before + x) (cost_stepped (right_rule f) (eval b c.new ∷ []) (change c b ∷ []) (right ∷ []) (h, tt) (eval (Monad f b) c.old)) made.ticks;
+-- an operation's step where the formula holds results
+pub held_step : (p : RuleModel) (c : Change) (t : Tree) (os : List Outcome) (ds : List Delta) (is : List Input) (held : Outcome) (before after : ℕ) (r : Result (Delta × ℕ) AllocError) → AllInputs os ds is
+    → change c t ≡ operation_delta p (arguments os) ds held → cost_at c t ≡ operation_cost p (arguments os) ds held → IsOperationChange p is held before after r → IsStep false c t before after r
+held_step p c t os ds is held before after r all changed costs made = record {
+  delta = subst (λ (x : Delta). IfOk r (λ s. s.0 ≡ x)) (delta_stepped p os ds is all held ∙ sym changed) made.delta;
+  cost = subst (λ (x : ℕ). IfOk r (λ s. s.1 ≡ x)) (cost_stepped p os ds is all held ∙ sym costs) made.cost;
+  ticks = subst (λ (x : ℕ). after ≤ before + x) (cost_stepped p os ds is all held ∙ sym costs) made.ticks;
 }
 
-pub dyad_step : (c : Change) (f : Dyadic) (a b : Tree) (left right : Input) (before after : ℕ) (r : Result Delta AllocError) → IsInput (eval a c.new) (change c a) left → IsInput (eval b c.new) (change c b) right
-    → IsOperationChange (both_rule f) (left ∷ right ∷ []) (eval (Dyad f a b) c.old) before after r → IsStep c (Dyad f a b) before after r
-dyad_step c f a b left right before after r h k made = record {
-  delta = subst (λ (x : Delta). IfOk r (λ d. d ≡ x)) (delta_stepped (both_rule f) (eval a c.new ∷ eval b c.new ∷ []) (change c a ∷ change c b ∷ []) (left ∷ right ∷ []) (h, (k, tt)) (eval (Dyad f a b) c.old)) made.delta;
-  ticks = subst (λ (x : ℕ). after ≤ before + x) (cost_stepped (both_rule f) (eval a c.new ∷ eval b c.new ∷ []) (change c a ∷ change c b ∷ []) (left ∷ right ∷ []) (h, (k, tt)) (eval (Dyad f a b) c.old)) made.ticks;
-}
+-- the first of the operands counts as new
+abbrev pub BeginsAnew : List Input → Type 0
+BeginsAnew [] = ⊥
+BeginsAnew (i ∷ is) = is_whole (delta_of i) ≡ true
+
+views_paired : (arrays : List ArrayValue) (ds : List Delta) → length ds ≡ length arrays → views (paired arrays ds) ≡ arrays
+views_paired [] ds h = refl
+views_paired (a ∷ arrays) [] h = absurd (omega (arith, h))
+views_paired (a ∷ arrays) (d ∷ ds) h = ap (λ xs. a ∷ xs) (views_paired arrays ds (omega (arith, h)))
+
+-- an operation of which an argument is new is worked out whole
+record IsWhole (p : RuleModel) (r : Result (List ArrayValue) Fault) (ds : List Delta) (held : Outcome) : Type 0 where
+  pub delta : operation_delta p r ds held ≡ Whole (result_of p r)
+  pub cost : operation_cost p r ds held ≡ operation_size p r
+
+whole_by : (p : RuleModel) (r : Result (List ArrayValue) Fault) (d : Delta) (ds : List Delta) (held : Outcome) → is_whole d ≡ true → ((arrays : List ArrayValue) → r ≡ Ok arrays → length (d ∷ ds) ≡ length arrays) → IsWhole p r (d ∷ ds) held
+whole_by p r Same ds held w count = absurd (false≢true w)
+whole_by p r (Patch q) ds held w count = absurd (false≢true w)
+whole_by p (Err e) (Whole o) ds held w count = record { delta = refl; cost = refl }
+whole_by p (Ok []) (Whole o) ds held w count = absurd (omega (arith, count [] refl))
+whole_by p (Ok (a ∷ arrays)) (Whole o) ds held w count =
+    let seen : views (paired (a ∷ arrays) (Whole o ∷ ds)) ≡ a ∷ arrays = views_paired (a ∷ arrays) (Whole o ∷ ds) (count (a ∷ arrays) refl) in
+    record {
+      delta = ap (λ xs. Whole (evaluation p xs)) seen;
+      cost = ap (λ xs. form_size (p.form xs)) seen;
+    }
+
+whole_count : (arrays : List ArrayValue) (is : List Input) → map shown is ≡ map (λ a. Ok a) arrays → length (map delta_of is) ≡ length arrays
+whole_count arrays is given = length-map is delta_of ∙ (sym (length-map is shown) ∙ (ap (λ xs. length xs) given ∙ length-map arrays (λ a. Ok a)))
+
+whole_all : (p : RuleModel) (os : List Outcome) (is : List Input) (held : Outcome) → map shown is ≡ os → BeginsAnew is → IsWhole p (arguments (map shown is)) (map delta_of is) held
+whole_all p os [] held shows new = absurd new
+whole_all p os (i ∷ is) held shows new = whole_by p (arguments (map shown (i ∷ is))) (delta_of i) (map delta_of is) held new
+    (λ arrays given. whole_count arrays (i ∷ is) (all_arrays (map shown (i ∷ is)) arrays given))
+
+-- an operation's step where the formula was not worked out yet
+pub new_step : (p : RuleModel) (c : Change) (t : Tree) (os : List Outcome) (is : List Input) (held : Outcome) (before after : ℕ) (r : Result (Delta × ℕ) AllocError) → map shown is ≡ os → BeginsAnew is
+    → result_of p (arguments os) ≡ eval t c.new → size_at c.new t ≡ operation_size p (arguments os) → IsOperationChange p is held before after r → IsStep true c t before after r
+new_step p c t os is held before after r shows new meant sized made =
+    let whole = whole_all p os is held shows new in
+    let delta = whole.delta ∙ ap (λ xs. Whole (result_of p (arguments xs))) shows ∙ ap (λ o. Whole o) meant in
+    let cost = whole.cost ∙ ap (λ xs. operation_size p (arguments xs)) shows ∙ sym sized in
+    record {
+      delta = subst (λ (x : Delta). IfOk r (λ s. s.0 ≡ x)) delta made.delta;
+      cost = subst (λ (x : ℕ). IfOk r (λ s. s.1 ≡ x)) cost made.cost;
+      ticks = subst (λ (x : ℕ). after ≤ before + x) cost made.ticks;
+    }
+
+pub monad_step : (is_new : Bool) (c : Change) (f : Monadic) (b : Tree) (right : Input) (held : Outcome) (before after : ℕ) (r : Result (Delta × ℕ) AllocError) → IsReady is_new c b right → (is_new ≡ false → held ≡ eval (Monad f b) c.old)
+    → IsOperationChange (right_rule f) (right ∷ []) held before after r → IsStep is_new c (Monad f b) before after r
+monad_step true c f b right held before after r ready holds made =
+    let shows = ready.shows refl in
+    new_step (right_rule f) c (Monad f b) (eval b c.new ∷ []) (right ∷ []) held before after r (λ i. shows i ∷ []) (ready.anew refl) (monad_meant f (eval b c.new)) refl made
+monad_step false c f b right held before after r ready holds made =
+    held_step (right_rule f) c (Monad f b) (eval b c.new ∷ []) (change c b ∷ []) (right ∷ []) held before after r (ready.is refl, tt)
+    (ap (operation_delta (right_rule f) (arguments (eval b c.new ∷ [])) (change c b ∷ [])) (sym (holds refl))) (ap (operation_cost (right_rule f) (arguments (eval b c.new ∷ [])) (change c b ∷ [])) (sym (holds refl))) made
+
+pub dyad_step : (is_new : Bool) (c : Change) (f : Dyadic) (a b : Tree) (left right : Input) (held : Outcome) (before after : ℕ) (r : Result (Delta × ℕ) AllocError) → IsReady is_new c a left → IsReady is_new c b right
+    → (is_new ≡ false → held ≡ eval (Dyad f a b) c.old) → IsOperationChange (both_rule f) (left ∷ right ∷ []) held before after r → IsStep is_new c (Dyad f a b) before after r
+dyad_step true c f a b left right held before after r l k holds made =
+    let shows = l.shows refl in
+    let show = k.shows refl in
+    new_step (both_rule f) c (Dyad f a b) (eval a c.new ∷ eval b c.new ∷ []) (left ∷ right ∷ []) held before after r (λ i. shows i ∷ show i ∷ []) (l.anew refl) (dyad_meant f (eval a c.new) (eval b c.new)) refl made
+dyad_step false c f a b left right held before after r l k holds made =
+    held_step (both_rule f) c (Dyad f a b) (eval a c.new ∷ eval b c.new ∷ []) (change c a ∷ change c b ∷ []) (left ∷ right ∷ []) held before after r (l.is refl, (k.is refl, tt))
+    (ap (operation_delta (both_rule f) (arguments (eval a c.new ∷ eval b c.new ∷ [])) (change c a ∷ change c b ∷ [])) (sym (holds refl)))
+    (ap (operation_cost (both_rule f) (arguments (eval a c.new ∷ eval b c.new ∷ [])) (change c a ∷ change c b ∷ [])) (sym (holds refl))) made
+
+-- the positions of an index
+ready_inputs : (c : Change) (ts : List (Option Tree)) (is : List (Option Input)) → AreReady false c ts is → AllInputs (values_of (positions_of ts) c.new) (changes c (positions_of ts)) (written_inputs is)
+ready_inputs c [] [] h = tt
+ready_inputs c (None ∷ ts) (None ∷ is) h = ready_inputs c ts is h
+ready_inputs c (Some t ∷ ts) (Some i ∷ is) h = (h.0.is refl, ready_inputs c ts is h.1)
+ready_inputs c [] (i ∷ is) h = absurd h
+ready_inputs c (None ∷ ts) [] h = absurd h
+ready_inputs c (None ∷ ts) (Some i ∷ is) h = absurd h
+ready_inputs c (Some t ∷ ts) [] h = absurd h
+ready_inputs c (Some t ∷ ts) (None ∷ is) h = absurd h
+
+ready_shown : (c : Change) (ts : List (Option Tree)) (is : List (Option Input)) → AreReady true c ts is → map shown (written_inputs is) ≡ values_of (positions_of ts) c.new
+ready_shown c [] [] h = refl
+ready_shown c (None ∷ ts) (None ∷ is) h = ready_shown c ts is h
+ready_shown c (Some t ∷ ts) (Some i ∷ is) h = let here = h.0.shows refl in let rest = ready_shown c ts is h.1 in λ k. here k ∷ rest k
+ready_shown c [] (i ∷ is) h = absurd h
+ready_shown c (None ∷ ts) [] h = absurd h
+ready_shown c (None ∷ ts) (Some i ∷ is) h = absurd h
+ready_shown c (Some t ∷ ts) [] h = absurd h
+ready_shown c (Some t ∷ ts) (None ∷ is) h = absurd h
+
+ready_written : (is_new : Bool) (c : Change) (ts : List (Option Tree)) (is : List (Option Input)) → AreReady is_new c ts is → map is_some is ≡ written (positions_of ts)
+ready_written is_new c [] [] h = refl
+ready_written is_new c (None ∷ ts) (None ∷ is) h = ap (λ ws. false ∷ ws) (ready_written is_new c ts is h)
+ready_written is_new c (Some t ∷ ts) (Some i ∷ is) h = ap (λ ws. true ∷ ws) (ready_written is_new c ts is h.1)
+ready_written is_new c [] (i ∷ is) h = absurd h
+ready_written is_new c (None ∷ ts) [] h = absurd h
+ready_written is_new c (None ∷ ts) (Some i ∷ is) h = absurd h
+ready_written is_new c (Some t ∷ ts) [] h = absurd h
+ready_written is_new c (Some t ∷ ts) (None ∷ is) h = absurd h
+
+-- one more position, written or not
+pub ready_more : (is_new : Bool) (c : Change) (ts : List (Option Tree)) (is : List (Option Input)) (t : Option Tree) (i : Option Input) → AreReady is_new c ts is → AreReady is_new c (t ∷ []) (i ∷ []) → AreReady is_new c (ts ++ t ∷ []) (is ++ i ∷ [])
+ready_more is_new c [] [] t i h one = one
+ready_more is_new c (None ∷ ts) (None ∷ is) t i h one = ready_more is_new c ts is t i h one
+ready_more is_new c (Some u ∷ ts) (Some j ∷ is) t i h one = (h.0, ready_more is_new c ts is t i h.1 one)
+ready_more is_new c [] (j ∷ is) t i h one = absurd h
+ready_more is_new c (None ∷ ts) [] t i h one = absurd h
+ready_more is_new c (None ∷ ts) (Some j ∷ is) t i h one = absurd h
+ready_more is_new c (Some u ∷ ts) [] t i h one = absurd h
+ready_more is_new c (Some u ∷ ts) (None ∷ is) t i h one = absurd h
+
+pub fit_more : (is : List (Option Input)) (i : Option Input) → AllHaveFit is → AllHaveFit (i ∷ []) → AllHaveFit (is ++ i ∷ [])
+fit_more [] i h one = one
+fit_more (None ∷ is) i h one = fit_more is i h one
+fit_more (Some j ∷ is) i h one = (h.0, fit_more is i h.1 one)
+
+index_by : (is_new : Bool) (c : Change) (a : Tree) (ts : List (Option Tree)) (array : Input) (positions : List (Option Input)) (held : Outcome) (before after : ℕ) (r : Result (Delta × ℕ) AllocError)
+    → IsReady is_new c a array → AreReady is_new c ts positions → (is_new ≡ false → held ≡ eval (Index a (positions_of ts)) c.old)
+    → IsOperationChange (index_rule (written (positions_of ts))) (array ∷ written_inputs positions) held before after r → IsStep is_new c (Index a (positions_of ts)) before after r
+index_by true c a ts array positions held before after r ready all holds made =
+    let ps = positions_of ts in
+    let shows = ready.shows refl in
+    let rest = ready_shown c ts positions all in
+    new_step (index_rule (written ps)) c (Index a ps) (eval a c.new ∷ values_of ps c.new) (array ∷ written_inputs positions) held before after r (λ i. shows i ∷ rest i) (ready.anew refl) (indexing_meant a ps c.new) refl made
+index_by false c a ts array positions held before after r ready all holds made =
+    let ps = positions_of ts in
+    held_step (index_rule (written ps)) c (Index a ps) (eval a c.new ∷ values_of ps c.new) (change c a ∷ changes c ps) (array ∷ written_inputs positions) held before after r (ready.is refl, ready_inputs c ts positions all)
+    (ap (operation_delta (index_rule (written ps)) (arguments (eval a c.new ∷ values_of ps c.new)) (change c a ∷ changes c ps)) (sym (holds refl)))
+    (ap (operation_cost (index_rule (written ps)) (arguments (eval a c.new ∷ values_of ps c.new)) (change c a ∷ changes c ps)) (sym (holds refl))) made
+
+pub index_step : (is_new : Bool) (c : Change) (a : Tree) (ts : List (Option Tree)) (array : Input) (positions : List (Option Input)) (held : Outcome) (before after : ℕ) (r : Result (Delta × ℕ) AllocError)
+    → IsReady is_new c a array → AreReady is_new c ts positions → (is_new ≡ false → held ≡ eval (Index a (positions_of ts)) c.old)
+    → IsOperationChange (index_rule (map is_some positions)) (array ∷ written_inputs positions) held before after r → IsStep is_new c (Index a (positions_of ts)) before after r
+index_step is_new c a ts array positions held before after r ready all holds made =
+    index_by is_new c a ts array positions held before after r ready all holds
+    (subst (λ (ws : List Bool). IsOperationChange (index_rule ws) (array ∷ written_inputs positions) held before after r) (ready_written is_new c ts positions all) made)

@@ -10,7 +10,7 @@ use Rattle.index_region.specs.declared.delta.Delta.{Delta}
 use Rattle.index_region.specs.declared.delta.Delta.TheVariants.{Same, Patch, Whole}
 use Rattle.index_region.specs.Patches.{FitsPatch}
 use Rattle.change_core.specs.Laws.{ReachCovers}
-use Rattle.change_core.specs.RuleModels.{RuleModel}
+use Rattle.change_core.specs.RuleModels.{RuleModel, form_size}
 use Rattle.change_rules.specs.Currency.{applied}
 use Rattle.change_rules.specs.Nodes.{Argument, is_same, node_delta, node_cost}
 use Rattle.change_rules.specs.Outcomes.{evaluation}
@@ -90,9 +90,23 @@ cost_at c (Monad f b) = operation_cost (right_rule f) (arguments (eval b c.new �
 cost_at c (Dyad f a b) = operation_cost (both_rule f) (arguments (eval a c.new ∷ eval b c.new ∷ [])) (change c a ∷ change c b ∷ []) (eval (Dyad f a b) c.old)
 cost_at c (Index a ps) = operation_cost (index_rule (written ps)) (arguments (eval a c.new ∷ values_of ps c.new)) (change c a ∷ changes c ps) (eval (Index a ps) c.old)
 
--- the box of a patch lies in what is patched, and its items are of its type
+-- how many places the result of an operation has; none beside an error and where a check fails
+abbrev pub operation_size : RuleModel → Result (List ArrayValue) Fault → ℕ
+operation_size p (Ok arrays) = form_size (p.form arrays)
+operation_size p (Err e) = 0
+
+-- the same of the node of a tree, where the names show these
+abbrev pub size_at : (List ℕ → Outcome) → Tree → ℕ
+size_at names (Const l) = 0
+size_at names (Name x) = 0
+size_at names (Monad f b) = operation_size (right_rule f) (arguments (eval b names ∷ []))
+size_at names (Dyad f a b) = operation_size (both_rule f) (arguments (eval a names ∷ eval b names ∷ []))
+size_at names (Index a ps) = operation_size (index_rule (written ps)) (arguments (eval a names ∷ values_of ps names))
+
+-- what is patched is an array in which the box lies, and the items are of its type
 abbrev pub FitsIn : Delta → Outcome → Type 0
 FitsIn (Patch p) (Ok a) = FitsPatch a p
+FitsIn (Patch p) (Err e) = ⊥
 FitsIn _ _ = Unit {0}
 
 -- what was, with its change, is what is; both are arrays or errors
@@ -101,25 +115,6 @@ pub record IsChanged (old : Outcome) (d : Delta) (new : Outcome) : Type 0 where
   pub fit : FitsIn d new
   pub sound_old : IfOk old IsArray
   pub sound_new : IfOk new IsArray
-
--- a tree gives an array of a sound shape and type, or an error, before and after
-pub record IsSoundAt (c : Change) (t : Tree) : Type 0 where
-  pub old : IfOk (eval t c.old) IsArray
-  pub new : IfOk (eval t c.new) IsArray
-
-abbrev mutual
-  -- so does each tree in a tree
-  pub AreSoundIn : Change → Tree → Type 0
-  AreSoundIn c (Const l) = Unit {0}
-  AreSoundIn c (Name x) = Unit {0}
-  AreSoundIn c (Monad f b) = IsSoundAt c b × AreSoundIn c b
-  AreSoundIn c (Dyad f a b) = (IsSoundAt c a × AreSoundIn c a) × (IsSoundAt c b × AreSoundIn c b)
-  AreSoundIn c (Index a ps) = (IsSoundAt c a × AreSoundIn c a) × AreSoundInPositions c ps
-
-  pub AreSoundInPositions : Change → Positions → Type 0
-  AreSoundInPositions c NoPositions = Unit {0}
-  AreSoundInPositions c (Empty ps) = AreSoundInPositions c ps
-  AreSoundInPositions c (Filled e ps) = (IsSoundAt c e × AreSoundIn c e) × AreSoundInPositions c ps
 
 -- what a name showed, with its change, is what it shows
 pub record IsNameChanged (c : Change) (x : List ℕ) : Type 0 where

@@ -1,16 +1,15 @@
 -- What a contract sees of what a name or a node gives, with what changed of it.
-use Rattle.std.specs.Prelude.{◌≡◌, ◌+◌, ◌≤◌, ℕ, List, Bool, true, false, not, Result, Ok, Err, IfOk, map, length, get_or, ◌<◌}
+use Rattle.std.specs.Prelude.{◌≡◌, ◌+◌, ◌≤◌, ℕ, List, [], ◌∷◌, Bool, true, false, not, Option, Some, None, Result, Ok, Err, IfOk, map, length, get_or, ◌<◌}
+use Rattle.std.specs.Result.{result_err}
+use Rattle.arrays_core.specs.declared.fault.Fault.{Fault}
 use Rattle.std.specs.declared.alloc.AllocError.{AllocError}
 use Rattle.index_region.specs.declared.delta.Delta.{Delta}
-use Rattle.index_region.specs.declared.delta.Delta.TheVariants.{Same, Whole}
+use Rattle.index_region.specs.declared.delta.Delta.TheVariants.{Same, Patch, Whole}
 use Rattle.change_core.specs.RuleModels.{RuleModel}
-use Rattle.change_rules.specs.Nodes.{is_same}
+use Rattle.change_rules.specs.Nodes.{Argument, is_same}
 use Rattle.formula_core.specs.declared.input.Input.{Input}
 use Rattle.formula_core.specs.declared.input.Input.TheVariants.{Good, Bad}
 use Rattle.arrays_core.specs.declared.item.Kind.TheVariants.{Value}
-use Rattle.change_rules.specs.Currency.{applied}
-use Rattle.formula_core.specs.declared.table.Operand.{Operand}
-use Rattle.formula_core.specs.declared.table.Operand.TheVariants as operand
 use Rattle.formula_core.specs.Outcomes.{Outcome, fault}
 use Rattle.formula_core.specs.Changes.{FitsIn, arguments, operation_delta, operation_cost}
 
@@ -24,10 +23,15 @@ abbrev pub stays : Input → Bool
 stays (Good array delta) = is_same delta.now
 stays (Bad fault changed) = not changed
 
--- what changed of an array
+-- it is no patch
+abbrev pub IsNoPatch : Delta → Type 0
+IsNoPatch (Patch p) = ⊥
+IsNoPatch _ = Unit {0}
+
+-- what changed of an array; beside an error, that it is no patch
 abbrev pub HasDelta : Delta → Input → Type 0
 HasDelta d (Good array delta) = delta.now ≡ d
-HasDelta d (Bad fault changed) = Unit {0}
+HasDelta d (Bad fault changed) = IsNoPatch d
 
 -- the input says what is there now and what changed of it; of an error only whether anything did
 pub record IsInput (now : Outcome) (d : Delta) (input : Input) : Type 0 where
@@ -46,20 +50,33 @@ abbrev pub HasFit : Input → Type 0
 HasFit (Good array delta) = FitsIn delta.now (Ok array)
 HasFit (Bad fault changed) = Unit {0}
 
--- the change of an operation, by its rule, from what its operands give, and how far the meter rises by it
-pub record IsOperationChange (rule : RuleModel) (operands : List Input) (held : Outcome) (before after : ℕ) (r : Result Delta AllocError) : Type 0 where
-  pub delta : IfOk r (λ d. d ≡ operation_delta rule (arguments (map shown operands)) (map delta_of operands) held)
+-- the change of an operation, by its rule, from what its operands give, what it costs, and how far the meter rises by it
+pub record IsOperationChange (rule : RuleModel) (operands : List Input) (held : Outcome) (before after : ℕ) (r : Result (Delta × ℕ) AllocError) : Type 0 where
+  pub delta : IfOk r (λ s. s.0 ≡ operation_delta rule (arguments (map shown operands)) (map delta_of operands) held)
+  pub cost : IfOk r (λ s. s.1 ≡ operation_cost rule (arguments (map shown operands)) (map delta_of operands) held)
   pub ticks : after ≤ before + operation_cost rule (arguments (map shown operands)) (map delta_of operands) held
 
--- what an argument of a node gives now: what a name shows, or what a node before it held, with its change
-abbrev pub operand_now : List Input → List Outcome → List Delta → Operand → Outcome
-operand_now inputs results changes (operand.Name k) = shown (get_or inputs k (Bad (fault Value) false))
-operand_now inputs results changes (operand.Node k) = applied (get_or changes k Same) (get_or results k (Err (fault Value)))
+-- the box of each written position's patch lies in its array
+abbrev pub AllHaveFit : List (Option Input) → Type 0
+AllHaveFit [] = Unit {0}
+AllHaveFit (Some input ∷ positions) = HasFit input × AllHaveFit positions
+AllHaveFit (None ∷ positions) = AllHaveFit positions
 
--- what changed of it
-abbrev pub operand_delta : List Input → List Delta → Operand → Delta
-operand_delta inputs changes (operand.Name k) = delta_of (get_or inputs k (Bad (fault Value) false))
-operand_delta inputs changes (operand.Node k) = get_or changes k Same
+-- the positions that are written, in their order
+abbrev pub written_inputs : List (Option Input) → List Input
+written_inputs [] = []
+written_inputs (Some input ∷ positions) = input ∷ written_inputs positions
+written_inputs (None ∷ positions) = written_inputs positions
+
+-- the operands that are arrays, each with what changed of it
+abbrev pub arrays_among : List Input → List Argument
+arrays_among [] = []
+arrays_among (Good array delta ∷ inputs) = (array, delta) ∷ arrays_among inputs
+arrays_among (Bad fault changed ∷ inputs) = arrays_among inputs
+
+-- the error of the last operand that has one
+abbrev pub last_error : List Input → Option Fault
+last_error inputs = result_err (arguments (map shown inputs))
 
 -- the changes lie in what the nodes held
 abbrev pub AllFitIn : List Delta → List Outcome → Type 0

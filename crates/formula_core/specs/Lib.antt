@@ -1,11 +1,12 @@
 -- What public contracts mean.
 pub mod Outcomes
 pub mod Meaning
-pub mod Values
 pub mod Tables
-pub mod FormulaTables
+pub mod Formulas
 pub mod Rules
 pub mod Changes
 pub mod Inputs
+pub mod Plans
 -- What proofs and bodies use.
 pub mod Operands
+pub mod Stages

@@ -61,7 +61,8 @@ both_rule dyadic.Decode = decode_rule
 both_rule (dyadic.Outer f) = outer_rule (scalar2_of f)
 both_rule (dyadic.Inner f g) = inner_rule (scalar2_of f) (scalar2_of g)
 
--- what the refresh of an operation answers by its rule, and how far the meter rises by it
-pub record IsRefreshed (rule : RuleModel) (args : List Argument) (held : Outcome) (before after : ℕ) (r : Result Delta AllocError) : Type 0 where
-  pub delta : IfOk r (λ d. d ≡ node_delta rule args held)
+-- what the refresh of an operation answers by its rule, its change and what it costs, and how far the meter rises by it
+pub record IsRefreshed (rule : RuleModel) (args : List Argument) (held : Outcome) (before after : ℕ) (r : Result (Delta × ℕ) AllocError) : Type 0 where
+  pub delta : IfOk r (λ s. s.0 ≡ node_delta rule args held)
+  pub cost : IfOk r (λ s. s.1 ≡ node_cost rule args held)
   pub ticks : after ≤ before + node_cost rule args held

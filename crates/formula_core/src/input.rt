@@ -1,15 +1,15 @@
 //! What the names and the nodes give, with what changed of it.
 
-ghost use Rattle.std.specs.Prelude.{◌≡◌, ◌≤◌, length};
+ghost use Rattle.std.specs.Prelude.{◌≡◌, true, IfOk};
+ghost use Rattle.arrays_core.specs.Arrays.{IsArray};
 ghost use Rattle.change_rules.specs.Currency.{applied};
-ghost use Rattle.change_rules.specs.Nodes.{is_same};
+ghost use Rattle.change_rules.specs.Nodes.{is_whole};
 ghost use Rattle.formula_core.specs.Changes.{FitsIn};
-ghost use Rattle.formula_core.specs.Tables.{IsOperand};
-ghost use Rattle.formula_core.specs.Inputs.{shown, stays, operand_now, operand_delta, AllFitIn, IsInput};
+ghost use Rattle.formula_core.specs.Inputs.{shown, stays, delta_of, HasFit, IsInput};
 
-use crate::table::Operand;
 use arrays_core::{Array, Fault};
 use index_region::{Delta, Seen};
+use std::alloc::AllocError;
 
 /// What a name shows, with what changed of it.
 #[derive(Drop)]
@@ -49,8 +49,51 @@ impl<'a> Input<'a> {
         }
     }
 
-    /// What a node gives that held a result, with the change of that.
-    pub(crate) fn of_node(held: &'a Result<Array, Fault>, change: &'a Delta) -> Input<'a>
+    /// The same, all of which counts as new: `anew` is any change of the whole.
+    pub(crate) fn made_anew(self, anew: &'a Delta) -> Input<'a>
+        requires { is_whole anew.now ≡ true }
+        ensures shown { shown result ≡ shown self.entry }
+        ensures anew { is_whole (delta_of result) ≡ true }
+        ensures fit { HasFit result }
+    {
+        match self {
+            Input::Good(array, _) => Input::Good(array, anew),
+            Input::Bad { fault, .. } => Input::Bad {
+                fault,
+                changed: true,
+            },
+        }
+    }
+
+    /// An array of its own with the same items, or the error.
+    pub(crate) fn copy(&self) -> Result<Result<Array, Fault>, AllocError>
+        ensures { IfOk result (λ copy. copy ≡ shown self.now) }
+    {
+        match self {
+            Input::Good(array, _) => Ok(Ok(array.copy()?)),
+            Input::Bad { fault, .. } => Ok(Err(*fault)),
+        }
+    }
+
+    /// What a node gives now that held a result, with the change of that.
+    pub fn of_node(held: &'a Result<Array, Fault>, change: &'a Delta) -> Input<'a>
+        requires { FitsIn change.now held.now }
+        ensures is { IsInput (applied change.now held.now) change.now result }
+        ensures held { IfOk held.now IsArray }
+        ensures sound { IfOk (applied change.now held.now) IsArray }
+    {
+        let input = Input::with_change(held, change);
+        if let Ok(array) = held {
+            let _sound = array.shape();
+        }
+        if let Input::Good(array, _) = &input {
+            let _sound = array.shape();
+        }
+        input
+    }
+
+    /// The same, which does not tell that it is of arrays.
+    fn with_change(held: &'a Result<Array, Fault>, change: &'a Delta) -> Input<'a>
         requires { FitsIn change.now held.now }
         ensures { IsInput (applied change.now held.now) change.now result }
     {
@@ -66,25 +109,6 @@ impl<'a> Input<'a> {
                 fault: *fault,
                 changed: !matches!(change, Delta::Same),
             },
-        }
-    }
-
-    /// What an argument of a node gives, where the names show these, and the nodes before it held these results, which
-    /// changed so.
-    pub(crate) fn of_operand(
-        operand: Operand,
-        inputs: &'a [Input<'a>],
-        results: &'a [Result<Array, Fault>],
-        changes: &'a [Delta],
-    ) -> Input<'a>
-        requires within { IsOperand (length inputs.now) (length changes.now) operand }
-        requires held { length changes.now ≤ length results.now }
-        requires fit { AllFitIn changes.now results.now }
-        ensures { IsInput (operand_now inputs.now results.now changes.now operand) (operand_delta inputs.now changes.now operand) result }
-    {
-        match operand {
-            Operand::Name(place) => inputs[place].again(),
-            Operand::Node(place) => Input::of_node(&results[place], &changes[place]),
         }
     }
 }

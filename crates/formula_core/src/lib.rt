@@ -1,21 +1,22 @@
-//! Formulas: what an expression means, and an expression with the result that it was last given.
+//! Formulas: what an expression means, and an expression with the result that it was last given at every node.
 #![tactic(auto)]
 
 mod adoption;
 mod application;
 mod evaluation;
 mod formula;
-mod formula_table;
+mod index_change;
 mod input;
 mod literals;
-mod names;
 mod operation_change;
+mod plan;
 mod refreshing;
+mod stage;
 mod symbols;
 mod table;
 
 pub use evaluation::{Shows, evaluate};
 pub use formula::Formula;
-pub use formula_table::FormulaTable;
 pub use input::Input;
 pub use literals::array_of;
+pub use plan::Plan;

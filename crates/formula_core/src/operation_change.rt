@@ -13,14 +13,14 @@ use change_core::Meter;
 use index_region::Delta;
 use std::alloc::{AllocError, Global};
 
-/// The change of a function of its right argument; beside an error it is that error.
+/// The change of a function of its right argument, and what it costs; beside an error it is that error.
 pub(crate) fn change_of_right(
     alloc: Global,
     function: Monadic,
     right: &Input,
     held: &Result<Array, Fault>,
     meter: &mut Meter,
-) -> Result<Delta, AllocError>
+) -> Result<(Delta, u32), AllocError>
     requires { HasFit right.now }
     ensures { IsOperationChange (right_rule function) (right.now ∷ []) held.now meter.old meter.new result }
 {
@@ -34,11 +34,11 @@ pub(crate) fn change_of_right(
             };
             operation.of_right(function, meter)
         }
-        Input::Bad { fault, .. } => Ok(beside_error(*fault, right.stays())),
+        Input::Bad { fault, .. } => Ok((beside_error(*fault, right.stays()), 0)),
     }
 }
 
-/// The change of a function of its two arguments; beside an error it is that error, the right argument's first.
+/// The change of a function of its two arguments, and what it costs; beside an error it is that error, the right argument's first.
 pub(crate) fn change_of_both(
     alloc: Global,
     function: Dyadic,
@@ -46,15 +46,15 @@ pub(crate) fn change_of_both(
     right: &Input,
     held: &Result<Array, Fault>,
     meter: &mut Meter,
-) -> Result<Delta, AllocError>
+) -> Result<(Delta, u32), AllocError>
     requires left { HasFit left.now }
     requires right { HasFit right.now }
     ensures { IsOperationChange (both_rule function) (left.now ∷ right.now ∷ []) held.now meter.old meter.new result }
 {
     let stay = left.stays() && right.stays();
     match (left, right) {
-        (_, Input::Bad { fault, .. }) => Ok(beside_error(*fault, stay)),
-        (Input::Bad { fault, .. }, _) => Ok(beside_error(*fault, stay)),
+        (_, Input::Bad { fault, .. }) => Ok((beside_error(*fault, stay), 0)),
+        (Input::Bad { fault, .. }, _) => Ok((beside_error(*fault, stay), 0)),
         (Input::Good(left, of_left), Input::Good(right, of_right)) => {
             let args = [(left.again(), *of_left), (right.again(), *of_right)];
             let operation = Operation {
@@ -68,7 +68,7 @@ pub(crate) fn change_of_both(
 }
 
 /// The change of an operation beside an error of an argument: that error, unless nothing changed.
-fn beside_error(fault: Fault, stay: bool) -> Delta
+pub(crate) fn beside_error(fault: Fault, stay: bool) -> Delta
     ensures { result ≡ (if stay then Same else WholeDelta (Err fault)) }
 {
     if stay {

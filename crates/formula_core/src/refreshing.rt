@@ -12,7 +12,7 @@ use crate::symbols::{along_of, scalar1_of, scalar2_of};
 use apl_expr::{Along, Dyadic, Monadic, ScalarDyad, ScalarMonad};
 use arrays_core::{Array, Fault};
 use change_core::{Meter, Tight};
-use change_rules::refresh;
+use change_rules::refresh_with_cost;
 use index_region::{Delta, Seen};
 use operator_fns::{Inner, Outer, Reduce, Scan};
 use operator_rules::Ruled as OperatorRule;
@@ -38,16 +38,16 @@ pub(crate) struct Operation<'a> {
 
 impl<'a> Operation<'a> {
     /// Its change, where it follows this rule.
-    fn by<R: Tight>(&self, rule: &R, meter: &mut Meter) -> Result<Delta, AllocError>
+    fn by<R: Tight>(&self, rule: &R, meter: &mut Meter) -> Result<(Delta, u32), AllocError>
         requires count { length self.now.args.now ≡ length (R.model rule.now).selectors }
         requires fit { AllFit (views self.now.args.now) (moved self.now.args.now) }
         ensures { IsRefreshed (R.model rule.now) self.now.args.now self.now.held.now meter.old meter.new result }
     {
-        refresh(self.alloc, rule, self.args, self.held, meter)
+        refresh_with_cost(self.alloc, rule, self.args, self.held, meter)
     }
 
     /// The change of a function of one argument.
-    pub(crate) fn of_right(&self, function: Monadic, meter: &mut Meter) -> Result<Delta, AllocError>
+    pub(crate) fn of_right(&self, function: Monadic, meter: &mut Meter) -> Result<(Delta, u32), AllocError>
         requires count { length self.now.args.now ≡ 1 }
         requires fit { AllFit (views self.now.args.now) (moved self.now.args.now) }
         ensures { IsRefreshed (right_rule function) self.now.args.now self.now.held.now meter.old meter.new result }
@@ -75,7 +75,7 @@ impl<'a> Operation<'a> {
     }
 
     /// The change of a function of two arguments, the left one first.
-    pub(crate) fn of_both(&self, function: Dyadic, meter: &mut Meter) -> Result<Delta, AllocError>
+    pub(crate) fn of_both(&self, function: Dyadic, meter: &mut Meter) -> Result<(Delta, u32), AllocError>
         requires count { length self.now.args.now ≡ 2 }
         requires fit { AllFit (views self.now.args.now) (moved self.now.args.now) }
         ensures { IsRefreshed (both_rule function) self.now.args.now self.now.held.now meter.old meter.new result }
@@ -113,7 +113,7 @@ impl<'a> Operation<'a> {
         &self,
         written: &[bool],
         meter: &mut Meter,
-    ) -> Result<Delta, AllocError>
+    ) -> Result<(Delta, u32), AllocError>
         requires count { length self.now.args.now ≡ suc (count_written written.now) }
         requires fit { AllFit (views self.now.args.now) (moved self.now.args.now) }
         ensures { IsRefreshed (index_rule written.now) self.now.args.now self.now.held.now meter.old meter.new result }

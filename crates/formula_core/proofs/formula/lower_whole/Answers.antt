@@ -1,6 +1,6 @@
 use Rattle.apl_expr.specs.Trees.{tree_of}
 use Rattle.formula_core.proofs.Rooted.{rooted_node, rooted_name}
-use Rattle.formula_core.proofs.formula_table.lower_whole.Goals as goal
+use Rattle.formula_core.proofs.formula.lower_whole.Goals as goal
 
 pub returns-in-Node : goal.returns-in-Node
 returns-in-Node c =

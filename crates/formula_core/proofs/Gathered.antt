@@ -1,0 +1,149 @@
+-- The operands of an operation, gathered for its rule where none of them is an error.
+use Rattle.std.proofs.Common.{◌≡◌, ℕ, suc, ◌+◌, ◌≤◌, List, [], ◌∷◌, length, map, Bool, ◌&&◌, ◌||◌, not, Option, Some, None, is_some, is_ok, Result, Ok, Err, refl, sym, ap, ◌∙◌, subst, IfOk, if◌then◌else◌, arith}
+use Rattle.std.specs.Borrow.{Bor}
+use Rattle.std.specs.List.{list_all, list_any}
+use Rattle.std.specs.Result.{result_err}
+use Rattle.std.specs.declared.alloc.AllocError.{AllocError}
+use Rattle.arrays_core.specs.Arrays.{ArrayValue}
+use Rattle.arrays_core.specs.declared.fault.Fault.{Fault}
+use Rattle.index_region.specs.declared.delta.Delta.{Delta}
+use Rattle.index_region.specs.declared.delta.Delta.TheVariants.{Same, Patch, Whole}
+use Rattle.change_core.specs.Reaches.{Fits, AllFit}
+use Rattle.change_core.specs.RuleModels.{RuleModel, form_size}
+use Rattle.change_rules.specs.Nodes.{Argument, views, moved, moved_by, is_same, is_whole, all_same, starts_anew, node_delta, node_cost, reached_delta, reached_cost}
+use Rattle.change_rules.specs.Outcomes.{evaluation}
+use Rattle.selection_fns.specs.Index.{count_written}
+use Rattle.formula_core.specs.declared.input.Input.{Input}
+use Rattle.formula_core.specs.declared.input.Input.TheVariants.{Good, Bad}
+use Rattle.formula_core.specs.Outcomes.{Outcome}
+use Rattle.formula_core.specs.Rules.{IsRefreshed}
+use Rattle.formula_core.specs.Changes.{FitsIn, argument_in_front, arguments, paired, operation_delta, operation_cost}
+use Rattle.formula_core.specs.Inputs.{shown, stays, delta_of, HasFit, AllHaveFit, IsOperationChange, written_inputs, arrays_among, last_error}
+use Rattle.formula_core.proofs.Stepping.{stays_same}
+
+-- the same arrays with the same changes, wherever those lie
+record AreAlike (xs ys : List Argument) : Type 0 where
+  pub same : all_same xs ≡ all_same ys
+  pub whole : list_any (λ a. is_whole a.1.now) xs ≡ list_any (λ a. is_whole a.1.now) ys
+  pub seen : views xs ≡ views ys
+  pub moves : moved xs ≡ moved ys
+
+-- the operands are all arrays, and this is what they are
+record IsGathered (inputs : List Input) : Type 0 where
+  pub are : arguments (map shown inputs) ≡ Ok (views (arrays_among inputs))
+  pub alike : AreAlike (arrays_among inputs) (paired (views (arrays_among inputs)) (map delta_of inputs))
+  pub count : length (arrays_among inputs) ≡ length inputs
+
+none_behind : (a : ArrayValue) (r : Result (List ArrayValue) Fault) → result_err (argument_in_front (Ok a) r) ≡ None → result_err r ≡ None
+none_behind a (Err e) h = h
+none_behind a (Ok arrays) h = refl
+
+some_in_front : (f : Fault) (r : Result (List ArrayValue) Fault) → result_err (argument_in_front (Err f) r) ≡ None → ⊥
+some_in_front f (Err e) h = cc
+some_in_front f (Ok arrays) h = cc
+
+gathered : (inputs : List Input) → last_error inputs ≡ None → IsGathered inputs
+gathered [] h = record { are = refl; alike = record { same = refl; whole = refl; seen = refl; moves = refl }; count = refl }
+gathered (Good a d ∷ inputs) h =
+    let rest = gathered inputs (none_behind a (arguments (map shown inputs)) h) in
+    record {
+      are = ap (argument_in_front (Ok a)) rest.are;
+      alike = record {
+        same = ap (λ b. is_same d.now && b) rest.alike.same;
+        whole = ap (λ b. is_whole d.now || b) rest.alike.whole;
+        seen = ap (λ xs. a ∷ xs) rest.alike.seen;
+        moves = ap (λ xs. moved_by d.now ∷ xs) rest.alike.moves;
+      };
+      count = ap suc rest.count;
+    }
+gathered (Bad f changed ∷ inputs) h = absurd (some_in_front f (arguments (map shown inputs)) h)
+
+-- an array in front has no error
+pub none_with_array : (a : ArrayValue) (d : Bor Delta) (inputs : List Input) → last_error inputs ≡ None → last_error (Good a d ∷ inputs) ≡ None
+none_with_array a d inputs h = ap (λ r. result_err (argument_in_front (Ok a) r)) (gathered inputs h).are
+
+-- only the arrays and their changes count
+delta_alike : (p : RuleModel) (xs ys : List Argument) (held : Outcome) → AreAlike xs ys → node_delta p xs held ≡ node_delta p ys held
+delta_alike p xs ys held h =
+    ap (λ (b : Bool). if b then Same else if starts_anew xs held then Whole (evaluation p (views xs)) else reached_delta p (views xs) (moved xs)) h.same
+    ∙ ap (λ (b : Bool). if all_same ys then Same else if b || not (is_ok held) then Whole (evaluation p (views xs)) else reached_delta p (views xs) (moved xs)) h.whole
+    ∙ ap (λ (vs : List ArrayValue). if all_same ys then Same else if starts_anew ys held then Whole (evaluation p vs) else reached_delta p vs (moved xs)) h.seen
+    ∙ ap (λ ms. if all_same ys then Same else if starts_anew ys held then Whole (evaluation p (views ys)) else reached_delta p (views ys) ms) h.moves
+
+cost_alike : (p : RuleModel) (xs ys : List Argument) (held : Outcome) → AreAlike xs ys → node_cost p xs held ≡ node_cost p ys held
+cost_alike p xs ys held h =
+    ap (λ (b : Bool). if b then 0 else if starts_anew xs held then form_size (p.form (views xs)) else reached_cost p (views xs) (moved xs)) h.same
+    ∙ ap (λ (b : Bool). if all_same ys then 0 else if b || not (is_ok held) then form_size (p.form (views xs)) else reached_cost p (views xs) (moved xs)) h.whole
+    ∙ ap (λ (vs : List ArrayValue). if all_same ys then 0 else if starts_anew ys held then form_size (p.form vs) else reached_cost p vs (moved xs)) h.seen
+    ∙ ap (λ ms. if all_same ys then 0 else if starts_anew ys held then form_size (p.form (views ys)) else reached_cost p (views ys) ms) h.moves
+
+-- where all operands are arrays, the rule's change is that of the operation
+pub refreshed_change : (p : RuleModel) (inputs : List Input) (held : Outcome) (before after : ℕ) (r : Result (Delta × ℕ) AllocError) → last_error inputs ≡ None
+    → IsRefreshed p (arrays_among inputs) held before after r → IsOperationChange p inputs held before after r
+refreshed_change p inputs held before after r none made =
+    let all = gathered inputs none in
+    record {
+      delta = subst (λ (x : Delta). IfOk r (λ s. s.0 ≡ x))
+          (delta_alike p _ _ held all.alike ∙ ap (λ o. operation_delta p o (map delta_of inputs) held) (sym all.are)) made.delta;
+      cost = subst (λ (x : ℕ). IfOk r (λ s. s.1 ≡ x))
+          (cost_alike p _ _ held all.alike ∙ ap (λ o. operation_cost p o (map delta_of inputs) held) (sym all.are)) made.cost;
+      ticks = subst (λ (x : ℕ). after ≤ before + x)
+          (cost_alike p _ _ held all.alike ∙ ap (λ o. operation_cost p o (map delta_of inputs) held) (sym all.are)) made.ticks;
+    }
+
+-- beside an error
+list_stays : (inputs : List Input) → list_all stays inputs ≡ list_all is_same (map delta_of inputs)
+list_stays [] = refl
+list_stays (i ∷ inputs) = let here = stays_same i in let rest = list_stays inputs in λ k. here k && rest k
+
+is_error : (e : Fault) (r : Result (List ArrayValue) Fault) → result_err r ≡ Some e → r ≡ Err e
+is_error e (Err f) h = cc
+is_error e (Ok arrays) h = absurd (let no : ⊥ = cc in no)
+
+-- a later error comes before one in front
+pub error_behind : (i : Input) (inputs : List Input) (e : Fault) → last_error inputs ≡ Some e → last_error (i ∷ inputs) ≡ Some e
+error_behind i inputs e h = ap (λ r. result_err (argument_in_front (shown i) r)) (is_error e (arguments (map shown inputs)) h)
+
+pub error_in_front : (f : Fault) (changed : Bool) (inputs : List Input) → last_error inputs ≡ None → last_error (Bad f changed ∷ inputs) ≡ Some f
+error_in_front f changed inputs h = ap (λ r. result_err (argument_in_front (Err f) r)) (gathered inputs h).are
+
+pub error_change : (p : RuleModel) (inputs : List Input) (held : Outcome) (before : ℕ) (e : Fault) (d : Delta) → last_error inputs ≡ Some e
+    → d ≡ (if list_all stays inputs then Same else Whole (Err e)) → IsOperationChange p inputs held before before (Ok (d, 0))
+error_change p inputs held before e d some is =
+    let error : arguments (map shown inputs) ≡ Err e = is_error e (arguments (map shown inputs)) some in
+    record {
+      delta = is
+          ∙ ap (λ (b : Bool). if b then Same else Whole (Err e)) (list_stays inputs)
+          ∙ ap (λ o. operation_delta p o (map delta_of inputs) held) (sym error);
+      cost = ap (λ o. operation_cost p o (map delta_of inputs) held) (sym error);
+      ticks = omega arith;
+    }
+
+-- the boxes of the patches lie in the arrays
+abbrev pub EachHasFit : List Input → Type 0
+EachHasFit [] = Unit {0}
+EachHasFit (i ∷ inputs) = HasFit i × EachHasFit inputs
+
+pub written_fit : (positions : List (Option Input)) → AllHaveFit positions → EachHasFit (written_inputs positions)
+written_fit [] h = tt
+written_fit (Some i ∷ positions) h = (h.0, written_fit positions h.1)
+written_fit (None ∷ positions) h = written_fit positions h
+
+box_lies : (a : ArrayValue) (d : Delta) → FitsIn d (Ok a) → Fits a (moved_by d)
+box_lies a Same h = tt
+box_lies a (Patch p) h = h.inside
+box_lies a (Whole r) h = tt
+
+pub arrays_fit : (inputs : List Input) → EachHasFit inputs → AllFit (views (arrays_among inputs)) (moved (arrays_among inputs))
+arrays_fit [] h = tt
+arrays_fit (Good a d ∷ inputs) h = (box_lies a d.now h.0, arrays_fit inputs h.1)
+arrays_fit (Bad f changed ∷ inputs) h = arrays_fit inputs h.1
+
+-- as many as are written
+written_count : (positions : List (Option Input)) → length (written_inputs positions) ≡ count_written (map is_some positions)
+written_count [] = refl
+written_count (Some i ∷ positions) = ap suc (written_count positions)
+written_count (None ∷ positions) = written_count positions
+
+pub arrays_count : (positions : List (Option Input)) → last_error (written_inputs positions) ≡ None → length (arrays_among (written_inputs positions)) ≡ count_written (map is_some positions)
+arrays_count positions h = (gathered (written_inputs positions) h).count ∙ written_count positions

@@ -1,0 +1,177 @@
+-- How the change of a node is worked out from what stands before it.
+use Rattle.std.proofs.Common.{◌≡◌, ℕ, zero, suc, ◌+◌, ◌<◌, ◌≤◌, List, [], ◌∷◌, ◌++◌, length, map, take, get_or, Bool, true, false, Option, Some, None, Result, Ok, Err, refl, sym, ap, ◌∙◌, subst, arith, IfOk}
+use Rattle.std.specs.List.{Contains}
+use Rattle.std.specs.Option.{option_map}
+use Rattle.std.proofs.lemmas.Bool.{false≢true}
+use Rattle.std.proofs.lemmas.List.{get_or-map, get_or_default, map_more}
+use Rattle.apl_expr.specs.Trees.{Tree, Const, Name, Monad, Dyad, Index, Positions, Numbers, literal_of, positions_of}
+use Rattle.arrays_core.specs.Arrays.{ArrayValue, IsArray}
+use Rattle.arrays_core.specs.declared.fault.Fault.{Fault}
+use Rattle.arrays_core.specs.declared.item.Kind.TheVariants.{Value}
+use Rattle.index_region.specs.declared.delta.Delta.{Delta}
+use Rattle.index_region.specs.declared.delta.Delta.TheVariants.{Same, Patch, Whole}
+use Rattle.index_region.specs.Patches.{FitsPatch}
+use Rattle.change_rules.specs.Currency.{applied}
+use Rattle.change_rules.specs.Nodes.{is_same}
+use Rattle.formula_core.specs.declared.input.Input.{Input}
+use Rattle.formula_core.specs.declared.input.Input.TheVariants.{Good, Bad}
+use Rattle.formula_core.specs.declared.stage.Stage.{Stage}
+use Rattle.formula_core.specs.declared.table.Operand.{Operand}
+use Rattle.formula_core.specs.declared.table.Operand.TheVariants as operand
+use Rattle.formula_core.specs.declared.table.Node.{Node}
+use Rattle.formula_core.specs.declared.table.Node.TheVariants as node
+use Rattle.formula_core.specs.Meaning.{eval}
+use Rattle.formula_core.specs.Outcomes.{Outcome, fault}
+use Rattle.formula_core.specs.Tables.{tree_at, tree_of_operand, tree_of_node, IsOperand, AreOperands, IsNode}
+use Rattle.formula_core.specs.Changes.{Change, change, changes, values_of, FitsIn, IsChanged, IsNameChanged, IsTreeChanged}
+use Rattle.formula_core.specs.Inputs.{shown, stays, delta_of, HasFit, IsNoPatch, IsInput}
+use Rattle.formula_core.specs.Plans.{node_change, AreInputs, IsNameSound}
+use Rattle.formula_core.specs.Stages.{IsDone, IsStaged, IsTaken, IsReady, AreReady, IsStep}
+use Rattle.formula_core.specs.Formulas.{is_operation}
+use Rattle.formula_core.proofs.Changed.{AllChanged, monad_changed, dyad_changed, index_changed}
+use Rattle.formula_core.proofs.Stepping.{ready_more}
+
+-- what fits in what was held fits in what is there now, and the other way round
+pub fit_now : (d : Delta) (o : Outcome) → FitsIn d o → FitsIn d (applied d o)
+fit_now Same o h = h
+fit_now (Whole r) o h = tt
+fit_now (Patch p) (Ok a) h = record { inside = h.inside; typed = h.typed }
+fit_now (Patch p) (Err e) h = h
+
+pub fit_held : (d : Delta) (o : Outcome) → FitsIn d (applied d o) → FitsIn d o
+fit_held Same o h = tt
+fit_held (Whole r) o h = tt
+fit_held (Patch p) (Ok a) h = record { inside = h.inside; typed = h.typed }
+fit_held (Patch p) (Err e) h = h
+
+-- an input that says what changed has a box that fits
+pub input_fits : (now : Outcome) (d : Delta) (i : Input) → IsInput now d i → FitsIn d now → HasFit i
+input_fits now d (Good array delta) h fit = subst (λ (e : Delta). FitsIn e (Ok array)) (sym h.delta) (subst (λ (o : Outcome). FitsIn d o) (sym h.is) fit)
+input_fits now d (Bad f changed) h fit = tt
+
+-- the inputs, one for each name
+pub inputs_long : (c : Change) (names : List (List ℕ)) (inputs : List Input) → AreInputs c names inputs → length inputs ≡ length names
+inputs_long c [] [] h = refl
+inputs_long c (x ∷ names) (i ∷ inputs) h = ap suc (inputs_long c names inputs h.1)
+inputs_long c [] (i ∷ inputs) h = absurd h
+inputs_long c (x ∷ names) [] h = absurd h
+
+pub input_at : (c : Change) (names : List (List ℕ)) (inputs : List Input) → AreInputs c names inputs → (k : ℕ) (e : Input) → k < length inputs → IsInput (c.new (get_or names k [])) (c.delta (get_or names k [])) (get_or inputs k e)
+input_at c [] [] h k e below = absurd (omega (arith, below))
+input_at c (x ∷ names) (i ∷ inputs) h zero e below = h.0
+input_at c (x ∷ names) (i ∷ inputs) h (suc k) e below = input_at c names inputs h.1 k e (omega (arith, below))
+input_at c [] (i ∷ inputs) h k e below = absurd h
+input_at c (x ∷ names) [] h k e below = absurd h
+
+pub name_there : (names : List (List ℕ)) (k : ℕ) → k < length names → Contains names (get_or names k [])
+name_there names k below = (k, below, get_or_default names k (get_or names k []) [] below)
+
+module _ (c : Change) (names : List (List ℕ)) (trees : List Tree) (s : Stage) (staged : IsStaged c names trees s) where
+  known_name : (k : ℕ) → k < length s.inputs.now → Contains names (get_or names k [])
+  known_name k below = name_there names k (omega (arith, below, inputs_long c names s.inputs.now staged.tell))
+
+  -- an operand's tree: what it gave, its change, and what it gives
+  pub operand_changed : s.is_new ≡ false → (o : Operand) → IsOperand (length s.inputs.now) (length s.changes.now) o
+      → IsChanged (eval (tree_of_operand names trees o) c.old) (change c (tree_of_operand names trees o)) (eval (tree_of_operand names trees o) c.new)
+  operand_changed old (operand.Name k) within =
+      let there = known_name k within in
+      let told = staged.changed (get_or names k []) there in
+      let sound = staged.sound (get_or names k []) there in
+      record { right = told.right; fit = told.fit; sound_old = sound.old; sound_new = sound.new }
+  operand_changed old (operand.Node k) within =
+      let done = staged.done k within in
+      let t = tree_at trees k in
+      let is : get_or s.changes.now k Same ≡ change c t = done.is ∙ ap (λ (n : Bool). node_change n c t) old in
+      let below : k < length trees = omega (arith, within, staged.few, staged.known) in
+      let held : get_or s.results.now k (Err (fault Value)) ≡ eval t c.old =
+        ap (λ rs. get_or rs k (Err (fault Value))) (staged.held old) ∙ get_or-map (λ u. eval u c.old) trees k (Const (Numbers [])) (Err (fault Value)) below in
+      let right : applied (change c t) (eval t c.old) ≡ eval t c.new = ap (λ d. applied d (eval t c.old)) (sym is) ∙ (ap (applied (get_or s.changes.now k Same)) (sym held) ∙ done.right) in
+      record {
+        right = right;
+        fit = subst (λ (o : Outcome). FitsIn (change c t) o) right (fit_now (change c t) (eval t c.old)
+          (subst (λ (o : Outcome). FitsIn (change c t) o) held (subst (λ (d : Delta). FitsIn d (get_or s.results.now k (Err (fault Value)))) is done.fit)));
+        sound_old = subst (λ (o : Outcome). IfOk o IsArray) held done.sound_held;
+        sound_new = done.sound_new;
+      }
+
+  operands_changed : s.is_new ≡ false → (os : List (Option Operand)) → AreOperands (length s.inputs.now) (length s.changes.now) os
+      → AllChanged (values_of (positions_of (map (option_map (tree_of_operand names trees)) os)) c.old) (changes c (positions_of (map (option_map (tree_of_operand names trees)) os))) (values_of (positions_of (map (option_map (tree_of_operand names trees)) os)) c.new)
+  operands_changed old [] within = tt
+  operands_changed old (None ∷ os) within = operands_changed old os within
+  operands_changed old (Some o ∷ os) within = (operand_changed old o within.0, operands_changed old os within.1)
+
+  -- the change of a node makes of what it gave what it gives
+  pub node_changed : s.is_new ≡ false → (n : Node) → IsNode (length s.inputs.now) (length s.changes.now) n → IsTreeChanged c (tree_of_node names trees n)
+  node_changed old (node.Constant l) within = record { right = refl; fit = tt }
+  node_changed old (node.Name k) within =
+      let told = staged.changed (get_or names k []) (known_name k within) in
+      record { right = told.right; fit = told.fit }
+  node_changed old (node.Monad f b) within = monad_changed c f (tree_of_operand names trees b) (operand_changed old b within)
+  node_changed old (node.Dyad f a b) within = dyad_changed c f (tree_of_operand names trees a) (tree_of_operand names trees b) (operand_changed old a within.0) (operand_changed old b within.1)
+  node_changed old (node.Index a os) within =
+      index_changed c (tree_of_operand names trees a) (positions_of (map (option_map (tree_of_operand names trees)) os.items)) (operand_changed old a within.0) (operands_changed old os.items within.1)
+
+  -- an operand as it stands is an input of its tree
+  pub taken_input : s.is_new ≡ false → (o : Operand) → IsOperand (length s.inputs.now) (length s.changes.now) o → (i : Input) → IsTaken s.inputs.now s.results.now s.changes.now o i → IsInput (eval (tree_of_operand names trees o) c.new) (change c (tree_of_operand names trees o)) i
+  taken_input old (operand.Name k) within i taken = subst (λ (j : Input). IsInput (c.new (get_or names k [])) (c.delta (get_or names k [])) j) (sym taken) (input_at c names s.inputs.now staged.tell k (Bad (fault Value) false) within)
+  taken_input old (operand.Node k) within i taken =
+      let done = staged.done k within in
+      let is : get_or s.changes.now k Same ≡ change c (tree_at trees k) = done.is ∙ ap (λ (n : Bool). node_change n c (tree_at trees k)) old in
+      subst (λ (o : Outcome). IsInput o (change c (tree_at trees k)) i) done.right (subst (λ (d : Delta). IsInput (applied (get_or s.changes.now k Same) (get_or s.results.now k (Err (fault Value)))) d i) is taken)
+
+  -- a name that is the whole tree: its input, and its change
+  pub name_input : (k : ℕ) → k < length s.inputs.now → (i : Input) → i ≡ get_or s.inputs.now k (Bad (fault Value) false) → IsInput (c.new (get_or names k [])) (c.delta (get_or names k [])) i
+  name_input k within i taken = subst (λ (j : Input). IsInput (c.new (get_or names k [])) (c.delta (get_or names k [])) j) (sym taken) (input_at c names s.inputs.now staged.tell k (Bad (fault Value) false) within)
+
+  pub name_told : (k : ℕ) → k < length s.inputs.now → IsNameChanged c (get_or names k [])
+  name_told k within = staged.changed (get_or names k []) (known_name k within)
+
+  -- and shows what that gives
+  pub taken_shown : (o : Operand) → IsOperand (length s.inputs.now) (length s.changes.now) o → (i : Input) → IsTaken s.inputs.now s.results.now s.changes.now o i → shown i ≡ eval (tree_of_operand names trees o) c.new
+  taken_shown (operand.Name k) within i taken = ap shown taken ∙ (input_at c names s.inputs.now staged.tell k (Bad (fault Value) false) within).is
+  taken_shown (operand.Node k) within i taken = taken.is ∙ (staged.done k within).right
+
+  pub taken_fits : s.is_new ≡ false → (o : Operand) → IsOperand (length s.inputs.now) (length s.changes.now) o → (i : Input) → IsTaken s.inputs.now s.results.now s.changes.now o i → HasFit i
+  taken_fits old o within i taken =
+      input_fits (eval (tree_of_operand names trees o) c.new) (change c (tree_of_operand names trees o)) i (taken_input old o within i taken) (operand_changed old o within).fit
+
+  -- the change of a node lies in what it held
+  pub change_fits : (is_new : Bool) → s.is_new ≡ is_new → (n : Node) → IsNode (length s.inputs.now) (length s.changes.now) n → (held : Outcome) → (is_new ≡ false → held ≡ eval (tree_of_node names trees n) c.old)
+      → (applied (node_change is_new c (tree_of_node names trees n)) held ≡ eval (tree_of_node names trees n) c.new) × FitsIn (node_change is_new c (tree_of_node names trees n)) held
+  change_fits true is n within held holds = (refl, tt)
+  change_fits false is n within held holds =
+      let t = tree_of_node names trees n in
+      let changed = node_changed is n within in
+      let right : applied (change c t) held ≡ eval t c.new = ap (applied (change c t)) (holds refl) ∙ changed.right in
+      (right, fit_held (change c t) held (subst (λ (o : Outcome). FitsIn (change c t) o) (sym right) changed.fit))
+
+-- each written position of an index is an operand
+pub operand_within : (names place : ℕ) (os : List (Option Operand)) → AreOperands names place os → (k : ℕ) (o : Operand) → k < length os → get_or os k None ≡ Some o → IsOperand names place o
+operand_within names place [] h k o below is = absurd (omega (arith, below))
+operand_within names place (None ∷ os) h zero o below is = absurd (let no : ⊥ = cc in no)
+operand_within names place (Some p ∷ os) h zero o below is = let same : p ≡ o = cc in subst (λ (x : Operand). IsOperand names place x) same h.0
+operand_within names place (None ∷ os) h (suc k) o below is = operand_within names place os h k o (omega (arith, below)) is
+operand_within names place (Some p ∷ os) h (suc k) o below is = operand_within names place os h.1 k o (omega (arith, below)) is
+
+-- one more position of an index
+pub position_ready : (is_new : Bool) (c : Change) (f : Option Operand → Option Tree) (os : List (Option Operand)) (k : ℕ) (x : Option Operand) (is : List (Option Input)) (i : Option Input) → k < length os → get_or os k None ≡ x
+    → AreReady is_new c (map f (take k os)) is → AreReady is_new c (f x ∷ []) (i ∷ []) → AreReady is_new c (map f (take (k + 1) os)) (is ++ i ∷ [])
+position_ready is_new c f os k x is i below at h one =
+    subst (λ (ts : List (Option Tree)). AreReady is_new c ts (is ++ i ∷ [])) (sym (map_more f os k None below))
+    (ready_more is_new c (map f (take k os)) is (f (get_or os k None)) i h (subst (λ (o : Option Operand). AreReady is_new c (f o ∷ []) (i ∷ [])) (sym at) one))
+
+-- the change of a name that is the whole tree
+whole_name : (old now : Outcome) (d : Delta) → IsNoPatch d → is_same d ≡ false → applied d old ≡ now → d ≡ Whole now
+whole_name old now Same none same is = absurd (false≢true (sym same))
+whole_name old now (Patch p) none same is = absurd none
+whole_name old now (Whole r) none same is = ap (λ o. Whole o) is
+
+-- a step of a node that applies no function costs nothing
+pub free_step : (is_new : Bool) (c : Change) (t : Tree) (meter : ℕ) (d : Delta) → d ≡ node_change is_new c t → is_operation t ≡ false → IsStep is_new c t meter meter (Ok (d, 0))
+free_step true c (Const l) meter d is none = record { delta = is; cost = refl; ticks = omega arith }
+free_step true c (Name x) meter d is none = record { delta = is; cost = refl; ticks = omega arith }
+free_step false c (Const l) meter d is none = record { delta = is; cost = refl; ticks = omega arith }
+free_step false c (Name x) meter d is none = record { delta = is; cost = refl; ticks = omega arith }
+free_step is_new c (Monad f b) meter d is none = absurd (false≢true (sym none))
+free_step is_new c (Dyad f a b) meter d is none = absurd (false≢true (sym none))
+free_step is_new c (Index a ps) meter d is none = absurd (false≢true (sym none))

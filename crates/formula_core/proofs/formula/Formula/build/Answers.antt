@@ -1,0 +1,8 @@
+use Rattle.std.proofs.Common.{◌∙◌}
+use Rattle.apl_expr.specs.Trees.{tree_of}
+use Rattle.formula_core.proofs.Planned.{made_new}
+use Rattle.formula_core.proofs.formula.Formula.build.Goals as goal
+
+pub returns : goal.returns
+returns c =
+    made_new c.lower_whole.new.names.items c.lower_whole.new.nodes.items (tree_of c.args.tree) c.in_ok-results.results.items c.len.result c.in_ok-lower_whole.ensures (c.len.ensures ∙ c.lower_whole.new.nodes.ok.0) c.in_ok-results.ensures

@@ -1,0 +1,48 @@
+use Rattle.std.proofs.Common.{◌≡◌, ◌∷◌, sym, ◌∙◌, subst, map, is_some, None, Some}
+use Rattle.arrays_core.specs.Arrays.{ArrayValue}
+use Rattle.change_core.specs.Reaches.{AllFit}
+use Rattle.change_rules.specs.Nodes.{views, moved}
+use Rattle.selection_rules.specs.Index.{index_rule}
+use Rattle.formula_core.specs.declared.input.Input.{Input}
+use Rattle.formula_core.specs.declared.input.Input.TheVariants.{Good}
+use Rattle.formula_core.specs.Rules.{IsRefreshed}
+use Rattle.formula_core.specs.Inputs.{HasFit, IsOperationChange, arrays_among, last_error, written_inputs}
+use Rattle.formula_core.proofs.Gathered.{none_with_array, refreshed_change, error_behind, error_in_front, error_change, written_fit, arrays_fit, arrays_count}
+use Rattle.formula_core.proofs.index_change.change_of_index.Goals as goal
+
+pub change_of_arrays-requires-clause-count : goal.change_of_arrays-requires-clause-count
+change_of_arrays-requires-clause-count c = arrays_count c.args.positions.now (sym c.last_fault.ensures ∙ c.in-None-Good.is-0)
+
+pub change_of_arrays-requires-clause-fit : goal.change_of_arrays-requires-clause-fit
+change_of_arrays-requires-clause-fit c =
+    let delta = c.in-None-Good.delta in
+    let others = written_inputs c.args.positions.now in
+    let array_fits : HasFit (Good c.in-None-Good.array delta) = subst HasFit c.in-None-Good.is-1 c.requires.array in
+    subst (λ (a : ArrayValue). AllFit (views ((a, delta) ∷ arrays_among others)) (moved ((a, delta) ∷ arrays_among others))) (sym c.again.ensures)
+    (arrays_fit (Good c.in-None-Good.array delta ∷ others) (array_fits, written_fit c.args.positions.now c.requires.positions))
+
+pub returns-in-Some-default : goal.returns-in-Some-default
+returns-in-Some-default c =
+    let others = written_inputs c.args.positions.now in
+    let first : last_error (c.args.array.now ∷ others) ≡ Some c.in-Some-default.fault = error_behind c.args.array.now others c.in-Some-default.fault (sym c.last_fault.ensures ∙ c.in-Some-default.is-0) in
+    error_change (index_rule (map is_some c.args.positions.now)) (c.args.array.now ∷ others) c.args.held.now c.args.meter.now c.in-Some-default.fault c.beside_error.result first (rw (← c.all_stay.ensures) c.beside_error.ensures)
+
+pub returns-in-None-Bad : goal.returns-in-None-Bad
+returns-in-None-Bad c =
+    let others = written_inputs c.args.positions.now in
+    let fault = c.in-None-Bad.fault in
+    let first : last_error (c.args.array.now ∷ others) ≡ Some fault =
+    subst (λ (i : Input). last_error (i ∷ others) ≡ Some fault) (sym c.in-None-Bad.is-1) (error_in_front fault c.in-None-Bad.changed-1 others (sym c.last_fault.ensures ∙ c.in-None-Bad.is-0)) in
+    error_change (index_rule (map is_some c.args.positions.now)) (c.args.array.now ∷ others) c.args.held.now c.args.meter.now fault c.beside_error-in-None-Bad.result first
+    (rw (← c.all_stay-in-None-Bad.ensures) c.beside_error-in-None-Bad.ensures)
+
+pub returns-in-None-Good : goal.returns-in-None-Good
+returns-in-None-Good c =
+    let array = c.in-None-Good.array in
+    let delta = c.in-None-Good.delta in
+    let others = written_inputs c.args.positions.now in
+    let rule = index_rule (map is_some c.args.positions.now) in
+    let none : last_error (Good array delta ∷ others) ≡ None = none_with_array array delta others (sym c.last_fault.ensures ∙ c.in-None-Good.is-0) in
+    subst (λ (i : Input). IsOperationChange rule (i ∷ others) c.args.held.now c.args.meter.now c.change_of_arrays.new.meter c.change_of_arrays.result) (sym c.in-None-Good.is-1)
+    (refreshed_change rule (Good array delta ∷ others) c.args.held.now c.args.meter.now c.change_of_arrays.new.meter c.change_of_arrays.result none
+    (subst (λ (a : ArrayValue). IsRefreshed rule ((a, delta) ∷ arrays_among others) c.args.held.now c.args.meter.now c.change_of_arrays.new.meter c.change_of_arrays.result) c.again.ensures c.change_of_arrays.ensures))

@@ -1,0 +1,43 @@
+use Rattle.std.proofs.Common.{ℕ, ◌+◌, List, [], ◌∷◌, map, take, Option, Some, None, ◌∙◌, sym, subst}
+use Rattle.std.specs.Option.{option_map}
+use Rattle.apl_expr.specs.Trees.{Tree}
+use Rattle.formula_core.specs.declared.input.Input.{Input}
+use Rattle.formula_core.specs.Changes.{Change}
+use Rattle.formula_core.specs.Inputs.{AllHaveFit}
+use Rattle.formula_core.specs.Stages.{IsStaged, AreReady}
+use Rattle.formula_core.specs.Tables.{tree_of_operand}
+use Rattle.formula_core.proofs.Steps.{operand_within, position_ready}
+use Rattle.formula_core.proofs.Stepping.{fit_more}
+use Rattle.formula_core.proofs.stage.Stage.positions.Goals as goal
+use Rattle.formula_core.proofs.stage.Stage.positions.Goals.{in-Some, in-None}
+
+pub operand-requires-clause-within : goal.operand-requires-clause-within
+operand-requires-clause-within c =
+    operand_within _ _ c.args.operands.now c.requires.within c.loop-operand.operand-index c.in-Some.operand c.loop-operand-test.true c.in-Some.is
+
+pub loop-operand-preserved : goal.loop-operand-preserved
+loop-operand-preserved c =
+    let s = c.args.self.now in
+    let os = c.args.operands.now in
+    let k = c.loop-operand.operand-index in
+    let before = c.loop-operand.positions.items in
+    let pushed = c.in_ok-push.ensures.items in
+    elim c.match-operand.branch [
+      | in-Some w ↦
+          let more = rw w.push-is at pushed in
+          record {
+            fit = subst AllHaveFit (sym more) (fit_more before (Some w.operand.result) c.loop-operand.invariant.fit (w.operand.ensures.fit, tt));
+            ready = λ change names trees staged.
+                subst (λ (is : List (Option Input)). AreReady s.is_new change (map (option_map (tree_of_operand names trees)) (take (k + 1) os)) is) (sym more)
+                (position_ready s.is_new change (option_map (tree_of_operand names trees)) os k (Some w.in-Some.operand) before (Some w.operand.result) c.loop-operand-test.true w.in-Some.is
+                (c.loop-operand.invariant.ready change names trees staged) (w.operand.ensures.ready change names trees staged, tt));
+          }
+      | in-None w ↦
+          let more = rw w.push-is at pushed in
+          record {
+            fit = subst AllHaveFit (sym more) (fit_more before None c.loop-operand.invariant.fit tt);
+            ready = λ change names trees staged.
+                subst (λ (is : List (Option Input)). AreReady s.is_new change (map (option_map (tree_of_operand names trees)) (take (k + 1) os)) is) (sym more)
+                (position_ready s.is_new change (option_map (tree_of_operand names trees)) os k None before None c.loop-operand-test.true w.in-None.is (c.loop-operand.invariant.ready change names trees staged) tt);
+          }
+    ]

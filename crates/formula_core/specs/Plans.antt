@@ -1,0 +1,72 @@
+-- What a formula's next results are, planned while its old ones stand.
+use Rattle.std.specs.Prelude.{◌≡◌, ◌-◌, ◌<◌, ℕ, List, [], ◌∷◌, Bool, true, false, Err, IfOk, length, get_or, map, if◌then◌else◌}
+use Rattle.std.specs.List.{Contains, sum_by}
+use Rattle.apl_expr.specs.Trees.{Tree, Const, Name, Monad, Dyad, Index}
+use Rattle.arrays_core.specs.Arrays.{IsArray}
+use Rattle.index_region.specs.declared.delta.Delta.{Delta}
+use Rattle.index_region.specs.declared.delta.Delta.TheVariants.{Same, Whole}
+use Rattle.change_core.specs.Meters.{ticked}
+use Rattle.change_rules.specs.Currency.{applied}
+use Rattle.formula_core.specs.declared.input.Input.{Input}
+use Rattle.formula_core.specs.Outcomes.{Outcome}
+use Rattle.formula_core.specs.Meaning.{eval, names_in}
+use Rattle.formula_core.specs.Tables.{subtrees}
+use Rattle.formula_core.specs.Formulas.{FormulaValue}
+use Rattle.formula_core.specs.Changes.{Change, change, cost_at, size_at, IsNameChanged}
+use Rattle.formula_core.specs.Inputs.{IsInput, AllFitIn}
+
+-- the change of each node, and what all of them cost
+pub record PlanValue : Type 0 where
+  pub changes : List Delta
+  pub cost : ℕ
+
+-- the change of the whole tree: that of the last node
+abbrev pub root_change : List Delta → Delta
+root_change changes = get_or changes (length changes - 1) Same
+
+-- results with their changes
+abbrev pub adopted : List Delta → List Outcome → List Outcome
+adopted [] results = results
+adopted (d ∷ changes) [] = []
+adopted (d ∷ changes) (o ∷ results) = applied d o ∷ adopted changes results
+
+-- it has a change for each result, which lies in it
+pub record IsPlanOf (f : FormulaValue) (p : PlanValue) : Type 0 where
+  pub each : length p.changes ≡ length f.results
+  pub fit : AllFitIn p.changes f.results
+
+-- the change of a node: where the formula was not worked out yet every node is whole
+abbrev pub node_change : (is_new : Bool) → Change → Tree → Delta
+node_change is_new c t = if is_new then Whole (eval t c.new) else change c t
+
+-- what it costs: where the formula was not worked out yet, the size of the result
+abbrev pub node_cost_at : (is_new : Bool) → Change → Tree → ℕ
+node_cost_at is_new c t = if is_new then size_at c.new t else cost_at c t
+
+-- what the change of a tree costs with all in it
+abbrev pub tree_cost : (is_new : Bool) → Change → Tree → ℕ
+tree_cost is_new c t = sum_by (node_cost_at is_new c) (subtrees t)
+
+-- an input for each name says what it shows now and what changed of it
+abbrev pub AreInputs : Change → List (List ℕ) → List Input → Type 0
+AreInputs c [] [] = Unit {0}
+AreInputs c (x ∷ names) (i ∷ inputs) = IsInput (c.new x) (c.delta x) i × AreInputs c names inputs
+AreInputs c _ _ = ⊥
+
+-- a name shows an array of a sound shape and type, or an error, before and after
+pub record IsNameSound (c : Change) (x : List ℕ) : Type 0 where
+  pub old : IfOk (c.old x) IsArray
+  pub new : IfOk (c.new x) IsArray
+
+-- the names of the formula changed so, as the inputs tell, and it holds what it gave before, unless it was not worked out yet
+pub record IsTold (f : FormulaValue) (c : Change) (inputs : List Input) : Type 0 where
+  pub holds : f.is_new ≡ false → f.results ≡ map (λ t. eval t c.old) (subtrees f.tree)
+  pub tell : AreInputs c (names_in f.tree) inputs
+  pub changed : (x : List ℕ) → Contains (names_in f.tree) x → IsNameChanged c x
+  pub sound : (x : List ℕ) → Contains (names_in f.tree) x → IsNameSound c x
+
+-- it changes each node as the names changed, makes of each result what its tree gives now, and costs what its nodes cost
+pub record IsPlanned (f : FormulaValue) (c : Change) (p : PlanValue) : Type 0 where
+  pub changes : p.changes ≡ map (node_change f.is_new c) (subtrees f.tree)
+  pub right : adopted p.changes f.results ≡ map (λ t. eval t c.new) (subtrees f.tree)
+  pub cost : p.cost ≡ ticked 0 (tree_cost f.is_new c f.tree)

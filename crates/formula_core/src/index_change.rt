@@ -1,0 +1,166 @@
+//! The change of an index, from what its operands give.
+
+ghost use Rattle.std.specs.Prelude.{◌≡◌, ◌≤◌, ◌∷◌, IfOk, is_some, suc, length, map, take};
+ghost use Rattle.std.specs.List.{list_all};
+ghost use Rattle.change_core.specs.Reaches.{AllFit};
+ghost use Rattle.change_rules.specs.Nodes.{views, moved};
+ghost use Rattle.selection_fns.specs.Index.{count_written};
+ghost use Rattle.selection_rules.specs.Index.{index_rule};
+ghost use Rattle.formula_core.specs.Rules.{IsRefreshed};
+ghost use Rattle.formula_core.specs.Inputs.{stays, HasFit, AllHaveFit, IsOperationChange, arrays_among, last_error, written_inputs};
+
+use crate::input::Input;
+use crate::operation_change::beside_error;
+use crate::refreshing::Operation;
+use arrays_core::{Array, Fault};
+use change_core::Meter;
+use index_region::{Delta, Seen};
+use smallvec::SmallVec;
+use std::alloc::{AllocError, Global};
+
+/// How many positions take no memory. More have no value: no array has more axes.
+const FEW_POSITIONS: usize = 4;
+
+/// Which positions of an index are written.
+type Written = SmallVec<bool, FEW_POSITIONS>;
+
+/// The change of an index, and what it costs: the array and the positions that are written; beside an error it is that error, that of the
+/// last position first and the array's last.
+pub(crate) fn change_of_index(
+    alloc: Global,
+    array: &Input,
+    positions: &[Option<Input>],
+    held: &Result<Array, Fault>,
+    meter: &mut Meter,
+) -> Result<(Delta, u32), AllocError>
+    requires array { HasFit array.now }
+    requires positions { AllHaveFit positions.now }
+    ensures { IsOperationChange (index_rule (map is_some positions.now)) (array.now ∷ written_inputs positions.now) held.now meter.old meter.new result }
+{
+    match (last_fault(positions), array) {
+        (Some(fault), _) => Ok((beside_error(fault, all_stay(array, positions)), 0)),
+        (None, Input::Bad { fault, .. }) => {
+            Ok((beside_error(*fault, all_stay(array, positions)), 0))
+        }
+        (None, Input::Good(array, delta)) => {
+            let indexed = (array.again(), *delta);
+            change_of_arrays(alloc, &indexed, positions, held, meter)
+        }
+    }
+}
+
+/// The change of an index whose operands are arrays. Up to four positions take no memory.
+fn change_of_arrays(
+    alloc: Global,
+    indexed: &(Seen, &Delta),
+    positions: &[Option<Input>],
+    held: &Result<Array, Fault>,
+    meter: &mut Meter,
+) -> Result<(Delta, u32), AllocError>
+    requires count { length (arrays_among (written_inputs positions.now)) ≡ count_written (map is_some positions.now) }
+    requires fit { AllFit (views (indexed.now ∷ arrays_among (written_inputs positions.now))) (moved (indexed.now ∷ arrays_among (written_inputs positions.now))) }
+    ensures { IsRefreshed (index_rule (map is_some positions.now)) (indexed.now ∷ arrays_among (written_inputs positions.now)) held.now meter.old meter.new result }
+{
+    if positions.len() <= FEW_POSITIONS {
+        let (args, count) = few_arguments(indexed, positions);
+        return change_by_arguments(alloc, &args[..count], positions, held, meter);
+    }
+    let args = arguments_of(alloc, indexed, positions)?;
+    change_by_arguments(alloc, args.as_slice(), positions, held, meter)
+}
+
+/// The change of an index, by its arguments.
+fn change_by_arguments(
+    alloc: Global,
+    args: &[(Seen, &Delta)],
+    positions: &[Option<Input>],
+    held: &Result<Array, Fault>,
+    meter: &mut Meter,
+) -> Result<(Delta, u32), AllocError>
+    requires count { length args.now ≡ suc (count_written (map is_some positions.now)) }
+    requires fit { AllFit (views args.now) (moved args.now) }
+    ensures { IsRefreshed (index_rule (map is_some positions.now)) args.now held.now meter.old meter.new result }
+{
+    let written = written_of(alloc, positions)?;
+    let operation = Operation { alloc, args, held };
+    operation.of_positions(written.as_slice(), meter)
+}
+
+/// The error of the last position that has one.
+fn last_fault(positions: &[Option<Input>]) -> Option<Fault>
+    ensures { result ≡ last_error (written_inputs positions.now) }
+{
+    let mut last = None;
+    for position in positions {
+        if let Some(Input::Bad { fault, .. }) = position {
+            last = Some(*fault);
+        }
+    }
+    last
+}
+
+/// Nothing changed of the array and of each written position.
+fn all_stay(array: &Input, positions: &[Option<Input>]) -> bool
+    ensures { result ≡ list_all stays (array.now ∷ written_inputs positions.now) }
+{
+    array.stays()
+        && positions.iter().all(|position| match position {
+            Some(input) => input.stays(),
+            None => true,
+        })
+}
+
+/// Which positions are written.
+fn written_of(alloc: Global, positions: &[Option<Input>]) -> Result<Written, AllocError>
+    ensures { IfOk result (λ written. written.items ≡ map is_some positions.now) }
+{
+    let mut written = SmallVec::new(alloc);
+    for position in positions {
+        written.push(position.is_some())?;
+    }
+    Ok(written)
+}
+
+/// The array and the positions that are arrays, each with what changed of it.
+fn arguments_of<'a>(
+    alloc: Global,
+    indexed: &'a (Seen<'a>, &'a Delta),
+    positions: &'a [Option<Input>],
+) -> Result<Vec<(Seen<'a>, &'a Delta)>, AllocError>
+    ensures { IfOk result (λ args. args.items ≡ indexed.now ∷ arrays_among (written_inputs positions.now)) }
+{
+    let mut args = Vec::new(alloc);
+    args.push((indexed.0.again(), indexed.1))?;
+    for position in positions {
+        if let Some(Input::Good(array, delta)) = position {
+            args.push((array.again(), *delta))?;
+        }
+    }
+    Ok(args)
+}
+
+/// The same of few positions, with how many they are; behind them the array stands again.
+fn few_arguments<'a>(
+    indexed: &'a (Seen<'a>, &'a Delta),
+    positions: &'a [Option<Input>],
+) -> ([(Seen<'a>, &'a Delta); 5], usize)
+    requires { length positions.now ≤ 4 }
+    ensures within { result.1 ≤ 5 }
+    ensures are { take result.1 result.0 ≡ indexed.now ∷ arrays_among (written_inputs positions.now) }
+{
+    let mut args = [
+        (indexed.0.again(), indexed.1),
+        (indexed.0.again(), indexed.1),
+        (indexed.0.again(), indexed.1),
+        (indexed.0.again(), indexed.1),
+        (indexed.0.again(), indexed.1),
+    ];
+    let mut count = 1;
+    for position in positions {
+        if let Some(Input::Good(array, delta)) = position {
+            args[count] = (array.again(), *delta);
+            count += 1;
+        }
+    }
+    (args, count)
+}

@@ -1,0 +1,161 @@
+//! What the next change of a formula is worked out from.
+
+ghost use Rattle.std.specs.Prelude.{◌≡◌, ◌≤◌, ℕ, List, true, false, length, map, IfOk};
+ghost use Rattle.std.specs.Option.{option_map};
+ghost use Rattle.apl_expr.specs.Trees.{Tree, Const, Name, literal_of};
+ghost use Rattle.change_rules.specs.Nodes.{is_whole};
+ghost use Rattle.formula_core.specs.Meaning.{eval};
+ghost use Rattle.formula_core.specs.Changes.{Change, FitsIn, IsNameChanged};
+ghost use Rattle.formula_core.specs.Inputs.{HasFit, AllHaveFit, AllFitIn, IsInput};
+ghost use Rattle.formula_core.specs.Plans.{node_change};
+ghost use Rattle.formula_core.specs.Stages.{IsStaged, StagedBy, IsTaken, IsReady, AreReady, IsStep};
+ghost use Rattle.formula_core.specs.Tables.{IsOperand, AreOperands, IsNode, tree_of_operand, tree_of_node};
+
+use crate::index_change::change_of_index;
+use crate::input::Input;
+use crate::literals::array_of;
+use crate::operation_change::{change_of_both, change_of_right};
+use crate::table::{Node, Operand};
+use apl_expr::Literal;
+use arrays_core::{ApplyFault, Array, Fault};
+use change_core::Meter;
+use index_region::Delta;
+use std::alloc::{AllocError, Global};
+
+/// What the names of a formula show with what changed of it, what its nodes hold, and the changes of those that come
+/// first: what the change of the next node is worked out from.
+#[derive(Drop)]
+pub(crate) struct Stage<'a> {
+    pub(crate) alloc: Global,
+    /// The formula was not worked out yet.
+    pub(crate) is_new: bool,
+    pub(crate) inputs: &'a [Input<'a>],
+    pub(crate) results: &'a [Result<Array, Fault>],
+    pub(crate) changes: &'a [Delta],
+    /// Any change of the whole: all that a new formula takes counts as new.
+    pub(crate) anew: &'a Delta,
+}
+
+impl<'a> Stage<'a> {
+    /// An argument of the next node; in a new formula it counts as new.
+    fn operand(&self, operand: Operand) -> Input<'a>
+        requires within { IsOperand (length self.now.inputs.now) (length self.now.changes.now) operand }
+        requires staged { StagedBy self.now }
+        requires anew { is_whole self.now.anew.now ≡ true }
+        ensures fit { HasFit result }
+        ensures ready { (c : Change) → (names : List (List ℕ)) → (trees : List Tree) → IsStaged c names trees self.now → IsReady self.now.is_new c (tree_of_operand names trees operand) result }
+    {
+        let input = taken(operand, self.inputs, self.results, self.changes);
+        if self.is_new {
+            return input.made_anew(self.anew);
+        }
+        input
+    }
+
+    /// The positions of an index that are written.
+    fn positions(
+        &self,
+        operands: &[Option<Operand>],
+    ) -> Result<Vec<Option<Input<'a>>>, AllocError>
+        requires within { AreOperands (length self.now.inputs.now) (length self.now.changes.now) operands.now }
+        requires staged { StagedBy self.now }
+        requires anew { is_whole self.now.anew.now ≡ true }
+        ensures fit { IfOk result (λ positions. AllHaveFit positions.items) }
+        ensures ready { IfOk result (λ positions. (c : Change) → (names : List (List ℕ)) → (trees : List Tree) → IsStaged c names trees self.now
+            → AreReady self.now.is_new c (map (option_map (tree_of_operand names trees)) operands.now) positions.items) }
+    {
+        let mut positions = Vec::with_capacity(self.alloc, operands.len())?;
+        for operand in operands {
+            positions.push(match operand {
+                Some(operand) => Some(self.operand(*operand)),
+                None => None,
+            })?;
+        }
+        Ok(positions)
+    }
+
+    /// The change of the next node, which held this, and what it costs.
+    pub(crate) fn change_of(
+        &self,
+        node: &Node,
+        held: &Result<Array, Fault>,
+        meter: &mut Meter,
+    ) -> Result<(Delta, u32), AllocError>
+        requires node { IsNode (length self.now.inputs.now) (length self.now.changes.now) node.now }
+        requires staged { StagedBy self.now }
+        requires anew { is_whole self.now.anew.now ≡ true }
+        ensures { (c : Change) → (names : List (List ℕ)) → (trees : List Tree) → IsStaged c names trees self.now
+            → (self.now.is_new ≡ false → held.now ≡ eval (tree_of_node names trees node.now) c.old)
+            → IsStep self.now.is_new c (tree_of_node names trees node.now) meter.old meter.new result }
+    {
+        match node {
+            Node::Constant(literal) => Ok((self.change_of_literal(literal)?, 0)),
+            Node::Name(place) => {
+                let name = Operand::Name(*place);
+                let input = taken(name, self.inputs, self.results, self.changes);
+                Ok((self.change_of_name(&input)?, 0))
+            }
+            Node::Monad(function, right) => {
+                let right = self.operand(*right);
+                change_of_right(self.alloc, *function, &right, held, meter)
+            }
+            Node::Dyad(function, left, right) => {
+                let left = self.operand(*left);
+                let right = self.operand(*right);
+                change_of_both(self.alloc, *function, &left, &right, held, meter)
+            }
+            Node::Index(array, positions) => {
+                let array = self.operand(*array);
+                let positions = self.positions(positions)?;
+                change_of_index(self.alloc, &array, &positions, held, meter)
+            }
+        }
+    }
+
+    /// The change of a literal: it stays, and in a new formula it is new.
+    fn change_of_literal(&self, literal: &Literal) -> Result<Delta, AllocError>
+        ensures { IfOk result (λ d. (c : Change) → d ≡ node_change self.now.is_new c (Const (literal_of literal.now))) }
+    {
+        if !self.is_new {
+            return Ok(Delta::Same);
+        }
+        match array_of(self.alloc, literal) {
+            Ok(array) => Ok(Delta::Whole(Ok(array))),
+            Err(ApplyFault::Kind(kind)) => Ok(Delta::Whole(Err(Fault { kind, origin: None }))),
+            Err(ApplyFault::NoMemory) => Err(AllocError),
+        }
+    }
+
+    /// The change of a name that is the whole expression: that of the name, and in a new formula it is new.
+    fn change_of_name(&self, input: &Input) -> Result<Delta, AllocError>
+        ensures { IfOk result (λ d. (c : Change) → (x : List ℕ) → IsInput (c.new x) (c.delta x) input.now → IsNameChanged c x → d ≡ node_change self.now.is_new c (Name x)) }
+    {
+        if self.is_new {
+            return Ok(Delta::Whole(input.copy()?));
+        }
+        match input {
+            Input::Good(_, Delta::Same) => Ok(Delta::Same),
+            Input::Good(_, Delta::Patch(patch)) => Ok(Delta::Patch(patch.copy()?)),
+            Input::Bad { changed: false, .. } => Ok(Delta::Same),
+            _ => Ok(Delta::Whole(input.copy()?)),
+        }
+    }
+}
+
+/// What an argument gives as it stands, where the names show these, and the nodes held these results, which changed so.
+fn taken<'a>(
+    operand: Operand,
+    inputs: &'a [Input<'a>],
+    results: &'a [Result<Array, Fault>],
+    changes: &'a [Delta],
+) -> Input<'a>
+    requires within { IsOperand (length inputs.now) (length changes.now) operand }
+    requires few { length changes.now ≤ length results.now }
+    requires fit { AllFitIn changes.now results.now }
+    ensures { IsTaken inputs.now results.now changes.now operand result }
+{
+    match operand {
+        Operand::Name(place) => inputs[place].again(),
+        Operand::Node(place) => Input::of_node(&results[place], &changes[place]),
+    }
+}
