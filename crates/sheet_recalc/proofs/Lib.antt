@@ -7,11 +7,13 @@ pub mod Binding
 pub mod Live
 pub mod Cycles
 pub mod Proposed
+pub mod PlannedNames
 pub mod Working
 pub mod Rebound
 pub mod Refused
 pub mod Indices
 pub mod Rows
+pub mod CellPatches
 pub mod Deltas
 pub mod Sums
 pub mod Examples

@@ -1,24 +1,21 @@
 -- A name is bound anew, or removed: the names that reach it, and itself, are found; either it would reach itself, or the order is kept.
-use Rattle.std.proofs.Common.{◌≡◌, ◌≢◌, ℕ, ◌⊎◌, ◌↔◌, inl, inr, Bool, true, false, List, [], ◌∷◌, Option, Some, None, refl, sym, ◌∙◌, subst, arith, ⊎_elim}
+use Rattle.std.proofs.Common.{◌≡◌, ◌≢◌, ℕ, ◌⊎◌, ◌↔◌, inl, inr, List, [], ◌∷◌, Option, Some, None, refl, sym, ◌∙◌, subst, arith, ⊎_elim}
 use Rattle.std.specs.Str.{bytes_eq}
 use Rattle.std.specs.List.{Contains, IsDistinct}
 use Rattle.indexmap.specs.IndexSet.{IndexSet}
 use Rattle.dep_order.specs.Reachability.{Chain, Reaches, IsAcyclic}
-use Rattle.formula_core.specs.Outcomes.{Outcome}
 use Rattle.std.specs.Option.{option_map_or}
 use Rattle.sheet_recalc.specs.Names.{Names, Binding, Data, Formula, binding, rebound, Refers, referred, referred_by, IsSheet}
 use Rattle.sheet_recalc.specs.Meaning.{val, IsSettled}
 use Rattle.sheet_recalc.specs.Entries.{names_of}
 use Rattle.sheet_recalc.specs.Live.{IsLive, IsCurrent, IsTable}
-use Rattle.sheet_recalc.specs.ProposedSheet.{standing, IsReaching}
+use Rattle.sheet_recalc.specs.ProposedSheet.{IsReaching}
 use Rattle.dep_order.specs.Follows.{Follows}
 use Rattle.dep_order.specs.Users.{Uses, IsClosed, HasNoEmptyBut}
 use Rattle.sheet_recalc.specs.NameOrder.{IsKeptOrder, HasOrder}
 use Rattle.sheet_recalc.specs.declared.entry.Entry.{Entry}
-use Rattle.sheet_recalc.proofs.NameEquality.{equal-true}
 use Rattle.sheet_recalc.proofs.Binding.{rebound_same, rebound_own}
 use Rattle.sheet_recalc.proofs.Scratch.{val_is, acyclic_from_order}
-use Rattle.sheet_recalc.proofs.Live.{holding_val}
 use Rattle.dep_order.proofs.Following.{contains_none, follows_weaker}
 use Rattle.sheet_recalc.proofs.Keeping.{cases_name, distinct_once, name_order, kept_order, unaffected}
 
@@ -95,14 +92,9 @@ module _ {S : Type 0} (es : List (List ℕ × Entry)) (users : List (List ℕ ×
         (λ x y c r. cases_name (Refers old y x) name y (λ e. absurd (free x (subst (λ z. Refers new z x) e r) c)) (λ apart. (r.0, sym (same y apart) ∙ r.1, r.2)))
         (λ x d. d) closed_old
 
-    -- what is not found stands as it is to be shown
-    pub standing_now : (own : Outcome) (q : List ℕ) → (Contains found q → ⊥) → standing es name own q ≡ val new q
-    standing_now own q apart = by (bytes_eq q name) refl
-      where
-        by : (t : Bool) → bytes_eq q name ≡ t → standing es name own q ≡ val new q
-        by true e = absurd (apart (subst (λ z. Contains found z) (sym (equal-true q name e)) named))
-        by false e = rw e (holding_val es live.current q
-            ∙ sym (unaffected old new name same found closed_old named has_order.0 (name_order new has_order.0 has_order.1) (λ x. val_is old live.order (name_order old live.order live.kept) x) q apart))
+    -- what is not found shows what it did
+    pub shown_still : (q : List ℕ) → (Contains found q → ⊥) → val new q ≡ val old q
+    shown_still q apart = unaffected old new name same found closed_old named has_order.0 (name_order new has_order.0 has_order.1) (λ x. val_is old live.order (name_order old live.order live.kept) x) q apart
 
 -- the table, once the name refers to what it is bound to now, and no longer to what stood before
 pub table_after : {S : Type 0} (old : Names) (name : List ℕ) (b : Option Binding) (users after : List (List ℕ × IndexSet (List ℕ) S)) → IsTable old users

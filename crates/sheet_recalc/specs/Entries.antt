@@ -1,10 +1,15 @@
 -- The entries of a sheet, as the list of its names and as what they show.
-use Rattle.std.specs.Prelude.{ℕ, List, Ok, Err, map}
+use Rattle.std.specs.Prelude.{◌≡◌, ℕ, List, Some, false, Ok, Err, map}
 use Rattle.std.specs.Str.{bytes_eq}
 use Rattle.std.specs.Map.{lookup}
 use Rattle.std.specs.Option.{unwrap_or, option_map}
 use Rattle.arrays_core.specs.declared.item.Kind.TheVariants.{Value}
+use Rattle.arrays_core.specs.Arrays.{ArrayValue}
+use Rattle.index_region.specs.Patches.{PatchValue, FitsPatch, patched}
 use Rattle.formula_core.specs.Outcomes.{Outcome, fault}
+use Rattle.formula_core.specs.Formulas.{root_result}
+use Rattle.formula_core.specs.Plans.{PlanValue, adopted}
+use Rattle.sheet_recalc.specs.Meaning.{with_origin}
 use Rattle.sheet_recalc.specs.Names.{Names, Binding, Data, Formula}
 use Rattle.sheet_recalc.specs.declared.entry.Entry.{Entry}
 use Rattle.sheet_recalc.specs.declared.entry.Entry.TheVariants as entry
@@ -14,15 +19,29 @@ abbrev pub binding_of : Entry → Binding
 binding_of (entry.Data a) = Data a
 binding_of (entry.Formula f) = Formula f.tree
 
--- what an entry shows
-abbrev pub entry_outcome : Entry → Outcome
-entry_outcome (entry.Data a) = Ok a
-entry_outcome (entry.Formula f) = f.result
+-- what an entry shows under a name: an error that arose in its formula has its origin there
+abbrev pub entry_outcome : List ℕ → Entry → Outcome
+entry_outcome name (entry.Data a) = Ok a
+entry_outcome name (entry.Formula f) = with_origin name (root_result f.results)
 
--- an entry with this result, if it is a formula
-abbrev pub adopted : Entry → Outcome → Entry
-adopted (entry.Data a) outcome = entry.Data a
-adopted (entry.Formula f) outcome = entry.Formula (record { tree = f.tree; result = outcome })
+-- an entry that took a plan, if it is a formula
+abbrev pub adopting : Entry → PlanValue → Entry
+adopting (entry.Data a) plan = entry.Data a
+adopting (entry.Formula f) plan = entry.Formula (record { tree = f.tree; is_new = false; results = adopted plan.changes f.results })
+
+-- the patch lies in an entry, if that is data
+abbrev pub FitsEntry : Entry → PatchValue → Type 0
+FitsEntry (entry.Data a) patch = FitsPatch a patch
+FitsEntry (entry.Formula f) patch = Unit {0}
+
+-- an entry into which a patch was written, if it is data
+abbrev pub patched_entry : Entry → PatchValue → Entry
+patched_entry (entry.Data a) patch = entry.Data (patched a patch)
+patched_entry (entry.Formula f) patch = entry.Formula f
+
+-- a name is bound to this data
+abbrev pub HasData : List (List ℕ × Entry) → List ℕ → ArrayValue → Type 0
+HasData entries name a = lookup (bytes_eq name) entries ≡ Some (entry.Data a)
 
 -- the names of a sheet, in their order, each with what it is bound to
 abbrev pub names_of : List (List ℕ × Entry) → Names
@@ -30,4 +49,4 @@ names_of entries = map (λ e. (e.0, binding_of e.1)) entries
 
 -- what a name shows, by what the entries hold
 abbrev pub holding : List (List ℕ × Entry) → List ℕ → Outcome
-holding entries name = unwrap_or (option_map entry_outcome (lookup (bytes_eq name) entries)) (Err (fault Value))
+holding entries name = unwrap_or (option_map (entry_outcome name) (lookup (bytes_eq name) entries)) (Err (fault Value))

@@ -5,9 +5,11 @@ pub mod Cells
 pub mod Rows
 pub mod Changes
 pub mod History
+pub mod Costs
 -- What proofs and bodies use.
 pub mod Entries
 pub mod ProposedSheet
 pub mod NameOrder
 pub mod Live
+pub mod Planning
 pub mod Codes

@@ -1,19 +1,27 @@
 -- What the entries of a sheet keep.
-use Rattle.std.specs.Prelude.{◌≡◌, ℕ, List, [], ◌⊎◌, ◌↔◌, Some, IsSome}
+use Rattle.std.specs.Prelude.{◌≡◌, ℕ, List, [], ◌↔◌, Option, Some, None, Ok, if◌then◌else◌}
 use Rattle.std.specs.Str.{bytes_eq}
 use Rattle.std.specs.Map.{lookup}
 use Rattle.formula_core.specs.Outcomes.{Outcome}
-use Rattle.sheet_recalc.specs.Names.{Names, binding, Refers, IsSheet}
-use Rattle.sheet_recalc.specs.Meaning.{val}
+use Rattle.formula_core.specs.Formulas.{IsHeld, root_result}
+use Rattle.formula_core.specs.Plans.{PlanValue, IsPlanOf}
+use Rattle.sheet_recalc.specs.Names.{Names, Refers, IsSheet}
+use Rattle.sheet_recalc.specs.Meaning.{val, with_origin}
 use Rattle.sheet_recalc.specs.NameOrder.{IsKeptOrder}
 use Rattle.indexmap.specs.IndexSet.{IndexSet}
 use Rattle.dep_order.specs.Users.{Uses, HasNoEmptyBut}
-use Rattle.sheet_recalc.specs.Entries.{names_of, entry_outcome}
+use Rattle.sheet_recalc.specs.Entries.{names_of, adopting}
 use Rattle.sheet_recalc.specs.declared.entry.Entry.{Entry}
+use Rattle.sheet_recalc.specs.declared.entry.Entry.TheVariants as entry
 
--- each entry shows what its name shows from scratch
+-- where the names show these, an entry shows what this name shows, and each result of a formula is what its tree gives
+abbrev pub IsRight : (List ℕ → Outcome) → List ℕ → Entry → Type 0
+IsRight names q (entry.Data a) = Ok a ≡ names q
+IsRight names q (entry.Formula f) = IsHeld f names × (with_origin q (root_result f.results) ≡ names q)
+
+-- so it is with each entry, as from scratch
 abbrev pub IsCurrent : List (List ℕ × Entry) → Type 0
-IsCurrent entries = (q : List ℕ) (e : Entry) → lookup (bytes_eq q) entries ≡ Some e → entry_outcome e ≡ val (names_of entries) q
+IsCurrent entries = (q : List ℕ) (e : Entry) → lookup (bytes_eq q) entries ≡ Some e → IsRight (val (names_of entries)) q e
 
 -- the table tells exactly who refers to whom
 abbrev pub IsTable : {S : Type 0} → Names → List (List ℕ × IndexSet (List ℕ) S) → Type 0
@@ -28,8 +36,24 @@ pub record IsLive {S : Type 0} (entries : List (List ℕ × Entry)) (users : Lis
   pub used : HasNoEmptyBut bytes_eq users []
   pub current : IsCurrent entries
 
--- results are taken one after another, and each formula adopts its own
-pub record Adopting (names : Names) (es : List (List ℕ × Entry)) (rs : List (List ℕ × Outcome)) : Type 0 where
+-- the entry is a formula of which the plan was made
+abbrev pub CanAdopt : Entry → PlanValue → Type 0
+CanAdopt (entry.Data a) plan = ⊥
+CanAdopt (entry.Formula f) plan = IsPlanOf f plan
+
+-- an entry after a change: this one under the name that it is about, if there is one, and the others as they are
+abbrev pub entry_after : List (List ℕ × Entry) → List ℕ → Option Entry → List ℕ → Option Entry
+entry_after entries name own q = if bytes_eq q name then own else lookup (bytes_eq q) entries
+
+-- the entries after a change are right as from scratch, each formula that has a plan once it took it
+pub record IsPlanned (entries : List (List ℕ × Entry)) (name : List ℕ) (own : Option Entry) (names : Names) (plans : List (List ℕ × PlanValue)) : Type 0 where
+  pub can : (q : List ℕ) (e : Entry) (p : PlanValue) → entry_after entries name own q ≡ Some e → lookup (bytes_eq q) plans ≡ Some p → CanAdopt e p
+  pub right : (q : List ℕ) (e : Entry) (p : PlanValue) → entry_after entries name own q ≡ Some e → lookup (bytes_eq q) plans ≡ Some p → IsRight (val names) q (adopting e p)
+  pub rest : (q : List ℕ) (e : Entry) → entry_after entries name own q ≡ Some e → lookup (bytes_eq q) plans ≡ None → IsRight (val names) q e
+
+-- plans are taken one after another
+pub record IsAdopting (names : Names) (es : List (List ℕ × Entry)) (plans : List (List ℕ × PlanValue)) : Type 0 where
   pub names_are : names_of es ≡ names
-  pub right : (q : List ℕ) (r : Outcome) → lookup (bytes_eq q) rs ≡ Some r → r ≡ val names q
-  pub done : (q : List ℕ) → IsSome (binding names q) → IsSome (lookup (bytes_eq q) rs) ⊎ ((e : Entry) → lookup (bytes_eq q) es ≡ Some e → entry_outcome e ≡ val names q)
+  pub can : (q : List ℕ) (e : Entry) (p : PlanValue) → lookup (bytes_eq q) es ≡ Some e → lookup (bytes_eq q) plans ≡ Some p → CanAdopt e p
+  pub right : (q : List ℕ) (e : Entry) (p : PlanValue) → lookup (bytes_eq q) es ≡ Some e → lookup (bytes_eq q) plans ≡ Some p → IsRight (val names) q (adopting e p)
+  pub rest : (q : List ℕ) (e : Entry) → lookup (bytes_eq q) es ≡ Some e → lookup (bytes_eq q) plans ≡ None → IsRight (val names) q e

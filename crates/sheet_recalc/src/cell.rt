@@ -1,44 +1,63 @@
 //! Edits of one cell of data.
 
-ghost use Rattle.std.specs.Prelude.{◌≡◌, ◌≢◌, IfOk, IfErr, IfSome, MatchOption, MatchResult, Ok, Err, Option, true, false, [], ◌∷◌, ◌≤◌, length};
-ghost use Rattle.std.specs.Str.{bytes_eq};
-ghost use Rattle.std.specs.Map.{lookup};
+ghost use Rattle.std.specs.Prelude.{◌≡◌, IfOk, IfErr, MatchOption, Some, Ok, Err, true, false, [], ◌∷◌, ◌≤◌, length};
 ghost use Rattle.apl_expr.specs.Trees.{literal_of};
 ghost use Rattle.arrays_core.specs.Limits.{most_axes};
-ghost use Rattle.arrays_core.specs.Arrays.{IsArray};
 ghost use Rattle.arrays_core.specs.Items.{type_of};
-ghost use Rattle.arrays_core.specs.Shapes.{is_index_of};
+ghost use Rattle.arrays_core.specs.Shapes.{IsWithinLimits, is_index_of};
+ghost use Rattle.index_region.specs.Patches.{FitsPatch, patched};
+ghost use Rattle.index_region.specs.declared.delta.Delta.TheVariants.{Patch as IsPatched};
 ghost use Rattle.sheet_recalc.specs.Names.{binding, Data};
-ghost use Rattle.sheet_recalc.specs.Entries.{names_of};
+ghost use Rattle.sheet_recalc.specs.Entries.{names_of, HasData};
 ghost use Rattle.sheet_recalc.specs.Cells.{cell_put, index_of_number, index_of_numbers, is_on_axis, literal_items, item_put, IsDataAnswer, IsOnlyItem};
+ghost use Rattle.sheet_recalc.specs.Costs.{cell_patch as patch_of_cell, cell_delta};
 
 use crate::entry::Entry;
 use crate::refusal::Refusal;
 use apl_expr::Literal;
 use apl_tokens::Name;
 use arrays_core::{Array, Item, Shape, position};
+use index_region::{IndexBox, Patch};
 use indexmap::IndexMap;
 use smallvec::SmallVec;
+use std::alloc::{AllocError, Global};
 
-/// The data of a name with a literal in one cell, or why not.
-pub(crate) fn data_with_cell(
-    entries: &IndexMap<Name, Entry>,
+/// The data of a name, lent, and the patch of it that puts a literal in one cell, or why there is none. The data is not
+/// copied.
+pub(crate) fn cell_patch<'a>(
+    alloc: Global,
+    entries: &'a IndexMap<Name, Entry>,
     name: Name,
     positions: &[i64],
     literal: &Literal,
-) -> Result<Array, Refusal>
-    ensures { IsDataAnswer (cell_put (binding (names_of entries.now.entries) name) positions.now (literal_of literal.now)) result }
+) -> Result<(&'a Array, Patch), Refusal>
+    ensures data { IfOk result (λ r. HasData entries.now.entries name r.0.now) }
+    ensures put { IfOk result (λ r. cell_put (binding (names_of entries.now.entries) name) positions.now (literal_of literal.now) ≡ Ok (patched r.0.now r.1)) }
+    ensures fits { IfOk result (λ r. FitsPatch r.0.now r.1) }
+    ensures delta { IfOk result (λ r. IsPatched r.1 ≡ cell_delta (index_of_numbers positions.now) (literal_items (literal_of literal.now))) }
+    ensures refused { IfErr result (λ cause. IsDataAnswer (cell_put (binding (names_of entries.now.entries) name) positions.now (literal_of literal.now)) (Err cause)) }
 {
     match entries.get(&name) {
         None => Err(Refusal::NotFound),
         Some(Entry::Formula(_)) => Err(Refusal::NotData),
-        Some(Entry::Data(array)) => with_cell(array, positions, literal),
+        Some(Entry::Data(array)) => {
+            let patch = patch_of(alloc, array, positions, literal)?;
+            Ok((array, patch))
+        }
     }
 }
 
-/// The array with a literal in one cell, or why not.
-fn with_cell(array: &Array, positions: &[i64], literal: &Literal) -> Result<Array, Refusal>
-    ensures { IsDataAnswer (cell_put (Some (Data array.now)) positions.now (literal_of literal.now)) result }
+/// The patch of an array that puts a literal in one cell, or why there is none.
+fn patch_of(
+    alloc: Global,
+    array: &Array,
+    positions: &[i64],
+    literal: &Literal,
+) -> Result<Patch, Refusal>
+    ensures put { IfOk result (λ patch. cell_put (Some (Data array.now)) positions.now (literal_of literal.now) ≡ Ok (patched array.now patch)) }
+    ensures fits { IfOk result (λ patch. FitsPatch array.now patch) }
+    ensures delta { IfOk result (λ patch. IsPatched patch ≡ cell_delta (index_of_numbers positions.now) (literal_items (literal_of literal.now))) }
+    ensures refused { IfErr result (λ cause. IsDataAnswer (cell_put (Some (Data array.now)) positions.now (literal_of literal.now)) (Err cause)) }
 {
     if positions.len() != array.shape().len() {
         return Err(Refusal::Rank);
@@ -46,13 +65,21 @@ fn with_cell(array: &Array, positions: &[i64], literal: &Literal) -> Result<Arra
     let Some(index) = index_of(array.shape(), positions) else {
         return Err(Refusal::Index);
     };
-    with_literal(array, &index, literal)
+    patch_with(alloc, array, &index, literal)
 }
 
-/// The array with a literal of one item of its type at an index list.
-fn with_literal(array: &Array, index: &Shape, literal: &Literal) -> Result<Array, Refusal>
+/// The patch of an array that puts a literal of one item of its type at an index list.
+fn patch_with(
+    alloc: Global,
+    array: &Array,
+    index: &Shape,
+    literal: &Literal,
+) -> Result<Patch, Refusal>
     requires { is_index_of array.now.shape index.now.items ≡ true }
-    ensures { IsDataAnswer (item_put array.now index.now.items (literal_items (literal_of literal.now))) result }
+    ensures put { IfOk result (λ patch. item_put array.now index.now.items (literal_items (literal_of literal.now)) ≡ Ok (patched array.now patch)) }
+    ensures fits { IfOk result (λ patch. FitsPatch array.now patch) }
+    ensures delta { IfOk result (λ patch. IsPatched patch ≡ cell_delta index.now.items (literal_items (literal_of literal.now))) }
+    ensures refused { IfErr result (λ cause. IsDataAnswer (item_put array.now index.now.items (literal_items (literal_of literal.now))) (Err cause)) }
 {
     let Some(item) = only_item(literal) else {
         return Err(Refusal::Length);
@@ -60,9 +87,28 @@ fn with_literal(array: &Array, index: &Shape, literal: &Literal) -> Result<Array
     if item.item_type() != array.item_type() {
         return Err(Refusal::Domain);
     }
-    let mut copy = array.copy()?;
-    copy.write_at(position(array.shape(), index.as_slice()), item);
-    Ok(copy)
+    Ok(patch_at(alloc, array.shape(), index, item)?)
+}
+
+/// The patch of one place of a shape, with this item.
+fn patch_at(alloc: Global, shape: &Shape, index: &Shape, item: Item) -> Result<Patch, AllocError>
+    requires within { IsWithinLimits shape.now.items }
+    requires inside { is_index_of shape.now.items index.now.items ≡ true }
+    ensures { IfOk result (λ patch. patch ≡ patch_of_cell index.now.items item) }
+{
+    let place = position(shape, index.as_slice());
+    let region = IndexBox::cover(shape, place, place);
+    Ok(Patch::of(region, only(alloc, item)?))
+}
+
+/// The scalar of an item.
+fn only(alloc: Global, item: Item) -> Result<Array, AllocError>
+    ensures { IfOk result (λ a. a ≡ record { item_type = type_of item; shape = []; items = item ∷ [] }) }
+{
+    match item {
+        Item::Num(number) => Array::scalar(alloc, number),
+        Item::Char(character) => Array::character(alloc, character),
+    }
 }
 
 /// The item of a literal that has one item.

@@ -1,32 +1,33 @@
 //! The part of a change that takes no memory.
 
-ghost use Rattle.std.specs.Prelude.{◌≡◌, ◌<◌, [], Err};
+ghost use Rattle.std.specs.Prelude.{◌≡◌, ◌<◌, [], Some, None};
 ghost use Rattle.std.specs.Str.{bytes_eq};
-ghost use Rattle.indexmap.specs.IndexMap.{spare};
-ghost use Rattle.sheet_recalc.specs.Names.{put, without, referred, referred_by};
-ghost use Rattle.sheet_recalc.specs.Entries.{names_of, binding_of, entry_outcome};
-ghost use Rattle.arrays_core.specs.declared.item.Kind.TheVariants.{Value};
-ghost use Rattle.formula_core.specs.Outcomes.{fault};
-ghost use Rattle.sheet_recalc.specs.ProposedSheet.{IsPlanned};
+ghost use Rattle.indexmap.specs.IndexMap.{spare, insert_entry};
+ghost use Rattle.arrays_core.specs.Arrays.{ArrayValue};
+ghost use Rattle.index_region.specs.Patches.{patched, FitsPatch};
+ghost use Rattle.sheet_recalc.specs.Names.{Data, put, without, referred, referred_by};
+ghost use Rattle.sheet_recalc.specs.Entries.{names_of, binding_of, HasData};
+ghost use Rattle.sheet_recalc.specs.declared.entry.Entry.TheVariants.{Data as DataEntry};
 ghost use Rattle.dep_order.specs.Users.{HasRoomFor, HasNoEmptyBut};
-ghost use Rattle.sheet_recalc.specs.Live.{IsTable, IsCurrent, Adopting};
+ghost use Rattle.sheet_recalc.specs.Live.{IsTable, IsCurrent, IsPlanned, IsAdopting};
 
 use crate::entry::Entry;
-use crate::recalculation::Results;
+use crate::planning::Plans;
 use apl_tokens::Name;
 use dep_order::{Users, refer};
+use index_region::Patch;
 use indexmap::IndexMap;
 
-/// Puts an entry under a name, in the room that was made for it, and gives each formula its new result.
+/// Puts an entry under a name, in the room that was made for it, and gives each formula its new results.
 pub(crate) fn commit(
     entries: &mut IndexMap<Name, Entry>,
     users: &mut Users<Name>,
     name: Name,
     entry: Entry,
-    results: Results,
+    plans: Plans,
 )
     requires room { 0 < spare entries.old }
-    requires planned { IsPlanned entries.old.entries name (entry_outcome entry) (put (names_of entries.old.entries) name (binding_of entry)) results.entries }
+    requires planned { IsPlanned entries.old.entries name (Some entry) (put (names_of entries.old.entries) name (binding_of entry)) plans.entries }
     requires tells { IsTable (names_of entries.old.entries) users.old.entries }
     requires sets { HasRoomFor bytes_eq users.old.entries (referred (binding_of entry)) }
     requires used { HasNoEmptyBut bytes_eq users.old.entries (referred (binding_of entry)) }
@@ -42,17 +43,17 @@ pub(crate) fn commit(
         entry.references(),
     );
     let _before = entries.insert(name, entry).unwrap();
-    adopt_all(entries, results);
+    adopt_all(entries, plans);
 }
 
-/// Takes a name out, and gives each formula its new result.
+/// Takes a name out, and gives each formula its new results.
 pub(crate) fn commit_removal(
     entries: &mut IndexMap<Name, Entry>,
     users: &mut Users<Name>,
     name: Name,
-    results: Results,
+    plans: Plans,
 )
-    requires planned { IsPlanned entries.old.entries name (Err (fault Value)) (without (names_of entries.old.entries) name) results.entries }
+    requires planned { IsPlanned entries.old.entries name None (without (names_of entries.old.entries) name) plans.entries }
     requires tells { IsTable (names_of entries.old.entries) users.old.entries }
     requires used { HasNoEmptyBut bytes_eq users.old.entries [] }
     ensures names { names_of entries.new.entries ≡ without (names_of entries.old.entries) name }
@@ -64,7 +65,34 @@ pub(crate) fn commit_removal(
     // The length brings the fact that no two names are equal, so that one entry is all that goes.
     let _unique = entries.len();
     let _removed = entries.shift_remove(&name);
-    adopt_all(entries, results);
+    adopt_all(entries, plans);
+}
+
+/// Writes new items into the data of a name, where it lies, and gives each formula its new results.
+pub(crate) fn commit_patch(
+    entries: &mut IndexMap<Name, Entry>,
+    name: Name,
+    patch: &Patch,
+    plans: Plans,
+)
+    requires data { (a : ArrayValue) × HasData entries.old.entries name a × FitsPatch a patch.now }
+    requires planned { (a : ArrayValue) → HasData entries.old.entries name a
+        → IsPlanned entries.old.entries name (Some (DataEntry (patched a patch.now))) (put (names_of entries.old.entries) name (Data (patched a patch.now))) plans.entries }
+    ensures names { (a : ArrayValue) → HasData entries.old.entries name a → names_of entries.new.entries ≡ put (names_of entries.old.entries) name (Data (patched a patch.now)) }
+    ensures current { IsCurrent entries.new.entries }
+{
+    write_patch(entries, name, patch);
+    adopt_all(entries, plans);
+}
+
+/// Writes new items into the data of a name.
+fn write_patch(entries: &mut IndexMap<Name, Entry>, name: Name, patch: &Patch)
+    requires { (a : ArrayValue) × HasData entries.old.entries name a × FitsPatch a patch.now }
+    ensures { (a : ArrayValue) → HasData entries.old.entries name a → entries.new.entries ≡ insert_entry bytes_eq entries.old.entries name (DataEntry (patched a patch.now)) }
+{
+    if let Some(entry) = entries.get_mut(&name) {
+        entry.write(patch);
+    }
 }
 
 /// The names that stand in what a name is bound to.
@@ -77,16 +105,16 @@ fn references_of(entries: &IndexMap<Name, Entry>, name: Name) -> &[Name]
     }
 }
 
-/// Gives each formula its new result.
-fn adopt_all(entries: &mut IndexMap<Name, Entry>, mut results: Results)
-    requires { Adopting (names_of entries.old.entries) entries.old.entries results.entries }
+/// Gives each formula that has a plan its new results.
+fn adopt_all(entries: &mut IndexMap<Name, Entry>, mut plans: Plans)
+    requires { IsAdopting (names_of entries.old.entries) entries.old.entries plans.entries }
     ensures names { names_of entries.new.entries ≡ names_of entries.old.entries }
     ensures current { IsCurrent entries.new.entries }
 {
-    while let Some(worked_out) = results.pop() {
-        match entries.get_mut(&worked_out.0) {
-            Some(entry) => entry.adopt(worked_out.1),
-            None => drop(worked_out),
+    while let Some(planned) = plans.pop() {
+        match entries.get_mut(&planned.0) {
+            Some(entry) => entry.adopt(planned.1),
+            None => drop(planned),
         }
     }
 }

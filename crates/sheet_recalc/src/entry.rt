@@ -1,16 +1,18 @@
 //! What a name is bound to.
 
-ghost use Rattle.std.specs.Prelude.{◌≡◌, Some};
+ghost use Rattle.std.specs.Prelude.{◌≡◌};
 ghost use Rattle.formula_core.specs.Outcomes.{read};
-ghost use Rattle.sheet_recalc.specs.Entries.{binding_of, entry_outcome, adopted};
+ghost use Rattle.sheet_recalc.specs.Meaning.{in_formula};
+ghost use Rattle.sheet_recalc.specs.Entries.{binding_of, entry_outcome, adopting, patched_entry, FitsEntry};
 ghost use Rattle.sheet_recalc.specs.Names.{referred};
-ghost use Rattle.sheet_recalc.specs.ProposedSheet.{bound, shown_by};
+ghost use Rattle.sheet_recalc.specs.Live.{CanAdopt};
 
 use apl_tokens::Name;
 use arrays_core::{Array, Fault};
-use formula_core::Formula;
+use formula_core::{Formula, Plan};
+use index_region::Patch;
 
-/// Data, or a formula with its result.
+/// Data, or a formula with its results.
 #[derive(Drop)]
 pub enum Entry {
     /// The name is bound to an array, which it shows.
@@ -19,24 +21,7 @@ pub enum Entry {
     Formula(Formula),
 }
 
-/// What a name is bound to, lent.
-#[derive(Clone, Copy)]
-pub(crate) enum BindingRef<'a> {
-    Data(&'a Array),
-    Formula(&'a Formula),
-}
-
 impl Entry {
-    /// What it is, lent.
-    pub(crate) fn binding(&self) -> BindingRef<'_>
-        ensures { bound result ≡ binding_of self.now }
-    {
-        match self {
-            Entry::Data(array) => BindingRef::Data(array),
-            Entry::Formula(formula) => BindingRef::Formula(formula),
-        }
-    }
-
     /// The names that stand in it.
     pub(crate) fn references(&self) -> &[Name]
         ensures { result.now ≡ referred (binding_of self.now) }
@@ -47,45 +32,48 @@ impl Entry {
         }
     }
 
-    /// What it shows: its data, or its formula's result.
-    pub(crate) fn result(&self) -> Result<&Array, Fault>
-        ensures { read result ≡ entry_outcome self.now }
+    /// What it shows under a name: its data, or its formula's result, where an error that arose there gets this origin.
+    pub(crate) fn result(&self, name: Name) -> Result<&Array, Fault>
+        ensures { read result ≡ entry_outcome name self.now }
     {
         match self {
             Entry::Data(array) => Ok(array),
-            Entry::Formula(formula) => formula.result(),
+            Entry::Formula(formula) => match formula.result() {
+                Ok(array) => Ok(array),
+                Err(fault) => Err(arisen_in(name, fault)),
+            },
         }
     }
 
-    /// Gives a formula its new result. Data stays.
-    pub(crate) fn adopt(&mut self, outcome: Result<Array, Fault>)
-        ensures { self.new ≡ adopted self.old outcome }
+    /// Gives a formula the results of a plan that was made of it.
+    pub(crate) fn adopt(&mut self, plan: Plan)
+        requires { CanAdopt self.old plan }
+        ensures { self.new ≡ adopting self.old plan }
     {
         match self {
-            Entry::Data(_) => {}
-            Entry::Formula(formula) => formula.adopt(outcome),
+            Entry::Data(_) => drop(plan),
+            Entry::Formula(formula) => formula.adopt(plan),
+        }
+    }
+
+    /// Writes the new items of a patch into data, where it lies. A formula stays.
+    pub(crate) fn write(&mut self, patch: &Patch)
+        requires { FitsEntry self.old patch.now }
+        ensures { self.new ≡ patched_entry self.old patch.now }
+    {
+        match self {
+            Entry::Data(array) => patch.write_into(array),
+            Entry::Formula(_) => {}
         }
     }
 }
 
-impl<'a> BindingRef<'a> {
-    /// What it shows now.
-    pub(crate) fn result(self) -> Result<&'a Array, Fault>
-        ensures { read result ≡ shown_by (Some self.entry) }
-    {
-        match self {
-            BindingRef::Data(array) => Ok(array),
-            BindingRef::Formula(formula) => formula.result(),
-        }
-    }
-
-    /// The names that stand in it.
-    pub(crate) fn references(self) -> &'a [Name]
-        ensures { result.now ≡ referred (bound self.entry) }
-    {
-        match self {
-            BindingRef::Data(_) => &[],
-            BindingRef::Formula(formula) => formula.references(),
-        }
+/// An error that arose in the formula of a name: it gets its origin there, and keeps one that it has.
+pub(crate) fn arisen_in(name: Name, fault: Fault) -> Fault
+    ensures { result ≡ in_formula name fault }
+{
+    Fault {
+        kind: fault.kind,
+        origin: fault.origin.or(Some(name)),
     }
 }

@@ -1,13 +1,15 @@
 //! The sheet: names bound to data or to formulas, where each formula's result is always current.
 #![tactic(auto)]
 
+mod ahead;
 mod cell;
 mod change;
 mod commit;
 mod cycle;
 mod entry;
+mod planning;
+mod proposal;
 mod proposed_sheet;
-mod recalculation;
 mod refusal;
 mod row;
 mod sheet;

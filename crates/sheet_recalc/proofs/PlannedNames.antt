@@ -1,0 +1,397 @@
+-- What a plan makes of a formula makes the name show what it is to show.
+use Rattle.std.proofs.Common.{◌≡◌, ℕ, zero, suc, ◌<◌, ◌-◌, Bool, true, false, List, [], ◌∷◌, ◌++◌, length, map, get_or, Option, Some, None, Result, Ok, Err, IfOk, refl, sym, ap, ◌∙◌, subst, arith, ⊎_elim}
+use Rattle.std.specs.Str.{bytes_eq}
+use Rattle.std.specs.Map.{lookup}
+use Rattle.std.specs.List.{Contains}
+use Rattle.std.specs.Option.{option_map, option_map_or, unwrap_or}
+use Rattle.std.proofs.lemmas.Bool.{false≢true}
+use Rattle.std.proofs.lemmas.List.{length-map, length-append, map-append}
+use Rattle.std.proofs.lemmas.List.Elements.{Contains-append_cases}
+use Rattle.dep_order.proofs.Following.{contains_one}
+use Rattle.std.proofs.Math.Seq.{get_or-append_seam}
+use Rattle.apl_expr.specs.Trees.{Tree}
+use Rattle.std.specs.Borrow.{Bor}
+use Rattle.arrays_core.specs.Arrays.{ArrayValue, IsArray}
+use Rattle.arrays_core.specs.declared.fault.Fault.{Fault}
+use Rattle.arrays_core.specs.declared.item.Kind.TheVariants.{Value}
+use Rattle.index_region.specs.declared.delta.Delta.{Delta}
+use Rattle.index_region.specs.declared.delta.Delta.TheVariants.{Same, Patch, Whole}
+use Rattle.std.specs.declared.alloc.AllocError.{AllocError}
+use Rattle.change_core.specs.Meters.{ticked}
+use Rattle.change_rules.specs.Currency.{applied}
+use Rattle.change_rules.specs.Nodes.{is_same}
+use Rattle.formula_core.specs.Outcomes.{Outcome, fault}
+use Rattle.formula_core.specs.Meaning.{eval, names_in}
+use Rattle.formula_core.specs.Tables.{subtrees}
+use Rattle.formula_core.specs.Formulas.{FormulaValue, root_result}
+use Rattle.formula_core.specs.Changes.{Change, FitsIn, IsNameChanged}
+use Rattle.formula_core.specs.Inputs.{shown as input_shown, stays, HasDelta, IsInput}
+use Rattle.formula_core.specs.Plans.{PlanValue, IsPlanOf, IsPlanned, adopted, root_change, node_change, IsNameSound, AreInputs, IsTold, tree_cost}
+use Rattle.formula_core.specs.declared.input.Input.{Input}
+use Rattle.formula_core.specs.declared.input.Input.TheVariants.{Good, Bad}
+use Rattle.formula_core.proofs.Rooted.{before_root, root_last}
+use Rattle.sheet_recalc.specs.Names.{Names, Binding, Formula, binding}
+use Rattle.sheet_recalc.specs.Meaning.{with_origin, in_formula, shown, val}
+use Rattle.sheet_recalc.specs.Costs.{origin_delta, delta_by, binding_cost}
+use Rattle.sheet_recalc.specs.Entries.{names_of, binding_of, entry_outcome, holding}
+use Rattle.sheet_recalc.specs.Live.{IsRight, IsCurrent}
+use Rattle.sheet_recalc.specs.ProposedSheet.{bound, proposed_entry, proposed_names, proposed_delta, proposed_change, entry_of}
+use Rattle.sheet_recalc.specs.Planning.{IsProposed, IsPlanAt, IsUntouched, NeedsNoPlan, IsProposalAt, name_cost}
+use Rattle.sheet_recalc.specs.declared.entry.Entry.{Entry}
+use Rattle.sheet_recalc.specs.declared.entry.Entry.TheVariants as entry
+use Rattle.sheet_recalc.specs.declared.proposal.Proposal.{Proposal}
+use Rattle.sheet_recalc.specs.declared.proposal.Proposal.TheVariants as proposed
+use Rattle.sheet_recalc.specs.declared.proposed_sheet.ProposedSheet.{ProposedSheet}
+use Rattle.sheet_recalc.proofs.NameEquality.{equal-true, equal-same}
+use Rattle.sheet_recalc.proofs.Scratch.{val_absent}
+use Rattle.sheet_recalc.proofs.Live.{val_data, binding_of_name}
+use Rattle.sheet_recalc.proofs.Proposed.{bound_own, bound_other}
+
+-- an array or an error gets its origin, and so does its change
+pub origin_applied : (x : List ℕ) (d : Delta) (o : Outcome) → applied (origin_delta x d) (with_origin x o) ≡ with_origin x (applied d o)
+origin_applied x Same o = refl
+origin_applied x (Patch p) (Ok a) = refl
+origin_applied x (Patch p) (Err e) = refl
+origin_applied x (Whole r) o = refl
+
+pub origin_fits : (x : List ℕ) (d : Delta) (o : Outcome) → FitsIn d o → FitsIn (origin_delta x d) (with_origin x (applied d o))
+origin_fits x Same o f = tt
+origin_fits x (Patch p) (Ok a) f = record { inside = f.inside; typed = f.typed }
+origin_fits x (Patch p) (Err e) f = tt
+origin_fits x (Whole r) o f = tt
+
+pub origin_sound : (x : List ℕ) (o : Outcome) → IfOk o IsArray → IfOk (with_origin x o) IsArray
+origin_sound x (Ok a) s = s
+origin_sound x (Err e) s = tt
+
+same_origin : (x : List ℕ) (d : Delta) → is_same d ≡ is_same (origin_delta x d)
+same_origin x Same = refl
+same_origin x (Patch p) = refl
+same_origin x (Whole r) = refl
+
+good_delta : (x : List ℕ) (d : Delta) (held : Outcome) (a : ArrayValue) → Ok a ≡ applied d held → d ≡ origin_delta x d
+good_delta x Same held a is = refl
+good_delta x (Patch p) held a is = refl
+good_delta x (Whole (Ok b)) held a is = refl
+good_delta x (Whole (Err e)) held a is = let never : Ok a ≡ Err e = is in absurd cc
+
+-- an input gets its origin
+pub good_origin : (x : List ℕ) (d : Delta) (held : Outcome) (a : ArrayValue) (delta : Bor Delta) → IsInput (applied d held) d (Good a delta) → IsInput (with_origin x (applied d held)) (origin_delta x d) (Good a delta)
+good_origin x d held a delta i = record {
+  is = ap (with_origin x) i.is;
+  same = i.same ∙ same_origin x d;
+  delta = i.delta ∙ good_delta x d held a i.is;
+}
+
+pub bad_origin : (x : List ℕ) (d : Delta) (held : Outcome) (e f : Fault) (changed : Bool) → f ≡ in_formula x e → IsInput (applied d held) d (Bad e changed) → IsInput (with_origin x (applied d held)) (origin_delta x d) (Bad f changed)
+bad_origin x d held e f changed from i = record {
+  is = ap (λ g. Err g) from ∙ ap (with_origin x) i.is;
+  same = i.same ∙ same_origin x d;
+  delta = tt;
+}
+
+-- what each entry shows is what its name shows, where it is right
+pub right_shows : (names : List ℕ → Outcome) (q : List ℕ) (e : Entry) → IsRight names q e → entry_outcome q e ≡ names q
+right_shows names q (entry.Data a) r = r
+right_shows names q (entry.Formula f) r = r.1
+
+pub holding_val : (es : List (List ℕ × Entry)) → IsCurrent es → (q : List ℕ) → holding es q ≡ val (names_of es) q
+holding_val es current q = by (lookup (bytes_eq q) es) refl
+  where
+    by : (o : Option Entry) → lookup (bytes_eq q) es ≡ o → unwrap_or (option_map (entry_outcome q) o) (Err (fault Value)) ≡ val (names_of es) q
+    by None is = sym (val_absent (names_of es) (length (names_of es)) q (binding_of_name es q ∙ ap (option_map binding_of) is))
+    by (Some e) is = right_shows (val (names_of es)) q e (current q e is)
+
+-- the last of what a function gives for the subtrees is what it gives for the tree
+pub at_root : {X : Type 0} (g : Tree → X) (t : Tree) (d : X) → get_or (map g (subtrees t)) (length (map g (subtrees t)) - 1) d ≡ g t
+at_root g t d =
+    let all : map g (subtrees t) ≡ map g (before_root t) ++ g t ∷ [] = ap (map g) (root_last t) ∙ map-append g (before_root t) (t ∷ []) in
+    let long : length (map g (before_root t) ++ g t ∷ []) - 1 ≡ length (map g (before_root t)) = omega (arith, length-append (map g (before_root t)) (g t ∷ [])) in
+    ap (λ ys. get_or ys (length ys - 1) d) all ∙ (ap (λ k. get_or (map g (before_root t) ++ g t ∷ []) k d) long ∙ get_or-append_seam (map g (before_root t)) (g t) [] d)
+
+pub has_root : (t : Tree) → 0 < length (subtrees t)
+has_root t = omega (arith, ap (λ ts. length ts) (root_last t), length-append (before_root t) (t ∷ []))
+
+adopted_at : (ds : List Delta) (os : List Outcome) (k : ℕ) (e : Outcome) → length ds ≡ length os → get_or (adopted ds os) k e ≡ applied (get_or ds k Same) (get_or os k e)
+adopted_at [] [] k e long = refl
+adopted_at [] (o ∷ os) k e long = absurd (omega (arith, long))
+adopted_at (d ∷ ds) [] k e long = absurd (omega (arith, long))
+adopted_at (d ∷ ds) (o ∷ os) zero e long = refl
+adopted_at (d ∷ ds) (o ∷ os) (suc k) e long = adopted_at ds os k e (omega (arith, long))
+
+module _ (o : ProposedSheet) where
+  abbrev es : List (List ℕ × Entry)
+  es = o.entries.now.entries
+
+  abbrev old : Names
+  old = names_of es
+
+  abbrev new : Names
+  new = proposed_names o
+
+  abbrev c : Change
+  c = proposed_change o
+
+  -- what a name's entry is then, and what it is bound to
+  pub entry_own : (q : List ℕ) (r : Option Entry) → bytes_eq q o.name ≡ true → entry_of o q ≡ r → option_map proposed_entry o.proposal ≡ r
+  entry_own q r same is = rw same at is
+
+  pub entry_other : (q : List ℕ) (r : Option Entry) → bytes_eq q o.name ≡ false → entry_of o q ≡ r → lookup (bytes_eq q) es ≡ r
+  entry_other q r other is = rw other at is
+
+  proposed_binding : (s : Option Proposal) → option_map bound s ≡ option_map binding_of (option_map proposed_entry s)
+  proposed_binding None = refl
+  proposed_binding (Some (proposed.Data a delta)) = refl
+  proposed_binding (Some (proposed.Formula f)) = refl
+
+  pub binding_entry : (q : List ℕ) → binding new q ≡ option_map binding_of (entry_of o q)
+  binding_entry q = by (bytes_eq q o.name) refl
+    where
+      by : (t : Bool) → bytes_eq q o.name ≡ t → binding new q ≡ option_map binding_of (entry_of o q)
+      by true is = rw is (bound_own es o.name (option_map bound o.proposal) q is ∙ proposed_binding o.proposal)
+      by false is = rw is (bound_other es o.name (option_map bound o.proposal) q (lookup (bytes_eq q) es) is refl)
+
+  module _ (ready : IsProposed o) where
+    -- what changes of the name that is bound anew, and of others
+    pub delta_own : (q : List ℕ) → bytes_eq q o.name ≡ true → c.delta q ≡ proposed_delta o.name new o.proposal
+    delta_own q is = rw is at (ready.deltas q)
+
+    pub delta_other : (q : List ℕ) → bytes_eq q o.name ≡ false → c.delta q ≡ delta_by q (binding new q) c
+    delta_other q is = rw is at (ready.deltas q)
+
+    -- a plan of a name's formula
+    module _ (q : List ℕ) (f : FormulaValue) (held : entry_of o q ≡ Some (entry.Formula f)) where
+      pub bound_to : binding new q ≡ Some (Formula f.tree)
+      bound_to = binding_entry q ∙ ap (option_map binding_of) held
+
+      pub formula_new : bytes_eq q o.name ≡ true → f.is_new ≡ true
+      formula_new same = by o.proposal ready.proposal (entry_own q (Some (entry.Formula f)) same held)
+        where
+          by : (s : Option Proposal) → IsProposalAt (val old o.name) s → option_map proposed_entry s ≡ Some (entry.Formula f) → f.is_new ≡ true
+          by None fine is = let never : None ≡ Some (entry.Formula f) = is in absurd cc
+          by (Some (proposed.Data a delta)) fine is = let never : Some (entry.Data a) ≡ Some (entry.Formula f) = is in absurd cc
+          by (Some (proposed.Formula g)) fine is = let this : g.now ≡ f = cc in subst (λ (v : FormulaValue). v.is_new ≡ true) this fine
+
+      pub own_whole : bytes_eq q o.name ≡ true → proposed_delta o.name new o.proposal ≡ Whole (val new o.name)
+      own_whole same = by o.proposal (entry_own q (Some (entry.Formula f)) same held)
+        where
+          by : (s : Option Proposal) → option_map proposed_entry s ≡ Some (entry.Formula f) → proposed_delta o.name new s ≡ Whole (val new o.name)
+          by None is = refl
+          by (Some (proposed.Data a delta)) is = let never : Some (entry.Data a) ≡ Some (entry.Formula f) = is in absurd cc
+          by (Some (proposed.Formula g)) is = refl
+
+      pub formula_old : bytes_eq q o.name ≡ false → IsRight (val old) q (entry.Formula f)
+      formula_old other = ready.current q (entry.Formula f) (entry_other q (Some (entry.Formula f)) other held)
+
+      pub is_new_own : f.is_new ≡ bytes_eq q o.name
+      is_new_own = by (bytes_eq q o.name) refl
+        where
+          by : (t : Bool) → bytes_eq q o.name ≡ t → f.is_new ≡ bytes_eq q o.name
+          by true is = formula_new is ∙ sym is
+          by false is = (formula_old is).0.worked_out ∙ sym is
+
+      pub shows_formula : val new q ≡ with_origin q (eval f.tree (val new))
+      shows_formula = ready.settled q ∙ ap (λ b. shown q b (val new)) bound_to
+
+      -- it holds what it gave before, unless it is new
+      formula_holds : f.is_new ≡ false → f.results ≡ map (λ t. eval t (val old)) (subtrees f.tree)
+      formula_holds worked_out = by (bytes_eq q o.name) refl
+        where
+          by : (t : Bool) → bytes_eq q o.name ≡ t → f.results ≡ map (λ t. eval t (val old)) (subtrees f.tree)
+          by true is = absurd (false≢true (sym worked_out ∙ formula_new is))
+          by false is = (formula_old is).0.results
+
+      -- what is told of the names in it
+      pub formula_told : (names : List (List ℕ)) (inputs : List Input) → names ≡ names_in f.tree → AreInputs c names inputs
+          → ((x : List ℕ) → Contains names x → IsNameChanged c x) → ((x : List ℕ) → Contains names x → IsNameSound c x) → IsTold f c inputs
+      formula_told names inputs is told changed sound =
+          let there = λ (x : List ℕ) (h : Contains (names_in f.tree) x). subst (λ (ns : List (List ℕ)). Contains ns x) (sym is) h in
+          record {
+            holds = formula_holds;
+            tell = subst (λ (ns : List (List ℕ)). AreInputs c ns inputs) is told;
+            changed = λ x h. changed x (there x h);
+            sound = λ x h. sound x (there x h);
+          }
+
+      -- what its plan costs
+      pub formula_cost : tree_cost f.is_new c f.tree ≡ name_cost o.name c new q
+      formula_cost = ap (λ b. tree_cost b c f.tree) is_new_own ∙ ap (λ (b : Option Binding). option_map_or (λ d. binding_cost o.name c (q, d)) b 0) (sym bound_to)
+
+      module _ (p : PlanValue) (fits : IsPlanOf f p) (planned : IsPlanned f c p) where
+        abbrev root : Outcome
+        root = root_result f.results
+
+        abbrev root_delta : Delta
+        root_delta = root_change p.changes
+
+        abbrev last : ℕ
+        last = length f.results - 1
+
+        counted : length p.changes ≡ length (subtrees f.tree)
+        counted = ap (λ ds. length ds) planned.changes ∙ length-map (subtrees f.tree) (node_change f.is_new c)
+
+        root_delta_at : root_delta ≡ get_or p.changes last Same
+        root_delta_at = ap (λ n. get_or p.changes (n - 1) Same) fits.each
+
+        pub root_becomes : applied root_delta root ≡ eval f.tree (val new)
+        root_becomes =
+            let results = map (λ t. eval t (val new)) (subtrees f.tree) in
+            let long : length results - 1 ≡ last = omega (arith, length-map (subtrees f.tree) (λ t. eval t (val new)), counted, fits.each) in
+            ap (λ d. applied d root) root_delta_at
+            ∙ (sym (adopted_at p.changes f.results last (Err (fault Value)) fits.each)
+            ∙ (ap (λ os. get_or os last (Err (fault Value))) planned.right
+            ∙ (ap (λ k. get_or results k (Err (fault Value))) (sym long) ∙ at_root (λ t. eval t (val new)) f.tree (Err (fault Value)))))
+
+        pub root_changes : root_delta ≡ node_change f.is_new c f.tree
+        root_changes = ap root_change planned.changes ∙ at_root (node_change f.is_new c) f.tree Same
+
+        pub root_fits : FitsIn root_delta root
+        root_fits = subst (λ n. FitsIn (get_or p.changes (n - 1) Same) root) (sym fits.each) (fits.fit last (omega (arith, counted, fits.each, has_root f.tree)))
+
+        pub planned_shows : with_origin q (applied root_delta root) ≡ val new q
+        planned_shows = ap (with_origin q) root_becomes ∙ sym shows_formula
+
+        pub planned_delta : origin_delta q root_delta ≡ c.delta q
+        planned_delta = by (bytes_eq q o.name) refl
+          where
+            by : (t : Bool) → bytes_eq q o.name ≡ t → origin_delta q root_delta ≡ c.delta q
+            by true is =
+                let name : q ≡ o.name = equal-true q o.name is in
+                ap (origin_delta q) (root_changes ∙ ap (λ b. node_change b c f.tree) (formula_new is))
+                ∙ (ap (λ r. Whole r) (sym shows_formula) ∙ (ap (λ x. Whole (val new x)) name ∙ (sym (own_whole is) ∙ sym (delta_own q is))))
+            by false is =
+                ap (origin_delta q) (root_changes ∙ ap (λ b. node_change b c f.tree) (formula_old is).0.worked_out)
+                ∙ (ap (λ b. delta_by q b c) (sym bound_to) ∙ sym (delta_other q is))
+
+        pub planned_changed : IsNameChanged c q
+        planned_changed = record { right = by (bytes_eq q o.name) refl; fit = fit }
+          where
+            by : (t : Bool) → bytes_eq q o.name ≡ t → applied (c.delta q) (val old q) ≡ val new q
+            by true is = ap (λ d. applied d (val old q)) (delta_own q is ∙ own_whole is) ∙ ap (val new) (sym (equal-true q o.name is))
+            by false is =
+                ap (λ d. applied d (val old q)) (sym planned_delta)
+                ∙ (ap (applied (origin_delta q root_delta)) (sym (formula_old is).1) ∙ (origin_applied q root_delta root ∙ planned_shows))
+
+            fit : FitsIn (c.delta q) (val new q)
+            fit = subst (λ d. FitsIn d (val new q)) planned_delta (subst (FitsIn (origin_delta q root_delta)) planned_shows (origin_fits q root_delta root root_fits))
+
+        pub planned_sound : IfOk (val old o.name) IsArray → IfOk root IsArray → IfOk (applied root_delta root) IsArray → IsNameSound c q
+        planned_sound own before after = record { old = by (bytes_eq q o.name) refl; new = subst (λ r. IfOk r IsArray) planned_shows (origin_sound q (applied root_delta root) after) }
+          where
+            by : (t : Bool) → bytes_eq q o.name ≡ t → IfOk (val old q) IsArray
+            by true is = subst (λ x. IfOk (val old x) IsArray) (sym (equal-true q o.name is)) own
+            by false is = subst (λ r. IfOk r IsArray) (formula_old is).1 (origin_sound q root before)
+
+        pub planned_input : (i : Input) → IsInput (with_origin q (applied root_delta root)) (origin_delta q root_delta) i → IsInput (val new q) (c.delta q) i
+        planned_input i is = subst (λ d. IsInput (val new q) d i) planned_delta (subst (λ r. IsInput r (origin_delta q root_delta) i) planned_shows is)
+
+    -- a name without a plan
+    module _ (q : List ℕ) (still : IsUntouched o q) where
+      pub untouched_changed : IsNameChanged c q
+      untouched_changed = record {
+        right = ap (λ d. applied d (val old q)) still.same ∙ sym still.shows;
+        fit = subst (λ d. FitsIn d (val new q)) (sym still.same) tt;
+      }
+
+      pub untouched_sound : (r : Outcome) → r ≡ val old q → IfOk r IsArray → IsNameSound c q
+      untouched_sound r is sound = record { old = subst (λ u. IfOk u IsArray) is sound; new = subst (λ u. IfOk u IsArray) (is ∙ sym still.shows) sound }
+
+      pub untouched_input : (i : Input) → input_shown i ≡ val old q → stays i ≡ true → HasDelta Same i → IsInput (val new q) (c.delta q) i
+      untouched_input i is stay same = record {
+        is = is ∙ sym still.shows;
+        same = stay ∙ ap is_same (sym still.same);
+        delta = subst (λ d. HasDelta d i) (sym still.same) same;
+      }
+
+    -- what an entry shows
+    pub entry_shows : (q : List ℕ) (e : Entry) → lookup (bytes_eq q) es ≡ Some e → entry_outcome q e ≡ val old q
+    entry_shows q e is = right_shows (val old) q e (ready.current q e is)
+
+    pub absent_shows : (q : List ℕ) → lookup (bytes_eq q) es ≡ None → Err (fault Value) ≡ val old q
+    absent_shows q is = sym (val_absent old (length old) q (binding_of_name es q ∙ ap (option_map binding_of) is))
+
+    -- the name that is bound anew
+    pub own_bound : binding new o.name ≡ option_map bound o.proposal
+    own_bound = bound_own es o.name (option_map bound o.proposal) o.name (equal-same o.name o.name refl)
+
+    pub own_formula : (f : Bor FormulaValue) → o.proposal ≡ Some (proposed.Formula f) → NeedsNoPlan o o.name → ⊥
+    own_formula f is done = (done.reads f.now.tree (own_bound ∙ ap (option_map bound) is)).0 refl
+
+    module _ (a : ArrayValue) (delta : Bor Delta) (is : o.proposal ≡ Some (proposed.Data a delta)) where
+      data_shows : val new o.name ≡ Ok a
+      data_shows = val_data new o.name a (own_bound ∙ ap (option_map bound) is)
+
+      data_delta : c.delta o.name ≡ delta.now
+      data_delta = delta_own o.name (equal-same o.name o.name refl) ∙ ap (proposed_delta o.name new) is
+
+      data_fine : IsProposalAt (val old o.name) (Some (proposed.Data a delta))
+      data_fine = subst (IsProposalAt (val old o.name)) is ready.proposal
+
+      pub data_input : (seen : ArrayValue) → seen ≡ a → IsInput (val new o.name) (c.delta o.name) (Good seen delta)
+      data_input seen same = record {
+        is = ap (λ v. Ok v) same ∙ sym data_shows;
+        same = ap is_same (sym data_delta);
+        delta = sym data_delta;
+      }
+
+      pub data_changed : IsNameChanged c o.name
+      data_changed = record {
+        right = ap (λ d. applied d (val old o.name)) data_delta ∙ (data_fine.0 ∙ sym data_shows);
+        fit = subst (λ d. FitsIn d (val new o.name)) (sym data_delta) (subst (FitsIn delta.now) (sym data_shows) data_fine.1);
+      }
+
+      pub data_sound : IfOk (val old o.name) IsArray → IsArray a → IsNameSound c o.name
+      data_sound before after = record { old = before; new = subst (λ r. IfOk r IsArray) (sym data_shows) after }
+
+    module _ (is : o.proposal ≡ None) where
+      none_shows : val new o.name ≡ Err (fault Value)
+      none_shows = val_absent new (length new) o.name (own_bound ∙ ap (option_map bound) is)
+
+      none_delta : c.delta o.name ≡ Whole (val new o.name)
+      none_delta = delta_own o.name (equal-same o.name o.name refl) ∙ ap (proposed_delta o.name new) is
+
+      pub none_input : (e : Fault) → e ≡ fault Value → IsInput (val new o.name) (c.delta o.name) (Bad e true)
+      none_input e same = record {
+        is = ap (λ f. Err f) same ∙ sym none_shows;
+        same = ap is_same (sym none_delta);
+        delta = tt;
+      }
+
+      pub none_changed : IsNameChanged c o.name
+      none_changed = record {
+        right = ap (λ d. applied d (val old o.name)) none_delta;
+        fit = subst (λ d. FitsIn d (val new o.name)) (sym none_delta) tt;
+      }
+
+      pub none_sound : IfOk (val old o.name) IsArray → IsNameSound c o.name
+      none_sound before = record { old = before; new = subst (λ r. IfOk r IsArray) (sym none_shows) tt }
+
+-- the plan of a name is one of the formula that stands there
+pub plan_now : (o : ProposedSheet) (q : List ℕ) (p : PlanValue) (f : FormulaValue) → IsPlanAt o q p → entry_of o q ≡ Some (entry.Formula f) → IsPlanOf f p × IsPlanned f (proposed_change o) p
+plan_now o q p f plan held =
+    let both : Some (entry.Formula plan.formula) ≡ Some (entry.Formula f) = sym plan.held ∙ held in
+    let same : plan.formula ≡ f = cc in
+    subst (λ (g : FormulaValue). IsPlanOf g p × IsPlanned g (proposed_change o) p) same (plan.of, plan.planned)
+
+-- the inputs of further names
+pub inputs_more : (c : Change) (names : List (List ℕ)) (inputs : List Input) (x : List ℕ) (i : Input) → AreInputs c names inputs → IsInput (c.new x) (c.delta x) i → AreInputs c (names ++ x ∷ []) (inputs ++ i ∷ [])
+inputs_more c [] [] x i are is = (is, tt)
+inputs_more c [] (j ∷ inputs) x i are is = absurd are
+inputs_more c (y ∷ names) [] x i are is = absurd are
+inputs_more c (y ∷ names) (j ∷ inputs) x i are is = (are.0, inputs_more c names inputs x i are.1 is)
+
+pub all_more : (P : List ℕ → Type 0) (names : List (List ℕ)) (x : List ℕ) → ((y : List ℕ) → Contains names y → P y) → P x → (y : List ℕ) → Contains (names ++ x ∷ []) y → P y
+all_more P names x all one y c = ⊎_elim (λ l. all y l) (λ r. subst P (sym (contains_one x y r)) one) (Contains-append_cases names (x ∷ []) y c)
+
+-- the plan that a formula makes of itself is one of the name
+module _ (o : ProposedSheet) where
+  pub plan_made : (q : List ℕ) (f : FormulaValue) → entry_of o q ≡ Some (entry.Formula f) → (inputs : List Input) (r : Result PlanValue AllocError)
+      → IsTold f (proposed_change o) inputs → IfOk r (IsPlanOf f) → IfOk r (λ p. (c : Change) → IsTold f c inputs → IsPlanned f c p) → IfOk r (IsPlanAt o q)
+  plan_made q f held inputs (Err e) told fits planned = tt
+  plan_made q f held inputs (Ok p) told fits planned = record { formula = f; held = held; of = fits; planned = planned (proposed_change o) told }
+
+  pub plan_costs : IsProposed o → (q : List ℕ) (f : FormulaValue) → entry_of o q ≡ Some (entry.Formula f) → (inputs : List Input) (r : Result PlanValue AllocError)
+      → IsTold f (proposed_change o) inputs → IfOk r (λ p. (c : Change) → IsTold f c inputs → IsPlanned f c p)
+      → IfOk r (λ p. p.cost ≡ ticked 0 (name_cost o.name (proposed_change o) (proposed_names o) q))
+  plan_costs ready q f held inputs (Err e) told planned = tt
+  plan_costs ready q f held inputs (Ok p) told planned = (planned (proposed_change o) told).cost ∙ ap (ticked 0) (formula_cost o ready q f held)

@@ -1,0 +1,95 @@
+-- What a change changes of each name, and what it costs.
+use Rattle.std.specs.Prelude.{◌≡◌, ◌+◌, ℕ, zero, suc, ℤ, List, [], ◌∷◌, map, length, true, Option, Some, None, if◌then◌else◌}
+use Rattle.std.specs.Str.{bytes_eq}
+use Rattle.std.specs.List.{sum_by}
+use Rattle.apl_expr.specs.Trees.{Literal}
+use Rattle.arrays_core.specs.declared.item.Item.{Item}
+use Rattle.arrays_core.specs.Items.{type_of}
+use Rattle.index_region.specs.declared.delta.Delta.{Delta}
+use Rattle.index_region.specs.declared.delta.Delta.TheVariants.{Same, Patch, Whole}
+use Rattle.index_region.specs.Patches.{PatchValue}
+use Rattle.change_core.specs.Meters.{ticked}
+use Rattle.formula_core.specs.Outcomes.{Outcome}
+use Rattle.formula_core.specs.Changes as formula
+use Rattle.formula_core.specs.Plans.{tree_cost}
+use Rattle.sheet_recalc.specs.Names.{Names, Binding, Data, Formula, binding}
+use Rattle.sheet_recalc.specs.Meaning.{val, with_origin}
+use Rattle.sheet_recalc.specs.Cells.{index_of_numbers, literal_items}
+use Rattle.sheet_recalc.specs.Changes.{Change, Define, Store, Put, SetCell, AddRow, Erase}
+
+-- a patch of the one place at an index list
+abbrev pub cell_patch : List ℕ → Item → PatchValue
+cell_patch index item = record { region = map (λ i. (i, i)) index; item_type = type_of item; items = item ∷ [] }
+
+-- the change of data by an item, if there is one, at an index list
+abbrev pub cell_delta : List ℕ → List Item → Delta
+cell_delta index [] = Same
+cell_delta index (item ∷ items) = Patch (cell_patch index item)
+
+-- the name that a change is about
+abbrev pub changed_name : Change → List ℕ
+changed_name (Define n t) = n
+changed_name (Store n t) = n
+changed_name (Put n a) = n
+changed_name (SetCell n positions literal) = n
+changed_name (AddRow n literal) = n
+changed_name (Erase n) = n
+
+-- what it changes of that name: one place by an edit of a cell, by any other change the whole
+abbrev pub own_delta : Change → Names → Delta
+own_delta (SetCell n positions literal) new = cell_delta (index_of_numbers positions) (literal_items literal)
+own_delta change new = Whole (val new (changed_name change))
+
+-- a change of what a name's formula gives, as a change of what the name shows: an error gets its origin there
+abbrev pub origin_delta : List ℕ → Delta → Delta
+origin_delta name (Whole r) = Whole (with_origin name r)
+origin_delta name d = d
+
+-- what changed of a name by its formula, where the names in it changed so
+abbrev pub delta_by : List ℕ → Option Binding → formula.Change → Delta
+delta_by name (Some (Formula t)) c = origin_delta name (formula.change c t)
+delta_by name b c = Same
+
+-- what names showed and show, with what changed of them
+abbrev pub names_change : Names → Names → (List ℕ → Delta) → formula.Change
+names_change old new delta = record { old = val old; new = val new; delta = delta }
+
+-- what changed of a name, worked out to a depth, where this is what changed of the name that the change is about
+abbrev pub delta_at : ℕ → Names → Names → List ℕ → Delta → List ℕ → Delta
+delta_at zero old new name own q = if bytes_eq q name then own else Same
+delta_at (suc depth) old new name own q = if bytes_eq q name then own else delta_by q (binding new q) (names_change old new (delta_at depth old new name own))
+
+-- what changed of a name: to the depth of the number of names
+abbrev pub delta_of : Names → Names → List ℕ → Delta → List ℕ → Delta
+delta_of old new name own q = delta_at (length new) old new name own q
+
+-- what a change makes of each name
+abbrev pub sheet_change : Names → Names → List ℕ → Delta → formula.Change
+sheet_change old new name own = names_change old new (delta_of old new name own)
+
+-- what it costs at one name; the formula of the name that the change is about is new
+abbrev pub binding_cost : List ℕ → formula.Change → List ℕ × Binding → ℕ
+binding_cost name c (q, Data a) = 0
+binding_cost name c (q, Formula t) = tree_cost (bytes_eq q name) c t
+
+-- and at all names
+abbrev pub formulas_cost : List ℕ → formula.Change → Names → ℕ
+formulas_cost name c names = sum_by (binding_cost name c) names
+
+-- the names as they are, of which nothing changed
+abbrev pub at_rest : Names → formula.Change
+at_rest names = names_change names names (λ q. Same)
+
+-- what working out the expression of stored data costs: it counts as a new formula
+abbrev pub expression_cost : Names → Change → ℕ
+expression_cost old (Store n t) = tree_cost true (at_rest old) t
+expression_cost old change = 0
+
+-- what a change costs that takes old to new
+abbrev pub change_cost : Names → Change → Names → ℕ
+change_cost old change new =
+    expression_cost old change + formulas_cost (changed_name change) (sheet_change old new (changed_name change) (own_delta change new)) new
+
+-- the cost of the change is this; the greatest number of 64 bits where it is more
+abbrev pub HasCost : Names → Change → Names → ℕ → Type 0
+HasCost old change new cost = cost ≡ ticked 0 (change_cost old change new)

@@ -1,0 +1,188 @@
+//! What names show ahead of a change.
+
+ghost use Rattle.std.specs.Prelude.{◌≡◌, ◌+◌, ◌≤◌, ℕ, IfOk, Some, List};
+ghost use Rattle.std.specs.List.{Contains};
+ghost use Rattle.arrays_core.specs.Arrays.{IsArray};
+ghost use Rattle.arrays_core.specs.declared.item.Kind.TheVariants.{Value};
+ghost use Rattle.formula_core.specs.Outcomes.{Outcome, fault};
+ghost use Rattle.formula_core.specs.Meaning.{names_in};
+ghost use Rattle.formula_core.specs.Changes.{IsNameChanged};
+ghost use Rattle.formula_core.specs.Inputs.{IsInput};
+ghost use Rattle.formula_core.specs.Plans.{AreInputs, IsNameSound};
+ghost use Rattle.index_region.specs.declared.delta.Delta.{Delta as Change};
+ghost use Rattle.change_core.specs.Meters.{ticked};
+ghost use Rattle.change_rules.specs.Currency.{applied};
+ghost use Rattle.sheet_recalc.specs.declared.entry.Entry.TheVariants.{Formula as FormulaEntry};
+ghost use Rattle.sheet_recalc.specs.Costs.{origin_delta};
+ghost use Rattle.sheet_recalc.specs.Meaning.{val, with_origin};
+ghost use Rattle.sheet_recalc.specs.Entries.{names_of};
+ghost use Rattle.sheet_recalc.specs.ProposedSheet.{proposed_names, proposed_change, entry_of};
+ghost use Rattle.sheet_recalc.specs.Planning.{IsProposed, IsAhead, ArePlans, IsDone, NeedsNoPlan, IsPlanAt, name_cost};
+
+use crate::entry::arisen_in;
+use crate::planning::Plans;
+use crate::proposal::Proposal;
+use crate::proposed_sheet::ProposedSheet;
+use apl_tokens::Name;
+use arrays_core::{Fault, Kind};
+use change_core::Meter;
+use formula_core::{Formula, Input, Plan};
+use index_region::{Delta, Seen};
+use std::alloc::{AllocError, Global};
+
+/// What names show ahead of a change: what stands, with the plans that are made so far.
+#[derive(Drop)]
+struct Ahead<'a, 'b> {
+    proposed: &'b ProposedSheet<'a>,
+    plans: &'b Plans,
+    /// What changes of a name that shows what it did: nothing.
+    unchanged: &'b Delta,
+}
+
+/// The plan of a name's formula, where those of all that it refers to are made.
+pub(crate) fn plan_of(
+    alloc: Global,
+    proposed: &ProposedSheet<'_>,
+    plans: &Plans,
+    name: Name,
+    formula: &Formula,
+    meter: &mut Meter,
+) -> Result<Plan, AllocError>
+    requires proposed { IsProposed proposed.now }
+    requires sound { IfOk (val (names_of proposed.now.entries.now.entries) proposed.now.name) IsArray }
+    requires plans { ArePlans proposed.now plans.now.entries }
+    requires held { entry_of proposed.now name ≡ Some (FormulaEntry formula.now) }
+    requires done { (x : List ℕ) → Contains (names_in formula.now.tree) x → IsDone proposed.now plans.now.entries x }
+    ensures planned { IfOk result (IsPlanAt proposed.now name) }
+    ensures cost { IfOk result (λ p. p.cost ≡ ticked 0 (name_cost proposed.now.name (proposed_change proposed.now) (proposed_names proposed.now) name)) }
+    ensures ticks { meter.new ≤ meter.old + name_cost proposed.now.name (proposed_change proposed.now) (proposed_names proposed.now) name }
+{
+    let unchanged = Delta::Same;
+    let ahead = Ahead {
+        proposed,
+        plans,
+        unchanged: &unchanged,
+    };
+    let inputs = ahead.inputs_of(alloc, formula.references())?;
+    formula.plan(&inputs, meter)
+}
+
+impl Ahead<'_, '_> {
+    /// What each of these names shows, with what changed of it.
+    fn inputs_of(&self, alloc: Global, references: &[Name]) -> Result<Vec<Input<'_>>, AllocError>
+        requires ahead { IsAhead self.now }
+        requires done { (x : List ℕ) → Contains references.now x → IsDone self.now.proposed.now self.now.plans.now.entries x }
+        ensures inputs { IfOk result (λ inputs. AreInputs (proposed_change self.now.proposed.now) references.now inputs.items) }
+        ensures changed { IfOk result (λ inputs. (x : List ℕ) → Contains references.now x → IsNameChanged (proposed_change self.now.proposed.now) x) }
+        ensures sound { IfOk result (λ inputs. (x : List ℕ) → Contains references.now x → IsNameSound (proposed_change self.now.proposed.now) x) }
+    {
+        let mut inputs = Vec::new(alloc);
+        for reference in references {
+            inputs.push(self.input_of(*reference))?;
+        }
+        Ok(inputs)
+    }
+
+    /// What a name shows, with what changed of it.
+    fn input_of(&self, name: Name) -> Input<'_>
+        requires ahead { IsAhead self.now }
+        requires done { IsDone self.now.proposed.now self.now.plans.now.entries name }
+        ensures input { IsInput ((proposed_change self.now.proposed.now).new name) ((proposed_change self.now.proposed.now).delta name) result }
+        ensures changed { IsNameChanged (proposed_change self.now.proposed.now) name }
+        ensures sound { IsNameSound (proposed_change self.now.proposed.now) name }
+    {
+        match self.plans.get(&name) {
+            Some(plan) => self.planned(name, plan),
+            None => self.standing(name),
+        }
+    }
+
+    /// What a name shows by the plan of its formula.
+    fn planned<'c>(&'c self, name: Name, plan: &'c Plan) -> Input<'c>
+        requires ahead { IsAhead self.now }
+        requires plan { IsPlanAt self.now.proposed.now name plan.now }
+        ensures input { IsInput ((proposed_change self.now.proposed.now).new name) ((proposed_change self.now.proposed.now).delta name) result }
+        ensures changed { IsNameChanged (proposed_change self.now.proposed.now) name }
+        ensures sound { IsNameSound (proposed_change self.now.proposed.now) name }
+    {
+        match self.proposed.formula_of(name) {
+            Some(formula) => in_formula(name, Input::of_node(formula.held(), plan.delta())),
+            None => unreachable!(),
+        }
+    }
+
+    /// What a name shows that has no plan.
+    fn standing(&self, name: Name) -> Input<'_>
+        requires ahead { IsAhead self.now }
+        requires done { NeedsNoPlan self.now.proposed.now name }
+        ensures input { IsInput ((proposed_change self.now.proposed.now).new name) ((proposed_change self.now.proposed.now).delta name) result }
+        ensures changed { IsNameChanged (proposed_change self.now.proposed.now) name }
+        ensures sound { IsNameSound (proposed_change self.now.proposed.now) name }
+    {
+        if name == self.proposed.name {
+            return self.own();
+        }
+        match self.proposed.entries.get(&name) {
+            Some(entry) => match entry.result(name) {
+                Ok(array) => {
+                    let _sound = array.shape();
+                    Input::Good(Seen::plain(array), self.unchanged)
+                }
+                Err(fault) => Input::Bad {
+                    fault,
+                    changed: false,
+                },
+            },
+            None => Input::Bad {
+                fault: absent(),
+                changed: false,
+            },
+        }
+    }
+
+    /// What the name shows that is bound anew, where that is no formula, or removed.
+    fn own(&self) -> Input<'_>
+        requires ahead { IsAhead self.now }
+        requires done { NeedsNoPlan self.now.proposed.now self.now.proposed.now.name }
+        ensures input { IsInput ((proposed_change self.now.proposed.now).new self.now.proposed.now.name) ((proposed_change self.now.proposed.now).delta self.now.proposed.now.name) result }
+        ensures changed { IsNameChanged (proposed_change self.now.proposed.now) self.now.proposed.now.name }
+        ensures sound { IsNameSound (proposed_change self.now.proposed.now) self.now.proposed.now.name }
+    {
+        let Some(proposal) = &self.proposed.proposal else {
+            return Input::Bad {
+                fault: absent(),
+                changed: true,
+            };
+        };
+        match proposal {
+            Proposal::Data(array, delta) => {
+                let _sound = array.shape();
+                Input::Good(array.again(), delta)
+            }
+            Proposal::Formula(_) => unreachable!(),
+        }
+    }
+}
+
+/// What a name shows whose formula gives this: an error gets its origin there.
+fn in_formula(name: Name, input: Input<'_>) -> Input<'_>
+    ensures { (held : Outcome) (d : Change) → IsInput (applied d held) d input.entry → IsInput (with_origin name (applied d held)) (origin_delta name d) result }
+{
+    match input {
+        Input::Good(array, delta) => Input::Good(array, delta),
+        Input::Bad { fault, changed } => Input::Bad {
+            fault: arisen_in(name, fault),
+            changed,
+        },
+    }
+}
+
+/// The error of an absent name.
+pub(crate) fn absent() -> Fault
+    ensures { result ≡ fault Value }
+{
+    Fault {
+        kind: Kind::Value,
+        origin: None,
+    }
+}
