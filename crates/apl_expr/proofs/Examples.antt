@@ -11,7 +11,7 @@ use Rattle.apl_expr.specs.Symbols.{scalar_monad_of, scalar_dyad_of, array_monad,
 use Rattle.apl_expr.specs.Trees.{Tree, Numbers, Text, Const, Name, Monad, Dyad, Index, Filled, Empty, NoPositions}
 use Rattle.apl_expr.specs.Machine.{run}
 use Rattle.apl_expr.specs.Grammar.{IsTreeOf, one, more}
-use Rattle.apl_expr.specs.Lines.{IsLine, show, change, cell, define, row, erase, word, about, nums_lit, text_lit, last, further, Define, Cell, Row, Erase, Show, Names, Csv}
+use Rattle.apl_expr.specs.Lines.{IsLine, show, change, cell, define, row, erase, word, about, nums_lit, text_lit, last, further, Define, Cell, Row, Erase, Show, Names, Cost, Csv}
 use Rattle.apl_expr.proofs.Complete.{complete}
 use Rattle.apl_expr.proofs.Sound.{correct, run_none}
 
@@ -126,6 +126,10 @@ erasure = change (erase refl)
 -- )NAMES
 list_of_names : IsLine (Sign 0x29 ∷ Named (codes "NAMES") ∷ []) Names
 list_of_names = word refl
+
+-- )COST
+shown_cost : IsLine (Sign 0x29 ∷ Named (codes "COST") ∷ []) Cost
+shown_cost = word refl
 
 -- )CSV D
 written_table : IsLine (Sign 0x29 ∷ Named (codes "CSV") ∷ Named (codes "D") ∷ []) (Csv (codes "D"))

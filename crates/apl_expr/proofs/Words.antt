@@ -5,7 +5,7 @@ use Rattle.std.proofs.lemmas.Slice.Eq.{bytes_eq-Decides}
 use Rattle.apl_tokens.specs.Lexemes.{Lexeme, Named, Sign}
 use Rattle.apl_expr.specs.Trees.{Tree, Literal}
 use Rattle.apl_expr.specs.Grammar.{IsTreeOf}
-use Rattle.apl_expr.specs.Lines.{Meaning, Data, Row, Erase, Names, Csv, data_word, row_word, erase_word, names_word, csv_word, row_change, name_change, word_query, name_query, IsLit}
+use Rattle.apl_expr.specs.Lines.{Meaning, Data, Row, Erase, Names, Cost, Csv, data_word, row_word, erase_word, names_word, cost_word, csv_word, row_change, name_change, word_query, name_query, IsLit}
 use Rattle.apl_expr.proofs.Parsed.{one_tree_of}
 use Rattle.apl_expr.proofs.CellEdits.{literal_read}
 
@@ -15,6 +15,7 @@ pub data After : List ℕ → List Lexeme → Meaning → Type 0 where
   row_line : {n : List ℕ} {ts : List Lexeme} {l : Literal} → IsLit ts l → After row_word (Named n ∷ ts) (Row n l)
   erase_line : {n : List ℕ} → After erase_word (Named n ∷ []) (Erase n)
   names_line : After names_word [] Names
+  cost_line : After cost_word [] Cost
   csv_line : {n : List ℕ} → After csv_word (Named n ∷ []) (Csv n)
 
 -- a word that is looked up is the one of its table
@@ -34,8 +35,12 @@ row_follows {w = w} {n = n} {l = l} {m = m} is h = follows_as (looked_up w row_w
 pub erase_follows : {w n : List ℕ} {m : Meaning} → name_change w n ≡ Some m → After w (Named n ∷ []) m
 erase_follows {w = w} {n = n} {m = m} h = follows_as (looked_up w erase_word (Erase n) m h) erase_line
 
-pub names_follows : {w : List ℕ} {m : Meaning} → word_query w ≡ Some m → After w [] m
-names_follows {w = w} {m = m} h = follows_as (looked_up w names_word Names m h) names_line
+pub query_follows : {w : List ℕ} {m : Meaning} → word_query w ≡ Some m → After w [] m
+query_follows {w = w} {m = m} h = tested (bytes_eq w names_word) refl h
+  where
+    tested : (b : Bool) → bytes_eq w names_word ≡ b → cond {A = Option Meaning} b (Some Names) (cond (bytes_eq w cost_word) (Some Cost) None) ≡ Some m → After w [] m
+    tested true is h = follows_as ((bytes_eq-Decides w names_word).0 is, cc) names_line
+    tested false is h = follows_as (looked_up w cost_word Cost m h) cost_line
 
 pub csv_follows : {w n : List ℕ} {m : Meaning} → name_query w n ≡ Some m → After w (Named n ∷ []) m
 csv_follows {w = w} {n = n} {m = m} h = follows_as (looked_up w csv_word (Csv n) m h) csv_line
@@ -60,17 +65,22 @@ pub after_names : {w : List ℕ} {us : List Lexeme} {m : Meaning} → After w us
 after_names names_line same = (refl, refl)
 after_names {w = w} other same = absurd (differ w names_word refl same)
 
+pub after_cost : {w : List ℕ} {us : List Lexeme} {m : Meaning} → After w us m → w ≡ cost_word → (us ≡ []) × (m ≡ Cost)
+after_cost cost_line same = (refl, refl)
+after_cost {w = w} other same = absurd (differ w cost_word refl same)
+
 pub after_csv : {w : List ℕ} {us : List Lexeme} {m : Meaning} → After w us m → w ≡ csv_word → (n : List ℕ) × (us ≡ Named n ∷ []) × (m ≡ Csv n)
 after_csv (csv_line {n = n}) same = (n, refl, refl)
 after_csv {w = w} other same = absurd (differ w csv_word refl same)
 
 -- nothing comes after another word
-pub after_other : {w : List ℕ} {us : List Lexeme} {m : Meaning} → After w us m → (w ≡ data_word → ⊥) → (w ≡ row_word → ⊥) → (w ≡ erase_word → ⊥) → (w ≡ names_word → ⊥) → (w ≡ csv_word → ⊥) → ⊥
-after_other (data_line is) no_data no_row no_erase no_names no_csv = no_data refl
-after_other (row_line is) no_data no_row no_erase no_names no_csv = no_row refl
-after_other erase_line no_data no_row no_erase no_names no_csv = no_erase refl
-after_other names_line no_data no_row no_erase no_names no_csv = no_names refl
-after_other csv_line no_data no_row no_erase no_names no_csv = no_csv refl
+pub after_other : {w : List ℕ} {us : List Lexeme} {m : Meaning} → After w us m → (w ≡ data_word → ⊥) → (w ≡ row_word → ⊥) → (w ≡ erase_word → ⊥) → (w ≡ names_word → ⊥) → (w ≡ cost_word → ⊥) → (w ≡ csv_word → ⊥) → ⊥
+after_other (data_line is) no_data no_row no_erase no_names no_cost no_csv = no_data refl
+after_other (row_line is) no_data no_row no_erase no_names no_cost no_csv = no_row refl
+after_other erase_line no_data no_row no_erase no_names no_cost no_csv = no_erase refl
+after_other names_line no_data no_row no_erase no_names no_cost no_csv = no_names refl
+after_other cost_line no_data no_row no_erase no_names no_cost no_csv = no_cost refl
+after_other csv_line no_data no_row no_erase no_names no_cost no_csv = no_csv refl
 
 -- no two commands come after a word
 pub one_after : {w : List ℕ} {us : List Lexeme} {m n : Meaning} → After w us m → After w us n → m ≡ n
@@ -97,6 +107,7 @@ one_after (erase_line {n = k}) other = let x = after_erase other refl in same x.
     same : {n : Meaning} (j : List ℕ) → Named k ∷ [] ≡ Named j ∷ [] → n ≡ Erase j → Erase k ≡ n
     same j h found = cc
 one_after names_line other = sym (after_names other refl).1
+one_after cost_line other = sym (after_cost other refl).1
 one_after (csv_line {n = k}) other = let x = after_csv other refl in same x.0 x.1 x.2
   where
     same : {n : Meaning} (j : List ℕ) → Named k ∷ [] ≡ Named j ∷ [] → n ≡ Csv j → Csv k ≡ n

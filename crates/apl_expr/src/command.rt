@@ -5,7 +5,7 @@ ghost use Rattle.std.specs.Str.{chars};
 ghost use Rattle.apl_tokens.specs.Lexemes.{lexemes, Named, Sign};
 ghost use Rattle.apl_tokens.specs.Signs.{left_arrow, right_parenthesis, left_bracket};
 ghost use Rattle.apl_expr.specs.Limits.{most_tokens};
-ghost use Rattle.apl_expr.specs.Lines.{data_word, row_word, erase_word, names_word, csv_word, IsCommand};
+ghost use Rattle.apl_expr.specs.Lines.{data_word, row_word, erase_word, names_word, cost_word, csv_word, IsCommand};
 ghost use Rattle.apl_expr.specs.Fronts.{name_before, name_first, only_name, command_word, edit_in};
 ghost use Rattle.apl_expr.specs.Answers.{IsAnswered};
 
@@ -36,6 +36,8 @@ pub enum Command {
     Show(Expr),
     /// `) NAMES`: the names are listed.
     Names,
+    /// `) COST`: the cost of the last change that was accepted is shown.
+    Cost,
     /// `) CSV NAME`: the name's value is written as a table.
     Csv(Name),
 }
@@ -154,6 +156,18 @@ fn names(rest: &[Spanned]) -> Result<Command, ParseFault>
     }
 }
 
+/// The cost, with what comes after `) COST`.
+fn cost(rest: &[Spanned]) -> Result<Command, ParseFault>
+    requires { 2 + length rest.now ≤ most_tokens }
+    ensures { IsCommand (Sign right_parenthesis ∷ Named cost_word ∷ lexemes rest.now) result }
+{
+    if rest.is_empty() {
+        Ok(Command::Cost)
+    } else {
+        Err(ParseFault::Syntax)
+    }
+}
+
 /// What is written as a table, with what comes after `) CSV`.
 fn csv(rest: &[Spanned]) -> Result<Command, ParseFault>
     requires { 2 + length rest.now ≤ most_tokens }
@@ -175,6 +189,7 @@ fn worded(alloc: Global, word: Name, rest: &[Spanned]) -> Result<Command, ParseF
         "ROW" => row(alloc, rest),
         "ERASE" => erase(rest),
         "NAMES" => names(rest),
+        "COST" => cost(rest),
         "CSV" => csv(rest),
         _ => Err(ParseFault::Syntax),
     }
@@ -237,8 +252,8 @@ fn command_of(alloc: Global, tokens: &[Spanned]) -> Result<Command, ParseFault>
 ///
 /// The first token fault from the left comes before all else. Then more than 4,096 tokens are `Limit`, whatever they are;
 /// then tokens that are no line of the grammar are `Syntax`; then an expression whose tree is more than 256 high or has
-/// more than 512 nodes is `Limit`. `DATA`, `ROW`, `ERASE`, `NAMES` and `CSV` are words only after `)`, and ordinary
-/// names elsewhere.
+/// more than 512 nodes is `Limit`. `DATA`, `ROW`, `ERASE`, `NAMES`, `COST` and `CSV` are words only after `)`, and
+/// ordinary names elsewhere.
 pub fn line(alloc: Global, text: &str) -> Result<Command, LineFault>
     ensures { IsAnswered (chars text.now) result }
 {

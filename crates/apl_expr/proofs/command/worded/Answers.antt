@@ -9,4 +9,4 @@ returns-in_default c =
     let is = c.text.ensures in
     let other = c.in_default in
     other_word (lexemes c.args.rest.now) (simp length-map c.requires) c.args.word
-    (λ h. other.not-DATA (is ∙ h)) (λ h. other.not-ROW (is ∙ h)) (λ h. other.not-ERASE (is ∙ h)) (λ h. other.not-NAMES (is ∙ h)) (λ h. other.not-CSV (is ∙ h))
+    (λ h. other.not-DATA (is ∙ h)) (λ h. other.not-ROW (is ∙ h)) (λ h. other.not-ERASE (is ∙ h)) (λ h. other.not-NAMES (is ∙ h)) (λ h. other.not-COST (is ∙ h)) (λ h. other.not-CSV (is ∙ h))
