@@ -1,5 +1,5 @@
 -- What one line is answered, and what lines are.
-use Rattle.std.proofs.Common.{◌≡◌, ℕ, ◌+◌, ◌-◌, ◌<◌, ◌≤◌, Bool, true, false, eqb, ltb, List, [], ◌∷◌, ◌++◌, length, take, get_or, refl, sym, ap, ◌∙◌, arith, count_by, replicate, append_assoc, codes, ⊎_elim}
+use Rattle.std.proofs.Common.{◌≡◌, ℕ, ◌+◌, ◌-◌, ◌<◌, ◌≤◌, Bool, true, false, eqb, ltb, List, [], ◌∷◌, ◌++◌, length, take, get_or, refl, sym, ap, subst, ◌∙◌, arith, count_by, replicate, append_assoc, codes, ⊎_elim}
 use Rattle.std.specs.Prelude.{◌&&◌}
 use Rattle.std.proofs.lemmas.Bool.{cases_lt, cond_both}
 use Rattle.std.proofs.lemmas.List.Sums.{sum_by-append}
@@ -46,6 +46,10 @@ AnswersLine-kept old kept line input lines refused refused' answer new k n e a =
   refused_is = a.refused_is;
   answer_is = flagged_answer_of_kept a.flag (ended_lines input) (last_line input) old new answer (rw (e ∙ kept_line kept input lines k n) at a.answer_is);
 }
+
+-- what is printed for a line answers it, in one piece or two
+pub AnswersLine-printed : (old : State) (line : List ℕ) (refused : ℕ) (printed text : List ℕ) (new : State) → printed ≡ text → IsAnswer old line printed new → AnswersLine old line refused refused text new
+AnswersLine-printed old line refused printed text new e a = record { flag = false; refused_is = omega arith; answer_is = subst (λ (t : List ℕ). IsAnswer old line t new) e a }
 
 -- one answer more
 answers_push : {old mid new : State} {lines : List (List ℕ)} {flags : List Bool} {before : List ℕ} (line now : List ℕ) (flag : Bool) →

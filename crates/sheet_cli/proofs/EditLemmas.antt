@@ -7,14 +7,16 @@ use Rattle.apl_expr.specs.declared.fault.LineFault.TheVariants.{Syntax, Limit}
 use Rattle.apl_expr.specs.Lines.{meaning}
 use Rattle.apl_expr.specs.Answers.{IsAnswered}
 use Rattle.sheet_recalc.specs.Changes.{Change, Accepts, Refuses}
+use Rattle.sheet_recalc.specs.Costs.{HasCost}
+use Rattle.sheet_recalc.specs.Names.{SheetValue}
 use Rattle.sheet_recalc.specs.declared.refusal.Refusal.{Refusal}
-use Rattle.sheet_cli.specs.Answer.{State, IsEdited, accepted, refused, IsCarriedOut, IsTextAnswer, no_line, too_large, carried_out}
+use Rattle.sheet_cli.specs.Answer.{State, state_of, IsEdited, accepted, refused, IsCarriedOut, IsTextAnswer, no_line, too_large, carried_out}
 use Rattle.sheet_cli.specs.Edits.{IsEditText}
 
-pub edited : (outcome : Result (Unit {0}) Refusal) (old new : State) (edit : Change) (text : List ℕ) → OnOk outcome (Accepts old.names edit new.names) → IfErr outcome (λ cause. Refuses old.names edit cause) → OnErr outcome (new ≡ old) →
-    IsEditText outcome text → IsEdited old edit text new
-edited (Ok u) old new edit text a r k e = rw e (accepted a)
-edited (Err cause) old new edit text a r k e = rw (k, e.0) (refused cause r e.1)
+pub edited : (outcome : Result (Unit {0}) Refusal) (old new : SheetValue) (edit : Change) (text : List ℕ) → OnOk outcome (Accepts old.names edit new.names) → OnOk outcome (HasCost old.names edit new.names new.cost) →
+    IfErr outcome (λ cause. Refuses old.names edit cause) → OnErr outcome (new ≡ old) → IsEditText outcome text → IsEdited (state_of old) edit text (state_of new)
+edited (Ok u) old new edit text a h r k e = rw e (accepted a h)
+edited (Err cause) old new edit text a h r k e = rw (k, e.0) (refused cause r e.1)
 
 pub answered_no_line : (old : State) (cs answer : List ℕ) → IsAnswered cs (Err Syntax) → answer ≡ codes "SYNTAX ERROR\n" → IsTextAnswer old cs answer old
 answered_no_line old cs answer h e = rw e (no_line h)

@@ -6,7 +6,7 @@ use Rattle.apl_tokens.proofs.Complete.{one_answer_of}
 use Rattle.apl_expr.specs.Limits.{most_tokens}
 use Rattle.apl_expr.specs.declared.fault.LineFault.TheVariants.{Syntax, Limit}
 use Rattle.apl_expr.specs.Grammar.{IsTooLarge}
-use Rattle.apl_expr.specs.Lines.{Meaning, Nothing, Define, Data, Cell, Row, Erase, Show, Names, Csv, IsLine, HasTree}
+use Rattle.apl_expr.specs.Lines.{Meaning, Nothing, Define, Data, Cell, Row, Erase, Show, Names, Cost, Csv, IsLine, HasTree}
 use Rattle.apl_expr.specs.Answers.{lexemes_of, IsAnswered, IsReadAs}
 use Rattle.apl_expr.proofs.Commands.{one_meaning_of}
 use Rattle.sheet_recalc.specs.Changes as change
@@ -65,6 +65,7 @@ carried_out_one old (Row n literal) text₁ text₂ new₁ new₂ a b = edit_one
 carried_out_one old (Erase n) text₁ text₂ new₁ new₂ a b = edit_one old (change.Erase n) text₁ text₂ new₁ new₂ a b
 carried_out_one old (Show t) text₁ text₂ new₁ new₂ a b = (a.0 ∙ sym b.0, a.1 ∙ sym b.1)
 carried_out_one old Names text₁ text₂ new₁ new₂ a b = (a.0 ∙ sym b.0, a.1 ∙ sym b.1)
+carried_out_one old Cost text₁ text₂ new₁ new₂ a b = (a.0 ∙ sym b.0, a.1 ∙ sym b.1)
 carried_out_one old (Csv n) text₁ text₂ new₁ new₂ a b = (a.0 ∙ sym b.0, a.1 ∙ sym b.1)
 
 text_one : (old : State) (cs text₁ text₂ : List ℕ) (new₁ new₂ : State) → IsTextAnswer old cs text₁ new₁ → IsTextAnswer old cs text₂ new₂ → (text₁ ≡ text₂) × (new₁ ≡ new₂)

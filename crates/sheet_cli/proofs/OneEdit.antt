@@ -1,5 +1,5 @@
 -- An edit has one outcome, but for want of memory.
-use Rattle.std.proofs.Common.{◌≡◌, ◌≢◌, ℕ, ℤ, ◌<◌, ◌⊎◌, ⊎_elim, inl, inr, List, [], ◌∷◌, length, codes, is_some, None, Result, Ok, Err, refl, sym, ap, ◌∙◌, arith}
+use Rattle.std.proofs.Common.{◌≡◌, ◌≢◌, ℕ, ℤ, ◌<◌, ◌⊎◌, ⊎_elim, inl, inr, List, [], ◌∷◌, length, codes, is_some, None, Result, Ok, Err, refl, sym, ap, subst, ◌∙◌, arith}
 use Rattle.std.proofs.lemmas.Bool.{false≢true}
 use Rattle.apl_expr.specs.Trees.{Tree, Literal}
 use Rattle.arrays_core.specs.Arrays.{ArrayValue}
@@ -11,6 +11,7 @@ use Rattle.sheet_recalc.specs.Meaning.{val}
 use Rattle.sheet_recalc.specs.Cells.{cell_put}
 use Rattle.sheet_recalc.specs.Rows.{row_put}
 use Rattle.sheet_recalc.specs.Changes.{Change, Define, Store, Put, SetCell, AddRow, Erase, Accepts, Refuses, CannotPut, HasRoom, IsFullFor, IsCycleFrom}
+use Rattle.sheet_recalc.specs.Costs.{HasCost}
 use Rattle.sheet_recalc.specs.declared.refusal.Refusal.{Refusal}
 use Rattle.sheet_recalc.specs.declared.refusal.Refusal.TheVariants as why
 use Rattle.sheet_cli.specs.Answer.{State, refusal_text, IsEdited, accepted, refused}
@@ -180,11 +181,15 @@ refusals_one names (SetCell n positions literal) cause₁ cause₂ r₁ o₁ r�
 refusals_one names (AddRow n literal) cause₁ cause₂ r₁ o₁ r₂ o₂ = ap refusal_text (one_err (row_cause names n literal cause₁ r₁ o₁) (row_cause names n literal cause₂ r₂ o₂))
 refusals_one names (Erase n) cause₁ cause₂ r₁ o₁ r₂ o₂ = (erase_cause names n cause₁ r₁ o₁).1 ∙ sym (erase_cause names n cause₂ r₂ o₂).1
 
-same_state : (a b : State) → a.names ≡ b.names → a ≡ b
-same_state a b e = ap (λ (names : Names). record { names = names }) e
+-- what accepts an edit gives one cost
+costs_one : (names : Names) (edit : Change) (new₁ new₂ : Names) (cost₁ cost₂ : ℕ) → new₁ ≡ new₂ → HasCost names edit new₁ cost₁ → HasCost names edit new₂ cost₂ → cost₁ ≡ cost₂
+costs_one names edit new₁ new₂ cost₁ cost₂ same a b = subst (λ (new : Names). HasCost names edit new cost₁) same a ∙ sym b
+
+same_state : (a b : State) → a.names ≡ b.names → a.cost ≡ b.cost → a ≡ b
+same_state a b names cost = λ i. record { names = names i; cost = cost i }
 
 pub edit_one : (old : State) (edit : Change) (text₁ text₂ : List ℕ) (new₁ new₂ : State) → IsEdited old edit text₁ new₁ → IsEdited old edit text₂ new₂ → (text₁ ≡ text₂) × (new₁ ≡ new₂)
-edit_one old edit text₁ text₂ new₁ new₂ (accepted a) (accepted b) = (refl, same_state new₁ new₂ (accepts_one old.names edit _ _ a b))
-edit_one old edit text₁ text₂ new₁ new₂ (accepted a) (refused cause r other) = absurd (accepted_refused old.names edit _ cause a r other)
-edit_one old edit text₁ text₂ new₁ new₂ (refused cause r other) (accepted b) = absurd (accepted_refused old.names edit _ cause b r other)
+edit_one old edit text₁ text₂ new₁ new₂ (accepted a c) (accepted b d) = let same = accepts_one old.names edit _ _ a b in (refl, same_state new₁ new₂ same (costs_one old.names edit _ _ _ _ same c d))
+edit_one old edit text₁ text₂ new₁ new₂ (accepted a c) (refused cause r other) = absurd (accepted_refused old.names edit _ cause a r other)
+edit_one old edit text₁ text₂ new₁ new₂ (refused cause r other) (accepted b d) = absurd (accepted_refused old.names edit _ cause b r other)
 edit_one old edit text₁ text₂ new₁ new₂ (refused c₁ r₁ o₁) (refused c₂ r₂ o₂) = (refusals_one old.names edit c₁ c₂ r₁ o₁ r₂ o₂, refl)

@@ -1,10 +1,10 @@
 -- What one line is answered.
-use Rattle.std.specs.Prelude.{◌≡◌, ◌≢◌, ℕ, ◌<◌, ◌≤◌, nat_lt, Bool, false, List, [], ◌++◌, length, map, codes, Option, Some, None, Result, Ok, Err, if◌then◌else◌}
+use Rattle.std.specs.Prelude.{◌≡◌, ◌≢◌, ℕ, ◌<◌, ◌≤◌, nat_lt, Bool, false, List, [], ◌++◌, length, map, codes, decimal, Option, Some, None, Result, Ok, Err, if◌then◌else◌}
 use Rattle.std.specs.List.{flat_map}
 use Rattle.std.specs.Map.{keys_of}
 use Rattle.std.specs.Str.{IsUtf8, chars}
 use Rattle.apl_expr.specs.declared.fault.LineFault.TheVariants.{Syntax, Limit}
-use Rattle.apl_expr.specs.Lines.{Meaning, Nothing, Define, Data, Cell, Row, Erase, Show, Names, Csv}
+use Rattle.apl_expr.specs.Lines.{Meaning, Nothing, Define, Data, Cell, Row, Erase, Show, Names, Cost, Csv}
 use Rattle.apl_expr.specs.Answers.{IsAnswered, IsReadAs}
 use Rattle.arrays_core.specs.Arrays.{ArrayValue}
 use Rattle.arrays_core.specs.declared.fault.Fault.{Fault}
@@ -13,19 +13,25 @@ use Rattle.arrays_core.specs.declared.item.ItemType.{ItemType}
 use Rattle.arrays_core.specs.declared.item.ItemType.TheVariants.{Nums, Chars}
 use Rattle.array_text.specs.Text.{line_end, item_number, array_text, fault_text}
 use Rattle.array_text.specs.Tables.{table_text}
-use Rattle.sheet_recalc.specs.Names.{SheetValue}
 use Rattle.formula_core.specs.Meaning.{eval}
-use Rattle.sheet_recalc.specs.Names.{Binding, binding}
+use Rattle.sheet_recalc.specs.Names as sheet
+use Rattle.sheet_recalc.specs.Names.{SheetValue, Binding, binding}
 use Rattle.sheet_recalc.specs.Meaning.{val}
 use Rattle.sheet_recalc.specs.Changes.{Change, Accepts, Refuses}
 use Rattle.sheet_recalc.specs.Changes as change
+use Rattle.sheet_recalc.specs.Costs.{HasCost}
 use Rattle.sheet_recalc.specs.declared.refusal.Refusal.{Refusal}
 use Rattle.sheet_recalc.specs.declared.refusal.Refusal.TheVariants as why
 use Rattle.sheet_cli.specs.Lines.{longest_line, strip_cr}
 
--- what a run keeps from line to line
-abbrev pub State : Type 0
-State = SheetValue
+-- what a run keeps from line to line: names with what they are bound to, and the cost of the last change that was accepted
+pub record State : Type 0 where
+  pub names : sheet.Names
+  pub cost : ℕ
+
+-- what a run keeps in a sheet
+abbrev pub state_of : SheetValue → State
+state_of s = record { names = s.names; cost = s.cost }
 
 -- the line that a refusal prints
 abbrev pub refusal_text : Refusal → List ℕ
@@ -55,6 +61,10 @@ abbrev pub are_characters : ItemType → List Item → Bool
 are_characters Nums items = false
 are_characters Chars items = nat_lt 0 (length items)
 
+-- a cost, in decimal digits
+abbrev pub cost_text : ℕ → List ℕ
+cost_text cost = decimal cost ++ line_end
+
 -- an array as a table; or why it is none: it has more than two axes, or items that are characters
 abbrev pub array_table : ArrayValue → List ℕ
 array_table a =
@@ -68,9 +78,9 @@ shown_table None shown = refusal_text why.NotFound
 shown_table (Some b) (Ok a) = array_table a
 shown_table (Some b) (Err f) = fault_text f
 
--- an edit is accepted and prints nothing; or it is refused, not for want of memory, prints why and changes nothing
+-- an edit is accepted, prints nothing and its cost is kept; or it is refused, not for want of memory, prints why and changes nothing
 pub data IsEdited : State → Change → List ℕ → State → Type 0 where
-  accepted : {old new : State} {edit : Change} → Accepts old.names edit new.names → IsEdited old edit [] new
+  accepted : {old new : State} {edit : Change} → Accepts old.names edit new.names → HasCost old.names edit new.names new.cost → IsEdited old edit [] new
   refused : {old : State} {edit : Change} (cause : Refusal) → Refuses old.names edit cause → cause ≢ why.NoMemory → IsEdited old edit (refusal_text cause) old
 
 -- what a line means is carried out
@@ -83,6 +93,7 @@ IsCarriedOut old (Row n l) text new = IsEdited old (change.AddRow n l) text new
 IsCarriedOut old (Erase n) text new = IsEdited old (change.Erase n) text new
 IsCarriedOut old (Show t) text new = (text ≡ shown_text (eval t (val old.names))) × (new ≡ old)
 IsCarriedOut old Names text new = (text ≡ names_text (keys_of old.names)) × (new ≡ old)
+IsCarriedOut old Cost text new = (text ≡ cost_text old.cost) × (new ≡ old)
 IsCarriedOut old (Csv n) text new = (text ≡ shown_table (binding old.names n) (val old.names n)) × (new ≡ old)
 
 -- the answer to characters: they are no line, or too large a one, or what they mean is carried out

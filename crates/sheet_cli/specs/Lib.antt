@@ -7,4 +7,5 @@ pub mod Devices
 pub mod Endings
 -- What proofs and bodies use.
 pub mod Edits
+pub mod Printed
 pub mod Progress

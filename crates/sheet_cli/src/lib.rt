@@ -2,10 +2,12 @@
 #![tactic(auto)]
 
 mod answer;
+mod count_line;
 mod device;
 mod ending;
 mod laws;
 mod line_buffer;
+mod printed;
 mod queries;
 mod refusals;
 mod run_loop;

@@ -7,7 +7,9 @@ ghost use Rattle.formula_core.specs.Meaning.{eval};
 ghost use Rattle.sheet_recalc.specs.Names.{binding};
 ghost use Rattle.sheet_recalc.specs.Meaning.{val};
 ghost use Rattle.sheet_cli.specs.Answer.{shown_text, names_text, are_characters, array_table, shown_table};
+ghost use Rattle.sheet_cli.specs.Printed.{printed_bytes};
 
+use crate::printed::Printed;
 use crate::refusals::refusal_text;
 use apl_expr::Expr;
 use apl_tokens::Name;
@@ -42,19 +44,19 @@ pub(crate) fn list_names(alloc: Global, sheet: &Sheet) -> Result<String, AllocEr
 }
 
 /// What a name shows as a table, or why it is none.
-pub(crate) fn table(alloc: Global, sheet: &Sheet, name: Name) -> Result<String, AllocError>
-    ensures { IfOk result (λ text. string_bytes text ≡ shown_table (binding sheet.now.names name) (val sheet.now.names name)) }
+pub(crate) fn table(alloc: Global, sheet: &Sheet, name: Name) -> Result<Printed, AllocError>
+    ensures { IfOk result (λ text. printed_bytes text ≡ shown_table (binding sheet.now.names name) (val sheet.now.names name)) }
 {
     match sheet.value(name) {
         None => refusal_text(alloc, &Refusal::NotFound),
         Some(Ok(array)) => array_table(alloc, array),
-        Some(Err(fault)) => print_fault(alloc, &fault),
+        Some(Err(fault)) => Ok(Printed::Made(print_fault(alloc, &fault)?)),
     }
 }
 
 /// An array as a table, or why it is none.
-fn array_table(alloc: Global, array: &Array) -> Result<String, AllocError>
-    ensures { IfOk result (λ text. string_bytes text ≡ array_table array.now) }
+fn array_table(alloc: Global, array: &Array) -> Result<Printed, AllocError>
+    ensures { IfOk result (λ text. printed_bytes text ≡ array_table array.now) }
 {
     if array.shape().len() > MOST_TABLE_AXES {
         return refusal_text(alloc, &Refusal::Rank);
@@ -62,7 +64,7 @@ fn array_table(alloc: Global, array: &Array) -> Result<String, AllocError>
     if are_characters(array) {
         return refusal_text(alloc, &Refusal::Domain);
     }
-    write_table(alloc, array)
+    Ok(Printed::Made(write_table(alloc, array)?))
 }
 
 /// Whether the items are characters: there are some, and the type is that.

@@ -1,38 +1,40 @@
 //! What an edit prints.
 
-ghost use Rattle.std.specs.Prelude.{◌≡◌, IfOk, IsOk, string_bytes};
+ghost use Rattle.std.specs.Prelude.{◌≡◌, IfOk, IsOk};
 ghost use Rattle.sheet_cli.specs.Edits.{IsRefusalText, IsEditText};
+ghost use Rattle.sheet_cli.specs.Printed.{printed_bytes};
 
+use crate::printed::Printed;
 use array_text::print_fault;
 use sheet_recalc::Refusal;
 use std::alloc::{AllocError, Global};
 
-/// The text of an edit. Only that of one that was refused needs memory.
-pub(crate) fn edit_text(alloc: Global, outcome: Result<(), Refusal>) -> Result<String, AllocError>
-    ensures text { IfOk result (λ text. IsEditText outcome (string_bytes text)) }
+/// The text of an edit. Only that of one that was refused by an error of its expression needs memory.
+pub(crate) fn edit_text(alloc: Global, outcome: Result<(), Refusal>) -> Result<Printed, AllocError>
+    ensures text { IfOk result (λ text. IsEditText outcome (printed_bytes text)) }
     ensures accepted { IsOk outcome → IsOk result }
 {
     match outcome {
-        Ok(()) => Ok(String::new(alloc)),
+        Ok(()) => Ok(Printed::Fixed("")),
         Err(refusal) => refusal_text(alloc, &refusal),
     }
 }
 
 /// The line that a refusal prints. For want of memory there is none.
-pub(crate) fn refusal_text(alloc: Global, refusal: &Refusal) -> Result<String, AllocError>
-    ensures { IfOk result (λ text. IsRefusalText refusal.now (string_bytes text)) }
+pub(crate) fn refusal_text(alloc: Global, refusal: &Refusal) -> Result<Printed, AllocError>
+    ensures { IfOk result (λ text. IsRefusalText refusal.now (printed_bytes text)) }
 {
     match refusal {
-        Refusal::Cycle(_) => String::from_str(alloc, "CYCLE\n"),
-        Refusal::NotFound => String::from_str(alloc, "NOT FOUND\n"),
-        Refusal::NotData => String::from_str(alloc, "NOT DATA\n"),
-        Refusal::Rank => String::from_str(alloc, "RANK ERROR\n"),
-        Refusal::Length => String::from_str(alloc, "LENGTH ERROR\n"),
-        Refusal::Index => String::from_str(alloc, "INDEX ERROR\n"),
-        Refusal::Domain => String::from_str(alloc, "DOMAIN ERROR\n"),
-        Refusal::Limit => String::from_str(alloc, "LIMIT ERROR\n"),
-        Refusal::SheetFull => String::from_str(alloc, "SHEET FULL\n"),
+        Refusal::Cycle(_) => Ok(Printed::Fixed("CYCLE\n")),
+        Refusal::NotFound => Ok(Printed::Fixed("NOT FOUND\n")),
+        Refusal::NotData => Ok(Printed::Fixed("NOT DATA\n")),
+        Refusal::Rank => Ok(Printed::Fixed("RANK ERROR\n")),
+        Refusal::Length => Ok(Printed::Fixed("LENGTH ERROR\n")),
+        Refusal::Index => Ok(Printed::Fixed("INDEX ERROR\n")),
+        Refusal::Domain => Ok(Printed::Fixed("DOMAIN ERROR\n")),
+        Refusal::Limit => Ok(Printed::Fixed("LIMIT ERROR\n")),
+        Refusal::SheetFull => Ok(Printed::Fixed("SHEET FULL\n")),
         Refusal::NoMemory => Err(AllocError),
-        Refusal::Fault(fault) => print_fault(alloc, fault),
+        Refusal::Fault(fault) => Ok(Printed::Made(print_fault(alloc, fault)?)),
     }
 }

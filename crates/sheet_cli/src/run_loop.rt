@@ -1,6 +1,7 @@
 // The loop from a source to a sink.
 ghost use Rattle.std.specs.Prelude.{◌≡◌, ◌+◌, ◌≤◌, ◌<◌, ◌^◌, ◌∷◌, ℕ, List, [], ◌++◌, length, take, slice_index, MatchOption, OnOk, OnErr, IfOk, IsErrOf, true};
 ghost use Rattle.std.specs.Io.KnownBytes.{Appends};
+ghost use Rattle.sheet_cli.specs.Answer.{state_of};
 ghost use Rattle.sheet_cli.specs.Lines.{strip_bom, ended_lines};
 ghost use Rattle.sheet_cli.specs.Progress.{line_after, standing, AnswersLine, Feeds, StopsIn, Finishes, StopsAtEnd};
 ghost use Rattle.sheet_cli.specs.Run.{Completes, BreaksOff, IsCut};
@@ -70,9 +71,9 @@ fn answer_line<W: Sink>(
     ensures lines { tally.new.lines ≡ tally.old.lines + 1 }
     ensures refused { tally.new.refused_for_memory ≤ tally.old.refused_for_memory + 1 }
     ensures ok { OnOk result ((text : List ℕ) × Appends (W.written sink.old) (W.written sink.new) text
-        × AnswersLine sheet.old line.now tally.old.refused_for_memory tally.new.refused_for_memory text sheet.new) }
+        × AnswersLine (state_of sheet.old) line.now tally.old.refused_for_memory tally.new.refused_for_memory text (state_of sheet.new)) }
     ensures err { OnErr result ((part : List ℕ) × (unwritten : List ℕ) × Appends (W.written sink.old) (W.written sink.new) part
-        × AnswersLine sheet.old line.now tally.old.refused_for_memory tally.new.refused_for_memory (part ++ unwritten) sheet.new) }
+        × AnswersLine (state_of sheet.old) line.now tally.old.refused_for_memory tally.new.refused_for_memory (part ++ unwritten) (state_of sheet.new)) }
     ensures fault { OnErr result (W.has_failed sink.new ≡ true) }
 {
     tally.lines += 1;
@@ -144,9 +145,9 @@ fn end_line<W: Sink>(
     ensures lines { progress.new.tally.lines ≡ progress.old.tally.lines + 1 }
     ensures refused { progress.new.tally.refused_for_memory ≤ progress.old.tally.refused_for_memory + 1 }
     ensures ok { OnOk result ((text : List ℕ) × Appends (W.written sink.old) (W.written sink.new) text
-        × Feeds (10 ∷ []) (standing progress.old.pending progress.old.tally sheet.old) text (standing progress.new.pending progress.new.tally sheet.new)) }
+        × Feeds (10 ∷ []) (standing progress.old.pending progress.old.tally (state_of sheet.old)) text (standing progress.new.pending progress.new.tally (state_of sheet.new))) }
     ensures err { OnErr result ((text : List ℕ) × Appends (W.written sink.old) (W.written sink.new) text
-        × StopsIn (10 ∷ []) (standing progress.old.pending progress.old.tally sheet.old) text sheet.new) }
+        × StopsIn (10 ∷ []) (standing progress.old.pending progress.old.tally (state_of sheet.old)) text (state_of sheet.new)) }
     ensures fault { OnErr result (W.has_failed sink.new ≡ true) }
 {
     let line = line_of(&progress.pending, progress.tally.lines);
@@ -169,9 +170,9 @@ fn take_piece<W: Sink>(
     ensures lines { IfOk result (λ n. progress.new.tally.lines ≤ progress.old.tally.lines + n) }
     ensures refused { IfOk result (λ n. progress.new.tally.refused_for_memory ≤ progress.old.tally.refused_for_memory + n) }
     ensures ok { IfOk result (λ n. (text : List ℕ) × Appends (W.written sink.old) (W.written sink.new) text
-        × Feeds (take n bytes.now) (standing progress.old.pending progress.old.tally sheet.old) text (standing progress.new.pending progress.new.tally sheet.new)) }
+        × Feeds (take n bytes.now) (standing progress.old.pending progress.old.tally (state_of sheet.old)) text (standing progress.new.pending progress.new.tally (state_of sheet.new))) }
     ensures err { OnErr result ((text : List ℕ) × Appends (W.written sink.old) (W.written sink.new) text
-        × StopsIn bytes.now (standing progress.old.pending progress.old.tally sheet.old) text sheet.new) }
+        × StopsIn bytes.now (standing progress.old.pending progress.old.tally (state_of sheet.old)) text (state_of sheet.new)) }
     ensures fault { OnErr result (W.has_failed sink.new ≡ true) }
 {
     let Some(end) = find_line_feed(bytes) else {
@@ -196,9 +197,9 @@ fn take_bytes<W: Sink>(
     ensures lines { OnOk result (progress.new.tally.lines ≤ progress.old.tally.lines + length bytes.now) }
     ensures refused { OnOk result (progress.new.tally.refused_for_memory ≤ progress.old.tally.refused_for_memory + length bytes.now) }
     ensures ok { OnOk result ((text : List ℕ) × Appends (W.written sink.old) (W.written sink.new) text
-        × Feeds bytes.now (standing progress.old.pending progress.old.tally sheet.old) text (standing progress.new.pending progress.new.tally sheet.new)) }
+        × Feeds bytes.now (standing progress.old.pending progress.old.tally (state_of sheet.old)) text (standing progress.new.pending progress.new.tally (state_of sheet.new))) }
     ensures err { OnErr result ((text : List ℕ) × Appends (W.written sink.old) (W.written sink.new) text
-        × StopsIn bytes.now (standing progress.old.pending progress.old.tally sheet.old) text sheet.new) }
+        × StopsIn bytes.now (standing progress.old.pending progress.old.tally (state_of sheet.old)) text (state_of sheet.new)) }
     ensures fault { OnErr result (W.has_failed sink.new ≡ true) }
 {
     let mut rest = bytes;
@@ -219,9 +220,9 @@ fn answer_last<W: Sink>(
     requires lines { progress.old.tally.lines < u64.MAX }
     requires refused { progress.old.tally.refused_for_memory < u64.MAX }
     ensures ok { OnOk result ((text : List ℕ) × Appends (W.written sink.old) (W.written sink.new) text
-        × Finishes (standing progress.old.pending progress.old.tally sheet.old) text progress.new.tally sheet.new) }
+        × Finishes (standing progress.old.pending progress.old.tally (state_of sheet.old)) text progress.new.tally (state_of sheet.new)) }
     ensures err { OnErr result ((text : List ℕ) × Appends (W.written sink.old) (W.written sink.new) text
-        × StopsAtEnd (standing progress.old.pending progress.old.tally sheet.old) text sheet.new) }
+        × StopsAtEnd (standing progress.old.pending progress.old.tally (state_of sheet.old)) text (state_of sheet.new)) }
     ensures fault { OnErr result (W.has_failed sink.new ≡ true) }
 {
     let line = line_of(&progress.pending, progress.tally.lines);
@@ -241,9 +242,9 @@ fn finish<W: Sink>(
     requires lines { progress.old.tally.lines < u64.MAX }
     requires refused { progress.old.tally.refused_for_memory < u64.MAX }
     ensures ok { OnOk result ((text : List ℕ) × Appends (W.written sink.old) (W.written sink.new) text
-        × Finishes (standing progress.old.pending progress.old.tally sheet.old) text progress.new.tally sheet.new) }
+        × Finishes (standing progress.old.pending progress.old.tally (state_of sheet.old)) text progress.new.tally (state_of sheet.new)) }
     ensures err { OnErr result ((text : List ℕ) × Appends (W.written sink.old) (W.written sink.new) text
-        × StopsAtEnd (standing progress.old.pending progress.old.tally sheet.old) text sheet.new) }
+        × StopsAtEnd (standing progress.old.pending progress.old.tally (state_of sheet.old)) text (state_of sheet.new)) }
     ensures fault { OnErr result (W.has_failed sink.new ≡ true) }
     ensures flushed { OnOk result (W.is_flushed sink.new ≡ true) }
 {
@@ -263,13 +264,13 @@ pub fn run<R: Source, W: Sink>(
     sink: &mut W,
 ) -> Result<Tally, RunFault>
     ensures ok { IfOk result (λ tally. Completes (R.remaining source.old) (R.remaining source.new) (W.written sink.old) (W.written sink.new)
-        sheet.old sheet.new tally) }
+        (state_of sheet.old) (state_of sheet.new) tally) }
     ensures flushed { OnOk result (W.is_flushed sink.new ≡ true) }
     ensures memory { IsErrOf result RunFault.Memory → (source.new ≡ source.old) × (sink.new ≡ sink.old) × (sheet.new ≡ sheet.old) }
     ensures read { IsErrOf result RunFault.Read → BreaksOff (R.remaining source.old) (R.remaining source.new) (W.written sink.old) (W.written sink.new)
-        (R.has_failed source.new) sheet.old sheet.new }
+        (R.has_failed source.new) (state_of sheet.old) (state_of sheet.new) }
     ensures write { IsErrOf result RunFault.Write → IsCut (R.remaining source.old) (R.remaining source.new) (W.written sink.old) (W.written sink.new)
-        (W.has_failed sink.new) sheet.old sheet.new }
+        (W.has_failed sink.new) (state_of sheet.old) (state_of sheet.new) }
 {
     let Ok(mut progress) = Progress::new(alloc) else {
         return Err(RunFault::Memory);

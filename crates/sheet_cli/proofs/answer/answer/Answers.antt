@@ -1,4 +1,4 @@
-use Rattle.std.proofs.Common.{◌<◌, ◌≤◌, arith, length, ◌∙◌}
+use Rattle.std.proofs.Common.{◌<◌, ◌≤◌, arith, length, refl, ◌∙◌}
 use Rattle.std.proofs.lemmas.Result.{IfOk-weaker}
 use Rattle.sheet_cli.specs.Lines.{longest_line, strip_cr}
 use Rattle.sheet_cli.proofs.AnswerLemmas.{answered_too_long, answered_not_text, answered_text}
@@ -7,7 +7,7 @@ use Rattle.sheet_cli.proofs.answer.answer.Goals as goal
 pub returns-then-line-gt-LONGEST_LINE-clause-ok : goal.returns-then-line-gt-LONGEST_LINE-clause-ok
 returns-then-line-gt-LONGEST_LINE-clause-ok c =
     let long : longest_line < length (strip_cr c.args.line.now) = rw (← c.strip_cr-line.ensures) (omega arith) in
-    IfOk-weaker c.from_str.result _ _ (λ text e. answered_too_long _ _ _ e long) c.from_str.ensures.ok
+    answered_too_long _ _ _ refl long
 
 pub returns-in-Ok-clause-ok : goal.returns-in-Ok-clause-ok
 returns-in-Ok-clause-ok c =
@@ -17,4 +17,4 @@ returns-in-Ok-clause-ok c =
 pub returns-in-Err-clause-ok : goal.returns-in-Err-clause-ok
 returns-in-Err-clause-ok c =
     let short : length (strip_cr c.args.line.now) ≤ longest_line = rw (← c.strip_cr-line.ensures) (omega arith) in
-    IfOk-weaker c.from_str-in-Err.result _ _ (λ text e. answered_not_text _ _ _ e short (rw (← c.strip_cr-line.ensures) c.in-Err.ensures.cases.0)) c.from_str-in-Err.ensures.ok
+    answered_not_text _ _ _ refl short (rw (← c.strip_cr-line.ensures) c.in-Err.ensures.cases.0)

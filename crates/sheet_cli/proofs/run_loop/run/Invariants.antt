@@ -1,11 +1,12 @@
 use Rattle.std.proofs.Common.{◌-◌}
+use Rattle.sheet_cli.specs.Answer.{state_of}
 use Rattle.sheet_cli.specs.Progress.{standing}
 use Rattle.sheet_cli.proofs.RunLemmas.{IsRunning}
 use Rattle.sheet_cli.proofs.run_loop.run.Given as goal
 
 abbrev pub invariant-loop-bytes_read : goal.invariant-loop-bytes_read
 invariant-loop-bytes_read g l = IsRunning (g.R.Source.remaining l.fn.source) (g.R.Source.remaining l.source) (g.W.Sink.written l.fn.sink) (g.W.Sink.written l.sink)
-    l.fn.sheet (standing l.progress.pending l.progress.tally l.sheet) l.bytes_read
+    (state_of l.fn.sheet) (standing l.progress.pending l.progress.tally (state_of l.sheet)) l.bytes_read
 
 abbrev pub decreases-loop-bytes_read : goal.decreases-loop-bytes_read
 decreases-loop-bytes_read g l = 18446744073709551615 - l.bytes_read

@@ -1,0 +1,10 @@
+-- The bytes of what a line prints.
+use Rattle.std.specs.Prelude.{ℕ, List, string_bytes}
+use Rattle.sheet_cli.specs.declared.printed.Printed.{Printed}
+use Rattle.sheet_cli.specs.declared.printed.Printed.TheVariants.{Fixed, Count, Made}
+
+-- a text that is always there, a count, or a text that was made
+abbrev pub printed_bytes : Printed → List ℕ
+printed_bytes (Fixed text) = text.now
+printed_bytes (Count line) = line
+printed_bytes (Made text) = string_bytes text
