@@ -8,6 +8,7 @@ pub mod Live
 pub mod Cycles
 pub mod Proposed
 pub mod PlannedNames
+pub mod AtRest
 pub mod Working
 pub mod Rebound
 pub mod Refused
@@ -16,4 +17,6 @@ pub mod Rows
 pub mod CellPatches
 pub mod Deltas
 pub mod Sums
+pub mod Readied
+pub mod Accounted
 pub mod Examples

@@ -25,7 +25,7 @@ use Rattle.formula_core.specs.Meaning.{eval, names_in}
 use Rattle.formula_core.specs.Tables.{subtrees}
 use Rattle.formula_core.specs.Formulas.{FormulaValue, root_result}
 use Rattle.formula_core.specs.Changes.{Change, FitsIn, IsNameChanged}
-use Rattle.formula_core.specs.Inputs.{shown as input_shown, stays, HasDelta, IsInput}
+use Rattle.formula_core.specs.Inputs.{shown as input_shown, stays, HasDelta, IsInput, IsNoPatch}
 use Rattle.formula_core.specs.Plans.{PlanValue, IsPlanOf, IsPlanned, adopted, root_change, node_change, IsNameSound, AreInputs, IsTold, tree_cost}
 use Rattle.formula_core.specs.declared.input.Input.{Input}
 use Rattle.formula_core.specs.declared.input.Input.TheVariants.{Good, Bad}
@@ -57,7 +57,7 @@ origin_applied x (Whole r) o = refl
 pub origin_fits : (x : List ℕ) (d : Delta) (o : Outcome) → FitsIn d o → FitsIn (origin_delta x d) (with_origin x (applied d o))
 origin_fits x Same o f = tt
 origin_fits x (Patch p) (Ok a) f = record { inside = f.inside; typed = f.typed }
-origin_fits x (Patch p) (Err e) f = tt
+origin_fits x (Patch p) (Err e) f = f
 origin_fits x (Whole r) o f = tt
 
 pub origin_sound : (x : List ℕ) (o : Outcome) → IfOk o IsArray → IfOk (with_origin x o) IsArray
@@ -83,11 +83,16 @@ good_origin x d held a delta i = record {
   delta = i.delta ∙ good_delta x d held a i.is;
 }
 
+no_patch_by_origin : (x : List ℕ) (d : Delta) → IsNoPatch d → IsNoPatch (origin_delta x d)
+no_patch_by_origin x Same h = tt
+no_patch_by_origin x (Patch p) h = h
+no_patch_by_origin x (Whole r) h = tt
+
 pub bad_origin : (x : List ℕ) (d : Delta) (held : Outcome) (e f : Fault) (changed : Bool) → f ≡ in_formula x e → IsInput (applied d held) d (Bad e changed) → IsInput (with_origin x (applied d held)) (origin_delta x d) (Bad f changed)
 bad_origin x d held e f changed from i = record {
   is = ap (λ g. Err g) from ∙ ap (with_origin x) i.is;
   same = i.same ∙ same_origin x d;
-  delta = tt;
+  delta = no_patch_by_origin x d i.delta;
 }
 
 -- what each entry shows is what its name shows, where it is right
@@ -354,7 +359,7 @@ module _ (o : ProposedSheet) where
       none_input e same = record {
         is = ap (λ f. Err f) same ∙ sym none_shows;
         same = ap is_same (sym none_delta);
-        delta = tt;
+        delta = subst IsNoPatch (sym none_delta) tt;
       }
 
       pub none_changed : IsNameChanged c o.name

@@ -27,7 +27,8 @@ use Rattle.sheet_recalc.specs.declared.entry.Entry.{Entry}
 use Rattle.sheet_recalc.specs.declared.entry.Entry.TheVariants as entry
 use Rattle.sheet_recalc.specs.declared.proposed_sheet.ProposedSheet.{ProposedSheet}
 use Rattle.sheet_recalc.proofs.NameEquality.{equal-true, equal-same}
-use Rattle.sheet_recalc.proofs.Scratch.{eval_same, val_absent}
+use Rattle.formula_core.proofs.Alike.{eval_alike}
+use Rattle.sheet_recalc.proofs.Scratch.{val_absent}
 use Rattle.sheet_recalc.proofs.Keeping.{once_distinct, distinct_once, once_front}
 use Rattle.sheet_recalc.proofs.Live.{val_data, binding_of_name}
 use Rattle.sheet_recalc.proofs.PlannedNames.{at_root, binding_entry, entry_other, delta_other, shows_formula, formula_old, plan_now}
@@ -47,13 +48,13 @@ module _ (f g : List ℕ → Outcome) where
     inside_same : (t : Tree) → ((x : List ℕ) → Contains (names_in t) x → f x ≡ g x) → map by_f (inside t) ≡ map by_g (inside t)
     inside_same (Const l) h = refl
     inside_same (Name x) h = refl
-    inside_same (Monad k b) h = append_same by_f by_g (inside b) (Monad k b ∷ []) (inside_same b h) (ap (λ o. o ∷ []) (eval_same (Monad k b) f g h))
+    inside_same (Monad k b) h = append_same by_f by_g (inside b) (Monad k b ∷ []) (inside_same b h) (ap (λ o. o ∷ []) (eval_alike (Monad k b) f g h))
     inside_same (Dyad k a b) h =
         append_same by_f by_g (inside a) (inside b ++ Dyad k a b ∷ []) (inside_same a (λ x o. h x (Contains-append_left (names_in a) (names_in b) x o)))
-        (append_same by_f by_g (inside b) (Dyad k a b ∷ []) (inside_same b (λ x o. h x (Contains-append_right (names_in a) (names_in b) x o))) (ap (λ o. o ∷ []) (eval_same (Dyad k a b) f g h)))
+        (append_same by_f by_g (inside b) (Dyad k a b ∷ []) (inside_same b (λ x o. h x (Contains-append_right (names_in a) (names_in b) x o))) (ap (λ o. o ∷ []) (eval_alike (Dyad k a b) f g h)))
     inside_same (Index a ps) h =
         append_same by_f by_g (inside a) (inside_positions ps ++ Index a ps ∷ []) (inside_same a (λ x o. h x (Contains-append_left (names_in a) (names_in_positions ps) x o)))
-        (append_same by_f by_g (inside_positions ps) (Index a ps ∷ []) (inside_positions_same ps (λ x o. h x (Contains-append_right (names_in a) (names_in_positions ps) x o))) (ap (λ o. o ∷ []) (eval_same (Index a ps) f g h)))
+        (append_same by_f by_g (inside_positions ps) (Index a ps ∷ []) (inside_positions_same ps (λ x o. h x (Contains-append_right (names_in a) (names_in_positions ps) x o))) (ap (λ o. o ∷ []) (eval_alike (Index a ps) f g h)))
 
     inside_positions_same : (ps : Positions) → ((x : List ℕ) → Contains (names_in_positions ps) x → f x ≡ g x) → map by_f (inside_positions ps) ≡ map by_g (inside_positions ps)
     inside_positions_same NoPositions h = refl

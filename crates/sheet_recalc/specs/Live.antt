@@ -1,5 +1,5 @@
 -- What the entries of a sheet keep.
-use Rattle.std.specs.Prelude.{◌≡◌, ℕ, List, [], ◌↔◌, Option, Some, None, Ok, if◌then◌else◌}
+use Rattle.std.specs.Prelude.{◌≡◌, ◌≤◌, ℕ, List, [], ◌↔◌, Option, Some, None, Ok, if◌then◌else◌}
 use Rattle.std.specs.Str.{bytes_eq}
 use Rattle.std.specs.Map.{lookup}
 use Rattle.formula_core.specs.Outcomes.{Outcome}
@@ -35,6 +35,11 @@ pub record IsLive {S : Type 0} (entries : List (List ℕ × Entry)) (users : Lis
   pub tells : IsTable (names_of entries) users
   pub used : HasNoEmptyBut bytes_eq users []
   pub current : IsCurrent entries
+
+-- what a sheet keeps: its entries, and what its last change cost, with the items that were computed in it, which are no more
+pub record IsKept {S : Type 0} (entries : List (List ℕ × Entry)) (users : List (List ℕ × IndexSet (List ℕ) S)) (cost ticks : ℕ) : Type 0 where
+  pub live : IsLive entries users
+  pub few : ticks ≤ cost
 
 -- the entry is a formula of which the plan was made
 abbrev pub CanAdopt : Entry → PlanValue → Type 0

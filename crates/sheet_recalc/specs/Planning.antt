@@ -1,12 +1,14 @@
 -- How the plans of a change are made.
-use Rattle.std.specs.Prelude.{◌≡◌, ◌≢◌, ◌⊎◌, ℕ, List, true, Option, Some, None, Ok, IfOk, IsSome, if◌then◌else◌}
+use Rattle.std.specs.Prelude.{◌≡◌, ◌≢◌, ◌⊎◌, ◌+◌, ◌≤◌, ℕ, List, true, Option, Some, None, Ok, IfOk, IsSome, if◌then◌else◌}
 use Rattle.std.specs.Str.{bytes_eq}
 use Rattle.std.specs.Map.{lookup}
 use Rattle.std.specs.List.{Contains, IsDistinct, sum_by}
 use Rattle.std.specs.Option.{option_map_or}
 use Rattle.arrays_core.specs.Arrays.{IsArray}
 use Rattle.apl_expr.specs.Trees.{Tree}
+use Rattle.index_region.specs.declared.delta.Delta.{Delta}
 use Rattle.index_region.specs.declared.delta.Delta.TheVariants.{Same}
+use Rattle.change_core.specs.Meters.{ticked}
 use Rattle.change_rules.specs.Currency.{applied}
 use Rattle.formula_core.specs.Outcomes.{Outcome}
 use Rattle.formula_core.specs.Meaning.{names_in}
@@ -14,14 +16,18 @@ use Rattle.formula_core.specs.Formulas.{FormulaValue}
 use Rattle.formula_core.specs.Changes as formula
 use Rattle.formula_core.specs.Plans as formula_plan
 use Rattle.dep_order.specs.Follows.{Follows}
-use Rattle.sheet_recalc.specs.Names.{Names, Formula, binding, Refers}
+use Rattle.sheet_recalc.specs.Names.{Names, Binding, Formula, binding, put, Refers, IsSheet}
+use Rattle.sheet_recalc.specs.NameOrder.{HasOrder}
+use Rattle.sheet_recalc.specs.Changes.{HasRoom}
 use Rattle.sheet_recalc.specs.Meaning.{val, IsSettled}
-use Rattle.sheet_recalc.specs.Costs.{delta_by, binding_cost}
+use Rattle.sheet_recalc.specs.Costs.{delta_by, binding_cost, formulas_cost, sheet_change}
 use Rattle.sheet_recalc.specs.Entries.{names_of}
-use Rattle.sheet_recalc.specs.Live.{IsCurrent}
+use Rattle.sheet_recalc.specs.Live.{IsCurrent, IsPlanned}
 use Rattle.sheet_recalc.specs.ProposedSheet.{proposed_names, proposed_delta, proposed_change, entry_of}
 use Rattle.sheet_recalc.specs.declared.entry.Entry.TheVariants as entry
 use Rattle.sheet_recalc.specs.declared.ahead.Ahead.{Ahead}
+use Rattle.sheet_recalc.specs.declared.entry.Entry.{Entry}
+use Rattle.sheet_recalc.specs.declared.planning.Planned.{Planned}
 use Rattle.sheet_recalc.specs.declared.proposal.Proposal.{Proposal}
 use Rattle.sheet_recalc.specs.declared.proposal.Proposal.TheVariants as proposed
 use Rattle.sheet_recalc.specs.declared.proposed_sheet.ProposedSheet.{ProposedSheet}
@@ -92,3 +98,15 @@ pub record IsUnderWay (o : ProposedSheet) (left : List (List ℕ)) (made : List 
   pub closed : Follows (λ a b. Refers (proposed_names o) b a) (λ x. ⊥) left
   pub plans : ArePlans o made
   pub done : (q : List ℕ) → (Contains left q → ⊥) → IsDone o made q
+
+-- the plans of a change that has this entry under the name, or none, and leads to these names; what they cost, and how far the meter rises by them
+pub record IsWorkedOut (entries : List (List ℕ × Entry)) (name : List ℕ) (own : Option Entry) (new : Names) (delta : Delta) (before after : ℕ) (p : Planned) : Type 0 where
+  pub planned : IsPlanned entries name own new p.plans.entries
+  pub cost : p.cost ≡ ticked 0 (formulas_cost name (sheet_change (names_of entries) new name delta) new)
+  pub ticks : after ≤ before + formulas_cost name (sheet_change (names_of entries) new name delta) new
+
+-- the name can be bound so: the names have an order then, no name reaches itself, and there is room
+pub record CanBePut (old : Names) (name : List ℕ) (b : Binding) : Type 0 where
+  pub kept : HasOrder (put old name b)
+  pub sheet : IsSheet (put old name b)
+  pub room : HasRoom old name

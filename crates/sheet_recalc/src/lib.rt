@@ -7,6 +7,7 @@ mod change;
 mod commit;
 mod cycle;
 mod entry;
+mod evaluation;
 mod planning;
 mod proposal;
 mod proposed_sheet;

@@ -1,34 +1,44 @@
 //! The sheet.
 
-ghost use Rattle.std.specs.Prelude.{◌≡◌, [], IfOk, IfErr, OnOk, OnErr, Some, None, Err, is_some, if◌then◌else◌, MatchBool};
+ghost use Rattle.std.specs.Prelude.{◌≡◌, ◌+◌, ◌≤◌, [], IfOk, IfErr, OnOk, OnErr, Some, None, Ok, is_some, if◌then◌else◌, MatchBool};
 ghost use Rattle.std.specs.Map.{keys_of};
 ghost use Rattle.std.specs.Option.{option_map};
 ghost use Rattle.apl_expr.specs.Trees.{tree_of, literal_of};
-ghost use Rattle.dep_order.specs.Reachability.{IsAcyclic};
-ghost use Rattle.arrays_core.specs.declared.item.Kind.TheVariants.{Value};
-ghost use Rattle.formula_core.specs.Outcomes.{fault, read};
+ghost use Rattle.change_core.specs.Meters.{ticked};
+ghost use Rattle.index_region.specs.declared.delta.Delta.TheVariants.{Patch as PatchDelta, Whole as WholeDelta};
+ghost use Rattle.index_region.specs.Patches.{PatchValue, patched, FitsPatch};
+ghost use Rattle.arrays_core.specs.Arrays.{ArrayValue};
+ghost use Rattle.formula_core.specs.Outcomes.{read};
 ghost use Rattle.formula_core.specs.Meaning.{eval};
-ghost use Rattle.sheet_recalc.specs.Names.{binding, put, without, Refers, IsSheet};
+ghost use Rattle.sheet_recalc.specs.Names.{binding, put, without, Data, IsSheet};
 ghost use Rattle.sheet_recalc.specs.Meaning.{val};
-ghost use Rattle.sheet_recalc.specs.Entries.{names_of};
-ghost use Rattle.sheet_recalc.specs.ProposedSheet.{bound, shown_by, IsPlanned};
+ghost use Rattle.sheet_recalc.specs.Entries.{names_of, HasData};
+ghost use Rattle.sheet_recalc.specs.declared.entry.Entry.TheVariants.{Data as DataEntry};
+ghost use Rattle.sheet_recalc.specs.ProposedSheet.{bound, proposed_entry, proposed_delta};
+ghost use Rattle.sheet_recalc.specs.Planning.{IsProposalAt, IsWorkedOut, CanBePut};
 ghost use Rattle.sheet_recalc.specs.NameOrder.{HasOrder};
 ghost use Rattle.sheet_recalc.specs.Live.{IsLive};
 ghost use Rattle.sheet_recalc.specs.Changes.{Accepts, Refuses, Define, Store, Put, SetCell, AddRow, Erase, HasRoom, IsFullFor, CannotPut};
+ghost use Rattle.sheet_recalc.specs.Costs.{HasCost, formulas_cost, sheet_change};
 
-use crate::cell::data_with_cell;
-use crate::commit::{commit, commit_removal};
+use crate::ahead::absent;
+use crate::cell::cell_patch;
+use crate::commit::{commit, commit_patch, commit_removal};
 use crate::cycle::cycle_through;
-use crate::entry::{BindingRef, Entry};
+use crate::entry::Entry;
+use crate::evaluation::plan_at_rest;
+use crate::planning::{Planned, plans_of};
+use crate::proposal::Proposal;
 use crate::proposed_sheet::ProposedSheet;
-use crate::recalculation::{Results, absent, results_of};
 use crate::refusal::Refusal;
 use crate::row::data_with_row;
 use apl_expr::{Expr, Literal};
 use apl_tokens::Name;
 use arrays_core::{Array, Fault};
+use change_core::Meter;
 use dep_order::{Users, affected, first_found, make_room};
 use formula_core::{Formula, Shows, evaluate};
+use index_region::{Delta, Seen};
 use indexmap::IndexMap;
 use indexmap::map::Keys;
 use std::alloc::{AllocError, Global};
@@ -37,13 +47,17 @@ use std::marker::Model;
 /// The most names of a sheet: a new name is refused where this many are present.
 pub const MOST_NAMES: usize = 1024;
 
-/// Names bound to data or to formulas, in the order in which they were first bound. Each formula's result is current. A
-/// sheet is to a run what a workspace is to a session.
+/// Names bound to data or to formulas, in the order in which they were first bound. Each result of each formula is current.
+/// A sheet is to a run what a workspace is to a session.
 #[derive(Drop)]
 pub struct Sheet {
     alloc: Global,
     entries: IndexMap<Name, Entry>,
     users: Users<Name>,
+    /// What the last change cost.
+    cost: u64,
+    /// How many items of results were computed in it.
+    ticks: u64,
 }
 
 impl Model for Sheet {
@@ -58,11 +72,11 @@ impl Model for Sheet {
     ghost coded = { Prim.hlevel (codes, coded_tree, coded_binding) };
 
     ghost use Rattle.sheet_recalc.specs.Entries.{names_of};
-    ghost use Rattle.sheet_recalc.specs.Live.{IsLive};
+    ghost use Rattle.sheet_recalc.specs.Live.{IsKept};
 
-    ghost view = { λ s. record { names = names_of s.entries.entries } };
+    ghost view = { λ s. record { names = names_of s.entries.entries; cost = s.cost; ticks = s.ticks } };
 
-    ghost invariant = { λ s. IsLive s.entries.entries s.users.entries };
+    ghost invariant = { λ s. IsKept s.entries.entries s.users.entries s.cost s.ticks };
 }
 
 impl Shows for Sheet {
@@ -81,12 +95,14 @@ impl Shows for Sheet {
 impl Sheet {
     /// A sheet without names.
     pub fn new(alloc: Global) -> Sheet
-        ensures { result.names ≡ [] }
+        ensures { result ≡ record { names = []; cost = 0; ticks = 0 } }
     {
         Sheet {
             alloc,
             entries: IndexMap::new(alloc),
             users: IndexMap::new(alloc),
+            cost: 0,
+            ticks: 0,
         }
     }
 
@@ -97,7 +113,7 @@ impl Sheet {
         ensures sound { IsSheet self.now.names }
     {
         match self.entries.get(&name) {
-            Some(entry) => Some(entry.result()),
+            Some(entry) => Some(entry.result(name)),
             None => None,
         }
     }
@@ -112,6 +128,22 @@ impl Sheet {
         self.entries.keys()
     }
 
+    /// What the last change that was made has cost: for each result of each formula the places of it that were worked out
+    /// anew, at most; 0 where none was made yet. It stays at the greatest number of 64 bits.
+    pub fn last_cost(&self) -> u64
+        ensures { result ≡ self.now.cost }
+    {
+        self.cost
+    }
+
+    /// How many items of results were computed in the last change that was made, however long it takes to compute one.
+    pub fn last_ticks(&self) -> u64
+        ensures is { result ≡ self.now.ticks }
+        ensures at_most { self.now.ticks ≤ self.now.cost }
+    {
+        self.ticks
+    }
+
     /// What an expression gives, where the names show what they show.
     pub fn show(&self, tree: &Expr) -> Result<Result<Array, Fault>, AllocError>
         ensures { IfOk result (λ outcome. outcome ≡ eval (tree_of tree.now) (val self.now.names)) }
@@ -122,39 +154,49 @@ impl Sheet {
     /// Binds a name to a formula. This is no assignment of ISO/IEC 13751: the name follows what the formula refers to.
     pub fn define(&mut self, name: Name, tree: Expr) -> Result<(), Refusal>
         ensures ok { OnOk result (Accepts self.old.names (Define name (tree_of tree)) self.new.names) }
+        ensures cost { OnOk result (HasCost self.old.names (Define name (tree_of tree)) self.new.names self.new.cost) }
         ensures refused { IfErr result (Refuses self.old.names (Define name (tree_of tree))) }
         ensures err { OnErr result (self.new ≡ self.old) }
     {
         let formula = Formula::build(self.alloc, tree)?;
-        let results = results_with(
+        let mut meter = Meter::new();
+        let planned = planned_with(
             self.alloc,
             &self.entries,
             &self.users,
             name,
-            BindingRef::Formula(&formula),
+            Proposal::Formula(&formula),
+            &mut meter,
         )?;
         self.entries.reserve(1)?;
         make_room(self.alloc, &mut self.users, formula.references())?;
         let entry = Entry::Formula(formula);
-        commit(&mut self.entries, &mut self.users, name, entry, results);
+        commit(&mut self.entries, &mut self.users, name, entry, planned.plans);
+        self.cost = planned.cost;
+        self.ticks = meter.ticks();
         Ok(())
     }
 
     /// Binds a name to the array that an expression has now, as an assignment does (ISO/IEC 13751,
-    /// "Evaluate-Assignment").
+    /// "Evaluate-Assignment"). What working out the expression costs counts.
     pub fn data(&mut self, name: Name, tree: Expr) -> Result<(), Refusal>
         ensures ok { OnOk result (Accepts self.old.names (Store name (tree_of tree)) self.new.names) }
+        ensures cost { OnOk result (HasCost self.old.names (Store name (tree_of tree)) self.new.names self.new.cost) }
         ensures refused { IfErr result (Refuses self.old.names (Store name (tree_of tree))) }
         ensures err { OnErr result (self.new ≡ self.old) }
     {
-        let array = match self.show(&tree)? {
-            Ok(array) => array,
-            Err(fault) => return Err(Refusal::Fault(fault)),
-        };
-        self.put_array(name, array)
+        let mut meter = Meter::new();
+        let plan = plan_at_rest(self.alloc, &self.entries, tree, &mut meter)?;
+        let spent = plan.cost();
+        match plan.into_delta() {
+            Delta::Whole(Ok(array)) => self.store(name, array, spent, meter),
+            Delta::Whole(Err(fault)) => Err(Refusal::Fault(fault)),
+            Delta::Same | Delta::Patch(_) => unreachable!(),
+        }
     }
 
-    /// Replaces one item of data, the indexed assignment of one item (ISO/IEC 13751, "Indexed Assignment").
+    /// Replaces one item of data, the indexed assignment of one item (ISO/IEC 13751, "Indexed Assignment"). The data is
+    /// not copied.
     pub fn set_cell(
         &mut self,
         name: Name,
@@ -162,11 +204,29 @@ impl Sheet {
         literal: &Literal,
     ) -> Result<(), Refusal>
         ensures ok { OnOk result (Accepts self.old.names (SetCell name positions.now (literal_of literal.now)) self.new.names) }
+        ensures cost { OnOk result (HasCost self.old.names (SetCell name positions.now (literal_of literal.now)) self.new.names self.new.cost) }
         ensures refused { IfErr result (Refuses self.old.names (SetCell name positions.now (literal_of literal.now))) }
         ensures err { OnErr result (self.new ≡ self.old) }
     {
-        let array = data_with_cell(&self.entries, name, positions, literal)?;
-        self.put_array(name, array)
+        let (array, patch) = cell_patch(self.alloc, &self.entries, name, positions, literal)?;
+        let change = Delta::Patch(patch);
+        let mut meter = Meter::new();
+        let planned = planned_with_patch(
+            self.alloc,
+            &self.entries,
+            &self.users,
+            name,
+            array,
+            &change,
+            &mut meter,
+        )?;
+        match &change {
+            Delta::Patch(patch) => commit_patch(&mut self.entries, name, patch, planned.plans),
+            _ => unreachable!(),
+        }
+        self.cost = planned.cost;
+        self.ticks = meter.ticks();
+        Ok(())
     }
 
     /// Puts a literal at the end of data: one more item of a vector, one more row of a table. The first of these refuses it:
@@ -174,25 +234,30 @@ impl Sheet {
     /// items of the other type; the data would go beyond the limits of arrays.
     pub fn add_row(&mut self, name: Name, literal: &Literal) -> Result<(), Refusal>
         ensures ok { OnOk result (Accepts self.old.names (AddRow name (literal_of literal.now)) self.new.names) }
+        ensures cost { OnOk result (HasCost self.old.names (AddRow name (literal_of literal.now)) self.new.names self.new.cost) }
         ensures refused { IfErr result (Refuses self.old.names (AddRow name (literal_of literal.now))) }
         ensures err { OnErr result (self.new ≡ self.old) }
     {
         let array = data_with_row(self.alloc, &self.entries, name, literal)?;
-        self.put_array(name, array)
+        self.store(name, array, 0, Meter::new())
     }
 
     /// Removes a name, as the command `)ERASE` does (ISO/IEC 13751, "System Commands"). The names after it move up, and
     /// what refers to it shows VALUE ERROR from then on.
     pub fn erase(&mut self, name: Name) -> Result<(), Refusal>
         ensures ok { OnOk result (Accepts self.old.names (Erase name) self.new.names) }
+        ensures cost { OnOk result (HasCost self.old.names (Erase name) self.new.names self.new.cost) }
         ensures refused { IfErr result (Refuses self.old.names (Erase name)) }
         ensures err { OnErr result (self.new ≡ self.old) }
     {
         if !self.entries.contains_key(&name) {
             return Err(Refusal::NotFound);
         }
-        let results = results_without(self.alloc, &self.entries, &self.users, name)?;
-        commit_removal(&mut self.entries, &mut self.users, name, results);
+        let mut meter = Meter::new();
+        let planned = planned_without(self.alloc, &self.entries, &self.users, name, &mut meter)?;
+        commit_removal(&mut self.entries, &mut self.users, name, planned.plans);
+        self.cost = planned.cost;
+        self.ticks = meter.ticks();
         Ok(())
     }
 
@@ -200,19 +265,41 @@ impl Sheet {
     /// for nothing else.
     pub fn put_array(&mut self, name: Name, array: Array) -> Result<(), Refusal>
         ensures ok { OnOk result (Accepts self.old.names (Put name array) self.new.names) }
+        ensures cost { OnOk result (HasCost self.old.names (Put name array) self.new.names self.new.cost) }
         ensures refused { IfErr result (Refuses self.old.names (Put name array)) }
         ensures err { OnErr result (self.new ≡ self.old) }
     {
-        let results = results_with(
+        self.store(name, array, 0, Meter::new())
+    }
+
+    /// Binds a name to an array, where working that out has cost so much and the meter shows so many items.
+    fn store(
+        &mut self,
+        name: Name,
+        array: Array,
+        spent: u64,
+        mut meter: Meter,
+    ) -> Result<(), Refusal>
+        requires { ticked 0 meter ≤ spent }
+        ensures ok { OnOk result (Accepts self.old.names (Put name array) self.new.names) }
+        ensures cost { OnOk result (self.new.cost ≡ ticked spent (formulas_cost name (sheet_change self.old.names self.new.names name (WholeDelta (val self.new.names name))) self.new.names)) }
+        ensures refused { IfErr result (Refuses self.old.names (Put name array)) }
+        ensures err { OnErr result (self.new ≡ self.old) }
+    {
+        let change = stored(array);
+        let planned = planned_with_data(
             self.alloc,
             &self.entries,
             &self.users,
             name,
-            BindingRef::Data(&array),
+            &change,
+            &mut meter,
         )?;
         self.entries.reserve(1)?;
-        let data = Entry::Data(array);
-        commit(&mut self.entries, &mut self.users, name, data, results);
+        let entry = Entry::Data(array_stored(change));
+        commit(&mut self.entries, &mut self.users, name, entry, planned.plans);
+        self.cost = spent.saturating_add(planned.cost);
+        self.ticks = meter.ticks();
         Ok(())
     }
 
@@ -221,52 +308,122 @@ impl Sheet {
     }
 }
 
-/// The results after a name is bound anew, or why it cannot be.
-fn results_with<'a>(
+/// The plans of a change by which a name is bound anew, or why it cannot be.
+fn planned_with<'a>(
     alloc: Global,
     entries: &'a IndexMap<Name, Entry>,
     users: &Users<Name>,
     name: Name,
-    binding: BindingRef<'a>,
-) -> Result<Results, Refusal>
-    requires { IsLive entries.now.entries users.now.entries }
-    ensures planned { IfOk result (λ results. IsPlanned entries.entry.now.entries name (shown_by (Some binding.entry)) (put (names_of entries.entry.now.entries) name (bound binding.entry)) results.entries) }
-    ensures kept { OnOk result (HasOrder (put (names_of entries.entry.now.entries) name (bound binding.entry))) }
-    ensures sheet { OnOk result (IsSheet (put (names_of entries.entry.now.entries) name (bound binding.entry))) }
-    ensures room { OnOk result (HasRoom (names_of entries.entry.now.entries) name) }
-    ensures refused { IfErr result (CannotPut (names_of entries.entry.now.entries) name (bound binding.entry)) }
+    proposal: Proposal<'a>,
+    meter: &mut Meter,
+) -> Result<Planned, Refusal>
+    requires live { IsLive entries.now.entries users.now.entries }
+    requires proposal { IsProposalAt (val (names_of entries.now.entries) name) (Some proposal) }
+    ensures planned { IfOk result (IsWorkedOut entries.entry.now.entries name (Some (proposed_entry proposal.entry)) (put (names_of entries.entry.now.entries) name (bound proposal.entry))
+        (proposed_delta name (put (names_of entries.entry.now.entries) name (bound proposal.entry)) (Some proposal.entry)) meter.old meter.new) }
+    ensures put { OnOk result (CanBePut (names_of entries.entry.now.entries) name (bound proposal.entry)) }
+    ensures refused { IfErr result (CannotPut (names_of entries.entry.now.entries) name (bound proposal.entry)) }
 {
     let found = affected(alloc, users, name, entries.len())?;
+    let references = proposal.references();
     let proposed = ProposedSheet {
         entries,
         name,
-        binding: Some(binding),
+        proposal: Some(proposal),
     };
-    if let Some(reference) = first_found(&found, binding.references()) {
+    if let Some(reference) = first_found(&found, references) {
         return Err(Refusal::Cycle(cycle_through(alloc, &proposed, &found, reference)?));
     }
     if !has_room(entries, name) {
         return Err(Refusal::SheetFull);
     }
-    Ok(results_of(alloc, &proposed, found)?)
+    Ok(plans_of(alloc, &proposed, found, meter)?)
 }
 
-/// There is room for a name: it is present, or fewer than `MOST_NAMES` names are.
-fn has_room(entries: &IndexMap<Name, Entry>, name: Name) -> bool
-    ensures { MatchBool result (HasRoom (names_of entries.now.entries) name) (IsFullFor (names_of entries.now.entries) name) }
+/// What changes of a name that is bound to an array.
+fn stored(array: Array) -> Delta
+    ensures { result ≡ WholeDelta (Ok array) }
 {
-    entries.contains_key(&name) || entries.len() < MOST_NAMES
+    Delta::Whole(Ok(array))
 }
 
-/// The results after a name is removed.
-fn results_without(
+/// The array that a name is bound to by this change.
+fn array_stored(change: Delta) -> Array
+    requires { (a : ArrayValue) × (change ≡ WholeDelta (Ok a)) }
+    ensures { change ≡ WholeDelta (Ok result) }
+{
+    match change {
+        Delta::Whole(Ok(array)) => array,
+        _ => unreachable!(),
+    }
+}
+
+/// The plans of a change by which a name is bound to the array that is its change.
+fn planned_with_data(
     alloc: Global,
     entries: &IndexMap<Name, Entry>,
     users: &Users<Name>,
     name: Name,
-) -> Result<Results, AllocError>
+    change: &Delta,
+    meter: &mut Meter,
+) -> Result<Planned, Refusal>
+    requires live { IsLive entries.now.entries users.now.entries }
+    requires array { (a : ArrayValue) × (change.now ≡ WholeDelta (Ok a)) }
+    ensures planned { IfOk result (λ p. (a : ArrayValue) → change.now ≡ WholeDelta (Ok a)
+        → IsWorkedOut entries.now.entries name (Some (DataEntry a)) (put (names_of entries.now.entries) name (Data a)) change.now meter.old meter.new p) }
+    ensures put { OnOk result ((a : ArrayValue) → change.now ≡ WholeDelta (Ok a) → CanBePut (names_of entries.now.entries) name (Data a)) }
+    ensures refused { IfErr result (λ cause. (a : ArrayValue) → change.now ≡ WholeDelta (Ok a) → CannotPut (names_of entries.now.entries) name (Data a) cause) }
+{
+    let Delta::Whole(result) = change else {
+        unreachable!();
+    };
+    match result {
+        Ok(array) => {
+            let proposal = Proposal::Data(Seen::plain(array), change);
+            planned_with(alloc, entries, users, name, proposal, meter)
+        }
+        Err(_) => unreachable!(),
+    }
+}
+
+/// The plans of a change that lays its patch over the data of a name.
+fn planned_with_patch(
+    alloc: Global,
+    entries: &IndexMap<Name, Entry>,
+    users: &Users<Name>,
+    name: Name,
+    array: &Array,
+    change: &Delta,
+    meter: &mut Meter,
+) -> Result<Planned, Refusal>
+    requires live { IsLive entries.now.entries users.now.entries }
+    requires held { HasData entries.now.entries name array.now }
+    requires patch { (p : PatchValue) × (change.now ≡ PatchDelta p) × FitsPatch array.now p }
+    ensures planned { IfOk result (λ r. (p : PatchValue) → change.now ≡ PatchDelta p
+        → IsWorkedOut entries.now.entries name (Some (DataEntry (patched array.now p))) (put (names_of entries.now.entries) name (Data (patched array.now p))) change.now meter.old meter.new r) }
+    ensures put { OnOk result ((p : PatchValue) → change.now ≡ PatchDelta p → CanBePut (names_of entries.now.entries) name (Data (patched array.now p))) }
+    ensures refused { IfErr result (λ cause. (p : PatchValue) → change.now ≡ PatchDelta p → CannotPut (names_of entries.now.entries) name (Data (patched array.now p)) cause) }
+{
+    match change {
+        Delta::Patch(patch) => {
+            let proposal = Proposal::Data(Seen::patched(array, patch), change);
+            planned_with(alloc, entries, users, name, proposal, meter)
+        }
+        _ => unreachable!(),
+    }
+}
+
+/// The plans of a change by which a name is removed.
+fn planned_without(
+    alloc: Global,
+    entries: &IndexMap<Name, Entry>,
+    users: &Users<Name>,
+    name: Name,
+    meter: &mut Meter,
+) -> Result<Planned, AllocError>
     requires { IsLive entries.now.entries users.now.entries }
-    ensures planned { IfOk result (λ results. IsPlanned entries.entry.now.entries name (Err (fault Value)) (without (names_of entries.entry.now.entries) name) results.entries) }
+    ensures planned { IfOk result (IsWorkedOut entries.entry.now.entries name None (without (names_of entries.entry.now.entries) name)
+        (WholeDelta (val (without (names_of entries.entry.now.entries) name) name)) meter.old meter.new) }
     ensures kept { OnOk result (HasOrder (without (names_of entries.entry.now.entries) name)) }
     ensures sheet { OnOk result (IsSheet (without (names_of entries.entry.now.entries) name)) }
 {
@@ -274,7 +431,14 @@ fn results_without(
     let proposed = ProposedSheet {
         entries,
         name,
-        binding: None,
+        proposal: None,
     };
-    results_of(alloc, &proposed, found)
+    plans_of(alloc, &proposed, found, meter)
+}
+
+/// There is room for a name: it is present, or fewer than `MOST_NAMES` names are.
+fn has_room(entries: &IndexMap<Name, Entry>, name: Name) -> bool
+    ensures { MatchBool result (HasRoom (names_of entries.now.entries) name) (IsFullFor (names_of entries.now.entries) name) }
+{
+    entries.contains_key(&name) || entries.len() < MOST_NAMES
 }

@@ -10,6 +10,6 @@ use Rattle.sheet_recalc.proofs.sheet.Sheet.add_row.Goals as goal
 pub returns-clause-refused : goal.returns-clause-refused
 returns-clause-refused c =
     let is = subst (λ (s : SheetValue). row_put (binding s.names c.args.name) (literal_of c.args.literal.now) ≡ Ok c.in_ok-array.array) c.self.view_is c.in_ok-array.ensures in
-    IfErr-weaker c.put_array.result _ _
+    IfErr-weaker c.store.result _ _
     (λ cause h. refused_row c.args.self.now.names c.args.name (literal_of c.args.literal.now) c.in_ok-array.array is cause h)
-    c.put_array.ensures.refused
+    c.store.ensures.refused

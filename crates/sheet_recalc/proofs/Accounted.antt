@@ -1,0 +1,65 @@
+-- What a sheet keeps of a change: what it cost, and the items that were computed.
+use Rattle.std.proofs.Common.{◌≡◌, ◌≢◌, ◌+◌, ◌≤◌, ◌<◌, ◌∙◌, ℕ, List, Some, Ok, min, refl, sym, ap, arith}
+use Rattle.arrays_core.specs.Arrays.{ArrayValue}
+use Rattle.index_region.specs.declared.delta.Delta.{Delta}
+use Rattle.index_region.specs.declared.delta.Delta.TheVariants.{Whole}
+use Rattle.change_core.specs.Meters.{ticked, most_ticks}
+use Rattle.indexmap.specs.IndexSet.{IndexSet}
+use Rattle.apl_expr.specs.Trees.{Tree}
+use Rattle.sheet_recalc.specs.Names.{Names, Data, Formula, binding, put}
+use Rattle.sheet_recalc.specs.Live.{IsTable}
+use Rattle.sheet_recalc.specs.Meaning.{val}
+use Rattle.sheet_recalc.specs.Costs.{sheet_change, formulas_cost}
+use Rattle.sheet_recalc.proofs.Binding.{rebound_own, rebound_same}
+use Rattle.sheet_recalc.proofs.Live.{val_data}
+
+-- the same names before and after, and the same change, cost the same
+pub cost_same : (old old' new new' : Names) (name : List ℕ) (own own' : Delta) → old ≡ old' → new ≡ new' → own ≡ own' → formulas_cost name (sheet_change old new name own) new ≡ formulas_cost name (sheet_change old' new' name own') new'
+cost_same old old' new new' name own own' e f g = λ i. formulas_cost name (sheet_change (e i) (f i) name (g i)) (f i)
+
+-- a name that is bound to an array shows it
+pub shows_put : (names : Names) (name : List ℕ) (a : ArrayValue) → val (put names name (Data a)) name ≡ Ok a
+shows_put names name a = val_data (put names name (Data a)) name a (rebound_own names name (Some (Data a)))
+
+-- its change, told of what it shows
+pub whole_put : (names new : Names) (name : List ℕ) (a : ArrayValue) (change : Delta) → change ≡ Whole (Ok a) → put names name (Data a) ≡ new → change ≡ Whole (val new name)
+whole_put names new name a change is same = is ∙ (ap (λ r. Whole r) (sym (shows_put names name a)) ∙ ap (λ ns. Whole (val ns name)) same)
+
+-- what was spent before and what the plans cost, together
+pub spent_more : (spent planned total cost : ℕ) → planned ≡ ticked 0 cost → total ≡ min (spent + planned) 18446744073709551615 → total ≡ ticked spent cost
+spent_more spent planned total cost is sum = omega (arith, is, sum)
+
+-- no more items are computed than the change costs
+pub few_ticks : (spent cost before after ticks total : ℕ) → ticked 0 before ≤ spent → after ≤ before + cost → ticks ≡ after → ticks < 18446744073709551616 → total ≡ ticked spent cost → ticks ≤ total
+few_ticks spent cost before after ticks total low made is fits sum = omega (arith, low, made, is, fits, sum)
+
+-- what an expression costs, and then what its array costs
+pub expression_more : (spent expression cost total : ℕ) → spent ≡ ticked 0 expression → total ≡ ticked spent cost → total ≡ ticked 0 (expression + cost)
+expression_more spent expression cost total is sum = omega (arith, is, sum)
+
+pub expression_few : (spent expression before meter : ℕ) → spent ≡ ticked 0 expression → meter ≤ before + expression → before ≡ 0 → ticked 0 meter ≤ spent
+expression_few spent expression before meter is made none = omega (arith, is, made, none)
+
+-- a change that works out no expression costs what the formulas do
+pub formulas_alone : (cost total : ℕ) → total ≡ ticked 0 cost → total ≡ ticked 0 (0 + cost)
+formulas_alone cost total is = omega (arith, is)
+
+pub alone_ticks : (cost before after ticks total : ℕ) → before ≡ 0 → after ≤ before + cost → ticks ≡ after → ticks < 18446744073709551616 → total ≡ ticked 0 cost → ticks ≤ total
+alone_ticks cost before after ticks total none made is fits sum = omega (arith, none, made, is, fits, sum)
+
+-- where other data is put under a name that holds data, each name refers to what it did
+pub table_kept : {S : Type 0} (names : Names) (name : List ℕ) (a b : ArrayValue) (users : List (List ℕ × IndexSet (List ℕ) S)) → binding names name ≡ Some (Data a) → IsTable names users → IsTable (put names name (Data b)) users
+table_kept {S} names name a b users held tells x y = (
+  (λ u. let r = (tells x y).0 u in (r.0, rebound_same names name (Some (Data b)) x (apart r.0 r.1) ∙ r.1, r.2)),
+  (λ r. (tells x y).1 (r.0, sym (rebound_same names name (Some (Data b)) x (apart_now r.0 r.1)) ∙ r.1, r.2)),
+)
+  where
+    never : (c : ArrayValue) (t : Tree) → Some (Data c) ≡ Some (Formula t) → ⊥
+    never c t h = cc
+
+    apart : (t : Tree) → binding names x ≡ Some (Formula t) → x ≢ name
+    apart t is e = never a t (sym held ∙ (ap (binding names) (sym e) ∙ is))
+
+    apart_now : (t : Tree) → binding (put names name (Data b)) x ≡ Some (Formula t) → x ≢ name
+    apart_now t is e = never b t (sym (rebound_own names name (Some (Data b))) ∙ (ap (binding (put names name (Data b))) (sym e) ∙ is))
+

@@ -1,0 +1,91 @@
+//! Expressions worked out where the names show what they show.
+
+ghost use Rattle.std.specs.Prelude.{◌≡◌, ◌+◌, ◌≤◌, ℕ, List, true, IfOk, OnOk};
+ghost use Rattle.std.specs.List.{Contains};
+ghost use Rattle.apl_expr.specs.Trees.{tree_of};
+ghost use Rattle.arrays_core.specs.Arrays.{IsArray};
+ghost use Rattle.change_core.specs.Meters.{ticked};
+ghost use Rattle.index_region.specs.declared.delta.Delta.TheVariants.{Same, Whole as WholeDelta};
+ghost use Rattle.formula_core.specs.Meaning.{eval};
+ghost use Rattle.formula_core.specs.Inputs.{IsInput};
+ghost use Rattle.formula_core.specs.Plans.{root_change, tree_cost, AreInputs, IsNameSound};
+ghost use Rattle.sheet_recalc.specs.Costs.{at_rest};
+ghost use Rattle.sheet_recalc.specs.Entries.{names_of};
+ghost use Rattle.sheet_recalc.specs.Live.{IsCurrent};
+ghost use Rattle.sheet_recalc.specs.Meaning.{val};
+
+use crate::ahead::absent;
+use crate::entry::Entry;
+use apl_expr::Expr;
+use apl_tokens::Name;
+use change_core::Meter;
+use formula_core::{Formula, Input, Plan};
+use index_region::{Delta, Seen};
+use indexmap::IndexMap;
+use std::alloc::{AllocError, Global};
+
+/// The plan of a new formula of an expression, where the names show what they show: its change is what the expression gives.
+pub(crate) fn plan_at_rest(
+    alloc: Global,
+    entries: &IndexMap<Name, Entry>,
+    tree: Expr,
+    meter: &mut Meter,
+) -> Result<Plan, AllocError>
+    requires { IsCurrent entries.now.entries }
+    ensures delta { IfOk result (λ p. root_change p.changes ≡ WholeDelta (eval (tree_of tree) (val (names_of entries.now.entries)))) }
+    ensures cost { IfOk result (λ p. p.cost ≡ ticked 0 (tree_cost true (at_rest (names_of entries.now.entries)) (tree_of tree))) }
+    ensures ticks { OnOk result (meter.new ≤ meter.old + tree_cost true (at_rest (names_of entries.now.entries)) (tree_of tree)) }
+{
+    let formula = Formula::build(alloc, tree)?;
+    let unchanged = Delta::Same;
+    let inputs = inputs_at_rest(alloc, entries, formula.references(), &unchanged)?;
+    formula.plan(&inputs, meter)
+}
+
+/// What each of these names shows, of which nothing changed.
+fn inputs_at_rest<'a>(
+    alloc: Global,
+    entries: &'a IndexMap<Name, Entry>,
+    references: &[Name],
+    unchanged: &'a Delta,
+) -> Result<Vec<Input<'a>>, AllocError>
+    requires current { IsCurrent entries.now.entries }
+    requires unchanged { unchanged.now ≡ Same }
+    ensures inputs { IfOk result (λ inputs. AreInputs (at_rest (names_of entries.now.entries)) references.now inputs.items) }
+    ensures sound { IfOk result (λ inputs. (x : List ℕ) → Contains references.now x → IsNameSound (at_rest (names_of entries.now.entries)) x) }
+{
+    let mut inputs = Vec::new(alloc);
+    for reference in references {
+        inputs.push(input_at_rest(entries, *reference, unchanged))?;
+    }
+    Ok(inputs)
+}
+
+/// What a name shows, of which nothing changed.
+pub(crate) fn input_at_rest<'a>(
+    entries: &'a IndexMap<Name, Entry>,
+    name: Name,
+    unchanged: &'a Delta,
+) -> Input<'a>
+    requires current { IsCurrent entries.now.entries }
+    requires unchanged { unchanged.now ≡ Same }
+    ensures input { IsInput (val (names_of entries.now.entries) name) Same result }
+    ensures sound { IfOk (val (names_of entries.now.entries) name) IsArray }
+{
+    match entries.get(&name) {
+        Some(entry) => match entry.result(name) {
+            Ok(array) => {
+                let _sound = array.shape();
+                Input::Good(Seen::plain(array), unchanged)
+            }
+            Err(fault) => Input::Bad {
+                fault,
+                changed: false,
+            },
+        },
+        None => Input::Bad {
+            fault: absent(),
+            changed: false,
+        },
+    }
+}
