@@ -1,5 +1,5 @@
 -- Results take their changes one after another, from the last to the first.
-use Rattle.std.proofs.Common.{◌≡◌, ◌≢◌, ℕ, zero, suc, ◌+◌, ◌<◌, ◌≤◌, List, [], ◌∷◌, ◌++◌, length, set, get_or, Result, Err, refl, sym, ap, ◌∙◌, subst, arith}
+use Rattle.std.proofs.Common.{◌≡◌, ◌≢◌, ℕ, suc, ◌<◌, ◌≤◌, List, [], ◌∷◌, ◌++◌, length, set, get_or, Err, refl, sym, ap, ◌∙◌, subst, arith}
 use Rattle.std.proofs.lemmas.List.{length-append, length-set, get_or-set_other, get_or_append_left}
 use Rattle.std.proofs.Math.Seq.{get_or-append_seam}
 use Rattle.std.proofs.lemmas.List.{get_or_default}
@@ -37,10 +37,10 @@ one_left changes d results whole h =
     record {
       few = omega (arith, below, length-set results (length changes) new);
       fit = λ k under.
-        let apart : k ≢ length changes = λ e. omega (arith, under, e) in
-        subst (λ (o : Outcome). FitsIn (get_or changes k Same) o) (sym (get_or-set_other results (length changes) k new (Err (fault Value)) apart))
-        (subst (λ (x : Delta). FitsIn x (get_or results k (Err (fault Value)))) (get_or_append_left changes (d ∷ []) Same k under)
-        (h.fit k (omega (arith, under, length-append changes (d ∷ [])))));
+          let apart : k ≢ length changes = λ e. omega (arith, under, e) in
+          subst (λ (o : Outcome). FitsIn (get_or changes k Same) o) (sym (get_or-set_other results (length changes) k new (Err (fault Value)) apart))
+          (subst (λ (x : Delta). FitsIn x (get_or results k (Err (fault Value)))) (get_or_append_left changes (d ∷ []) Same k under)
+          (h.fit k (omega (arith, under, length-append changes (d ∷ [])))));
       same = last_first changes d results (Err (fault Value)) below ∙ h.same;
     }
 
@@ -51,7 +51,7 @@ left_after all changes d results n held new whole h taken at is made =
     let before : IsLeft (changes ++ d ∷ []) results whole = subst (λ (ds : List Delta). IsLeft ds results whole) taken h in
     let below : n < length results = omega (arith, at, before.few, length-append changes (d ∷ [])) in
     let value : new ≡ applied d (get_or results (length changes) (Err (fault Value))) =
-      made ∙ ap (applied d) (is ∙ (get_or_default results n held (Err (fault Value)) below ∙ ap (λ k. get_or results k (Err (fault Value))) at)) in
+    made ∙ ap (applied d) (is ∙ (get_or_default results n held (Err (fault Value)) below ∙ ap (λ k. get_or results k (Err (fault Value))) at)) in
     subst (λ (rs : List Outcome). IsLeft changes rs whole) (sym (ap (λ k. set results k new) at ∙ ap (λ o. set results (length changes) o) value)) (one_left changes d results whole before)
 
 -- as many results as before

@@ -2,7 +2,7 @@
 use Rattle.std.proofs.Common.{◌≡◌, ℕ, suc, List, [], ◌∷◌, length, map, Bool, true, false, ◌||◌, Result, Ok, Err, refl, sym, ap, ◌∙◌, subst, inl, inr}
 use Rattle.std.specs.List.{list_all, list_any}
 use Rattle.std.proofs.lemmas.Bool.{false≢true, cases_Bool, cond-true, cond-false}
-use Rattle.apl_expr.specs.Trees.{Tree, Const, Name, Monad, Dyad, Index, Positions, NoPositions, Empty, Filled}
+use Rattle.apl_expr.specs.Trees.{Tree, Monad, Dyad, Index, Positions, NoPositions, Empty, Filled}
 use Rattle.apl_expr.specs.declared.expr.Monadic.{Monadic}
 use Rattle.apl_expr.specs.declared.expr.Monadic.TheVariants as monadic
 use Rattle.apl_expr.specs.declared.expr.Dyadic.{Dyadic}
@@ -32,7 +32,7 @@ use Rattle.selection_fns.specs.Index.{Position, count_written, written_positions
 use Rattle.selection_rules.specs.Index.{index_rule}
 use Rattle.selection_rules.specs.IndexLaw.{length-selectors}
 use Rattle.formula_core.specs.Outcomes.{Outcome, given}
-use Rattle.formula_core.specs.Meaning.{eval, eval_positions, names_in, names_in_positions, applied1, applied2, in_front, empty_in_front, indexed}
+use Rattle.formula_core.specs.Meaning.{eval, eval_positions, applied1, applied2, in_front, empty_in_front, indexed}
 use Rattle.formula_core.specs.Rules.{right_rule, both_rule}
 use Rattle.formula_core.specs.Changes.{Change, argument_in_front, arguments, result_of, paired, operation_delta, written, values_of, change, changes, FitsIn, IsChanged, IsTreeChanged}
 use Rattle.formula_core.proofs.Covering.{rules_cover}

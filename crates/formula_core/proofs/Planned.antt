@@ -1,10 +1,10 @@
 -- A plan is made node by node.
-use Rattle.std.proofs.Common.{◌≡◌, ℕ, zero, suc, ◌+◌, ◌-◌, ◌<◌, ◌≤◌, List, [], ◌∷◌, ◌++◌, length, map, take, replicate, get_or, Bool, true, false, Result, Err, IfOk, refl, sym, ap, ◌∙◌, subst, arith, inl, inr}
+use Rattle.std.proofs.Common.{◌≡◌, ℕ, suc, ◌+◌, ◌<◌, ◌≤◌, List, [], ◌∷◌, ◌++◌, length, map, take, replicate, get_or, Bool, true, false, Result, Err, IfOk, refl, sym, ap, ◌∙◌, subst, arith, inl, inr}
 use Rattle.std.specs.List.{sum_by}
 use Rattle.std.specs.declared.alloc.AllocError.{AllocError}
 use Rattle.std.proofs.lemmas.Bool.{cases_lt}
 use Rattle.std.proofs.lemmas.List.{length-append, get_or_append_left, get_or-map, get_or_default, take_all}
-use Rattle.std.proofs.lemmas.List.Sums.{sum_by_more, sum_by-take-le, sum_by_more_le}
+use Rattle.std.proofs.lemmas.List.Sums.{sum_by_more, sum_by_more_le}
 use Rattle.std.proofs.Math.Seq.{get_or-append_seam}
 use Rattle.apl_expr.specs.Trees.{Tree, Const, Numbers}
 use Rattle.arrays_core.specs.Arrays.{IsArray}
@@ -21,8 +21,7 @@ use Rattle.formula_core.specs.Outcomes.{Outcome, fault}
 use Rattle.formula_core.specs.Tables.{subtrees, tree_at, tree_of_node, trees_after, IsNode}
 use Rattle.formula_core.specs.Changes.{Change, FitsIn}
 use Rattle.formula_core.specs.Formulas.{FormulaValue, IsFormula, IsTableOf, new_formula, root_of}
-use Rattle.formula_core.specs.Inputs.{AllFitIn}
-use Rattle.formula_core.specs.Plans.{PlanValue, adopted, node_change, node_cost_at, tree_cost, IsPlanOf, IsTold, IsPlanned}
+use Rattle.formula_core.specs.Plans.{adopted, node_change, node_cost_at, tree_cost, IsPlanOf, IsTold, IsPlanned}
 use Rattle.formula_core.specs.Stages.{IsDone, IsStaged, IsStep, IsBegun}
 use Rattle.formula_core.proofs.Placed.{tree_next, node_at}
 use Rattle.formula_core.proofs.Rooted.{before_root, root_last}
@@ -122,9 +121,9 @@ begun_more f c changes new d cost items now begun below known is sum costs done 
             rw (here, is, get_or-append_seam changes d [] Same) done
       ];
       costs =
-        let more : sum_by (node_cost_at f.is_new c) (take (length new) trees) ≡ sum_by (node_cost_at f.is_new c) (take (length changes) trees) + items =
+          let more : sum_by (node_cost_at f.is_new c) (take (length new) trees) ≡ sum_by (node_cost_at f.is_new c) (take (length changes) trees) + items =
           ap (λ k. sum_by (node_cost_at f.is_new c) (take k trees)) long ∙ (sum_by_more (node_cost_at f.is_new c) trees (length changes) (Const (Numbers [])) (omega (arith, below, known)) ∙ ap (λ x. sum_by (node_cost_at f.is_new c) (take (length changes) trees) + x) (sym costs)) in
-        omega (arith, sum, begun.costs, more);
+          omega (arith, sum, begun.costs, more);
     }
 
 -- all nodes are done

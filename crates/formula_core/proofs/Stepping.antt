@@ -4,7 +4,7 @@ use Rattle.std.specs.List.{list_all}
 use Rattle.std.specs.declared.alloc.AllocError.{AllocError}
 use Rattle.std.proofs.lemmas.Bool.{false≢true}
 use Rattle.std.proofs.lemmas.List.{length-map}
-use Rattle.apl_expr.specs.Trees.{Tree, Monad, Dyad, Index, Positions, positions_of}
+use Rattle.apl_expr.specs.Trees.{Tree, Monad, Dyad, Index, positions_of}
 use Rattle.apl_expr.specs.declared.expr.Monadic.{Monadic}
 use Rattle.apl_expr.specs.declared.expr.Dyadic.{Dyadic}
 use Rattle.arrays_core.specs.Arrays.{ArrayValue}

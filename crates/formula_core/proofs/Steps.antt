@@ -1,16 +1,14 @@
 -- How the change of a node is worked out from what stands before it.
-use Rattle.std.proofs.Common.{◌≡◌, ℕ, zero, suc, ◌+◌, ◌<◌, ◌≤◌, List, [], ◌∷◌, ◌++◌, length, map, take, get_or, Bool, true, false, Option, Some, None, Result, Ok, Err, refl, sym, ap, ◌∙◌, subst, arith, IfOk}
+use Rattle.std.proofs.Common.{◌≡◌, ℕ, zero, suc, ◌+◌, ◌<◌, List, [], ◌∷◌, ◌++◌, length, map, take, get_or, Bool, true, false, Option, Some, None, Ok, Err, refl, sym, ap, ◌∙◌, subst, arith, IfOk}
 use Rattle.std.specs.List.{Contains}
 use Rattle.std.specs.Option.{option_map}
 use Rattle.std.proofs.lemmas.Bool.{false≢true}
 use Rattle.std.proofs.lemmas.List.{get_or-map, get_or_default, map_more}
-use Rattle.apl_expr.specs.Trees.{Tree, Const, Name, Monad, Dyad, Index, Positions, Numbers, literal_of, positions_of}
-use Rattle.arrays_core.specs.Arrays.{ArrayValue, IsArray}
-use Rattle.arrays_core.specs.declared.fault.Fault.{Fault}
+use Rattle.apl_expr.specs.Trees.{Tree, Const, Name, Monad, Dyad, Index, Numbers, positions_of}
+use Rattle.arrays_core.specs.Arrays.{IsArray}
 use Rattle.arrays_core.specs.declared.item.Kind.TheVariants.{Value}
 use Rattle.index_region.specs.declared.delta.Delta.{Delta}
 use Rattle.index_region.specs.declared.delta.Delta.TheVariants.{Same, Patch, Whole}
-use Rattle.index_region.specs.Patches.{FitsPatch}
 use Rattle.change_rules.specs.Currency.{applied}
 use Rattle.change_rules.specs.Nodes.{is_same}
 use Rattle.formula_core.specs.declared.input.Input.{Input}
@@ -24,9 +22,9 @@ use Rattle.formula_core.specs.Meaning.{eval}
 use Rattle.formula_core.specs.Outcomes.{Outcome, fault}
 use Rattle.formula_core.specs.Tables.{tree_at, tree_of_operand, tree_of_node, IsOperand, AreOperands, IsNode}
 use Rattle.formula_core.specs.Changes.{Change, change, changes, values_of, FitsIn, IsChanged, IsNameChanged, IsTreeChanged}
-use Rattle.formula_core.specs.Inputs.{shown, stays, delta_of, HasFit, IsNoPatch, IsInput}
-use Rattle.formula_core.specs.Plans.{node_change, AreInputs, IsNameSound}
-use Rattle.formula_core.specs.Stages.{IsDone, IsStaged, IsTaken, IsReady, AreReady, IsStep}
+use Rattle.formula_core.specs.Inputs.{shown, HasFit, IsNoPatch, IsInput}
+use Rattle.formula_core.specs.Plans.{node_change, AreInputs}
+use Rattle.formula_core.specs.Stages.{IsStaged, IsTaken, AreReady, IsStep}
 use Rattle.formula_core.specs.Formulas.{is_operation}
 use Rattle.formula_core.proofs.Changed.{AllChanged, monad_changed, dyad_changed, index_changed}
 use Rattle.formula_core.proofs.Stepping.{ready_more}
@@ -84,12 +82,12 @@ module _ (c : Change) (names : List (List ℕ)) (trees : List Tree) (s : Stage) 
       let is : get_or s.changes.now k Same ≡ change c t = done.is ∙ ap (λ (n : Bool). node_change n c t) old in
       let below : k < length trees = omega (arith, within, staged.few, staged.known) in
       let held : get_or s.results.now k (Err (fault Value)) ≡ eval t c.old =
-        ap (λ rs. get_or rs k (Err (fault Value))) (staged.held old) ∙ get_or-map (λ u. eval u c.old) trees k (Const (Numbers [])) (Err (fault Value)) below in
+      ap (λ rs. get_or rs k (Err (fault Value))) (staged.held old) ∙ get_or-map (λ u. eval u c.old) trees k (Const (Numbers [])) (Err (fault Value)) below in
       let right : applied (change c t) (eval t c.old) ≡ eval t c.new = ap (λ d. applied d (eval t c.old)) (sym is) ∙ (ap (applied (get_or s.changes.now k Same)) (sym held) ∙ done.right) in
       record {
         right = right;
         fit = subst (λ (o : Outcome). FitsIn (change c t) o) right (fit_now (change c t) (eval t c.old)
-          (subst (λ (o : Outcome). FitsIn (change c t) o) held (subst (λ (d : Delta). FitsIn d (get_or s.results.now k (Err (fault Value)))) is done.fit)));
+            (subst (λ (o : Outcome). FitsIn (change c t) o) held (subst (λ (d : Delta). FitsIn d (get_or s.results.now k (Err (fault Value)))) is done.fit)));
         sound_old = subst (λ (o : Outcome). IfOk o IsArray) held done.sound_held;
         sound_new = done.sound_new;
       }

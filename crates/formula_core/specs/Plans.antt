@@ -1,7 +1,7 @@
 -- What a formula's next results are, planned while its old ones stand.
-use Rattle.std.specs.Prelude.{◌≡◌, ◌-◌, ◌<◌, ℕ, List, [], ◌∷◌, Bool, true, false, Err, IfOk, length, get_or, map, if◌then◌else◌}
+use Rattle.std.specs.Prelude.{◌≡◌, ◌-◌, ℕ, List, [], ◌∷◌, Bool, false, IfOk, length, get_or, map, if◌then◌else◌}
 use Rattle.std.specs.List.{Contains, sum_by}
-use Rattle.apl_expr.specs.Trees.{Tree, Const, Name, Monad, Dyad, Index}
+use Rattle.apl_expr.specs.Trees.{Tree}
 use Rattle.arrays_core.specs.Arrays.{IsArray}
 use Rattle.index_region.specs.declared.delta.Delta.{Delta}
 use Rattle.index_region.specs.declared.delta.Delta.TheVariants.{Same, Whole}

@@ -11,7 +11,7 @@ use Rattle.change_core.specs.Meters.{ticked}
 use Rattle.change_rules.specs.Currency.{applied}
 use Rattle.change_rules.specs.Nodes.{is_whole}
 use Rattle.formula_core.specs.declared.input.Input.{Input}
-use Rattle.formula_core.specs.declared.input.Input.TheVariants.{Good, Bad}
+use Rattle.formula_core.specs.declared.input.Input.TheVariants.{Bad}
 use Rattle.formula_core.specs.declared.stage.Stage.{Stage}
 use Rattle.formula_core.specs.declared.table.Operand.{Operand}
 use Rattle.formula_core.specs.declared.table.Operand.TheVariants as operand
@@ -20,7 +20,7 @@ use Rattle.formula_core.specs.Outcomes.{Outcome, fault}
 use Rattle.formula_core.specs.Tables.{tree_at, subtrees}
 use Rattle.formula_core.specs.Formulas.{FormulaValue}
 use Rattle.formula_core.specs.Changes.{Change, change, FitsIn, IsNameChanged}
-use Rattle.formula_core.specs.Inputs.{shown, delta_of, HasFit, IsInput}
+use Rattle.formula_core.specs.Inputs.{shown, delta_of, IsInput}
 use Rattle.formula_core.specs.Plans.{node_change, node_cost_at, AreInputs, IsNameSound}
 
 -- what the node of a tree held, with its change, is what the tree gives now; both are arrays or errors

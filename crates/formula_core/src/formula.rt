@@ -173,10 +173,7 @@ fn unknown() -> Fault
 }
 
 /// So many results that were not worked out yet.
-fn unknown_results(
-    alloc: Global,
-    count: usize,
-) -> Result<Vec<Result<Array, Fault>>, AllocError>
+fn unknown_results(alloc: Global, count: usize) -> Result<Vec<Result<Array, Fault>>, AllocError>
     ensures { IfOk result (λ results. results.items ≡ replicate count (Err (fault Value))) }
 {
     let mut results = Vec::with_capacity(alloc, count)?;

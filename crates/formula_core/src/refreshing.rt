@@ -47,7 +47,11 @@ impl<'a> Operation<'a> {
     }
 
     /// The change of a function of one argument.
-    pub(crate) fn of_right(&self, function: Monadic, meter: &mut Meter) -> Result<(Delta, u32), AllocError>
+    pub(crate) fn of_right(
+        &self,
+        function: Monadic,
+        meter: &mut Meter,
+    ) -> Result<(Delta, u32), AllocError>
         requires count { length self.now.args.now ≡ 1 }
         requires fit { AllFit (views self.now.args.now) (moved self.now.args.now) }
         ensures { IsRefreshed (right_rule function) self.now.args.now self.now.held.now meter.old meter.new result }
@@ -75,7 +79,11 @@ impl<'a> Operation<'a> {
     }
 
     /// The change of a function of two arguments, the left one first.
-    pub(crate) fn of_both(&self, function: Dyadic, meter: &mut Meter) -> Result<(Delta, u32), AllocError>
+    pub(crate) fn of_both(
+        &self,
+        function: Dyadic,
+        meter: &mut Meter,
+    ) -> Result<(Delta, u32), AllocError>
         requires count { length self.now.args.now ≡ 2 }
         requires fit { AllFit (views self.now.args.now) (moved self.now.args.now) }
         ensures { IsRefreshed (both_rule function) self.now.args.now self.now.held.now meter.old meter.new result }

@@ -53,10 +53,7 @@ impl<'a> Stage<'a> {
     }
 
     /// The positions of an index that are written.
-    fn positions(
-        &self,
-        operands: &[Option<Operand>],
-    ) -> Result<Vec<Option<Input<'a>>>, AllocError>
+    fn positions(&self, operands: &[Option<Operand>]) -> Result<Vec<Option<Input<'a>>>, AllocError>
         requires within { AreOperands (length self.now.inputs.now) (length self.now.changes.now) operands.now }
         requires staged { StagedBy self.now }
         requires anew { is_whole self.now.anew.now ≡ true }

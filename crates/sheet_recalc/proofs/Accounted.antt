@@ -1,9 +1,9 @@
 -- What a sheet keeps of a change: what it cost, and the items that were computed.
-use Rattle.std.proofs.Common.{◌≡◌, ◌≢◌, ◌+◌, ◌≤◌, ◌<◌, ◌∙◌, ℕ, List, Some, Ok, min, refl, sym, ap, arith}
+use Rattle.std.proofs.Common.{◌≡◌, ◌≢◌, ◌+◌, ◌≤◌, ◌<◌, ◌∙◌, ℕ, List, Some, Ok, min, sym, ap, arith}
 use Rattle.arrays_core.specs.Arrays.{ArrayValue}
 use Rattle.index_region.specs.declared.delta.Delta.{Delta}
 use Rattle.index_region.specs.declared.delta.Delta.TheVariants.{Whole}
-use Rattle.change_core.specs.Meters.{ticked, most_ticks}
+use Rattle.change_core.specs.Meters.{ticked}
 use Rattle.indexmap.specs.IndexSet.{IndexSet}
 use Rattle.apl_expr.specs.Trees.{Tree}
 use Rattle.sheet_recalc.specs.Names.{Names, Data, Formula, binding, put}
@@ -62,4 +62,3 @@ table_kept {S} names name a b users held tells x y = (
 
     apart_now : (t : Tree) → binding (put names name (Data b)) x ≡ Some (Formula t) → x ≢ name
     apart_now t is e = never b t (sym (rebound_own names name (Some (Data b))) ∙ (ap (binding (put names name (Data b))) (sym e) ∙ is))
-

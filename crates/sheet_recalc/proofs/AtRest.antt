@@ -1,17 +1,13 @@
 -- A new formula is worked out where nothing changed of the names.
-use Rattle.std.proofs.Common.{◌≡◌, ◌+◌, ◌≤◌, ◌∙◌, ℕ, List, true, false, not, Result, Ok, Err, IfOk, OnOk, refl, sym, ap, subst}
+use Rattle.std.proofs.Common.{◌≡◌, ◌+◌, ◌≤◌, ◌∙◌, ℕ, List, true, Result, Ok, Err, IfOk, OnOk, refl, sym, ap, subst}
 use Rattle.std.specs.List.{Contains}
 use Rattle.std.specs.declared.alloc.AllocError.{AllocError}
 use Rattle.std.proofs.lemmas.Bool.{false≢true}
 use Rattle.apl_expr.specs.Trees.{Tree}
-use Rattle.arrays_core.specs.Arrays.{IsArray}
-use Rattle.arrays_core.specs.declared.item.Kind.TheVariants.{Value}
 use Rattle.index_region.specs.declared.delta.Delta.TheVariants.{Same, Whole}
 use Rattle.change_core.specs.Meters.{ticked}
 use Rattle.formula_core.specs.declared.input.Input.{Input}
-use Rattle.formula_core.specs.Outcomes.{Outcome, fault}
 use Rattle.formula_core.specs.Meaning.{eval, names_in}
-use Rattle.formula_core.specs.Tables.{subtrees}
 use Rattle.formula_core.specs.Changes.{Change}
 use Rattle.formula_core.specs.Formulas.{FormulaValue, new_formula}
 use Rattle.formula_core.specs.Plans.{PlanValue, root_change, node_change, tree_cost, AreInputs, IsNameSound, IsTold, IsPlanned}

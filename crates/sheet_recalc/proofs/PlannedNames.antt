@@ -3,7 +3,7 @@ use Rattle.std.proofs.Common.{◌≡◌, ℕ, zero, suc, ◌<◌, ◌-◌, Bool,
 use Rattle.std.specs.Str.{bytes_eq}
 use Rattle.std.specs.Map.{lookup}
 use Rattle.std.specs.List.{Contains}
-use Rattle.std.specs.Option.{option_map, option_map_or, unwrap_or}
+use Rattle.std.specs.Option.{option_map, option_map_or}
 use Rattle.std.proofs.lemmas.Bool.{false≢true}
 use Rattle.std.proofs.lemmas.List.{length-map, length-append, map-append}
 use Rattle.std.proofs.lemmas.List.Elements.{Contains-append_cases}
@@ -33,8 +33,8 @@ use Rattle.formula_core.proofs.Rooted.{before_root, root_last}
 use Rattle.sheet_recalc.specs.Names.{Names, Binding, Formula, binding}
 use Rattle.sheet_recalc.specs.Meaning.{with_origin, in_formula, shown, val}
 use Rattle.sheet_recalc.specs.Costs.{origin_delta, delta_by, binding_cost}
-use Rattle.sheet_recalc.specs.Entries.{names_of, binding_of, entry_outcome, holding}
-use Rattle.sheet_recalc.specs.Live.{IsRight, IsCurrent}
+use Rattle.sheet_recalc.specs.Entries.{names_of, binding_of}
+use Rattle.sheet_recalc.specs.Live.{IsRight}
 use Rattle.sheet_recalc.specs.ProposedSheet.{bound, proposed_entry, proposed_names, proposed_delta, proposed_change, entry_of}
 use Rattle.sheet_recalc.specs.Planning.{IsProposed, IsPlanAt, IsUntouched, NeedsNoPlan, IsProposalAt, name_cost}
 use Rattle.sheet_recalc.specs.declared.entry.Entry.{Entry}
@@ -44,7 +44,7 @@ use Rattle.sheet_recalc.specs.declared.proposal.Proposal.TheVariants as proposed
 use Rattle.sheet_recalc.specs.declared.proposed_sheet.ProposedSheet.{ProposedSheet}
 use Rattle.sheet_recalc.proofs.NameEquality.{equal-true, equal-same}
 use Rattle.sheet_recalc.proofs.Scratch.{val_absent}
-use Rattle.sheet_recalc.proofs.Live.{val_data, binding_of_name}
+use Rattle.sheet_recalc.proofs.Live.{val_data}
 use Rattle.sheet_recalc.proofs.Proposed.{bound_own, bound_other}
 
 -- an array or an error gets its origin, and so does its change
@@ -94,18 +94,6 @@ bad_origin x d held e f changed from i = record {
   same = i.same ∙ same_origin x d;
   delta = no_patch_by_origin x d i.delta;
 }
-
--- what each entry shows is what its name shows, where it is right
-pub right_shows : (names : List ℕ → Outcome) (q : List ℕ) (e : Entry) → IsRight names q e → entry_outcome q e ≡ names q
-right_shows names q (entry.Data a) r = r
-right_shows names q (entry.Formula f) r = r.1
-
-pub holding_val : (es : List (List ℕ × Entry)) → IsCurrent es → (q : List ℕ) → holding es q ≡ val (names_of es) q
-holding_val es current q = by (lookup (bytes_eq q) es) refl
-  where
-    by : (o : Option Entry) → lookup (bytes_eq q) es ≡ o → unwrap_or (option_map (entry_outcome q) o) (Err (fault Value)) ≡ val (names_of es) q
-    by None is = sym (val_absent (names_of es) (length (names_of es)) q (binding_of_name es q ∙ ap (option_map binding_of) is))
-    by (Some e) is = right_shows (val (names_of es)) q e (current q e is)
 
 -- the last of what a function gives for the subtrees is what it gives for the tree
 pub at_root : {X : Type 0} (g : Tree → X) (t : Tree) (d : X) → get_or (map g (subtrees t)) (length (map g (subtrees t)) - 1) d ≡ g t
@@ -307,13 +295,6 @@ module _ (o : ProposedSheet) where
         same = stay ∙ ap is_same (sym still.same);
         delta = subst (λ d. HasDelta d i) (sym still.same) same;
       }
-
-    -- what an entry shows
-    pub entry_shows : (q : List ℕ) (e : Entry) → lookup (bytes_eq q) es ≡ Some e → entry_outcome q e ≡ val old q
-    entry_shows q e is = right_shows (val old) q e (ready.current q e is)
-
-    pub absent_shows : (q : List ℕ) → lookup (bytes_eq q) es ≡ None → Err (fault Value) ≡ val old q
-    absent_shows q is = sym (val_absent old (length old) q (binding_of_name es q ∙ ap (option_map binding_of) is))
 
     -- the name that is bound anew
     pub own_bound : binding new o.name ≡ option_map bound o.proposal

@@ -1,8 +1,8 @@
 -- A change is ready to be planned, and its plans cost what it costs.
-use Rattle.std.proofs.Common.{◌≡◌, ◌+◌, ◌≤◌, ◌∙◌, ℕ, List, [], Bool, true, false, Option, Some, None, Result, Ok, Err, IfOk, OnOk, refl, sym, ap, subst, ◌⊎◌}
+use Rattle.std.proofs.Common.{◌≡◌, ◌+◌, ◌≤◌, ◌∙◌, ℕ, List, [], Result, Ok, Err, IfOk, OnOk, sym, ap, subst, ◌⊎◌}
 use Rattle.std.specs.declared.alloc.AllocError.{AllocError}
 use Rattle.std.specs.Str.{bytes_eq}
-use Rattle.std.specs.List.{Contains, IsDistinct, sum_by}
+use Rattle.std.specs.List.{Contains, IsDistinct}
 use Rattle.std.specs.Map.{keys_of}
 use Rattle.std.specs.Option.{option_map, option_map_or}
 use Rattle.dep_order.specs.Reachability.{Reaches}
@@ -10,13 +10,13 @@ use Rattle.dep_order.specs.Users.{Uses, IsClosed}
 use Rattle.indexmap.specs.IndexSet.{IndexSet}
 use Rattle.change_core.specs.Meters.{ticked}
 use Rattle.index_region.specs.declared.delta.Delta.{Delta}
-use Rattle.sheet_recalc.specs.Names.{Names, Binding, referred}
+use Rattle.sheet_recalc.specs.Names.{Names, referred}
 use Rattle.sheet_recalc.specs.Meaning.{val}
 use Rattle.sheet_recalc.specs.Entries.{names_of}
 use Rattle.sheet_recalc.specs.Live.{IsLive, IsPlanned}
-use Rattle.sheet_recalc.specs.Costs.{sheet_change, formulas_cost}
+use Rattle.sheet_recalc.specs.Costs.{formulas_cost}
 use Rattle.sheet_recalc.specs.ProposedSheet.{bound, proposed_names, proposed_change, proposed_delta, proposed_entry}
-use Rattle.sheet_recalc.specs.Planning.{IsProposed, IsProposalAt, IsAffected, IsUntouched, names_cost, IsWorkedOut}
+use Rattle.sheet_recalc.specs.Planning.{IsProposed, IsProposalAt, IsAffected, names_cost, IsWorkedOut}
 use Rattle.sheet_recalc.specs.declared.entry.Entry.{Entry}
 use Rattle.sheet_recalc.specs.declared.planning.Planned.{Planned}
 use Rattle.sheet_recalc.specs.declared.proposed_sheet.ProposedSheet.{ProposedSheet}

@@ -1,15 +1,13 @@
 -- What a change changes of each name, and what it costs.
-use Rattle.std.specs.Prelude.{◌≡◌, ◌+◌, ℕ, zero, suc, ℤ, List, [], ◌∷◌, map, length, true, Option, Some, None, if◌then◌else◌}
+use Rattle.std.specs.Prelude.{◌≡◌, ◌+◌, ℕ, zero, suc, List, [], ◌∷◌, map, length, true, Option, Some, if◌then◌else◌}
 use Rattle.std.specs.Str.{bytes_eq}
 use Rattle.std.specs.List.{sum_by}
-use Rattle.apl_expr.specs.Trees.{Literal}
 use Rattle.arrays_core.specs.declared.item.Item.{Item}
 use Rattle.arrays_core.specs.Items.{type_of}
 use Rattle.index_region.specs.declared.delta.Delta.{Delta}
 use Rattle.index_region.specs.declared.delta.Delta.TheVariants.{Same, Patch, Whole}
 use Rattle.index_region.specs.Patches.{PatchValue}
 use Rattle.change_core.specs.Meters.{ticked}
-use Rattle.formula_core.specs.Outcomes.{Outcome}
 use Rattle.formula_core.specs.Changes as formula
 use Rattle.formula_core.specs.Plans.{tree_cost}
 use Rattle.sheet_recalc.specs.Names.{Names, Binding, Data, Formula, binding}

@@ -20,6 +20,7 @@ ghost use Rattle.sheet_recalc.specs.ProposedSheet.{proposed_names, proposed_chan
 ghost use Rattle.sheet_recalc.specs.Planning.{IsProposed, IsAhead, ArePlans, IsDone, NeedsNoPlan, IsPlanAt, name_cost};
 
 use crate::entry::arisen_in;
+use crate::evaluation::input_at_rest;
 use crate::planning::Plans;
 use crate::proposal::Proposal;
 use crate::proposed_sheet::ProposedSheet;
@@ -27,7 +28,7 @@ use apl_tokens::Name;
 use arrays_core::{Fault, Kind};
 use change_core::Meter;
 use formula_core::{Formula, Input, Plan};
-use index_region::{Delta, Seen};
+use index_region::Delta;
 use std::alloc::{AllocError, Global};
 
 /// What names show ahead of a change: what stands, with the plans that are made so far.
@@ -122,22 +123,7 @@ impl Ahead<'_, '_> {
         if name == self.proposed.name {
             return self.own();
         }
-        match self.proposed.entries.get(&name) {
-            Some(entry) => match entry.result(name) {
-                Ok(array) => {
-                    let _sound = array.shape();
-                    Input::Good(Seen::plain(array), self.unchanged)
-                }
-                Err(fault) => Input::Bad {
-                    fault,
-                    changed: false,
-                },
-            },
-            None => Input::Bad {
-                fault: absent(),
-                changed: false,
-            },
-        }
+        input_at_rest(self.proposed.entries, name, self.unchanged)
     }
 
     /// What the name shows that is bound anew, where that is no formula, or removed.

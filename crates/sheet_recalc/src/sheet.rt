@@ -171,7 +171,13 @@ impl Sheet {
         self.entries.reserve(1)?;
         make_room(self.alloc, &mut self.users, formula.references())?;
         let entry = Entry::Formula(formula);
-        commit(&mut self.entries, &mut self.users, name, entry, planned.plans);
+        commit(
+            &mut self.entries,
+            &mut self.users,
+            name,
+            entry,
+            planned.plans,
+        );
         self.cost = planned.cost;
         self.ticks = meter.ticks();
         Ok(())
@@ -297,7 +303,13 @@ impl Sheet {
         )?;
         self.entries.reserve(1)?;
         let entry = Entry::Data(array_stored(change));
-        commit(&mut self.entries, &mut self.users, name, entry, planned.plans);
+        commit(
+            &mut self.entries,
+            &mut self.users,
+            name,
+            entry,
+            planned.plans,
+        );
         self.cost = spent.saturating_add(planned.cost);
         self.ticks = meter.ticks();
         Ok(())

@@ -1,4 +1,4 @@
-use Rattle.std.proofs.Common.{◌≡◌, ◌∙◌, ap, sym, subst, ℕ, List}
+use Rattle.std.proofs.Common.{◌≡◌, ◌∙◌, ap, subst, ℕ, List}
 use Rattle.std.specs.List.{Contains}
 use Rattle.apl_expr.specs.Trees.{tree_of}
 use Rattle.formula_core.specs.Formulas.{FormulaValue}

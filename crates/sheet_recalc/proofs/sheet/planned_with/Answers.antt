@@ -8,7 +8,7 @@ use Rattle.sheet_recalc.proofs.Refused.{few_put}
 use Rattle.sheet_recalc.proofs.NameEquality.{equal-true}
 use Rattle.sheet_recalc.proofs.Putting.{distinct_put}
 use Rattle.sheet_recalc.proofs.Keeping.{within, name_order}
-use Rattle.sheet_recalc.proofs.Rebound.{reaching_new, refers_to, has_order, settled, acyclic}
+use Rattle.sheet_recalc.proofs.Rebound.{reaching_new, refers_to, has_order, acyclic}
 use Rattle.sheet_recalc.proofs.Readied.{ready_proposed, ready_affected, worked_out}
 use Rattle.sheet_recalc.proofs.Binding.{bound_own}
 use Rattle.std.proofs.lemmas.List.{length-map}

@@ -1,4 +1,4 @@
-use Rattle.std.proofs.Common.{◌≡◌, ◌∙◌, sym, ap, subst, refl, Ok, Some, length}
+use Rattle.std.proofs.Common.{◌≡◌, ◌∙◌, sym, ap, subst, Ok}
 use Rattle.std.specs.Option.{option_map}
 use Rattle.std.proofs.lemmas.Result.{IfErr-weaker}
 use Rattle.arrays_core.specs.Arrays.{ArrayValue}
@@ -6,7 +6,6 @@ use Rattle.index_region.specs.declared.delta.Delta.{Delta}
 use Rattle.index_region.specs.Patches.{PatchValue, FitsPatch, patched}
 use Rattle.index_region.specs.declared.delta.Delta.TheVariants.{Patch}
 use Rattle.change_rules.specs.Currency.{applied}
-use Rattle.formula_core.specs.Outcomes.{Outcome}
 use Rattle.formula_core.specs.Changes.{FitsIn}
 use Rattle.sheet_recalc.specs.Names.{Data}
 use Rattle.sheet_recalc.specs.Meaning.{val}
@@ -28,8 +27,7 @@ planned_with-requires-clause-proposal c =
     let same : w.0 ≡ p = same_patch w.0 p (sym w.1 ∙ c.in-Patch.is) in
     let fits : FitsPatch a p = subst (λ (q : PatchValue). FitsPatch a q) same w.2 in
     let shown : val (names_of es) c.args.name ≡ Ok a = val_data (names_of es) c.args.name a (binding_of_name es c.args.name ∙ ap (option_map binding_of) c.requires.held) in
-    let now : c.patched.result ≡ patched a p = c.patched.ensures in
-    (
+    let now : c.patched.result ≡ patched a p = c.patched.ensures in (
       ap (λ d. applied d (val (names_of es) c.args.name)) c.in-Patch.is ∙ (ap (applied (Patch p)) shown ∙ ap (λ b. Ok b) (sym now)),
       subst (λ (d : Delta). FitsIn d (Ok c.patched.result)) (sym c.in-Patch.is) (subst (λ (b : ArrayValue). FitsPatch b p) (sym now) (fits_patched a p fits)),
     )

@@ -1,7 +1,5 @@
 use Rattle.std.proofs.Common.{Result, Ok, OnOk, ℕ, List, None, Err, arith}
 use Rattle.std.proofs.lemmas.List.{length-map}
-use Rattle.arrays_core.specs.declared.item.Kind.TheVariants.{Value}
-use Rattle.formula_core.specs.Outcomes.{fault}
 use Rattle.dep_order.proofs.Following.{contains_none}
 use Rattle.sheet_recalc.specs.Names.{Binding}
 use Rattle.sheet_recalc.specs.Entries.{names_of, binding_of}

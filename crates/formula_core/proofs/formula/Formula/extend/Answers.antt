@@ -1,11 +1,8 @@
 use Rattle.std.proofs.Common.{◌≡◌, ◌∙◌, ap, sym, refl, length, get_or, Ok}
-use Rattle.apl_expr.specs.Trees.{Tree}
 use Rattle.index_region.specs.declared.delta.Delta.TheVariants.{Same}
 use Rattle.formula_core.specs.Formulas.{FormulaValue, root_of}
 use Rattle.formula_core.specs.Meaning.{names_in}
-use Rattle.formula_core.specs.Tables.{subtrees, tree_at, IsNode}
-use Rattle.formula_core.specs.Changes.{FitsIn}
-use Rattle.index_region.specs.declared.delta.Delta.{Delta}
+use Rattle.formula_core.specs.Tables.{subtrees}
 use Rattle.formula_core.proofs.Planned.{formula_seen, known, staged_by, next_node, next_step, next_fits, next_done, begun_more}
 use Rattle.formula_core.proofs.formula.Formula.extend.Goals as goal
 
@@ -30,9 +27,17 @@ change_of-requires-clause-staged c =
     let results_are = ap (λ (v : FormulaValue). v.results) c.self.view_is in
     let inside = formula_seen f names nodes c.self.inside.results.items results_are c.self.invariant in
     let root : root_of names nodes ≡ f.tree = ap (λ (v : FormulaValue). v.tree) c.self.view_is in
-    let w = c.requires.begun in
-    (w.0, (names_in f.tree, (subtrees f.tree, staged_by f names nodes inside root w.0 c.args.inputs.now w.1.0 c.args.changes.now.items c.args.cost.now w.1.1 _ (ap (λ (v : FormulaValue). v.is_new) c.self.view_is) refl
-    (c.as_slice.ensures.value ∙ results_are) c.as_slice-2.ensures.value)))
+    let w = c.requires.begun in (
+      w.0,
+      (
+        names_in f.tree,
+        (
+          subtrees f.tree,
+          staged_by f names nodes inside root w.0 c.args.inputs.now w.1.0 c.args.changes.now.items c.args.cost.now w.1.1 _ (ap (λ (v : FormulaValue). v.is_new) c.self.view_is) refl
+              (c.as_slice.ensures.value ∙ results_are) c.as_slice-2.ensures.value,
+        ),
+      ),
+    )
 
 pub returns-in_err-change-clause-ticks : goal.returns-in_err-change-clause-ticks
 returns-in_err-change-clause-ticks c = λ change told begun.
@@ -45,7 +50,7 @@ returns-in_err-change-clause-ticks c = λ change told begun.
     let place : c.len-place.result ≡ length c.args.changes.now.items = c.len-place.ensures ∙ c.args.changes.now.ok.0 in
     let at : get_or nodes (length c.args.changes.now.items) c.index.result.now ≡ c.index.result.now = ap (λ k. get_or nodes k c.index.result.now) (sym place) ∙ sym c.index.ensures in
     let held_at : get_or f.results (length c.args.changes.now.items) c.index-held.result.now ≡ c.index-held.result.now =
-      ap (λ rs. get_or rs (length c.args.changes.now.items) c.index-held.result.now) (sym results_are) ∙ (ap (λ k. get_or c.self.inside.results.items k c.index-held.result.now) (sym place) ∙ sym c.index-held.ensures) in
+    ap (λ rs. get_or rs (length c.args.changes.now.items) c.index-held.result.now) (sym results_are) ∙ (ap (λ k. get_or c.self.inside.results.items k c.index-held.result.now) (sym place) ∙ sym c.index-held.ensures) in
     (next_step f names nodes inside root change c.args.inputs.now told c.args.changes.now.items c.args.cost.now begun c.requires.below c.index.result.now at _ (ap (λ (v : FormulaValue). v.is_new) c.self.view_is) refl
     (c.as_slice.ensures.value ∙ results_are) c.as_slice-2.ensures.value c.index-held.result.now held_at _ _ c.change_of.result c.change_of.ensures).ticks
 
@@ -60,7 +65,7 @@ of_node-sound-requires c =
     let place : c.len-place.result ≡ length c.args.changes.now.items = c.len-place.ensures ∙ c.args.changes.now.ok.0 in
     let at : get_or nodes (length c.args.changes.now.items) c.index.result.now ≡ c.index.result.now = ap (λ k. get_or nodes k c.index.result.now) (sym place) ∙ sym c.index.ensures in
     let held_at : get_or f.results (length c.args.changes.now.items) c.index-held.result.now ≡ c.index-held.result.now =
-      ap (λ rs. get_or rs (length c.args.changes.now.items) c.index-held.result.now) (sym results_are) ∙ (ap (λ k. get_or c.self.inside.results.items k c.index-held.result.now) (sym place) ∙ sym c.index-held.ensures) in
+    ap (λ rs. get_or rs (length c.args.changes.now.items) c.index-held.result.now) (sym results_are) ∙ (ap (λ k. get_or c.self.inside.results.items k c.index-held.result.now) (sym place) ∙ sym c.index-held.ensures) in
     let w = c.requires.begun in
     let step = next_step f names nodes inside root w.0 c.args.inputs.now w.1.0 c.args.changes.now.items c.args.cost.now w.1.1 c.requires.below c.index.result.now at _ (ap (λ (v : FormulaValue). v.is_new) c.self.view_is) refl
     (c.as_slice.ensures.value ∙ results_are) c.as_slice-2.ensures.value c.index-held.result.now held_at _ _ (Ok (c.in_ok-change.change, c.in_ok-change.items)) c.in_ok-change.ensures in
@@ -78,7 +83,7 @@ returns-in_err-push-clause-ticks c = λ change told begun.
     let place : c.len-place.result ≡ length c.args.changes.now.items = c.len-place.ensures ∙ c.args.changes.now.ok.0 in
     let at : get_or nodes (length c.args.changes.now.items) c.index.result.now ≡ c.index.result.now = ap (λ k. get_or nodes k c.index.result.now) (sym place) ∙ sym c.index.ensures in
     let held_at : get_or f.results (length c.args.changes.now.items) c.index-held.result.now ≡ c.index-held.result.now =
-      ap (λ rs. get_or rs (length c.args.changes.now.items) c.index-held.result.now) (sym results_are) ∙ (ap (λ k. get_or c.self.inside.results.items k c.index-held.result.now) (sym place) ∙ sym c.index-held.ensures) in
+    ap (λ rs. get_or rs (length c.args.changes.now.items) c.index-held.result.now) (sym results_are) ∙ (ap (λ k. get_or c.self.inside.results.items k c.index-held.result.now) (sym place) ∙ sym c.index-held.ensures) in
     (next_step f names nodes inside root change c.args.inputs.now told c.args.changes.now.items c.args.cost.now begun c.requires.below c.index.result.now at _ (ap (λ (v : FormulaValue). v.is_new) c.self.view_is) refl
     (c.as_slice.ensures.value ∙ results_are) c.as_slice-2.ensures.value c.index-held.result.now held_at _ _ c.change_of.result c.change_of.ensures).ticks
 
@@ -93,7 +98,7 @@ returns-clause-ticks c = λ change told begun.
     let place : c.len-place.result ≡ length c.args.changes.now.items = c.len-place.ensures ∙ c.args.changes.now.ok.0 in
     let at : get_or nodes (length c.args.changes.now.items) c.index.result.now ≡ c.index.result.now = ap (λ k. get_or nodes k c.index.result.now) (sym place) ∙ sym c.index.ensures in
     let held_at : get_or f.results (length c.args.changes.now.items) c.index-held.result.now ≡ c.index-held.result.now =
-      ap (λ rs. get_or rs (length c.args.changes.now.items) c.index-held.result.now) (sym results_are) ∙ (ap (λ k. get_or c.self.inside.results.items k c.index-held.result.now) (sym place) ∙ sym c.index-held.ensures) in
+    ap (λ rs. get_or rs (length c.args.changes.now.items) c.index-held.result.now) (sym results_are) ∙ (ap (λ k. get_or c.self.inside.results.items k c.index-held.result.now) (sym place) ∙ sym c.index-held.ensures) in
     (next_step f names nodes inside root change c.args.inputs.now told c.args.changes.now.items c.args.cost.now begun c.requires.below c.index.result.now at _ (ap (λ (v : FormulaValue). v.is_new) c.self.view_is) refl
     (c.as_slice.ensures.value ∙ results_are) c.as_slice-2.ensures.value c.index-held.result.now held_at _ _ c.change_of.result c.change_of.ensures).ticks
 
@@ -108,7 +113,7 @@ returns-clause-begun c = λ change told begun.
     let place : c.len-place.result ≡ length c.args.changes.now.items = c.len-place.ensures ∙ c.args.changes.now.ok.0 in
     let at : get_or nodes (length c.args.changes.now.items) c.index.result.now ≡ c.index.result.now = ap (λ k. get_or nodes k c.index.result.now) (sym place) ∙ sym c.index.ensures in
     let held_at : get_or f.results (length c.args.changes.now.items) c.index-held.result.now ≡ c.index-held.result.now =
-      ap (λ rs. get_or rs (length c.args.changes.now.items) c.index-held.result.now) (sym results_are) ∙ (ap (λ k. get_or c.self.inside.results.items k c.index-held.result.now) (sym place) ∙ sym c.index-held.ensures) in
+    ap (λ rs. get_or rs (length c.args.changes.now.items) c.index-held.result.now) (sym results_are) ∙ (ap (λ k. get_or c.self.inside.results.items k c.index-held.result.now) (sym place) ∙ sym c.index-held.ensures) in
     let step = next_step f names nodes inside root change c.args.inputs.now told c.args.changes.now.items c.args.cost.now begun c.requires.below c.index.result.now at _ (ap (λ (v : FormulaValue). v.is_new) c.self.view_is) refl
     (c.as_slice.ensures.value ∙ results_are) c.as_slice-2.ensures.value c.index-held.result.now held_at _ _ (Ok (c.in_ok-change.change, c.in_ok-change.items)) c.in_ok-change.ensures in
     let done = next_done f names nodes inside root change c.args.inputs.now told c.args.changes.now.items c.args.cost.now begun c.requires.below c.index.result.now at (record { alloc = c.self.inside.alloc; is_new = c.self.inside.is_new; inputs = c.args.inputs; results = c.as_slice.result; changes = c.as_slice-2.result; anew = record { ref_ptr = (0, 0); now = Same } }) (ap (λ (v : FormulaValue). v.is_new) c.self.view_is) refl

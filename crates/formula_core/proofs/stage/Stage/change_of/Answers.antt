@@ -1,10 +1,8 @@
-use Rattle.std.proofs.Common.{◌≡◌, ℕ, List, Ok, map, refl, ap, ◌∙◌, sym, subst, false}
+use Rattle.std.proofs.Common.{Ok, map, refl, sym, subst}
 use Rattle.std.specs.Option.{option_map}
-use Rattle.apl_expr.specs.Trees.{Tree, literal_of, positions_of}
 use Rattle.formula_core.specs.declared.table.Node.{Node}
 use Rattle.formula_core.specs.Tables.{tree_of_node, tree_of_operand}
-use Rattle.formula_core.specs.Changes.{Change}
-use Rattle.formula_core.specs.Stages.{IsStaged, IsStep}
+use Rattle.formula_core.specs.Stages.{IsStep}
 use Rattle.formula_core.proofs.Steps.{free_step, name_input, name_told}
 use Rattle.formula_core.proofs.Stepping.{monad_step, dyad_step, index_step}
 use Rattle.formula_core.proofs.stage.Stage.change_of.Goals as goal

@@ -1,10 +1,8 @@
-use Rattle.std.proofs.Common.{ℕ, ◌+◌, List, [], ◌∷◌, map, take, Option, Some, None, ◌∙◌, sym, subst}
+use Rattle.std.proofs.Common.{◌+◌, List, map, take, Option, Some, None, sym, subst}
 use Rattle.std.specs.Option.{option_map}
-use Rattle.apl_expr.specs.Trees.{Tree}
 use Rattle.formula_core.specs.declared.input.Input.{Input}
-use Rattle.formula_core.specs.Changes.{Change}
 use Rattle.formula_core.specs.Inputs.{AllHaveFit}
-use Rattle.formula_core.specs.Stages.{IsStaged, AreReady}
+use Rattle.formula_core.specs.Stages.{AreReady}
 use Rattle.formula_core.specs.Tables.{tree_of_operand}
 use Rattle.formula_core.proofs.Steps.{operand_within, position_ready}
 use Rattle.formula_core.proofs.Stepping.{fit_more}

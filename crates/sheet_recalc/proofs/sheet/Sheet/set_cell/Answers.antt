@@ -1,4 +1,4 @@
-use Rattle.std.proofs.Common.{◌≡◌, ◌∙◌, ℕ, List, refl, sym, ap, subst, Ok, Some}
+use Rattle.std.proofs.Common.{◌≡◌, ◌∙◌, refl, sym, ap, subst, Ok, Some}
 use Rattle.std.specs.Option.{option_map}
 use Rattle.std.proofs.lemmas.Result.{err_from_is_err_and}
 use Rattle.apl_expr.specs.Trees.{literal_of}
@@ -24,7 +24,7 @@ returns-in_err-planned-clause-refused c =
     let cause = c.in_err-planned.field-0.0 in
     let p = err_from_is_err_and c.from_residual-in_err-planned.result c.from_residual-in_err-planned.ensures.1 in
     let why = refused_cell old c.args.name c.args.positions.now literal a c.in_ok-array.ensures.put cause
-      (refused_put old c.args.name a c.self.invariant.live.sheet.acyclic cause (c.in_err-planned.ensures.refused c.in_ok-array.patch refl)) in
+    (refused_put old c.args.name a c.self.invariant.live.sheet.acyclic cause (c.in_err-planned.ensures.refused c.in_ok-array.patch refl)) in
     rw (p.1, p.2) (subst (λ (s : SheetValue). Refuses s.names (SetCell c.args.name c.args.positions.now literal) cause) c.self.view_is why)
 
 same_patch : (p q : PatchValue) → Patch p ≡ Patch q → p ≡ q
