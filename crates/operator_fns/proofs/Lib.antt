@@ -22,3 +22,5 @@ pub mod ReductionCases
 pub mod ScanCases
 pub mod OuterCases
 pub mod InnerCases
+pub mod Summaries
+pub mod SumTrees

@@ -4,9 +4,11 @@ pub mod Reduce
 pub mod Scan
 pub mod OuterProduct
 pub mod InnerProduct
+pub mod SumTree
 -- What proofs and bodies use.
 pub mod Strides
 pub mod LinearScan
 pub mod RowByColumn
 pub mod ResultTable
 pub mod Sum
+pub mod SumNodes

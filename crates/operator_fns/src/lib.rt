@@ -12,8 +12,11 @@ mod right_fold;
 mod row_by_column;
 mod scan;
 mod sum;
+mod sum_tree;
+mod summary;
 
 pub use inner_product::Inner;
 pub use outer_product::Outer;
 pub use reduce::Reduce;
 pub use scan::Scan;
+pub use sum_tree::SumTree;
