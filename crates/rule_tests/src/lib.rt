@@ -7,3 +7,5 @@ mod fixtures;
 mod reach_tests;
 #[cfg(test)]
 mod refresh_tests;
+#[cfg(test)]
+mod sum_tree_tests;
