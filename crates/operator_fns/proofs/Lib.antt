@@ -24,3 +24,4 @@ pub mod OuterCases
 pub mod InnerCases
 pub mod Summaries
 pub mod SumTrees
+pub mod VectorSums
