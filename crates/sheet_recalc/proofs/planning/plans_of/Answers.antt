@@ -6,7 +6,6 @@ use Rattle.formula_core.specs.Outcomes.{Outcome}
 use Rattle.sheet_recalc.specs.ProposedSheet.{proposed_names, proposed_change}
 use Rattle.sheet_recalc.specs.Planning.{name_cost}
 use Rattle.sheet_recalc.proofs.Live.{holding_val}
-
 use Rattle.sheet_recalc.proofs.Working.{under_way_first, plain_next, plain_costs_nothing, cost_split, reads_done, formula_next, planned_in_the_end, nothing_left}
 use Rattle.sheet_recalc.proofs.planning.plans_of.Goals as goal
 
