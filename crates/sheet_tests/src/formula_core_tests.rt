@@ -2,8 +2,8 @@
 
 use crate::fixtures::{are_characters, are_numbers, tree_of};
 use apl_expr::Literal;
-use arrays_core::Array;
-use formula_core::{Formula, array_of};
+use arrays_core::{Array, Kind};
+use formula_core::{Formula, array_of, evaluate};
 use sheet_recalc::Sheet;
 use std::alloc::Global;
 
@@ -26,14 +26,32 @@ fn makes_literals(rt: HostRuntime) {
     );
 }
 
-/// What the formula of a text gives where no name is bound.
-fn formula_value(alloc: Global, text: &str) -> Option<Array> {
-    let formula = Formula::build(alloc, tree_of(alloc, text)?).ok()?;
-    formula.evaluate(&Sheet::new(alloc)).ok()?.ok()
+/// What the expression of a text gives where no name is bound.
+fn value_of(alloc: Global, text: &str) -> Option<Array> {
+    let tree = tree_of(alloc, text)?;
+    evaluate(alloc, &tree, &Sheet::new(alloc)).ok()?.ok()
 }
 
 #[test]
-fn a_formula_gives_its_value(rt: HostRuntime) {
-    let value = formula_value(rt.alloc(), "1 2-3").ok_or(());
+fn an_expression_gives_its_value(rt: HostRuntime) {
+    let value = value_of(rt.alloc(), "1 2-3").ok_or(());
     assert!(rt; are_numbers(value, &[2], &[-2, -1]));
+}
+
+/// How many functions the formula of a text applies, where it shows VALUE ERROR, as one does that was not worked out yet.
+fn operations_of(alloc: Global, text: &str) -> Option<usize> {
+    let formula = Formula::build(alloc, tree_of(alloc, text)?).ok()?;
+    match formula.result() {
+        Err(fault) if fault.kind == Kind::Value && fault.origin.is_none() => {
+            Some(formula.operations())
+        }
+        _ => None,
+    }
+}
+
+#[test]
+fn a_new_formula_shows_value_error(rt: HostRuntime) {
+    let alloc = rt.alloc();
+    assert!(rt; operations_of(alloc, "A") == Some(0));
+    assert!(rt; operations_of(alloc, "+/A[1 2]×-3") == Some(4));
 }
