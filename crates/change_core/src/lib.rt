@@ -2,11 +2,13 @@
 #![tactic(auto)]
 
 mod announced;
+mod count;
 mod meter;
 mod reach;
 mod rule;
 
 pub use announced::{Announced, Lawful};
+pub use count::Count;
 pub use meter::Meter;
 pub use reach::{Reach, reach_covers};
 pub use rule::{Rule, Tight};

@@ -1,50 +1,70 @@
-//! A count of computed items.
+//! What a change computes: items of results, and joins of sums.
 
-ghost use Rattle.std.specs.Prelude.{◌≡◌, ℕ, ◌+◌, ◌≤◌};
+ghost use Rattle.std.specs.Prelude.{◌≡◌, ◌+◌, ◌≤◌};
 ghost use Rattle.change_core.specs.Meters.{ticked};
 
+use crate::count::Count;
 use std::marker::Model;
 
-/// How many items of results were computed. It stays at the greatest number of 64 bits.
+/// How many items of results were computed, and how many sums of parts were joined for them.
 #[derive(Drop)]
 pub struct Meter {
-    count: u64,
+    ticks: Count,
+    joins: Count,
 }
 
 impl Model for Meter {
-    ghost Value = { ℕ };
+    ghost use Rattle.change_core.specs.Meters.{MeterValue};
 
-    ghost view = { λ m. m.count };
+    ghost Value = { MeterValue };
+
+    ghost view = { λ m. record { ticks = m.ticks; joins = m.joins } };
 }
 
 impl Meter {
     /// A meter that has counted nothing.
     pub fn new() -> Self
-        ensures { result ≡ 0 }
+        ensures { result ≡ record { ticks = 0; joins = 0 } }
     {
-        Meter { count: 0 }
+        Meter {
+            ticks: Count::new(),
+            joins: Count::new(),
+        }
     }
 
     /// Counts one item.
     pub fn tick(&mut self)
-        ensures exact { self.new ≡ ticked self.old 1 }
-        ensures by_one { self.new ≤ self.old + 1 }
+        ensures exact { self.new ≡ record { ticks = ticked self.old.ticks 1; joins = self.old.joins } }
+        ensures by_one { self.new.ticks ≤ self.old.ticks + 1 }
     {
-        self.count = self.count.saturating_add(1);
+        self.ticks.add(1);
     }
 
     /// Counts so many items.
     pub fn add(&mut self, items: u32)
-        ensures { self.new ≡ ticked self.old items }
+        ensures { self.new ≡ record { ticks = ticked self.old.ticks items; joins = self.old.joins } }
     {
-        self.count = self.count.saturating_add(u64::from(items));
+        self.ticks.add(items);
+    }
+
+    /// Counts so many joins of sums of parts.
+    pub fn count_joins(&mut self, joins: u32)
+        ensures { self.new ≡ record { ticks = self.old.ticks; joins = ticked self.old.joins joins } }
+    {
+        self.joins.add(joins);
     }
 
     /// How many items were counted.
     pub fn ticks(&self) -> u64
-        ensures { result ≡ self.now }
+        ensures { result ≡ self.now.ticks }
     {
-        let Meter { count } = self;
-        *count
+        self.ticks.total()
+    }
+
+    /// How many joins were counted.
+    pub fn joins(&self) -> u64
+        ensures { result ≡ self.now.joins }
+    {
+        self.joins.total()
     }
 }

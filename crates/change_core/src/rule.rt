@@ -36,13 +36,15 @@ pub trait Rule {
         requires place { IsPlaceOf ((model self.now).form args.now) index.now }
         ensures is { result ≡ (model self.now).item args.now index.now }
         ensures typed { IfOk result (HasTypeOf ((model self.now).form args.now)) }
-        ensures ticks { meter.new ≡ ticked meter.old 1 };
+        ensures ticks { meter.new.ticks ≡ ticked meter.old.ticks 1 }
+        ensures joins { meter.new.joins ≡ meter.old.joins };
 
     /// The whole result. It ticks as often as the result has places.
     fn all(&self, alloc: Global, args: &[Seen], meter: &mut Meter) -> Result<Array, ApplyFault>
         requires { length args.now ≡ length (model self.now).selectors }
         ensures is { IsAnswerTo (whole ((model self.now).form args.now) ((model self.now).item args.now)) result }
-        ensures ticks { meter.new ≡ ticked meter.old (form_size ((model self.now).form args.now)) };
+        ensures ticks { meter.new.ticks ≡ ticked meter.old.ticks (form_size ((model self.now).form args.now)) }
+        ensures joins { meter.new.joins ≡ meter.old.joins };
 
     /// The items of a box of the result in row-major order, as an array of any shape, or the first error among them. It
     /// ticks at most as often as the box has places, and as often where it answers Ok.
@@ -60,8 +62,9 @@ pub trait Rule {
         requires within { IsWithinLimits shape.now }
         requires fit { IsTrue (fits region.now shape.now) }
         ensures items { HoldsItems item_type (items_in ((model self.now).item args.now) region.now) result }
-        ensures ticks { meter.new ≤ meter.old + box_size region.now }
-        ensures exact { IfOk result (λ _. meter.new ≡ ticked meter.old (box_size region.now)) }
+        ensures ticks { meter.new.ticks ≤ meter.old.ticks + box_size region.now }
+        ensures exact { IfOk result (λ _. meter.new.ticks ≡ ticked meter.old.ticks (box_size region.now)) }
+        ensures joins { meter.new.joins ≡ meter.old.joins }
     {
         let places = region.size();
         let mut values = Array::filled(alloc, item_type, &shape_of(alloc, &[places as u32]))?;

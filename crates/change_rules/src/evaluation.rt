@@ -21,7 +21,8 @@ pub(crate) fn evaluate<R: Rule>(
 ) -> Result<Result<Array, Fault>, AllocError>
     requires { length args.now ≡ length (R.model rule.now).selectors }
     ensures is { IfOk result (λ r. r ≡ evaluation (R.model rule.now) args.now) }
-    ensures ticks { meter.new ≤ meter.old + form_size ((R.model rule.now).form args.now) }
+    ensures ticks { meter.new.ticks ≤ meter.old.ticks + form_size ((R.model rule.now).form args.now) }
+    ensures joins { meter.new.joins ≡ meter.old.joins }
 {
     match all_of(alloc, rule, args, meter) {
         Ok(array) => Ok(Ok(array)),
@@ -50,7 +51,8 @@ pub(crate) fn all_of<R: Rule>(
 ) -> Result<Array, ApplyFault>
     requires { length args.now ≡ length (R.model rule.now).selectors }
     ensures is { IsAnswerTo (whole ((R.model rule.now).form args.now) ((R.model rule.now).item args.now)) result }
-    ensures ticks { meter.new ≤ meter.old + form_size ((R.model rule.now).form args.now) }
+    ensures ticks { meter.new.ticks ≤ meter.old.ticks + form_size ((R.model rule.now).form args.now) }
+    ensures joins { meter.new.joins ≡ meter.old.joins }
 {
     if args.iter().all(|arg| arg.array().is_some()) {
         return rule.all(alloc, args, meter);

@@ -26,7 +26,8 @@ fn reached<R: Rule>(
     requires fit { AllFit args.now boxes.now }
     ensures delta { IfOk result (λ r. r.0 ≡ reached_delta (R.model rule.now) args.now boxes.now) }
     ensures cost { IfOk result (λ r. r.1 ≡ reached_cost (R.model rule.now) args.now boxes.now) }
-    ensures ticks { meter.new ≤ meter.old + reached_cost (R.model rule.now) args.now boxes.now }
+    ensures ticks { meter.new.ticks ≤ meter.old.ticks + reached_cost (R.model rule.now) args.now boxes.now }
+    ensures joins { meter.new.joins ≡ meter.old.joins }
 {
     match rule.shape(args) {
         Err(kind) => Ok((Delta::Whole(Err(Fault { kind, origin: None })), 0)),
@@ -63,7 +64,8 @@ fn change_from<R: Rule>(
     requires some { all_are_same args.now ≡ false }
     ensures delta { IfOk result (λ r. r.0 ≡ node_delta (R.model rule.now) args.now old.now) }
     ensures cost { IfOk result (λ r. r.1 ≡ node_cost (R.model rule.now) args.now old.now) }
-    ensures ticks { meter.new ≤ meter.old + node_cost (R.model rule.now) args.now old.now }
+    ensures ticks { meter.new.ticks ≤ meter.old.ticks + node_cost (R.model rule.now) args.now old.now }
+    ensures joins { meter.new.joins ≡ meter.old.joins }
 {
     if starts_anew(args, old) {
         let whole = evaluate(alloc, rule, seen, meter)?;
@@ -84,7 +86,8 @@ fn change_of<R: Rule>(
     requires fit { AllFit (views args.now) (moved args.now) }
     ensures delta { IfOk result (λ r. r.0 ≡ node_delta (R.model rule.now) args.now old.now) }
     ensures cost { IfOk result (λ r. r.1 ≡ node_cost (R.model rule.now) args.now old.now) }
-    ensures ticks { meter.new ≤ meter.old + node_cost (R.model rule.now) args.now old.now }
+    ensures ticks { meter.new.ticks ≤ meter.old.ticks + node_cost (R.model rule.now) args.now old.now }
+    ensures joins { meter.new.joins ≡ meter.old.joins }
 {
     if all_same(args) {
         return Ok((Delta::Same, 0));
@@ -142,7 +145,8 @@ pub fn refresh<R: Tight>(
     requires count { length args.now ≡ length (R.model rule.now).selectors }
     requires fit { AllFit (views args.now) (moved args.now) }
     ensures delta { IfOk result (λ d. d ≡ node_delta (R.model rule.now) args.now old.now) }
-    ensures ticks { meter.new ≤ meter.old + node_cost (R.model rule.now) args.now old.now }
+    ensures ticks { meter.new.ticks ≤ meter.old.ticks + node_cost (R.model rule.now) args.now old.now }
+    ensures joins { meter.new.joins ≡ meter.old.joins }
     ensures right { IfOk result (λ d. IsRight (R.model rule.now) (views args.now) d) }
     ensures whole { IfOk result (λ d. BringsUpToDate (R.model rule.now) args.now old.now d) }
 {
@@ -161,7 +165,8 @@ pub fn refresh_with_cost<R: Tight>(
     requires fit { AllFit (views args.now) (moved args.now) }
     ensures delta { IfOk result (λ r. r.0 ≡ node_delta (R.model rule.now) args.now old.now) }
     ensures cost { IfOk result (λ r. r.1 ≡ node_cost (R.model rule.now) args.now old.now) }
-    ensures ticks { meter.new ≤ meter.old + node_cost (R.model rule.now) args.now old.now }
+    ensures ticks { meter.new.ticks ≤ meter.old.ticks + node_cost (R.model rule.now) args.now old.now }
+    ensures joins { meter.new.joins ≡ meter.old.joins }
     ensures right { IfOk result (λ r. IsRight (R.model rule.now) (views args.now) r.0) }
     ensures whole { IfOk result (λ r. BringsUpToDate (R.model rule.now) args.now old.now r.0) }
 {

@@ -26,7 +26,8 @@ fn items_of<R: Rule>(
     requires checked { IsFormAnswerTo ((R.model rule.now).form args.now) (Ok form.now) }
     requires fit { IsTrue (fits region.now form.now.0.items) }
     ensures items { HoldsItems form.now.1 (items_in ((R.model rule.now).item args.now) region.now) result }
-    ensures ticks { meter.new ≤ meter.old + box_size region.now }
+    ensures ticks { meter.new.ticks ≤ meter.old.ticks + box_size region.now }
+    ensures joins { meter.new.joins ≡ meter.old.joins }
 {
     let shape = form.0.as_slice();
     if region.size() == size(shape) as usize {
@@ -49,7 +50,8 @@ pub(crate) fn patch_of<R: Rule>(
     requires checked { IsFormAnswerTo ((R.model rule.now).form args.now) (Ok form.now) }
     requires fit { IsTrue (fits region form.now.0.items) }
     ensures delta { IfOk result (λ d. d ≡ patch_delta form.now.1 region (items_in ((R.model rule.now).item args.now) region)) }
-    ensures ticks { meter.new ≤ meter.old + box_size region }
+    ensures ticks { meter.new.ticks ≤ meter.old.ticks + box_size region }
+    ensures joins { meter.new.joins ≡ meter.old.joins }
 {
     match items_of(alloc, rule, args, form, &region, meter) {
         Ok(values) => Ok(Delta::Patch(Patch::of(region, values))),

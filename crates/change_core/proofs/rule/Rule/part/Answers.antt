@@ -15,6 +15,7 @@ loop-place-init g c =
       none = λ _. refl;
       some = λ h. absurd (omega arith);
       ticks = omega arith;
+      joins = refl;
       at = λ _. c.index_at-index.ensures;
       many = filled_many c.in_ok-values.values c.args.item_type c.shape_of.result.items c.size-places.result (box_size c.args.region.now) c.in_ok-values.ensures c.shape_of.ensures.items c.size-places.ensures;
       typed = ap (λ (a : ArrayValue). a.item_type) c.in_ok-values.ensures;
@@ -48,8 +49,9 @@ loop-place-preserved g c =
     let given : item (walk_at region c.loop-place.place) ≡ Ok c.in-Ok.item = ap item (sym (c.as_slice.ensures.is ∙ c.loop-place.invariant.at below)) ∙ sym c.in-Ok.ensures.is in
     record {
       none = λ h. absurd (omega arith);
-      some = λ _. one_more_tick c.args.meter.now c.loop-place.place c.loop-place.meter _ c.loop-place.invariant.none c.loop-place.invariant.some c.in-Ok.ensures.ticks;
+      some = λ _. one_more_tick c.args.meter.now.ticks c.loop-place.place c.loop-place.meter.ticks _ c.loop-place.invariant.none c.loop-place.invariant.some c.in-Ok.ensures.ticks;
       ticks = omega (arith, c.in-Ok.ensures.ticks, c.loop-place.invariant.ticks);
+      joins = c.in-Ok.ensures.joins ∙ c.loop-place.invariant.joins;
       at = λ more. c.advance.ensures.next c.loop-place.place more (c.loop-place.invariant.at below);
       many = as_many_written c.loop-place.values c.write_at.new.self (box_size region) c.loop-place.place c.in-Ok.item c.loop-place.invariant.many c.write_at.ensures;
       typed = ap (λ (a : ArrayValue). a.item_type) c.write_at.ensures ∙ c.loop-place.invariant.typed;
@@ -77,7 +79,7 @@ pub returns-clause-exact : goal.returns-clause-exact
 returns-clause-exact g c =
     let last : c.loop-place.place ≡ box_size c.args.region.now = omega (arith, c.size-places.ensures, c.loop-place-test.false) in
     let some : 0 < c.loop-place.place = omega (arith, some_place c.args.region.now c.args.shape.now c.requires.fit) in
-    c.loop-place.invariant.some some ∙ ap (ticked c.args.meter.now) last
+    c.loop-place.invariant.some some ∙ ap (ticked c.args.meter.now.ticks) last
 
 pub index_at-index-requires-clause-below : goal.index_at-index-requires-clause-below
 index_at-index-requires-clause-below g c = some_place c.args.region.now c.args.shape.now c.requires.fit

@@ -9,9 +9,10 @@ abbrev pub invariant-loop-place : goal.invariant-loop-place
 invariant-loop-place g l =
     let item = (g.Self.Rule.model l.self).item l.args in
     record {
-      none : l.place ≡ 0 → l.meter ≡ l.initial.meter;
-      some : 0 < l.place → l.meter ≡ ticked l.initial.meter l.place;
-      ticks : l.meter ≤ l.initial.meter + l.place;
+      none : l.place ≡ 0 → l.meter.ticks ≡ l.initial.meter.ticks;
+      some : 0 < l.place → l.meter.ticks ≡ ticked l.initial.meter.ticks l.place;
+      ticks : l.meter.ticks ≤ l.initial.meter.ticks + l.place;
+      joins : l.meter.joins ≡ l.initial.meter.joins;
       at : l.place < box_size l.region → l.index ≡ walk_at l.region l.place;
       many : length l.values.items ≡ box_size l.region;
       typed : l.values.item_type ≡ l.fn.item_type;

@@ -1,0 +1,42 @@
+//! A count that stays at the greatest number of 64 bits.
+
+ghost use Rattle.std.specs.Prelude.{◌≡◌, ℕ};
+ghost use Rattle.change_core.specs.Meters.{ticked};
+
+use std::marker::Model;
+
+/// A count that stays at the greatest number of 64 bits.
+#[derive(Drop)]
+pub struct Count {
+    count: u64,
+}
+
+impl Model for Count {
+    ghost Value = { ℕ };
+
+    ghost view = { λ c. c.count };
+}
+
+impl Count {
+    /// Nothing was counted.
+    pub fn new() -> Self
+        ensures { result ≡ 0 }
+    {
+        Count { count: 0 }
+    }
+
+    /// Counts so many more.
+    pub fn add(&mut self, more: u32)
+        ensures { self.new ≡ ticked self.old more }
+    {
+        self.count = self.count.saturating_add(u64::from(more));
+    }
+
+    /// How many were counted.
+    pub fn total(&self) -> u64
+        ensures { result ≡ self.now }
+    {
+        let Count { count } = self;
+        *count
+    }
+}
