@@ -23,5 +23,6 @@ pub mod ScanCases
 pub mod OuterCases
 pub mod InnerCases
 pub mod Summaries
+pub mod SumRuns
 pub mod SumTrees
 pub mod VectorSums

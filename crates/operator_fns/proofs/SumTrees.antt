@@ -1,29 +1,18 @@
 -- Trees of sums: what is kept for the root is that of the whole list.
-use Rattle.std.proofs.Common.{◌≡◌, ◌≢◌, ℕ, zero, suc, ◌+◌, ◌-◌, ◌*◌, ◌/◌, ◌%◌, ◌^◌, ◌<◌, ◌≤◌, nat_eq, nat_lt, List, ◌∷◌, ◌++◌, length, map, get_or, set, take, drop, refl, ap, sym, subst, ◌∙◌, arith, inl, inr, if◌then◌else◌, ℤ, pos, FitsSigned}
-use Rattle.std.specs.List.{range_with_len, All}
+use Rattle.std.proofs.Common.{◌≡◌, ◌≢◌, ℕ, zero, suc, ◌+◌, ◌-◌, ◌*◌, ◌/◌, ◌%◌, ◌^◌, ◌<◌, ◌≤◌, nat_eq, nat_lt, List, ◌∷◌, ◌++◌, length, get_or, set, refl, ap, sym, subst, ◌∙◌, arith, inl, inr, if◌then◌else◌, ℤ, FitsSigned}
+use Rattle.std.specs.List.{All}
 use Rattle.std.specs.Int.{w64, IsNextPowerOfTwo}
 use Rattle.std.proofs.lemmas.Nat.{pow_pos}
 use Rattle.std.proofs.lemmas.Grind.{pow_more}
 use Rattle.std.proofs.lemmas.List.Elements.{All-set}
 use Rattle.std.proofs.Math.Nat.{pow-le-pow_right, mul-le-mul_right, le-mul_of_pos_right}
 use Rattle.std.proofs.lemmas.Bool.{lt-ltb, le-ltb, eq-eqb, ne_eqb, cases_lt, cases_eq, cond-true, cond-false}
-use Rattle.std.proofs.lemmas.List.{length-take, length-drop, length-map, length-set, map-append, take-append-drop, get_or-take, get_or-drop, get_or-map, get_or-set_same, get_or-set_other, ext_get_or}
-use Rattle.std.proofs.lemmas.List.FromFn.{length-map-range_with_len, get_or-map-range_with_len}
+use Rattle.std.proofs.lemmas.List.{length-set, get_or-set_same, get_or-set_other}
 use Rattle.operator_fns.specs.declared.summary.Summary.{Summary}
 use Rattle.operator_fns.specs.SumTree.{IsReductionBySum, IsWithinDigitsOf}
-use Rattle.operator_fns.specs.SumNodes.{none, single, join, sum_told, IsWithin, leaf_node, leaf_place, node_summary, lift, IsBounded, AreNodes, AreJoinedBut, IsTree}
-use Rattle.operator_fns.proofs.Summaries.{join_assoc, join_none, join_within, joined_on, joined_append, joined_singles, summary_of, told_reduction}
-
--- neighbouring nodes
-abbrev pub row : (ℕ → Summary) → ℕ → ℕ → List Summary
-row T a len = map T (range_with_len a len)
-
-pub row_append : (T : ℕ → Summary) (a m n : ℕ) → row T a (m + n) ≡ row T a m ++ row T (a + m) n
-row_append T a zero n = let e : zero + n ≡ n = omega arith in let f : a + zero ≡ a = omega arith in ap (row T a) e ∙ sym (ap (λ k. row T k n) f)
-row_append T a (suc m) n =
-    let e : suc m + n ≡ suc (m + n) = omega arith in
-    let f : a + 1 + m ≡ a + suc m = omega arith in
-    ap (row T a) e ∙ ap (λ (l : List Summary). T a ∷ l) (row_append T (a + 1) m n ∙ ap (λ k. row T (a + 1) m ++ row T k n) f)
+use Rattle.operator_fns.specs.SumNodes.{none, join, summary_of, sum_told, IsWithin, run_length, run_count, leaf_node, leaf_place, node_summary, lift, IsBounded, AreNodes, AreJoinedBut, IsTree}
+use Rattle.operator_fns.proofs.Summaries.{join_assoc, join_none, join_within, joined_on, joined_append, told_reduction}
+use Rattle.operator_fns.proofs.SumRuns.{row, row_append, leaf_summary, runs_joined, set_count, other_leaf, run_of_place}
 
 module _ (n : ℕ) (T : ℕ → Summary) (joined : AreJoinedBut 0 n T) where
   -- a row of inner nodes and the row under it
@@ -48,7 +37,7 @@ module _ (n : ℕ) (T : ℕ → Summary) (joined : AreJoinedBut 0 n T) where
       let some : 1 ≤ 2 ^ h = pow_pos h in
       ap (λ k. joined_on s (row T k k)) two ∙ sym (doubled s (2 ^ h) (2 ^ h) some (omega arith)) ∙ whole_row s h (omega arith)
 
--- ---- the nodes that are numbers
+-- ---- the nodes that are runs
 
 pub place_above : (n first node : ℕ) → node < first → leaf_place n first node ≡ node - (first - n)
 place_above n first node h = cond-true _ _ _ (lt-ltb node first h)
@@ -107,48 +96,41 @@ same_node n first node r l h =
       | inr deep ↦ ap (leaf_node n first) (place_deep n first node deep) ∙ node_deep n first (node - first) (omega arith) ∙ omega arith
     ]
 
--- the last nodes are those of a list of n numbers
-abbrev pub AreLeaves : ℕ → ℕ → List ℤ → (ℕ → Summary) → Type 0
-AreLeaves n first xs T = (node : ℕ) → n ≤ node → node < 2 * n → T node ≡ single (get_or xs (leaf_place n first node) (pos 0))
+-- the last nodes are n leaves
+abbrev pub AreLeaves : ℕ → ℕ → (ℕ → Summary) → (ℕ → Summary) → Type 0
+AreLeaves n first L T = (node : ℕ) → n ≤ node → node < 2 * n → T node ≡ L (leaf_place n first node)
 
-module _ (n first : ℕ) (xs : List ℤ) (T : ℕ → Summary) (long : length xs ≡ n) (r : IsRowOf n first) (leaves : AreLeaves n first xs T) where
-  deep_row : row T first (2 * n - first) ≡ map single (take (2 * n - first) xs)
+row_is : (L T : ℕ → Summary) (a b len : ℕ) → ((i : ℕ) → i < len → T (a + i) ≡ L (b + i)) → row T a len ≡ row L b len
+row_is L T a b zero same = refl
+row_is L T a b (suc len) same =
+    let here : a + 0 ≡ a = omega arith in
+    let there : b + 0 ≡ b = omega arith in
+    let later = row_is L T (a + 1) (b + 1) len (λ i h.
+    let left : a + 1 + i ≡ a + (i + 1) = omega arith in
+    let right : b + 1 + i ≡ b + (i + 1) = omega arith in
+    ap T left ∙ same (i + 1) (omega arith) ∙ sym (ap L right)) in
+    (λ i. (sym (ap T here) ∙ same 0 (omega arith) ∙ ap L there) i ∷ later i)
+
+module _ (n first : ℕ) (L T : ℕ → Summary) (r : IsRowOf n first) (leaves : AreLeaves n first L T) where
+  deep_row : row T first (2 * n - first) ≡ row L 0 (2 * n - first)
   deep_row =
-      let m = 2 * n - first in
       let low = r.low in
       let high = r.high in
-      let size = length-map-range_with_len T first m in
-      let taken = length-take m xs in
-      let made = length-map (take m xs) single in
-      ext_get_or none (row T first m) (map single (take m xs)) (omega arith) (λ i h.
-      let below : i < m = omega arith in
-      let place : leaf_place n first (first + i) ≡ i = place_deep n first (first + i) (omega arith) ∙ omega arith in
-      get_or-map-range_with_len T first m i (first + i) none below refl
-      ∙ leaves (first + i) (omega arith) (omega arith)
-      ∙ ap (λ k. single (get_or xs k (pos 0))) place
-      ∙ sym (get_or-map single (take m xs) i (pos 0) none (omega arith) ∙ ap single (get_or-take m xs i (pos 0) below)))
+      row_is L T first 0 (2 * n - first) (λ i h. leaves (first + i) (omega arith) (omega arith) ∙ ap L (place_deep n first (first + i) (omega arith) ∙ omega arith))
 
-  upper_row : row T n (first - n) ≡ map single (drop (2 * n - first) xs)
+  upper_row : row T n (first - n) ≡ row L (0 + (2 * n - first)) (first - n)
   upper_row =
+      let low = r.low in
+      let high = r.high in
+      row_is L T n (0 + (2 * n - first)) (first - n) (λ i h. leaves (n + i) (omega arith) (omega arith) ∙ ap L (place_above n first (n + i) (omega arith) ∙ omega arith))
+
+  leaves_in_row : row T first (2 * n - first) ++ row T n (first - n) ≡ row L 0 n
+  leaves_in_row =
       let m = 2 * n - first in
       let low = r.low in
       let high = r.high in
-      let size = length-map-range_with_len T n (first - n) in
-      let dropped = length-drop m xs in
-      let made = length-map (drop m xs) single in
-      ext_get_or none (row T n (first - n)) (map single (drop m xs)) (omega arith) (λ i h.
-      let below : i < first - n = omega arith in
-      let place : leaf_place n first (n + i) ≡ m + i = place_above n first (n + i) (omega arith) ∙ omega arith in
-      get_or-map-range_with_len T n (first - n) i (n + i) none below refl
-      ∙ leaves (n + i) (omega arith) (omega arith)
-      ∙ ap (λ k. single (get_or xs k (pos 0))) place
-      ∙ sym (get_or-map single (drop m xs) i (pos 0) none (omega arith) ∙ ap single (get_or-drop m xs i (pos 0))))
-
-  leaves_joined : joined_on none (row T first (2 * n - first) ++ row T n (first - n)) ≡ summary_of xs
-  leaves_joined =
-      let m = 2 * n - first in
-      ap (joined_on none) ((λ i. deep_row i ++ upper_row i) ∙ sym (map-append single (take m xs) (drop m xs)) ∙ ap (map single) (take-append-drop m xs))
-      ∙ joined_singles xs
+      let all : m + (first - n) ≡ n = omega arith in
+      (λ i. deep_row i ++ upper_row i) ∙ sym (row_append L 0 m (first - n)) ∙ ap (row L 0) all
 
 -- the two last rows and the root
 rows_joined : (n first h : ℕ) (T : ℕ → Summary) → first ≡ 2 ^ h → IsRowOf n first → AreJoinedBut 0 n T
@@ -180,71 +162,79 @@ rows_joined n first (suc h) T e r joined =
     ∙ whole_row n T joined none h (omega arith)
 
 -- what the root tells
-pub root_told : (n first : ℕ) (xs : List ℤ) (T : ℕ → Summary) → 0 < n → length xs ≡ n → All (FitsSigned w64) xs → IsNextPowerOfTwo n first
-    → AreLeaves n first xs T → AreJoinedBut 0 n T → (m : ℕ) → IsWithin m (T 1) → IsReductionBySum xs (sum_told (T 1))
-root_told n first xs T some long fit power leaves joined m within =
+pub root_told : (n first : ℕ) (xs : List ℤ) (T : ℕ → Summary) → 0 < n → run_count xs ≡ n → All (FitsSigned w64) xs → IsNextPowerOfTwo n first
+    → AreLeaves n first (leaf_summary xs) T → AreJoinedBut 0 n T → (m : ℕ) → IsWithin m (T 1) → IsReductionBySum xs (sum_told (T 1))
+root_told n first xs T some count fit power leaves joined m within =
     let r = row_of n first some power in
     let same : T 1 ≡ summary_of xs =
     sym (join_none (T 1) within.least_zero within.zero_greatest)
     ∙ sym (rows_joined n first power.0.0 T power.0.1 r joined)
-    ∙ leaves_joined n first xs T long r leaves in
+    ∙ ap (joined_on none) (leaves_in_row n first (leaf_summary xs) T r leaves)
+    ∙ ap (λ k. joined_on none (row (leaf_summary xs) 0 k)) (sym count)
+    ∙ runs_joined xs in
     subst (λ s. IsReductionBySum xs (sum_told s)) (sym same) (told_reduction xs fit)
 
 -- ---- what is kept in the fields
 
-pub node_inner : (xs : List ℤ) (inner : List Summary) (first node : ℕ) → node < length xs → node_summary xs inner first node ≡ get_or inner node none
-node_inner xs inner first node h = cond-true _ _ _ (lt-ltb node (length xs) h)
+pub node_inner : (xs : List ℤ) (inner : List Summary) (first node : ℕ) → node < run_count xs → node_summary xs inner first node ≡ get_or inner node none
+node_inner xs inner first node h = cond-true _ _ _ (lt-ltb node (run_count xs) h)
 
-pub node_leaf : (xs : List ℤ) (inner : List Summary) (first node : ℕ) → length xs ≤ node
-    → node_summary xs inner first node ≡ single (get_or xs (leaf_place (length xs) first node) (pos 0))
-node_leaf xs inner first node h = cond-false _ _ _ (le-ltb node (length xs) h)
+pub node_leaf : (xs : List ℤ) (inner : List Summary) (first node : ℕ) → run_count xs ≤ node
+    → node_summary xs inner first node ≡ leaf_summary xs (leaf_place (run_count xs) first node)
+node_leaf xs inner first node h = cond-false _ _ _ (le-ltb node (run_count xs) h)
 
-pub kept_leaves : (xs : List ℤ) (inner : List Summary) (first : ℕ) → AreLeaves (length xs) first xs (node_summary xs inner first)
+pub kept_leaves : (xs : List ℤ) (inner : List Summary) (first : ℕ) → AreLeaves (run_count xs) first (leaf_summary xs) (node_summary xs inner first)
 kept_leaves xs inner first node low high = node_leaf xs inner first node low
 
 -- another summary of an inner node
-pub set_here : (xs : List ℤ) (inner : List Summary) (first node : ℕ) (s : Summary) → node < length xs → length inner ≡ length xs
+pub set_here : (xs : List ℤ) (inner : List Summary) (first node : ℕ) (s : Summary) → node < run_count xs → length inner ≡ run_count xs
     → node_summary xs (set inner node s) first node ≡ s
 set_here xs inner first node s h e = node_inner xs (set inner node s) first node h ∙ get_or-set_same inner node s none (omega (arith, e))
 
 pub set_elsewhere : (xs : List ℤ) (inner : List Summary) (first node : ℕ) (s : Summary) (k : ℕ) → k ≢ node
     → node_summary xs (set inner node s) first k ≡ node_summary xs inner first k
 set_elsewhere xs inner first node s k h =
-    ap (λ e. if nat_lt k (length xs) then e else single (get_or xs (leaf_place (length xs) first k) (pos 0))) (get_or-set_other inner node k s none h)
+    ap (λ e. if nat_lt k (run_count xs) then e else leaf_summary xs (leaf_place (run_count xs) first k)) (get_or-set_other inner node k s none h)
 
-pub nodes_set : (xs : List ℤ) (inner : List Summary) (first node : ℕ) (s : Summary) → node < length xs → IsBounded (length xs) node s
+pub nodes_set : (xs : List ℤ) (inner : List Summary) (first node : ℕ) (s : Summary) → node < run_count xs → IsBounded (run_count xs) node s
     → AreNodes xs inner first → AreNodes xs (set inner node s) first
 nodes_set xs inner first node s h b nodes = record {
   few = nodes.few;
+  fit = nodes.fit;
   sized = length-set inner node s ∙ nodes.sized;
   power = nodes.power;
   bounded = λ k low high. elim (cases_eq k node) [
     | inl e ↦
-        subst (λ m. IsBounded (length xs) m (get_or (set inner node s) m none)) (sym e)
-        (subst (IsBounded (length xs) node) (sym (get_or-set_same inner node s none (omega (arith, nodes.sized)))) b)
-    | inr other ↦ subst (IsBounded (length xs) k) (sym (get_or-set_other inner node k s none other)) (nodes.bounded k low high)
+        subst (λ m. IsBounded (run_count xs) m (get_or (set inner node s) m none)) (sym e)
+        (subst (IsBounded (run_count xs) node) (sym (get_or-set_same inner node s none (omega (arith, nodes.sized)))) b)
+    | inr other ↦ subst (IsBounded (run_count xs) k) (sym (get_or-set_other inner node k s none other)) (nodes.bounded k low high)
   ];
 }
 
 -- another number
-pub nodes_long : (xs ys : List ℤ) (inner : List Summary) (first : ℕ) → length xs ≡ length ys → AreNodes xs inner first → AreNodes ys inner first
-nodes_long xs ys inner first e nodes = record {
-  few = omega (arith, e, nodes.few);
-  sized = nodes.sized ∙ e;
-  power = subst (λ n. IsNextPowerOfTwo n first) e nodes.power;
-  bounded = λ k low high. subst (λ n. IsBounded n k (get_or inner k none)) e (nodes.bounded k low (omega (arith, e)));
-}
-
-pub other_number : (xs : List ℤ) (inner : List Summary) (first place : ℕ) (x : ℤ) (k : ℕ) → IsRowOf (length xs) first → k < 2 * length xs
-    → k ≢ leaf_node (length xs) first place → node_summary (set xs place x) inner first k ≡ node_summary xs inner first k
-other_number xs inner first place x k r high h =
+pub nodes_number : (xs : List ℤ) (inner : List Summary) (first place : ℕ) (x : ℤ) → FitsSigned w64 x → AreNodes xs inner first → AreNodes (set xs place x) inner first
+nodes_number xs inner first place x fx nodes =
     let long = length-set xs place x in
-    elim (cases_lt k (length xs)) [
-      | inl below ↦ node_inner (set xs place x) inner first k (omega (arith, long)) ∙ sym (node_inner xs inner first k below)
+    let count : run_count xs ≡ run_count (set xs place x) = sym (set_count xs place x) in
+    record {
+      few = omega (arith, long, nodes.few);
+      fit = All-set (FitsSigned w64) xs place x fx nodes.fit;
+      sized = nodes.sized ∙ count;
+      power = subst (λ n. IsNextPowerOfTwo n first) count nodes.power;
+      bounded = λ k low high. subst (λ n. IsBounded n k (get_or inner k none)) count (nodes.bounded k low (omega (arith, count)));
+    }
+
+pub other_number : (xs : List ℤ) (inner : List Summary) (first place : ℕ) (x : ℤ) (k : ℕ) → IsRowOf (run_count xs) first → k < 2 * run_count xs
+    → k ≢ leaf_node (run_count xs) first (place / run_length) → node_summary (set xs place x) inner first k ≡ node_summary xs inner first k
+other_number xs inner first place x k r high h =
+    let count = set_count xs place x in
+    elim (cases_lt k (run_count xs)) [
+      | inl below ↦ node_inner (set xs place x) inner first k (omega (arith, count)) ∙ sym (node_inner xs inner first k below)
       | inr above ↦
-          node_leaf (set xs place x) inner first k (omega (arith, long))
-          ∙ ap (λ n. single (get_or (set xs place x) (leaf_place n first k) (pos 0))) long
-          ∙ ap single (get_or-set_other xs place (leaf_place (length xs) first k) x (pos 0) (λ e. h (sym (same_node (length xs) first k r above high) ∙ ap (leaf_node (length xs) first) e)))
+          node_leaf (set xs place x) inner first k (omega (arith, count))
+          ∙ ap (λ n. leaf_summary (set xs place x) (leaf_place n first k)) count
+          ∙ other_leaf xs place x (leaf_place (run_count xs) first k)
+          (λ e. h (sym (same_node (run_count xs) first k r above high) ∙ ap (leaf_node (run_count xs) first) e))
           ∙ sym (node_leaf xs inner first k above)
     ]
 
@@ -303,12 +293,12 @@ joined_bounded n m a b (p, h, l) (q, k, r) =
     let both : (p + q) * m ≡ p * m + q * m = grind arith in
     (p + q, join_within p q a b h k, omega (arith, l, r, left, right, both))
 
--- a tree with another number, as far as it is known on the way up: its nodes are those of the tree but on the way
-pub record Climbs (n first : ℕ) (xs : List ℤ) (T : ℕ → Summary) (node : ℕ) (s : Summary) : Type 0 where
+-- a tree with another leaf, as far as it is known on the way up: its nodes are those of the tree but on the way
+pub record Climbs (n first : ℕ) (L T : ℕ → Summary) (node : ℕ) (s : Summary) : Type 0 where
   pub other : ℕ → Summary
   pub here : other node ≡ s
   pub kept : (k : ℕ) → k < 2 * node → k ≢ node → other k ≡ T k
-  pub leaves : AreLeaves n first xs other
+  pub leaves : AreLeaves n first L other
   pub joined : AreJoinedBut (node / 2) n other
 
 abbrev pub changed : (ℕ → Summary) → ℕ → Summary → ℕ → Summary
@@ -320,32 +310,30 @@ changed_here T node s k e = cond-true _ _ _ (eq-eqb k node e)
 pub changed_elsewhere : (T : ℕ → Summary) (node : ℕ) (s : Summary) (k : ℕ) → k ≢ node → changed T node s k ≡ T k
 changed_elsewhere T node s k h = cond-false _ _ _ (ne_eqb k node h)
 
-pub climb_start : (xs : List ℤ) (first place : ℕ) (x : ℤ) (T : ℕ → Summary) → place < length xs → IsRowOf (length xs) first → AreLeaves (length xs) first xs T
-    → AreJoinedBut 0 (length xs) T → Climbs (length xs) first (set xs place x) T (leaf_node (length xs) first place) (single x)
-climb_start xs first place x T h r leaves joined =
-    let n = length xs in
+pub climb_start : (n first place : ℕ) (K L T : ℕ → Summary) → place < n → IsRowOf n first → ((k : ℕ) → k ≢ place → L k ≡ K k) → AreLeaves n first K T
+    → AreJoinedBut 0 n T → Climbs n first L T (leaf_node n first place) (L place)
+climb_start n first place K L T h r same leaves joined =
     let leaf = leaf_node n first place in
     let low = leaf_low n first place r h in
-    let other = changed T leaf (single x) in
+    let other = changed T leaf (L place) in
     record {
       other = other;
-      here = changed_here T leaf (single x) leaf refl;
-      kept = λ k below d. changed_elsewhere T leaf (single x) k d;
+      here = changed_here T leaf (L place) leaf refl;
+      kept = λ k below d. changed_elsewhere T leaf (L place) k d;
       leaves = λ k above below. elim (cases_eq k leaf) [
         | inl e ↦
             let place_is : leaf_place n first k ≡ place = ap (leaf_place n first) e ∙ same_place n first place r h in
-            changed_here T leaf (single x) k e
-            ∙ sym (ap (λ j. single (get_or (set xs place x) j (pos 0))) place_is ∙ ap single (get_or-set_same xs place x (pos 0) h))
+            changed_here T leaf (L place) k e ∙ sym (ap L place_is)
         | inr d ↦
-            changed_elsewhere T leaf (single x) k d
+            changed_elsewhere T leaf (L place) k d
             ∙ leaves k above below
-            ∙ sym (ap single (get_or-set_other xs place (leaf_place n first k) x (pos 0) (λ e. d (sym (same_node n first k r above below) ∙ ap (leaf_node n first) e))))
+            ∙ sym (same (leaf_place n first k) (λ e. d (sym (same_node n first k r above below) ∙ ap (leaf_node n first) e)))
       ];
-      joined = leaf_changed n leaf T other low (λ k below d. changed_elsewhere T leaf (single x) k d) joined;
+      joined = leaf_changed n leaf T other low (λ k below d. changed_elsewhere T leaf (L place) k d) joined;
     }
 
-pub climb_up : (n first : ℕ) (xs : List ℤ) (T : ℕ → Summary) (node : ℕ) (s : Summary) → 2 ≤ node → node < 2 * n → Climbs n first xs T node s → Climbs n first xs T (node / 2) (lift T node s)
-climb_up n first xs T node s low high c =
+pub climb_up : (n first : ℕ) (L T : ℕ → Summary) (node : ℕ) (s : Summary) → 2 ≤ node → node < 2 * n → Climbs n first L T node s → Climbs n first L T (node / 2) (lift T node s)
+climb_up n first L T node s low high c =
     let m = node / 2 in
     let t = lift T node s in
     record {
@@ -359,15 +347,15 @@ climb_up n first xs T node s low high c =
     }
 
 -- at the root
-pub climb_told : (xs : List ℤ) (first place : ℕ) (x : ℤ) (T : ℕ → Summary) (node : ℕ) (s : Summary) → place < length xs → FitsSigned w64 x → All (FitsSigned w64) xs
-    → IsNextPowerOfTwo (length xs) first → node ≡ 1 → IsBounded (length xs) node s → Climbs (length xs) first (set xs place x) T node s
+pub climb_told : (xs : List ℤ) (first place : ℕ) (x : ℤ) (T : ℕ → Summary) (node : ℕ) (s : Summary) → 0 < run_count xs → FitsSigned w64 x → All (FitsSigned w64) xs
+    → IsNextPowerOfTwo (run_count xs) first → node ≡ 1 → IsBounded (run_count xs) node s → Climbs (run_count xs) first (leaf_summary (set xs place x)) T node s
     → IsReductionBySum (set xs place x) (sum_told s)
-climb_told xs first place x T node s h fx fit power e bounded c =
-    let n = length xs in
+climb_told xs first place x T node s some fx fit power e bounded c =
+    let n = run_count xs in
     let none_joined : node / 2 ≡ 0 = omega (arith, e) in
     let here : c.other 1 ≡ s = ap c.other (sym e) ∙ c.here in
     subst (λ t. IsReductionBySum (set xs place x) (sum_told t)) here
-    (root_told n first (set xs place x) c.other (omega arith) (length-set xs place x) (All-set (FitsSigned w64) xs place x fx fit) power c.leaves
+    (root_told n first (set xs place x) c.other some (set_count xs place x) (All-set (FitsSigned w64) xs place x fx fit) power c.leaves
     (subst (λ k. AreJoinedBut k n c.other) none_joined c.joined) bounded.0 (subst (IsWithin bounded.0) (sym here) bounded.1))
 
 -- ---- how many are joined
@@ -417,17 +405,17 @@ built_up n m T U low here same later k above some below =
 -- ---- a number written
 
 pub replaced_joined : (xs : List ℤ) (inner : List Summary) (first place : ℕ) (x : ℤ) → place < length xs → IsTree xs inner first
-    → AreJoinedBut (leaf_node (length xs) first place / 2) (length xs) (node_summary (set xs place x) inner first)
+    → AreJoinedBut (leaf_node (run_count xs) first (place / run_length) / 2) (run_count xs) (node_summary (set xs place x) inner first)
 replaced_joined xs inner first place x h tree =
-    let n = length xs in
+    let n = run_count xs in
+    let run = run_of_place xs place h in
     let r = row_of n first (omega arith) tree.nodes.power in
-    leaf_changed n (leaf_node n first place) (node_summary xs inner first) (node_summary (set xs place x) inner first) (leaf_low n first place r h)
-    (λ k below d. other_number xs inner first place x k r below d) tree.joined
+    leaf_changed n (leaf_node n first (place / run_length)) (node_summary xs inner first) (node_summary (set xs place x) inner first)
+    (leaf_low n first (place / run_length) r run) (λ k below d. other_number xs inner first place x k r below d) tree.joined
 
-pub tree_from : (xs ys : List ℤ) (inner made : List Summary) (first : ℕ) → ys ≡ xs → made ≡ inner → All (FitsSigned w64) ys → AreNodes xs inner first
-    → AreJoinedBut 0 (length xs) (node_summary xs inner first) → IsTree ys made first
-tree_from xs ys inner made first e f fit nodes joined = record {
+pub tree_from : (xs ys : List ℤ) (inner made : List Summary) (first : ℕ) → ys ≡ xs → made ≡ inner → AreNodes xs inner first
+    → AreJoinedBut 0 (run_count xs) (node_summary xs inner first) → IsTree ys made first
+tree_from xs ys inner made first e f nodes joined = record {
   nodes = subst (λ l. AreNodes ys l first) (sym f) (subst (λ l. AreNodes l inner first) (sym e) nodes);
-  joined = subst (λ l. AreJoinedBut 0 (length ys) (node_summary ys l first)) (sym f) (subst (λ l. AreJoinedBut 0 (length l) (node_summary l inner first)) (sym e) joined);
-  fit = fit;
+  joined = subst (λ l. AreJoinedBut 0 (run_count ys) (node_summary ys l first)) (sym f) (subst (λ l. AreJoinedBut 0 (run_count l) (node_summary l inner first)) (sym e) joined);
 }

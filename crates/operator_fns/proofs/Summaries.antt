@@ -1,5 +1,5 @@
 -- Summaries of lists: they join as the lists do, and tell the sum from the right.
-use Rattle.std.proofs.Common.{◌≡◌, ℕ, ◌+◌, ◌^◌, List, [], ◌∷◌, ◌++◌, map, refl, ap, sym, ◌∙◌, arith, inl, inr, true, ◌&&◌, ℤ, pos, negsuc, ◌≤ℤ◌, FitsSigned, Result, Ok, Err}
+use Rattle.std.proofs.Common.{◌≡◌, ℕ, suc, ◌+◌, ◌≤◌, ◌^◌, List, [], ◌∷◌, ◌++◌, length, map, refl, ap, sym, subst, ◌∙◌, arith, inl, inr, true, ◌&&◌, ℤ, pos, negsuc, ◌≤ℤ◌, FitsSigned, Result, Ok, Err}
 use Rattle.std.specs.Int.{int_max, int_min, w64}
 use Rattle.std.specs.List.{All}
 use Rattle.std.proofs.lemmas.Int.{ints, clamps}
@@ -13,7 +13,7 @@ use Rattle.scalar_fns.specs.Items.{number_item}
 use Rattle.operator_fns.specs.declared.summary.Summary.{Summary}
 use Rattle.operator_fns.specs.Strides.{folded}
 use Rattle.operator_fns.specs.SumTree.{IsReductionBySum}
-use Rattle.operator_fns.specs.SumNodes.{none, single, join, sum_told, IsWithin}
+use Rattle.operator_fns.specs.SumNodes.{none, single, join, summary_of, sum_told, IsOrdered, IsWithin}
 use Rattle.operator_fns.proofs.Endings.{Within, within_of, total, most, fewest, total_most, total_fewest, Fits, folded_sum, folded_fits, folded_error}
 use Rattle.operator_fns.proofs.Folds.{some_folded}
 use Rattle.operator_fns.proofs.Reduced.{folded_numbers}
@@ -59,14 +59,79 @@ pub joined_append : (s : Summary) (xs ys : List Summary) → joined_on s (xs ++ 
 joined_append s [] ys = refl
 joined_append s (x ∷ xs) ys = ap (join x) (joined_append s xs ys)
 
--- that of a list
-abbrev pub summary_of : List ℤ → Summary
-summary_of [] = none
-summary_of (x ∷ xs) = join (single x) (summary_of xs)
+pub none_join : (s : Summary) → IsOrdered s → join none s ≡ s
+none_join s h =
+    let h1 = h.least_total in
+    let h2 = h.total_greatest in
+    summary_eq _ _ (omega (arith, ints)) (omega (arith, ints, clamps)) (omega (arith, ints, clamps))
 
-pub joined_singles : (xs : List ℤ) → joined_on none (map single xs) ≡ summary_of xs
-joined_singles [] = refl
-joined_singles (x ∷ xs) = ap (join (single x)) (joined_singles xs)
+pub ordered : (xs : List ℤ) → IsOrdered (summary_of xs)
+ordered [] = record { least_total = omega (arith, ints); total_greatest = omega (arith, ints); least_zero = omega (arith, ints); zero_greatest = omega (arith, ints) }
+ordered (x ∷ xs) =
+    let s = summary_of xs in
+    let later = ordered xs in
+    let h1 = later.least_total in
+    let h2 = later.total_greatest in
+    let h3 = later.least_zero in
+    let h4 = later.zero_greatest in
+    record {
+      least_total = omega (arith, ints, clamps);
+      total_greatest = omega (arith, ints, clamps);
+      least_zero = omega (arith, ints, clamps);
+      zero_greatest = omega (arith, ints, clamps);
+    }
+
+pub after_none : (xs : List ℤ) → join (summary_of xs) none ≡ summary_of xs
+after_none xs = join_none (summary_of xs) (ordered xs).least_zero (ordered xs).zero_greatest
+
+-- that of one list before another
+pub summary_append : (xs ys : List ℤ) → summary_of (xs ++ ys) ≡ join (summary_of xs) (summary_of ys)
+summary_append [] ys = sym (none_join (summary_of ys) (ordered ys))
+summary_append (x ∷ xs) ys = ap (join (single x)) (summary_append xs ys) ∙ sym (join_assoc (single x) (summary_of xs) (summary_of ys))
+
+pub none_within : IsWithin 0 none
+none_within = record {
+  low = omega (arith, ints);
+  high = omega (arith, ints);
+  least_total = omega (arith, ints);
+  total_greatest = omega (arith, ints);
+  least_zero = omega (arith, ints);
+  zero_greatest = omega (arith, ints);
+}
+
+pub single_within : (z : ℤ) → FitsSigned w64 z → IsWithin 1 (single z)
+single_within z f =
+    let within = within_of z f in
+    let h1 = within.low in
+    let h2 = within.high in
+    record {
+      low = omega (arith, ints, clamps);
+      high = omega (arith, ints, clamps);
+      least_total = omega (arith, ints, clamps);
+      total_greatest = omega (arith, ints, clamps);
+      least_zero = omega (arith, ints, clamps);
+      zero_greatest = omega (arith, ints, clamps);
+    }
+
+pub summary_within : (xs : List ℤ) → All (FitsSigned w64) xs → IsWithin (length xs) (summary_of xs)
+summary_within [] fit = none_within
+summary_within (x ∷ xs) fit =
+    let more : 1 + length xs ≡ length (x ∷ xs) = omega arith in
+    subst (λ n. IsWithin n (summary_of (x ∷ xs))) more
+    (join_within 1 (length xs) (single x) (summary_of xs) (single_within x (fit 0 x (omega arith))) (summary_within xs (λ k d below. fit (suc k) d (omega arith))))
+
+pub within_more : (m n : ℕ) (s : Summary) → m ≤ n → IsWithin m s → IsWithin n s
+within_more m n s more h =
+    let h1 = h.low in
+    let h2 = h.high in
+    record {
+      low = omega (arith, ints);
+      high = omega (arith, ints);
+      least_total = h.least_total;
+      total_greatest = h.total_greatest;
+      least_zero = h.least_zero;
+      zero_greatest = h.zero_greatest;
+    }
 
 -- it has the sum, and the least and the greatest sum of an ending
 pub record Tells (s : Summary) (x : ℤ) (rest : List ℤ) : Type 0 where

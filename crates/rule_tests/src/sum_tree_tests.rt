@@ -14,22 +14,38 @@ fn sum_from_the_right(numbers: &[i64]) -> Result<i64, Kind> {
     Ok(sum)
 }
 
-/// Whether a tree answers what its list does, while each number of a row is replaced in turn.
-fn agrees(alloc: Global, row: &[i64], other: i64) -> Result<bool, AllocError> {
+/// Whether a tree answers what its list does, while each number of a row is replaced in turn, and joins
+/// no more summaries than that for it. In a long row it is asked at both ends of each run only.
+fn agrees(alloc: Global, row: &[i64], other: i64, most_joins: u32) -> Result<bool, AllocError> {
     let mut numbers = row.to_vec(alloc)?;
     let mut tree = SumTree::build(alloc, row)?;
     let mut agrees = tree.result() == sum_from_the_right(&numbers);
     for place in 0..row.len() {
         if place < numbers.len() && place < tree.len() {
             let (wanted, joins) = tree.result_with(place, other);
-            agrees = agrees && joins <= 4;
+            agrees = agrees && joins <= most_joins;
             numbers[place] = other;
             tree.set(place, other);
-            let here = sum_from_the_right(&numbers);
-            agrees = agrees && wanted == here && tree.result() == here;
+            if row.len() <= 100 || place % 16 == 0 || place % 16 == 15 {
+                let here = sum_from_the_right(&numbers);
+                agrees = agrees && wanted == here && tree.result() == here;
+            }
         }
     }
     Ok(agrees)
+}
+
+/// Numbers from ¯999 to 999 in no order.
+fn small_numbers(alloc: Global, places: usize) -> Result<Vec<i64>, AllocError> {
+    let mut numbers = Vec::with_capacity(alloc, places)?;
+    let mut number: i64 = 5;
+    for _ in 0..places {
+        number = number
+            .wrapping_mul(6364136223846793005)
+            .wrapping_add(1442695040888963407);
+        numbers.push((number >> 33) % 1000)?;
+    }
+    Ok(numbers)
 }
 
 #[test]
@@ -78,9 +94,33 @@ fn trees_of_all_lengths_agree_with_their_lists(rt: HostRuntime) -> Result<(), Fa
         i64::MIN,
     ];
     for length in 0..row.len() + 1 {
-        assert!(rt; agrees(rt.alloc(), &row[..length], 2)?);
-        assert!(rt; agrees(rt.alloc(), &row[..length], i64::MIN)?);
-        assert!(rt; agrees(rt.alloc(), &row[..length], i64::MAX)?);
+        assert!(rt; agrees(rt.alloc(), &row[..length], 2, 4)?);
+        assert!(rt; agrees(rt.alloc(), &row[..length], i64::MIN, 4)?);
+        assert!(rt; agrees(rt.alloc(), &row[..length], i64::MAX, 4)?);
     }
+    Ok(())
+}
+
+#[test]
+fn trees_of_several_runs_agree_with_their_lists(rt: HostRuntime) -> Result<(), Fail> {
+    for length in [0, 1, 15, 16, 17, 31, 32, 33, 64, 65, 100, 1000] {
+        let row = small_numbers(rt.alloc(), length)?;
+        assert!(rt; agrees(rt.alloc(), &row, 7, 10)?);
+        assert!(rt; agrees(rt.alloc(), &row, i64::MIN, 10)?);
+        assert!(rt; agrees(rt.alloc(), &row, i64::MAX, 10)?);
+    }
+    Ok(())
+}
+
+#[test]
+fn the_runs_of_a_long_list_are_joined(rt: HostRuntime) -> Result<(), Fail> {
+    let row = small_numbers(rt.alloc(), 1000)?;
+    let tree = SumTree::build(rt.alloc(), &row)?;
+    if 500 < tree.len() {
+        let (_, joins) = tree.result_with(500, 7);
+        assert!(rt; 1 <= joins);
+        assert!(rt; joins <= 10);
+    }
+    assert_eq!(rt; tree.len(), 1000);
     Ok(())
 }

@@ -1,11 +1,11 @@
-use Rattle.std.proofs.Common.{◌≡◌, ◌+◌, ◌-◌, ◌*◌, ◌/◌, sym, subst, length, arith}
-use Rattle.operator_fns.specs.SumNodes.{IsBounded}
+use Rattle.std.proofs.Common.{◌≡◌, ◌+◌, ◌-◌, ◌*◌, ◌/◌, sym, subst, arith}
+use Rattle.operator_fns.specs.SumNodes.{IsBounded, run_count}
 use Rattle.operator_fns.proofs.SumTrees.{joined_bounded}
 use Rattle.operator_fns.proofs.sum_tree.lifted.Goals as goal
 
 pub returns-then-node-eq0-clause-bounded : goal.returns-then-node-eq0-clause-bounded
 returns-then-node-eq0-clause-bounded c =
-    let n = length c.args.numbers.now in
+    let n = run_count c.args.numbers.now in
     let node = c.args.node in
     let even = c.if-node-eq0.true in
     let left : node ≡ 2 * (node / 2) = omega (arith, even) in
@@ -16,7 +16,7 @@ returns-then-node-eq0-clause-bounded c =
 
 pub returns-else-node-eq0-clause-bounded : goal.returns-else-node-eq0-clause-bounded
 returns-else-node-eq0-clause-bounded c =
-    let n = length c.args.numbers.now in
+    let n = run_count c.args.numbers.now in
     let node = c.args.node in
     let odd = c.if-node-eq0.false in
     let left : node - 1 ≡ 2 * (node / 2) = omega (arith, odd) in

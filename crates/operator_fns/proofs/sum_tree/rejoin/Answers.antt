@@ -1,12 +1,12 @@
-use Rattle.std.proofs.Common.{◌≡◌, ◌≤◌, ◌<◌, ◌/◌, ◌∙◌, subst, length, set, arith}
-use Rattle.operator_fns.specs.SumNodes.{node_summary, AreJoinedBut}
+use Rattle.std.proofs.Common.{◌≡◌, ◌≤◌, ◌<◌, ◌/◌, ◌∙◌, subst, set, arith}
+use Rattle.operator_fns.specs.SumNodes.{run_count, node_summary, AreJoinedBut}
 use Rattle.operator_fns.proofs.SumTrees.{nodes_set, set_here, set_elsewhere, joined_up, lift_joins}
 use Rattle.operator_fns.proofs.sum_tree.rejoin.Goals as goal
 
 pub loop-node-preserved : goal.loop-node-preserved
 loop-node-preserved c =
     let xs = c.args.numbers.now in
-    let n = length xs in
+    let n = run_count xs in
     let inner = c.loop-node.inner in
     let first = c.args.first in
     let node = c.loop-node.node in
@@ -33,4 +33,4 @@ returns-clause-joined c =
     let xs = c.args.numbers.now in
     let low = c.loop-node.invariant.low in
     let root : c.loop-node.node / 2 ≡ 0 = omega (arith, c.loop-node-test.false) in
-    subst (λ k. AreJoinedBut k (length xs) (node_summary xs c.loop-node.inner c.args.first)) root c.loop-node.invariant.joined
+    subst (λ k. AreJoinedBut k (run_count xs) (node_summary xs c.loop-node.inner c.args.first)) root c.loop-node.invariant.joined

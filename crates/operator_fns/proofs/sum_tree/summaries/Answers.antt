@@ -1,12 +1,12 @@
-use Rattle.std.proofs.Common.{◌≡◌, ◌≤◌, ◌<◌, ◌+◌, ◌-◌, ◌*◌, ◌/◌, ◌∙◌, ap, sym, subst, length, set, arith}
-use Rattle.operator_fns.specs.SumNodes.{node_summary, IsBounded, lift, join}
+use Rattle.std.proofs.Common.{◌≡◌, ◌≤◌, ◌<◌, ◌+◌, ◌-◌, ◌*◌, ◌/◌, ◌∙◌, ap, sym, subst, set, arith}
+use Rattle.operator_fns.specs.SumNodes.{run_count, node_summary, IsBounded, lift, join}
 use Rattle.operator_fns.proofs.SumTrees.{nodes_set, set_here, set_elsewhere, built_up, lift_joins}
 use Rattle.operator_fns.proofs.sum_tree.summaries.Goals as goal
 
 pub loop-node-preserved : goal.loop-node-preserved
 loop-node-preserved c =
     let xs = c.args.numbers.now in
-    let n = length xs in
+    let n = run_count xs in
     let inner = c.loop-node.inner.items in
     let first = c.args.first in
     let m = c.loop-node.node - 1 in
