@@ -1,0 +1,12 @@
+use Rattle.std.proofs.Common.{◌≡◌, ◌∙◌, ℤ, map, ap, rules, of_z, to_z, w64, SFits}
+use Rattle.std.proofs.lemmas.Int.{to_z-of_z}
+use Rattle.std.proofs.lemmas.List.{map-set}
+use Rattle.arrays_core.specs.declared.item.Item.TheVariants.{Num}
+use Rattle.sum_rules.specs.LineSums.{all_numbers}
+use Rattle.sum_rules.proofs.line_sums.set_item.Goals as goal
+
+pub returns-in-Num-clause-items : goal.returns-in-Num-clause-items
+returns-in-Num-clause-items c =
+    let fits : SFits w64 c.in-Num.number = search rules in
+    let same : to_z w64 (of_z w64 c.in-Num.number) ≡ c.in-Num.number = to_z-of_z w64 c.in-Num.number fits in
+    ap (map (λ (z : ℤ). Num z)) c.set_number.ensures.numbers ∙ (rw (same, c.in-Num.is) (map-set (λ z. Num z) (all_numbers c.args.trees.now) c.args.place c.in-Num.number))

@@ -1,0 +1,9 @@
+use Rattle.std.proofs.Common.{◌≡◌, ◌*◌, take}
+use Rattle.sum_rules.specs.LineSums.{all_numbers, AreAllAsLong}
+use Rattle.sum_rules.proofs.line_sums.trees_of.Given as goal
+
+abbrev pub invariant-loop-line : goal.invariant-loop-line
+invariant-loop-line l = record {
+  numbers : all_numbers l.trees.items ≡ take (l.line * l.count) l.numbers;
+  lines : AreAllAsLong l.count l.trees.items;
+}
