@@ -1,2 +1,3 @@
 -- What public contracts mean.
 pub mod LineSums
+pub mod Totals

@@ -1,0 +1,25 @@
+use Rattle.std.proofs.Common.{◌≡◌, ◌≤◌, ◌<◌, ◌+◌, take, length}
+use Rattle.arrays_core.specs.declared.item.ItemType.TheVariants.{Nums}
+use Rattle.scalar_fns.specs.declared.function.Scalar2.TheVariants.{Plus}
+use Rattle.index_region.specs.declared.along.Along.TheVariants.{Last}
+use Rattle.index_region.specs.Boxes.{box_size, walk_at}
+use Rattle.index_region.specs.Patches.{patched}
+use Rattle.operator_fns.specs.Reduce.{reduce_item}
+use Rattle.change_core.proofs.Collected.{along, collected}
+use Rattle.change_core.proofs.Walking.{prepend, rest_from}
+use Rattle.sum_rules.specs.LineSums.{array_of, last_length}
+use Rattle.sum_rules.specs.Totals.{AreJoinsWithin, lines_of}
+use Rattle.sum_rules.proofs.totals.new_totals.Given as goal
+
+abbrev pub invariant-loop-line : goal.invariant-loop-line
+invariant-loop-line l =
+    let item = reduce_item Plus Last (patched (array_of l.fn.shape.items l.fn.sums) l.fn.patch) in
+    let region = lines_of l.fn.patch.region in
+    record {
+      ticks : l.meter.ticks ≤ l.fn.meter.ticks + l.line;
+      joins : AreJoinsWithin l.line (last_length l.fn.shape.items) l.fn.meter.joins l.meter.joins;
+      at : l.line < box_size l.fn.patch.region → l.index ≡ walk_at l.fn.patch.region l.line;
+      many : length l.totals.items ≡ box_size region;
+      typed : l.totals.item_type ≡ Nums;
+      rest : prepend (take l.line l.totals.items) (rest_from (λ before. item (walk_at region before)) (box_size region) l.line) ≡ collected (along item region);
+    }

@@ -1,0 +1,211 @@
+//! The change of the totals of lines, from trees of their sums.
+
+ghost use Rattle.std.specs.Prelude.{◌≡◌, ◌-◌, ◌+◌, ◌/◌, ◌%◌, ◌≤◌, ◌<◌, ◌∷◌, [], true, Some, length, map, get_or, set, IfOk};
+ghost use Rattle.arrays_core.specs.declared.item.Item.TheVariants.{Num};
+ghost use Rattle.arrays_core.specs.Items.{type_of};
+ghost use Rattle.arrays_core.specs.declared.item.ItemType.TheVariants.{Nums};
+ghost use Rattle.scalar_fns.specs.declared.function.Scalar2.TheVariants.{Plus as Sum};
+ghost use Rattle.index_region.specs.declared.along.Along.TheVariants.{Last as LastAxis};
+ghost use Rattle.index_region.specs.Arguments.{number_of};
+ghost use Rattle.index_region.specs.Boxes.{box_size};
+ghost use Rattle.index_region.specs.Patches.{FitsPatch, patched};
+ghost use Rattle.operator_fns.specs.Reduce.{reduce_item};
+ghost use Rattle.operator_fns.specs.RightFold.{fold_right};
+ghost use Rattle.operator_fns.specs.SumTree.{IsWithinDigitsOf};
+ghost use Rattle.change_core.specs.Parts.{HoldsItems, items_in};
+ghost use Rattle.change_core.specs.Reaches.{AllFit};
+ghost use Rattle.change_rules.specs.Nodes.{views, moved, node_delta, node_cost, reached_delta, reached_cost, patch_delta};
+ghost use Rattle.change_rules.specs.Currency.{BringsUpToDate, IsRight};
+ghost use Rattle.sum_rules.specs.LineSums.{StandFor, AreAllAsLong, array_of, last_length as length_of_lines};
+ghost use Rattle.sum_rules.specs.Totals.{total_rule, StoodFor, IsSummedUp, AreJoinsWithin, new_items, is_one_a_line as has_one_a_line, lines_of};
+
+use crate::line_sums::last_length;
+use arrays_core::{ApplyFault, Array, Fault, Item, ItemType, Kind, Shape, position, shape_of};
+use change_core::{Meter, Reach, Rule};
+use change_rules::refresh_with_cost;
+use index_region::{Along, Delta, IndexBox, Patch, Seen};
+use operator_fns::{Reduce, SumTree};
+use operator_rules::Ruled;
+use scalar_fns::Scalar2;
+use std::alloc::{AllocError, Global};
+
+/// The rule of `+/B`.
+const TOTALS: Ruled<Reduce> = Ruled {
+    function: Reduce {
+        function: Scalar2::Plus,
+        along: Along::Last,
+    },
+};
+
+/// The box has one place on the last axis.
+fn is_one_a_line(region: &IndexBox) -> bool
+    ensures { result ≡ has_one_a_line region.now }
+{
+    match region.as_slice().last() {
+        Some((first, last)) => first == last,
+        None => false,
+    }
+}
+
+/// The total of a line with a new item at a place among those of all lines, and how many sums were joined for it.
+fn total_with(sums: &[SumTree], count: usize, place: usize, item: Item) -> (Result<Item, Kind>, u32)
+    requires some { 0 < count }
+    requires there { place / count < length sums.now }
+    requires lines { AreAllAsLong count sums.now }
+    ensures total { result.0 ≡ fold_right Sum (map (λ z. Num z) (set (get_or sums.now (place / count) []) (place % count) (number_of item))) }
+    ensures typed { IfOk result.0 (λ total. type_of total ≡ Nums) }
+    ensures joins { IsWithinDigitsOf (count - 1) result.1 }
+{
+    let number = match item {
+        Item::Num(number) => number,
+        Item::Char(_) => 0,
+    };
+    let (total, joins) = sums[place / count].result_with(place % count, number);
+    match total {
+        Ok(total) => (Ok(Item::Num(total)), joins),
+        Err(kind) => (Err(kind), joins),
+    }
+}
+
+/// The totals of the lines of an array of this shape that have a new number each, or the first error among them.
+fn new_totals(
+    alloc: Global,
+    shape: &Shape,
+    sums: &[SumTree],
+    patch: &Patch,
+    meter: &mut Meter,
+) -> Result<Array, ApplyFault>
+    requires lines { StandFor sums.now (array_of shape.now.items sums.now) }
+    requires fit { FitsPatch (array_of shape.now.items sums.now) patch.now }
+    requires one { has_one_a_line patch.now.region ≡ true }
+    ensures totals { HoldsItems Nums (items_in (reduce_item Sum LastAxis (patched (array_of shape.now.items sums.now) patch.now)) (lines_of patch.now.region)) result }
+    ensures ticks { meter.new.ticks ≤ meter.old.ticks + box_size patch.now.region }
+    ensures joins { AreJoinsWithin (box_size patch.now.region) (length_of_lines shape.now.items) meter.old.joins meter.new.joins }
+{
+    let count = last_length(shape.as_slice()) as usize;
+    // The type of the items says that the patch has one item for each place.
+    let _one_item_a_place = patch.item_type();
+    let region = patch.region();
+    let lines = region.size();
+    let mut totals = Array::filled(alloc, ItemType::Nums, &shape_of(alloc, &[lines as u32]))?;
+    let mut index = region.index_at(0);
+    for line in 0..lines {
+        let place = position(shape, index.as_slice()) - 1;
+        let item = patch.item(index.as_slice());
+        let (total, joins) = total_with(sums, count, place as usize, item);
+        meter.tick();
+        meter.count_joins(joins);
+        match total {
+            Ok(total) => totals.write_at(line as u32 + 1, total),
+            Err(kind) => return Err(ApplyFault::Kind(kind)),
+        }
+        region.advance(&mut index);
+    }
+    Ok(totals)
+}
+
+/// The change of the totals of an array of which a box that has one place on the last axis is new, where they were an
+/// array, and what it costs.
+fn change_by_trees(
+    alloc: Global,
+    array: &Seen,
+    patch: &Patch,
+    sums: &[SumTree],
+    meter: &mut Meter,
+) -> Result<(Delta, u32), AllocError>
+    requires lines { StoodFor sums.now patch.now array.now }
+    requires one { has_one_a_line patch.now.region ≡ true }
+    ensures delta { IfOk result (λ r. r.0 ≡ reached_delta total_rule (array.now ∷ []) (Some patch.now.region ∷ [])) }
+    ensures cost { IfOk result (λ r. r.1 ≡ reached_cost total_rule (array.now ∷ []) (Some patch.now.region ∷ [])) }
+    ensures ticks { meter.new.ticks ≤ meter.old.ticks + reached_cost total_rule (array.now ∷ []) (Some patch.now.region ∷ []) }
+    ensures joins { AreJoinsWithin (box_size patch.now.region) (length_of_lines array.now.shape) meter.old.joins meter.new.joins }
+{
+    let args = [array.again()];
+    let form = match TOTALS.shape(&args) {
+        Ok(form) => form,
+        Err(kind) => return Ok((Delta::Whole(Err(Fault { kind, origin: None })), 0)),
+    };
+    let moved = [Some(patch.region().copy())];
+    match TOTALS.reach_in(&args, form.0.as_slice(), &moved) {
+        Reach::Unmoved => Ok((Delta::Same, 0)),
+        Reach::Inside(region) => {
+            let cost = region.size() as u32;
+            let delta = patch_of(alloc, region, array, sums, patch, meter)?;
+            Ok((delta, cost))
+        }
+        Reach::Anew => unreachable!(),
+    }
+}
+
+/// The patch of the totals of the lines of a box, or the first error among them.
+fn patch_of(
+    alloc: Global,
+    region: IndexBox,
+    array: &Seen,
+    sums: &[SumTree],
+    patch: &Patch,
+    meter: &mut Meter,
+) -> Result<Delta, AllocError>
+    requires lines { StoodFor sums.now patch.now array.now }
+    requires one { has_one_a_line patch.now.region ≡ true }
+    requires region { region ≡ lines_of patch.now.region }
+    ensures delta { IfOk result (λ d. d ≡ patch_delta Nums region (items_in (reduce_item Sum LastAxis array.now) region)) }
+    ensures ticks { meter.new.ticks ≤ meter.old.ticks + box_size patch.now.region }
+    ensures joins { AreJoinsWithin (box_size patch.now.region) (length_of_lines array.now.shape) meter.old.joins meter.new.joins }
+{
+    match new_totals(alloc, array.shape(), sums, patch, meter) {
+        Ok(values) => Ok(Delta::Patch(Patch::of(region, values))),
+        Err(ApplyFault::Kind(kind)) => Ok(Delta::Whole(Err(Fault { kind, origin: None }))),
+        Err(ApplyFault::NoMemory) => Err(AllocError),
+    }
+}
+
+/// The change of `+/B`, as `refresh_with_cost` answers it, and what it costs: how many totals it works out at most.
+/// Where the totals were an array and the box of B that changed has one place on the last axis, each total comes from
+/// the tree of its line, in as many joins of sums as the length of the line less one has binary digits. In every other
+/// case the lines are summed up.
+pub fn refresh_sums_with_cost(
+    alloc: Global,
+    arg: (Seen, &Delta),
+    old: &Result<Array, Fault>,
+    sums: &[SumTree],
+    meter: &mut Meter,
+) -> Result<(Delta, u32), AllocError>
+    requires fit { AllFit (views (arg ∷ [])) (moved (arg ∷ [])) }
+    requires sums { IsSummedUp arg sums.now }
+    ensures delta { IfOk result (λ r. r.0 ≡ node_delta total_rule (arg.entry ∷ []) old.now) }
+    ensures cost { IfOk result (λ r. r.1 ≡ node_cost total_rule (arg.entry ∷ []) old.now) }
+    ensures ticks { meter.new.ticks ≤ meter.old.ticks + node_cost total_rule (arg.entry ∷ []) old.now }
+    ensures joins { AreJoinsWithin (new_items arg.entry.1.now) (length_of_lines arg.entry.0.shape) meter.old.joins meter.new.joins }
+    ensures right { IfOk result (λ r. IsRight total_rule (views (arg.entry ∷ [])) r.0) }
+    ensures whole { IfOk result (λ r. BringsUpToDate total_rule (arg.entry ∷ []) old.now r.0) }
+{
+    let (array, delta) = arg;
+    // The shape says that it is an array.
+    let _is_array = array.shape();
+    if let Delta::Patch(patch) = delta {
+        if old.is_ok() && is_one_a_line(patch.region()) {
+            return change_by_trees(alloc, &array, patch, sums, meter);
+        }
+    }
+    refresh_with_cost(alloc, &TOTALS, &[(array, delta)], old, meter)
+}
+
+/// The same change alone.
+pub fn refresh_sums(
+    alloc: Global,
+    arg: (Seen, &Delta),
+    old: &Result<Array, Fault>,
+    sums: &[SumTree],
+    meter: &mut Meter,
+) -> Result<Delta, AllocError>
+    requires fit { AllFit (views (arg ∷ [])) (moved (arg ∷ [])) }
+    requires sums { IsSummedUp arg sums.now }
+    ensures delta { IfOk result (λ d. d ≡ node_delta total_rule (arg.entry ∷ []) old.now) }
+    ensures ticks { meter.new.ticks ≤ meter.old.ticks + node_cost total_rule (arg.entry ∷ []) old.now }
+    ensures joins { AreJoinsWithin (new_items arg.entry.1.now) (length_of_lines arg.entry.0.shape) meter.old.joins meter.new.joins }
+    ensures right { IfOk result (λ d. IsRight total_rule (views (arg.entry ∷ [])) d) }
+    ensures whole { IfOk result (λ d. BringsUpToDate total_rule (arg.entry ∷ []) old.now d) }
+{
+    Ok(refresh_sums_with_cost(alloc, arg, old, sums, meter)?.0)
+}
