@@ -1,61 +1,57 @@
--- Results take their changes one after another, from the last to the first.
-use Rattle.std.proofs.Common.{◌≡◌, ◌≢◌, ℕ, suc, ◌<◌, ◌≤◌, List, [], ◌∷◌, ◌++◌, length, set, get_or, Err, refl, sym, ap, ◌∙◌, subst, arith}
-use Rattle.std.proofs.lemmas.List.{length-append, length-set, get_or-set_other, get_or_append_left}
+-- A list takes its changes one after another, from the last to the first.
+use Rattle.std.proofs.Common.{◌≡◌, ◌≢◌, ℕ, suc, ◌<◌, ◌≤◌, List, [], ◌∷◌, ◌++◌, length, set, get_or, refl, sym, ap, ◌∙◌, subst, arith}
+use Rattle.std.proofs.lemmas.List.{length-append, length-set, get_or-set_other, get_or_append_left, get_or_default}
 use Rattle.std.proofs.Math.Seq.{get_or-append_seam}
-use Rattle.std.proofs.lemmas.List.{get_or_default}
-use Rattle.arrays_core.specs.declared.item.Kind.TheVariants.{Value}
-use Rattle.index_region.specs.declared.delta.Delta.{Delta}
-use Rattle.index_region.specs.declared.delta.Delta.TheVariants.{Same}
-use Rattle.change_rules.specs.Currency.{applied}
-use Rattle.formula_core.specs.Outcomes.{Outcome, fault}
-use Rattle.formula_core.specs.Changes.{FitsIn}
-use Rattle.formula_core.specs.Inputs.{AllFitIn}
-use Rattle.formula_core.specs.Plans.{adopted}
+use Rattle.formula_core.specs.Changes.{each_with}
 
--- the last change first
-pub last_first : (changes : List Delta) (d : Delta) (results : List Outcome) (e : Outcome) → length changes < length results
-    → adopted changes (set results (length changes) (applied d (get_or results (length changes) e))) ≡ adopted (changes ++ d ∷ []) results
-last_first changes d [] e below = absurd (omega (arith, below))
-last_first [] d (o ∷ results) e below = refl
-last_first (x ∷ changes) d (o ∷ results) e below = ap (λ rest. applied x o ∷ rest) (last_first changes d results e (omega (arith, below)))
+-- changes of elements, what they make of these, that they fit, and what is said where there is none
+module _ (C A : Type 0) (f : C → A → A) (Fits : C → A → Type 0) (no_change : C) (none : A) where
+  -- the last change first
+  last_first : (changes : List C) (d : C) (xs : List A) (e : A) → length changes < length xs
+      → each_with f changes (set xs (length changes) (f d (get_or xs (length changes) e))) ≡ each_with f (changes ++ d ∷ []) xs
+  last_first changes d [] e below = absurd (omega (arith, below))
+  last_first [] d (o ∷ xs) e below = refl
+  last_first (x ∷ changes) d (o ∷ xs) e below = ap (λ rest. f x o ∷ rest) (last_first changes d xs e (omega (arith, below)))
 
-pub record IsLeft (changes : List Delta) (results : List Outcome) (whole : List Outcome) : Type 0 where
-  pub few : length changes ≤ length results
-  pub fit : AllFitIn changes results
-  pub same : adopted changes results ≡ whole
+  pub record IsLeft (changes : List C) (xs : List A) (whole : List A) : Type 0 where
+    pub few : length changes ≤ length xs
+    pub fit : (k : ℕ) → k < length changes → Fits (get_or changes k no_change) (get_or xs k none)
+    pub same : each_with f changes xs ≡ whole
 
-pub last_fits : (changes : List Delta) (d : Delta) (results : List Outcome) → AllFitIn (changes ++ d ∷ []) results → FitsIn d (get_or results (length changes) (Err (fault Value)))
-last_fits changes d results fit =
-    subst (λ (x : Delta). FitsIn x (get_or results (length changes) (Err (fault Value)))) (get_or-append_seam changes d [] Same)
-    (fit (length changes) (omega (arith, length-append changes (d ∷ []))))
+  one_left : (changes : List C) (d : C) (xs : List A) (whole : List A) → IsLeft (changes ++ d ∷ []) xs whole → IsLeft changes (set xs (length changes) (f d (get_or xs (length changes) none))) whole
+  one_left changes d xs whole h =
+      let below : length changes < length xs = omega (arith, h.few, length-append changes (d ∷ [])) in
+      let new = f d (get_or xs (length changes) none) in
+      record {
+        few = omega (arith, below, length-set xs (length changes) new);
+        fit = λ k under.
+            let apart : k ≢ length changes = λ e. omega (arith, under, e) in
+            subst (λ (o : A). Fits (get_or changes k no_change) o) (sym (get_or-set_other xs (length changes) k new none apart))
+            (subst (λ (x : C). Fits x (get_or xs k none)) (get_or_append_left changes (d ∷ []) no_change k under)
+            (h.fit k (omega (arith, under, length-append changes (d ∷ [])))));
+        same = last_first changes d xs none below ∙ h.same;
+      }
 
-pub one_left : (changes : List Delta) (d : Delta) (results : List Outcome) (whole : List Outcome) → IsLeft (changes ++ d ∷ []) results whole
-    → IsLeft changes (set results (length changes) (applied d (get_or results (length changes) (Err (fault Value))))) whole
-one_left changes d results whole h =
-    let below : length changes < length results = omega (arith, h.few, length-append changes (d ∷ [])) in
-    let new = applied d (get_or results (length changes) (Err (fault Value))) in
-    record {
-      few = omega (arith, below, length-set results (length changes) new);
-      fit = λ k under.
-          let apart : k ≢ length changes = λ e. omega (arith, under, e) in
-          subst (λ (o : Outcome). FitsIn (get_or changes k Same) o) (sym (get_or-set_other results (length changes) k new (Err (fault Value)) apart))
-          (subst (λ (x : Delta). FitsIn x (get_or results k (Err (fault Value)))) (get_or_append_left changes (d ∷ []) Same k under)
-          (h.fit k (omega (arith, under, length-append changes (d ∷ [])))));
-      same = last_first changes d results (Err (fault Value)) below ∙ h.same;
-    }
+  -- the last change fits in what it is taken by
+  pub last_fits : (all changes : List C) (d : C) (xs : List A) (n : ℕ) (held : A) (whole : List A) → IsLeft all xs whole → all ≡ changes ++ d ∷ [] → n ≡ length changes → held ≡ get_or xs n held → Fits d held
+  last_fits all changes d xs n held whole h taken at is =
+      let before : IsLeft (changes ++ d ∷ []) xs whole = subst (λ (ds : List C). IsLeft ds xs whole) taken h in
+      let below : n < length xs = omega (arith, at, before.few, length-append changes (d ∷ [])) in
+      let there : get_or xs (length changes) none ≡ held = ap (λ k. get_or xs k none) (sym at) ∙ (sym (get_or_default xs n held none below) ∙ sym is) in
+      subst (λ (o : A). Fits d o) there
+      (subst (λ (x : C). Fits x (get_or xs (length changes) none)) (get_or-append_seam changes d [] no_change) (before.fit (length changes) (omega (arith, length-append changes (d ∷ [])))))
 
--- the same, told of what was taken out and written
-pub left_after : (all changes : List Delta) (d : Delta) (results : List Outcome) (n : ℕ) (held new : Outcome) (whole : List Outcome) → IsLeft all results whole → all ≡ changes ++ d ∷ [] → n ≡ length changes → held ≡ get_or results n held
-    → new ≡ applied d held → IsLeft changes (set results n new) whole
-left_after all changes d results n held new whole h taken at is made =
-    let before : IsLeft (changes ++ d ∷ []) results whole = subst (λ (ds : List Delta). IsLeft ds results whole) taken h in
-    let below : n < length results = omega (arith, at, before.few, length-append changes (d ∷ [])) in
-    let value : new ≡ applied d (get_or results (length changes) (Err (fault Value))) =
-    made ∙ ap (applied d) (is ∙ (get_or_default results n held (Err (fault Value)) below ∙ ap (λ k. get_or results k (Err (fault Value))) at)) in
-    subst (λ (rs : List Outcome). IsLeft changes rs whole) (sym (ap (λ k. set results k new) at ∙ ap (λ o. set results (length changes) o) value)) (one_left changes d results whole before)
+  -- what is left once a change was taken out, and its element written
+  pub left_after : (all changes : List C) (d : C) (xs : List A) (n : ℕ) (held new : A) (whole : List A) → IsLeft all xs whole → all ≡ changes ++ d ∷ [] → n ≡ length changes → held ≡ get_or xs n held
+      → new ≡ f d held → IsLeft changes (set xs n new) whole
+  left_after all changes d xs n held new whole h taken at is made =
+      let before : IsLeft (changes ++ d ∷ []) xs whole = subst (λ (ds : List C). IsLeft ds xs whole) taken h in
+      let below : n < length xs = omega (arith, at, before.few, length-append changes (d ∷ [])) in
+      let value : new ≡ f d (get_or xs (length changes) none) = made ∙ ap (f d) (is ∙ (get_or_default xs n held none below ∙ ap (λ k. get_or xs k none) at)) in
+      subst (λ (rs : List A). IsLeft changes rs whole) (sym (ap (λ k. set xs k new) at ∙ ap (λ o. set xs (length changes) o) value)) (one_left changes d xs whole before)
 
--- as many results as before
-pub adopted_long : (changes : List Delta) (results : List Outcome) → length changes ≡ length results → length (adopted changes results) ≡ length results
-adopted_long [] results h = refl
-adopted_long (d ∷ changes) [] h = absurd (omega (arith, h))
-adopted_long (d ∷ changes) (o ∷ results) h = ap suc (adopted_long changes results (omega (arith, h)))
+  -- as many as before
+  pub each_long : (changes : List C) (xs : List A) → length changes ≤ length xs → length (each_with f changes xs) ≡ length xs
+  each_long [] xs h = refl
+  each_long (d ∷ changes) [] h = absurd (omega (arith, h))
+  each_long (d ∷ changes) (o ∷ xs) h = ap suc (each_long changes xs (omega (arith, h)))

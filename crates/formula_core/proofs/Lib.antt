@@ -8,6 +8,7 @@ pub mod Alike
 pub mod Stepping
 pub mod Gathered
 pub mod Steps
+pub mod Summed
 pub mod Adopted
 pub mod Placed
 pub mod Planned

@@ -1,8 +1,9 @@
 -- A formula is its table.
-use Rattle.std.proofs.Common.{◌≡◌, ℕ, ◌+◌, ◌-◌, ◌<◌, true, false, List, [], ◌∷◌, ◌++◌, length, take, get_or, refl, sym, ap, ◌∙◌, subst, arith, append_assoc, cond}
+use Rattle.std.proofs.Common.{◌≡◌, ℕ, ◌+◌, ◌-◌, ◌<◌, true, false, Option, List, [], ◌∷◌, ◌++◌, length, take, get_or, refl, sym, ap, ◌∙◌, subst, arith, append_assoc, cond}
 use Rattle.std.specs.List.{count_by}
 use Rattle.std.proofs.lemmas.List.{length-append}
 use Rattle.std.proofs.lemmas.List.Sums.{sum_by-append, count_by_more_yes, count_by_more_no}
+use Rattle.arrays_core.specs.Arrays.{ArrayValue}
 use Rattle.apl_expr.specs.Trees.{Tree, Const, Name, Monad, Dyad, Index, Numbers}
 use Rattle.formula_core.specs.declared.table.Operand.TheVariants as operand
 use Rattle.formula_core.specs.declared.table.Node.{Node}
@@ -40,9 +41,9 @@ append_none (x ∷ xs) = ap (λ rest. x ∷ rest) (append_none xs)
 table_made : (names : List (List ℕ)) (nodes : List Node) (t : Tree) → names ≡ names_in t → trees_after names [] nodes ≡ subtrees t → IsTable (length names) 0 nodes → IsTableOf names nodes t
 table_made names nodes t named is table = record { root = root_found names nodes t is; named = named; trees = is; table = table }
 
--- a formula of the tree, with a result for each node
-pub formula_made : (names : List (List ℕ)) (nodes : List Node) (t : Tree) (results : List Outcome) → IsTableOf names nodes t → length results ≡ length nodes → IsFormula names nodes results
-formula_made names nodes t results table each = record { table = subst (λ (u : Tree). IsTableOf names nodes u) (sym table.root) table; each = each }
+-- a formula of the tree, with a result for each node, and sums or none
+pub formula_made : (names : List (List ℕ)) (nodes : List Node) (t : Tree) (results : List Outcome) (sums : List (Option ArrayValue)) → IsTableOf names nodes t → length results ≡ length nodes → length sums ≡ length nodes → IsFormula names nodes results sums
+formula_made names nodes t results sums table each every = record { table = subst (λ (u : Tree). IsTableOf names nodes u) (sym table.root) table; each = each; every = every }
 
 -- the trees where no further names follow
 plain : (names : List (List ℕ)) (nodes : List Node) (ts : List Tree) → trees_after (names ++ []) [] nodes ≡ ts → trees_after names [] nodes ≡ ts
@@ -88,8 +89,8 @@ applying names trees (n ∷ nodes) =
       ap (λ b. 0 + cond b 1 0) (node_applies names trees n),
     )
 
-pub operations_counted : (names : List (List ℕ)) (nodes : List Node) (results : List Outcome) → IsFormula names nodes results → count_by applies nodes ≡ operations (root_of names nodes)
-operations_counted names nodes results f = omega (arith, applying names [] nodes, ap (count_by is_operation) f.table.trees)
+pub operations_counted : (names : List (List ℕ)) (nodes : List Node) (results : List Outcome) (sums : List (Option ArrayValue)) → IsFormula names nodes results sums → count_by applies nodes ≡ operations (root_of names nodes)
+operations_counted names nodes results sums f = omega (arith, applying names [] nodes, ap (count_by is_operation) f.table.trees)
 
 -- one node more is counted, or not
 pub counted_yes : (nodes : List Node) (k c : ℕ) (n : Node) → c ≡ count_by applies (take k nodes) → k < length nodes → n ≡ get_or nodes k n → applies n ≡ true → c + 1 ≡ count_by applies (take (k + 1) nodes)

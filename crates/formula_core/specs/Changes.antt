@@ -103,6 +103,12 @@ size_at names (Monad f b) = operation_size (right_rule f) (arguments (eval b nam
 size_at names (Dyad f a b) = operation_size (both_rule f) (arguments (eval a names ∷ eval b names ∷ []))
 size_at names (Index a ps) = operation_size (index_rule (written ps)) (arguments (eval a names ∷ values_of ps names))
 
+-- each with its change, from the first; those behind the last change stay
+abbrev pub each_with : {C A : Type 0} → (C → A → A) → List C → List A → List A
+each_with f [] xs = xs
+each_with f (c ∷ changes) [] = []
+each_with f (c ∷ changes) (x ∷ xs) = f c x ∷ each_with f changes xs
+
 -- what is patched is an array in which the box lies, and the items are of its type
 abbrev pub FitsIn : Delta → Outcome → Type 0
 FitsIn (Patch p) (Ok a) = FitsPatch a p

@@ -6,6 +6,7 @@ pub mod Formulas
 pub mod Rules
 pub mod Changes
 pub mod Inputs
+pub mod Sums
 pub mod Plans
 -- What proofs and bodies use.
 pub mod Operands

@@ -1,5 +1,5 @@
 -- What a formula's next results are, planned while its old ones stand.
-use Rattle.std.specs.Prelude.{◌≡◌, ◌-◌, ℕ, List, [], ◌∷◌, Bool, false, IfOk, length, get_or, map, if◌then◌else◌}
+use Rattle.std.specs.Prelude.{◌≡◌, ◌-◌, ◌≤◌, ℕ, List, [], ◌∷◌, Bool, false, IfOk, length, get_or, map, if◌then◌else◌}
 use Rattle.std.specs.List.{Contains, sum_by}
 use Rattle.apl_expr.specs.Trees.{Tree}
 use Rattle.arrays_core.specs.Arrays.{IsArray}
@@ -12,12 +12,15 @@ use Rattle.formula_core.specs.Outcomes.{Outcome}
 use Rattle.formula_core.specs.Meaning.{eval, names_in}
 use Rattle.formula_core.specs.Tables.{subtrees}
 use Rattle.formula_core.specs.Formulas.{FormulaValue}
-use Rattle.formula_core.specs.Changes.{Change, change, cost_at, size_at, IsNameChanged}
+use Rattle.formula_core.specs.Changes.{Change, change, cost_at, size_at, each_with, IsNameChanged}
 use Rattle.formula_core.specs.Inputs.{IsInput, AllFitIn}
+use Rattle.formula_core.specs.Sums.{summed_at, resummed_all, AllSumsFit}
+use Rattle.formula_core.specs.declared.sums.SumsDelta.{SumsDelta}
 
--- the change of each node, and what all of them cost
+-- the change of each node, of the sums that nodes keep (those behind the last of these stay), and what all of them cost
 pub record PlanValue : Type 0 where
   pub changes : List Delta
+  pub sums : List SumsDelta
   pub cost : ℕ
 
 -- the change of the whole tree: that of the last node
@@ -26,14 +29,14 @@ root_change changes = get_or changes (length changes - 1) Same
 
 -- results with their changes
 abbrev pub adopted : List Delta → List Outcome → List Outcome
-adopted [] results = results
-adopted (d ∷ changes) [] = []
-adopted (d ∷ changes) (o ∷ results) = applied d o ∷ adopted changes results
+adopted changes results = each_with applied changes results
 
--- it has a change for each result, which lies in it
+-- it has a change for each result, which lies in it, and so it is with sums
 pub record IsPlanOf (f : FormulaValue) (p : PlanValue) : Type 0 where
   pub each : length p.changes ≡ length f.results
   pub fit : AllFitIn p.changes f.results
+  pub few : length p.sums ≤ length f.sums
+  pub sums_fit : AllSumsFit p.sums f.sums
 
 -- the change of a node: where the formula was not worked out yet every node is whole
 abbrev pub node_change : (is_new : Bool) → Change → Tree → Delta
@@ -61,12 +64,15 @@ pub record IsNameSound (c : Change) (x : List ℕ) : Type 0 where
 -- the names of the formula changed so, as the inputs tell, and it holds what it gave before, unless it was not worked out yet
 pub record IsTold (f : FormulaValue) (c : Change) (inputs : List Input) : Type 0 where
   pub holds : f.is_new ≡ false → f.results ≡ map (λ t. eval t c.old) (subtrees f.tree)
+  pub keeps : f.is_new ≡ false → f.sums ≡ map (summed_at c.old) (subtrees f.tree)
   pub tell : AreInputs c (names_in f.tree) inputs
   pub changed : (x : List ℕ) → Contains (names_in f.tree) x → IsNameChanged c x
   pub sound : (x : List ℕ) → Contains (names_in f.tree) x → IsNameSound c x
 
--- it changes each node as the names changed, makes of each result what its tree gives now, and costs what its nodes cost
+-- it changes each node as the names changed, makes of each result what its tree gives now, of the sums those of the arguments as they are
+-- now, and costs what its nodes cost
 pub record IsPlanned (f : FormulaValue) (c : Change) (p : PlanValue) : Type 0 where
   pub changes : p.changes ≡ map (node_change f.is_new c) (subtrees f.tree)
   pub right : adopted p.changes f.results ≡ map (λ t. eval t c.new) (subtrees f.tree)
+  pub summed : resummed_all p.sums f.sums ≡ map (summed_at c.new) (subtrees f.tree)
   pub cost : p.cost ≡ ticked 0 (tree_cost f.is_new c f.tree)

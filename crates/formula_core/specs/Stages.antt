@@ -3,7 +3,7 @@ use Rattle.std.specs.Prelude.{◌≡◌, ◌+◌, ◌≤◌, ◌<◌, ℕ, List,
 use Rattle.std.specs.declared.alloc.AllocError.{AllocError}
 use Rattle.std.specs.List.{Contains, sum_by}
 use Rattle.apl_expr.specs.Trees.{Tree}
-use Rattle.arrays_core.specs.Arrays.{IsArray}
+use Rattle.arrays_core.specs.Arrays.{ArrayValue, IsArray}
 use Rattle.arrays_core.specs.declared.item.Kind.TheVariants.{Value}
 use Rattle.index_region.specs.declared.delta.Delta.{Delta}
 use Rattle.index_region.specs.declared.delta.Delta.TheVariants.{Same}
@@ -17,11 +17,14 @@ use Rattle.formula_core.specs.declared.table.Operand.{Operand}
 use Rattle.formula_core.specs.declared.table.Operand.TheVariants as operand
 use Rattle.formula_core.specs.Meaning.{eval}
 use Rattle.formula_core.specs.Outcomes.{Outcome, fault}
-use Rattle.formula_core.specs.Tables.{tree_at, subtrees}
+use Rattle.formula_core.specs.Tables.{tree_at, tree_of_node, subtrees}
 use Rattle.formula_core.specs.Formulas.{FormulaValue}
 use Rattle.formula_core.specs.Changes.{Change, change, FitsIn, IsNameChanged}
 use Rattle.formula_core.specs.Inputs.{shown, delta_of, IsInput}
 use Rattle.formula_core.specs.Plans.{node_change, node_cost_at, AreInputs, IsNameSound}
+use Rattle.formula_core.specs.Sums.{summed_at, resummed, FitsSums}
+use Rattle.formula_core.specs.declared.sums.SumsDelta.{SumsDelta}
+use Rattle.formula_core.specs.declared.table.Node.{Node}
 
 -- what the node of a tree held, with its change, is what the tree gives now; both are arrays or errors
 pub record IsDone (is_new : Bool) (c : Change) (t : Tree) (held : Outcome) (d : Delta) : Type 0 where
@@ -44,6 +47,15 @@ pub record IsStaged (c : Change) (names : List (List ℕ)) (trees : List Tree) (
 -- so it is for some change
 abbrev pub StagedBy : Stage → Type 0
 StagedBy s = (c : Change) × ((names : List (List ℕ)) × ((trees : List Tree) × IsStaged c names trees s))
+
+-- the sums that a node keeps are those of what its argument was
+abbrev pub IsKeptBy : Stage → Node → Option ArrayValue → Type 0
+IsKeptBy s n kept = (c : Change) × ((names : List (List ℕ)) × ((trees : List Tree) × (IsStaged c names trees s × (s.is_new ≡ false → kept ≡ summed_at c.old (tree_of_node names trees n)))))
+
+-- the change of the sums that the node of a tree keeps makes of them those of what its argument is now
+pub record IsSumsStep (c : Change) (t : Tree) (kept : Option ArrayValue) (s : SumsDelta) : Type 0 where
+  pub right : resummed s kept ≡ summed_at c.new t
+  pub fit : FitsSums s kept
 
 -- an operand as it stands: the input of a name, or what a node held with its change
 abbrev pub IsTaken : List Input → List Outcome → List Delta → Operand → Input → Type 0

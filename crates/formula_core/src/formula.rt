@@ -1,7 +1,7 @@
 //! A formula: an expression as a table of nodes, with the result that each node was last given.
 
-ghost use Rattle.std.specs.Prelude.{◌≡◌, ◌+◌, ◌≤◌, ◌<◌, [], length, replicate, false, Err, IfOk, OnOk};
-ghost use Rattle.std.specs.List.{count_by};
+ghost use Rattle.std.specs.Prelude.{◌≡◌, ◌+◌, ◌≤◌, ◌<◌, ℕ, [], length, map, replicate, false, None, is_some, Err, IfOk, OnOk};
+ghost use Rattle.std.specs.List.{count_by, list_any};
 ghost use Rattle.apl_expr.specs.Trees.{tree_of};
 ghost use Rattle.arrays_core.specs.declared.item.Kind.TheVariants.{Value};
 ghost use Rattle.formula_core.specs.Outcomes.{read, fault};
@@ -10,29 +10,34 @@ ghost use Rattle.formula_core.specs.Changes.{Change};
 ghost use Rattle.formula_core.specs.Formulas.{new_formula, root_result, operations, IsTableOf};
 ghost use Rattle.formula_core.specs.Plans.{adopted, tree_cost, node_cost_at, IsPlanOf, IsTold, IsPlanned};
 ghost use Rattle.formula_core.specs.Stages.{IsBegun};
+ghost use Rattle.formula_core.specs.Sums.{totalled, summed_at, resummed_all, AllSumsFit};
 ghost use Rattle.formula_core.specs.Tables.{applies, subtrees, tree_at};
 
 use crate::adoption::adopt_all;
 use crate::input::Input;
 use crate::plan::Plan;
 use crate::stage::Stage;
+use crate::sums::{SumsDelta, take_all_sums};
 use crate::table::{Node, Operand, lower};
 use apl_expr::Expr;
 use apl_tokens::Name;
 use arrays_core::{Array, Fault, Kind};
-use change_core::Meter;
+use change_core::{Count, Meter};
 use index_region::Delta;
 use std::alloc::{AllocError, Global};
 use std::marker::Model;
+use sum_rules::LineSums;
 
 /// An expression as a table of nodes, each after those whose results it takes, with the result that each node was last
-/// given. A name inside the expression is no node: what it shows is lent, and not kept.
+/// given, and for each total `+/` the sums of its argument's lines. A name inside the expression is no node: what it shows
+/// is lent, and not kept.
 #[derive(Drop)]
 pub struct Formula {
     alloc: Global,
     names: Vec<Name>,
     nodes: Vec<Node>,
     results: Vec<Result<Array, Fault>>,
+    sums: Vec<Option<LineSums>>,
     is_new: bool,
 }
 
@@ -46,9 +51,9 @@ impl Model for Formula {
 
     ghost coded = { Prim.hlevel (codes, coded_tree) };
 
-    ghost view = { λ f. record { tree = root_of f.names.items f.nodes.items; is_new = f.is_new; results = f.results.items } };
+    ghost view = { λ f. record { tree = root_of f.names.items f.nodes.items; is_new = f.is_new; results = f.results.items; sums = f.sums.items } };
 
-    ghost invariant = { λ f. IsFormula f.names.items f.nodes.items f.results.items };
+    ghost invariant = { λ f. IsFormula f.names.items f.nodes.items f.results.items f.sums.items };
 }
 
 impl Formula {
@@ -59,12 +64,15 @@ impl Formula {
         let mut names = Vec::new(alloc);
         let mut nodes = Vec::new(alloc);
         lower_whole(alloc, &mut names, &mut nodes, &tree)?;
-        let results = unknown_results(alloc, nodes.len())?;
+        let count = nodes.len();
+        let results = unknown_results(alloc, count)?;
+        let sums = no_sums(alloc, count)?;
         Ok(Formula {
             alloc,
             names,
             nodes,
             results,
+            sums,
             is_new: true,
         })
     }
@@ -107,21 +115,22 @@ impl Formula {
         requires { (c : Change) × IsTold self.now c inputs.now }
         ensures of { IfOk result (IsPlanOf self.now) }
         ensures planned { IfOk result (λ p. (c : Change) → IsTold self.now c inputs.now → IsPlanned self.now c p) }
-        ensures ticks { (c : Change) → IsTold self.now c inputs.now → meter.new ≤ meter.old + tree_cost self.now.is_new c self.now.tree }
+        ensures ticks { (c : Change) → IsTold self.now c inputs.now → meter.new.ticks ≤ meter.old.ticks + tree_cost self.now.is_new c self.now.tree }
     {
         let mut changes = Vec::with_capacity(self.alloc, self.nodes.len())?;
-        let mut cost = Meter::new();
+        let mut cost = Count::new();
         for _ in 0..self.nodes.len() {
             self.extend(&mut changes, &mut cost, inputs, meter)?;
         }
-        Ok(Plan::of(changes, cost))
+        let sums = self.planned_sums(inputs, &changes)?;
+        Ok(Plan::of(changes, sums, cost))
     }
 
     /// The change of the next node, behind those of the nodes before it, and what it costs.
     fn extend(
         &self,
         changes: &mut Vec<Delta>,
-        cost: &mut Meter,
+        cost: &mut Count,
         inputs: &[Input],
         meter: &mut Meter,
     ) -> Result<(), AllocError>
@@ -130,7 +139,7 @@ impl Formula {
         ensures one { OnOk result (length changes.new.items ≡ length changes.old.items + 1) }
         ensures begun { OnOk result ((c : Change) → IsTold self.now c inputs.now → IsBegun self.now c changes.old.items cost.old → IsBegun self.now c changes.new.items cost.new) }
         ensures ticks { (c : Change) → IsTold self.now c inputs.now → IsBegun self.now c changes.old.items cost.old
-            → meter.new ≤ meter.old + node_cost_at self.now.is_new c (tree_at (subtrees self.now.tree) (length changes.old.items)) }
+            → meter.new.ticks ≤ meter.old.ticks + node_cost_at self.now.is_new c (tree_at (subtrees self.now.tree) (length changes.old.items)) }
     {
         let place = changes.len();
         let anew = Delta::Whole(Err(unknown()));
@@ -143,7 +152,8 @@ impl Formula {
             anew: &anew,
         };
         let held = &self.results[place];
-        let (change, items) = stage.change_of(&self.nodes[place], held, meter)?;
+        let kept = &self.sums[place];
+        let (change, items) = stage.change_of(&self.nodes[place], held, kept, meter)?;
         // What the node gives now says that it is an array.
         let _sound = Input::of_node(held, &change);
         cost.add(items);
@@ -151,13 +161,60 @@ impl Formula {
         Ok(())
     }
 
+    /// What changes of the sums that its nodes keep, by the changes of all nodes. Where no node keeps any, nothing does.
+    fn planned_sums(
+        &self,
+        inputs: &[Input],
+        changes: &[Delta],
+    ) -> Result<Vec<SumsDelta>, AllocError>
+        requires all { length changes.now ≡ length self.now.results }
+        requires begun { (c : Change) × (IsTold self.now c inputs.now × ((cost : ℕ) × IsBegun self.now c changes.now cost)) }
+        ensures few { IfOk result (λ s. length s.items ≤ length self.now.sums) }
+        ensures fit { IfOk result (λ s. AllSumsFit s.items self.now.sums) }
+        ensures summed { IfOk result (λ s. (c : Change) → IsTold self.now c inputs.now → (cost : ℕ) → IsBegun self.now c changes.now cost
+            → resummed_all s.items self.now.sums ≡ map (summed_at c.new) (subtrees self.now.tree)) }
+    {
+        if !self.is_new && !any_total(&self.nodes) {
+            return Ok(Vec::new(self.alloc));
+        }
+        self.all_sums(inputs, changes)
+    }
+
+    /// The change of the sums that each node keeps, by the changes of all nodes.
+    fn all_sums(&self, inputs: &[Input], changes: &[Delta]) -> Result<Vec<SumsDelta>, AllocError>
+        requires all { length changes.now ≡ length self.now.results }
+        requires begun { (c : Change) × (IsTold self.now c inputs.now × ((cost : ℕ) × IsBegun self.now c changes.now cost)) }
+        ensures few { IfOk result (λ s. length s.items ≤ length self.now.sums) }
+        ensures fit { IfOk result (λ s. AllSumsFit s.items self.now.sums) }
+        ensures summed { IfOk result (λ s. (c : Change) → IsTold self.now c inputs.now → (cost : ℕ) → IsBegun self.now c changes.now cost
+            → resummed_all s.items self.now.sums ≡ map (summed_at c.new) (subtrees self.now.tree)) }
+    {
+        let is_new = self.is_new;
+        let anew = Delta::Whole(Err(unknown()));
+        let stage = Stage {
+            alloc: self.alloc,
+            is_new,
+            inputs,
+            results: self.results.as_slice(),
+            changes,
+            anew: &anew,
+        };
+        let mut sums = Vec::with_capacity(self.alloc, self.nodes.len())?;
+        for place in 0..self.nodes.len() {
+            sums.push(stage.sums_of(&self.nodes[place], &self.sums[place])?)?;
+        }
+        Ok(sums)
+    }
+
     /// Takes the results of a plan that was made of it as it is. No memory is asked for: patches are written where the
     /// results lie.
     pub fn adopt(&mut self, plan: Plan)
         requires { IsPlanOf self.old plan }
-        ensures { self.new ≡ record { tree = self.old.tree; is_new = false; results = adopted plan.changes self.old.results } }
+        ensures { self.new ≡ record { tree = self.old.tree; is_new = false; results = adopted plan.changes self.old.results; sums = resummed_all plan.sums self.old.sums } }
     {
-        adopt_all(&mut self.results, plan.into_changes());
+        let (changes, sums) = plan.into_changes();
+        adopt_all(&mut self.results, changes);
+        take_all_sums(&mut self.sums, sums);
         self.is_new = false;
     }
 }
@@ -181,6 +238,24 @@ fn unknown_results(alloc: Global, count: usize) -> Result<Vec<Result<Array, Faul
         results.push(Err(unknown()))?;
     }
     Ok(results)
+}
+
+/// One of the nodes is a total.
+fn any_total(nodes: &[Node]) -> bool
+    ensures { result ≡ list_any (λ n. is_some (totalled n)) nodes.now }
+{
+    nodes.iter().any(|node| node.totalled().is_some())
+}
+
+/// So many nodes that keep no sums yet.
+fn no_sums(alloc: Global, count: usize) -> Result<Vec<Option<LineSums>>, AllocError>
+    ensures { IfOk result (λ sums. sums.items ≡ replicate count None) }
+{
+    let mut sums = Vec::with_capacity(alloc, count)?;
+    for _ in 0..count {
+        sums.push(None)?;
+    }
+    Ok(sums)
 }
 
 /// The names and the nodes of an expression, whose own node stands last.

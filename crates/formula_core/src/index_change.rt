@@ -35,7 +35,7 @@ pub(crate) fn change_of_index(
 ) -> Result<(Delta, u32), AllocError>
     requires array { HasFit array.now }
     requires positions { AllHaveFit positions.now }
-    ensures { IsOperationChange (index_rule (map is_some positions.now)) (array.now ∷ written_inputs positions.now) held.now meter.old meter.new result }
+    ensures { IsOperationChange (index_rule (map is_some positions.now)) (array.now ∷ written_inputs positions.now) held.now meter.old.ticks meter.new.ticks result }
 {
     match (last_fault(positions), array) {
         (Some(fault), _) => Ok((beside_error(fault, all_stay(array, positions)), 0)),
@@ -59,7 +59,7 @@ fn change_of_arrays(
 ) -> Result<(Delta, u32), AllocError>
     requires count { length (arrays_among (written_inputs positions.now)) ≡ count_written (map is_some positions.now) }
     requires fit { AllFit (views (indexed.now ∷ arrays_among (written_inputs positions.now))) (moved (indexed.now ∷ arrays_among (written_inputs positions.now))) }
-    ensures { IsRefreshed (index_rule (map is_some positions.now)) (indexed.now ∷ arrays_among (written_inputs positions.now)) held.now meter.old meter.new result }
+    ensures { IsRefreshed (index_rule (map is_some positions.now)) (indexed.now ∷ arrays_among (written_inputs positions.now)) held.now meter.old.ticks meter.new.ticks result }
 {
     if positions.len() <= FEW_POSITIONS {
         let (args, count) = few_arguments(indexed, positions);
@@ -79,7 +79,7 @@ fn change_by_arguments(
 ) -> Result<(Delta, u32), AllocError>
     requires count { length args.now ≡ suc (count_written (map is_some positions.now)) }
     requires fit { AllFit (views args.now) (moved args.now) }
-    ensures { IsRefreshed (index_rule (map is_some positions.now)) args.now held.now meter.old meter.new result }
+    ensures { IsRefreshed (index_rule (map is_some positions.now)) args.now held.now meter.old.ticks meter.new.ticks result }
 {
     let written = written_of(alloc, positions)?;
     let operation = Operation { alloc, args, held };

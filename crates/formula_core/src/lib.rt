@@ -12,6 +12,7 @@ mod operation_change;
 mod plan;
 mod refreshing;
 mod stage;
+mod sums;
 mod symbols;
 mod table;
 

@@ -1,20 +1,24 @@
 //! The change of an operation, from what its operands give.
 
-ghost use Rattle.std.specs.Prelude.{◌≡◌, [], ◌∷◌, Err, if◌then◌else◌};
+ghost use Rattle.std.specs.Prelude.{◌≡◌, [], ◌∷◌, true, Some, Err, if◌then◌else◌};
 ghost use Rattle.index_region.specs.declared.delta.Delta.TheVariants.{Same, Whole as WholeDelta};
-ghost use Rattle.formula_core.specs.Inputs.{HasFit, IsOperationChange};
+ghost use Rattle.sum_rules.specs.Totals.{total_rule};
+ghost use Rattle.formula_core.specs.Inputs.{shown, delta_of, HasFit, IsOperationChange};
 ghost use Rattle.formula_core.specs.Rules.{right_rule, both_rule};
+ghost use Rattle.formula_core.specs.Sums.{is_total as is_sum, IsSummedFor};
 
 use crate::input::Input;
 use crate::refreshing::Operation;
-use apl_expr::{Dyadic, Monadic};
+use crate::sums::is_total;
+use apl_expr::{Along, Dyadic, Monadic, ScalarDyad};
 use arrays_core::{Array, Fault};
 use change_core::Meter;
 use index_region::Delta;
 use std::alloc::{AllocError, Global};
+use sum_rules::{LineSums, refresh_sums_with_cost};
 
 /// The change of a function of its right argument, and what it costs; beside an error it is that error.
-pub(crate) fn change_of_right(
+fn change_of_right(
     alloc: Global,
     function: Monadic,
     right: &Input,
@@ -22,7 +26,7 @@ pub(crate) fn change_of_right(
     meter: &mut Meter,
 ) -> Result<(Delta, u32), AllocError>
     requires { HasFit right.now }
-    ensures { IsOperationChange (right_rule function) (right.now ∷ []) held.now meter.old meter.new result }
+    ensures { IsOperationChange (right_rule function) (right.now ∷ []) held.now meter.old.ticks meter.new.ticks result }
 {
     match right {
         Input::Good(array, delta) => {
@@ -38,6 +42,49 @@ pub(crate) fn change_of_right(
     }
 }
 
+/// The same, where the sums of the argument's lines are kept if the function is a total.
+pub(crate) fn change_of_monad(
+    alloc: Global,
+    function: Monadic,
+    right: &Input,
+    kept: &Option<LineSums>,
+    held: &Result<Array, Fault>,
+    meter: &mut Meter,
+) -> Result<(Delta, u32), AllocError>
+    requires fit { HasFit right.now }
+    requires kept { is_sum function ≡ true → IsSummedFor (shown right.now) (delta_of right.now) kept.now }
+    ensures { IsOperationChange (right_rule function) (right.now ∷ []) held.now meter.old.ticks meter.new.ticks result }
+{
+    match kept {
+        Some(sums) if is_total(function) => change_of_total(alloc, right, sums, held, meter),
+        _ => change_of_right(alloc, function, right, held, meter),
+    }
+}
+
+/// The change of a total, and what it costs, where the sums of the argument's lines are kept; beside an error it is that error.
+fn change_of_total(
+    alloc: Global,
+    right: &Input,
+    sums: &LineSums,
+    held: &Result<Array, Fault>,
+    meter: &mut Meter,
+) -> Result<(Delta, u32), AllocError>
+    requires fit { HasFit right.now }
+    requires kept { IsSummedFor (shown right.now) (delta_of right.now) (Some sums.now) }
+    ensures { IsOperationChange total_rule (right.now ∷ []) held.now meter.old.ticks meter.new.ticks result }
+{
+    match right {
+        Input::Good(array, delta) => {
+            let arg = (array.again(), *delta);
+            refresh_sums_with_cost(alloc, arg, held, sums.trees(), meter)
+        }
+        Input::Bad { .. } => {
+            let total = Monadic::Reduce(ScalarDyad::Plus, Along::Last);
+            change_of_right(alloc, total, right, held, meter)
+        }
+    }
+}
+
 /// The change of a function of its two arguments, and what it costs; beside an error it is that error, the right argument's first.
 pub(crate) fn change_of_both(
     alloc: Global,
@@ -49,7 +96,7 @@ pub(crate) fn change_of_both(
 ) -> Result<(Delta, u32), AllocError>
     requires left { HasFit left.now }
     requires right { HasFit right.now }
-    ensures { IsOperationChange (both_rule function) (left.now ∷ right.now ∷ []) held.now meter.old meter.new result }
+    ensures { IsOperationChange (both_rule function) (left.now ∷ right.now ∷ []) held.now meter.old.ticks meter.new.ticks result }
 {
     let stay = left.stays() && right.stays();
     match (left, right) {

@@ -3,15 +3,17 @@
 ghost use Rattle.std.specs.Prelude.{◌≡◌, ◌<◌, length};
 ghost use Rattle.formula_core.specs.Plans.{root_change};
 
-use change_core::Meter;
+use crate::sums::SumsDelta;
+use change_core::Count;
 use index_region::Delta;
 use std::marker::Model;
 
-/// What changes of each result of a formula, worked out while the old results stand, and what that costs.
+/// What changes of each result of a formula and of the sums that it keeps, worked out while the old results stand, and what that costs.
 #[derive(Drop)]
 pub struct Plan {
     changes: Vec<Delta>,
-    cost: Meter,
+    sums: Vec<SumsDelta>,
+    cost: Count,
 }
 
 impl Model for Plan {
@@ -21,18 +23,22 @@ impl Model for Plan {
 
     ghost use Rattle.std.specs.Prelude.{◌<◌, length};
 
-    ghost view = { λ p. record { changes = p.changes.items; cost = p.cost } };
+    ghost view = { λ p. record { changes = p.changes.items; sums = p.sums.items; cost = p.cost } };
 
     ghost invariant = { λ p. 0 < length p.changes.items };
 }
 
 impl Plan {
-    /// The plan with these changes, a change for each node, and this cost.
-    pub(crate) fn of(changes: Vec<Delta>, cost: Meter) -> Plan
+    /// The plan with these changes, a change for each node, these changes of the sums that nodes keep, and this cost.
+    pub(crate) fn of(changes: Vec<Delta>, sums: Vec<SumsDelta>, cost: Count) -> Plan
         requires { 0 < length changes.items }
-        ensures { result ≡ record { changes = changes.items; cost = cost } }
+        ensures { result ≡ record { changes = changes.items; sums = sums.items; cost = cost } }
     {
-        Plan { changes, cost }
+        Plan {
+            changes,
+            sums,
+            cost,
+        }
     }
 
     /// What changes of the formula's result.
@@ -52,11 +58,12 @@ impl Plan {
         }
     }
 
-    /// The changes, a change for each node.
-    pub(crate) fn into_changes(self) -> Vec<Delta>
-        ensures { result.items ≡ self.changes }
+    /// The changes, a change for each node, and those of the sums that nodes keep.
+    pub(crate) fn into_changes(self) -> (Vec<Delta>, Vec<SumsDelta>)
+        ensures changes { result.0.items ≡ self.changes }
+        ensures sums { result.1.items ≡ self.sums }
     {
-        self.changes
+        (self.changes, self.sums)
     }
 
     /// How many items of results change at most: for each node the places of the box that changes, or of the whole
@@ -64,6 +71,6 @@ impl Plan {
     pub fn cost(&self) -> u64
         ensures { result ≡ self.now.cost }
     {
-        self.cost.ticks()
+        self.cost.total()
     }
 }

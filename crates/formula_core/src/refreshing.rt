@@ -41,7 +41,7 @@ impl<'a> Operation<'a> {
     fn by<R: Tight>(&self, rule: &R, meter: &mut Meter) -> Result<(Delta, u32), AllocError>
         requires count { length self.now.args.now ≡ length (R.model rule.now).selectors }
         requires fit { AllFit (views self.now.args.now) (moved self.now.args.now) }
-        ensures { IsRefreshed (R.model rule.now) self.now.args.now self.now.held.now meter.old meter.new result }
+        ensures { IsRefreshed (R.model rule.now) self.now.args.now self.now.held.now meter.old.ticks meter.new.ticks result }
     {
         refresh_with_cost(self.alloc, rule, self.args, self.held, meter)
     }
@@ -54,7 +54,7 @@ impl<'a> Operation<'a> {
     ) -> Result<(Delta, u32), AllocError>
         requires count { length self.now.args.now ≡ 1 }
         requires fit { AllFit (views self.now.args.now) (moved self.now.args.now) }
-        ensures { IsRefreshed (right_rule function) self.now.args.now self.now.held.now meter.old meter.new result }
+        ensures { IsRefreshed (right_rule function) self.now.args.now self.now.held.now meter.old.ticks meter.new.ticks result }
     {
         match function {
             Monadic::Scalar(scalar) => self.by(&each_item(scalar), meter),
@@ -86,7 +86,7 @@ impl<'a> Operation<'a> {
     ) -> Result<(Delta, u32), AllocError>
         requires count { length self.now.args.now ≡ 2 }
         requires fit { AllFit (views self.now.args.now) (moved self.now.args.now) }
-        ensures { IsRefreshed (both_rule function) self.now.args.now self.now.held.now meter.old meter.new result }
+        ensures { IsRefreshed (both_rule function) self.now.args.now self.now.held.now meter.old.ticks meter.new.ticks result }
     {
         match function {
             Dyadic::Scalar(scalar) => self.by(&between_items(scalar), meter),
@@ -124,7 +124,7 @@ impl<'a> Operation<'a> {
     ) -> Result<(Delta, u32), AllocError>
         requires count { length self.now.args.now ≡ suc (count_written written.now) }
         requires fit { AllFit (views self.now.args.now) (moved self.now.args.now) }
-        ensures { IsRefreshed (index_rule written.now) self.now.args.now self.now.held.now meter.old meter.new result }
+        ensures { IsRefreshed (index_rule written.now) self.now.args.now self.now.held.now meter.old.ticks meter.new.ticks result }
     {
         let function = Index { written };
         self.by(&SelectionRule { function }, meter)

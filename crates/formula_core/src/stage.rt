@@ -8,19 +8,22 @@ ghost use Rattle.formula_core.specs.Meaning.{eval};
 ghost use Rattle.formula_core.specs.Changes.{Change, FitsIn, IsNameChanged};
 ghost use Rattle.formula_core.specs.Inputs.{HasFit, AllHaveFit, AllFitIn, IsInput};
 ghost use Rattle.formula_core.specs.Plans.{node_change};
-ghost use Rattle.formula_core.specs.Stages.{IsStaged, StagedBy, IsTaken, IsReady, AreReady, IsStep};
+ghost use Rattle.formula_core.specs.Stages.{IsStaged, StagedBy, IsKeptBy, IsTaken, IsReady, AreReady, IsStep, IsSumsStep};
+ghost use Rattle.formula_core.specs.Sums.{summed_at};
 ghost use Rattle.formula_core.specs.Tables.{IsOperand, AreOperands, IsNode, tree_of_operand, tree_of_node};
 
 use crate::index_change::change_of_index;
 use crate::input::Input;
 use crate::literals::array_of;
-use crate::operation_change::{change_of_both, change_of_right};
+use crate::operation_change::{change_of_both, change_of_monad};
+use crate::sums::{SumsDelta, sums_delta};
 use crate::table::{Node, Operand};
 use apl_expr::Literal;
 use arrays_core::{ApplyFault, Array, Fault};
 use change_core::Meter;
 use index_region::Delta;
 use std::alloc::{AllocError, Global};
+use sum_rules::LineSums;
 
 /// What the names of a formula show with what changed of it, what its nodes hold, and the changes of those that come
 /// first: what the change of the next node is worked out from.
@@ -71,19 +74,21 @@ impl<'a> Stage<'a> {
         Ok(positions)
     }
 
-    /// The change of the next node, which held this, and what it costs.
+    /// The change of the next node, which held this and keeps these sums, and what it costs.
     pub(crate) fn change_of(
         &self,
         node: &Node,
         held: &Result<Array, Fault>,
+        kept: &Option<LineSums>,
         meter: &mut Meter,
     ) -> Result<(Delta, u32), AllocError>
         requires node { IsNode (length self.now.inputs.now) (length self.now.changes.now) node.now }
         requires staged { StagedBy self.now }
+        requires kept { IsKeptBy self.now node.now kept.now }
         requires anew { is_whole self.now.anew.now ≡ true }
         ensures { (c : Change) → (names : List (List ℕ)) → (trees : List Tree) → IsStaged c names trees self.now
             → (self.now.is_new ≡ false → held.now ≡ eval (tree_of_node names trees node.now) c.old)
-            → IsStep self.now.is_new c (tree_of_node names trees node.now) meter.old meter.new result }
+            → IsStep self.now.is_new c (tree_of_node names trees node.now) meter.old.ticks meter.new.ticks result }
     {
         match node {
             Node::Constant(literal) => Ok((self.change_of_literal(literal)?, 0)),
@@ -94,7 +99,7 @@ impl<'a> Stage<'a> {
             }
             Node::Monad(function, right) => {
                 let right = self.operand(*right);
-                change_of_right(self.alloc, *function, &right, held, meter)
+                change_of_monad(self.alloc, *function, &right, kept, held, meter)
             }
             Node::Dyad(function, left, right) => {
                 let left = self.operand(*left);
@@ -106,6 +111,24 @@ impl<'a> Stage<'a> {
                 let positions = self.positions(positions)?;
                 change_of_index(self.alloc, &array, &positions, held, meter)
             }
+        }
+    }
+
+    /// What changes of the sums that a node keeps: of which there are some if it is a total.
+    pub(crate) fn sums_of(
+        &self,
+        node: &Node,
+        kept: &Option<LineSums>,
+    ) -> Result<SumsDelta, AllocError>
+        requires node { IsNode (length self.now.inputs.now) (length self.now.changes.now) node.now }
+        requires staged { StagedBy self.now }
+        requires anew { is_whole self.now.anew.now ≡ true }
+        ensures { IfOk result (λ s. (c : Change) → (names : List (List ℕ)) → (trees : List Tree) → IsStaged c names trees self.now
+            → (self.now.is_new ≡ false → kept.now ≡ summed_at c.old (tree_of_node names trees node.now)) → IsSumsStep c (tree_of_node names trees node.now) kept.now s) }
+    {
+        match node.totalled() {
+            Some(right) => sums_delta(self.alloc, &self.operand(right), kept),
+            None => Ok(SumsDelta::Whole(None)),
         }
     }
 

@@ -3,8 +3,10 @@
 ghost use Rattle.std.specs.Prelude.{◌≡◌, ◌++◌, [], ◌∷◌, length, map, IfOk, OnOk};
 ghost use Rattle.apl_expr.specs.Trees.{tree_of, position_of, positions_of, literal_of};
 ghost use Rattle.formula_core.specs.declared.table.Operand.TheVariants.{Node as NodeAt};
+ghost use Rattle.formula_core.specs.Sums.{totalled};
 ghost use Rattle.formula_core.specs.Tables.{IsLowered, ArePositionsLowered, applies};
 
+use crate::sums::is_total;
 use apl_expr::{Dyadic, Expr, Literal, Monadic};
 use apl_tokens::Name;
 use std::alloc::{AllocError, Global};
@@ -40,6 +42,16 @@ impl Node {
         ensures { result ≡ applies self.now }
     {
         !matches!(self, Node::Constant(_) | Node::Name(_))
+    }
+
+    /// The argument whose lines it sums up, where it does that.
+    pub(crate) fn totalled(&self) -> Option<Operand>
+        ensures { result ≡ totalled self.now }
+    {
+        match self {
+            Node::Monad(function, right) if is_total(*function) => Some(*right),
+            _ => None,
+        }
     }
 }
 

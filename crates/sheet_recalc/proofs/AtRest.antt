@@ -18,7 +18,7 @@ use Rattle.sheet_recalc.proofs.PlannedNames.{at_root}
 
 module _ (names : Names) (t : Tree) (inputs : List Input) (are : AreInputs (at_rest names) (names_in t) inputs) (sound : (x : List ℕ) → Contains (names_in t) x → IsNameSound (at_rest names) x) where
   told : IsTold (new_formula t) (at_rest names) inputs
-  told = record { holds = λ old. absurd (false≢true (sym old)); tell = are; changed = λ x stands. record { right = refl; fit = tt }; sound = sound }
+  told = record { holds = λ old. absurd (false≢true (sym old)); keeps = λ old. absurd (false≢true (sym old)); tell = are; changed = λ x stands. record { right = refl; fit = tt }; sound = sound }
 
   -- told of a formula that is the new one
   module _ (f : FormulaValue) (is : f ≡ new_formula t) where

@@ -25,6 +25,7 @@ use Rattle.formula_core.specs.Meaning.{eval, names_in}
 use Rattle.formula_core.specs.Tables.{subtrees}
 use Rattle.formula_core.specs.Formulas.{FormulaValue, root_result}
 use Rattle.formula_core.specs.Changes.{Change, FitsIn, IsNameChanged}
+use Rattle.formula_core.specs.Sums.{summed_at}
 use Rattle.formula_core.specs.Inputs.{shown as input_shown, stays, HasDelta, IsInput, IsNoPatch}
 use Rattle.formula_core.specs.Plans.{PlanValue, IsPlanOf, IsPlanned, adopted, root_change, node_change, IsNameSound, AreInputs, IsTold, tree_cost}
 use Rattle.formula_core.specs.declared.input.Input.{Input}
@@ -194,6 +195,13 @@ module _ (o : ProposedSheet) where
           by true is = absurd (false≢true (sym worked_out ∙ formula_new is))
           by false is = (formula_old is).0.results
 
+      formula_keeps : f.is_new ≡ false → f.sums ≡ map (summed_at (val old)) (subtrees f.tree)
+      formula_keeps worked_out = by (bytes_eq q o.name) refl
+        where
+          by : (t : Bool) → bytes_eq q o.name ≡ t → f.sums ≡ map (summed_at (val old)) (subtrees f.tree)
+          by true is = absurd (false≢true (sym worked_out ∙ formula_new is))
+          by false is = (formula_old is).0.sums
+
       -- what is told of the names in it
       pub formula_told : (names : List (List ℕ)) (inputs : List Input) → names ≡ names_in f.tree → AreInputs c names inputs
           → ((x : List ℕ) → Contains names x → IsNameChanged c x) → ((x : List ℕ) → Contains names x → IsNameSound c x) → IsTold f c inputs
@@ -201,6 +209,7 @@ module _ (o : ProposedSheet) where
           let there = λ (x : List ℕ) (h : Contains (names_in f.tree) x). subst (λ (ns : List (List ℕ)). Contains ns x) (sym is) h in
           record {
             holds = formula_holds;
+            keeps = formula_keeps;
             tell = subst (λ (ns : List (List ℕ)). AreInputs c ns inputs) is told;
             changed = λ x h. changed x (there x h);
             sound = λ x h. sound x (there x h);

@@ -1,5 +1,5 @@
 -- Plans that are made one after another, in an order in which each name comes after all that it refers to.
-use Rattle.std.proofs.Common.{◌≡◌, ◌≢◌, ℕ, ◌<◌, ◌+◌, inl, inr, Bool, true, false, cond, List, [], ◌∷◌, ◌++◌, length, map, Option, Some, None, is_some, refl, sym, ap, ◌∙◌, subst, arith, ⊎_elim}
+use Rattle.std.proofs.Common.{◌≡◌, ◌≢◌, ℕ, ◌<◌, ◌+◌, inl, inr, Bool, true, false, cond, List, [], ◌∷◌, ◌++◌, length, map, Option, Some, None, is_some, if◌then◌else◌, refl, sym, ap, ◌∙◌, subst, arith, ⊎_elim}
 use Rattle.std.specs.Str.{bytes_eq}
 use Rattle.std.specs.Map.{lookup}
 use Rattle.std.specs.List.{Contains, IsDistinct}
@@ -14,6 +14,8 @@ use Rattle.formula_core.specs.Meaning.{eval, names_in, names_in_positions}
 use Rattle.formula_core.specs.Tables.{inside, inside_positions, subtrees}
 use Rattle.formula_core.specs.Formulas.{FormulaValue, root_result}
 use Rattle.formula_core.specs.Plans.{PlanValue}
+use Rattle.formula_core.specs.Sums.{is_total, summed_in, summed_at}
+use Rattle.arrays_core.specs.Arrays.{ArrayValue}
 use Rattle.dep_order.specs.Follows.{Follows, IsOnce}
 use Rattle.dep_order.proofs.Following.{contains_none, contains_one, follows_has, follows_front, follows_behind}
 use Rattle.sheet_recalc.specs.Names.{Names, Binding, Data, Formula, binding, Refers}
@@ -36,39 +38,48 @@ use Rattle.sheet_recalc.proofs.PlannedNames.{at_root, binding_entry, entry_other
 append_same : {X Y : Type 0} (f g : X → Y) (xs ys : List X) → map f xs ≡ map g xs → map f ys ≡ map g ys → map f (xs ++ ys) ≡ map g (xs ++ ys)
 append_same f g xs ys left right = map-append f xs ys ∙ (ap (λ l. l ++ map f ys) left ∙ (ap (λ r. map g xs ++ r) right ∙ sym (map-append g xs ys)))
 
--- only the names in a tree matter, to the result of each tree in it
-module _ (f g : List ℕ → Outcome) where
-  abbrev by_f : Tree → Outcome
-  by_f t = eval t f
-
-  abbrev by_g : Tree → Outcome
-  by_g t = eval t g
-
+-- where what is so of the names in a tree settles something of it, it does that for each tree in it
+module _ (X : Type 0) (by_f by_g : Tree → X) (P : List ℕ → Type 0) (same : (t : Tree) → ((x : List ℕ) → Contains (names_in t) x → P x) → by_f t ≡ by_g t) where
   mutual
-    inside_same : (t : Tree) → ((x : List ℕ) → Contains (names_in t) x → f x ≡ g x) → map by_f (inside t) ≡ map by_g (inside t)
-    inside_same (Const l) h = refl
+    inside_same : (t : Tree) → ((x : List ℕ) → Contains (names_in t) x → P x) → map by_f (inside t) ≡ map by_g (inside t)
+    inside_same (Const l) h = ap (λ o. o ∷ []) (same (Const l) h)
     inside_same (Name x) h = refl
-    inside_same (Monad k b) h = append_same by_f by_g (inside b) (Monad k b ∷ []) (inside_same b h) (ap (λ o. o ∷ []) (eval_alike (Monad k b) f g h))
+    inside_same (Monad k b) h = append_same by_f by_g (inside b) (Monad k b ∷ []) (inside_same b h) (ap (λ o. o ∷ []) (same (Monad k b) h))
     inside_same (Dyad k a b) h =
         append_same by_f by_g (inside a) (inside b ++ Dyad k a b ∷ []) (inside_same a (λ x o. h x (Contains-append_left (names_in a) (names_in b) x o)))
-        (append_same by_f by_g (inside b) (Dyad k a b ∷ []) (inside_same b (λ x o. h x (Contains-append_right (names_in a) (names_in b) x o))) (ap (λ o. o ∷ []) (eval_alike (Dyad k a b) f g h)))
+        (append_same by_f by_g (inside b) (Dyad k a b ∷ []) (inside_same b (λ x o. h x (Contains-append_right (names_in a) (names_in b) x o))) (ap (λ o. o ∷ []) (same (Dyad k a b) h)))
     inside_same (Index a ps) h =
         append_same by_f by_g (inside a) (inside_positions ps ++ Index a ps ∷ []) (inside_same a (λ x o. h x (Contains-append_left (names_in a) (names_in_positions ps) x o)))
-        (append_same by_f by_g (inside_positions ps) (Index a ps ∷ []) (inside_positions_same ps (λ x o. h x (Contains-append_right (names_in a) (names_in_positions ps) x o))) (ap (λ o. o ∷ []) (eval_alike (Index a ps) f g h)))
+        (append_same by_f by_g (inside_positions ps) (Index a ps ∷ []) (inside_positions_same ps (λ x o. h x (Contains-append_right (names_in a) (names_in_positions ps) x o))) (ap (λ o. o ∷ []) (same (Index a ps) h)))
 
-    inside_positions_same : (ps : Positions) → ((x : List ℕ) → Contains (names_in_positions ps) x → f x ≡ g x) → map by_f (inside_positions ps) ≡ map by_g (inside_positions ps)
+    inside_positions_same : (ps : Positions) → ((x : List ℕ) → Contains (names_in_positions ps) x → P x) → map by_f (inside_positions ps) ≡ map by_g (inside_positions ps)
     inside_positions_same NoPositions h = refl
     inside_positions_same (Empty ps) h = inside_positions_same ps h
     inside_positions_same (Filled e ps) h =
         append_same by_f by_g (inside e) (inside_positions ps) (inside_same e (λ x o. h x (Contains-append_left (names_in e) (names_in_positions ps) x o)))
         (inside_positions_same ps (λ x o. h x (Contains-append_right (names_in e) (names_in_positions ps) x o)))
 
-  pub held_same : (t : Tree) → ((x : List ℕ) → Contains (names_in t) x → f x ≡ g x) → map by_f (subtrees t) ≡ map by_g (subtrees t)
-  held_same (Name x) h = ap (λ o. o ∷ []) (h x (0, omega arith, refl))
-  held_same (Const l) h = refl
-  held_same (Monad k b) h = inside_same (Monad k b) h
-  held_same (Dyad k a b) h = inside_same (Dyad k a b) h
-  held_same (Index a ps) h = inside_same (Index a ps) h
+  subtrees_same : (t : Tree) → ((x : List ℕ) → Contains (names_in t) x → P x) → map by_f (subtrees t) ≡ map by_g (subtrees t)
+  subtrees_same (Name x) h = ap (λ o. o ∷ []) (same (Name x) h)
+  subtrees_same (Const l) h = ap (λ o. o ∷ []) (same (Const l) h)
+  subtrees_same (Monad k b) h = inside_same (Monad k b) h
+  subtrees_same (Dyad k a b) h = inside_same (Dyad k a b) h
+  subtrees_same (Index a ps) h = inside_same (Index a ps) h
+
+-- only the names in a tree matter, to the result of each tree in it, and to the sums that are kept for it
+module _ (f g : List ℕ → Outcome) (t : Tree) (h : (x : List ℕ) → Contains (names_in t) x → f x ≡ g x) where
+  pub held_same : map (λ u. eval u f) (subtrees t) ≡ map (λ u. eval u g) (subtrees t)
+  held_same = subtrees_same Outcome (λ u. eval u f) (λ u. eval u g) (λ x. f x ≡ g x) (λ u k. eval_alike u f g k) t h
+
+  summed_alike : (u : Tree) → ((x : List ℕ) → Contains (names_in u) x → f x ≡ g x) → summed_at f u ≡ summed_at g u
+  summed_alike (Const l) k = refl
+  summed_alike (Name x) k = refl
+  summed_alike (Monad m b) k = ap (λ o. if is_total m then summed_in o else None) (eval_alike b f g k)
+  summed_alike (Dyad m a b) k = refl
+  summed_alike (Index a ps) k = refl
+
+  pub summed_same : map (summed_at f) (subtrees t) ≡ map (summed_at g) (subtrees t)
+  summed_same = subtrees_same (Option ArrayValue) (summed_at f) (summed_at g) (λ x. f x ≡ g x) summed_alike t h
 
 -- the last of names of which each comes after those that refer to it refers to none of them
 module _ (names : Names) (front : List (List ℕ)) (x : List ℕ) (once : Contains front x → ⊥) (closed : Follows (λ a b. Refers names b a) (λ y. ⊥) (front ++ x ∷ [])) where
@@ -210,7 +221,7 @@ module _ (o : ProposedSheet) where
     adopting_right : (q : List ℕ) (f : FormulaValue) (p : PlanValue) → IsPlanAt o q p → entry_of o q ≡ Some (entry.Formula f) → IsRight (val new) q (adopting (entry.Formula f) p)
     adopting_right q f p plan held =
         let made = plan_now o q p f plan held in (
-          record { worked_out = refl; results = made.1.right },
+          record { worked_out = refl; results = made.1.right; sums = made.1.summed },
           ap (λ os. with_origin q (root_result os)) made.1.right ∙ (ap (with_origin q) (at_root (λ t. eval t (val new)) f.tree _) ∙ sym (shows_formula o ready q f held)),
         )
 
@@ -226,7 +237,11 @@ module _ (o : ProposedSheet) where
         by true e = absurd (reads.0 (equal-true q o.name e))
         by false e =
             let was = formula_old o ready q f is e in (
-              record { worked_out = was.0.worked_out; results = was.0.results ∙ held_same (val old) (val new) f.tree (λ x h. sym (reads.1 x h).shows) },
+              record {
+                worked_out = was.0.worked_out;
+                results = was.0.results ∙ held_same (val old) (val new) f.tree (λ x h. sym (reads.1 x h).shows);
+                sums = was.0.sums ∙ summed_same (val old) (val new) f.tree (λ x h. sym (reads.1 x h).shows);
+              },
               was.1 ∙ sym (n.others reads.0).shows,
             )
 

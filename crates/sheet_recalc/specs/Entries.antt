@@ -9,6 +9,7 @@ use Rattle.index_region.specs.Patches.{PatchValue, FitsPatch, patched}
 use Rattle.formula_core.specs.Outcomes.{Outcome, fault}
 use Rattle.formula_core.specs.Formulas.{root_result}
 use Rattle.formula_core.specs.Plans.{PlanValue, adopted}
+use Rattle.formula_core.specs.Sums.{resummed_all}
 use Rattle.sheet_recalc.specs.Meaning.{with_origin}
 use Rattle.sheet_recalc.specs.Names.{Names, Binding, Data, Formula}
 use Rattle.sheet_recalc.specs.declared.entry.Entry.{Entry}
@@ -27,7 +28,7 @@ entry_outcome name (entry.Formula f) = with_origin name (root_result f.results)
 -- an entry that took a plan, if it is a formula
 abbrev pub adopting : Entry → PlanValue → Entry
 adopting (entry.Data a) plan = entry.Data a
-adopting (entry.Formula f) plan = entry.Formula (record { tree = f.tree; is_new = false; results = adopted plan.changes f.results })
+adopting (entry.Formula f) plan = entry.Formula (record { tree = f.tree; is_new = false; results = adopted plan.changes f.results; sums = resummed_all plan.sums f.sums })
 
 -- the patch lies in an entry, if that is data
 abbrev pub FitsEntry : Entry → PatchValue → Type 0

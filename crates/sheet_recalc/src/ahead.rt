@@ -56,7 +56,7 @@ pub(crate) fn plan_of(
     requires done { (x : List ℕ) → Contains (names_in formula.now.tree) x → IsDone proposed.now plans.now.entries x }
     ensures planned { IfOk result (IsPlanAt proposed.now name) }
     ensures cost { IfOk result (λ p. p.cost ≡ ticked 0 (name_cost proposed.now.name (proposed_change proposed.now) (proposed_names proposed.now) name)) }
-    ensures ticks { meter.new ≤ meter.old + name_cost proposed.now.name (proposed_change proposed.now) (proposed_names proposed.now) name }
+    ensures ticks { meter.new.ticks ≤ meter.old.ticks + name_cost proposed.now.name (proposed_change proposed.now) (proposed_names proposed.now) name }
 {
     let unchanged = Delta::Same;
     let ahead = Ahead {

@@ -34,7 +34,7 @@ pub(crate) fn plan_at_rest(
     requires { IsCurrent entries.now.entries }
     ensures delta { IfOk result (λ p. root_change p.changes ≡ WholeDelta (eval (tree_of tree) (val (names_of entries.now.entries)))) }
     ensures cost { IfOk result (λ p. p.cost ≡ ticked 0 (tree_cost true (at_rest (names_of entries.now.entries)) (tree_of tree))) }
-    ensures ticks { OnOk result (meter.new ≤ meter.old + tree_cost true (at_rest (names_of entries.now.entries)) (tree_of tree)) }
+    ensures ticks { OnOk result (meter.new.ticks ≤ meter.old.ticks + tree_cost true (at_rest (names_of entries.now.entries)) (tree_of tree)) }
 {
     let formula = Formula::build(alloc, tree)?;
     let unchanged = Delta::Same;

@@ -40,7 +40,7 @@ pub(crate) fn plans_of(
     requires found { IsAffected proposed.now left.keys }
     ensures planned { IfOk result (λ p. IsPlanned proposed.now.entries.now.entries proposed.now.name (option_map proposed_entry proposed.now.proposal) (proposed_names proposed.now) p.plans.entries) }
     ensures cost { IfOk result (λ p. p.cost ≡ ticked 0 (names_cost proposed.now left.keys)) }
-    ensures ticks { OnOk result (meter.new ≤ meter.old + names_cost proposed.now left.keys) }
+    ensures ticks { OnOk result (meter.new.ticks ≤ meter.old.ticks + names_cost proposed.now left.keys) }
 {
     // What the name shows is sound, and no name stands in the set twice.
     let _shown = proposed.shown();

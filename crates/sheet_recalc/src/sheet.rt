@@ -286,7 +286,7 @@ impl Sheet {
         spent: u64,
         mut meter: Meter,
     ) -> Result<(), Refusal>
-        requires { ticked 0 meter ≤ spent }
+        requires { ticked 0 meter.ticks ≤ spent }
         ensures ok { OnOk result (Accepts self.old.names (Put name array) self.new.names) }
         ensures cost { OnOk result (self.new.cost ≡ ticked spent (formulas_cost name (sheet_change self.old.names self.new.names name (WholeDelta (val self.new.names name))) self.new.names)) }
         ensures refused { IfErr result (Refuses self.old.names (Put name array)) }
@@ -332,7 +332,7 @@ fn planned_with<'a>(
     requires live { IsLive entries.now.entries users.now.entries }
     requires proposal { IsProposalAt (val (names_of entries.now.entries) name) (Some proposal) }
     ensures planned { IfOk result (IsWorkedOut entries.entry.now.entries name (Some (proposed_entry proposal.entry)) (put (names_of entries.entry.now.entries) name (bound proposal.entry))
-        (proposed_delta name (put (names_of entries.entry.now.entries) name (bound proposal.entry)) (Some proposal.entry)) meter.old meter.new) }
+        (proposed_delta name (put (names_of entries.entry.now.entries) name (bound proposal.entry)) (Some proposal.entry)) meter.old.ticks meter.new.ticks) }
     ensures put { OnOk result (CanBePut (names_of entries.entry.now.entries) name (bound proposal.entry)) }
     ensures refused { IfErr result (CannotPut (names_of entries.entry.now.entries) name (bound proposal.entry)) }
 {
@@ -382,7 +382,7 @@ fn planned_with_data(
     requires live { IsLive entries.now.entries users.now.entries }
     requires array { (a : ArrayValue) × (change.now ≡ WholeDelta (Ok a)) }
     ensures planned { IfOk result (λ p. (a : ArrayValue) → change.now ≡ WholeDelta (Ok a)
-        → IsWorkedOut entries.now.entries name (Some (DataEntry a)) (put (names_of entries.now.entries) name (Data a)) change.now meter.old meter.new p) }
+        → IsWorkedOut entries.now.entries name (Some (DataEntry a)) (put (names_of entries.now.entries) name (Data a)) change.now meter.old.ticks meter.new.ticks p) }
     ensures put { OnOk result ((a : ArrayValue) → change.now ≡ WholeDelta (Ok a) → CanBePut (names_of entries.now.entries) name (Data a)) }
     ensures refused { IfErr result (λ cause. (a : ArrayValue) → change.now ≡ WholeDelta (Ok a) → CannotPut (names_of entries.now.entries) name (Data a) cause) }
 {
@@ -412,7 +412,7 @@ fn planned_with_patch(
     requires held { HasData entries.now.entries name array.now }
     requires patch { (p : PatchValue) × (change.now ≡ PatchDelta p) × FitsPatch array.now p }
     ensures planned { IfOk result (λ r. (p : PatchValue) → change.now ≡ PatchDelta p
-        → IsWorkedOut entries.now.entries name (Some (DataEntry (patched array.now p))) (put (names_of entries.now.entries) name (Data (patched array.now p))) change.now meter.old meter.new r) }
+        → IsWorkedOut entries.now.entries name (Some (DataEntry (patched array.now p))) (put (names_of entries.now.entries) name (Data (patched array.now p))) change.now meter.old.ticks meter.new.ticks r) }
     ensures put { OnOk result ((p : PatchValue) → change.now ≡ PatchDelta p → CanBePut (names_of entries.now.entries) name (Data (patched array.now p))) }
     ensures refused { IfErr result (λ cause. (p : PatchValue) → change.now ≡ PatchDelta p → CannotPut (names_of entries.now.entries) name (Data (patched array.now p)) cause) }
 {
@@ -435,7 +435,7 @@ fn planned_without(
 ) -> Result<Planned, AllocError>
     requires { IsLive entries.now.entries users.now.entries }
     ensures planned { IfOk result (IsWorkedOut entries.entry.now.entries name None (without (names_of entries.entry.now.entries) name)
-        (WholeDelta (val (without (names_of entries.entry.now.entries) name) name)) meter.old meter.new) }
+        (WholeDelta (val (without (names_of entries.entry.now.entries) name) name)) meter.old.ticks meter.new.ticks) }
     ensures kept { OnOk result (HasOrder (without (names_of entries.entry.now.entries) name)) }
     ensures sheet { OnOk result (IsSheet (without (names_of entries.entry.now.entries) name)) }
 {

@@ -25,7 +25,7 @@ pub returns-in-Some-default : goal.returns-in-Some-default
 returns-in-Some-default c =
     let others = written_inputs c.args.positions.now in
     let first : last_error (c.args.array.now ∷ others) ≡ Some c.in-Some-default.fault = error_behind c.args.array.now others c.in-Some-default.fault (sym c.last_fault.ensures ∙ c.in-Some-default.is-0) in
-    error_change (index_rule (map is_some c.args.positions.now)) (c.args.array.now ∷ others) c.args.held.now c.args.meter.now c.in-Some-default.fault c.beside_error.result first (rw (← c.all_stay.ensures) c.beside_error.ensures)
+    error_change (index_rule (map is_some c.args.positions.now)) (c.args.array.now ∷ others) c.args.held.now c.args.meter.now.ticks c.in-Some-default.fault c.beside_error.result first (rw (← c.all_stay.ensures) c.beside_error.ensures)
 
 pub returns-in-None-Bad : goal.returns-in-None-Bad
 returns-in-None-Bad c =
@@ -33,7 +33,7 @@ returns-in-None-Bad c =
     let fault = c.in-None-Bad.fault in
     let first : last_error (c.args.array.now ∷ others) ≡ Some fault =
     subst (λ (i : Input). last_error (i ∷ others) ≡ Some fault) (sym c.in-None-Bad.is-1) (error_in_front fault c.in-None-Bad.changed-1 others (sym c.last_fault.ensures ∙ c.in-None-Bad.is-0)) in
-    error_change (index_rule (map is_some c.args.positions.now)) (c.args.array.now ∷ others) c.args.held.now c.args.meter.now fault c.beside_error-in-None-Bad.result first
+    error_change (index_rule (map is_some c.args.positions.now)) (c.args.array.now ∷ others) c.args.held.now c.args.meter.now.ticks fault c.beside_error-in-None-Bad.result first
     (rw (← c.all_stay-in-None-Bad.ensures) c.beside_error-in-None-Bad.ensures)
 
 pub returns-in-None-Good : goal.returns-in-None-Good
@@ -43,6 +43,6 @@ returns-in-None-Good c =
     let others = written_inputs c.args.positions.now in
     let rule = index_rule (map is_some c.args.positions.now) in
     let none : last_error (Good array delta ∷ others) ≡ None = none_with_array array delta others (sym c.last_fault.ensures ∙ c.in-None-Good.is-0) in
-    subst (λ (i : Input). IsOperationChange rule (i ∷ others) c.args.held.now c.args.meter.now c.change_of_arrays.new.meter c.change_of_arrays.result) (sym c.in-None-Good.is-1)
-    (refreshed_change rule (Good array delta ∷ others) c.args.held.now c.args.meter.now c.change_of_arrays.new.meter c.change_of_arrays.result none
-    (subst (λ (a : ArrayValue). IsRefreshed rule ((a, delta) ∷ arrays_among others) c.args.held.now c.args.meter.now c.change_of_arrays.new.meter c.change_of_arrays.result) c.again.ensures c.change_of_arrays.ensures))
+    subst (λ (i : Input). IsOperationChange rule (i ∷ others) c.args.held.now c.args.meter.now.ticks c.change_of_arrays.new.meter.ticks c.change_of_arrays.result) (sym c.in-None-Good.is-1)
+    (refreshed_change rule (Good array delta ∷ others) c.args.held.now c.args.meter.now.ticks c.change_of_arrays.new.meter.ticks c.change_of_arrays.result none
+    (subst (λ (a : ArrayValue). IsRefreshed rule ((a, delta) ∷ arrays_among others) c.args.held.now c.args.meter.now.ticks c.change_of_arrays.new.meter.ticks c.change_of_arrays.result) c.again.ensures c.change_of_arrays.ensures))

@@ -36,7 +36,7 @@ pub returns-clause-ticks : goal.returns-clause-ticks
 returns-clause-ticks c =
     let o = c.args.proposed.now in
     let told = c.in_ok-inputs.ensures in
-    subst (λ n. c.plan.new.meter ≤ c.args.meter.now + n) (formula_cost o c.requires.proposed c.args.name c.args.formula.now c.requires.held)
+    subst (λ n. c.plan.new.meter.ticks ≤ c.args.meter.now.ticks + n) (formula_cost o c.requires.proposed c.args.name c.args.formula.now c.requires.held)
     (c.plan.ensures.ticks (proposed_change o)
     (subst (λ (inputs : List Input). IsTold c.args.formula.now (proposed_change o) inputs) (sym c.deref.ensures.value)
     (formula_told o c.requires.proposed c.args.name c.args.formula.now c.requires.held c.references.result.now c.in_ok-inputs.inputs.items c.references.ensures told.inputs told.changed told.sound)))

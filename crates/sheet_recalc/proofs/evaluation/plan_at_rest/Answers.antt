@@ -43,4 +43,4 @@ returns-clause-ticks c =
     let refs : c.references.result.now ≡ names_in t = c.references.ensures ∙ ap (λ (f : FormulaValue). names_in f.tree) c.in_ok-formula.ensures in
     let are : AreInputs (at_rest names) (names_in t) c.deref.result.now = rw c.deref.ensures.value (subst (λ (ns : List (List ℕ)). AreInputs (at_rest names) ns c.in_ok-inputs.inputs.items) refs c.in_ok-inputs.ensures.inputs) in
     let sound = subst (λ (ns : List (List ℕ)). (x : List ℕ) → Contains ns x → IsNameSound (at_rest names) x) refs c.in_ok-inputs.ensures.sound in
-    ticks_at_rest names t c.deref.result.now are sound c.in_ok-formula.formula c.in_ok-formula.ensures c.args.meter.now c.plan.new.meter c.plan.result c.plan.ensures.ticks
+    ticks_at_rest names t c.deref.result.now are sound c.in_ok-formula.formula c.in_ok-formula.ensures c.args.meter.now.ticks c.plan.new.meter.ticks c.plan.result c.plan.ensures.ticks

@@ -9,7 +9,7 @@ invariant-loop-name l = record {
   spent : ℕ;
   split : spent + names_cost l.proposed l.left.keys ≡ names_cost l.proposed l.fn.left.keys;
   cost : l.planned.cost ≡ ticked 0 spent;
-  ticks : l.meter ≤ l.fn.meter + spent;
+  ticks : l.meter.ticks ≤ l.fn.meter.ticks + spent;
 }
 
 abbrev pub decreases-loop-name : goal.decreases-loop-name

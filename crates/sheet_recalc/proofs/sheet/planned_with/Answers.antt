@@ -65,7 +65,7 @@ returns-clause-planned c =
     let names = names_of c.args.entries.now.entries in
     let p = c.in_ok-plans_of.ensures in
     worked_out (record { entries = c.args.entries; name = c.args.name; proposal = Some c.args.proposal }) c.args.users.now.entries c.requires.live c.in_ok-found.found.keys f.closed f.named f.sound f.distinct none
-    (distinct_put c.args.name (bound c.args.proposal) names c.requires.live.sheet.distinct) c.args.meter.now _ c.in_ok-plans_of.field-0 p.planned p.cost p.ticks
+    (distinct_put c.args.name (bound c.args.proposal) names c.requires.live.sheet.distinct) c.args.meter.now.ticks _ c.in_ok-plans_of.field-0 p.planned p.cost p.ticks
 
 pub returns-clause-put : goal.returns-clause-put
 returns-clause-put c =

@@ -36,7 +36,7 @@ returns-clause-planned c =
     let f = c.in_ok-found.ensures in
     let p = c.plans_of.ensures in
     worked_out_or (record { entries = c.args.entries; name = c.args.name; proposal = None }) c.args.users.now.entries c.requires c.in_ok-found.found.keys f.closed f.named f.sound f.distinct (λ d stands. absurd (contains_none d stands))
-    (distinct_others c.args.name (names_of c.args.entries.now.entries) c.requires.sheet.distinct) c.args.meter.now _ c.plans_of.result p.planned p.cost p.ticks
+    (distinct_others c.args.name (names_of c.args.entries.now.entries) c.requires.sheet.distinct) c.args.meter.now.ticks _ c.plans_of.result p.planned p.cost p.ticks
 
 pub returns-clause-kept : goal.returns-clause-kept
 returns-clause-kept c =

@@ -5,4 +5,4 @@ use Rattle.formula_core.proofs.formula.Formula.build.Goals as goal
 
 pub returns : goal.returns
 returns c =
-    made_new c.lower_whole.new.names.items c.lower_whole.new.nodes.items (tree_of c.args.tree) c.in_ok-results.results.items c.len.result c.in_ok-lower_whole.ensures (c.len.ensures ∙ c.lower_whole.new.nodes.ok.0) c.in_ok-results.ensures
+    made_new c.lower_whole.new.names.items c.lower_whole.new.nodes.items (tree_of c.args.tree) c.in_ok-results.results.items c.in_ok-sums.sums.items c.len-count.result c.in_ok-lower_whole.ensures (c.len-count.ensures ∙ c.lower_whole.new.nodes.ok.0) c.in_ok-results.ensures c.in_ok-sums.ensures

@@ -9,4 +9,4 @@ pub returns : goal.returns
 returns c =
     let inside = c.self.inside in
     c.count_operations.ensures ∙ (ap (count_by applies) c.as_slice.ensures.value
-    ∙ (operations_counted inside.names.items inside.nodes.items inside.results.items c.self.invariant ∙ ap (λ (f : FormulaValue). operations f.tree) c.self.view_is))
+    ∙ (operations_counted inside.names.items inside.nodes.items inside.results.items inside.sums.items c.self.invariant ∙ ap (λ (f : FormulaValue). operations f.tree) c.self.view_is))

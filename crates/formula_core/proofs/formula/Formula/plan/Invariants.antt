@@ -10,5 +10,5 @@ abbrev pub invariant-loop : goal.invariant-loop
 invariant-loop l = record {
   many : length l.changes.items ≡ l.counter;
   begun : (c : Change) → IsTold l.fn.self c l.fn.inputs → IsBegun l.fn.self c l.changes.items l.cost;
-  ticks : (c : Change) → IsTold l.fn.self c l.fn.inputs → l.meter ≤ l.fn.meter + sum_by (node_cost_at l.fn.self.is_new c) (take (length l.changes.items) (subtrees l.fn.self.tree));
+  ticks : (c : Change) → IsTold l.fn.self c l.fn.inputs → l.meter.ticks ≤ l.fn.meter.ticks + sum_by (node_cost_at l.fn.self.is_new c) (take (length l.changes.items) (subtrees l.fn.self.tree));
 }

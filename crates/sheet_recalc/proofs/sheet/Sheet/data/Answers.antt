@@ -1,6 +1,6 @@
 use Rattle.std.proofs.Common.{◌∙◌, ap, true}
 use Rattle.apl_expr.specs.Trees.{tree_of}
-use Rattle.change_core.specs.Meters.{ticked}
+use Rattle.change_core.specs.Meters.{ticked, MeterValue}
 use Rattle.formula_core.specs.Plans.{tree_cost}
 use Rattle.sheet_recalc.specs.Names.{SheetValue}
 use Rattle.sheet_recalc.specs.Costs.{at_rest}
@@ -10,7 +10,7 @@ use Rattle.sheet_recalc.proofs.sheet.Sheet.data.Goals as goal
 
 pub store-requires : goal.store-requires
 store-requires c =
-    expression_few c.cost-spent.result _ c.new-meter.result c.plan_at_rest.new.meter (c.cost-spent.ensures ∙ c.in_ok-plan.ensures.cost) c.in_ok-plan.ensures.ticks c.new-meter.ensures
+    expression_few c.cost-spent.result _ c.new-meter.result.ticks c.plan_at_rest.new.meter.ticks (c.cost-spent.ensures ∙ c.in_ok-plan.ensures.cost) c.in_ok-plan.ensures.ticks (ap (λ (m : MeterValue). m.ticks) c.new-meter.ensures)
 
 pub returns-in-Whole-Ok-clause-cost : goal.returns-in-Whole-Ok-clause-cost
 returns-in-Whole-Ok-clause-cost c =

@@ -15,7 +15,7 @@ use Rattle.sheet_recalc.proofs.NameEquality.{equal-true}
 use Rattle.sheet_recalc.proofs.Refused.{refused_define}
 use Rattle.formula_core.specs.Formulas.{FormulaValue}
 use Rattle.index_region.specs.declared.delta.Delta.TheVariants.{Whole}
-use Rattle.change_core.specs.Meters.{ticked}
+use Rattle.change_core.specs.Meters.{ticked, MeterValue}
 use Rattle.sheet_recalc.specs.Meaning.{val}
 use Rattle.sheet_recalc.proofs.Accounted.{cost_same, formulas_alone, alone_ticks}
 use Rattle.sheet_recalc.proofs.sheet.Sheet.define.Goals as goal
@@ -53,7 +53,7 @@ invariant_of-self-2 c =
     record {
       live = live_after c.commit.new.entries.entries c.commit.new.users.entries new (c.commit.ensures.names ∙ same) c.in_ok-planned.ensures.put.sheet c.in_ok-planned.ensures.put.kept
           (subst (λ (ns : Names). IsTable ns c.commit.new.users.entries) same c.commit.ensures.tells) c.commit.ensures.used c.commit.ensures.current;
-      few = alone_ticks _ c.new-meter.result c.planned_with.new.meter c.ticks-self-inside.result c.in_ok-planned.planned.cost c.new-meter.ensures worked.ticks c.ticks-self-inside.ensures c.ticks-self-inside.type_inv worked.cost;
+      few = alone_ticks _ c.new-meter.result.ticks c.planned_with.new.meter.ticks c.ticks-self-inside.result c.in_ok-planned.planned.cost (ap (λ (m : MeterValue). m.ticks) c.new-meter.ensures) worked.ticks c.ticks-self-inside.ensures c.ticks-self-inside.type_inv worked.cost;
     }
 
 pub returns-clause-cost : goal.returns-clause-cost

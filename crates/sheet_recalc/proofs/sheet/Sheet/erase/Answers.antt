@@ -5,7 +5,7 @@ use Rattle.sheet_recalc.specs.Names.{SheetValue}
 use Rattle.sheet_recalc.proofs.Live.{present_name, absent_name}
 use Rattle.sheet_recalc.proofs.Rebound.{live_after}
 use Rattle.index_region.specs.declared.delta.Delta.TheVariants.{Whole}
-use Rattle.change_core.specs.Meters.{ticked}
+use Rattle.change_core.specs.Meters.{ticked, MeterValue}
 use Rattle.sheet_recalc.specs.Meaning.{val}
 use Rattle.sheet_recalc.proofs.Accounted.{cost_same, formulas_alone, alone_ticks}
 use Rattle.sheet_recalc.proofs.sheet.Sheet.erase.Goals as goal
@@ -22,7 +22,7 @@ invariant_of-self c =
     let m = c.commit_removal.ensures in
     record {
       live = live_after c.commit_removal.new.entries.entries c.commit_removal.new.users.entries (without (names_of c.self.inside.entries.entries) c.args.name) m.names s.sheet s.kept m.tells m.used m.current;
-      few = alone_ticks _ c.new-meter.result c.planned_without.new.meter c.ticks-self-inside.result c.in_ok-planned.planned.cost c.new-meter.ensures s.planned.ticks c.ticks-self-inside.ensures c.ticks-self-inside.type_inv s.planned.cost;
+      few = alone_ticks _ c.new-meter.result.ticks c.planned_without.new.meter.ticks c.ticks-self-inside.result c.in_ok-planned.planned.cost (ap (λ (m : MeterValue). m.ticks) c.new-meter.ensures) s.planned.ticks c.ticks-self-inside.ensures c.ticks-self-inside.type_inv s.planned.cost;
     }
 
 pub returns-clause-cost : goal.returns-clause-cost

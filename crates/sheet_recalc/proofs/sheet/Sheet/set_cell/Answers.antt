@@ -4,7 +4,7 @@ use Rattle.std.proofs.lemmas.Result.{err_from_is_err_and}
 use Rattle.apl_expr.specs.Trees.{literal_of}
 use Rattle.index_region.specs.Patches.{PatchValue, patched}
 use Rattle.index_region.specs.declared.delta.Delta.TheVariants.{Patch}
-use Rattle.change_core.specs.Meters.{ticked}
+use Rattle.change_core.specs.Meters.{ticked, MeterValue}
 use Rattle.sheet_recalc.specs.Names.{SheetValue, Data, binding, put}
 use Rattle.sheet_recalc.specs.Cells.{cell_put, index_of_numbers, literal_items}
 use Rattle.sheet_recalc.specs.Entries.{names_of, binding_of}
@@ -43,7 +43,7 @@ invariant_of-self c =
     record {
       live = live_after c.commit_patch.new.entries.entries c.self.inside.users.entries (put old c.args.name (Data a)) (c.commit_patch.ensures.names array c.in_ok-array.ensures.data) can.sheet can.kept
           (table_kept old c.args.name array a c.self.inside.users.entries held c.self.invariant.live.tells) c.self.invariant.live.used c.commit_patch.ensures.current;
-      few = alone_ticks _ c.new-meter.result c.planned_with_patch.new.meter c.ticks-self-inside.result c.in_ok-planned.planned.cost c.new-meter.ensures worked.ticks c.ticks-self-inside.ensures c.ticks-self-inside.type_inv worked.cost;
+      few = alone_ticks _ c.new-meter.result.ticks c.planned_with_patch.new.meter.ticks c.ticks-self-inside.result c.in_ok-planned.planned.cost (ap (λ (m : MeterValue). m.ticks) c.new-meter.ensures) worked.ticks c.ticks-self-inside.ensures c.ticks-self-inside.type_inv worked.cost;
     }
 
 pub returns-clause-ok : goal.returns-clause-ok

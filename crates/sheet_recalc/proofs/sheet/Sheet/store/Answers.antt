@@ -36,7 +36,7 @@ invariant_of-self-2 c =
     record {
       live = live_after c.commit.new.entries.entries c.commit.new.users.entries new (c.commit.ensures.names ∙ same) can.sheet can.kept
           (subst (λ (ns : Names). IsTable ns c.commit.new.users.entries) same c.commit.ensures.tells) c.commit.ensures.used c.commit.ensures.current;
-      few = few_ticks c.args.spent _ c.args.meter c.planned_with_data.new.meter c.ticks-self-inside.result c.saturating_add-self-inside.result c.requires worked.ticks c.ticks-self-inside.ensures c.ticks-self-inside.type_inv
+      few = few_ticks c.args.spent _ c.args.meter.ticks c.planned_with_data.new.meter.ticks c.ticks-self-inside.result c.saturating_add-self-inside.result c.requires worked.ticks c.ticks-self-inside.ensures c.ticks-self-inside.type_inv
           (spent_more c.args.spent c.in_ok-planned.planned.cost c.saturating_add-self-inside.result _ worked.cost c.saturating_add-self-inside.ensures);
     }
 

@@ -1,0 +1,98 @@
+//! The sums of lines that the totals of a formula keep.
+
+ghost use Rattle.std.specs.Prelude.{◌≡◌, ◌≤◌, length, Ok, IfOk};
+ghost use Rattle.index_region.specs.declared.delta.Delta.TheVariants.{Patch as PatchDelta};
+ghost use Rattle.index_region.specs.Patches.{FitsPatch};
+ghost use Rattle.formula_core.specs.Inputs.{shown, delta_of, HasFit};
+ghost use Rattle.formula_core.specs.Sums.{is_total as is_sum, resummed, resummed_all, FitsSums, AllSumsFit, IsSumsDelta};
+
+use crate::input::Input;
+use apl_expr::{Along, Monadic, ScalarDyad};
+use index_region::{Delta, Patch, Seen};
+use std::alloc::{AllocError, Global};
+use sum_rules::LineSums;
+
+/// A patch of more than one place in so many makes the sums anew: taking its items one by one would be slower.
+const PLACES_TO_ONE_NEW: usize = 32;
+
+/// What changes of the sums that a node keeps.
+#[derive(Drop)]
+pub(crate) enum SumsDelta {
+    /// Nothing.
+    Same,
+    /// New items for a box of the array whose lines are summed up.
+    Patch(Patch),
+    /// Other sums, or none.
+    Whole(Option<LineSums>),
+}
+
+/// It sums up lines along the last axis, as `+/` does.
+pub(crate) fn is_total(function: Monadic) -> bool
+    ensures { result ≡ is_sum function }
+{
+    matches!(function, Monadic::Reduce(ScalarDyad::Plus, Along::Last))
+}
+
+/// What changes of the sums of the lines of an argument, where these were kept: a small patch is kept for them, and else
+/// they are made anew.
+pub(crate) fn sums_delta(
+    alloc: Global,
+    input: &Input,
+    kept: &Option<LineSums>,
+) -> Result<SumsDelta, AllocError>
+    requires { HasFit input.now }
+    ensures { IfOk result (IsSumsDelta (shown input.now) (delta_of input.now) kept.now) }
+{
+    match input {
+        Input::Bad { .. } => Ok(SumsDelta::Whole(None)),
+        Input::Good(array, delta) => match delta {
+            Delta::Same => Ok(SumsDelta::Same),
+            Delta::Whole(_) => Ok(SumsDelta::Whole(LineSums::of(alloc, array)?)),
+            Delta::Patch(patch) => patch_delta(alloc, array, patch, kept),
+        },
+    }
+}
+
+/// The same of an array that is patched.
+fn patch_delta(
+    alloc: Global,
+    array: &Seen,
+    patch: &Patch,
+    kept: &Option<LineSums>,
+) -> Result<SumsDelta, AllocError>
+    requires { FitsPatch array.now patch.now }
+    ensures { IfOk result (IsSumsDelta (Ok array.now) (PatchDelta patch.now) kept.now) }
+{
+    let places = array.places() as usize;
+    if kept.is_some() && patch.region().size() <= places / PLACES_TO_ONE_NEW + 1 {
+        return Ok(SumsDelta::Patch(patch.copy()?));
+    }
+    Ok(SumsDelta::Whole(LineSums::of(alloc, array)?))
+}
+
+/// The sums that a node keeps take their change. No memory is asked for.
+pub(crate) fn take_sums_delta(kept: &mut Option<LineSums>, change: SumsDelta)
+    requires { FitsSums change kept.old }
+    ensures { kept.new ≡ resummed change kept.old }
+{
+    match change {
+        SumsDelta::Same => {}
+        SumsDelta::Whole(sums) => *kept = sums,
+        SumsDelta::Patch(patch) => {
+            if let Some(sums) = kept {
+                sums.write(&patch);
+            }
+        }
+    }
+}
+
+/// Each node's sums take their change.
+pub(crate) fn take_all_sums(kept: &mut Vec<Option<LineSums>>, mut changes: Vec<SumsDelta>)
+    requires few { length changes.items ≤ length kept.old.items }
+    requires fit { AllSumsFit changes.items kept.old.items }
+    ensures { kept.new.items ≡ resummed_all changes.items kept.old.items }
+{
+    while let Some(change) = changes.pop() {
+        take_sums_delta(&mut kept[changes.len()], change);
+    }
+}
