@@ -20,7 +20,7 @@ without_last xs d some =
 sized : (m s n : ℕ) → m * (s * n) ≡ m * s * n
 sized m s n = omega arith
 
-pub size_with_last : (shape : List ℕ) (n : ℕ) → size (shape ++ n ∷ []) ≡ size shape * n
+size_with_last : (shape : List ℕ) (n : ℕ) → size (shape ++ n ∷ []) ≡ size shape * n
 size_with_last [] n = omega arith
 size_with_last (m ∷ shape) n = ap (λ k. m * k) (size_with_last shape n) ∙ sized m (size shape) n
 
@@ -72,9 +72,16 @@ fits_last [] s [] n e h =
 fits_last [] s (m ∷ shape) n e h = absurd (omega arith)
 fits_last (t ∷ region) s [] n e h = absurd (omega arith)
 fits_last (t ∷ region) s (m ∷ shape) n e h =
+    let as_long : length region ≡ length shape = omega arith in
     let parts = and_parts _ _ h in
-    let later = fits_last region s shape n (omega arith) parts.1 in
+    let later = fits_last region s shape n as_long parts.1 in
     record { rest = and_from _ _ parts.0 later.rest; low = later.low; high = later.high }
+
+lower : (i : ℕ) → 1 ≤ i → max 1 i ≡ i
+lower i h = omega arith
+
+upper : (i n : ℕ) → i ≤ n → min i n ≡ i
+upper i n h = omega arith
 
 -- what lies in a shape of a box that fits it is the box
 pub met_fit : (shape : List ℕ) (region : List Interval) → fits region shape ≡ true → met shape region ≡ region
@@ -84,8 +91,10 @@ met_fit (n ∷ shape) [] h = absurd (false≢true h)
 met_fit (n ∷ shape) (s ∷ region) h =
     let parts = and_parts _ _ h in
     let first = and_parts _ _ parts.0 in
-    let low : max 1 s.0 ≡ s.0 = omega (arith, leb-true 1 s.0 (and_parts _ _ first.0).0) in
-    let high : min s.1 n ≡ s.1 = omega (arith, leb-true s.1 n first.1) in
+    let some : 1 ≤ s.0 = leb-true 1 s.0 (and_parts _ _ first.0).0 in
+    let on : s.1 ≤ n = leb-true s.1 n first.1 in
+    let low : max 1 s.0 ≡ s.0 = lower s.0 some in
+    let high : min s.1 n ≡ s.1 = upper s.1 n on in
     let rest = met_fit shape region parts.1 in
     λ i. (low i, high i) ∷ rest i
 

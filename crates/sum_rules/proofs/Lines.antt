@@ -1,7 +1,7 @@
 -- The numbers of lines that are all as long, one line after another.
 use Rattle.std.proofs.Common.{◌≡◌, ℕ, zero, suc, ◌+◌, ◌-◌, ◌*◌, ◌/◌, ◌%◌, ◌<◌, ◌≤◌, ℤ, List, [], ◌∷◌, ◌++◌, length, get_or, set, take, drop, ap, sym, ◌∙◌, arith}
-use Rattle.std.proofs.lemmas.List.{length-append, length-set, set-append_left, set-append_right, get_or_append_left, get_or-append_right, flat_map_more, take-take, drop-take, take-append-drop, drop_all}
-use Rattle.std.proofs.lemmas.List.Elements.{All-head, All-tail, All-set, All-get_or}
+use Rattle.std.proofs.lemmas.List.{length-append, set-append_left, set-append_right, get_or_append_left, get_or-append_right, flat_map_more, take-take, drop-take, take-append-drop, drop_all}
+use Rattle.std.proofs.lemmas.List.Elements.{All-head, All-tail}
 use Rattle.std.proofs.Math.Nat.{mul-le-mul_right, mul-mod_left}
 use Rattle.std.proofs.lemmas.Nat.{div-add-mod', mod_below, div_below}
 use Rattle.arrays_core.specs.Shapes.{size}
@@ -63,11 +63,6 @@ pub set_number : (count : ℕ) (lines : List (List ℤ)) (place : ℕ) (none : L
 set_number count lines place none z h some below =
     set_at count lines (place / count) (place % count) none z h (line_there count lines place h some below) (mod_below place count some)
     ∙ ap (λ k. set (all_numbers lines) k z) (div-add-mod' place count)
-
-pub set_as_long : (count : ℕ) (lines : List (List ℤ)) (which place : ℕ) (none : List ℤ) (z : ℤ) → AreAllAsLong count lines → which < length lines
-    → AreAllAsLong count (set lines which (set (get_or lines which none) place z))
-set_as_long count lines which place none z h there =
-    All-set (λ (l : List ℤ). length l ≡ count) lines which (set (get_or lines which none) place z) (length-set (get_or lines which none) place z ∙ All-get_or (λ (l : List ℤ). length l ≡ count) lines which none there h) h
 
 -- the numbers of one line more
 pub one_line_more : (count line : ℕ) (lines : List (List ℤ)) (next numbers : List ℤ) → all_numbers lines ≡ take (line * count) numbers → next ≡ take count (drop (line * count) numbers)
