@@ -1,10 +1,8 @@
-//! The same with a list of its own that is added up from the right, each step checked; a number that is replaced goes into a total that
-//! is kept by the difference, which is less than a tree does.
+//! A list of its own of the same numbers, added up from the right, each step checked.
 use std::hint::black_box;
 use std::time::Instant;
 
 const RUNS: usize = 20;
-const STEPS: usize = 1000;
 
 fn numbers(places: usize) -> Vec<i64> {
     let mut number: i64 = 5;
@@ -29,16 +27,4 @@ fn main() {
         least = least.min(start.elapsed().as_nanos());
     }
     println!("building {least} {end}");
-    let mut copy = row.to_vec();
-    let mut total = sum(&copy);
-    least = u128::MAX;
-    for _ in 0..RUNS {
-        let start = Instant::now();
-        for place in 0..STEPS {
-            total = total - copy[black_box(place)] + 7;
-            copy[place] = 7;
-        }
-        least = least.min(start.elapsed().as_nanos());
-    }
-    println!("replacing {least} {total}");
 }
