@@ -1,9 +1,16 @@
-//! The arrays of literals, and a formula. The other tests evaluate expressions of each kind.
+//! The arrays of literals, a formula, and how many sums its plan joins. The other tests evaluate expressions of each kind.
+
+ghost use Rattle.std.specs.Prelude.{◌≡◌, length, true, Ok, IfSome, OnSome};
+ghost use Rattle.formula_core.specs.Changes.{FitsIn};
+ghost use Rattle.formula_core.specs.Formulas.{IsHeld};
+ghost use Rattle.formula_core.specs.Meaning.{names_in};
 
 use crate::fixtures::{are_characters, are_numbers, tree_of};
 use apl_expr::Literal;
-use arrays_core::{Array, Kind};
-use formula_core::{Formula, array_of, evaluate};
+use arrays_core::{Array, ItemType, Kind, shape_of};
+use change_core::Meter;
+use formula_core::{Formula, Input, array_of, evaluate};
+use index_region::{Delta, IndexBox, Patch, Seen};
 use sheet_recalc::Sheet;
 use std::alloc::Global;
 
@@ -54,4 +61,69 @@ fn a_new_formula_shows_value_error(rt: HostRuntime) {
     let alloc = rt.alloc();
     assert!(rt; operations_of(alloc, "A") == Some(0));
     assert!(rt; operations_of(alloc, "+/A[1 2]×-3") == Some(4));
+}
+
+/// Works a new formula out, whose only name shows this array.
+fn work_out(formula: &mut Formula, array: &Array) -> Option<()>
+    requires new { formula.old.is_new ≡ true }
+    requires one { length (names_in formula.old.tree) ≡ 1 }
+    ensures held { OnSome result (IsHeld formula.new (λ _. Ok array.now)) }
+    ensures tree { formula.new.tree ≡ formula.old.tree }
+{
+    let _sound = array.shape();
+    let inputs = [Input::Good(Seen::plain(array), &Delta::Same)];
+    let Ok(plan) = formula.plan(&inputs, &mut Meter::new()) else {
+        return None;
+    };
+    formula.adopt(plan);
+    Some(())
+}
+
+/// How many sums a plan joins for the change of that array.
+fn joins_of<'a>(formula: &Formula, array: &'a Array, delta: &'a Delta) -> Option<u64>
+    requires held { IsHeld formula.now (λ _. Ok array.now) }
+    requires one { length (names_in formula.now.tree) ≡ 1 }
+    requires fit { FitsIn delta.now (Ok array.now) }
+{
+    let Delta::Patch(patch) = delta else {
+        return None;
+    };
+    let _sound = array.shape();
+    let inputs = [Input::Good(Seen::patched(array, patch), delta)];
+    let _sound_now = Seen::patched(array, patch).item_type();
+    let mut meter = Meter::new();
+    formula.plan(&inputs, &mut meter).ok()?;
+    Some(meter.joins())
+}
+
+/// The change of one number of a row of a thousand.
+fn one_of_a_thousand(alloc: Global, array: &Array) -> Option<Delta>
+    ensures { IfSome result (λ d. FitsIn d (Ok array.now)) }
+{
+    let region = IndexBox::of(&[(1, 1), (500, 500)])?;
+    if region.size() != 1
+        || !region.lies_in(array.shape().as_slice())
+        || array.item_type() != ItemType::Nums
+    {
+        return None;
+    }
+    Some(Delta::Patch(Patch::of(region, Array::scalar(alloc, 7).ok()?)))
+}
+
+/// How many sums are joined where one number changes in a row of a thousand that a total sums up.
+fn joins_of_a_total(alloc: Global) -> Option<u64> {
+    let mut formula = Formula::build(alloc, tree_of(alloc, "+/D")?).ok()?;
+    if formula.references().len() != 1 {
+        return None;
+    }
+    let array = Array::filled(alloc, ItemType::Nums, &shape_of(alloc, &[1, 1000])).ok()?;
+    work_out(&mut formula, &array)?;
+    let delta = one_of_a_thousand(alloc, &array)?;
+    joins_of(&formula, &array, &delta)
+}
+
+#[test]
+fn a_total_follows_one_number_by_few_joins(rt: HostRuntime) {
+    let joins = joins_of_a_total(rt.alloc());
+    assert!(rt; matches!(joins, Some(1..=10)));
 }
