@@ -1,0 +1,67 @@
+-- Items that are put behind others.
+use Rattle.std.proofs.Common.{◌≡◌, ℕ, zero, suc, ◌+◌, ◌≤◌, List, [], ◌∷◌, ◌++◌, length, map, get_or, take, drop, replicate, refl, ap, sym, ◌∙◌, arith, append_assoc, length-drop, Result, Ok, Err}
+use Rattle.std.specs.List.{range_with_len}
+use Rattle.std.specs.Result.{is_ok}
+use Rattle.std.specs.Prelude.{OnOk, if◌then◌else◌}
+use Rattle.std.proofs.lemmas.List.{get_or-take, get_or-drop, length-take, map-append}
+use Rattle.std.proofs.lemmas.List.FromFn.{fill_by_all, map-range_with_len_more}
+use Rattle.std.proofs.Math.ListN.{get_or-map}
+use Rattle.arrays_core.specs.Building.{listed}
+
+listed_same_from : {A : Type 0} (x : A) (a n : ℕ) → replicate n x ≡ map (λ (k : ℕ). x) (range_with_len a n)
+listed_same_from x a zero = refl
+listed_same_from x a (suc n) = ap (λ xs. x ∷ xs) (listed_same_from x (a + 1) n)
+
+pub listed_same : {A : Type 0} (x : A) (n : ℕ) → replicate n x ≡ listed n (λ k. x)
+listed_same x n = listed_same_from x 0 n
+
+-- one item more behind those that a function gives
+pub listed_more : {A : Type 0} (f : ℕ → A) (before now new : List A) (k : ℕ) (x : A) → now ≡ before ++ listed k f → new ≡ now ++ x ∷ [] → x ≡ f k
+    → new ≡ before ++ listed (k + 1) f
+listed_more f before now new k x made pushed same =
+    pushed ∙ ap (λ xs. xs ++ x ∷ []) made ∙ append_assoc before (listed k f) (x ∷ [])
+    ∙ ap (λ y. before ++ (listed k f ++ y ∷ [])) same ∙ ap (λ xs. before ++ xs) (sym (map-range_with_len_more f 0 k k (omega arith)))
+
+-- a run of items, one by one
+pub run_listed : {A : Type 0} (xs : List A) (first n m : ℕ) (d : A) → first + n ≤ length xs → m ≡ n → take m (drop first xs) ≡ listed n (λ k. get_or xs (first + k) d)
+run_listed xs first n m d h same =
+    fill_by_all (λ k. get_or xs (first + k) d) (take m (drop first xs)) n d (simp (length-take, length-drop) (omega arith))
+    (λ k below. get_or-take m (drop first xs) k d (omega arith) ∙ get_or-drop first xs k d)
+
+-- what a call puts behind others where it does not fail
+pub if_ok : {A T E : Type 0} (r : Result T E) (now before added wanted : List A) → now ≡ (if is_ok r then before ++ added else before) → added ≡ wanted
+    → OnOk r (now ≡ before ++ wanted)
+if_ok (Ok x) now before added wanted e same = e ∙ ap (λ xs. before ++ xs) same
+if_ok (Err x) now before added wanted e same = tt
+
+-- what a function gives, item by item
+map_listed_from : {A B : Type 0} (F : A → B) (f : ℕ → A) (a n : ℕ) → map F (map f (range_with_len a n)) ≡ map (λ k. F (f k)) (range_with_len a n)
+map_listed_from F f a zero = refl
+map_listed_from F f a (suc n) = ap (λ xs. F (f a) ∷ xs) (map_listed_from F f (a + 1) n)
+
+pub map_listed : {A B : Type 0} (F : A → B) (f : ℕ → A) (n : ℕ) → map F (listed n f) ≡ listed n (λ k. F (f k))
+map_listed F f n = map_listed_from F f 0 n
+
+picked_listed_from : {A B : Type 0} (F : A → B) (xs : List A) (place : ℕ → ℕ) (d : A) (a n : ℕ)
+    → map F (map (λ k. get_or xs (place k) d) (range_with_len a n)) ≡ map (λ k. get_or (map F xs) (place k) (F d)) (range_with_len a n)
+picked_listed_from F xs place d a zero = refl
+picked_listed_from F xs place d a (suc n) =
+    ap (λ ys. F (get_or xs (place a) d) ∷ ys) (picked_listed_from F xs place d (a + 1) n)
+    ∙ ap (λ y. y ∷ map (λ k. get_or (map F xs) (place k) (F d)) (range_with_len (a + 1) n)) (sym (get_or-map F xs (place a) d))
+
+-- items of one kind that a call put behind the others, as items of either kind
+pub put_same : {A B T E : Type 0} (F : A → B) (r r' : Result T E) (now before : List A) (after was : List B) (n : ℕ) (x : A) (y : B)
+    → OnOk r (now ≡ before ++ listed n (λ k. x)) → r' ≡ r → after ≡ map F now → was ≡ map F before → y ≡ F x
+    → OnOk r' (after ≡ was ++ listed n (λ k. y))
+put_same F (Ok t) r' now before after was n x y put e f g h =
+    rw e (f ∙ ap (λ xs. map F xs) put ∙ map-append F before (listed n (λ k. x)) ∙ ap (λ xs. map F before ++ xs) (map_listed F (λ k. x) n ∙ ap (λ z. listed n (λ k. z)) (sym h))
+    ∙ ap (λ xs. xs ++ listed n (λ k. y)) (sym g))
+put_same F (Err t) r' now before after was n x y put e f g h = rw e tt
+
+pub put_picked : {A B T E : Type 0} (F : A → B) (r r' : Result T E) (now before xs : List A) (after was items : List B) (n : ℕ) (place : ℕ → ℕ) (d : A) (y : B)
+    → OnOk r ((x : A) → now ≡ before ++ listed n (λ k. get_or xs (place k) x)) → r' ≡ r → after ≡ map F now → was ≡ map F before → items ≡ map F xs → y ≡ F d
+    → OnOk r' (after ≡ was ++ listed n (λ k. get_or items (place k) y))
+put_picked F (Ok t) r' now before xs after was items n place d y put e f g i h =
+    rw (e, i, h) (f ∙ ap (λ zs. map F zs) (put d) ∙ map-append F before _ ∙ ap (λ zs. map F before ++ zs) (picked_listed_from F xs place d 0 n)
+    ∙ ap (λ zs. zs ++ listed n (λ k. get_or (map F xs) (place k) (F d))) (sym g))
+put_picked F (Err t) r' now before xs after was items n place d y put e f g i h = rw e tt

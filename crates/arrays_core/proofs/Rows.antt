@@ -1,0 +1,152 @@
+-- The rows of a shape: what stands along its last axis.
+use Rattle.std.proofs.Common.{◌≡◌, ℕ, zero, suc, ◌+◌, ◌-◌, ◌*◌, ◌<◌, ◌≤◌, true, List, [], ◌∷◌, ◌++◌, length, get_or, take, map, refl, ap, sym, ◌∙◌, arith, append_assoc, Result, Ok, Err}
+use Rattle.std.specs.List.{range_with_len}
+use Rattle.std.proofs.lemmas.Bool.{and_from, le-leb}
+use Rattle.std.proofs.lemmas.List.{take_more, map-append, append-nil, length-map, length_push, get_or_append_left}
+use Rattle.std.proofs.lemmas.List.FromFn.{map-range_with_len_more}
+use Rattle.arrays_core.specs.Items.{after, all_or_first_error}
+use Rattle.arrays_core.specs.Shapes.{size, indices, is_index_of, places_before, IsWithinLimits}
+use Rattle.arrays_core.specs.Building.{listed, with_row}
+use Rattle.arrays_core.proofs.Shapes.{head_of, places_below, factor_le}
+use Rattle.arrays_core.proofs.Order.{length-indices, at_place, ok_more, all_given, given, CollectedTo}
+
+-- ---- one more axis at the end
+
+pub size_row : (rows : List ℕ) (n : ℕ) → size (rows ++ n ∷ []) ≡ size rows * n
+size_row [] n = omega arith
+size_row (m ∷ rows) n = ap (λ s. m * s) (size_row rows n) ∙ omega arith
+
+pub places_before_row : (rows row : List ℕ) (n i : ℕ) → is_index_of rows row ≡ true
+    → places_before (rows ++ n ∷ []) (row ++ i ∷ []) ≡ places_before rows row * n + (i - 1)
+places_before_row [] [] n i h = omega arith
+places_before_row [] (j ∷ row) n i h = cc
+places_before_row (m ∷ rows) [] n i h = cc
+places_before_row (m ∷ rows) (j ∷ row) n i h =
+    let sized = size_row rows n in
+    let rest = places_before_row rows row n i (head_of m j rows row h).rest in
+    let whole : (j - 1) * size (rows ++ n ∷ []) + places_before (rows ++ n ∷ []) (row ++ i ∷ []) ≡ ((j - 1) * size rows + places_before rows row) * n + (i - 1) =
+    rw (sized, rest) (omega arith) in
+    whole
+
+pub index_of_row : (rows row : List ℕ) (n i : ℕ) → is_index_of rows row ≡ true → 1 ≤ i → i ≤ n → is_index_of (rows ++ n ∷ []) (row ++ i ∷ []) ≡ true
+index_of_row [] [] n i h low high = and_from _ _ (and_from _ _ (le-leb 1 i low) (le-leb i n high)) refl
+index_of_row [] (j ∷ row) n i h low high = cc
+index_of_row (m ∷ rows) [] n i h low high = cc
+index_of_row (m ∷ rows) (j ∷ row) n i h low high =
+    let head = head_of m j rows row h in
+    and_from _ _ (and_from _ _ (le-leb 1 j head.low) (le-leb j m head.high)) (index_of_row rows row n i head.rest low high)
+
+-- ---- items of rows, one row after another
+
+-- results without an error are their items
+all_ok : {A E : Type 0} (rs : List (Result A E)) (xs : List A) → all_or_first_error rs ≡ Ok xs → rs ≡ map (given A E) xs
+all_ok [] xs h = let e : xs ≡ [] = cc in rw e refl
+all_ok (Err e ∷ rs) xs h = cc
+all_ok (Ok y ∷ rs) xs h = all_ok_after rs xs y (all_or_first_error rs) refl h (λ ys e. all_ok rs ys e)
+  where
+    all_ok_after : {A E : Type 0} (rs : List (Result A E)) (xs : List A) (y : A) (r : Result (List A) E) → all_or_first_error rs ≡ r → after y r ≡ Ok xs
+        → ((ys : List A) → all_or_first_error rs ≡ Ok ys → rs ≡ map (given A E) ys) → Ok y ∷ rs ≡ map (given A E) xs
+    all_ok_after rs xs y (Ok ys) e h f =
+        let same : xs ≡ y ∷ ys = cc in
+        let rest = f ys e in
+        rw same (ap (λ zs. Ok y ∷ zs) rest)
+    all_ok_after rs xs y (Err k) e h f = cc
+
+pub with_row_none : {A E : Type 0} (items : List A) (rule : ℕ → Result A E) → with_row items rule 0 ≡ Ok items
+with_row_none {A = A} {E = E} items rule = ap all_or_first_error (append-nil (map (given A E) items)) ∙ all_given A E items
+
+-- more items of a row
+pub with_row_more : {A E : Type 0} (items now : List A) (rule : ℕ → Result A E) (f : ℕ → A) (k n m : ℕ) → k + n ≡ m
+    → ((j : ℕ) → j < n → rule (k + j + 1) ≡ Ok (f j)) → with_row items rule k ≡ Ok now → with_row items rule m ≡ Ok (now ++ listed n f)
+with_row_more items now rule f k zero m e each so_far =
+    let same : m ≡ k = omega arith in
+    rw (same, append-nil) so_far
+with_row_more {A = A} {E = E} items now rule f k (suc n) m e each so_far =
+    let before : with_row items rule (k + n) ≡ Ok (now ++ listed n f) = with_row_more items now rule f k n (k + n) refl (λ j h. each j (omega arith)) so_far in
+    let start = map (given A E) items in
+    let row = map rule (range_with_len 1 (k + n)) in
+    let same : m ≡ k + n + 1 = omega arith in
+    let split : map rule (range_with_len 1 (k + n + 1)) ≡ row ++ Ok (f n) ∷ [] =
+    map-range_with_len_more rule 1 (k + n) (k + n + 1) (omega arith) ∙ ap (λ r. row ++ r ∷ []) (each n (omega arith)) in
+    let more : listed (suc n) f ≡ listed n f ++ f n ∷ [] =
+    ap (λ j. listed j f) (let one : suc n ≡ n + 1 = omega arith in one) ∙ map-range_with_len_more f 0 n n (omega arith) in
+    rw (same, split, ← append_assoc start row (Ok (f n) ∷ []))
+    (ok_more (start ++ row) (now ++ listed n f) (f n) before ∙ ap (λ xs. Ok xs) (append_assoc now (listed n f) (f n ∷ []) ∙ ap (λ xs. now ++ xs) (sym more)))
+
+-- ---- a row of a shape behind those before it
+
+map_map : {A B C : Type 0} (f : B → C) (g : A → B) (xs : List A) → map f (map g xs) ≡ map (λ x. f (g x)) xs
+map_map f g [] = refl
+map_map f g (x ∷ xs) = ap (λ ys. f (g x) ∷ ys) (map_map f g xs)
+
+-- the first index lists of a row stand behind those of the rows before it
+row_taken : (rows row : List ℕ) (n : ℕ) → is_index_of rows row ≡ true → (j : ℕ) → j ≤ n
+    → take (places_before rows row * n + j) (indices (rows ++ n ∷ []))
+    ≡ take (places_before rows row * n) (indices (rows ++ n ∷ [])) ++ map (λ i. row ++ i ∷ []) (range_with_len 1 j)
+row_taken rows row n inside zero h = rw append-nil (let same : places_before rows row * n + 0 ≡ places_before rows row * n = omega arith in rw same refl)
+row_taken rows row n inside (suc j) h =
+    let shape = rows ++ n ∷ [] in
+    let b = places_before rows row * n in
+    let is = indices shape in
+    let long = length-indices shape in
+    let sized = size_row rows n in
+    let rest : take (b + j) is ≡ take b is ++ map (λ i. row ++ i ∷ []) (range_with_len 1 j) = row_taken rows row n inside j (omega arith) in
+    let place : places_before shape (row ++ (j + 1) ∷ []) ≡ b + j = places_before_row rows row n (j + 1) inside ∙ omega arith in
+    let there = index_of_row rows row n (j + 1) inside (omega arith) (omega arith) in
+    let below : b + j < size shape = rw place at (places_below shape (row ++ (j + 1) ∷ []) there) in
+    let here : get_or is (b + j) [] ≡ row ++ (j + 1) ∷ [] = ap (λ m. get_or is m []) (sym place) ∙ at_place shape (row ++ (j + 1) ∷ []) there in
+    let one : b + suc j ≡ b + j + 1 = omega arith in
+    let same : suc j ≡ j + 1 = omega arith in
+    let more : map (λ i. row ++ i ∷ []) (range_with_len 1 (suc j)) ≡ map (λ i. row ++ i ∷ []) (range_with_len 1 j) ++ (row ++ (j + 1) ∷ []) ∷ [] =
+    ap (λ m. map (λ i. row ++ i ∷ []) (range_with_len 1 m)) same ∙ map-range_with_len_more (λ i. row ++ i ∷ []) 1 j (j + 1) (omega arith) in
+    ap (λ m. take m is) one ∙ take_more is (b + j) [] (omega arith) ∙ ap (λ xs. xs ++ get_or is (b + j) [] ∷ []) rest
+    ∙ ap (λ y. (take b is ++ map (λ i. row ++ i ∷ []) (range_with_len 1 j)) ++ y ∷ []) here
+    ∙ append_assoc (take b is) (map (λ i. row ++ i ∷ []) (range_with_len 1 j)) ((row ++ (j + 1) ∷ []) ∷ [])
+    ∙ ap (λ xs. take b is ++ xs) (sym more)
+
+-- a row more
+pub row_collected : {A E : Type 0} (rows row : List ℕ) (n r : ℕ) (rule : List ℕ → Result A E) (items now : List A)
+    → is_index_of rows row ≡ true → places_before rows row ≡ r → with_row items (λ i. rule (row ++ i ∷ [])) n ≡ Ok now
+    → CollectedTo (rows ++ n ∷ []) rule (r * n) items → CollectedTo (rows ++ n ∷ []) rule ((r + 1) * n) now
+row_collected {A = A} {E = E} rows row n r rule items now inside here made c =
+    let shape = rows ++ n ∷ [] in
+    let is = indices shape in
+    let b = places_before rows row * n in
+    let index = λ (i : ℕ). row ++ i ∷ [] in
+    let taken : take (b + n) is ≡ take b is ++ map index (range_with_len 1 n) = row_taken rows row n inside n (omega arith) in
+    let long : (r + 1) * n ≡ b + n = rw here (omega arith) in
+    let before : map rule (take b is) ≡ map (given A E) items = all_ok (map rule (take b is)) items (rw (ap (λ m. m * n) here) c.so_far) in
+    record {
+      so_far = ap (λ m. all_or_first_error (map rule (take m is))) long
+          ∙ ap (λ xs. all_or_first_error (map rule xs)) taken
+          ∙ ap all_or_first_error (map-append rule (take b is) (map index (range_with_len 1 n))
+          ∙ ap (λ xs. xs ++ map rule (map index (range_with_len 1 n))) before
+          ∙ ap (λ xs. map (given A E) items ++ xs) (map_map rule index (range_with_len 1 n)))
+          ∙ made;
+    }
+
+-- ---- the limits of the other axes
+
+pub rows_within : (rows : List ℕ) (n : ℕ) → IsWithinLimits (rows ++ n ∷ []) → 0 < size (rows ++ n ∷ []) → IsWithinLimits rows
+rows_within rows n w positive =
+    let long : length (rows ++ n ∷ []) ≡ length rows + 1 = length_push rows n in
+    let few = factor_le (size rows) n (size (rows ++ n ∷ [])) (sym (size_row rows n)) positive in
+    record {
+      rank = omega (arith, w.rank);
+      axes = λ k d h. rw get_or_append_left at (w.axes k d (omega arith));
+      size_within = omega (arith, w.size_within);
+    }
+
+first_positive : (s n : ℕ) → 0 < s * n → 0 < s
+first_positive zero n h = absurd (omega arith)
+first_positive (suc s) n h = omega arith
+
+pub some_rows : (rows : List ℕ) (n : ℕ) → 0 < size (rows ++ n ∷ []) → 0 < size rows
+some_rows rows n positive = first_positive (size rows) n (rw size_row at positive)
+
+-- ---- as many items as places
+
+pub items_long : {A E : Type 0} (shape : List ℕ) (rule : List ℕ → Result A E) (items : List A) → all_or_first_error (map rule (indices shape)) ≡ Ok items
+    → length items ≡ size shape
+items_long {A = A} {E = E} shape rule items made =
+    sym (length-map items (given A E)) ∙ ap length (sym (all_ok (map rule (indices shape)) items made)) ∙ length-map (indices shape) rule ∙ length-indices shape

@@ -1,0 +1,19 @@
+-- Arrays that are built from their first item on.
+use Rattle.std.specs.Prelude.{ℕ, List, ◌++◌, map, Result, Ok}
+use Rattle.std.specs.List.{range_with_len}
+use Rattle.arrays_core.specs.declared.item.Item.{Item}
+use Rattle.arrays_core.specs.declared.item.ItemType.{ItemType}
+use Rattle.arrays_core.specs.Items.{all_or_first_error}
+
+-- a type, and the items so far
+pub record BuilderValue : Type 0 where
+  pub item_type : ItemType
+  pub items : List Item
+
+-- what a function gives at 0, 1 and so on, count times
+abbrev pub listed : {A : Type 0} → ℕ → (ℕ → A) → List A
+listed count f = map f (range_with_len 0 count)
+
+-- some items, and behind them what a rule gives at 1 to count, or its first error
+abbrev pub with_row : {A E : Type 0} → List A → (ℕ → Result A E) → ℕ → Result (List A) E
+with_row items rule count = all_or_first_error (map (λ x. Ok x) items ++ map rule (range_with_len 1 count))

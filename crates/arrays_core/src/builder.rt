@@ -1,0 +1,203 @@
+//! Arrays that are built from their first item on.
+
+ghost use Rattle.std.specs.Prelude.{◌≡◌, ◌≤◌, ◌<◌, ◌+◌, ◌-◌, ◌*◌, ◌++◌, ◌∷◌, [], ℕ, IfOk, OnOk, length, get_or};
+ghost use Rattle.arrays_core.specs.Building.{listed};
+ghost use Rattle.arrays_core.specs.Items.{fill, type_of};
+ghost use Rattle.arrays_core.specs.Shapes.{size as size_of, IsWithinLimits};
+
+use crate::array::{Array, Ravel};
+use crate::item::{Item, ItemType};
+use crate::shape::Shape;
+use std::alloc::{AllocError, Global};
+use std::marker::Model;
+
+/// Puts an item behind the others, so many times.
+fn extend_with<T: Copy + Drop>(items: &mut Vec<T>, item: T, count: u32) -> Result<(), AllocError>
+    ensures { OnOk result (items.new.items ≡ items.old.items ++ listed count (λ k. item)) }
+{
+    items.resize(items.len() + count as usize, item)
+}
+
+/// Puts a run of items behind the others.
+fn extend_run<T: Copy + Drop>(
+    items: &mut Vec<T>,
+    from: &[T],
+    first: usize,
+    count: usize,
+) -> Result<(), AllocError>
+    requires { first + count ≤ length from.now }
+    ensures { OnOk result ((d : T) → items.new.items ≡ items.old.items ++ listed count (λ k. get_or from.now (first + k) d)) }
+{
+    items.extend_from_slice(&from[first..first + count])
+}
+
+/// Puts a run of items behind the others, the last of it first.
+fn extend_back<T: Copy + Drop>(
+    items: &mut Vec<T>,
+    from: &[T],
+    last: usize,
+    count: usize,
+) -> Result<(), AllocError>
+    requires low { count ≤ last + 1 }
+    requires high { 0 < count → last < length from.now }
+    ensures { OnOk result ((d : T) → items.new.items ≡ items.old.items ++ listed count (λ k. get_or from.now (last - k) d)) }
+{
+    items.reserve(count)?;
+    for k in 0..count {
+        items.push_reserved(from[last - k]);
+    }
+    Ok(())
+}
+
+/// Puts the items that stand `step` places apart behind the others.
+fn extend_steps<T: Copy + Drop>(
+    items: &mut Vec<T>,
+    from: &[T],
+    first: usize,
+    step: usize,
+    count: usize,
+) -> Result<(), AllocError>
+    requires { (k : ℕ) → k < count → first + k * step < length from.now }
+    ensures { OnOk result ((d : T) → items.new.items ≡ items.old.items ++ listed count (λ k. get_or from.now (first + k * step) d)) }
+{
+    items.reserve(count)?;
+    for k in 0..count {
+        items.push_reserved(from[first + k * step]);
+    }
+    Ok(())
+}
+
+/// The items of an array so far, of one type, in row-major order: they are put in their place once, one
+/// behind the other.
+#[derive(Drop)]
+pub struct ArrayBuilder {
+    ravel: Ravel,
+}
+
+impl Model for ArrayBuilder {
+    ghost use Rattle.arrays_core.specs.Building.{BuilderValue};
+
+    ghost Value = { BuilderValue };
+
+    ghost use Rattle.arrays_core.specs.Ravels.{ravel_items, ravel_type};
+
+    ghost view = { λ b. record { item_type = ravel_type b.ravel; items = ravel_items b.ravel } };
+}
+
+impl ArrayBuilder {
+    /// No items, with room for so many.
+    pub fn with_capacity(
+        alloc: Global,
+        item_type: ItemType,
+        places: usize,
+    ) -> Result<ArrayBuilder, AllocError>
+        ensures { IfOk result (λ b. b ≡ record { item_type = item_type; items = [] }) }
+    {
+        let ravel = Ravel::with_capacity(alloc, item_type, places)?;
+        Ok(ArrayBuilder { ravel })
+    }
+
+    /// Puts an item behind the others, so many times.
+    pub fn extend_with(&mut self, item: Item, count: u32) -> Result<(), AllocError>
+        requires { type_of item ≡ self.old.item_type }
+        ensures items { OnOk result (self.new.items ≡ self.old.items ++ listed count (λ k. item)) }
+        ensures typed { self.new.item_type ≡ self.old.item_type }
+    {
+        match &mut self.ravel {
+            Ravel::Nums(items) => match item {
+                Item::Num(number) => extend_with(items, number, count),
+                Item::Char(_) => unreachable!(),
+            },
+            Ravel::Chars(items) => match item {
+                Item::Num(_) => unreachable!(),
+                Item::Char(character) => extend_with(items, character, count),
+            },
+        }
+    }
+
+    /// Puts items of an array of the same type behind the others: those at the place `first` and after it.
+    /// Places are counted from 0.
+    pub fn extend_run(&mut self, array: &Array, first: u32, count: u32) -> Result<(), AllocError>
+        requires typed { array.now.item_type ≡ self.old.item_type }
+        requires inside { first + count ≤ length array.now.items }
+        ensures items { OnOk result (self.new.items ≡ self.old.items ++ listed count (λ k. get_or array.now.items (first + k) (fill array.now.item_type))) }
+        ensures typed { self.new.item_type ≡ self.old.item_type }
+    {
+        match &mut self.ravel {
+            Ravel::Nums(items) => match array.numbers() {
+                Some(from) => extend_run(items, from, first as usize, count as usize),
+                None => unreachable!(),
+            },
+            Ravel::Chars(items) => match array.characters() {
+                Some(from) => extend_run(items, from, first as usize, count as usize),
+                None => unreachable!(),
+            },
+        }
+    }
+
+    /// Puts items of an array of the same type behind the others: that at the place `last` and those before
+    /// it, the last one first. Places are counted from 0.
+    pub fn extend_back(&mut self, array: &Array, last: u32, count: u32) -> Result<(), AllocError>
+        requires typed { array.now.item_type ≡ self.old.item_type }
+        requires low { count ≤ last + 1 }
+        requires high { 0 < count → last < length array.now.items }
+        ensures items { OnOk result (self.new.items ≡ self.old.items ++ listed count (λ k. get_or array.now.items (last - k) (fill array.now.item_type))) }
+        ensures typed { self.new.item_type ≡ self.old.item_type }
+    {
+        match &mut self.ravel {
+            Ravel::Nums(items) => match array.numbers() {
+                Some(from) => extend_back(items, from, last as usize, count as usize),
+                None => unreachable!(),
+            },
+            Ravel::Chars(items) => match array.characters() {
+                Some(from) => extend_back(items, from, last as usize, count as usize),
+                None => unreachable!(),
+            },
+        }
+    }
+
+    /// Puts items of an array of the same type behind the others: those that stand `step` places apart, from
+    /// the place `first` on. Places are counted from 0.
+    pub fn extend_steps(
+        &mut self,
+        array: &Array,
+        first: u32,
+        step: u32,
+        count: u32,
+    ) -> Result<(), AllocError>
+        requires typed { array.now.item_type ≡ self.old.item_type }
+        requires inside { (k : ℕ) → k < count → first + k * step < length array.now.items }
+        ensures items { OnOk result (self.new.items ≡ self.old.items ++ listed count (λ k. get_or array.now.items (first + k * step) (fill array.now.item_type))) }
+        ensures typed { self.new.item_type ≡ self.old.item_type }
+    {
+        let (first, step, count) = (first as usize, step as usize, count as usize);
+        match &mut self.ravel {
+            Ravel::Nums(items) => match array.numbers() {
+                Some(from) => extend_steps(items, from, first, step, count),
+                None => unreachable!(),
+            },
+            Ravel::Chars(items) => match array.characters() {
+                Some(from) => extend_steps(items, from, first, step, count),
+                None => unreachable!(),
+            },
+        }
+    }
+
+    /// One more item, of the type of the others.
+    pub fn push(&mut self, item: Item) -> Result<(), AllocError>
+        requires { type_of item ≡ self.old.item_type }
+        ensures items { OnOk result (self.new.items ≡ self.old.items ++ item ∷ []) }
+        ensures typed { self.new.item_type ≡ self.old.item_type }
+    {
+        self.ravel.push(item)
+    }
+
+    /// The array of a shape that has as many places as there are items. It takes no memory.
+    pub fn into_array(self, shape: &Shape) -> Array
+        requires within { IsWithinLimits shape.now.items }
+        requires one_item_a_place { length self.items ≡ size_of shape.now.items }
+        ensures { result ≡ record { item_type = self.item_type; shape = shape.now.items; items = self.items } }
+    {
+        Array::of_ravel(shape, self.ravel)
+    }
+}
