@@ -6,8 +6,8 @@ use Rattle.std.proofs.lemmas.List.{take_more, map-append, append-nil, length-map
 use Rattle.std.proofs.lemmas.List.FromFn.{map-range_with_len_more}
 use Rattle.arrays_core.specs.Items.{after, all_or_first_error}
 use Rattle.arrays_core.specs.Shapes.{size, indices, is_index_of, places_before, IsWithinLimits}
-use Rattle.arrays_core.specs.Building.{listed, with_row}
-use Rattle.arrays_core.proofs.Shapes.{head_of, places_below, factor_le}
+use Rattle.arrays_core.specs.Building.{listed, with_row, IsRowOf}
+use Rattle.arrays_core.proofs.Shapes.{as_long, head_of, places_below, factor_le}
 use Rattle.arrays_core.proofs.Order.{length-indices, at_place, ok_more, all_given, given, CollectedTo}
 
 -- ---- one more axis at the end
@@ -35,6 +35,65 @@ index_of_row (m ∷ rows) [] n i h low high = cc
 index_of_row (m ∷ rows) (j ∷ row) n i h low high =
     let head = head_of m j rows row h in
     and_from _ _ (and_from _ _ (le-leb 1 j head.low) (le-leb j m head.high)) (index_of_row rows row n i head.rest low high)
+
+pub row_of : (rows row : List ℕ) (n : ℕ) → is_index_of rows row ≡ true → length rows < 4 → IsRowOf (rows ++ n ∷ []) row n
+row_of rows row n h few =
+    let long = as_long rows row h in
+    let last : get_or (rows ++ n ∷ []) (length row) 0 ≡ n = get_or_append_at rows n (length row) long in
+    let one : length (rows ++ n ∷ []) ≡ length rows + 1 = length_push rows n in
+    record { rank = omega arith; long = omega arith; whole = last; places = λ i low high. index_of_row rows row n i h low high }
+  where
+    get_or_append_at : (xs : List ℕ) (x k : ℕ) → k ≡ length xs → get_or (xs ++ x ∷ []) k 0 ≡ x
+    get_or_append_at [] x zero e = refl
+    get_or_append_at [] x (suc k) e = absurd (omega arith)
+    get_or_append_at (y ∷ xs) x zero e = absurd (omega arith)
+    get_or_append_at (y ∷ xs) x (suc k) e = get_or_append_at xs x k (omega arith)
+
+-- ---- index lists that differ in the last index
+
+-- the index behind a row
+pub record RowEnd (shape row : List ℕ) (i : ℕ) : Type 0 where
+  pub long : length shape ≡ length row + 1
+  pub low : 1 ≤ i
+  pub high : i ≤ get_or shape (length row) 0
+
+pub row_end : (shape row : List ℕ) (i : ℕ) → is_index_of shape (row ++ i ∷ []) ≡ true → RowEnd shape row i
+row_end [] [] i h = cc
+row_end [] (j ∷ row) i h = cc
+row_end (n ∷ []) [] i h = let head = head_of n i [] [] h in record { long = refl; low = head.low; high = head.high }
+row_end (n ∷ m ∷ shape) [] i h = absurd (no_more (head_of n i (m ∷ shape) [] h).rest)
+  where
+    no_more : is_index_of (m ∷ shape) [] ≡ true → ⊥
+    no_more e = cc
+row_end (n ∷ shape) (j ∷ row) i h =
+    let rest = row_end shape row i (head_of n j shape (row ++ i ∷ []) h).rest in
+    record { long = omega (arith, rest.long); low = rest.low; high = rest.high }
+
+pub same_row : (shape row : List ℕ) (i j : ℕ) → is_index_of shape (row ++ i ∷ []) ≡ true → 1 ≤ j → j ≤ get_or shape (length row) 0
+    → is_index_of shape (row ++ j ∷ []) ≡ true
+same_row [] [] i j h low high = cc
+same_row [] (k ∷ row) i j h low high = cc
+same_row (n ∷ shape) [] i j h low high =
+    let head = head_of n i shape [] h in
+    and_from _ _ (and_from _ _ (le-leb 1 j low) (le-leb j n high)) head.rest
+same_row (n ∷ shape) (k ∷ row) i j h low high =
+    let head = head_of n k shape (row ++ i ∷ []) h in
+    and_from _ _ (and_from _ _ (le-leb 1 k head.low) (le-leb k n head.high)) (same_row shape row i j head.rest low high)
+
+-- their places stand side by side
+pub places_in_row : (shape row : List ℕ) (i j : ℕ) → is_index_of shape (row ++ i ∷ []) ≡ true → 1 ≤ j
+    → places_before shape (row ++ j ∷ []) + i ≡ places_before shape (row ++ i ∷ []) + j
+places_in_row [] [] i j h low = cc
+places_in_row [] (k ∷ row) i j h low = cc
+places_in_row (n ∷ []) [] i j h low = let head = head_of n i [] [] h in omega (arith, head.low)
+places_in_row (n ∷ m ∷ shape) [] i j h low = absurd (no_more (head_of n i (m ∷ shape) [] h).rest)
+  where
+    no_more : is_index_of (m ∷ shape) [] ≡ true → ⊥
+    no_more e = cc
+places_in_row (n ∷ shape) (k ∷ row) i j h low =
+    let rest = places_in_row shape row i j (head_of n k shape (row ++ i ∷ []) h).rest low in
+    let whole : (k - 1) * size shape + places_before shape (row ++ j ∷ []) + i ≡ (k - 1) * size shape + places_before shape (row ++ i ∷ []) + j = omega arith in
+    whole
 
 -- ---- items of rows, one row after another
 
@@ -72,6 +131,34 @@ with_row_more {A = A} {E = E} items now rule f k (suc n) m e each so_far =
     ap (λ j. listed j f) (let one : suc n ≡ n + 1 = omega arith in one) ∙ map-range_with_len_more f 0 n n (omega arith) in
     rw (same, split, ← append_assoc start row (Ok (f n) ∷ []))
     (ok_more (start ++ row) (now ++ listed n f) (f n) before ∙ ap (λ xs. Ok xs) (append_assoc now (listed n f) (f n ∷ []) ∙ ap (λ xs. now ++ xs) (sym more)))
+
+-- a part of a row, and the part behind it
+pub with_row_then : {A E : Type 0} (items now new : List A) (rule : ℕ → Result A E) (k n m : ℕ) → k + n ≡ m → with_row items rule k ≡ Ok now
+    → with_row now (λ i. rule (k + i)) n ≡ Ok new → with_row items rule m ≡ Ok new
+with_row_then {A = A} {E = E} items now new rule k n m e so_far rest =
+    let start = map (given A E) items in
+    let split : map rule (range_with_len 1 m) ≡ map rule (range_with_len 1 k) ++ map (λ i. rule (k + i)) (range_with_len 1 n) =
+    ap (λ j. map rule (range_with_len 1 j)) (sym e) ∙ range_more rule 1 k n
+    ∙ ap (λ rs. map rule (range_with_len 1 k) ++ rs) (range_shift rule 1 (1 + k) k n (omega arith)) in
+    let before : start ++ map rule (range_with_len 1 k) ≡ map (given A E) now = all_ok (start ++ map rule (range_with_len 1 k)) now so_far in
+    ap (λ rs. all_or_first_error (start ++ rs)) split
+    ∙ ap all_or_first_error (sym (append_assoc start (map rule (range_with_len 1 k)) (map (λ i. rule (k + i)) (range_with_len 1 n)))
+    ∙ ap (λ rs. rs ++ map (λ i. rule (k + i)) (range_with_len 1 n)) before) ∙ rest
+  where
+    range_shift : {B : Type 0} (f : ℕ → B) (a b k n : ℕ) → b ≡ k + a → map f (range_with_len b n) ≡ map (λ i. f (k + i)) (range_with_len a n)
+    range_shift f a b k zero e = refl
+    range_shift f a b k (suc n) e =
+        ap (λ xs. f b ∷ xs) (range_shift f (a + 1) (b + 1) k n (omega arith)) ∙ ap (λ j. f j ∷ map (λ i. f (k + i)) (range_with_len (a + 1) n)) e
+
+    range_more : {B : Type 0} (f : ℕ → B) (a k n : ℕ) → map f (range_with_len a (k + n)) ≡ map f (range_with_len a k) ++ map f (range_with_len (a + k) n)
+    range_more f a zero n =
+        let same : zero + n ≡ n = omega arith in
+        let there : a + zero ≡ a = omega arith in
+        rw (same, there) refl
+    range_more f a (suc k) n =
+        let same : suc k + n ≡ suc (k + n) = omega arith in
+        let there : a + suc k ≡ a + 1 + k = omega arith in
+        rw (same, there) (ap (λ xs. f a ∷ xs) (range_more f (a + 1) k n))
 
 -- ---- a row of a shape behind those before it
 

@@ -1,9 +1,11 @@
 -- Arrays that are built from their first item on.
-use Rattle.std.specs.Prelude.{ℕ, List, ◌++◌, map, Result, Ok}
+use Rattle.std.specs.Prelude.{◌≡◌, ◌≤◌, ◌<◌, ◌+◌, ℕ, IsTrue, List, [], ◌∷◌, ◌++◌, map, length, get_or, Result, Ok}
 use Rattle.std.specs.List.{range_with_len}
 use Rattle.arrays_core.specs.declared.item.Item.{Item}
 use Rattle.arrays_core.specs.declared.item.ItemType.{ItemType}
 use Rattle.arrays_core.specs.Items.{all_or_first_error}
+use Rattle.arrays_core.specs.Limits.{most_axes}
+use Rattle.arrays_core.specs.Shapes.{is_index_of}
 
 -- a type, and the items so far
 pub record BuilderValue : Type 0 where
@@ -17,3 +19,10 @@ listed count f = map f (range_with_len 0 count)
 -- some items, and behind them what a rule gives at 1 to count, or its first error
 abbrev pub with_row : {A E : Type 0} → List A → (ℕ → Result A E) → ℕ → Result (List A) E
 with_row items rule count = all_or_first_error (map (λ x. Ok x) items ++ map rule (range_with_len 1 count))
+
+-- row is an index list of all axes of a shape but the last, which has count places
+pub record IsRowOf (shape row : List ℕ) (count : ℕ) : Type 0 where
+  pub rank : length row < most_axes
+  pub long : length shape ≡ length row + 1
+  pub whole : get_or shape (length row) 0 ≡ count
+  pub places : (i : ℕ) → 1 ≤ i → i ≤ count → IsTrue (is_index_of shape (row ++ i ∷ []))

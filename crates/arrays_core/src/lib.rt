@@ -14,7 +14,7 @@ pub use fault::{ApplyFault, Fault};
 pub use item::{Item, ItemType, Kind};
 pub use rule::{ItemRule, RowRule, collect, collect_rows};
 pub use shape::{
-    LONGEST_AXIS, MOST_AXES, MOST_PLACES, Shape, advance, append_axes, index_of_position,
-    is_index_of, is_within_limits, law_of_row_major_order, position, shape_of, size, with_axis,
-    without_axis,
+    LONGEST_AXIS, MOST_AXES, MOST_PLACES, Shape, advance, append_axes, index_in_row,
+    index_of_position, is_index_of, is_within_limits, law_of_row_major_order, position, shape_of,
+    size, with_axis, without_axis,
 };

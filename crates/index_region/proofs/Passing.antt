@@ -1,5 +1,5 @@
 -- What is known where checks have passed.
-use Rattle.std.proofs.Common.{◌≡◌, ℕ, Bool, true, false, List, [], ◌∷◌, length, get_or, Result, Ok, refl, sym, arith}
+use Rattle.std.proofs.Common.{◌≡◌, ◌≤◌, ℕ, Bool, true, false, List, [], ◌∷◌, ◌++◌, length, get_or, Result, Ok, Err, refl, sym, arith}
 use Rattle.arrays_core.specs.declared.item.Item.{Item}
 use Rattle.arrays_core.specs.declared.item.ItemType.{ItemType}
 use Rattle.arrays_core.specs.declared.item.Kind.{Kind}
@@ -7,8 +7,9 @@ use Rattle.arrays_core.specs.declared.item.Kind.TheVariants.{Limit}
 use Rattle.arrays_core.specs.Arrays.{ArrayValue}
 use Rattle.arrays_core.specs.Items.{type_of}
 use Rattle.arrays_core.specs.Shapes.{is_index_of}
+use Rattle.arrays_core.specs.Building.{IsRowOf}
 use Rattle.index_region.specs.Checks.{form_of, check, Form, limited, is_within_limits}
-use Rattle.index_region.specs.Answers.{IsPlaceOf, HasTypeOf}
+use Rattle.index_region.specs.Answers.{IsPlaceOf, IsRowIn, HasTypeOf}
 
 -- a check that has passed, and a place of what follows
 pub record Passed (holds : Bool) (rest : Result Form Kind) (index : List ℕ) : Type 0 where
@@ -64,3 +65,32 @@ limited_gives shape item_type form h = decide (is_within_limits shape) h
     decide : (w : Bool) → check w Limit (Ok (form_of shape item_type)) ≡ Ok form → form ≡ form_of shape item_type
     decide true h = let wanted : Form = form_of shape item_type in let same : wanted ≡ form = cc in sym same
     decide false h = let no : ⊥ = cc in absurd no
+
+-- a row of a result, where a check has passed
+pub record RowPassed (holds : Bool) (rest : Result Form Kind) (row : List ℕ) (count : ℕ) (item_type : ItemType) : Type 0 where
+  pub test : holds ≡ true
+  pub row_in : IsRowIn rest row count item_type
+
+pub row_passed : (holds : Bool) (kind : Kind) (rest : Result Form Kind) (row : List ℕ) (count : ℕ) (item_type : ItemType) → IsRowIn (check holds kind rest) row count item_type
+    → RowPassed holds rest row count item_type
+row_passed true kind rest row count item_type h = record { test = refl; row_in = h }
+row_passed false kind rest row count item_type h = absurd h
+
+-- a row of the shape that was asked for
+pub record RowInside (shape : List ℕ) (asked item_type : ItemType) (row : List ℕ) (count : ℕ) : Type 0 where
+  pub row_of : IsRowOf shape row count
+  pub typed : asked ≡ item_type
+
+pub row_inside : (shape : List ℕ) (asked : ItemType) (row : List ℕ) (count : ℕ) (item_type : ItemType) → IsRowIn (limited shape asked) row count item_type
+    → RowInside shape asked item_type row count
+row_inside shape asked row count item_type h = decide (is_within_limits shape) h
+  where
+    decide : (w : Bool) → IsRowIn (check w Limit (Ok (form_of shape asked))) row count item_type → RowInside shape asked item_type row count
+    decide true g = record { row_of = g.0; typed = g.1 }
+    decide false g = absurd g
+
+-- the places of a row are places of the result
+pub place_of_row : (form : Result Form Kind) (row : List ℕ) (count : ℕ) (item_type : ItemType) (i : ℕ) → IsRowIn form row count item_type → 1 ≤ i → i ≤ count
+    → IsPlaceOf form (row ++ i ∷ [])
+place_of_row (Ok form) row count item_type i h low high = h.0.places i low high
+place_of_row (Err kind) row count item_type i h low high = absurd h

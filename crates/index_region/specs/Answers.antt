@@ -7,6 +7,7 @@ use Rattle.arrays_core.specs.declared.item.Kind.{Kind}
 use Rattle.arrays_core.specs.Arrays.{ArrayValue}
 use Rattle.arrays_core.specs.Items.{type_of}
 use Rattle.arrays_core.specs.Shapes.{IsWithinLimits, is_index_of}
+use Rattle.arrays_core.specs.Building.{IsRowOf}
 use Rattle.index_region.specs.declared.source.Source.{Source as SourceValue}
 use Rattle.index_region.specs.declared.source.Source.TheVariants.{Place as PlaceValue, Fill as FillValue}
 use Rattle.index_region.specs.Checks.{Form, form_of}
@@ -26,6 +27,11 @@ IsPlaceOf (Err kind) index = ⊥
 abbrev pub HasTypeOf : Result Form Kind → Item → Type 0
 HasTypeOf (Ok form) item = type_of item ≡ form.item_type
 HasTypeOf (Err kind) item = Unit {0}
+
+-- the checks pass, row is an index list of all axes of the result but the last, which has count places, and the items have this type
+abbrev pub IsRowIn : Result Form Kind → List ℕ → ℕ → ItemType → Type 0
+IsRowIn (Ok form) row count item_type = IsRowOf form.shape row count × (form.item_type ≡ item_type)
+IsRowIn (Err kind) row count item_type = ⊥
 
 -- what a source stands for
 abbrev pub source_value : SourceValue → Source

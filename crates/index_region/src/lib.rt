@@ -10,6 +10,7 @@ mod index_list;
 mod intervals;
 mod patch;
 mod primitive;
+mod runs;
 mod seen;
 mod source;
 
@@ -20,6 +21,6 @@ pub use index_box::IndexBox;
 pub use index_list::IndexList;
 pub use intervals::Intervals;
 pub use patch::Patch;
-pub use primitive::{Primitive, apply};
+pub use primitive::{Primitive, RowPrimitive, apply, apply_rows};
 pub use seen::Seen;
 pub use source::{Source, item_from};

@@ -1,15 +1,19 @@
 //! Functions of arrays that are given by their checks and their items.
 
-ghost use Rattle.std.specs.Prelude.{◌≡◌, List, ℕ, Result, Ok, IfOk, length};
+ghost use Rattle.std.specs.Prelude.{◌≡◌, ◌++◌, ◌∷◌, [], List, ℕ, Result, Ok, IfOk, OnOk, length};
 ghost use Rattle.arrays_core.specs.declared.item.Item.{Item as AnItem};
 ghost use Rattle.arrays_core.specs.declared.item.Kind.{Kind as AKind};
 ghost use Rattle.arrays_core.specs.Arrays.{ArrayValue, IsAnswerTo};
+ghost use Rattle.arrays_core.specs.Building.{with_row};
 ghost use Rattle.index_region.specs.Checks.{Form, form_of, whole};
-ghost use Rattle.index_region.specs.Answers.{IsFormAnswerTo, IsPlaceOf, HasTypeOf};
+ghost use Rattle.index_region.specs.Answers.{IsFormAnswerTo, IsPlaceOf, IsRowIn, HasTypeOf};
 
 use crate::seen::Seen;
-use arrays_core::{ApplyFault, Array, Item, ItemRule, ItemType, Kind, Shape, collect};
-use std::alloc::Global;
+use arrays_core::{
+    ApplyFault, Array, ArrayBuilder, Item, ItemRule, ItemType, Kind, RowRule, Shape, collect,
+    collect_rows,
+};
+use std::alloc::{AllocError, Global};
 
 /// A function of arrays: what its checks give, and its item at each index list of the result.
 pub trait Primitive {
@@ -31,6 +35,23 @@ pub trait Primitive {
         requires place { IsPlaceOf (form self.now args.now) index.now }
         ensures is { result ≡ item self.now args.now index.now }
         ensures typed { IfOk result (HasTypeOf (form self.now args.now)) };
+}
+
+/// A function of arrays that gives its items row by row: a row is what stands along the last axis of the result.
+pub trait RowPrimitive: Primitive {
+    /// Puts a row behind the items: those of the result at the index lists that begin with `row` and end with 1 to
+    /// `count`, the last axis, where the checks have passed. Where the allocator refuses memory, what stands there is of no use.
+    fn extend_row(
+        &self,
+        args: &[Seen],
+        row: &[u32],
+        count: u32,
+        items: &mut ArrayBuilder,
+    ) -> Result<(), AllocError>
+        requires arguments { length args.now ≡ Self.arity self.now }
+        requires row { IsRowIn (Self.form self.now args.now) row.now count items.old.item_type }
+        ensures items { OnOk result (with_row items.old.items (λ i. Self.item self.now args.now (row.now ++ i ∷ [])) count ≡ Ok items.new.items) }
+        ensures typed { items.new.item_type ≡ items.old.item_type };
 }
 
 /// A function and its arguments, whose checks have passed.
@@ -56,6 +77,17 @@ impl<'a, 'b, P: Primitive> ItemRule for Applied<'a, 'b, P> {
     }
 }
 
+impl<'a, 'b, P: RowPrimitive> RowRule for Applied<'a, 'b, P> {
+    fn extend_row(
+        &self,
+        row: &[u32],
+        count: u32,
+        items: &mut ArrayBuilder,
+    ) -> Result<(), AllocError> {
+        self.primitive.extend_row(self.args, row, count, items)
+    }
+}
+
 /// The whole result of a function: its checks, and then its items; where several items fail, the error
 /// is that of the first in row-major order.
 pub fn apply<P: Primitive>(alloc: Global, primitive: &P, args: &[Seen]) -> Result<Array, ApplyFault>
@@ -70,4 +102,23 @@ pub fn apply<P: Primitive>(alloc: Global, primitive: &P, args: &[Seen]) -> Resul
         item_type,
     };
     collect(alloc, &items, item_type, &shape)
+}
+
+/// The whole result of a function that gives its items row by row: its checks, and then its rows.
+pub fn apply_rows<P: RowPrimitive>(
+    alloc: Global,
+    primitive: &P,
+    args: &[Seen],
+) -> Result<Array, ApplyFault>
+    requires { length args.now ≡ P.arity primitive.now }
+    ensures { IsAnswerTo (whole (P.form primitive.now args.now) (P.item primitive.now args.now)) result }
+{
+    let (shape, item_type) = primitive.shape_of(args)?;
+    let items = Applied {
+        primitive,
+        args,
+        shape: &shape,
+        item_type,
+    };
+    collect_rows(alloc, &items, item_type, &shape)
 }

@@ -4,7 +4,7 @@ use Rattle.arrays_core.specs.Building.{with_row}
 use Rattle.arrays_core.specs.Shapes.{is_index_of, places_before, size as size_of}
 use Rattle.arrays_core.proofs.Shapes.{as_long}
 use Rattle.arrays_core.proofs.Order.{CollectedTo, none_collected, all_collected, index_after-within, places_before-index_after}
-use Rattle.arrays_core.proofs.Rows.{index_of_row, row_collected, size_row}
+use Rattle.arrays_core.proofs.Rows.{row_of, row_collected, size_row}
 use Rattle.arrays_core.proofs.rule.extend_rows.Goals as goal
 
 refill_all : (xs ws : List ℕ) → length ws ≡ length xs → take (length xs) (ws ++ drop (length ws) xs) ≡ ws
@@ -24,9 +24,9 @@ loop-place-init g c =
       at = λ h. rw first (places_before-index_after rows 0 c.requires.some);
     }
 
-pub extend_row-requires-clause-places : goal.extend_row-requires-clause-places
-extend_row-requires-clause-places g c =
-    λ i low high. rw (c.requires.shaped, c.as_slice-in-loop-place.ensures) (index_of_row c.args.rows.now.items c.loop-place.row.items c.args.count i c.loop-place.invariant.here low high)
+pub extend_row-requires-clause-row : goal.extend_row-requires-clause-row
+extend_row-requires-clause-row g c =
+    rw (c.requires.shaped, c.as_slice-in-loop-place.ensures) (row_of c.args.rows.now.items c.loop-place.row.items c.args.count c.loop-place.invariant.here c.requires.rank)
 
 pub loop-place-preserved : goal.loop-place-preserved
 loop-place-preserved g c =

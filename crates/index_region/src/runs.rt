@@ -1,0 +1,109 @@
+//! Runs of items of an array as it is seen.
+
+ghost use Rattle.std.specs.Prelude.{◌≡◌, ◌≤◌, ◌<◌, ◌+◌, ◌-◌, ◌*◌, ◌++◌, ℕ, OnOk, length, get_or};
+ghost use Rattle.arrays_core.specs.Building.{listed};
+ghost use Rattle.arrays_core.specs.Items.{fill};
+
+use crate::seen::Seen;
+use arrays_core::ArrayBuilder;
+use std::alloc::AllocError;
+
+/// Puts the items that stand `step` places apart behind the others, one by one.
+fn push_steps(
+    array: &Seen,
+    items: &mut ArrayBuilder,
+    first: u32,
+    step: u32,
+    count: u32,
+) -> Result<(), AllocError>
+    requires typed { array.now.item_type ≡ items.old.item_type }
+    requires inside { (k : ℕ) → k < count → first + k * step < length array.now.items }
+    ensures items { OnOk result (items.new.items ≡ items.old.items ++ listed count (λ k. get_or array.now.items (first + k * step) (fill array.now.item_type))) }
+    ensures typed { items.new.item_type ≡ items.old.item_type }
+{
+    let _sound = array.places();
+    for k in 0..count {
+        items.push(array.item(first + k * step + 1))?;
+    }
+    Ok(())
+}
+
+/// Puts a run of items behind the others, one by one, the last of it first.
+fn push_back(
+    array: &Seen,
+    items: &mut ArrayBuilder,
+    last: u32,
+    count: u32,
+) -> Result<(), AllocError>
+    requires typed { array.now.item_type ≡ items.old.item_type }
+    requires low { count ≤ last + 1 }
+    requires high { 0 < count → last < length array.now.items }
+    ensures items { OnOk result (items.new.items ≡ items.old.items ++ listed count (λ k. get_or array.now.items (last - k) (fill array.now.item_type))) }
+    ensures typed { items.new.item_type ≡ items.old.item_type }
+{
+    let _sound = array.places();
+    for k in 0..count {
+        items.push(array.item(last - k + 1))?;
+    }
+    Ok(())
+}
+
+impl<'a> Seen<'a> {
+    /// Puts items behind others of their type: that at the place `first` and those after it. Places are counted from 0.
+    pub fn extend_run(
+        &self,
+        items: &mut ArrayBuilder,
+        first: u32,
+        count: u32,
+    ) -> Result<(), AllocError>
+        requires typed { self.now.item_type ≡ items.old.item_type }
+        requires inside { first + count ≤ length self.now.items }
+        ensures items { OnOk result (items.new.items ≡ items.old.items ++ listed count (λ k. get_or self.now.items (first + k) (fill self.now.item_type))) }
+        ensures typed { items.new.item_type ≡ items.old.item_type }
+    {
+        match self.array() {
+            Some(array) => items.extend_run(array, first, count),
+            None => push_steps(self, items, first, 1, count),
+        }
+    }
+
+    /// Puts items behind others of their type: that at the place `last` and those before it, the last one first. Places
+    /// are counted from 0.
+    pub fn extend_back(
+        &self,
+        items: &mut ArrayBuilder,
+        last: u32,
+        count: u32,
+    ) -> Result<(), AllocError>
+        requires typed { self.now.item_type ≡ items.old.item_type }
+        requires low { count ≤ last + 1 }
+        requires high { 0 < count → last < length self.now.items }
+        ensures items { OnOk result (items.new.items ≡ items.old.items ++ listed count (λ k. get_or self.now.items (last - k) (fill self.now.item_type))) }
+        ensures typed { items.new.item_type ≡ items.old.item_type }
+    {
+        match self.array() {
+            Some(array) => items.extend_back(array, last, count),
+            None => push_back(self, items, last, count),
+        }
+    }
+
+    /// Puts items behind others of their type: those that stand `step` places apart, from the place `first` on. Places
+    /// are counted from 0.
+    pub fn extend_steps(
+        &self,
+        items: &mut ArrayBuilder,
+        first: u32,
+        step: u32,
+        count: u32,
+    ) -> Result<(), AllocError>
+        requires typed { self.now.item_type ≡ items.old.item_type }
+        requires inside { (k : ℕ) → k < count → first + k * step < length self.now.items }
+        ensures items { OnOk result (items.new.items ≡ items.old.items ++ listed count (λ k. get_or self.now.items (first + k * step) (fill self.now.item_type))) }
+        ensures typed { items.new.item_type ≡ items.old.item_type }
+    {
+        match self.array() {
+            Some(array) => items.extend_steps(array, first, step, count),
+            None => push_steps(self, items, first, step, count),
+        }
+    }
+}
