@@ -1,5 +1,5 @@
 -- Take, A↑B: the first places of each axis, or the last, and fill beyond them.
-use Rattle.std.specs.Prelude.{ℕ, suc, ◌+◌, ◌-◌, ℤ, pos, negsuc, if◌then◌else◌, List, [], ◌∷◌, Result}
+use Rattle.std.specs.Prelude.{ℕ, suc, ◌+◌, ◌-◌, ◌≤◌, ℤ, pos, negsuc, if◌then◌else◌, List, [], ◌∷◌, length, get_or, Result}
 use Rattle.arrays_core.specs.declared.item.Item.{Item}
 use Rattle.arrays_core.specs.declared.item.Kind.{Kind}
 use Rattle.arrays_core.specs.Arrays.{ArrayValue}
@@ -34,6 +34,13 @@ take_source a b index =
 -- the item at an index list
 abbrev pub take_item : ArrayValue → ArrayValue → List ℕ → Result Item Kind
 take_item a b index = item_from a b b.item_type (take_source a b index)
+
+-- so many places of a row, after as many others, stand on the last axis
+abbrev pub AreOnLastAxis : ArrayValue → ArrayValue → List ℕ → ℕ → ℕ → Type 0
+AreOnLastAxis a b row before kept =
+    let n = get_or (counted_shape a b) (length row) 0 in
+    let count = get_or (numbers a) (length row) (pos 0) in
+    (1 ≤ taken_place n count (before + 1)) × (taken_place n count (before + kept) ≤ n)
 
 -- the whole result
 abbrev pub take_whole : ArrayValue → ArrayValue → Result ArrayValue Kind

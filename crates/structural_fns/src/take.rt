@@ -1,20 +1,24 @@
 //! Take: a number of places of each axis, the first or the last, and fill beyond them.
 
-ghost use Rattle.std.specs.Prelude.{◌≡◌, ◌≤◌, ℤ, pos, unsigned_abs, IsTrue, IfOk, Ok, All, length, get_or, nat_eq, nat_le, ◌&&◌};
-ghost use Rattle.arrays_core.specs.Limits.{longest_axis};
+ghost use Rattle.std.specs.Prelude.{◌≡◌, ◌≤◌, ◌<◌, ◌+◌, ◌^◌, ◌++◌, ◌∷◌, [], ℤ, pos, unsigned_abs, IsTrue, IfOk, OnOk, Ok, All, length, get_or, nat_eq, nat_le, ◌&&◌};
+ghost use Rattle.arrays_core.specs.Limits.{most_axes, longest_axis};
+ghost use Rattle.arrays_core.specs.Building.{with_row};
 ghost use Rattle.arrays_core.specs.Arrays.{IsAnswerTo};
 ghost use Rattle.arrays_core.specs.Shapes.{IsWithinLimits, is_index_of as is_below, size as size_of};
 ghost use Rattle.index_region.specs.ArgumentLists.{of_two_arguments};
 ghost use Rattle.index_region.specs.Arguments.{numbers};
 ghost use Rattle.index_region.specs.Answers.{IsPlaceOf, IsSourceIn, source_value};
 ghost use Rattle.structural_fns.specs.Reshape.{magnitudes as magnitudes_of};
-ghost use Rattle.structural_fns.specs.Take.{take_form, take_source, take_item, take_whole, taken_place as place_taken, taken_places as places_taken};
+ghost use Rattle.structural_fns.specs.Take.{take_form, take_source, take_item, take_whole, taken_place as place_taken, taken_places as places_taken, AreOnLastAxis};
 ghost use Rattle.index_region.specs.Checks.{form_of};
 
 use crate::axis_counts::{check_axis_counts, counted_shape, uncounted};
 use crate::magnitudes::magnitudes;
-use arrays_core::{ApplyFault, Array, Item, ItemType, Kind, Shape, is_index_of};
-use index_region::{Primitive, Seen, Source, apply, item_from, limited};
+use arrays_core::{
+    ApplyFault, Array, ArrayBuilder, Item, ItemType, Kind, Shape, index_in_row, is_index_of,
+    position,
+};
+use index_region::{Primitive, RowPrimitive, Seen, Source, apply_rows, item_from, limited};
 use smallvec::SmallVec;
 use std::alloc::{AllocError, Global};
 
@@ -90,6 +94,35 @@ impl Take {
         Source::Place { arg: 1, at }
     }
 
+    /// Puts a part of a row behind the items: that of places on the last axis, after `before` others. It is a run of
+    /// the array's items, or fill where the array has no such row.
+    fn extend_kept(
+        self,
+        counts: &Seen,
+        array: &Seen,
+        row: &[u32],
+        before: u32,
+        kept: u32,
+        items: &mut ArrayBuilder,
+    ) -> Result<(), AllocError>
+        requires rank { length row.now < most_axes }
+        requires some { 0 < kept }
+        requires room { before + kept < 2 ^ 32 }
+        requires place { IsPlaceOf (take_form counts.now array.now) (row.now ++ (before + 1) ∷ []) }
+        requires typed { array.now.item_type ≡ items.old.item_type }
+        requires axis { AreOnLastAxis counts.now array.now row.now before kept }
+        ensures items { OnOk result (with_row items.old.items (λ i. take_item counts.now array.now (row.now ++ (before + i) ∷ [])) kept ≡ Ok items.new.items) }
+        ensures typed { items.new.item_type ≡ items.old.item_type }
+    {
+        let first = index_in_row(*array.shape().allocator(), row, before + 1);
+        match self.source_of(counts, array, first.as_slice()) {
+            Source::Place { at, .. } => {
+                array.extend_run(items, position(array.shape(), at.as_slice()) - 1, kept)
+            }
+            Source::Fill => items.extend_with(array.item_type().fill(), kept),
+        }
+    }
+
     /// The array of the places that are taken. Those of a vector that has as many are copied in one run.
     pub fn apply(&self, alloc: Global, args: &[Seen]) -> Result<Array, ApplyFault>
         requires { length args.now ≡ 2 }
@@ -101,7 +134,7 @@ impl Take {
             let run = taken_run(counts, array, &shape)?;
             return Ok(run);
         }
-        apply(alloc, self, args)
+        apply_rows(alloc, self, args)
     }
 }
 
@@ -124,5 +157,31 @@ impl Primitive for Take {
         let array = &args[1];
         let source = self.source_of(counts, array, index);
         Ok(item_from(array, array, array.item_type(), source))
+    }
+}
+
+impl RowPrimitive for Take {
+    fn extend_row(
+        &self,
+        args: &[Seen],
+        row: &[u32],
+        count: u32,
+        items: &mut ArrayBuilder,
+    ) -> Result<(), AllocError> {
+        let (counts, array) = (&args[0], &args[1]);
+        let axes = counted_shape(counts, array);
+        let fill = array.item_type().fill();
+        let kept = axes[row.len()].min(count);
+        if kept == 0 {
+            return items.extend_with(fill, count);
+        }
+        let missing = count - kept;
+        if counts.number(row.len() as u32 + 1) >= 0 {
+            self.extend_kept(counts, array, row, 0, kept, items)?;
+            items.extend_with(fill, missing)
+        } else {
+            items.extend_with(fill, missing)?;
+            self.extend_kept(counts, array, row, missing, kept, items)
+        }
     }
 }
