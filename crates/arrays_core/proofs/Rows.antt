@@ -1,6 +1,8 @@
 -- The rows of a shape: what stands along its last axis.
 use Rattle.std.proofs.Common.{◌≡◌, ℕ, zero, suc, ◌+◌, ◌-◌, ◌*◌, ◌<◌, ◌≤◌, true, List, [], ◌∷◌, ◌++◌, length, get_or, take, map, refl, ap, sym, ◌∙◌, arith, append_assoc, Result, Ok, Err}
 use Rattle.std.specs.List.{range_with_len}
+use Rattle.std.specs.Prelude.{OnOk}
+use Rattle.std.proofs.lemmas.Result.{on_ok_weaker}
 use Rattle.std.proofs.lemmas.Bool.{and_from, le-leb}
 use Rattle.std.proofs.lemmas.List.{take_more, map-append, append-nil, length-map, length_push, get_or_append_left}
 use Rattle.std.proofs.lemmas.List.FromFn.{map-range_with_len_more}
@@ -36,12 +38,12 @@ index_of_row (m ∷ rows) (j ∷ row) n i h low high =
     let head = head_of m j rows row h in
     and_from _ _ (and_from _ _ (le-leb 1 j head.low) (le-leb j m head.high)) (index_of_row rows row n i head.rest low high)
 
-pub row_of : (rows row : List ℕ) (n : ℕ) → is_index_of rows row ≡ true → length rows < 4 → IsRowOf (rows ++ n ∷ []) row n
-row_of rows row n h few =
+pub row_of : (rows row : List ℕ) (n : ℕ) → is_index_of rows row ≡ true → length rows < 4 → 0 < n → IsRowOf (rows ++ n ∷ []) row n
+row_of rows row n h few some =
     let long = as_long rows row h in
     let last : get_or (rows ++ n ∷ []) (length row) 0 ≡ n = get_or_append_at rows n (length row) long in
     let one : length (rows ++ n ∷ []) ≡ length rows + 1 = length_push rows n in
-    record { rank = omega arith; long = omega arith; whole = last; places = λ i low high. index_of_row rows row n i h low high }
+    record { rank = omega arith; long = omega arith; some = some; whole = last; places = λ i low high. index_of_row rows row n i h low high }
   where
     get_or_append_at : (xs : List ℕ) (x k : ℕ) → k ≡ length xs → get_or (xs ++ x ∷ []) k 0 ≡ x
     get_or_append_at [] x zero e = refl
@@ -131,6 +133,17 @@ with_row_more {A = A} {E = E} items now rule f k (suc n) m e each so_far =
     ap (λ j. listed j f) (let one : suc n ≡ n + 1 = omega arith in one) ∙ map-range_with_len_more f 0 n n (omega arith) in
     rw (same, split, ← append_assoc start row (Ok (f n) ∷ []))
     (ok_more (start ++ row) (now ++ listed n f) (f n) before ∙ ap (λ xs. Ok xs) (append_assoc now (listed n f) (f n ∷ []) ∙ ap (λ xs. now ++ xs) (sym more)))
+
+-- a call that puts a run behind the items has put a row there, or the rest of one
+pub row_put : {A T X E : Type 0} (r : Result T X) (items new : List A) (rule : ℕ → Result A E) (f : ℕ → A) (count : ℕ)
+    → ((j : ℕ) → j < count → rule (0 + j + 1) ≡ Ok (f j)) → OnOk r (new ≡ items ++ listed count f) → OnOk r (with_row items rule count ≡ Ok new)
+row_put r items new rule f count each put =
+    on_ok_weaker r (λ e. with_row_more items items rule f 0 count count (omega arith) each (with_row_none items rule) ∙ ap (λ xs. Ok xs) (sym e)) put
+
+pub row_put_more : {A T X E : Type 0} (r : Result T X) (items now new : List A) (rule : ℕ → Result A E) (f : ℕ → A) (k n m : ℕ) → k + n ≡ m
+    → ((j : ℕ) → j < n → rule (k + j + 1) ≡ Ok (f j)) → with_row items rule k ≡ Ok now → OnOk r (new ≡ now ++ listed n f) → OnOk r (with_row items rule m ≡ Ok new)
+row_put_more r items now new rule f k n m whole each so_far put =
+    on_ok_weaker r (λ e. with_row_more items now rule f k n m whole each so_far ∙ ap (λ xs. Ok xs) (sym e)) put
 
 -- a part of a row, and the part behind it
 pub with_row_then : {A E : Type 0} (items now new : List A) (rule : ℕ → Result A E) (k n m : ℕ) → k + n ≡ m → with_row items rule k ≡ Ok now

@@ -20,9 +20,10 @@ listed count f = map f (range_with_len 0 count)
 abbrev pub with_row : {A E : Type 0} → List A → (ℕ → Result A E) → ℕ → Result (List A) E
 with_row items rule count = all_or_first_error (map (λ x. Ok x) items ++ map rule (range_with_len 1 count))
 
--- row is an index list of all axes of a shape but the last, which has count places
+-- row is an index list of all axes of a shape but the last, which has count places, of which there is one at least
 pub record IsRowOf (shape row : List ℕ) (count : ℕ) : Type 0 where
   pub rank : length row < most_axes
   pub long : length shape ≡ length row + 1
+  pub some : 0 < count
   pub whole : get_or shape (length row) 0 ≡ count
   pub places : (i : ℕ) → 1 ≤ i → i ≤ count → IsTrue (is_index_of shape (row ++ i ∷ []))

@@ -6,3 +6,4 @@ pub mod Walks
 pub mod Written
 pub mod Advancing
 pub mod OnAxes
+pub mod Placed

@@ -82,7 +82,7 @@ size_of_ones : (n : ℕ) → size (replicate n 1) ≡ 1
 size_of_ones zero = refl
 size_of_ones (suc n) = let rest = size_of_ones n in rw rest refl
 
-uncounted_place : (a b : ArrayValue) (at : List ℕ) → is_index_of (counted_shape a b) at ≡ true → places_before b.shape (uncounted b at) ≡ places_before (counted_shape a b) at
+pub uncounted_place : (a b : ArrayValue) (at : List ℕ) → is_index_of (counted_shape a b) at ≡ true → places_before b.shape (uncounted b at) ≡ places_before (counted_shape a b) at
 uncounted_place a b at inside = by_test (is_scalar b) inside
   where
     none_before : (shape : List ℕ) → places_before shape [] ≡ 0

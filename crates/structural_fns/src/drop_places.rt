@@ -7,14 +7,16 @@ ghost use Rattle.arrays_core.specs.Shapes.{IsWithinLimits, is_index_of as is_bel
 ghost use Rattle.index_region.specs.ArgumentLists.{of_two_arguments};
 ghost use Rattle.index_region.specs.Arguments.{numbers};
 ghost use Rattle.index_region.specs.Answers.{IsPlaceOf, IsSourceIn, source_value};
-ghost use Rattle.structural_fns.specs.AxisCounts.{counted_shape as shape_counted};
+ghost use Rattle.structural_fns.specs.AxisCounts.{counted_shape as shape_counted, uncounted as index_uncounted};
 ghost use Rattle.structural_fns.specs.Drop.{drop_form, drop_source, drop_item, drop_whole, dropped_shape as shape_dropped, kept_place as place_kept, kept_places as places_kept};
 ghost use Rattle.index_region.specs.Checks.{form_of};
 
 use crate::axis_counts::{check_axis_counts, counted_shape, uncounted};
 use crate::limits::MOST_AXES;
-use arrays_core::{ApplyFault, Array, Item, ItemType, Kind, Shape, size};
-use index_region::{Primitive, Seen, Source, apply, item_from, limited};
+use arrays_core::{
+    ApplyFault, Array, ArrayBuilder, Item, ItemType, Kind, Shape, index_in_row, position, size,
+};
+use index_region::{Primitive, RowPrimitive, Seen, Source, apply_rows, item_from, limited};
 use smallvec::SmallVec;
 use std::alloc::{AllocError, Global};
 
@@ -85,13 +87,23 @@ fn kept_run(counts: &Seen, vector: &Seen, shape: &Shape) -> Result<Array, AllocE
 pub struct DropPlaces;
 
 impl DropPlaces {
+    /// The index list of the array whose item stands at an index list of the result. It takes no memory.
+    fn place_of(self, counts: &Seen, array: &Seen, index: &[u32]) -> Shape
+        requires { IsPlaceOf (drop_form counts.now array.now) index.now }
+        ensures is { result.items ≡ index_uncounted array.now (places_kept (numbers counts.now) index.now) }
+        ensures inside { IsTrue (is_below array.now.shape result.items) }
+        ensures inline { result.capacity ≡ 4 }
+    {
+        uncounted(array, kept_places(counts, array, index))
+    }
+
     /// Where the item at an index list of the result comes from. It takes no memory.
     pub fn source_of(self, counts: &Seen, array: &Seen, index: &[u32]) -> Source
         requires { IsPlaceOf (drop_form counts.now array.now) index.now }
         ensures is { source_value result ≡ drop_source counts.now array.now index.now }
         ensures inside { IsSourceIn counts.now array.now result }
     {
-        let at = uncounted(array, kept_places(counts, array, index));
+        let at = self.place_of(counts, array, index);
         Source::Place { arg: 1, at }
     }
 
@@ -106,7 +118,7 @@ impl DropPlaces {
             let run = kept_run(&args[0], array, &shape)?;
             return Ok(run);
         }
-        apply(alloc, self, args)
+        apply_rows(alloc, self, args)
     }
 }
 
@@ -133,5 +145,21 @@ impl Primitive for DropPlaces {
         let array = &args[1];
         let source = self.source_of(counts, array, index);
         Ok(item_from(array, array, array.item_type(), source))
+    }
+}
+
+impl RowPrimitive for DropPlaces {
+    fn extend_row(
+        &self,
+        args: &[Seen],
+        row: &[u32],
+        count: u32,
+        items: &mut ArrayBuilder,
+    ) -> Result<(), AllocError> {
+        let (counts, array) = (&args[0], &args[1]);
+        let shape = array.shape();
+        let first = index_in_row(*shape.allocator(), row, 1);
+        let at = self.place_of(counts, array, first.as_slice());
+        array.extend_run(items, position(shape, at.as_slice()) - 1, count)
     }
 }

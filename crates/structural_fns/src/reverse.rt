@@ -9,9 +9,11 @@ ghost use Rattle.index_region.specs.ArgumentLists.{of_one_argument};
 ghost use Rattle.index_region.specs.Answers.{IsPlaceOf, IsSourceIn, source_value};
 ghost use Rattle.structural_fns.specs.Reverse.{reverse_form, reverse_source, reverse_item, reverse_whole};
 
-use arrays_core::{ApplyFault, Array, Item, ItemType, Kind, Shape, shape_of};
-use index_region::{Along, Primitive, Seen, Source, apply, item_from, limited};
-use std::alloc::Global;
+use arrays_core::{
+    ApplyFault, Array, ArrayBuilder, Item, ItemType, Kind, Shape, index_in_row, position, shape_of,
+};
+use index_region::{Along, Primitive, RowPrimitive, Seen, Source, apply_rows, item_from, limited};
+use std::alloc::{AllocError, Global};
 
 /// The index list of the same place counted from the other end of an axis.
 fn reversed(alloc: Global, along: Along, axes: &[u32], index: &[u32]) -> Shape
@@ -40,14 +42,25 @@ pub struct Reverse {
 }
 
 impl Reverse {
+    /// The index list of the array whose item stands at an index list of the result. It takes no memory.
+    fn place_of(self, array: &Seen, index: &[u32]) -> Shape
+        requires { IsPlaceOf (reverse_form self.along array.now) index.now }
+        ensures is { let axis = axis_at (length array.now.shape) self.along in
+            result.items ≡ set index.now axis (suc (places_along array.now.shape axis) - get_or index.now axis 1) }
+        ensures inside { IsTrue (is_index_of array.now.shape result.items) }
+        ensures inline { result.capacity ≡ 4 }
+    {
+        let shape = array.shape();
+        reversed(*shape.allocator(), self.along, shape.as_slice(), index)
+    }
+
     /// Where the item at an index list of the result comes from. It takes no memory.
     pub fn source_of(self, array: &Seen, index: &[u32]) -> Source
         requires { IsPlaceOf (reverse_form self.along array.now) index.now }
         ensures is { source_value result ≡ reverse_source self.along array.now index.now }
         ensures inside { IsSourceIn array.now array.now result }
     {
-        let shape = array.shape();
-        let at = reversed(*shape.allocator(), self.along, shape.as_slice(), index);
+        let at = self.place_of(array, index);
         Source::Place { arg: 0, at }
     }
 
@@ -56,7 +69,7 @@ impl Reverse {
         requires { length args.now ≡ 1 }
         ensures { IsAnswerTo (of_one_argument (reverse_whole self.now.along) args.now) result }
     {
-        apply(alloc, self, args)
+        apply_rows(alloc, self, args)
     }
 }
 
@@ -81,5 +94,26 @@ impl Primitive for Reverse {
         let array = &args[0];
         let source = self.source_of(array, index);
         Ok(item_from(array, array, array.item_type(), source))
+    }
+}
+
+impl RowPrimitive for Reverse {
+    fn extend_row(
+        &self,
+        args: &[Seen],
+        row: &[u32],
+        count: u32,
+        items: &mut ArrayBuilder,
+    ) -> Result<(), AllocError> {
+        let array = &args[0];
+        let shape = array.shape();
+        let first = index_in_row(*shape.allocator(), row, 1);
+        let at = self.place_of(array, first.as_slice());
+        let place = position(shape, at.as_slice()) - 1;
+        if self.along.axis_at(shape.len() as u32) == row.len() {
+            array.extend_back(items, place, count)
+        } else {
+            array.extend_run(items, place, count)
+        }
     }
 }

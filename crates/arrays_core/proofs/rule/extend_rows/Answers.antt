@@ -26,7 +26,7 @@ loop-place-init g c =
 
 pub extend_row-requires-clause-row : goal.extend_row-requires-clause-row
 extend_row-requires-clause-row g c =
-    rw (c.requires.shaped, c.as_slice-in-loop-place.ensures) (row_of c.args.rows.now.items c.loop-place.row.items c.args.count c.loop-place.invariant.here c.requires.rank)
+    rw (c.requires.shaped, c.as_slice-in-loop-place.ensures) (row_of c.args.rows.now.items c.loop-place.row.items c.args.count c.loop-place.invariant.here c.requires.rank c.requires.long)
 
 pub loop-place-preserved : goal.loop-place-preserved
 loop-place-preserved g c =

@@ -5,4 +5,4 @@ use Rattle.structural_fns.specs.Drop.{drop_form, drop_item}
 use Rattle.structural_fns.proofs.drop_places.DropPlaces.apply.Goals as goal
 
 pub returns : goal.returns
-returns c = subst (λ w. IsAnswerTo w c.apply.result) (whole_of_two drop_form drop_item c.args.args.now c.requires) c.apply.ensures
+returns c = subst (λ w. IsAnswerTo w c.apply_rows.result) (whole_of_two drop_form drop_item c.args.args.now c.requires) c.apply_rows.ensures

@@ -7,4 +7,4 @@ use Rattle.structural_fns.proofs.reverse.Reverse.apply.Goals as goal
 pub returns : goal.returns
 returns c =
     let along = c.args.self.now.along in
-    subst (λ w. IsAnswerTo w c.apply.result) (whole_of_one (reverse_form along) (reverse_item along) c.args.args.now c.requires) c.apply.ensures
+    subst (λ w. IsAnswerTo w c.apply_rows.result) (whole_of_one (reverse_form along) (reverse_item along) c.args.args.now c.requires) c.apply_rows.ensures

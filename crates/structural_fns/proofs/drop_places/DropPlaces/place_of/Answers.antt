@@ -7,7 +7,7 @@ use Rattle.structural_fns.specs.AxisCounts.{counted_shape}
 use Rattle.structural_fns.specs.Drop.{dropped_shape, kept_places}
 use Rattle.structural_fns.proofs.Counting.{numbers_long}
 use Rattle.structural_fns.proofs.SourcePlaces.{kept_inside, uncounted_inside}
-use Rattle.structural_fns.proofs.drop_places.DropPlaces.source_of.Goals as goal
+use Rattle.structural_fns.proofs.drop_places.DropPlaces.place_of.Goals as goal
 
 pub returns-clause-inside : goal.returns-clause-inside
 returns-clause-inside c =
@@ -21,7 +21,5 @@ returns-clause-inside c =
     let typed = passed (counts_as_numbers a) _ _ index counted.place in
     let inside : is_index_of left index ≡ true = place_inside left b.item_type index typed.place in
     let long = numbers_long a in
-    let as_many = eqb-true (length a.items) (length shape) counted.test in (
-      rw (c.uncounted-at.ensures.is, c.kept_places.ensures.is) (uncounted_inside a b (kept_places (numbers a) index) (kept_inside shape (numbers a) index (omega arith) inside)),
-      c.uncounted-at.ensures.inline,
-    )
+    let as_many = eqb-true (length a.items) (length shape) counted.test in
+    rw (c.uncounted.ensures.is, c.kept_places.ensures.is) (uncounted_inside a b (kept_places (numbers a) index) (kept_inside shape (numbers a) index (omega arith) inside))

@@ -1,0 +1,133 @@
+-- The rows of an array whose places along an axis stand the other way round.
+use Rattle.std.proofs.Common.{◌≡◌, ℕ, zero, suc, pos, negsuc, ◌+◌, ◌-◌, ◌<◌, ◌≤◌, true, List, [], ◌∷◌, ◌++◌, length, get_or, set, Ok, refl, ap, sym, subst, ◌∙◌, arith}
+use Rattle.std.proofs.lemmas.List.{get_or_default}
+use Rattle.std.proofs.lemmas.Bool.{and_parts, leb-true, false≢true}
+use Rattle.index_region.specs.declared.along.Along.TheVariants.{First, Last, Axis}
+use Rattle.arrays_core.specs.declared.item.ItemType.{ItemType}
+use Rattle.arrays_core.specs.Items.{fill}
+use Rattle.arrays_core.specs.Arrays.{ArrayValue, IsArray}
+use Rattle.arrays_core.specs.Shapes.{is_index_of, places_before}
+use Rattle.arrays_core.specs.Building.{IsRowOf}
+use Rattle.arrays_core.proofs.Shapes.{places_below}
+use Rattle.arrays_core.proofs.Rows.{row_end, places_in_row}
+use Rattle.index_region.specs.Answers.{IsRowIn}
+use Rattle.index_region.specs.Axes.{is_axis, axis_at, places_along}
+use Rattle.index_region.specs.declared.along.Along.{Along}
+use Rattle.index_region.proofs.Passing.{row_passed, row_inside}
+use Rattle.index_region.proofs.Placed.{left_placed}
+use Rattle.structural_fns.specs.Reverse.{reverse_form, reverse_item}
+use Rattle.structural_fns.proofs.SourcePlaces.{reversed_inside}
+
+-- another index in a row, or behind it
+set_before : (row : List ℕ) (i k v : ℕ) → k < length row → set (row ++ i ∷ []) k v ≡ set row k v ++ i ∷ []
+set_before [] i k v h = absurd (omega arith)
+set_before (j ∷ row) i zero v h = refl
+set_before (j ∷ row) i (suc k) v h = ap (λ xs. j ∷ xs) (set_before row i k v (omega arith))
+
+get_before : (row : List ℕ) (i k d : ℕ) → k < length row → get_or (row ++ i ∷ []) k d ≡ get_or row k d
+get_before [] i k d h = absurd (omega arith)
+get_before (j ∷ row) i zero d h = refl
+get_before (j ∷ row) i (suc k) d h = get_before row i k d (omega arith)
+
+set_last : (row : List ℕ) (i v : ℕ) → set (row ++ i ∷ []) (length row) v ≡ row ++ v ∷ []
+set_last [] i v = refl
+set_last (j ∷ row) i v = ap (λ xs. j ∷ xs) (set_last row i v)
+
+get_last : (row : List ℕ) (i d : ℕ) → get_or (row ++ i ∷ []) (length row) d ≡ i
+get_last [] i d = refl
+get_last (j ∷ row) i d = get_last row i d
+
+-- the axis that is meant is one of the array's
+axis_below : (rank : ℕ) (along : Along) → is_axis rank along ≡ true → 0 < rank → axis_at rank along < rank
+axis_below rank First h some = some
+axis_below rank Last h some = omega arith
+axis_below rank (Axis (pos n)) h some =
+    let parts = and_parts _ _ h in
+    let low = leb-true 1 n parts.0 in
+    let high = leb-true n rank parts.1 in
+    omega arith
+axis_below rank (Axis (negsuc n)) h some = absurd (false≢true h)
+
+module _ (along : Along) (b : ArrayValue) (row : List ℕ) (count : ℕ) (item_type : ItemType) (is : IsRowIn (reverse_form along b) row count item_type) where
+  abbrev pub axis : ℕ
+  axis = axis_at (length b.shape) along
+
+  abbrev pub at_index : ℕ → List ℕ
+  at_index i = set (row ++ i ∷ []) axis (suc (places_along b.shape axis) - get_or (row ++ i ∷ []) axis 1)
+
+  abbrev first : ℕ
+  first = places_before b.shape (at_index 1)
+
+  row_of : IsRowOf b.shape row count
+  row_of =
+      let checked = row_passed (is_axis (length b.shape) along) _ _ row count item_type is in
+      (row_inside b.shape b.item_type row count item_type checked.row_in).row_of
+
+  inside_at : (j : ℕ) → j < count → is_index_of b.shape (at_index (0 + j + 1)) ≡ true
+  inside_at j h = reversed_inside b.shape (row ++ (0 + j + 1) ∷ []) axis (row_of.places (0 + j + 1) (omega arith) (omega arith))
+
+  item_at : (j k : ℕ) → j < count → places_before b.shape (at_index (0 + j + 1)) ≡ k → reverse_item along b (row ++ (0 + j + 1) ∷ []) ≡ Ok (get_or b.items k (fill b.item_type))
+  item_at j k h e = left_placed b b (at_index (0 + j + 1)) (inside_at j h) ∙ ap (λ n. Ok (get_or b.items n (fill b.item_type))) e
+
+  -- an axis that is not the last is before it
+  pub below_last : (k : ℕ) → k ≡ axis → (k ≡ length row → ⊥) → axis < length row
+  below_last k e not_last =
+      let checked = row_passed (is_axis (length b.shape) along) _ _ row count item_type is in
+      let below = axis_below (length b.shape) along checked.test (omega (arith, row_of.long)) in
+      omega (arith, row_of.long)
+
+  -- along another axis a row is a row of the array
+  module _ (other : axis < length row) where
+    abbrev others : List ℕ
+    others = set row axis (suc (places_along b.shape axis) - get_or row axis 1)
+
+    at_other : (i : ℕ) → at_index i ≡ others ++ i ∷ []
+    at_other i =
+        set_before row i axis (suc (places_along b.shape axis) - get_or (row ++ i ∷ []) axis 1) other
+        ∙ ap (λ n. set row axis (suc (places_along b.shape axis) - n) ++ i ∷ []) (get_before row i axis 1 other)
+
+    place_other : (j : ℕ) → j < count → places_before b.shape (at_index (0 + j + 1)) ≡ first + j
+    place_other j h =
+        let begin : is_index_of b.shape (others ++ 1 ∷ []) ≡ true = ap (is_index_of b.shape) (sym (at_other 1)) ∙ inside_at 0 (omega arith) in
+        let beside = places_in_row b.shape others 1 (0 + j + 1) begin (omega arith) in
+        let now : first ≡ places_before b.shape (others ++ 1 ∷ []) = ap (places_before b.shape) (at_other 1) in
+        let then : places_before b.shape (at_index (0 + j + 1)) ≡ places_before b.shape (others ++ (0 + j + 1) ∷ []) = ap (places_before b.shape) (at_other (0 + j + 1)) in
+        omega arith
+
+    pub other_item : (j : ℕ) → j < count → reverse_item along b (row ++ (0 + j + 1) ∷ []) ≡ Ok (get_or b.items (first + j) (fill b.item_type))
+    other_item j h = item_at j (first + j) h (place_other j h)
+
+    pub other_fits : IsArray b → first + count ≤ length b.items
+    other_fits sound =
+        let some = row_of.some in
+        let last : count - 1 < count = omega arith in
+        let below = places_below b.shape (at_index (0 + (count - 1) + 1)) (inside_at (count - 1) last) in
+        let place = place_other (count - 1) last in
+        omega (arith, sound.one_item_a_place)
+
+  -- along the last axis it is one that is read from its end
+  module _ (last_axis : axis ≡ length row) where
+    at_last : (i : ℕ) → at_index i ≡ row ++ (suc count - i) ∷ []
+    at_last i =
+        let whole = row_of.whole in
+        let n : places_along b.shape (length row) ≡ count = get_or_default b.shape (length row) 1 0 (omega (arith, row_of.long)) ∙ whole in
+        ap (λ k. set (row ++ i ∷ []) k (suc (places_along b.shape k) - get_or (row ++ i ∷ []) k 1)) last_axis
+        ∙ set_last row i (suc (places_along b.shape (length row)) - get_or (row ++ i ∷ []) (length row) 1)
+        ∙ ap (λ m. row ++ (suc m - get_or (row ++ i ∷ []) (length row) 1) ∷ []) n
+        ∙ ap (λ m. row ++ (suc count - m) ∷ []) (get_last row i 1)
+
+    place_last : (j : ℕ) → j < count → places_before b.shape (at_index (0 + j + 1)) + j ≡ first
+    place_last j h =
+        let same : suc count - 1 ≡ count = omega arith in
+        let begin : is_index_of b.shape (row ++ count ∷ []) ≡ true = ap (λ n. is_index_of b.shape (row ++ n ∷ [])) (sym same) ∙ ap (is_index_of b.shape) (sym (at_last 1)) ∙ inside_at 0 (omega arith) in
+        let beside = places_in_row b.shape row count (suc count - (0 + j + 1)) begin (omega arith) in
+        let now : first ≡ places_before b.shape (row ++ (suc count - 1) ∷ []) = ap (places_before b.shape) (at_last 1) in
+        let then : places_before b.shape (at_index (0 + j + 1)) ≡ places_before b.shape (row ++ (suc count - (0 + j + 1)) ∷ []) = ap (places_before b.shape) (at_last (0 + j + 1)) in
+        let here : first ≡ places_before b.shape (row ++ count ∷ []) = now ∙ ap (λ n. places_before b.shape (row ++ n ∷ [])) same in
+        omega arith
+
+    pub last_item : (j : ℕ) → j < count → reverse_item along b (row ++ (0 + j + 1) ∷ []) ≡ Ok (get_or b.items (first - j) (fill b.item_type))
+    last_item j h = item_at j (first - j) h (let e = place_last j h in omega arith)
+
+    pub last_low : count ≤ first + 1
+    last_low = let some = row_of.some in let e = place_last (count - 1) (omega arith) in omega arith
