@@ -1,5 +1,5 @@
 -- The rows of an array whose places along an axis stand the other way round.
-use Rattle.std.proofs.Common.{◌≡◌, ℕ, zero, suc, pos, negsuc, ◌+◌, ◌-◌, ◌<◌, ◌≤◌, true, List, [], ◌∷◌, ◌++◌, length, get_or, set, Ok, refl, ap, sym, subst, ◌∙◌, arith}
+use Rattle.std.proofs.Common.{◌≡◌, ℕ, zero, suc, pos, negsuc, ◌+◌, ◌-◌, ◌<◌, ◌≤◌, true, List, [], ◌∷◌, ◌++◌, length, get_or, set, Ok, refl, ap, sym, ◌∙◌, arith}
 use Rattle.std.proofs.lemmas.List.{get_or_default}
 use Rattle.std.proofs.lemmas.Bool.{and_parts, leb-true, false≢true}
 use Rattle.index_region.specs.declared.along.Along.TheVariants.{First, Last, Axis}
@@ -9,7 +9,7 @@ use Rattle.arrays_core.specs.Arrays.{ArrayValue, IsArray}
 use Rattle.arrays_core.specs.Shapes.{is_index_of, places_before}
 use Rattle.arrays_core.specs.Building.{IsRowOf}
 use Rattle.arrays_core.proofs.Shapes.{places_below}
-use Rattle.arrays_core.proofs.Rows.{row_end, places_in_row}
+use Rattle.arrays_core.proofs.Rows.{places_in_row}
 use Rattle.index_region.specs.Answers.{IsRowIn}
 use Rattle.index_region.specs.Axes.{is_axis, axis_at, places_along}
 use Rattle.index_region.specs.declared.along.Along.{Along}
@@ -17,36 +17,7 @@ use Rattle.index_region.proofs.Passing.{row_passed, row_inside}
 use Rattle.index_region.proofs.Placed.{left_placed}
 use Rattle.structural_fns.specs.Reverse.{reverse_form, reverse_item}
 use Rattle.structural_fns.proofs.SourcePlaces.{reversed_inside}
-
--- another index in a row, or behind it
-set_before : (row : List ℕ) (i k v : ℕ) → k < length row → set (row ++ i ∷ []) k v ≡ set row k v ++ i ∷ []
-set_before [] i k v h = absurd (omega arith)
-set_before (j ∷ row) i zero v h = refl
-set_before (j ∷ row) i (suc k) v h = ap (λ xs. j ∷ xs) (set_before row i k v (omega arith))
-
-get_before : (row : List ℕ) (i k d : ℕ) → k < length row → get_or (row ++ i ∷ []) k d ≡ get_or row k d
-get_before [] i k d h = absurd (omega arith)
-get_before (j ∷ row) i zero d h = refl
-get_before (j ∷ row) i (suc k) d h = get_before row i k d (omega arith)
-
-set_last : (row : List ℕ) (i v : ℕ) → set (row ++ i ∷ []) (length row) v ≡ row ++ v ∷ []
-set_last [] i v = refl
-set_last (j ∷ row) i v = ap (λ xs. j ∷ xs) (set_last row i v)
-
-get_last : (row : List ℕ) (i d : ℕ) → get_or (row ++ i ∷ []) (length row) d ≡ i
-get_last [] i d = refl
-get_last (j ∷ row) i d = get_last row i d
-
--- the axis that is meant is one of the array's
-axis_below : (rank : ℕ) (along : Along) → is_axis rank along ≡ true → 0 < rank → axis_at rank along < rank
-axis_below rank First h some = some
-axis_below rank Last h some = omega arith
-axis_below rank (Axis (pos n)) h some =
-    let parts = and_parts _ _ h in
-    let low = leb-true 1 n parts.0 in
-    let high = leb-true n rank parts.1 in
-    omega arith
-axis_below rank (Axis (negsuc n)) h some = absurd (false≢true h)
+use Rattle.structural_fns.proofs.RowIndices.{set_before, get_before, set_last, get_last, axis_below}
 
 module _ (along : Along) (b : ArrayValue) (row : List ℕ) (count : ℕ) (item_type : ItemType) (is : IsRowIn (reverse_form along b) row count item_type) where
   abbrev pub axis : ℕ

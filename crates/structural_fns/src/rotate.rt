@@ -1,21 +1,23 @@
 //! Rotate: the places of an axis moved along it, and round its end.
 
-ghost use Rattle.std.specs.Prelude.{◌≡◌, ◌≤◌, ◌<◌, ◌≢◌, IfOk, Err, IfErr, IsTrue, Result, length, All, set, get_or, remove};
+ghost use Rattle.std.specs.Prelude.{◌≡◌, ◌≤◌, ◌<◌, ◌≢◌, ◌++◌, ◌∷◌, [], IfOk, OnOk, Ok, Err, IfErr, IsTrue, Result, length, All, set, get_or, remove};
 ghost use Rattle.arrays_core.specs.Limits.{most_axes, longest_axis};
 ghost use Rattle.arrays_core.specs.declared.item.Kind.{Kind as AKind};
 ghost use Rattle.arrays_core.specs.Arrays.{IsAnswerTo};
-ghost use Rattle.arrays_core.specs.Shapes.{is_index_of};
+ghost use Rattle.arrays_core.specs.Shapes.{is_index_of, size as size_of};
+ghost use Rattle.arrays_core.specs.Building.{with_row};
 ghost use Rattle.index_region.specs.Checks.{Form};
-ghost use Rattle.index_region.specs.Axes.{places_along};
+ghost use Rattle.index_region.specs.Axes.{axis_at, places_along};
 ghost use Rattle.index_region.specs.ArgumentLists.{of_two_arguments};
-ghost use Rattle.index_region.specs.Answers.{IsPlaceOf, IsSourceIn, source_value};
+ghost use Rattle.index_region.specs.Answers.{IsPlaceOf, IsRowIn, IsSourceIn, source_value};
 ghost use Rattle.structural_fns.specs.Rotate.{lines_checked, rotate_form, rotation, rotated_place as place_rotated, rotate_source, rotate_item, rotate_whole};
 
 use arrays_core::{
-    ApplyFault, Array, Item, ItemType, Kind, Shape, position, shape_of, without_axis,
+    ApplyFault, Array, ArrayBuilder, Item, ItemType, Kind, Shape, index_in_row, position, shape_of,
+    without_axis,
 };
-use index_region::{Along, Primitive, Seen, Source, apply, item_from, limited};
-use std::alloc::Global;
+use index_region::{Along, Primitive, RowPrimitive, Seen, Source, apply_rows, item_from, limited};
+use std::alloc::{AllocError, Global};
 
 /// The checks of the amounts: where there is not one alone, RANK where they have not one axis less, and
 /// LENGTH where there is not one for each line.
@@ -92,18 +94,96 @@ pub struct Rotate {
 }
 
 impl Rotate {
+    /// The index list of the array whose item stands at an index list of the result. It takes no memory.
+    fn place_of(self, amounts: &Seen, array: &Seen, index: &[u32]) -> Shape
+        requires { IsPlaceOf (rotate_form self.along amounts.now array.now) index.now }
+        ensures is { let axis = axis_at (length array.now.shape) self.along in
+            result.items ≡ set index.now axis (place_rotated (places_along array.now.shape axis) (rotation axis amounts.now index.now) (get_or index.now axis 1)) }
+        ensures inside { IsTrue (is_index_of array.now.shape result.items) }
+        ensures inline { result.capacity ≡ 4 }
+    {
+        let shape = array.shape();
+        let axes = shape.as_slice();
+        let axis = self.along.axis_at(axes.len() as u32);
+        let amount = amount_at(amounts, axis, index);
+        rotated(*shape.allocator(), axes, axis, amount, index)
+    }
+
     /// Where the item at an index list of the result comes from. It takes no memory.
     pub fn source_of(self, amounts: &Seen, array: &Seen, index: &[u32]) -> Source
         requires { IsPlaceOf (rotate_form self.along amounts.now array.now) index.now }
         ensures is { source_value result ≡ rotate_source self.along amounts.now array.now index.now }
         ensures inside { IsSourceIn amounts.now array.now result }
     {
-        let shape = array.shape();
-        let axes = shape.as_slice();
-        let axis = self.along.axis_at(axes.len() as u32);
-        let amount = amount_at(amounts, axis, index);
-        let at = rotated(*shape.allocator(), axes, axis, amount, index);
+        let at = self.place_of(amounts, array, index);
         Source::Place { arg: 1, at }
+    }
+
+    /// Puts a row along the axis behind the items: a line from the place that comes first on, and what stands before
+    /// that.
+    fn extend_turned(
+        self,
+        amounts: &Seen,
+        array: &Seen,
+        row: &[u32],
+        count: u32,
+        items: &mut ArrayBuilder,
+    ) -> Result<(), AllocError>
+        requires row { IsRowIn (rotate_form self.along amounts.now array.now) row.now count items.old.item_type }
+        requires last { axis_at (length array.now.shape) self.along ≡ length row.now }
+        ensures items { OnOk result (with_row items.old.items (λ i. rotate_item self.along amounts.now array.now (row.now ++ i ∷ [])) count ≡ Ok items.new.items) }
+        ensures typed { items.new.item_type ≡ items.old.item_type }
+    {
+        let shape = array.shape();
+        let first = index_in_row(*shape.allocator(), row, 1);
+        let at = self.place_of(amounts, array, first.as_slice());
+        let place = position(shape, at.as_slice()) - 1;
+        let before = at[row.len()] - 1;
+        array.extend_run(items, place, count - before)?;
+        array.extend_run(items, place - before, before)
+    }
+
+    /// Puts a row across lines that have one amount behind the items: a row of the array.
+    fn extend_across(
+        self,
+        amounts: &Seen,
+        array: &Seen,
+        row: &[u32],
+        count: u32,
+        items: &mut ArrayBuilder,
+    ) -> Result<(), AllocError>
+        requires row { IsRowIn (rotate_form self.along amounts.now array.now) row.now count items.old.item_type }
+        requires other { axis_at (length array.now.shape) self.along ≢ length row.now }
+        requires one { size_of amounts.now.shape ≡ 1 }
+        ensures items { OnOk result (with_row items.old.items (λ i. rotate_item self.along amounts.now array.now (row.now ++ i ∷ [])) count ≡ Ok items.new.items) }
+        ensures typed { items.new.item_type ≡ items.old.item_type }
+    {
+        let shape = array.shape();
+        let first = index_in_row(*shape.allocator(), row, 1);
+        let at = self.place_of(amounts, array, first.as_slice());
+        array.extend_run(items, position(shape, at.as_slice()) - 1, count)
+    }
+
+    /// Puts a row behind the items one by one: across lines, each may have an amount of its own.
+    fn push_row(
+        self,
+        amounts: &Seen,
+        array: &Seen,
+        row: &[u32],
+        count: u32,
+        items: &mut ArrayBuilder,
+    ) -> Result<(), AllocError>
+        requires row { IsRowIn (rotate_form self.along amounts.now array.now) row.now count items.old.item_type }
+        ensures items { OnOk result (with_row items.old.items (λ i. rotate_item self.along amounts.now array.now (row.now ++ i ∷ [])) count ≡ Ok items.new.items) }
+        ensures typed { items.new.item_type ≡ items.old.item_type }
+    {
+        let shape = array.shape();
+        for before in 0..count {
+            let index = index_in_row(*shape.allocator(), row, before + 1);
+            let at = self.place_of(amounts, array, index.as_slice());
+            items.push(array.item(position(shape, at.as_slice())))?;
+        }
+        Ok(())
     }
 
     /// The array whose lines along the axis are rotated.
@@ -111,7 +191,7 @@ impl Rotate {
         requires { length args.now ≡ 2 }
         ensures { IsAnswerTo (of_two_arguments (rotate_whole self.now.along) args.now) result }
     {
-        apply(alloc, self, args)
+        apply_rows(alloc, self, args)
     }
 }
 
@@ -142,5 +222,24 @@ impl Primitive for Rotate {
         let array = &args[1];
         let source = self.source_of(amounts, array, index);
         Ok(item_from(array, array, array.item_type(), source))
+    }
+}
+
+impl RowPrimitive for Rotate {
+    fn extend_row(
+        &self,
+        args: &[Seen],
+        row: &[u32],
+        count: u32,
+        items: &mut ArrayBuilder,
+    ) -> Result<(), AllocError> {
+        let (amounts, array) = (&args[0], &args[1]);
+        if self.along.axis_at(array.shape().len() as u32) == row.len() {
+            return self.extend_turned(amounts, array, row, count, items);
+        }
+        if amounts.places() == 1 {
+            return self.extend_across(amounts, array, row, count, items);
+        }
+        self.push_row(amounts, array, row, count, items)
     }
 }

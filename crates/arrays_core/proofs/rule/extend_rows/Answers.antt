@@ -10,8 +10,8 @@ use Rattle.arrays_core.proofs.rule.extend_rows.Goals as goal
 refill_all : (xs ws : List ℕ) → length ws ≡ length xs → take (length xs) (ws ++ drop (length ws) xs) ≡ ws
 refill_all xs ws e = take_at ws (drop (length ws) xs) (length xs) e
 
-pub loop-place-init : goal.loop-place-init
-loop-place-init g c =
+pub loop-before-init : goal.loop-before-init
+loop-before-init g c =
     let rows = c.args.rows.now.items in
     let shape = g.R.ItemRule.result_shape c.args.rule.now in
     let rule = g.R.ItemRule.item c.args.rule.now in
@@ -26,26 +26,26 @@ loop-place-init g c =
 
 pub extend_row-requires-clause-row : goal.extend_row-requires-clause-row
 extend_row-requires-clause-row g c =
-    rw (c.requires.shaped, c.as_slice-in-loop-place.ensures) (row_of c.args.rows.now.items c.loop-place.row.items c.args.count c.loop-place.invariant.here c.requires.rank c.requires.long)
+    rw (c.requires.shaped, c.as_slice-in-loop-before.ensures) (row_of c.args.rows.now.items c.loop-before.row.items c.args.count c.loop-before.invariant.here c.requires.rank c.requires.long)
 
-pub loop-place-preserved : goal.loop-place-preserved
-loop-place-preserved g c =
+pub loop-before-preserved : goal.loop-before-preserved
+loop-before-preserved g c =
     let rows = c.args.rows.now.items in
-    let row = c.loop-place.row.items in
+    let row = c.loop-before.row.items in
     let rule = g.R.ItemRule.item c.args.rule.now in
-    let inv = c.loop-place.invariant in
+    let inv = c.loop-before.invariant in
     let e : size_of rows ≡ c.size-places.result = ap size_of (sym c.as_slice.ensures) ∙ sym c.size-places.ensures in
-    let made : with_row c.loop-place.items.items (λ i. rule (row ++ i ∷ [])) c.args.count ≡ Ok c.extend_row.new.items.items =
-    rw c.as_slice-in-loop-place.ensures at c.in_ok-extend_row.ensures.items in
-    let inside : is_index_of rows c.advance.new.index ≡ true = rw c.as_slice-in-loop-place-2.ensures at c.advance.ensures.inside in
+    let made : with_row c.loop-before.items.items (λ i. rule (row ++ i ∷ [])) c.args.count ≡ Ok c.extend_row.new.items.items =
+    rw c.as_slice-in-loop-before.ensures at c.in_ok-extend_row.ensures.items in
+    let inside : is_index_of rows c.advance.new.index ≡ true = rw c.as_slice-in-loop-before-2.ensures at c.advance.ensures.inside in
     let next : places_before rows row + 1 < size_of rows → places_before rows c.advance.new.index ≡ places_before rows row + 1 =
-    rw (c.as_slice-in-loop-place-2.ensures, c.as_mut_slice.ensures.value) at c.advance.ensures.next in
+    rw (c.as_slice-in-loop-before-2.ensures, c.as_mut_slice.ensures.value) at c.advance.ensures.next in
     let same_long : length c.advance.new.index ≡ length row = as_long rows c.advance.new.index inside ∙ sym (as_long rows row inv.here) in
     let back = refill_all row c.advance.new.index same_long in
     let here = inv.at (omega arith) in
-    let before : CollectedTo (rows ++ c.args.count ∷ []) rule (c.loop-place.place * c.args.count) c.loop-place.items.items = rw c.requires.shaped at inv.collected in
+    let before : CollectedTo (rows ++ c.args.count ∷ []) rule (c.loop-before.before * c.args.count) c.loop-before.items.items = rw c.requires.shaped at inv.collected in
     record {
-      collected = rw c.requires.shaped (row_collected rows row c.args.count c.loop-place.place rule c.loop-place.items.items c.extend_row.new.items.items inv.here here made before);
+      collected = rw c.requires.shaped (row_collected rows row c.args.count c.loop-before.before rule c.loop-before.items.items c.extend_row.new.items.items inv.here here made before);
       typed = c.in_ok-extend_row.ensures.typed ∙ inv.typed;
       here = rw back inside;
       at = λ h. rw back (next (omega arith) ∙ ap (λ n. n + 1) here);
@@ -56,8 +56,8 @@ returns-clause-items g c =
     let rows = c.args.rows.now.items in
     let shape = g.R.ItemRule.result_shape c.args.rule.now in
     let rule = g.R.ItemRule.item c.args.rule.now in
-    let inv = c.loop-place.invariant in
+    let inv = c.loop-before.invariant in
     let e : size_of rows ≡ c.size-places.result = ap size_of (sym c.as_slice.ensures) ∙ sym c.size-places.ensures in
-    let every : c.loop-place.place ≡ size_of rows = omega arith in
-    let sized : size_of shape ≡ c.loop-place.place * c.args.count = ap size_of c.requires.shaped ∙ size_row rows c.args.count ∙ ap (λ n. n * c.args.count) (sym every) in
-    all_collected shape rule (c.loop-place.place * c.args.count) c.loop-place.items.items (omega arith) inv.collected
+    let every : c.loop-before.before ≡ size_of rows = omega arith in
+    let sized : size_of shape ≡ c.loop-before.before * c.args.count = ap size_of c.requires.shaped ∙ size_row rows c.args.count ∙ ap (λ n. n * c.args.count) (sym every) in
+    all_collected shape rule (c.loop-before.before * c.args.count) c.loop-before.items.items (omega arith) inv.collected

@@ -4,7 +4,7 @@ use Rattle.arrays_core.proofs.Shapes.{as_long}
 use Rattle.index_region.specs.Axes.{axis_at}
 use Rattle.structural_fns.proofs.Turning.{rotation_facts, removed_inside}
 use Rattle.structural_fns.proofs.SourcePlaces.{rotated_inside}
-use Rattle.structural_fns.proofs.rotate.Rotate.source_of.Goals as goal
+use Rattle.structural_fns.proofs.rotate.Rotate.place_of.Goals as goal
 
 pub amount_at-amount-requires-clause-rank : goal.amount_at-amount-requires-clause-rank
 amount_at-amount-requires-clause-rank c =
@@ -40,8 +40,8 @@ amount_at-amount-requires-clause-line c =
     subst (λ shape. IsTrue (is_index_of shape (remove c.args.index.now k))) (sym lines)
     (removed_inside b.shape c.args.index.now k (omega (arith, below)) facts.inside)
 
-pub rotated-at-requires-clause-in_range : goal.rotated-at-requires-clause-in_range
-rotated-at-requires-clause-in_range c =
+pub rotated-requires-clause-in_range : goal.rotated-requires-clause-in_range
+rotated-requires-clause-in_range c =
     let b = c.args.array.now in
     let facts = rotation_facts c.args.self.along c.args.amounts.now b c.args.index.now c.requires in
     subst (λ axes. IsTrue (is_index_of axes c.args.index.now)) (sym (c.as_slice-axes.ensures ∙ c.shape-shape.ensures.is)) facts.inside
@@ -50,7 +50,5 @@ pub returns-clause-inside : goal.returns-clause-inside
 returns-clause-inside c =
     let b = c.args.array.now in
     let index = c.args.index.now in
-    let facts = rotation_facts c.args.self.along c.args.amounts.now b index c.requires in (
-      rw (c.rotated-at.ensures.is, c.as_slice-axes.ensures, c.shape-shape.ensures.is) (rotated_inside b.shape index c.axis_at-axis.result (to_z w64 (of_z w64 c.amount_at-amount.result)) facts.inside),
-      c.rotated-at.ensures.inline,
-    )
+    let facts = rotation_facts c.args.self.along c.args.amounts.now b index c.requires in
+    rw (c.rotated.ensures.is, c.as_slice-axes.ensures, c.shape-shape.ensures.is) (rotated_inside b.shape index c.axis_at-axis.result (to_z w64 (of_z w64 c.amount_at-amount.result)) facts.inside)

@@ -1,0 +1,41 @@
+-- The index lists of a row, with another index on one axis.
+use Rattle.std.proofs.Common.{◌≡◌, ℕ, zero, suc, ◌+◌, ◌-◌, ◌<◌, ◌≤◌, pos, negsuc, true, List, [], ◌∷◌, ◌++◌, length, get_or, set, remove, refl, ap, arith}
+use Rattle.std.proofs.lemmas.Bool.{and_parts, leb-true, false≢true}
+use Rattle.index_region.specs.Axes.{is_axis, axis_at}
+use Rattle.index_region.specs.declared.along.Along.{Along}
+use Rattle.index_region.specs.declared.along.Along.TheVariants.{First, Last, Axis}
+
+-- an axis before the last
+pub set_before : (row : List ℕ) (i k v : ℕ) → k < length row → set (row ++ i ∷ []) k v ≡ set row k v ++ i ∷ []
+set_before [] i k v h = absurd (omega arith)
+set_before (j ∷ row) i zero v h = refl
+set_before (j ∷ row) i (suc k) v h = ap (λ xs. j ∷ xs) (set_before row i k v (omega arith))
+
+pub get_before : (row : List ℕ) (i k d : ℕ) → k < length row → get_or (row ++ i ∷ []) k d ≡ get_or row k d
+get_before [] i k d h = absurd (omega arith)
+get_before (j ∷ row) i zero d h = refl
+get_before (j ∷ row) i (suc k) d h = get_before row i k d (omega arith)
+
+-- the last axis
+pub set_last : (row : List ℕ) (i v : ℕ) → set (row ++ i ∷ []) (length row) v ≡ row ++ v ∷ []
+set_last [] i v = refl
+set_last (j ∷ row) i v = ap (λ xs. j ∷ xs) (set_last row i v)
+
+pub get_last : (row : List ℕ) (i d : ℕ) → get_or (row ++ i ∷ []) (length row) d ≡ i
+get_last [] i d = refl
+get_last (j ∷ row) i d = get_last row i d
+
+pub remove_last : (row : List ℕ) (i : ℕ) → remove (row ++ i ∷ []) (length row) ≡ row
+remove_last [] i = refl
+remove_last (j ∷ row) i = ap (λ xs. j ∷ xs) (remove_last row i)
+
+-- the axis that is meant is one of the array's
+pub axis_below : (rank : ℕ) (along : Along) → is_axis rank along ≡ true → 0 < rank → axis_at rank along < rank
+axis_below rank First h some = some
+axis_below rank Last h some = omega arith
+axis_below rank (Axis (pos n)) h some =
+    let parts = and_parts _ _ h in
+    let low = leb-true 1 n parts.0 in
+    let high = leb-true n rank parts.1 in
+    omega arith
+axis_below rank (Axis (negsuc n)) h some = absurd (false≢true h)

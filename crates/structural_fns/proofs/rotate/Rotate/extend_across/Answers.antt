@@ -1,0 +1,37 @@
+use Rattle.std.proofs.Common.{◌≡◌, ℕ, ◌+◌, ◌-◌, ◌<◌, ◌≤◌, ap, sym, subst, ◌∙◌, get_or, length, arith, refl, Ok, ◌++◌, ◌∷◌, []}
+use Rattle.arrays_core.specs.Building.{with_row}
+use Rattle.arrays_core.specs.Items.{fill}
+use Rattle.arrays_core.specs.Shapes.{size, places_before}
+use Rattle.arrays_core.proofs.Rows.{row_put, row_put_more, with_row_none, with_row_more}
+use Rattle.index_region.specs.Axes.{axis_at}
+use Rattle.structural_fns.specs.Rotate.{rotate_item}
+use Rattle.structural_fns.proofs.RotatedRows.{passed_row, at_index, at_last, from, from_low, from_high, other_item, other_fits, end_item, end_fits, begin_item, begin_there}
+use Rattle.structural_fns.proofs.rotate.Rotate.extend_across.Goals as goal
+
+pub extend_run-requires-clause-typed : goal.extend_run-requires-clause-typed
+extend_run-requires-clause-typed c =
+    (passed_row c.args.self.along c.args.amounts.now c.args.array.now c.args.row.now c.args.count c.args.items.now.item_type c.requires.row).typed
+
+pub extend_run-requires-clause-inside : goal.extend_run-requires-clause-inside
+extend_run-requires-clause-inside c =
+    let along = c.args.self.along in
+    let a = c.args.amounts.now in
+    let b = c.args.array.now in
+    let row = c.args.row.now in
+    let place : c.position.result ≡ places_before b.shape (at_index along a b row c.args.count c.args.items.now.item_type c.requires.row 1) + 1 =
+    rw (c.shape-shape.ensures.is, c.as_slice-2.ensures, c.place_of-at.ensures.is, c.as_slice.ensures, c.index_in_row-first.ensures.is) at c.position.ensures.is in
+    let fits = other_fits along a b row c.args.count c.args.items.now.item_type c.requires.row c.requires.other c.requires.one c.shape-shape.ensures.sound in
+    omega arith
+
+pub returns-clause-items : goal.returns-clause-items
+returns-clause-items c =
+    let along = c.args.self.along in
+    let a = c.args.amounts.now in
+    let b = c.args.array.now in
+    let row = c.args.row.now in
+    let place : c.position.result ≡ places_before b.shape (at_index along a b row c.args.count c.args.items.now.item_type c.requires.row 1) + 1 =
+    rw (c.shape-shape.ensures.is, c.as_slice-2.ensures, c.place_of-at.ensures.is, c.as_slice.ensures, c.index_in_row-first.ensures.is) at c.position.ensures.is in
+    row_put c.extend_run.result c.args.items.now.items c.extend_run.new.items.items (λ i. rotate_item along a b (row ++ i ∷ []))
+    (λ k. get_or b.items (c.position.result - 1 + k) (fill b.item_type)) c.args.count
+    (λ j h. other_item along a b row c.args.count c.args.items.now.item_type c.requires.row c.requires.other c.requires.one j h ∙ ap (λ k. Ok (get_or b.items k (fill b.item_type))) (omega arith))
+    c.extend_run.ensures.items
