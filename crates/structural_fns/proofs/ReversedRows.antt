@@ -1,8 +1,6 @@
 -- The rows of an array whose places along an axis stand the other way round.
-use Rattle.std.proofs.Common.{◌≡◌, ℕ, zero, suc, pos, negsuc, ◌+◌, ◌-◌, ◌<◌, ◌≤◌, true, List, [], ◌∷◌, ◌++◌, length, get_or, set, Ok, refl, ap, sym, ◌∙◌, arith}
+use Rattle.std.proofs.Common.{◌≡◌, ℕ, suc, ◌+◌, ◌-◌, ◌<◌, ◌≤◌, true, List, [], ◌∷◌, ◌++◌, length, get_or, set, Ok, ap, sym, ◌∙◌, arith}
 use Rattle.std.proofs.lemmas.List.{get_or_default}
-use Rattle.std.proofs.lemmas.Bool.{and_parts, leb-true, false≢true}
-use Rattle.index_region.specs.declared.along.Along.TheVariants.{First, Last, Axis}
 use Rattle.arrays_core.specs.declared.item.ItemType.{ItemType}
 use Rattle.arrays_core.specs.Items.{fill}
 use Rattle.arrays_core.specs.Arrays.{ArrayValue, IsArray}

@@ -1,5 +1,5 @@
 -- The index lists of a row, with another index on one axis.
-use Rattle.std.proofs.Common.{◌≡◌, ℕ, zero, suc, ◌+◌, ◌-◌, ◌<◌, ◌≤◌, pos, negsuc, true, List, [], ◌∷◌, ◌++◌, length, get_or, set, remove, refl, ap, arith}
+use Rattle.std.proofs.Common.{◌≡◌, ℕ, zero, suc, ◌<◌, pos, negsuc, true, List, [], ◌∷◌, ◌++◌, length, get_or, set, remove, refl, ap, arith}
 use Rattle.std.proofs.lemmas.Bool.{and_parts, leb-true, false≢true}
 use Rattle.index_region.specs.Axes.{is_axis, axis_at}
 use Rattle.index_region.specs.declared.along.Along.{Along}

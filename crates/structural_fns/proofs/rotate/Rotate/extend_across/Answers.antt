@@ -1,11 +1,9 @@
-use Rattle.std.proofs.Common.{◌≡◌, ℕ, ◌+◌, ◌-◌, ◌<◌, ◌≤◌, ap, sym, subst, ◌∙◌, get_or, length, arith, refl, Ok, ◌++◌, ◌∷◌, []}
-use Rattle.arrays_core.specs.Building.{with_row}
+use Rattle.std.proofs.Common.{◌≡◌, ◌+◌, ◌-◌, ap, ◌∙◌, get_or, arith, Ok, ◌++◌, ◌∷◌, []}
 use Rattle.arrays_core.specs.Items.{fill}
-use Rattle.arrays_core.specs.Shapes.{size, places_before}
-use Rattle.arrays_core.proofs.Rows.{row_put, row_put_more, with_row_none, with_row_more}
-use Rattle.index_region.specs.Axes.{axis_at}
+use Rattle.arrays_core.specs.Shapes.{places_before}
+use Rattle.arrays_core.proofs.Rows.{row_put}
 use Rattle.structural_fns.specs.Rotate.{rotate_item}
-use Rattle.structural_fns.proofs.RotatedRows.{passed_row, at_index, at_last, from, from_low, from_high, other_item, other_fits, end_item, end_fits, begin_item, begin_there}
+use Rattle.structural_fns.proofs.RotatedRows.{passed_row, at_index, other_item, other_fits}
 use Rattle.structural_fns.proofs.rotate.Rotate.extend_across.Goals as goal
 
 pub extend_run-requires-clause-typed : goal.extend_run-requires-clause-typed

@@ -1,6 +1,4 @@
-use Rattle.std.proofs.Common.{◌≡◌, ℕ, ◌+◌, ◌-◌, ◌∙◌, ap, sym, get_or, arith, refl, Ok, ◌++◌, ◌∷◌, []}
-use Rattle.arrays_core.specs.Building.{with_row}
-use Rattle.arrays_core.specs.Items.{fill}
+use Rattle.std.proofs.Common.{◌≡◌, ℕ, ◌+◌, ◌-◌, ◌∙◌, ap, sym, arith, refl, Ok, ◌++◌, ◌∷◌, []}
 use Rattle.arrays_core.specs.Shapes.{places_before}
 use Rattle.arrays_core.proofs.Rows.{with_row_none, with_row_more}
 use Rattle.structural_fns.specs.Rotate.{rotate_item}
