@@ -7,10 +7,12 @@ ghost use Rattle.index_region.specs.ArgumentLists.{of_one_argument};
 ghost use Rattle.index_region.specs.Answers.{IsPlaceOf, IsSourceIn, source_value};
 ghost use Rattle.structural_fns.specs.Transpose.{transpose_form, transpose_source, transpose_item, transpose_whole};
 
-use arrays_core::{ApplyFault, Array, Item, ItemType, Kind, Shape};
-use index_region::{Primitive, Seen, Source, apply, item_from, limited};
+use arrays_core::{
+    ApplyFault, Array, ArrayBuilder, Item, ItemType, Kind, Shape, index_in_row, position, size,
+};
+use index_region::{Primitive, RowPrimitive, Seen, Source, apply_rows, item_from, limited};
 use smallvec::SmallVec;
-use std::alloc::Global;
+use std::alloc::{AllocError, Global};
 
 /// A list of at most four, from its last to its first. It takes no memory.
 fn from_last(alloc: Global, list: &[u32]) -> Shape
@@ -46,7 +48,7 @@ impl Transpose {
         requires { length args.now ≡ 1 }
         ensures { IsAnswerTo (of_one_argument transpose_whole args.now) result }
     {
-        apply(alloc, self, args)
+        apply_rows(alloc, self, args)
     }
 }
 
@@ -70,5 +72,26 @@ impl Primitive for Transpose {
         let array = &args[0];
         let source = self.source_of(array, index);
         Ok(item_from(array, array, array.item_type(), source))
+    }
+}
+
+impl RowPrimitive for Transpose {
+    fn extend_row(
+        &self,
+        args: &[Seen],
+        row: &[u32],
+        count: u32,
+        items: &mut ArrayBuilder,
+    ) -> Result<(), AllocError> {
+        if count == 0 {
+            return Ok(());
+        }
+        let array = &args[0];
+        let shape = array.shape();
+        let index = index_in_row(*shape.allocator(), row, 1);
+        let at = from_last(*shape.allocator(), index.as_slice());
+        let first = position(shape, at.as_slice()) - 1;
+        let step = size(&shape.as_slice()[1..]);
+        array.extend_steps(items, first, step, count)
     }
 }

@@ -5,4 +5,4 @@ use Rattle.structural_fns.specs.Transpose.{transpose_form, transpose_item}
 use Rattle.structural_fns.proofs.transpose.Transpose.apply.Goals as goal
 
 pub returns : goal.returns
-returns c = subst (λ w. IsAnswerTo w c.apply.result) (whole_of_one transpose_form transpose_item c.args.args.now c.requires) c.apply.ensures
+returns c = subst (λ w. IsAnswerTo w c.apply_rows.result) (whole_of_one transpose_form transpose_item c.args.args.now c.requires) c.apply_rows.ensures

@@ -1,0 +1,114 @@
+-- Rows of a result whose items stand an even number of places apart in an argument.
+use Rattle.std.proofs.Common.{◌≡◌, ℕ, zero, suc, ◌+◌, ◌-◌, ◌*◌, ◌<◌, ◌≤◌, true, cond, List, [], ◌∷◌, ◌++◌, length, get_or, drop, reverse, Some, None, Result, Ok, refl, ap, ◌∙◌, arith}
+use Rattle.std.specs.Prelude.{unwrap_or}
+use Rattle.std.proofs.lemmas.Bool.{false≢true}
+use Rattle.std.proofs.lemmas.List.{length-reverse, reverse-append}
+use Rattle.arrays_core.specs.declared.item.Item.{Item}
+use Rattle.arrays_core.specs.declared.item.ItemType.{ItemType}
+use Rattle.arrays_core.specs.declared.item.Kind.{Kind}
+use Rattle.arrays_core.specs.Items.{fill}
+use Rattle.arrays_core.specs.Arrays.{ArrayValue, IsArray}
+use Rattle.arrays_core.specs.Building.{listed, with_row}
+use Rattle.arrays_core.specs.Shapes.{size, is_index_of, places_before, IsWithinLimits}
+use Rattle.arrays_core.proofs.Shapes.{places_below, head_of}
+use Rattle.arrays_core.proofs.Rows.{with_row_none, with_row_more}
+use Rattle.index_region.specs.Answers.{IsRowIn}
+use Rattle.index_region.specs.Sources.{Place, item_from}
+use Rattle.index_region.proofs.Passing.{row_inside, place_of_row}
+use Rattle.structural_fns.specs.Transpose.{transpose_form, transpose_item}
+use Rattle.structural_fns.proofs.SourcePlaces.{transpose_inside}
+
+pub one_argument : (args : List ArrayValue) (b : ArrayValue) → length args ≡ 1 → b ≡ get_or args 0 b → args ≡ b ∷ []
+one_argument [] b h e = absurd (omega arith)
+one_argument (x ∷ []) b h e = rw e refl
+one_argument (x ∷ y ∷ rest) b h e = absurd (omega arith)
+
+-- the item at a place of the left argument, or of the right one
+pub item_left : (a b : ArrayValue) (at : List ℕ) → is_index_of a.shape at ≡ true
+    → item_from a b a.item_type (Place 0 at) ≡ Ok (get_or a.items (places_before a.shape at) (fill a.item_type))
+item_left a b at h = ap (λ w. Ok (unwrap_or (cond w (Some (get_or a.items (places_before a.shape at) (fill a.item_type))) None) (fill a.item_type))) h
+
+pub item_right : (a b : ArrayValue) (at : List ℕ) → is_index_of b.shape at ≡ true
+    → item_from a b b.item_type (Place 1 at) ≡ Ok (get_or b.items (places_before b.shape at) (fill b.item_type))
+item_right a b at h = ap (λ w. Ok (unwrap_or (cond w (Some (get_or b.items (places_before b.shape at) (fill b.item_type))) None) (fill b.item_type))) h
+
+-- ---- a row whose items stand at these index lists of an array, an even number of places apart
+
+module _ (b : ArrayValue) (at : ℕ → List ℕ) (count step : ℕ)
+    (inside : (i : ℕ) → 1 ≤ i → i ≤ count → is_index_of b.shape (at i) ≡ true)
+    (stepped : (i : ℕ) → 1 ≤ i → i ≤ count → places_before b.shape (at i) ≡ places_before b.shape (at 1) + (i - 1) * step)
+    (first : ℕ) (begins : first ≡ places_before b.shape (at 1)) where
+  place_at : (j : ℕ) → j < count → places_before b.shape (at (0 + j + 1)) ≡ first + j * step
+  place_at j h =
+      let back : 0 + j + 1 - 1 ≡ j = omega arith in
+      let there = stepped (0 + j + 1) (omega arith) (omega arith) in
+      rw (back, ← begins) at there
+
+  pub steps_inside : IsArray b → (k : ℕ) → k < count → first + k * step < length b.items
+  steps_inside sound k h =
+      let below = places_below b.shape (at (0 + k + 1)) (inside (0 + k + 1) (omega arith) (omega arith)) in
+      omega (arith, place_at k h, sound.one_item_a_place)
+
+  pub steps_row : (items : List Item) (rule : ℕ → Result Item Kind)
+      → ((i : ℕ) → is_index_of b.shape (at i) ≡ true → rule i ≡ Ok (get_or b.items (places_before b.shape (at i)) (fill b.item_type)))
+      → with_row items rule count ≡ Ok (items ++ listed count (λ k. get_or b.items (first + k * step) (fill b.item_type)))
+  steps_row items rule given =
+      with_row_more items items rule (λ k. get_or b.items (first + k * step) (fill b.item_type)) 0 count count (omega arith)
+      (λ j h. given (0 + j + 1) (inside (0 + j + 1) (omega arith) (omega arith)) ∙ ap (λ k. Ok (get_or b.items k (fill b.item_type))) (place_at j h))
+      (with_row_none items rule)
+
+-- the last axis of a transposed array is the first one of the array
+pub record TransposedRow (b : ArrayValue) (row : List ℕ) (count : ℕ) : Type 0 where
+  pub axes : length b.shape ≡ length row + 1
+  pub inside : (i : ℕ) → 1 ≤ i → i ≤ count → is_index_of b.shape (reverse (row ++ i ∷ [])) ≡ true
+
+pub transposed_row : (b : ArrayValue) (row : List ℕ) (count : ℕ) (item_type : ItemType) → IsRowIn (transpose_form b) row count item_type → TransposedRow b row count
+transposed_row b row count item_type h =
+    let known = (row_inside (reverse b.shape) b.item_type row count item_type h).row_of in
+    let long = length-reverse b.shape in
+    record {
+      axes = omega (arith, known.long);
+      inside = λ i low high. transpose_inside b (row ++ i ∷ []) (place_of_row (transpose_form b) row count item_type i h low high);
+    }
+
+pub last_first : (row : List ℕ) (i : ℕ) → reverse (row ++ i ∷ []) ≡ i ∷ reverse row
+last_first row i = reverse-append row (i ∷ [])
+
+-- the places of a row
+pub place_stepped : (shape row : List ℕ) (i : ℕ) → length shape ≡ length row + 1 → 1 ≤ i
+    → places_before shape (reverse (row ++ i ∷ [])) ≡ places_before shape (reverse (row ++ 1 ∷ [])) + (i - 1) * size (drop 1 shape)
+place_stepped [] row i e low = absurd (omega arith)
+place_stepped (n ∷ shape) row i e low = rw (last_first row i, last_first row 1) (omega arith)
+
+-- an axis less
+pub fewer_axes : (shape index : List ℕ) → is_index_of shape index ≡ true → 0 < length shape → IsWithinLimits shape → IsWithinLimits (drop 1 shape)
+fewer_axes [] index h some w = absurd (omega arith)
+fewer_axes (n ∷ shape) [] h some w = absurd (false≢true h)
+fewer_axes (n ∷ shape) (i ∷ index) h some w =
+    let head = head_of n i shape index h in
+    let below = places_below shape index head.rest in
+    record {
+      rank = omega (arith, w.rank);
+      axes = λ k d there. w.axes (suc k) d (omega arith);
+      size_within = fewer n (omega (arith, head.low, head.high)) w.size_within;
+    }
+  where
+    fewer : (m : ℕ) → 0 < m → m * size shape ≤ 1048576 → size shape ≤ 1048576
+    fewer zero some within = absurd (omega arith)
+    fewer (suc m) some within = omega arith
+
+-- a row of what is transposed
+module _ (b : ArrayValue) (row : List ℕ) (count : ℕ) (item_type : ItemType) (h : IsRowIn (transpose_form b) row count item_type) (first : ℕ)
+    (begins : first ≡ places_before b.shape (reverse (row ++ 1 ∷ []))) where
+  abbrev axes : TransposedRow b row count
+  axes = transposed_row b row count item_type h
+
+  pub transposed_steps : IsArray b → (k : ℕ) → k < count → first + k * size (drop 1 b.shape) < length b.items
+  transposed_steps sound =
+      steps_inside b (λ i. reverse (row ++ i ∷ [])) count (size (drop 1 b.shape)) axes.inside (λ i low high. place_stepped b.shape row i axes.axes low) first begins sound
+
+  pub transposed_items : (items : List Item)
+      → with_row items (λ i. transpose_item b (row ++ i ∷ [])) count ≡ Ok (items ++ listed count (λ k. get_or b.items (first + k * size (drop 1 b.shape)) (fill b.item_type)))
+  transposed_items items =
+      steps_row b (λ i. reverse (row ++ i ∷ [])) count (size (drop 1 b.shape)) axes.inside (λ i low high. place_stepped b.shape row i axes.axes low) first begins items
+      (λ i. transpose_item b (row ++ i ∷ [])) (λ i there. item_left b b (reverse (row ++ i ∷ [])) there)
