@@ -1,7 +1,7 @@
 -- Rows of a result whose items stand an even number of places apart in an argument.
-use Rattle.std.proofs.Common.{◌≡◌, ℕ, zero, suc, ◌+◌, ◌-◌, ◌*◌, ◌<◌, ◌≤◌, true, cond, List, [], ◌∷◌, ◌++◌, length, get_or, drop, reverse, Some, None, Result, Ok, refl, ap, ◌∙◌, arith}
+use Rattle.std.proofs.Common.{◌≡◌, ℕ, zero, suc, ◌+◌, ◌-◌, ◌*◌, ◌<◌, ◌≤◌, true, cond, List, [], ◌∷◌, ◌++◌, length, get_or, drop, reverse, Some, None, Result, Ok, refl, ap, ◌∙◌, arith, min, nat_eq, Bool, false}
 use Rattle.std.specs.Prelude.{unwrap_or}
-use Rattle.std.proofs.lemmas.Bool.{false≢true}
+use Rattle.std.proofs.lemmas.Bool.{false≢true, eqb-true, eqb-false}
 use Rattle.std.proofs.lemmas.List.{length-reverse, reverse-append}
 use Rattle.arrays_core.specs.declared.item.Item.{Item}
 use Rattle.arrays_core.specs.declared.item.ItemType.{ItemType}
@@ -16,7 +16,8 @@ use Rattle.index_region.specs.Answers.{IsRowIn}
 use Rattle.index_region.specs.Sources.{Place, item_from}
 use Rattle.index_region.proofs.Passing.{row_inside, place_of_row}
 use Rattle.structural_fns.specs.Transpose.{transpose_form, transpose_item}
-use Rattle.structural_fns.proofs.SourcePlaces.{transpose_inside}
+use Rattle.structural_fns.specs.DyadicTranspose.{axes_to, gathered, transpose_by_form, transpose_by_item}
+use Rattle.structural_fns.proofs.SourcePlaces.{transpose_inside, gathered_inside}
 
 pub one_argument : (args : List ArrayValue) (b : ArrayValue) → length args ≡ 1 → b ≡ get_or args 0 b → args ≡ b ∷ []
 one_argument [] b h e = absurd (omega arith)
@@ -100,15 +101,94 @@ fewer_axes (n ∷ shape) (i ∷ index) h some w =
 -- a row of what is transposed
 module _ (b : ArrayValue) (row : List ℕ) (count : ℕ) (item_type : ItemType) (h : IsRowIn (transpose_form b) row count item_type) (first : ℕ)
     (begins : first ≡ places_before b.shape (reverse (row ++ 1 ∷ []))) where
-  abbrev axes : TransposedRow b row count
-  axes = transposed_row b row count item_type h
+  abbrev of_row : TransposedRow b row count
+  of_row = transposed_row b row count item_type h
 
   pub transposed_steps : IsArray b → (k : ℕ) → k < count → first + k * size (drop 1 b.shape) < length b.items
   transposed_steps sound =
-      steps_inside b (λ i. reverse (row ++ i ∷ [])) count (size (drop 1 b.shape)) axes.inside (λ i low high. place_stepped b.shape row i axes.axes low) first begins sound
+      steps_inside b (λ i. reverse (row ++ i ∷ [])) count (size (drop 1 b.shape)) of_row.inside (λ i low high. place_stepped b.shape row i of_row.axes low) first begins sound
 
   pub transposed_items : (items : List Item)
       → with_row items (λ i. transpose_item b (row ++ i ∷ [])) count ≡ Ok (items ++ listed count (λ k. get_or b.items (first + k * size (drop 1 b.shape)) (fill b.item_type)))
   transposed_items items =
-      steps_row b (λ i. reverse (row ++ i ∷ [])) count (size (drop 1 b.shape)) axes.inside (λ i low high. place_stepped b.shape row i axes.axes low) first begins items
+      steps_row b (λ i. reverse (row ++ i ∷ [])) count (size (drop 1 b.shape)) of_row.inside (λ i low high. place_stepped b.shape row i of_row.axes low) first begins items
       (λ i. transpose_item b (row ++ i ∷ [])) (λ i there. item_left b b (reverse (row ++ i ∷ [])) there)
+
+-- ---- dyadic transpose
+
+-- the last index of an index list, and those before it
+at_end : (xs : List ℕ) (x k : ℕ) → k ≡ length xs → get_or (xs ++ x ∷ []) k 0 ≡ x
+at_end [] x zero e = refl
+at_end [] x (suc k) e = absurd (omega arith)
+at_end (y ∷ xs) x zero e = absurd (omega arith)
+at_end (y ∷ xs) x (suc k) e = at_end xs x k (omega arith)
+
+before_end : (xs : List ℕ) (x y k : ℕ) → (k ≡ length xs → ⊥) → get_or (xs ++ x ∷ []) k 0 ≡ get_or (xs ++ y ∷ []) k 0
+before_end [] x y zero h = absurd (h refl)
+before_end [] x y (suc k) h = refl
+before_end (z ∷ xs) x y zero h = refl
+before_end (z ∷ xs) x y (suc k) h = before_end xs x y k (λ e. h (ap suc e))
+
+-- how many places apart the items stand along axis r, counted from 0: the strides of the axes that go there
+abbrev stride_to : List ℕ → List ℕ → ℕ → ℕ
+stride_to (n ∷ shape) (j ∷ axes) r = cond (nat_eq (j - 1) r) (size shape) 0 + stride_to shape axes r
+stride_to shape axes r = 0
+
+one_axis_more : (goes : Bool) (s p q t i x y : ℕ) → p ≡ q + (i - 1) * t → (goes ≡ true → (x ≡ i) × (y ≡ 1)) → (goes ≡ false → x ≡ y)
+    → (x - 1) * s + p ≡ (y - 1) * s + q + (i - 1) * (cond goes s 0 + t)
+one_axis_more true s p q t i x y e there else =
+    let both = there refl in
+    rw (both.0, both.1, e) (omega arith)
+one_axis_more false s p q t i x y e there else = let same = else refl in rw (same, e) (omega arith)
+
+gathered_steps : (shape axes row : List ℕ) (i : ℕ)
+    → places_before shape (gathered axes (row ++ i ∷ [])) ≡ places_before shape (gathered axes (row ++ 1 ∷ [])) + (i - 1) * stride_to shape axes (length row)
+gathered_steps [] axes row i = omega arith
+gathered_steps (n ∷ shape) [] row i = omega arith
+gathered_steps (n ∷ shape) (j ∷ axes) row i =
+    one_axis_more (nat_eq (j - 1) (length row)) (size shape) (places_before shape (gathered axes (row ++ i ∷ []))) (places_before shape (gathered axes (row ++ 1 ∷ [])))
+    (stride_to shape axes (length row)) i (get_or (row ++ i ∷ []) (j - 1) 0) (get_or (row ++ 1 ∷ []) (j - 1) 0) (gathered_steps shape axes row i)
+    (λ e. let same = eqb-true (j - 1) (length row) e in (at_end row i (j - 1) same, at_end row 1 (j - 1) same))
+    (λ e. before_end row i 1 (j - 1) (eqb-false (j - 1) (length row) e))
+
+-- the first two places of a row give its step
+pub first_before : (shape axes row : List ℕ) (i : ℕ) → places_before shape (gathered axes (row ++ 1 ∷ [])) ≤ places_before shape (gathered axes (row ++ i ∷ []))
+first_before shape axes row i = let there = gathered_steps shape axes row i in omega arith
+
+step_of_two : (first second stride m count i : ℕ) → 1 ≤ i → i ≤ count → m ≡ min count 2 → second ≡ first + (m - 1) * stride → (i - 1) * stride ≡ (i - 1) * (second - first)
+step_of_two first second stride m zero i low high e f = absurd (omega arith)
+step_of_two first second stride m (suc zero) i low high e f = let one : i ≡ 1 = omega arith in rw one (omega arith)
+step_of_two first second stride m (suc (suc count)) i low high e f =
+    let two : m ≡ 2 = omega arith in
+    let far : second ≡ first + (2 - 1) * stride = rw two at f in
+    let same : second - first ≡ stride = omega arith in
+    rw same refl
+
+pub place_by_two : (shape axes row : List ℕ) (count m i : ℕ) → m ≡ min count 2 → 1 ≤ i → i ≤ count
+    → places_before shape (gathered axes (row ++ i ∷ [])) ≡ places_before shape (gathered axes (row ++ 1 ∷ []))
+    + (i - 1) * (places_before shape (gathered axes (row ++ m ∷ [])) - places_before shape (gathered axes (row ++ 1 ∷ [])))
+place_by_two shape axes row count m i least low high =
+    gathered_steps shape axes row i
+    ∙ ap (λ s. places_before shape (gathered axes (row ++ 1 ∷ [])) + s)
+    (step_of_two (places_before shape (gathered axes (row ++ 1 ∷ []))) (places_before shape (gathered axes (row ++ m ∷ []))) (stride_to shape axes (length row)) m count i low high least
+    (gathered_steps shape axes row m))
+
+-- a row of what is transposed by axes
+module _ (a b : ArrayValue) (row : List ℕ) (count : ℕ) (item_type : ItemType) (h : IsRowIn (transpose_by_form a b) row count item_type) (first second m : ℕ) (least : m ≡ min count 2)
+    (begins : first ≡ places_before b.shape (gathered (axes_to a) (row ++ 1 ∷ []))) (goes_on : second ≡ places_before b.shape (gathered (axes_to a) (row ++ m ∷ []))) where
+  abbrev index_at : ℕ → List ℕ
+  index_at i = gathered (axes_to a) (row ++ i ∷ [])
+
+  inside_at : (i : ℕ) → 1 ≤ i → i ≤ count → is_index_of b.shape (index_at i) ≡ true
+  inside_at i low high = gathered_inside a b (row ++ i ∷ []) (place_of_row (transpose_by_form a b) row count item_type i h low high)
+
+  step_at : (i : ℕ) → 1 ≤ i → i ≤ count → places_before b.shape (index_at i) ≡ places_before b.shape (index_at 1) + (i - 1) * (second - first)
+  step_at i low high = rw (begins, goes_on) (place_by_two b.shape (axes_to a) row count m i least low high)
+
+  pub transposed_by_steps : IsArray b → (k : ℕ) → k < count → first + k * (second - first) < length b.items
+  transposed_by_steps sound = steps_inside b index_at count (second - first) inside_at step_at first begins sound
+
+  pub transposed_by_items : (items : List Item)
+      → with_row items (λ i. transpose_by_item a b (row ++ i ∷ [])) count ≡ Ok (items ++ listed count (λ k. get_or b.items (first + k * (second - first)) (fill b.item_type)))
+  transposed_by_items items =
+      steps_row b index_at count (second - first) inside_at step_at first begins items (λ i. transpose_by_item a b (row ++ i ∷ [])) (λ i there. item_right a b (index_at i) there)

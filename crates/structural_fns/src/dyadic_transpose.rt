@@ -1,9 +1,10 @@
 //! Dyadic transpose: each axis goes to the axis that is named for it.
 
-ghost use Rattle.std.specs.Prelude.{◌≡◌, ◌≤◌, ◌<◌, get_or, List, ℕ, Option, Some, None, IfOk, IfErr, Err, if◌then◌else◌, ◌∷◌, length};
+ghost use Rattle.std.specs.Prelude.{◌≡◌, ◌≤◌, ◌<◌, ◌++◌, [], get_or, List, ℕ, Option, Some, None, IfOk, IfErr, Err, if◌then◌else◌, ◌∷◌, length};
 ghost use Rattle.arrays_core.specs.Limits.{most_axes, most_places};
 ghost use Rattle.arrays_core.specs.declared.item.ItemType.{ItemType as AType};
-ghost use Rattle.arrays_core.specs.Arrays.{IsAnswerTo};
+ghost use Rattle.arrays_core.specs.Arrays.{IsAnswerTo, IsArray};
+ghost use Rattle.arrays_core.specs.Shapes.{places_before};
 ghost use Rattle.index_region.specs.ArgumentLists.{of_two_arguments};
 ghost use Rattle.index_region.specs.Arguments.{numbers};
 ghost use Rattle.index_region.specs.Answers.{IsPlaceOf, IsSourceIn, IsFormAnswerTo, source_value};
@@ -12,10 +13,12 @@ ghost use Rattle.structural_fns.specs.LeastLength.{least_with};
 ghost use Rattle.index_region.specs.Checks.{limited as limited_form};
 
 use crate::limits::MOST_AXES;
-use arrays_core::{ApplyFault, Array, Item, ItemType, Kind, Shape};
-use index_region::{Primitive, Seen, Source, apply, item_from, limited};
+use arrays_core::{
+    ApplyFault, Array, ArrayBuilder, Item, ItemType, Kind, Shape, index_in_row, position,
+};
+use index_region::{Primitive, RowPrimitive, Seen, Source, apply_rows, item_from, limited};
 use smallvec::SmallVec;
-use std::alloc::Global;
+use std::alloc::{AllocError, Global};
 
 /// No entry is below 1.
 fn all_positive(axes: &Seen) -> bool
@@ -154,12 +157,25 @@ impl DyadicTranspose {
         Source::Place { arg: 1, at }
     }
 
+    /// How many places of the array come before that of an item of a row.
+    fn place_in_row(self, axes: &Seen, array: &Seen, row: &[u32], index: u32) -> u32
+        requires rank { length row.now < most_axes }
+        requires place { IsPlaceOf (transpose_by_form axes.now array.now) (row.now ++ index ∷ []) }
+        ensures is { result ≡ places_before array.now.shape (index_gathered (axes_to axes.now) (row.now ++ index ∷ [])) }
+        ensures sound { IsArray array.now }
+    {
+        let shape = array.shape();
+        let index = index_in_row(*shape.allocator(), row, index);
+        let at = gathered(*shape.allocator(), axes, index.as_slice());
+        position(shape, at.as_slice()) - 1
+    }
+
     /// The array whose axes have gone to those that are named.
     pub fn apply(&self, alloc: Global, args: &[Seen]) -> Result<Array, ApplyFault>
         requires { length args.now ≡ 2 }
         ensures { IsAnswerTo (of_two_arguments transpose_by_whole args.now) result }
     {
-        apply(alloc, self, args)
+        apply_rows(alloc, self, args)
     }
 }
 
@@ -194,5 +210,23 @@ impl Primitive for DyadicTranspose {
         let array = &args[1];
         let source = self.source_of(axes, array, index);
         Ok(item_from(array, array, array.item_type(), source))
+    }
+}
+
+impl RowPrimitive for DyadicTranspose {
+    fn extend_row(
+        &self,
+        args: &[Seen],
+        row: &[u32],
+        count: u32,
+        items: &mut ArrayBuilder,
+    ) -> Result<(), AllocError> {
+        if count == 0 {
+            return Ok(());
+        }
+        let (axes, array) = (&args[0], &args[1]);
+        let first = self.place_in_row(axes, array, row, 1);
+        let second = self.place_in_row(axes, array, row, count.min(2));
+        array.extend_steps(items, first, second - first, count)
     }
 }

@@ -1,0 +1,22 @@
+use Rattle.std.proofs.Common.{◌≡◌, ◌+◌, ◌++◌, ◌∷◌, [], arith}
+use Rattle.arrays_core.specs.Shapes.{places_before}
+use Rattle.structural_fns.specs.DyadicTranspose.{axes_to, gathered}
+use Rattle.structural_fns.proofs.Entries.{entries_long}
+use Rattle.structural_fns.proofs.SourcePlaces.{gathered_inside}
+use Rattle.structural_fns.proofs.dyadic_transpose.DyadicTranspose.place_in_row.Goals as goal
+
+pub gathered-at-requires : goal.gathered-at-requires
+gathered-at-requires c =
+    let long = entries_long c.args.axes.now c.args.array.now (c.args.row.now ++ c.args.index ∷ []) c.requires.place in
+    omega (arith, long, c.shape-shape.ensures.sound.within.rank)
+
+pub position-requires-clause-in_range : goal.position-requires-clause-in_range
+position-requires-clause-in_range c =
+    rw (c.shape-shape.ensures.is, c.as_slice-2.ensures, c.gathered-at.ensures.is, c.as_slice.ensures, c.index_in_row-index.ensures.is)
+    (gathered_inside c.args.axes.now c.args.array.now (c.args.row.now ++ c.args.index ∷ []) c.requires.place)
+
+pub returns-clause-is : goal.returns-clause-is
+returns-clause-is c =
+    let place : c.position.result ≡ places_before c.args.array.now.shape (gathered (axes_to c.args.axes.now) (c.args.row.now ++ c.args.index ∷ [])) + 1 =
+    rw (c.shape-shape.ensures.is, c.as_slice-2.ensures, c.gathered-at.ensures.is, c.as_slice.ensures, c.index_in_row-index.ensures.is) at c.position.ensures.is in
+    omega (arith, place)

@@ -1,0 +1,40 @@
+use Rattle.std.proofs.Common.{◌≡◌, ℕ, ap, sym, subst, ◌∙◌, Ok, ◌++◌, ◌∷◌, []}
+use Rattle.std.proofs.lemmas.Result.{on_ok_weaker}
+use Rattle.arrays_core.specs.Building.{with_row}
+use Rattle.arrays_core.proofs.Rows.{with_row_none}
+use Rattle.index_region.specs.ArgumentLists.{of_two_arguments}
+use Rattle.index_region.proofs.Passing.{two_arguments}
+use Rattle.structural_fns.specs.DyadicTranspose.{axes_to, transpose_by_item}
+use Rattle.structural_fns.proofs.SteppedRows.{first_before, transposed_by_steps, transposed_by_items}
+use Rattle.structural_fns.proofs.dyadic_transpose.DyadicTransposeRowPrimitive.extend_row.Goals as goal
+
+pub returns-then-count-eq0-clause-items : goal.returns-then-count-eq0-clause-items
+returns-then-count-eq0-clause-items c =
+    let rule = λ (i : ℕ). of_two_arguments (λ a b. transpose_by_item a b (c.args.row.now ++ i ∷ [])) c.args.args.now in
+    subst (λ n. with_row c.args.items.now.items rule n ≡ Ok c.args.items.now.items) (sym c.if-count-eq0.true) (with_row_none c.args.items.now.items rule)
+
+pub overflow_sub-second : goal.overflow_sub-second
+overflow_sub-second c =
+    let a = c.index-args-0.result in
+    let b = c.index-args-1.result in
+    rw (c.place_in_row-first.ensures.is, c.place_in_row-second.ensures.is) (first_before b.shape (axes_to a) c.args.row.now c.min.result)
+
+pub extend_steps-requires-clause-inside : goal.extend_steps-requires-clause-inside
+extend_steps-requires-clause-inside c =
+    let a = c.index-args-0.result in
+    let b = c.index-args-1.result in
+    let two = two_arguments c.args.args.now a b c.requires.arguments c.index-args-0.is c.index-args-1.is in
+    transposed_by_steps a b c.args.row.now c.args.count c.args.items.now.item_type (rw two at c.requires.row) c.place_in_row-first.result c.place_in_row-second.result c.min.result c.min.ensures
+    c.place_in_row-first.ensures.is c.place_in_row-second.ensures.is c.place_in_row-first.ensures.sound
+
+pub returns-clause-items : goal.returns-clause-items
+returns-clause-items c =
+    let a = c.index-args-0.result in
+    let b = c.index-args-1.result in
+    let row = c.args.row.now in
+    let two = two_arguments c.args.args.now a b c.requires.arguments c.index-args-0.is c.index-args-1.is in
+    let made = transposed_by_items a b row c.args.count c.args.items.now.item_type (rw two at c.requires.row) c.place_in_row-first.result c.place_in_row-second.result c.min.result c.min.ensures
+    c.place_in_row-first.ensures.is c.place_in_row-second.ensures.is c.args.items.now.items in
+    on_ok_weaker c.extend_steps.result (λ e.
+    subst (λ xs. with_row c.args.items.now.items (λ i. of_two_arguments (λ x y. transpose_by_item x y (row ++ i ∷ [])) xs) c.args.count ≡ Ok c.extend_steps.new.items.items) (sym two)
+    (made ∙ ap (λ xs. Ok xs) (sym e))) c.extend_steps.ensures.items
