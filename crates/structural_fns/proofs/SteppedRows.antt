@@ -1,6 +1,7 @@
 -- Rows of a result whose items stand an even number of places apart in an argument.
-use Rattle.std.proofs.Common.{◌≡◌, ℕ, zero, suc, ◌+◌, ◌-◌, ◌*◌, ◌<◌, ◌≤◌, true, cond, List, [], ◌∷◌, ◌++◌, length, get_or, drop, reverse, Some, None, Result, Ok, refl, ap, ◌∙◌, arith, min, nat_eq, Bool, false}
+use Rattle.std.proofs.Common.{◌≡◌, ℕ, zero, suc, ◌+◌, ◌-◌, ◌*◌, ◌<◌, ◌≤◌, true, cond, List, [], ◌∷◌, ◌++◌, length, get_or, drop, reverse, Some, None, Result, Ok, refl, ap, ◌∙◌, arith, min, nat_eq, Bool, false, map}
 use Rattle.std.specs.Prelude.{unwrap_or}
+use Rattle.std.specs.List.{range_with_len}
 use Rattle.std.proofs.lemmas.Bool.{false≢true, eqb-true, eqb-false}
 use Rattle.std.proofs.lemmas.List.{length-reverse, reverse-append}
 use Rattle.arrays_core.specs.declared.item.Item.{Item}
@@ -23,6 +24,15 @@ pub one_argument : (args : List ArrayValue) (b : ArrayValue) → length args ≡
 one_argument [] b h e = absurd (omega arith)
 one_argument (x ∷ []) b h e = rw e refl
 one_argument (x ∷ y ∷ rest) b h e = absurd (omega arith)
+
+-- lists of the same values
+range_same : {A : Type 0} (f g : ℕ → A) (a n : ℕ) → ((i : ℕ) → a ≤ i → i < a + n → f i ≡ g i) → map f (range_with_len a n) ≡ map g (range_with_len a n)
+range_same f g a zero h = refl
+range_same f g a (suc n) h =
+    ap (λ x. x ∷ map f (range_with_len (a + 1) n)) (h a (omega arith) (omega arith)) ∙ ap (λ xs. g a ∷ xs) (range_same f g (a + 1) n (λ i low high. h i (omega arith) (omega arith)))
+
+pub listed_same : {A : Type 0} (n : ℕ) (f g : ℕ → A) → ((k : ℕ) → k < n → f k ≡ g k) → listed n f ≡ listed n g
+listed_same n f g h = range_same f g 0 n (λ i low high. h i (omega arith))
 
 -- the item at a place of the left argument, or of the right one
 pub item_left : (a b : ArrayValue) (at : List ℕ) → is_index_of a.shape at ≡ true
@@ -117,7 +127,7 @@ module _ (b : ArrayValue) (row : List ℕ) (count : ℕ) (item_type : ItemType) 
 -- ---- dyadic transpose
 
 -- the last index of an index list, and those before it
-at_end : (xs : List ℕ) (x k : ℕ) → k ≡ length xs → get_or (xs ++ x ∷ []) k 0 ≡ x
+pub at_end : (xs : List ℕ) (x k : ℕ) → k ≡ length xs → get_or (xs ++ x ∷ []) k 0 ≡ x
 at_end [] x zero e = refl
 at_end [] x (suc k) e = absurd (omega arith)
 at_end (y ∷ xs) x zero e = absurd (omega arith)
@@ -155,7 +165,7 @@ gathered_steps (n ∷ shape) (j ∷ axes) row i =
 pub first_before : (shape axes row : List ℕ) (i : ℕ) → places_before shape (gathered axes (row ++ 1 ∷ [])) ≤ places_before shape (gathered axes (row ++ i ∷ []))
 first_before shape axes row i = let there = gathered_steps shape axes row i in omega arith
 
-step_of_two : (first second stride m count i : ℕ) → 1 ≤ i → i ≤ count → m ≡ min count 2 → second ≡ first + (m - 1) * stride → (i - 1) * stride ≡ (i - 1) * (second - first)
+pub step_of_two : (first second stride m count i : ℕ) → 1 ≤ i → i ≤ count → m ≡ min count 2 → second ≡ first + (m - 1) * stride → (i - 1) * stride ≡ (i - 1) * (second - first)
 step_of_two first second stride m zero i low high e f = absurd (omega arith)
 step_of_two first second stride m (suc zero) i low high e f = let one : i ≡ 1 = omega arith in rw one (omega arith)
 step_of_two first second stride m (suc (suc count)) i low high e f =

@@ -1,5 +1,5 @@
 -- Catenate: two arrays after one another along an axis.
-use Rattle.std.specs.Prelude.{ℕ, suc, ◌+◌, ◌-◌, max, nat_eq, nat_le, Bool, not, ◌&&◌, ◌||◌, if◌then◌else◌, List, [], length, get_or, set, insert, remove, Result}
+use Rattle.std.specs.Prelude.{ℕ, suc, ◌+◌, ◌-◌, max, nat_eq, nat_le, Bool, not, ◌&&◌, ◌||◌, if◌then◌else◌, List, [], ◌∷◌, ◌++◌, length, get_or, set, insert, remove, Result}
 use Rattle.arrays_core.specs.declared.item.Item.{Item}
 use Rattle.arrays_core.specs.declared.item.ItemType.{ItemType}
 use Rattle.arrays_core.specs.declared.item.Kind.{Kind}
@@ -66,6 +66,12 @@ catenate_form along a b =
 abbrev pub in_side : ℕ → ℕ → ArrayValue → List ℕ → ℕ → List ℕ
 in_side rank axis a index i =
     if is_scalar a then [] else (if nat_eq (length a.shape) rank then set index axis i else remove index axis)
+
+-- a side's index list for place i of a row of the result, where so many places along the axis are the other side's
+abbrev pub in_side_of_row : ℕ → ℕ → ArrayValue → List ℕ → ℕ → List ℕ
+in_side_of_row axis skipped a row i =
+    let index = row ++ i ∷ [] in
+    in_side (length row + 1) axis a index (get_or index axis 0 - skipped)
 
 -- the first places along the axis are those of a
 abbrev pub catenate_source : Along → ArrayValue → ArrayValue → List ℕ → Source

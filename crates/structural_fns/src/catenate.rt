@@ -1,21 +1,24 @@
 //! Catenate: two arrays after one another along an axis.
 
-ghost use Rattle.std.specs.Prelude.{◌≡◌, ◌≤◌, ◌<◌, ◌+◌, ◌++◌, ◌↔◌, IfOk, Err, IfErr, IsTrue, Result, true, if◌then◌else◌, length, nat_eq, ◌&&◌};
+ghost use Rattle.std.specs.Prelude.{◌≡◌, ◌≤◌, ◌<◌, ◌+◌, ◌-◌, ◌^◌, ◌++◌, ◌∷◌, [], ◌↔◌, ℕ, IfOk, OnOk, Err, IfErr, IsTrue, Result, true, if◌then◌else◌, length, nat_eq, ◌&&◌};
 ghost use Rattle.arrays_core.specs.Limits.{most_axes, longest_axis};
 ghost use Rattle.arrays_core.specs.declared.item.Kind.{Kind as AKind};
-ghost use Rattle.arrays_core.specs.Arrays.{IsAnswerTo, IsArray};
-ghost use Rattle.arrays_core.specs.Shapes.{size, IsWithinLimits};
+ghost use Rattle.arrays_core.specs.Arrays.{IsAnswerTo, IsArray, item_of};
+ghost use Rattle.arrays_core.specs.Building.{listed};
+ghost use Rattle.arrays_core.specs.Shapes.{size, is_index_of, places_before, IsWithinLimits};
 ghost use Rattle.index_region.specs.Checks.{Form};
-ghost use Rattle.index_region.specs.Arguments.{is_scalar};
+ghost use Rattle.index_region.specs.Arguments.{is_scalar, has_items};
 ghost use Rattle.index_region.specs.Axes.{is_axis, axis_at};
 ghost use Rattle.index_region.specs.ArgumentLists.{of_two_arguments};
 ghost use Rattle.index_region.specs.Answers.{IsPlaceOf, IsSourceIn, source_value};
-ghost use Rattle.structural_fns.specs.Catenate.{joined_rank as rank_joined, joined_places as places_joined, other_axes as axes_other, ranks_join as do_ranks_join, axes_agree as do_axes_agree, types_join as do_types_join, joined_type as type_joined, joined_shape as shape_joined, sides_checked, in_side as index_in_side, catenate_form, catenate_source, catenate_item, catenate_whole};
+ghost use Rattle.structural_fns.specs.Catenate.{joined_rank as rank_joined, joined_places as places_joined, other_axes as axes_other, ranks_join as do_ranks_join, axes_agree as do_axes_agree, types_join as do_types_join, joined_type as type_joined, joined_shape as shape_joined, sides_checked, in_side as index_in_side, in_side_of_row, catenate_form, catenate_source, catenate_item, catenate_whole};
 
+use crate::even_steps::extend_evenly;
 use arrays_core::{
-    ApplyFault, Array, Item, ItemType, Kind, Shape, shape_of, with_axis, without_axis,
+    ApplyFault, Array, ArrayBuilder, Item, ItemType, Kind, Shape, index_in_row, position, shape_of,
+    with_axis, without_axis,
 };
-use index_region::{Along, Primitive, Seen, Source, apply, item_from, limited};
+use index_region::{Along, Primitive, RowPrimitive, Seen, Source, apply_rows, item_from, limited};
 use std::alloc::{AllocError, Global};
 
 /// The rank of the result: the greater one, and at least 1.
@@ -164,6 +167,48 @@ fn in_side(side: &Seen, rank: usize, axis: usize, index: &[u32], i: u32) -> Shap
     at
 }
 
+/// How many places of a side come before that of an item of a row.
+fn place_in_side(side: &Seen, axis: usize, skipped: u32, row: &[u32], i: u32) -> u32
+    requires rank { length row.now < most_axes }
+    requires axis { axis ≤ length row.now }
+    requires inside { IsTrue (is_index_of side.now.shape (in_side_of_row axis skipped side.now row.now i)) }
+    ensures is { result ≡ places_before side.now.shape (in_side_of_row axis skipped side.now row.now i) }
+    ensures sound { IsArray side.now }
+{
+    let shape = side.shape();
+    let index = index_in_row(*shape.allocator(), row, i);
+    let along = index[axis].saturating_sub(skipped);
+    let at = in_side(side, row.len() + 1, axis, index.as_slice(), along);
+    position(shape, at.as_slice()) - 1
+}
+
+/// Puts the items of a part of a row that comes from one side behind the others: `kept` places after `before` ones.
+fn extend_side(
+    side: &Seen,
+    axis: usize,
+    skipped: u32,
+    row: &[u32],
+    before: u32,
+    kept: u32,
+    items: &mut ArrayBuilder,
+) -> Result<(), AllocError>
+    requires rank { length row.now < most_axes }
+    requires axis { axis ≤ length row.now }
+    requires room { before + kept < 2 ^ 32 }
+    requires skipped { axis ≡ length row.now → skipped ≤ before }
+    requires inside { (i : ℕ) → before < i → i ≤ before + kept → IsTrue (is_index_of side.now.shape (in_side_of_row axis skipped side.now row.now i)) }
+    requires typed { has_items side.now ≡ true → side.now.item_type ≡ items.old.item_type }
+    ensures items { OnOk result (items.new.items ≡ items.old.items ++ listed kept (λ k. item_of side.now (in_side_of_row axis skipped side.now row.now (before + k + 1)))) }
+    ensures typed { items.new.item_type ≡ items.old.item_type }
+{
+    if kept == 0 {
+        return Ok(());
+    }
+    let first = place_in_side(side, axis, skipped, row, before + 1);
+    let second = place_in_side(side, axis, skipped, row, before + kept.min(2));
+    extend_evenly(side, first, second - first, kept, items)
+}
+
 /// A side is taken once, item by item in row-major order: no scalar is repeated over other axes.
 fn is_run(side: &Seen, rank: usize) -> bool
     ensures is { IsTrue result ↔ (is_scalar side.now ≡ true → rank ≡ 1) }
@@ -244,7 +289,7 @@ impl Catenate {
             let runs = joined_runs(left, right, &shape)?;
             return Ok(runs);
         }
-        apply(alloc, self, args)
+        apply_rows(alloc, self, args)
     }
 }
 
@@ -275,5 +320,29 @@ impl Primitive for Catenate {
         let right = &args[1];
         let source = self.source_of(left, right, index);
         Ok(item_from(left, right, joined_type(left, right), source))
+    }
+}
+
+impl RowPrimitive for Catenate {
+    fn extend_row(
+        &self,
+        args: &[Seen],
+        row: &[u32],
+        count: u32,
+        items: &mut ArrayBuilder,
+    ) -> Result<(), AllocError> {
+        let (left, right) = (&args[0], &args[1]);
+        let rank = joined_rank(left, right);
+        let axis = self.along.axis_at(rank as u32);
+        let places = joined_places(left, rank, axis);
+        if axis == row.len() {
+            extend_side(left, axis, 0, row, 0, places, items)?;
+            return extend_side(right, axis, places, row, places, count - places, items);
+        }
+        if row[axis] <= places {
+            extend_side(left, axis, 0, row, 0, count, items)
+        } else {
+            extend_side(right, axis, places, row, 0, count, items)
+        }
     }
 }

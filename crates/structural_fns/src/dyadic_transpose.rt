@@ -12,6 +12,7 @@ ghost use Rattle.structural_fns.specs.DyadicTranspose.{axes_to, greatest as grea
 ghost use Rattle.structural_fns.specs.LeastLength.{least_with};
 ghost use Rattle.index_region.specs.Checks.{limited as limited_form};
 
+use crate::even_steps::extend_evenly;
 use crate::limits::MOST_AXES;
 use arrays_core::{
     ApplyFault, Array, ArrayBuilder, Item, ItemType, Kind, Shape, index_in_row, position,
@@ -227,6 +228,6 @@ impl RowPrimitive for DyadicTranspose {
         let (axes, array) = (&args[0], &args[1]);
         let first = self.place_in_row(axes, array, row, 1);
         let second = self.place_in_row(axes, array, row, count.min(2));
-        array.extend_steps(items, first, second - first, count)
+        extend_evenly(array, first, second - first, count, items)
     }
 }

@@ -6,6 +6,7 @@ mod axis_counts;
 mod catenate;
 mod drop_places;
 mod dyadic_transpose;
+mod even_steps;
 mod limits;
 mod magnitudes;
 mod ravel;

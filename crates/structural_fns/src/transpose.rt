@@ -7,6 +7,7 @@ ghost use Rattle.index_region.specs.ArgumentLists.{of_one_argument};
 ghost use Rattle.index_region.specs.Answers.{IsPlaceOf, IsSourceIn, source_value};
 ghost use Rattle.structural_fns.specs.Transpose.{transpose_form, transpose_source, transpose_item, transpose_whole};
 
+use crate::even_steps::extend_evenly;
 use arrays_core::{
     ApplyFault, Array, ArrayBuilder, Item, ItemType, Kind, Shape, index_in_row, position, size,
 };
@@ -92,6 +93,6 @@ impl RowPrimitive for Transpose {
         let at = from_last(*shape.allocator(), index.as_slice());
         let first = position(shape, at.as_slice()) - 1;
         let step = size(&shape.as_slice()[1..]);
-        array.extend_steps(items, first, step, count)
+        extend_evenly(array, first, step, count, items)
     }
 }

@@ -37,4 +37,4 @@ returns-then-is_run-2 c =
     ∙ ap (λ w. Ok w) (sym c.in_ok-runs.ensures)
 
 pub returns : goal.returns
-returns c = subst (λ w. IsAnswerTo w c.apply.result) (whole_of_two (catenate_form c.args.self.now.along) (catenate_item c.args.self.now.along) c.args.args.now c.requires) c.apply.ensures
+returns c = subst (λ w. IsAnswerTo w c.apply_rows.result) (whole_of_two (catenate_form c.args.self.now.along) (catenate_item c.args.self.now.along) c.args.args.now c.requires) c.apply_rows.ensures

@@ -19,8 +19,8 @@ overflow_sub-second c =
     let b = c.index-args-1.result in
     rw (c.place_in_row-first.ensures.is, c.place_in_row-second.ensures.is) (first_before b.shape (axes_to a) c.args.row.now c.min.result)
 
-pub extend_steps-requires-clause-inside : goal.extend_steps-requires-clause-inside
-extend_steps-requires-clause-inside c =
+pub extend_evenly-requires-clause-inside : goal.extend_evenly-requires-clause-inside
+extend_evenly-requires-clause-inside c =
     let a = c.index-args-0.result in
     let b = c.index-args-1.result in
     let two = two_arguments c.args.args.now a b c.requires.arguments c.index-args-0.is c.index-args-1.is in
@@ -35,6 +35,6 @@ returns-clause-items c =
     let two = two_arguments c.args.args.now a b c.requires.arguments c.index-args-0.is c.index-args-1.is in
     let made = transposed_by_items a b row c.args.count c.args.items.now.item_type (rw two at c.requires.row) c.place_in_row-first.result c.place_in_row-second.result c.min.result c.min.ensures
     c.place_in_row-first.ensures.is c.place_in_row-second.ensures.is c.args.items.now.items in
-    on_ok_weaker c.extend_steps.result (λ e.
-    subst (λ xs. with_row c.args.items.now.items (λ i. of_two_arguments (λ x y. transpose_by_item x y (row ++ i ∷ [])) xs) c.args.count ≡ Ok c.extend_steps.new.items.items) (sym two)
-    (made ∙ ap (λ xs. Ok xs) (sym e))) c.extend_steps.ensures.items
+    on_ok_weaker c.extend_evenly.result (λ e.
+    subst (λ xs. with_row c.args.items.now.items (λ i. of_two_arguments (λ x y. transpose_by_item x y (row ++ i ∷ [])) xs) c.args.count ≡ Ok c.extend_evenly.new.items.items) (sym two)
+    (made ∙ ap (λ xs. Ok xs) (sym e))) c.extend_evenly.ensures.items

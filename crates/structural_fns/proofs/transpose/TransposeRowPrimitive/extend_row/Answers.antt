@@ -35,8 +35,8 @@ size-step-requires c =
     let shape : c.as_slice-3.result.now ≡ b.shape = c.as_slice-3.ensures ∙ c.shape-shape.ensures.is in
     rw (from_second, shape) (fewer_axes b.shape (reverse (c.args.row.now ++ 1 ∷ [])) (axes.inside 1 (omega arith) (omega arith)) (omega (arith, axes.axes)) c.shape-shape.ensures.sound.within)
 
-pub extend_steps-requires-clause-inside : goal.extend_steps-requires-clause-inside
-extend_steps-requires-clause-inside c =
+pub extend_evenly-requires-clause-inside : goal.extend_evenly-requires-clause-inside
+extend_evenly-requires-clause-inside c =
     let b = c.index-args-0.result in
     let row = c.args.row.now in
     let one = one_argument c.args.args.now b c.requires.arguments c.index-args-0.is in
@@ -56,6 +56,6 @@ returns-clause-items c =
     let place : c.position-first.result ≡ places_before b.shape (reverse (row ++ 1 ∷ [])) + 1 =
     rw (c.shape-shape.ensures.is, c.as_slice-2.ensures, c.from_last-at.ensures.is, c.as_slice.ensures, c.index_in_row-index.ensures.is) at c.position-first.ensures.is in
     let made = transposed_items b row c.args.count c.args.items.now.item_type (rw one at c.requires.row) (c.position-first.result - 1) (omega (arith, place)) c.args.items.now.items in
-    on_ok_weaker c.extend_steps.result (λ e.
-    subst (λ xs. with_row c.args.items.now.items (λ i. of_one_argument (λ x. transpose_item x (row ++ i ∷ [])) xs) c.args.count ≡ Ok c.extend_steps.new.items.items) (sym one)
-    (made ∙ ap (λ m. Ok (c.args.items.now.items ++ listed c.args.count (λ k. get_or b.items (c.position-first.result - 1 + k * m) (fill b.item_type)))) (sym step) ∙ ap (λ xs. Ok xs) (sym e))) c.extend_steps.ensures.items
+    on_ok_weaker c.extend_evenly.result (λ e.
+    subst (λ xs. with_row c.args.items.now.items (λ i. of_one_argument (λ x. transpose_item x (row ++ i ∷ [])) xs) c.args.count ≡ Ok c.extend_evenly.new.items.items) (sym one)
+    (made ∙ ap (λ m. Ok (c.args.items.now.items ++ listed c.args.count (λ k. get_or b.items (c.position-first.result - 1 + k * m) (fill b.item_type)))) (sym step) ∙ ap (λ xs. Ok xs) (sym e))) c.extend_evenly.ensures.items

@@ -1,0 +1,34 @@
+//! Rows whose items stand an even number of places apart in an array.
+
+ghost use Rattle.std.specs.Prelude.{◌≡◌, ◌<◌, ◌+◌, ◌*◌, ◌++◌, ℕ, OnOk, length, get_or};
+ghost use Rattle.arrays_core.specs.Building.{listed};
+ghost use Rattle.arrays_core.specs.Items.{fill};
+
+use arrays_core::ArrayBuilder;
+use index_region::Seen;
+use std::alloc::AllocError;
+
+/// Puts the items that stand `step` places apart behind the others, from the place `first` on: one item again and
+/// again where the step is 0, a run where it is 1. Places are counted from 0.
+pub fn extend_evenly(
+    array: &Seen,
+    first: u32,
+    step: u32,
+    count: u32,
+    items: &mut ArrayBuilder,
+) -> Result<(), AllocError>
+    requires some { 0 < count }
+    requires typed { array.now.item_type ≡ items.old.item_type }
+    requires inside { (k : ℕ) → k < count → first + k * step < length array.now.items }
+    ensures items { OnOk result (items.new.items ≡ items.old.items ++ listed count (λ k. get_or array.now.items (first + k * step) (fill array.now.item_type))) }
+    ensures typed { items.new.item_type ≡ items.old.item_type }
+{
+    let _sound = array.places();
+    if step == 0 {
+        return items.extend_with(array.item(first + 1), count);
+    }
+    if step == 1 {
+        return array.extend_run(items, first, count);
+    }
+    array.extend_steps(items, first, step, count)
+}
