@@ -1,10 +1,11 @@
 -- Items that are put behind others.
-use Rattle.std.proofs.Common.{◌≡◌, ℕ, zero, suc, ◌+◌, ◌≤◌, List, [], ◌∷◌, ◌++◌, length, map, get_or, take, drop, replicate, refl, ap, sym, ◌∙◌, arith, append_assoc, length-drop, Result, Ok, Err}
+use Rattle.std.proofs.Common.{◌≡◌, ℕ, zero, suc, ◌+◌, ◌*◌, ◌/◌, ◌%◌, ◌<◌, ◌≤◌, List, [], ◌∷◌, ◌++◌, length, map, get_or, take, drop, replicate, refl, ap, sym, ◌∙◌, arith, append_assoc, length-drop, Result, Ok, Err}
 use Rattle.std.specs.List.{range_with_len}
 use Rattle.std.specs.Result.{is_ok}
 use Rattle.std.specs.Prelude.{OnOk, if◌then◌else◌}
-use Rattle.std.proofs.lemmas.List.{get_or-take, get_or-drop, length-take, map-append}
-use Rattle.std.proofs.lemmas.List.FromFn.{fill_by_all, map-range_with_len_more}
+use Rattle.std.proofs.lemmas.List.{get_or-take, get_or-drop, length-take, length-map, map-append}
+use Rattle.std.proofs.lemmas.List.FromFn.{fill_by_all, map-range_with_len_more, take-map-range_with_len}
+use Rattle.std.proofs.Math.Nat.{div-add-mod, add-mul-mod_self_left, mod-eq_of_lt}
 use Rattle.std.proofs.Math.ListN.{get_or-map}
 use Rattle.arrays_core.specs.Building.{listed}
 
@@ -65,3 +66,55 @@ put_picked F (Ok t) r' now before xs after was items n place d y put e f g i h =
     rw (e, i, h) (f ∙ ap (λ zs. map F zs) (put d) ∙ map-append F before _ ∙ ap (λ zs. map F before ++ zs) (picked_listed_from F xs place d 0 n)
     ∙ ap (λ zs. zs ++ listed n (λ k. get_or (map F xs) (place k) (F d))) (sym g))
 put_picked F (Err t) r' now before xs after was items n place d y put e f g i h = rw e tt
+
+-- ---- items again and again
+
+range_more : {A : Type 0} (f : ℕ → A) (a k n : ℕ) → map f (range_with_len a (k + n)) ≡ map f (range_with_len a k) ++ map f (range_with_len (a + k) n)
+range_more f a zero n =
+    let same : zero + n ≡ n = omega arith in
+    let there : a + zero ≡ a = omega arith in
+    rw (same, there) refl
+range_more f a (suc k) n =
+    let same : suc k + n ≡ suc (k + n) = omega arith in
+    let there : a + suc k ≡ a + 1 + k = omega arith in
+    rw (same, there) (ap (λ xs. f a ∷ xs) (range_more f (a + 1) k n))
+
+range_shifted : {A : Type 0} (f : ℕ → A) (a b n : ℕ) → ((k : ℕ) → k < n → f (a + k) ≡ f (b + k)) → map f (range_with_len a n) ≡ map f (range_with_len b n)
+range_shifted f a b zero h = refl
+range_shifted f a b (suc n) h =
+    let first : f a ≡ f b = ap f (let e : a ≡ a + 0 = omega arith in e) ∙ h 0 (omega arith) ∙ ap f (let e : b + 0 ≡ b = omega arith in e) in
+    ap (λ x. x ∷ map f (range_with_len (a + 1) n)) first
+    ∙ ap (λ xs. f b ∷ xs) (range_shifted f (a + 1) (b + 1) n (λ k below.
+    ap f (let e : a + 1 + k ≡ a + (k + 1) = omega arith in e) ∙ h (k + 1) (omega arith) ∙ ap f (let e : b + (k + 1) ≡ b + 1 + k = omega arith in e)))
+
+round_again : (n l k : ℕ) → l % n ≡ 0 → (l + k) % n ≡ (0 + k) % n
+round_again n l k e =
+    let whole : l ≡ n * (l / n) = let parts = div-add-mod l n in omega arith in
+    let there : l + k ≡ k + n * (l / n) = omega arith in
+    ap (λ m. m % n) there ∙ add-mul-mod_self_left k n (l / n) ∙ ap (λ m. m % n) (omega arith)
+
+-- the first of them behind all, where these are whole rounds
+pub again_listed : {A : Type 0} (xs old : List A) (d : A) (n m l total : ℕ) → length xs ≡ l → total ≡ l + m → m ≤ l → l % n ≡ 0
+    → xs ≡ listed l (λ k. get_or old (k % n) d) → xs ++ take m (drop 0 xs) ≡ listed total (λ k. get_or old (k % n) d)
+again_listed xs old d n m l total long whole few round made =
+    ap (λ ys. ys ++ take m ys) made
+    ∙ ap (λ ys. listed l (λ k. get_or old (k % n) d) ++ ys) (take-map-range_with_len (λ k. get_or old (k % n) d) 0 l m few)
+    ∙ ap (λ ys. listed l (λ k. get_or old (k % n) d) ++ ys) (range_shifted (λ k. get_or old (k % n) d) 0 (0 + l) m (λ k below.
+    ap (λ j. get_or old j d) (sym (round_again n l k round) ∙ ap (λ j. j % n) (omega arith))))
+    ∙ sym (range_more (λ k. get_or old (k % n) d) 0 l m) ∙ ap (λ j. listed j (λ k. get_or old (k % n) d)) (sym whole)
+
+-- one round is the list itself
+pub first_round : {A : Type 0} (old : List A) (d : A) → old ≡ listed (length old) (λ k. get_or old (k % length old) d)
+first_round old d =
+    fill_by_all (λ k. get_or old (k % length old) d) old (length old) d refl (λ k below. ap (λ j. get_or old j d) (sym (mod-eq_of_lt below)))
+
+pub two_rounds : (l n : ℕ) → l % n ≡ 0 → (l + l) % n ≡ 0
+two_rounds l n e = round_again n l l e ∙ ap (λ m. m % n) (omega arith) ∙ e
+
+pub put_again : {A B T E : Type 0} (F : A → B) (r r' : Result T E) (now xs : List A) (after items : List B) (n : ℕ) (d : A) (y : B)
+    → OnOk r ((x : A) → now ≡ listed n (λ k. get_or xs (k % length xs) x)) → r' ≡ r → after ≡ map F now → items ≡ map F xs → y ≡ F d
+    → OnOk r' (after ≡ listed n (λ k. get_or items (k % length items) y))
+put_again F (Ok t) r' now xs after items n d y put e f i h =
+    rw (e, i, h) (f ∙ ap (λ zs. map F zs) (put d) ∙ picked_listed_from F xs (λ k. k % length xs) d 0 n
+    ∙ ap (λ m. listed n (λ k. get_or (map F xs) (k % m) (F d))) (sym (length-map xs F)))
+put_again F (Err t) r' now xs after items n d y put e f i h = rw e tt

@@ -1,6 +1,6 @@
 //! Arrays that are built from their first item on.
 
-ghost use Rattle.std.specs.Prelude.{◌≡◌, ◌≤◌, ◌<◌, ◌+◌, ◌-◌, ◌*◌, ◌++◌, ◌∷◌, [], ℕ, IfOk, OnOk, length, get_or};
+ghost use Rattle.std.specs.Prelude.{◌≡◌, ◌≤◌, ◌<◌, ◌+◌, ◌-◌, ◌*◌, ◌%◌, ◌++◌, ◌∷◌, [], ℕ, pos, unsigned_abs, IfOk, OnOk, length, get_or};
 ghost use Rattle.arrays_core.specs.Building.{listed};
 ghost use Rattle.arrays_core.specs.Items.{fill, type_of};
 ghost use Rattle.arrays_core.specs.Shapes.{size as size_of, IsWithinLimits};
@@ -63,6 +63,37 @@ fn extend_steps<T: Copy + Drop>(
     items.reserve(count)?;
     for k in 0..count {
         items.push_reserved(from[first + k * step]);
+    }
+    Ok(())
+}
+
+/// Puts the items at indices behind the others: index 1 stands after `before` items.
+fn extend_at<T: Copy + Drop>(
+    items: &mut Vec<T>,
+    from: &[T],
+    before: usize,
+    indices: &[i64],
+) -> Result<(), AllocError>
+    requires low { (k : ℕ) → k < length indices.now → 1 ≤ unsigned_abs (get_or indices.now k (pos 0)) }
+    requires high { (k : ℕ) → k < length indices.now → before + unsigned_abs (get_or indices.now k (pos 0)) ≤ length from.now }
+    ensures { OnOk result ((d : T) → items.new.items ≡ items.old.items ++ listed (length indices.now) (λ k. get_or from.now (before + unsigned_abs (get_or indices.now k (pos 0)) - 1) d)) }
+{
+    items.reserve(indices.len())?;
+    for k in 0..indices.len() {
+        items.push_reserved(from[before + indices[k].unsigned_abs() as usize - 1]);
+    }
+    Ok(())
+}
+
+/// Puts the items behind themselves, again and again, until there are so many.
+fn repeat_to<T: Copy + Drop>(items: &mut Vec<T>, places: usize) -> Result<(), AllocError>
+    requires some { 0 < length items.old.items }
+    requires more { length items.old.items ≤ places }
+    ensures { OnOk result ((d : T) → items.new.items ≡ listed places (λ k. get_or items.old.items (k % length items.old.items) d)) }
+{
+    while items.len() < places {
+        let more = items.len().min(places - items.len());
+        items.extend_from_within(..more)?;
     }
     Ok(())
 }
@@ -180,6 +211,45 @@ impl ArrayBuilder {
                 Some(from) => extend_steps(items, from, first, step, count),
                 None => unreachable!(),
             },
+        }
+    }
+
+    /// Puts items of an array of the same type behind the others: those at indices, each counted from 1, where index 1
+    /// stands after `before` places.
+    pub fn extend_at(
+        &mut self,
+        array: &Array,
+        before: u32,
+        indices: &[i64],
+    ) -> Result<(), AllocError>
+        requires typed { array.now.item_type ≡ self.old.item_type }
+        requires low { (k : ℕ) → k < length indices.now → 1 ≤ unsigned_abs (get_or indices.now k (pos 0)) }
+        requires high { (k : ℕ) → k < length indices.now → before + unsigned_abs (get_or indices.now k (pos 0)) ≤ length array.now.items }
+        ensures items { OnOk result (self.new.items ≡ self.old.items ++ listed (length indices.now) (λ k. get_or array.now.items (before + unsigned_abs (get_or indices.now k (pos 0)) - 1) (fill array.now.item_type))) }
+        ensures typed { self.new.item_type ≡ self.old.item_type }
+    {
+        match &mut self.ravel {
+            Ravel::Nums(items) => match array.numbers() {
+                Some(from) => extend_at(items, from, before as usize, indices),
+                None => unreachable!(),
+            },
+            Ravel::Chars(items) => match array.characters() {
+                Some(from) => extend_at(items, from, before as usize, indices),
+                None => unreachable!(),
+            },
+        }
+    }
+
+    /// Puts the items behind themselves, again and again, until there are so many.
+    pub fn repeat_to(&mut self, places: u32) -> Result<(), AllocError>
+        requires some { 0 < length self.old.items }
+        requires more { length self.old.items ≤ places }
+        ensures items { OnOk result (self.new.items ≡ listed places (λ k. get_or self.old.items (k % length self.old.items) (fill self.old.item_type))) }
+        ensures typed { self.new.item_type ≡ self.old.item_type }
+    {
+        match &mut self.ravel {
+            Ravel::Nums(items) => repeat_to(items, places as usize),
+            Ravel::Chars(items) => repeat_to(items, places as usize),
         }
     }
 
