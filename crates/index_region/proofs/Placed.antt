@@ -1,8 +1,6 @@
 -- Items that come from places.
-use Rattle.std.proofs.Common.{◌≡◌, ℕ, true, cond, List, get_or, Some, None, Ok, Result, ap}
+use Rattle.std.proofs.Common.{◌≡◌, ℕ, true, cond, List, get_or, Some, None, Ok, ap}
 use Rattle.std.specs.Prelude.{unwrap_or}
-use Rattle.arrays_core.specs.declared.item.Item.{Item}
-use Rattle.arrays_core.specs.declared.item.Kind.{Kind}
 use Rattle.arrays_core.specs.Arrays.{ArrayValue}
 use Rattle.arrays_core.specs.Items.{fill}
 use Rattle.arrays_core.specs.Shapes.{is_index_of, places_before}

@@ -1,6 +1,6 @@
 //! Runs of items of an array as it is seen.
 
-ghost use Rattle.std.specs.Prelude.{◌≡◌, ◌≤◌, ◌<◌, ◌+◌, ◌-◌, ◌*◌, ◌++◌, ℕ, OnOk, length, get_or};
+ghost use Rattle.std.specs.Prelude.{◌≡◌, ◌≤◌, ◌<◌, ◌+◌, ◌-◌, ◌*◌, ◌++◌, ℕ, pos, unsigned_abs, OnOk, length, get_or};
 ghost use Rattle.arrays_core.specs.Building.{listed};
 ghost use Rattle.arrays_core.specs.Items.{fill};
 
@@ -44,6 +44,26 @@ fn push_back(
     let _sound = array.places();
     for k in 0..count {
         items.push(array.item(last - k + 1))?;
+    }
+    Ok(())
+}
+
+/// Puts the items at indices behind the others, one by one; index 1 stands after `before` places.
+fn push_at(
+    array: &Seen,
+    items: &mut ArrayBuilder,
+    before: u32,
+    indices: &[i64],
+) -> Result<(), AllocError>
+    requires typed { array.now.item_type ≡ items.old.item_type }
+    requires low { (k : ℕ) → k < length indices.now → 1 ≤ unsigned_abs (get_or indices.now k (pos 0)) }
+    requires high { (k : ℕ) → k < length indices.now → before + unsigned_abs (get_or indices.now k (pos 0)) ≤ length array.now.items }
+    ensures items { OnOk result (items.new.items ≡ items.old.items ++ listed (length indices.now) (λ k. get_or array.now.items (before + unsigned_abs (get_or indices.now k (pos 0)) - 1) (fill array.now.item_type))) }
+    ensures typed { items.new.item_type ≡ items.old.item_type }
+{
+    let _sound = array.places();
+    for k in 0..indices.len() {
+        items.push(array.item(before + indices[k].unsigned_abs() as u32))?;
     }
     Ok(())
 }
@@ -104,6 +124,25 @@ impl<'a> Seen<'a> {
         match self.array() {
             Some(array) => items.extend_steps(array, first, step, count),
             None => push_steps(self, items, first, step, count),
+        }
+    }
+    /// Puts items behind others of their type: those at indices, each counted from 1, where index 1 stands after `before`
+    /// places.
+    pub fn extend_at(
+        &self,
+        items: &mut ArrayBuilder,
+        before: u32,
+        indices: &[i64],
+    ) -> Result<(), AllocError>
+        requires typed { self.now.item_type ≡ items.old.item_type }
+        requires low { (k : ℕ) → k < length indices.now → 1 ≤ unsigned_abs (get_or indices.now k (pos 0)) }
+        requires high { (k : ℕ) → k < length indices.now → before + unsigned_abs (get_or indices.now k (pos 0)) ≤ length self.now.items }
+        ensures items { OnOk result (items.new.items ≡ items.old.items ++ listed (length indices.now) (λ k. get_or self.now.items (before + unsigned_abs (get_or indices.now k (pos 0)) - 1) (fill self.now.item_type))) }
+        ensures typed { items.new.item_type ≡ items.old.item_type }
+    {
+        match self.array() {
+            Some(array) => items.extend_at(array, before, indices),
+            None => push_at(self, items, before, indices),
         }
     }
 }
