@@ -1,22 +1,28 @@
 -- Results whose items are a run of those of an argument.
-use Rattle.std.proofs.Common.{◌≡◌, ℕ, ◌+◌, ◌-◌, ◌/◌, ◌%◌, ◌<◌, ◌≤◌, List, [], ◌∷◌, map, take, drop, length, get_or, Some, Result, Ok, Bool, true, false, cond, refl, sym, ap, subst, ◌∙◌, arith}
+use Rattle.std.proofs.Common.{◌≡◌, ℕ, ◌+◌, ◌-◌, ◌/◌, ◌%◌, ◌<◌, ◌≤◌, List, [], ◌∷◌, ◌++◌, take, drop, length, get_or, Some, Result, Ok, Bool, true, false, cond, refl, sym, ap, subst, ◌∙◌, arith}
 use Rattle.std.specs.Prelude.{unwrap_or, not, nat_eq, ◌&&◌}
+use Rattle.std.proofs.lemmas.Bool.{eqb-true, eqb-false}
 use Rattle.std.proofs.lemmas.Bool.Decides.{nat_tests}
+use Rattle.std.proofs.lemmas.Nat.{mod_below}
+use Rattle.std.proofs.lemmas.List.FromFn.{fill_by_all, length-map-range_with_len, get_or-map-range_with_len}
+use Rattle.std.proofs.Math.ListN.{get_or-eq_default}
 use Rattle.std.proofs.Math.Nat.{div-one, mod-eq_of_lt}
 use Rattle.std.proofs.lemmas.List.{length-take-le, length-drop, get_or-take, get_or-drop}
 use Rattle.arrays_core.specs.declared.item.Item.{Item}
 use Rattle.arrays_core.specs.declared.item.ItemType.{ItemType}
 use Rattle.arrays_core.specs.declared.item.Kind.{Kind}
 use Rattle.arrays_core.specs.declared.item.Kind.TheVariants.{Rank, Domain}
-use Rattle.arrays_core.specs.Items.{fill, all_or_first_error}
-use Rattle.arrays_core.specs.Shapes.{size, indices, index_after, places_before}
+use Rattle.arrays_core.specs.Items.{fill}
+use Rattle.arrays_core.specs.Building.{listed}
+use Rattle.arrays_core.specs.Shapes.{size, index_after, places_before}
 use Rattle.arrays_core.specs.Arrays.{ArrayValue, item_if_there, collect, with_items}
 use Rattle.index_region.specs.Checks.{form_of, Form, limited, and_then}
-use Rattle.index_region.specs.Arguments.{is_list, has_items, counts_as_numbers, none_negative, numbers}
+use Rattle.index_region.specs.Arguments.{is_list, counts_as_numbers, none_negative, numbers}
 use Rattle.index_region.specs.ArgumentLists.{of_one_argument, of_two_arguments}
 use Rattle.index_region.specs.Sources.{Place, Fill, item_from}
-use Rattle.structural_fns.specs.Reshape.{magnitudes, reshape_form, reshape_source, reshape_item, reshape_whole}
+use Rattle.structural_fns.specs.Reshape.{magnitudes, again_under, reshape_form, reshape_item, reshape_whole}
 use Rattle.structural_fns.specs.Ravel.{ravel_item, ravel_whole}
+use Rattle.structural_fns.proofs.SteppedRows.{listed_same}
 use Rattle.index_region.proofs.Passing.{gives, limited_gives}
 use Rattle.arrays_core.proofs.Order.{given_in_order, index_after-within, places_before-index_after}
 
@@ -127,39 +133,59 @@ reshape_answer (a ∷ c ∷ []) b v shape item_type two same passed as_many few 
     ap (λ x. reshape_whole a x) (sym same) ∙ reshaped a b as_many fits form
     ∙ ap (λ xs. Ok (record { item_type = b.item_type; shape = xs; items = take (size xs) (drop 0 b.items) })) (sym shaped) ∙ ap (λ w. Ok w) (sym made)
 
-pub reshape_typed : (args : List ArrayValue) (b : ArrayValue) (shape : List ℕ) (item_type : ItemType)
-    → length args ≡ 2 → b ≡ get_or args 1 b → of_two_arguments reshape_form args ≡ Ok (form_of shape item_type) → item_type ≡ b.item_type
-reshape_typed [] b shape item_type two same form = absurd (omega arith)
-reshape_typed (a ∷ []) b shape item_type two same form = absurd (omega arith)
-reshape_typed (a ∷ c ∷ d ∷ args) b shape item_type two same form = absurd (omega arith)
-reshape_typed (a ∷ c ∷ []) b shape item_type two same form =
-    (reshape_passed a c shape item_type form).typed ∙ ap (λ (x : ArrayValue). x.item_type) (sym same)
+-- ---- reshape, where items are needed again
 
--- the items come from b alone, whatever the left argument is
-from_right : (a b : ArrayValue) (item_type : ItemType) (shape index : List ℕ)
-    → item_from b b item_type (reshape_source shape b index) ≡ item_from a b item_type (reshape_source shape b index)
-from_right a b item_type shape index = decide (has_items b)
-  where
-    decide : (some : Bool) → item_from b b item_type (cond some (Place 1 (index_after b.shape (places_before shape index % size b.shape))) Fill)
-        ≡ item_from a b item_type (cond some (Place 1 (index_after b.shape (places_before shape index % size b.shape))) Fill)
-    decide true = refl
-    decide false = refl
+module _ (a b : ArrayValue) (as_many : length b.items ≡ size b.shape) where
+  abbrev again : ℕ → Item
+  again k = get_or b.items (k % length b.items) (fill b.item_type)
 
-same_rules : {A : Type 0} (rule other : List ℕ → A) (xs : List (List ℕ)) → ((x : List ℕ) → rule x ≡ other x) → map rule xs ≡ map other xs
-same_rules rule other [] h = refl
-same_rules rule other (x ∷ xs) h = ap (λ y. y ∷ map rule xs) (h x) ∙ ap (λ ys. other x ∷ ys) (same_rules rule other xs h)
+  item_again : (k : ℕ) → k < size (magnitudes a) → reshape_item a b (index_after (magnitudes a) k) ≡ Ok (again k)
+  item_again k h = decide (nat_eq (length b.items) 0) refl
+    where
+      decide : (none : Bool) → nat_eq (length b.items) 0 ≡ none → reshape_item a b (index_after (magnitudes a) k) ≡ Ok (again k)
+      decide true e =
+          let none = eqb-true (length b.items) 0 e in
+          ap (λ w. item_from a b b.item_type (cond (not w) (Place 1 (index_after b.shape (places_before (magnitudes a) (index_after (magnitudes a) k) % size b.shape))) Fill)) e
+          ∙ ap (λ (x : Item). Ok x) (sym (get_or-eq_default b.items (fill b.item_type) (omega (arith, none))))
+      decide false e =
+          let some = eqb-false (length b.items) 0 e in
+          let before : places_before (magnitudes a) (index_after (magnitudes a) k) % size b.shape ≡ k % size b.shape = ap (λ n. n % size b.shape) (places_before-index_after (magnitudes a) k h) in
+          ap (λ w. item_from a b b.item_type (cond (not w) (Place 1 (index_after b.shape (places_before (magnitudes a) (index_after (magnitudes a) k) % size b.shape))) Fill)) e
+          ∙ ap (λ n. item_from a b b.item_type (Place 1 (index_after b.shape n))) before
+          ∙ ap (λ o. Ok (unwrap_or o (fill b.item_type))) (item_after b (k % size b.shape) (mod_below k (size b.shape) (omega (arith, as_many, some))))
+          ∙ ap (λ n. Ok (get_or b.items (k % n) (fill b.item_type))) (sym as_many)
 
--- the whole from the shape that the checks gave
-pub reshape_collected : (args : List ArrayValue) (b : ArrayValue) (shape : List ℕ) (item_type : ItemType)
-    → length args ≡ 2 → b ≡ get_or args 1 b → of_two_arguments reshape_form args ≡ Ok (form_of shape item_type)
-    → collect item_type shape (λ index. item_from b b b.item_type (reshape_source shape b index)) ≡ of_two_arguments reshape_whole args
-reshape_collected [] b shape item_type two same form = absurd (omega arith)
-reshape_collected (a ∷ []) b shape item_type two same form = absurd (omega arith)
-reshape_collected (a ∷ c ∷ d ∷ args) b shape item_type two same form = absurd (omega arith)
-reshape_collected (a ∷ c ∷ []) b shape item_type two same form =
-    let passed = reshape_passed a c shape item_type form in
-    ap (λ x. collect item_type shape (λ index. item_from x x x.item_type (reshape_source shape x index))) same
-    ∙ ap (λ rs. with_items item_type shape (all_or_first_error rs))
-    (same_rules (λ index. item_from c c c.item_type (reshape_source shape c index)) (reshape_item a c) (indices shape) (λ index.
-    from_right a c c.item_type shape index ∙ ap (λ asked. item_from a c c.item_type (reshape_source asked c index)) passed.shaped))
-    ∙ sym (ap (λ r. and_then r (λ f. collect f.item_type f.shape (reshape_item a c))) form)
+  recycles : reshape_form a b ≡ Ok (form_of (magnitudes a) b.item_type) → reshape_whole a b ≡ Ok (again_under b (magnitudes a))
+  recycles is =
+      let n = size (magnitudes a) in
+      ap (λ r. and_then r (λ f. collect f.item_type f.shape (reshape_item a b))) is
+      ∙ ap (with_items b.item_type (magnitudes a))
+      (given_in_order (magnitudes a) (reshape_item a b) (again_under b (magnitudes a)).items (fill b.item_type) (length-map-range_with_len again 0 n)
+      (λ k h. item_again k h ∙ ap (λ (x : Item). Ok x) (sym (get_or-map-range_with_len again 0 n k k (fill b.item_type) h (omega arith)))))
+
+pub recycled_answer : (args : List ArrayValue) (b v : ArrayValue) (shape : List ℕ) (item_type : ItemType)
+    → length args ≡ 2 → b ≡ get_or args 1 b → of_two_arguments reshape_form args ≡ Ok (form_of shape item_type) → length b.items ≡ size b.shape
+    → v ≡ again_under b shape → of_two_arguments reshape_whole args ≡ Ok v
+recycled_answer [] b v shape item_type two same passed as_many made = absurd (omega arith)
+recycled_answer (a ∷ []) b v shape item_type two same passed as_many made = absurd (omega arith)
+recycled_answer (a ∷ c ∷ d ∷ args) b v shape item_type two same passed as_many made = absurd (omega arith)
+recycled_answer (a ∷ c ∷ []) b v shape item_type two same passed as_many made =
+    let here : reshape_form a b ≡ Ok (form_of shape item_type) = ap (λ x. reshape_form a x) same ∙ passed in
+    let passed = reshape_passed a b shape item_type here in
+    let form : reshape_form a b ≡ Ok (form_of (magnitudes a) b.item_type) = here ∙ ap (λ xs. Ok (form_of xs item_type)) passed.shaped ∙ ap (λ t. Ok (form_of (magnitudes a) t)) passed.typed in
+    ap (λ x. reshape_whole a x) (sym same) ∙ recycles a b as_many form ∙ ap (λ xs. Ok (again_under b xs)) (sym passed.shaped) ∙ ap (λ w. Ok w) (sym made)
+
+-- the items as they are built
+pub fill_again : (xs : List Item) (n : ℕ) (x d : Item) → length xs ≡ 0 → x ≡ d → listed n (λ k. x) ≡ listed n (λ k. get_or xs (k % length xs) d)
+fill_again xs n x d none same = listed_same n (λ k. x) (λ k. get_or xs (k % length xs) d) (λ k h. same ∙ sym (get_or-eq_default xs d (omega (arith, none))))
+
+pub all_listed : (xs : List Item) (d : Item) (n : ℕ) → n ≡ length xs → [] ++ listed n (λ k. get_or xs (0 + k) d) ≡ xs
+all_listed xs d n e =
+    ap (λ m. listed m (λ k. get_or xs (0 + k) d)) e
+    ∙ sym (fill_by_all (λ k. get_or xs (0 + k) d) xs (length xs) d refl (λ k h. ap (λ j. get_or xs j d) (let same : k ≡ 0 + k = omega arith in same)))
+
+pub built_long : (now before : List Item) (n : ℕ) (f : ℕ → Item) → now ≡ before ++ listed n f → before ≡ [] → length now ≡ n
+built_long now before n f e none = ap length (e ∙ ap (λ xs. xs ++ listed n f) none) ∙ length-map-range_with_len f 0 n
+
+pub all_built : (now before xs : List Item) (d : Item) (n : ℕ) → now ≡ before ++ listed n (λ k. get_or xs (0 + k) d) → before ≡ [] → n ≡ length xs → now ≡ xs
+all_built now before xs d n e none long = e ∙ ap (λ ys. ys ++ listed n (λ k. get_or xs (0 + k) d)) none ∙ all_listed xs d n long

@@ -1,5 +1,5 @@
 -- Rows of a result whose items stand an even number of places apart in an argument.
-use Rattle.std.proofs.Common.{◌≡◌, ℕ, zero, suc, ◌+◌, ◌-◌, ◌*◌, ◌<◌, ◌≤◌, true, cond, List, [], ◌∷◌, ◌++◌, length, get_or, drop, reverse, Some, None, Result, Ok, refl, ap, ◌∙◌, arith, min, nat_eq, Bool, false, map}
+use Rattle.std.proofs.Common.{◌≡◌, ℕ, zero, suc, ◌+◌, ◌-◌, ◌*◌, ◌<◌, ◌≤◌, true, cond, List, [], ◌∷◌, ◌++◌, length, get_or, drop, reverse, Some, None, Result, Ok, refl, ap, ◌∙◌, arith, min, nat_eq, Bool, false, map, Err}
 use Rattle.std.specs.Prelude.{unwrap_or}
 use Rattle.std.specs.List.{range_with_len}
 use Rattle.std.proofs.lemmas.Bool.{false≢true, eqb-true, eqb-false}
@@ -13,6 +13,7 @@ use Rattle.arrays_core.specs.Building.{listed, with_row}
 use Rattle.arrays_core.specs.Shapes.{size, is_index_of, places_before, IsWithinLimits}
 use Rattle.arrays_core.proofs.Shapes.{places_below, head_of}
 use Rattle.arrays_core.proofs.Rows.{with_row_none, with_row_more}
+use Rattle.index_region.specs.Checks.{Form}
 use Rattle.index_region.specs.Answers.{IsRowIn}
 use Rattle.index_region.specs.Sources.{Place, item_from}
 use Rattle.index_region.proofs.Passing.{row_inside, place_of_row}
@@ -43,6 +44,11 @@ pub item_right : (a b : ArrayValue) (at : List ℕ) → is_index_of b.shape at �
     → item_from a b b.item_type (Place 1 at) ≡ Ok (get_or b.items (places_before b.shape at) (fill b.item_type))
 item_right a b at h = ap (λ w. Ok (unwrap_or (cond w (Some (get_or b.items (places_before b.shape at) (fill b.item_type))) None) (fill b.item_type))) h
 
+-- a row has places
+pub row_some : (form : Result Form Kind) (row : List ℕ) (count : ℕ) (item_type : ItemType) → IsRowIn form row count item_type → 0 < count
+row_some (Ok form) row count item_type h = h.0.some
+row_some (Err kind) row count item_type h = absurd h
+
 -- ---- a row whose items stand at these index lists of an array, an even number of places apart
 
 module _ (b : ArrayValue) (at : ℕ → List ℕ) (count step : ℕ)
@@ -71,6 +77,7 @@ module _ (b : ArrayValue) (at : ℕ → List ℕ) (count step : ℕ)
 -- the last axis of a transposed array is the first one of the array
 pub record TransposedRow (b : ArrayValue) (row : List ℕ) (count : ℕ) : Type 0 where
   pub axes : length b.shape ≡ length row + 1
+  pub some : 0 < count
   pub inside : (i : ℕ) → 1 ≤ i → i ≤ count → is_index_of b.shape (reverse (row ++ i ∷ [])) ≡ true
 
 pub transposed_row : (b : ArrayValue) (row : List ℕ) (count : ℕ) (item_type : ItemType) → IsRowIn (transpose_form b) row count item_type → TransposedRow b row count
@@ -79,6 +86,7 @@ transposed_row b row count item_type h =
     let long = length-reverse b.shape in
     record {
       axes = omega (arith, known.long);
+      some = known.some;
       inside = λ i low high. transpose_inside b (row ++ i ∷ []) (place_of_row (transpose_form b) row count item_type i h low high);
     }
 

@@ -1,9 +1,11 @@
 -- Reshape, A⍴B: the items in row-major order, again and again, under another shape.
-use Rattle.std.specs.Prelude.{ℕ, ◌%◌, unsigned_abs, ◌&&◌, if◌then◌else◌, List, map, Result}
+use Rattle.std.specs.Prelude.{ℕ, ◌%◌, unsigned_abs, ◌&&◌, if◌then◌else◌, List, map, length, get_or, Result}
 use Rattle.arrays_core.specs.declared.item.Item.{Item}
 use Rattle.arrays_core.specs.declared.item.Kind.{Kind}
 use Rattle.arrays_core.specs.declared.item.Kind.TheVariants.{Rank, Domain}
 use Rattle.arrays_core.specs.Arrays.{ArrayValue}
+use Rattle.arrays_core.specs.Items.{fill}
+use Rattle.arrays_core.specs.Building.{listed}
 use Rattle.arrays_core.specs.Shapes.{size, index_after, places_before}
 use Rattle.index_region.specs.Checks.{check, Form, limited, whole}
 use Rattle.index_region.specs.Arguments.{is_list, has_items, counts_as_numbers, numbers, none_negative}
@@ -24,6 +26,14 @@ reshape_form a b =
 abbrev pub reshape_source : List ℕ → ArrayValue → List ℕ → Source
 reshape_source shape b index =
     if has_items b then Place 1 (index_after b.shape (places_before shape index % size b.shape)) else Fill
+
+-- the items of b, again and again, under a shape; fill where b has none
+abbrev pub again_under : ArrayValue → List ℕ → ArrayValue
+again_under b shape = record {
+  item_type = b.item_type;
+  shape = shape;
+  items = listed (size shape) (λ k. get_or b.items (k % length b.items) (fill b.item_type));
+}
 
 -- the item at an index list
 abbrev pub reshape_item : ArrayValue → ArrayValue → List ℕ → Result Item Kind

@@ -222,9 +222,6 @@ impl RowPrimitive for DyadicTranspose {
         count: u32,
         items: &mut ArrayBuilder,
     ) -> Result<(), AllocError> {
-        if count == 0 {
-            return Ok(());
-        }
         let (axes, array) = (&args[0], &args[1]);
         let first = self.place_in_row(axes, array, row, 1);
         let second = self.place_in_row(axes, array, row, count.min(2));

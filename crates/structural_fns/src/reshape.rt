@@ -1,20 +1,18 @@
 //! Reshape: the ravel again and again, under another shape.
 
-ghost use Rattle.std.specs.Prelude.{◌≡◌, IsTrue, length};
+ghost use Rattle.std.specs.Prelude.{◌≡◌, ◌≤◌, IsTrue, IfOk, length};
 ghost use Rattle.arrays_core.specs.Arrays.{IsAnswerTo};
-ghost use Rattle.arrays_core.specs.Shapes.{IsWithinLimits, is_index_of};
+ghost use Rattle.arrays_core.specs.Shapes.{IsWithinLimits, is_index_of, size as size_of};
 ghost use Rattle.index_region.specs.ArgumentLists.{of_two_arguments};
-ghost use Rattle.index_region.specs.Sources.{item_from as item_of_source};
 ghost use Rattle.index_region.specs.Answers.{IsPlaceOf, IsSourceIn, source_value};
-ghost use Rattle.structural_fns.specs.Reshape.{magnitudes as magnitudes_of, reshape_form, reshape_source, reshape_item, reshape_whole};
+ghost use Rattle.structural_fns.specs.Reshape.{magnitudes as magnitudes_of, again_under, reshape_form, reshape_source, reshape_item, reshape_whole};
 
 use crate::magnitudes::magnitudes;
 use arrays_core::{
-    ApplyFault, Array, Item, ItemRule, ItemType, Kind, Shape, collect, index_of_position, position,
-    size,
+    ApplyFault, Array, ArrayBuilder, Item, ItemType, Kind, Shape, index_of_position, position, size,
 };
 use index_region::{Primitive, Seen, Source, item_from, limited};
-use std::alloc::Global;
+use std::alloc::{AllocError, Global};
 
 /// Where the item at an index list of a shape comes from.
 fn source_in(shape: &Shape, array: &Seen, index: &[u32]) -> Source
@@ -32,25 +30,22 @@ fn source_in(shape: &Shape, array: &Seen, index: &[u32]) -> Source
     Source::Place { arg: 1, at }
 }
 
-/// The items of an array under another shape, whose lengths are read from the counts once.
-#[derive(Drop)]
-struct Reshaped<'a, 'b> {
-    shape: &'a Shape,
-    array: &'a Seen<'b>,
-    ghost within: { IsWithinLimits shape.now.items },
-}
-
-impl<'a, 'b> ItemRule for Reshaped<'a, 'b> {
-    ghost result_shape = { λ r. r.shape.now.items };
-
-    ghost result_type = { λ r. r.array.now.item_type };
-
-    ghost item = { λ r index. item_of_source r.array.now r.array.now r.array.now.item_type (reshape_source r.shape.now.items r.array.now index) };
-
-    fn item_at(&self, index: &[u32]) -> Result<Item, Kind> {
-        let source = source_in(self.shape, self.array, index);
-        Ok(item_from(self.array, self.array, self.array.item_type(), source))
+/// The items of an array again and again under a shape that has as many places or more; fill where there is none.
+fn recycled(alloc: Global, array: &Seen, shape: &Shape) -> Result<Array, AllocError>
+    requires within { IsWithinLimits shape.now.items }
+    requires more { length array.now.items ≤ size_of shape.now.items }
+    ensures { IfOk result (λ a. a ≡ again_under array.now shape.now.items) }
+{
+    let (places, round) = (size(shape.as_slice()), array.places());
+    let item_type = array.item_type();
+    let mut items = ArrayBuilder::with_capacity(alloc, item_type, places as usize)?;
+    if round == 0 {
+        items.extend_with(item_type.fill(), places)?;
+        return Ok(items.into_array(shape));
     }
+    array.extend_run(&mut items, 0, round)?;
+    items.repeat_to(places)?;
+    Ok(items.into_array(shape))
 }
 
 /// Reshape, `A⍴B` (ISO/IEC 13751, "Reshape"): an array of shape A whose items are those of B in
@@ -77,17 +72,14 @@ impl Reshape {
         requires { length args.now ≡ 2 }
         ensures { IsAnswerTo (of_two_arguments reshape_whole args.now) result }
     {
-        let (shape, item_type) = self.shape_of(args)?;
+        let (shape, _) = self.shape_of(args)?;
         let array = &args[1];
         if size(shape.as_slice()) <= array.places() {
             let begin = array.part(0, &shape)?;
             return Ok(begin);
         }
-        let items = Reshaped {
-            shape: &shape,
-            array,
-        };
-        collect(alloc, &items, item_type, &shape)
+        let again = recycled(alloc, array, &shape)?;
+        Ok(again)
     }
 }
 

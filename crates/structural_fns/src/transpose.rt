@@ -84,9 +84,6 @@ impl RowPrimitive for Transpose {
         count: u32,
         items: &mut ArrayBuilder,
     ) -> Result<(), AllocError> {
-        if count == 0 {
-            return Ok(());
-        }
         let array = &args[0];
         let shape = array.shape();
         let index = index_in_row(*shape.allocator(), row, 1);

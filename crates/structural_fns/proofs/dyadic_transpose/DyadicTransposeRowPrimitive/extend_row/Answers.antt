@@ -1,17 +1,11 @@
-use Rattle.std.proofs.Common.{◌≡◌, ℕ, ap, sym, subst, ◌∙◌, Ok, ◌++◌, ◌∷◌, []}
+use Rattle.std.proofs.Common.{◌≡◌, ap, sym, subst, ◌∙◌, Ok, ◌++◌, ◌∷◌, []}
 use Rattle.std.proofs.lemmas.Result.{on_ok_weaker}
 use Rattle.arrays_core.specs.Building.{with_row}
-use Rattle.arrays_core.proofs.Rows.{with_row_none}
 use Rattle.index_region.specs.ArgumentLists.{of_two_arguments}
 use Rattle.index_region.proofs.Passing.{two_arguments}
-use Rattle.structural_fns.specs.DyadicTranspose.{axes_to, transpose_by_item}
-use Rattle.structural_fns.proofs.SteppedRows.{first_before, transposed_by_steps, transposed_by_items}
+use Rattle.structural_fns.specs.DyadicTranspose.{axes_to, transpose_by_form, transpose_by_item}
+use Rattle.structural_fns.proofs.SteppedRows.{row_some, first_before, transposed_by_steps, transposed_by_items}
 use Rattle.structural_fns.proofs.dyadic_transpose.DyadicTransposeRowPrimitive.extend_row.Goals as goal
-
-pub returns-then-count-eq0-clause-items : goal.returns-then-count-eq0-clause-items
-returns-then-count-eq0-clause-items c =
-    let rule = λ (i : ℕ). of_two_arguments (λ a b. transpose_by_item a b (c.args.row.now ++ i ∷ [])) c.args.args.now in
-    subst (λ n. with_row c.args.items.now.items rule n ≡ Ok c.args.items.now.items) (sym c.if-count-eq0.true) (with_row_none c.args.items.now.items rule)
 
 pub overflow_sub-second : goal.overflow_sub-second
 overflow_sub-second c =
@@ -38,3 +32,6 @@ returns-clause-items c =
     on_ok_weaker c.extend_evenly.result (λ e.
     subst (λ xs. with_row c.args.items.now.items (λ i. of_two_arguments (λ x y. transpose_by_item x y (row ++ i ∷ [])) xs) c.args.count ≡ Ok c.extend_evenly.new.items.items) (sym two)
     (made ∙ ap (λ xs. Ok xs) (sym e))) c.extend_evenly.ensures.items
+
+pub extend_evenly-requires-clause-some : goal.extend_evenly-requires-clause-some
+extend_evenly-requires-clause-some c = row_some (of_two_arguments transpose_by_form c.args.args.now) c.args.row.now c.args.count c.args.items.now.item_type c.requires.row

@@ -4,23 +4,17 @@ use Rattle.std.proofs.lemmas.List.{take_all}
 use Rattle.arrays_core.specs.Building.{listed, with_row}
 use Rattle.arrays_core.specs.Items.{fill}
 use Rattle.arrays_core.specs.Shapes.{size, places_before}
-use Rattle.arrays_core.proofs.Rows.{with_row_none}
 use Rattle.index_region.specs.ArgumentLists.{of_one_argument}
-use Rattle.structural_fns.specs.Transpose.{transpose_item}
-use Rattle.structural_fns.proofs.SteppedRows.{one_argument, transposed_row, transposed_steps, transposed_items, fewer_axes}
+use Rattle.structural_fns.specs.Transpose.{transpose_form, transpose_item}
+use Rattle.structural_fns.proofs.SteppedRows.{row_some, one_argument, transposed_row, transposed_steps, transposed_items, fewer_axes}
 use Rattle.structural_fns.proofs.transpose.TransposeRowPrimitive.extend_row.Goals as goal
-
-pub returns-then-count-eq0-clause-items : goal.returns-then-count-eq0-clause-items
-returns-then-count-eq0-clause-items c =
-    let rule = λ (i : ℕ). of_one_argument (λ b. transpose_item b (c.args.row.now ++ i ∷ [])) c.args.args.now in
-    subst (λ n. with_row c.args.items.now.items rule n ≡ Ok c.args.items.now.items) (sym c.if-count-eq0.true) (with_row_none c.args.items.now.items rule)
 
 pub position-first-requires-clause-in_range : goal.position-first-requires-clause-in_range
 position-first-requires-clause-in_range c =
     let b = c.index-args-0.result in
     let one = one_argument c.args.args.now b c.requires.arguments c.index-args-0.is in
     let axes = transposed_row b c.args.row.now c.args.count c.args.items.now.item_type (rw one at c.requires.row) in
-    let some = c.if-count-eq0.false in
+    let some = axes.some in
     rw (c.shape-shape.ensures.is, c.as_slice-2.ensures, c.from_last-at.ensures.is, c.as_slice.ensures, c.index_in_row-index.ensures.is) (axes.inside 1 (omega arith) (omega arith))
 
 from_second : (s : List ℕ) → take (length s - 1) (drop 1 s) ≡ drop 1 s
@@ -31,7 +25,7 @@ size-step-requires c =
     let b = c.index-args-0.result in
     let one = one_argument c.args.args.now b c.requires.arguments c.index-args-0.is in
     let axes = transposed_row b c.args.row.now c.args.count c.args.items.now.item_type (rw one at c.requires.row) in
-    let some = c.if-count-eq0.false in
+    let some = axes.some in
     let shape : c.as_slice-3.result.now ≡ b.shape = c.as_slice-3.ensures ∙ c.shape-shape.ensures.is in
     rw (from_second, shape) (fewer_axes b.shape (reverse (c.args.row.now ++ 1 ∷ [])) (axes.inside 1 (omega arith) (omega arith)) (omega (arith, axes.axes)) c.shape-shape.ensures.sound.within)
 
@@ -59,3 +53,6 @@ returns-clause-items c =
     on_ok_weaker c.extend_evenly.result (λ e.
     subst (λ xs. with_row c.args.items.now.items (λ i. of_one_argument (λ x. transpose_item x (row ++ i ∷ [])) xs) c.args.count ≡ Ok c.extend_evenly.new.items.items) (sym one)
     (made ∙ ap (λ m. Ok (c.args.items.now.items ++ listed c.args.count (λ k. get_or b.items (c.position-first.result - 1 + k * m) (fill b.item_type)))) (sym step) ∙ ap (λ xs. Ok xs) (sym e))) c.extend_evenly.ensures.items
+
+pub extend_evenly-requires-clause-some : goal.extend_evenly-requires-clause-some
+extend_evenly-requires-clause-some c = row_some (of_one_argument transpose_form c.args.args.now) c.args.row.now c.args.count c.args.items.now.item_type c.requires.row
