@@ -1,15 +1,27 @@
 -- The index lists of an index generator's result.
-use Rattle.std.proofs.Common.{◌≡◌, ℕ, true, ◌<◌, List, [], ◌∷◌, length, map, arith}
-use Rattle.std.specs.Prelude.{nat_eq, unsigned_abs, ◌&&◌}
+use Rattle.std.proofs.Common.{◌≡◌, ℕ, Bool, true, false, cond, ◌+◌, ◌*◌, ◌<◌, ◌≤◌, pos, List, [], ◌∷◌, length, get_or, map, Ok, Err, refl, ap, sym, ◌∙◌, arith}
+use Rattle.std.specs.Prelude.{nat_eq, nat_le, unsigned_abs, ◌&&◌}
+use Rattle.std.specs.List.{range_with_len}
+use Rattle.std.proofs.lemmas.Bool.{false≢true, eqb-true, leb-true}
+use Rattle.std.proofs.lemmas.List.FromFn.{length-map-range_with_len, get_or-map-range_with_len}
+use Rattle.std.proofs.Math.Nat.{div-one}
 use Rattle.std.proofs.lemmas.Bool.Decides.{nat_tests}
-use Rattle.std.proofs.lemmas.List.{length-map}
-use Rattle.arrays_core.specs.Arrays.{ArrayValue}
+use Rattle.std.proofs.lemmas.List.{length-map, get_or-map}
+use Rattle.arrays_core.specs.declared.item.Item.{Item}
+use Rattle.arrays_core.specs.declared.item.Item.TheVariants.{Num}
+use Rattle.arrays_core.specs.declared.item.ItemType.{ItemType}
+use Rattle.arrays_core.specs.declared.item.ItemType.TheVariants.{Nums}
+use Rattle.arrays_core.specs.declared.item.Kind.TheVariants.{Rank, Length, Domain, Limit}
+use Rattle.arrays_core.specs.Shapes.{index_after}
+use Rattle.arrays_core.specs.Arrays.{ArrayValue, collect, with_items, vector_of}
+use Rattle.arrays_core.proofs.Order.{given_in_order}
+use Rattle.index_region.specs.Checks.{Form, form_of, and_then, is_within_limits}
 use Rattle.arrays_core.proofs.Shapes.{as_long}
 use Rattle.index_region.specs.ArgumentLists.{of_one_argument}
 use Rattle.index_region.specs.Arguments.{is_list, has_one_item, counts_as_numbers, none_negative, numbers, number_of}
 use Rattle.index_region.specs.Answers.{IsPlaceOf}
-use Rattle.index_region.proofs.Passing.{passed, place_inside}
-use Rattle.selection_fns.specs.IndexGenerator.{generator_form}
+use Rattle.index_region.proofs.Passing.{passed, place_inside, gives, limited_gives}
+use Rattle.selection_fns.specs.IndexGenerator.{generator_form, generator_item, generator_whole}
 
 -- there is one index
 pub has_index : (args : List ArrayValue) (index : List ℕ) → IsPlaceOf (of_one_argument generator_form args) index → 0 < length index
@@ -27,3 +39,68 @@ has_index (n ∷ []) index h =
   where
     one_item : (n : ℕ) → nat_eq n 1 ≡ true → n ≡ 1
     one_item n h = grind (arith, nat_tests)
+
+-- ---- the whole vector
+
+-- what the checks gave
+pub record Generated (n : ArrayValue) (shape : List ℕ) (item_type : ItemType) : Type 0 where
+  pub alone : shape ≡ get_or shape 0 0 ∷ []
+  pub within : nat_le (get_or shape 0 0) 1048576 ≡ true
+  pub form : generator_form n ≡ Ok (form_of (get_or shape 0 0 ∷ []) Nums)
+
+axis_within : (rank axis places : Bool) → ((rank && (axis && true)) && places) ≡ true → axis ≡ true
+axis_within rank true places h = refl
+axis_within true false places h = absurd (false≢true h)
+axis_within false false places h = absurd (false≢true h)
+
+generated_of : (n : ArrayValue) (shape : List ℕ) (item_type : ItemType) → generator_form n ≡ Ok (form_of shape item_type) → Generated n shape item_type
+generated_of n shape item_type form =
+    let rank = gives (is_list n) Rank _ (form_of shape item_type) form in
+    let one = gives (has_one_item n) Length _ (form_of shape item_type) rank.is in
+    let counted = gives (counts_as_numbers n && none_negative (numbers n)) Domain _ (form_of shape item_type) one.is in
+    let same = limited_gives (map unsigned_abs (numbers n)) Nums (form_of shape item_type) counted.is in
+    let limits = gives (is_within_limits (map unsigned_abs (numbers n))) Limit _ (form_of shape item_type) counted.is in
+    let single = eqb-true (length n.items) 1 one.test in
+    let magnitudes = length-map (numbers n) unsigned_abs in
+    let values = length-map n.items number_of in
+    let shaped : shape ≡ map unsigned_abs (numbers n) = ap (λ (f : Form). f.shape) same in
+    let long : length shape ≡ 1 = ap length shaped ∙ omega arith in
+    let only : shape ≡ get_or shape 0 0 ∷ [] = by_length shape long in
+    record {
+      alone = only;
+      within = first_within shape (ap is_within_limits shaped ∙ limits.test) long;
+      form = form ∙ ap (λ t. Ok (form_of shape t)) (ap (λ (f : Form). f.item_type) same) ∙ ap (λ s. Ok (form_of s Nums)) only;
+    }
+  where
+    by_length : (s : List ℕ) → length s ≡ 1 → s ≡ get_or s 0 0 ∷ []
+    by_length [] e = absurd (omega arith)
+    by_length (x ∷ []) e = refl
+    by_length (x ∷ y ∷ s) e = absurd (omega arith)
+
+    first_within : (s : List ℕ) → is_within_limits s ≡ true → length s ≡ 1 → nat_le (get_or s 0 0) 1048576 ≡ true
+    first_within [] h e = absurd (omega arith)
+    first_within (x ∷ []) h e = axis_within (nat_le 1 4) (nat_le x 1048576) (nat_le (x * 1) 1048576) h
+    first_within (x ∷ y ∷ s) h e = absurd (omega arith)
+
+pub generated : (args : List ArrayValue) (shape : List ℕ) (item_type : ItemType) → length args ≡ 1 → of_one_argument generator_form args ≡ Ok (form_of shape item_type)
+    → (shape ≡ get_or shape 0 0 ∷ []) × (of_one_argument generator_whole args ≡ vector_of (map pos (range_with_len 1 (get_or shape 0 0)))) × (get_or shape 0 0 ≤ 1048576)
+generated [] shape item_type h form = absurd (omega arith)
+generated (a ∷ b ∷ args) shape item_type h form = absurd (omega arith)
+generated (n ∷ []) shape item_type h form =
+    let known = generated_of n shape item_type form in
+    let c = get_or shape 0 0 in
+    let zs = map pos (range_with_len 1 c) in
+    let long : length zs ≡ c = length-map-range_with_len pos 1 c in
+    let items = map (λ z. Num z) zs in
+    let sized : length items ≡ c * 1 = length-map zs (λ z. Num z) ∙ long ∙ omega arith in
+    let read : (k : ℕ) → k < c → get_or items k (Num (pos 0)) ≡ Num (pos (k + 1)) = λ k below.
+    get_or-map (λ z. Num z) zs k (pos 0) (Num (pos 0)) (omega (arith, long)) ∙ ap (λ z. Num z) (get_or-map-range_with_len pos 1 c k (k + 1) (pos 0) below (omega arith)) in
+    let each : (k : ℕ) → k < c * 1 → generator_item n (index_after (c ∷ []) k) ≡ Ok (get_or items k (Num (pos 0))) = λ k below.
+    ap (λ m. Ok (Num (pos (m + 1)))) (div-one k) ∙ ap (λ (x : Item). Ok x) (sym (read k (omega arith))) in
+    let collected : generator_whole n ≡ Ok (record { item_type = Nums; shape = c ∷ []; items = items }) =
+    ap (λ r. and_then r (λ f. collect f.item_type f.shape (generator_item n))) known.form
+    ∙ ap (with_items Nums (c ∷ [])) (given_in_order (c ∷ []) (generator_item n) items (Num (pos 0)) sized each) in
+    let vector : vector_of zs ≡ Ok (record { item_type = Nums; shape = c ∷ []; items = items }) =
+    ap (λ m. cond (nat_le m 1048576) (Ok (record { item_type = Nums; shape = m ∷ []; items = items })) (Err Limit)) long
+    ∙ ap (λ w. cond w (Ok (record { item_type = Nums; shape = c ∷ []; items = items })) (Err Limit)) known.within in
+    (known.alone, collected ∙ sym vector, leb-true c 1048576 known.within)

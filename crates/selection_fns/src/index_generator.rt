@@ -1,14 +1,28 @@
 //! Index generator: the numbers from 1 up.
 
-ghost use Rattle.std.specs.Prelude.{◌≡◌, length};
+ghost use Rattle.std.specs.Prelude.{◌≡◌, ◌≤◌, IfOk, length, map, pos};
+ghost use Rattle.std.specs.List.{range_with_len};
+ghost use Rattle.arrays_core.specs.Limits.{longest_axis};
 ghost use Rattle.arrays_core.specs.Arrays.{IsAnswerTo};
 ghost use Rattle.index_region.specs.ArgumentLists.{of_one_argument};
 ghost use Rattle.selection_fns.specs.IndexGenerator.{generator_form, generator_item, generator_whole};
 
 use crate::axes::LONGEST_AXIS;
 use arrays_core::{ApplyFault, Array, Item, ItemType, Kind, Shape, shape_of};
-use index_region::{Primitive, Seen, apply, limited};
-use std::alloc::Global;
+use index_region::{Primitive, Seen, limited};
+use std::alloc::{AllocError, Global};
+
+/// The numbers from 1 to `count`.
+fn first_numbers(alloc: Global, count: u32) -> Result<Vec<i64>, AllocError>
+    requires { count ≤ longest_axis }
+    ensures { IfOk result (λ numbers. numbers.items ≡ map pos (range_with_len 1 count)) }
+{
+    let mut numbers = Vec::with_capacity(alloc, count as usize)?;
+    for k in 0..count {
+        numbers.push_reserved(i64::from(k + 1));
+    }
+    Ok(numbers)
+}
 
 /// Index generator, `⍳N` (ISO/IEC 13751, "Index Generator"): the vector of 1 to N. RANK where N is
 /// neither a scalar nor a vector, LENGTH where it has not one item, DOMAIN where that is not a number,
@@ -22,7 +36,9 @@ impl IndexGenerator {
         requires { length args.now ≡ 1 }
         ensures { IsAnswerTo (of_one_argument generator_whole args.now) result }
     {
-        apply(alloc, self, args)
+        let (shape, _) = self.shape_of(args)?;
+        let numbers = first_numbers(alloc, shape[0])?;
+        Ok(Array::vector(alloc, numbers)?)
     }
 }
 
