@@ -92,3 +92,17 @@ same_rules {B = B} rule other n h = from 0 n (λ k below. h k (omega (arith, bel
         let first : rule a ≡ other a = h a (omega arith, omega arith) in
         let rest = from (a + 1) m (λ k below. h k (omega (arith, below.0), omega (arith, below.1))) in
         rw (first, rest) refl
+
+-- a rule that gives the entries of a list
+pub all_places : {A E : Type 0} (rule : ℕ → Result A E) (n : ℕ) (xs : List A) (d : A) → length xs ≡ n → ((k : ℕ) → k < n → rule k ≡ Ok (get_or xs k d))
+    → all_or_first_error (map rule (range_with_len 0 n)) ≡ Ok xs
+all_places {A = A} {E = E} rule n xs d long h = from 0 n xs long (λ k below. (let z : 0 + k ≡ k = omega arith in ap rule z ∙ h k below))
+  where
+    from : (a m : ℕ) (ys : List A) → length ys ≡ m → ((k : ℕ) → k < m → rule (a + k) ≡ Ok (get_or ys k d)) → all_or_first_error (map rule (range_with_len a m)) ≡ Ok ys
+    from a zero [] e g = refl
+    from a zero (y ∷ ys) e g = absurd (omega arith)
+    from a (suc m) [] e g = absurd (omega arith)
+    from a (suc m) (y ∷ ys) e g =
+        let first : rule a ≡ Ok y = (let z : a ≡ a + 0 = omega arith in ap rule z ∙ g 0 (omega arith)) in
+        let rest = from (a + 1) m ys (omega arith) (λ k below. (let z : a + 1 + k ≡ a + suc k = omega arith in ap rule z ∙ g (suc k) (omega arith))) in
+        rw (first, rest) refl

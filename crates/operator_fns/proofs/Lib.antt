@@ -1,4 +1,6 @@
 pub mod Folds
+pub mod WrittenEnds
+pub mod ColumnFolds
 pub mod Lines
 pub mod Placewise
 pub mod Errors

@@ -7,6 +7,7 @@ pub mod InnerProduct
 pub mod SumTree
 -- What proofs and bodies use.
 pub mod Strides
+pub mod Columns
 pub mod LinearScan
 pub mod RowByColumn
 pub mod ResultTable

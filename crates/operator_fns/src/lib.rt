@@ -1,6 +1,7 @@
 //! Operators on scalar functions: reduction, scan, outer and inner product.
 #![tactic(auto)]
 
+mod columns;
 mod grid;
 mod inner_product;
 mod limits;

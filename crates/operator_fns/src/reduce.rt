@@ -13,6 +13,7 @@ ghost use Rattle.index_region.specs.Answers.{IsFormAnswerTo, IsPlaceOf, HasTypeO
 ghost use Rattle.operator_fns.specs.Strides.{strided, folded, line_start};
 ghost use Rattle.operator_fns.specs.Reduce.{reduce_form, reduce_item, reduce_whole};
 
+use crate::columns::column_folds;
 use crate::number_rule::{NumberRule, collect_numbers};
 use crate::right_fold::{fold_line, fold_numbers, identity_item, stride};
 use crate::sum::sum_list;
@@ -94,8 +95,8 @@ fn sums(
     collect_numbers(alloc, &totals, shape)
 }
 
-/// The array of the folds of the lines of some numbers.
-fn folds_by<S: TwoNumbers>(
+/// The array of the folds of the lines of some numbers, each line in turn.
+fn folds_of_lines<S: TwoNumbers>(
     alloc: Global,
     step: &S,
     numbers: &[i64],
@@ -118,6 +119,34 @@ fn folds_by<S: TwoNumbers>(
         places: size(shape.as_slice()) as usize,
     };
     collect_numbers(alloc, &lines, shape)
+}
+
+/// The same, a row at a time where the numbers of a line do not stand side by side. Where a line has an error,
+/// that of the first line that has one is looked for.
+fn folds_by<S: TwoNumbers>(
+    alloc: Global,
+    step: &S,
+    numbers: &[i64],
+    stride: usize,
+    count: usize,
+    shape: &Shape,
+) -> Result<Array, ApplyFault>
+    requires within { IsWithinLimits shape.now.items }
+    requires some { 1 ≤ count }
+    requires apart { 0 < stride }
+    requires whole { size_of shape.now.items * count ≡ length numbers.now }
+    requires even { size_of shape.now.items % stride ≡ 0 }
+    ensures { IsAnswerTo (collected Nums shape.now.items (λ index. number_item (folded (S.gives step.now) (strided (pos 0) numbers.now (line_start stride count (places_before shape.now.items index)) stride count)))) result }
+{
+    if stride == 1 {
+        return folds_of_lines(alloc, step, numbers, stride, count, shape);
+    }
+    let places = size(shape.as_slice()) as usize;
+    match column_folds(alloc, step, numbers, stride, count, places) {
+        Ok(folds) => Ok(Array::from_numbers(shape, folds)),
+        Err(ApplyFault::NoMemory) => Err(ApplyFault::NoMemory),
+        Err(ApplyFault::Kind(_)) => folds_of_lines(alloc, step, numbers, stride, count, shape),
+    }
 }
 
 /// The same for a function that is chosen; the most usual ones have a loop of their own.

@@ -1,0 +1,10 @@
+use Rattle.std.proofs.Common.{◌≡◌, ℕ, ◌*◌, ◌<◌, get_or, pos, Ok, vec_len}
+use Rattle.operator_fns.specs.Strides.{strided, folded, line_start}
+use Rattle.operator_fns.proofs.columns.column_folds.Given as goal
+
+abbrev pub invariant-loop-block : goal.invariant-loop-block
+invariant-loop-block g l = record {
+  long : vec_len l.folds ≡ l.block * l.stride;
+  made : (place : ℕ) → place < l.block * l.stride
+      → folded (g.S.TwoNumbers.gives l.step) (strided (pos 0) l.numbers (line_start l.stride l.count place) l.stride l.count) ≡ Ok (get_or l.folds.items place (pos 0));
+}

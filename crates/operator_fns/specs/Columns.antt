@@ -1,0 +1,19 @@
+-- Folds of columns, a row at a time.
+use Rattle.std.specs.Prelude.{◌≡◌, ℕ, ◌<◌, ◌++◌, ℤ, pos, List, length, get_or, Result, Ok}
+use Rattle.arrays_core.specs.declared.item.Kind.{Kind}
+use Rattle.operator_fns.specs.Strides.{strided, folded}
+
+-- what a function gives for each number of a row and the one below it
+pub record ArePutOver (f : ℤ → ℤ → Result ℤ Kind) (row below made : List ℤ) : Type 0 where
+  pub each : (column : ℕ) → column < length row → f (get_or row column (pos 0)) (get_or below column (pos 0)) ≡ Ok (get_or made column (pos 0))
+
+-- the folds of the columns of so many rows that lie one after another
+pub record AreColumnFolds (f : ℤ → ℤ → Result ℤ Kind) (rows : List ℤ) (count : ℕ) (folds : List ℤ) : Type 0 where
+  pub each : (column : ℕ) → column < length folds → folded f (strided (pos 0) rows column (length folds) count) ≡ Ok (get_or folds column (pos 0))
+
+-- they stand after some numbers
+pub record EndsInFolds (f : ℤ → ℤ → Result ℤ Kind) (rows : List ℤ) (stride count : ℕ) (before all : List ℤ) : Type 0 where
+  pub folds : List ℤ
+  pub long : length folds ≡ stride
+  pub is : all ≡ before ++ folds
+  pub folded : AreColumnFolds f rows count folds

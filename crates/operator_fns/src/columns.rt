@@ -1,0 +1,93 @@
+//! Folds of columns, which are made a row at a time.
+
+ghost use Rattle.std.specs.Prelude.{◌≡◌, ◌<◌, ◌≤◌, ◌-◌, ◌*◌, ◌%◌, pos, length, drop, map, Ok, OnOk, IfOk, vec_len};
+ghost use Rattle.std.specs.List.{range_with_len};
+ghost use Rattle.arrays_core.specs.Items.{all_or_first_error};
+ghost use Rattle.operator_fns.specs.Strides.{strided, folded, line_start};
+ghost use Rattle.operator_fns.specs.Columns.{ArePutOver, AreColumnFolds, EndsInFolds};
+
+use arrays_core::{ApplyFault, Kind};
+use scalar_fns::kernels::TwoNumbers;
+use std::alloc::Global;
+
+/// Puts each number of a row together with the fold of those below it.
+fn put_over<S: TwoNumbers>(step: &S, row: &[i64], folds: &mut [i64]) -> Result<(), Kind>
+    requires { length row.now ≡ length folds.old }
+    ensures long { length folds.new ≡ length folds.old }
+    ensures is { OnOk result (ArePutOver (S.gives step.now) row.now folds.old folds.new) }
+{
+    for column in 0..row.len() {
+        folds[column] = step.at(row[column], folds[column])?;
+    }
+    Ok(())
+}
+
+/// Folds the columns of some rows, of which the last stands in the list of the folds.
+fn fold_rows<S: TwoNumbers>(
+    step: &S,
+    rows: &[i64],
+    count: usize,
+    folds: &mut [i64],
+) -> Result<(), Kind>
+    requires some { 1 ≤ count }
+    requires whole { length rows.now ≡ count * length folds.old }
+    requires last { folds.old ≡ drop ((count - 1) * length folds.old) rows.now }
+    ensures long { length folds.new ≡ length folds.old }
+    ensures is { OnOk result (AreColumnFolds (S.gives step.now) rows.now count folds.new) }
+{
+    let columns = folds.len();
+    for before in (0..count - 1).rev() {
+        let first = before * columns;
+        put_over(step, &rows[first..first + columns], folds)?;
+    }
+    Ok(())
+}
+
+/// Puts the folds of the columns of some rows at the end of a list.
+fn push_folds<S: TwoNumbers>(
+    folds: &mut Vec<i64>,
+    step: &S,
+    rows: &[i64],
+    columns: usize,
+    count: usize,
+) -> Result<(), ApplyFault>
+    requires some { 1 ≤ count }
+    requires whole { length rows.now ≡ count * columns }
+    ensures { OnOk result (EndsInFolds (S.gives step.now) rows.now columns count folds.old.items folds.new.items) }
+{
+    let before = folds.len();
+    folds.extend_from_slice(&rows[(count - 1) * columns..])?;
+    fold_rows(step, rows, count, &mut folds[before..])?;
+    Ok(())
+}
+
+/// The folds of the lines of some numbers, where none of them has an error; else some error of a line.
+pub(crate) fn column_folds<S: TwoNumbers>(
+    alloc: Global,
+    step: &S,
+    numbers: &[i64],
+    stride: usize,
+    count: usize,
+    places: usize,
+) -> Result<Vec<i64>, ApplyFault>
+    requires some { 1 ≤ count }
+    requires apart { 0 < stride }
+    requires whole { places * count ≡ length numbers.now }
+    requires even { places % stride ≡ 0 }
+    ensures long { IfOk result (λ v. vec_len v ≡ places) }
+    ensures is { IfOk result (λ v. all_or_first_error (map (λ place. folded (S.gives step.now) (strided (pos 0) numbers.now (line_start stride count place) stride count)) (range_with_len 0 places)) ≡ Ok v.items) }
+{
+    let mut folds = Vec::with_capacity(alloc, places)?;
+    for block in 0..places / stride {
+        let size = count * stride;
+        let first = block * size;
+        push_folds(
+            &mut folds,
+            step,
+            &numbers[first..first + size],
+            stride,
+            count,
+        )?;
+    }
+    Ok(folds)
+}
