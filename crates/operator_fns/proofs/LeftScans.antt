@@ -1,5 +1,5 @@
 -- A scan from the left, result by result.
-use Rattle.std.proofs.Common.{◌≡◌, ℕ, ◌+◌, ◌-◌, ◌*◌, ◌%◌, ◌<◌, ◌≤◌, nat_lt, true, false, List, length, get_or, map, take, ap, sym, subst, ◌∙◌, inl, inr, arith, pos, ℤ, FitsSigned, Result, Ok, Err, Vec}
+use Rattle.std.proofs.Common.{◌≡◌, eq-eqb, ℕ, nat_eq, ◌+◌, ◌-◌, ◌*◌, ◌%◌, ◌<◌, ◌≤◌, nat_lt, true, false, List, length, get_or, map, take, ap, sym, subst, ◌∙◌, inl, inr, arith, pos, ℤ, FitsSigned, Result, Ok, Err, Vec}
 use Rattle.std.specs.Int.{w64}
 use Rattle.std.specs.List.{All}
 use Rattle.std.specs.Result.{IsErr, IsErrAnd}
@@ -7,7 +7,8 @@ use Rattle.std.proofs.lemmas.List.{get_or_default}
 use Rattle.arrays_core.specs.declared.fault.ApplyFault.{ApplyFault}
 use Rattle.arrays_core.specs.declared.fault.ApplyFault.TheVariants.{Kind as KindFault}
 use Rattle.std.specs.List.{range_with_len}
-use Rattle.std.proofs.lemmas.Bool.{cases_lt, lt-ltb, le-ltb}
+use Rattle.std.proofs.lemmas.Bool.{cases_lt, lt-ltb, le-ltb, ltb-true, ltb-false, ne_eqb}
+use Rattle.std.proofs.Math.Nat.{mod-le}
 use Rattle.std.proofs.lemmas.List.{length-take, get_or-take}
 use Rattle.std.proofs.lemmas.List.FromFn.{length-map-range_with_len, get_or-map-range_with_len}
 use Rattle.arrays_core.specs.declared.item.Kind.{Kind}
@@ -48,6 +49,22 @@ module _ (f : ℤ → ℤ → Result ℤ Kind) (zs : List ℤ) (stride count : �
             ∙ ap (λ w. and_then w (λ z. f z (get_or zs place (pos 0)))) before
             ∙ sym (later (le-ltb block_place stride h))
       ]
+
+-- the same on lines of neighbours, from the result before
+pub next_beside : (f : ℤ → ℤ → Result ℤ Kind) (zs : List ℤ) (count : ℕ) (some : 1 ≤ count) (place line_place : ℕ) (xs : List ℤ) (before : ℤ) (r : Result ℤ Kind) → place < length zs
+    → all_or_first_error (take place (map (left_at f zs 1 count (omega arith) some) (range_with_len 0 (length zs)))) ≡ Ok xs
+    → line_place ≡ place % count
+    → (0 < place → get_or xs (place - 1) (pos 0) ≡ before)
+    → (nat_eq line_place 0 ≡ true → r ≡ Ok (get_or zs place (pos 0)))
+    → (nat_eq line_place 0 ≡ false → r ≡ f before (get_or zs place (pos 0)))
+    → left_at f zs 1 count (omega arith) some place ≡ r
+next_beside f zs count some place line_place xs before r below made here last first later =
+    let one : count ≡ count * 1 = omega arith in
+    next_left f zs 1 count (omega arith) some place line_place xs r below made (here ∙ ap (λ m. place % m) one)
+    (λ h. first (let low = ltb-true line_place 1 h in eq-eqb line_place 0 (omega arith)))
+    (λ h. let high = ltb-false line_place 1 h in
+    let small = mod-le place count in
+    later (ne_eqb line_place 0 (λ e. omega arith)) ∙ ap (λ z. f z (get_or zs place (pos 0))) (sym (last (omega arith))))
 
 -- ---- numbers of 64 bits among those that were read
 

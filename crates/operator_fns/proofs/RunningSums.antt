@@ -3,7 +3,7 @@ use Rattle.std.proofs.Common.{◌≡◌, ℕ, zero, suc, ◌+◌, ◌-◌, ◌*�
 use Rattle.std.specs.Int.{int_max, int_min}
 use Rattle.std.specs.List.{All}
 use Rattle.std.specs.Int.{w64}
-use Rattle.std.proofs.Math.Nat.{mul-le-mul_right}
+use Rattle.std.proofs.Math.Nat.{mul-le-mul_left, mul-le-mul_right}
 use Rattle.arrays_core.specs.Items.{all_or_first_error}
 use Rattle.arrays_core.specs.declared.item.Kind.{Kind}
 use Rattle.arrays_core.specs.declared.item.Kind.TheVariants.{Limit}
@@ -12,6 +12,8 @@ use Rattle.scalar_fns.specs.Numbers.{dyadic_on_numbers}
 use Rattle.index_region.specs.Checks.{and_then}
 use Rattle.operator_fns.specs.Strides.{folded}
 use Rattle.operator_fns.specs.LinearScan.{depth, run_to, fold_on, folded_left, scanned, FailsAt}
+use Rattle.operator_fns.specs.Sum.{IsSmall}
+use Rattle.operator_fns.proofs.SmallSums.{small_left}
 use Rattle.operator_fns.proofs.Folds.{length-strided, get_or-strided}
 use Rattle.operator_fns.proofs.Runs.{one_deeper, depth_high, run_more, run_some, left_first, left_later}
 use Rattle.operator_fns.proofs.Firsts.{Given, rule_entry, rule_error, same_rules}
@@ -22,16 +24,19 @@ module _ (zs : List ℤ) (stride count : ℕ) (apart : 0 < stride) (some : 1 ≤
   run place = run_to (pos 0) zs stride count place
 
   -- what holds of the numbers before a place
+  run_each : (P : ℤ → Type 0) (end : ℕ) → ((k : ℕ) → k < end → P (get_or zs k (pos 0))) → (place : ℕ) → place < end → All P (run place)
+  run_each P end numbers place inside k d below =
+      let deep = depth stride count place in
+      let first = place - deep * stride in
+      let n = deep + 1 in
+      let long = length-strided (pos 0) zs first stride n in
+      let here : k * stride ≤ deep * stride = mul-le-mul_right stride (omega arith) in
+      let high = depth_high stride count apart some place in
+      subst P (sym (get_or-strided (pos 0) zs first stride n k d (omega arith))) (numbers (first + k * stride) (omega arith))
+
   module _ (end : ℕ) (numbers : (k : ℕ) → k < end → Within (get_or zs k (pos 0))) where
     run_within : (place : ℕ) → place < end → All Within (run place)
-    run_within place inside k d below =
-        let deep = depth stride count place in
-        let first = place - deep * stride in
-        let n = deep + 1 in
-        let long = length-strided (pos 0) zs first stride n in
-        let here : k * stride ≤ deep * stride = mul-le-mul_right stride (omega arith) in
-        let high = depth_high stride count apart some place in
-        subst Within (sym (get_or-strided (pos 0) zs first stride n k d (omega arith))) (numbers (first + k * stride) (omega arith))
+    run_within place inside = run_each Within end numbers place inside
 
     -- a fold from the left whose steps are numbers where the sum up to the next one is
     left_given : (step : ℤ → ℤ → Result ℤ Kind)
@@ -107,3 +112,13 @@ module _ (zs : List ℤ) (stride count : ℕ) (apart : 0 < stride) (some : 1 ≤
       sum_from_left (run q) (get_or tops q (pos 0)) (get_or bottoms q (pos 0)) (run_within (length zs) numbers q below)
       (rule_entry (λ p. folded_left greatest_step (run p)) (length zs) tops q (pos 0) g below)
       (rule_entry (λ p. folded_left least_step (run p)) (length zs) bottoms q (pos 0) l below)))
+
+  -- those of small numbers are the sums from the left
+  pub small_sums : All IsSmall zs → length zs ≤ 1048576 → scanned (folded_left (dyadic_on_numbers Plus)) zs stride count ≡ scanned (folded (dyadic_on_numbers Plus)) zs stride count
+  small_sums small few =
+      ap all_or_first_error (same_rules _ _ (length zs) (λ q below.
+      let deep = depth stride count q in
+      let long = length-strided (pos 0) zs (q - deep * stride) stride (deep + 1) in
+      let high = depth_high stride count apart some q in
+      let least : deep * 1 ≤ deep * stride = mul-le-mul_left deep (omega arith) in
+      small_left (run q) (run_some stride count apart some (pos 0) zs q) (omega arith) (run_each IsSmall (length zs) (λ k inside. small k (pos 0) inside) q below)))

@@ -1,12 +1,14 @@
 -- Small numbers stay within 64 bits, in whatever order they are added.
-use Rattle.std.proofs.Common.{◌≡◌, suc, ◌+◌, ◌*◌, ◌<◌, ◌≤◌, ℤ, pos, negsuc, neg_ℤ, ◌+ℤ◌, ◌≤ℤ◌, List, [], ◌∷◌, length, ap, ◌∙◌, Ok, arith, w64, SFits}
+use Rattle.std.proofs.Common.{◌≡◌, ℕ, sym, suc, ◌+◌, ◌*◌, ◌<◌, ◌≤◌, ℤ, pos, negsuc, neg_ℤ, ◌+ℤ◌, ◌≤ℤ◌, List, [], ◌∷◌, length, ap, ◌∙◌, Ok, arith, w64, SFits}
 use Rattle.std.specs.List.{All}
 use Rattle.std.proofs.lemmas.Int.{ints, clamps}
 use Rattle.scalar_fns.specs.declared.function.Scalar2.TheVariants.{Plus}
 use Rattle.scalar_fns.specs.Numbers.{dyadic_on_numbers}
+use Rattle.index_region.specs.Checks.{and_then}
+use Rattle.operator_fns.specs.LinearScan.{fold_on, folded_left}
 use Rattle.operator_fns.specs.Strides.{folded}
 use Rattle.operator_fns.specs.Sum.{IsSmall, sum_of}
-use Rattle.operator_fns.proofs.Endings.{total, most, fewest, folded_sum}
+use Rattle.operator_fns.proofs.Endings.{total, most, fewest, folded_sum, held_within}
 
 pub sum_total : (x : ℤ) (rest : List ℤ) → total x rest ≡ sum_of (x ∷ rest)
 sum_total x [] = omega (arith, ints)
@@ -52,3 +54,25 @@ small_folded (x ∷ rest) some few h =
 pub fits_between : (z : ℤ) → neg_ℤ (pos 9223372036854775807) ≤ℤ z → z ≤ℤ pos 9223372036854775807 → SFits w64 z
 fits_between (pos n) low high = record { sfits = omega (arith, ints, high) }
 fits_between (negsuc n) low high = record { sfits = omega (arith, ints, low) }
+
+-- from the left, after as many small numbers as are told
+from_left : (x : ℤ) (rest : List ℤ) (n : ℕ) → neg_ℤ (pos (8796093022207 * n)) ≤ℤ x → x ≤ℤ pos (8796093022207 * n) → All IsSmall rest → n + length rest ≤ 1048576
+    → fold_on (dyadic_on_numbers Plus) x rest ≡ Ok (x +ℤ sum_of rest)
+from_left x [] n low high h few = ap Ok (omega (arith, ints))
+from_left x (y ∷ rest) n low high h few =
+    let s = h 0 y (omega arith) in
+    let y_low = s.low in
+    let y_high = s.high in
+    let held = held_within (x +ℤ y) (record { low = omega (arith, ints); high = omega (arith, ints) }) in
+    ap (λ r. and_then r (λ z. fold_on (dyadic_on_numbers Plus) z rest)) held
+    ∙ from_left (x +ℤ y) rest (n + 1) (omega (arith, ints)) (omega (arith, ints)) (λ k d below. h (suc k) d (omega arith)) (omega arith)
+    ∙ ap Ok (omega (arith, ints))
+
+pub small_left : (xs : List ℤ) → 0 < length xs → length xs ≤ 1048576 → All IsSmall xs → folded_left (dyadic_on_numbers Plus) xs ≡ folded (dyadic_on_numbers Plus) xs
+small_left [] some few h = absurd (omega arith)
+small_left (x ∷ rest) some few h =
+    let s = h 0 x (omega arith) in
+    let low = s.low in
+    let high = s.high in
+    from_left x rest 1 (omega (arith, ints)) (omega (arith, ints)) (λ k d below. h (suc k) d (omega arith)) (omega arith)
+    ∙ sym (small_folded (x ∷ rest) some few h)

@@ -8,6 +8,8 @@ ghost use Rattle.scalar_fns.specs.NumberLists.{IsListAnswerTo};
 ghost use Rattle.operator_fns.specs.Strides.{folded};
 ghost use Rattle.operator_fns.specs.LinearScan.{folded_left, scanned, HasRead, IsAssociative};
 
+use crate::limits::MOST_ITEMS;
+use crate::sum::are_small;
 use arrays_core::{ApplyFault, Kind};
 use scalar_fns::kernels::{Plus, TwoNumbers};
 use std::alloc::Global;
@@ -68,8 +70,49 @@ fn place_after(block_place: usize, block: usize) -> usize
     }
 }
 
+/// The number at the next place of a line of neighbours: as it is, or put together with the result before it.
+fn next_in_line<S: TwoNumbers>(
+    step: &S,
+    before: i64,
+    number: i64,
+    is_first: bool,
+) -> Result<i64, Kind>
+    ensures first { is_first ≡ true → result ≡ Ok number }
+    ensures later { is_first ≡ false → result ≡ S.gives step.now before number }
+{
+    if is_first {
+        Ok(number)
+    } else {
+        step.at(before, number)
+    }
+}
+
+/// The left folds of the first numbers of each line, where a line has `count` numbers, which are neighbours.
+fn running_beside<S: TwoNumbers>(
+    alloc: Global,
+    step: &S,
+    numbers: &[i64],
+    count: usize,
+) -> Result<Vec<i64>, ApplyFault>
+    requires { 1 ≤ count }
+    ensures is { IsListAnswerTo (scanned (folded_left (S.gives step.now)) numbers.now 1 count) result }
+    ensures long { IfOk result (λ v. vec_len v ≡ length numbers.now) }
+    ensures read { HasRead (folded_left (S.gives step.now)) numbers.now 1 count result }
+{
+    let mut results = Vec::with_capacity(alloc, numbers.len())?;
+    let mut before = 0;
+    let mut line_place = 0;
+    for place in 0..numbers.len() {
+        let result = next_in_line(step, before, numbers[place], line_place == 0)?;
+        results.push(result)?;
+        before = result;
+        line_place = place_after(line_place, count);
+    }
+    Ok(results)
+}
+
 /// The left folds of the first numbers of each line, where a line has `count` numbers, a stride apart.
-fn running<S: TwoNumbers>(
+fn running_apart<S: TwoNumbers>(
     alloc: Global,
     step: &S,
     numbers: &[i64],
@@ -95,6 +138,28 @@ fn running<S: TwoNumbers>(
     Ok(results)
 }
 
+/// The same at any stride.
+fn running<S: TwoNumbers>(
+    alloc: Global,
+    step: &S,
+    numbers: &[i64],
+    stride: usize,
+    count: usize,
+) -> Result<Vec<i64>, ApplyFault>
+    requires some { 1 ≤ count }
+    requires apart { 0 < stride }
+    requires high { count * stride ≤ length numbers.now }
+    ensures is { IsListAnswerTo (scanned (folded_left (S.gives step.now)) numbers.now stride count) result }
+    ensures long { IfOk result (λ v. vec_len v ≡ length numbers.now) }
+    ensures read { HasRead (folded_left (S.gives step.now)) numbers.now stride count result }
+{
+    if stride == 1 {
+        running_beside(alloc, step, numbers, count)
+    } else {
+        running_apart(alloc, step, numbers, stride, count)
+    }
+}
+
 /// The folds of the first numbers of each line by a function that is associative: then the left fold is
 /// the right one.
 pub(crate) fn running_folds<S: TwoNumbers>(
@@ -115,7 +180,8 @@ pub(crate) fn running_folds<S: TwoNumbers>(
 }
 
 /// The sums of the first numbers of each line. Such a sum is within 64 bits on its way from the last
-/// number to the first where that of each ending is, so where the greatest and the least of these are.
+/// number to the first where that of each ending is, so where the greatest and the least of these are. Those
+/// of small numbers always are.
 pub(crate) fn running_sums(
     alloc: Global,
     numbers: &[i64],
@@ -128,6 +194,9 @@ pub(crate) fn running_sums(
     ensures is { IsListAnswerTo (scanned (folded (dyadic_on_numbers Sum)) numbers.now stride count) result }
     ensures long { IfOk result (λ v. vec_len v ≡ length numbers.now) }
 {
+    if numbers.len() <= MOST_ITEMS && are_small(numbers) {
+        return running(alloc, &Plus, numbers, stride, count);
+    }
     running(alloc, &GreatestEnding, numbers, stride, count)?;
     running(alloc, &LeastEnding, numbers, stride, count)?;
     running(alloc, &Plus, numbers, stride, count)

@@ -16,7 +16,7 @@ use scalar_fns::kernels::Plus;
 const SMALL: i64 = 8_796_093_022_208;
 
 /// No number of a list is far from 0.
-fn are_small(numbers: &[i64]) -> bool
+pub(crate) fn are_small(numbers: &[i64]) -> bool
     ensures { result ≡ true → All IsSmall numbers.now }
 {
     let mut least: i64 = 0;

@@ -6,7 +6,7 @@ use Rattle.operator_fns.specs.Strides.{folded}
 use Rattle.operator_fns.specs.LinearScan.{folded_left, scanned}
 use Rattle.operator_fns.proofs.Errors.{fault_passed}
 use Rattle.operator_fns.proofs.Endings.{greatest_step, least_step}
-use Rattle.operator_fns.proofs.RunningSums.{greatest_leaves, least_leaves, sums_stay}
+use Rattle.operator_fns.proofs.RunningSums.{greatest_leaves, least_leaves, sums_stay, small_sums}
 use Rattle.operator_fns.proofs.linear_scan.running_sums.Goals as goal
 
 pub returns-in_err-running-clause-is : goal.returns-in_err-running-clause-is
@@ -25,8 +25,14 @@ returns-in_err-running-2-clause-is c =
     fault_passed (folded_left least_step) zs s n (scanned (folded (dyadic_on_numbers Sum)) zs s n) c.in_err-running-2.field-0.0 _
     (λ k h. least_leaves zs s n c.requires.apart c.requires.some k h) c.in_err-running-2.ensures.read c.from_residual-in_err-running-2.ensures
 
+pub returns-then-are_small-clause-is : goal.returns-then-are_small-clause-is
+returns-then-are_small-clause-is c =
+    subst (λ w. IsListAnswerTo w c.running.result)
+    (small_sums c.args.numbers.now c.args.stride c.args.count c.requires.apart c.requires.some (c.are_small.ensures c.if-are_small.true) c.if-numbers-le-MOST_ITEMS.true)
+    c.running.ensures.is
+
 pub returns-clause-is : goal.returns-clause-is
 returns-clause-is c =
-    subst (λ w. IsListAnswerTo w c.running-3.result)
+    subst (λ w. IsListAnswerTo w c.running-4.result)
     (sums_stay c.args.numbers.now c.args.stride c.args.count c.requires.apart c.requires.some _ _ c.in_ok-running.ensures.read c.in_ok-running.ensures.is c.in_ok-running-2.ensures.is)
-    c.running-3.ensures.is
+    c.running-4.ensures.is

@@ -3,7 +3,7 @@ use Rattle.std.specs.Int.{w64}
 use Rattle.std.specs.List.{range_with_len}
 use Rattle.arrays_core.specs.Items.{all_or_first_error}
 use Rattle.operator_fns.specs.LinearScan.{run_to, folded_left}
-use Rattle.operator_fns.proofs.linear_scan.running.Given as goal
+use Rattle.operator_fns.proofs.linear_scan.running_apart.Given as goal
 
 abbrev pub invariant-loop-place : goal.invariant-loop-place
 invariant-loop-place g l = record {

@@ -9,7 +9,7 @@ use Rattle.arrays_core.proofs.Order.{front_more, front_error}
 use Rattle.scalar_fns.proofs.Errors.{list_error}
 use Rattle.operator_fns.specs.LinearScan.{folded_left}
 use Rattle.operator_fns.proofs.LeftScans.{next_left, left_at, fits_below, all_fit, error_read}
-use Rattle.operator_fns.proofs.linear_scan.running.Goals as goal
+use Rattle.operator_fns.proofs.linear_scan.running_apart.Goals as goal
 
 pub returns-in_err-result-clause-is : goal.returns-in_err-result-clause-is
 returns-in_err-result-clause-is g c =
