@@ -1,6 +1,8 @@
 pub mod Folds
 pub mod WrittenEnds
 pub mod ColumnFolds
+pub mod ProductSums
+pub mod PlainGrids
 pub mod Lines
 pub mod Placewise
 pub mod Errors

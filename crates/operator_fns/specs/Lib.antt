@@ -8,6 +8,7 @@ pub mod SumTree
 -- What proofs and bodies use.
 pub mod Strides
 pub mod Columns
+pub mod SmallProducts
 pub mod LinearScan
 pub mod RowByColumn
 pub mod ResultTable

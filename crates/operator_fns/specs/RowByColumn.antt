@@ -1,5 +1,5 @@
 -- Rows and columns taken entry by entry.
-use Rattle.std.specs.Prelude.{ℕ, ◌+◌, ◌*◌, ◌/◌, ◌%◌, ◌<◌, ◌≤◌, ℤ, pos, List, [], ◌∷◌, map, get_or, drop, if◌then◌else◌, Result, Ok, Err}
+use Rattle.std.specs.Prelude.{◌≡◌, ℕ, ◌+◌, ◌*◌, ◌/◌, ◌%◌, ◌<◌, ◌≤◌, ℤ, pos, List, [], ◌∷◌, map, get_or, drop, if◌then◌else◌, Result, Ok, Err}
 use Rattle.std.specs.List.{range_with_len}
 use Rattle.arrays_core.specs.declared.item.Kind.{Kind}
 use Rattle.arrays_core.specs.Shapes.{size}
@@ -61,3 +61,10 @@ grid_of a b = record {
   row_stride = if has_one_item a then 0 else 1;
   column_stride = if has_one_item b then 0 else size (drop 1 b.shape);
 }
+
+-- the rows and the columns of the places of a result that has some lie as those of two matrices in row-major order
+pub record IsPlain (grid : Grid) (places : ℕ) : Type 0 where
+  pub rows : grid.row_stride ≡ 1
+  pub columns : grid.column_stride ≡ grid.columns
+  pub even : places % grid.columns ≡ 0
+  pub some : 0 < places

@@ -1,15 +1,17 @@
 //! The rows of one list of numbers folded with the columns of another.
 
-ghost use Rattle.std.specs.Prelude.{◌≡◌, length};
+ghost use Rattle.std.specs.Prelude.{◌≡◌, ◌<◌, true, length};
 ghost use Rattle.arrays_core.specs.declared.item.ItemType.TheVariants.{Nums};
 ghost use Rattle.arrays_core.specs.Arrays.{collect as collected, IsAnswerTo};
 ghost use Rattle.arrays_core.specs.Shapes.{size as size_of, places_before, IsWithinLimits};
+ghost use Rattle.scalar_fns.specs.declared.function.Scalar2.TheVariants.{Plus as Sum, Times as Product};
 ghost use Rattle.scalar_fns.specs.Numbers.{dyadic_on_numbers};
 ghost use Rattle.scalar_fns.specs.Items.{number_item};
-ghost use Rattle.operator_fns.specs.RowByColumn.{cell, IsGridOf};
+ghost use Rattle.operator_fns.specs.RowByColumn.{cell, IsGridOf, IsPlain};
 
 use crate::number_rule::{NumberRule, collect_numbers};
 use crate::row_by_column::{NumberLines, StridedLine, fold_row};
+use crate::small_products::{add_up, small_products};
 use arrays_core::{ApplyFault, Array, Kind, Shape, size};
 use scalar_fns::Scalar2;
 use scalar_fns::kernels::{And, Equal, Maximum, Minimum, Or, Plus, Times, TwoNumbers};
@@ -26,6 +28,19 @@ pub(crate) struct Grid {
     pub(crate) row_stride: usize,
     /// How far apart the numbers of a column stand; 0 where one number is all of them.
     pub(crate) column_stride: usize,
+}
+
+impl Grid {
+    /// The rows and the columns of so many places are those of two matrices, as they lie.
+    fn is_plain(&self, places: usize) -> bool
+        requires { 0 < self.now.columns }
+        ensures { result ≡ true → IsPlain self.now places }
+    {
+        self.row_stride == 1
+            && self.column_stride == self.columns
+            && places > 0
+            && places % self.columns == 0
+    }
 }
 
 /// Each row folded with each column.
@@ -93,6 +108,26 @@ fn products_by<F: TwoNumbers, G: TwoNumbers>(
     collect_numbers(alloc, &rule, shape)
 }
 
+/// The same for sums of products, a row of the result at a time where the numbers are small enough.
+fn sums_of_products(
+    alloc: Global,
+    left: &[i64],
+    right: &[i64],
+    grid: Grid,
+    shape: &Shape,
+) -> Result<Array, ApplyFault>
+    requires within { IsWithinLimits shape.now.items }
+    requires fits { IsGridOf grid (size_of shape.now.items) (length left.now) (length right.now) }
+    ensures { IsAnswerTo (collected Nums shape.now.items (λ index. number_item (cell (dyadic_on_numbers Sum) (dyadic_on_numbers Product) left.now right.now grid (places_before shape.now.items index)))) result }
+{
+    let places = size(shape.as_slice()) as usize;
+    if !grid.is_plain(places) || !add_up(left, right, grid.count) {
+        return products_by(alloc, &Plus, &Times, left, right, grid, shape);
+    }
+    let numbers = small_products(alloc, left, right, grid.columns, grid.count, places)?;
+    Ok(Array::from_numbers(shape, numbers))
+}
+
 /// The same for functions that are chosen; the most usual products have a loop of their own.
 pub(crate) fn grid_products(
     alloc: Global,
@@ -108,9 +143,7 @@ pub(crate) fn grid_products(
     ensures { IsAnswerTo (collected Nums shape.now.items (λ index. number_item (cell (dyadic_on_numbers fold) (dyadic_on_numbers each) left.now right.now grid (places_before shape.now.items index)))) result }
 {
     match (fold, each) {
-        (Scalar2::Plus, Scalar2::Times) => {
-            products_by(alloc, &Plus, &Times, left, right, grid, shape)
-        }
+        (Scalar2::Plus, Scalar2::Times) => sums_of_products(alloc, left, right, grid, shape),
         (Scalar2::Minimum, Scalar2::Plus) => {
             products_by(alloc, &Minimum, &Plus, left, right, grid, shape)
         }

@@ -12,6 +12,7 @@ mod reduce;
 mod right_fold;
 mod row_by_column;
 mod scan;
+mod small_products;
 mod sum;
 mod sum_tree;
 mod summary;

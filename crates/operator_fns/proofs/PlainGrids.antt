@@ -1,0 +1,70 @@
+-- The rows and the columns of two matrices as they lie.
+use Rattle.std.proofs.Common.{◌≡◌, ℕ, zero, suc, ◌+◌, ◌-◌, ◌*◌, ◌/◌, ◌%◌, ◌<◌, ◌≤◌, List, length, get_or, ap, sym, ◌∙◌, arith, ℤ, pos, Ok}
+use Rattle.std.proofs.lemmas.Nat.{div-mul-add, div-add-mod'}
+use Rattle.std.proofs.Math.Nat.{mod-eq_of_lt}
+use Rattle.scalar_fns.specs.declared.function.Scalar2.TheVariants.{Plus, Times}
+use Rattle.scalar_fns.specs.Numbers.{dyadic_on_numbers}
+use Rattle.operator_fns.specs.declared.grid.Grid.{Grid}
+use Rattle.operator_fns.specs.RowByColumn.{cell, IsGridOf, IsPlain}
+use Rattle.operator_fns.specs.SmallProducts.{AddUp, IsProduct}
+use Rattle.operator_fns.proofs.ProductSums.{small_entries, products_folded, same_sums}
+
+one_more : (r m : ℕ) → 1 ≤ r → r * m ≡ (r - 1) * m + m
+one_more r m h = (let e : r ≡ r - 1 + 1 = omega arith in ap (λ n. n * m) e ∙ omega arith)
+
+module _ (grid : Grid) (places n m : ℕ) (fits : IsGridOf grid places n m) (plain : IsPlain grid places) where
+  some_rows : 1 ≤ places / grid.columns
+  some_rows =
+      let some = plain.some in
+      let even = plain.even in
+      let parts = div-add-mod' places grid.columns in
+      positive (places / grid.columns) grid.columns (omega arith)
+    where
+      positive : (q c : ℕ) → 0 < q * c → 1 ≤ q
+      positive zero c h = absurd (omega arith)
+      positive (suc q) c h = omega arith
+
+  all_rows : places ≡ places / grid.columns * grid.columns
+  all_rows = let even = plain.even in let parts = div-add-mod' places grid.columns in omega arith
+
+  pub rows_inside : places / grid.columns * grid.count ≤ n
+  rows_inside =
+      let c = grid.columns in
+      let q = places / c in
+      let all = all_rows in
+      let positive = fits.some_columns in
+      let some = fits.some in
+      let split = one_more q c some_rows in
+      let last = (q - 1) * c + 0 in
+      let below = fits.rows last (omega arith) (grid.count - 1) (omega arith) in
+      let d : last / c ≡ q - 1 = div-mul-add (q - 1) c 0 positive in
+      let here : (q - 1) * grid.count + (grid.count - 1) * 1 < n = rw (d, plain.rows) at below in
+      let parts = one_more q grid.count some_rows in
+      omega arith
+
+  pub columns_inside : grid.count * grid.columns ≤ m
+  columns_inside =
+      let c = grid.columns in
+      let positive = fits.some_columns in
+      let some = fits.some in
+      let all = all_rows in
+      let split = one_more (places / c) c some_rows in
+      let below = fits.columns (c - 1) (omega arith) (grid.count - 1) (omega arith) in
+      let e : (c - 1) % c ≡ c - 1 = mod-eq_of_lt (omega arith) in
+      let here : c - 1 + (grid.count - 1) * c < m = rw (e, plain.columns) at below in
+      let parts = one_more grid.count c some in
+      omega arith
+
+-- the numbers at the places are the sums of products
+pub product_there : (xs ys : List ℤ) (grid : Grid) (places : ℕ) → IsGridOf grid places (length xs) (length ys) → IsPlain grid places → AddUp grid.count xs ys
+    → (place : ℕ) (z : ℤ) → place < places → IsProduct xs ys grid.columns grid.count place z
+    → cell (dyadic_on_numbers Plus) (dyadic_on_numbers Times) xs ys grid place ≡ Ok z
+product_there xs ys grid places fits plain small place z below is =
+    let row = λ (k : ℕ). place / grid.columns * grid.count + k * grid.row_stride in
+    let column = λ (k : ℕ). place % grid.columns + k * grid.column_stride in
+    let near = small_entries xs ys grid.count row column small (λ k inside. fits.rows place below k inside) (λ k inside. fits.columns place below k inside) in
+    products_folded (λ k. get_or xs (row k) (pos 0)) (λ k. get_or ys (column k) (pos 0)) grid.count near fits.some
+    ∙ ap Ok (same_sums _ _ (λ k. get_or xs (place / grid.columns * grid.count + k) (pos 0)) (λ k. get_or ys (place % grid.columns + k * grid.columns) (pos 0)) grid.count
+    (λ k inside. let one : k * 1 ≡ k = omega arith in ap (λ s. get_or xs (place / grid.columns * grid.count + k * s) (pos 0)) plain.rows ∙ ap (λ j. get_or xs (place / grid.columns * grid.count + j) (pos 0)) one)
+    (λ k inside. ap (λ s. get_or ys (place % grid.columns + k * s) (pos 0)) plain.columns)
+    ∙ sym is.is)

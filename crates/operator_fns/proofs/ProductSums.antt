@@ -1,0 +1,206 @@
+-- The sum of products of small numbers, whose fold is that sum.
+use Rattle.std.proofs.Common.{◌≡◌, ℕ, suc, ◌+◌, ◌-◌, ◌*◌, ◌/◌, ◌%◌, inl, inr, ◌^◌, ◌<◌, ◌≤◌, List, [], ◌∷◌, ◌++◌, length, get_or, take, drop, map, refl, ap, subst, sym, ◌∙◌, arith, ℤ, pos, ◌+ℤ◌, ◌*ℤ◌, unsigned_abs, FitsSigned, Ok}
+use Rattle.std.specs.Int.{w64}
+use Rattle.std.specs.List.{All, range_with_len}
+use Rattle.std.proofs.lemmas.Int.{ints, unsigned_abs-mul, fits_signed_from_abs}
+use Rattle.std.proofs.lemmas.List.FromFn.{length-map-range_with_len, get_or-map-range_with_len, map-range_with_len_more}
+use Rattle.std.proofs.Math.Nat.{mul-le-mul, mul-le-mul_left, mul-le-mul_right}
+use Rattle.std.proofs.lemmas.List.{get_or-take, get_or-drop, get_or_append_left, get_or-append_right, length-take, length-drop}
+use Rattle.std.proofs.lemmas.List.Elements.{All-take, All-drop}
+use Rattle.std.proofs.lemmas.Bool.{cases_lt}
+use Rattle.std.proofs.lemmas.Nat.{div-mul-add, mod-mul-add}
+use Rattle.scalar_fns.specs.declared.function.Scalar2.TheVariants.{Plus, Times}
+use Rattle.scalar_fns.specs.Numbers.{dyadic_on_numbers, number_or_limit}
+use Rattle.index_region.specs.Checks.{and_then}
+use Rattle.operator_fns.specs.Strides.{folded}
+use Rattle.operator_fns.specs.Sum.{sum_of}
+use Rattle.operator_fns.specs.InnerProduct.{all_or_last_error}
+use Rattle.operator_fns.specs.RowByColumn.{met, folded_all}
+use Rattle.operator_fns.specs.SmallProducts.{sum_of_products, IsNear, AddUp, EndsInSums, IsProduct}
+use Rattle.operator_fns.proofs.Endings.{held_within, within_of}
+use Rattle.operator_fns.proofs.Firsts.{same_rules}
+
+abs_add : (a b : ℤ) → unsigned_abs (a +ℤ b) ≤ unsigned_abs a + unsigned_abs b
+abs_add a b = omega (arith, ints)
+
+-- a number that is near enough is one of 64 bits
+pub near_fits : (z : ℤ) (most : ℕ) → unsigned_abs z ≤ most → most < 2 ^ 63 → FitsSigned w64 z
+near_fits z most near few = fits_signed_from_abs w64 z (omega arith)
+
+near_held : (z : ℤ) (most : ℕ) → unsigned_abs z ≤ most → most < 2 ^ 63 → number_or_limit z ≡ Ok z
+near_held z most near few = held_within z (within_of z (near_fits z most near few))
+
+-- ---- the sum of numbers that are near
+
+sum_more : (xs : List ℤ) (z : ℤ) → sum_of (xs ++ z ∷ []) ≡ sum_of xs +ℤ z
+sum_more [] z = omega (arith, ints)
+sum_more (x ∷ xs) z = ap (λ s. x +ℤ s) (sum_more xs z) ∙ omega (arith, ints)
+
+pub sum_near : (most : ℕ) (xs : List ℤ) → All (IsNear most) xs → unsigned_abs (sum_of xs) ≤ most * length xs
+sum_near most [] h = omega arith
+sum_near most (x ∷ xs) h =
+    let here = (h 0 x (omega arith)).near in
+    let rest = sum_near most xs (λ k d below. h (suc k) d (omega arith)) in
+    let both = abs_add x (sum_of xs) in
+    omega arith
+
+near_folded : (most : ℕ) (xs : List ℤ) → 0 < length xs → most * length xs < 2 ^ 63 → All (IsNear most) xs → folded (dyadic_on_numbers Plus) xs ≡ Ok (sum_of xs)
+near_folded most [] some few h = absurd (omega arith)
+near_folded most (x ∷ []) some few h = ap Ok (omega (arith, ints))
+near_folded most (x ∷ y ∷ rest) some few h =
+    let later : All (IsNear most) (y ∷ rest) = λ k d below. h (suc k) d (omega arith) in
+    let fewer : most * length (y ∷ rest) < 2 ^ 63 = omega arith in
+    ap (λ r. and_then r (dyadic_on_numbers Plus x)) (near_folded most (y ∷ rest) (omega arith) fewer later)
+    ∙ near_held (x +ℤ sum_of (y ∷ rest)) (most * length (x ∷ y ∷ rest)) (sum_near most (x ∷ y ∷ rest) h) few
+
+-- ---- the products
+
+all_fine : {A : Type 0} (value : ℕ → A) (places : List ℕ) → all_or_last_error (map (λ k. Ok (value k)) places) ≡ Ok (map value places)
+all_fine value [] = refl
+all_fine value (k ∷ places) = ap (λ r. and_then r (λ items. Ok (value k ∷ items))) (all_fine value places)
+
+-- what is summed in the same places is the same sum
+pub same_sums : (row column other next : ℕ → ℤ) (n : ℕ) → ((k : ℕ) → k < n → row k ≡ other k) → ((k : ℕ) → k < n → column k ≡ next k)
+    → sum_of_products row column n ≡ sum_of_products other next n
+same_sums row column other next n rows columns =
+    ap sum_of (same_rules (λ k. row k *ℤ column k) (λ k. other k *ℤ next k) n (λ k below. let r = rows k below in let c = columns k below in cc))
+
+pub next_sum : (row column : ℕ → ℤ) (k : ℕ) → sum_of_products row column (k + 1) ≡ sum_of_products row column k +ℤ row k *ℤ column k
+next_sum row column k =
+    ap sum_of (map-range_with_len_more (λ k. row k *ℤ column k) 0 k k (omega arith)) ∙ sum_more (map (λ k. row k *ℤ column k) (range_with_len 0 k)) (row k *ℤ column k)
+
+-- the first entries of a row and of a column are near enough
+pub record AreSmall (row column : ℕ → ℤ) (n : ℕ) : Type 0 where
+  pub most_x : ℕ
+  pub most_y : ℕ
+  pub near_x : (k : ℕ) → k < n → unsigned_abs (row k) ≤ most_x
+  pub near_y : (k : ℕ) → k < n → unsigned_abs (column k) ≤ most_y
+  pub few : most_x * most_y * n < 2 ^ 63
+
+-- where they are taken from two lists whose numbers are
+pub small_entries : (xs ys : List ℤ) (n : ℕ) (row column : ℕ → ℕ) → AddUp n xs ys → ((k : ℕ) → k < n → row k < length xs) → ((k : ℕ) → k < n → column k < length ys)
+    → AreSmall (λ k. get_or xs (row k) (pos 0)) (λ k. get_or ys (column k) (pos 0)) n
+small_entries xs ys n row column small rows columns =
+    record {
+      most_x = small.most_x;
+      most_y = small.most_y;
+      near_x = λ k below. (small.near_x (row k) (pos 0) (rows k below)).near;
+      near_y = λ k below. (small.near_y (column k) (pos 0) (columns k below)).near;
+      few = small.few;
+    }
+
+module _ (row column : ℕ → ℤ) (n : ℕ) (small : AreSmall row column n) where
+  abbrev most : ℕ
+  most = small.most_x * small.most_y
+
+  abbrev products : ℕ → List ℤ
+  products k = map (λ k. row k *ℤ column k) (range_with_len 0 k)
+
+  near_products : (k : ℕ) → k ≤ n → All (IsNear most) (products k)
+  near_products k high i d below =
+      let long = length-map-range_with_len (λ k. row k *ℤ column k) 0 k in
+      let inside : i < k = omega arith in
+      let one = small.near_x i (omega arith) in
+      let other = small.near_y i (omega arith) in
+      let here : get_or (products k) i d ≡ row i *ℤ column i = get_or-map-range_with_len (λ k. row k *ℤ column k) 0 k i i d inside (omega arith) in
+      record { near = rw (here, unsigned_abs-mul) (mul-le-mul one other) }
+
+  part_near : (k : ℕ) → k ≤ n → unsigned_abs (sum_of_products row column k) ≤ most * n
+  part_near k high =
+      let long = length-map-range_with_len (λ k. row k *ℤ column k) 0 k in
+      let part = subst (λ m. unsigned_abs (sum_of_products row column k) ≤ most * m) long (sum_near most (products k) (near_products k high)) in
+      let more : most * k ≤ most * n = mul-le-mul_left most high in
+      omega arith
+
+  pub part_fits : (k : ℕ) → k ≤ n → FitsSigned w64 (sum_of_products row column k)
+  part_fits k high = near_fits (sum_of_products row column k) (most * n) (part_near k high) small.few
+
+  pub product_fits : (k : ℕ) → k < n → FitsSigned w64 (row k *ℤ column k)
+  product_fits k below =
+      let one : unsigned_abs (row k *ℤ column k) ≤ most = rw unsigned_abs-mul (mul-le-mul (small.near_x k below) (small.near_y k below)) in
+      let more : most * 1 ≤ most * n = mul-le-mul_left most (omega arith) in
+      near_fits (row k *ℤ column k) (most * n) (omega arith) small.few
+
+  pub next_fits : (k : ℕ) → k < n → FitsSigned w64 (sum_of_products row column k +ℤ row k *ℤ column k)
+  next_fits k below = subst (FitsSigned w64) (next_sum row column k) (part_fits (k + 1) (omega arith))
+
+  -- the fold of what is met is the sum
+  pub products_folded : 1 ≤ n → folded_all (dyadic_on_numbers Plus) (met (dyadic_on_numbers Times) row column n) ≡ Ok (sum_of_products row column n)
+  products_folded some =
+      let long = length-map-range_with_len (λ k. row k *ℤ column k) 0 n in
+      let fine : met (dyadic_on_numbers Times) row column n ≡ map (λ k. Ok (row k *ℤ column k)) (range_with_len 0 n) =
+      same_rules (λ k. dyadic_on_numbers Times (row k) (column k)) (λ k. Ok (row k *ℤ column k)) n
+      (λ k below. held_within (row k *ℤ column k) (within_of (row k *ℤ column k) (product_fits k below))) in
+      ap (folded_all (dyadic_on_numbers Plus)) fine
+      ∙ ap (λ r. and_then r (folded (dyadic_on_numbers Plus))) (all_fine (λ k. row k *ℤ column k) (range_with_len 0 n))
+      ∙ near_folded most (products n) (omega arith) (subst (λ m. most * m < 2 ^ 63) (sym long) small.few) (near_products n (omega arith))
+
+-- ---- places in rows that lie one after another
+
+pub in_rows : (column columns row rows : ℕ) → column < columns → row < rows → column + row * columns < rows * columns
+in_rows column columns row rows below inside =
+    let most : (row + 1) * columns ≤ rows * columns = mul-le-mul_right columns (omega arith) in
+    let more : (row + 1) * columns ≡ row * columns + columns = one_more row columns in
+    omega arith
+  where
+    one_more : (r m : ℕ) → (r + 1) * m ≡ r * m + m
+    one_more r m = omega arith
+
+pub row_high : (row count rows : ℕ) → row < rows → row * count + count ≤ rows * count
+row_high row count rows inside =
+    let most : (row + 1) * count ≤ rows * count = mul-le-mul_right count (omega arith) in
+    let more : (row + 1) * count ≡ row * count + count = one_more row count in
+    omega arith
+  where
+    one_more : (r m : ℕ) → (r + 1) * m ≡ r * m + m
+    one_more r m = omega arith
+
+pub row_entry : (rows : List ℤ) (columns row column : ℕ) → column < columns
+    → get_or (take (row * columns + columns - row * columns) (drop (row * columns) rows)) column (pos 0) ≡ get_or rows (column + row * columns) (pos 0)
+row_entry rows columns row column below =
+    let place : row * columns + column ≡ column + row * columns = omega arith in
+    get_or-take (row * columns + columns - row * columns) (drop (row * columns) rows) column (pos 0) (omega arith)
+    ∙ get_or-drop (row * columns) rows column (pos 0)
+    ∙ ap (λ p. get_or rows p (pos 0)) place
+
+-- numbers of parts of two lists
+pub parts_add_up : (xs ys : List ℤ) (first long count most : ℕ) → AddUp count xs ys → length (take long (drop first xs)) ≡ count
+    → AddUp (length (take long (drop first xs))) (take long (drop first xs)) (take most ys)
+parts_add_up xs ys first long count most small same =
+    record {
+      most_x = small.most_x;
+      most_y = small.most_y;
+      near_x = All-take (IsNear small.most_x) long (drop first xs) (All-drop (IsNear small.most_x) first xs small.near_x);
+      near_y = All-take (IsNear small.most_y) most ys small.near_y;
+      few = subst (λ n. small.most_x * small.most_y * n < 2 ^ 63) (sym same) small.few;
+    }
+
+module _ (xs ys : List ℤ) (columns count : ℕ) where
+  -- a row more
+  pub row_more : (row : ℕ) (before all : List ℤ) → row * count + count ≤ length xs → length before ≡ row * columns
+      → EndsInSums (take (row * count + count - row * count) (drop (row * count) xs)) (take (count * columns) ys) columns before all
+      → ((place : ℕ) → place < row * columns → IsProduct xs ys columns count place (get_or before place (pos 0)))
+      → (place : ℕ) → place < (row + 1) * columns → IsProduct xs ys columns count place (get_or all place (pos 0))
+  row_more row before all inside long ends made place below =
+      elim (cases_lt place (row * columns)) [
+        | inl h ↦ subst (IsProduct xs ys columns count place) (sym (ap (λ zs. get_or zs place (pos 0)) ends.is ∙ get_or_append_left before ends.sums (pos 0) place (omega arith))) (made place h)
+        | inr h ↦
+            (let column = place - row * columns in
+            let low : column < columns = omega arith in
+            let parts : place ≡ row * columns + column = omega arith in
+            let d : place / columns ≡ row = ap (λ p. p / columns) parts ∙ div-mul-add row columns column low in
+            let m : place % columns ≡ column = ap (λ p. p % columns) parts ∙ mod-mul-add row columns column low in
+            let some : length (take (row * count + count - row * count) (drop (row * count) xs)) ≡ count =
+            length-take (row * count + count - row * count) (drop (row * count) xs) ∙ omega (arith, length-drop (row * count) xs) in
+            let here = ends.summed.each column low in
+            record {
+              is = ap (λ zs. get_or zs place (pos 0)) ends.is
+                  ∙ get_or-append_right before ends.sums (row * columns) place (pos 0) long h
+                  ∙ here
+                  ∙ ap (sum_of_products (λ k. get_or (take (row * count + count - row * count) (drop (row * count) xs)) k (pos 0)) (λ k. get_or (take (count * columns) ys) (column + k * columns) (pos 0))) some
+                  ∙ same_sums _ _ (λ k. get_or xs (place / columns * count + k) (pos 0)) (λ k. get_or ys (place % columns + k * columns) (pos 0)) count
+                  (λ k inside. get_or-take (row * count + count - row * count) (drop (row * count) xs) k (pos 0) (omega arith) ∙ get_or-drop (row * count) xs k (pos 0)
+                  ∙ ap (λ r. get_or xs (r * count + k) (pos 0)) (sym d))
+                  (λ k inside. get_or-take (count * columns) ys (column + k * columns) (pos 0) (in_rows column columns k count low inside) ∙ ap (λ c. get_or ys (c + k * columns) (pos 0)) (sym m));
+            })
+      ]

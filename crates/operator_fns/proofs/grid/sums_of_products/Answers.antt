@@ -1,0 +1,45 @@
+use Rattle.std.proofs.Common.{◌≡◌, ◌∙◌, ap, sym, map, Ok, pos, length, subst, get_or}
+use Rattle.std.specs.List.{range_with_len}
+use Rattle.arrays_core.specs.Items.{all_or_first_error}
+use Rattle.arrays_core.specs.Shapes.{size}
+use Rattle.arrays_core.specs.Arrays.{with_items}
+use Rattle.arrays_core.specs.declared.item.ItemType.TheVariants.{Nums}
+use Rattle.scalar_fns.specs.declared.function.Scalar2.TheVariants.{Plus as Sum, Times as Product}
+use Rattle.scalar_fns.specs.Numbers.{dyadic_on_numbers}
+use Rattle.scalar_fns.specs.NumberLists.{number_items}
+use Rattle.operator_fns.specs.RowByColumn.{cell, IsGridOf}
+use Rattle.operator_fns.proofs.Placewise.{numbers_collected}
+use Rattle.operator_fns.proofs.Firsts.{all_places}
+use Rattle.operator_fns.proofs.PlainGrids.{rows_inside, columns_inside, product_there}
+use Rattle.operator_fns.proofs.grid.sums_of_products.Goals as goal
+
+pub small_products-requires-clause-rows : goal.small_products-requires-clause-rows
+small_products-requires-clause-rows c =
+    let places = c.size-places.ensures ∙ ap size c.as_slice.ensures in
+    let fits = subst (λ n. IsGridOf c.args.grid n (length c.args.left.now) (length c.args.right.now)) (sym places) c.requires.fits in
+    rows_inside c.args.grid c.size-places.result _ _ fits (c.is_plain.ensures c.if-not-is_plain.false)
+
+pub small_products-requires-clause-columns : goal.small_products-requires-clause-columns
+small_products-requires-clause-columns c =
+    let places = c.size-places.ensures ∙ ap size c.as_slice.ensures in
+    let fits = subst (λ n. IsGridOf c.args.grid n (length c.args.left.now) (length c.args.right.now)) (sym places) c.requires.fits in
+    columns_inside c.args.grid c.size-places.result _ _ fits (c.is_plain.ensures c.if-not-is_plain.false)
+
+pub returns : goal.returns
+returns c =
+    let xs = c.args.left.now in
+    let ys = c.args.right.now in
+    let grid = c.args.grid in
+    let n = c.size-places.result in
+    let shape = c.args.shape.now.items in
+    let zs = c.in_ok-numbers.numbers in
+    let places : n ≡ size shape = c.size-places.ensures ∙ ap size c.as_slice.ensures in
+    let fits = subst (λ m. IsGridOf grid m (length xs) (length ys)) (sym places) c.requires.fits in
+    let rule = cell (dyadic_on_numbers Sum) (dyadic_on_numbers Product) xs ys grid in
+    let made : all_or_first_error (map rule (range_with_len 0 n)) ≡ Ok zs.items =
+    all_places rule n zs.items (pos 0) (sym zs.ok.0 ∙ c.in_ok-numbers.ensures.long)
+    (λ k below. product_there xs ys grid n fits (c.is_plain.ensures c.if-not-is_plain.false) (c.add_up.ensures c.if-not-add_up.false) k (get_or zs.items k (pos 0)) below
+    (c.in_ok-numbers.ensures.is k below)) in
+    numbers_collected shape rule
+    ∙ ap (λ r. with_items Nums shape (number_items r)) (ap (λ m. all_or_first_error (map rule (range_with_len 0 m))) (sym places) ∙ made)
+    ∙ ap Ok (sym c.from_numbers.ensures)

@@ -1,0 +1,120 @@
+//! Sums of products of small numbers, which stay within 64 bits in whatever order they are added.
+
+ghost use Rattle.std.specs.Prelude.{◌≡◌, ◌<◌, ◌≤◌, ℕ, ◌+◌, ◌*◌, ◌/◌, ◌%◌, ◌^◌, ◌+ℤ◌, ◌*ℤ◌, true, pos, length, get_or, All, FitsSigned, OnOk, IfOk, vec_len};
+ghost use Rattle.operator_fns.specs.SmallProducts.{sum_of_products, IsNear, AddUp, RowFits, AreSums, EndsInSums, IsProduct};
+
+use std::alloc::{AllocError, Global};
+
+/// How far the numbers of a list are from 0 at most.
+fn reach(numbers: &[i64]) -> u64
+    ensures { All (IsNear result) numbers.now }
+{
+    let mut least: i64 = 0;
+    let mut greatest: i64 = 0;
+    for number in numbers {
+        least = least.min(*number);
+        greatest = greatest.max(*number);
+    }
+    least.unsigned_abs().max(greatest.unsigned_abs())
+}
+
+/// So many products of a number of one list and a number of another are known to add up within 64 bits.
+pub(crate) fn add_up(left: &[i64], right: &[i64], count: usize) -> bool
+    ensures { result ≡ true → AddUp count left.now right.now }
+{
+    match reach(left).checked_mul(reach(right)) {
+        None => false,
+        Some(product) => match product.checked_mul(count as u64) {
+            None => false,
+            Some(sum) => sum <= i64::MAX as u64,
+        },
+    }
+}
+
+/// The sum of the products of two lists, number by number.
+fn sum_of_pairs(left: &[i64], right: &[i64]) -> i64
+    requires long { length left.now ≡ length right.now }
+    requires small { AddUp (length left.now) left.now right.now }
+    ensures { result ≡ sum_of_products (λ k. get_or left.now k (pos 0)) (λ k. get_or right.now k (pos 0)) (length left.now) }
+{
+    let mut sum = 0;
+    for place in 0..left.len() {
+        sum += left[place] * right[place];
+    }
+    sum
+}
+
+/// Adds the numbers of a row, each times a factor, to sums.
+fn add_row(sums: &mut [i64], factor: i64, row: &[i64])
+    requires long { length row.now ≡ length sums.old }
+    requires fits { (j : ℕ) → j < length row.now → RowFits factor (get_or row.now j (pos 0)) (get_or sums.old j (pos 0)) }
+    ensures long { length sums.new ≡ length sums.old }
+    ensures is { (j : ℕ) → j < length row.now → get_or sums.new j (pos 0) ≡ get_or sums.old j (pos 0) +ℤ factor *ℤ get_or row.now j (pos 0) }
+{
+    for column in 0..row.len() {
+        sums[column] += factor * row[column];
+    }
+}
+
+/// Adds to sums that are 0 the numbers of as many rows as there are factors, each row times its factor.
+fn sum_rows(sums: &mut [i64], factors: &[i64], rows: &[i64])
+    requires none { (j : ℕ) → j < length sums.old → get_or sums.old j (pos 0) ≡ pos 0 }
+    requires whole { length rows.now ≡ length factors.now * length sums.old }
+    requires small { AddUp (length factors.now) factors.now rows.now }
+    ensures long { length sums.new ≡ length sums.old }
+    ensures is { AreSums factors.now rows.now (length sums.old) sums.new }
+{
+    let columns = sums.len();
+    for place in 0..factors.len() {
+        let first = place * columns;
+        add_row(sums, factors[place], &rows[first..first + columns]);
+    }
+}
+
+/// Puts the sums of the products of some factors and the columns of as many rows at the end of a list.
+fn push_sums(
+    sums: &mut Vec<i64>,
+    factors: &[i64],
+    rows: &[i64],
+    columns: usize,
+) -> Result<(), AllocError>
+    requires room { vec_len sums.old + columns < 2 ^ 64 }
+    requires whole { length rows.now ≡ length factors.now * columns }
+    requires small { AddUp (length factors.now) factors.now rows.now }
+    ensures { OnOk result (EndsInSums factors.now rows.now columns sums.old.items sums.new.items) }
+{
+    if columns == 1 {
+        sums.push(sum_of_pairs(factors, rows))?;
+        return Ok(());
+    }
+    let before = sums.len();
+    sums.resize(before + columns, 0)?;
+    sum_rows(&mut sums[before..], factors, rows);
+    Ok(())
+}
+
+/// The sums of the products of each row of `count` numbers and each of as many columns as are told.
+pub(crate) fn small_products(
+    alloc: Global,
+    left: &[i64],
+    right: &[i64],
+    columns: usize,
+    count: usize,
+    places: usize,
+) -> Result<Vec<i64>, AllocError>
+    requires some { 0 < columns }
+    requires even { places % columns ≡ 0 }
+    requires rows { places / columns * count ≤ length left.now }
+    requires columns { count * columns ≤ length right.now }
+    requires small { AddUp count left.now right.now }
+    ensures long { IfOk result (λ v. vec_len v ≡ places) }
+    ensures is { IfOk result (λ v. (place : ℕ) → place < places → IsProduct left.now right.now columns count place (get_or v.items place (pos 0))) }
+{
+    let mut sums = Vec::with_capacity(alloc, places)?;
+    let rows = &right[..count * columns];
+    for row in 0..places / columns {
+        let first = row * count;
+        push_sums(&mut sums, &left[first..first + count], rows, columns)?;
+    }
+    Ok(sums)
+}
