@@ -6,8 +6,8 @@
      SCRIPT the file that the lines are read from; standard input where it is not given
      RECORD the file that the record is written to when the program ends.
    The lines are handed out one a call at most, so what is asked for and written between two calls belongs to the line that was handed
-   out before. A line of the record tells of the state at one call, and the last one of the state at the end: how many bytes of the lines were
-   handed out, how many requests there were, how many of these were refused, and how many bytes were written to standard output. */
+   out before. A line of the record tells of the state at one call, and the last one of the state at the end: how many bytes of the lines
+   were handed out, how many requests there were, how many of these were refused, and how many bytes were written to standard output. */
 #define _GNU_SOURCE
 #include <errno.h>
 #include <fcntl.h>
