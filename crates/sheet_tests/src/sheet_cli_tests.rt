@@ -94,6 +94,30 @@ impl Write for Stuck {
     }
 }
 
+/// Takes so many bytes, and then none at all, without a word of a fault.
+#[derive(Drop)]
+struct Filling {
+    bytes: Vec<u8>,
+    left: usize,
+}
+
+impl Write for Filling {
+    fn write(&mut self, bytes: &[u8]) -> io::Result<usize> {
+        let taken = bytes.len().min(self.left);
+        self.left -= taken;
+        for at in 0..taken {
+            if self.bytes.push(bytes[at]).is_err() {
+                return Err(io::Error::from(ErrorKind::OutOfMemory));
+            }
+        }
+        Ok(taken)
+    }
+
+    fn flush(&mut self) -> io::Result<()> {
+        Ok(())
+    }
+}
+
 /// A sink that takes so many bytes.
 fn sink_of(alloc: Global, left: usize) -> Trickle {
     Trickle {
@@ -254,6 +278,74 @@ fn a_sink_of_three_bytes(rt: HostRuntime) {
     assert_eq!(rt; end, Err(RunFault::Write));
     assert_eq!(rt; sheet.names().len(), 0);
     assert_eq!(rt; sink.bytes.as_slice(), b"10\n".as_slice());
+}
+
+/// Lines with two answers.
+const TWO_SHOWS: &str = ")DATA D←1 2 3\nT←D×2\nU←T+D\nU\nD[2]←10\nU\n";
+
+const ANSWERS: &[u8] = b"3 6 9\n3 30 9\n";
+
+/// The answers to the lines that end in these bytes.
+fn answers_to(input: &[u8]) -> &'static [u8] {
+    let mut ends: usize = 0;
+    for byte in input {
+        if *byte == b'\n' {
+            ends = ends.saturating_add(1);
+        }
+    }
+    match ends {
+        0..=3 => b"",
+        4 | 5 => b"3 6 9\n",
+        _ => ANSWERS,
+    }
+}
+
+#[test]
+fn an_input_that_breaks_off_at_each_byte(rt: HostRuntime) {
+    let input = TWO_SHOWS.as_bytes();
+    for length in 0..=input.len() {
+        let mut sheet = Sheet::new(rt.alloc());
+        let mut source = Drip {
+            bytes: &input[..length],
+            breaks: true,
+            failed: false,
+        };
+        let mut sink = sink_of(rt.alloc(), 100);
+        let end = run(rt.alloc(), &mut sheet, &mut source, &mut sink);
+        assert_eq!(rt; end, Err(RunFault::Read));
+        assert!(rt; source.failed() && !sink.failed());
+        assert_eq!(rt; sink.bytes.as_slice(), answers_to(&input[..length]));
+    }
+}
+
+#[test]
+fn a_sink_of_each_length(rt: HostRuntime) {
+    for length in 0..=ANSWERS.len() {
+        let mut sheet = Sheet::new(rt.alloc());
+        let mut sink = sink_of(rt.alloc(), length);
+        let mut source = Device::new(TWO_SHOWS.as_bytes());
+        let end = run(rt.alloc(), &mut sheet, &mut source, &mut sink);
+        assert_eq!(rt; end.is_ok(), length == ANSWERS.len());
+        assert!(rt; end.is_ok() || end == Err(RunFault::Write));
+        assert_eq!(rt; sink.failed(), length < ANSWERS.len());
+        assert_eq!(rt; sink.bytes.as_slice(), &ANSWERS[..length]);
+    }
+}
+
+#[test]
+fn a_writer_that_takes_no_more(rt: HostRuntime) {
+    for length in 0..ANSWERS.len() {
+        let mut sheet = Sheet::new(rt.alloc());
+        let mut sink = Device::new(Filling {
+            bytes: Vec::new(rt.alloc()),
+            left: length,
+        });
+        let mut source = Device::new(TWO_SHOWS.as_bytes());
+        let end = run(rt.alloc(), &mut sheet, &mut source, &mut sink);
+        assert_eq!(rt; end, Err(RunFault::Write));
+        assert_eq!(rt; sink.failed(), true);
+        assert_eq!(rt; sink.into_inner().bytes.as_slice(), &ANSWERS[..length]);
+    }
 }
 
 #[test]
