@@ -1,0 +1,148 @@
+//! Plain Rust for bench/whole: what each expression gives, again and again. Called with the name of an expression and a count.
+use std::hint::black_box;
+
+const SIDE: usize = 1024;
+const PLACES: usize = SIDE * SIDE;
+
+fn numbers(places: usize) -> Vec<i64> {
+    (0..places).map(|k| (k % 1000) as i64 + 1).collect()
+}
+
+fn rows(source: &[i64], width: usize, mut row: impl FnMut(&[i64], &mut Vec<i64>)) -> Vec<i64> {
+    let mut made = Vec::with_capacity(source.len());
+    source.chunks(width).for_each(|line| row(line, &mut made));
+    made
+}
+
+fn transposed(source: &[i64], rows: usize, columns: usize) -> Vec<i64> {
+    let mut made = Vec::with_capacity(source.len());
+    for column in 0..columns {
+        made.extend((0..rows).map(|row| source[row * columns + column]));
+    }
+    made
+}
+
+fn folded_rows(source: &[i64], width: usize, step: impl Fn(i64, i64) -> Option<i64>) -> Vec<i64> {
+    let mut lines = source.chunks(width).rev();
+    let mut folded = lines.next().unwrap().to_vec();
+    for line in lines {
+        for (total, number) in folded.iter_mut().zip(line) {
+            *total = step(*number, *total).unwrap();
+        }
+    }
+    folded
+}
+
+fn scanned(source: &[i64], step: impl Fn(i64, i64) -> Option<i64>) -> Vec<i64> {
+    let mut made = Vec::with_capacity(source.len());
+    let mut total = source[0];
+    made.push(total);
+    for number in &source[1..] {
+        total = step(total, *number).unwrap();
+        made.push(total);
+    }
+    made
+}
+
+fn product(left: &[i64], right: &[i64], side: usize) -> Vec<i64> {
+    let mut made = vec![0i64; side * side];
+    for (row, line) in left.chunks(side).zip(made.chunks_mut(side)) {
+        for (number, other) in row.iter().zip(right.chunks(side)) {
+            line.iter_mut().zip(other).for_each(|(total, item)| *total += number * item);
+        }
+    }
+    made
+}
+
+struct Given {
+    matrix: Vec<i64>,
+    half: Vec<i64>,
+    order: Vec<usize>,
+    bits: Vec<i64>,
+    small: Vec<i64>,
+}
+
+fn made(name: &str, given: &Given) -> Vec<i64> {
+    let matrix = &given.matrix;
+    let side = 32;
+    match name {
+        "fill" => vec![black_box(7); PLACES],
+        "recycle" => black_box(&[1, 2, 3]).iter().copied().cycle().take(PLACES).collect(),
+        "take" => matrix.chunks(SIDE).take(512).flat_map(|row| &row[..512]).copied().collect::<Vec<_>>(),
+        "take_last" => matrix.chunks(SIDE).skip(512).flat_map(|row| &row[512..]).copied().collect::<Vec<_>>(),
+        "drop" => rows(&matrix[SIDE..], SIDE, |row, made| made.extend_from_slice(&row[1..])),
+        "reverse" => matrix.iter().rev().copied().collect(),
+        "reverse_rows" => rows(matrix, SIDE, |row, made| made.extend(row.iter().rev())),
+        "reverse_first" => matrix.chunks(SIDE).rev().flatten().copied().collect(),
+        "rotate" => rows(matrix, SIDE, |row, made| {
+            made.extend_from_slice(&row[3..]);
+            made.extend_from_slice(&row[..3]);
+        }),
+        "rotate_first" => [&matrix[3 * SIDE..], &matrix[..3 * SIDE]].concat(),
+        "transpose" | "transpose_by" => transposed(matrix, SIDE, SIDE),
+        "transpose_four" => {
+            let mut made = Vec::with_capacity(PLACES);
+            for a in 0..side {
+                for b in 0..side {
+                    for c in 0..side {
+                        made.extend((0..side).map(|d| matrix[((d * side + c) * side + b) * side + a]));
+                    }
+                }
+            }
+            made
+        }
+        "reverse_four" => rows(matrix, side, |row, made| made.extend(row.iter().rev())),
+        "catenate" => {
+            let mut made = Vec::with_capacity(PLACES);
+            for (left, right) in given.half.chunks(512).zip(given.half.chunks(512)) {
+                made.extend_from_slice(left);
+                made.extend_from_slice(right);
+            }
+            made
+        }
+        "index" => {
+            let mut made = Vec::with_capacity(PLACES);
+            for row in &given.order {
+                let line = &matrix[row * SIDE..][..SIDE];
+                made.extend(given.order.iter().map(|column| line[*column]));
+            }
+            made
+        }
+        "iota" => (1..=black_box(PLACES as i64)).collect(),
+        "fold_first" => folded_rows(matrix, SIDE, i64::checked_add),
+        "greatest_first" => folded_rows(matrix, SIDE, |a, b| Some(a.max(b))),
+        "scan" => scanned(matrix, i64::checked_add),
+        "greatest_scan" => scanned(matrix, |a, b| Some(a.max(b))),
+        "decode" => {
+            let mut totals = vec![0i64; 32768];
+            for digits in given.bits.chunks(32768) {
+                for (total, digit) in totals.iter_mut().zip(digits) {
+                    *total = total.checked_mul(2).and_then(|twice| twice.checked_add(*digit)).unwrap();
+                }
+            }
+            totals
+        }
+        "product" => product(&given.small, &given.small, 512),
+        "by_vector" => {
+            let vector = &matrix[..SIDE];
+            matrix.chunks(SIDE).map(|row| row.iter().zip(vector).map(|(a, b)| a * b).sum()).collect()
+        }
+        _ => panic!("no such expression"),
+    }
+}
+
+fn main() {
+    let words: Vec<String> = std::env::args().collect();
+    let given = Given {
+        matrix: numbers(PLACES),
+        half: numbers(PLACES / 2),
+        order: (0..SIDE).map(|k| k * 5 % SIDE).collect(),
+        bits: (0..PLACES).map(|k| (k % 2) as i64).collect(),
+        small: numbers(512 * 512),
+    };
+    let mut kept = Vec::new();
+    for _ in 0..words[2].parse::<usize>().unwrap() {
+        kept = black_box(made(&words[1], black_box(&given)));
+    }
+    println!("{}", kept.last().unwrap_or(&0));
+}
