@@ -109,6 +109,10 @@ fn made(name: &str, given: &Given) -> Vec<i64> {
             made
         }
         "iota" => (1..=black_box(PLACES as i64)).collect(),
+        "total" => {
+            let copy = black_box(matrix.clone());
+            vec![copy.iter().rev().try_fold(0i64, |sum, number| number.checked_add(sum)).unwrap()]
+        }
         "fold_first" => folded_rows(matrix, SIDE, i64::checked_add),
         "greatest_first" => folded_rows(matrix, SIDE, |a, b| Some(a.max(b))),
         "scan" => scanned(matrix, i64::checked_add),
