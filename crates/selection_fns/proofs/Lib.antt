@@ -12,6 +12,6 @@ pub mod Worths
 pub mod PickCases
 pub mod SearchCases
 pub mod DigitCases
-pub mod Vectors
+pub mod IndexedRows
 pub mod Picked
 pub mod SourcePlaces

@@ -1,19 +1,23 @@
 //! Indexed reference: the items at indices, one position an axis.
 
-ghost use Rattle.std.specs.Prelude.{◌≡◌, ◌<◌, ◌≤◌, ◌+◌, ◌-◌, ◌++◌, map, IsTrue, IfOk, IfErr, Result, Err, false, suc, length, ◌&&◌, pos, int_le, unsigned_abs, All};
+ghost use Rattle.std.specs.Prelude.{◌≡◌, ◌<◌, ◌≤◌, ◌+◌, ◌-◌, ◌++◌, ◌∷◌, [], ℕ, IsTrue, IfOk, IfErr, IfSome, OnOk, Result, Ok, Err, suc, length, get_or, drop, pos, unsigned_abs};
 ghost use Rattle.std.specs.List.{list_all};
 ghost use Rattle.arrays_core.specs.Limits.{most_axes};
 ghost use Rattle.arrays_core.specs.declared.item.Kind.{Kind as AKind};
 ghost use Rattle.arrays_core.specs.declared.item.Kind.TheVariants.{Limit};
-ghost use Rattle.arrays_core.specs.Arrays.{ArrayValue, item_of, IsAnswerTo};
-ghost use Rattle.arrays_core.specs.Shapes.{size, is_index_of};
-ghost use Rattle.index_region.specs.Checks.{Form, is_within_limits};
-ghost use Rattle.index_region.specs.Arguments.{counts_as_numbers, number_of, numbers};
-ghost use Rattle.index_region.specs.Answers.{IsPlaceOf, IsSourceIn, source_value};
-ghost use Rattle.selection_fns.specs.Index.{Position, written_positions, count_written, of_array_and_positions, is_on_axis, is_on as is_position_on, are_on as are_positions_on, are_numbers as are_positions_numbers, indexed_shape, source_index, positions_checked, index_form, index_source, index_item, index_whole};
+ghost use Rattle.arrays_core.specs.Arrays.{item_of, IsArray, IsAnswerTo};
+ghost use Rattle.arrays_core.specs.Building.{with_row};
+ghost use Rattle.arrays_core.specs.Shapes.{is_index_of, places_before};
+ghost use Rattle.index_region.specs.Checks.{Form};
+ghost use Rattle.index_region.specs.Arguments.{number_of, numbers};
+ghost use Rattle.index_region.specs.Answers.{IsPlaceOf, IsRowIn, IsSourceIn, source_value};
+ghost use Rattle.selection_fns.specs.Index.{written_positions, count_written, of_array_and_positions, is_on_axis, is_on as is_position_on, are_on as are_positions_on, are_numbers as are_positions_numbers, indexed_shape, source_index, positions_checked, index_form, index_source, index_item, index_whole};
 
-use arrays_core::{ApplyFault, Array, Item, ItemType, Kind, MOST_AXES, Shape, append_axes};
-use index_region::{Primitive, Seen, Source, apply, item_from, limited};
+use arrays_core::{
+    ApplyFault, Array, ArrayBuilder, Item, ItemType, Kind, MOST_AXES, Shape, append_axes,
+    index_in_row, position,
+};
+use index_region::{Primitive, RowPrimitive, Seen, Source, apply_rows, item_from, limited};
 use smallvec::SmallVec;
 use std::alloc::{AllocError, Global};
 
@@ -143,28 +147,6 @@ fn index_in(position: &Seen, at: &[u32], axis: u32) -> u32
     }
 }
 
-/// An index of an axis, counted from 0.
-fn from_zero(index: i64, axis: u32) -> u32
-    requires { IsTrue (is_on_axis axis index) }
-    ensures { result ≡ unsigned_abs index - 1 }
-{
-    (index.unsigned_abs() - 1) as u32
-}
-
-/// The indices of a position, counted from 0.
-fn indices_from_zero(alloc: Global, position: &Seen, axis: u32) -> Result<Vec<u32>, AllocError>
-    requires { IsTrue (list_all (is_on_axis axis) (numbers position.now)) }
-    ensures is { IfOk result (λ before. before.items ≡ map (λ z. unsigned_abs z - 1) (numbers position.now)) }
-    ensures long { length position.now.items ≡ size position.now.shape }
-{
-    let places = position.places();
-    let mut before = Vec::with_capacity(alloc, places as usize)?;
-    for place in 0..places {
-        before.push(from_zero(position.number(place + 1), axis))?;
-    }
-    Ok(before)
-}
-
 /// Puts the index on each axis of the array at the end of a list: each position takes its own part of
 /// the index list of the result.
 fn append_source_index(
@@ -201,6 +183,30 @@ fn append_source_index(
     append_source_index(at, &axes[1..], &written[1..], &positions[1..], others);
 }
 
+/// The indices that a row of the result takes from the last position, one after another, where this has axes of its own
+/// and its indices lie in one piece. The end of the row is an index list of all its axes but the last.
+fn indices_in_row<'p>(indices: &'p Seen, row: &[u32], count: u32) -> Option<&'p [i64]>
+    requires some { 0 < count }
+    requires rank { length indices.now.shape ≤ length row.now + 1 }
+    requires places { 0 < length indices.now.shape → (i : ℕ) → 1 ≤ i → i ≤ count
+        → IsTrue (is_index_of indices.now.shape (drop (length row.now + 1 - length indices.now.shape) row.now ++ i ∷ [])) }
+    ensures axes { IfSome result (λ _. 0 < length indices.now.shape) }
+    ensures sound { IsArray indices.now }
+    ensures long { IfSome result (λ part. length part.now ≡ count) }
+    ensures is { IfSome result (λ part. (i : ℕ) → i < count
+        → get_or part.now i (pos 0) ≡ number_of (item_of indices.now (drop (length row.now + 1 - length indices.now.shape) row.now ++ (i + 1) ∷ []))) }
+{
+    let axes = indices.shape();
+    if axes.is_empty() {
+        return None;
+    }
+    let numbers = indices.numbers()?;
+    let own = &row[row.len() + 1 - axes.len()..];
+    let first = index_in_row(*axes.allocator(), own, 1);
+    let before = (position(axes, first.as_slice()) - 1) as usize;
+    Some(&numbers[before..before + count as usize])
+}
+
 /// Indexed reference, `A[I;..]` (ISO/IEC 13751, "Indexed Reference"): the items of A at the indices of
 /// each position, one position an axis; its shape is that of the positions joined. A position that is
 /// not written stands for its whole axis. The arguments are A and the written positions. RANK where
@@ -213,6 +219,20 @@ pub struct Index<'w> {
 }
 
 impl<'w> Index<'w> {
+    /// The index list of the array itself, of one of the result. It takes no memory.
+    fn index_of(&self, array: &Seen, positions: &[Seen], index: &[u32]) -> Shape
+        requires count { length positions.now ≡ count_written self.now.written.now }
+        requires place { IsPlaceOf (index_form array.now (written_positions self.now.written.now positions.now)) index.now }
+        ensures is { result.items ≡ source_index (written_positions self.now.written.now positions.now) index.now }
+        ensures inside { IsTrue (is_index_of array.now.shape result.items) }
+        ensures inline { result.capacity ≡ 4 }
+    {
+        let axes = array.shape();
+        let mut at = SmallVec::new(*axes.allocator());
+        append_source_index(&mut at, axes.as_slice(), self.written, positions, index);
+        at
+    }
+
     /// Where the item at an index list of the result comes from. It takes no memory.
     pub fn source_of(&self, array: &Seen, positions: &[Seen], index: &[u32]) -> Source
         requires count { length positions.now ≡ count_written self.now.written.now }
@@ -220,26 +240,55 @@ impl<'w> Index<'w> {
         ensures is { source_value result ≡ index_source (written_positions self.now.written.now positions.now) index.now }
         ensures inside { IsSourceIn array.now array.now result }
     {
-        let axes = array.shape();
-        let mut at = SmallVec::new(*axes.allocator());
-        append_source_index(&mut at, axes.as_slice(), self.written, positions, index);
+        let at = self.index_of(array, positions, index);
         Source::Place { arg: 0, at }
     }
 
-    /// The array of the items at the indices. Those of a vector are picked one after another.
+    /// How many places of the array come before that row of it from which a row of the result begins.
+    fn places_before_row(&self, array: &Seen, positions: &[Seen], row: &[u32]) -> u32
+        requires count { length positions.now ≡ count_written self.now.written.now }
+        requires rank { length row.now < most_axes }
+        requires place { IsPlaceOf (index_form array.now (written_positions self.now.written.now positions.now)) (row.now ++ 1 ∷ []) }
+        ensures is { result + get_or (source_index (written_positions self.now.written.now positions.now) (row.now ++ 1 ∷ [])) (length array.now.shape - 1) 0
+            ≡ places_before array.now.shape (source_index (written_positions self.now.written.now positions.now) (row.now ++ 1 ∷ [])) + 1 }
+        ensures inside { IsTrue (is_index_of array.now.shape (source_index (written_positions self.now.written.now positions.now) (row.now ++ 1 ∷ []))) }
+        ensures sound { IsArray array.now }
+    {
+        let axes = array.shape();
+        let first = index_in_row(*axes.allocator(), row, 1);
+        let at = self.index_of(array, positions, first.as_slice());
+        position(axes, at.as_slice()) - at[at.len() - 1]
+    }
+
+    /// Puts a row behind the items, one by one.
+    fn push_row(
+        &self,
+        array: &Seen,
+        positions: &[Seen],
+        row: &[u32],
+        count: u32,
+        items: &mut ArrayBuilder,
+    ) -> Result<(), AllocError>
+        requires long { length positions.now ≡ count_written self.now.written.now }
+        requires row { IsRowIn (index_form array.now (written_positions self.now.written.now positions.now)) row.now count items.old.item_type }
+        ensures items { OnOk result (with_row items.old.items (λ i. index_item array.now (written_positions self.now.written.now positions.now) (row.now ++ i ∷ [])) count ≡ Ok items.new.items) }
+        ensures typed { items.new.item_type ≡ items.old.item_type }
+    {
+        let shape = array.shape();
+        for before in 0..count {
+            let index = index_in_row(*shape.allocator(), row, before + 1);
+            let at = self.index_of(array, positions, index.as_slice());
+            items.push(array.item(position(shape, at.as_slice())))?;
+        }
+        Ok(())
+    }
+
+    /// The array of the items at the indices.
     pub fn apply(&self, alloc: Global, args: &[Seen]) -> Result<Array, ApplyFault>
         requires { length args.now ≡ suc (count_written self.now.written.now) }
         ensures { IsAnswerTo (of_array_and_positions self.now.written.now index_whole args.now) result }
     {
-        let array = &args[0];
-        let axes = array.shape();
-        if args.len() == 2 && axes.len() == 1 {
-            let (shape, _) = self.shape_of(args)?;
-            let before = indices_from_zero(alloc, &args[1], axes[0])?;
-            let picked = array.picked(before.as_slice(), &shape)?;
-            return Ok(picked);
-        }
-        apply(alloc, self, args)
+        apply_rows(alloc, self, args)
     }
 }
 
@@ -264,5 +313,28 @@ impl<'w> Primitive for Index<'w> {
         let array = &args[0];
         let source = self.source_of(array, &args[1..], index);
         Ok(item_from(array, array, array.item_type(), source))
+    }
+}
+
+impl<'w> RowPrimitive for Index<'w> {
+    fn extend_row(
+        &self,
+        args: &[Seen],
+        row: &[u32],
+        count: u32,
+        items: &mut ArrayBuilder,
+    ) -> Result<(), AllocError> {
+        let (array, positions) = (&args[0], &args[1..]);
+        if !self.written[self.written.len() - 1] {
+            let before = self.places_before_row(array, positions, row);
+            return array.extend_run(items, before, count);
+        }
+        match indices_in_row(&positions[positions.len() - 1], row, count) {
+            Some(indices) => {
+                let before = self.places_before_row(array, positions, row);
+                array.extend_at(items, before, indices)
+            }
+            None => self.push_row(array, positions, row, count, items),
+        }
     }
 }

@@ -1,6 +1,6 @@
 use Rattle.std.proofs.Common.{rules}
 use Rattle.selection_fns.proofs.Indexed.{has_passed}
-use Rattle.selection_fns.proofs.index.Index.source_of.Goals as goal
+use Rattle.selection_fns.proofs.index.Index.index_of.Goals as goal
 
 pub append_source_index-requires-clause-room : goal.append_source_index-requires-clause-room
 append_source_index-requires-clause-room c =
