@@ -39,10 +39,21 @@ fn are_numbers(written: &[bool], positions: &[Seen]) -> bool
     are_numbers(&written[1..], &positions[1..])
 }
 
+/// All indices are on an axis.
+fn are_all_on(indices: &[i64], axis: u32) -> bool
+    ensures { result ≡ list_all (is_on_axis axis) indices.now }
+{
+    let last = i64::from(axis);
+    indices.iter().all(|index| 1 <= *index && *index <= last)
+}
+
 /// The indices of a position are on an axis.
 fn is_on(position: &Seen, axis: u32) -> bool
     ensures { result ≡ list_all (is_on_axis axis) (numbers position.now) }
 {
+    if let Some(indices) = position.numbers() {
+        return are_all_on(indices, axis);
+    }
     for place in 0..position.places() {
         let index = position.number(place + 1);
         if index < 1 || i64::from(axis) < index {
