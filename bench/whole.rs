@@ -9,7 +9,7 @@ fn numbers(places: usize) -> Vec<i64> {
 }
 
 fn rows(source: &[i64], width: usize, mut row: impl FnMut(&[i64], &mut Vec<i64>)) -> Vec<i64> {
-    let mut made = Vec::with_capacity(source.len());
+    let mut made = Vec::with_capacity(PLACES);
     source.chunks(width).for_each(|line| row(line, &mut made));
     made
 }
@@ -108,6 +108,17 @@ fn made(name: &str, given: &Given) -> Vec<i64> {
             }
             made
         }
+        "index_rows" => {
+            let mut made = Vec::with_capacity(PLACES);
+            given.order.iter().for_each(|row| made.extend_from_slice(&matrix[row * SIDE..][..SIDE]));
+            made
+        }
+        "index_vector" => matrix.iter().map(|index| matrix[*index as usize - 1]).collect(),
+        "replicate" => rows(&given.half, 512, |row, made| made.extend(row.iter().flat_map(|item| [*item, *item]))),
+        "replicate_first" => rows(&given.half, 512, |row, made| {
+            made.extend_from_slice(row);
+            made.extend_from_slice(row);
+        }),
         "iota" => (1..=black_box(PLACES as i64)).collect(),
         "total" => {
             let copy = black_box(matrix.clone());
@@ -125,6 +136,16 @@ fn made(name: &str, given: &Given) -> Vec<i64> {
                 }
             }
             totals
+        }
+        "encode" => {
+            let (radix, mut rests, mut digits) = (black_box(2i64), matrix[..32768].to_vec(), vec![0i64; PLACES]);
+            for row in digits.chunks_mut(32768).rev() {
+                for (digit, rest) in row.iter_mut().zip(&mut rests) {
+                    *digit = rest.rem_euclid(radix);
+                    *rest = rest.checked_div_euclid(radix).unwrap();
+                }
+            }
+            digits
         }
         "product" => product(&given.small, &given.small, 512),
         "by_vector" => {
