@@ -7,3 +7,4 @@ pub mod Written
 pub mod Advancing
 pub mod OnAxes
 pub mod Placed
+pub mod Numbers

@@ -30,6 +30,13 @@ impl<'a> Model for Seen<'a> {
     ghost invariant = { λ s. IsLaid s.array.now (option_copied s.patch) };
 }
 
+/// None of the numbers is below 0.
+fn are_none_negative(numbers: &[i64]) -> bool
+    ensures { result ≡ none_negative numbers.now }
+{
+    numbers.iter().all(|number| *number >= 0)
+}
+
 /// The item at an index list of an array with a patch laid over it.
 #[tactic(auto, using(crate::proofs::Patched::patched_if_there))]
 fn at_patched(array: &Array, patch: &Patch, index: &[u32]) -> Option<Item>
@@ -248,6 +255,9 @@ impl<'a> Seen<'a> {
     pub fn has_negative(&self) -> bool
         ensures { result ≡ not (none_negative (numbers self.now)) }
     {
+        if let Some(numbers) = self.numbers() {
+            return !are_none_negative(numbers);
+        }
         for place in 0..self.places() {
             if self.number(place + 1) < 0 {
                 return true;

@@ -441,8 +441,3 @@ own_places written args a row count known p last own i low high =
     let positions = written_positions written (drop 1 args) in
     subst (λ q. is_index_of (own_shape a.shape q) (own_part q row ++ i ∷ []) ≡ true) last
     (own_below a.shape positions row i known.one_an_axis known.some (known.places i low high) (subst (λ q. 0 < own_rank q) (sym last) own))
-
--- numbers as items are these numbers
-pub numbers_again : (zs : List ℤ) → map number_of (map (λ z. Num z) zs) ≡ zs
-numbers_again [] = refl
-numbers_again (z ∷ zs) = ap (λ ys. z ∷ ys) (numbers_again zs)
