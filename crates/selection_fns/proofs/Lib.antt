@@ -9,6 +9,8 @@ pub mod Flat
 pub mod Searched
 pub mod Radices
 pub mod Worths
+pub mod DecodedRows
+pub mod DecodeErrors
 pub mod PickCases
 pub mod SearchCases
 pub mod DigitCases

@@ -55,7 +55,7 @@ no_fill : (t : ItemType) → number_of (fill t) ≡ pos 0
 no_fill Nums = refl
 no_fill Chars = refl
 
-number_there : (a : ArrayValue) (j : ℕ) → get_or (numbers a) j (pos 0) ≡ number_of (get_or a.items j (fill a.item_type))
+pub number_there : (a : ArrayValue) (j : ℕ) → get_or (numbers a) j (pos 0) ≡ number_of (get_or a.items j (fill a.item_type))
 number_there a j = ap (λ d. get_or (numbers a) j d) (sym (no_fill a.item_type)) ∙ get_or-map number_of a.items j (fill a.item_type)
 
 place_on : (shape : List ℕ) (k : ℕ) → length shape ≤ 1 → size shape ≢ 1 → (if size shape == 1 then 0 else places_before shape (k ∷ [])) ≡ k - 1

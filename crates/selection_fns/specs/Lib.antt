@@ -8,3 +8,4 @@ pub mod IndexOf
 pub mod Member
 pub mod Encode
 pub mod Decode
+pub mod DecodedRows

@@ -1,9 +1,11 @@
 //! Decode: the numbers of digits.
 
-ghost use Rattle.std.specs.Prelude.{◌≡◌, ◌≢◌, ◌≤◌, ◌+ℤ◌, ◌*ℤ◌, IsTrue, nat_eq, ◌||◌, if◌then◌else◌, drop, length, Ok, Err};
-ghost use Rattle.arrays_core.specs.declared.item.Kind.TheVariants.{Length};
-ghost use Rattle.arrays_core.specs.Shapes.{is_index_of};
-ghost use Rattle.arrays_core.specs.Arrays.{IsAnswerTo};
+ghost use Rattle.std.specs.Prelude.{◌≡◌, ◌≢◌, ◌≤◌, ◌+ℤ◌, ◌*ℤ◌, pos, IsTrue, nat_eq, ◌||◌, if◌then◌else◌, drop, length, map, replicate, Ok, Err, IfErr, OnOk};
+ghost use Rattle.arrays_core.specs.declared.item.Item.TheVariants.{Num};
+ghost use Rattle.arrays_core.specs.declared.item.ItemType.TheVariants.{Nums};
+ghost use Rattle.arrays_core.specs.declared.item.Kind.TheVariants.{Length, Limit};
+ghost use Rattle.arrays_core.specs.Shapes.{is_index_of, size as size_of, IsWithinLimits};
+ghost use Rattle.arrays_core.specs.Arrays.{collect, IsAnswerTo};
 ghost use Rattle.scalar_fns.specs.Numbers.{number_or_limit};
 ghost use Rattle.scalar_fns.specs.Items.{number_item};
 ghost use Rattle.index_region.specs.Checks.{and_then};
@@ -12,13 +14,14 @@ ghost use Rattle.index_region.specs.Axes.{places_along as places_on};
 ghost use Rattle.index_region.specs.Arguments.{has_one_item};
 ghost use Rattle.index_region.specs.Answers.{IsPlaceOf};
 ghost use Rattle.selection_fns.specs.Decode.{decode_form, decode_item, decode_whole, digit_count as count_of_digits, radix_at as radix_of, digit_at as digit_of};
+ghost use Rattle.selection_fns.specs.DecodedRows.{HaveRadices, AreDecoded, HasLimit};
 
 use crate::axes::places_along;
+use crate::more_digits::{add_digits, one_more};
 use crate::number_at::number_at;
-use arrays_core::{ApplyFault, Array, Item, ItemType, Kind, Shape, append_axes, shape_of};
+use arrays_core::{ApplyFault, Array, Item, ItemType, Kind, Shape, append_axes, shape_of, size};
 use index_region::{Primitive, Seen, apply, limited};
-use scalar_fns::{Scalar2, two_numbers};
-use std::alloc::Global;
+use std::alloc::{AllocError, Global};
 
 /// Decode, `A⊥B` (ISO/IEC 13751, "Base value"): the axes of B but the first, along which stand the
 /// digits of a number, the most significant first. The number so far, at first 0, is multiplied by the
@@ -101,8 +104,7 @@ fn with_digit(radices: &Seen, array: &Seen, index: &[u32], value: i64, k: u32) -
     requires high { k ≤ count_of_digits radices.now array.now }
     ensures { result ≡ and_then (number_or_limit (value *ℤ radix_of radices.now k)) (λ product. number_or_limit (product +ℤ digit_of array.now index.now k)) }
 {
-    let product = two_numbers(Scalar2::Times, value, radix_at(radices, k))?;
-    two_numbers(Scalar2::Plus, product, digit_at(array, index, k))
+    one_more(value, radix_at(radices, k), digit_at(array, index, k))
 }
 
 /// The number at an index list of the result.
@@ -118,13 +120,59 @@ fn decoded_at(radices: &Seen, array: &Seen, index: &[u32]) -> Result<i64, Kind>
     Ok(value)
 }
 
+/// Gives numbers that are 0 all their digits, a row of B after another. LIMIT where one leaves 64 bits.
+fn add_rows(numbers: &mut [i64], radices: &Seen, array: &Seen, digits: &[i64]) -> Result<(), Kind>
+    requires radices { HaveRadices radices.now array.now }
+    requires digits { array.now.items ≡ map (λ z. Num z) digits.now }
+    requires none { numbers.old ≡ replicate (size_of (drop 1 array.now.shape)) (pos 0) }
+    ensures long { length numbers.new ≡ length numbers.old }
+    ensures is { OnOk result (AreDecoded radices.now array.now numbers.new) }
+    ensures beyond { IfErr result (λ kind. (kind ≡ Limit) × HasLimit radices.now array.now) }
+{
+    let width = numbers.len();
+    let rows = places_along(array.shape().as_slice(), 0);
+    let count = digit_count(radices, array);
+    for before in 0..count {
+        let row = index_along(rows, before + 1) - 1;
+        let first = row as usize * width;
+        let radix = radix_at(radices, before + 1);
+        add_digits(numbers, radix, &digits[first..first + width])?;
+    }
+    Ok(())
+}
+
+/// The numbers of the digits of B as an array, made a row of B after another.
+fn decoded_rows(
+    alloc: Global,
+    radices: &Seen,
+    array: &Seen,
+    digits: &[i64],
+    shape: &Shape,
+) -> Result<Array, ApplyFault>
+    requires radices { HaveRadices radices.now array.now }
+    requires digits { array.now.items ≡ map (λ z. Num z) digits.now }
+    requires shape { shape.now.items ≡ drop 1 array.now.shape }
+    requires within { IsWithinLimits shape.now.items }
+    ensures { IsAnswerTo (collect Nums shape.now.items (decode_item radices.now array.now)) result }
+{
+    let mut numbers = vec![in alloc; 0; size(shape.as_slice()) as usize]?;
+    add_rows(&mut numbers, radices, array, digits)?;
+    Ok(Array::from_numbers(shape, numbers))
+}
+
 impl Decode {
-    /// The number of each list of digits of B.
+    /// The number of each list of digits of B, made a row of B after another where its numbers lie in one
+    /// piece.
     pub fn apply(&self, alloc: Global, args: &[Seen]) -> Result<Array, ApplyFault>
         requires { length args.now ≡ 2 }
         ensures { IsAnswerTo (of_two_arguments decode_whole args.now) result }
     {
-        apply(alloc, self, args)
+        let (shape, _) = self.shape_of(args)?;
+        let (radices, array) = (&args[0], &args[1]);
+        match array.numbers() {
+            Some(digits) => decoded_rows(alloc, radices, array, digits, &shape),
+            None => apply(alloc, self, args),
+        }
     }
 }
 

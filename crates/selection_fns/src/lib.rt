@@ -9,6 +9,7 @@ mod index_generator;
 mod index_of;
 mod lookup;
 mod member;
+mod more_digits;
 mod number_at;
 mod replicate;
 mod shape;

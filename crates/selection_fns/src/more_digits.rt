@@ -1,0 +1,30 @@
+//! Numbers that each take one more digit.
+
+ghost use Rattle.std.specs.Prelude.{◌≡◌, IfErr, OnOk, length};
+ghost use Rattle.arrays_core.specs.declared.item.Kind.TheVariants.{Limit};
+ghost use Rattle.selection_fns.specs.DecodedRows.{with_one_more, HaveOneMore, LeavesNumbers};
+
+use arrays_core::Kind;
+use scalar_fns::kernels::{Plus, Times, TwoNumbers};
+
+/// A number with one more digit: times its radix, plus the digit. LIMIT where one of them leaves 64 bits.
+#[inline]
+pub(crate) fn one_more(number: i64, radix: i64, digit: i64) -> Result<i64, Kind>
+    ensures { result ≡ with_one_more number radix digit }
+{
+    let product = Times.at(number, radix)?;
+    Plus.at(product, digit)
+}
+
+/// Gives each number the digit at its place. LIMIT where one leaves 64 bits.
+pub(crate) fn add_digits(numbers: &mut [i64], radix: i64, digits: &[i64]) -> Result<(), Kind>
+    requires { length digits.now ≡ length numbers.old }
+    ensures long { length numbers.new ≡ length numbers.old }
+    ensures is { OnOk result (HaveOneMore radix digits.now numbers.old numbers.new) }
+    ensures beyond { IfErr result (λ kind. (kind ≡ Limit) × LeavesNumbers radix digits.now numbers.old) }
+{
+    for place in 0..digits.len() {
+        numbers[place] = one_more(numbers[place], radix, digits[place])?;
+    }
+    Ok(())
+}
