@@ -11,6 +11,7 @@ pub mod Radices
 pub mod Worths
 pub mod DecodedRows
 pub mod DecodeErrors
+pub mod NearNumbers
 pub mod PickCases
 pub mod SearchCases
 pub mod DigitCases

@@ -1,5 +1,6 @@
 -- Decode, a row of digits at a time.
-use Rattle.std.specs.Prelude.{◌≡◌, IsTrue, ℕ, ◌<◌, ◌≤◌, nat_eq, ◌||◌, ℤ, pos, ◌+ℤ◌, ◌*ℤ◌, List, length, get_or, drop, Result, Ok, Err}
+use Rattle.std.specs.Prelude.{◌≡◌, IsTrue, ℕ, ◌<◌, ◌≤◌, nat_eq, ◌||◌, ℤ, pos, ◌+ℤ◌, ◌*ℤ◌, List, length, get_or, drop, Result, Ok, Err, FitsSigned}
+use Rattle.std.specs.Int.{w64}
 use Rattle.arrays_core.specs.declared.item.Item.TheVariants.{Num}
 use Rattle.arrays_core.specs.declared.item.Kind.{Kind}
 use Rattle.arrays_core.specs.declared.item.Kind.TheVariants.{Limit}
@@ -19,6 +20,11 @@ pub record HaveRadices (a b : ArrayValue) : Type 0 where
 -- a number with one more digit: times its radix, plus the digit
 abbrev pub with_one_more : ℤ → ℤ → ℤ → Result ℤ Kind
 with_one_more number radix digit = and_then (number_or_limit (number *ℤ radix)) (λ product. number_or_limit (product +ℤ digit))
+
+-- both the product and the sum are of 64 bits
+pub record StaysWithin (number radix digit : ℤ) : Type 0 where
+  pub product : FitsSigned w64 (number *ℤ radix)
+  pub sum : FitsSigned w64 (number *ℤ radix +ℤ digit)
 
 -- each number is the one before with the digit at its place
 pub record HaveOneMore (radix : ℤ) (digits before numbers : List ℤ) : Type 0 where
