@@ -8,6 +8,8 @@ pub mod Searching
 pub mod Flat
 pub mod Searched
 pub mod Radices
+pub mod DigitRows
+pub mod EncodedArrays
 pub mod Worths
 pub mod DecodedRows
 pub mod DecodeErrors

@@ -7,5 +7,6 @@ pub mod SameItem
 pub mod IndexOf
 pub mod Member
 pub mod Encode
+pub mod EncodedRows
 pub mod Decode
 pub mod DecodedRows

@@ -8,6 +8,7 @@ ghost use Rattle.index_region.specs.Arguments.{numbers};
 ghost use Rattle.index_region.specs.Answers.{IsPlaceOf};
 ghost use Rattle.selection_fns.specs.Encode.{carried as carried_number, digit as digit_of, encode_form, encode_item, encode_whole};
 
+use crate::encoded_rows::encoded_rows;
 use crate::number_at::number_at;
 use arrays_core::{
     ApplyFault, Array, Item, ItemType, Kind, MOST_AXES, Shape, append_axes, shape_of,
@@ -26,7 +27,7 @@ use std::alloc::Global;
 pub struct Encode;
 
 /// What a radix leaves to the radices before it.
-fn carried(radix: i64, number: i64) -> Result<i64, Kind>
+pub(crate) fn carried(radix: i64, number: i64) -> Result<i64, Kind>
     ensures { result ≡ carried_number radix number }
 {
     if radix == 0 {
@@ -65,12 +66,18 @@ fn digit_at(radices: &Seen, array: &Seen, index: &[u32]) -> Result<i64, Kind>
 }
 
 impl Encode {
-    /// The digits of each number of B.
+    /// The digits of each number of B, in a pass over the radices. Where that has an error, the first one is looked for
+    /// digit by digit.
     pub fn apply(&self, alloc: Global, args: &[Seen]) -> Result<Array, ApplyFault>
         requires { length args.now ≡ 2 }
         ensures { IsAnswerTo (of_two_arguments encode_whole args.now) result }
     {
-        apply(alloc, self, args)
+        let (shape, _) = self.shape_of(args)?;
+        match encoded_rows(alloc, &args[0], &args[1]) {
+            Ok(digits) => Ok(Array::from_numbers(&shape, digits)),
+            Err(ApplyFault::NoMemory) => Err(ApplyFault::NoMemory),
+            Err(ApplyFault::Kind(_)) => apply(alloc, self, args),
+        }
     }
 }
 

@@ -4,6 +4,7 @@
 mod axes;
 mod decode;
 mod encode;
+mod encoded_rows;
 mod index;
 mod index_generator;
 mod index_of;

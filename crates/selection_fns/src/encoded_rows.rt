@@ -1,0 +1,84 @@
+//! The digits of numbers, a row at a time: a row has the digits of all numbers by one radix.
+
+ghost use Rattle.std.specs.Prelude.{◌≡◌, ◌≤◌, ◌<◌, ◌+◌, ◌*◌, OnOk, IfOk, length};
+ghost use Rattle.arrays_core.specs.Arrays.{IsArray};
+ghost use Rattle.index_region.specs.Arguments.{numbers};
+ghost use Rattle.selection_fns.specs.EncodedRows.{AreCarried, AreDigits, HasRow};
+
+use crate::encode::carried;
+use arrays_core::{ApplyFault, Kind};
+use index_region::Seen;
+use scalar_fns::residue;
+use std::alloc::{AllocError, Global};
+
+/// Puts the digits of some numbers by a radix in a row, which has so many others before it.
+fn put_row(digits: &mut [i64], before: usize, radix: i64, rests: &[i64])
+    requires { before + length rests.now ≤ length digits.old }
+    ensures { HasRow radix rests.now before digits.old digits.new }
+{
+    for place in 0..rests.len() {
+        digits[before + place] = residue(radix, rests[place]);
+    }
+}
+
+/// Puts in the place of each number what a radix leaves of it to the radices before it.
+fn carry(rests: &mut [i64], radix: i64) -> Result<(), Kind>
+    ensures { OnOk result (AreCarried radix rests.old rests.new) }
+{
+    for place in 0..rests.len() {
+        rests[place] = carried(radix, rests[place])?;
+    }
+    Ok(())
+}
+
+/// Puts the digits of numbers in their rows, that of the last radix first. In the place of each number stays what the
+/// radices behind the first leave of it.
+fn put_rows(radices: &[i64], rests: &mut [i64], digits: &mut [i64]) -> Result<(), Kind>
+    requires { length digits.old ≡ length radices.now * length rests.old }
+    ensures { OnOk result (AreDigits radices.now rests.old digits.new) }
+{
+    let places = rests.len();
+    for place in (1..radices.len()).rev() {
+        put_row(digits, place * places, radices[place], rests);
+        carry(rests, radices[place])?;
+    }
+    if radices.is_empty() {
+        return Ok(());
+    }
+    put_row(digits, 0, radices[0], rests);
+    Ok(())
+}
+
+/// The numbers of an array in row-major order.
+fn numbers_of(alloc: Global, array: &Seen) -> Result<Vec<i64>, AllocError>
+    ensures is { IfOk result (λ v. v.items ≡ numbers array.now) }
+    ensures sound { IsArray array.now }
+{
+    let places = array.places();
+    if let Some(numbers) = array.numbers() {
+        return numbers.to_vec(alloc);
+    }
+    let mut found = Vec::with_capacity(alloc, places as usize)?;
+    for before in 0..places {
+        found.push(array.number(before + 1))?;
+    }
+    Ok(found)
+}
+
+/// The digits of the numbers of an array by each radix, a row for each, where no number has an error; else some error of
+/// a number. It takes time in proportion to the digits.
+pub(crate) fn encoded_rows(
+    alloc: Global,
+    radices: &Seen,
+    array: &Seen,
+) -> Result<Vec<i64>, ApplyFault>
+    ensures is { IfOk result (λ v. AreDigits (numbers radices.now) (numbers array.now) v.items) }
+    ensures sound_radices { IfOk result (λ _. IsArray radices.now) }
+    ensures sound_array { IfOk result (λ _. IsArray array.now) }
+{
+    let radices = numbers_of(alloc, radices)?;
+    let mut rests = numbers_of(alloc, array)?;
+    let mut digits = vec![in alloc; 0; radices.len() * rests.len()]?;
+    put_rows(&radices, &mut rests, &mut digits)?;
+    Ok(digits)
+}
