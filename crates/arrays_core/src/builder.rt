@@ -85,6 +85,23 @@ fn extend_at<T: Copy + Drop>(
     Ok(())
 }
 
+/// Puts the items at places behind the others: place 0 stands behind `first` items.
+fn extend_places<T: Copy + Drop>(
+    items: &mut Vec<T>,
+    from: &[T],
+    first: usize,
+    places: &[u32],
+) -> Result<(), AllocError>
+    requires { (k : ℕ) → k < length places.now → first + get_or places.now k 0 < length from.now }
+    ensures { OnOk result ((d : T) → items.new.items ≡ items.old.items ++ listed (length places.now) (λ k. get_or from.now (first + get_or places.now k 0) d)) }
+{
+    items.reserve(places.len())?;
+    for k in 0..places.len() {
+        items.push_reserved(from[first + places[k] as usize]);
+    }
+    Ok(())
+}
+
 /// Puts the items behind themselves, again and again, until there are so many.
 fn repeat_to<T: Copy + Drop>(items: &mut Vec<T>, places: usize) -> Result<(), AllocError>
     requires some { 0 < length items.old.items }
@@ -235,6 +252,31 @@ impl ArrayBuilder {
             },
             Ravel::Chars(items) => match array.characters() {
                 Some(from) => extend_at(items, from, before as usize, indices),
+                None => unreachable!(),
+            },
+        }
+    }
+
+    /// Puts items of an array of the same type behind the others: those at places, each counted from 0, where place 0
+    /// stands behind `first` others.
+    pub fn extend_places(
+        &mut self,
+        array: &Array,
+        first: u32,
+        places: &[u32],
+    ) -> Result<(), AllocError>
+        requires typed { array.now.item_type ≡ self.old.item_type }
+        requires inside { (k : ℕ) → k < length places.now → first + get_or places.now k 0 < length array.now.items }
+        ensures items { OnOk result (self.new.items ≡ self.old.items ++ listed (length places.now) (λ k. get_or array.now.items (first + get_or places.now k 0) (fill array.now.item_type))) }
+        ensures typed { self.new.item_type ≡ self.old.item_type }
+    {
+        match &mut self.ravel {
+            Ravel::Nums(items) => match array.numbers() {
+                Some(from) => extend_places(items, from, first as usize, places),
+                None => unreachable!(),
+            },
+            Ravel::Chars(items) => match array.characters() {
+                Some(from) => extend_places(items, from, first as usize, places),
                 None => unreachable!(),
             },
         }

@@ -8,3 +8,4 @@ pub mod Advancing
 pub mod OnAxes
 pub mod Placed
 pub mod Numbers
+pub mod RowIndices

@@ -68,6 +68,25 @@ fn push_at(
     Ok(())
 }
 
+/// Puts the items at places behind the others, one by one; place 0 stands behind `first` items.
+fn push_places(
+    array: &Seen,
+    items: &mut ArrayBuilder,
+    first: u32,
+    places: &[u32],
+) -> Result<(), AllocError>
+    requires typed { array.now.item_type ≡ items.old.item_type }
+    requires inside { (k : ℕ) → k < length places.now → first + get_or places.now k 0 < length array.now.items }
+    ensures items { OnOk result (items.new.items ≡ items.old.items ++ listed (length places.now) (λ k. get_or array.now.items (first + get_or places.now k 0) (fill array.now.item_type))) }
+    ensures typed { items.new.item_type ≡ items.old.item_type }
+{
+    let _sound = array.places();
+    for k in 0..places.len() {
+        items.push(array.item(first + places[k] + 1))?;
+    }
+    Ok(())
+}
+
 impl<'a> Seen<'a> {
     /// Puts items behind others of their type: that at the place `first` and those after it. Places are counted from 0.
     pub fn extend_run(
@@ -143,6 +162,25 @@ impl<'a> Seen<'a> {
         match self.array() {
             Some(array) => items.extend_at(array, before, indices),
             None => push_at(self, items, before, indices),
+        }
+    }
+
+    /// Puts items behind others of their type: those at places, each counted from 0, where place 0 stands behind `first`
+    /// others.
+    pub fn extend_places(
+        &self,
+        items: &mut ArrayBuilder,
+        first: u32,
+        places: &[u32],
+    ) -> Result<(), AllocError>
+        requires typed { self.now.item_type ≡ items.old.item_type }
+        requires inside { (k : ℕ) → k < length places.now → first + get_or places.now k 0 < length self.now.items }
+        ensures items { OnOk result (items.new.items ≡ items.old.items ++ listed (length places.now) (λ k. get_or self.now.items (first + get_or places.now k 0) (fill self.now.item_type))) }
+        ensures typed { items.new.item_type ≡ items.old.item_type }
+    {
+        match self.array() {
+            Some(array) => items.extend_places(array, first, places),
+            None => push_places(self, items, first, places),
         }
     }
 }

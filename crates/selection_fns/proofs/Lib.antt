@@ -19,4 +19,5 @@ pub mod SearchCases
 pub mod DigitCases
 pub mod IndexedRows
 pub mod Picked
+pub mod CopiedRows
 pub mod SourcePlaces

@@ -15,7 +15,10 @@ ghost use Rattle.index_region.specs.Answers.{IsFormAnswerTo, IsPlaceOf, IsSource
 ghost use Rattle.selection_fns.specs.Replicate.{times, counts_checked, maker as maker_of, copied_place as place_copied, replicate_form, replicate_source, replicate_item, replicate_whole};
 
 use crate::axes::{LONGEST_AXIS, places_along};
-use arrays_core::{ApplyFault, Array, Item, ItemRule, ItemType, Kind, Shape, collect, shape_of};
+use arrays_core::{
+    ApplyFault, Array, ArrayBuilder, Item, ItemRule, ItemType, Kind, RowRule, Shape, collect_rows,
+    index_in_row, position, shape_of,
+};
 use index_region::{Along, Primitive, Seen, Source, item_from, limited};
 use std::alloc::{AllocError, Global};
 
@@ -290,8 +293,8 @@ impl Replicate {
         limited(shape, array.item_type())
     }
 
-    /// The array of the copies. The place of each copy is found once, and those of a vector are picked one
-    /// after another.
+    /// The array of the copies. The place of each copy is found once; those of a vector are picked one after another,
+    /// and those of other arrays row by row.
     pub fn apply(&self, alloc: Global, args: &[Seen]) -> Result<Array, ApplyFault>
         requires { length args.now ≡ 2 }
         ensures { IsAnswerTo (of_two_arguments (replicate_whole self.now.along) args.now) result }
@@ -319,7 +322,7 @@ impl Replicate {
             before: before.as_slice(),
             shape: &shape,
         };
-        collect(alloc, &rule, item_type, &shape)
+        collect_rows(alloc, &rule, item_type, &shape)
     }
 }
 
@@ -335,6 +338,7 @@ struct CopyRule<'a, 'b, 'c> {
     ghost long: { length before.now ≡ sum (times counts.now (places_on array.now.shape (axis_meant (max 1 (length array.now.shape)) replicate.along))) },
     ghost is: { (i : ℕ) → i < length before.now → get_or before.now i 0 + 1 ≡ place_copied counts.now (places_on array.now.shape (axis_meant (max 1 (length array.now.shape)) replicate.along)) (i + 1) },
     ghost within: { All (λ n. n ≤ longest_axis) before.now },
+    ghost rank: { 1 < length array.now.shape },
 }
 
 impl<'a, 'b, 'c> CopyRule<'a, 'b, 'c> {
@@ -346,12 +350,8 @@ impl<'a, 'b, 'c> CopyRule<'a, 'b, 'c> {
         ensures inline { result.capacity ≡ 4 }
     {
         let axes = self.array.shape();
-        let alloc = *axes.allocator();
-        if axes.is_empty() {
-            return shape_of(alloc, &[]);
-        }
         let axis = self.replicate.along.axis_at(axes.len() as u32);
-        index_of_copy(alloc, axis, self.before, index)
+        index_of_copy(*axes.allocator(), axis, self.before, index)
     }
 }
 
@@ -367,6 +367,26 @@ impl<'a, 'b, 'c> ItemRule for CopyRule<'a, 'b, 'c> {
         let at = self.index_of(index);
         let source = Source::Place { arg: 1, at };
         Ok(item_from(array, array, array.item_type(), source))
+    }
+}
+
+impl<'a, 'b, 'c> RowRule for CopyRule<'a, 'b, 'c> {
+    fn extend_row(
+        &self,
+        row: &[u32],
+        count: u32,
+        items: &mut ArrayBuilder,
+    ) -> Result<(), AllocError> {
+        let array = self.array;
+        let axes = array.shape();
+        let first = index_in_row(*axes.allocator(), row, 1);
+        let at = self.index_of(first.as_slice());
+        let place = position(axes, at.as_slice()) - 1;
+        if self.replicate.along.axis_at(axes.len() as u32) == row.len() {
+            array.extend_places(items, place - self.before[0], self.before)
+        } else {
+            array.extend_run(items, place, count)
+        }
     }
 }
 

@@ -15,7 +15,7 @@ use Rattle.index_region.proofs.Passing.{row_passed, row_inside}
 use Rattle.index_region.proofs.Placed.{left_placed}
 use Rattle.structural_fns.specs.Reverse.{reverse_form, reverse_item}
 use Rattle.structural_fns.proofs.SourcePlaces.{reversed_inside}
-use Rattle.structural_fns.proofs.RowIndices.{set_before, get_before, set_last, get_last, axis_below}
+use Rattle.index_region.proofs.RowIndices.{set_before, get_before, set_last, get_last, axis_below}
 
 module _ (along : Along) (b : ArrayValue) (row : List ℕ) (count : ℕ) (item_type : ItemType) (is : IsRowIn (reverse_form along b) row count item_type) where
   abbrev pub axis : ℕ

@@ -19,7 +19,7 @@ use Rattle.index_region.specs.Axes.{is_axis, axis_at, places_along}
 use Rattle.index_region.proofs.Passing.{RowInside, row_passed, row_inside}
 use Rattle.index_region.proofs.Placed.{right_placed}
 use Rattle.structural_fns.specs.Rotate.{rotate_form, rotate_item, rotated_place, rotation}
-use Rattle.structural_fns.proofs.RowIndices.{set_before, get_before, set_last, get_last, remove_last, axis_below}
+use Rattle.index_region.proofs.RowIndices.{set_before, get_before, set_last, get_last, remove_last, axis_below}
 use Rattle.structural_fns.proofs.SourcePlaces.{rotated_inside}
 use Rattle.structural_fns.proofs.Turning.{residue_euclid}
 

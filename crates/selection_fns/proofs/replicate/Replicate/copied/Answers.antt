@@ -46,12 +46,14 @@ invariant_of-rule c =
     subst (λ m. (i : ℕ) → i < sum (times a n) → get_or c.in_ok-before.before.items i 0 + 1 ≡ copied_place a m (i + 1)) places
     (subst (λ m. (i : ℕ) → i < m → get_or c.in_ok-before.before.items i 0 + 1 ≡ copied_place a c.places_along-places.result (i + 1)) total c.in_ok-before.ensures.is) in
     let within : All (λ m. m ≤ 1048576) c.in_ok-before.before.items = copies_within a n (sum (times a n)) c.in_ok-before.before.items (subst (λ m. m ≤ 1048576) places c.places_along-places.ensures.within) c.before_each_copy.ensures.few long is in
+    let many : 1 < length b.shape = search rules in
     let form : replicate_form along a b ≡ Ok (form_of c.in_ok-shape.shape.items b.item_type) = c.in_ok-shape.ensures.0 ∙ ap (λ (t : ItemType). Ok (form_of c.in_ok-shape.shape.items t)) known.typed in
     record {
       form = form;
       long = rw before long;
       is = subst (λ xs. (i : ℕ) → i < length xs → get_or xs i 0 + 1 ≡ copied_place a n (i + 1)) (sym before) (λ i h. is i (omega (arith, long, h)));
       within = subst (λ (xs : List ℕ). All (λ m. m ≤ 1048576) xs) (sym before) within;
+      rank = many;
     }
 
 pub picked-requires-clause-one_item_a_place : goal.picked-requires-clause-one_item_a_place

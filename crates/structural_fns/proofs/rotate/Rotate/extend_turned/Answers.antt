@@ -5,7 +5,7 @@ use Rattle.arrays_core.specs.Shapes.{places_before}
 use Rattle.arrays_core.proofs.Rows.{row_put_more, with_row_none, with_row_more}
 use Rattle.structural_fns.specs.Rotate.{rotate_item}
 use Rattle.structural_fns.proofs.RotatedRows.{passed_row, at_index, at_last, from, from_low, from_high, end_item, end_fits, begin_item, begin_there}
-use Rattle.structural_fns.proofs.RowIndices.{get_last}
+use Rattle.index_region.proofs.RowIndices.{get_last}
 use Rattle.structural_fns.proofs.rotate.Rotate.extend_turned.Goals as goal
 
 pub overflow_sub-count : goal.overflow_sub-count

@@ -1,0 +1,24 @@
+use Rattle.std.proofs.Common.{◌≡◌, ◌∙◌, ◌+◌, ◌<◌, ◌++◌, ap, get_or, length, arith}
+use Rattle.std.proofs.lemmas.List.{get_or_default}
+use Rattle.arrays_core.specs.Building.{listed}
+use Rattle.arrays_core.proofs.Building.{listed_more}
+use Rattle.arrays_core.proofs.builder.extend_places.Goals as goal
+
+pub loop-k-preserved : goal.loop-k-preserved
+loop-k-preserved g c =
+    let from = c.args.from.now in
+    let k = c.loop-k.k in
+    let places = c.args.places.now in
+    let below : k < length places = c.loop-k-test.true in
+    let there : c.args.first + get_or places k 0 < length from = c.requires k below in
+    record {
+      room = omega arith;
+      made = λ d. listed_more (λ j. get_or from (c.args.first + get_or places j 0) d) c.args.items.now.items c.loop-k.items.items c.push_reserved.new.self.items k c.index-from-first.result
+          (c.loop-k.invariant.made d) c.push_reserved.ensures.items
+          (c.index-from-first.is ∙ get_or_default from (c.args.first + get_or places k 0) _ d there);
+    }
+
+pub returns : goal.returns
+returns g c =
+    let e : c.loop-k.k ≡ length c.args.places.now = omega arith in
+    λ d. c.loop-k.invariant.made d ∙ ap (λ n. c.args.items.now.items ++ listed n (λ j. get_or c.args.from.now (c.args.first + get_or c.args.places.now j 0) d)) e
