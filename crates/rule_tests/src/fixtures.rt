@@ -1,11 +1,13 @@
-//! Arrays, and what a rule reaches where a box of one of them changed.
+//! Arrays, patches, and what a rule reaches where a box of one of them changed.
 
-ghost use Rattle.std.specs.Prelude.{◌≡◌, IfSome, IsTrue, length};
+ghost use Rattle.std.specs.Prelude.{◌≡◌, ◌∷◌, [], IfSome, IsTrue, length};
+ghost use Rattle.change_core.specs.Reaches.{AllFit};
 ghost use Rattle.index_region.specs.Boxes.{fits};
+ghost use Rattle.index_region.specs.Patches.{FitsPatch};
 
 use arrays_core::{Array, ItemType, is_within_limits, shape_of};
 use change_core::{Reach, Rule};
-use index_region::{IndexBox, Seen};
+use index_region::{IndexBox, Patch, Seen};
 use std::alloc::Global;
 
 /// An array of zeros.
@@ -14,6 +16,32 @@ pub(crate) fn zeros(alloc: Global, axes: &[u32]) -> Option<Array> {
         return None;
     }
     Array::filled(alloc, ItemType::Nums, &shape_of(alloc, axes)).ok()
+}
+
+/// The vector of these numbers.
+pub(crate) fn vector(alloc: Global, numbers: &[i64]) -> Option<Array> {
+    Array::vector(alloc, numbers.to_vec(alloc).ok()?).ok()
+}
+
+/// The patch of a box of an array by these numbers.
+#[tactic(auto, using(index_region::proofs::Patched::box_within_size))]
+pub(crate) fn patch_of(
+    alloc: Global,
+    array: &Array,
+    changed: &[(u32, u32)],
+    numbers: &[i64],
+) -> Option<Patch>
+    ensures { IfSome result (λ p. FitsPatch array.now p) }
+{
+    let region = IndexBox::of(changed)?;
+    if array.item_type() != ItemType::Nums || !region.lies_in(array.shape().as_slice()) {
+        return None;
+    }
+    if region.size() != numbers.len() {
+        return None;
+    }
+    let values = Array::vector(alloc, numbers.to_vec(alloc).ok()?).ok()?;
+    Some(Patch::of(region, values))
 }
 
 /// The box of a list of intervals, if it is one and lies in the array.
@@ -28,48 +56,62 @@ fn box_in(array: &Array, intervals: &[(u32, u32)]) -> Option<IndexBox>
     }
 }
 
-/// What a rule of one argument reaches where a box of it changed.
+/// What a rule of one argument reaches where a box of it changed, if it is there.
 pub(crate) fn reach_of_one<R: Rule>(
     rule: &R,
-    array: &Array,
+    array: Option<Array>,
     changed: &[(u32, u32)],
 ) -> Option<Reach>
     requires { length (R.model rule.now).selectors ≡ 1 }
 {
-    let region = box_in(array, changed)?;
-    Some(rule.reach(&[Seen::plain(array)], &[Some(region)]))
+    let array = array?;
+    let region = box_in(&array, changed)?;
+    Some(rule.reach(&[Seen::plain(&array)], &[Some(region)]))
 }
 
-/// What a rule of two arguments reaches where a box of the left one changed.
+/// What a rule of two arguments reaches where these boxes of them changed.
+fn reach_of_both<R: Rule>(
+    rule: &R,
+    left: &Array,
+    right: &Array,
+    moved: [Option<IndexBox>; 2],
+) -> Reach
+    requires count { length (R.model rule.now).selectors ≡ 2 }
+    requires fit { AllFit (left.now ∷ right.now ∷ []) moved }
+{
+    rule.reach(&[Seen::plain(left), Seen::plain(right)], &moved)
+}
+
+/// What a rule of two arguments reaches where a box of the left one changed, if both are there.
 pub(crate) fn reach_of_left<R: Rule>(
     rule: &R,
-    left: &Array,
-    right: &Array,
+    left: Option<Array>,
+    right: Option<Array>,
     changed: &[(u32, u32)],
 ) -> Option<Reach>
     requires { length (R.model rule.now).selectors ≡ 2 }
 {
-    let region = box_in(left, changed)?;
-    let args = [Seen::plain(left), Seen::plain(right)];
-    Some(rule.reach(&args, &[Some(region), None]))
+    let (left, right) = left.zip(right)?;
+    let region = box_in(&left, changed)?;
+    Some(reach_of_both(rule, &left, &right, [Some(region), None]))
 }
 
-/// What a rule of two arguments reaches where a box of the right one changed.
+/// What a rule of two arguments reaches where a box of the right one changed, if both are there.
 pub(crate) fn reach_of_right<R: Rule>(
     rule: &R,
-    left: &Array,
-    right: &Array,
+    left: Option<Array>,
+    right: Option<Array>,
     changed: &[(u32, u32)],
 ) -> Option<Reach>
     requires { length (R.model rule.now).selectors ≡ 2 }
 {
-    let region = box_in(right, changed)?;
-    let args = [Seen::plain(left), Seen::plain(right)];
-    Some(rule.reach(&args, &[None, Some(region)]))
+    let (left, right) = left.zip(right)?;
+    let region = box_in(&right, changed)?;
+    Some(reach_of_both(rule, &left, &right, [None, Some(region)]))
 }
 
 /// It reaches this box.
-pub(crate) fn is_inside(reach: &Option<Reach>, wanted: &[(u32, u32)]) -> bool {
+pub(crate) fn is_inside(reach: Option<Reach>, wanted: &[(u32, u32)]) -> bool {
     match reach {
         Some(Reach::Inside(region)) => region.as_slice() == wanted,
         _ => false,
@@ -77,11 +119,11 @@ pub(crate) fn is_inside(reach: &Option<Reach>, wanted: &[(u32, u32)]) -> bool {
 }
 
 /// It reaches nothing.
-pub(crate) fn is_unmoved(reach: &Option<Reach>) -> bool {
+pub(crate) fn is_unmoved(reach: Option<Reach>) -> bool {
     matches!(reach, Some(Reach::Unmoved))
 }
 
 /// It makes all of the result anew.
-pub(crate) fn is_anew(reach: &Option<Reach>) -> bool {
+pub(crate) fn is_anew(reach: Option<Reach>) -> bool {
     matches!(reach, Some(Reach::Anew))
 }

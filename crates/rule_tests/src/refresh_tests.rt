@@ -1,39 +1,72 @@
 //! The change of a node: a patch of what changed, with a tick an item.
 
+ghost use Rattle.std.specs.Prelude.{◌≡◌};
+ghost use Rattle.index_region.specs.declared.delta.Delta.TheVariants.{Same};
+
+use crate::fixtures::{patch_of, vector};
 use arrays_core::{Array, Fault, Item};
 use change_core::Meter;
 use change_rules::refresh;
-use index_region::{Delta, IndexBox, Patch, Seen};
+use index_region::{Delta, Seen};
 use scalar_fns::Scalar2;
 use scalar_rules::EachDyadic;
-use std::test::Fail;
+use std::alloc::Global;
 
-#[test]
-fn doubles_one_place(rt: HostRuntime) -> Result<(), Fail> {
-    let alloc = rt.alloc();
-    let numbers = Array::vector(alloc, vec![in alloc; 1, 2, 3]?)?;
-    let two = Array::scalar(alloc, 2)?;
-    let region = IndexBox::of(&[(2, 2)]).expect(&rt, "a box");
-    let moved = Delta::Patch(Patch::of(region, Array::scalar(alloc, 7)?));
-    let Delta::Patch(laid) = &moved else {
-        return Ok(());
+/// The change of a product where the left argument changed and the right one is as it was.
+fn product_with<'a>(
+    alloc: Global,
+    left: (&'a Array, &'a Delta),
+    right: (&'a Array, &'a Delta),
+    old: &Result<Array, Fault>,
+    meter: &mut Meter,
+) -> Option<Delta>
+    requires { right.1.now ≡ Same }
+{
+    let (array, moved) = left;
+    let Delta::Patch(patch) = moved else {
+        return None;
     };
-    let old: Result<Array, Fault> = Ok(Array::vector(alloc, vec![in alloc; 2, 4, 6]?)?);
+    if !patch.region().lies_in(array.shape().as_slice()) || patch.item_type() != array.item_type() {
+        return None;
+    }
     let rule = EachDyadic {
         function: Scalar2::Times,
     };
-    let mut meter = Meter::new();
     let args = [
-        (Seen::patched(&numbers, laid), &moved),
-        (Seen::plain(&two), &Delta::Same),
+        (Seen::patched(array, patch), moved),
+        (Seen::plain(right.0), right.1),
     ];
-    let delta = refresh(alloc, &rule, &args, &old, &mut meter)?;
+    refresh(alloc, &rule, &args, old, meter).ok()
+}
+
+/// The change of the doubles of 1 2 3 where the second is 7 now.
+fn doubles_with_seven(
+    alloc: Global,
+    old: &Result<Array, Fault>,
+    meter: &mut Meter,
+) -> Option<Delta> {
+    let (numbers, two) = vector(alloc, &[1, 2, 3]).zip(Array::scalar(alloc, 2).ok())?;
+    let moved = Delta::Patch(patch_of(alloc, &numbers, &[(2, 2)], &[7])?);
+    let same = Delta::Same;
+    product_with(alloc, (&numbers, &moved), (&two, &same), old, meter)
+}
+
+/// It is a patch of one place of a vector by this number.
+fn is_number_at(delta: Option<Delta>, place: u32, number: i64) -> bool {
+    match &delta {
+        Some(Delta::Patch(patch)) if patch.region().contains(&[place]) => {
+            patch.region().as_slice() == [(place, place)].as_slice()
+                && patch.item(&[place]) == Item::Num(number)
+        }
+        _ => false,
+    }
+}
+
+#[test]
+fn doubles_one_place(rt: HostRuntime) {
+    let mut meter = Meter::new();
+    let old = Ok(vector(rt.alloc(), &[2, 4, 6]).expect(&rt, "a vector"));
+    let delta = doubles_with_seven(rt.alloc(), &old, &mut meter);
     assert_eq!(rt; meter.ticks(), 1);
-    let Delta::Patch(found) = &delta else {
-        assert!(rt; false);
-        return Ok(());
-    };
-    assert!(rt; found.region().as_slice() == [(2, 2)].as_slice());
-    assert_eq!(rt; found.item(&[2]), Item::Num(14));
-    Ok(())
+    assert!(rt; is_number_at(delta, 2, 14));
 }
