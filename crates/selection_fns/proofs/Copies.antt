@@ -3,7 +3,7 @@ use Rattle.std.proofs.Common.{◌≡◌, ℕ, zero, suc, ◌+◌, ◌-◌, ◌*�
 use Rattle.std.specs.Prelude.{max, sum}
 use Rattle.std.specs.List.{list_all}
 use Rattle.std.proofs.lemmas.Bool.Decides.{nat_tests}
-use Rattle.std.proofs.lemmas.List.{length-map, get_or-map, drop_more, get_or_default, length-replicate}
+use Rattle.std.proofs.lemmas.List.{drop_more, get_or-map, get_or_default, length-append, length-map, length-replicate, take_all}
 use Rattle.std.proofs.Math.Nat.{div-eq-sub-div, div-eq_of_lt}
 use Rattle.arrays_core.specs.declared.item.Item.{Item}
 use Rattle.arrays_core.specs.declared.item.ItemType.{ItemType}
@@ -200,13 +200,7 @@ holds_with_run (y ∷ xs) count x f before run zero h = before 0 (omega arith)
 holds_with_run (y ∷ xs) count x f before run (suc i) h =
     holds_with_run xs count x (λ j. f (suc j)) (λ j k. before (suc j) (omega arith)) (λ j k. run j k ∙ ap f (let next : suc (length xs) + j ≡ suc (length xs + j) = omega arith in next)) i (omega arith)
 
--- one more of the counts
-pub record CountStep (a : ArrayValue) (k : ℕ) : Type 0 where
-  pub below : k < length (map unsigned_abs (numbers a))
-  pub at : get_or (map unsigned_abs (numbers a)) k 0 ≡ unsigned_abs (get_or (numbers a) k (pos 0))
-  pub rest : sum (drop k (map unsigned_abs (numbers a))) ≡ get_or (map unsigned_abs (numbers a)) k 0 + sum (drop (k + 1) (map unsigned_abs (numbers a)))
-  pub taken : sum (take (k + 1) (map unsigned_abs (numbers a))) ≡ sum (take k (map unsigned_abs (numbers a))) + get_or (map unsigned_abs (numbers a)) k 0
-
+-- the sum of one count more
 sum_taken : (xs : List ℕ) (k : ℕ) → k < length xs → sum (take (suc k) xs) ≡ sum (take k xs) + get_or xs k 0
 sum_taken [] k h = absurd (omega arith)
 sum_taken (x ∷ xs) zero h = refl
@@ -214,6 +208,13 @@ sum_taken (x ∷ xs) (suc k) h =
     let rest = sum_taken xs k (omega arith) in
     let whole : x + sum (take (suc k) xs) ≡ x + sum (take k xs) + get_or xs k 0 = omega arith in
     sum_front x (take (suc k) xs) ∙ whole ∙ ap (λ n. n + get_or xs k 0) (sym (sum_front x (take k xs)))
+
+-- one more of the counts of an array
+pub record CountStep (a : ArrayValue) (k : ℕ) : Type 0 where
+  pub below : k < length (map unsigned_abs (numbers a))
+  pub at : get_or (map unsigned_abs (numbers a)) k 0 ≡ unsigned_abs (get_or (numbers a) k (pos 0))
+  pub rest : sum (drop k (map unsigned_abs (numbers a))) ≡ get_or (map unsigned_abs (numbers a)) k 0 + sum (drop (k + 1) (map unsigned_abs (numbers a)))
+  pub taken : sum (take (k + 1) (map unsigned_abs (numbers a))) ≡ sum (take k (map unsigned_abs (numbers a))) + get_or (map unsigned_abs (numbers a)) k 0
 
 pub count_step : (a : ArrayValue) (k : ℕ) → k < length a.items → CountStep a k
 count_step a k h =
@@ -227,6 +228,30 @@ count_step a k h =
       rest = ap sum (drop_more counts k 0 (omega arith)) ∙ sum_front (get_or counts k 0) (drop (k + 1) counts);
       taken = rw next (sum_taken counts k (omega arith));
     }
+
+-- how many places come before that of each copy of the first k places
+pub record AreBefore (counts : List ℕ) (k : ℕ) (before : List ℕ) : Type 0 where
+  pub first : length before ≡ sum (take k counts)
+  pub is : (i : ℕ) → i < length before → get_or before i 0 + 1 ≡ maker counts (i + 1)
+
+pub copies_fit : (counts : List ℕ) (k : ℕ) (before : List ℕ) → AreBefore counts k before → k < length counts → length before + get_or counts k 0 ≤ sum counts
+copies_fit counts k before made h =
+    let within = sum_within counts k h in
+    let first = made.first in
+    omega arith
+
+pub one_place_more : (counts : List ℕ) (k count : ℕ) (before new : List ℕ) → k < length counts → count ≡ get_or counts k 0 → new ≡ before ++ replicate count k → AreBefore counts k before
+    → AreBefore counts (k + 1) new
+one_place_more counts k count before new below same put made =
+    let first = made.first in
+    let taken : sum (take (k + 1) counts) ≡ sum (take k counts) + get_or counts k 0 = let next : k + 1 ≡ suc k = omega arith in rw next (sum_taken counts k below) in
+    let long : length new ≡ length before + count = rw put (simp (length-append, length-replicate) (omega arith)) in
+    let told = holds_with_run before count k (λ i. maker counts (i + 1)) made.is
+    (λ j h. sym (maker_run counts k (length before + j + 1) below (omega arith) (omega arith))) in
+    record { first = omega arith; is = λ i h. subst (λ xs. get_or xs i 0 + 1 ≡ maker counts (i + 1)) (sym put) (told i (omega arith)) }
+
+pub all_copies : (counts : List ℕ) (k : ℕ) (before : List ℕ) → length counts ≤ k → AreBefore counts k before → length before ≡ sum counts
+all_copies counts k before h made = made.first ∙ ap sum (take_all k counts h)
 
 -- where replicate gives a form, the array has that axis, and the form is the shape of the copies
 pub record ReplicateGives (along : Along) (a b : ArrayValue) (shape : List ℕ) (item_type : ItemType) : Type 0 where

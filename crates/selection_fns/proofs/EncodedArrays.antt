@@ -2,8 +2,7 @@
 use Rattle.std.proofs.Common.{◌≡◌, ℕ, zero, suc, true, ◌+◌, ◌*◌, ◌/◌, ◌%◌, ◌<◌, ◌≤◌, List, [], ◌∷◌, ◌++◌, length, get_or, drop, map, ℤ, pos, Ok, refl, ap, sym, ◌∙◌, arith, if◌then◌else◌}
 use Rattle.std.specs.Prelude.{nat_eq, nat_le, ◌&&◌}
 use Rattle.std.proofs.lemmas.Bool.Decides.{nat_tests}
-use Rattle.std.proofs.lemmas.List.{length-map, get_or-map, map-id}
-use Rattle.std.proofs.lemmas.Simd.{map-map}
+use Rattle.std.proofs.lemmas.List.{length-map, get_or-map}
 use Rattle.std.proofs.lemmas.Nat.{div_below, mod_below}
 use Rattle.std.proofs.Math.Nat.{div-add-mod'}
 use Rattle.arrays_core.specs.declared.item.Item.{Item}
@@ -22,10 +21,6 @@ use Rattle.index_region.specs.ArgumentLists.{of_two_arguments}
 use Rattle.index_region.proofs.Passing.{two_arguments, gives, limited_gives}
 use Rattle.selection_fns.specs.Encode.{digit, encode_form, encode_item, encode_whole}
 use Rattle.selection_fns.specs.EncodedRows.{AreDigits}
-
--- the numbers of an array of numbers are those that it lends
-pub numbers_in_a_piece : (a : ArrayValue) (zs : List ℤ) → a.items ≡ map (λ z. Num z) zs → numbers a ≡ zs
-numbers_in_a_piece a zs is = ap (map number_of) is ∙ map-map number_of (λ z. Num z) zs ∙ map-id zs
 
 -- a place among rows is in a row of some places
 row_some : (n s m : ℕ) → m < n * s → 0 < s

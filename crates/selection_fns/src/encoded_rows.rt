@@ -6,10 +6,11 @@ ghost use Rattle.index_region.specs.Arguments.{numbers};
 ghost use Rattle.selection_fns.specs.EncodedRows.{AreCarried, AreDigits, HasRow};
 
 use crate::encode::carried;
+use crate::numbers_of::numbers_of;
 use arrays_core::{ApplyFault, Kind};
 use index_region::Seen;
 use scalar_fns::residue;
-use std::alloc::{AllocError, Global};
+use std::alloc::Global;
 
 /// Puts the digits of some numbers by a radix in a row, which has so many others before it.
 fn put_row(digits: &mut [i64], before: usize, radix: i64, rests: &[i64])
@@ -47,22 +48,6 @@ fn put_rows(radices: &[i64], rests: &mut [i64], digits: &mut [i64]) -> Result<()
     }
     put_row(digits, 0, radices[0], rests);
     Ok(())
-}
-
-/// The numbers of an array in row-major order.
-fn numbers_of(alloc: Global, array: &Seen) -> Result<Vec<i64>, AllocError>
-    ensures is { IfOk result (λ v. v.items ≡ numbers array.now) }
-    ensures sound { IsArray array.now }
-{
-    let places = array.places();
-    if let Some(numbers) = array.numbers() {
-        return numbers.to_vec(alloc);
-    }
-    let mut found = Vec::with_capacity(alloc, places as usize)?;
-    for before in 0..places {
-        found.push(array.number(before + 1))?;
-    }
-    Ok(found)
 }
 
 /// The digits of the numbers of an array by each radix, a row for each, where no number has an error; else some error of

@@ -12,6 +12,7 @@ mod lookup;
 mod member;
 mod more_digits;
 mod number_at;
+mod numbers_of;
 mod replicate;
 mod shape;
 

@@ -15,6 +15,7 @@ ghost use Rattle.index_region.specs.Answers.{IsFormAnswerTo, IsPlaceOf, IsSource
 ghost use Rattle.selection_fns.specs.Replicate.{times, counts_checked, maker as maker_of, copied_place as place_copied, replicate_form, replicate_source, replicate_item, replicate_whole};
 
 use crate::axes::{LONGEST_AXIS, places_along};
+use crate::numbers_of::numbers_of;
 use arrays_core::{
     ApplyFault, Array, ArrayBuilder, Item, ItemRule, ItemType, Kind, RowRule, Shape, collect_rows,
     index_in_row, position, shape_of,
@@ -64,11 +65,33 @@ fn repeated(count: u64, places: u32) -> Result<u32, Kind>
     Ok(total as u32)
 }
 
+/// The sum of a list of counts; LIMIT where it is more than the places that an axis may have.
+fn summed_list(counts: &[i64]) -> Result<u32, Kind>
+    ensures total { IfOk result (λ total. total ≡ sum (map unsigned_abs counts.now)) }
+    ensures beyond { IfErr result (λ kind. (kind ≡ Limit) × (longest_axis < sum (map unsigned_abs counts.now))) }
+{
+    let mut total = 0;
+    for count in counts {
+        let count = count.unsigned_abs();
+        if count > LONGEST_AXIS {
+            return Err(Kind::Limit);
+        }
+        total += count;
+        if total > LONGEST_AXIS {
+            return Err(Kind::Limit);
+        }
+    }
+    Ok(total as u32)
+}
+
 /// The sum of the counts; LIMIT where it is more than the places that an axis may have.
 fn summed(counts: &Seen) -> Result<u32, Kind>
     ensures total { IfOk result (λ total. total ≡ sum (map unsigned_abs (numbers counts.now))) }
     ensures beyond { IfErr result (λ kind. (kind ≡ Limit) × (longest_axis < sum (map unsigned_abs (numbers counts.now)))) }
 {
+    if let Some(list) = counts.numbers() {
+        return summed_list(list);
+    }
     let mut total = 0;
     for place in 0..counts.places() {
         let count = counts.number(place + 1).unsigned_abs();
@@ -153,6 +176,19 @@ fn copied_place(counts: &Seen, places: u32, copy: u32) -> u32
     }
 }
 
+/// Puts copies of a number at the end of a list.
+fn append_copies(list: &mut Vec<u32>, count: u32, number: u32) -> Result<(), AllocError>
+    requires { length list.old.items + count ≤ longest_axis }
+    ensures { OnOk result (list.new.items ≡ list.old.items ++ replicate count number) }
+{
+    match count {
+        0 => {}
+        1 => list.push(number)?,
+        _ => list.resize(list.len() + count as usize, number)?,
+    }
+    Ok(())
+}
+
 /// How many places come before that of each copy, where all places have one count.
 fn before_copies_of_one_count(
     alloc: Global,
@@ -160,37 +196,37 @@ fn before_copies_of_one_count(
     places: u32,
     total: u32,
 ) -> Result<Vec<u32>, AllocError>
-    requires { total ≡ places * count }
+    requires total { total ≡ places * count }
+    requires within { total ≤ longest_axis }
     ensures long { IfOk result (λ before. length before.items ≡ total) }
     ensures is { IfOk result (λ before. (i : ℕ) → i < total → get_or before.items i 0 + 1 ≡ maker_of (replicate places count) (i + 1)) }
 {
     let mut before = Vec::with_capacity(alloc, total as usize)?;
-    for copy in 0..total {
-        before.push(maker_of_each(count, places, copy + 1) - 1)?;
+    for place in 0..places {
+        append_copies(&mut before, count as u32, place)?;
     }
     Ok(before)
 }
 
-/// Puts copies of a number at the end of a list.
-fn append_copies(list: &mut Vec<u32>, count: u32, number: u32) -> Result<(), AllocError>
-    requires { length list.old.items + count ≤ longest_axis }
-    ensures { OnOk result (list.new.items ≡ list.old.items ++ replicate count number) }
-{
-    list.resize(list.len() + count as usize, number)?;
-    Ok(())
-}
-
 /// How many places come before that of each copy, where each place has a count of its own.
-fn before_copies_of_counts(alloc: Global, counts: &Seen, total: u32) -> Result<Vec<u32>, AllocError>
-    requires total { total ≡ sum (map unsigned_abs (numbers counts.now)) }
+fn before_copies_of_counts(
+    alloc: Global,
+    counts: &[i64],
+    total: u32,
+) -> Result<Vec<u32>, AllocError>
+    requires total { total ≡ sum (map unsigned_abs counts.now) }
     requires within { total ≤ longest_axis }
+    requires few { length counts.now ≤ longest_axis }
     ensures long { IfOk result (λ before. length before.items ≡ total) }
-    ensures is { IfOk result (λ before. (i : ℕ) → i < total → get_or before.items i 0 + 1 ≡ maker_of (map unsigned_abs (numbers counts.now)) (i + 1)) }
+    ensures is { IfOk result (λ before. (i : ℕ) → i < total → get_or before.items i 0 + 1 ≡ maker_of (map unsigned_abs counts.now) (i + 1)) }
 {
     let mut before = Vec::with_capacity(alloc, total as usize)?;
-    for place in 0..counts.places() {
-        let count = counts.number(place + 1).unsigned_abs() as u32;
-        append_copies(&mut before, count, place)?;
+    for place in 0..counts.len() {
+        append_copies(
+            &mut before,
+            counts[place].unsigned_abs() as u32,
+            place as u32,
+        )?;
     }
     Ok(before)
 }
@@ -216,7 +252,10 @@ fn before_each_copy(
     if is_single {
         return before_copies_of_one_count(alloc, counts.number(1).unsigned_abs(), places, total);
     }
-    before_copies_of_counts(alloc, counts, total)
+    match counts.numbers() {
+        Some(list) => before_copies_of_counts(alloc, list, total),
+        None => before_copies_of_counts(alloc, &numbers_of(alloc, counts)?, total),
+    }
 }
 
 /// The index list of the array itself, of one of the result.

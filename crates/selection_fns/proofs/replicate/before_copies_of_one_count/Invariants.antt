@@ -1,9 +1,6 @@
-use Rattle.std.proofs.Common.{◌≡◌, ◌+◌, ◌<◌, ℕ, length, get_or, replicate}
-use Rattle.selection_fns.specs.Replicate.{maker}
+use Rattle.std.proofs.Common.{replicate}
+use Rattle.selection_fns.proofs.Copies.{AreBefore}
 use Rattle.selection_fns.proofs.replicate.before_copies_of_one_count.Given as goal
 
-abbrev pub invariant-loop-copy : goal.invariant-loop-copy
-invariant-loop-copy l = record {
-  long : length l.before.items ≡ l.copy;
-  is : (i : ℕ) → i < l.copy → get_or l.before.items i 0 + 1 ≡ maker (replicate l.places l.count) (i + 1);
-}
+abbrev pub invariant-loop-place : goal.invariant-loop-place
+invariant-loop-place l = AreBefore (replicate l.fn.places l.fn.count) l.place l.before.items

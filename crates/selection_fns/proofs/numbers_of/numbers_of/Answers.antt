@@ -3,13 +3,13 @@ use Rattle.std.proofs.lemmas.Int.{to_z-of_z}
 use Rattle.std.proofs.lemmas.List.{length-map, take_more, take_all}
 use Rattle.std.proofs.lemmas.Result.{IfOk-weaker}
 use Rattle.index_region.specs.Arguments.{numbers, number_of}
-use Rattle.selection_fns.proofs.EncodedArrays.{numbers_in_a_piece}
-use Rattle.selection_fns.proofs.encoded_rows.numbers_of.Goals as goal
+use Rattle.index_region.proofs.Numbers.{numbers_read}
+use Rattle.selection_fns.proofs.numbers_of.numbers_of.Goals as goal
 
 pub returns-in-Some-clause-is : goal.returns-in-Some-clause-is
 returns-in-Some-clause-is c =
     let a = c.args.array.now in
-    IfOk-weaker c.to_vec.result _ (λ v. v.items ≡ numbers a) (λ v same. same (λ x y e. e) ∙ sym (numbers_in_a_piece a c.in-Some.numbers.now c.in-Some.ensures.is.1)) c.to_vec.ensures.items_if_clones_equal
+    IfOk-weaker c.to_vec.result _ (λ v. v.items ≡ numbers a) (λ v same. same (λ x y e. e) ∙ sym (numbers_read a c.in-Some.numbers.now c.in-Some.ensures.is.1)) c.to_vec.ensures.items_if_clones_equal
 
 pub loop-before-preserved : goal.loop-before-preserved
 loop-before-preserved c =
