@@ -94,10 +94,7 @@ fn reads_lines(rt: HostRuntime) {
 #[test]
 fn reads_the_largest_expressions(rt: HostRuntime) {
     for (front, times, back) in [("-", 255, "5"), ("A+.×", 255, "5"), ("7 ", 4096, "")] {
-        let Ok(text) = repeated(rt.alloc(), front, times, back) else {
-            assert!(rt; false);
-            return;
-        };
+        let text = repeated(rt.alloc(), front, times, back).expect(&rt, "a text");
         assert!(rt; tree_of(rt.alloc(), text.as_str()).is_some(), "{front}");
     }
 }

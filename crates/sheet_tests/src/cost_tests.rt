@@ -19,18 +19,20 @@ fn change(alloc: Global, sheet: &mut Sheet, text: &str) -> Option<()> {
     }
 }
 
-/// Each change of a new sheet is accepted, and costs what stands beside it.
-fn cost(alloc: Global, changes: &[(&str, u64)]) -> bool {
-    let mut sheet = Sheet::new(alloc);
-    if sheet.last_cost() != 0 {
-        return false;
-    }
+/// Each change of a sheet is accepted, and costs what stands beside it.
+fn costs(alloc: Global, sheet: &mut Sheet, changes: &[(&str, u64)]) -> bool {
     for (text, wanted) in changes {
-        if change(alloc, &mut sheet, text).is_none() || sheet.last_cost() != *wanted {
+        if change(alloc, sheet, text).is_none() || sheet.last_cost() != *wanted {
             return false;
         }
     }
     true
+}
+
+/// The same of a new sheet, for which no change was made that costs.
+fn cost(alloc: Global, changes: &[(&str, u64)]) -> bool {
+    let mut sheet = Sheet::new(alloc);
+    sheet.last_cost() == 0 && costs(alloc, &mut sheet, changes)
 }
 
 #[test]
@@ -70,9 +72,8 @@ fn an_error_in_a_check_costs_nothing(rt: HostRuntime) {
 }
 
 /// Edits a cell that is not there, and then asks for the cost.
-fn cost_after_refusal(alloc: Global) -> Option<u64> {
-    let mut sheet = Sheet::new(alloc);
-    change(alloc, &mut sheet, ")DATA D←⍳3")?;
+fn cost_after_refusal(alloc: Global, sheet: &mut Sheet) -> Option<u64> {
+    change(alloc, sheet, ")DATA D←⍳3")?;
     let refused = sheet.set_cell(Name::read("D")?, &[4], &Literal::Num(1));
     match refused {
         Err(Refusal::Index) => Some(sheet.last_cost()),
@@ -82,7 +83,8 @@ fn cost_after_refusal(alloc: Global) -> Option<u64> {
 
 #[test]
 fn a_refused_change_leaves_the_cost(rt: HostRuntime) {
-    assert!(rt; cost_after_refusal(rt.alloc()) == Some(3));
+    let mut sheet = Sheet::new(rt.alloc());
+    assert!(rt; cost_after_refusal(rt.alloc(), &mut sheet) == Some(3));
 }
 
 const PLACES: usize = 1048576;
@@ -123,15 +125,15 @@ fn shows_edits(sheet: &Sheet, name: Name) -> bool {
 }
 
 /// Doubles a million ones, of which many become 2.
-fn edits_of_a_million_cells(alloc: Global) -> Option<bool> {
+fn edits_of_a_million_cells(alloc: Global, sheet: &mut Sheet) -> Option<bool> {
     let (data, product) = (Name::read("D")?, Name::read("T")?);
-    let mut sheet = Sheet::new(alloc);
-    change(alloc, &mut sheet, ")DATA D←1048576⍴1")?;
-    change(alloc, &mut sheet, "T←D×2")?;
-    Some(edit_first_places(&mut sheet, data) && shows_edits(&sheet, product))
+    change(alloc, sheet, ")DATA D←1048576⍴1")?;
+    change(alloc, sheet, "T←D×2")?;
+    Some(edit_first_places(sheet, data) && shows_edits(sheet, product))
 }
 
 #[test]
 fn each_of_many_edits_costs_one_item(rt: HostRuntime) {
-    assert!(rt; edits_of_a_million_cells(rt.alloc()) == Some(true));
+    let mut sheet = Sheet::new(rt.alloc());
+    assert!(rt; edits_of_a_million_cells(rt.alloc(), &mut sheet) == Some(true));
 }

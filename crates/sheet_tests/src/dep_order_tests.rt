@@ -21,30 +21,21 @@ fn ring(alloc: Global) -> Result<Graph, AllocError> {
 
 #[test]
 fn orders_nodes(rt: HostRuntime) {
-    let Ok(graph) = chain(rt.alloc()) else {
-        assert!(rt; false);
-        return;
-    };
+    let graph = chain(rt.alloc()).expect(&rt, "a graph");
     let found = order(rt.alloc(), &graph);
     assert!(rt; matches!(&found, Ok(nodes) if nodes.as_slice() == [0, 1, 2].as_slice()));
 }
 
 #[test]
 fn finds_a_cycle(rt: HostRuntime) {
-    let Ok(graph) = ring(rt.alloc()) else {
-        assert!(rt; false);
-        return;
-    };
+    let graph = ring(rt.alloc()).expect(&rt, "a graph");
     let found = order(rt.alloc(), &graph);
     assert!(rt; matches!(&found, Err(OrderFault::Cycle(nodes)) if nodes.len() == 2));
 }
 
 #[test]
 fn finds_dependents(rt: HostRuntime) {
-    let Ok(graph) = chain(rt.alloc()) else {
-        assert!(rt; false);
-        return;
-    };
+    let graph = chain(rt.alloc()).expect(&rt, "a graph");
     let found = dependents(rt.alloc(), &graph, 1);
     assert!(rt; matches!(&found, Ok(nodes) if nodes.as_slice() == [2].as_slice()));
 }

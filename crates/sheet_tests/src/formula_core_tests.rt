@@ -19,24 +19,19 @@ fn makes_literals(rt: HostRuntime) {
     let alloc = rt.alloc();
     assert!(rt; are_numbers(array_of(alloc, &Literal::Num(-7)), &[], &[-7]));
     assert!(rt; are_characters(array_of(alloc, &Literal::Char('⍴')), &[], &['⍴']));
-    let (Ok(numbers), Ok(characters)) = (vec![in alloc; 7, 8], vec![in alloc; 'a', 'b']) else {
-        assert!(rt; false);
-        return;
-    };
-    assert!(rt; are_numbers(array_of(alloc, &Literal::Nums(numbers)), &[2], &[7, 8]));
-    assert!(rt;
-        are_characters(
-            array_of(alloc, &Literal::Text(characters)),
-            &[2],
-            &['a', 'b']
-        )
-    );
+    let numbers = Literal::Nums(vec![in alloc; 7, 8].expect(&rt, "numbers"));
+    assert!(rt; are_numbers(array_of(alloc, &numbers), &[2], &[7, 8]));
+    let characters = Literal::Text(vec![in alloc; 'a', 'b'].expect(&rt, "characters"));
+    assert!(rt; are_characters(array_of(alloc, &characters), &[2], &['a', 'b']));
 }
 
 /// What the expression of a text gives where no name is bound.
 fn value_of(alloc: Global, text: &str) -> Option<Array> {
     let tree = tree_of(alloc, text)?;
-    evaluate(alloc, &tree, &Sheet::new(alloc)).ok()?.ok()
+    match evaluate(alloc, &tree, &Sheet::new(alloc)) {
+        Ok(Ok(value)) => Some(value),
+        _ => None,
+    }
 }
 
 #[test]
@@ -110,16 +105,26 @@ fn one_of_a_thousand(alloc: Global, array: &Array) -> Option<Delta>
     Some(Delta::Patch(Patch::of(region, Array::scalar(alloc, 7).ok()?)))
 }
 
-/// How many sums are joined where one number changes in a row of a thousand that a total sums up.
-fn joins_of_a_total(alloc: Global) -> Option<u64> {
-    let mut formula = Formula::build(alloc, tree_of(alloc, "+/D")?).ok()?;
+/// How many sums are joined where one number changes in a row of a thousand that a new formula of one name shows.
+fn joins_of_one(alloc: Global, formula: &mut Formula, array: &Array) -> Option<u64>
+    requires { formula.old.is_new ≡ true }
+{
     if formula.references().len() != 1 {
         return None;
     }
+    work_out(formula, array)?;
+    let delta = one_of_a_thousand(alloc, array)?;
+    joins_of(formula, array, &delta)
+}
+
+/// The same where the formula is a total.
+fn joins_of_a_total(alloc: Global) -> Option<u64> {
+    let tree = tree_of(alloc, "+/D")?;
+    let Ok(mut formula) = Formula::build(alloc, tree) else {
+        return None;
+    };
     let array = Array::filled(alloc, ItemType::Nums, &shape_of(alloc, &[1, 1000])).ok()?;
-    work_out(&mut formula, &array)?;
-    let delta = one_of_a_thousand(alloc, &array)?;
-    joins_of(&formula, &array, &delta)
+    joins_of_one(alloc, &mut formula, &array)
 }
 
 #[test]

@@ -128,6 +128,17 @@ fn sink_of(alloc: Global, left: usize) -> Trickle {
     }
 }
 
+/// Runs with a new sheet: how that ends, and how many names the sheet has then.
+fn run_anew<R: Source, W: Sink>(
+    alloc: Global,
+    source: &mut R,
+    sink: &mut W,
+) -> (Result<Tally, RunFault>, usize) {
+    let mut sheet = Sheet::new(alloc);
+    let end = run(alloc, &mut sheet, source, sink);
+    (end, sheet.names().len())
+}
+
 /// Gives a line of every length from 0 to 4,097 bytes, each but the empty one answered 5.
 #[derive(Drop)]
 struct Lengths {
@@ -195,14 +206,10 @@ fn answers_of_lengths(alloc: Global) -> Result<String, AllocError> {
 
 #[test]
 fn lines_of_every_length(rt: HostRuntime) {
-    let Ok(wanted) = answers_of_lengths(rt.alloc()) else {
-        assert!(rt; false);
-        return;
-    };
-    let mut sheet = Sheet::new(rt.alloc());
+    let wanted = answers_of_lengths(rt.alloc()).expect(&rt, "answers");
     let mut source = Lengths { length: 0, at: 0 };
     let mut sink = Device::new(Vec::new(rt.alloc()));
-    let end = run(rt.alloc(), &mut sheet, &mut source, &mut sink);
+    let (end, _) = run_anew(rt.alloc(), &mut source, &mut sink);
     let tally = Tally {
         lines: 4098,
         refused_for_memory: 0,
@@ -213,9 +220,8 @@ fn lines_of_every_length(rt: HostRuntime) {
 
 /// The bytes are answered so.
 fn is_answered(alloc: Global, input: &[u8], wanted: &str) -> bool {
-    let mut sheet = Sheet::new(alloc);
     let mut sink = Device::new(Vec::new(alloc));
-    let end = run(alloc, &mut sheet, &mut Device::new(input), &mut sink);
+    let (end, _) = run_anew(alloc, &mut Device::new(input), &mut sink);
     end.is_ok() && sink.into_inner().as_slice() == wanted.as_bytes()
 }
 
@@ -237,14 +243,13 @@ fn lines_and_their_ends(rt: HostRuntime) {
 
 #[test]
 fn a_byte_at_a_time(rt: HostRuntime) {
-    let mut sheet = Sheet::new(rt.alloc());
     let mut source = Drip {
         bytes: b"\xEF\xBB\xBFA\xE2\x86\x901 2\r\nA\nA+A",
         breaks: false,
         failed: false,
     };
     let mut sink = sink_of(rt.alloc(), 100);
-    let end = run(rt.alloc(), &mut sheet, &mut source, &mut sink);
+    let (end, _) = run_anew(rt.alloc(), &mut source, &mut sink);
     let tally = Tally {
         lines: 3,
         refused_for_memory: 0,
@@ -256,27 +261,25 @@ fn a_byte_at_a_time(rt: HostRuntime) {
 
 #[test]
 fn an_input_that_breaks_off(rt: HostRuntime) {
-    let mut sheet = Sheet::new(rt.alloc());
     let mut source = Drip {
         bytes: b"1+1\nA\xE2\x86\x904\n2",
         breaks: true,
         failed: false,
     };
     let mut sink = sink_of(rt.alloc(), 100);
-    let end = run(rt.alloc(), &mut sheet, &mut source, &mut sink);
+    let (end, names) = run_anew(rt.alloc(), &mut source, &mut sink);
     assert_eq!(rt; end, Err(RunFault::Read));
-    assert_eq!(rt; sheet.names().len(), 1);
+    assert_eq!(rt; names, 1);
     assert_eq!(rt; sink.bytes.as_slice(), b"2\n".as_slice());
 }
 
 #[test]
 fn a_sink_of_three_bytes(rt: HostRuntime) {
-    let mut sheet = Sheet::new(rt.alloc());
     let mut source = Device::new(b"10\n20\nA\xE2\x86\x904\n".as_slice());
     let mut sink = sink_of(rt.alloc(), 3);
-    let end = run(rt.alloc(), &mut sheet, &mut source, &mut sink);
+    let (end, names) = run_anew(rt.alloc(), &mut source, &mut sink);
     assert_eq!(rt; end, Err(RunFault::Write));
-    assert_eq!(rt; sheet.names().len(), 0);
+    assert_eq!(rt; names, 0);
     assert_eq!(rt; sink.bytes.as_slice(), b"10\n".as_slice());
 }
 
@@ -304,14 +307,13 @@ fn answers_to(input: &[u8]) -> &'static [u8] {
 fn an_input_that_breaks_off_at_each_byte(rt: HostRuntime) {
     let input = TWO_SHOWS.as_bytes();
     for length in 0..=input.len() {
-        let mut sheet = Sheet::new(rt.alloc());
         let mut source = Drip {
             bytes: &input[..length],
             breaks: true,
             failed: false,
         };
         let mut sink = sink_of(rt.alloc(), 100);
-        let end = run(rt.alloc(), &mut sheet, &mut source, &mut sink);
+        let (end, _) = run_anew(rt.alloc(), &mut source, &mut sink);
         assert_eq!(rt; end, Err(RunFault::Read));
         assert!(rt; source.failed() && !sink.failed());
         assert_eq!(rt; sink.bytes.as_slice(), answers_to(&input[..length]));
@@ -321,10 +323,9 @@ fn an_input_that_breaks_off_at_each_byte(rt: HostRuntime) {
 #[test]
 fn a_sink_of_each_length(rt: HostRuntime) {
     for length in 0..=ANSWERS.len() {
-        let mut sheet = Sheet::new(rt.alloc());
         let mut sink = sink_of(rt.alloc(), length);
         let mut source = Device::new(TWO_SHOWS.as_bytes());
-        let end = run(rt.alloc(), &mut sheet, &mut source, &mut sink);
+        let (end, _) = run_anew(rt.alloc(), &mut source, &mut sink);
         assert_eq!(rt; end.is_ok(), length == ANSWERS.len());
         assert!(rt; end.is_ok() || end == Err(RunFault::Write));
         assert_eq!(rt; sink.failed(), length < ANSWERS.len());
@@ -335,13 +336,12 @@ fn a_sink_of_each_length(rt: HostRuntime) {
 #[test]
 fn a_writer_that_takes_no_more(rt: HostRuntime) {
     for length in 0..ANSWERS.len() {
-        let mut sheet = Sheet::new(rt.alloc());
         let mut sink = Device::new(Filling {
             bytes: Vec::new(rt.alloc()),
             left: length,
         });
         let mut source = Device::new(TWO_SHOWS.as_bytes());
-        let end = run(rt.alloc(), &mut sheet, &mut source, &mut sink);
+        let (end, _) = run_anew(rt.alloc(), &mut source, &mut sink);
         assert_eq!(rt; end, Err(RunFault::Write));
         assert_eq!(rt; sink.failed(), true);
         assert_eq!(rt; sink.into_inner().bytes.as_slice(), &ANSWERS[..length]);
@@ -350,11 +350,10 @@ fn a_writer_that_takes_no_more(rt: HostRuntime) {
 
 #[test]
 fn a_flush_that_fails(rt: HostRuntime) {
-    let mut sheet = Sheet::new(rt.alloc());
     let mut source = Device::new(b"1\nA\xE2\x86\x904\n".as_slice());
     let mut sink = Device::new(Stuck);
-    let end = run(rt.alloc(), &mut sheet, &mut source, &mut sink);
+    let (end, names) = run_anew(rt.alloc(), &mut source, &mut sink);
     assert_eq!(rt; end, Err(RunFault::Write));
     assert_eq!(rt; sink.failed(), true);
-    assert_eq!(rt; sheet.names().len(), 1);
+    assert_eq!(rt; names, 1);
 }

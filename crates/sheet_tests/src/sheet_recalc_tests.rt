@@ -11,15 +11,13 @@ use std::collections::VecDeque;
 /// The binding of a name to a formula.
 fn definition(alloc: Global, name: &str, text: &str) -> Option<Change> {
     let name = Name::read(name)?;
-    let tree = tree_of(alloc, text)?;
-    Some(Change::Define(name, tree))
+    Some(Change::Define(name, tree_of(alloc, text)?))
 }
 
 /// Binds a name to the array of a text, where that is accepted.
 fn store(alloc: Global, sheet: &mut Sheet, name: &str, text: &str) -> Option<()> {
     let name = Name::read(name)?;
-    let tree = tree_of(alloc, text)?;
-    sheet.data(name, tree).ok()
+    sheet.data(name, tree_of(alloc, text)?).ok()
 }
 
 /// Binds a name to a formula, where that is accepted.
@@ -36,7 +34,10 @@ fn set_second(sheet: &mut Sheet, name: &str) -> Option<()> {
 /// What an expression shows.
 fn value(alloc: Global, sheet: &Sheet, text: &str) -> Option<Array> {
     let tree = tree_of(alloc, text)?;
-    sheet.show(&tree).ok()?.ok()
+    match sheet.show(&tree) {
+        Ok(Ok(value)) => Some(value),
+        _ => None,
+    }
 }
 
 /// The expression shows these numbers, a vector.
@@ -67,10 +68,7 @@ fn definitions(alloc: Global, texts: &[(&str, &str)]) -> Option<VecDeque<Change>
 fn answers_changes_in_order(rt: HostRuntime) {
     let mut sheet = Sheet::new(rt.alloc());
     let formulas = [("D", "1 2 3"), ("T", "D×2"), ("D", "T"), ("D", "4 5 6")];
-    let Some(changes) = definitions(rt.alloc(), &formulas) else {
-        assert!(rt; false);
-        return;
-    };
+    let changes = definitions(rt.alloc(), &formulas).expect(&rt, "changes");
     let answers = sheet.apply_all(changes);
     assert!(rt;
         matches!(&answers, Ok(each) if matches!(each.as_slice(), [Ok(()), Ok(()), Err(Refusal::Cycle(_)), Ok(())]))
@@ -79,9 +77,9 @@ fn answers_changes_in_order(rt: HostRuntime) {
 }
 
 /// Binds a name to the vector of these numbers, where that is accepted.
-fn put(alloc: Global, sheet: &mut Sheet, name: &str, numbers: Vec<i64>) -> Option<()> {
+fn put(alloc: Global, sheet: &mut Sheet, name: &str, numbers: &[i64]) -> Option<()> {
     let name = Name::read(name)?;
-    let array = Array::vector(alloc, numbers).ok()?;
+    let array = Array::vector(alloc, numbers.to_vec(alloc).ok()?).ok()?;
     sheet.apply(Change::Put(name, array)).ok()
 }
 
@@ -94,12 +92,8 @@ fn add_row(sheet: &mut Sheet, name: &str, row: Literal) -> Option<()> {
 #[test]
 fn takes_an_array_and_one_more_item(rt: HostRuntime) {
     let mut sheet = Sheet::new(rt.alloc());
-    let Ok(numbers) = vec![in rt.alloc(); 1, 2] else {
-        assert!(rt; false);
-        return;
-    };
     assert!(rt; define(rt.alloc(), &mut sheet, "T", "D×2").is_some());
-    assert!(rt; put(rt.alloc(), &mut sheet, "D", numbers).is_some());
+    assert!(rt; put(rt.alloc(), &mut sheet, "D", &[1, 2]).is_some());
     assert!(rt; add_row(&mut sheet, "D", Literal::Num(9)).is_some());
     assert!(rt; shows(rt.alloc(), &sheet, "T", &[2, 4, 18]));
 }
@@ -107,10 +101,7 @@ fn takes_an_array_and_one_more_item(rt: HostRuntime) {
 #[test]
 fn takes_one_more_row(rt: HostRuntime) {
     let mut sheet = Sheet::new(rt.alloc());
-    let Ok(row) = vec![in rt.alloc(); 'e', 'f'] else {
-        assert!(rt; false);
-        return;
-    };
+    let row = vec![in rt.alloc(); 'e', 'f'].expect(&rt, "a row");
     assert!(rt; store(rt.alloc(), &mut sheet, "C", "2 2⍴'abcd'").is_some());
     assert!(rt; add_row(&mut sheet, "C", Literal::Text(row)).is_some());
     let table = value(rt.alloc(), &sheet, "C").ok_or(());

@@ -3,44 +3,60 @@
 use array_text::{TableFault, read_table, write_table};
 use arrays_core::{Array, ItemType, is_within_limits, shape_of, size};
 use std::alloc::{AllocError, Global};
+use std::fmt::Write;
 use std::test::Fail;
 
-/// What a file reads as: the shape, a colon and the numbers, or the fault.
-fn read(alloc: Global, bytes: &[u8], header: bool) -> Result<String, Fail> {
-    match read_table(alloc, bytes, header) {
-        Ok(table) => {
-            let mut text = String::new(alloc);
-            for axis in table.shape().as_slice() {
-                text.push_str(format!(in alloc; "{axis} ")?.as_str())?;
-            }
-            text.push(':')?;
-            if let Some(numbers) = table.numbers() {
-                for number in numbers {
-                    text.push_str(format!(in alloc; " {number}")?.as_str())?;
-                }
-            }
-            Ok(text)
-        }
-        Err(TableFault::Field { row, field }) => Ok(format!(in alloc; "field {row} {field}")?),
-        Err(TableFault::Length { row }) => Ok(format!(in alloc; "length {row}")?),
-        Err(TableFault::Limit) => Ok(format!(in alloc; "limit")?),
-        Err(TableFault::NoMemory) => Ok(format!(in alloc; "no memory")?),
+/// The shape of a table, a colon and its numbers.
+fn shown(alloc: Global, table: &Array) -> Result<String, AllocError> {
+    let mut text = String::new(alloc);
+    for axis in table.shape().as_slice() {
+        write!(text, "{axis} ")?;
+    }
+    text.push(':')?;
+    for number in table.numbers().unwrap_or(&[]) {
+        write!(text, " {number}")?;
+    }
+    Ok(text)
+}
+
+/// A fault in words.
+fn told(alloc: Global, fault: TableFault) -> Result<String, AllocError> {
+    match fault {
+        TableFault::Field { row, field } => format!(in alloc; "field {row} {field}"),
+        TableFault::Length { row } => format!(in alloc; "length {row}"),
+        TableFault::Limit => "limit".to_string(alloc),
+        TableFault::NoMemory => "no memory".to_string(alloc),
     }
 }
 
-/// The file of a table of numbers, or nothing if they are not as many as the places of the shape.
-fn written(alloc: Global, axes: &[u32], numbers: &[i64]) -> Result<String, AllocError> {
-    if axes.len() <= 2 && is_within_limits(axes) && size(axes) as usize == numbers.len() {
-        let shape = shape_of(alloc, axes);
-        let table = Array::from_numbers(&shape, Vec::from_slice(alloc, numbers)?);
-        let _of_numbers = table.shape();
-        return write_table(alloc, &table);
+/// A file reads as this: the shape, a colon and the numbers, or the fault.
+fn reads_as(alloc: Global, bytes: &[u8], header: bool, wanted: &str) -> bool {
+    let text = match read_table(alloc, bytes, header) {
+        Ok(table) => shown(alloc, &table),
+        Err(fault) => told(alloc, fault),
+    };
+    matches!(&text, Ok(text) if text.as_str() == wanted)
+}
+
+/// The array of these numbers, if they are as many as its places.
+fn array_of(alloc: Global, axes: &[u32], numbers: &[i64]) -> Option<Array> {
+    if !is_within_limits(axes) || size(axes) as usize != numbers.len() {
+        return None;
     }
-    Ok(String::new(alloc))
+    let numbers = numbers.to_vec(alloc).ok()?;
+    Some(Array::from_numbers(&shape_of(alloc, axes), numbers))
+}
+
+/// The array is a table of numbers, whose file is this.
+fn writes_as(alloc: Global, table: &Array, wanted: &str) -> bool {
+    if table.shape().len() > 2 || table.item_type() != ItemType::Nums {
+        return false;
+    }
+    matches!(write_table(alloc, table), Ok(text) if text.as_str() == wanted)
 }
 
 #[test]
-fn reads_tables(rt: HostRuntime) -> Result<(), Fail> {
+fn reads_tables(rt: HostRuntime) {
     for (file, header, want) in [
         ("a,b\n1,-2\n\"3\",¯4\n", true, "2 2 : 1 -2 3 -4"),
         (" +7 , ¯2", false, "1 2 : 7 -2"),
@@ -60,14 +76,15 @@ fn reads_tables(rt: HostRuntime) -> Result<(), Fail> {
             "1 2 : -9223372036854775808 -1",
         ),
     ] {
-        let read = read(rt.alloc(), file.as_bytes(), header)?;
-        assert_eq!(rt; read.as_str(), want);
+        assert!(rt;
+            reads_as(rt.alloc(), file.as_bytes(), header, want),
+            "{want}"
+        );
     }
-    Ok(())
 }
 
 #[test]
-fn tells_the_first_fault(rt: HostRuntime) -> Result<(), Fail> {
+fn tells_the_first_fault(rt: HostRuntime) {
     for (file, header, want) in [
         ("a,b\n1,-2\n\"3\",¯4\n", false, "field 1 1"),
         ("1,2\n3", false, "length 2"),
@@ -89,14 +106,15 @@ fn tells_the_first_fault(rt: HostRuntime) -> Result<(), Fail> {
         ("a,b\n1,2\n3\n", true, "length 3"),
         ("a,b\n1,2\n3,y\n", true, "field 3 2"),
     ] {
-        let read = read(rt.alloc(), file.as_bytes(), header)?;
-        assert_eq!(rt; read.as_str(), want);
+        assert!(rt;
+            reads_as(rt.alloc(), file.as_bytes(), header, want),
+            "{want}"
+        );
     }
-    Ok(())
 }
 
 #[test]
-fn records_are_those_of_csv(rt: HostRuntime) -> Result<(), Fail> {
+fn records_are_those_of_csv(rt: HostRuntime) {
     for (file, want) in [
         // CR, LF and CR LF each end a record, and an empty line is none.
         (&b"1,2\r3,4\n5,6\r\n7,8"[..], "4 2 : 1 2 3 4 5 6 7 8"),
@@ -119,14 +137,12 @@ fn records_are_those_of_csv(rt: HostRuntime) -> Result<(), Fail> {
         (&b"\xc2"[..], "field 1 1"),
         (&b"\xaf5"[..], "field 1 1"),
     ] {
-        let read = read(rt.alloc(), file, false)?;
-        assert_eq!(rt; read.as_str(), want);
+        assert!(rt; reads_as(rt.alloc(), file, false, want), "{want}");
     }
-    Ok(())
 }
 
 #[test]
-fn writes_tables(rt: HostRuntime) -> Result<(), Fail> {
+fn writes_tables(rt: HostRuntime) {
     for (axes, numbers, want) in [
         (&[][..], &[-5][..], "-5\n"),
         (
@@ -140,12 +156,22 @@ fn writes_tables(rt: HostRuntime) -> Result<(), Fail> {
         (&[3, 0][..], &[][..], ""),
         (&[0, 3][..], &[][..], ""),
     ] {
-        let written = written(rt.alloc(), axes, numbers)?;
-        assert_eq!(rt; written.as_str(), want);
+        let table = array_of(rt.alloc(), axes, numbers).expect(&rt, "an array");
+        assert!(rt; writes_as(rt.alloc(), &table, want), "{want}");
     }
-    let none = Array::filled(rt.alloc(), ItemType::Chars, &shape_of(rt.alloc(), &[0]))?;
-    assert_eq!(rt; write_table(rt.alloc(), &none)?.as_str(), "");
-    Ok(())
+}
+
+/// A vector of characters without items has an empty file.
+fn writes_no_characters(alloc: Global) -> bool {
+    let Ok(none) = Array::filled(alloc, ItemType::Chars, &shape_of(alloc, &[0])) else {
+        return false;
+    };
+    matches!(write_table(alloc, &none), Ok(text) if text.is_empty())
+}
+
+#[test]
+fn writes_nothing_of_no_items(rt: HostRuntime) {
+    assert!(rt; writes_no_characters(rt.alloc()));
 }
 
 /// A file of so many records, each of so many zeros.
