@@ -1,14 +1,7 @@
 //! Tests of the calls of the other crates: what no contract says and no worked row of the program shows. A call that takes memory
-//! succeeds once, with the right answer; messages are compared with what they are to be; devices give and take a little at a time,
-//! or fail.
+//! succeeds once, with the right answer; devices give and take a little at a time, or fail.
 #![tactic(auto)]
 
-#[cfg(test)]
-mod apl_expr_tests;
-#[cfg(test)]
-mod apl_tokens_tests;
-#[cfg(test)]
-mod array_text_tests;
 #[cfg(test)]
 mod arrays_core_tests;
 #[cfg(test)]
@@ -23,5 +16,3 @@ mod formula_core_tests;
 mod sheet_cli_tests;
 #[cfg(test)]
 mod sheet_recalc_tests;
-#[cfg(test)]
-mod tables_tests;

@@ -1,8 +1,14 @@
 //! A tree of each kind, a line of each kind, the largest expressions, and what faults say.
 
-use crate::fixtures::tree_of;
-use apl_expr::{Command, LineFault, ParseFault, line};
+use apl_expr::{Command, Expr, LineFault, ParseFault, line, parse};
+use apl_tokens::tokens;
 use std::alloc::{AllocError, Global};
+
+/// The tree of a text.
+fn tree_of(alloc: Global, text: &str) -> Option<Expr> {
+    let found = tokens(alloc, text).ok()?;
+    parse(alloc, &found).ok()
+}
 
 /// The tree of a text, written out.
 fn written(alloc: Global, text: &str) -> Option<String> {

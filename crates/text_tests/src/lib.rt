@@ -1,0 +1,12 @@
+//! Tests of the calls that read and write text, as those of sheet_tests: what no contract says and no worked row of the program shows.
+//! They stand on no formula, so their proofs load little.
+#![tactic(auto)]
+
+#[cfg(test)]
+mod apl_expr_tests;
+#[cfg(test)]
+mod apl_tokens_tests;
+#[cfg(test)]
+mod array_text_tests;
+#[cfg(test)]
+mod tables_tests;
