@@ -16,6 +16,14 @@ fn written(alloc: Global, text: &str) -> Option<String> {
     format!(in alloc; "{tree:?}").ok()
 }
 
+/// A text has so many tokens, and they are more than an expression may have.
+fn is_beyond(alloc: Global, text: &str, count: usize) -> bool {
+    match tokens(alloc, text) {
+        Ok(found) => found.len() == count && matches!(parse(alloc, &found), Err(ParseFault::Limit)),
+        Err(_) => false,
+    }
+}
+
 /// What a line asks for.
 fn asked(alloc: Global, text: &str) -> &'static str {
     match line(alloc, text) {
@@ -103,6 +111,12 @@ fn reads_the_largest_expressions(rt: HostRuntime) {
         let text = repeated(rt.alloc(), front, times, back).expect(&rt, "a text");
         assert!(rt; tree_of(rt.alloc(), text.as_str()).is_some(), "{front}");
     }
+}
+
+#[test]
+fn refuses_a_token_more(rt: HostRuntime) {
+    let text = repeated(rt.alloc(), "7 ", 4097, "").expect(&rt, "a text");
+    assert!(rt; is_beyond(rt.alloc(), text.as_str(), 4097));
 }
 
 #[test]
