@@ -74,7 +74,7 @@ fn change_from<R: Rule>(
     reached(alloc, rule, seen, boxes, meter)
 }
 
-/// The change of a node, and what it costs. Views and boxes of up to five arguments take no memory.
+/// The change of a node, and what it costs. Views and boxes of up to three arguments take no memory.
 fn change_of<R: Rule>(
     alloc: Global,
     rule: &R,
@@ -106,22 +106,6 @@ fn change_of<R: Rule>(
         [(a, d), (b, e), (c, f)] => {
             let seen = [a.again(), b.again(), c.again()];
             let boxes = [moved_by(d), moved_by(e), moved_by(f)];
-            change_from(alloc, rule, &seen, &boxes, args, old, meter)
-        }
-        [(a, d), (b, e), (c, f), (x, g)] => {
-            let seen = [a.again(), b.again(), c.again(), x.again()];
-            let boxes = [moved_by(d), moved_by(e), moved_by(f), moved_by(g)];
-            change_from(alloc, rule, &seen, &boxes, args, old, meter)
-        }
-        [(a, d), (b, e), (c, f), (x, g), (y, h)] => {
-            let seen = [a.again(), b.again(), c.again(), x.again(), y.again()];
-            let boxes = [
-                moved_by(d),
-                moved_by(e),
-                moved_by(f),
-                moved_by(g),
-                moved_by(h),
-            ];
             change_from(alloc, rule, &seen, &boxes, args, old, meter)
         }
         _ => {
