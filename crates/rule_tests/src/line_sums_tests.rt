@@ -162,12 +162,20 @@ fn total_in(delta: Option<Delta>) -> Option<Item> {
 }
 
 #[test]
-fn what_is_same_or_whole_needs_no_tree(rt: HostRuntime) {
+fn what_is_same_needs_no_tree(rt: HostRuntime) {
     let pair = vector(rt.alloc(), &[1, 2]).expect(&rt, "a vector");
     let old = Ok(Array::scalar(rt.alloc(), 3).expect(&rt, "a scalar"));
     let mut meter = Meter::new();
     let same = total_of_same(rt.alloc(), &pair, &old, &mut meter);
     assert!(rt; matches!(same, Some(Delta::Same)));
+    assert_eq!(rt; meter.joins(), 0);
+}
+
+#[test]
+fn what_is_whole_needs_no_tree(rt: HostRuntime) {
+    let pair = vector(rt.alloc(), &[1, 2]).expect(&rt, "a vector");
+    let old = Ok(Array::scalar(rt.alloc(), 3).expect(&rt, "a scalar"));
+    let mut meter = Meter::new();
     let whole = total_of_whole(rt.alloc(), &pair, &old, &mut meter);
     assert_eq!(rt; total_in(whole), Some(Item::Num(3)));
     assert_eq!(rt; meter.joins(), 0);

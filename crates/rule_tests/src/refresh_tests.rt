@@ -39,16 +39,26 @@ fn product_with<'a>(
     refresh(alloc, &rule, &args, old, meter).ok()
 }
 
+/// The change of the doubles of numbers that changed.
+fn doubles_of(
+    alloc: Global,
+    numbers: (&Array, &Delta),
+    old: &Result<Array, Fault>,
+    meter: &mut Meter,
+) -> Option<Delta> {
+    let two = Array::scalar(alloc, 2).ok()?;
+    product_with(alloc, numbers, (&two, &Delta::Same), old, meter)
+}
+
 /// The change of the doubles of 1 2 3 where the second is 7 now.
 fn doubles_with_seven(
     alloc: Global,
     old: &Result<Array, Fault>,
     meter: &mut Meter,
 ) -> Option<Delta> {
-    let (numbers, two) = vector(alloc, &[1, 2, 3]).zip(Array::scalar(alloc, 2).ok())?;
+    let numbers = vector(alloc, &[1, 2, 3])?;
     let moved = Delta::Patch(patch_of(alloc, &numbers, &[(2, 2)], &[7])?);
-    let same = Delta::Same;
-    product_with(alloc, (&numbers, &moved), (&two, &same), old, meter)
+    doubles_of(alloc, (&numbers, &moved), old, meter)
 }
 
 /// It is a patch of one place of a vector by this number.
