@@ -11,6 +11,7 @@ use Rattle.apl_expr.specs.declared.expr.Monadic.{Monadic}
 use Rattle.apl_expr.specs.declared.expr.Monadic.TheVariants as monadic
 use Rattle.apl_expr.specs.declared.expr.Dyadic.{Dyadic}
 use Rattle.apl_expr.specs.declared.expr.Dyadic.TheVariants as dyadic
+use Rattle.arrays_core.specs.Items.{and_then}
 use Rattle.arrays_core.specs.Arrays.{ArrayValue, scalar_of, vector_of, character_scalar_of, text_of}
 use Rattle.arrays_core.specs.declared.item.Kind.{Kind}
 use Rattle.scalar_fns.specs.declared.function.Scalar1.{Scalar1}
@@ -20,7 +21,6 @@ use Rattle.scalar_fns.specs.declared.function.Scalar2.TheVariants as two
 use Rattle.scalar_fns.specs.ScalarExtension.{monadic_on_array, dyadic_on_arrays}
 use Rattle.index_region.specs.declared.along.Along.{Along}
 use Rattle.index_region.specs.declared.along.Along.TheVariants.{First, Last, Axis}
-use Rattle.index_region.specs.Checks.{and_then}
 use Rattle.structural_fns.specs.Reshape.{reshape_whole}
 use Rattle.structural_fns.specs.Ravel.{ravel_whole}
 use Rattle.structural_fns.specs.Catenate.{catenate_whole}

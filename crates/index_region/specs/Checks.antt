@@ -6,13 +6,9 @@ use Rattle.arrays_core.specs.declared.item.ItemType.{ItemType}
 use Rattle.arrays_core.specs.declared.item.Kind.{Kind}
 use Rattle.arrays_core.specs.declared.item.Kind.TheVariants.{Limit}
 use Rattle.arrays_core.specs.Limits.{most_axes, longest_axis, most_places}
+use Rattle.arrays_core.specs.Items.{and_then}
 use Rattle.arrays_core.specs.Shapes.{size}
 use Rattle.arrays_core.specs.Arrays.{ArrayValue, collect}
-
--- what follows a result, whose error stands
-abbrev pub and_then : {A B E : Type 0} → Result A E → (A → Result B E) → Result B E
-and_then (Ok x) next = next x
-and_then (Err e) next = Err e
 
 -- a check: where it fails, its kind is the error
 abbrev pub check : {A : Type 0} → Bool → Kind → Result A Kind → Result A Kind

@@ -1,5 +1,5 @@
 -- The error that a `?` passes on.
-use Rattle.std.proofs.Common.{◌≡◌, refl, ap, ℕ, List, ℤ, pos, Vec, Ok, Err, Result}
+use Rattle.std.proofs.Common.{◌≡◌, refl, ℕ, List, ℤ, pos, Vec, Ok, Err, Result}
 use Rattle.std.specs.Result.{IsErr, IsErrAnd}
 use Rattle.arrays_core.specs.declared.item.Kind.{Kind}
 use Rattle.arrays_core.specs.declared.fault.ApplyFault.{ApplyFault}
@@ -8,10 +8,6 @@ use Rattle.arrays_core.specs.declared.item.ItemType.TheVariants.{Nums}
 use Rattle.arrays_core.specs.Arrays.{ArrayValue, IsAnswerTo, with_items}
 use Rattle.scalar_fns.specs.NumberLists.{IsListAnswerTo, number_items}
 use Rattle.operator_fns.specs.LinearScan.{run_to, FailsAt, HasRead}
-
-pub passed_on : {A : Type 0} (r : Result A Kind) (k : Kind) → IsErr r × IsErrAnd r (λ e. e ≡ k) → r ≡ Err k
-passed_on (Ok x) k h = absurd h.1
-passed_on (Err e) k h = ap Err h.1
 
 -- an error of what was read is that of the whole, or it is want of memory
 pub fault_passed : {G : Type 0} (fold : List ℤ → Result ℤ Kind) (zs : List ℤ) (stride count : ℕ) (wanted : Result (List ℤ) Kind) (fault : ApplyFault) (r : Result (Vec ℤ G) ApplyFault)

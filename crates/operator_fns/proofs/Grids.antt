@@ -6,7 +6,7 @@ use Rattle.arrays_core.specs.declared.item.Item.TheVariants.{Num}
 use Rattle.arrays_core.specs.declared.item.ItemType.TheVariants.{Nums}
 use Rattle.arrays_core.specs.declared.item.Kind.{Kind}
 use Rattle.arrays_core.specs.declared.item.Kind.TheVariants.{Length}
-use Rattle.arrays_core.specs.Items.{fill}
+use Rattle.arrays_core.specs.Items.{fill, and_then}
 use Rattle.arrays_core.specs.Shapes.{size, is_index_of, index_after, places_before}
 use Rattle.arrays_core.specs.Arrays.{ArrayValue, collect}
 use Rattle.arrays_core.proofs.Shapes.{places_below, factor_le}
@@ -16,11 +16,11 @@ use Rattle.scalar_fns.specs.Numbers.{dyadic_on_numbers}
 use Rattle.scalar_fns.specs.Items.{dyadic_on_items, number_item}
 use Rattle.scalar_fns.specs.NumberLists.{number_items}
 use Rattle.scalar_fns.specs.ScalarExtension.{extended}
-use Rattle.index_region.specs.Checks.{form_of, Form, and_then, whole, limited}
+use Rattle.scalar_fns.specs.Folds.{folded}
+use Rattle.index_region.specs.Checks.{form_of, Form, whole, limited}
 use Rattle.index_region.specs.Arguments.{has_one_item}
 use Rattle.index_region.proofs.Passing.{gives, limited_gives}
 use Rattle.operator_fns.specs.RightFold.{fold_right}
-use Rattle.operator_fns.specs.Strides.{folded}
 use Rattle.operator_fns.specs.InnerProduct.{row_rank, row_length, column_length, inner_length, inner_form, inner_item, inner_whole, all_or_last_error}
 use Rattle.operator_fns.specs.RowByColumn.{entry, met, folded_all, row_at, column_at, cell, IsGridOf, grid_of}
 use Rattle.operator_fns.proofs.Joined.{parts, number_there, size-append}

@@ -7,19 +7,18 @@ use Rattle.std.proofs.lemmas.List.FromFn.{length-map-range_with_len, get_or-map-
 use Rattle.arrays_core.specs.declared.item.Item.{Item}
 use Rattle.arrays_core.specs.declared.item.ItemType.TheVariants.{Nums}
 use Rattle.arrays_core.specs.declared.item.Kind.{Kind}
-use Rattle.arrays_core.specs.Items.{fill}
+use Rattle.arrays_core.specs.Items.{fill, and_then}
 use Rattle.arrays_core.specs.Shapes.{size, is_index_of, places_before}
 use Rattle.arrays_core.specs.Arrays.{ArrayValue, item_of}
 use Rattle.arrays_core.proofs.Shapes.{places_below, as_long}
 use Rattle.scalar_fns.specs.declared.function.Scalar2.{Scalar2}
 use Rattle.scalar_fns.specs.Items.{dyadic_on_items}
 use Rattle.scalar_fns.specs.ScalarExtension.{extended}
-use Rattle.index_region.specs.Checks.{and_then}
+use Rattle.scalar_fns.specs.Folds.{folded}
 use Rattle.index_region.specs.Arguments.{has_one_item}
 use Rattle.index_region.specs.Answers.{IsPlaceOf}
 use Rattle.index_region.proofs.Passing.{passed, place_inside}
 use Rattle.operator_fns.specs.RightFold.{fold_right}
-use Rattle.operator_fns.specs.Strides.{folded}
 use Rattle.operator_fns.specs.InnerProduct.{row_rank, row_length, column_length, inner_length, inner_form, inner_item, all_or_last_error, products}
 use Rattle.operator_fns.specs.RowByColumn.{met, folded_all}
 use Rattle.operator_fns.proofs.Folds.{some_folded}

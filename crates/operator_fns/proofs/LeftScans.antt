@@ -12,8 +12,7 @@ use Rattle.std.proofs.Math.Nat.{mod-le}
 use Rattle.std.proofs.lemmas.List.{length-take, get_or-take}
 use Rattle.std.proofs.lemmas.List.FromFn.{length-map-range_with_len, get_or-map-range_with_len}
 use Rattle.arrays_core.specs.declared.item.Kind.{Kind}
-use Rattle.arrays_core.specs.Items.{all_or_first_error}
-use Rattle.index_region.specs.Checks.{and_then}
+use Rattle.arrays_core.specs.Items.{all_or_first_error, and_then}
 use Rattle.operator_fns.specs.LinearScan.{run_to, folded_left, HasRead}
 use Rattle.operator_fns.proofs.Runs.{first_row, later_row, past_stride, left_first, left_later}
 use Rattle.operator_fns.proofs.Firsts.{entry_of}

@@ -8,10 +8,10 @@ use Rattle.arrays_core.specs.Shapes.{size, is_index_of, places_before, IsWithinL
 use Rattle.arrays_core.specs.Arrays.{ArrayValue, item_of}
 use Rattle.arrays_core.specs.Items.{fill}
 use Rattle.arrays_core.proofs.Shapes.{head_of, as_long, places_below}
+use Rattle.scalar_fns.specs.Folds.{strided}
+use Rattle.scalar_fns.proofs.RightFolds.{length-strided, get_or-strided}
 use Rattle.index_region.specs.Axes.{places_along}
 use Rattle.operator_fns.specs.RightFold.{line}
-use Rattle.operator_fns.specs.Strides.{strided}
-use Rattle.operator_fns.proofs.Folds.{length-strided, get_or-strided}
 
 stride_more : (i s x y t : ℕ) → x ≡ y + t → i * s + x ≡ i * s + y + t
 stride_more i s x y t e = omega arith

@@ -4,11 +4,11 @@ use Rattle.std.specs.List.{range_with_len}
 use Rattle.std.proofs.lemmas.List.{drop_more, drop_all, take_more, take_all, length-take, get_or-take, ext_get_or}
 use Rattle.std.proofs.lemmas.List.FromFn.{length-map-range_with_len, get_or-map-range_with_len}
 use Rattle.arrays_core.specs.declared.item.Kind.{Kind}
-use Rattle.index_region.specs.Checks.{and_then}
-use Rattle.operator_fns.specs.Strides.{folded}
+use Rattle.arrays_core.specs.Items.{and_then}
+use Rattle.scalar_fns.specs.Folds.{folded}
+use Rattle.scalar_fns.proofs.RightFolds.{fold_more}
 use Rattle.operator_fns.specs.InnerProduct.{all_or_last_error}
 use Rattle.operator_fns.specs.RowByColumn.{met, last_error_or, folded_all}
-use Rattle.operator_fns.proofs.Folds.{fold_more}
 
 -- ---- the error of the last that has one
 

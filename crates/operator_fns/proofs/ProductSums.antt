@@ -9,10 +9,10 @@ use Rattle.std.proofs.lemmas.List.{get_or-take, get_or-drop, get_or_append_left,
 use Rattle.std.proofs.lemmas.List.Elements.{All-take, All-drop}
 use Rattle.std.proofs.lemmas.Bool.{cases_lt}
 use Rattle.std.proofs.lemmas.Nat.{div-mul-add, mod-mul-add}
+use Rattle.arrays_core.specs.Items.{and_then}
 use Rattle.scalar_fns.specs.declared.function.Scalar2.TheVariants.{Plus, Times}
 use Rattle.scalar_fns.specs.Numbers.{dyadic_on_numbers, number_or_limit}
-use Rattle.index_region.specs.Checks.{and_then}
-use Rattle.operator_fns.specs.Strides.{folded}
+use Rattle.scalar_fns.specs.Folds.{folded}
 use Rattle.operator_fns.specs.Sum.{sum_of}
 use Rattle.operator_fns.specs.InnerProduct.{all_or_last_error}
 use Rattle.operator_fns.specs.RowByColumn.{met, folded_all}

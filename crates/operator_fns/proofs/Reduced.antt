@@ -10,22 +10,24 @@ use Rattle.arrays_core.specs.declared.item.Item.TheVariants.{Num}
 use Rattle.arrays_core.specs.declared.item.Kind.{Kind}
 use Rattle.arrays_core.specs.declared.item.ItemType.{ItemType}
 use Rattle.arrays_core.specs.declared.item.ItemType.TheVariants.{Nums}
-use Rattle.arrays_core.specs.Items.{fill}
+use Rattle.arrays_core.specs.Items.{fill, and_then}
 use Rattle.arrays_core.specs.Shapes.{size, is_index_of, places_before}
 use Rattle.arrays_core.specs.Arrays.{ArrayValue, item_of, collect}
 use Rattle.arrays_core.proofs.Shapes.{head_of, places_below}
 use Rattle.scalar_fns.specs.declared.function.Scalar2.{Scalar2}
 use Rattle.scalar_fns.specs.Numbers.{dyadic_on_numbers}
 use Rattle.scalar_fns.specs.Items.{dyadic_on_items, number_item}
+use Rattle.scalar_fns.specs.Folds.{strided, folded}
+use Rattle.scalar_fns.proofs.RightFolds.{length-strided, get_or-strided}
 use Rattle.index_region.specs.declared.along.Along.{Along}
-use Rattle.index_region.specs.Checks.{form_of, Form, and_then, limited}
+use Rattle.index_region.specs.Checks.{form_of, Form, limited}
 use Rattle.index_region.specs.Axes.{places_along, is_axis, axis_at}
 use Rattle.index_region.proofs.Passing.{gives, limited_gives}
 use Rattle.operator_fns.specs.Reduce.{reduce_type, reduce_form, reduce_item, reduce_whole}
 use Rattle.operator_fns.proofs.Placewise.{collected_same}
 use Rattle.operator_fns.specs.RightFold.{fold_right, line}
-use Rattle.operator_fns.specs.Strides.{strided, folded, line_start}
-use Rattle.operator_fns.proofs.Folds.{some_folded, length-strided, get_or-strided}
+use Rattle.operator_fns.specs.Strides.{line_start}
+use Rattle.operator_fns.proofs.Folds.{some_folded}
 use Rattle.operator_fns.proofs.Lines.{line-strided, size-drop-le}
 
 -- ---- numbers and their items

@@ -4,17 +4,16 @@ use Rattle.std.specs.Int.{int_max, int_min}
 use Rattle.std.specs.List.{All}
 use Rattle.std.specs.Int.{w64}
 use Rattle.std.proofs.Math.Nat.{mul-le-mul_left, mul-le-mul_right}
-use Rattle.arrays_core.specs.Items.{all_or_first_error}
+use Rattle.arrays_core.specs.Items.{all_or_first_error, and_then}
 use Rattle.arrays_core.specs.declared.item.Kind.{Kind}
 use Rattle.arrays_core.specs.declared.item.Kind.TheVariants.{Limit}
 use Rattle.scalar_fns.specs.declared.function.Scalar2.TheVariants.{Plus}
 use Rattle.scalar_fns.specs.Numbers.{dyadic_on_numbers}
-use Rattle.index_region.specs.Checks.{and_then}
-use Rattle.operator_fns.specs.Strides.{folded}
+use Rattle.scalar_fns.specs.Folds.{folded}
+use Rattle.scalar_fns.proofs.RightFolds.{length-strided, get_or-strided}
 use Rattle.operator_fns.specs.LinearScan.{depth, run_to, fold_on, folded_left, scanned, FailsAt}
 use Rattle.operator_fns.specs.Sum.{IsSmall}
 use Rattle.operator_fns.proofs.SmallSums.{small_left}
-use Rattle.operator_fns.proofs.Folds.{length-strided, get_or-strided}
 use Rattle.operator_fns.proofs.Runs.{one_deeper, depth_high, run_more, run_some, left_first, left_later}
 use Rattle.operator_fns.proofs.Firsts.{Given, rule_entry, rule_error, same_rules}
 use Rattle.operator_fns.proofs.Endings.{Within, within_of, folded_error, held_error, greatest_step, least_step, sum_from_left, more_most, more_fewest}

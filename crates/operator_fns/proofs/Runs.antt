@@ -5,11 +5,11 @@ use Rattle.std.proofs.lemmas.Nat.{mod_below}
 use Rattle.std.proofs.Math.Nat.{div-eq-sub-div, mod-add-div}
 use Rattle.std.proofs.Math.Arith.{mod-mul}
 use Rattle.arrays_core.specs.declared.item.Kind.{Kind}
+use Rattle.arrays_core.specs.Items.{and_then}
+use Rattle.scalar_fns.specs.Folds.{strided}
 use Rattle.scalar_fns.proofs.Residues.{next_mod}
-use Rattle.index_region.specs.Checks.{and_then}
-use Rattle.operator_fns.specs.Strides.{strided}
+use Rattle.scalar_fns.proofs.RightFolds.{length-strided, get_or-strided, take-strided}
 use Rattle.operator_fns.specs.LinearScan.{depth, run_to, fold_on, folded_left}
-use Rattle.operator_fns.proofs.Folds.{length-strided, get_or-strided, take-strided}
 
 -- ---- left folds
 

@@ -10,7 +10,7 @@ use Rattle.arrays_core.specs.declared.item.Kind.TheVariants.{Axis as AxisKind, D
 use Rattle.arrays_core.specs.declared.item.ItemType.{ItemType}
 use Rattle.arrays_core.specs.declared.item.ItemType.TheVariants.{Nums, Chars}
 use Rattle.std.specs.List.{range_with_len}
-use Rattle.arrays_core.specs.Items.{fill, type_of, all_or_first_error}
+use Rattle.arrays_core.specs.Items.{fill, type_of, all_or_first_error, and_then}
 use Rattle.arrays_core.specs.Shapes.{size, is_index_of, places_before}
 use Rattle.arrays_core.specs.Arrays.{ArrayValue, IsArray, collect, with_items}
 use Rattle.arrays_core.proofs.Shapes.{head_of, as_long, places_below}
@@ -18,17 +18,18 @@ use Rattle.scalar_fns.specs.declared.function.Scalar2.{Scalar2}
 use Rattle.scalar_fns.specs.Numbers.{dyadic_on_numbers}
 use Rattle.scalar_fns.specs.Items.{number_item}
 use Rattle.scalar_fns.specs.NumberLists.{number_items}
+use Rattle.scalar_fns.specs.Folds.{strided, folded}
+use Rattle.scalar_fns.proofs.RightFolds.{take-strided}
 use Rattle.index_region.specs.declared.along.Along.{Along}
-use Rattle.index_region.specs.Checks.{form_of, Form, and_then, limited}
+use Rattle.index_region.specs.Checks.{form_of, Form, limited}
 use Rattle.index_region.specs.Arguments.{counts_as_numbers, is_of_numbers}
 use Rattle.index_region.specs.Axes.{places_along, is_axis, axis_at}
 use Rattle.index_region.specs.Answers.{IsPlaceOf, HasTypeOf}
 use Rattle.index_region.proofs.Passing.{gives, limited_gives, passed, place_inside, typed_check, typed_limited}
 use Rattle.operator_fns.specs.RightFold.{fold_right, line}
-use Rattle.operator_fns.specs.Strides.{strided, folded, line_start}
+use Rattle.operator_fns.specs.Strides.{line_start}
 use Rattle.operator_fns.specs.LinearScan.{depth, run_to, scanned}
 use Rattle.operator_fns.specs.Scan.{scan_type, scan_form, scan_item, scan_whole}
-use Rattle.operator_fns.proofs.Folds.{take-strided}
 use Rattle.operator_fns.proofs.Lines.{stride, line-strided, size-drop-le}
 use Rattle.operator_fns.proofs.Placewise.{collected_same, numbers_collected}
 use Rattle.operator_fns.proofs.Reduced.{numbers_folded, start_is, sizes}

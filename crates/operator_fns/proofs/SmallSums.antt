@@ -2,11 +2,11 @@
 use Rattle.std.proofs.Common.{◌≡◌, ℕ, sym, suc, ◌+◌, ◌*◌, ◌<◌, ◌≤◌, ℤ, pos, negsuc, neg_ℤ, ◌+ℤ◌, ◌≤ℤ◌, List, [], ◌∷◌, length, ap, ◌∙◌, Ok, arith, w64, SFits}
 use Rattle.std.specs.List.{All}
 use Rattle.std.proofs.lemmas.Int.{ints, clamps}
+use Rattle.arrays_core.specs.Items.{and_then}
 use Rattle.scalar_fns.specs.declared.function.Scalar2.TheVariants.{Plus}
 use Rattle.scalar_fns.specs.Numbers.{dyadic_on_numbers}
-use Rattle.index_region.specs.Checks.{and_then}
+use Rattle.scalar_fns.specs.Folds.{folded}
 use Rattle.operator_fns.specs.LinearScan.{fold_on, folded_left}
-use Rattle.operator_fns.specs.Strides.{folded}
 use Rattle.operator_fns.specs.Sum.{IsSmall, sum_of}
 use Rattle.operator_fns.proofs.Endings.{total, most, fewest, folded_sum, held_within}
 

@@ -10,8 +10,8 @@ use Rattle.arrays_core.specs.declared.item.Kind.TheVariants.{Limit}
 use Rattle.scalar_fns.specs.declared.function.Scalar2.TheVariants.{Plus}
 use Rattle.scalar_fns.specs.Numbers.{dyadic_on_numbers, is_number}
 use Rattle.scalar_fns.specs.Items.{number_item}
+use Rattle.scalar_fns.specs.Folds.{folded}
 use Rattle.operator_fns.specs.declared.summary.Summary.{Summary}
-use Rattle.operator_fns.specs.Strides.{folded}
 use Rattle.operator_fns.specs.SumTree.{IsReductionBySum}
 use Rattle.operator_fns.specs.SumNodes.{none, single, join, summary_of, sum_told, IsOrdered, IsWithin}
 use Rattle.operator_fns.proofs.Endings.{Within, within_of, total, most, fewest, total_most, total_fewest, Fits, folded_sum, folded_fits, folded_error}

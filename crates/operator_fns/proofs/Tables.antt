@@ -11,8 +11,7 @@ use Rattle.std.specs.Result.{IsErr, IsErrAnd}
 use Rattle.arrays_core.specs.declared.fault.ApplyFault.{ApplyFault}
 use Rattle.arrays_core.specs.declared.fault.ApplyFault.TheVariants.{Kind as KindFault, NoMemory}
 use Rattle.scalar_fns.specs.NumberLists.{IsListAnswerTo}
-use Rattle.arrays_core.specs.Items.{all_or_first_error, after}
-use Rattle.index_region.specs.Checks.{and_then}
+use Rattle.arrays_core.specs.Items.{all_or_first_error, after, and_then}
 use Rattle.operator_fns.specs.ResultTable.{table, with_results, LeavesOrFails}
 
 -- ---- results after others

@@ -5,11 +5,12 @@ use Rattle.arrays_core.specs.declared.item.Item.{Item}
 use Rattle.arrays_core.specs.declared.item.ItemType.TheVariants.{Nums}
 use Rattle.arrays_core.specs.declared.item.Kind.{Kind}
 use Rattle.arrays_core.specs.declared.item.Kind.TheVariants.{Length}
+use Rattle.arrays_core.specs.Items.{and_then}
 use Rattle.arrays_core.specs.Arrays.{ArrayValue}
 use Rattle.scalar_fns.specs.declared.function.Scalar2.{Scalar2}
 use Rattle.scalar_fns.specs.Items.{dyadic_on_items}
 use Rattle.scalar_fns.specs.ScalarExtension.{extended}
-use Rattle.index_region.specs.Checks.{Form, and_then, check, limited, whole}
+use Rattle.index_region.specs.Checks.{Form, check, limited, whole}
 use Rattle.index_region.specs.Arguments.{has_one_item}
 use Rattle.operator_fns.specs.RightFold.{fold_right}
 

@@ -2,13 +2,12 @@
 use Rattle.std.specs.Prelude.{◌≡◌, ℕ, ◌+◌, ◌-◌, ◌*◌, ◌/◌, ◌%◌, ◌<◌, ◌≤◌, ℤ, pos, FitsSigned, List, [], ◌∷◌, map, length, get_or, All, Result, Ok, Err, Vec}
 use Rattle.std.specs.Int.{w64}
 use Rattle.std.specs.List.{range_with_len}
-use Rattle.arrays_core.specs.Items.{all_or_first_error}
+use Rattle.arrays_core.specs.Items.{all_or_first_error, and_then}
 use Rattle.arrays_core.specs.declared.item.Kind.{Kind}
 use Rattle.arrays_core.specs.declared.item.Kind.TheVariants.{Domain}
 use Rattle.arrays_core.specs.declared.fault.ApplyFault.{ApplyFault}
 use Rattle.arrays_core.specs.declared.fault.ApplyFault.TheVariants.{Kind as KindFault, NoMemory}
-use Rattle.index_region.specs.Checks.{and_then}
-use Rattle.operator_fns.specs.Strides.{strided}
+use Rattle.scalar_fns.specs.Folds.{strided}
 
 -- how many entries of its line come before the entry at a place
 abbrev pub depth : (stride count place : ℕ) → ℕ

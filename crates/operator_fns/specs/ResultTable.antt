@@ -4,8 +4,7 @@ use Rattle.std.specs.List.{flat_map}
 use Rattle.arrays_core.specs.declared.item.Kind.{Kind}
 use Rattle.arrays_core.specs.declared.fault.ApplyFault.{ApplyFault}
 use Rattle.arrays_core.specs.declared.fault.ApplyFault.TheVariants.{Kind as KindFault, NoMemory}
-use Rattle.arrays_core.specs.Items.{all_or_first_error}
-use Rattle.index_region.specs.Checks.{and_then}
+use Rattle.arrays_core.specs.Items.{all_or_first_error, and_then}
 
 -- a row for each number on the left, of what is given with each on the right
 abbrev pub table : (ℤ → ℤ → Result ℤ Kind) → List ℤ → List ℤ → List (Result ℤ Kind)

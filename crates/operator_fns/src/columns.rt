@@ -3,7 +3,8 @@
 ghost use Rattle.std.specs.Prelude.{◌≡◌, ◌<◌, ◌≤◌, ◌-◌, ◌*◌, ◌%◌, pos, length, drop, map, Ok, OnOk, IfOk, vec_len};
 ghost use Rattle.std.specs.List.{range_with_len};
 ghost use Rattle.arrays_core.specs.Items.{all_or_first_error};
-ghost use Rattle.operator_fns.specs.Strides.{strided, folded, line_start};
+ghost use Rattle.scalar_fns.specs.Folds.{strided, folded};
+ghost use Rattle.operator_fns.specs.Strides.{line_start};
 ghost use Rattle.operator_fns.specs.Columns.{ArePutOver, AreColumnFolds, EndsInFolds};
 
 use arrays_core::{ApplyFault, Kind};

@@ -5,7 +5,7 @@ ghost use Rattle.std.specs.Int.{int_max, int_min};
 ghost use Rattle.scalar_fns.specs.declared.function.Scalar2.TheVariants.{Plus as Sum};
 ghost use Rattle.scalar_fns.specs.Numbers.{dyadic_on_numbers};
 ghost use Rattle.scalar_fns.specs.NumberLists.{IsListAnswerTo};
-ghost use Rattle.operator_fns.specs.Strides.{folded};
+ghost use Rattle.scalar_fns.specs.Folds.{folded};
 ghost use Rattle.operator_fns.specs.LinearScan.{folded_left, scanned, HasRead, IsAssociative};
 
 use crate::limits::MOST_ITEMS;

@@ -8,18 +8,20 @@ ghost use Rattle.arrays_core.specs.Shapes.{size as size_of, places_before, IsWit
 ghost use Rattle.scalar_fns.specs.declared.function.Scalar2.TheVariants.{Plus as Sum};
 ghost use Rattle.scalar_fns.specs.Numbers.{dyadic_on_numbers};
 ghost use Rattle.scalar_fns.specs.Items.{number_item};
+ghost use Rattle.scalar_fns.specs.Folds.{strided, folded};
 ghost use Rattle.index_region.specs.ArgumentLists.{of_one_argument};
 ghost use Rattle.index_region.specs.Answers.{IsFormAnswerTo, IsPlaceOf, HasTypeOf};
-ghost use Rattle.operator_fns.specs.Strides.{strided, folded, line_start};
+ghost use Rattle.operator_fns.specs.Strides.{line_start};
 ghost use Rattle.operator_fns.specs.Reduce.{reduce_form, reduce_item, reduce_whole};
 
 use crate::columns::column_folds;
 use crate::number_rule::{NumberRule, collect_numbers};
-use crate::right_fold::{fold_line, fold_numbers, identity_item, stride};
+use crate::right_fold::{fold_line, identity_item, stride};
 use crate::sum::sum_list;
 use arrays_core::{ApplyFault, Array, Item, ItemType, Kind, Shape, shape_of, size, without_axis};
 use index_region::{Along, Primitive, Seen, apply, limited};
 use scalar_fns::Scalar2;
+use scalar_fns::folds::fold_numbers;
 use scalar_fns::kernels::{And, Maximum, Minimum, Minus, Or, Plus, Times, TwoNumbers};
 use std::alloc::Global;
 

@@ -1,17 +1,16 @@
-//! Right folds of lines: of items, and of numbers.
+//! Right folds of the items of lines.
 
-ghost use Rattle.std.specs.Prelude.{◌≡◌, ◌<◌, ◌≤◌, ◌+◌, ◌-◌, ◌*◌, pos, length, IfOk, IsTrue, drop, take, remove, get_or};
+ghost use Rattle.std.specs.Prelude.{◌≡◌, ◌<◌, ◌≤◌, ◌+◌, ◌-◌, ◌*◌, length, IfOk, IsTrue, drop, take, remove, get_or};
 ghost use Rattle.arrays_core.specs.Limits.{most_places};
 ghost use Rattle.arrays_core.specs.Items.{fill, type_of};
 ghost use Rattle.arrays_core.specs.declared.item.ItemType.TheVariants.{Nums};
 ghost use Rattle.arrays_core.specs.Shapes.{is_index_of as is_below, size as size_of, IsWithinLimits};
 ghost use Rattle.scalar_fns.specs.Identities.{identity_of};
+ghost use Rattle.scalar_fns.specs.Folds.{strided};
 ghost use Rattle.operator_fns.specs.RightFold.{identity_item as item_of_identity, fold_right, line};
-ghost use Rattle.operator_fns.specs.Strides.{strided, folded};
 
 use arrays_core::{Item, Kind, position, size, with_axis};
 use index_region::Seen;
-use scalar_fns::kernels::TwoNumbers;
 use scalar_fns::{Scalar2, identity, two};
 
 /// What a fold of no items gives: the identity of the function, or DOMAIN where it has none.
@@ -45,41 +44,6 @@ pub(crate) fn fold_items(
     let mut result = array.item(first + (count - 1) * stride);
     for before in (0..count - 1).rev() {
         result = two(function, array.item(first + before * stride), result)?;
-    }
-    Ok(result)
-}
-
-/// The right fold of a list of numbers.
-pub(crate) fn fold_list<S: TwoNumbers>(step: &S, numbers: &[i64]) -> Result<i64, Kind>
-    requires { 0 < length numbers.now }
-    ensures { result ≡ folded (S.gives step.now) numbers.now }
-{
-    let last = numbers.len() - 1;
-    let mut result = numbers[last];
-    for before in (0..last).rev() {
-        result = step.at(numbers[before], result)?;
-    }
-    Ok(result)
-}
-
-/// The right fold of `count` numbers that stand a stride apart, the first of them after `first` others.
-pub(crate) fn fold_numbers<S: TwoNumbers>(
-    step: &S,
-    numbers: &[i64],
-    first: usize,
-    stride: usize,
-    count: usize,
-) -> Result<i64, Kind>
-    requires some { 1 ≤ count }
-    requires high { first + (count - 1) * stride < length numbers.now }
-    ensures { result ≡ folded (S.gives step.now) (strided (pos 0) numbers.now first stride count) }
-{
-    if stride == 1 {
-        return fold_list(step, &numbers[first..first + count]);
-    }
-    let mut result = numbers[first + (count - 1) * stride];
-    for before in (0..count - 1).rev() {
-        result = step.at(numbers[first + before * stride], result)?;
     }
     Ok(result)
 }

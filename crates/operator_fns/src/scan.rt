@@ -8,18 +8,19 @@ ghost use Rattle.arrays_core.specs.Shapes.{size as size_of, places_before, IsWit
 ghost use Rattle.scalar_fns.specs.declared.function.Scalar2.TheVariants.{Plus};
 ghost use Rattle.scalar_fns.specs.Numbers.{dyadic_on_numbers};
 ghost use Rattle.scalar_fns.specs.Items.{number_item};
+ghost use Rattle.scalar_fns.specs.Folds.{folded};
 ghost use Rattle.index_region.specs.ArgumentLists.{of_one_argument};
 ghost use Rattle.index_region.specs.Answers.{IsFormAnswerTo, IsPlaceOf, HasTypeOf};
-ghost use Rattle.operator_fns.specs.Strides.{folded};
 ghost use Rattle.operator_fns.specs.LinearScan.{run_to, IsAssociative};
 ghost use Rattle.operator_fns.specs.Scan.{scan_form, scan_item, scan_whole};
 
 use crate::linear_scan::{running_folds, running_sums};
 use crate::number_rule::{NumberRule, collect_numbers};
-use crate::right_fold::{fold_line, fold_numbers, stride};
+use crate::right_fold::{fold_line, stride};
 use arrays_core::{ApplyFault, Array, Item, ItemType, Kind, Shape, shape_of, without_axis};
 use index_region::{Along, Primitive, Seen, apply, limited};
 use scalar_fns::Scalar2;
+use scalar_fns::folds::fold_numbers;
 use scalar_fns::kernels::{And, Maximum, Minimum, Minus, Or, Times, TwoNumbers};
 use std::alloc::Global;
 

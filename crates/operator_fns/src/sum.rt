@@ -4,12 +4,12 @@ ghost use Rattle.std.specs.Prelude.{◌≡◌, ◌<◌, ◌≤◌, All, true, le
 ghost use Rattle.arrays_core.specs.Limits.{most_places};
 ghost use Rattle.scalar_fns.specs.declared.function.Scalar2.TheVariants.{Plus as Sum};
 ghost use Rattle.scalar_fns.specs.Numbers.{dyadic_on_numbers};
-ghost use Rattle.operator_fns.specs.Strides.{folded};
+ghost use Rattle.scalar_fns.specs.Folds.{folded};
 ghost use Rattle.operator_fns.specs.Sum.{IsSmall, sum_of};
 
 use crate::limits::MOST_ITEMS;
-use crate::right_fold::fold_list;
 use arrays_core::Kind;
+use scalar_fns::folds::fold_list;
 use scalar_fns::kernels::Plus;
 
 /// Numbers nearer to 0 than this, as many as an array may have, add up within 64 bits.

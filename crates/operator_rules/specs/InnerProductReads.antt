@@ -7,7 +7,7 @@ use Rattle.std.proofs.lemmas.List.{take-append-le, take_all}
 use Rattle.arrays_core.specs.declared.item.Item.{Item}
 use Rattle.arrays_core.specs.declared.item.Kind.{Kind}
 use Rattle.arrays_core.specs.Arrays.{ArrayValue, IsArray, item_if_there}
-use Rattle.arrays_core.specs.Items.{fill}
+use Rattle.arrays_core.specs.Items.{fill, and_then}
 use Rattle.arrays_core.specs.Shapes.{is_index_of, places_before, size}
 use Rattle.arrays_core.proofs.Shapes.{as_long}
 use Rattle.scalar_fns.specs.declared.function.Scalar2.{Scalar2}
@@ -15,7 +15,7 @@ use Rattle.scalar_fns.specs.Items.{dyadic_on_items}
 use Rattle.scalar_fns.specs.ScalarExtension.{extended}
 use Rattle.index_region.specs.Answers.{IsPlaceOf}
 use Rattle.index_region.specs.Boxes.{Interval, is_within, whole_of}
-use Rattle.index_region.specs.Checks.{Form, and_then}
+use Rattle.index_region.specs.Checks.{Form}
 use Rattle.change_core.specs.Laws.{Covered, Each}
 use Rattle.change_core.specs.Sourced.{other}
 use Rattle.change_core.proofs.UsedWays.{back-onto, each_all, each_map, front-onto}

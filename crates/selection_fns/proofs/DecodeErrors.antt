@@ -3,11 +3,11 @@ use Rattle.std.proofs.Common.{◌≡◌, ℕ, zero, suc, ◌<◌, Bool, true, fa
 use Rattle.std.specs.List.{range_with_len}
 use Rattle.arrays_core.specs.declared.item.Kind.{Kind}
 use Rattle.arrays_core.specs.declared.item.Kind.TheVariants.{Limit}
-use Rattle.arrays_core.specs.Items.{all_or_first_error}
+use Rattle.arrays_core.specs.Items.{all_or_first_error, and_then}
 use Rattle.arrays_core.specs.Arrays.{ArrayValue}
 use Rattle.scalar_fns.specs.Numbers.{is_number, number_or_limit}
 use Rattle.scalar_fns.specs.Items.{number_item}
-use Rattle.index_region.specs.Checks.{and_then, check}
+use Rattle.index_region.specs.Checks.{check}
 use Rattle.selection_fns.specs.Decode.{worth, decoded, decode_item, digit_count}
 use Rattle.selection_fns.specs.DecodedRows.{with_one_more}
 use Rattle.selection_fns.proofs.Worths.{digit_pair}

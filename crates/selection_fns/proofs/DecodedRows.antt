@@ -11,12 +11,11 @@ use Rattle.arrays_core.specs.declared.item.ItemType.TheVariants.{Nums}
 use Rattle.arrays_core.specs.declared.item.Item.{Item}
 use Rattle.arrays_core.specs.declared.item.Kind.{Kind}
 use Rattle.arrays_core.specs.declared.item.Kind.TheVariants.{Limit}
-use Rattle.arrays_core.specs.Items.{fill}
+use Rattle.arrays_core.specs.Items.{fill, and_then}
 use Rattle.arrays_core.specs.Shapes.{size, indices, places_before, index_after}
 use Rattle.arrays_core.specs.Arrays.{ArrayValue, collect, with_items}
 use Rattle.arrays_core.proofs.Order.{given_in_order, places_before-index_after, length-indices, get_or-indices}
 use Rattle.scalar_fns.specs.Items.{number_item}
-use Rattle.index_region.specs.Checks.{and_then}
 use Rattle.index_region.specs.Arguments.{number_of, numbers}
 use Rattle.index_region.specs.Axes.{places_along}
 use Rattle.selection_fns.specs.Decode.{decode_item, digit_count, radix_at, digit_at, worth, decoded}

@@ -2,8 +2,8 @@
 use Rattle.std.proofs.Common.{◌≡◌, ℕ, ◌+◌, ◌-◌, ◌*◌, ◌<◌, ◌≤◌, List, length, get_or, drop, ℤ, pos, Ok, ap, sym, ◌∙◌, inl, inr, arith}
 use Rattle.std.proofs.lemmas.Bool.{cases_lt}
 use Rattle.std.proofs.Math.Nat.{mul-le-mul_right}
+use Rattle.arrays_core.specs.Items.{and_then}
 use Rattle.scalar_fns.specs.Numbers.{residue}
-use Rattle.index_region.specs.Checks.{and_then}
 use Rattle.selection_fns.specs.Encode.{carried_through, digit}
 use Rattle.selection_fns.specs.EncodedRows.{AreCarried, HasRow}
 use Rattle.selection_fns.proofs.Radices.{one_more_radix}

@@ -10,13 +10,13 @@ use Rattle.arrays_core.specs.declared.item.Item.TheVariants.{Num}
 use Rattle.arrays_core.specs.declared.item.ItemType.{ItemType}
 use Rattle.arrays_core.specs.declared.item.ItemType.TheVariants.{Nums}
 use Rattle.arrays_core.specs.declared.item.Kind.TheVariants.{Rank, Domain}
-use Rattle.arrays_core.specs.Items.{fill}
+use Rattle.arrays_core.specs.Items.{fill, and_then}
 use Rattle.arrays_core.specs.Shapes.{size, index_after}
 use Rattle.arrays_core.specs.Arrays.{ArrayValue, IsArray, item_of, collect, with_items}
 use Rattle.arrays_core.proofs.Order.{given_in_order, places_before-index_after}
 use Rattle.scalar_fns.specs.Items.{number_item}
 use Rattle.index_region.specs.Arguments.{is_list, counts_as_numbers, number_of, numbers}
-use Rattle.index_region.specs.Checks.{Form, form_of, and_then, check, limited}
+use Rattle.index_region.specs.Checks.{Form, form_of, check, limited}
 use Rattle.index_region.specs.ArgumentLists.{of_two_arguments}
 use Rattle.index_region.proofs.Passing.{two_arguments, gives, limited_gives}
 use Rattle.selection_fns.specs.Encode.{digit, encode_form, encode_item, encode_whole}

@@ -8,11 +8,11 @@ use Rattle.arrays_core.specs.declared.item.Item.TheVariants.{Num}
 use Rattle.arrays_core.specs.declared.item.ItemType.{ItemType}
 use Rattle.arrays_core.specs.declared.item.ItemType.TheVariants.{Nums}
 use Rattle.arrays_core.specs.declared.item.Kind.{Kind}
-use Rattle.arrays_core.specs.Items.{fill}
+use Rattle.arrays_core.specs.Items.{fill, and_then}
 use Rattle.arrays_core.specs.Shapes.{size}
 use Rattle.arrays_core.specs.Arrays.{ArrayValue, item_of, collect, with_items}
 use Rattle.arrays_core.proofs.Order.{given_in_order, places_before-index_after}
-use Rattle.index_region.specs.Checks.{form_of, Form, and_then, whole}
+use Rattle.index_region.specs.Checks.{form_of, Form, whole}
 
 module _ (f : Item → ℤ) (b : ArrayValue) (one_item_a_place : length b.items ≡ size b.shape) where
   abbrev at : List ℕ → Result Item Kind

@@ -12,10 +12,11 @@ use Rattle.arrays_core.specs.declared.item.Item.TheVariants.{Num}
 use Rattle.arrays_core.specs.declared.item.ItemType.{ItemType}
 use Rattle.arrays_core.specs.declared.item.ItemType.TheVariants.{Nums}
 use Rattle.arrays_core.specs.declared.item.Kind.TheVariants.{Rank, Length, Domain, Limit}
+use Rattle.arrays_core.specs.Items.{and_then}
 use Rattle.arrays_core.specs.Shapes.{index_after}
 use Rattle.arrays_core.specs.Arrays.{ArrayValue, collect, with_items, vector_of}
 use Rattle.arrays_core.proofs.Order.{given_in_order}
-use Rattle.index_region.specs.Checks.{Form, form_of, and_then, is_within_limits}
+use Rattle.index_region.specs.Checks.{Form, form_of, is_within_limits}
 use Rattle.arrays_core.proofs.Shapes.{as_long}
 use Rattle.index_region.specs.ArgumentLists.{of_one_argument}
 use Rattle.index_region.specs.Arguments.{is_list, has_one_item, counts_as_numbers, none_negative, numbers, number_of}

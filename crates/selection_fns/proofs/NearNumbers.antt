@@ -3,8 +3,8 @@ use Rattle.std.proofs.Common.{◌≡◌, ◌+◌, ◌^◌, ◌≤◌, ltb, true,
 use Rattle.std.proofs.lemmas.Int.{ints, unsigned_abs-mul, fits_signed_from_abs}
 use Rattle.std.proofs.lemmas.Bool.{lt-ltb}
 use Rattle.std.proofs.Math.Nat.{mul-le-mul}
+use Rattle.arrays_core.specs.Items.{and_then}
 use Rattle.scalar_fns.specs.Numbers.{number_or_limit}
-use Rattle.index_region.specs.Checks.{and_then}
 use Rattle.selection_fns.specs.DecodedRows.{with_one_more, StaysWithin}
 
 held : (z : ℤ) → FitsSigned w64 z → number_or_limit z ≡ Ok z

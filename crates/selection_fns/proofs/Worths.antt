@@ -8,11 +8,10 @@ use Rattle.std.proofs.Math.ListN.{get_or-map}
 use Rattle.arrays_core.specs.declared.item.Kind.{Kind}
 use Rattle.arrays_core.specs.declared.item.ItemType.{ItemType}
 use Rattle.arrays_core.specs.declared.item.ItemType.TheVariants.{Nums, Chars}
-use Rattle.arrays_core.specs.Items.{fill}
+use Rattle.arrays_core.specs.Items.{fill, and_then}
 use Rattle.arrays_core.specs.Shapes.{size, places_before, is_index_of}
 use Rattle.arrays_core.specs.Arrays.{ArrayValue}
 use Rattle.scalar_fns.specs.Numbers.{number_or_limit}
-use Rattle.index_region.specs.Checks.{and_then}
 use Rattle.index_region.specs.Arguments.{is_list, has_one_item, counts_as_numbers, numbers, number_of}
 use Rattle.index_region.specs.Axes.{places_along}
 use Rattle.index_region.specs.Answers.{IsPlaceOf}

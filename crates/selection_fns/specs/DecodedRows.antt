@@ -4,10 +4,10 @@ use Rattle.std.specs.Int.{w64}
 use Rattle.arrays_core.specs.declared.item.Item.TheVariants.{Num}
 use Rattle.arrays_core.specs.declared.item.Kind.{Kind}
 use Rattle.arrays_core.specs.declared.item.Kind.TheVariants.{Limit}
+use Rattle.arrays_core.specs.Items.{and_then}
 use Rattle.arrays_core.specs.Shapes.{size, index_after}
 use Rattle.arrays_core.specs.Arrays.{ArrayValue}
 use Rattle.scalar_fns.specs.Numbers.{number_or_limit}
-use Rattle.index_region.specs.Checks.{and_then}
 use Rattle.index_region.specs.Arguments.{has_one_item}
 use Rattle.index_region.specs.Axes.{places_along}
 use Rattle.selection_fns.specs.Decode.{decode_item}

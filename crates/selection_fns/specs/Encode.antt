@@ -5,10 +5,11 @@ use Rattle.arrays_core.specs.declared.item.Item.{Item}
 use Rattle.arrays_core.specs.declared.item.ItemType.TheVariants.{Nums}
 use Rattle.arrays_core.specs.declared.item.Kind.{Kind}
 use Rattle.arrays_core.specs.declared.item.Kind.TheVariants.{Rank, Domain}
+use Rattle.arrays_core.specs.Items.{and_then}
 use Rattle.arrays_core.specs.Arrays.{ArrayValue, item_of}
 use Rattle.scalar_fns.specs.Numbers.{residue, floor_div, number_or_limit}
 use Rattle.scalar_fns.specs.Items.{number_item}
-use Rattle.index_region.specs.Checks.{Form, and_then, check, limited, whole}
+use Rattle.index_region.specs.Checks.{Form, check, limited, whole}
 use Rattle.index_region.specs.Arguments.{is_scalar, is_list, counts_as_numbers, number_of, numbers}
 
 -- RANK and DOMAIN in this order; then numbers along the axes of a, and then those of b

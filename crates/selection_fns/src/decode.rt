@@ -4,11 +4,11 @@ ghost use Rattle.std.specs.Prelude.{◌≡◌, ◌≢◌, ◌≤◌, ◌+ℤ◌,
 ghost use Rattle.arrays_core.specs.declared.item.Item.TheVariants.{Num};
 ghost use Rattle.arrays_core.specs.declared.item.ItemType.TheVariants.{Nums};
 ghost use Rattle.arrays_core.specs.declared.item.Kind.TheVariants.{Length, Limit};
+ghost use Rattle.arrays_core.specs.Items.{and_then};
 ghost use Rattle.arrays_core.specs.Shapes.{is_index_of, size as size_of, IsWithinLimits};
 ghost use Rattle.arrays_core.specs.Arrays.{collect, IsAnswerTo};
 ghost use Rattle.scalar_fns.specs.Numbers.{number_or_limit};
 ghost use Rattle.scalar_fns.specs.Items.{number_item};
-ghost use Rattle.index_region.specs.Checks.{and_then};
 ghost use Rattle.index_region.specs.ArgumentLists.{of_two_arguments};
 ghost use Rattle.index_region.specs.Axes.{places_along as places_on};
 ghost use Rattle.index_region.specs.Arguments.{has_one_item};

@@ -7,12 +7,12 @@ use Rattle.arrays_core.specs.declared.item.Item.{Item}
 use Rattle.arrays_core.specs.declared.item.ItemType.{ItemType}
 use Rattle.arrays_core.specs.declared.item.ItemType.TheVariants.{Nums}
 use Rattle.arrays_core.specs.Arrays.{ArrayValue, item_if_there, item_of}
-use Rattle.arrays_core.specs.Items.{fill}
+use Rattle.arrays_core.specs.Items.{fill, and_then}
 use Rattle.arrays_core.specs.Shapes.{is_index_of, size}
 use Rattle.scalar_fns.specs.Items.{number_item}
 use Rattle.scalar_fns.specs.Numbers.{residue}
 use Rattle.index_region.specs.Arguments.{counts_as_numbers, is_list, number_of, numbers}
-use Rattle.index_region.specs.Checks.{Form, and_then}
+use Rattle.index_region.specs.Checks.{Form}
 use Rattle.index_region.proofs.Passing.{gives, limited_gives}
 use Rattle.change_core.specs.Laws.{Covered, IsTight}
 use Rattle.change_core.specs.Sourced.{other}

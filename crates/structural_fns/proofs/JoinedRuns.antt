@@ -10,14 +10,14 @@ use Rattle.std.proofs.lemmas.List.{get_or_append_left, get_or-append_right, get_
 use Rattle.arrays_core.specs.declared.item.Item.{Item}
 use Rattle.arrays_core.specs.declared.item.ItemType.{ItemType}
 use Rattle.arrays_core.specs.declared.item.Kind.TheVariants.{Axis as AxisKind, Rank, Length, Domain}
-use Rattle.arrays_core.specs.Items.{fill}
+use Rattle.arrays_core.specs.Items.{fill, and_then}
 use Rattle.arrays_core.specs.Shapes.{size, index_after}
 use Rattle.arrays_core.specs.Arrays.{ArrayValue, IsArray, collect, with_items}
 use Rattle.arrays_core.proofs.Order.{given_in_order}
 use Rattle.index_region.specs.declared.along.Along.{Along}
 use Rattle.index_region.specs.Arguments.{is_scalar}
 use Rattle.index_region.specs.Axes.{is_axis, axis_at}
-use Rattle.index_region.specs.Checks.{form_of, and_then}
+use Rattle.index_region.specs.Checks.{form_of}
 use Rattle.structural_fns.specs.Catenate.{joined_rank, joined_places, other_axes, ranks_join, axes_agree, joined_type, joined_shape, types_join, in_side, catenate_item, catenate_form, catenate_whole}
 use Rattle.index_region.proofs.Passing.{gives}
 use Rattle.structural_fns.proofs.Runs.{item_after, limited_is, positive}

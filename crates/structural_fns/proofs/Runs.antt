@@ -12,11 +12,11 @@ use Rattle.arrays_core.specs.declared.item.Item.{Item}
 use Rattle.arrays_core.specs.declared.item.ItemType.{ItemType}
 use Rattle.arrays_core.specs.declared.item.Kind.{Kind}
 use Rattle.arrays_core.specs.declared.item.Kind.TheVariants.{Rank, Domain}
-use Rattle.arrays_core.specs.Items.{fill}
+use Rattle.arrays_core.specs.Items.{fill, and_then}
 use Rattle.arrays_core.specs.Building.{listed}
 use Rattle.arrays_core.specs.Shapes.{size, index_after, places_before}
 use Rattle.arrays_core.specs.Arrays.{ArrayValue, item_if_there, collect, with_items}
-use Rattle.index_region.specs.Checks.{form_of, Form, limited, and_then}
+use Rattle.index_region.specs.Checks.{form_of, Form, limited}
 use Rattle.index_region.specs.Arguments.{is_list, counts_as_numbers, none_negative, numbers}
 use Rattle.index_region.specs.ArgumentLists.{of_one_argument, of_two_arguments}
 use Rattle.index_region.specs.Sources.{Place, Fill, item_from}

@@ -8,11 +8,11 @@ use Rattle.arrays_core.specs.declared.item.Item.{Item}
 use Rattle.arrays_core.specs.declared.item.ItemType.{ItemType}
 use Rattle.arrays_core.specs.declared.item.Kind.{Kind}
 use Rattle.arrays_core.specs.declared.item.Kind.TheVariants.{Rank, Length, Domain}
-use Rattle.arrays_core.specs.Items.{fill}
+use Rattle.arrays_core.specs.Items.{fill, and_then}
 use Rattle.arrays_core.specs.Shapes.{size}
 use Rattle.arrays_core.specs.Arrays.{ArrayValue, IsArray, collect}
 use Rattle.arrays_core.proofs.Order.{index_after-within}
-use Rattle.index_region.specs.Checks.{form_of, and_then}
+use Rattle.index_region.specs.Checks.{form_of}
 use Rattle.index_region.specs.Arguments.{is_list, counts_as_numbers, numbers}
 use Rattle.structural_fns.specs.Reshape.{magnitudes}
 use Rattle.structural_fns.specs.AxisCounts.{counted_shape, counted_form}

@@ -1,5 +1,6 @@
 use Rattle.std.proofs.Common.{◌≡◌, ℕ, ◌*◌, ◌<◌, get_or, pos, Ok, vec_len}
-use Rattle.operator_fns.specs.Strides.{strided, folded, line_start}
+use Rattle.scalar_fns.specs.Folds.{strided, folded}
+use Rattle.operator_fns.specs.Strides.{line_start}
 use Rattle.operator_fns.proofs.columns.column_folds.Given as goal
 
 abbrev pub invariant-loop-block : goal.invariant-loop-block

@@ -1,7 +1,7 @@
 use Rattle.std.proofs.Common.{◌≡◌, ap, length, pos, subst}
 use Rattle.arrays_core.specs.Items.{all_or_first_error}
 use Rattle.scalar_fns.specs.NumberLists.{IsListAnswerTo}
-use Rattle.operator_fns.specs.Strides.{folded}
+use Rattle.scalar_fns.specs.Folds.{folded}
 use Rattle.operator_fns.specs.LinearScan.{run_to, folded_left, scanned}
 use Rattle.operator_fns.proofs.Associates.{left_is_right}
 use Rattle.operator_fns.proofs.Firsts.{same_rules}

@@ -2,7 +2,7 @@ use Rattle.std.proofs.Common.{subst}
 use Rattle.scalar_fns.specs.declared.function.Scalar2.TheVariants.{Plus as Sum}
 use Rattle.scalar_fns.specs.Numbers.{dyadic_on_numbers}
 use Rattle.scalar_fns.specs.NumberLists.{IsListAnswerTo}
-use Rattle.operator_fns.specs.Strides.{folded}
+use Rattle.scalar_fns.specs.Folds.{folded}
 use Rattle.operator_fns.specs.LinearScan.{folded_left, scanned}
 use Rattle.operator_fns.proofs.Errors.{fault_passed}
 use Rattle.operator_fns.proofs.Endings.{greatest_step, least_step}

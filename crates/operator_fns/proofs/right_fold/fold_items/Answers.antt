@@ -1,9 +1,10 @@
 use Rattle.std.proofs.Common.{◌≡◌, ◌∙◌, ◌+◌, ◌-◌, ◌*◌, ap, sym, subst, get_or, length, arith, Ok, Err, drop}
 use Rattle.arrays_core.specs.Items.{fill}
 use Rattle.scalar_fns.specs.Items.{dyadic_on_items}
-use Rattle.operator_fns.specs.Strides.{strided, folded}
-use Rattle.operator_fns.proofs.Folds.{strided_last, strided_more, strided_error, some_folded, length-strided, place_high}
-use Rattle.operator_fns.proofs.Errors.{passed_on}
+use Rattle.scalar_fns.specs.Folds.{strided, folded}
+use Rattle.scalar_fns.proofs.RightFolds.{strided_last, strided_more, strided_error, length-strided}
+use Rattle.scalar_fns.proofs.Errors.{passed_on}
+use Rattle.operator_fns.proofs.Folds.{some_folded, place_high}
 use Rattle.operator_fns.proofs.right_fold.fold_items.Goals as goal
 
 pub overflow_mul-count : goal.overflow_mul-count

@@ -2,7 +2,7 @@ use Rattle.std.proofs.Common.{◌≡◌, ◌+◌, ◌-◌, ◌≤◌, ◌<◌, d
 use Rattle.arrays_core.specs.Items.{fill, type_of}
 use Rattle.arrays_core.specs.declared.item.ItemType.TheVariants.{Nums}
 use Rattle.scalar_fns.specs.Items.{dyadic_on_items}
-use Rattle.operator_fns.specs.Strides.{strided, folded}
+use Rattle.scalar_fns.specs.Folds.{strided, folded}
 use Rattle.operator_fns.proofs.right_fold.fold_items.Given as goal
 
 abbrev pub invariant-loop-before : goal.invariant-loop-before

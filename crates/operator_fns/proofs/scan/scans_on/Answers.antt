@@ -2,7 +2,7 @@ use Rattle.std.proofs.Common.{◌∙◌, ap, sym, Ok, Global}
 use Rattle.arrays_core.specs.declared.item.ItemType.TheVariants.{Nums}
 use Rattle.arrays_core.specs.Arrays.{with_items}
 use Rattle.scalar_fns.specs.NumberLists.{number_items}
-use Rattle.operator_fns.specs.Strides.{folded}
+use Rattle.scalar_fns.specs.Folds.{folded}
 use Rattle.operator_fns.specs.LinearScan.{scanned}
 use Rattle.operator_fns.proofs.Errors.{array_fault}
 use Rattle.operator_fns.proofs.Scanned.{scan_collected}

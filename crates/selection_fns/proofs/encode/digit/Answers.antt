@@ -1,8 +1,8 @@
 use Rattle.std.proofs.Common.{◌≡◌, ◌∙◌, ◌+◌, ◌-◌, ◌<◌, ap, sym, pos, length, drop, get_or, arith, Ok, Err, to_z, of_z, w64, SFits, rules}
 use Rattle.std.proofs.lemmas.Int.{to_z-of_z}
 use Rattle.std.proofs.lemmas.List.{length-map}
+use Rattle.arrays_core.specs.Items.{and_then}
 use Rattle.index_region.specs.Arguments.{numbers, number_of}
-use Rattle.index_region.specs.Checks.{and_then}
 use Rattle.scalar_fns.specs.Numbers.{residue}
 use Rattle.selection_fns.specs.Encode.{carried, carried_through}
 use Rattle.selection_fns.proofs.Radices.{error_in_front, one_more_radix, zero_in_front, zero_digit}

@@ -2,8 +2,9 @@ use Rattle.std.proofs.Common.{◌≡◌, ◌∙◌, ◌+◌, ◌-◌, ◌*◌, �
 use Rattle.std.proofs.lemmas.Nat.{div-add-mod', mod_below}
 use Rattle.scalar_fns.specs.declared.function.Scalar2.TheVariants.{Plus}
 use Rattle.scalar_fns.specs.Numbers.{dyadic_on_numbers}
-use Rattle.operator_fns.specs.Strides.{strided, folded, line_start}
-use Rattle.operator_fns.proofs.Folds.{strided_run}
+use Rattle.scalar_fns.specs.Folds.{strided, folded}
+use Rattle.scalar_fns.proofs.RightFolds.{strided_run}
+use Rattle.operator_fns.specs.Strides.{line_start}
 use Rattle.operator_fns.proofs.Reduced.{whole_line}
 use Rattle.operator_fns.proofs.reduce.TotalsNumberRule.number_at.Goals as goal
 

@@ -1,6 +1,6 @@
 use Rattle.std.proofs.Common.{◌≡◌, ◌+◌, ◌≤◌, drop, pos, Ok}
-use Rattle.operator_fns.specs.Strides.{strided, folded}
-use Rattle.operator_fns.proofs.right_fold.fold_numbers.Given as goal
+use Rattle.scalar_fns.specs.Folds.{strided, folded}
+use Rattle.scalar_fns.proofs.folds.fold_numbers.Given as goal
 
 abbrev pub invariant-loop-before : goal.invariant-loop-before
 invariant-loop-before g l = record {

@@ -1,6 +1,6 @@
 use Rattle.std.proofs.Common.{◌≡◌, ◌+◌, ◌≤◌, drop, length, Ok}
-use Rattle.operator_fns.specs.Strides.{folded}
-use Rattle.operator_fns.proofs.right_fold.fold_list.Given as goal
+use Rattle.scalar_fns.specs.Folds.{folded}
+use Rattle.scalar_fns.proofs.folds.fold_list.Given as goal
 
 abbrev pub invariant-loop-before : goal.invariant-loop-before
 invariant-loop-before g l = record {
