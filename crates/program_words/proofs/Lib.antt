@@ -1,3 +1,4 @@
+pub mod Commands
 pub mod Exact
 pub mod Rows
 pub mod Walks

@@ -1,7 +1,7 @@
 //! The command of the program, with the help that it shows.
 
-ghost use Rattle.std.specs.Prelude.{◌≡◌, codes, false, IfOk};
-ghost use Rattle.clap.specs.Words.{app_of, new_rule, rule_of};
+ghost use Rattle.std.specs.Prelude.{◌≡◌, codes, false, IfOk, IsOkAnd};
+ghost use Rattle.clap.specs.Words.{AddsSubcommand, app_of, new_app, new_rule, rule_of};
 ghost use Rattle.clap.specs.declared.builder.command.Command.TheViews.{out-Command};
 ghost use Rattle.program_words.specs.Program.{aplsheet, flag_rule, required_rule, run_command, table_command};
 
@@ -35,16 +35,22 @@ fn header_flag<'a>(alloc: Global) -> Arg<'a>
         .help("The first record of FILE holds titles, not numbers")
 }
 
+/// A command with the texts of its help, without words or commands of its own.
+fn described<'a>(alloc: Global, name: &'a str, about: &'a str, after_help: &'a str) -> Command<'a>
+    ensures app { app_of result ≡ new_app name.entry.now }
+    ensures local { (out-Command result).has_globals ≡ false }
+{
+    Command::new(alloc, name)
+        .about(about)
+        .after_help(after_help)
+}
+
 /// `run [SCRIPT]`
 fn run_command<'a>(alloc: Global) -> Result<Command<'a>, AllocError>
     ensures app { IfOk result (λ c. app_of c ≡ run_command) }
     ensures local { IfOk result (λ c. (out-Command c).has_globals ≡ false) }
 {
-    let command = Command::new(alloc, "run")
-        .about("Answers the lines of SCRIPT, or of standard input")
-        .after_help(RUN_EXAMPLE)
-        .arg(script_word(alloc))?;
-    Ok(command)
+    described(alloc, "run", RUN_ABOUT, RUN_EXAMPLE).arg(script_word(alloc))
 }
 
 /// `table NAME FILE [SCRIPT] --header`
@@ -52,29 +58,32 @@ fn table_command<'a>(alloc: Global) -> Result<Command<'a>, AllocError>
     ensures app { IfOk result (λ c. app_of c ≡ table_command) }
     ensures local { IfOk result (λ c. (out-Command c).has_globals ≡ false) }
 {
-    let command = Command::new(alloc, "table")
-        .about("Puts the table in FILE under NAME, and then answers lines as run does")
-        .after_help(TABLE_EXAMPLE)
-        .arg(required_word(alloc, "NAME", NAME_HELP))?
-        .arg(required_word(alloc, "FILE", FILE_HELP))?
-        .arg(script_word(alloc))?
-        .arg(header_flag(alloc))?;
-    Ok(command)
+    let words = vec![in alloc;
+        required_word(alloc, "NAME", NAME_HELP),
+        required_word(alloc, "FILE", FILE_HELP),
+        script_word(alloc),
+        header_flag(alloc),
+    ]?;
+    described(alloc, "table", TABLE_ABOUT, TABLE_EXAMPLE).args(words)
+}
+
+/// A command with one more below it, where there was memory for both.
+fn with_command<'a>(
+    command: Result<Command<'a>, AllocError>,
+    added: Result<Command<'a>, AllocError>,
+) -> Result<Command<'a>, AllocError>
+    ensures { IfOk result (λ r. IsOkAnd command.entry (λ c. IsOkAnd added.entry (λ a. AddsSubcommand c a r))) }
+{
+    command?.subcommand(added?)
 }
 
 /// The command of the program.
 pub(crate) fn program<'a>(alloc: Global) -> Result<Command<'a>, AllocError>
     ensures { IfOk result (λ c. app_of c ≡ aplsheet) }
 {
-    let run = run_command(alloc)?;
-    let table = table_command(alloc)?;
-    let command = Command::new(alloc, "aplsheet")
-        .about(ABOUT)
-        .after_help(EXAMPLES)
-        .bin_name("aplsheet")?
-        .subcommand(run)?
-        .subcommand(table)?;
-    Ok(command)
+    let bare = described(alloc, "aplsheet", ABOUT, EXAMPLES).bin_name("aplsheet");
+    let with_run = with_command(bare, run_command(alloc));
+    with_command(with_run, table_command(alloc))
 }
 
 const ABOUT: &str = "A live sheet of APL array formulas.
@@ -88,8 +97,12 @@ Examples:
   aplsheet run plan.apl
   aplsheet table DEMAND demand.csv plan.apl --header";
 
+const RUN_ABOUT: &str = "Answers the lines of SCRIPT, or of standard input";
+
 const RUN_EXAMPLE: &str = "Example:
   aplsheet run plan.apl";
+
+const TABLE_ABOUT: &str = "Puts the table in FILE under NAME, and then answers lines as run does";
 
 const TABLE_EXAMPLE: &str = "Example:
   aplsheet table DEMAND demand.csv plan.apl --header";

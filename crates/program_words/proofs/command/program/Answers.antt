@@ -1,12 +1,14 @@
-use Rattle.std.proofs.Common.{ap, ap₂, ◌∙◌}
-use Rattle.clap.specs.Simple.{App, app_of_fields, with_subcommand}
+use Rattle.std.proofs.Common.{ap, ◌∙◌}
+use Rattle.std.proofs.lemmas.Result.{IfOk-weaker}
+use Rattle.clap.specs.Simple.{app_of_fields}
 use Rattle.program_words.specs.Program.{aplsheet}
+use Rattle.program_words.proofs.Commands.{command_added}
 use Rattle.program_words.proofs.command.program.Goals as goal
 
 pub returns : goal.returns
 unfolding aplsheet
 returns c =
-    c.in_ok-command.ensures.shape c.in_ok-table.ensures.local
-    ∙ ap₂ with_subcommand (c.in_ok-subcommand.ensures.shape c.in_ok-run.ensures.local
-    ∙ ap₂ with_subcommand (ap app_of_fields c.in_ok-bin_name.ensures.0 ∙ ap app_of_fields c.after_help.ensures ∙ ap app_of_fields c.about.ensures ∙ c.new.ensures.app) (ap (λ (a : App). a.top) c.in_ok-run.ensures.app))
-    (ap (λ (a : App). a.top) c.in_ok-table.ensures.app)
+    let bare = IfOk-weaker c.bin_name-bare.result _ _ (λ r named. ap app_of_fields named.0 ∙ c.described.ensures.app) c.bin_name-bare.ensures in
+    let with_run = command_added c.bin_name-bare.result c.run_command.result c.with_command-with_run.result _ _ bare c.run_command.ensures.app c.run_command.ensures.local
+    c.with_command-with_run.ensures in
+    command_added c.with_command-with_run.result c.table_command.result c.with_command.result _ _ with_run c.table_command.ensures.app c.table_command.ensures.local c.with_command.ensures

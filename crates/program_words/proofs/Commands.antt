@@ -1,0 +1,31 @@
+-- How a command reads once words or a command were added to it.
+use Rattle.std.proofs.Common.{◌≡◌, ◌∙◌, ap, ap₂, sym, false, List, [], ◌∷◌, map, Ok, Err, Result}
+use Rattle.std.specs.List.{fold}
+use Rattle.std.specs.Result.{IfOk, IsOkAnd}
+use Rattle.std.specs.declared.alloc.AllocError.{AllocError}
+use Rattle.clap.specs.Words.{AddsArg, AddsInTurn, AddsSubcommand, App, app_of, rule_of}
+use Rattle.clap.specs.Simple.{with_rule, with_subcommand}
+use Rattle.clap.specs.declared.builder.arg.Arg.{Arg}
+use Rattle.clap.specs.declared.builder.command.Command.{Command}
+use Rattle.clap.specs.declared.builder.command.Command.TheViews.{out-Command}
+
+-- no word is one of all commands below
+abbrev pub AreLocal : List Arg → Type 0
+AreLocal [] = Unit {0}
+AreLocal (a ∷ words) = (a.global ≡ false) × AreLocal words
+
+-- words that are added in turn are its rules, in their order
+pub words_added : (words : List Arg) (old new : Command) → AreLocal words → AddsInTurn AddsArg old words new
+    → app_of new ≡ fold with_rule (app_of old) (map rule_of words)
+words_added [] old new local is = ap app_of (sym is)
+words_added (a ∷ words) old new local added =
+    words_added words added.0 new local.1 added.2 ∙ ap (λ (app : App). fold with_rule app (map rule_of words)) (added.1.shape local.0)
+
+-- a command that is added to another, where there was memory for both
+pub command_added : (command added both : Result Command AllocError) (a b : App) → IfOk command (λ c. app_of c ≡ a) → IfOk added (λ c. app_of c ≡ b)
+    → IfOk added (λ c. (out-Command c).has_globals ≡ false) → IfOk both (λ r. IsOkAnd command (λ c. IsOkAnd added (λ d. AddsSubcommand c d r)))
+    → IfOk both (λ r. app_of r ≡ with_subcommand a b.top)
+command_added command added (Err e) a b is adds local h = tt
+command_added (Err e) added (Ok r) a b is adds local h = absurd h
+command_added (Ok c) (Err e) (Ok r) a b is adds local h = absurd h
+command_added (Ok c) (Ok d) (Ok r) a b is adds local h = h.shape local ∙ ap₂ with_subcommand is (ap (λ (app : App). app.top) adds)
