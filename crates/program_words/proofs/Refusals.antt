@@ -3,9 +3,10 @@ use Rattle.std.proofs.Common.{◌≡◌, sym, subst, List, ⊎_elim, [], Option}
 use Rattle.clap.specs.Words.{HasKind, IsAmong, Row, Text, fault_of, kind_of, subcommand_of}
 use Rattle.clap.specs.declared.error.Error.{Error}
 use Rattle.clap.specs.declared.error.kind.ErrorKind.{ErrorKind}
+use Rattle.clap.specs.declared.error.kind.ErrorKind.TheVariants.{OutOfMemory}
 use Rattle.program_words.specs.declared.reading.WordsFault.{WordsFault}
 use Rattle.program_words.specs.declared.reading.WordsFault.TheVariants.{NoMemory, BadName, BadWords}
-use Rattle.program_words.specs.Asked.{HasBadName, IsRefusalOf}
+use Rattle.program_words.specs.Asked.{HasBadName, IsNotBadWords, IsRefusalOf}
 use Rattle.program_words.specs.Matched.{IsForName, IsRefusalFor}
 use Rattle.program_words.specs.Program.{aplsheet}
 
@@ -29,3 +30,13 @@ unfolding IsRefusalOf
 refused_for_name words asked NoMemory is none h = tt
 refused_for_name words asked BadName is none h = (none, subst HasBadName is h)
 refused_for_name words asked (BadWords e) is none h = absurd h
+
+pub taken_for_name : (P : Type 0) (f : WordsFault) → IsForName P f → IsNotBadWords f
+taken_for_name P NoMemory h = tt
+taken_for_name P BadName h = tt
+taken_for_name P (BadWords e) h = h
+
+pub taken_without_memory : (e : Error) (f : WordsFault) → kind_of e ≡ OutOfMemory → IsRefusalFor (kind_of e) f → IsNotBadWords f
+taken_without_memory e NoMemory is h = tt
+taken_without_memory e BadName is h = tt
+taken_without_memory e (BadWords x) is h = h.1 is

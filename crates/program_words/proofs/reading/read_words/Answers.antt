@@ -1,17 +1,27 @@
-use Rattle.std.proofs.Common.{subst, sym}
+use Rattle.std.proofs.Common.{◌≡◌, ◌∙◌, ap, subst, sym, true}
 use Rattle.std.proofs.lemmas.Result.{IfErr-weaker, IfOk-weaker, err_from_is_err_and}
-use Rattle.clap.specs.Words.{HasKind, app_of, fault_of, subcommand_rows_of}
+use Rattle.clap.specs.Words.{App, HasKind, app_of, fault_of, subcommand_rows_of, takes}
 use Rattle.clap.specs.Walk.{texts}
 use Rattle.program_words.specs.Asked.{IsRefusalOf, Means}
 use Rattle.program_words.specs.Matched.{IsWholeTable}
+use Rattle.program_words.specs.Program.{aplsheet}
 use Rattle.program_words.proofs.Exact.{is_free, matched, no_fault}
-use Rattle.program_words.proofs.Refusals.{refused_by_clap, refused_for_name}
+use Rattle.program_words.proofs.Refusals.{refused_by_clap, refused_for_name, taken_for_name, taken_without_memory}
 use Rattle.program_words.proofs.Required.{words_whole}
 use Rattle.program_words.proofs.reading.read_words.Goals as goal
 
 pub returns-in_err-command-clause-refused : goal.returns-in_err-command-clause-refused
 unfolding IsRefusalOf
 returns-in_err-command-clause-refused c = let p = err_from_is_err_and c.from_residual.result c.from_residual.ensures.1 in rw (p.1, p.2) tt
+
+pub returns-in_err-command-clause-ok : goal.returns-in_err-command-clause-ok
+returns-in_err-command-clause-ok c = let p = err_from_is_err_and c.from_residual.result c.from_residual.ensures.1 in rw p.1 tt
+
+pub returns-in_err-command-clause-faultless : goal.returns-in_err-command-clause-faultless
+returns-in_err-command-clause-faultless c = let p = err_from_is_err_and c.from_residual.result c.from_residual.ensures.1 in rw p.1 tt
+
+pub returns-in_err-command-clause-taken : goal.returns-in_err-command-clause-taken
+returns-in_err-command-clause-taken c = let p = err_from_is_err_and c.from_residual.result c.from_residual.ensures.1 in λ _. rw (p.1, p.2) tt
 
 pub words_of-requires : goal.words_of-requires
 words_of-requires c =
@@ -44,3 +54,17 @@ returns-in-Err-clause-refused c =
     let kinds = c.in-Err.ensures.kinds (is_free (app_of c.in_ok-command.command) c.in_ok-command.ensures) in
     let same = subst (λ a. HasKind (fault_of a words) c.in-Err.error) c.in_ok-command.ensures kinds in
     refused_by_clap words c.in-Err.error c.refusal.result same c.refusal.ensures
+
+pub returns-in-Ok-clause-taken : goal.returns-in-Ok-clause-taken
+returns-in-Ok-clause-taken c = λ _. IfErr-weaker c.words_of.result _ _ (λ f h. taken_for_name _ f h) c.words_of.ensures.bad_name
+
+pub returns-in-Err-clause-ok : goal.returns-in-Err-clause-ok
+returns-in-Err-clause-ok c = tt
+
+pub returns-in-Err-clause-faultless : goal.returns-in-Err-clause-faultless
+returns-in-Err-clause-faultless c = tt
+
+pub returns-in-Err-clause-taken : goal.returns-in-Err-clause-taken
+returns-in-Err-clause-taken c =
+    let takes_too = λ (is : takes aplsheet (texts c.args.words.now) ≡ true). ap (λ (a : App). takes a (texts c.args.words.now)) c.in_ok-command.ensures ∙ is in
+    λ is. taken_without_memory c.in-Err.error c.refusal.result (c.in-Err.ensures.passes (takes_too is)) c.refusal.ensures
