@@ -1,12 +1,12 @@
 -- Boxes made an axis at a time.
-use Rattle.std.proofs.Common.{◌≡◌, ℕ, ◌+◌, ◌-◌, ◌*◌, ◌/◌, ◌%◌, ◌<◌, ◌≤◌, List, [], ◌∷◌, ◌++◌, length, take, drop, set, remove, get_or, arith, true, false, Bool, ◌&&◌, sym, ap, ◌∙◌, subst, refl, min, max, suc, zero, nat_le, nat_eq, length-take-le, inl, inr}
+use Rattle.std.proofs.Common.{◌≡◌, ℕ, ◌+◌, ◌-◌, ◌*◌, ◌/◌, ◌%◌, ◌<◌, ◌≤◌, List, [], ◌∷◌, ◌++◌, length, take, drop, set, remove, get_or, arith, true, false, Bool, ◌&&◌, sym, ap, ◌∙◌, subst, refl, min, max, suc, zero, nat_le, nat_eq, length-take-le, inl, inr, add-one, append_assoc, if◌then◌else◌}
 use Rattle.std.specs.List.{list_all}
-use Rattle.std.proofs.lemmas.Bool.{and_parts, and_from, or_parts, leb-true, le-leb, ltb-false, eqb-true, false≢true, cases_Bool, cond-true, cond-false}
+use Rattle.std.proofs.lemmas.Bool.{and_parts, and_from, or_parts, leb-true, le-leb, ltb-false, eqb-true, eq-eqb, ne_eqb, false≢true, cases_Bool, cond-true, cond-false}
 use Rattle.std.proofs.lemmas.Nat.{div-add-mod', mod_below, le-div}
 use Rattle.std.proofs.Math.Nat.{div-mul-le_self, div-lt_iff_lt-mul}
 use Rattle.std.proofs.lemmas.List.{take_more, take_all, length-drop}
 use Rattle.arrays_core.specs.Shapes.{size, index_after}
-use Rattle.index_region.specs.Boxes.{Interval, is_within, is_box, fits, hull_of, meet_of, whole_of, met, is_empty, cover}
+use Rattle.index_region.specs.Boxes.{Interval, is_within, is_box, fits, hull_of, meet_of, whole_of, met, is_empty, cover, cover_between}
 
 -- what lies in one box lies in the hull
 pub within-hull_left : (a b : List Interval) (index : List ℕ) → length a ≡ length b → is_within a index ≡ true → is_within (hull_of a b) index ≡ true
@@ -229,3 +229,29 @@ removed k n xs e =
     let next : k + 1 ≡ suc k = omega arith in
     let all : take n (drop (k + 1) xs) ≡ drop (k + 1) xs = take_all n (drop (k + 1) xs) (let l = length-drop (k + 1) xs in omega (arith, l)) in
     ap (λ (r : List Interval). take k xs ++ r) all ∙ ap (λ (m : ℕ). take k xs ++ drop m xs) next ∙ removed_at k xs
+
+-- ---- the intervals between two index lists, from an axis on
+
+from_axis : (k : ℕ) (axes from to : List ℕ) → k < length axes → length from ≡ length axes → length to ≡ length axes
+    → cover_between (drop k axes) (drop k from) (drop k to)
+    ≡ (get_or from k 0, get_or to k 0)
+    ∷ (if nat_eq (get_or from k 0) (get_or to k 0) then cover_between (drop (suc k) axes) (drop (suc k) from) (drop (suc k) to) else whole_of (drop (suc k) axes))
+from_axis k [] from to h e f = absurd (omega arith)
+from_axis k (n ∷ axes) [] to h e f = absurd (omega arith)
+from_axis k (n ∷ axes) (i ∷ from) [] h e f = absurd (omega arith)
+from_axis zero (n ∷ axes) (i ∷ from) (j ∷ to) h e f = refl
+from_axis (suc k) (n ∷ axes) (i ∷ from) (j ∷ to) h e f = from_axis k axes from to (omega arith) (omega arith) (omega arith)
+
+-- an axis on which the two have one index
+pub same_on_axis : (k : ℕ) (done : List Interval) (axes from to : List ℕ) → k < length axes → length from ≡ length axes → length to ≡ length axes → get_or from k 0 ≡ get_or to k 0
+    → (done ++ (get_or from k 0, get_or to k 0) ∷ []) ++ cover_between (drop (k + 1) axes) (drop (k + 1) from) (drop (k + 1) to) ≡ done ++ cover_between (drop k axes) (drop k from) (drop k to)
+same_on_axis k done axes from to h e f same =
+    rw (append_assoc, add-one, from_axis k axes from to h e f, eq-eqb (get_or from k 0) (get_or to k 0) same) refl
+
+-- the first axis on which the two differ
+pub differ_on_axis : (k n : ℕ) (done : List Interval) (axes from to : List ℕ) → k < length axes → length from ≡ length axes → length to ≡ length axes
+    → (get_or from k 0 ≡ get_or to k 0 → ⊥) → n ≡ length axes - (k + 1)
+    → (done ++ (get_or from k 0, get_or to k 0) ∷ []) ++ whole_of (take n (drop (k + 1) axes)) ≡ done ++ cover_between (drop k axes) (drop k from) (drop k to)
+differ_on_axis k n done axes from to h e f apart left =
+    let all : take n (drop (k + 1) axes) ≡ drop (k + 1) axes = take_all n (drop (k + 1) axes) (let l = length-drop (k + 1) axes in omega (arith, l)) in
+    rw (append_assoc, all, add-one, from_axis k axes from to h e f, ne_eqb (get_or from k 0) (get_or to k 0) apart) refl

@@ -1,12 +1,17 @@
 -- What is known where checks have passed.
-use Rattle.std.proofs.Common.{◌≡◌, ◌≤◌, ℕ, Bool, true, false, List, [], ◌∷◌, ◌++◌, length, get_or, Result, Ok, Err, refl, sym, arith}
+use Rattle.std.proofs.Common.{◌≡◌, ◌≤◌, ℕ, Bool, true, false, List, [], ◌∷◌, ◌++◌, length, get_or, Result, Ok, Err, refl, sym, ap, arith, ◌&&◌, IsTrue, inl, inr}
+use Rattle.std.specs.Prelude.{nat_le, ◌↔◌}
+use Rattle.std.specs.List.{list_all}
+use Rattle.std.proofs.lemmas.Bool.{and_parts, and_from, leb-true, le-leb, cases_Bool, both_ways}
+use Rattle.std.proofs.lemmas.List.Sums.{list_all-from_AllPass, AllPass-from_list_all}
+use Rattle.arrays_core.specs.Limits.{most_axes, longest_axis, most_places}
 use Rattle.arrays_core.specs.declared.item.Item.{Item}
 use Rattle.arrays_core.specs.declared.item.ItemType.{ItemType}
 use Rattle.arrays_core.specs.declared.item.Kind.{Kind}
 use Rattle.arrays_core.specs.declared.item.Kind.TheVariants.{Limit}
 use Rattle.arrays_core.specs.Arrays.{ArrayValue}
 use Rattle.arrays_core.specs.Items.{type_of}
-use Rattle.arrays_core.specs.Shapes.{is_index_of}
+use Rattle.arrays_core.specs.Shapes.{is_index_of, size, IsWithinLimits}
 use Rattle.arrays_core.specs.Building.{IsRowOf}
 use Rattle.index_region.specs.Checks.{form_of, check, Form, limited, is_within_limits}
 use Rattle.index_region.specs.Answers.{IsPlaceOf, IsRowIn, HasTypeOf}
@@ -19,6 +24,33 @@ pub record Passed (holds : Bool) (rest : Result Form Kind) (index : List ℕ) : 
 pub passed : (holds : Bool) (kind : Kind) (rest : Result Form Kind) (index : List ℕ) → IsPlaceOf (check holds kind rest) index → Passed holds rest index
 passed true kind rest index h = record { test = refl; place = h }
 passed false kind rest index h = absurd h
+
+-- the limits of a shape, as a test
+pub is_within_from : (shape : List ℕ) → IsWithinLimits shape → is_within_limits shape ≡ true
+is_within_from shape h =
+    let axes = list_all-from_AllPass (λ (n : ℕ). nat_le n longest_axis) shape (λ k d below. le-leb (get_or shape k d) longest_axis (h.axes k d below)) in
+    and_from _ _ (and_from _ _ (le-leb (length shape) most_axes h.rank) axes) (le-leb (size shape) most_places h.size_within)
+
+pub within_limits : (shape : List ℕ) → is_within_limits shape ≡ true → IsWithinLimits shape
+within_limits shape h =
+    let parts = and_parts _ _ h in
+    let first = and_parts _ _ parts.0 in
+    record {
+      rank = leb-true (length shape) most_axes first.0;
+      axes = λ k d below. leb-true (get_or shape k d) longest_axis (AllPass-from_list_all (λ (n : ℕ). nat_le n longest_axis) shape first.1 k d below);
+      size_within = leb-true (size shape) most_places parts.1;
+    }
+
+-- a test of the limits decides the last check
+pub limited_passes : (shape : List ℕ) (item_type : ItemType) → IsWithinLimits shape → limited shape item_type ≡ Ok (form_of shape item_type)
+limited_passes shape item_type h = ap (λ (w : Bool). check w Limit (Ok (form_of shape item_type))) (is_within_from shape h)
+
+pub limited_fails : (shape : List ℕ) (item_type : ItemType) → (IsWithinLimits shape → ⊥) → limited shape item_type ≡ Err Limit
+limited_fails shape item_type beyond = decide (is_within_limits shape) (λ t. beyond (within_limits shape t))
+  where
+    decide : (w : Bool) → (w ≡ true → ⊥) → check w Limit (Ok (form_of shape item_type)) ≡ Err Limit
+    decide true fails = absurd (fails refl)
+    decide false fails = refl
 
 inside_if : (holds : Bool) (kind : Kind) (shape : List ℕ) (item_type : ItemType) (index : List ℕ) → IsPlaceOf (check holds kind (Ok (form_of shape item_type))) index
     → is_index_of shape index ≡ true

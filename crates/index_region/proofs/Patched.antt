@@ -1,6 +1,7 @@
 -- Places in row-major order, and patched arrays.
-use Rattle.std.proofs.Common.{◌≡◌, ℕ, ◌+◌, ◌-◌, ◌*◌, ◌<◌, ◌≤◌, List, [], ◌∷◌, arith, mul_comm, IsTrue, ap, sym, ◌∙◌, refl, true, Some, None, get_or, nat_lt, length, All, if◌then◌else◌, inl, inr}
+use Rattle.std.proofs.Common.{◌≡◌, ℕ, ◌+◌, ◌-◌, ◌*◌, ◌<◌, ◌≤◌, ◌^◌, List, [], ◌∷◌, arith, mul_comm, IsTrue, ap, sym, ◌∙◌, refl, true, Some, None, get_or, nat_le, nat_lt, length, ◌&&◌, w64, All, if◌then◌else◌, inl, inr}
 use Rattle.std.proofs.lemmas.List.{get_or_past}
+use mir.Val.{Fits}
 use Rattle.arrays_core.specs.declared.item.Item.{Item}
 use Rattle.arrays_core.specs.declared.item.ItemType.{ItemType}
 use Rattle.arrays_core.specs.declared.item.ItemType.TheVariants.{Nums, Chars}
@@ -19,11 +20,37 @@ use Rattle.index_region.specs.Patches.{PatchValue, FitsPatch, IsPatch, patched, 
 pub row_below : (i n w b : ℕ) → i < n → b < w → i * w + b < n * w
 row_below i n w b h k = rw (mul_comm n w) (mul-add-lt i w b n h k)
 
-pub on_interval : (intervals : List Interval) (index : List ℕ) (s : Interval) (i : ℕ) (ss : List Interval) (is : List ℕ) → intervals ≡ s ∷ ss → index ≡ i ∷ is → IsTrue (is_within intervals index) → i - s.0 < s.1 + 1 - s.0
-on_interval intervals index s i ss is e f h =
+-- an index list in a box by its first axis: so many index lists come before it on that axis, each with a row behind it
+pub record OnFirstAxis (intervals : List Interval) (index : List ℕ) (s : Interval) (i size offset : ℕ) : Type 0 where
+  pub low : s.0 ≤ i
+  pub filled : s.0 ≤ s.1 + 1
+  pub is : (i - s.0) * size + offset ≡ box_offset intervals index
+  pub size_is : (s.1 + 1 - s.0) * size ≡ box_size intervals
+  pub below : (i - s.0) * size + offset < (s.1 + 1 - s.0) * size
+  pub rows_fit : Fits w64 ((i - s.0) * size)
+  pub place_fits : Fits w64 ((i - s.0) * size + offset)
+  pub size_fits : Fits w64 ((s.1 + 1 - s.0) * size)
+
+pub on_first_axis : (intervals : List Interval) (index : List ℕ) (s : Interval) (i : ℕ) (ss : List Interval) (is : List ℕ) (size offset : ℕ) → intervals ≡ s ∷ ss → index ≡ i ∷ is
+    → IsTrue (is_within intervals index) → offset ≡ box_offset ss is → size ≡ box_size ss → offset < size → box_size intervals < 2 ^ 64 → OnFirstAxis intervals index s i size offset
+on_first_axis intervals index s i ss is size offset e f h offset_is size_is below few =
     let k = rw (e, f) at h in
-    let first = and_parts _ _ (and_parts _ _ k).0 in
-    omega (arith, leb-true s.0 i first.0, leb-true i s.1 first.1)
+    let here = and_parts (nat_le s.0 i && nat_le i s.1) (is_within ss is) k in
+    let first = and_parts (nat_le s.0 i) (nat_le i s.1) here.0 in
+    let low : s.0 ≤ i = leb-true s.0 i first.0 in
+    let high : i ≤ s.1 = leb-true i s.1 first.1 in
+    let place : (i - s.0) * size + offset < (s.1 + 1 - s.0) * size = row_below (i - s.0) (s.1 + 1 - s.0) size offset (omega arith) below in
+    let all : (s.1 + 1 - s.0) * size ≡ box_size intervals = rw (e, size_is) refl in
+    record {
+      low = low;
+      filled = omega arith;
+      is = rw (e, f, size_is, offset_is) refl;
+      size_is = all;
+      below = place;
+      rows_fit = omega arith;
+      place_fits = omega arith;
+      size_fits = omega arith;
+    }
 
 -- the item of a patched array at an index list
 pub patched_at : (a : ArrayValue) (p : PatchValue) (index : List ℕ) → IsTrue (is_index_of a.shape index) → item_of (patched a p) index ≡ patched_item a p index
