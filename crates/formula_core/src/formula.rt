@@ -1,9 +1,10 @@
 //! A formula: an expression as a table of nodes, with the result that each node was last given.
 
-ghost use Rattle.std.specs.Prelude.{◌≡◌, ◌+◌, ◌≤◌, ◌<◌, ℕ, [], length, map, replicate, false, None, is_some, Err, IfOk, OnOk};
+ghost use Rattle.std.specs.Prelude.{◌≡◌, ◌+◌, ◌≤◌, ◌<◌, ℕ, [], length, map, replicate, true, false, None, is_some, Err, IfOk, OnOk};
 ghost use Rattle.std.specs.List.{count_by, list_any};
 ghost use Rattle.apl_expr.specs.Trees.{tree_of};
 ghost use Rattle.arrays_core.specs.declared.item.Kind.TheVariants.{Value};
+ghost use Rattle.change_rules.specs.Nodes.{is_whole};
 ghost use Rattle.formula_core.specs.Outcomes.{read, fault};
 ghost use Rattle.formula_core.specs.Meaning.{names_in};
 ghost use Rattle.formula_core.specs.Changes.{Change};
@@ -189,16 +190,29 @@ impl Formula {
         ensures summed { IfOk result (λ s. (c : Change) → IsTold self.now c inputs.now → (cost : ℕ) → IsBegun self.now c changes.now cost
             → resummed_all s.items self.now.sums ≡ map (summed_at c.new) (subtrees self.now.tree)) }
     {
-        let is_new = self.is_new;
         let anew = Delta::Whole(Err(unknown()));
-        let stage = Stage {
+        self.staged_sums(&Stage {
             alloc: self.alloc,
-            is_new,
+            is_new: self.is_new,
             inputs,
             results: self.results.as_slice(),
             changes,
             anew: &anew,
-        };
+        })
+    }
+
+    /// The same, where a stage has the inputs, the results of this formula and their changes.
+    fn staged_sums(&self, stage: &Stage) -> Result<Vec<SumsDelta>, AllocError>
+        requires is_new { stage.now.is_new ≡ self.now.is_new }
+        requires results { stage.now.results.now ≡ self.now.results }
+        requires anew { is_whole stage.now.anew.now ≡ true }
+        requires all { length stage.now.changes.now ≡ length self.now.results }
+        requires begun { (c : Change) × (IsTold self.now c stage.now.inputs.now × ((cost : ℕ) × IsBegun self.now c stage.now.changes.now cost)) }
+        ensures few { IfOk result (λ s. length s.items ≤ length self.now.sums) }
+        ensures fit { IfOk result (λ s. AllSumsFit s.items self.now.sums) }
+        ensures summed { IfOk result (λ s. (c : Change) → IsTold self.now c stage.now.inputs.now → (cost : ℕ) → IsBegun self.now c stage.now.changes.now cost
+            → resummed_all s.items self.now.sums ≡ map (summed_at c.new) (subtrees self.now.tree)) }
+    {
         let mut sums = Vec::with_capacity(self.alloc, self.nodes.len())?;
         for place in 0..self.nodes.len() {
             sums.push(stage.sums_of(&self.nodes[place], &self.sums[place])?)?;
