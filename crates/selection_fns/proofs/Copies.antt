@@ -3,7 +3,7 @@ use Rattle.std.proofs.Common.{◌≡◌, ℕ, zero, suc, ◌+◌, ◌-◌, ◌*�
 use Rattle.std.specs.Prelude.{max, sum}
 use Rattle.std.specs.List.{list_all}
 use Rattle.std.proofs.lemmas.Bool.Decides.{nat_tests}
-use Rattle.std.proofs.lemmas.List.{drop_more, get_or-map, get_or_default, length-append, length-map, length-replicate, take_all}
+use Rattle.std.proofs.lemmas.List.{drop_more, get_or-map, get_or_default, length-append, length-map, length-replicate, get_or-replicate, take_all}
 use Rattle.std.proofs.Math.Nat.{div-eq-sub-div, div-eq_of_lt}
 use Rattle.arrays_core.specs.declared.item.Item.{Item}
 use Rattle.arrays_core.specs.declared.item.ItemType.{ItemType}
@@ -252,6 +252,17 @@ one_place_more counts k count before new below same put made =
 
 pub all_copies : (counts : List ℕ) (k : ℕ) (before : List ℕ) → length counts ≤ k → AreBefore counts k before → length before ≡ sum counts
 all_copies counts k before h made = made.first ∙ ap sum (take_all k counts h)
+
+-- places of one count: what one more takes, and what all of them take
+pub one_count_fits : (n count total k : ℕ) (before : List ℕ) → total ≡ n * count → total ≤ 1048576 → k < n → AreBefore (replicate n count) k before → length before + count ≤ 1048576
+one_count_fits n count total k before all within below made =
+    let fit = copies_fit (replicate n count) k before made (rw (length-replicate n count) below) in
+    let same = sum_same n count in
+    let here : get_or (replicate n count) k 0 ≡ count = get_or-replicate n k count 0 below in
+    omega arith
+
+pub one_count_ends : (n count total k : ℕ) (before : List ℕ) → total ≡ n * count → n ≤ k → AreBefore (replicate n count) k before → length before ≡ total
+one_count_ends n count total k before all past made = all_copies (replicate n count) k before (rw (length-replicate n count) past) made ∙ (sum_same n count ∙ sym all)
 
 -- where replicate gives a form, the array has that axis, and the form is the shape of the copies
 pub record ReplicateGives (along : Along) (a b : ArrayValue) (shape : List ℕ) (item_type : ItemType) : Type 0 where
