@@ -1,5 +1,5 @@
 -- Tables that are read record by record.
-use Rattle.std.proofs.Common.{◌≡◌, ℕ, zero, suc, ℤ, ◌+◌, ◌-◌, ◌*◌, ◌<◌, Bool, true, false, not, cond, eqb, List, [], ◌∷◌, ◌++◌, length, drop, get_or, map, Option, Some, None, is_some, refl, sym, ap, ◌∙◌, subst, arith, append_assoc}
+use Rattle.std.proofs.Common.{◌≡◌, ℕ, zero, suc, ℤ, ◌+◌, ◌-◌, ◌*◌, ◌<◌, ◌≤◌, Bool, true, false, not, cond, eqb, List, [], ◌∷◌, ◌++◌, length, drop, get_or, map, Option, Some, None, is_some, refl, sym, ap, ◌∙◌, subst, arith, rules, append_assoc}
 use Rattle.std.proofs.lemmas.Bool.{eqb-true, false_from_ne_true}
 use Rattle.std.proofs.lemmas.Option.{none-some}
 use Rattle.std.proofs.lemmas.List.{append-nil, drop_more, length-append, length-map}
@@ -9,6 +9,7 @@ use Rattle.arrays_core.specs.declared.item.Item.TheVariants.{Num}
 use Rattle.arrays_core.specs.declared.item.ItemType.TheVariants.{Nums}
 use Rattle.array_text.specs.declared.table_fault.TableFault.{TableFault}
 use Rattle.array_text.specs.declared.table_fault.TableFault.TheVariants as fault
+use Rattle.array_text.specs.Reading.{AreRead}
 use Rattle.array_text.specs.Tables.{AnswersFault, Field, Fields, bad_field_fault, columns_of, field_number, fields_read, first_bad, first_fault, is_matrix_within, number_or_zero, numbers_from, numbers_of, or_else, record_fault, rows_of, table_of}
 
 -- the fields of a record
@@ -150,22 +151,31 @@ at_end header all columns count numbers s = let counted = s.counted in (
   omega arith,
 )
 
--- the table that was read
-pub read_table_is : (header : Bool) (all : List Fields) (columns count : ℕ) (numbers : List ℤ) (a : ArrayValue) → Stands header all columns count numbers []
-    → a ≡ record { item_type = Nums; shape = rows_of header count ∷ columns ∷ []; items = map (λ z. Num z) numbers }
-    → (first_fault header (columns_of all) 1 all ≡ None) × (a ≡ table_of header all)
-unfolding table_of
-read_table_is header all columns count numbers a s is =
+-- all records that were read
+pub all_read : (header : Bool) (all : List Fields) (columns count : ℕ) (numbers : List ℤ) → Stands header all columns count numbers [] → 0 < count
+    → (first_fault header (columns_of all) 1 all ≡ None) × AreRead header all numbers (rows_of header count) columns
+all_read header all columns count numbers s some =
     let e = at_end header all columns count numbers s in
-    let made : ℕ → ℕ → List ℤ → ArrayValue = λ (n m : ℕ) (zs : List ℤ). record { item_type = Nums; shape = rows_of header n ∷ m ∷ []; items = map (λ z. Num z) zs } in
-    (e.0, is ∙ ap (λ (n : ℕ). made n columns numbers) e.2 ∙ ap (λ (m : ℕ). made (length all) m numbers) s.first ∙ ap (made (length all) (columns_of all)) e.1)
+    (e.0, record { all = e.1; high = ap (rows_of header) e.2; wide = s.first; within = s.within some; full = s.full })
+
+-- more records than a table may have
+pub too_many : (header : Bool) (columns count : ℕ) → 1048578 ≤ count → is_matrix_within (rows_of header count) columns ≡ true → ⊥
+too_many true columns count h is = search rules
+too_many false columns count h is = search rules
 
 -- a file without records
-pub no_table_is : (header : Bool) (all : List Fields) (a : ArrayValue) → all ≡ [] → a ≡ record { item_type = Nums; shape = 0 ∷ 0 ∷ []; items = [] }
-    → (first_fault header (columns_of all) 1 all ≡ None) × (a ≡ table_of header all)
+pub none_read : (header : Bool) (all : List Fields) (numbers : List ℤ) → all ≡ [] → numbers ≡ []
+    → (first_fault header (columns_of all) 1 all ≡ None) × AreRead header all numbers 0 0
+none_read header all numbers e none = rw (e, none) (refl, record { all = refl; high = sym (no_rows header); wide = refl; within = refl; full = refl })
+
+-- the table of the records that were read
+pub table_is : (header : Bool) (all : List Fields) (rows columns : ℕ) (numbers : List ℤ) → AreRead header all numbers rows columns
+    → record { item_type = Nums; shape = rows ∷ columns ∷ []; items = map (λ z. Num z) numbers } ≡ table_of header all
 unfolding table_of
-no_table_is true all a e is = rw e (refl, is)
-no_table_is false all a e is = rw e (refl, is)
+table_is header all rows columns numbers read =
+    let made : ℕ → ℕ → List ℤ → ArrayValue = λ (n m : ℕ) (zs : List ℤ). record { item_type = Nums; shape = n ∷ m ∷ []; items = map (λ z. Num z) zs } in
+    ap (λ (n : ℕ). made n columns numbers) read.high ∙ ap (λ (m : ℕ). made (rows_of header (length all)) m numbers) read.wide
+    ∙ ap (made (rows_of header (length all)) (columns_of all)) read.all
 
 -- the first record
 pub first_record : (header : Bool) (all : List Fields) (columns : ℕ) (fields : Fields) (later : List Fields) (numbers : List ℤ)

@@ -1,16 +1,17 @@
 //! Reads a table from the bytes of a file.
 
-ghost use Rattle.std.specs.Prelude.{◌≡◌, ◌≤◌, ◌*◌, ◌∷◌, ◌++◌, [], map, true, None, vec_len};
+ghost use Rattle.std.specs.Prelude.{◌≡◌, ◌≤◌, ◌*◌, ◌∷◌, ◌++◌, List, [], map, true, None, Some, vec_len};
 ghost use Rattle.csv.specs.Records.{fields_of};
 ghost use Rattle.arrays_core.specs.declared.item.Item.TheVariants.{Num};
 ghost use Rattle.arrays_core.specs.declared.item.ItemType.TheVariants.{Nums};
-ghost use Rattle.array_text.specs.Tables.{IsReadOf, IsTableOf, bad_field_fault, fields_read, first_bad, is_matrix_within as within_limits, numbers_of, record_fault, records_of, rows_of as rows_by_records};
+ghost use Rattle.array_text.specs.Reading.{AreLeft, AreRead};
+ghost use Rattle.array_text.specs.Tables.{Fields, IsReadOf, IsTableOf, bad_field_fault, columns_of, fields_read, first_bad, first_fault, is_matrix_within as within_limits, numbers_of, record_fault, records_of, rows_of as rows_by_records};
 
 use crate::fields::field_number;
 use crate::records::{read_next, reader_of};
 use crate::table_fault::TableFault;
 use arrays_core::{Array, shape_of};
-use csv::ByteRecord;
+use csv::{ByteRecord, Reader};
 use std::alloc::Global;
 
 /// The most rows of a table, the most columns, and the most places.
@@ -96,6 +97,32 @@ fn push_record(
     Ok(())
 }
 
+/// Adds the numbers of all records that are left, and answers how many rows and columns they are.
+fn push_records(
+    reader: &mut Reader<&[u8]>,
+    row: &mut ByteRecord,
+    header: bool,
+    numbers: &mut Vec<i64>,
+) -> Result<(u64, usize), TableFault>
+    requires left { (records : List Fields) × AreLeft (λ s. Some s.now) reader.old records }
+    requires none { numbers.old.items ≡ [] }
+    ensures { (records : List Fields) → AreLeft (λ s. Some s.now) reader.old records
+        → IsReadOf (first_fault header (columns_of records) 1 records) (λ size. AreRead header records numbers.new.items size.0 size.1) result }
+{
+    if !read_next(reader, row)? {
+        return Ok((0, 0));
+    }
+    let columns = row.len();
+    push_record(row, header, columns, 1, numbers)?;
+    for count in 1..MOST_RECORDS {
+        if !read_next(reader, row)? {
+            return Ok((rows_of(header, count), columns));
+        }
+        push_record(row, header, columns, count + 1, numbers)?;
+    }
+    unreachable!()
+}
+
 /// Reads a table: the records of `csv`, of which each has as many fields as the first, and in each field a
 /// number, which may have a sign before it and blanks around it. A first record that is a header gives
 /// only its count of fields. The first fault is the answer: for each record first its count of fields,
@@ -107,16 +134,6 @@ pub fn read_table(alloc: Global, bytes: &[u8], header: bool) -> Result<Array, Ta
     let mut reader = reader_of(alloc, bytes);
     let mut row = ByteRecord::new(alloc);
     let mut numbers = Vec::new(alloc);
-    if !read_next(&mut reader, &mut row)? {
-        return Ok(matrix(alloc, 0, 0, numbers));
-    }
-    let columns = row.len();
-    push_record(&row, header, columns, 1, &mut numbers)?;
-    for count in 1..MOST_RECORDS {
-        if !read_next(&mut reader, &mut row)? {
-            return Ok(matrix(alloc, rows_of(header, count), columns, numbers));
-        }
-        push_record(&row, header, columns, count + 1, &mut numbers)?;
-    }
-    unreachable!()
+    let (rows, columns) = push_records(&mut reader, &mut row, header, &mut numbers)?;
+    Ok(matrix(alloc, rows, columns, numbers))
 }
