@@ -1,10 +1,11 @@
 //! The parser: it reads the tokens from left to right, once, a function at a time, and keeps what waits for its right argument or
 //! for a bracket that closes.
 
-ghost use Rattle.std.specs.Prelude.{◌≡◌, Some, [], ◌∷◌, IfOk, map};
+ghost use Rattle.std.specs.Prelude.{◌≡◌, Some, [], ◌∷◌, ◌++◌, IfOk, map};
 ghost use Rattle.apl_tokens.specs.Lexemes.{lexeme, lexemes};
-ghost use Rattle.apl_expr.specs.Machine.{first, settle, position_ended, closed, skipped, ends_position, begin, next, after_reference, step, finish, run, state, Nothing};
+ghost use Rattle.apl_expr.specs.Machine.{first, settle, position_ended, closed, skipped, ends_position, begin, next, after_reference, step, finish, run, state, Index, Inside, Nothing, Position};
 ghost use Rattle.apl_expr.specs.Parsing.{stack, reading_of, Settles, Steps, Gives, IsParsed};
+ghost use Rattle.apl_expr.specs.Symbols.{indexed_of};
 ghost use Rattle.apl_expr.specs.Trees.{Numbers, Text, literal_of, IsPlain, tree_of, position_of};
 
 use crate::expr::{Dyadic, Expr, Literal, Monadic};
@@ -128,6 +129,36 @@ fn settle(alloc: Global, value: Expr, waiting: &mut Vec<Waiting>) -> Result<Sett
     })
 }
 
+/// Has the index wait for its next position, after `;`.
+fn next_position(
+    operand: Expr,
+    positions: Vec<Option<Expr>>,
+    position: Option<Expr>,
+    waiting: &mut Vec<Waiting>,
+) -> Result<Reading, ParseFault>
+    ensures { Steps result waiting.new.items (Some (state (Inside (Index (tree_of operand) (map position_of positions.items ++ position_of position ∷ [])) ∷ stack waiting.old.items) Position)) }
+{
+    let mut positions = positions;
+    positions.push(position)?;
+    waiting.push(Waiting::Inside(Bracket::Index(operand, positions)))?;
+    Ok(Reading::Position)
+}
+
+/// The index whose last position `]` ends.
+fn index_closed(
+    alloc: Global,
+    operand: Expr,
+    positions: Vec<Option<Expr>>,
+    position: Option<Expr>,
+) -> Result<Expr, AllocError>
+    ensures { IfOk result (λ e. indexed_of (tree_of operand) (map position_of positions.items ++ position_of position ∷ []) ≡ Some (tree_of e)) }
+{
+    let mut positions = positions;
+    positions.push(position)?;
+    let operand = Box::new(alloc, operand)?;
+    Ok(Expr::Index(operand, positions))
+}
+
 /// Ends a position of an index, by `;` or by `]`.
 fn position_ended(
     alloc: Global,
@@ -139,17 +170,13 @@ fn position_ended(
 ) -> Result<Reading, ParseFault>
     ensures { Steps result waiting.new.items (position_ended sign (tree_of operand) (map position_of positions.items) (position_of position) (stack waiting.old.items)) }
 {
-    let mut positions = positions;
-    if sign == ';' {
-        positions.push(position)?;
-        waiting.push(Waiting::Inside(Bracket::Index(operand, positions)))?;
-        Ok(Reading::Position)
-    } else if sign == ']' {
-        positions.push(position)?;
-        let operand = Box::new(alloc, operand)?;
-        Ok(Reading::Reference(Expr::Index(operand, positions)))
-    } else {
-        Err(ParseFault::Syntax)
+    match sign {
+        ';' => next_position(operand, positions, position, waiting),
+        ']' => {
+            let index = index_closed(alloc, operand, positions, position)?;
+            Ok(Reading::Reference(index))
+        }
+        _ => Err(ParseFault::Syntax),
     }
 }
 
