@@ -1,9 +1,9 @@
 -- The sums that totals keep follow the changes of their arguments.
-use Rattle.std.proofs.Common.{◌≡◌, ℕ, suc, ◌<◌, ◌≤◌, List, [], ◌∷◌, length, map, get_or, Bool, true, false, Option, Some, None, is_some, Result, Ok, Err, IfOk, refl, sym, ap, ◌∙◌, subst, arith, inl, inr}
+use Rattle.std.proofs.Common.{◌≡◌, ℕ, List, length, Bool, true, false, Option, Some, None, is_some, Result, Ok, Err, IfOk, refl, sym, ap, ◌∙◌, subst, inl, inr}
 use Rattle.std.specs.declared.alloc.AllocError.{AllocError}
 use Rattle.std.specs.Option.{option_map_or}
 use Rattle.std.proofs.lemmas.Bool.{false≢true, cases_Bool, cond-true, cond-false}
-use Rattle.apl_expr.specs.Trees.{Tree, Monad}
+use Rattle.apl_expr.specs.Trees.{Tree}
 use Rattle.arrays_core.specs.Arrays.{ArrayValue}
 use Rattle.index_region.specs.declared.delta.Delta.{Delta}
 use Rattle.index_region.specs.declared.delta.Delta.TheVariants.{Same, Patch, Whole}
@@ -23,9 +23,9 @@ use Rattle.formula_core.specs.Outcomes.{Outcome}
 use Rattle.formula_core.specs.Meaning.{eval}
 use Rattle.formula_core.specs.Tables.{tree_of_operand, tree_of_node, IsOperand, IsNode}
 use Rattle.formula_core.specs.Changes.{Change, change, FitsIn}
-use Rattle.formula_core.specs.Inputs.{shown, stays, delta_of, IsInput}
+use Rattle.formula_core.specs.Inputs.{shown, delta_of, IsInput}
 use Rattle.formula_core.specs.Stages.{IsStaged, IsReady, IsKeptBy, IsSumsStep}
-use Rattle.formula_core.specs.Sums.{is_total, summed_in, summed_at, totalled, resummed, FitsSums, WasSummed, IsSumsDelta, IsSummedFor}
+use Rattle.formula_core.specs.Sums.{is_total, summed_in, summed_at, totalled, WasSummed, IsSumsDelta, IsSummedFor}
 use Rattle.formula_core.proofs.Steps.{operand_changed, fit_held}
 
 -- ---- an array that is patched

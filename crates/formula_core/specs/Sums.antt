@@ -1,5 +1,5 @@
 -- The sums of lines that the totals of a formula keep.
-use Rattle.std.specs.Prelude.{◌≡◌, ℕ, ◌<◌, List, [], ◌∷◌, Bool, true, false, Option, Some, None, Result, Ok, Err, if◌then◌else◌, length, get_or}
+use Rattle.std.specs.Prelude.{◌≡◌, ℕ, ◌<◌, List, Bool, true, false, Option, Some, None, Ok, Err, if◌then◌else◌, length, get_or}
 use Rattle.apl_expr.specs.Trees.{Tree, Const, Name, Monad, Dyad, Index}
 use Rattle.apl_expr.specs.declared.expr.ScalarDyad.TheVariants as scalar_dyad
 use Rattle.apl_expr.specs.declared.expr.Along.TheVariants as axis

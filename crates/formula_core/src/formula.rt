@@ -190,10 +190,11 @@ impl Formula {
         ensures summed { IfOk result (λ s. (c : Change) → IsTold self.now c inputs.now → (cost : ℕ) → IsBegun self.now c changes.now cost
             → resummed_all s.items self.now.sums ≡ map (summed_at c.new) (subtrees self.now.tree)) }
     {
+        let is_new = self.is_new;
         let anew = Delta::Whole(Err(unknown()));
         self.staged_sums(&Stage {
             alloc: self.alloc,
-            is_new: self.is_new,
+            is_new,
             inputs,
             results: self.results.as_slice(),
             changes,

@@ -1,7 +1,5 @@
 use Rattle.std.proofs.Common.{◌≡◌, ◌∙◌, Ok, refl, sym, ap}
-use Rattle.arrays_core.specs.Arrays.{ArrayValue}
 use Rattle.index_region.specs.Patches.{patched}
-use Rattle.formula_core.specs.Outcomes.{Outcome}
 use Rattle.formula_core.specs.Inputs.{shown, delta_of}
 use Rattle.formula_core.proofs.operation_change.change_of_total.Goals as goal
 

@@ -1,7 +1,6 @@
-use Rattle.std.proofs.Common.{◌<◌, List, ℕ, sym, subst, arith}
+use Rattle.std.proofs.Common.{◌<◌, List, sym, subst, arith}
 use Rattle.index_region.specs.Boxes.{Interval, box_size}
 use Rattle.change_core.proofs.Filling.{few_places}
-use Rattle.formula_core.proofs.Summed.{patch_taken, sums_made}
 use Rattle.formula_core.proofs.sums.patch_delta.Goals as goal
 
 pub size-requires : goal.size-requires

@@ -1,5 +1,5 @@
 use Rattle.std.proofs.lemmas.List.{length-append}
-use Rattle.std.proofs.Common.{◌≡◌, ◌∙◌, ◌<◌, [], ◌∷◌, length, get_or, None, ap, sym, refl, arith}
+use Rattle.std.proofs.Common.{◌≡◌, ◌∙◌, ◌<◌, [], ◌∷◌, length, get_or, ap, sym, refl, arith}
 use Rattle.formula_core.specs.Formulas.{FormulaValue, root_of}
 use Rattle.formula_core.specs.Meaning.{names_in}
 use Rattle.formula_core.specs.Tables.{subtrees}
