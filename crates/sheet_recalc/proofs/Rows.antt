@@ -1,17 +1,17 @@
 -- Rows of data: the types of their items, and that a row which passes the checks is put.
-use Rattle.std.proofs.Common.{◌≡◌, ℕ, ℤ, List, [], ◌∷◌, length, true, false, Some, Ok, get_or, refl, eq-eqb}
-use Rattle.std.specs.Prelude.{◌==◌, nat_le}
-use Rattle.std.proofs.lemmas.Bool.{le-leb}
-use Rattle.std.proofs.lemmas.List.Sums.{list_all-from_AllPass}
+use Rattle.std.proofs.Common.{◌≡◌, ℕ, ℤ, List, [], ◌∷◌, length, true, false, Some, Ok, Err, refl, eq-eqb}
+use Rattle.std.specs.Prelude.{◌==◌}
+use Rattle.std.proofs.lemmas.Bool.{false_from_ne_true}
 use Rattle.apl_expr.specs.Trees.{Numbers, Text}
-use Rattle.arrays_core.specs.Limits.{most_axes, longest_axis, most_places}
 use Rattle.arrays_core.specs.Arrays.{ArrayValue}
-use Rattle.arrays_core.specs.Shapes.{size, IsWithinLimits}
+use Rattle.arrays_core.specs.Shapes.{IsWithinLimits}
 use Rattle.arrays_core.specs.declared.item.Item.{Item}
 use Rattle.arrays_core.specs.declared.item.ItemType.{ItemType}
 use Rattle.arrays_core.specs.declared.item.ItemType.TheVariants.{Nums, Chars}
 use Rattle.index_region.specs.Checks.{is_within_limits}
+use Rattle.index_region.proofs.Passing.{is_within_from, within_limits}
 use Rattle.sheet_recalc.specs.Cells.{literal_items, is_same_type}
+use Rattle.sheet_recalc.specs.declared.refusal.Refusal.TheVariants.{Limit}
 use Rattle.sheet_recalc.specs.Rows.{row_length, grown, are_of_type, with_row, row_items_put}
 
 all_numbers : (ns : List ℤ) → are_of_type Nums (literal_items (Numbers ns)) ≡ true
@@ -33,13 +33,14 @@ are_characters item_type [] some = cc
 are_characters Nums (c ∷ cs) some = refl
 are_characters Chars (c ∷ cs) some = all_characters cs
 
-within : (shape : List ℕ) → IsWithinLimits shape → is_within_limits shape ≡ true
-within shape h =
-    let axes = list_all-from_AllPass (λ (n : ℕ). nat_le n longest_axis) shape (λ k d below. le-leb (get_or shape k d) longest_axis (h.axes k d below)) in
-    rw (le-leb (length shape) most_axes h.rank, axes, le-leb (size shape) most_places h.size_within) refl
-
 -- a row that passes each check is put
 pub row_is_put : (a : ArrayValue) (count : ℕ) (row : List Item) → row_length a.shape ≡ Some count → length row ≡ count → are_of_type a.item_type row ≡ true → IsWithinLimits (grown a.shape)
     → row_items_put a (row_length a.shape) row ≡ Ok (with_row a row)
 row_is_put a count row has long typed limits =
-    rw (has, eq-eqb (length row) count long, typed, within (grown a.shape) limits) refl
+    rw (has, eq-eqb (length row) count long, typed, is_within_from (grown a.shape) limits) refl
+
+-- one that passes all but the last is refused for the limits
+pub row_is_beyond : (a : ArrayValue) (count : ℕ) (row : List Item) → row_length a.shape ≡ Some count → length row ≡ count → are_of_type a.item_type row ≡ true → (IsWithinLimits (grown a.shape) → ⊥)
+    → row_items_put a (row_length a.shape) row ≡ Err Limit
+row_is_beyond a count row has long typed beyond =
+    rw (has, eq-eqb (length row) count long, typed, false_from_ne_true (is_within_limits (grown a.shape)) (λ t. beyond (within_limits (grown a.shape) t))) refl
