@@ -78,8 +78,13 @@ impl<P: Announced> Rule for P {
     }
 
     fn all(&self, alloc: Global, args: &[Seen], meter: &mut Meter) -> Result<Array, ApplyFault> {
-        meter.add(places(self, args));
-        self.whole(alloc, args)
+        let whole = self.whole(alloc, args);
+        // counted from its own shape, as the checks of an index look at all its positions
+        meter.add(match &whole {
+            Ok(array) => size(array.shape().as_slice()),
+            Err(_) => places(self, args),
+        });
+        whole
     }
 
     fn selects(&self, which: usize) -> bool {

@@ -69,7 +69,12 @@ fn change_from<R: Rule>(
 {
     if starts_anew(args, old) {
         let whole = evaluate(alloc, rule, seen, meter)?;
-        return Ok((Delta::Whole(whole), places(rule, seen)));
+        // counted from its own shape, as the checks of an index look at all its positions
+        let cost = match &whole {
+            Ok(array) => size(array.shape().as_slice()),
+            Err(_) => places(rule, seen),
+        };
+        return Ok((Delta::Whole(whole), cost));
     }
     reached(alloc, rule, seen, boxes, meter)
 }
