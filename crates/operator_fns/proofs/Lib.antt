@@ -30,3 +30,4 @@ pub mod Summaries
 pub mod SumRuns
 pub mod SumTrees
 pub mod VectorSums
+pub mod FlaggedSums

@@ -8,23 +8,58 @@ ghost use Rattle.operator_fns.specs.Strides.{line_start};
 ghost use Rattle.operator_fns.specs.Columns.{ArePutOver, AreColumnFolds, EndsInFolds};
 
 use arrays_core::{ApplyFault, Kind};
-use scalar_fns::kernels::TwoNumbers;
+use scalar_fns::Scalar2;
+use scalar_fns::kernels::{And, Maximum, Minimum, Minus, Or, Plus, Times, TwoNumbers};
 use std::alloc::Global;
 
-/// Puts each number of a row together with the fold of those below it.
-fn put_over<S: TwoNumbers>(step: &S, row: &[i64], folds: &mut [i64]) -> Result<(), Kind>
-    requires { length row.now ≡ length folds.old }
-    ensures long { length folds.new ≡ length folds.old }
-    ensures is { OnOk result (ArePutOver (S.gives step.now) row.now folds.old folds.new) }
-{
-    for column in 0..row.len() {
-        folds[column] = step.at(row[column], folds[column])?;
+/// A function of two numbers that puts a whole row together with the folds of the columns below it.
+pub(crate) trait RowFold: TwoNumbers {
+    /// Puts each number of a row together with the fold of those below it.
+    fn put_over(&self, row: &[i64], folds: &mut [i64]) -> Result<(), Kind>
+        requires { length row.now ≡ length folds.old }
+        ensures long { length folds.new ≡ length folds.old }
+        ensures is { OnOk result (ArePutOver (Self.gives self.now) row.now folds.old folds.new) }
+    {
+        for column in 0..row.len() {
+            folds[column] = self.at(row[column], folds[column])?;
+        }
+        Ok(())
     }
-    Ok(())
+}
+
+impl RowFold for Minus {}
+
+impl RowFold for Times {}
+
+impl RowFold for Maximum {}
+
+impl RowFold for Minimum {}
+
+impl RowFold for And {}
+
+impl RowFold for Or {}
+
+impl RowFold for Scalar2 {}
+
+impl RowFold for Plus {
+    /// A sum that leaves 64 bits is seen when the row has been added, so no number waits for the one before it.
+    fn put_over(&self, row: &[i64], folds: &mut [i64]) -> Result<(), Kind> {
+        let mut is_within = true;
+        for column in 0..row.len() {
+            let (sum, is_beyond) = row[column].overflowing_add(folds[column]);
+            folds[column] = sum;
+            is_within &= !is_beyond;
+        }
+        if is_within {
+            Ok(())
+        } else {
+            Err(Kind::Limit)
+        }
+    }
 }
 
 /// Folds the columns of some rows, of which the last stands in the list of the folds.
-fn fold_rows<S: TwoNumbers>(
+fn fold_rows<S: RowFold>(
     step: &S,
     rows: &[i64],
     count: usize,
@@ -39,13 +74,13 @@ fn fold_rows<S: TwoNumbers>(
     let columns = folds.len();
     for before in (0..count - 1).rev() {
         let first = before * columns;
-        put_over(step, &rows[first..first + columns], folds)?;
+        step.put_over(&rows[first..first + columns], folds)?;
     }
     Ok(())
 }
 
 /// Puts the folds of the columns of some rows at the end of a list.
-fn push_folds<S: TwoNumbers>(
+fn push_folds<S: RowFold>(
     folds: &mut Vec<i64>,
     step: &S,
     rows: &[i64],
@@ -63,7 +98,7 @@ fn push_folds<S: TwoNumbers>(
 }
 
 /// The folds of the lines of some numbers, where none of them has an error; else some error of a line.
-pub(crate) fn column_folds<S: TwoNumbers>(
+pub(crate) fn column_folds<S: RowFold>(
     alloc: Global,
     step: &S,
     numbers: &[i64],

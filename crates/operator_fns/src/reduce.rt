@@ -14,7 +14,7 @@ ghost use Rattle.index_region.specs.Answers.{IsFormAnswerTo, IsPlaceOf, HasTypeO
 ghost use Rattle.operator_fns.specs.Strides.{line_start};
 ghost use Rattle.operator_fns.specs.Reduce.{reduce_form, reduce_item, reduce_whole};
 
-use crate::columns::column_folds;
+use crate::columns::{RowFold, column_folds};
 use crate::number_rule::{NumberRule, collect_numbers};
 use crate::right_fold::{fold_line, identity_item, stride};
 use crate::sum::sum_list;
@@ -125,7 +125,7 @@ fn folds_of_lines<S: TwoNumbers>(
 
 /// The same, a row at a time where the numbers of a line do not stand side by side. Where a line has an error,
 /// that of the first line that has one is looked for.
-fn folds_by<S: TwoNumbers>(
+fn folds_by<S: RowFold>(
     alloc: Global,
     step: &S,
     numbers: &[i64],

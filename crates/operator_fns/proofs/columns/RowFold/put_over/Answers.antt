@@ -1,11 +1,11 @@
 use Rattle.std.proofs.Common.{◌≡◌, ◌∙◌, ◌<◌, ◌≢◌, ap, sym, get_or, length, pos, arith, Ok, to_z, of_z, w64, SFits, rules, below_more, get_or-set_same, get_or-set_other}
 use Rattle.std.proofs.Math.ListN.{length-set}
 use Rattle.std.proofs.lemmas.Int.{to_z-of_z}
-use Rattle.operator_fns.proofs.columns.put_over.Goals as goal
+use Rattle.operator_fns.proofs.columns.RowFold.put_over.Goals as goal
 
 pub loop-column-preserved : goal.loop-column-preserved
 loop-column-preserved g c =
-    let f = g.S.TwoNumbers.gives c.args.step.now in
+    let f = g.Self.TwoNumbers.gives c.args.self.now in
     let row = c.args.row.now in
     let k = c.loop-column.column in
     let folds = c.loop-column.folds in
