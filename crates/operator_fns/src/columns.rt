@@ -50,11 +50,7 @@ impl RowFold for Plus {
             folds[column] = sum;
             is_within &= !is_beyond;
         }
-        if is_within {
-            Ok(())
-        } else {
-            Err(Kind::Limit)
-        }
+        if is_within { Ok(()) } else { Err(Kind::Limit) }
     }
 }
 

@@ -104,7 +104,7 @@ fn running_beside<S: TwoNumbers>(
     let mut line_place = 0;
     for place in 0..numbers.len() {
         let result = next_in_line(step, before, numbers[place], line_place == 0)?;
-        results.push(result)?;
+        results.push_reserved(result);
         before = result;
         line_place = place_after(line_place, count);
     }
@@ -132,7 +132,7 @@ fn running_apart<S: TwoNumbers>(
     for place in 0..numbers.len() {
         let is_first = block_place < stride;
         let result = next_result(step, &results, numbers[place], stride, is_first)?;
-        results.push(result)?;
+        results.push_reserved(result);
         block_place = place_after(block_place, block);
     }
     Ok(results)

@@ -69,10 +69,11 @@ loop-place-preserved g c =
     (λ h. rw (read) at (c.in_ok-result.ensures.first h))
     (λ h. rw (count, value, read) at (c.in_ok-result.ensures.later h)) in
     let here = get_or-map-range_with_len rule 0 (length zs) k k (Ok z) (omega arith) (omega arith) ∙ given in
-    let items : c.push.new.self.items ≡ c.loop-place.results.items ++ z ∷ [] = rw same at c.in_ok-push.ensures.items in
+    let items : c.push_reserved.new.self.items ≡ c.loop-place.results.items ++ z ∷ [] = rw same at c.push_reserved.ensures.items in
     record {
       made = rw items (front_more (map rule (range_with_len 0 (length zs))) k c.loop-place.results.items z (omega arith) here c.loop-place.invariant.made);
-      long = c.in_ok-push.ensures.len ∙ ap (λ n. n + 1) c.loop-place.invariant.long;
+      long = c.push_reserved.ensures.len ∙ ap (λ n. n + 1) c.loop-place.invariant.long;
+      room = omega (arith, c.push_reserved.ensures.capacity, c.loop-place.invariant.room);
       read = λ j below. fits_below zs k c.loop-place.invariant.read fit j below;
       here = c.place_after-block_place.ensures ∙ ap (λ n. (n + 1) % (c.args.count * c.args.stride)) c.loop-place.invariant.here ∙ mod-add-mod k (c.args.count * c.args.stride) 1;
     }
