@@ -21,3 +21,4 @@ pub mod IndexedRows
 pub mod Picked
 pub mod CopiedRows
 pub mod SourcePlaces
+pub mod Leftovers

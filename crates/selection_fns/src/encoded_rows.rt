@@ -1,8 +1,10 @@
 //! The digits of numbers, a row at a time: a row has the digits of all numbers by one radix.
 
-ghost use Rattle.std.specs.Prelude.{◌≡◌, ◌≤◌, ◌<◌, ◌+◌, ◌*◌, OnOk, IfOk, length};
+ghost use Rattle.std.specs.Prelude.{◌≡◌, ◌≤◌, ◌<◌, ◌+◌, ◌*◌, Ok, OnOk, IfOk, length};
 ghost use Rattle.arrays_core.specs.Arrays.{IsArray};
 ghost use Rattle.index_region.specs.Arguments.{numbers};
+ghost use Rattle.scalar_fns.specs.Numbers.{residue as residue_of};
+ghost use Rattle.selection_fns.specs.Encode.{carried as carried_number};
 ghost use Rattle.selection_fns.specs.EncodedRows.{AreCarried, AreDigits, HasRow};
 
 use crate::encode::carried;
@@ -22,12 +24,31 @@ fn put_row(digits: &mut [i64], before: usize, radix: i64, rests: &[i64])
     }
 }
 
-/// Puts in the place of each number what a radix leaves of it to the radices before it.
-fn carry(rests: &mut [i64], radix: i64) -> Result<(), Kind>
-    ensures { OnOk result (AreCarried radix rests.old rests.new) }
+/// The digit of a number by a radix, from what the radix leaves of it to the radices before it.
+fn digit_beside(radix: i64, number: i64, left: i64) -> i64
+    requires { carried_number radix number ≡ Ok left }
+    ensures { result ≡ residue_of radix number }
+{
+    number.wrapping_sub(radix.wrapping_mul(left))
+}
+
+/// Puts the digits of some numbers by a radix in a row, which has so many others before it, and in the place of each
+/// number what the radix leaves of it to the radices before it.
+fn put_row_and_carry(
+    digits: &mut [i64],
+    before: usize,
+    radix: i64,
+    rests: &mut [i64],
+) -> Result<(), Kind>
+    requires { before + length rests.old ≤ length digits.old }
+    ensures row { OnOk result (HasRow radix rests.old before digits.old digits.new) }
+    ensures carried { OnOk result (AreCarried radix rests.old rests.new) }
 {
     for place in 0..rests.len() {
-        rests[place] = carried(radix, rests[place])?;
+        let rest = rests[place];
+        let left = carried(radix, rest)?;
+        digits[before + place] = digit_beside(radix, rest, left);
+        rests[place] = left;
     }
     Ok(())
 }
@@ -40,8 +61,7 @@ fn put_rows(radices: &[i64], rests: &mut [i64], digits: &mut [i64]) -> Result<()
 {
     let places = rests.len();
     for place in (1..radices.len()).rev() {
-        put_row(digits, place * places, radices[place], rests);
-        carry(rests, radices[place])?;
+        put_row_and_carry(digits, place * places, radices[place], rests)?;
     }
     if radices.is_empty() {
         return Ok(());

@@ -17,13 +17,13 @@ loop-place-preserved c =
     let same : length rests ≡ length zs = c.loop-place.auto.rests in
     let left = subst (λ p. (j : ℕ) → j < length zs → carried_through (drop p radices) (get_or zs j (pos 0)) ≡ Ok (get_or rests j (pos 0))) e c.loop-place.invariant.carried in
     let old = c.loop-place.digits in
-    let new = c.put_row.new.digits in
+    let new = c.put_row_and_carry.new.digits in
     let fits : SFits w64 (get_or radices k (pos 0)) = search rules in
     let radix : to_z w64 (of_z w64 (get_or radices k (pos 0))) ≡ get_or radices k (pos 0) = to_z-of_z w64 _ fits in
-    let row : HasRow (get_or radices k (pos 0)) rests (k * length zs) old new = rw radix at c.put_row.ensures in
-    let carries : AreCarried (get_or radices k (pos 0)) rests c.carry.new.rests = rw radix at c.in_ok-carry.ensures in
+    let row : HasRow (get_or radices k (pos 0)) rests (k * length zs) old new = rw radix at c.in_ok-put_row_and_carry.ensures.row in
+    let carries : AreCarried (get_or radices k (pos 0)) rests c.put_row_and_carry.new.rests = rw radix at c.in_ok-put_row_and_carry.ensures.carried in
     record {
-      carried = carried_more radices zs rests k same left c.carry.new.rests below carries;
+      carried = carried_more radices zs rests k same left c.put_row_and_carry.new.rests below carries;
       made = row_more radices zs rests k same left old new row (λ p j above. c.loop-place.invariant.made p j (omega (arith, above, e)));
       low = λ some. omega (arith, c.loop-place-test.true);
     }
@@ -36,11 +36,11 @@ returns c =
     let some : 0 < length radices = grind (arith, nat_tests) in
     let one : c.loop-place.place ≡ 1 = omega (arith, c.loop-place-test.false, c.loop-place.invariant.low some) in
     let left = subst (λ p. (j : ℕ) → j < length zs → carried_through (drop p radices) (get_or zs j (pos 0)) ≡ Ok (get_or rests j (pos 0))) one c.loop-place.invariant.carried in
-    let new = c.put_row-2.new.digits in
+    let new = c.put_row.new.digits in
     let fits : SFits w64 (get_or radices 0 (pos 0)) = search rules in
     let radix : to_z w64 (of_z w64 (get_or radices 0 (pos 0))) ≡ get_or radices 0 (pos 0) = to_z-of_z w64 _ fits in
     let none : 0 ≡ 0 * length zs = omega arith in
-    let row = subst (λ b. HasRow (get_or radices 0 (pos 0)) rests b c.loop-place.digits new) none (rw radix at c.put_row-2.ensures) in
+    let row = subst (λ b. HasRow (get_or radices 0 (pos 0)) rests b c.loop-place.digits new) none (rw radix at c.put_row.ensures) in
     let made = row_more radices zs rests 0 c.loop-place.auto.rests left c.loop-place.digits new row (λ p j above. c.loop-place.invariant.made p j (omega (arith, above, one))) in
     record {
       long = row.long ∙ c.loop-place.auto.digits ∙ c.requires;
