@@ -14,6 +14,7 @@ pub mod Associates
 pub mod Endings
 pub mod RunningSums
 pub mod SmallSums
+pub mod SmallBits
 pub mod Tables
 pub mod Scanned
 pub mod Joined

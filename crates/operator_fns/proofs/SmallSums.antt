@@ -16,9 +16,9 @@ sum_total x (y ∷ rest) = ap (λ z. x +ℤ z) (sum_total y rest)
 
 -- the sums of the endings of a list of small numbers
 record Bounded (x : ℤ) (rest : List ℤ) : Type 0 where
-  total_low : neg_ℤ (pos (8796093022207 * (length rest + 1))) ≤ℤ total x rest
+  total_low : neg_ℤ (pos (8796093022208 * (length rest + 1))) ≤ℤ total x rest
   total_high : total x rest ≤ℤ pos (8796093022207 * (length rest + 1))
-  low : neg_ℤ (pos (8796093022207 * (length rest + 1))) ≤ℤ fewest x rest
+  low : neg_ℤ (pos (8796093022208 * (length rest + 1))) ≤ℤ fewest x rest
   high : most x rest ≤ℤ pos (8796093022207 * (length rest + 1))
 
 bounded : (x : ℤ) (rest : List ℤ) → All IsSmall (x ∷ rest) → Bounded x rest
@@ -51,12 +51,12 @@ small_folded (x ∷ rest) some few h =
     let high = b.high in
     folded_sum x rest (record { low = omega (arith, ints); high = omega (arith, ints) }) ∙ ap Ok (sum_total x rest)
 
-pub fits_between : (z : ℤ) → neg_ℤ (pos 9223372036854775807) ≤ℤ z → z ≤ℤ pos 9223372036854775807 → SFits w64 z
+pub fits_between : (z : ℤ) → neg_ℤ (pos 9223372036854775808) ≤ℤ z → z ≤ℤ pos 9223372036854775807 → SFits w64 z
 fits_between (pos n) low high = record { sfits = omega (arith, ints, high) }
 fits_between (negsuc n) low high = record { sfits = omega (arith, ints, low) }
 
 -- from the left, after as many small numbers as are told
-from_left : (x : ℤ) (rest : List ℤ) (n : ℕ) → neg_ℤ (pos (8796093022207 * n)) ≤ℤ x → x ≤ℤ pos (8796093022207 * n) → All IsSmall rest → n + length rest ≤ 1048576
+from_left : (x : ℤ) (rest : List ℤ) (n : ℕ) → neg_ℤ (pos (8796093022208 * n)) ≤ℤ x → x ≤ℤ pos (8796093022207 * n) → All IsSmall rest → n + length rest ≤ 1048576
     → fold_on (dyadic_on_numbers Plus) x rest ≡ Ok (x +ℤ sum_of rest)
 from_left x [] n low high h few = ap Ok (omega (arith, ints))
 from_left x (y ∷ rest) n low high h few =

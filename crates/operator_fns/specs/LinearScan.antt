@@ -1,5 +1,5 @@
 -- The first entries of the lines of a list in row-major order, and folds of them.
-use Rattle.std.specs.Prelude.{◌≡◌, ℕ, ◌+◌, ◌-◌, ◌*◌, ◌/◌, ◌%◌, ◌<◌, ◌≤◌, ℤ, pos, FitsSigned, List, [], ◌∷◌, map, length, get_or, All, Result, Ok, Err, Vec}
+use Rattle.std.specs.Prelude.{◌≡◌, ℕ, ◌+◌, ◌-◌, ◌*◌, ◌/◌, ◌%◌, ◌<◌, ◌≤◌, ℤ, pos, FitsSigned, List, [], ◌∷◌, map, length, take, get_or, All, Result, Ok, Err, Vec, vec_len, vec_capacity}
 use Rattle.std.specs.Int.{w64}
 use Rattle.std.specs.List.{range_with_len}
 use Rattle.arrays_core.specs.Items.{all_or_first_error, and_then}
@@ -32,6 +32,17 @@ folded_left f (x ∷ rest) = fold_on f x rest
 abbrev pub scanned : (List ℤ → Result ℤ Kind) → List ℤ → (stride count : ℕ) → Result (List ℤ) Kind
 scanned fold zs stride count =
     all_or_first_error (map (λ place. fold (run_to (pos 0) zs stride count place)) (range_with_len 0 (length zs)))
+
+-- the left fold of the numbers up to each place
+abbrev pub left_rule : (ℤ → ℤ → Result ℤ Kind) → List ℤ → (stride count place : ℕ) → Result ℤ Kind
+left_rule f zs stride count place = folded_left f (run_to (pos 0) zs stride count place)
+
+-- what a rule gives for the places before one, where there is room for the others, and the numbers there were read
+pub record AreResultsTo {G : Type 0} (place : ℕ) (rule : ℕ → Result ℤ Kind) (zs : List ℤ) (results : Vec ℤ G) : Type 0 where
+  pub long : vec_len results ≡ place
+  pub room : length zs ≤ vec_capacity results
+  pub made : all_or_first_error (take place (map rule (range_with_len 0 (length zs)))) ≡ Ok results.items
+  pub read : (k : ℕ) → k < place → FitsSigned w64 (get_or zs k (pos 0))
 
 -- where three are put together it does not matter which two are first, and there is one error at most
 pub record IsAssociative (f : ℤ → ℤ → Result ℤ Kind) : Type 0 where

@@ -1,9 +1,9 @@
 -- Sums of small numbers.
-use Rattle.std.specs.Prelude.{ℤ, pos, negsuc, ◌+ℤ◌, ◌<ℤ◌, List, [], ◌∷◌}
+use Rattle.std.specs.Prelude.{ℤ, pos, negsuc, ◌+ℤ◌, ◌≤ℤ◌, ◌<ℤ◌, List, [], ◌∷◌}
 
--- nearer to 0 than 2 to the power 43: as many of these as an array may have stay within 64 bits
+-- a number of 44 bits: as many of these as an array may have, 2 to the power 20, stay within 64 bits
 pub record IsSmall (z : ℤ) : Type 0 where
-  pub low : negsuc 8796093022207 <ℤ z
+  pub low : negsuc 8796093022207 ≤ℤ z
   pub high : z <ℤ pos 8796093022208
 
 -- the sum of a list

@@ -1,12 +1,12 @@
 //! Scans of numbers in time in proportion to them, each result from the one before it on its line.
 
-ghost use Rattle.std.specs.Prelude.{◌≡◌, ◌<◌, ◌≤◌, ◌+◌, ◌-◌, ◌*◌, ◌%◌, true, false, pos, length, get_or, Ok, IfOk, vec_len};
+ghost use Rattle.std.specs.Prelude.{◌≡◌, ◌<◌, ◌≤◌, ◌+◌, ◌-◌, ◌*◌, ◌%◌, true, false, pos, length, min, get_or, Ok, Err, IfOk, IfErr, vec_len};
 ghost use Rattle.std.specs.Int.{int_max, int_min};
 ghost use Rattle.scalar_fns.specs.declared.function.Scalar2.TheVariants.{Plus as Sum};
 ghost use Rattle.scalar_fns.specs.Numbers.{dyadic_on_numbers};
 ghost use Rattle.scalar_fns.specs.NumberLists.{IsListAnswerTo};
 ghost use Rattle.scalar_fns.specs.Folds.{folded};
-ghost use Rattle.operator_fns.specs.LinearScan.{folded_left, scanned, HasRead, IsAssociative};
+ghost use Rattle.operator_fns.specs.LinearScan.{folded_left, left_rule, scanned, AreResultsTo, FailsAt, HasRead, IsAssociative};
 
 use crate::limits::MOST_ITEMS;
 use crate::sum::are_small;
@@ -70,7 +70,7 @@ fn place_after(block_place: usize, block: usize) -> usize
     }
 }
 
-/// The number at the next place of a line of neighbours: as it is, or put together with the result before it.
+/// The number at a place of a line of neighbours: as it is, or put together with the result before it.
 fn next_in_line<S: TwoNumbers>(
     step: &S,
     before: i64,
@@ -87,6 +87,32 @@ fn next_in_line<S: TwoNumbers>(
     }
 }
 
+/// Puts the results of a line of `count` neighbours, or of as many as there still are, at the end of those of the
+/// lines before it.
+fn push_line<S: TwoNumbers>(
+    results: &mut Vec<i64>,
+    step: &S,
+    numbers: &[i64],
+    count: usize,
+) -> Result<(), Kind>
+    requires some { 1 ≤ count }
+    requires more { vec_len results.old < length numbers.now }
+    requires begins { vec_len results.old % count ≡ 0 }
+    requires before { AreResultsTo (vec_len results.old) (left_rule (S.gives step.now) numbers.now 1 count) numbers.now results.old }
+    ensures is { IfOk result (λ u. AreResultsTo (min (vec_len results.old + count) (length numbers.now)) (left_rule (S.gives step.now) numbers.now 1 count) numbers.now results.new) }
+    ensures first { IfErr result (λ kind. scanned (folded_left (S.gives step.now)) numbers.now 1 count ≡ Err kind) }
+    ensures read { IfErr result (λ kind. FailsAt (left_rule (S.gives step.now) numbers.now 1 count) numbers.now kind) }
+{
+    let first = results.len();
+    let end = first + count.min(numbers.len() - first);
+    let mut before = 0;
+    for place in first..end {
+        before = next_in_line(step, before, numbers[place], place == first)?;
+        results.push_reserved(before);
+    }
+    Ok(())
+}
+
 /// The left folds of the first numbers of each line, where a line has `count` numbers, which are neighbours.
 fn running_beside<S: TwoNumbers>(
     alloc: Global,
@@ -100,13 +126,8 @@ fn running_beside<S: TwoNumbers>(
     ensures read { HasRead (folded_left (S.gives step.now)) numbers.now 1 count result }
 {
     let mut results = Vec::with_capacity(alloc, numbers.len())?;
-    let mut before = 0;
-    let mut line_place = 0;
-    for place in 0..numbers.len() {
-        let result = next_in_line(step, before, numbers[place], line_place == 0)?;
-        results.push_reserved(result);
-        before = result;
-        line_place = place_after(line_place, count);
+    while results.len() < numbers.len() {
+        push_line(&mut results, step, numbers, count)?;
     }
     Ok(results)
 }

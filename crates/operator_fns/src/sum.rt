@@ -12,20 +12,19 @@ use arrays_core::Kind;
 use scalar_fns::folds::fold_list;
 use scalar_fns::kernels::Plus;
 
-/// Numbers nearer to 0 than this, as many as an array may have, add up within 64 bits.
-const SMALL: i64 = 8_796_093_022_208;
+/// Numbers that are less than this, and no further below 0, add up within 64 bits: as many of them as an array may have.
+const SMALL: u64 = 8_796_093_022_208;
 
-/// No number of a list is far from 0.
+/// No number of a list is far from 0. Where each is moved up by as much as a small one may be below 0, the small ones
+/// have no bit above those that twice as much needs, and all others have one.
 pub(crate) fn are_small(numbers: &[i64]) -> bool
     ensures { result ≡ true → All IsSmall numbers.now }
 {
-    let mut least: i64 = 0;
-    let mut greatest: i64 = 0;
+    let mut bits = 0;
     for number in numbers {
-        least = least.min(*number);
-        greatest = greatest.max(*number);
+        bits |= number.cast_unsigned().wrapping_add(SMALL);
     }
-    -SMALL < least && greatest < SMALL
+    bits < 2 * SMALL
 }
 
 /// The sum of small numbers, which no order of adding takes out of 64 bits.

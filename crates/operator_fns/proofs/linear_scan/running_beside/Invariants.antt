@@ -1,16 +1,13 @@
-use Rattle.std.proofs.Common.{◌≡◌, ℕ, ◌-◌, ◌%◌, ◌<◌, ◌≤◌, get_or, FitsSigned, take, map, length, pos, Ok, vec_len, vec_capacity}
-use Rattle.std.specs.Int.{w64}
-use Rattle.std.specs.List.{range_with_len}
-use Rattle.arrays_core.specs.Items.{all_or_first_error}
-use Rattle.operator_fns.specs.LinearScan.{run_to, folded_left}
+use Rattle.std.proofs.Common.{◌≡◌, ◌-◌, ◌<◌, ◌≤◌, ◌%◌, length, vec_len}
+use Rattle.operator_fns.specs.LinearScan.{left_rule, AreResultsTo}
 use Rattle.operator_fns.proofs.linear_scan.running_beside.Given as goal
 
-abbrev pub invariant-loop-place : goal.invariant-loop-place
-invariant-loop-place g l = record {
-  made : all_or_first_error (take l.place (map (λ k. folded_left (g.S.TwoNumbers.gives l.step) (run_to (pos 0) l.numbers 1 l.count k)) (range_with_len 0 (length l.numbers)))) ≡ Ok l.results.items;
-  long : vec_len l.results ≡ l.place;
-  room : length l.numbers ≤ vec_capacity l.results;
-  read : (k : ℕ) → k < l.place → FitsSigned w64 (get_or l.numbers k (pos 0));
-  here : l.line_place ≡ l.place % l.count;
-  last : 0 < l.place → get_or l.results.items (l.place - 1) (pos 0) ≡ l.before;
+abbrev pub invariant-loop-results : goal.invariant-loop-results
+invariant-loop-results g l = record {
+  so_far : AreResultsTo (vec_len l.results) (left_rule (g.S.TwoNumbers.gives l.step) l.numbers 1 l.count) l.numbers l.results;
+  within : vec_len l.results ≤ length l.numbers;
+  begins : vec_len l.results < length l.numbers → vec_len l.results % l.count ≡ 0;
 }
+
+abbrev pub decreases-loop-results : goal.decreases-loop-results
+decreases-loop-results g l = length l.numbers - vec_len l.results

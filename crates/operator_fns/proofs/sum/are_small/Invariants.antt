@@ -1,8 +1,6 @@
-use Rattle.std.proofs.Common.{◌≤ℤ◌, ◌<◌, get_or, pos, ℕ}
+use Rattle.std.proofs.Common.{◌<◌, get_or, pos, ℕ}
+use Rattle.operator_fns.specs.Sum.{IsSmall}
 use Rattle.operator_fns.proofs.sum.are_small.Given as goal
 
 abbrev pub invariant-loop-number : goal.invariant-loop-number
-invariant-loop-number l = record {
-  low : (k : ℕ) → k < l.number-index → l.least ≤ℤ get_or l.numbers k (pos 0);
-  high : (k : ℕ) → k < l.number-index → get_or l.numbers k (pos 0) ≤ℤ l.greatest;
-}
+invariant-loop-number l = l.bits < 17592186044416 → (k : ℕ) → k < l.number-index → IsSmall (get_or l.numbers k (pos 0))
