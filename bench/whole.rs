@@ -33,15 +33,15 @@ fn folded_rows(source: &[i64], width: usize, step: impl Fn(i64, i64) -> Option<i
     folded
 }
 
-fn scanned(source: &[i64], step: impl Fn(i64, i64) -> Option<i64>) -> Vec<i64> {
-    let mut made = Vec::with_capacity(source.len());
-    let mut total = source[0];
-    made.push(total);
-    for number in &source[1..] {
-        total = step(total, *number).unwrap();
+fn scanned(source: &[i64], width: usize, step: impl Fn(i64, i64) -> Option<i64>) -> Vec<i64> {
+    rows(source, width, |row, made| {
+        let mut total = row[0];
         made.push(total);
-    }
-    made
+        for number in &row[1..] {
+            total = step(total, *number).unwrap();
+            made.push(total);
+        }
+    })
 }
 
 fn product(left: &[i64], right: &[i64], side: usize) -> Vec<i64> {
@@ -126,8 +126,9 @@ fn made(name: &str, given: &Given) -> Vec<i64> {
         }
         "fold_first" => folded_rows(matrix, SIDE, i64::checked_add),
         "greatest_first" => folded_rows(matrix, SIDE, |a, b| Some(a.max(b))),
-        "scan" => scanned(matrix, i64::checked_add),
-        "greatest_scan" => scanned(matrix, |a, b| Some(a.max(b))),
+        "scan" => scanned(matrix, PLACES, i64::checked_add),
+        "scan_rows" => scanned(matrix, SIDE, i64::checked_add),
+        "greatest_scan" => scanned(matrix, PLACES, |a, b| Some(a.max(b))),
         "decode" => {
             let mut totals = vec![0i64; 32768];
             for digits in given.bits.chunks(32768) {
