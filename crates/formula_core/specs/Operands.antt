@@ -1,5 +1,5 @@
 -- What an operand stands for.
-use Rattle.std.specs.Prelude.{List, map, Option, Some, None, Result, Ok, Err}
+use Rattle.std.specs.Prelude.{List, [], ◌∷◌, map, Option, Some, None, Result, Ok, Err}
 use Rattle.std.specs.Global.{Vec}
 use Rattle.selection_fns.specs.Index.{Position}
 use Rattle.arrays_core.specs.Arrays.{ArrayValue}
@@ -22,6 +22,12 @@ outcome_of (Err e) = Err e
 abbrev pub position_in : Option Operand → Position
 position_in None = None
 position_in (Some o) = Some (array_in o)
+
+-- the arrays of the positions that are written, in their order
+abbrev pub written_arrays : List (Option Operand) → List ArrayValue
+written_arrays [] = []
+written_arrays (Some o ∷ positions) = array_in o ∷ written_arrays positions
+written_arrays (None ∷ positions) = written_arrays positions
 
 -- the same for all positions of an index, or the error in their place
 abbrev pub positions_in : Result (Vec (Option Operand)) Fault → Result (List Position) Fault

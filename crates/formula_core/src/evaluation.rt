@@ -1,16 +1,17 @@
 //! The value of an expression.
 
-ghost use Rattle.std.specs.Prelude.{◌≡◌, IfOk, Result, Ok, Err, map};
+ghost use Rattle.std.specs.Prelude.{◌≡◌, ◌∷◌, IfOk, Result, Ok, Err, map};
 ghost use Rattle.apl_expr.specs.Trees.{tree_of, position_of, positions_of};
 ghost use Rattle.arrays_core.specs.Arrays.{ArrayValue, IsAnswerTo};
 ghost use Rattle.arrays_core.specs.declared.item.Kind.{Kind as AKind};
 ghost use Rattle.selection_fns.specs.Index.{index_whole};
 ghost use Rattle.formula_core.specs.Outcomes.{read, given};
-ghost use Rattle.formula_core.specs.Operands.{outcome_of, array_in, position_in, positions_in};
+ghost use Rattle.formula_core.specs.Operands.{outcome_of, array_in, position_in, positions_in, written_arrays};
 ghost use Rattle.formula_core.specs.Meaning.{eval, eval_positions, applied1, applied2, indexed};
 
 use crate::application::{of_both, of_right};
 use crate::literals::array_of;
+use crate::positions::written_of;
 use apl_expr::{Dyadic, Expr, Monadic};
 use apl_tokens::Name;
 use arrays_core::{ApplyFault, Array, Fault};
@@ -182,6 +183,7 @@ fn apply_index<'a>(
 }
 
 /// The items of an array at the indices of the positions.
+#[tactic(auto, using(crate::proofs::Indexing::written_again, crate::proofs::Indexing::written_counted))]
 fn of_positions(
     alloc: Global,
     array: &Array,
@@ -189,22 +191,30 @@ fn of_positions(
 ) -> Result<Array, ApplyFault>
     ensures { IsAnswerTo (index_whole array.now (map position_in positions.now)) result }
 {
-    let mut written = Vec::with_capacity(alloc, positions.len())?;
-    let mut args = Vec::new(alloc);
-    args.push(Seen::plain(array))?;
-    for position in positions {
-        match position {
-            Some(operand) => {
-                written.push(true)?;
-                args.push(Seen::plain(operand.array()))?;
-            }
-            None => written.push(false)?,
-        }
-    }
+    let written = written_of(alloc, positions)?;
+    let args = arguments_of(alloc, array, positions)?;
     let index = Index {
         written: written.as_slice(),
     };
     index.apply(alloc, args.as_slice())
+}
+
+/// The array, and those of the positions that are written.
+fn arguments_of<'a>(
+    alloc: Global,
+    array: &'a Array,
+    positions: &'a [Option<Operand>],
+) -> Result<Vec<Seen<'a>>, AllocError>
+    ensures { IfOk result (λ args. args.items ≡ array.now ∷ written_arrays positions.now) }
+{
+    let mut args = Vec::new(alloc);
+    args.push(Seen::plain(array))?;
+    for position in positions {
+        if let Some(operand) = position {
+            args.push(Seen::plain(operand.array()))?;
+        }
+    }
+    Ok(args)
 }
 
 /// What a function gave, as an argument of the next one. Its error has no origin yet.

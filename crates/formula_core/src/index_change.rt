@@ -11,18 +11,12 @@ ghost use Rattle.formula_core.specs.Inputs.{stays, HasFit, AllHaveFit, IsOperati
 
 use crate::input::Input;
 use crate::operation_change::beside_error;
+use crate::positions::{FEW_POSITIONS, written_of};
 use crate::refreshing::Operation;
 use arrays_core::{Array, Fault};
 use change_core::Meter;
 use index_region::{Delta, Seen};
-use smallvec::SmallVec;
 use std::alloc::{AllocError, Global};
-
-/// How many positions take no memory. More have no value: no array has more axes.
-const FEW_POSITIONS: usize = 4;
-
-/// Which positions of an index are written.
-type Written = SmallVec<bool, FEW_POSITIONS>;
 
 /// The change of an index, and what it costs: the array and the positions that are written; beside an error it is that error, that of the
 /// last position first and the array's last.
@@ -108,17 +102,6 @@ fn all_stay(array: &Input, positions: &[Option<Input>]) -> bool
             Some(input) => input.stays(),
             None => true,
         })
-}
-
-/// Which positions are written.
-fn written_of(alloc: Global, positions: &[Option<Input>]) -> Result<Written, AllocError>
-    ensures { IfOk result (λ written. written.items ≡ map is_some positions.now) }
-{
-    let mut written = SmallVec::new(alloc);
-    for position in positions {
-        written.push(position.is_some())?;
-    }
-    Ok(written)
 }
 
 /// The array and the positions that are arrays, each with what changed of it.

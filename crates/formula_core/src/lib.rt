@@ -10,6 +10,7 @@ mod input;
 mod literals;
 mod operation_change;
 mod plan;
+mod positions;
 mod refreshing;
 mod stage;
 mod sums;

@@ -124,10 +124,11 @@ fn push(nodes: &mut Vec<Node>, node: Node) -> Result<Operand, AllocError>
 fn copy_of(alloc: Global, literal: &Literal) -> Result<Literal, AllocError>
     ensures { IfOk result (λ copy. literal_of copy ≡ literal_of literal.now) }
 {
-    match literal {
-        Literal::Num(number) => Ok(Literal::Num(*number)),
-        Literal::Nums(numbers) => Ok(Literal::Nums(numbers.to_vec(alloc)?)),
-        Literal::Char(character) => Ok(Literal::Char(*character)),
-        Literal::Text(characters) => Ok(Literal::Text(characters.to_vec(alloc)?)),
-    }
+    let copy = match literal {
+        Literal::Num(number) => Literal::Num(*number),
+        Literal::Nums(numbers) => Literal::Nums(numbers.to_vec(alloc)?),
+        Literal::Char(character) => Literal::Char(*character),
+        Literal::Text(characters) => Literal::Text(characters.to_vec(alloc)?),
+    };
+    Ok(copy)
 }

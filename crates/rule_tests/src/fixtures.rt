@@ -1,6 +1,6 @@
 //! Arrays, patches, and what a rule reaches where a box of one of them changed.
 
-ghost use Rattle.std.specs.Prelude.{◌≡◌, ◌∷◌, [], IfSome, IsTrue, length};
+ghost use Rattle.std.specs.Prelude.{◌≡◌, ◌∷◌, [], IfSome, IsTrue, Some, None, length};
 ghost use Rattle.change_core.specs.Reaches.{AllFit};
 ghost use Rattle.index_region.specs.Boxes.{fits};
 ghost use Rattle.index_region.specs.Patches.{FitsPatch};
@@ -56,30 +56,13 @@ fn box_in(array: &Array, intervals: &[(u32, u32)]) -> Option<IndexBox>
     }
 }
 
-/// What a rule of one argument reaches where a box of it changed, if it is there.
-pub(crate) fn reach_of_one<R: Rule>(
-    rule: &R,
-    array: Option<Array>,
-    changed: &[(u32, u32)],
-) -> Option<Reach>
-    requires { length (R.model rule.now).selectors ≡ 1 }
-{
-    let array = array?;
-    let region = box_in(&array, changed)?;
-    Some(rule.reach(&[Seen::plain(&array)], &[Some(region)]))
-}
-
-/// What a rule of two arguments reaches where these boxes of them changed.
-fn reach_of_both<R: Rule>(
-    rule: &R,
-    left: &Array,
-    right: &Array,
-    moved: [Option<IndexBox>; 2],
-) -> Reach
+/// What a rule of two arguments reaches where this box of the left one changed.
+fn reach_beside<R: Rule>(rule: &R, left: &Array, right: &Array, region: IndexBox) -> Reach
     requires count { length (R.model rule.now).selectors ≡ 2 }
-    requires fit { AllFit (left.now ∷ right.now ∷ []) moved }
+    requires fit { AllFit (left.now ∷ right.now ∷ []) (Some region ∷ None ∷ []) }
 {
-    rule.reach(&[Seen::plain(left), Seen::plain(right)], &moved)
+    let args = [Seen::plain(left), Seen::plain(right)];
+    rule.reach(&args, &[Some(region), None])
 }
 
 /// What a rule of two arguments reaches where a box of the left one changed, if both are there.
@@ -93,37 +76,5 @@ pub(crate) fn reach_of_left<R: Rule>(
 {
     let (left, right) = left.zip(right)?;
     let region = box_in(&left, changed)?;
-    Some(reach_of_both(rule, &left, &right, [Some(region), None]))
-}
-
-/// What a rule of two arguments reaches where a box of the right one changed, if both are there.
-pub(crate) fn reach_of_right<R: Rule>(
-    rule: &R,
-    left: Option<Array>,
-    right: Option<Array>,
-    changed: &[(u32, u32)],
-) -> Option<Reach>
-    requires { length (R.model rule.now).selectors ≡ 2 }
-{
-    let (left, right) = left.zip(right)?;
-    let region = box_in(&right, changed)?;
-    Some(reach_of_both(rule, &left, &right, [None, Some(region)]))
-}
-
-/// It reaches this box.
-pub(crate) fn is_inside(reach: Option<Reach>, wanted: &[(u32, u32)]) -> bool {
-    match reach {
-        Some(Reach::Inside(region)) => region.as_slice() == wanted,
-        _ => false,
-    }
-}
-
-/// It reaches nothing.
-pub(crate) fn is_unmoved(reach: Option<Reach>) -> bool {
-    matches!(reach, Some(Reach::Unmoved))
-}
-
-/// It makes all of the result anew.
-pub(crate) fn is_anew(reach: Option<Reach>) -> bool {
-    matches!(reach, Some(Reach::Anew))
+    Some(reach_beside(rule, &left, &right, region))
 }

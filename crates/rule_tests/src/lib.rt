@@ -1,4 +1,4 @@
-//! Tests of change rules: what they reach, row by row, and the change of a node.
+//! Tests of change rules: what they reach, the change of a node, and that of totals by trees of sums.
 #![tactic(auto)]
 
 #[cfg(test)]

@@ -2,7 +2,7 @@
 
 ghost use Rattle.index_region.specs.Patches.{FitsPatch};
 
-use crate::fixtures::{patch_of, vector};
+use crate::fixtures::patch_of;
 use arrays_core::{Array, Fault, Item, Kind, is_within_limits, shape_of, size};
 use change_core::Meter;
 use index_region::{Delta, Patch, Seen};
@@ -128,56 +128,6 @@ fn several_numbers_of_a_line_are_summed_up_with_it(rt: HostRuntime) {
     );
     assert_eq!(rt; item_in(delta, &[2]), Some(Item::Num(77)));
     assert_eq!(rt; meter.ticks(), 1);
-    assert_eq!(rt; meter.joins(), 0);
-}
-
-/// The change of a total where its numbers are the same.
-fn total_of_same(
-    alloc: Global,
-    numbers: &Array,
-    old: &Result<Array, Fault>,
-    meter: &mut Meter,
-) -> Option<Delta> {
-    let same = Delta::Same;
-    refresh_sums(alloc, (Seen::plain(numbers), &same), old, &[], meter).ok()
-}
-
-/// The change of a total where its numbers are all new.
-fn total_of_whole(
-    alloc: Global,
-    numbers: &Array,
-    old: &Result<Array, Fault>,
-    meter: &mut Meter,
-) -> Option<Delta> {
-    let whole = Delta::Whole(Ok(numbers.copy().ok()?));
-    refresh_sums(alloc, (Seen::plain(numbers), &whole), old, &[], meter).ok()
-}
-
-/// The item of a total that is all new.
-fn total_in(delta: Option<Delta>) -> Option<Item> {
-    match &delta {
-        Some(Delta::Whole(Ok(total))) => total.at(&[]),
-        _ => None,
-    }
-}
-
-#[test]
-fn what_is_same_needs_no_tree(rt: HostRuntime) {
-    let pair = vector(rt.alloc(), &[1, 2]).expect(&rt, "a vector");
-    let old = Ok(Array::scalar(rt.alloc(), 3).expect(&rt, "a scalar"));
-    let mut meter = Meter::new();
-    let same = total_of_same(rt.alloc(), &pair, &old, &mut meter);
-    assert!(rt; matches!(same, Some(Delta::Same)));
-    assert_eq!(rt; meter.joins(), 0);
-}
-
-#[test]
-fn what_is_whole_needs_no_tree(rt: HostRuntime) {
-    let pair = vector(rt.alloc(), &[1, 2]).expect(&rt, "a vector");
-    let old = Ok(Array::scalar(rt.alloc(), 3).expect(&rt, "a scalar"));
-    let mut meter = Meter::new();
-    let whole = total_of_whole(rt.alloc(), &pair, &old, &mut meter);
-    assert_eq!(rt; total_in(whole), Some(Item::Num(3)));
     assert_eq!(rt; meter.joins(), 0);
 }
 

@@ -39,12 +39,19 @@ fn are_numbers(written: &[bool], positions: &[Seen]) -> bool
     are_numbers(&written[1..], &positions[1..])
 }
 
+/// The index is on an axis.
+#[inline]
+fn is_within(index: i64, axis: u32) -> bool
+    ensures { result ≡ is_on_axis axis index }
+{
+    1 <= index && index <= i64::from(axis)
+}
+
 /// All indices are on an axis.
 fn are_all_on(indices: &[i64], axis: u32) -> bool
     ensures { result ≡ list_all (is_on_axis axis) indices.now }
 {
-    let last = i64::from(axis);
-    indices.iter().all(|index| 1 <= *index && *index <= last)
+    indices.iter().all(|index| is_within(*index, axis))
 }
 
 /// The indices of a position are on an axis.
@@ -55,8 +62,7 @@ fn is_on(position: &Seen, axis: u32) -> bool
         return are_all_on(indices, axis);
     }
     for place in 0..position.places() {
-        let index = position.number(place + 1);
-        if index < 1 || i64::from(axis) < index {
+        if !is_within(position.number(place + 1), axis) {
             return false;
         }
     }

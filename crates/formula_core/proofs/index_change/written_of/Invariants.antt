@@ -1,5 +1,0 @@
-use Rattle.std.proofs.Common.{◌≡◌, is_some, map, take}
-use Rattle.formula_core.proofs.index_change.written_of.Given as goal
-
-abbrev pub invariant-loop-position : goal.invariant-loop-position
-invariant-loop-position l = l.written.items ≡ map is_some (take l.position-index l.positions)
