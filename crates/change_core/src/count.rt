@@ -32,6 +32,13 @@ impl Count {
         self.count = self.count.saturating_add(u64::from(more));
     }
 
+    /// Counts what another has counted, too.
+    pub fn include(&mut self, other: &Count)
+        ensures { self.new ≡ ticked self.old other.now }
+    {
+        self.count = self.count.saturating_add(other.count);
+    }
+
     /// How many were counted.
     pub fn total(&self) -> u64
         ensures { result ≡ self.now }

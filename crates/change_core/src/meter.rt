@@ -54,6 +54,14 @@ impl Meter {
         self.joins.add(joins);
     }
 
+    /// Counts what another meter has counted, too.
+    pub fn include(&mut self, other: &Meter)
+        ensures { self.new ≡ record { ticks = ticked self.old.ticks other.now.ticks; joins = ticked self.old.joins other.now.joins } }
+    {
+        self.ticks.include(&other.ticks);
+        self.joins.include(&other.joins);
+    }
+
     /// How many items were counted.
     pub fn ticks(&self) -> u64
         ensures { result ≡ self.now.ticks }

@@ -1,5 +1,5 @@
 -- One set of the table is written.
-use Rattle.std.proofs.Common.{◌≡◌, ◌≢◌, ℕ, ◌+◌, ◌<◌, ◌≤◌, ◌⊎◌, ◌↔◌, inl, inr, Bool, true, false, cond, List, [], ◌∷◌, ◌++◌, take, length, get_or, Option, Some, None, IsSome, refl, sym, ap, ◌∙◌, subst, arith, ⊎_elim}
+use Rattle.std.proofs.Common.{◌≡◌, ◌≢◌, ℕ, ◌+◌, ◌<◌, ◌≤◌, ◌⊎◌, ◌↔◌, inl, inr, Bool, true, false, cond, List, [], ◌∷◌, ◌++◌, take, length, get_or, Option, Some, IsSome, refl, sym, ap, ◌∙◌, subst, arith, ⊎_elim}
 use Rattle.std.specs.Prelude.{Result, Ok, Err, IsOk, OnErr}
 use Rattle.std.specs.Cmp.{IsEquivalence}
 use Rattle.std.specs.Map.{lookup}
@@ -25,7 +25,7 @@ written_over {N} {S} eq lent before after reference set is =
     subst (λ (table : List (N × IndexSet N S)). (q : N) → lookup (eq q) after ≡ cond (eq reference q) (Some set) (lookup (eq q) table)) is
 
 module _ {N : Type 0} (eq : N → N → Bool) (laws : IsEquivalence eq) (exact : IsExact eq) where
-  same_eq : (a b : N) → a ≡ b → eq a b ≡ true
+  pub same_eq : (a b : N) → a ≡ b → eq a b ≡ true
   same_eq a b e = subst (λ c. eq a c ≡ true) e (laws.refl a)
 
   -- a node is this one, or another
@@ -68,13 +68,8 @@ module _ {N : Type 0} (eq : N → N → Bool) (laws : IsEquivalence eq) (exact :
           (λ p. subst (λ ks. Contains ks a) (sym (other_users b apart)) ((there a b apart).1 p)),
         ))
 
-    -- a set that is written with the nodes that the table has there
-    same_uses : set.keys ≡ users_of eq before reference → (a b : N) → Uses eq after a b ↔ Uses eq before a b
-    same_uses is = written_uses (λ a b. Uses eq before a b) (λ a. ((λ h. subst (λ ks. Contains ks a) is h), (λ h. subst (λ ks. Contains ks a) (sym is) h))) (λ a b apart. ((λ u. u), (λ u. u)))
-
-    -- a set that is written where there was none, without nodes
-    pub new_uses : lookup (eq reference) before ≡ None → set.keys ≡ [] → (a b : N) → Uses eq after a b ↔ Uses eq before a b
-    new_uses none empty = same_uses (empty ∙ sym (ap keys_in none))
+    pub same_lists : set.keys ≡ users_of eq before reference → (b : N) → users_of eq after b ≡ users_of eq before b
+    same_lists is b = cases_node (users_of eq after b ≡ users_of eq before b) reference b (λ e. own_users b e ∙ (is ∙ ap (users_of eq before) (sym e))) (λ apart. other_users b apart)
 
     pub room_written : (0 < spare set) → (references : List N) → HasRoomFor eq before references → HasRoomFor eq after references
     room_written some references room b c = cases_node ((s : IndexSet N S) × (lookup (eq b) after ≡ Some s) × (0 < spare s)) reference b
@@ -106,11 +101,8 @@ module _ {N : Type 0} (eq : N → N → Bool) (laws : IsEquivalence eq) (exact :
         (λ apart. ⊎_elim (λ l. inl l) (λ r. inr (r.0, subst (λ ks. Contains ks r.0) (sym (other_users b apart)) r.1)) (used b (subst (λ o. IsSome o) (other b apart) there)))
 
     module _ (old : IndexSet N S) (found : lookup (eq reference) before ≡ Some old) where
-      old_users : users_of eq before reference ≡ old.keys
+      pub old_users : users_of eq before reference ≡ old.keys
       old_users = ap keys_in found
-
-      pub kept_uses : set.keys ≡ old.keys → (a b : N) → Uses eq after a b ↔ Uses eq before a b
-      kept_uses is = same_uses (is ∙ sym old_users)
 
       pub note_uses : (node : N) → set.keys ≡ insert_key eq old.keys node → (a b : N) → Uses eq after a b ↔ (Uses eq before a b ⊎ ((a ≡ node) × (b ≡ reference)))
       note_uses node is = written_uses (λ a b. Uses eq before a b ⊎ ((a ≡ node) × (b ≡ reference)))

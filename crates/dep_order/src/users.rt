@@ -81,50 +81,6 @@ pub fn first_found<N: Eq + Hash + Copy>(found: &IndexSet<N>, references: &[N]) -
     None
 }
 
-/// Makes a set with room for one more for each of these nodes. Where memory is refused, the table has no other set than before.
-pub fn make_room<N: Eq + Hash + Copy>(
-    alloc: Global,
-    users: &mut Users<N>,
-    references: &[N],
-) -> Result<(), AllocError>
-    requires exact { IsExact N.eq }
-    requires used { HasNoEmptyBut N.eq users.old.entries [] }
-    ensures room { OnOk result (HasRoomFor N.eq users.new.entries references.now) }
-    ensures same { (a b : N) → Uses N.eq users.new.entries a b ↔ Uses N.eq users.old.entries a b }
-    ensures used { HasNoEmptyBut N.eq users.new.entries references.now }
-    ensures err { OnErr result (HasNoEmptyBut N.eq users.new.entries []) }
-{
-    for reference in references {
-        if let Err(refused) = make_place(alloc, users, *reference) {
-            drop_unused(users, references);
-            return Err(refused);
-        }
-    }
-    Ok(())
-}
-
-// Makes a set with room for one more.
-fn make_place<N: Eq + Hash + Copy>(
-    alloc: Global,
-    users: &mut Users<N>,
-    reference: N,
-) -> Result<(), AllocError>
-    requires { IsExact N.eq }
-    ensures room { OnOk result (HasRoomFor N.eq users.new.entries (reference ∷ [])) }
-    ensures kept { (references : List N) → HasRoomFor N.eq users.old.entries references → HasRoomFor N.eq users.new.entries references }
-    ensures same { (a b : N) → Uses N.eq users.new.entries a b ↔ Uses N.eq users.old.entries a b }
-    ensures used { (references : List N) → Contains references reference → HasNoEmptyBut N.eq users.old.entries references → HasNoEmptyBut N.eq users.new.entries references }
-{
-    match users.get_mut(&reference) {
-        Some(those) => those.reserve(1),
-        None => {
-            let those = IndexSet::with_capacity(alloc, 1)?;
-            users.insert(reference, those)?;
-            Ok(())
-        }
-    }
-}
-
 /// The node refers to these, and no longer to those before. What nobody refers to any more is taken out of the table.
 pub fn refer<N: Eq + Hash + Copy>(users: &mut Users<N>, node: N, before: &[N], references: &[N])
     requires exact { IsExact N.eq }

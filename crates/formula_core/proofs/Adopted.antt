@@ -1,8 +1,15 @@
 -- A list takes its changes one after another, from the last to the first.
-use Rattle.std.proofs.Common.{◌≡◌, ◌≢◌, ℕ, suc, ◌<◌, ◌≤◌, List, [], ◌∷◌, ◌++◌, length, set, get_or, refl, sym, ap, ◌∙◌, subst, arith}
-use Rattle.std.proofs.lemmas.List.{length-append, length-set, get_or-set_other, get_or_append_left, get_or_default}
+use Rattle.std.proofs.Common.{◌≡◌, ◌≢◌, ℕ, ◌<◌, ◌≤◌, List, [], ◌∷◌, ◌++◌, None, Err, length, set, get_or, refl, sym, ap, ◌∙◌, subst, arith}
+use Rattle.std.proofs.lemmas.List.{length-append, length-set, get_or-set_other, get_or_append_left, get_or_default, get_or-map}
 use Rattle.std.proofs.Math.Seq.{get_or-append_seam}
+use Rattle.arrays_core.specs.declared.item.Kind.TheVariants.{Value}
+use Rattle.formula_core.specs.declared.kept.Kept.{Kept}
+use Rattle.formula_core.specs.declared.kept.NodeChange.{NodeChange}
+use Rattle.formula_core.specs.declared.table.Node.{Node}
+use Rattle.formula_core.specs.declared.table.Node.TheVariants as node
 use Rattle.formula_core.specs.Changes.{each_with}
+use Rattle.formula_core.specs.Holdings.{Holding, holding, holdings_of, nodes_of, not_worked_out, no_change, taking, taken, adopted, IsFit, AllFit}
+use Rattle.formula_core.specs.Outcomes.{fault}
 
 -- changes of elements, what they make of these, that they fit, and what is said where there is none
 module _ (C A : Type 0) (f : C → A → A) (Fits : C → A → Type 0) (no_change : C) (none : A) where
@@ -50,8 +57,25 @@ module _ (C A : Type 0) (f : C → A → A) (Fits : C → A → Type 0) (no_chan
       let value : new ≡ f d (get_or xs (length changes) none) = made ∙ ap (f d) (is ∙ (get_or_default xs n held none below ∙ ap (λ k. get_or xs k none) at)) in
       subst (λ (rs : List A). IsLeft changes rs whole) (sym (ap (λ k. set xs k new) at ∙ ap (λ o. set xs (length changes) o) value)) (one_left changes d xs whole before)
 
-  -- as many as before
-  pub each_long : (changes : List C) (xs : List A) → length changes ≤ length xs → length (each_with f changes xs) ≡ length xs
-  each_long [] xs h = refl
-  each_long (d ∷ changes) [] h = absurd (omega (arith, h))
-  each_long (d ∷ changes) (o ∷ xs) h = ap suc (each_long changes xs (omega (arith, h)))
+-- a node of no formula
+abbrev pub no_node : Kept
+no_node = record { node = node.Name 0; result = Err (fault Value); sums = None }
+
+-- nodes that took their changes apply what they did, and hold what they held with its changes
+pub nodes_taken : (changes : List NodeChange) (nodes : List Kept) → length changes ≤ length nodes → nodes_of (each_with taken changes nodes) ≡ nodes_of nodes
+nodes_taken [] nodes h = refl
+nodes_taken (d ∷ changes) [] h = absurd (omega (arith, h))
+nodes_taken (d ∷ changes) (k ∷ nodes) h = ap (λ (ns : List Node). k.node ∷ ns) (nodes_taken changes nodes (omega (arith, h)))
+
+pub held_taken : (changes : List NodeChange) (nodes : List Kept) → holdings_of (each_with taken changes nodes) ≡ adopted changes (holdings_of nodes)
+held_taken [] nodes = refl
+held_taken (d ∷ changes) [] = refl
+held_taken (d ∷ changes) (k ∷ nodes) = ap (λ (hs : List Holding). taking d (holding k) ∷ hs) (held_taken changes nodes)
+
+pub all_left : (changes : List NodeChange) (nodes : List Kept) → length changes ≡ length nodes → AllFit changes (holdings_of nodes)
+    → IsLeft NodeChange Kept taken (λ d k. IsFit d (holding k)) no_change no_node changes nodes (each_with taken changes nodes)
+all_left changes nodes each fit = record {
+  few = omega (arith, each);
+  fit = λ k below. subst (λ (h : Holding). IsFit (get_or changes k no_change) h) (get_or-map holding nodes k no_node not_worked_out (omega (arith, below, each))) (fit k below);
+  same = refl;
+}

@@ -1,9 +1,8 @@
 -- The positions of an index, one after another.
-use Rattle.std.proofs.Common.{◌≡◌, ℕ, zero, suc, ◌+◌, ◌<◌, Bool, true, false, List, [], ◌∷◌, ◌++◌, length, map, take, drop, get_or, Option, Some, None, is_some, Err, refl, ap, sym, arith}
+use Rattle.std.proofs.Common.{◌≡◌, ℕ, zero, suc, ◌+◌, ◌<◌, List, [], ◌∷◌, ◌++◌, length, map, drop, get_or, Option, Some, None, is_some, Err, refl, ap, sym, arith}
 use Rattle.std.proofs.lemmas.List.{drop_more}
 use Rattle.apl_expr.specs.declared.expr.Expr.{Expr}
 use Rattle.apl_expr.specs.Trees.{tree_of, position_of, positions_of}
-use Rattle.arrays_core.specs.Arrays.{ArrayValue}
 use Rattle.arrays_core.specs.declared.fault.Fault.{Fault}
 use Rattle.selection_fns.specs.Index.{Position, count_written, written_positions}
 use Rattle.formula_core.specs.declared.evaluation.Operand.{Operand}

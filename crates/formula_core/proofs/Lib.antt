@@ -12,3 +12,4 @@ pub mod Summed
 pub mod Adopted
 pub mod Placed
 pub mod Planned
+mod Progressed

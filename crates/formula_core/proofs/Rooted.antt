@@ -1,17 +1,17 @@
 -- A formula is its table.
-use Rattle.std.proofs.Common.{◌≡◌, ℕ, ◌+◌, ◌-◌, ◌<◌, true, false, Option, List, [], ◌∷◌, ◌++◌, length, take, get_or, refl, sym, ap, ◌∙◌, subst, arith, append_assoc, cond}
+use Rattle.std.proofs.Common.{◌≡◌, ℕ, ◌+◌, ◌-◌, ◌<◌, true, false, List, [], ◌∷◌, ◌++◌, length, take, get_or, refl, sym, ap, ◌∙◌, subst, arith, append_assoc, cond}
 use Rattle.std.specs.List.{count_by}
 use Rattle.std.proofs.lemmas.List.{length-append}
 use Rattle.std.proofs.lemmas.List.Sums.{sum_by-append, count_by_more_yes, count_by_more_no}
-use Rattle.arrays_core.specs.Arrays.{ArrayValue}
 use Rattle.apl_expr.specs.Trees.{Tree, Const, Name, Monad, Dyad, Index, Numbers}
 use Rattle.formula_core.specs.declared.table.Operand.TheVariants as operand
 use Rattle.formula_core.specs.declared.table.Node.{Node}
 use Rattle.formula_core.specs.declared.table.Node.TheVariants as node
 use Rattle.formula_core.specs.Meaning.{names_in}
 use Rattle.formula_core.specs.Tables.{inside, inside_positions, subtrees, tree_at, tree_of_node, trees_after, applies, IsTable, IsLowered}
-use Rattle.formula_core.specs.Outcomes.{Outcome}
-use Rattle.formula_core.specs.Formulas.{root_of, IsFormula, IsTableOf, is_operation, operations}
+use Rattle.formula_core.specs.declared.kept.Kept.{Kept}
+use Rattle.formula_core.specs.Holdings.{nodes_of}
+use Rattle.formula_core.specs.Formulas.{root_of, IsTableOf, is_operation, operations}
 use Rattle.formula_core.proofs.Tabled.{trees_long, trees_more, table_more, at_last}
 
 -- a tree stands last among its subtrees
@@ -41,9 +41,9 @@ append_none (x ∷ xs) = ap (λ rest. x ∷ rest) (append_none xs)
 table_made : (names : List (List ℕ)) (nodes : List Node) (t : Tree) → names ≡ names_in t → trees_after names [] nodes ≡ subtrees t → IsTable (length names) 0 nodes → IsTableOf names nodes t
 table_made names nodes t named is table = record { root = root_found names nodes t is; named = named; trees = is; table = table }
 
--- a formula of the tree, with a result for each node, and sums or none
-pub formula_made : (names : List (List ℕ)) (nodes : List Node) (t : Tree) (results : List Outcome) (sums : List (Option ArrayValue)) → IsTableOf names nodes t → length results ≡ length nodes → length sums ≡ length nodes → IsFormula names nodes results sums
-formula_made names nodes t results sums table each every = record { table = subst (λ (u : Tree). IsTableOf names nodes u) (sym table.root) table; each = each; every = every }
+-- the table of a tree is that of the last node's
+pub rooted : (names : List (List ℕ)) (nodes : List Node) (t : Tree) → IsTableOf names nodes t → IsTableOf names nodes (root_of names nodes)
+rooted names nodes t table = subst (λ (u : Tree). IsTableOf names nodes u) (sym table.root) table
 
 -- the trees where no further names follow
 plain : (names : List (List ℕ)) (nodes : List Node) (ts : List Tree) → trees_after (names ++ []) [] nodes ≡ ts → trees_after names [] nodes ≡ ts
@@ -89,12 +89,16 @@ applying names trees (n ∷ nodes) =
       ap (λ b. 0 + cond b 1 0) (node_applies names trees n),
     )
 
-pub operations_counted : (names : List (List ℕ)) (nodes : List Node) (results : List Outcome) (sums : List (Option ArrayValue)) → IsFormula names nodes results sums → count_by applies nodes ≡ operations (root_of names nodes)
-operations_counted names nodes results sums f = omega (arith, applying names [] nodes, ap (count_by is_operation) f.table.trees)
+of_nodes : (nodes : List Kept) → count_by (λ k. applies k.node) nodes ≡ count_by applies (nodes_of nodes)
+of_nodes [] = refl
+of_nodes (k ∷ nodes) = omega (arith, of_nodes nodes, sum_by-append (λ (x : Kept). cond (applies x.node) 1 0) (k ∷ []) nodes, sum_by-append (λ m. cond (applies m) 1 0) (k.node ∷ []) (nodes_of nodes))
+
+pub operations_counted : (names : List (List ℕ)) (nodes : List Kept) (t : Tree) → IsTableOf names (nodes_of nodes) t → count_by (λ k. applies k.node) nodes ≡ operations t
+operations_counted names nodes t table = omega (arith, of_nodes nodes, applying names [] (nodes_of nodes), ap (count_by is_operation) table.trees)
 
 -- one node more is counted, or not
-pub counted_yes : (nodes : List Node) (k c : ℕ) (n : Node) → c ≡ count_by applies (take k nodes) → k < length nodes → n ≡ get_or nodes k n → applies n ≡ true → c + 1 ≡ count_by applies (take (k + 1) nodes)
-counted_yes nodes k c n is below at true_then = ap (λ m. m + 1) is ∙ sym (count_by_more_yes applies nodes k n below (ap applies (sym at) ∙ true_then))
+pub counted_yes : (nodes : List Kept) (k c : ℕ) (n : Kept) → c ≡ count_by (λ k. applies k.node) (take k nodes) → k < length nodes → n ≡ get_or nodes k n → applies n.node ≡ true → c + 1 ≡ count_by (λ k. applies k.node) (take (k + 1) nodes)
+counted_yes nodes k c n is below at true_then = ap (λ m. m + 1) is ∙ sym (count_by_more_yes (λ (x : Kept). applies x.node) nodes k n below (ap (λ (x : Kept). applies x.node) (sym at) ∙ true_then))
 
-pub counted_no : (nodes : List Node) (k c : ℕ) (n : Node) → c ≡ count_by applies (take k nodes) → k < length nodes → n ≡ get_or nodes k n → applies n ≡ false → c ≡ count_by applies (take (k + 1) nodes)
-counted_no nodes k c n is below at false_then = is ∙ sym (count_by_more_no applies nodes k n below (ap applies (sym at) ∙ false_then))
+pub counted_no : (nodes : List Kept) (k c : ℕ) (n : Kept) → c ≡ count_by (λ k. applies k.node) (take k nodes) → k < length nodes → n ≡ get_or nodes k n → applies n.node ≡ false → c ≡ count_by (λ k. applies k.node) (take (k + 1) nodes)
+counted_no nodes k c n is below at false_then = is ∙ sym (count_by_more_no (λ (x : Kept). applies x.node) nodes k n below (ap (λ (x : Kept). applies x.node) (sym at) ∙ false_then))

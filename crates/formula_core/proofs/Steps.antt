@@ -23,6 +23,7 @@ use Rattle.formula_core.specs.Outcomes.{Outcome, fault}
 use Rattle.formula_core.specs.Tables.{tree_at, tree_of_operand, tree_of_node, IsOperand, AreOperands, IsNode}
 use Rattle.formula_core.specs.Changes.{Change, change, changes, values_of, FitsIn, IsChanged, IsNameChanged, IsTreeChanged}
 use Rattle.formula_core.specs.Inputs.{shown, HasFit, IsNoPatch, IsInput}
+use Rattle.formula_core.specs.Holdings.{Holding, holding_at, holdings_of, not_worked_out, no_change}
 use Rattle.formula_core.specs.Plans.{node_change, AreInputs}
 use Rattle.formula_core.specs.Stages.{IsStaged, IsTaken, AreReady, IsStep}
 use Rattle.formula_core.specs.Formulas.{is_operation}
@@ -79,15 +80,17 @@ module _ (c : Change) (names : List (List ℕ)) (trees : List Tree) (s : Stage) 
   operand_changed old (operand.Node k) within =
       let done = staged.done k within in
       let t = tree_at trees k in
-      let is : get_or s.changes.now k Same ≡ change c t = done.is ∙ ap (λ (n : Bool). node_change n c t) old in
+      let d = (get_or s.changes.now k no_change).delta in
+      let was = (get_or (holdings_of s.nodes.now) k not_worked_out).result in
+      let is : d ≡ change c t = done.is ∙ ap (λ (n : Bool). node_change n c t) old in
       let below : k < length trees = omega (arith, within, staged.few, staged.known) in
-      let held : get_or s.results.now k (Err (fault Value)) ≡ eval t c.old =
-      ap (λ rs. get_or rs k (Err (fault Value))) (staged.held old) ∙ get_or-map (λ u. eval u c.old) trees k (Const (Numbers [])) (Err (fault Value)) below in
-      let right : applied (change c t) (eval t c.old) ≡ eval t c.new = ap (λ d. applied d (eval t c.old)) (sym is) ∙ (ap (applied (get_or s.changes.now k Same)) (sym held) ∙ done.right) in
+      let held : was ≡ eval t c.old =
+      ap (λ (h : Holding). h.result) (ap (λ hs. get_or hs k not_worked_out) (staged.held old) ∙ get_or-map (holding_at c.old) trees k (Const (Numbers [])) not_worked_out below) in
+      let right : applied (change c t) (eval t c.old) ≡ eval t c.new = ap (λ e. applied e (eval t c.old)) (sym is) ∙ (ap (applied d) (sym held) ∙ ap (λ (h : Holding). h.result) done.right) in
       record {
         right = right;
         fit = subst (λ (o : Outcome). FitsIn (change c t) o) right (fit_now (change c t) (eval t c.old)
-            (subst (λ (o : Outcome). FitsIn (change c t) o) held (subst (λ (d : Delta). FitsIn d (get_or s.results.now k (Err (fault Value)))) is done.fit)));
+            (subst (λ (o : Outcome). FitsIn (change c t) o) held (subst (λ (e : Delta). FitsIn e was) is done.fit.delta)));
         sound_old = subst (λ (o : Outcome). IfOk o IsArray) held done.sound_held;
         sound_new = done.sound_new;
       }
@@ -110,12 +113,14 @@ module _ (c : Change) (names : List (List ℕ)) (trees : List Tree) (s : Stage) 
       index_changed c (tree_of_operand names trees a) (positions_of (map (option_map (tree_of_operand names trees)) os.items)) (operand_changed old a within.0) (operands_changed old os.items within.1)
 
   -- an operand as it stands is an input of its tree
-  pub taken_input : s.is_new ≡ false → (o : Operand) → IsOperand (length s.inputs.now) (length s.changes.now) o → (i : Input) → IsTaken s.inputs.now s.results.now s.changes.now o i → IsInput (eval (tree_of_operand names trees o) c.new) (change c (tree_of_operand names trees o)) i
+  pub taken_input : s.is_new ≡ false → (o : Operand) → IsOperand (length s.inputs.now) (length s.changes.now) o → (i : Input) → IsTaken s.inputs.now (holdings_of s.nodes.now) s.changes.now o i → IsInput (eval (tree_of_operand names trees o) c.new) (change c (tree_of_operand names trees o)) i
   taken_input old (operand.Name k) within i taken = subst (λ (j : Input). IsInput (c.new (get_or names k [])) (c.delta (get_or names k [])) j) (sym taken) (input_at c names s.inputs.now staged.tell k (Bad (fault Value) false) within)
   taken_input old (operand.Node k) within i taken =
       let done = staged.done k within in
-      let is : get_or s.changes.now k Same ≡ change c (tree_at trees k) = done.is ∙ ap (λ (n : Bool). node_change n c (tree_at trees k)) old in
-      subst (λ (o : Outcome). IsInput o (change c (tree_at trees k)) i) done.right (subst (λ (d : Delta). IsInput (applied (get_or s.changes.now k Same) (get_or s.results.now k (Err (fault Value)))) d i) is taken)
+      let d = (get_or s.changes.now k no_change).delta in
+      let is : d ≡ change c (tree_at trees k) = done.is ∙ ap (λ (n : Bool). node_change n c (tree_at trees k)) old in
+      subst (λ (o : Outcome). IsInput o (change c (tree_at trees k)) i) (ap (λ (h : Holding). h.result) done.right)
+      (subst (λ (e : Delta). IsInput (applied d (get_or (holdings_of s.nodes.now) k not_worked_out).result) e i) is taken)
 
   -- a name that is the whole tree: its input, and its change
   pub name_input : (k : ℕ) → k < length s.inputs.now → (i : Input) → i ≡ get_or s.inputs.now k (Bad (fault Value) false) → IsInput (c.new (get_or names k [])) (c.delta (get_or names k [])) i
@@ -125,11 +130,11 @@ module _ (c : Change) (names : List (List ℕ)) (trees : List Tree) (s : Stage) 
   name_told k within = staged.changed (get_or names k []) (known_name k within)
 
   -- and shows what that gives
-  pub taken_shown : (o : Operand) → IsOperand (length s.inputs.now) (length s.changes.now) o → (i : Input) → IsTaken s.inputs.now s.results.now s.changes.now o i → shown i ≡ eval (tree_of_operand names trees o) c.new
+  pub taken_shown : (o : Operand) → IsOperand (length s.inputs.now) (length s.changes.now) o → (i : Input) → IsTaken s.inputs.now (holdings_of s.nodes.now) s.changes.now o i → shown i ≡ eval (tree_of_operand names trees o) c.new
   taken_shown (operand.Name k) within i taken = ap shown taken ∙ (input_at c names s.inputs.now staged.tell k (Bad (fault Value) false) within).is
-  taken_shown (operand.Node k) within i taken = taken.is ∙ (staged.done k within).right
+  taken_shown (operand.Node k) within i taken = taken.is ∙ ap (λ (h : Holding). h.result) (staged.done k within).right
 
-  pub taken_fits : s.is_new ≡ false → (o : Operand) → IsOperand (length s.inputs.now) (length s.changes.now) o → (i : Input) → IsTaken s.inputs.now s.results.now s.changes.now o i → HasFit i
+  pub taken_fits : s.is_new ≡ false → (o : Operand) → IsOperand (length s.inputs.now) (length s.changes.now) o → (i : Input) → IsTaken s.inputs.now (holdings_of s.nodes.now) s.changes.now o i → HasFit i
   taken_fits old o within i taken =
       input_fits (eval (tree_of_operand names trees o) c.new) (change c (tree_of_operand names trees o)) i (taken_input old o within i taken) (operand_changed old o within).fit
 

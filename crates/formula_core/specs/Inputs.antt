@@ -1,5 +1,5 @@
 -- What a contract sees of what a name or a node gives, with what changed of it.
-use Rattle.std.specs.Prelude.{◌≡◌, ◌+◌, ◌≤◌, ℕ, List, [], ◌∷◌, Bool, true, false, not, Option, Some, None, Result, Ok, Err, IfOk, map, length, get_or, ◌<◌}
+use Rattle.std.specs.Prelude.{◌≡◌, ◌+◌, ◌≤◌, ℕ, List, [], ◌∷◌, Bool, true, false, not, Option, Some, None, Result, Ok, Err, IfOk, map}
 use Rattle.std.specs.Result.{result_err}
 use Rattle.arrays_core.specs.declared.fault.Fault.{Fault}
 use Rattle.std.specs.declared.alloc.AllocError.{AllocError}
@@ -9,8 +9,7 @@ use Rattle.change_core.specs.RuleModels.{RuleModel}
 use Rattle.change_rules.specs.Nodes.{Argument, is_same}
 use Rattle.formula_core.specs.declared.input.Input.{Input}
 use Rattle.formula_core.specs.declared.input.Input.TheVariants.{Good, Bad}
-use Rattle.arrays_core.specs.declared.item.Kind.TheVariants.{Value}
-use Rattle.formula_core.specs.Outcomes.{Outcome, fault}
+use Rattle.formula_core.specs.Outcomes.{Outcome}
 use Rattle.formula_core.specs.Changes.{FitsIn, arguments, operation_delta, operation_cost}
 
 -- the array or the error
@@ -77,7 +76,3 @@ arrays_among (Bad fault changed ∷ inputs) = arrays_among inputs
 -- the error of the last operand that has one
 abbrev pub last_error : List Input → Option Fault
 last_error inputs = result_err (arguments (map shown inputs))
-
--- the changes lie in what the nodes held
-abbrev pub AllFitIn : List Delta → List Outcome → Type 0
-AllFitIn changes results = (k : ℕ) → k < length changes → FitsIn (get_or changes k Same) (get_or results k (Err (fault Value)))

@@ -7,7 +7,9 @@ pub mod Rules
 pub mod Changes
 pub mod Inputs
 pub mod Sums
+pub mod Holdings
 pub mod Plans
 -- What proofs and bodies use.
 pub mod Operands
 pub mod Stages
+pub mod Progress

@@ -1,42 +1,33 @@
 -- What a formula's next results are, planned while its old ones stand.
-use Rattle.std.specs.Prelude.{◌≡◌, ◌-◌, ◌≤◌, ℕ, List, [], ◌∷◌, Bool, false, IfOk, length, get_or, map, if◌then◌else◌}
+use Rattle.std.specs.Prelude.{◌≡◌, ◌-◌, ℕ, List, [], ◌∷◌, Bool, false, IfOk, length, get_or, map, if◌then◌else◌}
 use Rattle.std.specs.List.{Contains, sum_by}
 use Rattle.apl_expr.specs.Trees.{Tree}
 use Rattle.arrays_core.specs.Arrays.{IsArray}
 use Rattle.index_region.specs.declared.delta.Delta.{Delta}
-use Rattle.index_region.specs.declared.delta.Delta.TheVariants.{Same, Whole}
+use Rattle.index_region.specs.declared.delta.Delta.TheVariants.{Whole}
 use Rattle.change_core.specs.Meters.{ticked}
-use Rattle.change_rules.specs.Currency.{applied}
 use Rattle.formula_core.specs.declared.input.Input.{Input}
-use Rattle.formula_core.specs.Outcomes.{Outcome}
 use Rattle.formula_core.specs.Meaning.{eval, names_in}
 use Rattle.formula_core.specs.Tables.{subtrees}
 use Rattle.formula_core.specs.Formulas.{FormulaValue}
-use Rattle.formula_core.specs.Changes.{Change, change, cost_at, size_at, each_with, IsNameChanged}
-use Rattle.formula_core.specs.Inputs.{IsInput, AllFitIn}
-use Rattle.formula_core.specs.Sums.{summed_at, resummed_all, AllSumsFit}
-use Rattle.formula_core.specs.declared.sums.SumsDelta.{SumsDelta}
+use Rattle.formula_core.specs.Changes.{Change, change, cost_at, size_at, IsNameChanged}
+use Rattle.formula_core.specs.Inputs.{IsInput}
+use Rattle.formula_core.specs.Holdings.{holding_at, no_change, adopted, AllFit}
+use Rattle.formula_core.specs.declared.kept.NodeChange.{NodeChange}
 
--- the change of each node, of the sums that nodes keep (those behind the last of these stay), and what all of them cost
+-- the changes of nodes, from the first on, and what they cost; of all nodes once the plan is whole
 pub record PlanValue : Type 0 where
-  pub changes : List Delta
-  pub sums : List SumsDelta
+  pub changes : List NodeChange
   pub cost : ℕ
 
 -- the change of the whole tree: that of the last node
-abbrev pub root_change : List Delta → Delta
-root_change changes = get_or changes (length changes - 1) Same
+abbrev pub root_change : List NodeChange → Delta
+root_change changes = (get_or changes (length changes - 1) no_change).delta
 
--- results with their changes
-abbrev pub adopted : List Delta → List Outcome → List Outcome
-adopted changes results = each_with applied changes results
-
--- it has a change for each result, which lies in it, and so it is with sums
+-- it has a change for each node, which lies in what that holds
 pub record IsPlanOf (f : FormulaValue) (p : PlanValue) : Type 0 where
-  pub each : length p.changes ≡ length f.results
-  pub fit : AllFitIn p.changes f.results
-  pub few : length p.sums ≤ length f.sums
-  pub sums_fit : AllSumsFit p.sums f.sums
+  pub each : length p.changes ≡ length f.nodes
+  pub fit : AllFit p.changes f.nodes
 
 -- the change of a node: where the formula was not worked out yet every node is whole
 abbrev pub node_change : (is_new : Bool) → Change → Tree → Delta
@@ -63,16 +54,13 @@ pub record IsNameSound (c : Change) (x : List ℕ) : Type 0 where
 
 -- the names of the formula changed so, as the inputs tell, and it holds what it gave before, unless it was not worked out yet
 pub record IsTold (f : FormulaValue) (c : Change) (inputs : List Input) : Type 0 where
-  pub holds : f.is_new ≡ false → f.results ≡ map (λ t. eval t c.old) (subtrees f.tree)
-  pub keeps : f.is_new ≡ false → f.sums ≡ map (summed_at c.old) (subtrees f.tree)
+  pub holds : f.is_new ≡ false → f.nodes ≡ map (holding_at c.old) (subtrees f.tree)
   pub tell : AreInputs c (names_in f.tree) inputs
   pub changed : (x : List ℕ) → Contains (names_in f.tree) x → IsNameChanged c x
   pub sound : (x : List ℕ) → Contains (names_in f.tree) x → IsNameSound c x
 
--- it changes each node as the names changed, makes of each result what its tree gives now, of the sums those of the arguments as they are
--- now, and costs what its nodes cost
+-- it changes each result as the names changed, makes of what each node holds what its tree gives now, and costs what its nodes cost
 pub record IsPlanned (f : FormulaValue) (c : Change) (p : PlanValue) : Type 0 where
-  pub changes : p.changes ≡ map (node_change f.is_new c) (subtrees f.tree)
-  pub right : adopted p.changes f.results ≡ map (λ t. eval t c.new) (subtrees f.tree)
-  pub summed : resummed_all p.sums f.sums ≡ map (summed_at c.new) (subtrees f.tree)
+  pub changes : map (λ d. d.delta) p.changes ≡ map (node_change f.is_new c) (subtrees f.tree)
+  pub right : adopted p.changes f.nodes ≡ map (holding_at c.new) (subtrees f.tree)
   pub cost : p.cost ≡ ticked 0 (tree_cost f.is_new c f.tree)

@@ -1,12 +1,11 @@
 -- What the next change of a formula is worked out from, and the change of its node.
-use Rattle.std.specs.Prelude.{◌≡◌, ◌+◌, ◌≤◌, ◌<◌, ℕ, List, [], ◌∷◌, Bool, true, false, Option, Some, None, Result, Err, IfOk, length, map, take, get_or}
+use Rattle.std.specs.Prelude.{◌≡◌, ◌+◌, ◌≤◌, ◌<◌, ℕ, List, [], ◌∷◌, Bool, true, false, Option, Some, None, Result, IfOk, length, map, take, get_or}
 use Rattle.std.specs.declared.alloc.AllocError.{AllocError}
 use Rattle.std.specs.List.{Contains, sum_by}
 use Rattle.apl_expr.specs.Trees.{Tree}
 use Rattle.arrays_core.specs.Arrays.{ArrayValue, IsArray}
 use Rattle.arrays_core.specs.declared.item.Kind.TheVariants.{Value}
 use Rattle.index_region.specs.declared.delta.Delta.{Delta}
-use Rattle.index_region.specs.declared.delta.Delta.TheVariants.{Same}
 use Rattle.change_core.specs.Meters.{ticked}
 use Rattle.change_rules.specs.Currency.{applied}
 use Rattle.change_rules.specs.Nodes.{is_whole}
@@ -16,33 +15,37 @@ use Rattle.formula_core.specs.declared.stage.Stage.{Stage}
 use Rattle.formula_core.specs.declared.table.Operand.{Operand}
 use Rattle.formula_core.specs.declared.table.Operand.TheVariants as operand
 use Rattle.formula_core.specs.Meaning.{eval}
-use Rattle.formula_core.specs.Outcomes.{Outcome, fault}
-use Rattle.formula_core.specs.Tables.{tree_at, tree_of_node, subtrees}
+use Rattle.formula_core.specs.Outcomes.{fault}
+use Rattle.formula_core.specs.Tables.{tree_at, tree_of_node, trees_after, subtrees, IsTable}
+use Rattle.formula_core.specs.Holdings.{Holding, holding_at, holdings_of, nodes_of, not_worked_out, no_change, taking, IsFit}
 use Rattle.formula_core.specs.Formulas.{FormulaValue}
-use Rattle.formula_core.specs.Changes.{Change, change, FitsIn, IsNameChanged}
+use Rattle.formula_core.specs.Changes.{Change, change, IsNameChanged}
 use Rattle.formula_core.specs.Inputs.{shown, delta_of, IsInput}
 use Rattle.formula_core.specs.Plans.{node_change, node_cost_at, AreInputs, IsNameSound}
 use Rattle.formula_core.specs.Sums.{summed_at, resummed, FitsSums}
 use Rattle.formula_core.specs.declared.sums.SumsDelta.{SumsDelta}
 use Rattle.formula_core.specs.declared.table.Node.{Node}
+use Rattle.formula_core.specs.declared.kept.NodeChange.{NodeChange}
 
--- what the node of a tree held, with its change, is what the tree gives now; both are arrays or errors
-pub record IsDone (is_new : Bool) (c : Change) (t : Tree) (held : Outcome) (d : Delta) : Type 0 where
-  pub is : d ≡ node_change is_new c t
-  pub right : applied d held ≡ eval t c.new
-  pub fit : FitsIn d held
-  pub sound_held : IfOk held IsArray
+-- what the node of a tree held, with its change, is what the tree gives now; the results are arrays or errors
+pub record IsDone (is_new : Bool) (c : Change) (t : Tree) (held : Holding) (d : NodeChange) : Type 0 where
+  pub is : d.delta ≡ node_change is_new c t
+  pub right : taking d held ≡ holding_at c.new t
+  pub fit : IsFit d held
+  pub sound_held : IfOk held.result IsArray
   pub sound_new : IfOk (eval t c.new) IsArray
 
--- the names changed so, the nodes of these trees held what they gave, and each that has a change is done
+-- the names changed so, the nodes are those of these trees and held what they gave, and each that has a change is done
 pub record IsStaged (c : Change) (names : List (List ℕ)) (trees : List Tree) (s : Stage) : Type 0 where
   pub tell : AreInputs c names s.inputs.now
   pub changed : (x : List ℕ) → Contains names x → IsNameChanged c x
   pub sound : (x : List ℕ) → Contains names x → IsNameSound c x
-  pub held : s.is_new ≡ false → s.results.now ≡ map (λ t. eval t c.old) trees
-  pub few : length s.changes.now ≤ length s.results.now
-  pub known : length s.results.now ≡ length trees
-  pub done : (k : ℕ) → k < length s.changes.now → IsDone s.is_new c (tree_at trees k) (get_or s.results.now k (Err (fault Value))) (get_or s.changes.now k Same)
+  pub table : IsTable (length names) 0 (nodes_of s.nodes.now)
+  pub trees_are : trees_after names [] (nodes_of s.nodes.now) ≡ trees
+  pub held : s.is_new ≡ false → holdings_of s.nodes.now ≡ map (holding_at c.old) trees
+  pub few : length s.changes.now ≤ length s.nodes.now
+  pub known : length s.nodes.now ≡ length trees
+  pub done : (k : ℕ) → k < length s.changes.now → IsDone s.is_new c (tree_at trees k) (get_or (holdings_of s.nodes.now) k not_worked_out) (get_or s.changes.now k no_change)
 
 -- so it is for some change
 abbrev pub StagedBy : Stage → Type 0
@@ -58,9 +61,9 @@ pub record IsSumsStep (c : Change) (t : Tree) (kept : Option ArrayValue) (s : Su
   pub fit : FitsSums s kept
 
 -- an operand as it stands: the input of a name, or what a node held with its change
-abbrev pub IsTaken : List Input → List Outcome → List Delta → Operand → Input → Type 0
-IsTaken inputs results changes (operand.Name k) i = i ≡ get_or inputs k (Bad (fault Value) false)
-IsTaken inputs results changes (operand.Node k) i = IsInput (applied (get_or changes k Same) (get_or results k (Err (fault Value)))) (get_or changes k Same) i
+abbrev pub IsTaken : List Input → List Holding → List NodeChange → Operand → Input → Type 0
+IsTaken inputs held changes (operand.Name k) i = i ≡ get_or inputs k (Bad (fault Value) false)
+IsTaken inputs held changes (operand.Node k) i = IsInput (applied (get_or changes k no_change).delta (get_or held k not_worked_out).result) (get_or changes k no_change).delta i
 
 -- an operand gives what its tree does; in a new formula it counts as new
 pub record IsReady (is_new : Bool) (c : Change) (t : Tree) (i : Input) : Type 0 where
@@ -81,8 +84,9 @@ pub record IsStep (is_new : Bool) (c : Change) (t : Tree) (before after : ℕ) (
   pub cost : IfOk r (λ s. s.1 ≡ node_cost_at is_new c t)
   pub ticks : after ≤ before + node_cost_at is_new c t
 
--- the nodes that have a change are done, and this is what they cost
-pub record IsBegun (f : FormulaValue) (c : Change) (changes : List Delta) (cost : ℕ) : Type 0 where
-  pub few : length changes ≤ length f.results
-  pub done : (k : ℕ) → k < length changes → IsDone f.is_new c (tree_at (subtrees f.tree) k) (get_or f.results k (Err (fault Value))) (get_or changes k Same)
+-- the nodes are those of the formula's tree, those that have a change are done, and this is what they cost
+pub record IsBegun (f : FormulaValue) (c : Change) (changes : List NodeChange) (cost : ℕ) : Type 0 where
+  pub known : length f.nodes ≡ length (subtrees f.tree)
+  pub few : length changes ≤ length f.nodes
+  pub done : (k : ℕ) → k < length changes → IsDone f.is_new c (tree_at (subtrees f.tree) k) (get_or f.nodes k not_worked_out) (get_or changes k no_change)
   pub costs : cost ≡ ticked 0 (sum_by (node_cost_at f.is_new c) (take (length changes) (subtrees f.tree)))

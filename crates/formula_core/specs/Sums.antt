@@ -1,5 +1,5 @@
 -- The sums of lines that the totals of a formula keep.
-use Rattle.std.specs.Prelude.{◌≡◌, ℕ, ◌<◌, List, Bool, true, false, Option, Some, None, Ok, Err, if◌then◌else◌, length, get_or}
+use Rattle.std.specs.Prelude.{◌≡◌, ℕ, List, Bool, true, false, Option, Some, None, Ok, Err, if◌then◌else◌}
 use Rattle.apl_expr.specs.Trees.{Tree, Const, Name, Monad, Dyad, Index}
 use Rattle.apl_expr.specs.declared.expr.ScalarDyad.TheVariants as scalar_dyad
 use Rattle.apl_expr.specs.declared.expr.Along.TheVariants as axis
@@ -14,7 +14,7 @@ use Rattle.change_rules.specs.Nodes.{is_whole}
 use Rattle.sum_rules.specs.LineSums.{summed}
 use Rattle.formula_core.specs.declared.sums.SumsDelta.{SumsDelta}
 use Rattle.formula_core.specs.declared.sums.SumsDelta.TheVariants.{Same, Patch, Whole}
-use Rattle.formula_core.specs.Changes.{FitsIn, each_with}
+use Rattle.formula_core.specs.Changes.{FitsIn}
 use Rattle.formula_core.specs.declared.table.Node.{Node}
 use Rattle.formula_core.specs.declared.table.Node.TheVariants as node
 use Rattle.formula_core.specs.declared.table.Operand.{Operand}
@@ -54,19 +54,11 @@ resummed (Patch p) (Some a) = Some (patched a p)
 resummed (Patch p) None = None
 resummed (Whole s) kept = s
 
--- those of all nodes, with their changes
-abbrev pub resummed_all : List SumsDelta → List (Option ArrayValue) → List (Option ArrayValue)
-resummed_all changes kept = each_with resummed changes kept
-
 -- a box that changes lies in the array whose lines are summed up
 abbrev pub FitsSums : SumsDelta → Option ArrayValue → Type 0
 FitsSums (Patch p) (Some a) = FitsPatch a p
 FitsSums (Patch p) None = ⊥
 FitsSums _ _ = Unit {0}
-
--- so does each
-abbrev pub AllSumsFit : List SumsDelta → List (Option ArrayValue) → Type 0
-AllSumsFit changes kept = (k : ℕ) → k < length changes → FitsSums (get_or changes k Same) (get_or kept k None)
 
 -- the argument is what this change makes of what it was, and sums that were kept are those of that
 pub record WasSummed (now : Outcome) (d : Delta) (kept : Option ArrayValue) (old : Outcome) : Type 0 where

@@ -1,33 +1,30 @@
 //! A formula: an expression as a table of nodes, with the result that each node was last given.
 
-ghost use Rattle.std.specs.Prelude.{◌≡◌, ◌+◌, ◌≤◌, ◌<◌, ℕ, [], length, map, replicate, true, false, None, is_some, Err, IfOk, OnOk};
-ghost use Rattle.std.specs.List.{count_by, list_any};
+ghost use Rattle.std.specs.Prelude.{◌≡◌, ◌+◌, ◌≤◌, ◌<◌, ℕ, false, [], length, get_or, take, map, IfOk, OnOk, OnErr};
+ghost use Rattle.std.specs.List.{count_by};
 ghost use Rattle.apl_expr.specs.Trees.{tree_of};
-ghost use Rattle.arrays_core.specs.declared.item.Kind.TheVariants.{Value};
-ghost use Rattle.change_rules.specs.Nodes.{is_whole};
-ghost use Rattle.formula_core.specs.Outcomes.{read, fault};
+ghost use Rattle.formula_core.specs.Outcomes.{read};
 ghost use Rattle.formula_core.specs.Meaning.{names_in};
 ghost use Rattle.formula_core.specs.Changes.{Change};
+ghost use Rattle.formula_core.specs.Holdings.{holdings_of, nodes_of, not_worked_out, adopted};
 ghost use Rattle.formula_core.specs.Formulas.{new_formula, root_result, operations, IsTableOf};
-ghost use Rattle.formula_core.specs.Plans.{adopted, tree_cost, node_cost_at, IsPlanOf, IsTold, IsPlanned};
-ghost use Rattle.formula_core.specs.Stages.{IsBegun};
-ghost use Rattle.formula_core.specs.Sums.{totalled, summed_at, resummed_all, AllSumsFit};
+ghost use Rattle.formula_core.specs.Plans.{tree_cost, node_cost_at, IsPlanOf, IsTold, IsPlanned};
+ghost use Rattle.formula_core.specs.Progress.{operations_among, IsAtOperation, IsPlannedTo};
+ghost use Rattle.formula_core.specs.Stages.{IsBegun, IsDone};
 ghost use Rattle.formula_core.specs.Tables.{applies, subtrees, tree_at};
 
-use crate::adoption::adopt_all;
 use crate::input::Input;
+use crate::kept::{Kept, NodeChange, adopt_all, unknown};
 use crate::plan::Plan;
 use crate::stage::Stage;
-use crate::sums::{SumsDelta, take_all_sums};
 use crate::table::{Node, Operand, lower};
 use apl_expr::Expr;
 use apl_tokens::Name;
-use arrays_core::{Array, Fault, Kind};
+use arrays_core::{Array, Fault};
 use change_core::{Count, Meter};
 use index_region::Delta;
 use std::alloc::{AllocError, Global};
 use std::marker::Model;
-use sum_rules::LineSums;
 
 /// An expression as a table of nodes, each after those whose results it takes, with the result that each node was last
 /// given, and for each total `+/` the sums of its argument's lines. A name inside the expression is no node: what it shows
@@ -36,14 +33,13 @@ use sum_rules::LineSums;
 pub struct Formula {
     alloc: Global,
     names: Vec<Name>,
-    nodes: Vec<Node>,
-    results: Vec<Result<Array, Fault>>,
-    sums: Vec<Option<LineSums>>,
+    nodes: Vec<Kept>,
     is_new: bool,
 }
 
 impl Model for Formula {
-    ghost use Rattle.formula_core.specs.Formulas.{FormulaValue, IsFormula, root_of};
+    ghost use Rattle.formula_core.specs.Formulas.{FormulaValue, IsTableOf, root_of};
+    ghost use Rattle.formula_core.specs.Holdings.{holdings_of, nodes_of};
 
     ghost Value = { FormulaValue };
 
@@ -52,9 +48,9 @@ impl Model for Formula {
 
     ghost coded = { Prim.hlevel (codes, coded_tree) };
 
-    ghost view = { λ f. record { tree = root_of f.names.items f.nodes.items; is_new = f.is_new; results = f.results.items; sums = f.sums.items } };
+    ghost view = { λ f. record { tree = root_of f.names.items (nodes_of f.nodes.items); is_new = f.is_new; nodes = holdings_of f.nodes.items } };
 
-    ghost invariant = { λ f. IsFormula f.names.items f.nodes.items f.results.items f.sums.items };
+    ghost invariant = { λ f. IsTableOf f.names.items (nodes_of f.nodes.items) (root_of f.names.items (nodes_of f.nodes.items)) };
 }
 
 impl Formula {
@@ -65,15 +61,11 @@ impl Formula {
         let mut names = Vec::new(alloc);
         let mut nodes = Vec::new(alloc);
         lower_whole(alloc, &mut names, &mut nodes, &tree)?;
-        let count = nodes.len();
-        let results = unknown_results(alloc, count)?;
-        let sums = no_sums(alloc, count)?;
+        let nodes = all_new(alloc, nodes)?;
         Ok(Formula {
             alloc,
             names,
             nodes,
-            results,
-            sums,
             is_new: true,
         })
     }
@@ -94,7 +86,7 @@ impl Formula {
 
     /// The result that its expression was last given; VALUE ERROR where it has none yet.
     pub fn result(&self) -> Result<&Array, Fault>
-        ensures { read result ≡ root_result self.now.results }
+        ensures { read result ≡ root_result self.now.nodes }
     {
         match self.held() {
             Ok(array) => Ok(array),
@@ -104,9 +96,9 @@ impl Formula {
 
     /// The same, lent as it is held.
     pub fn held(&self) -> &Result<Array, Fault>
-        ensures { result.now ≡ root_result self.now.results }
+        ensures { result.now ≡ root_result self.now.nodes }
     {
-        &self.results[self.results.len() - 1]
+        &self.nodes[self.nodes.len() - 1].result
     }
 
     /// What the formula changes to where its names show what the inputs say, an input for each of `references`. The
@@ -118,159 +110,126 @@ impl Formula {
         ensures planned { IfOk result (λ p. (c : Change) → IsTold self.now c inputs.now → IsPlanned self.now c p) }
         ensures ticks { (c : Change) → IsTold self.now c inputs.now → meter.new.ticks ≤ meter.old.ticks + tree_cost self.now.is_new c self.now.tree }
     {
-        let mut changes = Vec::with_capacity(self.alloc, self.nodes.len())?;
-        let mut cost = Count::new();
-        for _ in 0..self.nodes.len() {
-            self.extend(&mut changes, &mut cost, inputs, meter)?;
+        let mut plan = self.start(inputs)?;
+        for _ in 0..self.operations() {
+            self.advance(&mut plan, inputs, meter)?;
         }
-        let sums = self.planned_sums(inputs, &changes)?;
-        Ok(Plan::of(changes, sums, cost))
+        Ok(plan)
     }
 
-    /// The change of the next node, behind those of the nodes before it, and what it costs.
-    fn extend(
+    /// The plan of which no function is done yet: it has the changes of the literals and names that stand before the first. The inputs
+    /// are as for `plan`.
+    pub fn start(&self, inputs: &[Input]) -> Result<Plan, AllocError>
+        requires { (c : Change) × IsTold self.now c inputs.now }
+        ensures none { IfOk result (λ p. operations_among self.now p.changes ≡ 0) }
+        ensures planned { IfOk result (λ p. (c : Change) → IsTold self.now c inputs.now → IsPlannedTo self.now c p) }
+    {
+        let mut plan = Plan {
+            changes: Vec::with_capacity(self.alloc, self.nodes.len())?,
+            cost: Count::new(),
+        };
+        self.go_on(&mut plan.changes, inputs)?;
+        Ok(plan)
+    }
+
+    /// One function more of a plan of this formula as it is, of which fewer were done than there are, with the literals and names that
+    /// come after it; the inputs tell the same change each time. Where memory is refused, the plan and the meter are as they were.
+    pub fn advance(
         &self,
-        changes: &mut Vec<Delta>,
-        cost: &mut Count,
+        plan: &mut Plan,
         inputs: &[Input],
         meter: &mut Meter,
     ) -> Result<(), AllocError>
-        requires below { length changes.old.items < length self.now.results }
-        requires begun { (c : Change) × (IsTold self.now c inputs.now × IsBegun self.now c changes.old.items cost.old) }
-        ensures one { OnOk result (length changes.new.items ≡ length changes.old.items + 1) }
-        ensures begun { OnOk result ((c : Change) → IsTold self.now c inputs.now → IsBegun self.now c changes.old.items cost.old → IsBegun self.now c changes.new.items cost.new) }
-        ensures ticks { (c : Change) → IsTold self.now c inputs.now → IsBegun self.now c changes.old.items cost.old
-            → meter.new.ticks ≤ meter.old.ticks + node_cost_at self.now.is_new c (tree_at (subtrees self.now.tree) (length changes.old.items)) }
+        requires left { operations_among self.now plan.old.changes < operations self.now.tree }
+        requires planned { (c : Change) × (IsTold self.now c inputs.now × IsPlannedTo self.now c plan.old) }
+        ensures one { OnOk result (operations_among self.now plan.new.changes ≡ operations_among self.now plan.old.changes + 1) }
+        ensures planned { OnOk result ((c : Change) → IsTold self.now c inputs.now → IsPlannedTo self.now c plan.old → IsPlannedTo self.now c plan.new) }
+        ensures ticks { OnOk result ((c : Change) → IsTold self.now c inputs.now → IsPlannedTo self.now c plan.old
+            → meter.new.ticks ≤ meter.old.ticks + node_cost_at self.now.is_new c (tree_at (subtrees self.now.tree) (length plan.old.changes))) }
+        ensures err { OnErr result (plan.new ≡ plan.old) }
+        ensures err_meter { OnErr result (meter.new ≡ meter.old) }
     {
-        let place = changes.len();
+        let done = plan.changes.len();
+        let mut own = Meter::new();
+        let (change, items) = self.next(plan.changes.as_slice(), inputs, &mut own)?;
+        plan.changes.push(change)?;
+        match self.go_on(&mut plan.changes, inputs) {
+            Ok(()) => {}
+            Err(refused) => {
+                plan.changes.truncate(done);
+                return Err(refused);
+            }
+        }
+        plan.cost.add(items);
+        meter.include(&own);
+        Ok(())
+    }
+
+    /// The changes of the literals and names that come next, until a function does.
+    fn go_on(&self, changes: &mut Vec<NodeChange>, inputs: &[Input]) -> Result<(), AllocError>
+        requires begun { (c : Change) × (IsTold self.now c inputs.now × ((cost : ℕ) × IsBegun self.now c changes.old.items cost)) }
+        ensures kept { take (length changes.old.items) changes.new.items ≡ changes.old.items }
+        ensures next { OnOk result (IsAtOperation self.now changes.new.items) }
+        ensures same { OnOk result (operations_among self.now changes.new.items ≡ operations_among self.now changes.old.items) }
+        ensures begun { OnOk result ((c : Change) → IsTold self.now c inputs.now → (cost : ℕ) → IsBegun self.now c changes.old.items cost → IsBegun self.now c changes.new.items cost) }
+    {
+        let mut none = Meter::new();
+        while changes.len() < self.nodes.len() && !self.nodes[changes.len()].node.applies() {
+            let (change, _items) = self.next(changes.as_slice(), inputs, &mut none)?;
+            changes.push(change)?;
+        }
+        Ok(())
+    }
+
+    /// What changes of the node that comes next after those that have these changes, and what it costs.
+    fn next(
+        &self,
+        changes: &[NodeChange],
+        inputs: &[Input],
+        meter: &mut Meter,
+    ) -> Result<(NodeChange, u32), AllocError>
+        requires below { length changes.now < length self.now.nodes }
+        requires begun { (c : Change) × (IsTold self.now c inputs.now × ((cost : ℕ) × IsBegun self.now c changes.now cost)) }
+        ensures done { IfOk result (λ r. (c : Change) → IsTold self.now c inputs.now → (cost : ℕ) → IsBegun self.now c changes.now cost
+            → IsDone self.now.is_new c (tree_at (subtrees self.now.tree) (length changes.now)) (get_or self.now.nodes (length changes.now) not_worked_out) r.0) }
+        ensures cost { IfOk result (λ r. (c : Change) → IsTold self.now c inputs.now → (cost : ℕ) → IsBegun self.now c changes.now cost
+            → r.1 ≡ node_cost_at self.now.is_new c (tree_at (subtrees self.now.tree) (length changes.now))) }
+        ensures ticks { (c : Change) → IsTold self.now c inputs.now → (cost : ℕ) → IsBegun self.now c changes.now cost
+            → meter.new.ticks ≤ meter.old.ticks + node_cost_at self.now.is_new c (tree_at (subtrees self.now.tree) (length changes.now)) }
+    {
         let anew = Delta::Whole(Err(unknown()));
         let stage = Stage {
             alloc: self.alloc,
             is_new: self.is_new,
             inputs,
-            results: self.results.as_slice(),
-            changes: changes.as_slice(),
-            anew: &anew,
-        };
-        let held = &self.results[place];
-        let kept = &self.sums[place];
-        let (change, items) = stage.change_of(&self.nodes[place], held, kept, meter)?;
-        // What the node gives now says that it is an array.
-        let _sound = Input::of_node(held, &change);
-        cost.add(items);
-        changes.push(change)?;
-        Ok(())
-    }
-
-    /// What changes of the sums that its nodes keep, by the changes of all nodes. Where no node keeps any, nothing does.
-    fn planned_sums(
-        &self,
-        inputs: &[Input],
-        changes: &[Delta],
-    ) -> Result<Vec<SumsDelta>, AllocError>
-        requires all { length changes.now ≡ length self.now.results }
-        requires begun { (c : Change) × (IsTold self.now c inputs.now × ((cost : ℕ) × IsBegun self.now c changes.now cost)) }
-        ensures few { IfOk result (λ s. length s.items ≤ length self.now.sums) }
-        ensures fit { IfOk result (λ s. AllSumsFit s.items self.now.sums) }
-        ensures summed { IfOk result (λ s. (c : Change) → IsTold self.now c inputs.now → (cost : ℕ) → IsBegun self.now c changes.now cost
-            → resummed_all s.items self.now.sums ≡ map (summed_at c.new) (subtrees self.now.tree)) }
-    {
-        if !self.is_new && !any_total(&self.nodes) {
-            return Ok(Vec::new(self.alloc));
-        }
-        self.all_sums(inputs, changes)
-    }
-
-    /// The change of the sums that each node keeps, by the changes of all nodes.
-    fn all_sums(&self, inputs: &[Input], changes: &[Delta]) -> Result<Vec<SumsDelta>, AllocError>
-        requires all { length changes.now ≡ length self.now.results }
-        requires begun { (c : Change) × (IsTold self.now c inputs.now × ((cost : ℕ) × IsBegun self.now c changes.now cost)) }
-        ensures few { IfOk result (λ s. length s.items ≤ length self.now.sums) }
-        ensures fit { IfOk result (λ s. AllSumsFit s.items self.now.sums) }
-        ensures summed { IfOk result (λ s. (c : Change) → IsTold self.now c inputs.now → (cost : ℕ) → IsBegun self.now c changes.now cost
-            → resummed_all s.items self.now.sums ≡ map (summed_at c.new) (subtrees self.now.tree)) }
-    {
-        let is_new = self.is_new;
-        let anew = Delta::Whole(Err(unknown()));
-        self.staged_sums(&Stage {
-            alloc: self.alloc,
-            is_new,
-            inputs,
-            results: self.results.as_slice(),
+            nodes: self.nodes.as_slice(),
             changes,
             anew: &anew,
-        })
-    }
-
-    /// The same, where a stage has the inputs, the results of this formula and their changes.
-    fn staged_sums(&self, stage: &Stage) -> Result<Vec<SumsDelta>, AllocError>
-        requires is_new { stage.now.is_new ≡ self.now.is_new }
-        requires results { stage.now.results.now ≡ self.now.results }
-        requires anew { is_whole stage.now.anew.now ≡ true }
-        requires all { length stage.now.changes.now ≡ length self.now.results }
-        requires begun { (c : Change) × (IsTold self.now c stage.now.inputs.now × ((cost : ℕ) × IsBegun self.now c stage.now.changes.now cost)) }
-        ensures few { IfOk result (λ s. length s.items ≤ length self.now.sums) }
-        ensures fit { IfOk result (λ s. AllSumsFit s.items self.now.sums) }
-        ensures summed { IfOk result (λ s. (c : Change) → IsTold self.now c stage.now.inputs.now → (cost : ℕ) → IsBegun self.now c stage.now.changes.now cost
-            → resummed_all s.items self.now.sums ≡ map (summed_at c.new) (subtrees self.now.tree)) }
-    {
-        let mut sums = Vec::with_capacity(self.alloc, self.nodes.len())?;
-        for place in 0..self.nodes.len() {
-            sums.push(stage.sums_of(&self.nodes[place], &self.sums[place])?)?;
-        }
-        Ok(sums)
+        };
+        stage.next(meter)
     }
 
     /// Takes the results of a plan that was made of it as it is. No memory is asked for: patches are written where the
     /// results lie.
     pub fn adopt(&mut self, plan: Plan)
         requires { IsPlanOf self.old plan }
-        ensures { self.new ≡ record { tree = self.old.tree; is_new = false; results = adopted plan.changes self.old.results; sums = resummed_all plan.sums self.old.sums } }
+        ensures { self.new ≡ record { tree = self.old.tree; is_new = false; nodes = adopted plan.changes self.old.nodes } }
     {
-        let (changes, sums) = plan.into_changes();
-        adopt_all(&mut self.results, changes);
-        take_all_sums(&mut self.sums, sums);
+        adopt_all(&mut self.nodes, plan.changes);
         self.is_new = false;
     }
 }
 
-/// The error of what was not worked out yet.
-fn unknown() -> Fault
-    ensures { result ≡ fault Value }
+/// The nodes, none of which was worked out yet.
+fn all_new(alloc: Global, nodes: Vec<Node>) -> Result<Vec<Kept>, AllocError>
+    ensures nodes { IfOk result (λ kept. nodes_of kept.items ≡ nodes.items) }
+    ensures held { IfOk result (λ kept. holdings_of kept.items ≡ map (λ n. not_worked_out) nodes.items) }
 {
-    Fault {
-        kind: Kind::Value,
-        origin: None,
+    let mut kept = Vec::with_capacity(alloc, nodes.len())?;
+    for node in nodes {
+        kept.push(Kept::new(node))?;
     }
-}
-
-/// So many results that were not worked out yet.
-fn unknown_results(alloc: Global, count: usize) -> Result<Vec<Result<Array, Fault>>, AllocError>
-    ensures { IfOk result (λ results. results.items ≡ replicate count (Err (fault Value))) }
-{
-    let mut results = Vec::with_capacity(alloc, count)?;
-    for _ in 0..count {
-        results.push(Err(unknown()))?;
-    }
-    Ok(results)
-}
-
-/// One of the nodes is a total.
-fn any_total(nodes: &[Node]) -> bool
-    ensures { result ≡ list_any (λ n. is_some (totalled n)) nodes.now }
-{
-    nodes.iter().any(|node| node.totalled().is_some())
-}
-
-/// So many nodes that keep no sums yet.
-fn no_sums(alloc: Global, count: usize) -> Result<Vec<Option<LineSums>>, AllocError>
-    ensures { IfOk result (λ sums. sums.items ≡ replicate count None) }
-{
-    let mut sums = Vec::with_capacity(alloc, count)?;
-    for _ in 0..count {
-        sums.push(None)?;
-    }
-    Ok(sums)
+    Ok(kept)
 }
 
 /// The names and the nodes of an expression, whose own node stands last.
@@ -295,12 +254,12 @@ fn lower_whole(
 
 /// How many of the nodes apply a function.
 #[tactic(auto, using(crate::proofs::Rooted::counted_yes, crate::proofs::Rooted::counted_no))]
-fn count_operations(nodes: &[Node]) -> usize
-    ensures { result ≡ count_by applies nodes.now }
+fn count_operations(nodes: &[Kept]) -> usize
+    ensures { result ≡ count_by (λ k. applies k.node) nodes.now }
 {
     let mut count = 0;
-    for node in nodes {
-        if node.applies() {
+    for kept in nodes {
+        if kept.node.applies() {
             count += 1;
         }
     }

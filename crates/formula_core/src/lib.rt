@@ -1,12 +1,12 @@
 //! Formulas: what an expression means, and an expression with the result that it was last given at every node.
 #![tactic(auto)]
 
-mod adoption;
 mod application;
 mod evaluation;
 mod formula;
 mod index_change;
 mod input;
+mod kept;
 mod literals;
 mod operation_change;
 mod plan;

@@ -3,17 +3,17 @@
 ghost use Rattle.std.specs.Prelude.{◌≡◌, ◌<◌, length};
 ghost use Rattle.formula_core.specs.Plans.{root_change};
 
-use crate::sums::SumsDelta;
+use crate::kept::NodeChange;
 use change_core::Count;
 use index_region::Delta;
 use std::marker::Model;
 
-/// What changes of each result of a formula and of the sums that it keeps, worked out while the old results stand, and what that costs.
+/// What changes of the nodes of a formula, from the first on, worked out while what they hold stands, and what that costs. The plan is
+/// whole once each node has its change.
 #[derive(Drop)]
 pub struct Plan {
-    changes: Vec<Delta>,
-    sums: Vec<SumsDelta>,
-    cost: Count,
+    pub(crate) changes: Vec<NodeChange>,
+    pub(crate) cost: Count,
 }
 
 impl Model for Plan {
@@ -21,53 +21,31 @@ impl Model for Plan {
 
     ghost Value = { PlanValue };
 
-    ghost use Rattle.std.specs.Prelude.{◌<◌, length};
-
-    ghost view = { λ p. record { changes = p.changes.items; sums = p.sums.items; cost = p.cost } };
-
-    ghost invariant = { λ p. 0 < length p.changes.items };
+    ghost view = { λ p. record { changes = p.changes.items; cost = p.cost } };
 }
 
 impl Plan {
-    /// The plan with these changes, a change for each node, these changes of the sums that nodes keep, and this cost.
-    pub(crate) fn of(changes: Vec<Delta>, sums: Vec<SumsDelta>, cost: Count) -> Plan
-        requires { 0 < length changes.items }
-        ensures { result ≡ record { changes = changes.items; sums = sums.items; cost = cost } }
-    {
-        Plan {
-            changes,
-            sums,
-            cost,
-        }
-    }
-
-    /// What changes of the formula's result.
+    /// What changes of the formula's result, once the plan is whole: of the last node's.
     pub fn delta(&self) -> &Delta
+        requires { 0 < length self.now.changes }
         ensures { result.now ≡ root_change self.now.changes }
     {
-        &self.changes[self.changes.len() - 1]
+        &self.changes[self.changes.len() - 1].delta
     }
 
     /// The same, where the plan is needed no longer.
     pub fn into_delta(mut self) -> Delta
+        requires { 0 < length self.changes }
         ensures { result ≡ root_change self.changes }
     {
         match self.changes.pop() {
-            Some(change) => change,
+            Some(change) => change.delta,
             None => Delta::Same,
         }
     }
 
-    /// The changes, a change for each node, and those of the sums that nodes keep.
-    pub(crate) fn into_changes(self) -> (Vec<Delta>, Vec<SumsDelta>)
-        ensures changes { result.0.items ≡ self.changes }
-        ensures sums { result.1.items ≡ self.sums }
-    {
-        (self.changes, self.sums)
-    }
-
-    /// How many items of results change at most: for each node the places of the box that changes, or of the whole
-    /// result; the greatest number of 64 bits where there are more.
+    /// How many items of results change at most: for each node that has its change the places of the box that changes, or of the
+    /// whole result; the greatest number of 64 bits where there are more.
     pub fn cost(&self) -> u64
         ensures { result ≡ self.now.cost }
     {

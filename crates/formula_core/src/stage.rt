@@ -1,19 +1,21 @@
 //! What the next change of a formula is worked out from.
 
-ghost use Rattle.std.specs.Prelude.{◌≡◌, ◌≤◌, ℕ, List, true, false, length, map, IfOk};
+ghost use Rattle.std.specs.Prelude.{◌≡◌, ◌+◌, ◌≤◌, ◌<◌, ℕ, List, true, false, length, map, get_or, IfOk};
 ghost use Rattle.std.specs.Option.{option_map};
 ghost use Rattle.apl_expr.specs.Trees.{Tree, Const, Name, literal_of};
 ghost use Rattle.change_rules.specs.Nodes.{is_whole};
 ghost use Rattle.formula_core.specs.Meaning.{eval};
-ghost use Rattle.formula_core.specs.Changes.{Change, FitsIn, IsNameChanged};
-ghost use Rattle.formula_core.specs.Inputs.{HasFit, AllHaveFit, AllFitIn, IsInput};
-ghost use Rattle.formula_core.specs.Plans.{node_change};
-ghost use Rattle.formula_core.specs.Stages.{IsStaged, StagedBy, IsKeptBy, IsTaken, IsReady, AreReady, IsStep, IsSumsStep};
+ghost use Rattle.formula_core.specs.Changes.{Change, IsNameChanged};
+ghost use Rattle.formula_core.specs.Inputs.{HasFit, AllHaveFit, IsInput};
+ghost use Rattle.formula_core.specs.Holdings.{holdings_of, not_worked_out, AllFit};
+ghost use Rattle.formula_core.specs.Plans.{node_change, node_cost_at};
+ghost use Rattle.formula_core.specs.Stages.{IsStaged, StagedBy, IsKeptBy, IsTaken, IsReady, AreReady, IsStep, IsDone, IsSumsStep};
 ghost use Rattle.formula_core.specs.Sums.{summed_at};
-ghost use Rattle.formula_core.specs.Tables.{IsOperand, AreOperands, IsNode, tree_of_operand, tree_of_node};
+ghost use Rattle.formula_core.specs.Tables.{IsOperand, AreOperands, IsNode, tree_at, tree_of_operand, tree_of_node};
 
 use crate::index_change::change_of_index;
 use crate::input::Input;
+use crate::kept::{Kept, NodeChange};
 use crate::literals::array_of;
 use crate::operation_change::{change_of_both, change_of_monad};
 use crate::sums::{SumsDelta, sums_delta};
@@ -33,8 +35,8 @@ pub(crate) struct Stage<'a> {
     /// The formula was not worked out yet.
     pub(crate) is_new: bool,
     pub(crate) inputs: &'a [Input<'a>],
-    pub(crate) results: &'a [Result<Array, Fault>],
-    pub(crate) changes: &'a [Delta],
+    pub(crate) nodes: &'a [Kept],
+    pub(crate) changes: &'a [NodeChange],
     /// Any change of the whole: all that a new formula takes counts as new.
     pub(crate) anew: &'a Delta,
 }
@@ -48,7 +50,7 @@ impl<'a> Stage<'a> {
         ensures fit { HasFit result }
         ensures ready { (c : Change) → (names : List (List ℕ)) → (trees : List Tree) → IsStaged c names trees self.now → IsReady self.now.is_new c (tree_of_operand names trees operand) result }
     {
-        let input = taken(operand, self.inputs, self.results, self.changes);
+        let input = taken(operand, self.inputs, self.nodes, self.changes);
         if self.is_new {
             return input.made_anew(self.anew);
         }
@@ -74,8 +76,28 @@ impl<'a> Stage<'a> {
         Ok(positions)
     }
 
-    /// The change of the next node, which held this and keeps these sums, and what it costs.
-    pub(crate) fn change_of(
+    /// What changes of the next node, and what it costs.
+    pub(crate) fn next(&self, meter: &mut Meter) -> Result<(NodeChange, u32), AllocError>
+        requires below { length self.now.changes.now < length self.now.nodes.now }
+        requires staged { StagedBy self.now }
+        requires anew { is_whole self.now.anew.now ≡ true }
+        ensures done { IfOk result (λ r. (c : Change) → (names : List (List ℕ)) → (trees : List Tree) → IsStaged c names trees self.now
+            → IsDone self.now.is_new c (tree_at trees (length self.now.changes.now)) (get_or (holdings_of self.now.nodes.now) (length self.now.changes.now) not_worked_out) r.0) }
+        ensures cost { IfOk result (λ r. (c : Change) → (names : List (List ℕ)) → (trees : List Tree) → IsStaged c names trees self.now
+            → r.1 ≡ node_cost_at self.now.is_new c (tree_at trees (length self.now.changes.now))) }
+        ensures ticks { (c : Change) → (names : List (List ℕ)) → (trees : List Tree) → IsStaged c names trees self.now
+            → meter.new.ticks ≤ meter.old.ticks + node_cost_at self.now.is_new c (tree_at trees (length self.now.changes.now)) }
+    {
+        let kept = &self.nodes[self.changes.len()];
+        let (delta, items) = self.change_of(&kept.node, &kept.result, &kept.sums, meter)?;
+        let sums = self.sums_of(&kept.node, &kept.sums)?;
+        // What the node gives now says that it is an array.
+        let _sound = Input::of_node(&kept.result, &delta);
+        Ok((NodeChange { delta, sums }, items))
+    }
+
+    /// The change of the result of the next node, which held this and keeps these sums, and what it costs.
+    fn change_of(
         &self,
         node: &Node,
         held: &Result<Array, Fault>,
@@ -94,7 +116,7 @@ impl<'a> Stage<'a> {
             Node::Constant(literal) => Ok((self.change_of_literal(literal)?, 0)),
             Node::Name(place) => {
                 let name = Operand::Name(*place);
-                let input = taken(name, self.inputs, self.results, self.changes);
+                let input = taken(name, self.inputs, self.nodes, self.changes);
                 Ok((self.change_of_name(&input)?, 0))
             }
             Node::Monad(function, right) => {
@@ -115,11 +137,7 @@ impl<'a> Stage<'a> {
     }
 
     /// What changes of the sums that a node keeps: of which there are some if it is a total.
-    pub(crate) fn sums_of(
-        &self,
-        node: &Node,
-        kept: &Option<LineSums>,
-    ) -> Result<SumsDelta, AllocError>
+    fn sums_of(&self, node: &Node, kept: &Option<LineSums>) -> Result<SumsDelta, AllocError>
         requires node { IsNode (length self.now.inputs.now) (length self.now.changes.now) node.now }
         requires staged { StagedBy self.now }
         requires anew { is_whole self.now.anew.now ≡ true }
@@ -162,20 +180,20 @@ impl<'a> Stage<'a> {
     }
 }
 
-/// What an argument gives as it stands, where the names show these, and the nodes held these results, which changed so.
+/// What an argument gives as it stands, where the names show these, and these nodes changed so.
 fn taken<'a>(
     operand: Operand,
     inputs: &'a [Input<'a>],
-    results: &'a [Result<Array, Fault>],
-    changes: &'a [Delta],
+    nodes: &'a [Kept],
+    changes: &'a [NodeChange],
 ) -> Input<'a>
     requires within { IsOperand (length inputs.now) (length changes.now) operand }
-    requires few { length changes.now ≤ length results.now }
-    requires fit { AllFitIn changes.now results.now }
-    ensures { IsTaken inputs.now results.now changes.now operand result }
+    requires few { length changes.now ≤ length nodes.now }
+    requires fit { AllFit changes.now (holdings_of nodes.now) }
+    ensures { IsTaken inputs.now (holdings_of nodes.now) changes.now operand result }
 {
     match operand {
         Operand::Name(place) => inputs[place].again(),
-        Operand::Node(place) => Input::of_node(&results[place], &changes[place]),
+        Operand::Node(place) => Input::of_node(&nodes[place].result, &changes[place].delta),
     }
 }

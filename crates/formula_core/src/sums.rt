@@ -1,10 +1,10 @@
 //! The sums of lines that the totals of a formula keep.
 
-ghost use Rattle.std.specs.Prelude.{◌≡◌, ◌≤◌, length, Ok, IfOk};
+ghost use Rattle.std.specs.Prelude.{◌≡◌, Ok, IfOk};
 ghost use Rattle.index_region.specs.declared.delta.Delta.TheVariants.{Patch as PatchDelta};
 ghost use Rattle.index_region.specs.Patches.{FitsPatch};
 ghost use Rattle.formula_core.specs.Inputs.{shown, delta_of, HasFit};
-ghost use Rattle.formula_core.specs.Sums.{is_total as is_sum, resummed, resummed_all, FitsSums, AllSumsFit, IsSumsDelta};
+ghost use Rattle.formula_core.specs.Sums.{is_total as is_sum, resummed, FitsSums, IsSumsDelta};
 
 use crate::input::Input;
 use apl_expr::{Along, Monadic, ScalarDyad};
@@ -83,16 +83,5 @@ pub(crate) fn take_sums_delta(kept: &mut Option<LineSums>, change: SumsDelta)
                 sums.write(&patch);
             }
         }
-    }
-}
-
-/// Each node's sums take their change.
-pub(crate) fn take_all_sums(kept: &mut Vec<Option<LineSums>>, mut changes: Vec<SumsDelta>)
-    requires few { length changes.items ≤ length kept.old.items }
-    requires fit { AllSumsFit changes.items kept.old.items }
-    ensures { kept.new.items ≡ resummed_all changes.items kept.old.items }
-{
-    while let Some(change) = changes.pop() {
-        take_sums_delta(&mut kept[changes.len()], change);
     }
 }

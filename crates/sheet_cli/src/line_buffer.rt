@@ -11,11 +11,11 @@ pub const KEPT: usize = LONGEST_LINE + 5;
 
 /// The bytes of a line so far, of which the first `KEPT` are kept.
 #[derive(Drop)]
-pub struct Pending {
+pub struct OpenLine {
     bytes: Vec<u8>,
 }
 
-impl Model for Pending {
+impl Model for OpenLine {
     ghost Value = { List ℕ };
 
     ghost view = { λ p. p.bytes.items };
@@ -23,12 +23,12 @@ impl Model for Pending {
     ghost invariant = { λ p. (most_kept ≤ vec_capacity p.bytes) × (vec_len p.bytes ≤ most_kept) };
 }
 
-impl Pending {
+impl OpenLine {
     /// Takes the memory of every line.
-    pub fn new(alloc: Global) -> Result<Pending, AllocError>
+    pub fn new(alloc: Global) -> Result<OpenLine, AllocError>
         ensures { IfOk result (λ p. p ≡ []) }
     {
-        Ok(Pending {
+        Ok(OpenLine {
             bytes: Vec::with_capacity(alloc, KEPT)?,
         })
     }

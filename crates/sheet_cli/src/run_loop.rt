@@ -8,7 +8,7 @@ ghost use Rattle.sheet_cli.specs.Run.{Completes, BreaksOff, IsCut};
 
 use crate::answer::answer;
 use crate::device::{Failed, Sink, Source};
-use crate::line_buffer::Pending;
+use crate::line_buffer::OpenLine;
 use sheet_recalc::Sheet;
 use std::alloc::{AllocError, Global};
 
@@ -89,16 +89,16 @@ fn answer_line<W: Sink>(
 /// How far a run is.
 #[derive(Drop)]
 struct Progress {
-    pending: Pending,
+    open_line: OpenLine,
     tally: Tally,
 }
 
 impl Progress {
     fn new(alloc: Global) -> Result<Progress, AllocError>
-        ensures { IfOk result (λ p. (p.pending ≡ []) × (p.tally ≡ record { lines = 0; refused_for_memory = 0 })) }
+        ensures { IfOk result (λ p. (p.open_line ≡ []) × (p.tally ≡ record { lines = 0; refused_for_memory = 0 })) }
     {
         Ok(Progress {
-            pending: Pending::new(alloc)?,
+            open_line: OpenLine::new(alloc)?,
             tally: Tally {
                 lines: 0,
                 refused_for_memory: 0,
@@ -108,13 +108,13 @@ impl Progress {
 }
 
 /// What is kept of the line that has not ended, without a byte order mark where it is the first.
-fn line_of(pending: &Pending, lines: u64) -> &[u8]
-    ensures { result.now ≡ line_after lines pending.now }
+fn line_of(open_line: &OpenLine, lines: u64) -> &[u8]
+    ensures { result.now ≡ line_after lines open_line.now }
 {
     if lines == 0 {
-        strip_bom(pending.as_slice())
+        strip_bom(open_line.as_slice())
     } else {
-        pending.as_slice()
+        open_line.as_slice()
     }
 }
 
@@ -145,14 +145,14 @@ fn end_line<W: Sink>(
     ensures lines { progress.new.tally.lines ≡ progress.old.tally.lines + 1 }
     ensures refused { progress.new.tally.refused_for_memory ≤ progress.old.tally.refused_for_memory + 1 }
     ensures ok { OnOk result ((text : List ℕ) × Appends (W.written sink.old) (W.written sink.new) text
-        × Feeds (10 ∷ []) (standing progress.old.pending progress.old.tally (state_of sheet.old)) text (standing progress.new.pending progress.new.tally (state_of sheet.new))) }
+        × Feeds (10 ∷ []) (standing progress.old.open_line progress.old.tally (state_of sheet.old)) text (standing progress.new.open_line progress.new.tally (state_of sheet.new))) }
     ensures err { OnErr result ((text : List ℕ) × Appends (W.written sink.old) (W.written sink.new) text
-        × StopsIn (10 ∷ []) (standing progress.old.pending progress.old.tally (state_of sheet.old)) text (state_of sheet.new)) }
+        × StopsIn (10 ∷ []) (standing progress.old.open_line progress.old.tally (state_of sheet.old)) text (state_of sheet.new)) }
     ensures fault { OnErr result (W.has_failed sink.new ≡ true) }
 {
-    let line = line_of(&progress.pending, progress.tally.lines);
+    let line = line_of(&progress.open_line, progress.tally.lines);
     answer_line(alloc, sheet, sink, &mut progress.tally, line)?;
-    progress.pending.clear();
+    progress.open_line.clear();
     Ok(())
 }
 
@@ -170,16 +170,16 @@ fn take_piece<W: Sink>(
     ensures lines { IfOk result (λ n. progress.new.tally.lines ≤ progress.old.tally.lines + n) }
     ensures refused { IfOk result (λ n. progress.new.tally.refused_for_memory ≤ progress.old.tally.refused_for_memory + n) }
     ensures ok { IfOk result (λ n. (text : List ℕ) × Appends (W.written sink.old) (W.written sink.new) text
-        × Feeds (take n bytes.now) (standing progress.old.pending progress.old.tally (state_of sheet.old)) text (standing progress.new.pending progress.new.tally (state_of sheet.new))) }
+        × Feeds (take n bytes.now) (standing progress.old.open_line progress.old.tally (state_of sheet.old)) text (standing progress.new.open_line progress.new.tally (state_of sheet.new))) }
     ensures err { OnErr result ((text : List ℕ) × Appends (W.written sink.old) (W.written sink.new) text
-        × StopsIn bytes.now (standing progress.old.pending progress.old.tally (state_of sheet.old)) text (state_of sheet.new)) }
+        × StopsIn bytes.now (standing progress.old.open_line progress.old.tally (state_of sheet.old)) text (state_of sheet.new)) }
     ensures fault { OnErr result (W.has_failed sink.new ≡ true) }
 {
     let Some(end) = find_line_feed(bytes) else {
-        progress.pending.append(bytes);
+        progress.open_line.append(bytes);
         return Ok(bytes.len());
     };
-    progress.pending.append(&bytes[..end]);
+    progress.open_line.append(&bytes[..end]);
     end_line(alloc, sheet, sink, progress)?;
     Ok(end + 1)
 }
@@ -197,9 +197,9 @@ fn take_bytes<W: Sink>(
     ensures lines { OnOk result (progress.new.tally.lines ≤ progress.old.tally.lines + length bytes.now) }
     ensures refused { OnOk result (progress.new.tally.refused_for_memory ≤ progress.old.tally.refused_for_memory + length bytes.now) }
     ensures ok { OnOk result ((text : List ℕ) × Appends (W.written sink.old) (W.written sink.new) text
-        × Feeds bytes.now (standing progress.old.pending progress.old.tally (state_of sheet.old)) text (standing progress.new.pending progress.new.tally (state_of sheet.new))) }
+        × Feeds bytes.now (standing progress.old.open_line progress.old.tally (state_of sheet.old)) text (standing progress.new.open_line progress.new.tally (state_of sheet.new))) }
     ensures err { OnErr result ((text : List ℕ) × Appends (W.written sink.old) (W.written sink.new) text
-        × StopsIn bytes.now (standing progress.old.pending progress.old.tally (state_of sheet.old)) text (state_of sheet.new)) }
+        × StopsIn bytes.now (standing progress.old.open_line progress.old.tally (state_of sheet.old)) text (state_of sheet.new)) }
     ensures fault { OnErr result (W.has_failed sink.new ≡ true) }
 {
     let mut rest = bytes;
@@ -220,12 +220,12 @@ fn answer_last<W: Sink>(
     requires lines { progress.old.tally.lines < u64.MAX }
     requires refused { progress.old.tally.refused_for_memory < u64.MAX }
     ensures ok { OnOk result ((text : List ℕ) × Appends (W.written sink.old) (W.written sink.new) text
-        × Finishes (standing progress.old.pending progress.old.tally (state_of sheet.old)) text progress.new.tally (state_of sheet.new)) }
+        × Finishes (standing progress.old.open_line progress.old.tally (state_of sheet.old)) text progress.new.tally (state_of sheet.new)) }
     ensures err { OnErr result ((text : List ℕ) × Appends (W.written sink.old) (W.written sink.new) text
-        × StopsAtEnd (standing progress.old.pending progress.old.tally (state_of sheet.old)) text (state_of sheet.new)) }
+        × StopsAtEnd (standing progress.old.open_line progress.old.tally (state_of sheet.old)) text (state_of sheet.new)) }
     ensures fault { OnErr result (W.has_failed sink.new ≡ true) }
 {
-    let line = line_of(&progress.pending, progress.tally.lines);
+    let line = line_of(&progress.open_line, progress.tally.lines);
     if line.is_empty() {
         return Ok(());
     }
@@ -242,9 +242,9 @@ fn finish<W: Sink>(
     requires lines { progress.old.tally.lines < u64.MAX }
     requires refused { progress.old.tally.refused_for_memory < u64.MAX }
     ensures ok { OnOk result ((text : List ℕ) × Appends (W.written sink.old) (W.written sink.new) text
-        × Finishes (standing progress.old.pending progress.old.tally (state_of sheet.old)) text progress.new.tally (state_of sheet.new)) }
+        × Finishes (standing progress.old.open_line progress.old.tally (state_of sheet.old)) text progress.new.tally (state_of sheet.new)) }
     ensures err { OnErr result ((text : List ℕ) × Appends (W.written sink.old) (W.written sink.new) text
-        × StopsAtEnd (standing progress.old.pending progress.old.tally (state_of sheet.old)) text (state_of sheet.new)) }
+        × StopsAtEnd (standing progress.old.open_line progress.old.tally (state_of sheet.old)) text (state_of sheet.new)) }
     ensures fault { OnErr result (W.has_failed sink.new ≡ true) }
     ensures flushed { OnOk result (W.is_flushed sink.new ≡ true) }
 {

@@ -62,3 +62,10 @@ table_kept {S} names name a b users held tells x y = (
 
     apart_now : (t : Tree) → binding (put names name (Data b)) x ≡ Some (Formula t) → x ≢ name
     apart_now t is e = never b t (sym (rebound_own names name (Some (Data b))) ∙ (ap (binding (put names name (Data b))) (sym e) ∙ is))
+
+-- the array of a change of the whole
+pub same_array : (a b : ArrayValue) → Whole (Ok a) ≡ Whole (Ok b) → a ≡ b
+same_array a b h = cc
+
+pub formulas_from_none : (cost total : ℕ) → total ≡ ticked 0 cost → total ≡ ticked 0 (0 + cost)
+formulas_from_none cost total is = omega (arith, is)

@@ -19,4 +19,5 @@ pub mod Deltas
 pub mod Sums
 pub mod Readied
 pub mod Accounted
+mod Asked
 pub mod Examples

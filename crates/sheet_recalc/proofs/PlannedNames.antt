@@ -5,7 +5,7 @@ use Rattle.std.specs.Map.{lookup}
 use Rattle.std.specs.List.{Contains}
 use Rattle.std.specs.Option.{option_map, option_map_or}
 use Rattle.std.proofs.lemmas.Bool.{false≢true}
-use Rattle.std.proofs.lemmas.List.{length-map, length-append, map-append}
+use Rattle.std.proofs.lemmas.List.{length-map, length-append, map-append, get_or-map}
 use Rattle.std.proofs.lemmas.List.Elements.{Contains-append_cases}
 use Rattle.dep_order.proofs.Following.{contains_one}
 use Rattle.std.proofs.Math.Seq.{get_or-append_seam}
@@ -25,9 +25,10 @@ use Rattle.formula_core.specs.Meaning.{eval, names_in}
 use Rattle.formula_core.specs.Tables.{subtrees}
 use Rattle.formula_core.specs.Formulas.{FormulaValue, root_result}
 use Rattle.formula_core.specs.Changes.{Change, FitsIn, IsNameChanged}
-use Rattle.formula_core.specs.Sums.{summed_at}
+use Rattle.formula_core.specs.declared.kept.NodeChange.{NodeChange}
+use Rattle.formula_core.specs.Holdings.{Holding, holding_at, not_worked_out, no_change, taking, adopted}
 use Rattle.formula_core.specs.Inputs.{shown as input_shown, stays, HasDelta, IsInput, IsNoPatch}
-use Rattle.formula_core.specs.Plans.{PlanValue, IsPlanOf, IsPlanned, adopted, root_change, node_change, IsNameSound, AreInputs, IsTold, tree_cost}
+use Rattle.formula_core.specs.Plans.{PlanValue, IsPlanOf, IsPlanned, root_change, node_change, IsNameSound, AreInputs, IsTold, tree_cost}
 use Rattle.formula_core.specs.declared.input.Input.{Input}
 use Rattle.formula_core.specs.declared.input.Input.TheVariants.{Good, Bad}
 use Rattle.formula_core.proofs.Rooted.{before_root, root_last}
@@ -106,12 +107,24 @@ at_root g t d =
 pub has_root : (t : Tree) → 0 < length (subtrees t)
 has_root t = omega (arith, ap (λ ts. length ts) (root_last t), length-append (before_root t) (t ∷ []))
 
-adopted_at : (ds : List Delta) (os : List Outcome) (k : ℕ) (e : Outcome) → length ds ≡ length os → get_or (adopted ds os) k e ≡ applied (get_or ds k Same) (get_or os k e)
-adopted_at [] [] k e long = refl
-adopted_at [] (o ∷ os) k e long = absurd (omega (arith, long))
-adopted_at (d ∷ ds) [] k e long = absurd (omega (arith, long))
-adopted_at (d ∷ ds) (o ∷ os) zero e long = refl
-adopted_at (d ∷ ds) (o ∷ os) (suc k) e long = adopted_at ds os k e (omega (arith, long))
+adopted_at : (ds : List NodeChange) (hs : List Holding) (k : ℕ) → length ds ≡ length hs → get_or (adopted ds hs) k not_worked_out ≡ taking (get_or ds k no_change) (get_or hs k not_worked_out)
+adopted_at [] [] k long = refl
+adopted_at [] (h ∷ hs) k long = absurd (omega (arith, long))
+adopted_at (d ∷ ds) [] k long = absurd (omega (arith, long))
+adopted_at (d ∷ ds) (h ∷ hs) zero long = refl
+adopted_at (d ∷ ds) (h ∷ hs) (suc k) long = adopted_at ds hs k (omega (arith, long))
+
+-- a plan has a change for each tree that has a node, and the last is that of the tree
+module _ (f : FormulaValue) (c : Change) (p : PlanValue) (planned : IsPlanned f c p) where
+  pub each_changed : length p.changes ≡ length (subtrees f.tree)
+  each_changed = sym (length-map p.changes (λ (d : NodeChange). d.delta)) ∙ (ap (λ (ds : List Delta). length ds) planned.changes ∙ length-map (subtrees f.tree) (node_change f.is_new c))
+
+  pub root_changed : root_change p.changes ≡ node_change f.is_new c f.tree
+  root_changed =
+      let last : length p.changes - 1 ≡ length (map (node_change f.is_new c) (subtrees f.tree)) - 1 = omega (arith, each_changed, length-map (subtrees f.tree) (node_change f.is_new c)) in
+      sym (get_or-map (λ (d : NodeChange). d.delta) p.changes (length p.changes - 1) no_change Same (omega (arith, each_changed, has_root f.tree)))
+      ∙ (ap (λ (ds : List Delta). get_or ds (length p.changes - 1) Same) planned.changes
+      ∙ (ap (λ k. get_or (map (node_change f.is_new c) (subtrees f.tree)) k Same) last ∙ at_root (node_change f.is_new c) f.tree Same))
 
 module _ (o : ProposedSheet) where
   abbrev es : List (List ℕ × Entry)
@@ -188,19 +201,12 @@ module _ (o : ProposedSheet) where
       shows_formula = ready.settled q ∙ ap (λ b. shown q b (val new)) bound_to
 
       -- it holds what it gave before, unless it is new
-      formula_holds : f.is_new ≡ false → f.results ≡ map (λ t. eval t (val old)) (subtrees f.tree)
+      formula_holds : f.is_new ≡ false → f.nodes ≡ map (holding_at (val old)) (subtrees f.tree)
       formula_holds worked_out = by (bytes_eq q o.name) refl
         where
-          by : (t : Bool) → bytes_eq q o.name ≡ t → f.results ≡ map (λ t. eval t (val old)) (subtrees f.tree)
+          by : (t : Bool) → bytes_eq q o.name ≡ t → f.nodes ≡ map (holding_at (val old)) (subtrees f.tree)
           by true is = absurd (false≢true (sym worked_out ∙ formula_new is))
-          by false is = (formula_old is).0.results
-
-      formula_keeps : f.is_new ≡ false → f.sums ≡ map (summed_at (val old)) (subtrees f.tree)
-      formula_keeps worked_out = by (bytes_eq q o.name) refl
-        where
-          by : (t : Bool) → bytes_eq q o.name ≡ t → f.sums ≡ map (summed_at (val old)) (subtrees f.tree)
-          by true is = absurd (false≢true (sym worked_out ∙ formula_new is))
-          by false is = (formula_old is).0.sums
+          by false is = (formula_old is).0.nodes
 
       -- what is told of the names in it
       pub formula_told : (names : List (List ℕ)) (inputs : List Input) → names ≡ names_in f.tree → AreInputs c names inputs
@@ -209,7 +215,6 @@ module _ (o : ProposedSheet) where
           let there = λ (x : List ℕ) (h : Contains (names_in f.tree) x). subst (λ (ns : List (List ℕ)). Contains ns x) (sym is) h in
           record {
             holds = formula_holds;
-            keeps = formula_keeps;
             tell = subst (λ (ns : List (List ℕ)). AreInputs c ns inputs) is told;
             changed = λ x h. changed x (there x h);
             sound = λ x h. sound x (there x h);
@@ -221,34 +226,34 @@ module _ (o : ProposedSheet) where
 
       module _ (p : PlanValue) (fits : IsPlanOf f p) (planned : IsPlanned f c p) where
         abbrev root : Outcome
-        root = root_result f.results
+        root = root_result f.nodes
 
         abbrev root_delta : Delta
         root_delta = root_change p.changes
 
         abbrev last : ℕ
-        last = length f.results - 1
+        last = length f.nodes - 1
 
         counted : length p.changes ≡ length (subtrees f.tree)
-        counted = ap (λ ds. length ds) planned.changes ∙ length-map (subtrees f.tree) (node_change f.is_new c)
+        counted = each_changed f c p planned
 
-        root_delta_at : root_delta ≡ get_or p.changes last Same
-        root_delta_at = ap (λ n. get_or p.changes (n - 1) Same) fits.each
+        root_delta_at : root_delta ≡ (get_or p.changes last no_change).delta
+        root_delta_at = ap (λ n. (get_or p.changes (n - 1) no_change).delta) fits.each
 
         pub root_becomes : applied root_delta root ≡ eval f.tree (val new)
         root_becomes =
-            let results = map (λ t. eval t (val new)) (subtrees f.tree) in
-            let long : length results - 1 ≡ last = omega (arith, length-map (subtrees f.tree) (λ t. eval t (val new)), counted, fits.each) in
+            let nodes = map (holding_at (val new)) (subtrees f.tree) in
+            let long : length nodes - 1 ≡ last = omega (arith, length-map (subtrees f.tree) (holding_at (val new)), counted, fits.each) in
             ap (λ d. applied d root) root_delta_at
-            ∙ (sym (adopted_at p.changes f.results last (Err (fault Value)) fits.each)
-            ∙ (ap (λ os. get_or os last (Err (fault Value))) planned.right
-            ∙ (ap (λ k. get_or results k (Err (fault Value))) (sym long) ∙ at_root (λ t. eval t (val new)) f.tree (Err (fault Value)))))
+            ∙ ap (λ (h : Holding). h.result) (sym (adopted_at p.changes f.nodes last fits.each)
+            ∙ (ap (λ (hs : List Holding). get_or hs last not_worked_out) planned.right
+            ∙ (ap (λ k. get_or nodes k not_worked_out) (sym long) ∙ at_root (holding_at (val new)) f.tree not_worked_out)))
 
         pub root_changes : root_delta ≡ node_change f.is_new c f.tree
-        root_changes = ap root_change planned.changes ∙ at_root (node_change f.is_new c) f.tree Same
+        root_changes = root_changed f c p planned
 
         pub root_fits : FitsIn root_delta root
-        root_fits = subst (λ n. FitsIn (get_or p.changes (n - 1) Same) root) (sym fits.each) (fits.fit last (omega (arith, counted, fits.each, has_root f.tree)))
+        root_fits = subst (λ n. FitsIn (get_or p.changes (n - 1) no_change).delta root) (sym fits.each) (fits.fit last (omega (arith, counted, fits.each, has_root f.tree))).delta
 
         pub planned_shows : with_origin q (applied root_delta root) ≡ val new q
         planned_shows = ap (with_origin q) root_becomes ∙ sym shows_formula

@@ -10,12 +10,12 @@ use Rattle.std.proofs.lemmas.List.Sums.{sum_by_push}
 use Rattle.std.proofs.lemmas.List.Elements.{Contains-append_left, Contains-append_right, Contains-append_cases}
 use Rattle.apl_expr.specs.Trees.{Tree, Const, Name, Monad, Dyad, Index, Positions, NoPositions, Empty, Filled}
 use Rattle.formula_core.specs.Outcomes.{Outcome}
-use Rattle.formula_core.specs.Meaning.{eval, names_in, names_in_positions}
+use Rattle.formula_core.specs.Meaning.{names_in, names_in_positions}
 use Rattle.formula_core.specs.Tables.{inside, inside_positions, subtrees}
 use Rattle.formula_core.specs.Formulas.{FormulaValue, root_result}
+use Rattle.formula_core.specs.Holdings.{Holding, holding_at}
 use Rattle.formula_core.specs.Plans.{PlanValue}
 use Rattle.formula_core.specs.Sums.{is_total, summed_in, summed_at}
-use Rattle.arrays_core.specs.Arrays.{ArrayValue}
 use Rattle.dep_order.specs.Follows.{Follows, IsOnce}
 use Rattle.dep_order.proofs.Following.{contains_none, contains_one, follows_has, follows_front, follows_behind}
 use Rattle.sheet_recalc.specs.Names.{Names, Binding, Data, Formula, binding, Refers}
@@ -68,9 +68,6 @@ module _ (X : Type 0) (by_f by_g : Tree → X) (P : List ℕ → Type 0) (same :
 
 -- only the names in a tree matter, to the result of each tree in it, and to the sums that are kept for it
 module _ (f g : List ℕ → Outcome) (t : Tree) (h : (x : List ℕ) → Contains (names_in t) x → f x ≡ g x) where
-  pub held_same : map (λ u. eval u f) (subtrees t) ≡ map (λ u. eval u g) (subtrees t)
-  held_same = subtrees_same Outcome (λ u. eval u f) (λ u. eval u g) (λ x. f x ≡ g x) (λ u k. eval_alike u f g k) t h
-
   summed_alike : (u : Tree) → ((x : List ℕ) → Contains (names_in u) x → f x ≡ g x) → summed_at f u ≡ summed_at g u
   summed_alike (Const l) k = refl
   summed_alike (Name x) k = refl
@@ -78,8 +75,8 @@ module _ (f g : List ℕ → Outcome) (t : Tree) (h : (x : List ℕ) → Contain
   summed_alike (Dyad m a b) k = refl
   summed_alike (Index a ps) k = refl
 
-  pub summed_same : map (summed_at f) (subtrees t) ≡ map (summed_at g) (subtrees t)
-  summed_same = subtrees_same (Option ArrayValue) (summed_at f) (summed_at g) (λ x. f x ≡ g x) summed_alike t h
+  pub held_same : map (holding_at f) (subtrees t) ≡ map (holding_at g) (subtrees t)
+  held_same = subtrees_same Holding (holding_at f) (holding_at g) (λ x. f x ≡ g x) (λ u k. let e = eval_alike u f g k in let s = summed_alike u k in λ i. record { result = e i; sums = s i }) t h
 
 -- the last of names of which each comes after those that refer to it refers to none of them
 module _ (names : Names) (front : List (List ℕ)) (x : List ℕ) (once : Contains front x → ⊥) (closed : Follows (λ a b. Refers names b a) (λ y. ⊥) (front ++ x ∷ [])) where
@@ -221,8 +218,8 @@ module _ (o : ProposedSheet) where
     adopting_right : (q : List ℕ) (f : FormulaValue) (p : PlanValue) → IsPlanAt o q p → entry_of o q ≡ Some (entry.Formula f) → IsRight (val new) q (adopting (entry.Formula f) p)
     adopting_right q f p plan held =
         let made = plan_now o q p f plan held in (
-          record { worked_out = refl; results = made.1.right; sums = made.1.summed },
-          ap (λ os. with_origin q (root_result os)) made.1.right ∙ (ap (with_origin q) (at_root (λ t. eval t (val new)) f.tree _) ∙ sym (shows_formula o ready q f held)),
+          record { worked_out = refl; nodes = made.1.right },
+          ap (λ hs. with_origin q (root_result hs)) made.1.right ∙ (ap (λ (h : Holding). with_origin q h.result) (at_root (holding_at (val new)) f.tree _) ∙ sym (shows_formula o ready q f held)),
         )
 
     -- what needs no plan is right as it is
@@ -237,11 +234,7 @@ module _ (o : ProposedSheet) where
         by true e = absurd (reads.0 (equal-true q o.name e))
         by false e =
             let was = formula_old o ready q f is e in (
-              record {
-                worked_out = was.0.worked_out;
-                results = was.0.results ∙ held_same (val old) (val new) f.tree (λ x h. sym (reads.1 x h).shows);
-                sums = was.0.sums ∙ summed_same (val old) (val new) f.tree (λ x h. sym (reads.1 x h).shows);
-              },
+              record { worked_out = was.0.worked_out; nodes = was.0.nodes ∙ held_same (val old) (val new) f.tree (λ x h. sym (reads.1 x h).shows) },
               was.1 ∙ sym (n.others reads.0).shows,
             )
 

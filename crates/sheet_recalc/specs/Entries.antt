@@ -8,8 +8,8 @@ use Rattle.arrays_core.specs.Arrays.{ArrayValue}
 use Rattle.index_region.specs.Patches.{PatchValue, FitsPatch, patched}
 use Rattle.formula_core.specs.Outcomes.{Outcome, fault}
 use Rattle.formula_core.specs.Formulas.{root_result}
-use Rattle.formula_core.specs.Plans.{PlanValue, adopted}
-use Rattle.formula_core.specs.Sums.{resummed_all}
+use Rattle.formula_core.specs.Holdings.{adopted}
+use Rattle.formula_core.specs.Plans.{PlanValue}
 use Rattle.sheet_recalc.specs.Meaning.{with_origin}
 use Rattle.sheet_recalc.specs.Names.{Names, Binding, Data, Formula}
 use Rattle.sheet_recalc.specs.declared.entry.Entry.{Entry}
@@ -23,12 +23,12 @@ binding_of (entry.Formula f) = Formula f.tree
 -- what an entry shows under a name: an error that arose in its formula has its origin there
 abbrev pub entry_outcome : List ℕ → Entry → Outcome
 entry_outcome name (entry.Data a) = Ok a
-entry_outcome name (entry.Formula f) = with_origin name (root_result f.results)
+entry_outcome name (entry.Formula f) = with_origin name (root_result f.nodes)
 
 -- an entry that took a plan, if it is a formula
 abbrev pub adopting : Entry → PlanValue → Entry
 adopting (entry.Data a) plan = entry.Data a
-adopting (entry.Formula f) plan = entry.Formula (record { tree = f.tree; is_new = false; results = adopted plan.changes f.results; sums = resummed_all plan.sums f.sums })
+adopting (entry.Formula f) plan = entry.Formula (record { tree = f.tree; is_new = false; nodes = adopted plan.changes f.nodes })
 
 -- the patch lies in an entry, if that is data
 abbrev pub FitsEntry : Entry → PatchValue → Type 0

@@ -12,4 +12,6 @@ pub mod ProposedSheet
 pub mod NameOrder
 pub mod Live
 pub mod Planning
+pub mod Tables
+pub mod Pending
 pub mod Codes

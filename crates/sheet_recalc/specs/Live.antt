@@ -17,7 +17,7 @@ use Rattle.sheet_recalc.specs.declared.entry.Entry.TheVariants as entry
 -- where the names show these, an entry shows what this name shows, and each result of a formula is what its tree gives
 abbrev pub IsRight : (List ℕ → Outcome) → List ℕ → Entry → Type 0
 IsRight names q (entry.Data a) = Ok a ≡ names q
-IsRight names q (entry.Formula f) = IsHeld f names × (with_origin q (root_result f.results) ≡ names q)
+IsRight names q (entry.Formula f) = IsHeld f names × (with_origin q (root_result f.nodes) ≡ names q)
 
 -- so it is with each entry, as from scratch
 abbrev pub IsCurrent : List (List ℕ × Entry) → Type 0

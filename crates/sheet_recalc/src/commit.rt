@@ -2,6 +2,7 @@
 
 ghost use Rattle.std.specs.Prelude.{◌≡◌, ◌<◌, [], Some, None};
 ghost use Rattle.std.specs.Str.{bytes_eq};
+ghost use Rattle.std.specs.Map.{lookup};
 ghost use Rattle.indexmap.specs.IndexMap.{spare, insert_entry};
 ghost use Rattle.arrays_core.specs.Arrays.{ArrayValue};
 ghost use Rattle.index_region.specs.Patches.{patched, FitsPatch};
@@ -10,16 +11,68 @@ ghost use Rattle.sheet_recalc.specs.Entries.{names_of, binding_of, HasData};
 ghost use Rattle.sheet_recalc.specs.declared.entry.Entry.TheVariants.{Data as DataEntry};
 ghost use Rattle.dep_order.specs.Users.{HasRoomFor, HasNoEmptyBut};
 ghost use Rattle.sheet_recalc.specs.Live.{IsTable, IsCurrent, IsPlanned, IsAdopting};
+ghost use Rattle.sheet_recalc.specs.Pending.{own_after, names_after, Brings, CanBeMade};
 
 use crate::entry::Entry;
+use crate::growth::Growth;
+use crate::pending::Own;
 use crate::planning::Plans;
 use apl_tokens::Name;
-use dep_order::{Users, refer};
+use dep_order::{Users, give_sets, refer, take_larger};
 use index_region::Patch;
 use indexmap::IndexMap;
 
+/// Makes a change that is worked out. No memory is asked for.
+pub(crate) fn make(
+    entries: &mut IndexMap<Name, Entry>,
+    users: &mut Users<Name>,
+    name: Name,
+    own: Own,
+    plans: Plans,
+    growth: Growth,
+)
+    requires planned { IsPlanned entries.old.entries name (own_after own (lookup (bytes_eq name) entries.old.entries)) (names_after entries.old.entries name own) plans.entries }
+    requires can { CanBeMade (record { entries = entries.old; users = users.old }) name growth own }
+    requires tells { IsTable (names_of entries.old.entries) users.old.entries }
+    requires used { HasNoEmptyBut bytes_eq users.old.entries [] }
+    ensures names { names_of entries.new.entries ≡ names_after entries.old.entries name own }
+    ensures current { IsCurrent entries.new.entries }
+    ensures tells { IsTable (names_after entries.old.entries name own) users.new.entries }
+    ensures used { HasNoEmptyBut bytes_eq users.new.entries [] }
+{
+    match own {
+        Own::Bound(entry) => commit_with(entries, users, name, entry, plans, growth),
+        Own::Patched(patch) => commit_patch(entries, name, &patch, plans),
+        Own::Removed => commit_removal(entries, users, name, plans),
+    }
+}
+
+/// Puts an entry under a name, in the room that the sheet has or that is brought along.
+fn commit_with(
+    entries: &mut IndexMap<Name, Entry>,
+    users: &mut Users<Name>,
+    name: Name,
+    entry: Entry,
+    plans: Plans,
+    growth: Growth,
+)
+    requires planned { IsPlanned entries.old.entries name (Some entry) (put (names_of entries.old.entries) name (binding_of entry)) plans.entries }
+    requires brings { Brings (record { entries = entries.old; users = users.old }) (referred (binding_of entry)) growth }
+    requires tells { IsTable (names_of entries.old.entries) users.old.entries }
+    requires used { HasNoEmptyBut bytes_eq users.old.entries [] }
+    ensures names { names_of entries.new.entries ≡ put (names_of entries.old.entries) name (binding_of entry) }
+    ensures current { IsCurrent entries.new.entries }
+    ensures tells { IsTable (put (names_of entries.old.entries) name (binding_of entry)) users.new.entries }
+    ensures used { HasNoEmptyBut bytes_eq users.new.entries [] }
+{
+    take_larger(entries, growth.entries, 1);
+    take_larger(users, growth.users, growth.sets.len());
+    give_sets(users, growth.sets);
+    commit(entries, users, name, entry, plans);
+}
+
 /// Puts an entry under a name, in the room that was made for it, and gives each formula its new results.
-pub(crate) fn commit(
+fn commit(
     entries: &mut IndexMap<Name, Entry>,
     users: &mut Users<Name>,
     name: Name,
@@ -47,7 +100,7 @@ pub(crate) fn commit(
 }
 
 /// Takes a name out, and gives each formula its new results.
-pub(crate) fn commit_removal(
+fn commit_removal(
     entries: &mut IndexMap<Name, Entry>,
     users: &mut Users<Name>,
     name: Name,
@@ -69,12 +122,7 @@ pub(crate) fn commit_removal(
 }
 
 /// Writes new items into the data of a name, where it lies, and gives each formula its new results.
-pub(crate) fn commit_patch(
-    entries: &mut IndexMap<Name, Entry>,
-    name: Name,
-    patch: &Patch,
-    plans: Plans,
-)
+fn commit_patch(entries: &mut IndexMap<Name, Entry>, name: Name, patch: &Patch, plans: Plans)
     requires data { (a : ArrayValue) × HasData entries.old.entries name a × FitsPatch a patch.now }
     requires planned { (a : ArrayValue) → HasData entries.old.entries name a
         → IsPlanned entries.old.entries name (Some (DataEntry (patched a patch.now))) (put (names_of entries.old.entries) name (Data (patched a patch.now))) plans.entries }

@@ -8,6 +8,8 @@ mod commit;
 mod cycle;
 mod entry;
 mod evaluation;
+mod growth;
+mod pending;
 mod planning;
 mod proposal;
 mod proposed_sheet;
@@ -16,5 +18,6 @@ mod row;
 mod sheet;
 
 pub use change::Change;
+pub use pending::Pending;
 pub use refusal::Refusal;
 pub use sheet::{MOST_NAMES, Sheet};

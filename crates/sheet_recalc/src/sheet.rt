@@ -18,15 +18,18 @@ ghost use Rattle.sheet_recalc.specs.ProposedSheet.{bound, proposed_entry, propos
 ghost use Rattle.sheet_recalc.specs.Planning.{IsProposalAt, IsWorkedOut, CanBePut};
 ghost use Rattle.sheet_recalc.specs.NameOrder.{HasOrder};
 ghost use Rattle.sheet_recalc.specs.Live.{IsLive};
-ghost use Rattle.sheet_recalc.specs.Changes.{Accepts, Refuses, Define, Store, Put, SetCell, AddRow, Erase, HasRoom, IsFullFor, CannotPut};
+ghost use Rattle.sheet_recalc.specs.Pending.{IsPendingOn, IsStoredOn};
+ghost use Rattle.sheet_recalc.specs.Changes.{Change, Accepts, Refuses, Define, Store, Put, SetCell, AddRow, Erase, HasRoom, IsFullFor, CannotPut};
 ghost use Rattle.sheet_recalc.specs.Costs.{HasCost, formulas_cost, sheet_change};
 
 use crate::ahead::absent;
 use crate::cell::cell_patch;
-use crate::commit::{commit, commit_patch, commit_removal};
+use crate::commit::make;
 use crate::cycle::cycle_through;
 use crate::entry::Entry;
 use crate::evaluation::plan_at_rest;
+use crate::growth::{growth_for, no_growth};
+use crate::pending::{Own, Pending};
 use crate::planning::{Planned, plans_of};
 use crate::proposal::Proposal;
 use crate::proposed_sheet::ProposedSheet;
@@ -36,9 +39,9 @@ use apl_expr::{Expr, Literal};
 use apl_tokens::Name;
 use arrays_core::{Array, Fault};
 use change_core::Meter;
-use dep_order::{Users, affected, first_found, make_room};
+use dep_order::{Users, affected, first_found};
 use formula_core::{Formula, Shows, evaluate};
-use index_region::{Delta, Seen};
+use index_region::{Delta, Patch, Seen};
 use indexmap::IndexMap;
 use indexmap::map::Keys;
 use std::alloc::{AllocError, Global};
@@ -68,13 +71,15 @@ impl Model for Sheet {
     ghost use Rattle.std.specs.Coded.{codes};
     ghost use Rattle.apl_expr.specs.Codes.{coded_tree};
     ghost use Rattle.sheet_recalc.specs.Codes.{coded_binding};
+    ghost use Rattle.sheet_recalc.specs.contracts.entry.Entry as entry_row;
+    ghost use Rattle.indexmap.specs.Layout.{hash_map_code, hash_set_code};
 
-    ghost coded = { Prim.hlevel (codes, coded_tree, coded_binding) };
+    ghost coded = { Prim.hlevel (codes, coded_tree, coded_binding, entry_row.the_row.coded, hash_map_code, hash_set_code) };
 
     ghost use Rattle.sheet_recalc.specs.Entries.{names_of};
     ghost use Rattle.sheet_recalc.specs.Live.{IsKept};
 
-    ghost view = { λ s. record { names = names_of s.entries.entries; cost = s.cost; ticks = s.ticks } };
+    ghost view = { λ s. record { names = names_of s.entries.entries; cost = s.cost; ticks = s.ticks; tables = record { entries = s.entries; users = s.users } } };
 
     ghost invariant = { λ s. IsKept s.entries.entries s.users.entries s.cost s.ticks };
 }
@@ -95,7 +100,9 @@ impl Shows for Sheet {
 impl Sheet {
     /// A sheet without names.
     pub fn new(alloc: Global) -> Sheet
-        ensures { result ≡ record { names = []; cost = 0; ticks = 0 } }
+        ensures names { result.names ≡ [] }
+        ensures cost { result.cost ≡ 0 }
+        ensures ticks { result.ticks ≡ 0 }
     {
         Sheet {
             alloc,
@@ -158,6 +165,16 @@ impl Sheet {
         ensures refused { IfErr result (Refuses self.old.names (Define name (tree_of tree))) }
         ensures err { OnErr result (self.new ≡ self.old) }
     {
+        let pending = self.begin_define(name, tree)?;
+        self.adopt(pending);
+        Ok(())
+    }
+
+    /// Works out a definition, and does not make it.
+    pub fn begin_define(&self, name: Name, tree: Expr) -> Result<Pending, Refusal>
+        ensures ok { IfOk result (IsPendingOn self.now (Define name (tree_of tree))) }
+        ensures refused { IfErr result (Refuses self.now.names (Define name (tree_of tree))) }
+    {
         let formula = Formula::build(self.alloc, tree)?;
         let mut meter = Meter::new();
         let planned = planned_with(
@@ -168,19 +185,34 @@ impl Sheet {
             Proposal::Formula(&formula),
             &mut meter,
         )?;
-        self.entries.reserve(1)?;
-        make_room(self.alloc, &mut self.users, formula.references())?;
-        let entry = Entry::Formula(formula);
-        commit(
+        let growth = growth_for(self.alloc, &self.entries, &self.users, formula.references())?;
+        Ok(Pending {
+            name,
+            own: Own::Bound(Entry::Formula(formula)),
+            plans: planned.plans,
+            growth,
+            cost: planned.cost,
+            ticks: meter.ticks(),
+        })
+    }
+
+    /// Makes a change that was worked out on the sheet as it is. No memory is asked for.
+    pub fn adopt(&mut self, pending: Pending)
+        requires { (change : Change) × IsPendingOn self.old change pending }
+        ensures made { (change : Change) → IsPendingOn self.old change pending → Accepts self.old.names change self.new.names }
+        ensures cost { (change : Change) → IsPendingOn self.old change pending → HasCost self.old.names change self.new.names self.new.cost }
+        ensures ticks { self.new.ticks ≡ pending.ticks }
+    {
+        make(
             &mut self.entries,
             &mut self.users,
-            name,
-            entry,
-            planned.plans,
+            pending.name,
+            pending.own,
+            pending.plans,
+            pending.growth,
         );
-        self.cost = planned.cost;
-        self.ticks = meter.ticks();
-        Ok(())
+        self.cost = pending.cost;
+        self.ticks = pending.ticks;
     }
 
     /// Binds a name to the array that an expression has now, as an assignment does (ISO/IEC 13751,
@@ -191,11 +223,21 @@ impl Sheet {
         ensures refused { IfErr result (Refuses self.old.names (Store name (tree_of tree))) }
         ensures err { OnErr result (self.new ≡ self.old) }
     {
+        let pending = self.begin_data(name, tree)?;
+        self.adopt(pending);
+        Ok(())
+    }
+
+    /// Works out data that an expression has now, and does not store it.
+    pub fn begin_data(&self, name: Name, tree: Expr) -> Result<Pending, Refusal>
+        ensures ok { IfOk result (IsPendingOn self.now (Store name (tree_of tree))) }
+        ensures refused { IfErr result (Refuses self.now.names (Store name (tree_of tree))) }
+    {
         let mut meter = Meter::new();
         let plan = plan_at_rest(self.alloc, &self.entries, tree, &mut meter)?;
         let spent = plan.cost();
         match plan.into_delta() {
-            Delta::Whole(Ok(array)) => self.store(name, array, spent, meter),
+            Delta::Whole(Ok(array)) => self.begin_store(name, array, spent, meter),
             Delta::Whole(Err(fault)) => Err(Refusal::Fault(fault)),
             Delta::Same | Delta::Patch(_) => unreachable!(),
         }
@@ -214,6 +256,21 @@ impl Sheet {
         ensures refused { IfErr result (Refuses self.old.names (SetCell name positions.now (literal_of literal.now))) }
         ensures err { OnErr result (self.new ≡ self.old) }
     {
+        let pending = self.begin_cell(name, positions, literal)?;
+        self.adopt(pending);
+        Ok(())
+    }
+
+    /// Works out the replacement of one item of data, and does not make it.
+    pub fn begin_cell(
+        &self,
+        name: Name,
+        positions: &[i64],
+        literal: &Literal,
+    ) -> Result<Pending, Refusal>
+        ensures ok { IfOk result (IsPendingOn self.now (SetCell name positions.now (literal_of literal.now))) }
+        ensures refused { IfErr result (Refuses self.now.names (SetCell name positions.now (literal_of literal.now))) }
+    {
         let (array, patch) = cell_patch(self.alloc, &self.entries, name, positions, literal)?;
         let change = Delta::Patch(patch);
         let mut meter = Meter::new();
@@ -226,13 +283,14 @@ impl Sheet {
             &change,
             &mut meter,
         )?;
-        match &change {
-            Delta::Patch(patch) => commit_patch(&mut self.entries, name, patch, planned.plans),
-            _ => unreachable!(),
-        }
-        self.cost = planned.cost;
-        self.ticks = meter.ticks();
-        Ok(())
+        Ok(Pending {
+            name,
+            own: Own::Patched(patch_made(change)),
+            plans: planned.plans,
+            growth: no_growth(self.alloc),
+            cost: planned.cost,
+            ticks: meter.ticks(),
+        })
     }
 
     /// Puts a literal at the end of data: one more item of a vector, one more row of a table. The first of these refuses it:
@@ -244,8 +302,18 @@ impl Sheet {
         ensures refused { IfErr result (Refuses self.old.names (AddRow name (literal_of literal.now))) }
         ensures err { OnErr result (self.new ≡ self.old) }
     {
+        let pending = self.begin_row(name, literal)?;
+        self.adopt(pending);
+        Ok(())
+    }
+
+    /// Works out data with one more row, and does not store it.
+    pub fn begin_row(&self, name: Name, literal: &Literal) -> Result<Pending, Refusal>
+        ensures ok { IfOk result (IsPendingOn self.now (AddRow name (literal_of literal.now))) }
+        ensures refused { IfErr result (Refuses self.now.names (AddRow name (literal_of literal.now))) }
+    {
         let array = data_with_row(self.alloc, &self.entries, name, literal)?;
-        self.store(name, array, 0, Meter::new())
+        self.begin_store(name, array, 0, Meter::new())
     }
 
     /// Removes a name, as the command `)ERASE` does (ISO/IEC 13751, "System Commands"). The names after it move up, and
@@ -256,15 +324,29 @@ impl Sheet {
         ensures refused { IfErr result (Refuses self.old.names (Erase name)) }
         ensures err { OnErr result (self.new ≡ self.old) }
     {
+        let pending = self.begin_erase(name)?;
+        self.adopt(pending);
+        Ok(())
+    }
+
+    /// Works out the removal of a name, and does not make it.
+    pub fn begin_erase(&self, name: Name) -> Result<Pending, Refusal>
+        ensures ok { IfOk result (IsPendingOn self.now (Erase name)) }
+        ensures refused { IfErr result (Refuses self.now.names (Erase name)) }
+    {
         if !self.entries.contains_key(&name) {
             return Err(Refusal::NotFound);
         }
         let mut meter = Meter::new();
         let planned = planned_without(self.alloc, &self.entries, &self.users, name, &mut meter)?;
-        commit_removal(&mut self.entries, &mut self.users, name, planned.plans);
-        self.cost = planned.cost;
-        self.ticks = meter.ticks();
-        Ok(())
+        Ok(Pending {
+            name,
+            own: Own::Removed,
+            plans: planned.plans,
+            growth: no_growth(self.alloc),
+            cost: planned.cost,
+            ticks: meter.ticks(),
+        })
     }
 
     /// Binds a name to an array. It is refused where the name is new and `MOST_NAMES` names are present, or for want of memory, and
@@ -275,22 +357,30 @@ impl Sheet {
         ensures refused { IfErr result (Refuses self.old.names (Put name array)) }
         ensures err { OnErr result (self.new ≡ self.old) }
     {
-        self.store(name, array, 0, Meter::new())
+        let pending = self.begin_put(name, array)?;
+        self.adopt(pending);
+        Ok(())
     }
 
-    /// Binds a name to an array, where working that out has cost so much and the meter shows so many items.
-    fn store(
-        &mut self,
+    /// Works out the binding of a name to an array, and does not make it.
+    pub fn begin_put(&self, name: Name, array: Array) -> Result<Pending, Refusal>
+        ensures ok { IfOk result (IsPendingOn self.now (Put name array)) }
+        ensures refused { IfErr result (Refuses self.now.names (Put name array)) }
+    {
+        self.begin_store(name, array, 0, Meter::new())
+    }
+
+    /// Works out the binding of a name to an array, where that has cost so much and the meter shows so many items.
+    fn begin_store(
+        &self,
         name: Name,
         array: Array,
         spent: u64,
         mut meter: Meter,
-    ) -> Result<(), Refusal>
+    ) -> Result<Pending, Refusal>
         requires { ticked 0 meter.ticks ≤ spent }
-        ensures ok { OnOk result (Accepts self.old.names (Put name array) self.new.names) }
-        ensures cost { OnOk result (self.new.cost ≡ ticked spent (formulas_cost name (sheet_change self.old.names self.new.names name (WholeDelta (val self.new.names name))) self.new.names)) }
-        ensures refused { IfErr result (Refuses self.old.names (Put name array)) }
-        ensures err { OnErr result (self.new ≡ self.old) }
+        ensures ok { IfOk result (IsStoredOn self.now name array spent) }
+        ensures refused { IfErr result (Refuses self.now.names (Put name array)) }
     {
         let change = stored(array);
         let planned = planned_with_data(
@@ -301,18 +391,15 @@ impl Sheet {
             &change,
             &mut meter,
         )?;
-        self.entries.reserve(1)?;
-        let entry = Entry::Data(array_stored(change));
-        commit(
-            &mut self.entries,
-            &mut self.users,
+        let growth = growth_for(self.alloc, &self.entries, &self.users, &[])?;
+        Ok(Pending {
             name,
-            entry,
-            planned.plans,
-        );
-        self.cost = spent.saturating_add(planned.cost);
-        self.ticks = meter.ticks();
-        Ok(())
+            own: Own::Bound(Entry::Data(array_stored(change))),
+            plans: planned.plans,
+            growth,
+            cost: spent.saturating_add(planned.cost),
+            ticks: meter.ticks(),
+        })
     }
 
     pub(crate) fn alloc(&self) -> Global {
@@ -366,6 +453,17 @@ fn array_stored(change: Delta) -> Array
 {
     match change {
         Delta::Whole(Ok(array)) => array,
+        _ => unreachable!(),
+    }
+}
+
+/// The patch that this change lays over data.
+fn patch_made(change: Delta) -> Patch
+    requires { (p : PatchValue) × (change ≡ PatchDelta p) }
+    ensures { change ≡ PatchDelta result }
+{
+    match change {
+        Delta::Patch(patch) => patch,
         _ => unreachable!(),
     }
 }

@@ -8,8 +8,8 @@ use Rattle.formula_core.specs.Changes.{Change, FitsIn}
 use Rattle.formula_core.specs.Formulas.{FormulaValue, IsHeld}
 use Rattle.formula_core.specs.Inputs.{IsInput}
 use Rattle.formula_core.specs.Meaning.{names_in}
-use Rattle.formula_core.specs.Plans.{PlanValue, AreInputs, IsTold, IsPlanned, adopted}
-use Rattle.formula_core.specs.Sums.{resummed_all}
+use Rattle.formula_core.specs.Holdings.{adopted}
+use Rattle.formula_core.specs.Plans.{PlanValue, AreInputs, IsTold, IsPlanned}
 
 -- an array before and after, and what changed of it
 module _ (a b : ArrayValue) (d : Delta) (becomes : applied d (Ok a) ≡ Ok b) (fit : FitsIn d (Ok b)) (sound_a : IsArray a) (sound_b : IsArray b) where
@@ -23,13 +23,12 @@ module _ (a b : ArrayValue) (d : Delta) (becomes : applied d (Ok a) ≡ Ok b) (f
 
   pub told_of_one : (f : FormulaValue) → (f.is_new ≡ false → IsHeld f (λ x. Ok a)) → length (names_in f.tree) ≡ 1 → (i : Input) → IsInput (Ok b) d i → IsTold f one_change (i ∷ [])
   told_of_one f held one i is = record {
-    holds = λ old. (held old).results;
-    keeps = λ old. (held old).sums;
+    holds = λ old. (held old).nodes;
     tell = one_input (names_in f.tree) i one is;
     changed = λ x h. record { right = becomes; fit = fit };
     sound = λ x h. record { old = sound_a; new = sound_b };
   }
 
   -- a plan, once it is taken
-  pub held_of_one : (f : FormulaValue) (p : PlanValue) (g : FormulaValue) → IsPlanned f one_change p → g ≡ record { tree = f.tree; is_new = false; results = adopted p.changes f.results; sums = resummed_all p.sums f.sums } → IsHeld g (λ x. Ok b)
-  held_of_one f p g planned is = subst (λ (v : FormulaValue). IsHeld v (λ x. Ok b)) (sym is) (record { worked_out = refl; results = planned.right; sums = planned.summed })
+  pub held_of_one : (f : FormulaValue) (p : PlanValue) (g : FormulaValue) → IsPlanned f one_change p → g ≡ record { tree = f.tree; is_new = false; nodes = adopted p.changes f.nodes } → IsHeld g (λ x. Ok b)
+  held_of_one f p g planned is = subst (λ (v : FormulaValue). IsHeld v (λ x. Ok b)) (sym is) (record { worked_out = refl; nodes = planned.right })

@@ -1,26 +1,25 @@
-use Rattle.std.proofs.Common.{◌∙◌, ap, length, arith, Err, Option, None}
-use Rattle.arrays_core.specs.Arrays.{ArrayValue}
-use Rattle.arrays_core.specs.declared.item.Kind.TheVariants.{Value}
-use Rattle.index_region.specs.declared.delta.Delta.{Delta}
-use Rattle.index_region.specs.declared.delta.Delta.TheVariants as delta
-use Rattle.change_rules.specs.Currency.{applied}
-use Rattle.formula_core.specs.declared.sums.SumsDelta.{SumsDelta}
-use Rattle.formula_core.specs.declared.sums.SumsDelta.TheVariants as sums
-use Rattle.formula_core.specs.Changes.{FitsIn}
-use Rattle.formula_core.specs.Formulas.{FormulaValue}
-use Rattle.formula_core.specs.Outcomes.{Outcome, fault}
-use Rattle.formula_core.specs.Sums.{resummed, FitsSums}
-use Rattle.formula_core.proofs.Adopted.{each_long}
+use Rattle.std.proofs.Common.{◌≡◌, ◌∙◌, ◌≤◌, List, ap, sym, subst, length, arith, false}
+use Rattle.formula_core.specs.declared.table.Node.{Node}
+use Rattle.formula_core.specs.Formulas.{FormulaValue, IsTableOf, root_of}
+use Rattle.formula_core.specs.Holdings.{Holding, nodes_of, holdings_of, adopted}
+use Rattle.formula_core.specs.Plans.{PlanValue}
+use Rattle.formula_core.proofs.Planned.{counted}
+use Rattle.formula_core.proofs.Adopted.{nodes_taken, held_taken}
 use Rattle.formula_core.proofs.formula.Formula.adopt.Goals as goal
 
 pub invariant_of-self : goal.invariant_of-self
 invariant_of-self c =
-    let changes = ap (λ ds. length ds) c.into_changes-changes.ensures.changes in
-    let results = ap (λ (v : FormulaValue). length v.results) c.self.view_is in
-    let sums_changes = ap (λ ds. length ds) c.into_changes-changes.ensures.sums in
-    let kept = ap (λ (v : FormulaValue). length v.sums) c.self.view_is in
-    record {
-      table = c.self.invariant.table;
-      each = ap (λ rs. length rs) c.adopt_all.ensures ∙ (each_long Delta Outcome applied FitsIn delta.Same (Err (fault Value)) _ _ (omega (arith, changes, c.requires.each, results)) ∙ c.self.invariant.each);
-      every = ap (λ ss. length ss) c.take_all_sums.ensures ∙ (each_long SumsDelta (Option ArrayValue) resummed FitsSums sums.Same None _ _ (omega (arith, sums_changes, c.requires.few, kept)) ∙ c.self.invariant.every);
-    }
+    let nodes = c.self.inside.nodes.items in
+    let few : length c.plan.inside.changes.items ≤ length nodes = omega (arith, c.requires.each, counted c.args.self.now c.self.inside.names.items nodes c.self.invariant (ap (λ (v : FormulaValue). v.tree) c.self.view_is) (ap (λ (v : FormulaValue). v.nodes) c.self.view_is), ap (λ (p : PlanValue). length p.changes) c.plan.view_is) in
+    let same : nodes_of c.adopt_all.new.nodes.items ≡ nodes_of nodes = ap nodes_of c.adopt_all.ensures ∙ nodes_taken _ nodes few in
+    subst (λ (ns : List Node). IsTableOf c.self.inside.names.items ns (root_of c.self.inside.names.items ns)) (sym same) c.self.invariant
+
+pub returns : goal.returns
+returns c =
+    let nodes = c.self.inside.nodes.items in
+    let names = c.self.inside.names.items in
+    let few : length c.plan.inside.changes.items ≤ length nodes = omega (arith, c.requires.each, counted c.args.self.now c.self.inside.names.items nodes c.self.invariant (ap (λ (v : FormulaValue). v.tree) c.self.view_is) (ap (λ (v : FormulaValue). v.nodes) c.self.view_is), ap (λ (p : PlanValue). length p.changes) c.plan.view_is) in
+    let same : nodes_of c.adopt_all.new.nodes.items ≡ nodes_of nodes = ap nodes_of c.adopt_all.ensures ∙ nodes_taken _ nodes few in
+    let tree = ap (root_of names) same ∙ ap (λ (v : FormulaValue). v.tree) c.self.view_is in
+    let held = ap holdings_of c.adopt_all.ensures ∙ (held_taken _ nodes ∙ (ap (λ (hs : List Holding). adopted c.plan.inside.changes.items hs) (ap (λ (v : FormulaValue). v.nodes) c.self.view_is) ∙ ap (λ (p : PlanValue). adopted p.changes c.args.self.now.nodes) c.plan.view_is)) in
+    λ i. record { tree = tree i; is_new = false; nodes = held i }

@@ -1,59 +1,54 @@
-use Rattle.std.proofs.Common.{◌≡◌, ◌+◌, ◌<◌, ◌≤◌, ◌∙◌, List, ap, sym, subst, length, take, arith, ℕ}
-use Rattle.std.specs.List.{sum_by}
-use Rattle.formula_core.specs.Formulas.{FormulaValue, root_of}
-use Rattle.formula_core.specs.Plans.{PlanValue, node_cost_at, IsPlanned}
-use Rattle.formula_core.specs.Stages.{IsBegun}
+use Rattle.std.proofs.Common.{◌≡◌, ◌<◌, ap, length, arith}
+use Rattle.formula_core.specs.Formulas.{operations}
+use Rattle.formula_core.specs.Progress.{operations_among}
 use Rattle.formula_core.specs.Tables.{subtrees}
-use Rattle.index_region.specs.declared.delta.Delta.{Delta}
-use Rattle.formula_core.proofs.Planned.{formula_seen, known, cost_within, cost_so_far, planned_at_end}
+use Rattle.formula_core.proofs.Planned.{planned_at_end, plan_of}
+use Rattle.formula_core.proofs.Progressed.{node_left, none_left, longer, cost_more, cost_within}
 use Rattle.formula_core.proofs.formula.Formula.plan.Goals as goal
 
-pub returns-in_err-extend-clause-ticks : goal.returns-in_err-extend-clause-ticks
-returns-in_err-extend-clause-ticks c = λ change told.
-    let f = c.args.self.now in
-    let names = c.self.inside.names.items in
-    let nodes = c.self.inside.nodes.items in
-    let inside = formula_seen f names nodes c.self.inside.results.items c.self.inside.sums.items (ap (λ (v : FormulaValue). v.results) c.self.view_is) (ap (λ (v : FormulaValue). v.sums) c.self.view_is) c.self.invariant in
-    let root : root_of names nodes ≡ f.tree = ap (λ (v : FormulaValue). v.tree) c.self.view_is in
-    let below : length c.loop.changes.items < length (subtrees f.tree) = omega (arith, c.loop.invariant.many, c.loop-test.true, c.len-end.ensures, c.self.inside.nodes.ok.0, inside.each, known f names nodes inside root) in
-    cost_within f.is_new change f.tree (length c.loop.changes.items) c.args.meter.now.ticks c.loop.meter.ticks _ below (c.loop.invariant.ticks change told) (c.extend.ensures.ticks change told (c.loop.invariant.begun change told))
+pub advance-requires-clause-left : goal.advance-requires-clause-left
+advance-requires-clause-left c = omega (arith, c.loop.invariant.many, c.loop-test.true, c.operations-end.ensures)
+
+pub advance-requires-clause-planned : goal.advance-requires-clause-planned
+advance-requires-clause-planned c = (c.requires.0, (c.requires.1, c.loop.invariant.planned c.requires.0 c.requires.1))
 
 pub loop-preserved : goal.loop-preserved
 loop-preserved c =
     let f = c.args.self.now in
-    let names = c.self.inside.names.items in
-    let nodes = c.self.inside.nodes.items in
-    let inside = formula_seen f names nodes c.self.inside.results.items c.self.inside.sums.items (ap (λ (v : FormulaValue). v.results) c.self.view_is) (ap (λ (v : FormulaValue). v.sums) c.self.view_is) c.self.invariant in
-    let root : root_of names nodes ≡ f.tree = ap (λ (v : FormulaValue). v.tree) c.self.view_is in
-    let below : length c.loop.changes.items < length (subtrees f.tree) = omega (arith, c.loop.invariant.many, c.loop-test.true, c.len-end.ensures, c.self.inside.nodes.ok.0, inside.each, known f names nodes inside root) in
+    let all = (c.loop.invariant.planned c.requires.0 c.requires.1).begun.known in
+    let left : operations_among f c.loop.plan.changes < operations f.tree = omega (arith, c.loop.invariant.many, c.loop-test.true, c.operations-end.ensures) in
+    let below : length c.loop.plan.changes < length (subtrees f.tree) = omega (arith, all, node_left f c.loop.plan.changes left all) in
+    let one = c.in_ok-advance.ensures.one in
     record {
-      many = c.in_ok-extend.ensures.one ∙ ap (λ k. k + 1) c.loop.invariant.many;
-      begun = λ change told. c.in_ok-extend.ensures.begun change told (c.loop.invariant.begun change told);
+      many = omega (arith, one, c.loop.invariant.many);
+      planned = λ change told. c.in_ok-advance.ensures.planned change told (c.loop.invariant.planned change told);
       ticks = λ change told.
-          subst (λ (k : ℕ). c.extend.new.meter.ticks ≤ c.args.meter.now.ticks + sum_by (node_cost_at f.is_new change) (take k (subtrees f.tree))) (sym c.in_ok-extend.ensures.one)
-          (cost_so_far f.is_new change f.tree (length c.loop.changes.items) c.args.meter.now.ticks c.loop.meter.ticks _ below (c.loop.invariant.ticks change told) (c.extend.ensures.ticks change told (c.loop.invariant.begun change told)));
+          cost_more f.is_new change f.tree (length c.loop.plan.changes) (length c.advance.new.plan.changes) c.args.meter.now.ticks c.loop.meter.ticks _ below (longer f c.loop.plan.changes c.advance.new.plan.changes one)
+          (c.loop.invariant.ticks change told) (c.in_ok-advance.ensures.ticks change told (c.loop.invariant.planned change told));
     }
+
+pub returns-in_err-advance-clause-ticks : goal.returns-in_err-advance-clause-ticks
+returns-in_err-advance-clause-ticks c = λ change told.
+    let f = c.args.self.now in
+    omega (arith, ap (λ m. m.ticks) c.in_err-advance.ensures.err_meter, cost_within f.is_new change f.tree (length c.loop.plan.changes) c.args.meter.now.ticks c.loop.meter.ticks (c.loop.invariant.ticks change told))
+
+pub returns-clause-of : goal.returns-clause-of
+returns-clause-of c =
+    let f = c.args.self.now in
+    let all = (c.loop.invariant.planned c.requires.0 c.requires.1).begun.known in
+    let planned = c.loop.invariant.planned c.requires.0 c.requires.1 in
+    let done : operations_among f c.loop.plan.changes ≡ operations f.tree = omega (arith, c.loop.invariant.many, c.loop-test.false, c.loop.auto.counter-end, c.operations-end.ensures) in
+    plan_of f c.requires.0 c.loop.plan planned.begun (none_left f c.loop.plan.changes planned.next done planned.begun.few all)
 
 pub returns-clause-planned : goal.returns-clause-planned
 returns-clause-planned c = λ change told.
     let f = c.args.self.now in
-    let names = c.self.inside.names.items in
-    let nodes = c.self.inside.nodes.items in
-    let inside = formula_seen f names nodes c.self.inside.results.items c.self.inside.sums.items (ap (λ (v : FormulaValue). v.results) c.self.view_is) (ap (λ (v : FormulaValue). v.sums) c.self.view_is) c.self.invariant in
-    let root : root_of names nodes ≡ f.tree = ap (λ (v : FormulaValue). v.tree) c.self.view_is in
-    let all : length c.loop.changes.items ≡ length f.results = omega (arith, c.loop.invariant.many, c.loop-test.false, c.loop.auto.counter-end, c.len-end.ensures, c.self.inside.nodes.ok.0, inside.each) in
-    subst (λ (p : PlanValue). IsPlanned f change p) (sym c.of.ensures) (planned_at_end f change c.loop.changes.items c.in_ok-sums.sums.items c.loop.cost (c.loop.invariant.begun change told) all (known f names nodes inside root)
-    (c.in_ok-sums.ensures.summed change told c.loop.cost (subst (λ (ds : List Delta). IsBegun f change ds c.loop.cost) (sym c.deref.ensures.value) (c.loop.invariant.begun change told))))
+    let all = (c.loop.invariant.planned c.requires.0 c.requires.1).begun.known in
+    let planned = c.loop.invariant.planned change told in
+    let done : operations_among f c.loop.plan.changes ≡ operations f.tree = omega (arith, c.loop.invariant.many, c.loop-test.false, c.loop.auto.counter-end, c.operations-end.ensures) in
+    planned_at_end f change c.loop.plan planned.begun (none_left f c.loop.plan.changes planned.next done planned.begun.few all)
 
-pub planned_sums-requires-clause-all : goal.planned_sums-requires-clause-all
-planned_sums-requires-clause-all c =
+pub returns-clause-ticks : goal.returns-clause-ticks
+returns-clause-ticks c = λ change told.
     let f = c.args.self.now in
-    let names = c.self.inside.names.items in
-    let nodes = c.self.inside.nodes.items in
-    let inside = formula_seen f names nodes c.self.inside.results.items c.self.inside.sums.items (ap (λ (v : FormulaValue). v.results) c.self.view_is) (ap (λ (v : FormulaValue). v.sums) c.self.view_is) c.self.invariant in
-    omega (arith, ap (λ (ds : List Delta). length ds) c.deref.ensures.value, c.loop.invariant.many, c.loop-test.false, c.loop.auto.counter-end, c.len-end.ensures, c.self.inside.nodes.ok.0, inside.each)
-
-pub planned_sums-requires-clause-begun : goal.planned_sums-requires-clause-begun
-planned_sums-requires-clause-begun c =
-    let w = c.requires in
-    (w.0, (w.1, (c.loop.cost, subst (λ (ds : List Delta). IsBegun c.args.self.now w.0 ds c.loop.cost) (sym c.deref.ensures.value) (c.loop.invariant.begun w.0 w.1))))
+    cost_within f.is_new change f.tree (length c.loop.plan.changes) c.args.meter.now.ticks c.loop.meter.ticks (c.loop.invariant.ticks change told)

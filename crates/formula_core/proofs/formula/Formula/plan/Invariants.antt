@@ -2,13 +2,13 @@ use Rattle.std.proofs.Common.{◌≡◌, ◌+◌, ◌≤◌, length, take}
 use Rattle.std.specs.List.{sum_by}
 use Rattle.formula_core.specs.Changes.{Change}
 use Rattle.formula_core.specs.Plans.{node_cost_at, IsTold}
-use Rattle.formula_core.specs.Stages.{IsBegun}
+use Rattle.formula_core.specs.Progress.{operations_among, IsPlannedTo}
 use Rattle.formula_core.specs.Tables.{subtrees}
 use Rattle.formula_core.proofs.formula.Formula.plan.Given as goal
 
 abbrev pub invariant-loop : goal.invariant-loop
 invariant-loop l = record {
-  many : length l.changes.items ≡ l.counter;
-  begun : (c : Change) → IsTold l.fn.self c l.fn.inputs → IsBegun l.fn.self c l.changes.items l.cost;
-  ticks : (c : Change) → IsTold l.fn.self c l.fn.inputs → l.meter.ticks ≤ l.fn.meter.ticks + sum_by (node_cost_at l.fn.self.is_new c) (take (length l.changes.items) (subtrees l.fn.self.tree));
+  many : operations_among l.fn.self l.plan.changes ≡ l.counter;
+  planned : (c : Change) → IsTold l.fn.self c l.fn.inputs → IsPlannedTo l.fn.self c l.plan;
+  ticks : (c : Change) → IsTold l.fn.self c l.fn.inputs → l.meter.ticks ≤ l.fn.meter.ticks + sum_by (node_cost_at l.fn.self.is_new c) (take (length l.plan.changes) (subtrees l.fn.self.tree));
 }

@@ -29,7 +29,7 @@ returns-clause-input c =
     let now = plan_now o c.args.name p f c.requires.plan c.in-Some.ensures in
     let given = c.in_formula.ensures c.held.result.now c.delta.result.now c.of_node.ensures.is in
     planned_input o c.requires.ahead.proposed c.args.name f c.in-Some.ensures p now.0 now.1 c.in_formula.result
-    (subst (λ (d : Delta). IsInput (with_origin c.args.name (applied d (root_result f.results))) (origin_delta c.args.name d) c.in_formula.result) c.delta.ensures
+    (subst (λ (d : Delta). IsInput (with_origin c.args.name (applied d (root_result f.nodes))) (origin_delta c.args.name d) c.in_formula.result) c.delta.ensures
     (subst (λ (h : Outcome). IsInput (with_origin c.args.name (applied c.delta.result.now h)) (origin_delta c.args.name c.delta.result.now) c.in_formula.result) c.held.ensures given))
 
 pub returns-clause-changed : goal.returns-clause-changed

@@ -1,0 +1,117 @@
+-- A plan comes forward.
+use Rattle.std.proofs.Common.{◌≡◌, ◌<◌, ◌+◌, ◌≤◌, ℕ, List, [], ◌∷◌, ◌++◌, Bool, true, false, cond, refl, sym, ap, ◌∙◌, subst, length, take, get_or, arith, ◌⊎◌, inl, inr}
+use Rattle.std.specs.List.{count_by, sum_by}
+use Rattle.std.proofs.lemmas.Bool.{false≢true, cases_lt}
+use Rattle.std.proofs.lemmas.List.{length-append, take_all, take-take}
+use Rattle.std.proofs.lemmas.List.Sums.{sum_by_more, sum_by_more_le, sum_by-take-le, count_by_more_yes, count_by_more_no}
+use Rattle.apl_expr.specs.Trees.{Tree, Const, Name, Monad, Dyad, Index, Numbers}
+use Rattle.change_core.specs.Meters.{ticked}
+use Rattle.formula_core.specs.declared.kept.NodeChange.{NodeChange}
+use Rattle.formula_core.specs.declared.table.Node.{Node}
+use Rattle.formula_core.specs.declared.table.Node.TheVariants as node
+use Rattle.formula_core.specs.Changes.{Change}
+use Rattle.formula_core.specs.Formulas.{FormulaValue, is_operation, operations}
+use Rattle.formula_core.specs.Holdings.{not_worked_out}
+use Rattle.formula_core.specs.Plans.{node_cost_at, tree_cost}
+use Rattle.formula_core.specs.Progress.{operations_among, IsAtOperation}
+use Rattle.formula_core.specs.Stages.{IsBegun, IsDone}
+use Rattle.formula_core.specs.Tables.{applies, subtrees, tree_at, tree_of_node}
+use Rattle.formula_core.proofs.Planned.{begun_more}
+
+-- a node applies a function where its tree does
+pub applied_there : (names : List (List ℕ)) (trees : List Tree) (n : Node) → is_operation (tree_of_node names trees n) ≡ applies n
+applied_there names trees (node.Constant literal) = refl
+applied_there names trees (node.Name place) = refl
+applied_there names trees (node.Monad f right) = refl
+applied_there names trees (node.Dyad f left right) = refl
+applied_there names trees (node.Index array positions) = refl
+
+-- a literal and a name cost nothing
+pub free : (is_new : Bool) (c : Change) (t : Tree) → is_operation t ≡ false → 0 ≡ node_cost_at is_new c t
+free true c (Const l) plain = refl
+free false c (Const l) plain = refl
+free true c (Name x) plain = refl
+free false c (Name x) plain = refl
+free is_new c (Monad f b) plain = absurd (false≢true (sym plain))
+free is_new c (Dyad f a b) plain = absurd (false≢true (sym plain))
+free is_new c (Index a ps) plain = absurd (false≢true (sym plain))
+
+-- nothing more is spent
+pub spent_none : (cost sum : ℕ) → cost ≡ ticked 0 sum → cost ≡ ticked cost 0
+spent_none cost sum is = omega (arith, is)
+
+-- sums over a longer front
+module _ {X : Type 0} (f : X → ℕ) (xs : List X) (d : X) where
+  front_within : (i m : ℕ) → i ≤ m → sum_by f (take i xs) ≤ sum_by f (take m xs)
+  front_within i m h = omega (arith, sum_by-take-le f (take m xs) i, ap (λ ys. sum_by f ys) (take-take i m xs h))
+
+  front_more : (i m : ℕ) → i < length xs → i < m → sum_by f (take i xs) + f (get_or xs i d) ≤ sum_by f (take m xs)
+  front_more i m below h = omega (arith, sum_by_more f xs i d below, front_within (i + 1) m (omega (arith, h)))
+
+-- one more change
+module _ (f : FormulaValue) (changes new : List NodeChange) (d : NodeChange) (is : new ≡ changes ++ d ∷ []) (below : length changes < length (subtrees f.tree)) where
+  one_longer : length new ≡ length changes + 1
+  one_longer = ap (λ (ds : List NodeChange). length ds) is ∙ length-append changes (d ∷ [])
+
+  pub among_plain : is_operation (tree_at (subtrees f.tree) (length changes)) ≡ false → operations_among f new ≡ operations_among f changes
+  among_plain plain = ap (λ k. count_by is_operation (take k (subtrees f.tree))) one_longer ∙ count_by_more_no is_operation (subtrees f.tree) (length changes) (Const (Numbers [])) below plain
+
+  pub among_more : is_operation (tree_at (subtrees f.tree) (length changes)) ≡ true → operations_among f new ≡ operations_among f changes + 1
+  among_more one = ap (λ k. count_by is_operation (take k (subtrees f.tree))) one_longer ∙ count_by_more_yes is_operation (subtrees f.tree) (length changes) (Const (Numbers [])) below one
+
+-- where fewer operations are done than there are, a node is left
+among_all : (f : FormulaValue) (changes : List NodeChange) → length (subtrees f.tree) ≤ length changes → operations_among f changes ≡ operations f.tree
+among_all f changes long = ap (λ ts. count_by is_operation ts) (take_all (length changes) (subtrees f.tree) long)
+
+pub node_left : (f : FormulaValue) (changes : List NodeChange) → operations_among f changes < operations f.tree → length f.nodes ≡ length (subtrees f.tree) → length changes < length f.nodes
+node_left f changes few known = by (cases_lt (length changes) (length (subtrees f.tree)))
+  where
+    by : (length changes < length (subtrees f.tree)) ⊎ (length (subtrees f.tree) ≤ length changes) → length changes < length f.nodes
+    by (inl under) = omega (arith, under, known)
+    by (inr long) = absurd (omega (arith, few, among_all f changes long))
+
+-- where all are done, none is
+pub none_left : (f : FormulaValue) (changes : List NodeChange) → IsAtOperation f changes → operations_among f changes ≡ operations f.tree → length changes ≤ length f.nodes → length f.nodes ≡ length (subtrees f.tree) → length changes ≡ length f.nodes
+none_left f changes at all few known = by (cases_lt (length changes) (length f.nodes))
+  where
+    by : (length changes < length f.nodes) ⊎ (length f.nodes ≤ length changes) → length changes ≡ length f.nodes
+    by (inl under) =
+        let one = at under in
+        absurd (omega (arith, all, sum_by_more_le (λ u. cond (is_operation u) 1 0) (subtrees f.tree) (length changes) (Const (Numbers [])) (omega (arith, under, known)), ap {B = ℕ} (λ b. cond b 1 0) one))
+    by (inr long) = omega (arith, long, few)
+
+-- where one operation more is done, a change more is there
+pub longer : (f : FormulaValue) (changes new : List NodeChange) → operations_among f new ≡ operations_among f changes + 1 → length changes < length new
+longer f changes new one = by (cases_lt (length changes) (length new))
+  where
+    by : (length changes < length new) ⊎ (length new ≤ length changes) → length changes < length new
+    by (inl under) = under
+    by (inr back) = absurd (omega (arith, one, front_within (λ u. cond (is_operation u) 1 0) (subtrees f.tree) (Const (Numbers [])) (length new) (length changes) back))
+
+-- what the nodes so far cost
+module _ (is_new : Bool) (c : Change) (t : Tree) where
+  pub cost_more : (k m start before after : ℕ) → k < length (subtrees t) → k < m → before ≤ start + sum_by (node_cost_at is_new c) (take k (subtrees t)) → after ≤ before + node_cost_at is_new c (tree_at (subtrees t) k)
+      → after ≤ start + sum_by (node_cost_at is_new c) (take m (subtrees t))
+  cost_more k m start before after below more first then = omega (arith, first, then, front_more (node_cost_at is_new c) (subtrees t) (Const (Numbers [])) k m below more)
+
+  pub cost_within : (k start now : ℕ) → now ≤ start + sum_by (node_cost_at is_new c) (take k (subtrees t)) → now ≤ start + tree_cost is_new c t
+  cost_within k start now h = omega (arith, h, sum_by-take-le (node_cost_at is_new c) (subtrees t) k)
+
+-- one operation more is done
+module _ (f : FormulaValue) (c : Change) (changes new : List NodeChange) (d : NodeChange) (cost items : ℕ) (begun : IsBegun f c changes cost) (left : operations_among f changes < operations f.tree)
+    (is : new ≡ changes ++ d ∷ []) (costs : items ≡ node_cost_at f.is_new c (tree_at (subtrees f.tree) (length changes)))
+    (done : IsDone f.is_new c (tree_at (subtrees f.tree) (length changes)) (get_or f.nodes (length changes) not_worked_out) d) where
+  pub begun_one : IsBegun f c new (ticked cost items)
+  begun_one = begun_more f c changes new d cost items (ticked cost items) begun (node_left f changes left begun.known) is refl costs done
+
+-- what was put behind is taken off again
+rolled_at : (inner after : List NodeChange) (d : NodeChange) → take (length (inner ++ d ∷ [])) after ≡ inner ++ d ∷ [] → take (length inner) after ≡ inner
+rolled_at [] after d h = refl
+rolled_at (x ∷ inner) [] d h = let never : [] ≡ x ∷ (inner ++ d ∷ []) = h in absurd cc
+rolled_at (x ∷ inner) (y ∷ after) d h =
+    let first : y ≡ x = cc in
+    let rest : take (length (inner ++ d ∷ [])) after ≡ inner ++ d ∷ [] = cc in
+    ap (λ z. z ∷ take (length inner) after) first ∙ ap (λ ds. x ∷ ds) (rolled_at inner after d rest)
+
+pub rolled : (inner more after : List NodeChange) (d : NodeChange) → more ≡ inner ++ d ∷ [] → take (length more) after ≡ more → take (length inner) after ≡ inner
+rolled inner more after d is kept = rolled_at inner after d (subst (λ (ds : List NodeChange). take (length ds) after ≡ ds) is kept)

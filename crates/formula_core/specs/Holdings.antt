@@ -1,0 +1,63 @@
+-- What the nodes of a formula keep, and what changes of it.
+use Rattle.std.specs.Prelude.{ℕ, ◌<◌, List, Option, None, Err, length, get_or, map}
+use Rattle.arrays_core.specs.Arrays.{ArrayValue}
+use Rattle.arrays_core.specs.declared.item.Kind.TheVariants.{Value}
+use Rattle.index_region.specs.declared.delta.Delta.TheVariants.{Same}
+use Rattle.change_rules.specs.Currency.{applied}
+use Rattle.apl_expr.specs.Trees.{Tree}
+use Rattle.formula_core.specs.declared.kept.Kept.{Kept}
+use Rattle.formula_core.specs.declared.kept.NodeChange.{NodeChange}
+use Rattle.formula_core.specs.declared.sums.SumsDelta.TheVariants as sums
+use Rattle.formula_core.specs.declared.table.Node.{Node}
+use Rattle.formula_core.specs.Changes.{FitsIn, each_with}
+use Rattle.formula_core.specs.Meaning.{eval}
+use Rattle.formula_core.specs.Outcomes.{Outcome, fault}
+use Rattle.formula_core.specs.Sums.{summed_at, resummed, FitsSums}
+
+-- what a node holds: its result, and the array of whose lines it keeps the sums, if it does
+pub record Holding : Type 0 where
+  pub result : Outcome
+  pub sums : Option ArrayValue
+
+-- where it was not worked out yet
+abbrev pub not_worked_out : Holding
+not_worked_out = record { result = Err (fault Value); sums = None }
+
+-- where the names show these, of the node of a tree
+abbrev pub holding_at : (List ℕ → Outcome) → Tree → Holding
+holding_at names t = record { result = eval t names; sums = summed_at names t }
+
+-- what the code's nodes hold, and what they apply
+abbrev pub holding : Kept → Holding
+holding k = record { result = k.result; sums = k.sums }
+
+abbrev pub holdings_of : List Kept → List Holding
+holdings_of nodes = map holding nodes
+
+abbrev pub nodes_of : List Kept → List Node
+nodes_of nodes = map (λ k. k.node) nodes
+
+-- nothing changes of a node
+abbrev pub no_change : NodeChange
+no_change = record { delta = Same; sums = sums.Same }
+
+-- what a node holds, with its change
+abbrev pub taking : NodeChange → Holding → Holding
+taking d h = record { result = applied d.delta h.result; sums = resummed d.sums h.sums }
+
+-- a node that took its change
+abbrev pub taken : NodeChange → Kept → Kept
+taken d k = record { node = k.node; result = applied d.delta k.result; sums = resummed d.sums k.sums }
+
+-- what nodes hold, with their changes
+abbrev pub adopted : List NodeChange → List Holding → List Holding
+adopted changes held = each_with taking changes held
+
+-- the boxes that change lie in what the node holds
+pub record IsFit (d : NodeChange) (h : Holding) : Type 0 where
+  pub delta : FitsIn d.delta h.result
+  pub sums : FitsSums d.sums h.sums
+
+-- so it is with each node that has a change
+abbrev pub AllFit : List NodeChange → List Holding → Type 0
+AllFit changes held = (k : ℕ) → k < length changes → IsFit (get_or changes k no_change) (get_or held k not_worked_out)

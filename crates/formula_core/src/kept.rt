@@ -1,0 +1,93 @@
+//! A node with what it keeps, and what changes of that.
+
+ghost use Rattle.std.specs.Prelude.{◌≡◌, length, None, Err};
+ghost use Rattle.arrays_core.specs.declared.item.Kind.TheVariants.{Value};
+ghost use Rattle.change_rules.specs.Currency.{applied};
+ghost use Rattle.formula_core.specs.Changes.{FitsIn, each_with};
+ghost use Rattle.formula_core.specs.Outcomes.{fault};
+ghost use Rattle.formula_core.specs.Holdings.{holding, holdings_of, taken, IsFit, AllFit};
+
+use crate::sums::{SumsDelta, take_sums_delta};
+use crate::table::Node;
+use arrays_core::{Array, Fault, Kind};
+use index_region::Delta;
+use sum_rules::LineSums;
+
+/// A node of a formula with what it keeps.
+#[derive(Drop)]
+pub(crate) struct Kept {
+    /// What it applies.
+    pub(crate) node: Node,
+    /// The result that it was last given.
+    pub(crate) result: Result<Array, Fault>,
+    /// The sums of the lines of its argument, where it is the total of an array.
+    pub(crate) sums: Option<LineSums>,
+}
+
+/// What changes of a node.
+#[derive(Drop)]
+pub(crate) struct NodeChange {
+    /// Of its result.
+    pub(crate) delta: Delta,
+    /// Of the sums that it keeps.
+    pub(crate) sums: SumsDelta,
+}
+
+impl Kept {
+    /// A node that was not worked out yet.
+    pub(crate) fn new(node: Node) -> Kept
+        ensures { result ≡ record { node = node; result = Err (fault Value); sums = None } }
+    {
+        Kept {
+            node,
+            result: Err(unknown()),
+            sums: None,
+        }
+    }
+
+    /// Takes its change. No memory is asked for.
+    fn adopt(&mut self, change: NodeChange)
+        requires { IsFit change (holding self.old) }
+        ensures { self.new ≡ taken change self.old }
+    {
+        adopt_change(&mut self.result, change.delta);
+        take_sums_delta(&mut self.sums, change.sums);
+    }
+}
+
+/// The error of what was not worked out yet.
+pub(crate) fn unknown() -> Fault
+    ensures { result ≡ fault Value }
+{
+    Fault {
+        kind: Kind::Value,
+        origin: None,
+    }
+}
+
+/// The result of a node takes its change. No memory is asked for: a patch writes its items where they lie.
+fn adopt_change(held: &mut Result<Array, Fault>, change: Delta)
+    requires { FitsIn change held.old }
+    ensures { held.new ≡ applied change held.old }
+{
+    match change {
+        Delta::Same => {}
+        Delta::Whole(outcome) => *held = outcome,
+        Delta::Patch(patch) => {
+            if let Ok(array) = held {
+                patch.write_into(array);
+            }
+        }
+    }
+}
+
+/// Each node takes its change.
+pub(crate) fn adopt_all(nodes: &mut Vec<Kept>, mut changes: Vec<NodeChange>)
+    requires each { length changes.items ≡ length nodes.old.items }
+    requires fit { AllFit changes.items (holdings_of nodes.old.items) }
+    ensures { nodes.new.items ≡ each_with taken changes.items nodes.old.items }
+{
+    while let Some(change) = changes.pop() {
+        nodes[changes.len()].adopt(change);
+    }
+}

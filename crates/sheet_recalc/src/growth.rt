@@ -1,0 +1,46 @@
+//! Room that a change needs beyond what the sheet has, brought along by the change.
+
+ghost use Rattle.std.specs.Prelude.{◌≡◌, IfOk};
+ghost use Rattle.std.specs.Str.{bytes_eq};
+ghost use Rattle.dep_order.specs.Users.{Uses, HasRoomFor, HasNoEmptyBut};
+ghost use Rattle.sheet_recalc.specs.Pending.{Brings};
+
+use crate::entry::Entry;
+use apl_tokens::Name;
+use dep_order::{Users, larger_map, sets_for};
+use indexmap::IndexMap;
+use std::alloc::{AllocError, Global};
+
+/// What a sheet lacks for one more entry: larger tables where its own are full, and sets of users.
+#[derive(Drop)]
+pub(crate) struct Growth {
+    pub(crate) entries: Option<IndexMap<Name, Entry>>,
+    pub(crate) users: Option<Users<Name>>,
+    pub(crate) sets: Users<Name>,
+}
+
+/// What lacks for one more entry, in whose formula these names stand. Nothing is copied.
+pub(crate) fn growth_for(
+    alloc: Global,
+    entries: &IndexMap<Name, Entry>,
+    users: &Users<Name>,
+    references: &[Name],
+) -> Result<Growth, AllocError>
+    ensures { IfOk result (Brings (record { entries = entries.now; users = users.now }) references.now) }
+{
+    let sets = sets_for(alloc, users, references)?;
+    Ok(Growth {
+        entries: larger_map(alloc, entries, 1)?,
+        users: larger_map(alloc, users, sets.len())?,
+        sets,
+    })
+}
+
+/// Nothing lacks.
+pub(crate) fn no_growth(alloc: Global) -> Growth {
+    Growth {
+        entries: None,
+        users: None,
+        sets: IndexMap::new(alloc),
+    }
+}
