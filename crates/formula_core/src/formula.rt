@@ -166,6 +166,7 @@ impl Formula {
     }
 
     /// The changes of the literals and names that come next, until a function does.
+    #[inline]
     fn go_on(&self, changes: &mut Vec<NodeChange>, inputs: &[Input]) -> Result<(), AllocError>
         requires begun { (c : Change) × (IsTold self.now c inputs.now × ((cost : ℕ) × IsBegun self.now c changes.old.items cost)) }
         ensures kept { take (length changes.old.items) changes.new.items ≡ changes.old.items }
@@ -182,6 +183,7 @@ impl Formula {
     }
 
     /// What changes of the node that comes next after those that have these changes, and what it costs.
+    #[inline]
     fn next(
         &self,
         changes: &[NodeChange],

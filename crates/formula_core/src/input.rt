@@ -7,6 +7,7 @@ ghost use Rattle.change_rules.specs.Nodes.{is_whole};
 ghost use Rattle.formula_core.specs.Changes.{FitsIn};
 ghost use Rattle.formula_core.specs.Inputs.{shown, stays, delta_of, HasFit, IsInput};
 
+use crate::kept::unknown;
 use arrays_core::{Array, Fault};
 use index_region::{Delta, Seen};
 use std::alloc::AllocError;
@@ -23,6 +24,16 @@ pub enum Input<'a> {
         /// There was something else before.
         changed: bool,
     },
+}
+
+impl Default for Input<'_> {
+    /// What an absent name shows, as it did before.
+    fn default() -> Self {
+        Input::Bad {
+            fault: unknown(),
+            changed: false,
+        }
+    }
 }
 
 impl<'a> Input<'a> {

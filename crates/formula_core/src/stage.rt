@@ -77,6 +77,7 @@ impl<'a> Stage<'a> {
     }
 
     /// What changes of the next node, and what it costs.
+    #[inline]
     pub(crate) fn next(&self, meter: &mut Meter) -> Result<(NodeChange, u32), AllocError>
         requires below { length self.now.changes.now < length self.now.nodes.now }
         requires staged { StagedBy self.now }

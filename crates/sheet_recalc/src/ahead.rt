@@ -20,7 +20,7 @@ ghost use Rattle.sheet_recalc.specs.ProposedSheet.{proposed_names, proposed_chan
 ghost use Rattle.sheet_recalc.specs.Planning.{IsProposed, IsAhead, ArePlans, IsDone, NeedsNoPlan, IsPlanAt, name_cost};
 
 use crate::entry::arisen_in;
-use crate::evaluation::input_at_rest;
+use crate::evaluation::{Inputs, input_at_rest};
 use crate::planning::Plans;
 use crate::proposal::Proposal;
 use crate::proposed_sheet::ProposedSheet;
@@ -29,6 +29,7 @@ use arrays_core::{Fault, Kind};
 use change_core::Meter;
 use formula_core::{Formula, Input, Plan};
 use index_region::Delta;
+use smallvec::SmallVec;
 use std::alloc::{AllocError, Global};
 
 /// What names show ahead of a change: what stands, with the plans that are made so far.
@@ -65,19 +66,19 @@ pub(crate) fn plan_of(
         unchanged: &unchanged,
     };
     let inputs = ahead.inputs_of(alloc, formula.references())?;
-    formula.plan(&inputs, meter)
+    formula.plan(inputs.as_slice(), meter)
 }
 
 impl Ahead<'_, '_> {
     /// What each of these names shows, with what changed of it.
-    fn inputs_of(&self, alloc: Global, references: &[Name]) -> Result<Vec<Input<'_>>, AllocError>
+    fn inputs_of(&self, alloc: Global, references: &[Name]) -> Result<Inputs<'_>, AllocError>
         requires ahead { IsAhead self.now }
         requires done { (x : List ℕ) → Contains references.now x → IsDone self.now.proposed.now self.now.plans.now.entries x }
         ensures inputs { IfOk result (λ inputs. AreInputs (proposed_change self.now.proposed.now) references.now inputs.items) }
         ensures changed { IfOk result (λ inputs. (x : List ℕ) → Contains references.now x → IsNameChanged (proposed_change self.now.proposed.now) x) }
         ensures sound { IfOk result (λ inputs. (x : List ℕ) → Contains references.now x → IsNameSound (proposed_change self.now.proposed.now) x) }
     {
-        let mut inputs = Vec::new(alloc);
+        let mut inputs = SmallVec::new(alloc);
         for reference in references {
             inputs.push(self.input_of(*reference))?;
         }

@@ -22,7 +22,11 @@ use change_core::Meter;
 use formula_core::{Formula, Input, Plan};
 use index_region::{Delta, Seen};
 use indexmap::IndexMap;
+use smallvec::SmallVec;
 use std::alloc::{AllocError, Global};
+
+/// What the names of a formula show: up to four lie where they are.
+pub(crate) type Inputs<'a> = SmallVec<Input<'a>, 4>;
 
 /// The plan of a new formula of an expression, where the names show what they show: its change is what the expression gives.
 pub(crate) fn plan_at_rest(
@@ -39,7 +43,7 @@ pub(crate) fn plan_at_rest(
     let formula = Formula::build(alloc, tree)?;
     let unchanged = Delta::Same;
     let inputs = inputs_at_rest(alloc, entries, formula.references(), &unchanged)?;
-    formula.plan(&inputs, meter)
+    formula.plan(inputs.as_slice(), meter)
 }
 
 /// What each of these names shows, of which nothing changed.
@@ -48,13 +52,13 @@ fn inputs_at_rest<'a>(
     entries: &'a IndexMap<Name, Entry>,
     references: &[Name],
     unchanged: &'a Delta,
-) -> Result<Vec<Input<'a>>, AllocError>
+) -> Result<Inputs<'a>, AllocError>
     requires current { IsCurrent entries.now.entries }
     requires unchanged { unchanged.now ≡ Same }
     ensures inputs { IfOk result (λ inputs. AreInputs (at_rest (names_of entries.now.entries)) references.now inputs.items) }
     ensures sound { IfOk result (λ inputs. (x : List ℕ) → Contains references.now x → IsNameSound (at_rest (names_of entries.now.entries)) x) }
 {
-    let mut inputs = Vec::new(alloc);
+    let mut inputs = SmallVec::new(alloc);
     for reference in references {
         inputs.push(input_at_rest(entries, *reference, unchanged))?;
     }

@@ -10,7 +10,7 @@ plan-requires c =
     let o = c.args.proposed.now in
     let told = c.in_ok-inputs.ensures in (
       proposed_change o,
-      subst (λ (inputs : List Input). IsTold c.args.formula.now (proposed_change o) inputs) (sym c.deref.ensures.value)
+      subst (λ (inputs : List Input). IsTold c.args.formula.now (proposed_change o) inputs) (sym c.as_slice.ensures)
           (formula_told o c.requires.proposed c.args.name c.args.formula.now c.requires.held c.references.result.now c.in_ok-inputs.inputs.items c.references.ensures told.inputs told.changed told.sound),
     )
 
@@ -18,8 +18,8 @@ pub returns-clause-planned : goal.returns-clause-planned
 returns-clause-planned c =
     let o = c.args.proposed.now in
     let told = c.in_ok-inputs.ensures in
-    plan_made o c.args.name c.args.formula.now c.requires.held c.deref.result.now c.plan.result
-    (subst (λ (inputs : List Input). IsTold c.args.formula.now (proposed_change o) inputs) (sym c.deref.ensures.value)
+    plan_made o c.args.name c.args.formula.now c.requires.held c.as_slice.result.now c.plan.result
+    (subst (λ (inputs : List Input). IsTold c.args.formula.now (proposed_change o) inputs) (sym c.as_slice.ensures)
     (formula_told o c.requires.proposed c.args.name c.args.formula.now c.requires.held c.references.result.now c.in_ok-inputs.inputs.items c.references.ensures told.inputs told.changed told.sound))
     c.plan.ensures.of c.plan.ensures.planned
 
@@ -27,8 +27,8 @@ pub returns-clause-cost : goal.returns-clause-cost
 returns-clause-cost c =
     let o = c.args.proposed.now in
     let told = c.in_ok-inputs.ensures in
-    plan_costs o c.requires.proposed c.args.name c.args.formula.now c.requires.held c.deref.result.now c.plan.result
-    (subst (λ (inputs : List Input). IsTold c.args.formula.now (proposed_change o) inputs) (sym c.deref.ensures.value)
+    plan_costs o c.requires.proposed c.args.name c.args.formula.now c.requires.held c.as_slice.result.now c.plan.result
+    (subst (λ (inputs : List Input). IsTold c.args.formula.now (proposed_change o) inputs) (sym c.as_slice.ensures)
     (formula_told o c.requires.proposed c.args.name c.args.formula.now c.requires.held c.references.result.now c.in_ok-inputs.inputs.items c.references.ensures told.inputs told.changed told.sound))
     c.plan.ensures.planned
 
@@ -38,5 +38,5 @@ returns-clause-ticks c =
     let told = c.in_ok-inputs.ensures in
     subst (λ n. c.plan.new.meter.ticks ≤ c.args.meter.now.ticks + n) (formula_cost o c.requires.proposed c.args.name c.args.formula.now c.requires.held)
     (c.plan.ensures.ticks (proposed_change o)
-    (subst (λ (inputs : List Input). IsTold c.args.formula.now (proposed_change o) inputs) (sym c.deref.ensures.value)
+    (subst (λ (inputs : List Input). IsTold c.args.formula.now (proposed_change o) inputs) (sym c.as_slice.ensures)
     (formula_told o c.requires.proposed c.args.name c.args.formula.now c.requires.held c.references.result.now c.in_ok-inputs.inputs.items c.references.ensures told.inputs told.changed told.sound)))

@@ -18,7 +18,7 @@ loop-reference-preserved c =
     let now = c.loop-reference.invariant in
     record {
       inputs = subst (λ (ns : List (List ℕ)). AreInputs rest ns c.push.new.self.items) (sym more)
-          (subst (λ (is : List Input). AreInputs rest (done ++ x ∷ []) is) (sym {A = List Input} c.in_ok-push.ensures.items)
+          (subst (λ (is : List Input). AreInputs rest (done ++ x ∷ []) is) (sym {A = List Input} c.in_ok-push.ensures.ok)
           (inputs_more rest done c.loop-reference.inputs.items x c.input_at_rest.result now.inputs c.input_at_rest.ensures.input));
       sound = subst (λ (ns : List (List ℕ)). (y : List ℕ) → Contains ns y → IsNameSound rest y) (sym more)
           (all_more (IsNameSound rest) done x now.sound (record { old = c.input_at_rest.ensures.sound; new = c.input_at_rest.ensures.sound }));

@@ -14,33 +14,33 @@ plan-requires c =
     let names = names_of c.args.entries.now.entries in
     let t = tree_of c.args.tree in
     let refs : c.references.result.now ≡ names_in t = c.references.ensures ∙ ap (λ (f : FormulaValue). names_in f.tree) c.in_ok-formula.ensures in
-    let are : AreInputs (at_rest names) (names_in t) c.deref.result.now = rw c.deref.ensures.value (subst (λ (ns : List (List ℕ)). AreInputs (at_rest names) ns c.in_ok-inputs.inputs.items) refs c.in_ok-inputs.ensures.inputs) in
+    let are : AreInputs (at_rest names) (names_in t) c.as_slice.result.now = rw c.as_slice.ensures (subst (λ (ns : List (List ℕ)). AreInputs (at_rest names) ns c.in_ok-inputs.inputs.items) refs c.in_ok-inputs.ensures.inputs) in
     let sound = subst (λ (ns : List (List ℕ)). (x : List ℕ) → Contains ns x → IsNameSound (at_rest names) x) refs c.in_ok-inputs.ensures.sound in
-    (at_rest names, told_at_rest names t c.deref.result.now are sound c.in_ok-formula.formula c.in_ok-formula.ensures)
+    (at_rest names, told_at_rest names t c.as_slice.result.now are sound c.in_ok-formula.formula c.in_ok-formula.ensures)
 
 pub returns-clause-delta : goal.returns-clause-delta
 returns-clause-delta c =
     let names = names_of c.args.entries.now.entries in
     let t = tree_of c.args.tree in
     let refs : c.references.result.now ≡ names_in t = c.references.ensures ∙ ap (λ (f : FormulaValue). names_in f.tree) c.in_ok-formula.ensures in
-    let are : AreInputs (at_rest names) (names_in t) c.deref.result.now = rw c.deref.ensures.value (subst (λ (ns : List (List ℕ)). AreInputs (at_rest names) ns c.in_ok-inputs.inputs.items) refs c.in_ok-inputs.ensures.inputs) in
+    let are : AreInputs (at_rest names) (names_in t) c.as_slice.result.now = rw c.as_slice.ensures (subst (λ (ns : List (List ℕ)). AreInputs (at_rest names) ns c.in_ok-inputs.inputs.items) refs c.in_ok-inputs.ensures.inputs) in
     let sound = subst (λ (ns : List (List ℕ)). (x : List ℕ) → Contains ns x → IsNameSound (at_rest names) x) refs c.in_ok-inputs.ensures.sound in
-    delta_at_rest names t c.deref.result.now are sound c.in_ok-formula.formula c.in_ok-formula.ensures c.plan.result c.plan.ensures.planned
+    delta_at_rest names t c.as_slice.result.now are sound c.in_ok-formula.formula c.in_ok-formula.ensures c.plan.result c.plan.ensures.planned
 
 pub returns-clause-cost : goal.returns-clause-cost
 returns-clause-cost c =
     let names = names_of c.args.entries.now.entries in
     let t = tree_of c.args.tree in
     let refs : c.references.result.now ≡ names_in t = c.references.ensures ∙ ap (λ (f : FormulaValue). names_in f.tree) c.in_ok-formula.ensures in
-    let are : AreInputs (at_rest names) (names_in t) c.deref.result.now = rw c.deref.ensures.value (subst (λ (ns : List (List ℕ)). AreInputs (at_rest names) ns c.in_ok-inputs.inputs.items) refs c.in_ok-inputs.ensures.inputs) in
+    let are : AreInputs (at_rest names) (names_in t) c.as_slice.result.now = rw c.as_slice.ensures (subst (λ (ns : List (List ℕ)). AreInputs (at_rest names) ns c.in_ok-inputs.inputs.items) refs c.in_ok-inputs.ensures.inputs) in
     let sound = subst (λ (ns : List (List ℕ)). (x : List ℕ) → Contains ns x → IsNameSound (at_rest names) x) refs c.in_ok-inputs.ensures.sound in
-    cost_at_rest names t c.deref.result.now are sound c.in_ok-formula.formula c.in_ok-formula.ensures c.plan.result c.plan.ensures.planned
+    cost_at_rest names t c.as_slice.result.now are sound c.in_ok-formula.formula c.in_ok-formula.ensures c.plan.result c.plan.ensures.planned
 
 pub returns-clause-ticks : goal.returns-clause-ticks
 returns-clause-ticks c =
     let names = names_of c.args.entries.now.entries in
     let t = tree_of c.args.tree in
     let refs : c.references.result.now ≡ names_in t = c.references.ensures ∙ ap (λ (f : FormulaValue). names_in f.tree) c.in_ok-formula.ensures in
-    let are : AreInputs (at_rest names) (names_in t) c.deref.result.now = rw c.deref.ensures.value (subst (λ (ns : List (List ℕ)). AreInputs (at_rest names) ns c.in_ok-inputs.inputs.items) refs c.in_ok-inputs.ensures.inputs) in
+    let are : AreInputs (at_rest names) (names_in t) c.as_slice.result.now = rw c.as_slice.ensures (subst (λ (ns : List (List ℕ)). AreInputs (at_rest names) ns c.in_ok-inputs.inputs.items) refs c.in_ok-inputs.ensures.inputs) in
     let sound = subst (λ (ns : List (List ℕ)). (x : List ℕ) → Contains ns x → IsNameSound (at_rest names) x) refs c.in_ok-inputs.ensures.sound in
-    ticks_at_rest names t c.deref.result.now are sound c.in_ok-formula.formula c.in_ok-formula.ensures c.args.meter.now.ticks c.plan.new.meter.ticks c.plan.result c.plan.ensures.ticks
+    ticks_at_rest names t c.as_slice.result.now are sound c.in_ok-formula.formula c.in_ok-formula.ensures c.args.meter.now.ticks c.plan.new.meter.ticks c.plan.result c.plan.ensures.ticks

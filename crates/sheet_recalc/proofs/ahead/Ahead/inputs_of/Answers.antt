@@ -18,7 +18,7 @@ loop-reference-preserved c =
     let now = c.loop-reference.invariant in
     record {
       inputs = subst (λ (ns : List (List ℕ)). AreInputs change ns c.push.new.self.items) (sym more)
-          (subst (λ (is : List Input). AreInputs change (done ++ x ∷ []) is) (sym {A = List Input} c.in_ok-push.ensures.items)
+          (subst (λ (is : List Input). AreInputs change (done ++ x ∷ []) is) (sym {A = List Input} c.in_ok-push.ensures.ok)
           (inputs_more change done c.loop-reference.inputs.items x c.input_of.result now.inputs c.input_of.ensures.input));
       changed = subst (λ (ns : List (List ℕ)). (y : List ℕ) → Contains ns y → IsNameChanged change y) (sym more) (all_more (IsNameChanged change) done x now.changed c.input_of.ensures.changed);
       sound = subst (λ (ns : List (List ℕ)). (y : List ℕ) → Contains ns y → IsNameSound change y) (sym more) (all_more (IsNameSound change) done x now.sound c.input_of.ensures.sound);
