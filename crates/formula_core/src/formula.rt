@@ -95,7 +95,7 @@ impl Formula {
     }
 
     /// The same, lent as it is held.
-    pub fn held(&self) -> &Result<Array, Fault>
+    fn held(&self) -> &Result<Array, Fault>
         ensures { result.now ≡ root_result self.now.nodes }
     {
         &self.nodes[self.nodes.len() - 1].result

@@ -6,6 +6,7 @@ ghost use Rattle.change_rules.specs.Currency.{applied};
 ghost use Rattle.change_rules.specs.Nodes.{is_whole};
 ghost use Rattle.formula_core.specs.Changes.{FitsIn};
 ghost use Rattle.formula_core.specs.Inputs.{shown, stays, delta_of, HasFit, IsInput};
+ghost use Rattle.formula_core.specs.Outcomes.{read};
 
 use crate::kept::unknown;
 use arrays_core::{Array, Fault};
@@ -87,11 +88,24 @@ impl<'a> Input<'a> {
     }
 
     /// What a node gives now that held a result, with the change of that.
-    pub fn of_node(held: &'a Result<Array, Fault>, change: &'a Delta) -> Input<'a>
+    pub(crate) fn of_node(held: &'a Result<Array, Fault>, change: &'a Delta) -> Input<'a>
         requires { FitsIn change.now held.now }
         ensures is { IsInput (applied change.now held.now) change.now result }
         ensures held { IfOk held.now IsArray }
         ensures sound { IfOk (applied change.now held.now) IsArray }
+    {
+        match held {
+            Ok(array) => Input::of(&Ok(array), change),
+            Err(fault) => Input::of(&Err(*fault), change),
+        }
+    }
+
+    /// What gave this before gives now, with the change of that.
+    pub fn of(held: &Result<&'a Array, Fault>, change: &'a Delta) -> Input<'a>
+        requires { FitsIn change.now (read held.now) }
+        ensures is { IsInput (applied change.now (read held.now)) change.now result }
+        ensures held { IfOk (read held.now) IsArray }
+        ensures sound { IfOk (applied change.now (read held.now)) IsArray }
     {
         let input = Input::with_change(held, change);
         if let Ok(array) = held {
@@ -104,9 +118,9 @@ impl<'a> Input<'a> {
     }
 
     /// The same, which does not tell that it is of arrays.
-    fn with_change(held: &'a Result<Array, Fault>, change: &'a Delta) -> Input<'a>
-        requires { FitsIn change.now held.now }
-        ensures { IsInput (applied change.now held.now) change.now result }
+    fn with_change(held: &Result<&'a Array, Fault>, change: &'a Delta) -> Input<'a>
+        requires { FitsIn change.now (read held.now) }
+        ensures { IsInput (applied change.now (read held.now)) change.now result }
     {
         match (held, change) {
             (_, Delta::Whole(Ok(array))) => Input::Good(Seen::plain(array), change),

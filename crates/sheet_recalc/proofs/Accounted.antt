@@ -13,10 +13,6 @@ use Rattle.sheet_recalc.specs.Costs.{sheet_change, formulas_cost}
 use Rattle.sheet_recalc.proofs.Binding.{rebound_own, rebound_same}
 use Rattle.sheet_recalc.proofs.Live.{val_data}
 
--- the same names before and after, and the same change, cost the same
-pub cost_same : (old old' new new' : Names) (name : List ℕ) (own own' : Delta) → old ≡ old' → new ≡ new' → own ≡ own' → formulas_cost name (sheet_change old new name own) new ≡ formulas_cost name (sheet_change old' new' name own') new'
-cost_same old old' new new' name own own' e f g = λ i. formulas_cost name (sheet_change (e i) (f i) name (g i)) (f i)
-
 -- a name that is bound to an array shows it
 pub shows_put : (names : Names) (name : List ℕ) (a : ArrayValue) → val (put names name (Data a)) name ≡ Ok a
 shows_put names name a = val_data (put names name (Data a)) name a (rebound_own names name (Some (Data a)))
@@ -44,9 +40,6 @@ expression_few spent expression before meter is made none = omega (arith, is, ma
 pub formulas_alone : (cost total : ℕ) → total ≡ ticked 0 cost → total ≡ ticked 0 (0 + cost)
 formulas_alone cost total is = omega (arith, is)
 
-pub alone_ticks : (cost before after ticks total : ℕ) → before ≡ 0 → after ≤ before + cost → ticks ≡ after → ticks < 18446744073709551616 → total ≡ ticked 0 cost → ticks ≤ total
-alone_ticks cost before after ticks total none made is fits sum = omega (arith, none, made, is, fits, sum)
-
 -- where other data is put under a name that holds data, each name refers to what it did
 pub table_kept : {S : Type 0} (names : Names) (name : List ℕ) (a b : ArrayValue) (users : List (List ℕ × IndexSet (List ℕ) S)) → binding names name ≡ Some (Data a) → IsTable names users → IsTable (put names name (Data b)) users
 table_kept {S} names name a b users held tells x y = (
@@ -62,10 +55,3 @@ table_kept {S} names name a b users held tells x y = (
 
     apart_now : (t : Tree) → binding (put names name (Data b)) x ≡ Some (Formula t) → x ≢ name
     apart_now t is e = never b t (sym (rebound_own names name (Some (Data b))) ∙ (ap (binding (put names name (Data b))) (sym e) ∙ is))
-
--- the array of a change of the whole
-pub same_array : (a b : ArrayValue) → Whole (Ok a) ≡ Whole (Ok b) → a ≡ b
-same_array a b h = cc
-
-pub formulas_from_none : (cost total : ℕ) → total ≡ ticked 0 cost → total ≡ ticked 0 (0 + cost)
-formulas_from_none cost total is = omega (arith, is)

@@ -1,17 +1,17 @@
 -- A cycle that a new binding makes goes through the name that is bound, and can be walked.
-use Rattle.std.proofs.Common.{◌≡◌, ◌≢◌, ℕ, ◌<◌, ◌≤◌, ◌⊎◌, Bool, true, false, not, List, [], ◌∷◌, length, Some, refl, sym, ◌∙◌, subst, arith, ⊎_elim}
+use Rattle.std.proofs.Common.{◌≡◌, ◌≢◌, ℕ, ◌<◌, ◌≤◌, ◌⊎◌, Bool, true, false, not, List, [], ◌∷◌, length, Option, Some, refl, sym, ap, ◌∙◌, subst, arith, ⊎_elim}
 use Rattle.std.specs.Str.{bytes_eq}
 use Rattle.std.specs.List.{Contains, position_or_len}
+use Rattle.std.specs.Option.{option_map_or}
 use Rattle.std.proofs.lemmas.Bool.{false≢true}
 use Rattle.std.proofs.lemmas.List.Sums.{prefix_len-le-length}
 use Rattle.dep_order.specs.Reachability.{Chain, IsAcyclic}
 use Rattle.dep_order.specs.Follows.{Follows}
 use Rattle.dep_order.proofs.Following.{contains_none, contains_cases, follows_has}
-use Rattle.arrays_core.specs.Arrays.{ArrayValue}
-use Rattle.sheet_recalc.specs.Names.{Names, Data, Formula, put, Refers}
+use Rattle.sheet_recalc.specs.Names.{Names, Binding, Formula, binding, rebound, Refers, referred}
 use Rattle.sheet_recalc.specs.ProposedSheet.{IsReaching}
 use Rattle.sheet_recalc.proofs.NameEquality.{equal-true, equal-same}
-use Rattle.sheet_recalc.proofs.Putting.{lookup_put}
+use Rattle.sheet_recalc.proofs.Binding.{rebound_same, rebound_own}
 use Rattle.sheet_recalc.proofs.Keeping.{cases_name}
 
 -- what one of these needs stands before it
@@ -54,17 +54,17 @@ module _ (names : Names) (name : List ℕ) (found : List (List ℕ)) (reaching :
   pub goes_down : (x y : List ℕ) → x ≢ name → Refers names x y → Contains found y → position_or_len (bytes_eq x) found < position_or_len (bytes_eq y) found
   goes_down x y apart r c = stands_before (λ a b. Refers names b a × (b ≡ name → ⊥)) (λ z. ⊥) found x y reaching.follows c (r, apart) (λ d. d)
 
--- data refers to nothing, so it makes no cycle
-pub no_cycle_by_data : (names : Names) (name : List ℕ) (a : ArrayValue) → IsAcyclic (Refers names) → IsAcyclic (Refers (put names name (Data a)))
-no_cycle_by_data names name a acyclic x r = acyclic x (r.0, before x r.0 x r.1)
+-- a binding in which no name stands, or none, makes no cycle
+pub no_cycle_anew : (names : Names) (name : List ℕ) (b : Option Binding) → option_map_or referred b [] ≡ [] → IsAcyclic (Refers names) → IsAcyclic (Refers (rebound names name b))
+no_cycle_anew names name b none acyclic x r = acyclic x (r.0, before x r.0 x r.1)
   where
-    refers : (x y : List ℕ) → Refers (put names name (Data a)) x y → Refers names x y
-    refers x y r = by (bytes_eq name x) refl
-      where
-        by : (t : Bool) → bytes_eq name x ≡ t → Refers names x y
-        by true is = let never : Some (Data a) ≡ Some (Formula r.0) = rw is at (sym (lookup_put name (Data a) names x) ∙ r.1) in absurd cc
-        by false is = (r.0, rw is at (sym (lookup_put name (Data a) names x) ∙ r.1), r.2)
+    refers : (x y : List ℕ) → Refers (rebound names name b) x y → Refers names x y
+    refers x y r = cases_name (Refers names x y) name x
+        (λ e.
+        let own : b ≡ Some (Formula r.0) = sym (rebound_own names name b) ∙ (ap (binding (rebound names name b)) (sym e) ∙ r.1) in
+        absurd (contains_none y (subst (λ ns. Contains ns y) (ap (λ o. option_map_or referred o []) (sym own) ∙ none) r.2)))
+        (λ apart. (r.0, sym (rebound_same names name b x apart) ∙ r.1, r.2))
 
-    before : (x : List ℕ) (via : List (List ℕ)) (y : List ℕ) → Chain (Refers (put names name (Data a))) x via y → Chain (Refers names) x via y
+    before : (x : List ℕ) (via : List (List ℕ)) (y : List ℕ) → Chain (Refers (rebound names name b)) x via y → Chain (Refers names) x via y
     before x [] y r = refers x y r
     before x (z ∷ zs) y r = (refers x z r.0, before z zs y r.1)

@@ -1,5 +1,6 @@
 -- What a plan makes of a formula makes the name show what it is to show.
 use Rattle.std.proofs.Common.{◌≡◌, ℕ, zero, suc, ◌<◌, ◌-◌, Bool, true, false, List, [], ◌∷◌, ◌++◌, length, map, get_or, Option, Some, None, Result, Ok, Err, IfOk, refl, sym, ap, ◌∙◌, subst, arith, ⊎_elim}
+use Rattle.std.specs.Borrow.{Bor}
 use Rattle.std.specs.Str.{bytes_eq}
 use Rattle.std.specs.Map.{lookup}
 use Rattle.std.specs.List.{Contains}
@@ -10,10 +11,10 @@ use Rattle.std.proofs.lemmas.List.Elements.{Contains-append_cases}
 use Rattle.dep_order.proofs.Following.{contains_one}
 use Rattle.std.proofs.Math.Seq.{get_or-append_seam}
 use Rattle.apl_expr.specs.Trees.{Tree}
-use Rattle.std.specs.Borrow.{Bor}
 use Rattle.arrays_core.specs.Arrays.{ArrayValue, IsArray}
 use Rattle.arrays_core.specs.declared.fault.Fault.{Fault}
 use Rattle.arrays_core.specs.declared.item.Kind.TheVariants.{Value}
+use Rattle.index_region.specs.Patches.{patched}
 use Rattle.index_region.specs.declared.delta.Delta.{Delta}
 use Rattle.index_region.specs.declared.delta.Delta.TheVariants.{Same, Patch, Whole}
 use Rattle.std.specs.declared.alloc.AllocError.{AllocError}
@@ -27,7 +28,7 @@ use Rattle.formula_core.specs.Formulas.{FormulaValue, root_result}
 use Rattle.formula_core.specs.Changes.{Change, FitsIn, IsNameChanged}
 use Rattle.formula_core.specs.declared.kept.NodeChange.{NodeChange}
 use Rattle.formula_core.specs.Holdings.{Holding, holding_at, not_worked_out, no_change, taking, adopted}
-use Rattle.formula_core.specs.Inputs.{shown as input_shown, stays, HasDelta, IsInput, IsNoPatch}
+use Rattle.formula_core.specs.Inputs.{IsInput, IsNoPatch}
 use Rattle.formula_core.specs.Plans.{PlanValue, IsPlanOf, IsPlanned, root_change, node_change, IsNameSound, AreInputs, IsTold, tree_cost}
 use Rattle.formula_core.specs.declared.input.Input.{Input}
 use Rattle.formula_core.specs.declared.input.Input.TheVariants.{Good, Bad}
@@ -37,16 +38,15 @@ use Rattle.sheet_recalc.specs.Meaning.{with_origin, in_formula, shown, val}
 use Rattle.sheet_recalc.specs.Costs.{origin_delta, delta_by, binding_cost}
 use Rattle.sheet_recalc.specs.Entries.{names_of, binding_of}
 use Rattle.sheet_recalc.specs.Live.{IsRight}
-use Rattle.sheet_recalc.specs.ProposedSheet.{bound, proposed_entry, proposed_names, proposed_delta, proposed_change, entry_of}
+use Rattle.sheet_recalc.specs.ProposedSheet.{Outline, data_entry, proposed_entry, own_entry, proposed_names, proposed_delta, proposed_change, entry_of}
 use Rattle.sheet_recalc.specs.Planning.{IsProposed, IsPlanAt, IsUntouched, NeedsNoPlan, IsProposalAt, name_cost}
 use Rattle.sheet_recalc.specs.declared.entry.Entry.{Entry}
 use Rattle.sheet_recalc.specs.declared.entry.Entry.TheVariants as entry
 use Rattle.sheet_recalc.specs.declared.proposal.Proposal.{Proposal}
 use Rattle.sheet_recalc.specs.declared.proposal.Proposal.TheVariants as proposed
-use Rattle.sheet_recalc.specs.declared.proposed_sheet.ProposedSheet.{ProposedSheet}
 use Rattle.sheet_recalc.proofs.NameEquality.{equal-true, equal-same}
 use Rattle.sheet_recalc.proofs.Scratch.{val_absent}
-use Rattle.sheet_recalc.proofs.Live.{val_data}
+use Rattle.sheet_recalc.proofs.Live.{val_data, binding_of_name}
 use Rattle.sheet_recalc.proofs.Proposed.{bound_own, bound_other}
 
 -- an array or an error gets its origin, and so does its change
@@ -97,6 +97,10 @@ bad_origin x d held e f changed from i = record {
   delta = no_patch_by_origin x d i.delta;
 }
 
+-- what is told of something that did not change
+pub rest_input : (d : Delta) → d ≡ Same → (r o : Outcome) → r ≡ o → (i : Input) → IsInput (applied d r) d i → IsInput o Same i
+rest_input d same r o is i told = subst (λ s. IsInput s Same i) is (subst (λ e. IsInput (applied e r) e i) same told)
+
 -- the last of what a function gives for the subtrees is what it gives for the tree
 pub at_root : {X : Type 0} (g : Tree → X) (t : Tree) (d : X) → get_or (map g (subtrees t)) (length (map g (subtrees t)) - 1) d ≡ g t
 at_root g t d =
@@ -126,9 +130,30 @@ module _ (f : FormulaValue) (c : Change) (p : PlanValue) (planned : IsPlanned f 
       ∙ (ap (λ (ds : List Delta). get_or ds (length p.changes - 1) Same) planned.changes
       ∙ (ap (λ k. get_or (map (node_change f.is_new c) (subtrees f.tree)) k Same) last ∙ at_root (node_change f.is_new c) f.tree Same))
 
-module _ (o : ProposedSheet) where
+-- an array or an error is no formula
+no_formula : (r : Outcome) (f : FormulaValue) → data_entry r ≡ Some (entry.Formula f) → ⊥
+no_formula (Ok a) f is = let never : Some (entry.Data a) ≡ Some (entry.Formula f) = is in absurd cc
+no_formula (Err e) f is = let never : None ≡ Some (entry.Formula f) = is in absurd cc
+
+-- what a change makes of what it fits in, it fits in
+fits_after : (d : Delta) (o : Outcome) → FitsIn d o → FitsIn d (applied d o)
+fits_after Same o f = tt
+fits_after (Patch p) (Ok a) f = record { inside = f.inside; typed = f.typed }
+fits_after (Patch p) (Err e) f = f
+fits_after (Whole r) o f = tt
+
+-- data that may be proposed is an array that its change makes of what the name shows
+pub data_made : (es : List (List ℕ × Entry)) (name : List ℕ) (d : Delta) → IsProposalAt es name (proposed.Data d) → (a : ArrayValue) × (applied d (val (names_of es) name) ≡ Ok a) × FitsIn d (val (names_of es) name)
+data_made es name (Whole (Ok a)) h = (a, refl, tt)
+data_made es name (Whole (Err e)) h = absurd h
+data_made es name Same h = absurd h
+data_made es name (Patch p) h =
+    let shows : val (names_of es) name ≡ Ok h.0 = val_data (names_of es) name h.0 (binding_of_name es name ∙ ap (option_map binding_of) h.1) in
+    (patched h.0 p, ap (applied (Patch p)) shows, subst (FitsIn (Patch p)) (sym shows) h.2)
+
+module _ (o : Outline) where
   abbrev es : List (List ℕ × Entry)
-  es = o.entries.now.entries
+  es = o.entries
 
   abbrev old : Names
   old = names_of es
@@ -140,23 +165,18 @@ module _ (o : ProposedSheet) where
   c = proposed_change o
 
   -- what a name's entry is then, and what it is bound to
-  pub entry_own : (q : List ℕ) (r : Option Entry) → bytes_eq q o.name ≡ true → entry_of o q ≡ r → option_map proposed_entry o.proposal ≡ r
+  pub entry_own : (q : List ℕ) (r : Option Entry) → bytes_eq q o.name ≡ true → entry_of o q ≡ r → own_entry o ≡ r
   entry_own q r same is = rw same at is
 
   pub entry_other : (q : List ℕ) (r : Option Entry) → bytes_eq q o.name ≡ false → entry_of o q ≡ r → lookup (bytes_eq q) es ≡ r
   entry_other q r other is = rw other at is
 
-  proposed_binding : (s : Option Proposal) → option_map bound s ≡ option_map binding_of (option_map proposed_entry s)
-  proposed_binding None = refl
-  proposed_binding (Some (proposed.Data a delta)) = refl
-  proposed_binding (Some (proposed.Formula f)) = refl
-
   pub binding_entry : (q : List ℕ) → binding new q ≡ option_map binding_of (entry_of o q)
   binding_entry q = by (bytes_eq q o.name) refl
     where
       by : (t : Bool) → bytes_eq q o.name ≡ t → binding new q ≡ option_map binding_of (entry_of o q)
-      by true is = rw is (bound_own es o.name (option_map bound o.proposal) q is ∙ proposed_binding o.proposal)
-      by false is = rw is (bound_other es o.name (option_map bound o.proposal) q (lookup (bytes_eq q) es) is refl)
+      by true is = rw is (bound_own es o.name (option_map binding_of (own_entry o)) q is)
+      by false is = rw is (bound_other es o.name (option_map binding_of (own_entry o)) q (lookup (bytes_eq q) es) is refl)
 
   module _ (ready : IsProposed o) where
     -- what changes of the name that is bound anew, and of others
@@ -174,18 +194,18 @@ module _ (o : ProposedSheet) where
       pub formula_new : bytes_eq q o.name ≡ true → f.is_new ≡ true
       formula_new same = by o.proposal ready.proposal (entry_own q (Some (entry.Formula f)) same held)
         where
-          by : (s : Option Proposal) → IsProposalAt (val old o.name) s → option_map proposed_entry s ≡ Some (entry.Formula f) → f.is_new ≡ true
-          by None fine is = let never : None ≡ Some (entry.Formula f) = is in absurd cc
-          by (Some (proposed.Data a delta)) fine is = let never : Some (entry.Data a) ≡ Some (entry.Formula f) = is in absurd cc
-          by (Some (proposed.Formula g)) fine is = let this : g.now ≡ f = cc in subst (λ (v : FormulaValue). v.is_new ≡ true) this fine
+          by : (s : Proposal) → IsProposalAt es o.name s → proposed_entry (val old o.name) s ≡ Some (entry.Formula f) → f.is_new ≡ true
+          by (proposed.Formula g) fine is = let this : g ≡ f = cc in subst (λ (v : FormulaValue). v.is_new ≡ true) this fine
+          by (proposed.Data d) fine is = absurd (no_formula (applied d (val old o.name)) f is)
+          by proposed.Removed fine is = let never : None ≡ Some (entry.Formula f) = is in absurd cc
 
       pub own_whole : bytes_eq q o.name ≡ true → proposed_delta o.name new o.proposal ≡ Whole (val new o.name)
       own_whole same = by o.proposal (entry_own q (Some (entry.Formula f)) same held)
         where
-          by : (s : Option Proposal) → option_map proposed_entry s ≡ Some (entry.Formula f) → proposed_delta o.name new s ≡ Whole (val new o.name)
-          by None is = refl
-          by (Some (proposed.Data a delta)) is = let never : Some (entry.Data a) ≡ Some (entry.Formula f) = is in absurd cc
-          by (Some (proposed.Formula g)) is = refl
+          by : (s : Proposal) → proposed_entry (val old o.name) s ≡ Some (entry.Formula f) → proposed_delta o.name new s ≡ Whole (val new o.name)
+          by (proposed.Formula g) is = refl
+          by (proposed.Data d) is = absurd (no_formula (applied d (val old o.name)) f is)
+          by proposed.Removed is = refl
 
       pub formula_old : bytes_eq q o.name ≡ false → IsRight (val old) q (entry.Formula f)
       formula_old other = ready.current q (entry.Formula f) (entry_other q (Some (entry.Formula f)) other held)
@@ -282,11 +302,11 @@ module _ (o : ProposedSheet) where
             fit : FitsIn (c.delta q) (val new q)
             fit = subst (λ d. FitsIn d (val new q)) planned_delta (subst (FitsIn (origin_delta q root_delta)) planned_shows (origin_fits q root_delta root root_fits))
 
-        pub planned_sound : IfOk (val old o.name) IsArray → IfOk root IsArray → IfOk (applied root_delta root) IsArray → IsNameSound c q
-        planned_sound own before after = record { old = by (bytes_eq q o.name) refl; new = subst (λ r. IfOk r IsArray) planned_shows (origin_sound q (applied root_delta root) after) }
+        pub planned_sound : IfOk root IsArray → IfOk (applied root_delta root) IsArray → IsNameSound c q
+        planned_sound before after = record { old = by (bytes_eq q o.name) refl; new = subst (λ r. IfOk r IsArray) planned_shows (origin_sound q (applied root_delta root) after) }
           where
             by : (t : Bool) → bytes_eq q o.name ≡ t → IfOk (val old q) IsArray
-            by true is = subst (λ x. IfOk (val old x) IsArray) (sym (equal-true q o.name is)) own
+            by true is = subst (λ x. IfOk (val old x) IsArray) (sym (equal-true q o.name is)) ready.sound
             by false is = subst (λ r. IfOk r IsArray) (formula_old is).1 (origin_sound q root before)
 
         pub planned_input : (i : Input) → IsInput (with_origin q (applied root_delta root)) (origin_delta q root_delta) i → IsInput (val new q) (c.delta q) i
@@ -300,52 +320,47 @@ module _ (o : ProposedSheet) where
         fit = subst (λ d. FitsIn d (val new q)) (sym still.same) tt;
       }
 
-      pub untouched_sound : (r : Outcome) → r ≡ val old q → IfOk r IsArray → IsNameSound c q
-      untouched_sound r is sound = record { old = subst (λ u. IfOk u IsArray) is sound; new = subst (λ u. IfOk u IsArray) (is ∙ sym still.shows) sound }
+      pub untouched_sound : IfOk (val old q) IsArray → IsNameSound c q
+      untouched_sound sound = record { old = sound; new = subst (λ u. IfOk u IsArray) (sym still.shows) sound }
 
-      pub untouched_input : (i : Input) → input_shown i ≡ val old q → stays i ≡ true → HasDelta Same i → IsInput (val new q) (c.delta q) i
-      untouched_input i is stay same = record {
-        is = is ∙ sym still.shows;
-        same = stay ∙ ap is_same (sym still.same);
-        delta = subst (λ d. HasDelta d i) (sym still.same) same;
-      }
+      pub untouched_input : (i : Input) → IsInput (val old q) Same i → IsInput (val new q) (c.delta q) i
+      untouched_input i told = subst (λ d. IsInput (val new q) d i) (sym still.same) (subst (λ r. IsInput r Same i) (sym still.shows) told)
 
     -- the name that is bound anew
-    pub own_bound : binding new o.name ≡ option_map bound o.proposal
-    own_bound = bound_own es o.name (option_map bound o.proposal) o.name (equal-same o.name o.name refl)
+    own_bound : (s : Proposal) → o.proposal ≡ s → binding new o.name ≡ option_map binding_of (proposed_entry (val old o.name) s)
+    own_bound s is = bound_own es o.name (option_map binding_of (own_entry o)) o.name (equal-same o.name o.name refl) ∙ ap (λ p. option_map binding_of (proposed_entry (val old o.name) p)) is
 
-    pub own_formula : (f : Bor FormulaValue) → o.proposal ≡ Some (proposed.Formula f) → NeedsNoPlan o o.name → ⊥
-    own_formula f is done = (done.reads f.now.tree (own_bound ∙ ap (option_map bound) is)).0 refl
+    pub own_formula : (f : FormulaValue) → o.proposal ≡ proposed.Formula f → NeedsNoPlan o o.name → ⊥
+    own_formula f is done = (done.reads f.tree (own_bound (proposed.Formula f) is)).0 refl
 
-    module _ (a : ArrayValue) (delta : Bor Delta) (is : o.proposal ≡ Some (proposed.Data a delta)) where
-      data_shows : val new o.name ≡ Ok a
-      data_shows = val_data new o.name a (own_bound ∙ ap (option_map bound) is)
+    module _ (d : Delta) (is : o.proposal ≡ proposed.Data d) where
+      made : (a : ArrayValue) × (applied d (val old o.name) ≡ Ok a) × FitsIn d (val old o.name)
+      made = data_made es o.name d (subst (λ p. IsProposalAt es o.name p) is ready.proposal)
 
-      data_delta : c.delta o.name ≡ delta.now
-      data_delta = delta_own o.name (equal-same o.name o.name refl) ∙ ap (proposed_delta o.name new) is
+      pub data_fits : FitsIn d (val old o.name)
+      data_fits = made.2
 
-      data_fine : IsProposalAt (val old o.name) (Some (proposed.Data a delta))
-      data_fine = subst (IsProposalAt (val old o.name)) is ready.proposal
+      data_shows : applied d (val old o.name) ≡ val new o.name
+      data_shows = made.1 ∙ sym (val_data new o.name made.0 (own_bound (proposed.Data d) is ∙ ap (λ r. option_map binding_of (data_entry r)) made.1))
 
-      pub data_input : (seen : ArrayValue) → seen ≡ a → IsInput (val new o.name) (c.delta o.name) (Good seen delta)
-      data_input seen same = record {
-        is = ap (λ v. Ok v) same ∙ sym data_shows;
-        same = ap is_same (sym data_delta);
-        delta = sym data_delta;
-      }
+      data_delta : d ≡ c.delta o.name
+      data_delta = sym (delta_own o.name (equal-same o.name o.name refl) ∙ ap (proposed_delta o.name new) is)
+
+      pub data_input : (i : Input) → IsInput (applied d (val old o.name)) d i → IsInput (val new o.name) (c.delta o.name) i
+      data_input i told = subst (λ e. IsInput (val new o.name) e i) data_delta (subst (λ r. IsInput r d i) data_shows told)
 
       pub data_changed : IsNameChanged c o.name
       data_changed = record {
-        right = ap (λ d. applied d (val old o.name)) data_delta ∙ (data_fine.0 ∙ sym data_shows);
-        fit = subst (λ d. FitsIn d (val new o.name)) (sym data_delta) (subst (FitsIn delta.now) (sym data_shows) data_fine.1);
+        right = ap (λ e. applied e (val old o.name)) (sym data_delta) ∙ data_shows;
+        fit = subst (λ e. FitsIn e (val new o.name)) data_delta (subst (FitsIn d) data_shows (fits_after d (val old o.name) data_fits));
       }
 
-      pub data_sound : IfOk (val old o.name) IsArray → IsArray a → IsNameSound c o.name
-      data_sound before after = record { old = before; new = subst (λ r. IfOk r IsArray) (sym data_shows) after }
+      pub data_sound : IfOk (applied d (val old o.name)) IsArray → IsNameSound c o.name
+      data_sound after = record { old = ready.sound; new = subst (λ r. IfOk r IsArray) data_shows after }
 
-    module _ (is : o.proposal ≡ None) where
+    module _ (is : o.proposal ≡ proposed.Removed) where
       none_shows : val new o.name ≡ Err (fault Value)
-      none_shows = val_absent new (length new) o.name (own_bound ∙ ap (option_map bound) is)
+      none_shows = val_absent new (length new) o.name (own_bound proposed.Removed is)
 
       none_delta : c.delta o.name ≡ Whole (val new o.name)
       none_delta = delta_own o.name (equal-same o.name o.name refl) ∙ ap (proposed_delta o.name new) is
@@ -363,11 +378,11 @@ module _ (o : ProposedSheet) where
         fit = subst (λ d. FitsIn d (val new o.name)) (sym none_delta) tt;
       }
 
-      pub none_sound : IfOk (val old o.name) IsArray → IsNameSound c o.name
-      none_sound before = record { old = before; new = subst (λ r. IfOk r IsArray) (sym none_shows) tt }
+      pub none_sound : IsNameSound c o.name
+      none_sound = record { old = ready.sound; new = subst (λ r. IfOk r IsArray) (sym none_shows) tt }
 
 -- the plan of a name is one of the formula that stands there
-pub plan_now : (o : ProposedSheet) (q : List ℕ) (p : PlanValue) (f : FormulaValue) → IsPlanAt o q p → entry_of o q ≡ Some (entry.Formula f) → IsPlanOf f p × IsPlanned f (proposed_change o) p
+pub plan_now : (o : Outline) (q : List ℕ) (p : PlanValue) (f : FormulaValue) → IsPlanAt o q p → entry_of o q ≡ Some (entry.Formula f) → IsPlanOf f p × IsPlanned f (proposed_change o) p
 plan_now o q p f plan held =
     let both : Some (entry.Formula plan.formula) ≡ Some (entry.Formula f) = sym plan.held ∙ held in
     let same : plan.formula ≡ f = cc in
@@ -384,7 +399,7 @@ pub all_more : (P : List ℕ → Type 0) (names : List (List ℕ)) (x : List ℕ
 all_more P names x all one y c = ⊎_elim (λ l. all y l) (λ r. subst P (sym (contains_one x y r)) one) (Contains-append_cases names (x ∷ []) y c)
 
 -- the plan that a formula makes of itself is one of the name
-module _ (o : ProposedSheet) where
+module _ (o : Outline) where
   pub plan_made : (q : List ℕ) (f : FormulaValue) → entry_of o q ≡ Some (entry.Formula f) → (inputs : List Input) (r : Result PlanValue AllocError)
       → IsTold f (proposed_change o) inputs → IfOk r (IsPlanOf f) → IfOk r (λ p. (c : Change) → IsTold f c inputs → IsPlanned f c p) → IfOk r (IsPlanAt o q)
   plan_made q f held inputs (Err e) told fits planned = tt

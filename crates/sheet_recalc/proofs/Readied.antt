@@ -1,82 +1,118 @@
--- A change is ready to be planned, and its plans cost what it costs.
-use Rattle.std.proofs.Common.{◌≡◌, ◌+◌, ◌≤◌, ◌∙◌, ℕ, List, [], Result, Ok, Err, IfOk, OnOk, sym, ap, subst, ◌⊎◌}
-use Rattle.std.specs.declared.alloc.AllocError.{AllocError}
+-- A change is ready to be planned, its plans cost what it costs, and the sheet can be so.
+use Rattle.std.proofs.Common.{◌≡◌, ◌+◌, ◌≤◌, ◌∙◌, ℕ, List, [], length, Option, Some, None, Ok, Err, IfOk, sym, ap, subst, refl, arith, ◌⊎◌}
 use Rattle.std.specs.Str.{bytes_eq}
 use Rattle.std.specs.List.{Contains, IsDistinct}
 use Rattle.std.specs.Map.{keys_of}
 use Rattle.std.specs.Option.{option_map, option_map_or}
-use Rattle.dep_order.specs.Reachability.{Reaches}
-use Rattle.dep_order.specs.Users.{Uses, IsClosed}
-use Rattle.indexmap.specs.IndexSet.{IndexSet}
+use Rattle.arrays_core.specs.Arrays.{IsArray}
 use Rattle.change_core.specs.Meters.{ticked}
+use Rattle.change_rules.specs.Currency.{applied}
+use Rattle.dep_order.specs.Reachability.{Reaches, IsAcyclic}
+use Rattle.dep_order.specs.Users.{Uses, IsClosed}
+use Rattle.formula_core.specs.Outcomes.{Outcome}
+use Rattle.indexmap.specs.IndexSet.{IndexSet}
 use Rattle.index_region.specs.declared.delta.Delta.{Delta}
-use Rattle.sheet_recalc.specs.Names.{Names, referred}
+use Rattle.sheet_recalc.specs.Names.{Names, Binding, rebound, referred, Refers, most_names}
 use Rattle.sheet_recalc.specs.Meaning.{val}
-use Rattle.sheet_recalc.specs.Entries.{names_of}
+use Rattle.sheet_recalc.specs.Changes.{HasRoom}
+use Rattle.sheet_recalc.specs.Entries.{names_of, binding_of}
 use Rattle.sheet_recalc.specs.Live.{IsLive, IsPlanned}
-use Rattle.sheet_recalc.specs.Costs.{formulas_cost}
-use Rattle.sheet_recalc.specs.ProposedSheet.{bound, proposed_names, proposed_change, proposed_delta, proposed_entry}
-use Rattle.sheet_recalc.specs.Planning.{IsProposed, IsProposalAt, IsAffected, names_cost, IsWorkedOut}
+use Rattle.sheet_recalc.specs.ProposedSheet.{Outline, data_entry, proposed_entry, proposed_references, own_entry, proposed_names, proposed_change, proposed_delta, proposed_cost}
+use Rattle.sheet_recalc.specs.Planning.{IsProposed, IsProposalAt, IsAffected, names_cost, IsWorkedOut, CanBe}
 use Rattle.sheet_recalc.specs.declared.entry.Entry.{Entry}
 use Rattle.sheet_recalc.specs.declared.planning.Planned.{Planned}
-use Rattle.sheet_recalc.specs.declared.proposed_sheet.ProposedSheet.{ProposedSheet}
+use Rattle.sheet_recalc.specs.declared.proposal.Proposal.{Proposal}
+use Rattle.sheet_recalc.specs.declared.proposal.Proposal.TheVariants as proposed
 use Rattle.sheet_recalc.proofs.Keeping.{name_order, distinct_once}
-use Rattle.sheet_recalc.proofs.Rebound.{has_order, settled, closed_new, shown_still}
+use Rattle.sheet_recalc.proofs.Putting.{distinct_put}
+use Rattle.sheet_recalc.proofs.Removing.{distinct_others, few_others}
+use Rattle.sheet_recalc.proofs.Refused.{few_put}
+use Rattle.sheet_recalc.proofs.Rebound.{has_order, acyclic, settled, closed_new, shown_still}
 use Rattle.sheet_recalc.proofs.Deltas.{delta_is, delta_unreached}
 use Rattle.sheet_recalc.proofs.Sums.{cost_found}
 
-module _ {S : Type 0} (o : ProposedSheet) (users : List (List ℕ × IndexSet (List ℕ) S)) (live : IsLive o.entries.now.entries users)
-    (found : List (List ℕ)) (closed : IsClosed bytes_eq users found) (named : Contains found o.name) (sound : (a : List ℕ) → Contains found a → (a ≡ o.name) ⊎ Reaches (Uses bytes_eq users) a o.name)
-    (distinct : IsDistinct bytes_eq found) (none : (c : List ℕ) → Contains (option_map_or referred (option_map bound o.proposal) []) c → Contains found c → ⊥) where
-  abbrev es : List (List ℕ × Entry)
-  es = o.entries.now.entries
+-- the names that stand in what a proposal makes are those that stand in it
+pub references_made : (shown : Outcome) (p : Proposal) → option_map_or referred (option_map binding_of (proposed_entry shown p)) [] ≡ proposed_references p
+references_made shown (proposed.Formula f) = refl
+references_made shown (proposed.Data d) = by (applied d shown)
+  where
+    by : (r : Outcome) → option_map_or referred (option_map binding_of (data_entry r)) [] ≡ []
+    by (Ok a) = refl
+    by (Err e) = refl
+references_made shown proposed.Removed = refl
 
+-- names with one of them bound anew, or without it, are still each once, and not too many
+pub distinct_rebound : (names : Names) (name : List ℕ) (b : Option Binding) → IsDistinct bytes_eq (keys_of names) → IsDistinct bytes_eq (keys_of (rebound names name b))
+distinct_rebound names name (Some b) distinct = distinct_put name b names distinct
+distinct_rebound names name None distinct = distinct_others name names distinct
+
+few_rebound : (names : Names) (name : List ℕ) (b : Option Binding) → length names ≤ most_names → HasRoom names name → length (rebound names name b) ≤ most_names
+few_rebound names name (Some b) few room = few_put names name b few room
+few_rebound names name None few room = omega (arith, few_others name names, few)
+
+module _ {S : Type 0} (o : Outline) (users : List (List ℕ × IndexSet (List ℕ) S)) (live : IsLive o.entries users)
+    (found : List (List ℕ)) (closed : IsClosed bytes_eq users found) (named : Contains found o.name) (sound : (a : List ℕ) → Contains found a → (a ≡ o.name) ⊎ Reaches (Uses bytes_eq users) a o.name)
+    (distinct : IsDistinct bytes_eq found) (apart : (c : List ℕ) → Contains (proposed_references o.proposal) c → Contains found c → ⊥) where
   abbrev new : Names
   new = proposed_names o
+
+  abbrev b : Option Binding
+  b = option_map binding_of (own_entry o)
 
   abbrev own : Delta
   own = proposed_delta o.name new o.proposal
 
-  pub ready_proposed : IsProposalAt (val (names_of es) o.name) o.proposal → IsProposed o
-  ready_proposed proposal =
-      let order = has_order es users live o.name (option_map bound o.proposal) found closed named sound distinct none in
+  none : (c : List ℕ) → Contains (option_map_or referred b []) c → Contains found c → ⊥
+  none c stands = apart c (subst (λ (rs : List (List ℕ)). Contains rs c) (references_made (val (names_of o.entries) o.name) o.proposal) stands)
+
+  pub ready_acyclic : IsAcyclic (Refers new)
+  ready_acyclic = acyclic o.entries users live o.name b found closed named sound distinct none
+
+  pub ready_proposed : IsProposalAt o.entries o.name o.proposal → IfOk (val (names_of o.entries) o.name) IsArray → IsProposed o
+  ready_proposed proposal is_sound =
+      let order = has_order o.entries users live o.name b found closed named sound distinct none in
       record {
         current = live.current;
-        settled = settled es users live o.name (option_map bound o.proposal) found closed named sound distinct none;
+        sound = is_sound;
+        settled = settled o.entries users live o.name b found closed named sound distinct none;
         proposal = proposal;
-        deltas = delta_is (names_of es) new o.name own order.0 (name_order new order.0 order.1);
+        deltas = delta_is (names_of o.entries) new o.name own order.0 (name_order new order.0 order.1);
       }
 
   pub ready_affected : IsAffected o found
   ready_affected =
-      let follows = closed_new es users live o.name (option_map bound o.proposal) found closed named sound distinct none in
+      let follows = closed_new o.entries users live o.name b found closed named sound distinct none in
       record {
         named = named;
         closed = follows;
-        untouched = λ q apart. record {
-          shows = shown_still es users live o.name (option_map bound o.proposal) found closed named sound distinct none q apart;
-          same = delta_unreached (names_of es) new o.name own found follows named q apart;
+        untouched = λ q outside. record {
+          shows = shown_still o.entries users live o.name b found closed named sound distinct none q outside;
+          same = delta_unreached (names_of o.entries) new o.name own found follows named q outside;
         };
       }
 
-  pub ready_cost : IsDistinct bytes_eq (keys_of new) → formulas_cost o.name (proposed_change o) new ≡ names_cost o found
-  ready_cost unique =
-      let follows = closed_new es users live o.name (option_map bound o.proposal) found closed named sound distinct none in
-      cost_found new o.name (proposed_change o) found follows named (λ q apart. delta_unreached (names_of es) new o.name own found follows named q apart) unique (distinct_once found distinct)
+  pub ready_cost : proposed_cost o ≡ names_cost o found
+  ready_cost =
+      let follows = closed_new o.entries users live o.name b found closed named sound distinct none in
+      cost_found new o.name (proposed_change o) found follows named (λ q outside. delta_unreached (names_of o.entries) new o.name own found follows named q outside)
+      (distinct_rebound (names_of o.entries) o.name b live.sheet.distinct) (distinct_once found distinct)
+
+  -- the sheet can be so
+  pub ready_names : HasRoom (names_of o.entries) o.name → CanBe o
+  ready_names room = record {
+    kept = has_order o.entries users live o.name b found closed named sound distinct none;
+    sheet = record {
+      distinct = distinct_rebound (names_of o.entries) o.name b live.sheet.distinct;
+      acyclic = ready_acyclic;
+      few = few_rebound (names_of o.entries) o.name b live.sheet.few room;
+    };
+    room = room;
+  }
 
   -- what the plans are, told of all names
-  pub worked_out : IsDistinct bytes_eq (keys_of new) → (before after : ℕ) (p : Planned) → IsPlanned es o.name (option_map proposed_entry o.proposal) new p.plans.entries → p.cost ≡ ticked 0 (names_cost o found) → after ≤ before + names_cost o found
-      → IsWorkedOut es o.name (option_map proposed_entry o.proposal) new own before after p
-  worked_out unique before after p planned cost ticks =
-      let costs = ready_cost unique in
-      record {
-        planned = planned;
-        cost = cost ∙ ap (ticked 0) (sym costs);
-        ticks = subst (λ (n : ℕ). after ≤ before + n) (sym costs) ticks;
-      }
-
-  -- or there are none
-  pub worked_out_or : IsDistinct bytes_eq (keys_of new) → (before after : ℕ) (r : Result Planned AllocError) → IfOk r (λ p. IsPlanned es o.name (option_map proposed_entry o.proposal) new p.plans.entries) → IfOk r (λ p. p.cost ≡ ticked 0 (names_cost o found))
-      → OnOk r (after ≤ before + names_cost o found) → IfOk r (IsWorkedOut es o.name (option_map proposed_entry o.proposal) new own before after)
-  worked_out_or unique before after (Ok p) planned cost ticks = worked_out unique before after p planned cost ticks
-  worked_out_or unique before after (Err e) planned cost ticks = tt
+  pub worked_out : (before after : ℕ) (p : Planned) → IsPlanned o.entries o.name (own_entry o) new p.plans.entries → p.cost ≡ ticked 0 (names_cost o found) → after ≤ before + names_cost o found → IsWorkedOut o before after p
+  worked_out before after p planned cost ticks = record {
+    planned = planned;
+    cost = cost ∙ ap (ticked 0) (sym ready_cost);
+    ticks = subst (λ (n : ℕ). after ≤ before + n) (sym ready_cost) ticks;
+  }

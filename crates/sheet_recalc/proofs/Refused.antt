@@ -1,19 +1,27 @@
 -- Why a change was refused, from why a name could not be bound so.
 use Rattle.std.proofs.Common.{◌≡◌, ◌≤◌, ◌<◌, ◌+◌, ◌∙◌, ℕ, ℤ, List, [], ◌∷◌, length, is_some, IsSome, Option, Some, None, Ok, Err, sym, ap, subst, arith, refl, ⊎_elim}
+use Rattle.std.specs.Option.{option_map, option_map_or}
 use Rattle.std.proofs.lemmas.Bool.{false≢true}
 use Rattle.std.proofs.lemmas.List.{length-map, length-append}
 use Rattle.dep_order.specs.Reachability.{IsAcyclic}
 use Rattle.apl_expr.specs.Trees.{Tree, Literal}
 use Rattle.arrays_core.specs.Arrays.{ArrayValue}
+use Rattle.change_rules.specs.Currency.{applied}
 use Rattle.formula_core.specs.Meaning.{eval}
-use Rattle.sheet_recalc.specs.Names.{Names, Binding, Data, Formula, binding, put, Refers, most_names}
+use Rattle.index_region.specs.Patches.{PatchValue, patched}
+use Rattle.index_region.specs.declared.delta.Delta.TheVariants.{Patch}
+use Rattle.sheet_recalc.specs.Names.{Names, Binding, Data, Formula, binding, put, without, rebound, Refers, referred, most_names}
 use Rattle.sheet_recalc.specs.Meaning.{val}
 use Rattle.sheet_recalc.specs.Cells.{cell_put}
+use Rattle.sheet_recalc.specs.Entries.{binding_of}
+use Rattle.sheet_recalc.specs.ProposedSheet.{data_entry, names_with}
+use Rattle.sheet_recalc.specs.declared.proposal.Proposal.TheVariants as proposed
 use Rattle.sheet_recalc.specs.Rows.{row_put}
-use Rattle.sheet_recalc.specs.Changes.{Define, Store, Put, SetCell, AddRow, Refuses, CannotPut, IsCycleFrom, HasRoom}
+use Rattle.sheet_recalc.specs.Changes.{Define, Store, Put, SetCell, AddRow, Erase, Refuses, CannotBecome, CannotPut, IsCycleFrom, HasRoom}
 use Rattle.sheet_recalc.specs.declared.refusal.Refusal.{Refusal}
 use Rattle.sheet_recalc.specs.declared.refusal.Refusal.TheVariants as why
-use Rattle.sheet_recalc.proofs.Cycles.{no_cycle_by_data}
+use Rattle.sheet_recalc.proofs.Cycles.{no_cycle_anew}
+use Rattle.sheet_recalc.proofs.Live.{val_data}
 use Rattle.sheet_recalc.proofs.Putting.{keys_put, put_last}
 
 pub refused_define : (names : Names) (name : List ℕ) (t : Tree) (cause : Refusal) → CannotPut names name (Formula t) cause → Refuses names (Define name t) cause
@@ -29,13 +37,13 @@ refused_define names name t why.Domain h = h
 refused_define names name t why.Limit h = h
 refused_define names name t (why.Fault e) h = h
 
--- data makes no cycle
+-- a binding in which no name stands makes no cycle
+never_cycle : (names : Names) (name : List ℕ) (b : Option Binding) → option_map_or referred b [] ≡ [] → IsAcyclic (Refers names) → (cycle : List (List ℕ)) → IsCycleFrom (Refers (rebound names name b)) name cycle → ⊥
+never_cycle names name b none acyclic [] h = h
+never_cycle names name b none acyclic (x ∷ via) h = no_cycle_anew names name b none acyclic x (via, h.1)
+
 pub refused_put : (names : Names) (name : List ℕ) (a : ArrayValue) → IsAcyclic (Refers names) → (cause : Refusal) → CannotPut names name (Data a) cause → Refuses names (Put name a) cause
-refused_put names name a acyclic (why.Cycle c) h = never c.items h
-  where
-    never : (cycle : List (List ℕ)) → IsCycleFrom (Refers (put names name (Data a))) name cycle → ⊥
-    never [] h = h
-    never (x ∷ via) h = no_cycle_by_data names name a acyclic x (via, h.1)
+refused_put names name a acyclic (why.Cycle c) h = never_cycle names name (Some (Data a)) refl acyclic c.items h
 refused_put names name a acyclic why.SheetFull h = h.1
 refused_put names name a acyclic why.NoMemory h = tt
 refused_put names name a acyclic why.NotFound h = h
@@ -46,6 +54,20 @@ refused_put names name a acyclic why.Index h = h
 refused_put names name a acyclic why.Domain h = h
 refused_put names name a acyclic why.Limit h = h
 refused_put names name a acyclic (why.Fault e) h = absurd h
+
+-- a name that is present is removed without a refusal but for want of memory
+pub refused_erase : (names : Names) (name : List ℕ) → IsAcyclic (Refers names) → IsSome (binding names name) → (cause : Refusal) → CannotBecome names (without names name) name cause → Refuses names (Erase name) cause
+refused_erase names name acyclic present (why.Cycle c) h = never_cycle names name None refl acyclic c.items h
+refused_erase names name acyclic present why.SheetFull h = absurd (false≢true (sym (ap is_some h.1.0) ∙ present))
+refused_erase names name acyclic present why.NoMemory h = tt
+refused_erase names name acyclic present why.NotFound h = absurd h
+refused_erase names name acyclic present why.NotData h = h
+refused_erase names name acyclic present why.Rank h = h
+refused_erase names name acyclic present why.Length h = h
+refused_erase names name acyclic present why.Index h = h
+refused_erase names name acyclic present why.Domain h = h
+refused_erase names name acyclic present why.Limit h = h
+refused_erase names name acyclic present (why.Fault e) h = absurd h
 
 pub refused_data : (names : Names) (name : List ℕ) (t : Tree) (a : ArrayValue) → eval t (val names) ≡ Ok a → (cause : Refusal) → Refuses names (Put name a) cause → Refuses names (Store name t) cause
 refused_data names name t a is why.SheetFull h = (a, is, h)
@@ -83,6 +105,14 @@ pub refused_cell : (names : Names) (name : List ℕ) (positions : List ℤ) (lit
     → (cause : Refusal) → Refuses names (Put name a) cause → Refuses names (SetCell name positions literal) cause
 refused_cell names name positions literal a is cause h =
     subst (λ (y : Refusal). Refuses names (SetCell name positions literal) y) (sym (only_memory names name a (cell_present (binding names name) positions literal a is) cause h)) tt
+
+-- so it is where the cell is patched
+pub refused_patch : (names : Names) (name : List ℕ) (positions : List ℤ) (literal : Literal) (a : ArrayValue) (p : PatchValue) → binding names name ≡ Some (Data a) → cell_put (binding names name) positions literal ≡ Ok (patched a p)
+    → IsAcyclic (Refers names) → (cause : Refusal) → CannotBecome names (names_with names name (proposed.Data (Patch p))) name cause → Refuses names (SetCell name positions literal) cause
+refused_patch names name positions literal a p held is acyclic cause h =
+    let patched_names : names_with names name (proposed.Data (Patch p)) ≡ put names name (Data (patched a p)) =
+    ap (λ r. rebound names name (option_map binding_of (data_entry (applied (Patch p) r)))) (val_data names name a held) in
+    refused_cell names name positions literal (patched a p) is cause (refused_put names name (patched a p) acyclic cause (subst (λ ns. CannotBecome names ns name cause) patched_names h))
 
 -- a row was added to data, so its name is present
 pub row_present : (b : Option Binding) (literal : Literal) (a : ArrayValue) → row_put b literal ≡ Ok a → IsSome b

@@ -23,11 +23,10 @@ use Rattle.sheet_recalc.specs.Meaning.{val, with_origin}
 use Rattle.sheet_recalc.specs.Costs.{delta_by, binding_cost}
 use Rattle.sheet_recalc.specs.Entries.{names_of, binding_of, adopting}
 use Rattle.sheet_recalc.specs.Live.{IsRight, IsPlanned, CanAdopt}
-use Rattle.sheet_recalc.specs.ProposedSheet.{proposed_names, proposed_change, proposed_entry, entry_of}
+use Rattle.sheet_recalc.specs.ProposedSheet.{Outline, proposed_names, proposed_change, own_entry, entry_of}
 use Rattle.sheet_recalc.specs.Planning.{IsProposed, IsAffected, IsUntouched, IsPlanAt, NeedsNoPlan, IsDone, IsUnderWay, name_cost, names_cost}
 use Rattle.sheet_recalc.specs.declared.entry.Entry.{Entry}
 use Rattle.sheet_recalc.specs.declared.entry.Entry.TheVariants as entry
-use Rattle.sheet_recalc.specs.declared.proposed_sheet.ProposedSheet.{ProposedSheet}
 use Rattle.sheet_recalc.proofs.NameEquality.{equal-true, equal-same}
 use Rattle.formula_core.proofs.Alike.{eval_alike}
 use Rattle.sheet_recalc.proofs.Scratch.{val_absent}
@@ -86,9 +85,9 @@ module _ (names : Names) (front : List (List ℕ)) (x : List ℕ) (once : Contai
       (λ e. ⊎_elim (λ d. d) once (follows_behind (λ a b. Refers names b a) (λ y. ⊥) front x [] closed x (subst (λ z. Refers names x z) (contains_one x y e) r)))
       (Contains-append_cases front (x ∷ []) y c)
 
-module _ (o : ProposedSheet) where
+module _ (o : Outline) where
   abbrev es : List (List ℕ × Entry)
-  es = o.entries.now.entries
+  es = o.entries
 
   abbrev old : Names
   old = names_of es
@@ -239,7 +238,7 @@ module _ (o : ProposedSheet) where
             )
 
     -- in the end the plans are those of the change
-    pub planned_in_the_end : (left : List (List ℕ)) (made : List (List ℕ × PlanValue)) → IsUnderWay o left made → (0 < length left → ⊥) → IsPlanned es o.name (option_map proposed_entry o.proposal) new made
+    pub planned_in_the_end : (left : List (List ℕ)) (made : List (List ℕ × PlanValue)) → IsUnderWay o left made → (0 < length left → ⊥) → IsPlanned es o.name (own_entry o) new made
     planned_in_the_end (x ∷ left) made now none = absurd (none (omega arith))
     planned_in_the_end [] made now none = record { can = can; right = right; rest = rest }
       where
@@ -256,6 +255,6 @@ module _ (o : ProposedSheet) where
         rest : (q : List ℕ) (e : Entry) → entry_of o q ≡ Some e → lookup (bytes_eq q) made ≡ None → IsRight (val new) q e
         rest q e is absent = ⊎_elim (λ l. absurd (false≢true (subst (λ p. is_some p ≡ true) absent l))) (λ n. still_right q e n is) (now.done q (λ c. contains_none q c))
 
-pub nothing_left : (o : ProposedSheet) (left : List (List ℕ)) → (0 < length left → ⊥) → names_cost o left ≡ 0
+pub nothing_left : (o : Outline) (left : List (List ℕ)) → (0 < length left → ⊥) → names_cost o left ≡ 0
 nothing_left o [] none = refl
 nothing_left o (x ∷ left) none = absurd (none (omega arith))

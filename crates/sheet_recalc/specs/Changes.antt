@@ -48,12 +48,16 @@ IsCycleFrom Refers name (first ∷ others) = (first ≡ name) × IsCycle Refers 
 abbrev pub IsFullFor : Names → List ℕ → Type 0
 IsFullFor names name = (binding names name ≡ None) × (most_names ≤ length names)
 
--- why a name cannot be bound so: it would reach itself, or there is no room for it, or want of memory
+-- why names cannot become these by a change of one name: it would reach itself, or there is no room for it, or want of memory
+abbrev pub CannotBecome : (old new : Names) → List ℕ → Refusal → Type 0
+CannotBecome old new name (why.Cycle names) = IsCycleFrom (Refers new) name names.items
+CannotBecome old new name why.SheetFull = IsAcyclic (Refers new) × IsFullFor old name
+CannotBecome old new name why.NoMemory = Unit {0}
+CannotBecome old new name cause = ⊥
+
+-- why a name cannot be bound so
 abbrev pub CannotPut : Names → List ℕ → Binding → Refusal → Type 0
-CannotPut old name b (why.Cycle names) = IsCycleFrom (Refers (put old name b)) name names.items
-CannotPut old name b why.SheetFull = IsAcyclic (Refers (put old name b)) × IsFullFor old name
-CannotPut old name b why.NoMemory = Unit {0}
-CannotPut old name b cause = ⊥
+CannotPut old name b cause = CannotBecome old (put old name b) name cause
 
 -- the change is refused for this cause, or for want of memory, which may come at any time
 abbrev pub Refuses : Names → Change → Refusal → Type 0

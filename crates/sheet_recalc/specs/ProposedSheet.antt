@@ -1,15 +1,18 @@
--- A sheet as it would be after a change: its names with what they are bound to, lent.
-use Rattle.std.specs.Prelude.{◌≡◌, ℕ, List, ◌⊎◌, Option, Some}
+-- A sheet as it would be after a change: its entries as they are, and what one name is to be bound to.
+use Rattle.std.specs.Prelude.{◌≡◌, ℕ, List, [], ◌⊎◌, Option, Some, None, Ok, Err}
 use Rattle.std.specs.List.{Contains}
 use Rattle.std.specs.Option.{option_map}
 use Rattle.index_region.specs.declared.delta.Delta.{Delta}
 use Rattle.index_region.specs.declared.delta.Delta.TheVariants.{Whole}
+use Rattle.change_rules.specs.Currency.{applied}
 use Rattle.dep_order.specs.Follows.{Follows}
 use Rattle.dep_order.specs.Reachability.{Reaches}
-use Rattle.sheet_recalc.specs.Names.{Names, Binding, Data, Formula, Refers, rebound}
-use Rattle.sheet_recalc.specs.Entries.{names_of}
+use Rattle.formula_core.specs.Outcomes.{Outcome}
+use Rattle.formula_core.specs.Meaning.{names_in}
+use Rattle.sheet_recalc.specs.Names.{Names, Refers, rebound}
+use Rattle.sheet_recalc.specs.Entries.{names_of, binding_of}
 use Rattle.sheet_recalc.specs.Meaning.{val}
-use Rattle.sheet_recalc.specs.Costs.{sheet_change}
+use Rattle.sheet_recalc.specs.Costs.{sheet_change, formulas_cost}
 use Rattle.sheet_recalc.specs.Live.{entry_after}
 use Rattle.formula_core.specs.Changes as formula
 use Rattle.sheet_recalc.specs.declared.entry.Entry.{Entry}
@@ -18,32 +21,62 @@ use Rattle.sheet_recalc.specs.declared.proposal.Proposal.{Proposal}
 use Rattle.sheet_recalc.specs.declared.proposal.Proposal.TheVariants as proposed
 use Rattle.sheet_recalc.specs.declared.proposed_sheet.ProposedSheet.{ProposedSheet}
 
--- what a proposal binds its name to
-abbrev pub bound : Proposal → Binding
-bound (proposed.Data a delta) = Data a
-bound (proposed.Formula f) = Formula f.now.tree
+-- a change of a sheet in outline: the entries as they are, a name, and what it is to be bound to
+pub record Outline : Type 0 where
+  pub entries : List (List ℕ × Entry)
+  pub name : List ℕ
+  pub proposal : Proposal
 
--- the entry that it makes
-abbrev pub proposed_entry : Proposal → Entry
-proposed_entry (proposed.Data a delta) = entry.Data a
-proposed_entry (proposed.Formula f) = entry.Formula f.now
+-- the outline of what is lent
+abbrev pub outline_of : ProposedSheet → Outline
+outline_of o = record { entries = o.entries.now.entries; name = o.name; proposal = o.proposal.now }
 
--- the names of a sheet with one of them bound anew, or removed
-abbrev pub proposed_names : ProposedSheet → Names
-proposed_names o = rebound (names_of o.entries.now.entries) o.name (option_map bound o.proposal)
+-- the names that stand in a proposal
+abbrev pub proposed_references : Proposal → List (List ℕ)
+proposed_references (proposed.Formula f) = names_in f.tree
+proposed_references (proposed.Data delta) = []
+proposed_references proposed.Removed = []
+
+-- an array as an entry; an error is none
+abbrev pub data_entry : Outcome → Option Entry
+data_entry (Ok a) = Some (entry.Data a)
+data_entry (Err e) = None
+
+-- the entry that a proposal makes where the name shows this, if it makes one
+abbrev pub proposed_entry : Outcome → Proposal → Option Entry
+proposed_entry shown (proposed.Formula f) = Some (entry.Formula f)
+proposed_entry shown (proposed.Data delta) = data_entry (applied delta shown)
+proposed_entry shown proposed.Removed = None
+
+-- names with this one bound as a proposal says, or removed
+abbrev pub names_with : Names → List ℕ → Proposal → Names
+names_with names name proposal = rebound names name (option_map binding_of (proposed_entry (val names name) proposal))
+
+-- the entry of the name after the change
+abbrev pub own_entry : Outline → Option Entry
+own_entry o = proposed_entry (val (names_of o.entries) o.name) o.proposal
+
+-- the names after it
+abbrev pub proposed_names : Outline → Names
+proposed_names o = names_with (names_of o.entries) o.name o.proposal
 
 -- what changes of the name by itself: of data what is told, and where it is removed or bound to a formula the whole
-abbrev pub proposed_delta : List ℕ → Names → Option Proposal → Delta
-proposed_delta name names (Some (proposed.Data a delta)) = delta.now
-proposed_delta name names proposal = Whole (val names name)
+abbrev pub proposed_delta : List ℕ → Names → Proposal → Delta
+proposed_delta name names (proposed.Data delta) = delta
+proposed_delta name names (proposed.Formula f) = Whole (val names name)
+proposed_delta name names proposed.Removed = Whole (val names name)
 
 -- what the change makes of each name
-abbrev pub proposed_change : ProposedSheet → formula.Change
-proposed_change o = sheet_change (names_of o.entries.now.entries) (proposed_names o) o.name (proposed_delta o.name (proposed_names o) o.proposal)
+abbrev pub proposed_change : Outline → formula.Change
+proposed_change o = sheet_change (names_of o.entries) (proposed_names o) o.name (proposed_delta o.name (proposed_names o) o.proposal)
+
+-- what it costs at all names
+abbrev pub proposed_cost : Outline → ℕ
+proposed_cost o = formulas_cost o.name (proposed_change o) (proposed_names o)
 
 -- the entry that a name has then
-abbrev pub entry_of : ProposedSheet → List ℕ → Option Entry
-entry_of o q = entry_after o.entries.now.entries o.name (option_map proposed_entry o.proposal) q
+abbrev pub entry_of : Outline → List ℕ → Option Entry
+entry_of o q = entry_after o.entries o.name (own_entry o) q
 
 -- all of these reach the name, and each stands after all others that refer to it
 pub record IsReaching (names : Names) (name : List ℕ) (found : List (List ℕ)) : Type 0 where

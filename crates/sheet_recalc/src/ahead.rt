@@ -2,9 +2,7 @@
 
 ghost use Rattle.std.specs.Prelude.{◌≡◌, ◌+◌, ◌≤◌, ℕ, IfOk, Some, List};
 ghost use Rattle.std.specs.List.{Contains};
-ghost use Rattle.arrays_core.specs.Arrays.{IsArray};
-ghost use Rattle.arrays_core.specs.declared.item.Kind.TheVariants.{Value};
-ghost use Rattle.formula_core.specs.Outcomes.{Outcome, fault};
+ghost use Rattle.formula_core.specs.Outcomes.{Outcome};
 ghost use Rattle.formula_core.specs.Meaning.{names_in};
 ghost use Rattle.formula_core.specs.Changes.{IsNameChanged};
 ghost use Rattle.formula_core.specs.Inputs.{IsInput};
@@ -14,18 +12,16 @@ ghost use Rattle.change_core.specs.Meters.{ticked};
 ghost use Rattle.change_rules.specs.Currency.{applied};
 ghost use Rattle.sheet_recalc.specs.declared.entry.Entry.TheVariants.{Formula as FormulaEntry};
 ghost use Rattle.sheet_recalc.specs.Costs.{origin_delta};
-ghost use Rattle.sheet_recalc.specs.Meaning.{val, with_origin};
-ghost use Rattle.sheet_recalc.specs.Entries.{names_of};
-ghost use Rattle.sheet_recalc.specs.ProposedSheet.{proposed_names, proposed_change, entry_of};
+ghost use Rattle.sheet_recalc.specs.Meaning.{with_origin};
+ghost use Rattle.sheet_recalc.specs.ProposedSheet.{outline_of, proposed_names, proposed_change, entry_of};
 ghost use Rattle.sheet_recalc.specs.Planning.{IsProposed, IsAhead, ArePlans, IsDone, NeedsNoPlan, IsPlanAt, name_cost};
 
 use crate::entry::arisen_in;
-use crate::evaluation::{Inputs, input_at_rest};
+use crate::evaluation::{Inputs, absent, shown};
 use crate::planning::Plans;
 use crate::proposal::Proposal;
 use crate::proposed_sheet::ProposedSheet;
 use apl_tokens::Name;
-use arrays_core::{Fault, Kind};
 use change_core::Meter;
 use formula_core::{Formula, Input, Plan};
 use index_region::Delta;
@@ -50,14 +46,13 @@ pub(crate) fn plan_of(
     formula: &Formula,
     meter: &mut Meter,
 ) -> Result<Plan, AllocError>
-    requires proposed { IsProposed proposed.now }
-    requires sound { IfOk (val (names_of proposed.now.entries.now.entries) proposed.now.name) IsArray }
-    requires plans { ArePlans proposed.now plans.now.entries }
-    requires held { entry_of proposed.now name ≡ Some (FormulaEntry formula.now) }
-    requires done { (x : List ℕ) → Contains (names_in formula.now.tree) x → IsDone proposed.now plans.now.entries x }
-    ensures planned { IfOk result (IsPlanAt proposed.now name) }
-    ensures cost { IfOk result (λ p. p.cost ≡ ticked 0 (name_cost proposed.now.name (proposed_change proposed.now) (proposed_names proposed.now) name)) }
-    ensures ticks { meter.new.ticks ≤ meter.old.ticks + name_cost proposed.now.name (proposed_change proposed.now) (proposed_names proposed.now) name }
+    requires proposed { IsProposed (outline_of proposed.now) }
+    requires plans { ArePlans (outline_of proposed.now) plans.now.entries }
+    requires held { entry_of (outline_of proposed.now) name ≡ Some (FormulaEntry formula.now) }
+    requires done { (x : List ℕ) → Contains (names_in formula.now.tree) x → IsDone (outline_of proposed.now) plans.now.entries x }
+    ensures planned { IfOk result (IsPlanAt (outline_of proposed.now) name) }
+    ensures cost { IfOk result (λ p. p.cost ≡ ticked 0 (name_cost proposed.now.name (proposed_change (outline_of proposed.now)) (proposed_names (outline_of proposed.now)) name)) }
+    ensures ticks { meter.new.ticks ≤ meter.old.ticks + name_cost proposed.now.name (proposed_change (outline_of proposed.now)) (proposed_names (outline_of proposed.now)) name }
 {
     let unchanged = Delta::Same;
     let ahead = Ahead {
@@ -73,10 +68,10 @@ impl Ahead<'_, '_> {
     /// What each of these names shows, with what changed of it.
     fn inputs_of(&self, alloc: Global, references: &[Name]) -> Result<Inputs<'_>, AllocError>
         requires ahead { IsAhead self.now }
-        requires done { (x : List ℕ) → Contains references.now x → IsDone self.now.proposed.now self.now.plans.now.entries x }
-        ensures inputs { IfOk result (λ inputs. AreInputs (proposed_change self.now.proposed.now) references.now inputs.items) }
-        ensures changed { IfOk result (λ inputs. (x : List ℕ) → Contains references.now x → IsNameChanged (proposed_change self.now.proposed.now) x) }
-        ensures sound { IfOk result (λ inputs. (x : List ℕ) → Contains references.now x → IsNameSound (proposed_change self.now.proposed.now) x) }
+        requires done { (x : List ℕ) → Contains references.now x → IsDone (outline_of self.now.proposed.now) self.now.plans.now.entries x }
+        ensures inputs { IfOk result (λ inputs. AreInputs (proposed_change (outline_of self.now.proposed.now)) references.now inputs.items) }
+        ensures changed { IfOk result (λ inputs. (x : List ℕ) → Contains references.now x → IsNameChanged (proposed_change (outline_of self.now.proposed.now)) x) }
+        ensures sound { IfOk result (λ inputs. (x : List ℕ) → Contains references.now x → IsNameSound (proposed_change (outline_of self.now.proposed.now)) x) }
     {
         let mut inputs = SmallVec::new(alloc);
         for reference in references {
@@ -88,10 +83,10 @@ impl Ahead<'_, '_> {
     /// What a name shows, with what changed of it.
     fn input_of(&self, name: Name) -> Input<'_>
         requires ahead { IsAhead self.now }
-        requires done { IsDone self.now.proposed.now self.now.plans.now.entries name }
-        ensures input { IsInput ((proposed_change self.now.proposed.now).new name) ((proposed_change self.now.proposed.now).delta name) result }
-        ensures changed { IsNameChanged (proposed_change self.now.proposed.now) name }
-        ensures sound { IsNameSound (proposed_change self.now.proposed.now) name }
+        requires done { IsDone (outline_of self.now.proposed.now) self.now.plans.now.entries name }
+        ensures input { IsInput ((proposed_change (outline_of self.now.proposed.now)).new name) ((proposed_change (outline_of self.now.proposed.now)).delta name) result }
+        ensures changed { IsNameChanged (proposed_change (outline_of self.now.proposed.now)) name }
+        ensures sound { IsNameSound (proposed_change (outline_of self.now.proposed.now)) name }
     {
         match self.plans.get(&name) {
             Some(plan) => self.planned(name, plan),
@@ -102,13 +97,16 @@ impl Ahead<'_, '_> {
     /// What a name shows by the plan of its formula.
     fn planned<'c>(&'c self, name: Name, plan: &'c Plan) -> Input<'c>
         requires ahead { IsAhead self.now }
-        requires plan { IsPlanAt self.now.proposed.now name plan.now }
-        ensures input { IsInput ((proposed_change self.now.proposed.now).new name) ((proposed_change self.now.proposed.now).delta name) result }
-        ensures changed { IsNameChanged (proposed_change self.now.proposed.now) name }
-        ensures sound { IsNameSound (proposed_change self.now.proposed.now) name }
+        requires plan { IsPlanAt (outline_of self.now.proposed.now) name plan.now }
+        ensures input { IsInput ((proposed_change (outline_of self.now.proposed.now)).new name) ((proposed_change (outline_of self.now.proposed.now)).delta name) result }
+        ensures changed { IsNameChanged (proposed_change (outline_of self.now.proposed.now)) name }
+        ensures sound { IsNameSound (proposed_change (outline_of self.now.proposed.now)) name }
     {
         match self.proposed.formula_of(name) {
-            Some(formula) => in_formula(name, Input::of_node(formula.held(), plan.delta())),
+            Some(formula) => {
+                let held = formula.result();
+                in_formula(name, Input::of(&held, plan.delta()))
+            }
             None => unreachable!(),
         }
     }
@@ -116,36 +114,33 @@ impl Ahead<'_, '_> {
     /// What a name shows that has no plan.
     fn standing(&self, name: Name) -> Input<'_>
         requires ahead { IsAhead self.now }
-        requires done { NeedsNoPlan self.now.proposed.now name }
-        ensures input { IsInput ((proposed_change self.now.proposed.now).new name) ((proposed_change self.now.proposed.now).delta name) result }
-        ensures changed { IsNameChanged (proposed_change self.now.proposed.now) name }
-        ensures sound { IsNameSound (proposed_change self.now.proposed.now) name }
+        requires done { NeedsNoPlan (outline_of self.now.proposed.now) name }
+        ensures input { IsInput ((proposed_change (outline_of self.now.proposed.now)).new name) ((proposed_change (outline_of self.now.proposed.now)).delta name) result }
+        ensures changed { IsNameChanged (proposed_change (outline_of self.now.proposed.now)) name }
+        ensures sound { IsNameSound (proposed_change (outline_of self.now.proposed.now)) name }
     {
         if name == self.proposed.name {
             return self.own();
         }
-        input_at_rest(self.proposed.entries, name, self.unchanged)
+        Input::of(&shown(self.proposed.entries, name), self.unchanged)
     }
 
     /// What the name shows that is bound anew, where that is no formula, or removed.
     fn own(&self) -> Input<'_>
         requires ahead { IsAhead self.now }
-        requires done { NeedsNoPlan self.now.proposed.now self.now.proposed.now.name }
-        ensures input { IsInput ((proposed_change self.now.proposed.now).new self.now.proposed.now.name) ((proposed_change self.now.proposed.now).delta self.now.proposed.now.name) result }
-        ensures changed { IsNameChanged (proposed_change self.now.proposed.now) self.now.proposed.now.name }
-        ensures sound { IsNameSound (proposed_change self.now.proposed.now) self.now.proposed.now.name }
+        requires done { NeedsNoPlan (outline_of self.now.proposed.now) self.now.proposed.now.name }
+        ensures input { IsInput ((proposed_change (outline_of self.now.proposed.now)).new self.now.proposed.now.name) ((proposed_change (outline_of self.now.proposed.now)).delta self.now.proposed.now.name) result }
+        ensures changed { IsNameChanged (proposed_change (outline_of self.now.proposed.now)) self.now.proposed.now.name }
+        ensures sound { IsNameSound (proposed_change (outline_of self.now.proposed.now)) self.now.proposed.now.name }
     {
-        let Some(proposal) = &self.proposed.proposal else {
-            return Input::Bad {
+        match self.proposed.proposal {
+            Proposal::Data(delta) => {
+                Input::of(&shown(self.proposed.entries, self.proposed.name), delta)
+            }
+            Proposal::Removed => Input::Bad {
                 fault: absent(),
                 changed: true,
-            };
-        };
-        match proposal {
-            Proposal::Data(array, delta) => {
-                let _sound = array.shape();
-                Input::Good(array.again(), delta)
-            }
+            },
             Proposal::Formula(_) => unreachable!(),
         }
     }
@@ -161,15 +156,5 @@ fn in_formula(name: Name, input: Input<'_>) -> Input<'_>
             fault: arisen_in(name, fault),
             changed,
         },
-    }
-}
-
-/// The error of an absent name.
-pub(crate) fn absent() -> Fault
-    ensures { result ≡ fault Value }
-{
-    Fault {
-        kind: Kind::Value,
-        origin: None,
     }
 }

@@ -2,6 +2,7 @@
 
 ghost use Rattle.std.specs.Prelude.{◌≡◌, IfOk, IfErr, MatchOption, Some, Ok, Err, true, false, [], ◌∷◌, ◌≤◌, length};
 ghost use Rattle.apl_expr.specs.Trees.{literal_of};
+ghost use Rattle.arrays_core.specs.Arrays.{ArrayValue};
 ghost use Rattle.arrays_core.specs.Limits.{most_axes};
 ghost use Rattle.arrays_core.specs.Items.{type_of};
 ghost use Rattle.arrays_core.specs.Shapes.{IsWithinLimits, is_index_of};
@@ -22,28 +23,23 @@ use indexmap::IndexMap;
 use smallvec::SmallVec;
 use std::alloc::{AllocError, Global};
 
-/// The data of a name, lent, and the patch of it that puts a literal in one cell, or why there is none. The data is not
-/// copied.
-pub(crate) fn cell_patch<'a>(
+/// The patch of the data of a name that puts a literal in one cell, or why there is none. The data is not copied.
+pub(crate) fn cell_patch(
     alloc: Global,
-    entries: &'a IndexMap<Name, Entry>,
+    entries: &IndexMap<Name, Entry>,
     name: Name,
     positions: &[i64],
     literal: &Literal,
-) -> Result<(&'a Array, Patch), Refusal>
-    ensures data { IfOk result (λ r. HasData entries.now.entries name r.0.now) }
-    ensures put { IfOk result (λ r. cell_put (binding (names_of entries.now.entries) name) positions.now (literal_of literal.now) ≡ Ok (patched r.0.now r.1)) }
-    ensures fits { IfOk result (λ r. FitsPatch r.0.now r.1) }
-    ensures delta { IfOk result (λ r. IsPatched r.1 ≡ cell_delta (index_of_numbers positions.now) (literal_items (literal_of literal.now))) }
+) -> Result<Patch, Refusal>
+    ensures put { IfOk result (λ patch. (a : ArrayValue) × HasData entries.now.entries name a × FitsPatch a patch
+        × (cell_put (binding (names_of entries.now.entries) name) positions.now (literal_of literal.now) ≡ Ok (patched a patch))) }
+    ensures delta { IfOk result (λ patch. IsPatched patch ≡ cell_delta (index_of_numbers positions.now) (literal_items (literal_of literal.now))) }
     ensures refused { IfErr result (λ cause. IsDataAnswer (cell_put (binding (names_of entries.now.entries) name) positions.now (literal_of literal.now)) (Err cause)) }
 {
     match entries.get(&name) {
         None => Err(Refusal::NotFound),
         Some(Entry::Formula(_)) => Err(Refusal::NotData),
-        Some(Entry::Data(array)) => {
-            let patch = patch_of(alloc, array, positions, literal)?;
-            Ok((array, patch))
-        }
+        Some(Entry::Data(array)) => patch_of(alloc, array, positions, literal),
     }
 }
 

@@ -2,7 +2,6 @@
 
 ghost use Rattle.std.specs.Prelude.{◌≡◌, ◌<◌, [], Some, None};
 ghost use Rattle.std.specs.Str.{bytes_eq};
-ghost use Rattle.std.specs.Map.{lookup};
 ghost use Rattle.indexmap.specs.IndexMap.{spare, insert_entry};
 ghost use Rattle.arrays_core.specs.Arrays.{ArrayValue};
 ghost use Rattle.index_region.specs.Patches.{patched, FitsPatch};
@@ -11,39 +10,47 @@ ghost use Rattle.sheet_recalc.specs.Entries.{names_of, binding_of, HasData};
 ghost use Rattle.sheet_recalc.specs.declared.entry.Entry.TheVariants.{Data as DataEntry};
 ghost use Rattle.dep_order.specs.Users.{HasRoomFor, HasNoEmptyBut};
 ghost use Rattle.sheet_recalc.specs.Live.{IsTable, IsCurrent, IsPlanned, IsAdopting};
-ghost use Rattle.sheet_recalc.specs.Pending.{own_after, names_after, Brings, CanBeMade};
+ghost use Rattle.sheet_recalc.specs.Pending.{names_after, Brings, IsReady};
 
 use crate::entry::Entry;
 use crate::growth::Growth;
-use crate::pending::Own;
+use crate::pending::Pending;
 use crate::planning::Plans;
+use crate::proposal::Proposal;
 use apl_tokens::Name;
 use dep_order::{Users, give_sets, refer, take_larger};
-use index_region::Patch;
+use index_region::{Delta, Patch};
 use indexmap::IndexMap;
 
 /// Makes a change that is worked out. No memory is asked for.
-pub(crate) fn make(
-    entries: &mut IndexMap<Name, Entry>,
-    users: &mut Users<Name>,
-    name: Name,
-    own: Own,
-    plans: Plans,
-    growth: Growth,
-)
-    requires planned { IsPlanned entries.old.entries name (own_after own (lookup (bytes_eq name) entries.old.entries)) (names_after entries.old.entries name own) plans.entries }
-    requires can { CanBeMade (record { entries = entries.old; users = users.old }) name growth own }
+pub(crate) fn make(entries: &mut IndexMap<Name, Entry>, users: &mut Users<Name>, pending: Pending)
+    requires ready { IsReady (record { entries = entries.old; users = users.old }) pending }
     requires tells { IsTable (names_of entries.old.entries) users.old.entries }
     requires used { HasNoEmptyBut bytes_eq users.old.entries [] }
-    ensures names { names_of entries.new.entries ≡ names_after entries.old.entries name own }
+    ensures names { names_of entries.new.entries ≡ names_after (record { entries = entries.old; users = users.old }) pending }
     ensures current { IsCurrent entries.new.entries }
-    ensures tells { IsTable (names_after entries.old.entries name own) users.new.entries }
+    ensures tells { IsTable (names_after (record { entries = entries.old; users = users.old }) pending) users.new.entries }
     ensures used { HasNoEmptyBut bytes_eq users.new.entries [] }
 {
-    match own {
-        Own::Bound(entry) => commit_with(entries, users, name, entry, plans, growth),
-        Own::Patched(patch) => commit_patch(entries, name, &patch, plans),
-        Own::Removed => commit_removal(entries, users, name, plans),
+    let Pending {
+        name,
+        proposal,
+        plans,
+        growth,
+        ..
+    } = pending;
+    match proposal {
+        Proposal::Formula(formula) => {
+            let entry = Entry::Formula(formula);
+            commit_with(entries, users, name, entry, plans, growth);
+        }
+        Proposal::Data(Delta::Whole(Ok(array))) => {
+            let entry = Entry::Data(array);
+            commit_with(entries, users, name, entry, plans, growth);
+        }
+        Proposal::Data(Delta::Patch(patch)) => commit_patch(entries, name, &patch, plans),
+        Proposal::Data(Delta::Same) | Proposal::Data(Delta::Whole(Err(_))) => {}
+        Proposal::Removed => commit_removal(entries, users, name, plans),
     }
 }
 

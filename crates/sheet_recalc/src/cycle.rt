@@ -4,7 +4,7 @@ ghost use Rattle.std.specs.Prelude.{◌≡◌, ◌<◌, IfOk};
 ghost use Rattle.std.specs.Str.{bytes_eq};
 ghost use Rattle.std.specs.List.{Contains, position_or_len};
 ghost use Rattle.sheet_recalc.specs.Names.{Refers};
-ghost use Rattle.sheet_recalc.specs.ProposedSheet.{proposed_names, IsReaching};
+ghost use Rattle.sheet_recalc.specs.ProposedSheet.{outline_of, proposed_names, IsReaching};
 ghost use Rattle.sheet_recalc.specs.Changes.{IsCycleFrom};
 
 use crate::proposed_sheet::ProposedSheet;
@@ -21,10 +21,10 @@ pub(crate) fn cycle_through(
     found: &IndexSet<Name>,
     reference: Name,
 ) -> Result<Vec<Name>, AllocError>
-    requires reaching { IsReaching (proposed_names proposed.now) proposed.now.name found.now.keys }
-    requires refers { Refers (proposed_names proposed.now) proposed.now.name reference }
+    requires reaching { IsReaching (proposed_names (outline_of proposed.now)) proposed.now.name found.now.keys }
+    requires refers { Refers (proposed_names (outline_of proposed.now)) proposed.now.name reference }
     requires hit { Contains found.now.keys reference }
-    ensures { IfOk result (λ cycle. IsCycleFrom (Refers (proposed_names proposed.now)) proposed.now.name cycle.items) }
+    ensures { IfOk result (λ cycle. IsCycleFrom (Refers (proposed_names (outline_of proposed.now))) proposed.now.name cycle.items) }
 {
     let mut cycle = Vec::new(alloc);
     cycle.push(proposed.name)?;
@@ -38,10 +38,10 @@ pub(crate) fn cycle_through(
 
 /// The first of a name's references that reaches the name that is bound anew.
 fn step_from(proposed: &ProposedSheet<'_>, found: &IndexSet<Name>, from: Name) -> Name
-    requires reaching { IsReaching (proposed_names proposed.now) proposed.now.name found.now.keys }
+    requires reaching { IsReaching (proposed_names (outline_of proposed.now)) proposed.now.name found.now.keys }
     requires hit { Contains found.now.keys from }
     requires apart { from ≡ proposed.now.name → ⊥ }
-    ensures refers { Refers (proposed_names proposed.now) from result }
+    ensures refers { Refers (proposed_names (outline_of proposed.now)) from result }
     ensures hit { Contains found.now.keys result }
     ensures later { position_or_len (bytes_eq from) found.now.keys < position_or_len (bytes_eq result) found.now.keys }
 {

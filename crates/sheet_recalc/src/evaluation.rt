@@ -3,24 +3,24 @@
 ghost use Rattle.std.specs.Prelude.{◌≡◌, ◌+◌, ◌≤◌, ℕ, List, true, IfOk, OnOk};
 ghost use Rattle.std.specs.List.{Contains};
 ghost use Rattle.apl_expr.specs.Trees.{tree_of};
-ghost use Rattle.arrays_core.specs.Arrays.{IsArray};
+ghost use Rattle.arrays_core.specs.declared.item.Kind.TheVariants.{Value};
 ghost use Rattle.change_core.specs.Meters.{ticked};
 ghost use Rattle.index_region.specs.declared.delta.Delta.TheVariants.{Same, Whole as WholeDelta};
 ghost use Rattle.formula_core.specs.Meaning.{eval};
-ghost use Rattle.formula_core.specs.Inputs.{IsInput};
+ghost use Rattle.formula_core.specs.Outcomes.{fault, read};
 ghost use Rattle.formula_core.specs.Plans.{root_change, tree_cost, AreInputs, IsNameSound};
 ghost use Rattle.sheet_recalc.specs.Costs.{at_rest};
 ghost use Rattle.sheet_recalc.specs.Entries.{names_of};
 ghost use Rattle.sheet_recalc.specs.Live.{IsCurrent};
 ghost use Rattle.sheet_recalc.specs.Meaning.{val};
 
-use crate::ahead::absent;
 use crate::entry::Entry;
 use apl_expr::Expr;
 use apl_tokens::Name;
+use arrays_core::{Array, Fault, Kind};
 use change_core::Meter;
 use formula_core::{Formula, Input, Plan};
-use index_region::{Delta, Seen};
+use index_region::Delta;
 use indexmap::IndexMap;
 use smallvec::SmallVec;
 use std::alloc::{AllocError, Global};
@@ -60,36 +60,28 @@ fn inputs_at_rest<'a>(
 {
     let mut inputs = SmallVec::new(alloc);
     for reference in references {
-        inputs.push(input_at_rest(entries, *reference, unchanged))?;
+        inputs.push(Input::of(&shown(entries, *reference), unchanged))?;
     }
     Ok(inputs)
 }
 
-/// What a name shows, of which nothing changed.
-pub(crate) fn input_at_rest<'a>(
-    entries: &'a IndexMap<Name, Entry>,
-    name: Name,
-    unchanged: &'a Delta,
-) -> Input<'a>
-    requires current { IsCurrent entries.now.entries }
-    requires unchanged { unchanged.now ≡ Same }
-    ensures input { IsInput (val (names_of entries.now.entries) name) Same result }
-    ensures sound { IfOk (val (names_of entries.now.entries) name) IsArray }
+/// What a name shows; VALUE ERROR where it is absent.
+pub(crate) fn shown(entries: &IndexMap<Name, Entry>, name: Name) -> Result<&Array, Fault>
+    requires { IsCurrent entries.now.entries }
+    ensures { read result ≡ val (names_of entries.now.entries) name }
 {
     match entries.get(&name) {
-        Some(entry) => match entry.result(name) {
-            Ok(array) => {
-                let _sound = array.shape();
-                Input::Good(Seen::plain(array), unchanged)
-            }
-            Err(fault) => Input::Bad {
-                fault,
-                changed: false,
-            },
-        },
-        None => Input::Bad {
-            fault: absent(),
-            changed: false,
-        },
+        Some(entry) => entry.result(name),
+        None => Err(absent()),
+    }
+}
+
+/// The error of an absent name.
+pub(crate) fn absent() -> Fault
+    ensures { result ≡ fault Value }
+{
+    Fault {
+        kind: Kind::Value,
+        origin: None,
     }
 }

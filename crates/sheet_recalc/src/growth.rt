@@ -3,11 +3,13 @@
 ghost use Rattle.std.specs.Prelude.{◌≡◌, IfOk};
 ghost use Rattle.std.specs.Str.{bytes_eq};
 ghost use Rattle.dep_order.specs.Users.{Uses, HasRoomFor, HasNoEmptyBut};
-ghost use Rattle.sheet_recalc.specs.Pending.{Brings};
+ghost use Rattle.sheet_recalc.specs.Pending.{Brings, HasPlace};
 
 use crate::entry::Entry;
+use crate::proposal::Proposal;
 use apl_tokens::Name;
 use dep_order::{Users, larger_map, sets_for};
+use index_region::Delta;
 use indexmap::IndexMap;
 use std::alloc::{AllocError, Global};
 
@@ -19,8 +21,30 @@ pub(crate) struct Growth {
     pub(crate) sets: Users<Name>,
 }
 
-/// What lacks for one more entry, in whose formula these names stand. Nothing is copied.
+/// What the sheet lacks for what a proposal puts under its name. Nothing is copied.
 pub(crate) fn growth_for(
+    alloc: Global,
+    entries: &IndexMap<Name, Entry>,
+    users: &Users<Name>,
+    proposal: &Proposal,
+) -> Result<Growth, AllocError>
+    ensures { IfOk result (λ growth. HasPlace (record { entries = entries.now; users = users.now }) growth proposal.now) }
+{
+    match proposal {
+        Proposal::Formula(formula) => growth_with(alloc, entries, users, formula.references()),
+        Proposal::Data(Delta::Whole(_)) => growth_with(alloc, entries, users, &[]),
+        Proposal::Data(Delta::Same) | Proposal::Data(Delta::Patch(_)) | Proposal::Removed => {
+            Ok(Growth {
+                entries: None,
+                users: None,
+                sets: IndexMap::new(alloc),
+            })
+        }
+    }
+}
+
+/// What lacks for one more entry, in whose formula these names stand.
+fn growth_with(
     alloc: Global,
     entries: &IndexMap<Name, Entry>,
     users: &Users<Name>,
@@ -34,13 +58,4 @@ pub(crate) fn growth_for(
         users: larger_map(alloc, users, sets.len())?,
         sets,
     })
-}
-
-/// Nothing lacks.
-pub(crate) fn no_growth(alloc: Global) -> Growth {
-    Growth {
-        entries: None,
-        users: None,
-        sets: IndexMap::new(alloc),
-    }
 }

@@ -1,30 +1,31 @@
 //! What a name is to be bound to.
 
 ghost use Rattle.std.specs.Prelude.{◌≡◌};
-ghost use Rattle.sheet_recalc.specs.Names.{referred};
-ghost use Rattle.sheet_recalc.specs.ProposedSheet.{bound};
+ghost use Rattle.sheet_recalc.specs.ProposedSheet.{proposed_references};
 
 use apl_tokens::Name;
 use formula_core::Formula;
-use index_region::{Delta, Seen};
+use index_region::Delta;
 
-/// What a name is to be bound to, lent.
+/// What a name is to be bound to.
 #[derive(Drop)]
-pub(crate) enum Proposal<'a> {
-    /// Data as it will be, and what that changes of what the name showed.
-    Data(Seen<'a>, &'a Delta),
+pub(crate) enum Proposal {
     /// A formula that was not worked out yet.
-    Formula(&'a Formula),
+    Formula(Formula),
+    /// Data, by what changes of what the name shows: an array in its place, or a patch of the data there.
+    Data(Delta),
+    /// Nothing: the name is removed.
+    Removed,
 }
 
-impl<'a> Proposal<'a> {
+impl Proposal {
     /// The names that stand in it.
-    pub(crate) fn references(&self) -> &'a [Name]
-        ensures { result.now ≡ referred (bound self.now) }
+    pub(crate) fn references(&self) -> &[Name]
+        ensures { result.now ≡ proposed_references self.now }
     {
         match self {
-            Proposal::Data(_, _) => &[],
             Proposal::Formula(formula) => formula.references(),
+            Proposal::Data(_) | Proposal::Removed => &[],
         }
     }
 }

@@ -1,17 +1,14 @@
 //! A sheet as it would be after a change, without a copy of it.
 
-ghost use Rattle.std.specs.Prelude.{◌≡◌, IfOk, MatchOption, Some};
-ghost use Rattle.arrays_core.specs.Arrays.{IsArray};
+ghost use Rattle.std.specs.Prelude.{◌≡◌, MatchOption, Some};
 ghost use Rattle.formula_core.specs.Formulas.{FormulaValue};
 ghost use Rattle.sheet_recalc.specs.Names.{referred_by};
-ghost use Rattle.sheet_recalc.specs.Entries.{holding};
-ghost use Rattle.sheet_recalc.specs.ProposedSheet.{proposed_names, entry_of};
+ghost use Rattle.sheet_recalc.specs.ProposedSheet.{outline_of, proposed_names, entry_of};
 ghost use Rattle.sheet_recalc.specs.declared.entry.Entry.TheVariants.{Formula as FormulaEntry};
 
 use crate::entry::Entry;
 use crate::proposal::Proposal;
 use apl_tokens::Name;
-use arrays_core::{Array, Fault};
 use formula_core::Formula;
 use indexmap::IndexMap;
 
@@ -21,20 +18,17 @@ use indexmap::IndexMap;
 pub(crate) struct ProposedSheet<'a> {
     pub(crate) entries: &'a IndexMap<Name, Entry>,
     pub(crate) name: Name,
-    /// What the name is bound to then, or nothing where it is removed.
-    pub(crate) proposal: Option<Proposal<'a>>,
+    /// What the name is bound to then.
+    pub(crate) proposal: &'a Proposal,
 }
 
 impl<'a> ProposedSheet<'a> {
     /// The names that stand in the formula that a name is bound to.
     pub(crate) fn references_of(&self, name: Name) -> &'a [Name]
-        ensures { result.now ≡ referred_by (proposed_names self.now) name }
+        ensures { result.now ≡ referred_by (proposed_names (outline_of self.now)) name }
     {
         if name == self.name {
-            return match &self.proposal {
-                Some(proposal) => proposal.references(),
-                None => &[],
-            };
+            return self.proposal.references();
         }
         match self.entries.get(&name) {
             Some(entry) => entry.references(),
@@ -44,29 +38,17 @@ impl<'a> ProposedSheet<'a> {
 
     /// The formula that a name is bound to.
     pub(crate) fn formula_of(&self, name: Name) -> Option<&'a Formula>
-        ensures { MatchOption result ((f : FormulaValue) → entry_of self.now name ≡ Some (FormulaEntry f) → ⊥) (λ f. entry_of self.now name ≡ Some (FormulaEntry f.now)) }
+        ensures { MatchOption result ((f : FormulaValue) → entry_of (outline_of self.now) name ≡ Some (FormulaEntry f) → ⊥) (λ f. entry_of (outline_of self.now) name ≡ Some (FormulaEntry f.now)) }
     {
         if name == self.name {
-            return match &self.proposal {
-                Some(Proposal::Formula(formula)) => Some(*formula),
-                _ => None,
+            return match self.proposal {
+                Proposal::Formula(formula) => Some(formula),
+                Proposal::Data(_) | Proposal::Removed => None,
             };
         }
         match self.entries.get(&name) {
             Some(Entry::Formula(formula)) => Some(formula),
             _ => None,
         }
-    }
-
-    /// What the name shows as the sheet is, if it is present.
-    pub(crate) fn shown(&self) -> Option<Result<&'a Array, Fault>>
-        ensures { IfOk (holding self.now.entries.now.entries self.now.name) IsArray }
-    {
-        let entry = self.entries.get(&self.name)?;
-        let shown = entry.result(self.name);
-        if let Ok(array) = shown {
-            let _sound = array.shape();
-        }
-        Some(shown)
     }
 }

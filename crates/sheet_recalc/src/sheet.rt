@@ -1,36 +1,29 @@
 //! The sheet.
 
-ghost use Rattle.std.specs.Prelude.{◌≡◌, ◌+◌, ◌≤◌, [], IfOk, IfErr, OnOk, OnErr, Some, None, Ok, is_some, if◌then◌else◌, MatchBool};
+ghost use Rattle.std.specs.Prelude.{◌≡◌, ◌≤◌, [], IfOk, IfErr, OnOk, OnErr, MatchOption, Some, None, Err, is_some, if◌then◌else◌};
 ghost use Rattle.std.specs.Map.{keys_of};
 ghost use Rattle.std.specs.Option.{option_map};
 ghost use Rattle.apl_expr.specs.Trees.{tree_of, literal_of};
+ghost use Rattle.arrays_core.specs.declared.fault.Fault.{Fault as FaultValue};
 ghost use Rattle.change_core.specs.Meters.{ticked};
-ghost use Rattle.index_region.specs.declared.delta.Delta.TheVariants.{Patch as PatchDelta, Whole as WholeDelta};
-ghost use Rattle.index_region.specs.Patches.{PatchValue, patched, FitsPatch};
-ghost use Rattle.arrays_core.specs.Arrays.{ArrayValue};
+ghost use Rattle.index_region.specs.declared.delta.Delta.TheVariants.{Whole};
 ghost use Rattle.formula_core.specs.Outcomes.{read};
 ghost use Rattle.formula_core.specs.Meaning.{eval};
-ghost use Rattle.sheet_recalc.specs.Names.{binding, put, without, Data, IsSheet};
+ghost use Rattle.sheet_recalc.specs.Names.{binding, IsSheet};
 ghost use Rattle.sheet_recalc.specs.Meaning.{val};
-ghost use Rattle.sheet_recalc.specs.Entries.{names_of, HasData};
-ghost use Rattle.sheet_recalc.specs.declared.entry.Entry.TheVariants.{Data as DataEntry};
-ghost use Rattle.sheet_recalc.specs.ProposedSheet.{bound, proposed_entry, proposed_delta};
-ghost use Rattle.sheet_recalc.specs.Planning.{IsProposalAt, IsWorkedOut, CanBePut};
-ghost use Rattle.sheet_recalc.specs.NameOrder.{HasOrder};
-ghost use Rattle.sheet_recalc.specs.Live.{IsLive};
-ghost use Rattle.sheet_recalc.specs.Pending.{IsPendingOn, IsStoredOn};
-ghost use Rattle.sheet_recalc.specs.Changes.{Change, Accepts, Refuses, Define, Store, Put, SetCell, AddRow, Erase, HasRoom, IsFullFor, CannotPut};
-ghost use Rattle.sheet_recalc.specs.Costs.{HasCost, formulas_cost, sheet_change};
+ghost use Rattle.sheet_recalc.specs.ProposedSheet.{names_with};
+ghost use Rattle.sheet_recalc.specs.Planning.{IsProposalAt};
+ghost use Rattle.sheet_recalc.specs.Pending.{IsPendingOn, IsProposedOn};
+ghost use Rattle.sheet_recalc.specs.Changes.{Change, Accepts, Refuses, Define, Store, Put, SetCell, AddRow, Erase, CannotBecome};
+ghost use Rattle.sheet_recalc.specs.Costs.{HasCost};
 
-use crate::ahead::absent;
 use crate::cell::cell_patch;
 use crate::commit::make;
-use crate::cycle::cycle_through;
 use crate::entry::Entry;
-use crate::evaluation::plan_at_rest;
-use crate::growth::{growth_for, no_growth};
-use crate::pending::{Own, Pending};
-use crate::planning::{Planned, plans_of};
+use crate::evaluation::{absent, plan_at_rest};
+use crate::growth::growth_for;
+use crate::pending::Pending;
+use crate::planning::planned_with;
 use crate::proposal::Proposal;
 use crate::proposed_sheet::ProposedSheet;
 use crate::refusal::Refusal;
@@ -39,9 +32,9 @@ use apl_expr::{Expr, Literal};
 use apl_tokens::Name;
 use arrays_core::{Array, Fault};
 use change_core::Meter;
-use dep_order::{Users, affected, first_found};
+use dep_order::Users;
 use formula_core::{Formula, Shows, evaluate};
-use index_region::{Delta, Patch, Seen};
+use index_region::Delta;
 use indexmap::IndexMap;
 use indexmap::map::Keys;
 use std::alloc::{AllocError, Global};
@@ -176,24 +169,7 @@ impl Sheet {
         ensures refused { IfErr result (Refuses self.now.names (Define name (tree_of tree))) }
     {
         let formula = Formula::build(self.alloc, tree)?;
-        let mut meter = Meter::new();
-        let planned = planned_with(
-            self.alloc,
-            &self.entries,
-            &self.users,
-            name,
-            Proposal::Formula(&formula),
-            &mut meter,
-        )?;
-        let growth = growth_for(self.alloc, &self.entries, &self.users, formula.references())?;
-        Ok(Pending {
-            name,
-            own: Own::Bound(Entry::Formula(formula)),
-            plans: planned.plans,
-            growth,
-            cost: planned.cost,
-            ticks: meter.ticks(),
-        })
+        self.propose(name, Proposal::Formula(formula), 0, Meter::new())
     }
 
     /// Makes a change that was worked out on the sheet as it is. No memory is asked for.
@@ -203,16 +179,10 @@ impl Sheet {
         ensures cost { (change : Change) → IsPendingOn self.old change pending → HasCost self.old.names change self.new.names self.new.cost }
         ensures ticks { self.new.ticks ≡ pending.ticks }
     {
-        make(
-            &mut self.entries,
-            &mut self.users,
-            pending.name,
-            pending.own,
-            pending.plans,
-            pending.growth,
-        );
-        self.cost = pending.cost;
-        self.ticks = pending.ticks;
+        let (cost, ticks) = (pending.cost, pending.ticks);
+        make(&mut self.entries, &mut self.users, pending);
+        self.cost = cost;
+        self.ticks = ticks;
     }
 
     /// Binds a name to the array that an expression has now, as an assignment does (ISO/IEC 13751,
@@ -236,11 +206,11 @@ impl Sheet {
         let mut meter = Meter::new();
         let plan = plan_at_rest(self.alloc, &self.entries, tree, &mut meter)?;
         let spent = plan.cost();
-        match plan.into_delta() {
-            Delta::Whole(Ok(array)) => self.begin_store(name, array, spent, meter),
-            Delta::Whole(Err(fault)) => Err(Refusal::Fault(fault)),
-            Delta::Same | Delta::Patch(_) => unreachable!(),
+        let change = plan.into_delta();
+        if let Some(fault) = error_in(&change) {
+            return Err(Refusal::Fault(fault));
         }
+        self.propose(name, Proposal::Data(change), spent, meter)
     }
 
     /// Replaces one item of data, the indexed assignment of one item (ISO/IEC 13751, "Indexed Assignment"). The data is
@@ -271,26 +241,9 @@ impl Sheet {
         ensures ok { IfOk result (IsPendingOn self.now (SetCell name positions.now (literal_of literal.now))) }
         ensures refused { IfErr result (Refuses self.now.names (SetCell name positions.now (literal_of literal.now))) }
     {
-        let (array, patch) = cell_patch(self.alloc, &self.entries, name, positions, literal)?;
+        let patch = cell_patch(self.alloc, &self.entries, name, positions, literal)?;
         let change = Delta::Patch(patch);
-        let mut meter = Meter::new();
-        let planned = planned_with_patch(
-            self.alloc,
-            &self.entries,
-            &self.users,
-            name,
-            array,
-            &change,
-            &mut meter,
-        )?;
-        Ok(Pending {
-            name,
-            own: Own::Patched(patch_made(change)),
-            plans: planned.plans,
-            growth: no_growth(self.alloc),
-            cost: planned.cost,
-            ticks: meter.ticks(),
-        })
+        self.propose(name, Proposal::Data(change), 0, Meter::new())
     }
 
     /// Puts a literal at the end of data: one more item of a vector, one more row of a table. The first of these refuses it:
@@ -313,7 +266,7 @@ impl Sheet {
         ensures refused { IfErr result (Refuses self.now.names (AddRow name (literal_of literal.now))) }
     {
         let array = data_with_row(self.alloc, &self.entries, name, literal)?;
-        self.begin_store(name, array, 0, Meter::new())
+        self.begin_put(name, array)
     }
 
     /// Removes a name, as the command `)ERASE` does (ISO/IEC 13751, "System Commands"). The names after it move up, and
@@ -337,16 +290,7 @@ impl Sheet {
         if !self.entries.contains_key(&name) {
             return Err(Refusal::NotFound);
         }
-        let mut meter = Meter::new();
-        let planned = planned_without(self.alloc, &self.entries, &self.users, name, &mut meter)?;
-        Ok(Pending {
-            name,
-            own: Own::Removed,
-            plans: planned.plans,
-            growth: no_growth(self.alloc),
-            cost: planned.cost,
-            ticks: meter.ticks(),
-        })
+        self.propose(name, Proposal::Removed, 0, Meter::new())
     }
 
     /// Binds a name to an array. It is refused where the name is new and `MOST_NAMES` names are present, or for want of memory, and
@@ -367,34 +311,34 @@ impl Sheet {
         ensures ok { IfOk result (IsPendingOn self.now (Put name array)) }
         ensures refused { IfErr result (Refuses self.now.names (Put name array)) }
     {
-        self.begin_store(name, array, 0, Meter::new())
+        let change = Delta::Whole(Ok(array));
+        self.propose(name, Proposal::Data(change), 0, Meter::new())
     }
 
-    /// Works out the binding of a name to an array, where that has cost so much and the meter shows so many items.
-    fn begin_store(
+    /// Works out what a name is to be bound to, where finding that has cost so much and the meter shows so many items.
+    fn propose(
         &self,
         name: Name,
-        array: Array,
+        proposal: Proposal,
         spent: u64,
         mut meter: Meter,
     ) -> Result<Pending, Refusal>
-        requires { ticked 0 meter.ticks ≤ spent }
-        ensures ok { IfOk result (IsStoredOn self.now name array spent) }
-        ensures refused { IfErr result (Refuses self.now.names (Put name array)) }
+        requires proposal { IsProposalAt self.now.tables.entries.entries name proposal }
+        requires few { ticked 0 meter.ticks ≤ spent }
+        ensures ok { IfOk result (IsProposedOn self.now name proposal spent) }
+        ensures refused { IfErr result (CannotBecome self.now.names (names_with self.now.names name proposal) name) }
+        ensures sound { IsSheet self.now.names }
     {
-        let change = stored(array);
-        let planned = planned_with_data(
-            self.alloc,
-            &self.entries,
-            &self.users,
+        let proposed = ProposedSheet {
+            entries: &self.entries,
             name,
-            &change,
-            &mut meter,
-        )?;
-        let growth = growth_for(self.alloc, &self.entries, &self.users, &[])?;
+            proposal: &proposal,
+        };
+        let planned = planned_with(self.alloc, &proposed, &self.users, &mut meter)?;
+        let growth = growth_for(self.alloc, &self.entries, &self.users, &proposal)?;
         Ok(Pending {
             name,
-            own: Own::Bound(Entry::Data(array_stored(change))),
+            proposal,
             plans: planned.plans,
             growth,
             cost: spent.saturating_add(planned.cost),
@@ -407,148 +351,12 @@ impl Sheet {
     }
 }
 
-/// The plans of a change by which a name is bound anew, or why it cannot be.
-fn planned_with<'a>(
-    alloc: Global,
-    entries: &'a IndexMap<Name, Entry>,
-    users: &Users<Name>,
-    name: Name,
-    proposal: Proposal<'a>,
-    meter: &mut Meter,
-) -> Result<Planned, Refusal>
-    requires live { IsLive entries.now.entries users.now.entries }
-    requires proposal { IsProposalAt (val (names_of entries.now.entries) name) (Some proposal) }
-    ensures planned { IfOk result (IsWorkedOut entries.entry.now.entries name (Some (proposed_entry proposal.entry)) (put (names_of entries.entry.now.entries) name (bound proposal.entry))
-        (proposed_delta name (put (names_of entries.entry.now.entries) name (bound proposal.entry)) (Some proposal.entry)) meter.old.ticks meter.new.ticks) }
-    ensures put { OnOk result (CanBePut (names_of entries.entry.now.entries) name (bound proposal.entry)) }
-    ensures refused { IfErr result (CannotPut (names_of entries.entry.now.entries) name (bound proposal.entry)) }
-{
-    let found = affected(alloc, users, name, entries.len())?;
-    let references = proposal.references();
-    let proposed = ProposedSheet {
-        entries,
-        name,
-        proposal: Some(proposal),
-    };
-    if let Some(reference) = first_found(&found, references) {
-        return Err(Refusal::Cycle(cycle_through(alloc, &proposed, &found, reference)?));
-    }
-    if !has_room(entries, name) {
-        return Err(Refusal::SheetFull);
-    }
-    Ok(plans_of(alloc, &proposed, found, meter)?)
-}
-
-/// What changes of a name that is bound to an array.
-fn stored(array: Array) -> Delta
-    ensures { result ≡ WholeDelta (Ok array) }
-{
-    Delta::Whole(Ok(array))
-}
-
-/// The array that a name is bound to by this change.
-fn array_stored(change: Delta) -> Array
-    requires { (a : ArrayValue) × (change ≡ WholeDelta (Ok a)) }
-    ensures { change ≡ WholeDelta (Ok result) }
+/// The error that a change puts in the place of all.
+fn error_in(change: &Delta) -> Option<Fault>
+    ensures { MatchOption result ((e : FaultValue) → change.now ≡ Whole (Err e) → ⊥) (λ e. change.now ≡ Whole (Err e)) }
 {
     match change {
-        Delta::Whole(Ok(array)) => array,
-        _ => unreachable!(),
+        Delta::Whole(Err(fault)) => Some(*fault),
+        Delta::Whole(Ok(_)) | Delta::Same | Delta::Patch(_) => None,
     }
-}
-
-/// The patch that this change lays over data.
-fn patch_made(change: Delta) -> Patch
-    requires { (p : PatchValue) × (change ≡ PatchDelta p) }
-    ensures { change ≡ PatchDelta result }
-{
-    match change {
-        Delta::Patch(patch) => patch,
-        _ => unreachable!(),
-    }
-}
-
-/// The plans of a change by which a name is bound to the array that is its change.
-fn planned_with_data(
-    alloc: Global,
-    entries: &IndexMap<Name, Entry>,
-    users: &Users<Name>,
-    name: Name,
-    change: &Delta,
-    meter: &mut Meter,
-) -> Result<Planned, Refusal>
-    requires live { IsLive entries.now.entries users.now.entries }
-    requires array { (a : ArrayValue) × (change.now ≡ WholeDelta (Ok a)) }
-    ensures planned { IfOk result (λ p. (a : ArrayValue) → change.now ≡ WholeDelta (Ok a)
-        → IsWorkedOut entries.now.entries name (Some (DataEntry a)) (put (names_of entries.now.entries) name (Data a)) change.now meter.old.ticks meter.new.ticks p) }
-    ensures put { OnOk result ((a : ArrayValue) → change.now ≡ WholeDelta (Ok a) → CanBePut (names_of entries.now.entries) name (Data a)) }
-    ensures refused { IfErr result (λ cause. (a : ArrayValue) → change.now ≡ WholeDelta (Ok a) → CannotPut (names_of entries.now.entries) name (Data a) cause) }
-{
-    let Delta::Whole(result) = change else {
-        unreachable!();
-    };
-    match result {
-        Ok(array) => {
-            let proposal = Proposal::Data(Seen::plain(array), change);
-            planned_with(alloc, entries, users, name, proposal, meter)
-        }
-        Err(_) => unreachable!(),
-    }
-}
-
-/// The plans of a change that lays its patch over the data of a name.
-fn planned_with_patch(
-    alloc: Global,
-    entries: &IndexMap<Name, Entry>,
-    users: &Users<Name>,
-    name: Name,
-    array: &Array,
-    change: &Delta,
-    meter: &mut Meter,
-) -> Result<Planned, Refusal>
-    requires live { IsLive entries.now.entries users.now.entries }
-    requires held { HasData entries.now.entries name array.now }
-    requires patch { (p : PatchValue) × (change.now ≡ PatchDelta p) × FitsPatch array.now p }
-    ensures planned { IfOk result (λ r. (p : PatchValue) → change.now ≡ PatchDelta p
-        → IsWorkedOut entries.now.entries name (Some (DataEntry (patched array.now p))) (put (names_of entries.now.entries) name (Data (patched array.now p))) change.now meter.old.ticks meter.new.ticks r) }
-    ensures put { OnOk result ((p : PatchValue) → change.now ≡ PatchDelta p → CanBePut (names_of entries.now.entries) name (Data (patched array.now p))) }
-    ensures refused { IfErr result (λ cause. (p : PatchValue) → change.now ≡ PatchDelta p → CannotPut (names_of entries.now.entries) name (Data (patched array.now p)) cause) }
-{
-    match change {
-        Delta::Patch(patch) => {
-            let proposal = Proposal::Data(Seen::patched(array, patch), change);
-            planned_with(alloc, entries, users, name, proposal, meter)
-        }
-        _ => unreachable!(),
-    }
-}
-
-/// The plans of a change by which a name is removed.
-fn planned_without(
-    alloc: Global,
-    entries: &IndexMap<Name, Entry>,
-    users: &Users<Name>,
-    name: Name,
-    meter: &mut Meter,
-) -> Result<Planned, AllocError>
-    requires { IsLive entries.now.entries users.now.entries }
-    ensures planned { IfOk result (IsWorkedOut entries.entry.now.entries name None (without (names_of entries.entry.now.entries) name)
-        (WholeDelta (val (without (names_of entries.entry.now.entries) name) name)) meter.old.ticks meter.new.ticks) }
-    ensures kept { OnOk result (HasOrder (without (names_of entries.entry.now.entries) name)) }
-    ensures sheet { OnOk result (IsSheet (without (names_of entries.entry.now.entries) name)) }
-{
-    let found = affected(alloc, users, name, entries.len())?;
-    let proposed = ProposedSheet {
-        entries,
-        name,
-        proposal: None,
-    };
-    plans_of(alloc, &proposed, found, meter)
-}
-
-/// There is room for a name: it is present, or fewer than `MOST_NAMES` names are.
-fn has_room(entries: &IndexMap<Name, Entry>, name: Name) -> bool
-    ensures { MatchBool result (HasRoom (names_of entries.now.entries) name) (IsFullFor (names_of entries.now.entries) name) }
-{
-    entries.contains_key(&name) || entries.len() < MOST_NAMES
 }

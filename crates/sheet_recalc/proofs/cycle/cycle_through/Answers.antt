@@ -1,7 +1,7 @@
 use Rattle.std.proofs.Common.{◌∙◌, List, [], ◌∷◌, ◌++◌, ℕ, ap, arith}
 use Rattle.dep_order.proofs.Climbing.{chain_join}
 use Rattle.sheet_recalc.specs.Names.{Refers}
-use Rattle.sheet_recalc.specs.ProposedSheet.{proposed_names}
+use Rattle.sheet_recalc.specs.ProposedSheet.{outline_of, proposed_names}
 use Rattle.sheet_recalc.proofs.Cycles.{number_within}
 use Rattle.sheet_recalc.proofs.cycle.cycle_through.Goals as goal
 
@@ -11,7 +11,7 @@ loop-next-smaller c =
 
 pub loop-next-preserved : goal.loop-next-preserved
 loop-next-preserved c =
-    let o = c.args.proposed.now in
+    let o = outline_of c.args.proposed.now in
     let now = c.loop-next.invariant.walked in
     record {
       walked = (

@@ -3,12 +3,12 @@ use Rattle.std.specs.Str.{bytes_eq}
 use Rattle.std.specs.List.{Contains, position_or_len}
 use Rattle.dep_order.specs.Reachability.{Chain}
 use Rattle.sheet_recalc.specs.Names.{Refers}
-use Rattle.sheet_recalc.specs.ProposedSheet.{proposed_names}
+use Rattle.sheet_recalc.specs.ProposedSheet.{outline_of, proposed_names}
 use Rattle.sheet_recalc.proofs.cycle.cycle_through.Given as goal
 
 abbrev pub invariant-loop-next : goal.invariant-loop-next
 invariant-loop-next l = record {
-  walked : (via : List (List ℕ)) × (l.cycle.items ≡ l.proposed.name ∷ via) × Chain (Refers (proposed_names l.proposed)) l.proposed.name via l.next;
+  walked : (via : List (List ℕ)) × (l.cycle.items ≡ l.proposed.name ∷ via) × Chain (Refers (proposed_names (outline_of l.proposed))) l.proposed.name via l.next;
   hit : Contains l.found.keys l.next;
 }
 

@@ -1,11 +1,16 @@
-use Rattle.std.proofs.Common.{◌≡◌, ◌+◌, ◌∙◌, ap, sym, subst, ℕ, List, [], ◌∷◌, ◌++◌, take}
+use Rattle.std.proofs.Common.{◌≡◌, ◌+◌, ◌∙◌, ap, sym, subst, ℕ, List, [], ◌∷◌, ◌++◌, take, IfOk}
 use Rattle.std.specs.List.{Contains}
 use Rattle.std.proofs.lemmas.List.{take_more}
 use Rattle.formula_core.specs.declared.input.Input.{Input}
+use Rattle.arrays_core.specs.Arrays.{IsArray}
+use Rattle.formula_core.specs.Changes.{FitsIn}
+use Rattle.formula_core.specs.Outcomes.{Outcome, read}
+use Rattle.index_region.specs.declared.delta.Delta.{Delta}
 use Rattle.formula_core.specs.Plans.{AreInputs, IsNameSound}
 use Rattle.sheet_recalc.specs.Costs.{at_rest}
+use Rattle.sheet_recalc.specs.Meaning.{val}
 use Rattle.sheet_recalc.specs.Entries.{names_of}
-use Rattle.sheet_recalc.proofs.PlannedNames.{inputs_more, all_more}
+use Rattle.sheet_recalc.proofs.PlannedNames.{inputs_more, all_more, rest_input}
 use Rattle.sheet_recalc.proofs.evaluation.inputs_at_rest.Goals as goal
 
 pub loop-reference-preserved : goal.loop-reference-preserved
@@ -19,7 +24,11 @@ loop-reference-preserved c =
     record {
       inputs = subst (λ (ns : List (List ℕ)). AreInputs rest ns c.push.new.self.items) (sym more)
           (subst (λ (is : List Input). AreInputs rest (done ++ x ∷ []) is) (sym {A = List Input} c.in_ok-push.ensures.ok)
-          (inputs_more rest done c.loop-reference.inputs.items x c.input_at_rest.result now.inputs c.input_at_rest.ensures.input));
+          (inputs_more rest done c.loop-reference.inputs.items x c.of.result now.inputs
+          (rest_input c.args.unchanged.now c.requires.unchanged (read c.shown.result) (val (names_of c.args.entries.now.entries) x) c.shown.ensures c.of.result c.of.ensures.is)));
       sound = subst (λ (ns : List (List ℕ)). (y : List ℕ) → Contains ns y → IsNameSound rest y) (sym more)
-          (all_more (IsNameSound rest) done x now.sound (record { old = c.input_at_rest.ensures.sound; new = c.input_at_rest.ensures.sound }));
+          (all_more (IsNameSound rest) done x now.sound (record { old = subst (λ (r : Outcome). IfOk r IsArray) c.shown.ensures c.of.ensures.held; new = subst (λ (r : Outcome). IfOk r IsArray) c.shown.ensures c.of.ensures.held }));
     }
+
+pub of-requires : goal.of-requires
+of-requires c = subst (λ (d : Delta). FitsIn d (read c.shown.result)) (sym c.requires.unchanged) tt

@@ -1,17 +1,14 @@
-use Rattle.std.proofs.Common.{◌+◌, ◌∙◌, ap, subst, refl, arith, IfOk}
+use Rattle.std.proofs.Common.{◌+◌, ◌∙◌, ap, refl, arith}
 use Rattle.std.proofs.lemmas.Bool.{false≢true}
-use Rattle.arrays_core.specs.Arrays.{IsArray}
 use Rattle.change_core.specs.Meters.{ticked}
-use Rattle.formula_core.specs.Outcomes.{Outcome}
-use Rattle.sheet_recalc.specs.ProposedSheet.{proposed_names, proposed_change}
+use Rattle.sheet_recalc.specs.ProposedSheet.{outline_of, proposed_names, proposed_change}
 use Rattle.sheet_recalc.specs.Planning.{name_cost}
-use Rattle.sheet_recalc.proofs.Live.{holding_val}
 use Rattle.sheet_recalc.proofs.Working.{under_way_first, plain_next, plain_costs_nothing, cost_split, reads_done, formula_next, planned_in_the_end, nothing_left}
 use Rattle.sheet_recalc.proofs.planning.plans_of.Goals as goal
 
 pub loop-name-init : goal.loop-name-init
 loop-name-init c = record {
-  way = under_way_first c.args.proposed.now c.args.left.keys c.requires.found c.len-unique.ensures.unique c.new.result.entries c.new.ensures.empty;
+  way = under_way_first (outline_of c.args.proposed.now) c.args.left.keys c.requires.found c.len-unique.ensures.unique c.new.result.entries c.new.ensures.empty;
   spent = 0;
   split = omega arith;
   cost = refl;
@@ -20,7 +17,7 @@ loop-name-init c = record {
 
 pub loop-name-preserved-in_default-formula_of : goal.loop-name-preserved-in_default-formula_of
 loop-name-preserved-in_default-formula_of c =
-    let o = c.args.proposed.now in
+    let o = outline_of c.args.proposed.now in
     let now = c.loop-name.invariant in
     record {
       way = plain_next o c.requires.proposed c.pop.new.self.keys c.in-Some.name c.loop-name.left.keys c.in-Some.ensures.keys c.loop-name.planned.plans.entries now.way c.in_default-formula_of.ensures;
@@ -35,19 +32,14 @@ loop-name-preserved-in_default-formula_of c =
       ticks = now.ticks;
     }
 
-pub plan_of-requires-clause-sound : goal.plan_of-requires-clause-sound
-plan_of-requires-clause-sound c =
-    let o = c.args.proposed.now in
-    subst (λ (r : Outcome). IfOk r IsArray) (holding_val o.entries.now.entries c.requires.proposed.current o.name) c.shown-shown.ensures
-
 pub plan_of-requires-clause-done : goal.plan_of-requires-clause-done
 plan_of-requires-clause-done c =
-    reads_done c.args.proposed.now c.requires.proposed c.pop.new.self.keys c.in-Some.name c.loop-name.left.keys c.in-Some.ensures.keys c.loop-name.planned.plans.entries c.loop-name.invariant.way
+    reads_done (outline_of c.args.proposed.now) c.requires.proposed c.pop.new.self.keys c.in-Some.name c.loop-name.left.keys c.in-Some.ensures.keys c.loop-name.planned.plans.entries c.loop-name.invariant.way
     c.in-Some-formula_of.formula.now c.in-Some-formula_of.ensures
 
 pub loop-name-preserved : goal.loop-name-preserved
 loop-name-preserved c =
-    let o = c.args.proposed.now in
+    let o = outline_of c.args.proposed.now in
     let now = c.loop-name.invariant in
     let more = name_cost o.name (proposed_change o) (proposed_names o) c.in-Some.name in
     record {
@@ -65,16 +57,16 @@ loop-name-preserved c =
 
 pub returns-clause-planned : goal.returns-clause-planned
 returns-clause-planned c =
-    planned_in_the_end c.args.proposed.now c.requires.proposed c.loop-name.left.keys c.loop-name.planned.plans.entries c.loop-name.invariant.way (λ l. false≢true (c.in_default.ensures.found.1 l))
+    planned_in_the_end (outline_of c.args.proposed.now) c.requires.proposed c.loop-name.left.keys c.loop-name.planned.plans.entries c.loop-name.invariant.way (λ l. false≢true (c.in_default.ensures.found.1 l))
 
 pub returns-clause-cost : goal.returns-clause-cost
 returns-clause-cost c =
-    let o = c.args.proposed.now in
+    let o = outline_of c.args.proposed.now in
     let now = c.loop-name.invariant in
     now.cost ∙ ap (ticked 0) (omega (arith, now.split, nothing_left o c.loop-name.left.keys (λ l. false≢true (c.in_default.ensures.found.1 l))))
 
 pub returns-clause-ticks : goal.returns-clause-ticks
 returns-clause-ticks c =
-    let o = c.args.proposed.now in
+    let o = outline_of c.args.proposed.now in
     let now = c.loop-name.invariant in
     omega (arith, now.ticks, now.split, nothing_left o c.loop-name.left.keys (λ l. false≢true (c.in_default.ensures.found.1 l)))

@@ -4,13 +4,13 @@ use Rattle.std.proofs.lemmas.List.{take_more}
 use Rattle.formula_core.specs.declared.input.Input.{Input}
 use Rattle.formula_core.specs.Changes.{IsNameChanged}
 use Rattle.formula_core.specs.Plans.{AreInputs, IsNameSound}
-use Rattle.sheet_recalc.specs.ProposedSheet.{proposed_change}
+use Rattle.sheet_recalc.specs.ProposedSheet.{outline_of, proposed_change}
 use Rattle.sheet_recalc.proofs.PlannedNames.{inputs_more, all_more}
 use Rattle.sheet_recalc.proofs.ahead.Ahead.inputs_of.Goals as goal
 
 pub loop-reference-preserved : goal.loop-reference-preserved
 loop-reference-preserved c =
-    let change = proposed_change c.args.self.now.proposed.now in
+    let change = proposed_change (outline_of c.args.self.now.proposed.now) in
     let done = take c.loop-reference.reference-index c.args.references.now in
     let x = c.reference-item.result in
     let more : take (c.loop-reference.reference-index + 1) c.args.references.now ≡ done ++ x ∷ [] =

@@ -2,12 +2,12 @@ use Rattle.std.proofs.Common.{ℕ, List, take}
 use Rattle.std.specs.List.{Contains}
 use Rattle.formula_core.specs.Changes.{IsNameChanged}
 use Rattle.formula_core.specs.Plans.{AreInputs, IsNameSound}
-use Rattle.sheet_recalc.specs.ProposedSheet.{proposed_change}
+use Rattle.sheet_recalc.specs.ProposedSheet.{outline_of, proposed_change}
 use Rattle.sheet_recalc.proofs.ahead.Ahead.inputs_of.Given as goal
 
 abbrev pub invariant-loop-reference : goal.invariant-loop-reference
 invariant-loop-reference l = record {
-  inputs : AreInputs (proposed_change l.self.proposed.now) (take l.reference-index l.references) l.inputs.items;
-  changed : (x : List ℕ) → Contains (take l.reference-index l.references) x → IsNameChanged (proposed_change l.self.proposed.now) x;
-  sound : (x : List ℕ) → Contains (take l.reference-index l.references) x → IsNameSound (proposed_change l.self.proposed.now) x;
+  inputs : AreInputs (proposed_change (outline_of l.self.proposed.now)) (take l.reference-index l.references) l.inputs.items;
+  changed : (x : List ℕ) → Contains (take l.reference-index l.references) x → IsNameChanged (proposed_change (outline_of l.self.proposed.now)) x;
+  sound : (x : List ℕ) → Contains (take l.reference-index l.references) x → IsNameSound (proposed_change (outline_of l.self.proposed.now)) x;
 }

@@ -1,31 +1,47 @@
-use Rattle.std.proofs.Common.{◌∙◌, ap, Some}
-use Rattle.sheet_recalc.proofs.PlannedNames.{own_formula, data_input, data_changed, data_sound, none_input, none_sound}
+use Rattle.std.proofs.Common.{sym, ap, subst, IfOk}
+use Rattle.arrays_core.specs.Arrays.{IsArray}
+use Rattle.change_rules.specs.Currency.{applied}
+use Rattle.formula_core.specs.Changes.{FitsIn}
+use Rattle.formula_core.specs.Inputs.{IsInput}
+use Rattle.formula_core.specs.Outcomes.{Outcome}
+use Rattle.sheet_recalc.specs.ProposedSheet.{outline_of}
+use Rattle.sheet_recalc.proofs.PlannedNames.{own_formula, data_fits, data_input, data_changed, data_sound, none_input, none_changed, none_sound}
 use Rattle.sheet_recalc.proofs.ahead.Ahead.own.Goals as goal
 
 pub unreachable-requires : goal.unreachable-requires
 unreachable-requires c =
-    let o = c.args.self.now.proposed.now in
-    own_formula o c.requires.ahead.proposed c.in-Formula.field-0 (c.in-Some.is ∙ ap Some c.in-Formula.is) c.requires.done
+    own_formula (outline_of c.args.self.now.proposed.now) c.requires.ahead.proposed c.in-Formula.field-0 c.in-Formula.is c.requires.done
 
-pub returns-clause-input : goal.returns-clause-input
-returns-clause-input c =
-    let o = c.args.self.now.proposed.now in
-    data_input o c.requires.ahead.proposed c.in-Data.array c.in-Data.delta (c.in-Some.is ∙ ap Some c.in-Data.is) c.again.result c.again.ensures
+pub shown-requires : goal.shown-requires
+shown-requires c = c.requires.ahead.proposed.current
 
-pub returns-clause-changed : goal.returns-clause-changed
-returns-clause-changed c =
-    let o = c.args.self.now.proposed.now in
-    data_changed o c.requires.ahead.proposed c.in-Data.array c.in-Data.delta (c.in-Some.is ∙ ap Some c.in-Data.is)
+pub of-requires : goal.of-requires
+of-requires c =
+    subst (FitsIn c.in-Data.delta) (sym c.shown.ensures) (data_fits (outline_of c.args.self.now.proposed.now) c.requires.ahead.proposed c.in-Data.delta c.in-Data.is)
 
-pub returns-clause-sound : goal.returns-clause-sound
-returns-clause-sound c =
-    let o = c.args.self.now.proposed.now in
-    data_sound o c.requires.ahead.proposed c.in-Data.array c.in-Data.delta (c.in-Some.is ∙ ap Some c.in-Data.is) c.requires.ahead.sound c.shape-sound.ensures.sound
+pub returns-in-Data-clause-input : goal.returns-in-Data-clause-input
+returns-in-Data-clause-input c =
+    let d = c.in-Data.delta in
+    data_input (outline_of c.args.self.now.proposed.now) c.requires.ahead.proposed d c.in-Data.is c.of.result
+    (subst (λ (r : Outcome). IsInput (applied d r) d c.of.result) c.shown.ensures c.of.ensures.is)
 
-pub returns-in_default-clause-input : goal.returns-in_default-clause-input
-returns-in_default-clause-input c =
-    none_input c.args.self.now.proposed.now c.requires.ahead.proposed c.in_default.is c.absent.result c.absent.ensures
+pub returns-in-Data-clause-changed : goal.returns-in-Data-clause-changed
+returns-in-Data-clause-changed c =
+    data_changed (outline_of c.args.self.now.proposed.now) c.requires.ahead.proposed c.in-Data.delta c.in-Data.is
 
-pub returns-in_default-clause-sound : goal.returns-in_default-clause-sound
-returns-in_default-clause-sound c =
-    none_sound c.args.self.now.proposed.now c.requires.ahead.proposed c.in_default.is c.requires.ahead.sound
+pub returns-in-Data-clause-sound : goal.returns-in-Data-clause-sound
+returns-in-Data-clause-sound c =
+    let d = c.in-Data.delta in
+    data_sound (outline_of c.args.self.now.proposed.now) c.requires.ahead.proposed d c.in-Data.is (subst (λ (r : Outcome). IfOk (applied d r) IsArray) c.shown.ensures c.of.ensures.sound)
+
+pub returns-in-Removed-clause-input : goal.returns-in-Removed-clause-input
+returns-in-Removed-clause-input c =
+    none_input (outline_of c.args.self.now.proposed.now) c.requires.ahead.proposed c.in-Removed.is c.absent.result c.absent.ensures
+
+pub returns-in-Removed-clause-changed : goal.returns-in-Removed-clause-changed
+returns-in-Removed-clause-changed c =
+    none_changed (outline_of c.args.self.now.proposed.now) c.requires.ahead.proposed c.in-Removed.is
+
+pub returns-in-Removed-clause-sound : goal.returns-in-Removed-clause-sound
+returns-in-Removed-clause-sound c =
+    none_sound (outline_of c.args.self.now.proposed.now) c.requires.ahead.proposed c.in-Removed.is

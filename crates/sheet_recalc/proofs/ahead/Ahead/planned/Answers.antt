@@ -2,47 +2,48 @@ use Rattle.std.proofs.Common.{◌∙◌, sym, ap, subst, IfOk}
 use Rattle.index_region.specs.declared.delta.Delta.{Delta}
 use Rattle.change_rules.specs.Currency.{applied}
 use Rattle.arrays_core.specs.Arrays.{IsArray}
-use Rattle.formula_core.specs.Outcomes.{Outcome}
+use Rattle.formula_core.specs.Outcomes.{Outcome, read}
 use Rattle.formula_core.specs.Formulas.{root_result}
 use Rattle.formula_core.specs.Plans.{root_change}
 use Rattle.formula_core.specs.Changes.{FitsIn}
 use Rattle.formula_core.specs.Inputs.{IsInput}
+use Rattle.sheet_recalc.specs.ProposedSheet.{outline_of}
 use Rattle.sheet_recalc.specs.Costs.{origin_delta}
 use Rattle.sheet_recalc.specs.Meaning.{with_origin}
 use Rattle.sheet_recalc.proofs.PlannedNames.{root_fits, planned_input, planned_changed, planned_sound, plan_now}
 use Rattle.sheet_recalc.proofs.ahead.Ahead.planned.Goals as goal
 
-pub of_node-requires : goal.of_node-requires
-of_node-requires c =
-    let o = c.args.self.now.proposed.now in
+pub of-requires : goal.of-requires
+of-requires c =
+    let o = outline_of c.args.self.now.proposed.now in
     let f = c.in-Some.formula.now in
     let p = c.args.plan.now in
     let now = plan_now o c.args.name p f c.requires.plan c.in-Some.ensures in
-    subst (λ (d : Delta). FitsIn d c.held.result.now) (sym c.delta.ensures)
-    (subst (FitsIn (root_change p.changes)) (sym c.held.ensures) (root_fits o c.requires.ahead.proposed c.args.name f c.in-Some.ensures p now.0 now.1))
+    subst (λ (d : Delta). FitsIn d (read c.result-held.result)) (sym c.delta.ensures)
+    (subst (FitsIn (root_change p.changes)) (sym c.result-held.ensures) (root_fits o c.requires.ahead.proposed c.args.name f c.in-Some.ensures p now.0 now.1))
 
 pub returns-clause-input : goal.returns-clause-input
 returns-clause-input c =
-    let o = c.args.self.now.proposed.now in
+    let o = outline_of c.args.self.now.proposed.now in
     let f = c.in-Some.formula.now in
     let p = c.args.plan.now in
     let now = plan_now o c.args.name p f c.requires.plan c.in-Some.ensures in
-    let given = c.in_formula.ensures c.held.result.now c.delta.result.now c.of_node.ensures.is in
+    let given = c.in_formula.ensures (read c.result-held.result) c.delta.result.now c.of.ensures.is in
     planned_input o c.requires.ahead.proposed c.args.name f c.in-Some.ensures p now.0 now.1 c.in_formula.result
     (subst (λ (d : Delta). IsInput (with_origin c.args.name (applied d (root_result f.nodes))) (origin_delta c.args.name d) c.in_formula.result) c.delta.ensures
-    (subst (λ (h : Outcome). IsInput (with_origin c.args.name (applied c.delta.result.now h)) (origin_delta c.args.name c.delta.result.now) c.in_formula.result) c.held.ensures given))
+    (subst (λ (h : Outcome). IsInput (with_origin c.args.name (applied c.delta.result.now h)) (origin_delta c.args.name c.delta.result.now) c.in_formula.result) c.result-held.ensures given))
 
 pub returns-clause-changed : goal.returns-clause-changed
 returns-clause-changed c =
     let p = c.requires.plan in
-    planned_changed c.args.self.now.proposed.now c.requires.ahead.proposed c.args.name p.formula p.held c.args.plan.now p.of p.planned
+    planned_changed (outline_of c.args.self.now.proposed.now) c.requires.ahead.proposed c.args.name p.formula p.held c.args.plan.now p.of p.planned
 
 pub returns-clause-sound : goal.returns-clause-sound
 returns-clause-sound c =
-    let o = c.args.self.now.proposed.now in
+    let o = outline_of c.args.self.now.proposed.now in
     let f = c.in-Some.formula.now in
     let p = c.args.plan.now in
     let now = plan_now o c.args.name p f c.requires.plan c.in-Some.ensures in
-    planned_sound o c.requires.ahead.proposed c.args.name f c.in-Some.ensures p now.0 now.1 c.requires.ahead.sound
-    (subst (λ (h : Outcome). IfOk h IsArray) c.held.ensures c.of_node.ensures.held)
-    (subst (λ (h : Outcome). IfOk h IsArray) (ap (λ (d : Delta). applied d c.held.result.now) c.delta.ensures ∙ ap (applied (root_change p.changes)) c.held.ensures) c.of_node.ensures.sound)
+    planned_sound o c.requires.ahead.proposed c.args.name f c.in-Some.ensures p now.0 now.1
+    (subst (λ (h : Outcome). IfOk h IsArray) c.result-held.ensures c.of.ensures.held)
+    (subst (λ (h : Outcome). IfOk h IsArray) (ap (λ (d : Delta). applied d (read c.result-held.result)) c.delta.ensures ∙ ap (applied (root_change p.changes)) c.result-held.ensures) c.of.ensures.sound)

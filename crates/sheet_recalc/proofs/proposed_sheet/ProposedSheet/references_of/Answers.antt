@@ -1,30 +1,27 @@
 use Rattle.std.proofs.Common.{◌∙◌, sym, ap, [], Option, Some, None}
 use Rattle.std.specs.Option.{option_map, option_map_or}
 use Rattle.sheet_recalc.specs.Names.{Binding, referred}
-use Rattle.sheet_recalc.specs.ProposedSheet.{bound}
+use Rattle.sheet_recalc.specs.Entries.{names_of, binding_of}
+use Rattle.sheet_recalc.specs.Meaning.{val}
+use Rattle.sheet_recalc.specs.ProposedSheet.{outline_of, own_entry}
 use Rattle.sheet_recalc.proofs.Proposed.{bound_own, bound_other}
+use Rattle.sheet_recalc.proofs.Readied.{references_made}
 use Rattle.sheet_recalc.proofs.proposed_sheet.ProposedSheet.references_of.Goals as goal
+
+pub returns-then-eq : goal.returns-then-eq
+returns-then-eq c =
+    let o = outline_of c.args.self.now in
+    c.references.ensures ∙ (sym (references_made (val (names_of o.entries) o.name) o.proposal)
+    ∙ ap (λ (b : Option Binding). option_map_or referred b []) (sym (bound_own o.entries o.name (option_map binding_of (own_entry o)) c.args.name (sym c.eq.ensures ∙ c.if-eq.true))))
 
 pub returns-in-Some : goal.returns-in-Some
 returns-in-Some c =
-    let o = c.args.self.now in
-    c.references.ensures ∙ (ap (λ p. option_map_or referred (option_map bound p) []) (sym c.in-Some.is)
-    ∙ ap (λ (b : Option Binding). option_map_or referred b []) (sym (bound_own o.entries.now.entries o.name (option_map bound o.proposal) c.args.name (sym c.eq.ensures ∙ c.if-eq.true))))
+    let o = outline_of c.args.self.now in
+    c.references-in-Some.ensures ∙ ap (λ (b : Option Binding). option_map_or referred b [])
+    (sym (bound_other o.entries o.name (option_map binding_of (own_entry o)) c.args.name (Some c.in-Some.entry.now) (sym c.eq.ensures ∙ c.if-eq.false) c.in-Some.ensures.value))
 
 pub returns-in-None : goal.returns-in-None
 returns-in-None c =
-    let o = c.args.self.now in
-    ap (λ p. option_map_or referred (option_map bound p) []) (sym c.in-None.is)
-    ∙ ap (λ (b : Option Binding). option_map_or referred b []) (sym (bound_own o.entries.now.entries o.name (option_map bound o.proposal) c.args.name (sym c.eq.ensures ∙ c.if-eq.true)))
-
-pub returns-in-Some-get : goal.returns-in-Some-get
-returns-in-Some-get c =
-    let o = c.args.self.now in
-    c.references-in-Some-get.ensures ∙ ap (λ (b : Option Binding). option_map_or referred b [])
-    (sym (bound_other o.entries.now.entries o.name (option_map bound o.proposal) c.args.name (Some c.in-Some-get.entry.now) (sym c.eq.ensures ∙ c.if-eq.false) c.in-Some-get.ensures.value))
-
-pub returns-in-None-get : goal.returns-in-None-get
-returns-in-None-get c =
-    let o = c.args.self.now in
+    let o = outline_of c.args.self.now in
     ap (λ (b : Option Binding). option_map_or referred b [])
-    (sym (bound_other o.entries.now.entries o.name (option_map bound o.proposal) c.args.name None (sym c.eq.ensures ∙ c.if-eq.false) c.in-None-get.ensures.value))
+    (sym (bound_other o.entries o.name (option_map binding_of (own_entry o)) c.args.name None (sym c.eq.ensures ∙ c.if-eq.false) c.in-None.ensures.value))

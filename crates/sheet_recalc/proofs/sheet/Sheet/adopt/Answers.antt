@@ -8,30 +8,25 @@ use Rattle.sheet_recalc.specs.Costs.{HasCost}
 use Rattle.sheet_recalc.proofs.Rebound.{live_after}
 use Rattle.sheet_recalc.proofs.sheet.Sheet.adopt.Goals as goal
 
-pub make-requires-clause-planned : goal.make-requires-clause-planned
-make-requires-clause-planned c =
-    (subst (λ (t : Tables). IsReady t c.args.pending) (sym (ap (λ (s : SheetValue). s.tables) c.self.view_is)) c.requires.1.ready).planned
-
-pub make-requires-clause-can : goal.make-requires-clause-can
-make-requires-clause-can c =
-    (subst (λ (t : Tables). IsReady t c.args.pending) (sym (ap (λ (s : SheetValue). s.tables) c.self.view_is)) c.requires.1.ready).can
+pub make-requires-clause-ready : goal.make-requires-clause-ready
+make-requires-clause-ready c =
+    subst (λ (t : Tables). IsReady t c.args.pending) (sym (ap (λ (s : SheetValue). s.tables) c.self.view_is)) c.requires.1.ready
 
 pub invariant_of-self : goal.invariant_of-self
 invariant_of-self c =
+    let before : Tables = record { entries = c.self.inside.entries; users = c.self.inside.users } in
     let ready = subst (λ (t : Tables). IsReady t c.args.pending) (sym (ap (λ (s : SheetValue). s.tables) c.self.view_is)) c.requires.1.ready in
     record {
-      live = live_after c.make.new.entries.entries c.make.new.users.entries (names_after c.self.inside.entries.entries c.args.pending.name c.args.pending.own) c.make.ensures.names ready.sheet ready.kept c.make.ensures.tells c.make.ensures.used c.make.ensures.current;
+      live = live_after c.make.new.entries.entries c.make.new.users.entries (names_after before c.args.pending) c.make.ensures.names ready.sheet ready.kept c.make.ensures.tells c.make.ensures.used c.make.ensures.current;
       few = ready.few;
     }
 
 pub returns-clause-made : goal.returns-clause-made
 returns-clause-made c = λ change pending.
-    let is : names_after c.args.self.now.tables.entries.entries c.args.pending.name c.args.pending.own ≡ names_of c.make.new.entries.entries =
-    ap (λ (s : SheetValue). names_after s.tables.entries.entries c.args.pending.name c.args.pending.own) (sym c.self.view_is) ∙ sym c.make.ensures.names in
+    let is : names_after c.args.self.now.tables c.args.pending ≡ names_of c.make.new.entries.entries = ap (λ (s : SheetValue). names_after s.tables c.args.pending) (sym c.self.view_is) ∙ sym c.make.ensures.names in
     subst (λ (ns : Names). Accepts c.args.self.now.names change ns) is pending.accepts
 
 pub returns-clause-cost : goal.returns-clause-cost
 returns-clause-cost c = λ change pending.
-    let is : names_after c.args.self.now.tables.entries.entries c.args.pending.name c.args.pending.own ≡ names_of c.make.new.entries.entries =
-    ap (λ (s : SheetValue). names_after s.tables.entries.entries c.args.pending.name c.args.pending.own) (sym c.self.view_is) ∙ sym c.make.ensures.names in
+    let is : names_after c.args.self.now.tables c.args.pending ≡ names_of c.make.new.entries.entries = ap (λ (s : SheetValue). names_after s.tables c.args.pending) (sym c.self.view_is) ∙ sym c.make.ensures.names in
     subst (λ (ns : Names). HasCost c.args.self.now.names change ns c.args.pending.cost) is pending.cost

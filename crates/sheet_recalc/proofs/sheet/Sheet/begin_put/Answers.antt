@@ -1,5 +1,11 @@
+use Rattle.std.proofs.lemmas.Result.{IfErr-weaker}
+use Rattle.sheet_recalc.proofs.Refused.{refused_put}
 use Rattle.sheet_recalc.proofs.Asked.{if_ok_map, put_pending}
 use Rattle.sheet_recalc.proofs.sheet.Sheet.begin_put.Goals as goal
 
 pub returns-clause-ok : goal.returns-clause-ok
-returns-clause-ok c = if_ok_map c.begin_store.result _ _ (λ p h. put_pending c.args.self.now c.args.name c.args.array p h) c.begin_store.ensures.ok
+returns-clause-ok c = if_ok_map c.propose.result _ _ (λ p h. put_pending c.args.self.now c.args.name c.args.array p h) c.propose.ensures.ok
+
+pub returns-clause-refused : goal.returns-clause-refused
+returns-clause-refused c =
+    IfErr-weaker c.propose.result _ _ (λ cause h. refused_put c.args.self.now.names c.args.name c.args.array c.propose.ensures.sound.acyclic cause h) c.propose.ensures.refused

@@ -6,7 +6,7 @@ use Rattle.sheet_recalc.specs.Entries.{names_of, binding_of}
 use Rattle.sheet_recalc.specs.Changes.{HasRoom, IsFullFor}
 use Rattle.sheet_recalc.specs.declared.entry.Entry.{Entry}
 use Rattle.sheet_recalc.proofs.Live.{present_name, absent_name}
-use Rattle.sheet_recalc.proofs.sheet.has_room.Goals as goal
+use Rattle.sheet_recalc.proofs.planning.has_room.Goals as goal
 
 pub returns-then-contains_key : goal.returns-then-contains_key
 returns-then-contains_key c = rw c.if-contains_key.true (inl (present_name c.args.entries.now.entries c.args.name (sym c.contains_key.ensures ∙ c.if-contains_key.true)))

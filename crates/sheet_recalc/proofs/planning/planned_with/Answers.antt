@@ -1,0 +1,79 @@
+use Rattle.std.proofs.Common.{ℕ, List, [], Option, ◌∙◌, sym, ap, subst, arith, IfOk}
+use Rattle.std.specs.List.{Contains}
+use Rattle.std.specs.Option.{option_map, option_map_or}
+use Rattle.arrays_core.specs.Arrays.{IsArray}
+use Rattle.formula_core.specs.Outcomes.{Outcome}
+use Rattle.sheet_recalc.specs.Names.{Binding, referred}
+use Rattle.sheet_recalc.specs.Meaning.{val}
+use Rattle.sheet_recalc.specs.Entries.{names_of, binding_of}
+use Rattle.sheet_recalc.specs.ProposedSheet.{outline_of, own_entry, proposed_names, proposed_references}
+use Rattle.sheet_recalc.specs.declared.entry.Entry.{Entry}
+use Rattle.sheet_recalc.proofs.NameEquality.{equal-true}
+use Rattle.sheet_recalc.proofs.Keeping.{within, name_order}
+use Rattle.sheet_recalc.proofs.Rebound.{reaching_new, referred_refers}
+use Rattle.sheet_recalc.proofs.Readied.{references_made, ready_acyclic, ready_proposed, ready_affected, ready_names, worked_out}
+use Rattle.sheet_recalc.proofs.Binding.{rebound_own}
+use Rattle.std.proofs.lemmas.List.{length-map}
+use Rattle.sheet_recalc.proofs.planning.planned_with.Goals as goal
+
+pub affected-requires : goal.affected-requires
+affected-requires c =
+    let es = c.args.proposed.now.entries.now.entries in
+    record {
+      exact = equal-true;
+      within = λ a via chain.
+          let low = within (names_of es) c.args.users.now.entries c.requires.live.tells c.requires.live.order (name_order (names_of es) c.requires.live.order c.requires.live.kept) c.args.proposed.now.name a via chain in
+          omega (arith, low, c.len.ensures.len, length-map {B = List ℕ × Binding} es (λ (e : List ℕ × Entry). (e.0, binding_of e.1)));
+    }
+
+pub first_found-requires : goal.first_found-requires
+first_found-requires c = equal-true
+
+pub cycle_through-requires : goal.cycle_through-requires
+cycle_through-requires c =
+    let o = outline_of c.args.proposed.now in
+    let f = c.in_ok-found.ensures in
+    let b = option_map binding_of (own_entry o) in
+    let hit = c.in-Some.ensures in
+    let referred = c.references.ensures ∙ (sym (references_made (val (names_of o.entries) o.name) o.proposal) ∙ ap (λ (d : Option Binding). option_map_or referred d []) (sym (rebound_own (names_of o.entries) o.name b))) in
+    record {
+      reaching = reaching_new o.entries c.args.users.now.entries c.requires.live o.name b c.in_ok-found.found.keys f.closed f.named f.sound f.distinct;
+      refers = referred_refers (proposed_names o) o.name c.in-Some.reference (subst (λ (rs : List (List ℕ)). Contains rs c.in-Some.reference) referred hit.0);
+      hit = hit.1;
+    }
+
+pub returns-then-not-has_room-clause-refused : goal.returns-then-not-has_room-clause-refused
+returns-then-not-has_room-clause-refused c =
+    let o = outline_of c.args.proposed.now in
+    let f = c.in_ok-found.ensures in
+    let apart = λ (d : List ℕ) (stands : Contains (proposed_references o.proposal) d). c.in_default.ensures d (subst (λ (rs : List (List ℕ)). Contains rs d) (sym c.references.ensures) stands) in
+    (ready_acyclic o c.args.users.now.entries c.requires.live c.in_ok-found.found.keys f.closed f.named f.sound f.distinct apart, rw c.if-not-has_room.true at c.has_room.ensures)
+
+pub plans_of-requires-clause-proposed : goal.plans_of-requires-clause-proposed
+plans_of-requires-clause-proposed c =
+    let o = outline_of c.args.proposed.now in
+    let f = c.in_ok-found.ensures in
+    let apart = λ (d : List ℕ) (stands : Contains (proposed_references o.proposal) d). c.in_default.ensures d (subst (λ (rs : List (List ℕ)). Contains rs d) (sym c.references.ensures) stands) in
+    ready_proposed o c.args.users.now.entries c.requires.live c.in_ok-found.found.keys f.closed f.named f.sound f.distinct apart c.requires.proposal (subst (λ (r : Outcome). IfOk r IsArray) c.shown.ensures c.of-sound.ensures.held)
+
+pub plans_of-requires-clause-found : goal.plans_of-requires-clause-found
+plans_of-requires-clause-found c =
+    let o = outline_of c.args.proposed.now in
+    let f = c.in_ok-found.ensures in
+    let apart = λ (d : List ℕ) (stands : Contains (proposed_references o.proposal) d). c.in_default.ensures d (subst (λ (rs : List (List ℕ)). Contains rs d) (sym c.references.ensures) stands) in
+    ready_affected o c.args.users.now.entries c.requires.live c.in_ok-found.found.keys f.closed f.named f.sound f.distinct apart
+
+pub returns-clause-planned : goal.returns-clause-planned
+returns-clause-planned c =
+    let o = outline_of c.args.proposed.now in
+    let f = c.in_ok-found.ensures in
+    let apart = λ (d : List ℕ) (stands : Contains (proposed_references o.proposal) d). c.in_default.ensures d (subst (λ (rs : List (List ℕ)). Contains rs d) (sym c.references.ensures) stands) in
+    let p = c.in_ok-plans_of.ensures in
+    worked_out o c.args.users.now.entries c.requires.live c.in_ok-found.found.keys f.closed f.named f.sound f.distinct apart c.args.meter.now.ticks _ c.in_ok-plans_of.field-0 p.planned p.cost p.ticks
+
+pub returns-clause-can : goal.returns-clause-can
+returns-clause-can c =
+    let o = outline_of c.args.proposed.now in
+    let f = c.in_ok-found.ensures in
+    let apart = λ (d : List ℕ) (stands : Contains (proposed_references o.proposal) d). c.in_default.ensures d (subst (λ (rs : List (List ℕ)). Contains rs d) (sym c.references.ensures) stands) in
+    ready_names o c.args.users.now.entries c.requires.live c.in_ok-found.found.keys f.closed f.named f.sound f.distinct apart (rw c.if-not-has_room.false at c.has_room.ensures)
