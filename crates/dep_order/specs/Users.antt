@@ -1,5 +1,5 @@
 -- A table of who refers to whom: for each node, the set of those that refer to it.
-use Rattle.std.specs.Prelude.{◌≡◌, ℕ, ◌<◌, ◌⊎◌, Bool, true, List, [], length, Some, IsSome}
+use Rattle.std.specs.Prelude.{◌≡◌, ℕ, ◌<◌, ◌⊎◌, Bool, true, List, [], length, Option, Some, None, IsSome}
 use Rattle.std.specs.Map.{lookup}
 use Rattle.std.specs.List.{Contains}
 use Rattle.std.specs.Option.{unwrap_or, option_map}
@@ -38,3 +38,7 @@ IsReadyFor {N} {S} eq table node references = (b : N) → Contains references b 
 -- no set of the table is empty, but for those of these nodes
 abbrev pub HasNoEmptyBut : {N S : Type 0} → (N → N → Bool) → List (N × IndexSet N S) → List N → Type 0
 HasNoEmptyBut {N} eq table references = (b : N) → IsSome (lookup (eq b) table) → Contains references b ⊎ ((a : N) × Uses eq table a b)
+
+-- no node of the list has anything beside it
+abbrev pub HasNothing : {N V : Type 0} → (N → N → Bool) → List (N × Option V) → Type 0
+HasNothing {N} {V} eq found = (a : N) (v : Option V) → lookup (eq a) found ≡ Some v → v ≡ None

@@ -1,8 +1,9 @@
 //! Who refers to whom, kept from change to change: what a change of a node reaches is found by this table, and no other node is looked at.
 ghost use Rattle.std.specs.Prelude.{◌≡◌, ◌⊎◌, ◌↔◌, List, [], ◌∷◌, IfOk, OnOk, OnErr, MatchOption};
 ghost use Rattle.std.specs.List.{Contains, IsDistinct};
+ghost use Rattle.std.specs.Map.{keys_of};
 ghost use Rattle.dep_order.specs.Reachability.{Reaches};
-ghost use Rattle.dep_order.specs.Users.{Uses, users_of, IsExact, IsWithin, IsClosed, HasRoomFor, IsReadyFor, HasNoEmptyBut};
+ghost use Rattle.dep_order.specs.Users.{Uses, users_of, IsExact, IsWithin, IsClosed, HasRoomFor, IsReadyFor, HasNoEmptyBut, HasNothing};
 
 use indexmap::{IndexMap, IndexSet};
 use std::alloc::{AllocError, Global};
@@ -11,50 +12,52 @@ use std::hash::Hash;
 /// For each node that others refer to, those others.
 pub type Users<N> = IndexMap<N, IndexSet<N>>;
 
-/// A node and all that reach it, by one reference or by a chain of them: each once, after all that refer to it. No chain of
-/// references to the node is to be longer than the height.
-pub fn affected<N: Eq + Hash + Copy>(
+/// A node and all that reach it, by one reference or by a chain of them: each once, after all that refer to it, with a place for
+/// what is to be found out of it. No chain of references to the node is to be longer than the height.
+pub fn affected<N: Eq + Hash + Copy, V: Drop>(
     alloc: Global,
     users: &Users<N>,
     node: N,
     height: usize,
-) -> Result<IndexSet<N>, AllocError>
+) -> Result<IndexMap<N, Option<V>>, AllocError>
     requires exact { IsExact N.eq }
     requires within { IsWithin N.eq users.now.entries height node }
-    ensures distinct { IfOk result (λ found. IsDistinct N.eq found.keys) }
-    ensures closed { IfOk result (λ found. IsClosed N.eq users.now.entries found.keys) }
-    ensures named { IfOk result (λ found. Contains found.keys node) }
-    ensures sound { IfOk result (λ found. (a : N) → Contains found.keys a → (a ≡ node) ⊎ Reaches (Uses N.eq users.now.entries) a node) }
+    ensures distinct { IfOk result (λ found. IsDistinct N.eq (keys_of found.entries)) }
+    ensures closed { IfOk result (λ found. IsClosed N.eq users.now.entries (keys_of found.entries)) }
+    ensures named { IfOk result (λ found. Contains (keys_of found.entries) node) }
+    ensures sound { IfOk result (λ found. (a : N) → Contains (keys_of found.entries) a → (a ≡ node) ⊎ Reaches (Uses N.eq users.now.entries) a node) }
+    ensures none { IfOk result (λ found. HasNothing N.eq found.entries) }
 {
-    let mut found = IndexSet::new(alloc);
+    let mut found = IndexMap::new(alloc);
     climb(users, node, height, &mut found)?;
-    // The length of a set says that no key stands in it twice.
+    // The length says that no key stands in it twice.
     let _distinct = found.len();
     Ok(found)
 }
 
 // Adds a node after all that reach it, but for those that have been found before.
-fn climb<N: Eq + Hash + Copy>(
+fn climb<N: Eq + Hash + Copy, V: Drop>(
     users: &Users<N>,
     node: N,
     height: usize,
-    found: &mut IndexSet<N>,
+    found: &mut IndexMap<N, Option<V>>,
 ) -> Result<(), AllocError>
     requires exact { IsExact N.eq }
     requires within { IsWithin N.eq users.now.entries height node }
-    requires closed { IsClosed N.eq users.now.entries found.old.keys }
-    ensures closed { OnOk result (IsClosed N.eq users.now.entries found.new.keys) }
-    ensures named { OnOk result (Contains found.new.keys node) }
-    ensures kept { OnOk result ((a : N) → Contains found.old.keys a → Contains found.new.keys a) }
-    ensures sound { OnOk result ((a : N) → Contains found.new.keys a → Contains found.old.keys a ⊎ ((a ≡ node) ⊎ Reaches (Uses N.eq users.now.entries) a node)) }
+    requires closed { IsClosed N.eq users.now.entries (keys_of found.old.entries) }
+    ensures closed { OnOk result (IsClosed N.eq users.now.entries (keys_of found.new.entries)) }
+    ensures named { OnOk result (Contains (keys_of found.new.entries) node) }
+    ensures kept { OnOk result ((a : N) → Contains (keys_of found.old.entries) a → Contains (keys_of found.new.entries) a) }
+    ensures sound { OnOk result ((a : N) → Contains (keys_of found.new.entries) a → Contains (keys_of found.old.entries) a ⊎ ((a ≡ node) ⊎ Reaches (Uses N.eq users.now.entries) a node)) }
+    ensures none { OnOk result (HasNothing N.eq found.old.entries → HasNothing N.eq found.new.entries) }
 {
-    if found.contains(&node) {
+    if found.contains_key(&node) {
         return Ok(());
     }
     for user in users_of(users, node) {
         climb(users, *user, height - 1, found)?;
     }
-    found.insert(node)?;
+    found.insert(node, None)?;
     Ok(())
 }
 
@@ -69,12 +72,12 @@ fn users_of<N: Eq + Hash + Copy>(users: &Users<N>, node: N) -> &[N]
 }
 
 /// The first of these nodes that is found.
-pub fn first_found<N: Eq + Hash + Copy>(found: &IndexSet<N>, references: &[N]) -> Option<N>
+pub fn first_found<N: Eq + Hash + Copy, V>(found: &IndexMap<N, V>, references: &[N]) -> Option<N>
     requires { IsExact N.eq }
-    ensures { MatchOption result ((b : N) → Contains references.now b → Contains found.now.keys b → ⊥) (λ b. Contains references.now b × Contains found.now.keys b) }
+    ensures { MatchOption result ((b : N) → Contains references.now b → Contains (keys_of found.now.entries) b → ⊥) (λ b. Contains references.now b × Contains (keys_of found.now.entries) b) }
 {
     for reference in references {
-        if found.contains(reference) {
+        if found.contains_key(reference) {
             return Some(*reference);
         }
     }

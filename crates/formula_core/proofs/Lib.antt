@@ -12,4 +12,4 @@ pub mod Summed
 pub mod Adopted
 pub mod Placed
 pub mod Planned
-mod Progressed
+pub mod Progressed

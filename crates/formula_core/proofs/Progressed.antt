@@ -70,14 +70,30 @@ node_left f changes few known = by (cases_lt (length changes) (length (subtrees 
     by (inl under) = omega (arith, under, known)
     by (inr long) = absurd (omega (arith, few, among_all f changes long))
 
+-- where a node is left that is an operation, fewer are done than there are
+pub left_at : (f : FormulaValue) (changes : List NodeChange) → IsAtOperation f changes → length changes < length f.nodes → length f.nodes ≡ length (subtrees f.tree) → operations_among f changes < operations f.tree
+left_at f changes at under known =
+    let one = at under in
+    omega (arith, sum_by_more_le (λ u. cond (is_operation u) 1 0) (subtrees f.tree) (length changes) (Const (Numbers [])) (omega (arith, under, known)), ap {B = ℕ} (λ b. cond b 1 0) one)
+
+-- changes that are not one for each node are fewer
+pub part_left : (f : FormulaValue) (changes : List NodeChange) → length changes ≤ length f.nodes → (length changes ≡ length f.nodes → ⊥) → length changes < length f.nodes
+part_left f changes few part = by (cases_lt (length changes) (length f.nodes))
+  where
+    by : (length changes < length f.nodes) ⊎ (length f.nodes ≤ length changes) → length changes < length f.nodes
+    by (inl less) = less
+    by (inr more) = absurd (part (omega (arith, few, more)))
+
+-- where each node has its change, all are done
+pub all_among : (f : FormulaValue) (changes : List NodeChange) → length changes ≡ length f.nodes → length f.nodes ≡ length (subtrees f.tree) → operations_among f changes ≡ operations f.tree
+all_among f changes whole known = among_all f changes (omega (arith, whole, known))
+
 -- where all are done, none is
 pub none_left : (f : FormulaValue) (changes : List NodeChange) → IsAtOperation f changes → operations_among f changes ≡ operations f.tree → length changes ≤ length f.nodes → length f.nodes ≡ length (subtrees f.tree) → length changes ≡ length f.nodes
 none_left f changes at all few known = by (cases_lt (length changes) (length f.nodes))
   where
     by : (length changes < length f.nodes) ⊎ (length f.nodes ≤ length changes) → length changes ≡ length f.nodes
-    by (inl under) =
-        let one = at under in
-        absurd (omega (arith, all, sum_by_more_le (λ u. cond (is_operation u) 1 0) (subtrees f.tree) (length changes) (Const (Numbers [])) (omega (arith, under, known)), ap {B = ℕ} (λ b. cond b 1 0) one))
+    by (inl under) = absurd (omega (arith, all, left_at f changes at under known))
     by (inr long) = omega (arith, long, few)
 
 -- where one operation more is done, a change more is there

@@ -1,6 +1,6 @@
 //! A formula: an expression as a table of nodes, with the result that each node was last given.
 
-ghost use Rattle.std.specs.Prelude.{◌≡◌, ◌+◌, ◌≤◌, ◌<◌, ℕ, false, [], length, get_or, take, map, IfOk, OnOk, OnErr};
+ghost use Rattle.std.specs.Prelude.{◌≡◌, ◌+◌, ◌≤◌, ◌<◌, ℕ, false, [], length, get_or, take, map, IfOk, OnOk, OnErr, MatchBool};
 ghost use Rattle.std.specs.List.{count_by};
 ghost use Rattle.apl_expr.specs.Trees.{tree_of};
 ghost use Rattle.formula_core.specs.Outcomes.{read};
@@ -111,10 +111,17 @@ impl Formula {
         ensures ticks { (c : Change) → IsTold self.now c inputs.now → meter.new.ticks ≤ meter.old.ticks + tree_cost self.now.is_new c self.now.tree }
     {
         let mut plan = self.start(inputs)?;
-        for _ in 0..self.operations() {
+        while !self.is_whole(&plan) {
             self.advance(&mut plan, inputs, meter)?;
         }
         Ok(plan)
+    }
+
+    /// A plan has come to its end: each node has its change.
+    pub fn is_whole(&self, plan: &Plan) -> bool
+        ensures { MatchBool result (length plan.now.changes ≡ length self.now.nodes) (length plan.now.changes ≡ length self.now.nodes → ⊥) }
+    {
+        plan.changes.len() == self.nodes.len()
     }
 
     /// The plan of which no function is done yet: it has the changes of the literals and names that stand before the first. The inputs

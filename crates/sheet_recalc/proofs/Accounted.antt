@@ -9,7 +9,6 @@ use Rattle.apl_expr.specs.Trees.{Tree}
 use Rattle.sheet_recalc.specs.Names.{Names, Data, Formula, binding, put}
 use Rattle.sheet_recalc.specs.Live.{IsTable}
 use Rattle.sheet_recalc.specs.Meaning.{val}
-use Rattle.sheet_recalc.specs.Costs.{sheet_change, formulas_cost}
 use Rattle.sheet_recalc.proofs.Binding.{rebound_own, rebound_same}
 use Rattle.sheet_recalc.proofs.Live.{val_data}
 

@@ -1,23 +1,26 @@
-pub mod NameEquality
-pub mod Scratch
-pub mod Keeping
-pub mod Putting
-pub mod Removing
-pub mod Binding
-pub mod Live
-pub mod Cycles
-pub mod Proposed
-pub mod PlannedNames
+mod Asked
+pub mod Accounted
 pub mod AtRest
-pub mod Working
+pub mod Binding
+pub mod CellPatches
+pub mod Cycles
+pub mod Deltas
+mod Entered
+pub mod Examples
+pub mod Forward
+pub mod Indices
+pub mod Keeping
+pub mod Live
+pub mod NameEquality
+pub mod PlannedNames
+pub mod Proposed
+pub mod Putting
+pub mod Readied
 pub mod Rebound
 pub mod Refused
-pub mod Indices
+pub mod Removing
 pub mod Rows
-pub mod CellPatches
-pub mod Deltas
+pub mod Scratch
+pub mod Stepped
 pub mod Sums
-pub mod Readied
-pub mod Accounted
-mod Asked
-pub mod Examples
+pub mod Working

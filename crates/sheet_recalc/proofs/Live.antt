@@ -15,7 +15,7 @@ use Rattle.formula_core.specs.Plans.{PlanValue}
 use Rattle.sheet_recalc.specs.Names.{Names, Data, binding, put, without, Refers}
 use Rattle.sheet_recalc.specs.Meaning.{shown, val, val_at}
 use Rattle.sheet_recalc.specs.Entries.{names_of, binding_of, entry_outcome, holding, adopting}
-use Rattle.sheet_recalc.specs.Live.{IsRight, IsCurrent, IsLive, CanAdopt, IsPlanned, IsAdopting, entry_after}
+use Rattle.sheet_recalc.specs.Live.{IsRight, IsCurrent, IsLive, CanAdopt, IsPlanned, IsAdopting, entry_after, plan_in}
 use Rattle.sheet_recalc.specs.declared.entry.Entry.{Entry}
 use Rattle.sheet_recalc.specs.declared.entry.Entry.TheVariants as entry
 use Rattle.sheet_recalc.proofs.NameEquality.{names_equal, equal-true, equal-same}
@@ -137,7 +137,7 @@ holding_val es current q = by (lookup (bytes_eq q) es) refl
 
 -- ---- plans are taken one after another
 
-lookup_last : (q : List ℕ) (p : PlanValue) (ps : List (List ℕ × PlanValue)) → lookup (bytes_eq q) ps ≡ None → lookup (bytes_eq q) (ps ++ (q, p) ∷ []) ≡ Some p
+lookup_last : {X : Type 0} (q : List ℕ) (p : X) (ps : List (List ℕ × X)) → lookup (bytes_eq q) ps ≡ None → lookup (bytes_eq q) (ps ++ (q, p) ∷ []) ≡ Some p
 lookup_last q p [] h = rw (equal-same q q refl) refl
 lookup_last q p (r ∷ ps) h = by (bytes_eq q r.0) refl (lookup_last q p ps)
   where
@@ -145,24 +145,50 @@ lookup_last q p (r ∷ ps) h = by (bytes_eq q r.0) refl (lookup_last q p ps)
     by true is rest = let never : Some r.1 ≡ None = rw is at h in absurd cc
     by false is rest = let there : lookup (bytes_eq q) ps ≡ None = rw is at h in rw is (rest there)
 
--- the last plan is taken
-module _ (names : Names) (es es' : List (List ℕ × Entry)) (plans plans' : List (List ℕ × PlanValue)) (name : List ℕ) (p : PlanValue)
-    (all : plans ≡ plans' ++ (name, p) ∷ []) (taken : (q : List ℕ) → lookup (bytes_eq q) plans' ≡ cond (bytes_eq name q) None (lookup (bytes_eq q) plans)) (now : IsAdopting names es plans) where
-  gone : lookup (bytes_eq name) plans' ≡ None
-  gone = rw (equal-same name name refl) at (taken name)
+-- the last of what a change reached is taken
+module _ (found found' : List (List ℕ × Option PlanValue)) (name : List ℕ) (p : Option PlanValue)
+    (all : found ≡ found' ++ (name, p) ∷ []) (taken : (q : List ℕ) → lookup (bytes_eq q) found' ≡ cond (bytes_eq name q) None (lookup (bytes_eq q) found)) where
+  pub reached_last : plan_in found name ≡ p
+  reached_last =
+      let gone : lookup (bytes_eq name) found' ≡ None = rw (equal-same name name refl) at (taken name) in
+      ap (λ ps. plan_in ps name) all ∙ ap (λ o. unwrap_or o None) (lookup_last name p found' gone)
 
-  pub this_plan : lookup (bytes_eq name) plans ≡ Some p
-  this_plan = ap (λ ps. lookup (bytes_eq name) ps) all ∙ lookup_last name p plans' gone
+  pub reached_others : (q : List ℕ) → plan_in found' q ≡ cond (bytes_eq name q) None (plan_in found q)
+  reached_others q = by (bytes_eq name q) refl
+    where
+      by : (t : Bool) → bytes_eq name q ≡ t → plan_in found' q ≡ cond t None (plan_in found q)
+      by true is = ap (λ o. unwrap_or o None) (taken q ∙ ap (λ t. cond t None (lookup (bytes_eq q) found)) is)
+      by false is = ap (λ o. unwrap_or o None) (taken q ∙ ap (λ t. cond t None (lookup (bytes_eq q) found)) is)
 
+-- where it has no plan, the plans are as they were
+pub adopting_same : (names : Names) (es : List (List ℕ × Entry)) (plans plans' : List ℕ → Option PlanValue) (name : List ℕ) → plans name ≡ None → ((q : List ℕ) → plans' q ≡ cond (bytes_eq name q) None (plans q))
+    → IsAdopting names es plans → IsAdopting names es plans'
+adopting_same names es plans plans' name none taken now = record {
+  names_are = now.names_are;
+  can = λ q e p there plan. now.can q e p there (same q ∙ plan);
+  right = λ q e p there plan. now.right q e p there (same q ∙ plan);
+  rest = λ q e there plan. now.rest q e there (same q ∙ plan);
+}
+  where
+    same : (q : List ℕ) → plans q ≡ plans' q
+    same q = by (bytes_eq name q) refl
+      where
+        by : (t : Bool) → bytes_eq name q ≡ t → plans q ≡ plans' q
+        by true is = ap plans (sym (equal-true name q is)) ∙ (none ∙ sym (taken q ∙ ap (λ t. cond t None (plans q)) is))
+        by false is = sym (taken q ∙ ap (λ t. cond t None (plans q)) is)
+
+-- a plan is taken
+module _ (names : Names) (es es' : List (List ℕ × Entry)) (plans plans' : List ℕ → Option PlanValue) (name : List ℕ) (p : PlanValue)
+    (this_plan : plans name ≡ Some p) (taken : (q : List ℕ) → plans' q ≡ cond (bytes_eq name q) None (plans q)) (now : IsAdopting names es plans) where
   -- a plan that is left is of another name
-  other_left : (q : List ℕ) (r : PlanValue) → lookup (bytes_eq q) plans' ≡ Some r → bytes_eq name q ≡ false
+  other_left : (q : List ℕ) (r : PlanValue) → plans' q ≡ Some r → bytes_eq name q ≡ false
   other_left q r h = by (bytes_eq name q) refl
     where
       by : (b : Bool) → bytes_eq name q ≡ b → bytes_eq name q ≡ false
       by true is = let never : None ≡ Some r = rw is at (sym (taken q) ∙ h) in absurd cc
       by false is = is
 
-  was_left : (q : List ℕ) (o : Option PlanValue) → bytes_eq name q ≡ false → lookup (bytes_eq q) plans' ≡ o → lookup (bytes_eq q) plans ≡ o
+  was_left : (q : List ℕ) (o : Option PlanValue) → bytes_eq name q ≡ false → plans' q ≡ o → plans q ≡ o
   was_left q o is h = rw is at (sym (taken q) ∙ h)
 
   -- by its entry
@@ -183,7 +209,7 @@ module _ (names : Names) (es es' : List (List ℕ × Entry)) (plans plans' : Lis
         rest = rest;
       }
         where
-          rest : (q : List ℕ) (f : Entry) → lookup (bytes_eq q) es' ≡ Some f → lookup (bytes_eq q) plans' ≡ None → IsRight (val names) q f
+          rest : (q : List ℕ) (f : Entry) → lookup (bytes_eq q) es' ≡ Some f → plans' q ≡ None → IsRight (val names) q f
           rest q f there none = by (bytes_eq name q) refl
             where
               by : (b : Bool) → bytes_eq name q ≡ b → IsRight (val names) q f
@@ -206,7 +232,7 @@ module _ (names : Names) (es es' : List (List ℕ × Entry)) (plans plans' : Lis
       rest = rest;
     }
       where
-        rest : (q : List ℕ) (f : Entry) → lookup (bytes_eq q) es' ≡ Some f → lookup (bytes_eq q) plans' ≡ None → IsRight (val names) q f
+        rest : (q : List ℕ) (f : Entry) → lookup (bytes_eq q) es' ≡ Some f → plans' q ≡ None → IsRight (val names) q f
         rest q f there none = by (bytes_eq name q) refl
           where
             by : (b : Bool) → bytes_eq name q ≡ b → IsRight (val names) q f
@@ -214,14 +240,25 @@ module _ (names : Names) (es es' : List (List ℕ × Entry)) (plans plans' : Lis
                 let never : None ≡ Some f = sym absent ∙ (subst (λ n. lookup (bytes_eq n) es ≡ Some f) (sym (equal-true name q is)) (still q f there)) in absurd cc
             by false is = now.rest q f (still q f there) (was_left q None is none)
 
+-- by its entry, or by none
+pub adopting_either : (names : Names) (es es' : List (List ℕ × Entry)) (plans plans' : List ℕ → Option PlanValue) (name : List ℕ) (p : PlanValue)
+    → plans name ≡ Some p → ((q : List ℕ) → plans' q ≡ cond (bytes_eq name q) None (plans q)) → IsAdopting names es plans
+    → ((e : Entry) → lookup (bytes_eq name) es ≡ Some e → (es' ≡ set_value (bytes_eq name) es (adopting e p)) × ((q : List ℕ) → lookup (bytes_eq q) es' ≡ cond (bytes_eq name q) (Some (adopting e p)) (lookup (bytes_eq q) es)))
+    → (lookup (bytes_eq name) es ≡ None → es' ≡ es) → IsAdopting names es' plans'
+adopting_either names es es' plans plans' name p this taken now present absent = by (lookup (bytes_eq name) es) refl
+  where
+    by : (o : Option Entry) → lookup (bytes_eq name) es ≡ o → IsAdopting names es' plans'
+    by (Some e) is = adopting_some names es es' plans plans' name p this taken now e is (present e is).0 (present e is).1
+    by None is = adopting_none names es es' plans plans' name p this taken now is (absent is)
+
 -- in the end each entry is right
-pub current_at_end : (names : Names) (es : List (List ℕ × Entry)) (plans : List (List ℕ × PlanValue)) → IsAdopting names es plans → (0 < length plans → ⊥) → IsCurrent es
-current_at_end names es (r ∷ plans) now none = absurd (none (omega arith))
+pub current_at_end : (names : Names) (es : List (List ℕ × Entry)) (found : List (List ℕ × Option PlanValue)) → IsAdopting names es (plan_in found) → (0 < length found → ⊥) → IsCurrent es
+current_at_end names es (r ∷ found) now none = absurd (none (omega arith))
 current_at_end names es [] now none = λ q e h. subst (λ ns. IsRight (val ns) q e) (sym now.names_are) (now.rest q e h refl)
 
 -- ---- plans that were made for entries after a change can be taken by these
 
-pub adopting_after : (es after : List (List ℕ × Entry)) (name : List ℕ) (own : Option Entry) (names : Names) (plans : List (List ℕ × PlanValue))
+pub adopting_after : (es after : List (List ℕ × Entry)) (name : List ℕ) (own : Option Entry) (names : Names) (plans : List ℕ → Option PlanValue)
     → names_of after ≡ names → ((q : List ℕ) → lookup (bytes_eq q) after ≡ entry_after es name own q) → IsPlanned es name own names plans → IsAdopting names after plans
 adopting_after es after name own names plans is same planned = record {
   names_are = is;
@@ -231,7 +268,7 @@ adopting_after es after name own names plans is same planned = record {
 }
 
 -- once the name is bound anew
-pub adopting_planned : (es : List (List ℕ × Entry)) (name : List ℕ) (own : Entry) (plans : List (List ℕ × PlanValue))
+pub adopting_planned : (es : List (List ℕ × Entry)) (name : List ℕ) (own : Entry) (plans : List ℕ → Option PlanValue)
     → IsPlanned es name (Some own) (put (names_of es) name (binding_of own)) plans
     → IsAdopting (put (names_of es) name (binding_of own)) (insert_entry bytes_eq es name own) plans
 adopting_planned es name own plans =
@@ -239,7 +276,7 @@ adopting_planned es name own plans =
     (λ q. lookup_put name own es q ∙ ap (λ (t : Bool). cond t (Some own) (lookup (bytes_eq q) es)) (names_equal.symm name q))
 
 -- once the name is removed
-pub adopting_removed : (es : List (List ℕ × Entry)) (name : List ℕ) (plans : List (List ℕ × PlanValue))
+pub adopting_removed : (es : List (List ℕ × Entry)) (name : List ℕ) (plans : List ℕ → Option PlanValue)
     → IsPlanned es name None (without (names_of es) name) plans → IsAdopting (without (names_of es) name) (others name es) plans
 adopting_removed es name plans =
     adopting_after es (others name es) name None (without (names_of es) name) plans (names_of_others name es)

@@ -1,11 +1,10 @@
 -- A change is ready to be planned, its plans cost what it costs, and the sheet can be so.
-use Rattle.std.proofs.Common.{◌≡◌, ◌+◌, ◌≤◌, ◌∙◌, ℕ, List, [], length, Option, Some, None, Ok, Err, IfOk, sym, ap, subst, refl, arith, ◌⊎◌}
+use Rattle.std.proofs.Common.{◌≡◌, ◌≤◌, ℕ, List, [], length, Option, Some, None, Ok, Err, IfOk, subst, refl, arith, ◌⊎◌}
 use Rattle.std.specs.Str.{bytes_eq}
 use Rattle.std.specs.List.{Contains, IsDistinct}
 use Rattle.std.specs.Map.{keys_of}
 use Rattle.std.specs.Option.{option_map, option_map_or}
 use Rattle.arrays_core.specs.Arrays.{IsArray}
-use Rattle.change_core.specs.Meters.{ticked}
 use Rattle.change_rules.specs.Currency.{applied}
 use Rattle.dep_order.specs.Reachability.{Reaches, IsAcyclic}
 use Rattle.dep_order.specs.Users.{Uses, IsClosed}
@@ -16,11 +15,9 @@ use Rattle.sheet_recalc.specs.Names.{Names, Binding, rebound, referred, Refers, 
 use Rattle.sheet_recalc.specs.Meaning.{val}
 use Rattle.sheet_recalc.specs.Changes.{HasRoom}
 use Rattle.sheet_recalc.specs.Entries.{names_of, binding_of}
-use Rattle.sheet_recalc.specs.Live.{IsLive, IsPlanned}
+use Rattle.sheet_recalc.specs.Live.{IsLive}
 use Rattle.sheet_recalc.specs.ProposedSheet.{Outline, data_entry, proposed_entry, proposed_references, own_entry, proposed_names, proposed_change, proposed_delta, proposed_cost}
-use Rattle.sheet_recalc.specs.Planning.{IsProposed, IsProposalAt, IsAffected, names_cost, IsWorkedOut, CanBe}
-use Rattle.sheet_recalc.specs.declared.entry.Entry.{Entry}
-use Rattle.sheet_recalc.specs.declared.planning.Planned.{Planned}
+use Rattle.sheet_recalc.specs.Planning.{IsProposed, IsProposalAt, IsAffected, names_cost, CanBe}
 use Rattle.sheet_recalc.specs.declared.proposal.Proposal.{Proposal}
 use Rattle.sheet_recalc.specs.declared.proposal.Proposal.TheVariants as proposed
 use Rattle.sheet_recalc.proofs.Keeping.{name_order, distinct_once}
@@ -107,12 +104,4 @@ module _ {S : Type 0} (o : Outline) (users : List (List ℕ × IndexSet (List �
       few = few_rebound (names_of o.entries) o.name b live.sheet.few room;
     };
     room = room;
-  }
-
-  -- what the plans are, told of all names
-  pub worked_out : (before after : ℕ) (p : Planned) → IsPlanned o.entries o.name (own_entry o) new p.plans.entries → p.cost ≡ ticked 0 (names_cost o found) → after ≤ before + names_cost o found → IsWorkedOut o before after p
-  worked_out before after p planned cost ticks = record {
-    planned = planned;
-    cost = cost ∙ ap (ticked 0) (sym ready_cost);
-    ticks = subst (λ (n : ℕ). after ≤ before + n) (sym ready_cost) ticks;
   }

@@ -1,7 +1,6 @@
 -- Plans that are made one after another, in an order in which each name comes after all that it refers to.
 use Rattle.std.proofs.Common.{◌≡◌, ◌≢◌, ℕ, ◌<◌, ◌+◌, inl, inr, Bool, true, false, cond, List, [], ◌∷◌, ◌++◌, length, map, Option, Some, None, is_some, if◌then◌else◌, refl, sym, ap, ◌∙◌, subst, arith, ⊎_elim}
 use Rattle.std.specs.Str.{bytes_eq}
-use Rattle.std.specs.Map.{lookup}
 use Rattle.std.specs.List.{Contains, IsDistinct}
 use Rattle.std.specs.Option.{option_map, option_map_or}
 use Rattle.std.proofs.lemmas.Bool.{false≢true}
@@ -24,7 +23,7 @@ use Rattle.sheet_recalc.specs.Costs.{delta_by, binding_cost}
 use Rattle.sheet_recalc.specs.Entries.{names_of, binding_of, adopting}
 use Rattle.sheet_recalc.specs.Live.{IsRight, IsPlanned, CanAdopt}
 use Rattle.sheet_recalc.specs.ProposedSheet.{Outline, proposed_names, proposed_change, own_entry, entry_of}
-use Rattle.sheet_recalc.specs.Planning.{IsProposed, IsAffected, IsUntouched, IsPlanAt, NeedsNoPlan, IsDone, IsUnderWay, name_cost, names_cost}
+use Rattle.sheet_recalc.specs.Planning.{IsProposed, IsAffected, IsUntouched, IsPlanAt, NeedsNoPlan, IsDone, IsUnderWay, name_cost, names_cost, functions_of, functions_at}
 use Rattle.sheet_recalc.specs.declared.entry.Entry.{Entry}
 use Rattle.sheet_recalc.specs.declared.entry.Entry.TheVariants as entry
 use Rattle.sheet_recalc.proofs.NameEquality.{equal-true, equal-same}
@@ -106,11 +105,11 @@ module _ (o : Outline) where
       );
     }
 
-    pub under_way_first : IsDistinct bytes_eq found → (made : List (List ℕ × PlanValue)) → made ≡ [] → IsUnderWay o found made
+    pub under_way_first : IsDistinct bytes_eq found → (made : List ℕ → Option PlanValue) → ((q : List ℕ) → made q ≡ None) → IsUnderWay o found made
     under_way_first once made is = record {
       once = once;
       closed = affected.closed;
-      plans = λ q p h. let never : None ≡ Some p = sym (ap (lookup (bytes_eq q)) is) ∙ h in absurd cc;
+      plans = λ q p h. let never : None ≡ Some p = sym (is q) ∙ h in absurd cc;
       done = λ q none. inr (not_found q none);
     }
 
@@ -155,6 +154,14 @@ module _ (o : Outline) where
           by apart true is = absurd (apart (equal-true x o.name is))
           by apart false is = plain_untouched is
 
+      pub plain_applies_none : functions_at o x ≡ 0
+      plain_applies_none = by (binding new x) refl
+        where
+          by : (b : Option Binding) → binding new x ≡ b → option_map_or functions_of b 0 ≡ 0
+          by None is = refl
+          by (Some (Data a)) is = refl
+          by (Some (Formula t)) is = absurd (no_formula t is)
+
       pub plain_costs_nothing : name_cost o.name (proposed_change o) new x ≡ 0
       plain_costs_nothing = by (binding new x) refl
         where
@@ -164,7 +171,7 @@ module _ (o : Outline) where
           by (Some (Formula t)) is = absurd (no_formula t is)
 
     -- the next name is bound to no formula, or its plan is made
-    module _ (front : List (List ℕ)) (x : List ℕ) (left : List (List ℕ)) (split : left ≡ front ++ x ∷ []) (made : List (List ℕ × PlanValue)) (now : IsUnderWay o left made) where
+    module _ (front : List (List ℕ)) (x : List ℕ) (left : List (List ℕ)) (split : left ≡ front ++ x ∷ []) (made : List ℕ → Option PlanValue) (now : IsUnderWay o left made) where
       once_now : (Contains front x → ⊥) × IsOnce front
       once_now = once_front front x (distinct_once (front ++ x ∷ []) (subst (λ xs. IsDistinct bytes_eq xs) split now.once))
 
@@ -192,11 +199,11 @@ module _ (o : Outline) where
       reads_done f held y stands =
           now.done y (λ c. last_apart new front x once_now.0 closed_now y (f.tree, binding_entry o x ∙ ap (option_map binding_of) held, stands) (subst (λ xs. Contains xs y) split c))
 
-      pub formula_next : (plan : PlanValue) → IsPlanAt o x plan → (made' : List (List ℕ × PlanValue))
-          → ((q : List ℕ) → lookup (bytes_eq q) made' ≡ cond (bytes_eq x q) (Some plan) (lookup (bytes_eq q) made)) → IsUnderWay o front made'
+      pub formula_next : (plan : PlanValue) → IsPlanAt o x plan → (made' : List ℕ → Option PlanValue)
+          → ((q : List ℕ) → made' q ≡ cond (bytes_eq x q) (Some plan) (made q)) → IsUnderWay o front made'
       formula_next plan right made' change = record { once = once_distinct front once_now.1; closed = follows_front (λ a b. Refers new b a) (λ y. ⊥) front (x ∷ []) closed_now; plans = plans; done = done }
         where
-          plans : (q : List ℕ) (p : PlanValue) → lookup (bytes_eq q) made' ≡ Some p → IsPlanAt o q p
+          plans : (q : List ℕ) (p : PlanValue) → made' q ≡ Some p → IsPlanAt o q p
           plans q p found = by (bytes_eq x q) refl
             where
               by : (t : Bool) → bytes_eq x q ≡ t → IsPlanAt o q p
@@ -238,21 +245,21 @@ module _ (o : Outline) where
             )
 
     -- in the end the plans are those of the change
-    pub planned_in_the_end : (left : List (List ℕ)) (made : List (List ℕ × PlanValue)) → IsUnderWay o left made → (0 < length left → ⊥) → IsPlanned es o.name (own_entry o) new made
+    pub planned_in_the_end : (left : List (List ℕ)) (made : List ℕ → Option PlanValue) → IsUnderWay o left made → (0 < length left → ⊥) → IsPlanned es o.name (own_entry o) new made
     planned_in_the_end (x ∷ left) made now none = absurd (none (omega arith))
     planned_in_the_end [] made now none = record { can = can; right = right; rest = rest }
       where
-        can : (q : List ℕ) (e : Entry) (p : PlanValue) → entry_of o q ≡ Some e → lookup (bytes_eq q) made ≡ Some p → CanAdopt e p
+        can : (q : List ℕ) (e : Entry) (p : PlanValue) → entry_of o q ≡ Some e → made q ≡ Some p → CanAdopt e p
         can q (entry.Data a) p is found =
             let plan = now.plans q p found in
             let never : Some (entry.Data a) ≡ Some (entry.Formula plan.formula) = sym is ∙ plan.held in absurd cc
         can q (entry.Formula f) p is found = (plan_now o q p f (now.plans q p found) is).0
 
-        right : (q : List ℕ) (e : Entry) (p : PlanValue) → entry_of o q ≡ Some e → lookup (bytes_eq q) made ≡ Some p → IsRight (val new) q (adopting e p)
+        right : (q : List ℕ) (e : Entry) (p : PlanValue) → entry_of o q ≡ Some e → made q ≡ Some p → IsRight (val new) q (adopting e p)
         right q (entry.Data a) p is found = absurd (can q (entry.Data a) p is found)
         right q (entry.Formula f) p is found = adopting_right q f p (now.plans q p found) is
 
-        rest : (q : List ℕ) (e : Entry) → entry_of o q ≡ Some e → lookup (bytes_eq q) made ≡ None → IsRight (val new) q e
+        rest : (q : List ℕ) (e : Entry) → entry_of o q ≡ Some e → made q ≡ None → IsRight (val new) q e
         rest q e is absent = ⊎_elim (λ l. absurd (false≢true (subst (λ p. is_some p ≡ true) absent l))) (λ n. still_right q e n is) (now.done q (λ c. contains_none q c))
 
 pub nothing_left : (o : Outline) (left : List (List ℕ)) → (0 < length left → ⊥) → names_cost o left ≡ 0

@@ -2,6 +2,7 @@
 use Rattle.std.specs.Prelude.{◌≡◌, ◌≤◌, ℕ, List, [], ◌↔◌, Option, Some, None, Ok, if◌then◌else◌}
 use Rattle.std.specs.Str.{bytes_eq}
 use Rattle.std.specs.Map.{lookup}
+use Rattle.std.specs.Option.{unwrap_or}
 use Rattle.formula_core.specs.Outcomes.{Outcome}
 use Rattle.formula_core.specs.Formulas.{IsHeld, root_result}
 use Rattle.formula_core.specs.Plans.{PlanValue, IsPlanOf}
@@ -41,6 +42,10 @@ pub record IsKept {S : Type 0} (entries : List (List ℕ × Entry)) (users : Lis
   pub live : IsLive entries users
   pub few : ticks ≤ cost
 
+-- the plan that stands beside a name, if there is one
+abbrev pub plan_in : List (List ℕ × Option PlanValue) → List ℕ → Option PlanValue
+plan_in found q = unwrap_or (lookup (bytes_eq q) found) None
+
 -- the entry is a formula of which the plan was made
 abbrev pub CanAdopt : Entry → PlanValue → Type 0
 CanAdopt (entry.Data a) plan = ⊥
@@ -51,14 +56,14 @@ abbrev pub entry_after : List (List ℕ × Entry) → List ℕ → Option Entry 
 entry_after entries name own q = if bytes_eq q name then own else lookup (bytes_eq q) entries
 
 -- the entries after a change are right as from scratch, each formula that has a plan once it took it
-pub record IsPlanned (entries : List (List ℕ × Entry)) (name : List ℕ) (own : Option Entry) (names : Names) (plans : List (List ℕ × PlanValue)) : Type 0 where
-  pub can : (q : List ℕ) (e : Entry) (p : PlanValue) → entry_after entries name own q ≡ Some e → lookup (bytes_eq q) plans ≡ Some p → CanAdopt e p
-  pub right : (q : List ℕ) (e : Entry) (p : PlanValue) → entry_after entries name own q ≡ Some e → lookup (bytes_eq q) plans ≡ Some p → IsRight (val names) q (adopting e p)
-  pub rest : (q : List ℕ) (e : Entry) → entry_after entries name own q ≡ Some e → lookup (bytes_eq q) plans ≡ None → IsRight (val names) q e
+pub record IsPlanned (entries : List (List ℕ × Entry)) (name : List ℕ) (own : Option Entry) (names : Names) (plans : List ℕ → Option PlanValue) : Type 0 where
+  pub can : (q : List ℕ) (e : Entry) (p : PlanValue) → entry_after entries name own q ≡ Some e → plans q ≡ Some p → CanAdopt e p
+  pub right : (q : List ℕ) (e : Entry) (p : PlanValue) → entry_after entries name own q ≡ Some e → plans q ≡ Some p → IsRight (val names) q (adopting e p)
+  pub rest : (q : List ℕ) (e : Entry) → entry_after entries name own q ≡ Some e → plans q ≡ None → IsRight (val names) q e
 
 -- plans are taken one after another
-pub record IsAdopting (names : Names) (es : List (List ℕ × Entry)) (plans : List (List ℕ × PlanValue)) : Type 0 where
+pub record IsAdopting (names : Names) (es : List (List ℕ × Entry)) (plans : List ℕ → Option PlanValue) : Type 0 where
   pub names_are : names_of es ≡ names
-  pub can : (q : List ℕ) (e : Entry) (p : PlanValue) → lookup (bytes_eq q) es ≡ Some e → lookup (bytes_eq q) plans ≡ Some p → CanAdopt e p
-  pub right : (q : List ℕ) (e : Entry) (p : PlanValue) → lookup (bytes_eq q) es ≡ Some e → lookup (bytes_eq q) plans ≡ Some p → IsRight (val names) q (adopting e p)
-  pub rest : (q : List ℕ) (e : Entry) → lookup (bytes_eq q) es ≡ Some e → lookup (bytes_eq q) plans ≡ None → IsRight (val names) q e
+  pub can : (q : List ℕ) (e : Entry) (p : PlanValue) → lookup (bytes_eq q) es ≡ Some e → plans q ≡ Some p → CanAdopt e p
+  pub right : (q : List ℕ) (e : Entry) (p : PlanValue) → lookup (bytes_eq q) es ≡ Some e → plans q ≡ Some p → IsRight (val names) q (adopting e p)
+  pub rest : (q : List ℕ) (e : Entry) → lookup (bytes_eq q) es ≡ Some e → plans q ≡ None → IsRight (val names) q e

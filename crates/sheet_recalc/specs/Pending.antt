@@ -1,5 +1,5 @@
 -- A change that is worked out, and not made yet.
-use Rattle.std.specs.Prelude.{◌≡◌, ◌≤◌, ℕ, List, [], length}
+use Rattle.std.specs.Prelude.{◌≡◌, ◌≤◌, ◌<◌, ◌+◌, ℕ, List, [], length, false, not, if◌then◌else◌}
 use Rattle.std.specs.Str.{bytes_eq}
 use Rattle.indexmap.specs.IndexMap.{spare}
 use Rattle.dep_order.specs.Room.{FindRoom, AreSetsFor}
@@ -9,10 +9,10 @@ use Rattle.formula_core.specs.Meaning.{names_in}
 use Rattle.sheet_recalc.specs.Names.{Names, SheetValue, IsSheet}
 use Rattle.sheet_recalc.specs.NameOrder.{HasOrder}
 use Rattle.sheet_recalc.specs.Changes.{Change, Accepts, HasRoom}
-use Rattle.sheet_recalc.specs.Costs.{HasCost}
+use Rattle.sheet_recalc.specs.Costs.{change_cost}
 use Rattle.sheet_recalc.specs.Entries.{names_of}
-use Rattle.sheet_recalc.specs.Live.{IsPlanned}
-use Rattle.sheet_recalc.specs.Planning.{IsProposalAt}
+use Rattle.sheet_recalc.specs.Live.{IsPlanned, plan_in}
+use Rattle.sheet_recalc.specs.Planning.{IsProposalAt, IsProposed, IsOnTheWay}
 use Rattle.sheet_recalc.specs.ProposedSheet.{Outline, own_entry, proposed_names, proposed_cost}
 use Rattle.sheet_recalc.specs.Tables.{Tables}
 use Rattle.sheet_recalc.specs.declared.growth.Growth.{Growth}
@@ -47,24 +47,40 @@ HasPlace t g proposed.Removed = Unit {0}
 
 -- all is worked out: the plans, the room, the cost
 pub record IsReady (t : Tables) (p : Pending) : Type 0 where
-  pub planned : IsPlanned t.entries.entries p.name (own_entry (outline_for t p)) (names_after t p) p.plans.entries
+  pub planned : IsPlanned t.entries.entries p.name (own_entry (outline_for t p)) (names_after t p) (plan_in p.plans.found.entries)
   pub kept : HasOrder (names_after t p)
   pub sheet : IsSheet (names_after t p)
   pub proposal : IsProposalAt t.entries.entries p.name p.proposal
   pub place : HasPlace t p.growth p.proposal
-  pub few : p.ticks ≤ p.cost
+  pub few : p.ticks ≤ p.plans.cost
 
--- the change is worked out on the sheet as it is
+-- it is being worked out, and this was spent before: where it was cut off, what came after the last function is not done
+pub record IsBegunOn (t : Tables) (p : Pending) (base : ℕ) : Type 0 where
+  pub proposed : IsProposed (outline_for t p)
+  pub kept : HasOrder (names_after t p)
+  pub sheet : IsSheet (names_after t p)
+  pub place : HasPlace t p.growth p.proposal
+  pub way : IsOnTheWay (outline_for t p) base p.plans (not p.is_cut) p.meter.ticks
+  pub told : p.is_cut ≡ false → p.ticks ≡ p.meter.ticks
+  pub small : p.ticks < 18446744073709551616
+
+-- how many steps are left
+abbrev pub steps_left : Pending → ℕ
+steps_left p = p.plans.left + (if p.is_cut then 1 else 0)
+
+-- the change is being worked out on the sheet as it is
 pub record IsPendingOn (s : SheetValue) (change : Change) (p : Pending) : Type 0 where
-  pub ready : IsReady s.tables p
+  pub base : ℕ
+  pub begun : IsBegunOn s.tables p base
+  pub own : ℕ
+  pub base_is : base ≡ ticked 0 own
   pub accepts : Accepts s.names change (names_after s.tables p)
-  pub cost : HasCost s.names change (names_after s.tables p) p.cost
+  pub costs : own + proposed_cost (outline_for s.tables p) ≡ change_cost s.names change (names_after s.tables p)
 
--- what a name is to be bound to is worked out, where finding that has cost so much
+-- what a name is to be bound to is being worked out, where finding that has cost so much
 pub record IsProposedOn (s : SheetValue) (name : List ℕ) (proposal : Proposal) (spent : ℕ) (p : Pending) : Type 0 where
   pub names_are : names_of s.tables.entries.entries ≡ s.names
   pub name_is : p.name ≡ name
   pub proposal_is : p.proposal ≡ proposal
-  pub ready : IsReady s.tables p
+  pub begun : IsBegunOn s.tables p spent
   pub room : HasRoom s.names name
-  pub cost : p.cost ≡ ticked spent (proposed_cost (outline_for s.tables p))

@@ -1,7 +1,7 @@
 -- How the plans of a change are made.
-use Rattle.std.specs.Prelude.{◌≡◌, ◌≢◌, ◌⊎◌, ◌+◌, ◌≤◌, ℕ, List, true, Some, Ok, IfOk, IsSome, if◌then◌else◌}
+use Rattle.std.specs.Prelude.{◌≡◌, ◌≢◌, ◌⊎◌, ◌+◌, ◌≤◌, ◌<◌, ℕ, List, [], ◌∷◌, ◌++◌, Bool, true, Option, Some, None, Ok, IfOk, take, length, IsSome, if◌then◌else◌}
 use Rattle.std.specs.Str.{bytes_eq}
-use Rattle.std.specs.Map.{lookup}
+use Rattle.std.specs.Map.{keys_of}
 use Rattle.std.specs.List.{Contains, IsDistinct, sum_by}
 use Rattle.std.specs.Option.{option_map_or}
 use Rattle.arrays_core.specs.Arrays.{ArrayValue, IsArray}
@@ -10,22 +10,24 @@ use Rattle.index_region.specs.Patches.{FitsPatch}
 use Rattle.index_region.specs.declared.delta.Delta.TheVariants.{Same, Patch, Whole}
 use Rattle.change_core.specs.Meters.{ticked}
 use Rattle.formula_core.specs.Meaning.{names_in}
-use Rattle.formula_core.specs.Formulas.{FormulaValue}
+use Rattle.formula_core.specs.Formulas.{FormulaValue, operations}
+use Rattle.formula_core.specs.Progress.{operations_among, IsPlannedTo}
+use Rattle.formula_core.specs.Tables.{subtrees}
 use Rattle.formula_core.specs.Changes as formula
 use Rattle.formula_core.specs.Plans as formula_plan
 use Rattle.dep_order.specs.Follows.{Follows}
-use Rattle.sheet_recalc.specs.Names.{Names, Formula, binding, Refers, IsSheet}
+use Rattle.sheet_recalc.specs.Names.{Names, Binding, Data, Formula, binding, Refers, IsSheet}
 use Rattle.sheet_recalc.specs.NameOrder.{HasOrder}
 use Rattle.sheet_recalc.specs.Changes.{HasRoom}
 use Rattle.sheet_recalc.specs.Meaning.{val, IsSettled}
 use Rattle.sheet_recalc.specs.Costs.{delta_by, binding_cost}
 use Rattle.sheet_recalc.specs.Entries.{names_of, HasData}
-use Rattle.sheet_recalc.specs.Live.{IsCurrent, IsPlanned}
-use Rattle.sheet_recalc.specs.ProposedSheet.{Outline, outline_of, own_entry, proposed_names, proposed_delta, proposed_change, proposed_cost, entry_of}
+use Rattle.sheet_recalc.specs.Live.{IsCurrent, plan_in}
+use Rattle.sheet_recalc.specs.ProposedSheet.{Outline, outline_of, proposed_names, proposed_delta, proposed_change, proposed_cost, entry_of}
 use Rattle.sheet_recalc.specs.declared.entry.Entry.TheVariants as entry
 use Rattle.sheet_recalc.specs.declared.ahead.Ahead.{Ahead}
 use Rattle.sheet_recalc.specs.declared.entry.Entry.{Entry}
-use Rattle.sheet_recalc.specs.declared.planning.Planned.{Planned}
+use Rattle.sheet_recalc.specs.declared.plans.Plans.{Plans}
 use Rattle.sheet_recalc.specs.declared.proposal.Proposal.{Proposal}
 use Rattle.sheet_recalc.specs.declared.proposal.Proposal.TheVariants as proposed
 
@@ -65,8 +67,8 @@ pub record IsPlanAt (o : Outline) (q : List ℕ) (p : formula_plan.PlanValue) : 
   pub planned : formula_plan.IsPlanned formula (proposed_change o) p
 
 -- so is each
-abbrev pub ArePlans : Outline → List (List ℕ × formula_plan.PlanValue) → Type 0
-ArePlans o plans = (q : List ℕ) (p : formula_plan.PlanValue) → lookup (bytes_eq q) plans ≡ Some p → IsPlanAt o q p
+abbrev pub ArePlans : Outline → (List ℕ → Option formula_plan.PlanValue) → Type 0
+ArePlans o plans = (q : List ℕ) (p : formula_plan.PlanValue) → plans q ≡ Some p → IsPlanAt o q p
 
 -- what a name is bound to stays right as it is: it is no formula, or one of another name in which nothing is touched
 pub record NeedsNoPlan (o : Outline) (q : List ℕ) : Type 0 where
@@ -74,13 +76,13 @@ pub record NeedsNoPlan (o : Outline) (q : List ℕ) : Type 0 where
   pub reads : (t : Tree) → binding (proposed_names o) q ≡ Some (Formula t) → (q ≢ o.name) × ((x : List ℕ) → Contains (names_in t) x → IsUntouched o x)
 
 -- a name has its plan, or needs none
-abbrev pub IsDone : Outline → List (List ℕ × formula_plan.PlanValue) → List ℕ → Type 0
-IsDone o plans q = IsSome (lookup (bytes_eq q) plans) ⊎ NeedsNoPlan o q
+abbrev pub IsDone : Outline → (List ℕ → Option formula_plan.PlanValue) → List ℕ → Type 0
+IsDone o plans q = IsSome (plans q) ⊎ NeedsNoPlan o q
 
 -- a change and the plans so far
 pub record IsAhead (a : Ahead) : Type 0 where
   pub proposed : IsProposed (outline_of a.proposed.now)
-  pub plans : ArePlans (outline_of a.proposed.now) a.plans.now.entries
+  pub plans : ArePlans (outline_of a.proposed.now) (plan_in a.found.now.entries)
   pub unchanged : a.unchanged.now ≡ Same
 
 -- what the change costs at a name
@@ -92,17 +94,58 @@ abbrev pub names_cost : Outline → List (List ℕ) → ℕ
 names_cost o found = sum_by (name_cost o.name (proposed_change o) (proposed_names o)) found
 
 -- the plans of what is not left are made
-pub record IsUnderWay (o : Outline) (left : List (List ℕ)) (made : List (List ℕ × formula_plan.PlanValue)) : Type 0 where
+pub record IsUnderWay (o : Outline) (left : List (List ℕ)) (made : (List ℕ → Option formula_plan.PlanValue)) : Type 0 where
   pub once : IsDistinct bytes_eq left
   pub closed : Follows (λ a b. Refers (proposed_names o) b a) (λ x. ⊥) left
   pub plans : ArePlans o made
   pub done : (q : List ℕ) → (Contains left q → ⊥) → IsDone o made q
 
--- the plans of the change; what they cost, and how far the meter rises by them
-pub record IsWorkedOut (o : Outline) (before after : ℕ) (p : Planned) : Type 0 where
-  pub planned : IsPlanned o.entries o.name (own_entry o) (proposed_names o) p.plans.entries
-  pub cost : p.cost ≡ ticked 0 (proposed_cost o)
-  pub ticks : after ≤ before + proposed_cost o
+-- the names that wait for their plans
+abbrev pub waiting_names : Plans → List (List ℕ)
+waiting_names w = take w.waiting (keys_of w.found.entries)
+
+-- how many functions what a name is bound to applies
+abbrev pub functions_of : Binding → ℕ
+functions_of (Data a) = 0
+functions_of (Formula t) = operations t
+
+-- and of a name after the change
+abbrev pub functions_at : Outline → List ℕ → ℕ
+functions_at o q = option_map_or functions_of (binding (proposed_names o) q) 0
+
+-- a plan of the formula of the last of these names is on its way: so many of its functions are applied, and its nodes so far cost so much; where
+-- it rests, one is left
+pub record IsComingTo (o : Outline) (names : List (List ℕ)) (rests : Bool) (p : formula_plan.PlanValue) (done begun : ℕ) : Type 0 where
+  pub before : List (List ℕ)
+  pub name : List ℕ
+  pub last : names ≡ before ++ name ∷ []
+  pub formula : FormulaValue
+  pub held : entry_of o name ≡ Some (entry.Formula formula)
+  pub planned : IsPlannedTo formula (proposed_change o) p
+  pub done_is : done ≡ operations_among formula p.changes
+  pub begun_is : begun ≡ sum_by (formula_plan.node_cost_at formula.is_new (proposed_change o)) (take (length p.changes) (subtrees formula.tree))
+  pub left : rests ≡ true → length p.changes < length formula.nodes
+
+-- or none is; where that rests, no name waits
+abbrev pub IsComing : Outline → List (List ℕ) → Bool → Option formula_plan.PlanValue → (done begun : ℕ) → Type 0
+IsComing o names rests None done begun = (done ≡ 0) × (begun ≡ 0) × (rests ≡ true → names ≡ [])
+IsComing o names rests (Some p) done begun = IsComingTo o names rests p done begun
+
+-- the plans of a change are on their way, and so many items were computed; this was spent before them. Where they rest, a function is to be
+-- applied next, or none is left
+pub record IsOnTheWay (o : Outline) (base : ℕ) (w : Plans) (rests : Bool) (ticks : ℕ) : Type 0 where
+  pub few : w.waiting ≤ length w.found.entries
+  pub way : IsUnderWay o (waiting_names w) (plan_in w.found.entries)
+  pub done : ℕ
+  pub begun : ℕ
+  pub coming : IsComing o (waiting_names w) rests w.current done begun
+  pub count : w.left + done ≡ sum_by (functions_at o) (waiting_names w)
+  pub spent : ℕ
+  pub split : spent + names_cost o (waiting_names w) ≡ proposed_cost o
+  pub cost : w.cost ≡ ticked base spent
+  pub before : ℕ
+  pub low : ticked 0 before ≤ base
+  pub ticks_are : ticks ≤ before + spent + begun
 
 -- the sheet can be so: the names have an order then, no name reaches itself, and there is room
 pub record CanBe (o : Outline) : Type 0 where

@@ -1,28 +1,27 @@
 //! What names show ahead of a change.
 
-ghost use Rattle.std.specs.Prelude.{◌≡◌, ◌+◌, ◌≤◌, ℕ, IfOk, Some, List};
+ghost use Rattle.std.specs.Prelude.{◌≡◌, ℕ, IfOk, MatchOption, Some, None, List};
 ghost use Rattle.std.specs.List.{Contains};
 ghost use Rattle.formula_core.specs.Outcomes.{Outcome};
 ghost use Rattle.formula_core.specs.Meaning.{names_in};
 ghost use Rattle.formula_core.specs.Changes.{IsNameChanged};
 ghost use Rattle.formula_core.specs.Inputs.{IsInput};
-ghost use Rattle.formula_core.specs.Plans.{AreInputs, IsNameSound};
+ghost use Rattle.formula_core.specs.Plans.{AreInputs, IsNameSound, IsTold};
 ghost use Rattle.index_region.specs.declared.delta.Delta.{Delta as Change};
-ghost use Rattle.change_core.specs.Meters.{ticked};
 ghost use Rattle.change_rules.specs.Currency.{applied};
 ghost use Rattle.sheet_recalc.specs.declared.entry.Entry.TheVariants.{Formula as FormulaEntry};
 ghost use Rattle.sheet_recalc.specs.Costs.{origin_delta};
 ghost use Rattle.sheet_recalc.specs.Meaning.{with_origin};
-ghost use Rattle.sheet_recalc.specs.ProposedSheet.{outline_of, proposed_names, proposed_change, entry_of};
-ghost use Rattle.sheet_recalc.specs.Planning.{IsProposed, IsAhead, ArePlans, IsDone, NeedsNoPlan, IsPlanAt, name_cost};
+ghost use Rattle.sheet_recalc.specs.ProposedSheet.{outline_of, proposed_change, entry_of};
+ghost use Rattle.sheet_recalc.specs.Planning.{IsAhead, IsDone, NeedsNoPlan, IsPlanAt};
+ghost use Rattle.sheet_recalc.specs.Live.{plan_in};
 
 use crate::entry::arisen_in;
 use crate::evaluation::{Inputs, absent, shown};
-use crate::planning::Plans;
+use crate::plans::Found;
 use crate::proposal::Proposal;
 use crate::proposed_sheet::ProposedSheet;
 use apl_tokens::Name;
-use change_core::Meter;
 use formula_core::{Formula, Input, Plan};
 use index_region::Delta;
 use smallvec::SmallVec;
@@ -30,45 +29,43 @@ use std::alloc::{AllocError, Global};
 
 /// What names show ahead of a change: what stands, with the plans that are made so far.
 #[derive(Drop)]
-struct Ahead<'a, 'b> {
-    proposed: &'b ProposedSheet<'a>,
-    plans: &'b Plans,
+pub(crate) struct Ahead<'a, 'b> {
+    pub(crate) proposed: &'b ProposedSheet<'a>,
+    pub(crate) found: &'b Found,
     /// What changes of a name that shows what it did: nothing.
-    unchanged: &'b Delta,
+    pub(crate) unchanged: &'b Delta,
 }
 
-/// The plan of a name's formula, where those of all that it refers to are made.
-pub(crate) fn plan_of(
-    alloc: Global,
-    proposed: &ProposedSheet<'_>,
-    plans: &Plans,
-    name: Name,
-    formula: &Formula,
-    meter: &mut Meter,
-) -> Result<Plan, AllocError>
-    requires proposed { IsProposed (outline_of proposed.now) }
-    requires plans { ArePlans (outline_of proposed.now) plans.now.entries }
-    requires held { entry_of (outline_of proposed.now) name ≡ Some (FormulaEntry formula.now) }
-    requires done { (x : List ℕ) → Contains (names_in formula.now.tree) x → IsDone (outline_of proposed.now) plans.now.entries x }
-    ensures planned { IfOk result (IsPlanAt (outline_of proposed.now) name) }
-    ensures cost { IfOk result (λ p. p.cost ≡ ticked 0 (name_cost proposed.now.name (proposed_change (outline_of proposed.now)) (proposed_names (outline_of proposed.now)) name)) }
-    ensures ticks { meter.new.ticks ≤ meter.old.ticks + name_cost proposed.now.name (proposed_change (outline_of proposed.now)) (proposed_names (outline_of proposed.now)) name }
+/// The plan that stands beside a name, if there is one.
+fn plan_in(found: &Found, name: Name) -> Option<&Plan>
+    ensures { MatchOption result (plan_in found.now.entries name ≡ None) (λ plan. plan_in found.now.entries name ≡ Some plan.now) }
 {
-    let unchanged = Delta::Same;
-    let ahead = Ahead {
-        proposed,
-        plans,
-        unchanged: &unchanged,
-    };
-    let inputs = ahead.inputs_of(alloc, formula.references())?;
-    formula.plan(inputs.as_slice(), meter)
+    match found.get(&name) {
+        Some(plan) => plan.as_ref(),
+        None => None,
+    }
 }
 
-impl Ahead<'_, '_> {
-    /// What each of these names shows, with what changed of it.
-    fn inputs_of(&self, alloc: Global, references: &[Name]) -> Result<Inputs<'_>, AllocError>
+impl<'a, 'b> Ahead<'a, 'b> {
+    /// What the names show that stand in the formula of a name.
+    pub(crate) fn inputs_of(
+        &self,
+        alloc: Global,
+        name: Name,
+        formula: &Formula,
+    ) -> Result<Inputs<'_>, AllocError>
         requires ahead { IsAhead self.now }
-        requires done { (x : List ℕ) → Contains references.now x → IsDone (outline_of self.now.proposed.now) self.now.plans.now.entries x }
+        requires held { entry_of (outline_of self.now.proposed.now) name ≡ Some (FormulaEntry formula.now) }
+        requires done { (x : List ℕ) → Contains (names_in formula.now.tree) x → IsDone (outline_of self.now.proposed.now) (plan_in self.now.found.now.entries) x }
+        ensures { IfOk result (λ inputs. IsTold formula.now (proposed_change (outline_of self.now.proposed.now)) inputs.items) }
+    {
+        self.all_inputs(alloc, formula.references())
+    }
+
+    /// What each of these names shows, with what changed of it.
+    fn all_inputs(&self, alloc: Global, references: &[Name]) -> Result<Inputs<'_>, AllocError>
+        requires ahead { IsAhead self.now }
+        requires done { (x : List ℕ) → Contains references.now x → IsDone (outline_of self.now.proposed.now) (plan_in self.now.found.now.entries) x }
         ensures inputs { IfOk result (λ inputs. AreInputs (proposed_change (outline_of self.now.proposed.now)) references.now inputs.items) }
         ensures changed { IfOk result (λ inputs. (x : List ℕ) → Contains references.now x → IsNameChanged (proposed_change (outline_of self.now.proposed.now)) x) }
         ensures sound { IfOk result (λ inputs. (x : List ℕ) → Contains references.now x → IsNameSound (proposed_change (outline_of self.now.proposed.now)) x) }
@@ -83,12 +80,12 @@ impl Ahead<'_, '_> {
     /// What a name shows, with what changed of it.
     fn input_of(&self, name: Name) -> Input<'_>
         requires ahead { IsAhead self.now }
-        requires done { IsDone (outline_of self.now.proposed.now) self.now.plans.now.entries name }
+        requires done { IsDone (outline_of self.now.proposed.now) (plan_in self.now.found.now.entries) name }
         ensures input { IsInput ((proposed_change (outline_of self.now.proposed.now)).new name) ((proposed_change (outline_of self.now.proposed.now)).delta name) result }
         ensures changed { IsNameChanged (proposed_change (outline_of self.now.proposed.now)) name }
         ensures sound { IsNameSound (proposed_change (outline_of self.now.proposed.now)) name }
     {
-        match self.plans.get(&name) {
+        match plan_in(self.found, name) {
             Some(plan) => self.planned(name, plan),
             None => self.standing(name),
         }

@@ -1,24 +1,27 @@
 //! The part of a change that takes no memory.
 
-ghost use Rattle.std.specs.Prelude.{◌≡◌, ◌<◌, [], Some, None};
+ghost use Rattle.std.specs.Prelude.{◌≡◌, ◌<◌, ℕ, List, [], Some, None, if◌then◌else◌};
 ghost use Rattle.std.specs.Str.{bytes_eq};
+ghost use Rattle.std.specs.Map.{lookup, set_value};
 ghost use Rattle.indexmap.specs.IndexMap.{spare, insert_entry};
 ghost use Rattle.arrays_core.specs.Arrays.{ArrayValue};
 ghost use Rattle.index_region.specs.Patches.{patched, FitsPatch};
 ghost use Rattle.sheet_recalc.specs.Names.{Data, put, without, referred, referred_by};
-ghost use Rattle.sheet_recalc.specs.Entries.{names_of, binding_of, HasData};
+ghost use Rattle.sheet_recalc.specs.Entries.{names_of, binding_of, adopting, HasData};
+ghost use Rattle.sheet_recalc.specs.declared.entry.Entry.{Entry as EntryValue};
 ghost use Rattle.sheet_recalc.specs.declared.entry.Entry.TheVariants.{Data as DataEntry};
 ghost use Rattle.dep_order.specs.Users.{HasRoomFor, HasNoEmptyBut};
-ghost use Rattle.sheet_recalc.specs.Live.{IsTable, IsCurrent, IsPlanned, IsAdopting};
+ghost use Rattle.sheet_recalc.specs.Live.{IsTable, IsCurrent, IsPlanned, IsAdopting, CanAdopt, plan_in};
 ghost use Rattle.sheet_recalc.specs.Pending.{names_after, Brings, IsReady};
 
 use crate::entry::Entry;
 use crate::growth::Growth;
 use crate::pending::Pending;
-use crate::planning::Plans;
+use crate::plans::Found;
 use crate::proposal::Proposal;
 use apl_tokens::Name;
 use dep_order::{Users, give_sets, refer, take_larger};
+use formula_core::Plan;
 use index_region::{Delta, Patch};
 use indexmap::IndexMap;
 
@@ -39,18 +42,20 @@ pub(crate) fn make(entries: &mut IndexMap<Name, Entry>, users: &mut Users<Name>,
         growth,
         ..
     } = pending;
+    let found = plans.found;
     match proposal {
         Proposal::Formula(formula) => {
             let entry = Entry::Formula(formula);
-            commit_with(entries, users, name, entry, plans, growth);
+            commit_with(entries, users, name, entry, found, growth);
         }
         Proposal::Data(Delta::Whole(Ok(array))) => {
             let entry = Entry::Data(array);
-            commit_with(entries, users, name, entry, plans, growth);
+            commit_with(entries, users, name, entry, found, growth);
         }
-        Proposal::Data(Delta::Patch(patch)) => commit_patch(entries, name, &patch, plans),
-        Proposal::Data(Delta::Same) | Proposal::Data(Delta::Whole(Err(_))) => {}
-        Proposal::Removed => commit_removal(entries, users, name, plans),
+        Proposal::Data(Delta::Patch(patch)) => commit_patch(entries, name, &patch, found),
+        Proposal::Data(Delta::Same) => {}
+        Proposal::Data(Delta::Whole(Err(_))) => {}
+        Proposal::Removed => commit_removal(entries, users, name, found),
     }
 }
 
@@ -60,10 +65,10 @@ fn commit_with(
     users: &mut Users<Name>,
     name: Name,
     entry: Entry,
-    plans: Plans,
+    found: Found,
     growth: Growth,
 )
-    requires planned { IsPlanned entries.old.entries name (Some entry) (put (names_of entries.old.entries) name (binding_of entry)) plans.entries }
+    requires planned { IsPlanned entries.old.entries name (Some entry) (put (names_of entries.old.entries) name (binding_of entry)) (plan_in found.entries) }
     requires brings { Brings (record { entries = entries.old; users = users.old }) (referred (binding_of entry)) growth }
     requires tells { IsTable (names_of entries.old.entries) users.old.entries }
     requires used { HasNoEmptyBut bytes_eq users.old.entries [] }
@@ -75,7 +80,7 @@ fn commit_with(
     take_larger(entries, growth.entries, 1);
     take_larger(users, growth.users, growth.sets.len());
     give_sets(users, growth.sets);
-    commit(entries, users, name, entry, plans);
+    commit(entries, users, name, entry, found);
 }
 
 /// Puts an entry under a name, in the room that was made for it, and gives each formula its new results.
@@ -84,10 +89,10 @@ fn commit(
     users: &mut Users<Name>,
     name: Name,
     entry: Entry,
-    plans: Plans,
+    found: Found,
 )
     requires room { 0 < spare entries.old }
-    requires planned { IsPlanned entries.old.entries name (Some entry) (put (names_of entries.old.entries) name (binding_of entry)) plans.entries }
+    requires planned { IsPlanned entries.old.entries name (Some entry) (put (names_of entries.old.entries) name (binding_of entry)) (plan_in found.entries) }
     requires tells { IsTable (names_of entries.old.entries) users.old.entries }
     requires sets { HasRoomFor bytes_eq users.old.entries (referred (binding_of entry)) }
     requires used { HasNoEmptyBut bytes_eq users.old.entries (referred (binding_of entry)) }
@@ -103,7 +108,7 @@ fn commit(
         entry.references(),
     );
     let _before = entries.insert(name, entry).unwrap();
-    adopt_all(entries, plans);
+    adopt_all(entries, found);
 }
 
 /// Takes a name out, and gives each formula its new results.
@@ -111,9 +116,9 @@ fn commit_removal(
     entries: &mut IndexMap<Name, Entry>,
     users: &mut Users<Name>,
     name: Name,
-    plans: Plans,
+    found: Found,
 )
-    requires planned { IsPlanned entries.old.entries name None (without (names_of entries.old.entries) name) plans.entries }
+    requires planned { IsPlanned entries.old.entries name None (without (names_of entries.old.entries) name) (plan_in found.entries) }
     requires tells { IsTable (names_of entries.old.entries) users.old.entries }
     requires used { HasNoEmptyBut bytes_eq users.old.entries [] }
     ensures names { names_of entries.new.entries ≡ without (names_of entries.old.entries) name }
@@ -125,19 +130,19 @@ fn commit_removal(
     // The length brings the fact that no two names are equal, so that one entry is all that goes.
     let _unique = entries.len();
     let _removed = entries.shift_remove(&name);
-    adopt_all(entries, plans);
+    adopt_all(entries, found);
 }
 
 /// Writes new items into the data of a name, where it lies, and gives each formula its new results.
-fn commit_patch(entries: &mut IndexMap<Name, Entry>, name: Name, patch: &Patch, plans: Plans)
+fn commit_patch(entries: &mut IndexMap<Name, Entry>, name: Name, patch: &Patch, found: Found)
     requires data { (a : ArrayValue) × HasData entries.old.entries name a × FitsPatch a patch.now }
     requires planned { (a : ArrayValue) → HasData entries.old.entries name a
-        → IsPlanned entries.old.entries name (Some (DataEntry (patched a patch.now))) (put (names_of entries.old.entries) name (Data (patched a patch.now))) plans.entries }
+        → IsPlanned entries.old.entries name (Some (DataEntry (patched a patch.now))) (put (names_of entries.old.entries) name (Data (patched a patch.now))) (plan_in found.entries) }
     ensures names { (a : ArrayValue) → HasData entries.old.entries name a → names_of entries.new.entries ≡ put (names_of entries.old.entries) name (Data (patched a patch.now)) }
     ensures current { IsCurrent entries.new.entries }
 {
     write_patch(entries, name, patch);
-    adopt_all(entries, plans);
+    adopt_all(entries, found);
 }
 
 /// Writes new items into the data of a name.
@@ -161,15 +166,28 @@ fn references_of(entries: &IndexMap<Name, Entry>, name: Name) -> &[Name]
 }
 
 /// Gives each formula that has a plan its new results.
-fn adopt_all(entries: &mut IndexMap<Name, Entry>, mut plans: Plans)
-    requires { IsAdopting (names_of entries.old.entries) entries.old.entries plans.entries }
+fn adopt_all(entries: &mut IndexMap<Name, Entry>, mut found: Found)
+    requires { IsAdopting (names_of entries.old.entries) entries.old.entries (plan_in found.entries) }
     ensures names { names_of entries.new.entries ≡ names_of entries.old.entries }
     ensures current { IsCurrent entries.new.entries }
 {
-    while let Some(planned) = plans.pop() {
-        match entries.get_mut(&planned.0) {
-            Some(entry) => entry.adopt(planned.1),
-            None => drop(planned),
+    while let Some(reached) = found.pop() {
+        let (name, plan) = reached;
+        if let Some(plan) = plan {
+            adopt_one(entries, name, plan);
         }
+    }
+}
+
+/// Gives the formula of a name its new results.
+fn adopt_one(entries: &mut IndexMap<Name, Entry>, name: Name, plan: Plan)
+    requires { (e : EntryValue) → lookup (bytes_eq name) entries.old.entries ≡ Some e → CanAdopt e plan }
+    ensures present { (e : EntryValue) → lookup (bytes_eq name) entries.old.entries ≡ Some e → (entries.new.entries ≡ set_value (bytes_eq name) entries.old.entries (adopting e plan))
+        × ((q : List ℕ) → lookup (bytes_eq q) entries.new.entries ≡ (if bytes_eq name q then Some (adopting e plan) else lookup (bytes_eq q) entries.old.entries)) }
+    ensures absent { lookup (bytes_eq name) entries.old.entries ≡ None → entries.new.entries ≡ entries.old.entries }
+{
+    match entries.get_mut(&name) {
+        Some(entry) => entry.adopt(plan),
+        None => drop(plan),
     }
 }

@@ -3,14 +3,15 @@
 ghost use Rattle.std.specs.Prelude.{◌≡◌, ◌<◌, IfOk};
 ghost use Rattle.std.specs.Str.{bytes_eq};
 ghost use Rattle.std.specs.List.{Contains, position_or_len};
+ghost use Rattle.std.specs.Map.{keys_of};
 ghost use Rattle.sheet_recalc.specs.Names.{Refers};
 ghost use Rattle.sheet_recalc.specs.ProposedSheet.{outline_of, proposed_names, IsReaching};
 ghost use Rattle.sheet_recalc.specs.Changes.{IsCycleFrom};
 
+use crate::plans::Found;
 use crate::proposed_sheet::ProposedSheet;
 use apl_tokens::Name;
 use dep_order::first_found;
-use indexmap::IndexSet;
 use std::alloc::{AllocError, Global};
 
 /// The cycle that a name would close by a reference to one that reaches it: the name, then that one, and from each on the
@@ -18,12 +19,12 @@ use std::alloc::{AllocError, Global};
 pub(crate) fn cycle_through(
     alloc: Global,
     proposed: &ProposedSheet<'_>,
-    found: &IndexSet<Name>,
+    found: &Found,
     reference: Name,
 ) -> Result<Vec<Name>, AllocError>
-    requires reaching { IsReaching (proposed_names (outline_of proposed.now)) proposed.now.name found.now.keys }
+    requires reaching { IsReaching (proposed_names (outline_of proposed.now)) proposed.now.name (keys_of found.now.entries) }
     requires refers { Refers (proposed_names (outline_of proposed.now)) proposed.now.name reference }
-    requires hit { Contains found.now.keys reference }
+    requires hit { Contains (keys_of found.now.entries) reference }
     ensures { IfOk result (λ cycle. IsCycleFrom (Refers (proposed_names (outline_of proposed.now))) proposed.now.name cycle.items) }
 {
     let mut cycle = Vec::new(alloc);
@@ -37,13 +38,13 @@ pub(crate) fn cycle_through(
 }
 
 /// The first of a name's references that reaches the name that is bound anew.
-fn step_from(proposed: &ProposedSheet<'_>, found: &IndexSet<Name>, from: Name) -> Name
-    requires reaching { IsReaching (proposed_names (outline_of proposed.now)) proposed.now.name found.now.keys }
-    requires hit { Contains found.now.keys from }
+fn step_from(proposed: &ProposedSheet<'_>, found: &Found, from: Name) -> Name
+    requires reaching { IsReaching (proposed_names (outline_of proposed.now)) proposed.now.name (keys_of found.now.entries) }
+    requires hit { Contains (keys_of found.now.entries) from }
     requires apart { from ≡ proposed.now.name → ⊥ }
     ensures refers { Refers (proposed_names (outline_of proposed.now)) from result }
-    ensures hit { Contains found.now.keys result }
-    ensures later { position_or_len (bytes_eq from) found.now.keys < position_or_len (bytes_eq result) found.now.keys }
+    ensures hit { Contains (keys_of found.now.entries) result }
+    ensures later { position_or_len (bytes_eq from) (keys_of found.now.entries) < position_or_len (bytes_eq result) (keys_of found.now.entries) }
 {
     match first_found(found, proposed.references_of(from)) {
         Some(next) => next,

@@ -11,6 +11,7 @@ mod evaluation;
 mod growth;
 mod pending;
 mod planning;
+mod plans;
 mod proposal;
 mod proposed_sheet;
 mod refusal;

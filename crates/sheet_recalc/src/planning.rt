@@ -1,52 +1,49 @@
-//! The plans of a change, made in an order in which each formula comes after all that it refers to.
+//! The plans of a change, made a function at a time, in an order in which each formula comes after all that it refers to.
 
-ghost use Rattle.std.specs.Prelude.{◌≡◌, ◌+◌, ◌≤◌, ℕ, IfOk, IfErr, OnOk, Some, List, MatchBool, if◌then◌else◌};
-ghost use Rattle.std.specs.Str.{bytes_eq};
-ghost use Rattle.std.specs.Map.{lookup};
+ghost use Rattle.std.specs.Prelude.{◌≡◌, ◌+◌, ◌≤◌, ◌<◌, ◌∷◌, ◌++◌, ℕ, [], true, false, length, get_or, IfOk, IfErr, OnOk, OnErr, Some, None, List, MatchBool};
+ghost use Rattle.std.specs.List.{Contains, sum_by};
+ghost use Rattle.std.specs.Map.{keys_of};
 ghost use Rattle.change_core.specs.Meters.{ticked};
-ghost use Rattle.sheet_recalc.specs.ProposedSheet.{outline_of, own_entry, proposed_names};
+ghost use Rattle.formula_core.specs.Formulas.{operations};
+ghost use Rattle.formula_core.specs.Meaning.{names_in};
+ghost use Rattle.formula_core.specs.Plans.{node_cost_at};
+ghost use Rattle.formula_core.specs.Progress.{operations_among, IsPlannedTo};
+ghost use Rattle.formula_core.specs.Tables.{subtrees, tree_at};
+ghost use Rattle.sheet_recalc.specs.ProposedSheet.{outline_of, proposed_names, proposed_change, entry_of};
 ghost use Rattle.sheet_recalc.specs.Changes.{HasRoom, IsFullFor, CannotBecome};
 ghost use Rattle.sheet_recalc.specs.Entries.{names_of};
-ghost use Rattle.sheet_recalc.specs.Live.{IsLive, IsPlanned};
-ghost use Rattle.sheet_recalc.specs.Planning.{IsProposalAt, IsProposed, IsAffected, IsWorkedOut, CanBe, names_cost};
+ghost use Rattle.sheet_recalc.specs.Live.{IsLive, plan_in};
+ghost use Rattle.sheet_recalc.specs.Planning.{IsProposalAt, IsProposed, ArePlans, IsDone, IsOnTheWay, CanBe, waiting_names, functions_at};
+ghost use Rattle.sheet_recalc.specs.declared.entry.Entry.TheVariants.{Formula as FormulaEntry};
 
-use crate::ahead::plan_of;
+use crate::ahead::Ahead;
 use crate::cycle::cycle_through;
 use crate::entry::Entry;
 use crate::evaluation::shown;
+use crate::plans::{Found, Plans};
 use crate::proposed_sheet::ProposedSheet;
 use crate::refusal::Refusal;
 use crate::sheet::MOST_NAMES;
 use apl_tokens::Name;
 use change_core::Meter;
 use dep_order::{Users, affected, first_found};
-use formula_core::{Input, Plan};
+use formula_core::{Formula, Input, Plan};
 use index_region::Delta;
-use indexmap::{IndexMap, IndexSet};
+use indexmap::IndexMap;
 use std::alloc::{AllocError, Global};
 
-/// The plans of formulas, by their names.
-pub(crate) type Plans = IndexMap<Name, Plan>;
-
-/// The plans of a change, and what they cost together.
-#[derive(Drop)]
-pub(crate) struct Planned {
-    /// The plan of each formula that the change reaches.
-    pub(crate) plans: Plans,
-    /// What they cost; the greatest number of 64 bits where it is more.
-    pub(crate) cost: u64,
-}
-
-/// The plans of a change and what they cost, or why it is refused: the name would reach itself, or there is no room for it.
-pub(crate) fn planned_with(
+/// The plans of a change of which no function is applied yet, where this was spent before, or why it is refused: the name would reach
+/// itself, or there is no room for it.
+pub(crate) fn begun(
     alloc: Global,
     proposed: &ProposedSheet<'_>,
     users: &Users<Name>,
-    meter: &mut Meter,
-) -> Result<Planned, Refusal>
+    spent: u64,
+) -> Result<Plans, Refusal>
     requires live { IsLive proposed.now.entries.now.entries users.now.entries }
     requires proposal { IsProposalAt proposed.now.entries.now.entries proposed.now.name proposed.now.proposal.now }
-    ensures planned { IfOk result (IsWorkedOut (outline_of proposed.now) meter.old.ticks meter.new.ticks) }
+    ensures proposed { OnOk result (IsProposed (outline_of proposed.now)) }
+    ensures way { IfOk result (λ w. (ticks : ℕ) → ticked 0 ticks ≤ spent → IsOnTheWay (outline_of proposed.now) spent w true ticks) }
     ensures can { OnOk result (CanBe (outline_of proposed.now)) }
     ensures refused { IfErr result (CannotBecome (names_of proposed.now.entries.now.entries) (proposed_names (outline_of proposed.now)) proposed.now.name) }
 {
@@ -60,7 +57,15 @@ pub(crate) fn planned_with(
     if !has_room(proposed.entries, proposed.name) {
         return Err(Refusal::SheetFull);
     }
-    Ok(plans_of(alloc, proposed, found, meter)?)
+    let mut plans = Plans {
+        waiting: found.len(),
+        left: functions_in(proposed, &found),
+        found,
+        current: None,
+        cost: spent,
+    };
+    settle(alloc, proposed, &mut plans)?;
+    Ok(plans)
 }
 
 /// There is room for a name: it is present, or fewer than `MOST_NAMES` names are.
@@ -70,40 +75,175 @@ fn has_room(entries: &IndexMap<Name, Entry>, name: Name) -> bool
     entries.contains_key(&name) || entries.len() < MOST_NAMES
 }
 
-/// The plans of the names that are found, each made after those of all that it refers to.
-fn plans_of(
-    alloc: Global,
-    proposed: &ProposedSheet<'_>,
-    mut left: IndexSet<Name>,
-    meter: &mut Meter,
-) -> Result<Planned, AllocError>
-    requires proposed { IsProposed (outline_of proposed.now) }
-    requires found { IsAffected (outline_of proposed.now) left.keys }
-    ensures planned { IfOk result (λ p. IsPlanned proposed.now.entries.now.entries proposed.now.name (own_entry (outline_of proposed.now)) (proposed_names (outline_of proposed.now)) p.plans.entries) }
-    ensures cost { IfOk result (λ p. p.cost ≡ ticked 0 (names_cost (outline_of proposed.now) left.keys)) }
-    ensures ticks { OnOk result (meter.new.ticks ≤ meter.old.ticks + names_cost (outline_of proposed.now) left.keys) }
+/// How many functions the formulas of these names apply.
+fn functions_in(proposed: &ProposedSheet<'_>, found: &Found) -> u128
+    ensures { result ≡ sum_by (functions_at (outline_of proposed.now)) (keys_of found.now.entries) }
 {
-    // No name stands in the set twice.
-    let _unique = left.len();
-    let mut planned = Planned {
-        plans: IndexMap::new(alloc),
-        cost: 0,
-    };
-    while let Some(name) = left.pop() {
-        let Some(formula) = proposed.formula_of(name) else {
-            continue;
-        };
-        let plan = plan_of(alloc, proposed, &planned.plans, name, formula, meter)?;
-        planned.cost = planned.cost.saturating_add(plan.cost());
-        keep(&mut planned.plans, name, plan)?;
+    let mut count = 0;
+    for place in 0..found.len() {
+        count += u128::from(functions_at(proposed, found, place));
     }
-    Ok(planned)
+    count
 }
 
-/// Keeps a plan under its name.
-fn keep(plans: &mut Plans, name: Name, plan: Plan) -> Result<(), AllocError>
-    ensures { OnOk result ((q : List ℕ) → lookup (bytes_eq q) plans.new.entries ≡ (if bytes_eq name q then Some plan else lookup (bytes_eq q) plans.old.entries)) }
+/// How many functions the formula of the name at a place applies.
+fn functions_at(proposed: &ProposedSheet<'_>, found: &Found, place: usize) -> u64
+    requires { place < length found.now.entries }
+    ensures { result ≡ functions_at (outline_of proposed.now) (get_or (keys_of found.now.entries) place []) }
 {
-    let _before = plans.insert(name, plan)?;
+    match found.get_index(place) {
+        Some((name, _)) => functions_of(proposed, *name),
+        None => 0,
+    }
+}
+
+/// How many functions the formula of a name applies.
+fn functions_of(proposed: &ProposedSheet<'_>, name: Name) -> u64
+    ensures { result ≡ functions_at (outline_of proposed.now) name }
+{
+    match proposed.formula_of(name) {
+        Some(formula) => formula.operations() as u64,
+        None => 0,
+    }
+}
+
+/// Plans what comes next, as far as no function is to be applied. Where memory is refused, what was planned stays.
+pub(crate) fn settle(
+    alloc: Global,
+    proposed: &ProposedSheet<'_>,
+    plans: &mut Plans,
+) -> Result<(), AllocError>
+    requires proposed { IsProposed (outline_of proposed.now) }
+    requires way { (base ticks : ℕ) × IsOnTheWay (outline_of proposed.now) base plans.old false ticks }
+    ensures settled { OnOk result ((base ticks : ℕ) → IsOnTheWay (outline_of proposed.now) base plans.old false ticks → IsOnTheWay (outline_of proposed.now) base plans.new true ticks) }
+    ensures err { OnErr result ((base ticks : ℕ) → IsOnTheWay (outline_of proposed.now) base plans.old false ticks → IsOnTheWay (outline_of proposed.now) base plans.new false ticks) }
+    ensures left { plans.new.left ≡ plans.old.left }
+{
+    while let Some(name) = plans.next_name() {
+        let Some(formula) = proposed.formula_of(name) else {
+            plans.waiting -= 1;
+            continue;
+        };
+        let plan = taken(alloc, proposed, plans, name, formula)?;
+        if !formula.is_whole(&plan) {
+            plans.current = Some(plan);
+            return Ok(());
+        }
+        plans.keep(plan);
+    }
     Ok(())
+}
+
+/// The plan of the last name that waits, as far as it goes.
+fn taken(
+    alloc: Global,
+    proposed: &ProposedSheet<'_>,
+    plans: &mut Plans,
+    name: Name,
+    formula: &Formula,
+) -> Result<Plan, AllocError>
+    requires proposed { IsProposed (outline_of proposed.now) }
+    requires way { (base ticks : ℕ) × IsOnTheWay (outline_of proposed.now) base plans.old false ticks }
+    requires last { (before : List (List ℕ)) × (waiting_names plans.old ≡ before ++ name ∷ []) }
+    requires held { entry_of (outline_of proposed.now) name ≡ Some (FormulaEntry formula.now) }
+    ensures way { IfOk result (λ p. (base ticks : ℕ) → IsOnTheWay (outline_of proposed.now) base plans.old false ticks
+        → IsOnTheWay (outline_of proposed.now) base (record plans.new { current = Some p }) false ticks) }
+    ensures found { plans.new.found ≡ plans.old.found }
+    ensures waiting { plans.new.waiting ≡ plans.old.waiting }
+    ensures left { plans.new.left ≡ plans.old.left }
+    ensures cost { plans.new.cost ≡ plans.old.cost }
+    ensures current { OnOk result (plans.new.current ≡ None) }
+    ensures err { OnErr result (plans.new ≡ plans.old) }
+{
+    match plans.current.take() {
+        Some(plan) => Ok(plan),
+        None => started(alloc, proposed, &plans.found, name, formula),
+    }
+}
+
+/// The plan of a name's formula of which no function is applied yet, where all that it refers to is done.
+fn started(
+    alloc: Global,
+    proposed: &ProposedSheet<'_>,
+    found: &Found,
+    name: Name,
+    formula: &Formula,
+) -> Result<Plan, AllocError>
+    requires proposed { IsProposed (outline_of proposed.now) }
+    requires plans { ArePlans (outline_of proposed.now) (plan_in found.now.entries) }
+    requires held { entry_of (outline_of proposed.now) name ≡ Some (FormulaEntry formula.now) }
+    requires done { (x : List ℕ) → Contains (names_in formula.now.tree) x → IsDone (outline_of proposed.now) (plan_in found.now.entries) x }
+    ensures none { IfOk result (λ p. operations_among formula.now p.changes ≡ 0) }
+    ensures planned { IfOk result (IsPlannedTo formula.now (proposed_change (outline_of proposed.now))) }
+{
+    let unchanged = Delta::Same;
+    let ahead = Ahead {
+        proposed,
+        found,
+        unchanged: &unchanged,
+    };
+    let inputs = ahead.inputs_of(alloc, name, formula)?;
+    formula.start(inputs.as_slice())
+}
+
+/// Applies the next function of the plan that is on its way. Where memory is refused, nothing is changed.
+pub(crate) fn apply_next(
+    alloc: Global,
+    proposed: &ProposedSheet<'_>,
+    plans: &mut Plans,
+    meter: &mut Meter,
+) -> Result<(), AllocError>
+    requires proposed { IsProposed (outline_of proposed.now) }
+    requires left { 0 < plans.old.left }
+    requires way { (base : ℕ) × IsOnTheWay (outline_of proposed.now) base plans.old true meter.old.ticks }
+    ensures way { OnOk result ((base : ℕ) → IsOnTheWay (outline_of proposed.now) base plans.old true meter.old.ticks → IsOnTheWay (outline_of proposed.now) base plans.new false meter.new.ticks) }
+    ensures left { OnOk result (plans.new.left + 1 ≡ plans.old.left) }
+    ensures err { OnErr result (plans.new ≡ plans.old) }
+    ensures err_meter { OnErr result (meter.new ≡ meter.old) }
+{
+    let Some(name) = plans.next_name() else {
+        return Ok(());
+    };
+    let Some(formula) = proposed.formula_of(name) else {
+        return Ok(());
+    };
+    let Some(plan) = &mut plans.current else {
+        return Ok(());
+    };
+    apply_to(alloc, proposed, &plans.found, name, formula, plan, meter)?;
+    plans.left -= 1;
+    Ok(())
+}
+
+/// Applies the next function of the plan of a name's formula, where all that it refers to is done.
+fn apply_to(
+    alloc: Global,
+    proposed: &ProposedSheet<'_>,
+    found: &Found,
+    name: Name,
+    formula: &Formula,
+    plan: &mut Plan,
+    meter: &mut Meter,
+) -> Result<(), AllocError>
+    requires proposed { IsProposed (outline_of proposed.now) }
+    requires plans { ArePlans (outline_of proposed.now) (plan_in found.now.entries) }
+    requires held { entry_of (outline_of proposed.now) name ≡ Some (FormulaEntry formula.now) }
+    requires done { (x : List ℕ) → Contains (names_in formula.now.tree) x → IsDone (outline_of proposed.now) (plan_in found.now.entries) x }
+    requires planned { IsPlannedTo formula.now (proposed_change (outline_of proposed.now)) plan.old }
+    requires left { operations_among formula.now plan.old.changes < operations formula.now.tree }
+    ensures one { OnOk result (operations_among formula.now plan.new.changes ≡ operations_among formula.now plan.old.changes + 1) }
+    ensures planned { OnOk result (IsPlannedTo formula.now (proposed_change (outline_of proposed.now)) plan.new) }
+    ensures ticks { OnOk result (meter.new.ticks ≤ meter.old.ticks
+        + node_cost_at formula.now.is_new (proposed_change (outline_of proposed.now)) (tree_at (subtrees formula.now.tree) (length plan.old.changes))) }
+    ensures err { OnErr result (plan.new ≡ plan.old) }
+    ensures err_meter { OnErr result (meter.new ≡ meter.old) }
+{
+    let unchanged = Delta::Same;
+    let ahead = Ahead {
+        proposed,
+        found,
+        unchanged: &unchanged,
+    };
+    let inputs = ahead.inputs_of(alloc, name, formula)?;
+    formula.advance(plan, inputs.as_slice(), meter)
 }

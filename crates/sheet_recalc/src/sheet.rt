@@ -1,6 +1,6 @@
 //! The sheet.
 
-ghost use Rattle.std.specs.Prelude.{◌≡◌, ◌≤◌, [], IfOk, IfErr, OnOk, OnErr, MatchOption, Some, None, Err, is_some, if◌then◌else◌};
+ghost use Rattle.std.specs.Prelude.{◌≡◌, ◌+◌, ◌-◌, ◌<◌, ◌≤◌, min, true, [], IfOk, IfErr, OnOk, OnErr, MatchOption, Some, None, Err, is_some, if◌then◌else◌};
 ghost use Rattle.std.specs.Map.{keys_of};
 ghost use Rattle.std.specs.Option.{option_map};
 ghost use Rattle.apl_expr.specs.Trees.{tree_of, literal_of};
@@ -13,7 +13,7 @@ ghost use Rattle.sheet_recalc.specs.Names.{binding, IsSheet};
 ghost use Rattle.sheet_recalc.specs.Meaning.{val};
 ghost use Rattle.sheet_recalc.specs.ProposedSheet.{names_with};
 ghost use Rattle.sheet_recalc.specs.Planning.{IsProposalAt};
-ghost use Rattle.sheet_recalc.specs.Pending.{IsPendingOn, IsProposedOn};
+ghost use Rattle.sheet_recalc.specs.Pending.{IsPendingOn, IsProposedOn, steps_left};
 ghost use Rattle.sheet_recalc.specs.Changes.{Change, Accepts, Refuses, Define, Store, Put, SetCell, AddRow, Erase, CannotBecome};
 ghost use Rattle.sheet_recalc.specs.Costs.{HasCost};
 
@@ -23,7 +23,7 @@ use crate::entry::Entry;
 use crate::evaluation::{absent, plan_at_rest};
 use crate::growth::growth_for;
 use crate::pending::Pending;
-use crate::planning::planned_with;
+use crate::planning::{apply_next, begun, settle};
 use crate::proposal::Proposal;
 use crate::proposed_sheet::ProposedSheet;
 use crate::refusal::Refusal;
@@ -159,11 +159,10 @@ impl Sheet {
         ensures err { OnErr result (self.new ≡ self.old) }
     {
         let pending = self.begin_define(name, tree)?;
-        self.adopt(pending);
-        Ok(())
+        Ok(self.complete(pending)?)
     }
 
-    /// Works out a definition, and does not make it.
+    /// Begins a definition: it is refused here, or worked out by steps and then made.
     pub fn begin_define(&self, name: Name, tree: Expr) -> Result<Pending, Refusal>
         ensures ok { IfOk result (IsPendingOn self.now (Define name (tree_of tree))) }
         ensures refused { IfErr result (Refuses self.now.names (Define name (tree_of tree))) }
@@ -172,17 +171,98 @@ impl Sheet {
         self.propose(name, Proposal::Formula(formula), 0, Meter::new())
     }
 
-    /// Makes a change that was worked out on the sheet as it is. No memory is asked for.
+    /// Does one more step of a change that was begun on the sheet as it is: applies one function, and plans what comes after that as far as
+    /// no function is to be applied. It answers how many steps are left; where none was, nothing is done. Where memory is refused,
+    /// what is left and the items counted are as they were.
+    pub fn advance(&self, pending: &mut Pending) -> Result<u32, AllocError>
+        requires { (change : Change) × IsPendingOn self.now change pending.old }
+        ensures left { IfOk result (λ n. n ≡ min (steps_left pending.new) 4294967295) }
+        ensures one { OnOk result (steps_left pending.new ≡ steps_left pending.old - 1) }
+        ensures kept { (change : Change) → IsPendingOn self.now change pending.old → IsPendingOn self.now change pending.new }
+        ensures err { OnErr result (steps_left pending.new ≡ steps_left pending.old) }
+        ensures err_ticks { OnErr result (pending.new.ticks ≡ pending.old.ticks) }
+    {
+        if pending.left() == 0 {
+            return Ok(0);
+        }
+        self.apply_function(pending)?;
+        self.plan_ahead(pending)?;
+        Ok(pending.left())
+    }
+
+    /// Applies the next function of a change, unless a step that was cut off has done so.
+    fn apply_function(&self, pending: &mut Pending) -> Result<(), AllocError>
+        requires begun { (change : Change) × IsPendingOn self.now change pending.old }
+        requires left { 0 < steps_left pending.old }
+        ensures kept { (change : Change) → IsPendingOn self.now change pending.old → IsPendingOn self.now change pending.new }
+        ensures cut { OnOk result (pending.new.is_cut ≡ true) }
+        ensures steps { steps_left pending.new ≡ steps_left pending.old }
+        ensures ticks { pending.new.ticks ≡ pending.old.ticks }
+    {
+        if pending.is_cut {
+            return Ok(());
+        }
+        let proposed = ProposedSheet {
+            entries: &self.entries,
+            name: pending.name,
+            proposal: &pending.proposal,
+        };
+        apply_next(
+            self.alloc,
+            &proposed,
+            &mut pending.plans,
+            &mut pending.meter,
+        )?;
+        pending.is_cut = true;
+        Ok(())
+    }
+
+    /// Plans what comes after the function that a step has applied, which ends the step.
+    fn plan_ahead(&self, pending: &mut Pending) -> Result<(), AllocError>
+        requires begun { (change : Change) × IsPendingOn self.now change pending.old }
+        requires cut { pending.old.is_cut ≡ true }
+        ensures kept { (change : Change) → IsPendingOn self.now change pending.old → IsPendingOn self.now change pending.new }
+        ensures one { OnOk result (steps_left pending.new + 1 ≡ steps_left pending.old) }
+        ensures err { OnErr result (steps_left pending.new ≡ steps_left pending.old) }
+        ensures err_ticks { OnErr result (pending.new.ticks ≡ pending.old.ticks) }
+    {
+        let proposed = ProposedSheet {
+            entries: &self.entries,
+            name: pending.name,
+            proposal: &pending.proposal,
+        };
+        settle(self.alloc, &proposed, &mut pending.plans)?;
+        pending.is_cut = false;
+        pending.ticks = pending.meter.ticks();
+        Ok(())
+    }
+
+    /// Makes a change that was begun on the sheet as it is, and of which no step is left. No memory is asked for.
     pub fn adopt(&mut self, pending: Pending)
-        requires { (change : Change) × IsPendingOn self.old change pending }
+        requires begun { (change : Change) × IsPendingOn self.old change pending }
+        requires left { steps_left pending ≡ 0 }
         ensures made { (change : Change) → IsPendingOn self.old change pending → Accepts self.old.names change self.new.names }
         ensures cost { (change : Change) → IsPendingOn self.old change pending → HasCost self.old.names change self.new.names self.new.cost }
         ensures ticks { self.new.ticks ≡ pending.ticks }
     {
-        let (cost, ticks) = (pending.cost, pending.ticks);
+        let (cost, ticks) = (pending.plans.cost, pending.ticks);
         make(&mut self.entries, &mut self.users, pending);
         self.cost = cost;
         self.ticks = ticks;
+    }
+
+    /// Does all steps of a change that was begun on the sheet as it is, and makes it.
+    fn complete(&mut self, mut pending: Pending) -> Result<(), AllocError>
+        requires { (change : Change) × IsPendingOn self.old change pending }
+        ensures made { OnOk result ((change : Change) → IsPendingOn self.old change pending → Accepts self.old.names change self.new.names) }
+        ensures cost { OnOk result ((change : Change) → IsPendingOn self.old change pending → HasCost self.old.names change self.new.names self.new.cost) }
+        ensures err { OnErr result (self.new ≡ self.old) }
+    {
+        while pending.left() > 0 {
+            self.advance(&mut pending)?;
+        }
+        self.adopt(pending);
+        Ok(())
     }
 
     /// Binds a name to the array that an expression has now, as an assignment does (ISO/IEC 13751,
@@ -194,11 +274,10 @@ impl Sheet {
         ensures err { OnErr result (self.new ≡ self.old) }
     {
         let pending = self.begin_data(name, tree)?;
-        self.adopt(pending);
-        Ok(())
+        Ok(self.complete(pending)?)
     }
 
-    /// Works out data that an expression has now, and does not store it.
+    /// Begins to store what an expression has now; the expression itself is worked out here.
     pub fn begin_data(&self, name: Name, tree: Expr) -> Result<Pending, Refusal>
         ensures ok { IfOk result (IsPendingOn self.now (Store name (tree_of tree))) }
         ensures refused { IfErr result (Refuses self.now.names (Store name (tree_of tree))) }
@@ -227,11 +306,10 @@ impl Sheet {
         ensures err { OnErr result (self.new ≡ self.old) }
     {
         let pending = self.begin_cell(name, positions, literal)?;
-        self.adopt(pending);
-        Ok(())
+        Ok(self.complete(pending)?)
     }
 
-    /// Works out the replacement of one item of data, and does not make it.
+    /// Begins to replace one item of data.
     pub fn begin_cell(
         &self,
         name: Name,
@@ -256,11 +334,10 @@ impl Sheet {
         ensures err { OnErr result (self.new ≡ self.old) }
     {
         let pending = self.begin_row(name, literal)?;
-        self.adopt(pending);
-        Ok(())
+        Ok(self.complete(pending)?)
     }
 
-    /// Works out data with one more row, and does not store it.
+    /// Begins to put a row at the end of data.
     pub fn begin_row(&self, name: Name, literal: &Literal) -> Result<Pending, Refusal>
         ensures ok { IfOk result (IsPendingOn self.now (AddRow name (literal_of literal.now))) }
         ensures refused { IfErr result (Refuses self.now.names (AddRow name (literal_of literal.now))) }
@@ -278,11 +355,10 @@ impl Sheet {
         ensures err { OnErr result (self.new ≡ self.old) }
     {
         let pending = self.begin_erase(name)?;
-        self.adopt(pending);
-        Ok(())
+        Ok(self.complete(pending)?)
     }
 
-    /// Works out the removal of a name, and does not make it.
+    /// Begins to remove a name.
     pub fn begin_erase(&self, name: Name) -> Result<Pending, Refusal>
         ensures ok { IfOk result (IsPendingOn self.now (Erase name)) }
         ensures refused { IfErr result (Refuses self.now.names (Erase name)) }
@@ -302,11 +378,10 @@ impl Sheet {
         ensures err { OnErr result (self.new ≡ self.old) }
     {
         let pending = self.begin_put(name, array)?;
-        self.adopt(pending);
-        Ok(())
+        Ok(self.complete(pending)?)
     }
 
-    /// Works out the binding of a name to an array, and does not make it.
+    /// Begins to bind a name to an array.
     pub fn begin_put(&self, name: Name, array: Array) -> Result<Pending, Refusal>
         ensures ok { IfOk result (IsPendingOn self.now (Put name array)) }
         ensures refused { IfErr result (Refuses self.now.names (Put name array)) }
@@ -315,13 +390,13 @@ impl Sheet {
         self.propose(name, Proposal::Data(change), 0, Meter::new())
     }
 
-    /// Works out what a name is to be bound to, where finding that has cost so much and the meter shows so many items.
+    /// Begins to bind a name as a proposal says, where finding that has cost so much and the meter shows so many items.
     fn propose(
         &self,
         name: Name,
         proposal: Proposal,
         spent: u64,
-        mut meter: Meter,
+        meter: Meter,
     ) -> Result<Pending, Refusal>
         requires proposal { IsProposalAt self.now.tables.entries.entries name proposal }
         requires few { ticked 0 meter.ticks ≤ spent }
@@ -334,15 +409,16 @@ impl Sheet {
             name,
             proposal: &proposal,
         };
-        let planned = planned_with(self.alloc, &proposed, &self.users, &mut meter)?;
+        let plans = begun(self.alloc, &proposed, &self.users, spent)?;
         let growth = growth_for(self.alloc, &self.entries, &self.users, &proposal)?;
         Ok(Pending {
             name,
             proposal,
-            plans: planned.plans,
+            plans,
             growth,
-            cost: spent.saturating_add(planned.cost),
+            is_cut: false,
             ticks: meter.ticks(),
+            meter,
         })
     }
 

@@ -1,14 +1,16 @@
-use Rattle.std.proofs.Common.{◌≡◌, ◌∙◌, inl, inr, List, get_or, sym, subst, arith, below_more, ⊎_elim}
+use Rattle.std.proofs.Common.{◌≡◌, ◌∙◌, inl, inr, List, None, get_or, sym, ap, subst, arith, below_more, ⊎_elim}
 use Rattle.std.specs.List.{Contains}
+use Rattle.std.specs.Map.{keys_of}
 use Rattle.std.proofs.lemmas.Map.Views.{Contains-from_any}
 use Rattle.std.proofs.lemmas.List.{get_or_default}
 use Rattle.dep_order.specs.Users.{Uses, IsClosed}
 use Rattle.dep_order.proofs.Climbing.{within_first, within_user, reaches_on}
-use Rattle.dep_order.proofs.Found.{found_closed, found_has, found_kept, found_only}
+use Rattle.dep_order.proofs.Found.{found_closed, found_has, found_kept, found_only, key_found, keys_inserted, nothing_more}
 use Rattle.dep_order.proofs.users.+climb.Goals as goal
 
-pub returns-then-contains-clause-named : goal.returns-then-contains-clause-named
-returns-then-contains-clause-named g t c = Contains-from_any c.requires.exact c.args.node c.args.found.now.keys (sym c.contains.ensures ∙ c.if-contains.true)
+pub returns-then-contains_key-clause-named : goal.returns-then-contains_key-clause-named
+returns-then-contains_key-clause-named g t c =
+    Contains-from_any c.requires.exact c.args.node (keys_of c.args.found.now.entries) (sym (key_found g.N.PartialEq.eq c.args.found.now.entries c.args.node) ∙ (sym c.contains_key.ensures ∙ c.if-contains_key.true))
 
 pub overflow_sub-height : goal.overflow_sub-height
 overflow_sub-height g t c =
@@ -23,7 +25,7 @@ climb-requires g t c =
     let table = c.args.users.now.entries in
     let uses : Uses eq table c.user-item.result c.args.node = subst (λ (us : List _). Contains us c.user-item.result) c.users_of-user-items.ensures (c.loop-user.user-index, c.loop-user-test.true, sym c.user-item.is) in
     let some = within_first eq table c.args.height c.args.node c.user-item.result c.requires.within uses in
-    λ κs outlives. (omega (arith, some, c.decreases), (outlives, (c.requires.exact, (within_user eq table c.args.height c.args.node c.user-item.result c.requires.within uses, c.loop-user.invariant.closed))))
+    λ κs outlives. (omega (arith, some, c.decreases), (outlives.0, (outlives.1, (c.requires.exact, (within_user eq table c.args.height c.args.node c.user-item.result c.requires.within uses, c.loop-user.invariant.closed)))))
 
 pub loop-user-init : goal.loop-user-init
 loop-user-init g t c = record {
@@ -31,6 +33,7 @@ loop-user-init g t c = record {
   kept = λ a h. h;
   here = λ k h. absurd (omega (arith, h));
   sound = λ a h. inl h;
+  none = λ h. h;
 }
 
 pub loop-user-preserved : goal.loop-user-preserved
@@ -47,17 +50,18 @@ loop-user-preserved g t c =
       closed = known.closed;
       kept = λ a h. known.kept a (c.loop-user.invariant.kept a h);
       here = below_more _ _ (λ k h. known.kept (get_or items k node) (c.loop-user.invariant.here k h))
-          (subst (λ (u : _). Contains c.climb.new.found.keys u) (sym this) known.named);
+          (subst (λ (u : _). Contains (keys_of c.climb.new.found.entries) u) (sym this) known.named);
       sound = λ a h. ⊎_elim (λ l. c.loop-user.invariant.sound a l) (λ r. inr (inr (reaches_on eq table node user a uses r))) (known.sound a h);
+      none = λ h. known.none (c.loop-user.invariant.none h);
     }
 
 pub returns-clause-closed : goal.returns-clause-closed
 returns-clause-closed g t c =
     let eq = g.N.PartialEq.eq in
     let table = c.args.users.now.entries in
-    let found = c.loop-user.found.keys in
+    let found = keys_of c.loop-user.found.entries in
     let items = c.users_of-user-items.result.now in
-    subst (λ (ks : List _). IsClosed eq table ks) (sym c.in_ok-insert.ensures.keys)
+    subst (λ (ks : List _). IsClosed eq table ks) (sym (ap keys_of c.in_ok-insert.ensures.entries ∙ keys_inserted g.N.PartialEq.eq c.loop-user.found.entries c.args.node None))
     (found_closed eq c.requires.exact found c.args.node (λ a b. Uses eq table b a) c.loop-user.invariant.closed
     (λ b u.
     let at = subst (λ (us : List _). Contains us b) (sym c.users_of-user-items.ensures) u in
@@ -65,11 +69,14 @@ returns-clause-closed g t c =
     subst (λ (y : _). Contains found y) (get_or_default items at.0 c.args.node b at.1 ∙ at.2) there))
 
 pub returns-clause-named : goal.returns-clause-named
-returns-clause-named g t c = subst (λ (ks : List _). Contains ks c.args.node) (sym c.in_ok-insert.ensures.keys) (found_has g.N.PartialEq.eq c.requires.exact c.loop-user.found.keys c.args.node)
+returns-clause-named g t c = subst (λ (ks : List _). Contains ks c.args.node) (sym (ap keys_of c.in_ok-insert.ensures.entries ∙ keys_inserted g.N.PartialEq.eq c.loop-user.found.entries c.args.node None)) (found_has g.N.PartialEq.eq c.requires.exact (keys_of c.loop-user.found.entries) c.args.node)
 
 pub returns-clause-kept : goal.returns-clause-kept
-returns-clause-kept g t c = λ a h. subst (λ (ks : List _). Contains ks a) (sym c.in_ok-insert.ensures.keys) (found_kept g.N.PartialEq.eq c.requires.exact c.loop-user.found.keys c.args.node a (c.loop-user.invariant.kept a h))
+returns-clause-kept g t c = λ a h. subst (λ (ks : List _). Contains ks a) (sym (ap keys_of c.in_ok-insert.ensures.entries ∙ keys_inserted g.N.PartialEq.eq c.loop-user.found.entries c.args.node None)) (found_kept g.N.PartialEq.eq c.requires.exact (keys_of c.loop-user.found.entries) c.args.node a (c.loop-user.invariant.kept a h))
 
 pub returns-clause-sound : goal.returns-clause-sound
 returns-clause-sound g t c = λ a h.
-    ⊎_elim (λ l. c.loop-user.invariant.sound a l) (λ r. inr (inl r)) (found_only g.N.PartialEq.eq c.requires.exact c.loop-user.found.keys c.args.node a (subst (λ (ks : List _). Contains ks a) c.in_ok-insert.ensures.keys h))
+    ⊎_elim (λ l. c.loop-user.invariant.sound a l) (λ r. inr (inl r)) (found_only g.N.PartialEq.eq c.requires.exact (keys_of c.loop-user.found.entries) c.args.node a (subst (λ (ks : List _). Contains ks a) (ap keys_of c.in_ok-insert.ensures.entries ∙ keys_inserted g.N.PartialEq.eq c.loop-user.found.entries c.args.node None) h))
+
+pub returns-clause-none : goal.returns-clause-none
+returns-clause-none g t c = λ h. nothing_more g.N.PartialEq.eq c.loop-user.found.entries _ c.args.node c.in_ok-insert.ensures.updates.0 (c.loop-user.invariant.none h)

@@ -1,7 +1,12 @@
-use Rattle.std.proofs.Common.{List, ⊎_elim, subst}
+use Rattle.std.proofs.Common.{◌≡◌, ◌∙◌, List, Some, None, ap, sym, ⊎_elim, subst}
 use Rattle.std.specs.List.{Contains}
+use Rattle.std.specs.Map.{keys_of, lookup}
 use Rattle.dep_order.proofs.Following.{contains_none}
 use Rattle.dep_order.proofs.users.affected.Goals as goal
 
 pub returns-clause-sound : goal.returns-clause-sound
-returns-clause-sound g c = λ a h. ⊎_elim (λ l. absurd (contains_none a (subst (λ (ks : List _). Contains ks a) c.new-found.ensures.empty l))) (λ r. r) (c.in_ok-climb.ensures.sound a h)
+returns-clause-sound g c = λ a h. ⊎_elim (λ l. absurd (contains_none a (subst (λ (es : List (_ × _)). Contains (keys_of es) a) c.new-found.ensures.empty l))) (λ r. r) (c.in_ok-climb.ensures.sound a h)
+
+pub returns-clause-none : goal.returns-clause-none
+returns-clause-none g c = c.in_ok-climb.ensures.none
+    (λ a v is. let never : None ≡ Some v = sym (ap (lookup (g.N.PartialEq.eq a)) c.new-found.ensures.empty) ∙ is in absurd cc)

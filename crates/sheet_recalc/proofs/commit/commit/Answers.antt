@@ -4,7 +4,7 @@ use Rattle.indexmap.specs.IndexMap.{insert_entry}
 use Rattle.std.specs.List.{Contains}
 use Rattle.sheet_recalc.specs.Names.{put, referred, referred_by}
 use Rattle.sheet_recalc.specs.Entries.{names_of, binding_of}
-use Rattle.sheet_recalc.specs.Live.{IsAdopting}
+use Rattle.sheet_recalc.specs.Live.{IsAdopting, plan_in}
 use Rattle.sheet_recalc.proofs.Live.{names_of_insert, adopting_planned}
 use Rattle.sheet_recalc.proofs.NameEquality.{equal-true}
 use Rattle.sheet_recalc.proofs.Rebound.{table_after}
@@ -18,8 +18,8 @@ adopt_all-requires c =
     let es = c.args.entries.now.entries in
     let put_in : c.insert.new.self.entries ≡ insert_entry bytes_eq es c.args.name c.args.entry = rw c.unwrap-before.ensures at c.insert.ensures.entries in
     let names = ap names_of put_in ∙ names_of_insert c.args.name c.args.entry es in
-    subst (λ ns. IsAdopting ns c.insert.new.self.entries c.args.plans.entries) (sym names)
-    (subst (λ fs. IsAdopting (put (names_of es) c.args.name (binding_of c.args.entry)) fs c.args.plans.entries) (sym put_in) (adopting_planned es c.args.name c.args.entry c.args.plans.entries c.requires.planned))
+    subst (λ ns. IsAdopting ns c.insert.new.self.entries (plan_in c.args.found.entries)) (sym names)
+    (subst (λ fs. IsAdopting (put (names_of es) c.args.name (binding_of c.args.entry)) fs (plan_in c.args.found.entries)) (sym put_in) (adopting_planned es c.args.name c.args.entry (plan_in c.args.found.entries) c.requires.planned))
 
 pub returns-clause-names : goal.returns-clause-names
 returns-clause-names c =

@@ -2,7 +2,7 @@ use Rattle.std.proofs.Common.{◌≡◌, ◌∙◌, sym, ap, subst, None, List, 
 use Rattle.std.specs.List.{Contains}
 use Rattle.sheet_recalc.specs.Names.{without, referred_by}
 use Rattle.sheet_recalc.specs.Entries.{names_of}
-use Rattle.sheet_recalc.specs.Live.{IsAdopting}
+use Rattle.sheet_recalc.specs.Live.{IsAdopting, plan_in}
 use Rattle.sheet_recalc.proofs.Live.{adopting_removed}
 use Rattle.sheet_recalc.proofs.Removing.{others, removed_others, names_of_others}
 use Rattle.sheet_recalc.proofs.Rebound.{table_after}
@@ -13,8 +13,8 @@ adopt_all-requires c =
     let es = c.args.entries.now.entries in
     let left : c.shift_remove-removed.new.self.entries ≡ others c.args.name es = c.shift_remove-removed.ensures.entries ∙ removed_others c.args.name es c.len-unique.ensures.unique in
     let names = ap names_of left ∙ names_of_others c.args.name es in
-    subst (λ ns. IsAdopting ns c.shift_remove-removed.new.self.entries c.args.plans.entries) (sym names)
-    (subst (λ fs. IsAdopting (without (names_of es) c.args.name) fs c.args.plans.entries) (sym left) (adopting_removed es c.args.name c.args.plans.entries c.requires.planned))
+    subst (λ ns. IsAdopting ns c.shift_remove-removed.new.self.entries (plan_in c.args.found.entries)) (sym names)
+    (subst (λ fs. IsAdopting (without (names_of es) c.args.name) fs (plan_in c.args.found.entries)) (sym left) (adopting_removed es c.args.name (plan_in c.args.found.entries) c.requires.planned))
 
 pub returns-clause-names : goal.returns-clause-names
 returns-clause-names c =

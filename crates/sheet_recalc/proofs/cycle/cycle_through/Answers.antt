@@ -1,5 +1,6 @@
 use Rattle.std.proofs.Common.{◌∙◌, List, [], ◌∷◌, ◌++◌, ℕ, ap, arith}
 use Rattle.dep_order.proofs.Climbing.{chain_join}
+use Rattle.std.specs.Map.{keys_of}
 use Rattle.sheet_recalc.specs.Names.{Refers}
 use Rattle.sheet_recalc.specs.ProposedSheet.{outline_of, proposed_names}
 use Rattle.sheet_recalc.proofs.Cycles.{number_within}
@@ -7,7 +8,7 @@ use Rattle.sheet_recalc.proofs.cycle.cycle_through.Goals as goal
 
 pub loop-next-smaller : goal.loop-next-smaller
 loop-next-smaller c =
-    omega (arith, c.step_from-next.ensures.later, number_within c.args.found.now.keys c.step_from-next.result)
+    omega (arith, c.step_from-next.ensures.later, number_within (keys_of c.args.found.now.entries) c.step_from-next.result)
 
 pub loop-next-preserved : goal.loop-next-preserved
 loop-next-preserved c =

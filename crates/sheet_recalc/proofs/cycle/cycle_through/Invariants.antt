@@ -2,6 +2,7 @@ use Rattle.std.proofs.Common.{◌≡◌, ◌-◌, ℕ, List, ◌∷◌, length}
 use Rattle.std.specs.Str.{bytes_eq}
 use Rattle.std.specs.List.{Contains, position_or_len}
 use Rattle.dep_order.specs.Reachability.{Chain}
+use Rattle.std.specs.Map.{keys_of}
 use Rattle.sheet_recalc.specs.Names.{Refers}
 use Rattle.sheet_recalc.specs.ProposedSheet.{outline_of, proposed_names}
 use Rattle.sheet_recalc.proofs.cycle.cycle_through.Given as goal
@@ -9,8 +10,8 @@ use Rattle.sheet_recalc.proofs.cycle.cycle_through.Given as goal
 abbrev pub invariant-loop-next : goal.invariant-loop-next
 invariant-loop-next l = record {
   walked : (via : List (List ℕ)) × (l.cycle.items ≡ l.proposed.name ∷ via) × Chain (Refers (proposed_names (outline_of l.proposed))) l.proposed.name via l.next;
-  hit : Contains l.found.keys l.next;
+  hit : Contains (keys_of l.found.entries) l.next;
 }
 
 abbrev pub decreases-loop-next : goal.decreases-loop-next
-decreases-loop-next l = length l.found.keys - position_or_len (bytes_eq l.next) l.found.keys
+decreases-loop-next l = length (keys_of l.found.entries) - position_or_len (bytes_eq l.next) (keys_of l.found.entries)

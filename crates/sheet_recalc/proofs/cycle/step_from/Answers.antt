@@ -1,5 +1,6 @@
 use Rattle.std.proofs.Common.{ℕ, List, sym, subst}
 use Rattle.std.specs.List.{Contains}
+use Rattle.std.specs.Map.{keys_of}
 use Rattle.sheet_recalc.specs.ProposedSheet.{outline_of, proposed_names}
 use Rattle.sheet_recalc.proofs.Cycles.{goes_on, goes_down}
 use Rattle.sheet_recalc.proofs.Rebound.{referred_refers, refers_referred}
@@ -8,7 +9,7 @@ use Rattle.sheet_recalc.proofs.cycle.step_from.Goals as goal
 pub unreachable-requires : goal.unreachable-requires
 unreachable-requires c =
     let o = outline_of c.args.proposed.now in
-    let next = goes_on (proposed_names o) o.name c.args.found.now.keys c.requires.reaching c.args.from c.requires.hit c.requires.apart in
+    let next = goes_on (proposed_names o) o.name (keys_of c.args.found.now.entries) c.requires.reaching c.args.from c.requires.hit c.requires.apart in
     let stands = refers_referred (proposed_names o) c.args.from next.0 next.1 in
     c.in-None.ensures next.0 (subst (λ (rs : List (List ℕ)). Contains rs next.0) (sym c.references_of.ensures) stands) next.2
 
@@ -19,4 +20,4 @@ returns-clause-refers c =
 pub returns-clause-later : goal.returns-clause-later
 returns-clause-later c =
     let o = outline_of c.args.proposed.now in
-    goes_down (proposed_names o) o.name c.args.found.now.keys c.requires.reaching c.args.from c.in-Some.next c.requires.apart (returns-clause-refers c) c.in-Some.ensures.1
+    goes_down (proposed_names o) o.name (keys_of c.args.found.now.entries) c.requires.reaching c.args.from c.in-Some.next c.requires.apart (returns-clause-refers c) c.in-Some.ensures.1

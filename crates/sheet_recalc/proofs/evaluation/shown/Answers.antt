@@ -1,4 +1,4 @@
-use Rattle.std.proofs.Common.{◌≡◌, ◌∙◌, Err, sym, ap, length}
+use Rattle.std.proofs.Common.{◌∙◌, Err, sym, ap, length}
 use Rattle.std.specs.Option.{option_map}
 use Rattle.sheet_recalc.specs.Entries.{names_of, binding_of}
 use Rattle.sheet_recalc.proofs.Live.{right_shows, binding_of_name}

@@ -1,14 +1,17 @@
-use Rattle.std.proofs.Common.{◌≡◌, ◌+◌, ◌≤◌, length, take}
+use Rattle.std.proofs.Common.{◌+◌, ◌-◌, ◌≤◌, length, take}
 use Rattle.std.specs.List.{sum_by}
 use Rattle.formula_core.specs.Changes.{Change}
+use Rattle.formula_core.specs.Formulas.{operations}
 use Rattle.formula_core.specs.Plans.{node_cost_at, IsTold}
 use Rattle.formula_core.specs.Progress.{operations_among, IsPlannedTo}
 use Rattle.formula_core.specs.Tables.{subtrees}
 use Rattle.formula_core.proofs.formula.Formula.plan.Given as goal
 
-abbrev pub invariant-loop : goal.invariant-loop
-invariant-loop l = record {
-  many : operations_among l.fn.self l.plan.changes ≡ l.counter;
+abbrev pub invariant-loop-plan : goal.invariant-loop-plan
+invariant-loop-plan l = record {
   planned : (c : Change) → IsTold l.fn.self c l.fn.inputs → IsPlannedTo l.fn.self c l.plan;
   ticks : (c : Change) → IsTold l.fn.self c l.fn.inputs → l.meter.ticks ≤ l.fn.meter.ticks + sum_by (node_cost_at l.fn.self.is_new c) (take (length l.plan.changes) (subtrees l.fn.self.tree));
 }
+
+abbrev pub decreases-loop-plan : goal.decreases-loop-plan
+decreases-loop-plan l = operations l.fn.self.tree - operations_among l.fn.self l.plan.changes

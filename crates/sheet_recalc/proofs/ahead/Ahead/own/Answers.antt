@@ -1,4 +1,4 @@
-use Rattle.std.proofs.Common.{sym, ap, subst, IfOk}
+use Rattle.std.proofs.Common.{sym, subst, IfOk}
 use Rattle.arrays_core.specs.Arrays.{IsArray}
 use Rattle.change_rules.specs.Currency.{applied}
 use Rattle.formula_core.specs.Changes.{FitsIn}

@@ -6,16 +6,19 @@ use Rattle.sheet_recalc.specs.Pending.{IsReady, names_after}
 use Rattle.sheet_recalc.specs.Changes.{Accepts}
 use Rattle.sheet_recalc.specs.Costs.{HasCost}
 use Rattle.sheet_recalc.proofs.Rebound.{live_after}
+use Rattle.sheet_recalc.proofs.Stepped.{is_ready, whole_cost}
 use Rattle.sheet_recalc.proofs.sheet.Sheet.adopt.Goals as goal
 
 pub make-requires-clause-ready : goal.make-requires-clause-ready
 make-requires-clause-ready c =
-    subst (λ (t : Tables). IsReady t c.args.pending) (sym (ap (λ (s : SheetValue). s.tables) c.self.view_is)) c.requires.1.ready
+    let h = c.requires.begun.1 in
+    subst (λ (t : Tables). IsReady t c.args.pending) (sym (ap (λ (s : SheetValue). s.tables) c.self.view_is)) (is_ready c.args.self.now.tables c.args.pending h.base h.begun c.requires.left)
 
 pub invariant_of-self : goal.invariant_of-self
 invariant_of-self c =
+    let h = c.requires.begun.1 in
     let before : Tables = record { entries = c.self.inside.entries; users = c.self.inside.users } in
-    let ready = subst (λ (t : Tables). IsReady t c.args.pending) (sym (ap (λ (s : SheetValue). s.tables) c.self.view_is)) c.requires.1.ready in
+    let ready = subst (λ (t : Tables). IsReady t c.args.pending) (sym (ap (λ (s : SheetValue). s.tables) c.self.view_is)) (is_ready c.args.self.now.tables c.args.pending h.base h.begun c.requires.left) in
     record {
       live = live_after c.make.new.entries.entries c.make.new.users.entries (names_after before c.args.pending) c.make.ensures.names ready.sheet ready.kept c.make.ensures.tells c.make.ensures.used c.make.ensures.current;
       few = ready.few;
@@ -29,4 +32,4 @@ returns-clause-made c = λ change pending.
 pub returns-clause-cost : goal.returns-clause-cost
 returns-clause-cost c = λ change pending.
     let is : names_after c.args.self.now.tables c.args.pending ≡ names_of c.make.new.entries.entries = ap (λ (s : SheetValue). names_after s.tables c.args.pending) (sym c.self.view_is) ∙ sym c.make.ensures.names in
-    subst (λ (ns : Names). HasCost c.args.self.now.names change ns c.args.pending.cost) is pending.cost
+    subst (λ (ns : Names). HasCost c.args.self.now.names change ns c.args.pending.plans.cost) is (whole_cost c.args.self.now change c.args.pending pending c.requires.left)

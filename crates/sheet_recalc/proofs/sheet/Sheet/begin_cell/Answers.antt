@@ -1,10 +1,9 @@
-use Rattle.std.proofs.Common.{◌≡◌, ◌∙◌, refl, ap, subst, Ok, Some}
+use Rattle.std.proofs.Common.{◌≡◌, ◌∙◌, ap, subst, Ok, Some}
 use Rattle.std.specs.Option.{option_map}
 use Rattle.std.proofs.lemmas.Result.{IfErr-weaker}
 use Rattle.apl_expr.specs.Trees.{literal_of}
 use Rattle.arrays_core.specs.Arrays.{ArrayValue}
 use Rattle.index_region.specs.Patches.{FitsPatch, patched}
-use Rattle.index_region.specs.declared.delta.Delta.TheVariants.{Patch}
 use Rattle.sheet_recalc.specs.Names.{SheetValue, Data, binding}
 use Rattle.sheet_recalc.specs.Cells.{cell_put}
 use Rattle.sheet_recalc.specs.Entries.{binding_of, HasData}

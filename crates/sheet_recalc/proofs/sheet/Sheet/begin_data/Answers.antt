@@ -1,4 +1,4 @@
-use Rattle.std.proofs.Common.{◌≡◌, ◌∙◌, ap, sym, subst, refl, true, Ok, Err, IfErr}
+use Rattle.std.proofs.Common.{◌≡◌, ◌∙◌, ap, sym, subst, refl, true, Ok, Err}
 use Rattle.std.proofs.lemmas.Result.{IfErr-weaker}
 use Rattle.apl_expr.specs.Trees.{tree_of}
 use Rattle.arrays_core.specs.Arrays.{ArrayValue}
@@ -10,13 +10,11 @@ use Rattle.formula_core.specs.Outcomes.{Outcome}
 use Rattle.formula_core.specs.Meaning.{eval}
 use Rattle.sheet_recalc.specs.Meaning.{val}
 use Rattle.sheet_recalc.specs.Names.{SheetValue}
-use Rattle.sheet_recalc.specs.Changes.{CannotBecome, CannotPut}
+use Rattle.sheet_recalc.specs.Changes.{CannotBecome}
 use Rattle.sheet_recalc.specs.Costs.{at_rest}
 use Rattle.sheet_recalc.specs.Pending.{IsProposedOn}
 use Rattle.sheet_recalc.specs.Planning.{IsProposalAt}
 use Rattle.sheet_recalc.specs.ProposedSheet.{names_with}
-use Rattle.sheet_recalc.specs.declared.pending.Pending.{Pending}
-use Rattle.sheet_recalc.specs.declared.proposal.Proposal.{Proposal}
 use Rattle.sheet_recalc.specs.declared.proposal.Proposal.TheVariants as proposed
 use Rattle.sheet_recalc.proofs.Accounted.{expression_few}
 use Rattle.sheet_recalc.proofs.Asked.{if_ok_map, data_pending}

@@ -1,4 +1,4 @@
-use Rattle.std.proofs.Common.{ℕ, List, ap, subst, refl}
+use Rattle.std.proofs.Common.{ap, subst}
 use Rattle.std.proofs.lemmas.Result.{IfErr-weaker}
 use Rattle.apl_expr.specs.Trees.{Tree, tree_of}
 use Rattle.formula_core.specs.Formulas.{FormulaValue}

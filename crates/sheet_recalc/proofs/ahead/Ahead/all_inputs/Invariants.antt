@@ -3,7 +3,7 @@ use Rattle.std.specs.List.{Contains}
 use Rattle.formula_core.specs.Changes.{IsNameChanged}
 use Rattle.formula_core.specs.Plans.{AreInputs, IsNameSound}
 use Rattle.sheet_recalc.specs.ProposedSheet.{outline_of, proposed_change}
-use Rattle.sheet_recalc.proofs.ahead.Ahead.inputs_of.Given as goal
+use Rattle.sheet_recalc.proofs.ahead.Ahead.all_inputs.Given as goal
 
 abbrev pub invariant-loop-reference : goal.invariant-loop-reference
 invariant-loop-reference l = record {

@@ -1,0 +1,56 @@
+-- A change that is being worked out, after a step, and in the end.
+use Rattle.std.proofs.Common.{◌≡◌, ◌<◌, ◌≤◌, ◌∙◌, ℕ, Bool, true, false, not, refl, sym, ap, subst, arith, if◌then◌else◌}
+use Rattle.change_core.specs.Meters.{ticked, MeterValue}
+use Rattle.sheet_recalc.specs.Names.{SheetValue}
+use Rattle.sheet_recalc.specs.Tables.{Tables}
+use Rattle.sheet_recalc.specs.Changes.{Change}
+use Rattle.sheet_recalc.specs.Costs.{HasCost}
+use Rattle.sheet_recalc.specs.Planning.{IsOnTheWay}
+use Rattle.sheet_recalc.specs.Pending.{outline_for, names_after, steps_left, IsReady, IsBegunOn, IsPendingOn}
+use Rattle.sheet_recalc.specs.declared.pending.Pending.{Pending}
+use Rattle.sheet_recalc.specs.declared.plans.Plans.{Plans}
+use Rattle.sheet_recalc.proofs.Accounted.{expression_more}
+use Rattle.sheet_recalc.proofs.Forward.{all_planned, all_cost, all_few}
+
+-- where no step is left, none was cut off
+pub none_cut : (p : Pending) → steps_left p ≡ 0 → p.is_cut ≡ false
+none_cut p none = by p.is_cut refl
+  where
+    by : (b : Bool) → p.is_cut ≡ b → p.is_cut ≡ false
+    by true is = absurd (omega (arith, none, ap {B = ℕ} (λ b. if b then 1 else 0) is))
+    by false is = is
+
+module _ (t : Tables) (p : Pending) (base : ℕ) (h : IsBegunOn t p base) (none : steps_left p ≡ 0) where
+  rests : IsOnTheWay (outline_for t p) base p.plans true p.meter.ticks
+  rests = subst (λ b. IsOnTheWay (outline_for t p) base p.plans (not b) p.meter.ticks) (none_cut p none) h.way
+
+  nothing_left : p.plans.left ≡ 0
+  nothing_left = omega (arith, none)
+
+  pub is_ready : IsReady t p
+  is_ready =
+      let told = h.told (none_cut p none) in
+      record {
+        planned = all_planned (outline_for t p) h.proposed base p.meter.ticks p.plans rests nothing_left;
+        kept = h.kept;
+        sheet = h.sheet;
+        proposal = h.proposed.proposal;
+        place = h.place;
+        few = subst (λ n. n ≤ p.plans.cost) (sym told) (all_few (outline_for t p) h.proposed base p.meter.ticks p.plans rests nothing_left (subst (λ n. n < 18446744073709551616) told h.small));
+      }
+
+pub whole_cost : (s : SheetValue) (change : Change) (p : Pending) → IsPendingOn s change p → steps_left p ≡ 0 → HasCost s.names change (names_after s.tables p) p.plans.cost
+whole_cost s change p h none =
+    let all = all_cost (outline_for s.tables p) h.begun.proposed h.base p.meter.ticks p.plans (rests s.tables p h.base h.begun none) (nothing_left s.tables p h.base h.begun none) in
+    expression_more h.base h.own _ p.plans.cost h.base_is all ∙ ap (ticked 0) h.costs
+
+-- the same change, further on
+module _ (p : Pending) (w : Plans) (cut : Bool) (ticks : ℕ) (m : MeterValue) where
+  abbrev after : Pending
+  after = record p { plans = w; is_cut = cut; ticks = ticks; meter = m }
+
+  begun_on : (t : Tables) (base : ℕ) → IsBegunOn t p base → IsOnTheWay (outline_for t p) base w (not cut) m.ticks → (cut ≡ false → ticks ≡ m.ticks) → ticks < 18446744073709551616 → IsBegunOn t after base
+  begun_on t base h way told small = record { proposed = h.proposed; kept = h.kept; sheet = h.sheet; place = h.place; way = way; told = told; small = small }
+
+  pub pending_on : (s : SheetValue) (change : Change) (h : IsPendingOn s change p) → IsOnTheWay (outline_for s.tables p) h.base w (not cut) m.ticks → (cut ≡ false → ticks ≡ m.ticks) → ticks < 18446744073709551616 → IsPendingOn s change after
+  pending_on s change h way told small = record { base = h.base; begun = begun_on s.tables h.base h.begun way told small; own = h.own; base_is = h.base_is; accepts = h.accepts; costs = h.costs }

@@ -1,0 +1,102 @@
+use Rattle.std.proofs.Common.{ℕ, List, [], Option, ◌∙◌, sym, ap, subst, refl, arith, None, IfOk}
+use Rattle.std.specs.List.{Contains}
+use Rattle.std.specs.Map.{keys_of}
+use Rattle.std.specs.Option.{option_map, option_map_or}
+use Rattle.arrays_core.specs.Arrays.{IsArray}
+use Rattle.formula_core.specs.Outcomes.{Outcome}
+use Rattle.sheet_recalc.specs.Names.{Binding, referred}
+use Rattle.sheet_recalc.specs.Meaning.{val}
+use Rattle.sheet_recalc.specs.Entries.{names_of, binding_of}
+use Rattle.sheet_recalc.specs.ProposedSheet.{outline_of, own_entry, proposed_names, proposed_references}
+use Rattle.sheet_recalc.specs.declared.entry.Entry.{Entry}
+use Rattle.sheet_recalc.specs.declared.plans.Plans.{Plans}
+use Rattle.sheet_recalc.proofs.Forward.{begun_way}
+use Rattle.sheet_recalc.proofs.NameEquality.{equal-true}
+use Rattle.sheet_recalc.proofs.Keeping.{within, name_order}
+use Rattle.sheet_recalc.proofs.Rebound.{reaching_new, referred_refers}
+use Rattle.sheet_recalc.proofs.Readied.{references_made, ready_acyclic, ready_proposed, ready_affected, ready_names, ready_cost}
+use Rattle.sheet_recalc.proofs.Binding.{rebound_own}
+use Rattle.std.proofs.lemmas.List.{length-map}
+use Rattle.sheet_recalc.proofs.planning.begun.Goals as goal
+
+pub affected-requires : goal.affected-requires
+affected-requires c =
+    let es = c.args.proposed.now.entries.now.entries in
+    record {
+      exact = equal-true;
+      within = λ a via chain.
+          let low = within (names_of es) c.args.users.now.entries c.requires.live.tells c.requires.live.order (name_order (names_of es) c.requires.live.order c.requires.live.kept) c.args.proposed.now.name a via chain in
+          omega (arith, low, c.len.ensures.len, length-map {B = List ℕ × Binding} es (λ (e : List ℕ × Entry). (e.0, binding_of e.1)));
+    }
+
+pub first_found-requires : goal.first_found-requires
+first_found-requires c = equal-true
+
+pub cycle_through-requires : goal.cycle_through-requires
+cycle_through-requires c =
+    let o = outline_of c.args.proposed.now in
+    let f = c.in_ok-found.ensures in
+    let b = option_map binding_of (own_entry o) in
+    let hit = c.in-Some.ensures in
+    let referred = c.references.ensures ∙ (sym (references_made (val (names_of o.entries) o.name) o.proposal) ∙ ap (λ (d : Option Binding). option_map_or referred d []) (sym (rebound_own (names_of o.entries) o.name b))) in
+    record {
+      reaching = reaching_new o.entries c.args.users.now.entries c.requires.live o.name b (keys_of c.in_ok-found.found.entries) f.closed f.named f.sound f.distinct;
+      refers = referred_refers (proposed_names o) o.name c.in-Some.reference (subst (λ (rs : List (List ℕ)). Contains rs c.in-Some.reference) referred hit.0);
+      hit = hit.1;
+    }
+
+pub returns-then-not-has_room-clause-refused : goal.returns-then-not-has_room-clause-refused
+returns-then-not-has_room-clause-refused c =
+    let o = outline_of c.args.proposed.now in
+    let f = c.in_ok-found.ensures in
+    let apart = λ (d : List ℕ) (stands : Contains (proposed_references o.proposal) d). c.in_default.ensures d (subst (λ (rs : List (List ℕ)). Contains rs d) (sym c.references.ensures) stands) in
+    (ready_acyclic o c.args.users.now.entries c.requires.live (keys_of c.in_ok-found.found.entries) f.closed f.named f.sound f.distinct apart, rw c.if-not-has_room.true at c.has_room.ensures)
+
+pub settle-requires-clause-proposed : goal.settle-requires-clause-proposed
+settle-requires-clause-proposed c =
+    let o = outline_of c.args.proposed.now in
+    let f = c.in_ok-found.ensures in
+    let apart = λ (d : List ℕ) (stands : Contains (proposed_references o.proposal) d). c.in_default.ensures d (subst (λ (rs : List (List ℕ)). Contains rs d) (sym c.references.ensures) stands) in
+    ready_proposed o c.args.users.now.entries c.requires.live (keys_of c.in_ok-found.found.entries) f.closed f.named f.sound f.distinct apart c.requires.proposal (subst (λ (r : Outcome). IfOk r IsArray) c.shown.ensures c.of-sound.ensures.held)
+
+pub settle-requires-clause-way : goal.settle-requires-clause-way
+settle-requires-clause-way c =
+    let o = outline_of c.args.proposed.now in
+    let f = c.in_ok-found.ensures in
+    let keys = keys_of c.in_ok-found.found.entries in
+    let users = c.args.users.now.entries in
+    let live = c.requires.live in
+    let apart = λ (d : List ℕ) (stands : Contains (proposed_references o.proposal) d). c.in_default.ensures d (subst (λ (rs : List (List ℕ)). Contains rs d) (sym c.references.ensures) stands) in
+    let ready = ready_proposed o users live keys f.closed f.named f.sound f.distinct apart c.requires.proposal (subst (λ (r : Outcome). IfOk r IsArray) c.shown.ensures c.of-sound.ensures.held) in
+    let affected = ready_affected o users live keys f.closed f.named f.sound f.distinct apart in
+    let costs = ready_cost o users live keys f.closed f.named f.sound f.distinct apart in
+    let plans : Plans = record { found = c.in_ok-found.found; waiting = c.len-2.result; current = None; left = c.functions_in.result; cost = c.args.spent } in
+    (c.args.spent, 0, begun_way o ready c.args.spent plans 0 c.len-2.ensures.len refl c.functions_in.ensures refl c.ranges.spent.fits f.distinct affected f.none costs (omega arith))
+
+pub returns-clause-way : goal.returns-clause-way
+returns-clause-way c = λ ticks low.
+    let o = outline_of c.args.proposed.now in
+    let f = c.in_ok-found.ensures in
+    let keys = keys_of c.in_ok-found.found.entries in
+    let users = c.args.users.now.entries in
+    let live = c.requires.live in
+    let apart = λ (d : List ℕ) (stands : Contains (proposed_references o.proposal) d). c.in_default.ensures d (subst (λ (rs : List (List ℕ)). Contains rs d) (sym c.references.ensures) stands) in
+    let ready = ready_proposed o users live keys f.closed f.named f.sound f.distinct apart c.requires.proposal (subst (λ (r : Outcome). IfOk r IsArray) c.shown.ensures c.of-sound.ensures.held) in
+    let affected = ready_affected o users live keys f.closed f.named f.sound f.distinct apart in
+    let costs = ready_cost o users live keys f.closed f.named f.sound f.distinct apart in
+    let plans : Plans = record { found = c.in_ok-found.found; waiting = c.len-2.result; current = None; left = c.functions_in.result; cost = c.args.spent } in
+    c.in_ok-settle.ensures.settled c.args.spent ticks (begun_way o ready c.args.spent plans ticks c.len-2.ensures.len refl c.functions_in.ensures refl c.ranges.spent.fits f.distinct affected f.none costs low)
+
+pub returns-clause-can : goal.returns-clause-can
+returns-clause-can c =
+    let o = outline_of c.args.proposed.now in
+    let f = c.in_ok-found.ensures in
+    let apart = λ (d : List ℕ) (stands : Contains (proposed_references o.proposal) d). c.in_default.ensures d (subst (λ (rs : List (List ℕ)). Contains rs d) (sym c.references.ensures) stands) in
+    ready_names o c.args.users.now.entries c.requires.live (keys_of c.in_ok-found.found.entries) f.closed f.named f.sound f.distinct apart (rw c.if-not-has_room.false at c.has_room.ensures)
+
+pub returns-clause-proposed : goal.returns-clause-proposed
+returns-clause-proposed c =
+    let o = outline_of c.args.proposed.now in
+    let f = c.in_ok-found.ensures in
+    let apart = λ (d : List ℕ) (stands : Contains (proposed_references o.proposal) d). c.in_default.ensures d (subst (λ (rs : List (List ℕ)). Contains rs d) (sym c.references.ensures) stands) in
+    ready_proposed o c.args.users.now.entries c.requires.live (keys_of c.in_ok-found.found.entries) f.closed f.named f.sound f.distinct apart c.requires.proposal (subst (λ (r : Outcome). IfOk r IsArray) c.shown.ensures c.of-sound.ensures.held)

@@ -1,0 +1,27 @@
+use Rattle.std.proofs.Common.{◌≡◌, ◌∙◌, ℕ, List, Option, Some, None, refl, sym, ap}
+use Rattle.std.specs.Option.{option_map, option_map_or}
+use Rattle.formula_core.specs.Formulas.{FormulaValue}
+use Rattle.sheet_recalc.specs.Names.{Binding}
+use Rattle.sheet_recalc.specs.Entries.{binding_of}
+use Rattle.sheet_recalc.specs.Planning.{functions_of, functions_at}
+use Rattle.sheet_recalc.specs.ProposedSheet.{Outline, outline_of, entry_of}
+use Rattle.sheet_recalc.specs.declared.entry.Entry.{Entry}
+use Rattle.sheet_recalc.specs.declared.entry.Entry.TheVariants as entry
+use Rattle.sheet_recalc.proofs.PlannedNames.{binding_entry}
+use Rattle.sheet_recalc.proofs.planning.functions_of.Goals as goal
+
+pub returns-in-Some : goal.returns-in-Some
+returns-in-Some c =
+    let o = outline_of c.args.proposed.now in
+    c.operations.ensures ∙ sym (ap (λ (b : Option Binding). option_map_or functions_of b 0) (binding_entry o c.args.name ∙ ap (option_map binding_of) c.in-Some.ensures))
+
+none_applied : (o : Outline) (q : List ℕ) → ((f : FormulaValue) → entry_of o q ≡ Some (entry.Formula f) → ⊥) → 0 ≡ functions_at o q
+none_applied o q plain = sym (ap (λ (b : Option Binding). option_map_or functions_of b 0) (binding_entry o q) ∙ by (entry_of o q) refl)
+  where
+    by : (e : Option Entry) → entry_of o q ≡ e → option_map_or functions_of (option_map binding_of e) 0 ≡ 0
+    by None is = refl
+    by (Some (entry.Data a)) is = refl
+    by (Some (entry.Formula f)) is = absurd (plain f is)
+
+pub returns-in-None : goal.returns-in-None
+returns-in-None c = none_applied (outline_of c.args.proposed.now) c.args.name c.in-None.ensures

@@ -1,0 +1,65 @@
+//! The plans of a change, as far as they are made.
+
+ghost use Rattle.std.specs.Prelude.{◌≡◌, ◌+◌, ◌-◌, ◌<◌, ◌≤◌, ◌∷◌, ◌++◌, ℕ, [], List, Some, MatchOption, length, min, take, get_or, if◌then◌else◌};
+ghost use Rattle.std.specs.Str.{bytes_eq};
+ghost use Rattle.std.specs.Map.{keys_of};
+ghost use Rattle.sheet_recalc.specs.Live.{plan_in};
+ghost use Rattle.sheet_recalc.specs.Planning.{waiting_names};
+
+use apl_tokens::Name;
+use formula_core::Plan;
+use indexmap::IndexMap;
+
+/// What a change reaches, each name after all that refer to it, with the plan of its formula, once that is whole.
+pub(crate) type Found = IndexMap<Name, Option<Plan>>;
+
+/// The plans of a change, as far as they are made.
+#[derive(Drop)]
+pub(crate) struct Plans {
+    /// What the change reaches.
+    pub(crate) found: Found,
+    /// How many of these names, from the first on, wait for their plans.
+    pub(crate) waiting: usize,
+    /// The plan of the last that waits, as far as it goes.
+    pub(crate) current: Option<Plan>,
+    /// How many functions are left to apply, of all that wait.
+    pub(crate) left: u128,
+    /// What the whole plans cost, with what was spent before; the greatest number of 64 bits where it is more.
+    pub(crate) cost: u64,
+}
+
+impl Plans {
+    /// The last name that waits for its plan.
+    pub(crate) fn next_name(&self) -> Option<Name>
+        requires { self.now.waiting ≤ length self.now.found.entries }
+        ensures { MatchOption result (self.now.waiting ≡ 0)
+            (λ name. (0 < self.now.waiting) × (waiting_names self.now ≡ take (self.now.waiting - 1) (keys_of self.now.found.entries) ++ name ∷ [])
+            × (get_or (keys_of self.now.found.entries) (self.now.waiting - 1) [] ≡ name)) }
+    {
+        if self.waiting == 0 {
+            return None;
+        }
+        match self.found.get_index(self.waiting - 1) {
+            Some((name, _)) => Some(*name),
+            None => None,
+        }
+    }
+
+    /// The last name that waits has its plan.
+    pub(crate) fn keep(&mut self, plan: Plan)
+        requires waits { 0 < self.old.waiting }
+        requires few { self.old.waiting ≤ length self.old.found.entries }
+        ensures waiting { self.new.waiting ≡ self.old.waiting - 1 }
+        ensures keys { keys_of self.new.found.entries ≡ keys_of self.old.found.entries }
+        ensures plans { (q : List ℕ) → plan_in self.new.found.entries q ≡ (if bytes_eq (get_or (keys_of self.old.found.entries) (self.old.waiting - 1) []) q then Some plan else plan_in self.old.found.entries q) }
+        ensures cost { self.new.cost ≡ min (self.old.cost + plan.cost) 18446744073709551615 }
+        ensures left { self.new.left ≡ self.old.left }
+        ensures current { self.new.current ≡ self.old.current }
+    {
+        self.cost = self.cost.saturating_add(plan.cost());
+        self.waiting -= 1;
+        if let Some(place) = self.found.get_index_mut(self.waiting) {
+            *place = Some(plan);
+        }
+    }
+}
