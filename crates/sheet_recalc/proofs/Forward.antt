@@ -242,6 +242,36 @@ module _ (o : Outline) where
                 (subst (λ n. ticks ≤ now.before + now.spent + n) k.2 now.ticks_are) more;
           }
 
+      -- all functions of a plan are applied
+      pub applied_all : (w : Plans) (name : List ℕ) (front : List (List ℕ)) (p p' : PlanValue) (left after : ℕ) → IsOnTheWay o base w true ticks → w.current ≡ Some p → waiting_names w ≡ front ++ name ∷ []
+          → (f : FormulaValue) → entry_of o name ≡ Some (entry.Formula f) → operations_among f p'.changes + left ≡ operations_among f p.changes + w.left → IsPlannedTo f c p'
+          → ((start : ℕ) → ticks ≤ start + sum_by (node_cost_at f.is_new c) (take (length p.changes) (subtrees f.tree)) → after ≤ start + sum_by (node_cost_at f.is_new c) (take (length p'.changes) (subtrees f.tree)))
+          → IsOnTheWay o base (record w { current = Some p'; left = left }) false after
+      applied_all w name front p p' left after now current split f held count planned more =
+          let k = coming_for (waiting_names w) front name split true p now.done now.begun (some_coming (waiting_names w) true w.current p now.done now.begun current now.coming) f held in
+          record {
+            few = now.few;
+            way = now.way;
+            done = operations_among f p'.changes;
+            begun = sum_by (node_cost_at f.is_new c) (take (length p'.changes) (subtrees f.tree));
+            coming = record { before = front; name = name; last = split; formula = f; held = held; planned = planned; done_is = refl; begun_is = refl; left = λ e. absurd (false≢true e) };
+            count = omega (arith, now.count, k.1, count);
+            spent = now.spent;
+            split = now.split;
+            cost = now.cost;
+            before = now.before;
+            low = now.low;
+            ticks_are = more (now.before + now.spent) (subst (λ n. ticks ≤ now.before + now.spent + n) k.2 now.ticks_are);
+          }
+
+      -- as many functions are left as the plan on its way has at least
+      pub left_enough : (w : Plans) (name : List ℕ) (front : List (List ℕ)) (p : PlanValue) → IsOnTheWay o base w true ticks → w.current ≡ Some p → waiting_names w ≡ front ++ name ∷ []
+          → (f : FormulaValue) → entry_of o name ≡ Some (entry.Formula f) → operations f.tree ≤ operations_among f p.changes + w.left
+      left_enough w name front p now current split f held =
+          let k = coming_for (waiting_names w) front name split true p now.done now.begun (some_coming (waiting_names w) true w.current p now.done now.begun current now.coming) f held in
+          let applies : functions_at o name ≡ operations f.tree = ap (λ (b : Option Binding). option_map_or functions_of b 0) (bound_to o ready name f held) in
+          omega (arith, now.count, k.1, applies, ap (sum_by (functions_at o)) split, sum_by_push (functions_at o) front name)
+
       -- a function that is left is one of the plan on its way, and can be applied to it
       pub next_current : (w : Plans) → IsOnTheWay o base w true ticks → 0 < w.left → w.current ≡ None → ⊥
       next_current w now some none = omega (arith, some, now.count, (none_coming (waiting_names w) true w.current now.done now.begun none now.coming).0, ap (sum_by (functions_at o)) (names w.current none now.coming))

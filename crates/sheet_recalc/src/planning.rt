@@ -1,6 +1,6 @@
 //! The plans of a change, made a function at a time, in an order in which each formula comes after all that it refers to.
 
-ghost use Rattle.std.specs.Prelude.{◌≡◌, ◌+◌, ◌≤◌, ◌<◌, ◌∷◌, ◌++◌, ℕ, [], true, false, length, get_or, IfOk, IfErr, OnOk, OnErr, Some, None, List, MatchBool};
+ghost use Rattle.std.specs.Prelude.{◌≡◌, ◌+◌, ◌≤◌, ◌<◌, ◌∷◌, ◌++◌, ℕ, [], true, false, length, get_or, take, IfOk, IfErr, OnOk, OnErr, Some, None, List, MatchBool};
 ghost use Rattle.std.specs.List.{Contains, sum_by};
 ghost use Rattle.std.specs.Map.{keys_of};
 ghost use Rattle.change_core.specs.Meters.{ticked};
@@ -246,4 +246,76 @@ fn apply_to(
     };
     let inputs = ahead.inputs_of(alloc, name, formula)?;
     formula.advance(plan, inputs.as_slice(), meter)
+}
+
+/// Applies all functions that are left of the plan that is on its way; what its names show is looked up once.
+pub(crate) fn apply_rest(
+    alloc: Global,
+    proposed: &ProposedSheet<'_>,
+    plans: &mut Plans,
+    meter: &mut Meter,
+) -> Result<(), AllocError>
+    requires proposed { IsProposed (outline_of proposed.now) }
+    requires left { 0 < plans.old.left }
+    requires way { (base : ℕ) × IsOnTheWay (outline_of proposed.now) base plans.old true meter.old.ticks }
+    ensures way { OnOk result ((base : ℕ) → IsOnTheWay (outline_of proposed.now) base plans.old true meter.old.ticks → IsOnTheWay (outline_of proposed.now) base plans.new false meter.new.ticks) }
+    ensures left { OnOk result (plans.new.left < plans.old.left) }
+{
+    let Some(name) = plans.next_name() else {
+        return Ok(());
+    };
+    let Some(formula) = proposed.formula_of(name) else {
+        return Ok(());
+    };
+    let Some(plan) = &mut plans.current else {
+        return Ok(());
+    };
+    let left = &mut plans.left;
+    apply_all_to(
+        alloc,
+        proposed,
+        &plans.found,
+        name,
+        formula,
+        plan,
+        left,
+        meter,
+    )
+}
+
+/// Applies the functions that are left of the plan of a name's formula, where all that it refers to is done, and counts them off.
+fn apply_all_to(
+    alloc: Global,
+    proposed: &ProposedSheet<'_>,
+    found: &Found,
+    name: Name,
+    formula: &Formula,
+    plan: &mut Plan,
+    left: &mut u128,
+    meter: &mut Meter,
+) -> Result<(), AllocError>
+    requires proposed { IsProposed (outline_of proposed.now) }
+    requires plans { ArePlans (outline_of proposed.now) (plan_in found.now.entries) }
+    requires held { entry_of (outline_of proposed.now) name ≡ Some (FormulaEntry formula.now) }
+    requires done { (x : List ℕ) → Contains (names_in formula.now.tree) x → IsDone (outline_of proposed.now) (plan_in found.now.entries) x }
+    requires planned { IsPlannedTo formula.now (proposed_change (outline_of proposed.now)) plan.old }
+    requires enough { operations formula.now.tree ≤ operations_among formula.now plan.old.changes + left.old }
+    ensures whole { OnOk result (operations_among formula.now plan.new.changes ≡ operations formula.now.tree) }
+    ensures count { OnOk result (operations_among formula.now plan.new.changes + left.new ≡ operations_among formula.now plan.old.changes + left.old) }
+    ensures planned { OnOk result (IsPlannedTo formula.now (proposed_change (outline_of proposed.now)) plan.new) }
+    ensures ticks { OnOk result ((start : ℕ) → meter.old.ticks ≤ start + sum_by (node_cost_at formula.now.is_new (proposed_change (outline_of proposed.now))) (take (length plan.old.changes) (subtrees formula.now.tree))
+        → meter.new.ticks ≤ start + sum_by (node_cost_at formula.now.is_new (proposed_change (outline_of proposed.now))) (take (length plan.new.changes) (subtrees formula.now.tree))) }
+{
+    let unchanged = Delta::Same;
+    let ahead = Ahead {
+        proposed,
+        found,
+        unchanged: &unchanged,
+    };
+    let inputs = ahead.inputs_of(alloc, name, formula)?;
+    while !formula.is_whole(plan) {
+        formula.advance(plan, inputs.as_slice(), meter)?;
+        *left -= 1;
+    }
+    Ok(())
 }

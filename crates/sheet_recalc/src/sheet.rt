@@ -23,7 +23,7 @@ use crate::entry::Entry;
 use crate::evaluation::{absent, plan_at_rest};
 use crate::growth::growth_for;
 use crate::pending::Pending;
-use crate::planning::{apply_next, begun, settle};
+use crate::planning::{apply_next, apply_rest, begun, settle};
 use crate::proposal::Proposal;
 use crate::proposed_sheet::ProposedSheet;
 use crate::refusal::Refusal;
@@ -237,6 +237,32 @@ impl Sheet {
         Ok(())
     }
 
+    /// Does all steps of the formula that is next.
+    fn advance_formula(&self, pending: &mut Pending) -> Result<(), AllocError>
+        requires begun { (change : Change) × IsPendingOn self.now change pending.old }
+        requires left { 0 < steps_left pending.old }
+        ensures kept { OnOk result ((change : Change) → IsPendingOn self.now change pending.old → IsPendingOn self.now change pending.new) }
+        ensures fewer { OnOk result (steps_left pending.new < steps_left pending.old) }
+    {
+        if pending.is_cut {
+            return self.plan_ahead(pending);
+        }
+        let proposed = ProposedSheet {
+            entries: &self.entries,
+            name: pending.name,
+            proposal: &pending.proposal,
+        };
+        apply_rest(
+            self.alloc,
+            &proposed,
+            &mut pending.plans,
+            &mut pending.meter,
+        )?;
+        settle(self.alloc, &proposed, &mut pending.plans)?;
+        pending.ticks = pending.meter.ticks();
+        Ok(())
+    }
+
     /// Makes a change that was begun on the sheet as it is, and of which no step is left. No memory is asked for.
     pub fn adopt(&mut self, pending: Pending)
         requires begun { (change : Change) × IsPendingOn self.old change pending }
@@ -259,7 +285,7 @@ impl Sheet {
         ensures err { OnErr result (self.new ≡ self.old) }
     {
         while pending.left() > 0 {
-            self.advance(&mut pending)?;
+            self.advance_formula(&mut pending)?;
         }
         self.adopt(pending);
         Ok(())
