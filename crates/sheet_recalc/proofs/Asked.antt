@@ -1,5 +1,5 @@
 -- What is worked out for a name is what the change asks for.
-use Rattle.std.proofs.Common.{◌≡◌, ◌+◌, ◌∙◌, ℕ, ℤ, List, Option, Some, None, IsSome, Result, Ok, Err, IfOk, true, refl, sym, ap, arith}
+use Rattle.std.proofs.Common.{◌≡◌, ◌≤◌, ◌∙◌, ℕ, ℤ, List, Option, Some, None, IsSome, Result, Ok, Err, IfOk, true, refl, sym, ap, arith}
 use Rattle.std.specs.Option.{option_map}
 use Rattle.apl_expr.specs.Trees.{Tree, Literal}
 use Rattle.arrays_core.specs.Arrays.{ArrayValue}
@@ -14,11 +14,11 @@ use Rattle.formula_core.specs.Plans.{tree_cost}
 use Rattle.sheet_recalc.specs.Names.{SheetValue, Data, Formula, binding, put, rebound}
 use Rattle.sheet_recalc.specs.Meaning.{val}
 use Rattle.sheet_recalc.specs.Cells.{cell_put, index_of_numbers, literal_items}
-use Rattle.sheet_recalc.specs.Costs.{at_rest, cell_delta, change_cost, formulas_cost, sheet_change}
+use Rattle.sheet_recalc.specs.Costs.{at_rest, cell_delta, changed_name, asked_change, expression_cost, sheet_change}
 use Rattle.sheet_recalc.specs.Rows.{row_put}
 use Rattle.sheet_recalc.specs.Changes.{Change, Accepts, Define, Put, Store, SetCell, AddRow, Erase}
 use Rattle.sheet_recalc.specs.Entries.{names_of, binding_of, HasData}
-use Rattle.sheet_recalc.specs.ProposedSheet.{data_entry, proposed_entry, proposed_delta, proposed_cost}
+use Rattle.sheet_recalc.specs.ProposedSheet.{data_entry, proposed_entry, proposed_delta, proposed_change}
 use Rattle.sheet_recalc.specs.Pending.{IsPendingOn, IsProposedOn, names_after, outline_for}
 use Rattle.sheet_recalc.specs.declared.entry.Entry.{Entry}
 use Rattle.sheet_recalc.specs.declared.entry.Entry.TheVariants as entry
@@ -39,25 +39,32 @@ module _ (s : SheetValue) (name : List ℕ) (proposal : Proposal) (spent : ℕ) 
       (λ i. rebound (h.names_are i) (h.name_is i) (option_map binding_of (proposed_entry (val (h.names_are i) (h.name_is i)) (h.proposal_is i))))
       ∙ ap (λ x. rebound s.names name (option_map binding_of x)) is
 
-  -- and what it costs, by what changes of the name
-  costs : (d : Delta) → proposed_delta name (names_after s.tables p) proposal ≡ d → proposed_cost (outline_for s.tables p) ≡ formulas_cost name (sheet_change s.names (names_after s.tables p) name d) (names_after s.tables p)
-  costs d is =
-      (λ i. formulas_cost (h.name_is i) (sheet_change (h.names_are i) (names_after s.tables p) (h.name_is i) (proposed_delta (h.name_is i) (names_after s.tables p) (h.proposal_is i))) (names_after s.tables p))
-      ∙ ap (λ e. formulas_cost name (sheet_change s.names (names_after s.tables p) name e) (names_after s.tables p)) is
+  -- and what it makes of each, by what changes of the name
+  makes : (d : Delta) → proposed_delta name (names_after s.tables p) proposal ≡ d → proposed_change (outline_for s.tables p) ≡ sheet_change s.names (names_after s.tables p) name d
+  makes d is =
+      (λ i. sheet_change (h.names_are i) (names_after s.tables p) (h.name_is i) (proposed_delta (h.name_is i) (names_after s.tables p) (h.proposal_is i)))
+      ∙ ap (λ e. sheet_change s.names (names_after s.tables p) name e) is
 
-  -- where nothing was spent before, that is all
-  pub asked : (change : Change) → spent ≡ 0 → Accepts s.names change (names_after s.tables p) → (cost : ℕ) → proposed_cost (outline_for s.tables p) ≡ cost → 0 + cost ≡ change_cost s.names change (names_after s.tables p) → IsPendingOn s change p
-  asked change none accepts cost is all = record { base = spent; begun = h.begun; own = 0; base_is = omega (arith, none); accepts = accepts; costs = ap (λ n. 0 + n) is ∙ all }
+  pub asked : (change : Change) → spent ≡ ticked 0 (expression_cost s.names change) → Accepts s.names change (names_after s.tables p) → name ≡ changed_name change → proposed_change (outline_for s.tables p) ≡ asked_change s.names change (names_after s.tables p) → IsPendingOn s change p
+  asked change first accepts about is = record { base = spent; begun = h.begun; base_is = first; accepts = accepts; name_is = h.name_is ∙ about; makes = is }
+
+  -- at first no more items were computed than was spent
+  pub few_at_first : (cost : ℕ) → spent ≡ ticked 0 cost → p.ticks ≤ cost
+  few_at_first cost is = omega (arith, is, h.few, h.begun.small)
+
+-- nothing was spent where no expression is worked out
+pub free : 0 ≡ ticked 0 0
+free = omega arith
 
 pub define_pending : (s : SheetValue) (name : List ℕ) (f : FormulaValue) (t : Tree) → f.tree ≡ t → (p : Pending) → IsProposedOn s name (proposed.Formula f) 0 p → IsPendingOn s (Define name t) p
 define_pending s name f t is p h =
-    asked s name (proposed.Formula f) 0 p h (Define name t) refl
+    asked s name (proposed.Formula f) 0 p h (Define name t) free
     (becomes s name (proposed.Formula f) 0 p h (Some (entry.Formula f)) refl ∙ ap (λ u. put s.names name (Formula u)) is, h.begun.sheet.acyclic, h.room)
-    _ (costs s name (proposed.Formula f) 0 p h (Whole (val (names_after s.tables p) name)) refl) refl
+    refl (makes s name (proposed.Formula f) 0 p h (Whole (val (names_after s.tables p) name)) refl)
 
 pub erase_pending : (s : SheetValue) (name : List ℕ) → IsSome (binding s.names name) → (p : Pending) → IsProposedOn s name proposed.Removed 0 p → IsPendingOn s (Erase name) p
 erase_pending s name there p h =
-    asked s name proposed.Removed 0 p h (Erase name) refl (there, becomes s name proposed.Removed 0 p h None refl) _ (costs s name proposed.Removed 0 p h (Whole (val (names_after s.tables p) name)) refl) refl
+    asked s name proposed.Removed 0 p h (Erase name) free (there, becomes s name proposed.Removed 0 p h None refl) refl (makes s name proposed.Removed 0 p h (Whole (val (names_after s.tables p) name)) refl)
 
 -- data that is patched in one cell
 pub cell_pending : (s : SheetValue) (name : List ℕ) (positions : List ℤ) (literal : Literal) (patch : PatchValue) (a : ArrayValue) → HasData s.tables.entries.entries name a
@@ -65,31 +72,24 @@ pub cell_pending : (s : SheetValue) (name : List ℕ) (positions : List ℤ) (li
     → (p : Pending) → IsProposedOn s name (proposed.Data (Patch patch)) 0 p → IsPendingOn s (SetCell name positions literal) p
 cell_pending s name positions literal patch a held is delta p h =
     let shows : val s.names name ≡ Ok a = ap (λ ns. val ns name) (sym h.names_are) ∙ val_data (names_of s.tables.entries.entries) name a (binding_of_name s.tables.entries.entries name ∙ ap (option_map binding_of) held) in
-    asked s name (proposed.Data (Patch patch)) 0 p h (SetCell name positions literal) refl
+    asked s name (proposed.Data (Patch patch)) 0 p h (SetCell name positions literal) free
     (patched a patch, is, becomes s name (proposed.Data (Patch patch)) 0 p h (Some (entry.Data (patched a patch))) (ap (λ r. data_entry (applied (Patch patch) r)) shows))
-    _ (costs s name (proposed.Data (Patch patch)) 0 p h (cell_delta (index_of_numbers positions) (literal_items literal)) delta) refl
+    refl (makes s name (proposed.Data (Patch patch)) 0 p h (cell_delta (index_of_numbers positions) (literal_items literal)) delta)
 
 -- a whole array
 module _ (s : SheetValue) (name : List ℕ) (a : ArrayValue) (spent : ℕ) (p : Pending) (h : IsProposedOn s name (proposed.Data (Whole (Ok a))) spent p) where
   array_names : names_after s.tables p ≡ put s.names name (Data a)
   array_names = becomes s name (proposed.Data (Whole (Ok a))) spent p h (Some (entry.Data a)) refl
 
-  array_costs : proposed_cost (outline_for s.tables p) ≡ formulas_cost name (sheet_change s.names (names_after s.tables p) name (Whole (val (names_after s.tables p) name))) (names_after s.tables p)
-  array_costs = costs s name (proposed.Data (Whole (Ok a))) spent p h (Whole (val (names_after s.tables p) name)) (whole_put s.names (names_after s.tables p) name a (Whole (Ok a)) refl (sym array_names))
+  array_makes : proposed_change (outline_for s.tables p) ≡ sheet_change s.names (names_after s.tables p) name (Whole (val (names_after s.tables p) name))
+  array_makes = makes s name (proposed.Data (Whole (Ok a))) spent p h (Whole (val (names_after s.tables p) name)) (whole_put s.names (names_after s.tables p) name a (Whole (Ok a)) refl (sym array_names))
 
   pub data_pending : (t : Tree) → eval t (val s.names) ≡ Ok a → spent ≡ ticked 0 (tree_cost true (at_rest s.names) t) → IsPendingOn s (Store name t) p
-  data_pending t is first = record {
-    base = spent;
-    begun = h.begun;
-    own = tree_cost true (at_rest s.names) t;
-    base_is = first;
-    accepts = (a, is, array_names, h.room);
-    costs = ap (λ n. tree_cost true (at_rest s.names) t + n) array_costs;
-  }
+  data_pending t is first = asked s name (proposed.Data (Whole (Ok a))) spent p h (Store name t) first (a, is, array_names, h.room) refl array_makes
 
 pub put_pending : (s : SheetValue) (name : List ℕ) (a : ArrayValue) (p : Pending) → IsProposedOn s name (proposed.Data (Whole (Ok a))) 0 p → IsPendingOn s (Put name a) p
-put_pending s name a p h = asked s name (proposed.Data (Whole (Ok a))) 0 p h (Put name a) refl (array_names s name a 0 p h, h.room) _ (array_costs s name a 0 p h) refl
+put_pending s name a p h = asked s name (proposed.Data (Whole (Ok a))) 0 p h (Put name a) free (array_names s name a 0 p h, h.room) refl (array_makes s name a 0 p h)
 
 -- a row is added by putting the longer array
 pub row_pending : (s : SheetValue) (name : List ℕ) (a : ArrayValue) (literal : Literal) → row_put (binding s.names name) literal ≡ Ok a → (p : Pending) → IsPendingOn s (Put name a) p → IsPendingOn s (AddRow name literal) p
-row_pending s name a literal is p h = record { base = h.base; begun = h.begun; own = h.own; base_is = h.base_is; accepts = (a, is, h.accepts.0); costs = h.costs }
+row_pending s name a literal is p h = record { base = h.base; begun = h.begun; base_is = h.base_is; accepts = (a, is, h.accepts.0); name_is = h.name_is; makes = h.makes }

@@ -18,13 +18,14 @@ use Rattle.formula_core.specs.Tables.{subtrees, tree_at}
 use Rattle.formula_core.proofs.Planned.{planned_at_end, plan_of}
 use Rattle.formula_core.proofs.Progressed.{all_among, left_at, part_left, longer, cost_more, cost_within}
 use Rattle.sheet_recalc.specs.Names.{Names, Binding}
+use Rattle.sheet_recalc.specs.Costs.{IsNodeCost}
 use Rattle.sheet_recalc.specs.Live.{IsPlanned, plan_in}
 use Rattle.sheet_recalc.specs.ProposedSheet.{Outline, own_entry, proposed_names, proposed_change, proposed_cost, entry_of}
-use Rattle.sheet_recalc.specs.Planning.{IsProposed, IsAffected, IsPlanAt, IsUnderWay, IsComingTo, IsComing, IsOnTheWay, waiting_names, functions_of, functions_at, name_cost, names_cost}
+use Rattle.sheet_recalc.specs.Planning.{IsProposed, IsAffected, IsPlanAt, IsUnderWay, IsBegunAs, IsComingTo, IsComing, IsOnTheWay, waiting_names, functions_of, functions_at, applied_in, spent_by, spent_in, name_cost, names_cost}
 use Rattle.sheet_recalc.specs.declared.entry.Entry.TheVariants as entry
 use Rattle.sheet_recalc.specs.declared.plans.Plans.{Plans}
 use Rattle.sheet_recalc.proofs.Accounted.{few_ticks}
-use Rattle.sheet_recalc.proofs.PlannedNames.{bound_to, formula_cost}
+use Rattle.sheet_recalc.proofs.PlannedNames.{bound_to, formula_cost, is_new_own}
 use Rattle.sheet_recalc.proofs.Working.{under_way_first, plain_next, plain_costs_nothing, plain_applies_none, cost_split, formula_next, planned_in_the_end}
 
 -- the last of names is one name
@@ -195,6 +196,34 @@ module _ (o : Outline) where
             ticks_are = now.ticks_are;
           }
 
+      -- plans that rest are on their way
+      pub moving_way : (w : Plans) (rests : Bool) → IsOnTheWay o base w rests ticks → IsOnTheWay o base w false ticks
+      moving_way w rests now =
+          record {
+            few = now.few;
+            way = now.way;
+            done = now.done;
+            begun = now.begun;
+            coming = by w.current now.coming;
+            count = now.count;
+            spent = now.spent;
+            split = now.split;
+            cost = now.cost;
+            before = now.before;
+            low = now.low;
+            ticks_are = now.ticks_are;
+          }
+        where
+          by : (q : Option PlanValue) → IsComing o (waiting_names w) rests q now.done now.begun → IsComing o (waiting_names w) false q now.done now.begun
+          by None h = (h.0, h.1, λ e. absurd (false≢true e))
+          by (Some p) h = record { before = h.before; name = h.name; last = h.last; formula = h.formula; held = h.held; planned = h.planned; done_is = h.done_is; begun_is = h.begun_is; left = λ e. absurd (false≢true e) }
+
+      -- where none waits, none is left
+      pub none_waits : (w : Plans) → IsOnTheWay o base w false ticks → w.waiting ≡ 0 → w.left ≡ 0
+      none_waits w now none =
+          let names : waiting_names w ≡ [] = ap (λ n. take n (keys_of w.found.entries)) none in
+          omega (arith, now.count, ap (sum_by (functions_at o)) names)
+
       -- none waits
       pub ended_way : (w : Plans) → IsOnTheWay o base w false ticks → w.waiting ≡ 0 → IsOnTheWay o base w true ticks
       ended_way w now none =
@@ -242,18 +271,34 @@ module _ (o : Outline) where
                 (subst (λ n. ticks ≤ now.before + now.spent + n) k.2 now.ticks_are) more;
           }
 
-      -- all functions of a plan are applied
-      pub applied_all : (w : Plans) (name : List ℕ) (front : List (List ℕ)) (p p' : PlanValue) (left after : ℕ) → IsOnTheWay o base w true ticks → w.current ≡ Some p → waiting_names w ≡ front ++ name ∷ []
-          → (f : FormulaValue) → entry_of o name ≡ Some (entry.Formula f) → operations_among f p'.changes + left ≡ operations_among f p.changes + w.left → IsPlannedTo f c p'
-          → ((start : ℕ) → ticks ≤ start + sum_by (node_cost_at f.is_new c) (take (length p.changes) (subtrees f.tree)) → after ≤ start + sum_by (node_cost_at f.is_new c) (take (length p'.changes) (subtrees f.tree)))
-          → IsOnTheWay o base (record w { current = Some p'; left = left }) false after
-      applied_all w name front p p' left after now current split f held count planned more =
-          let k = coming_for (waiting_names w) front name split true p now.done now.begun (some_coming (waiting_names w) true w.current p now.done now.begun current now.coming) f held in
+      -- what is on its way is of the formula of the name that comes next
+      begun_at : (w : Plans) (q : Option PlanValue) (name : List ℕ) (front : List (List ℕ)) (done begun : ℕ) → waiting_names w ≡ front ++ name ∷ [] → IsComing o (waiting_names w) false q done begun
+          → (f : FormulaValue) → entry_of o name ≡ Some (entry.Formula f) → IsBegunAs f c q × (done ≡ applied_in f q) × (begun ≡ spent_in f c q)
+      begun_at w None name front done begun split h f held = (tt, h.0, h.1)
+      begun_at w (Some p) name front done begun split h f held = let k = coming_for (waiting_names w) front name split false p done begun h f held in (k.0, k.1, k.2)
+
+      pub begun_as : (w : Plans) (name : List ℕ) (front : List (List ℕ)) → IsOnTheWay o base w false ticks → waiting_names w ≡ front ++ name ∷ [] → (f : FormulaValue) → entry_of o name ≡ Some (entry.Formula f) → IsBegunAs f c w.current
+      begun_as w name front now split f held = (begun_at w w.current name front now.done now.begun split now.coming f held).0
+
+      -- as many functions are left as the formula that comes next has at least
+      pub enough_left : (w : Plans) (name : List ℕ) (front : List (List ℕ)) → IsOnTheWay o base w false ticks → waiting_names w ≡ front ++ name ∷ []
+          → (f : FormulaValue) → entry_of o name ≡ Some (entry.Formula f) → operations f.tree ≤ applied_in f w.current + w.left
+      enough_left w name front now split f held =
+          let k = begun_at w w.current name front now.done now.begun split now.coming f held in
+          let applies : functions_at o name ≡ operations f.tree = ap (λ (b : Option Binding). option_map_or functions_of b 0) (bound_to o ready name f held) in
+          omega (arith, now.count, k.1, applies, ap (sum_by (functions_at o)) split, sum_by_push (functions_at o) front name)
+
+      -- the plan of the formula that comes next is further on
+      pub further_way : (w : Plans) (name : List ℕ) (front : List (List ℕ)) (p : PlanValue) (left after : ℕ) → IsOnTheWay o base w false ticks → waiting_names w ≡ front ++ name ∷ []
+          → (f : FormulaValue) → entry_of o name ≡ Some (entry.Formula f) → operations_among f p.changes + left ≡ applied_in f w.current + w.left → IsPlannedTo f c p
+          → ((start : ℕ) → ticks ≤ start + spent_in f c w.current → after ≤ start + spent_by f c p) → IsOnTheWay o base (record w { current = Some p; left = left }) false after
+      further_way w name front p left after now split f held count planned more =
+          let k = begun_at w w.current name front now.done now.begun split now.coming f held in
           record {
             few = now.few;
             way = now.way;
-            done = operations_among f p'.changes;
-            begun = sum_by (node_cost_at f.is_new c) (take (length p'.changes) (subtrees f.tree));
+            done = operations_among f p.changes;
+            begun = spent_by f c p;
             coming = record { before = front; name = name; last = split; formula = f; held = held; planned = planned; done_is = refl; begun_is = refl; left = λ e. absurd (false≢true e) };
             count = omega (arith, now.count, k.1, count);
             spent = now.spent;
@@ -263,14 +308,6 @@ module _ (o : Outline) where
             low = now.low;
             ticks_are = more (now.before + now.spent) (subst (λ n. ticks ≤ now.before + now.spent + n) k.2 now.ticks_are);
           }
-
-      -- as many functions are left as the plan on its way has at least
-      pub left_enough : (w : Plans) (name : List ℕ) (front : List (List ℕ)) (p : PlanValue) → IsOnTheWay o base w true ticks → w.current ≡ Some p → waiting_names w ≡ front ++ name ∷ []
-          → (f : FormulaValue) → entry_of o name ≡ Some (entry.Formula f) → operations f.tree ≤ operations_among f p.changes + w.left
-      left_enough w name front p now current split f held =
-          let k = coming_for (waiting_names w) front name split true p now.done now.begun (some_coming (waiting_names w) true w.current p now.done now.begun current now.coming) f held in
-          let applies : functions_at o name ≡ operations f.tree = ap (λ (b : Option Binding). option_map_or functions_of b 0) (bound_to o ready name f held) in
-          omega (arith, now.count, k.1, applies, ap (sum_by (functions_at o)) split, sum_by_push (functions_at o) front name)
 
       -- a function that is left is one of the plan on its way, and can be applied to it
       pub next_current : (w : Plans) → IsOnTheWay o base w true ticks → 0 < w.left → w.current ≡ None → ⊥
@@ -298,6 +335,20 @@ module _ (o : Outline) where
       next_planned w name front p now current split f held =
           let k = coming_for (waiting_names w) front name split true p now.done now.begun (some_coming (waiting_names w) true w.current p now.done now.begun current now.coming) f held in
           (k.0, left_at f p.changes k.0.next (k.3 refl) k.0.begun.known)
+
+      -- the function that comes next costs what some one node does
+      pub next_cost : (w : Plans) (name : List ℕ) (front : List (List ℕ)) (p : PlanValue) → IsOnTheWay o base w true ticks → w.current ≡ Some p → waiting_names w ≡ front ++ name ∷ []
+          → (f : FormulaValue) → entry_of o name ≡ Some (entry.Formula f) → IsNodeCost o.name c new (node_cost_at f.is_new c (tree_at (subtrees f.tree) (length p.changes)))
+      next_cost w name front p now current split f held =
+          let k = coming_for (waiting_names w) front name split true p now.done now.begun (some_coming (waiting_names w) true w.current p now.done now.begun current now.coming) f held in
+          record {
+            at = name;
+            tree = f.tree;
+            bound = bound_to o ready name f held;
+            place = length p.changes;
+            below = omega (arith, k.3 refl, k.0.begun.known);
+            cost_is = ap (λ b. node_cost_at b c (tree_at (subtrees f.tree) (length p.changes))) (is_new_own o ready name f held);
+          }
 
       -- in the end each plan is made
       pub none_left : (w : Plans) → IsOnTheWay o base w true ticks → w.left ≡ 0 → waiting_names w ≡ []

@@ -1,10 +1,12 @@
 -- A change that is being worked out, after a step, and in the end.
-use Rattle.std.proofs.Common.{◌≡◌, ◌<◌, ◌≤◌, ◌∙◌, ℕ, Bool, true, false, not, refl, sym, ap, subst, arith, if◌then◌else◌}
+use Rattle.std.proofs.Common.{◌≡◌, ◌+◌, ◌<◌, ◌≤◌, ◌∙◌, ℕ, List, Bool, true, false, not, refl, sym, ap, subst, arith, if◌then◌else◌}
 use Rattle.change_core.specs.Meters.{ticked, MeterValue}
 use Rattle.sheet_recalc.specs.Names.{SheetValue}
 use Rattle.sheet_recalc.specs.Tables.{Tables}
 use Rattle.sheet_recalc.specs.Changes.{Change}
-use Rattle.sheet_recalc.specs.Costs.{HasCost}
+use Rattle.sheet_recalc.specs.Costs.{HasCost, expression_cost, formulas_cost, changed_name, IsNodeCost, IsStepCost}
+use Rattle.formula_core.specs.Changes as formula
+use Rattle.sheet_recalc.specs.ProposedSheet.{proposed_change}
 use Rattle.sheet_recalc.specs.Planning.{IsOnTheWay}
 use Rattle.sheet_recalc.specs.Pending.{outline_for, names_after, steps_left, IsReady, IsBegunOn, IsPendingOn}
 use Rattle.sheet_recalc.specs.declared.pending.Pending.{Pending}
@@ -42,15 +44,28 @@ module _ (t : Tables) (p : Pending) (base : ℕ) (h : IsBegunOn t p base) (none 
 pub whole_cost : (s : SheetValue) (change : Change) (p : Pending) → IsPendingOn s change p → steps_left p ≡ 0 → HasCost s.names change (names_after s.tables p) p.plans.cost
 whole_cost s change p h none =
     let all = all_cost (outline_for s.tables p) h.begun.proposed h.base p.meter.ticks p.plans (rests s.tables p h.base h.begun none) (nothing_left s.tables p h.base h.begun none) in
-    expression_more h.base h.own _ p.plans.cost h.base_is all ∙ ap (ticked 0) h.costs
+    let new = names_after s.tables p in
+    expression_more h.base (expression_cost s.names change) _ p.plans.cost h.base_is all ∙ (λ i. ticked 0 (expression_cost s.names change + formulas_cost (h.name_is i) (h.makes i) new))
 
 -- the same change, further on
 module _ (p : Pending) (w : Plans) (cut : Bool) (ticks : ℕ) (m : MeterValue) where
   abbrev after : Pending
   after = record p { plans = w; is_cut = cut; ticks = ticks; meter = m }
 
-  begun_on : (t : Tables) (base : ℕ) → IsBegunOn t p base → IsOnTheWay (outline_for t p) base w (not cut) m.ticks → (cut ≡ false → ticks ≡ m.ticks) → ticks < 18446744073709551616 → IsBegunOn t after base
-  begun_on t base h way told small = record { proposed = h.proposed; kept = h.kept; sheet = h.sheet; place = h.place; way = way; told = told; small = small }
+  -- what is not told yet is what one node has computed
+  abbrev IsUntold : Tables → Type 0
+  IsUntold t = cut ≡ true → (cost : ℕ) × IsNodeCost p.name (proposed_change (outline_for t p)) (names_after t p) cost × (m.ticks ≤ ticks + cost)
 
-  pub pending_on : (s : SheetValue) (change : Change) (h : IsPendingOn s change p) → IsOnTheWay (outline_for s.tables p) h.base w (not cut) m.ticks → (cut ≡ false → ticks ≡ m.ticks) → ticks < 18446744073709551616 → IsPendingOn s change after
-  pending_on s change h way told small = record { base = h.base; begun = begun_on s.tables h.base h.begun way told small; own = h.own; base_is = h.base_is; accepts = h.accepts; costs = h.costs }
+  begun_on : (t : Tables) (base : ℕ) → IsBegunOn t p base → IsOnTheWay (outline_for t p) base w (not cut) m.ticks → (cut ≡ false → ticks ≡ m.ticks) → IsUntold t → ticks < 18446744073709551616 → IsBegunOn t after base
+  begun_on t base h way told untold small = record { proposed = h.proposed; kept = h.kept; sheet = h.sheet; place = h.place; way = way; told = told; untold = untold; small = small }
+
+  pub pending_on : (s : SheetValue) (change : Change) (h : IsPendingOn s change p) → IsOnTheWay (outline_for s.tables p) h.base w (not cut) m.ticks → (cut ≡ false → ticks ≡ m.ticks) → IsUntold s.tables → ticks < 18446744073709551616 → IsPendingOn s change after
+  pending_on s change h way told untold small = record { base = h.base; begun = begun_on s.tables h.base h.begun way told untold small; base_is = h.base_is; accepts = h.accepts; name_is = h.name_is; makes = h.makes }
+
+-- what was not told yet of a change is what some one node of it has cost at most
+pub step_cost : (s : SheetValue) (change : Change) (p : Pending) → IsPendingOn s change p → p.is_cut ≡ true → (cost : ℕ) × IsStepCost s.names change cost × (p.meter.ticks ≤ p.ticks + cost)
+step_cost s change p h cut =
+    let new = names_after s.tables p in
+    let k = h.begun.untold cut in
+    let named = subst (λ (name : List ℕ). IsNodeCost name (proposed_change (outline_for s.tables p)) new k.0) h.name_is k.1 in
+    (k.0, record { new = new; accepts = h.accepts; node = subst (λ (c : formula.Change). IsNodeCost (changed_name change) c new k.0) h.makes named }, k.2)

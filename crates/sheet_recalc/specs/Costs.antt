@@ -1,5 +1,5 @@
 -- What a change changes of each name, and what it costs.
-use Rattle.std.specs.Prelude.{◌≡◌, ◌+◌, ℕ, zero, suc, List, [], ◌∷◌, map, length, true, Option, Some, if◌then◌else◌}
+use Rattle.std.specs.Prelude.{◌≡◌, ◌+◌, ◌<◌, ℕ, zero, suc, List, [], ◌∷◌, map, length, true, Option, Some, if◌then◌else◌}
 use Rattle.std.specs.Str.{bytes_eq}
 use Rattle.std.specs.List.{sum_by}
 use Rattle.arrays_core.specs.declared.item.Item.{Item}
@@ -9,11 +9,13 @@ use Rattle.index_region.specs.declared.delta.Delta.TheVariants.{Same, Patch, Who
 use Rattle.index_region.specs.Patches.{PatchValue}
 use Rattle.change_core.specs.Meters.{ticked}
 use Rattle.formula_core.specs.Changes as formula
-use Rattle.formula_core.specs.Plans.{tree_cost}
+use Rattle.apl_expr.specs.Trees.{Tree}
+use Rattle.formula_core.specs.Plans.{tree_cost, node_cost_at}
+use Rattle.formula_core.specs.Tables.{subtrees, tree_at}
 use Rattle.sheet_recalc.specs.Names.{Names, Binding, Data, Formula, binding}
 use Rattle.sheet_recalc.specs.Meaning.{val, with_origin}
 use Rattle.sheet_recalc.specs.Cells.{index_of_numbers, literal_items}
-use Rattle.sheet_recalc.specs.Changes.{Change, Define, Store, Put, SetCell, AddRow, Erase}
+use Rattle.sheet_recalc.specs.Changes.{Change, Accepts, Define, Store, Put, SetCell, AddRow, Erase}
 
 -- a patch of the one place at an index list
 abbrev pub cell_patch : List ℕ → Item → PatchValue
@@ -83,11 +85,29 @@ abbrev pub expression_cost : Names → Change → ℕ
 expression_cost old (Store n t) = tree_cost true (at_rest old) t
 expression_cost old change = 0
 
--- what a change costs that takes old to new
+-- what a change makes of each name that takes old to new
+abbrev pub asked_change : Names → Change → Names → formula.Change
+asked_change old change new = sheet_change old new (changed_name change) (own_delta change new)
+
+-- and what it costs
 abbrev pub change_cost : Names → Change → Names → ℕ
-change_cost old change new =
-    expression_cost old change + formulas_cost (changed_name change) (sheet_change old new (changed_name change) (own_delta change new)) new
+change_cost old change new = expression_cost old change + formulas_cost (changed_name change) (asked_change old change new) new
 
 -- the cost of the change is this; the greatest number of 64 bits where it is more
 abbrev pub HasCost : Names → Change → Names → ℕ → Type 0
 HasCost old change new cost = cost ≡ ticked 0 (change_cost old change new)
+
+-- some one node of the formulas costs so much: the node at this place of the tree that this name is bound to
+pub record IsNodeCost (name : List ℕ) (c : formula.Change) (names : Names) (cost : ℕ) : Type 0 where
+  pub at : List ℕ
+  pub tree : Tree
+  pub bound : binding names at ≡ Some (Formula tree)
+  pub place : ℕ
+  pub below : place < length (subtrees tree)
+  pub cost_is : cost ≡ node_cost_at (bytes_eq at name) c (tree_at (subtrees tree) place)
+
+-- so much is the cost of some one node of what the change makes of the names
+pub record IsStepCost (old : Names) (change : Change) (cost : ℕ) : Type 0 where
+  pub new : Names
+  pub accepts : Accepts old change new
+  pub node : IsNodeCost (changed_name change) (asked_change old change new) new cost

@@ -1,5 +1,5 @@
 -- A change that is worked out, and not made yet.
-use Rattle.std.specs.Prelude.{◌≡◌, ◌≤◌, ◌<◌, ◌+◌, ℕ, List, [], length, false, not, if◌then◌else◌}
+use Rattle.std.specs.Prelude.{◌≡◌, ◌≤◌, ◌<◌, ◌+◌, ℕ, List, [], length, true, false, not, if◌then◌else◌}
 use Rattle.std.specs.Str.{bytes_eq}
 use Rattle.indexmap.specs.IndexMap.{spare}
 use Rattle.dep_order.specs.Room.{FindRoom, AreSetsFor}
@@ -9,11 +9,11 @@ use Rattle.formula_core.specs.Meaning.{names_in}
 use Rattle.sheet_recalc.specs.Names.{Names, SheetValue, IsSheet}
 use Rattle.sheet_recalc.specs.NameOrder.{HasOrder}
 use Rattle.sheet_recalc.specs.Changes.{Change, Accepts, HasRoom}
-use Rattle.sheet_recalc.specs.Costs.{change_cost}
+use Rattle.sheet_recalc.specs.Costs.{changed_name, asked_change, expression_cost, IsNodeCost}
 use Rattle.sheet_recalc.specs.Entries.{names_of}
 use Rattle.sheet_recalc.specs.Live.{IsPlanned, plan_in}
 use Rattle.sheet_recalc.specs.Planning.{IsProposalAt, IsProposed, IsOnTheWay}
-use Rattle.sheet_recalc.specs.ProposedSheet.{Outline, own_entry, proposed_names, proposed_cost}
+use Rattle.sheet_recalc.specs.ProposedSheet.{Outline, own_entry, proposed_names, proposed_change}
 use Rattle.sheet_recalc.specs.Tables.{Tables}
 use Rattle.sheet_recalc.specs.declared.growth.Growth.{Growth}
 use Rattle.sheet_recalc.specs.declared.pending.Pending.{Pending}
@@ -54,7 +54,8 @@ pub record IsReady (t : Tables) (p : Pending) : Type 0 where
   pub place : HasPlace t p.growth p.proposal
   pub few : p.ticks ≤ p.plans.cost
 
--- it is being worked out, and this was spent before: where it was cut off, what came after the last function is not done
+-- it is being worked out, and this was spent before: where it was cut off, what came after the last function is not done, and what that has
+-- computed is not told yet
 pub record IsBegunOn (t : Tables) (p : Pending) (base : ℕ) : Type 0 where
   pub proposed : IsProposed (outline_for t p)
   pub kept : HasOrder (names_after t p)
@@ -62,6 +63,7 @@ pub record IsBegunOn (t : Tables) (p : Pending) (base : ℕ) : Type 0 where
   pub place : HasPlace t p.growth p.proposal
   pub way : IsOnTheWay (outline_for t p) base p.plans (not p.is_cut) p.meter.ticks
   pub told : p.is_cut ≡ false → p.ticks ≡ p.meter.ticks
+  pub untold : p.is_cut ≡ true → (cost : ℕ) × IsNodeCost p.name (proposed_change (outline_for t p)) (names_after t p) cost × (p.meter.ticks ≤ p.ticks + cost)
   pub small : p.ticks < 18446744073709551616
 
 -- how many steps are left
@@ -72,10 +74,10 @@ steps_left p = p.plans.left + (if p.is_cut then 1 else 0)
 pub record IsPendingOn (s : SheetValue) (change : Change) (p : Pending) : Type 0 where
   pub base : ℕ
   pub begun : IsBegunOn s.tables p base
-  pub own : ℕ
-  pub base_is : base ≡ ticked 0 own
+  pub base_is : base ≡ ticked 0 (expression_cost s.names change)
   pub accepts : Accepts s.names change (names_after s.tables p)
-  pub costs : own + proposed_cost (outline_for s.tables p) ≡ change_cost s.names change (names_after s.tables p)
+  pub name_is : p.name ≡ changed_name change
+  pub makes : proposed_change (outline_for s.tables p) ≡ asked_change s.names change (names_after s.tables p)
 
 -- what a name is to be bound to is being worked out, where finding that has cost so much
 pub record IsProposedOn (s : SheetValue) (name : List ℕ) (proposal : Proposal) (spent : ℕ) (p : Pending) : Type 0 where
@@ -83,4 +85,5 @@ pub record IsProposedOn (s : SheetValue) (name : List ℕ) (proposal : Proposal)
   pub name_is : p.name ≡ name
   pub proposal_is : p.proposal ≡ proposal
   pub begun : IsBegunOn s.tables p spent
+  pub few : ticked 0 p.ticks ≤ spent
   pub room : HasRoom s.names name

@@ -113,6 +113,23 @@ functions_of (Formula t) = operations t
 abbrev pub functions_at : Outline → List ℕ → ℕ
 functions_at o q = option_map_or functions_of (binding (proposed_names o) q) 0
 
+-- what the nodes so far of a plan of a formula cost
+abbrev pub spent_by : FormulaValue → formula.Change → formula_plan.PlanValue → ℕ
+spent_by f c p = sum_by (formula_plan.node_cost_at f.is_new c) (take (length p.changes) (subtrees f.tree))
+
+-- a plan of a formula is on its way, or none is: how it was made, how many functions it has applied, and what they cost
+abbrev pub IsBegunAs : FormulaValue → formula.Change → Option formula_plan.PlanValue → Type 0
+IsBegunAs f c None = Unit {0}
+IsBegunAs f c (Some p) = IsPlannedTo f c p
+
+abbrev pub applied_in : FormulaValue → Option formula_plan.PlanValue → ℕ
+applied_in f None = 0
+applied_in f (Some p) = operations_among f p.changes
+
+abbrev pub spent_in : FormulaValue → formula.Change → Option formula_plan.PlanValue → ℕ
+spent_in f c None = 0
+spent_in f c (Some p) = spent_by f c p
+
 -- a plan of the formula of the last of these names is on its way: so many of its functions are applied, and its nodes so far cost so much; where
 -- it rests, one is left
 pub record IsComingTo (o : Outline) (names : List (List ℕ)) (rests : Bool) (p : formula_plan.PlanValue) (done begun : ℕ) : Type 0 where
@@ -123,7 +140,7 @@ pub record IsComingTo (o : Outline) (names : List (List ℕ)) (rests : Bool) (p 
   pub held : entry_of o name ≡ Some (entry.Formula formula)
   pub planned : IsPlannedTo formula (proposed_change o) p
   pub done_is : done ≡ operations_among formula p.changes
-  pub begun_is : begun ≡ sum_by (formula_plan.node_cost_at formula.is_new (proposed_change o)) (take (length p.changes) (subtrees formula.tree))
+  pub begun_is : begun ≡ spent_by formula (proposed_change o) p
   pub left : rests ≡ true → length p.changes < length formula.nodes
 
 -- or none is; where that rests, no name waits

@@ -1,8 +1,12 @@
 //! Lists of changes.
 
-ghost use Rattle.std.specs.Prelude.{◌≡◌, IfOk, OnErr, map};
+ghost use Rattle.std.specs.Prelude.{◌≡◌, ◌≤◌, IfOk, IfErr, OnErr, map};
+ghost use Rattle.sheet_recalc.specs.Changes.{Refuses};
+ghost use Rattle.sheet_recalc.specs.Costs.{expression_cost};
 ghost use Rattle.sheet_recalc.specs.History.{Run, Step, change_of};
+ghost use Rattle.sheet_recalc.specs.Pending.{IsPendingOn};
 
+use crate::pending::Pending;
 use crate::refusal::Refusal;
 use crate::sheet::Sheet;
 use apl_expr::{Expr, Literal};
@@ -29,6 +33,24 @@ pub enum Change {
 }
 
 impl Sheet {
+    /// Begins a change: it is refused here, or worked out by steps (`advance`) and then made (`adopt`). Nothing of the sheet is changed.
+    pub fn begin(&self, change: Change) -> Result<Pending, Refusal>
+        ensures ok { IfOk result (IsPendingOn self.now (change_of change)) }
+        ensures ticks { IfOk result (λ pending. pending.ticks ≤ expression_cost self.now.names (change_of change)) }
+        ensures refused { IfErr result (Refuses self.now.names (change_of change)) }
+    {
+        match change {
+            Change::Define(name, tree) => self.begin_define(name, tree),
+            Change::Store(name, tree) => self.begin_data(name, tree),
+            Change::Put(name, array) => self.begin_put(name, array),
+            Change::SetCell(name, positions, literal) => {
+                self.begin_cell(name, &positions, &literal)
+            }
+            Change::AddRow(name, literal) => self.begin_row(name, &literal),
+            Change::Erase(name) => self.begin_erase(name),
+        }
+    }
+
     /// Makes one change, or says why not.
     pub fn apply(&mut self, change: Change) -> Result<(), Refusal>
         ensures { Step self.old.names (change_of change) result self.new.names }

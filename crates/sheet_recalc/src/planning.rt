@@ -5,15 +5,17 @@ ghost use Rattle.std.specs.List.{Contains, sum_by};
 ghost use Rattle.std.specs.Map.{keys_of};
 ghost use Rattle.change_core.specs.Meters.{ticked};
 ghost use Rattle.formula_core.specs.Formulas.{operations};
+ghost use Rattle.formula_core.specs.Changes.{Change};
 ghost use Rattle.formula_core.specs.Meaning.{names_in};
-ghost use Rattle.formula_core.specs.Plans.{node_cost_at};
+ghost use Rattle.formula_core.specs.Plans.{IsTold, node_cost_at};
 ghost use Rattle.formula_core.specs.Progress.{operations_among, IsPlannedTo};
 ghost use Rattle.formula_core.specs.Tables.{subtrees, tree_at};
 ghost use Rattle.sheet_recalc.specs.ProposedSheet.{outline_of, proposed_names, proposed_change, entry_of};
 ghost use Rattle.sheet_recalc.specs.Changes.{HasRoom, IsFullFor, CannotBecome};
+ghost use Rattle.sheet_recalc.specs.Costs.{IsNodeCost};
 ghost use Rattle.sheet_recalc.specs.Entries.{names_of};
 ghost use Rattle.sheet_recalc.specs.Live.{IsLive, plan_in};
-ghost use Rattle.sheet_recalc.specs.Planning.{IsProposalAt, IsProposed, ArePlans, IsDone, IsOnTheWay, CanBe, waiting_names, functions_at};
+ghost use Rattle.sheet_recalc.specs.Planning.{IsProposalAt, IsProposed, ArePlans, IsDone, IsBegunAs, IsOnTheWay, CanBe, waiting_names, functions_at, applied_in, spent_by, spent_in};
 ghost use Rattle.sheet_recalc.specs.declared.entry.Entry.TheVariants.{Formula as FormulaEntry};
 
 use crate::ahead::Ahead;
@@ -198,6 +200,7 @@ pub(crate) fn apply_next(
     requires way { (base : ℕ) × IsOnTheWay (outline_of proposed.now) base plans.old true meter.old.ticks }
     ensures way { OnOk result ((base : ℕ) → IsOnTheWay (outline_of proposed.now) base plans.old true meter.old.ticks → IsOnTheWay (outline_of proposed.now) base plans.new false meter.new.ticks) }
     ensures left { OnOk result (plans.new.left + 1 ≡ plans.old.left) }
+    ensures ticks { OnOk result ((cost : ℕ) × IsNodeCost proposed.now.name (proposed_change (outline_of proposed.now)) (proposed_names (outline_of proposed.now)) cost × (meter.new.ticks ≤ meter.old.ticks + cost)) }
     ensures err { OnErr result (plans.new ≡ plans.old) }
     ensures err_meter { OnErr result (meter.new ≡ meter.old) }
 {
@@ -248,63 +251,63 @@ fn apply_to(
     formula.advance(plan, inputs.as_slice(), meter)
 }
 
-/// Applies all functions that are left of the plan that is on its way; what its names show is looked up once.
-pub(crate) fn apply_rest(
+/// Plans all that is left; what a formula reads is looked up once.
+pub(crate) fn plan_rest(
     alloc: Global,
     proposed: &ProposedSheet<'_>,
     plans: &mut Plans,
     meter: &mut Meter,
 ) -> Result<(), AllocError>
     requires proposed { IsProposed (outline_of proposed.now) }
-    requires left { 0 < plans.old.left }
-    requires way { (base : ℕ) × IsOnTheWay (outline_of proposed.now) base plans.old true meter.old.ticks }
-    ensures way { OnOk result ((base : ℕ) → IsOnTheWay (outline_of proposed.now) base plans.old true meter.old.ticks → IsOnTheWay (outline_of proposed.now) base plans.new false meter.new.ticks) }
-    ensures left { OnOk result (plans.new.left < plans.old.left) }
+    requires way { (base : ℕ) × IsOnTheWay (outline_of proposed.now) base plans.old false meter.old.ticks }
+    ensures way { OnOk result ((base : ℕ) → IsOnTheWay (outline_of proposed.now) base plans.old false meter.old.ticks → IsOnTheWay (outline_of proposed.now) base plans.new true meter.new.ticks) }
+    ensures left { OnOk result (plans.new.left ≡ 0) }
 {
-    let Some(name) = plans.next_name() else {
-        return Ok(());
-    };
-    let Some(formula) = proposed.formula_of(name) else {
-        return Ok(());
-    };
-    let Some(plan) = &mut plans.current else {
-        return Ok(());
-    };
-    let left = &mut plans.left;
-    apply_all_to(
-        alloc,
-        proposed,
-        &plans.found,
-        name,
-        formula,
-        plan,
-        left,
-        meter,
-    )
+    while let Some(name) = plans.next_name() {
+        let Some(formula) = proposed.formula_of(name) else {
+            plans.waiting -= 1;
+            continue;
+        };
+        let begun = plans.current.take();
+        let left = &mut plans.left;
+        let plan = whole_plan(
+            alloc,
+            proposed,
+            &plans.found,
+            name,
+            formula,
+            begun,
+            left,
+            meter,
+        )?;
+        plans.keep(plan);
+    }
+    Ok(())
 }
 
-/// Applies the functions that are left of the plan of a name's formula, where all that it refers to is done, and counts them off.
-fn apply_all_to(
+/// The whole plan of a name's formula, where all that it refers to is done, from where it is begun; each function that is applied is one
+/// less that is left.
+fn whole_plan(
     alloc: Global,
     proposed: &ProposedSheet<'_>,
     found: &Found,
     name: Name,
     formula: &Formula,
-    plan: &mut Plan,
+    begun: Option<Plan>,
     left: &mut u128,
     meter: &mut Meter,
-) -> Result<(), AllocError>
+) -> Result<Plan, AllocError>
     requires proposed { IsProposed (outline_of proposed.now) }
     requires plans { ArePlans (outline_of proposed.now) (plan_in found.now.entries) }
     requires held { entry_of (outline_of proposed.now) name ≡ Some (FormulaEntry formula.now) }
     requires done { (x : List ℕ) → Contains (names_in formula.now.tree) x → IsDone (outline_of proposed.now) (plan_in found.now.entries) x }
-    requires planned { IsPlannedTo formula.now (proposed_change (outline_of proposed.now)) plan.old }
-    requires enough { operations formula.now.tree ≤ operations_among formula.now plan.old.changes + left.old }
-    ensures whole { OnOk result (operations_among formula.now plan.new.changes ≡ operations formula.now.tree) }
-    ensures count { OnOk result (operations_among formula.now plan.new.changes + left.new ≡ operations_among formula.now plan.old.changes + left.old) }
-    ensures planned { OnOk result (IsPlannedTo formula.now (proposed_change (outline_of proposed.now)) plan.new) }
-    ensures ticks { OnOk result ((start : ℕ) → meter.old.ticks ≤ start + sum_by (node_cost_at formula.now.is_new (proposed_change (outline_of proposed.now))) (take (length plan.old.changes) (subtrees formula.now.tree))
-        → meter.new.ticks ≤ start + sum_by (node_cost_at formula.now.is_new (proposed_change (outline_of proposed.now))) (take (length plan.new.changes) (subtrees formula.now.tree))) }
+    requires begun { IsBegunAs formula.now (proposed_change (outline_of proposed.now)) begun }
+    requires enough { operations formula.now.tree ≤ applied_in formula.now begun + left.old }
+    ensures whole { IfOk result (λ p. length p.changes ≡ length formula.now.nodes) }
+    ensures count { IfOk result (λ p. operations_among formula.now p.changes + left.new ≡ applied_in formula.now begun + left.old) }
+    ensures planned { IfOk result (IsPlannedTo formula.now (proposed_change (outline_of proposed.now))) }
+    ensures ticks { IfOk result (λ p. (start : ℕ) → meter.old.ticks ≤ start + spent_in formula.now (proposed_change (outline_of proposed.now)) begun
+        → meter.new.ticks ≤ start + spent_by formula.now (proposed_change (outline_of proposed.now)) p) }
 {
     let unchanged = Delta::Same;
     let ahead = Ahead {
@@ -313,9 +316,23 @@ fn apply_all_to(
         unchanged: &unchanged,
     };
     let inputs = ahead.inputs_of(alloc, name, formula)?;
-    while !formula.is_whole(plan) {
-        formula.advance(plan, inputs.as_slice(), meter)?;
+    let mut plan = resumed(formula, inputs.as_slice(), begun)?;
+    while !formula.is_whole(&plan) {
+        formula.advance(&mut plan, inputs.as_slice(), meter)?;
         *left -= 1;
     }
-    Ok(())
+    Ok(plan)
+}
+
+/// A plan that is begun, or else one of which no function is applied.
+fn resumed(formula: &Formula, inputs: &[Input], begun: Option<Plan>) -> Result<Plan, AllocError>
+    requires { (c : Change) × IsTold formula.now c inputs.now }
+    ensures count { IfOk result (λ p. operations_among formula.now p.changes ≡ applied_in formula.now begun) }
+    ensures planned { IfOk result (λ p. (c : Change) → IsTold formula.now c inputs.now → IsBegunAs formula.now c begun → IsPlannedTo formula.now c p) }
+    ensures spent { IfOk result (λ p. (c : Change) → spent_in formula.now c begun ≤ spent_by formula.now c p) }
+{
+    match begun {
+        Some(made) => Ok(made),
+        None => formula.start(inputs),
+    }
 }

@@ -1,6 +1,6 @@
 //! The sheet.
 
-ghost use Rattle.std.specs.Prelude.{◌≡◌, ◌+◌, ◌-◌, ◌<◌, ◌≤◌, min, true, [], IfOk, IfErr, OnOk, OnErr, MatchOption, Some, None, Err, is_some, if◌then◌else◌};
+ghost use Rattle.std.specs.Prelude.{◌≡◌, ◌+◌, ◌-◌, ◌<◌, ◌≤◌, ℕ, min, true, [], IfOk, IfErr, OnOk, OnErr, MatchOption, Some, None, Err, is_some, if◌then◌else◌};
 ghost use Rattle.std.specs.Map.{keys_of};
 ghost use Rattle.std.specs.Option.{option_map};
 ghost use Rattle.apl_expr.specs.Trees.{tree_of, literal_of};
@@ -15,7 +15,7 @@ ghost use Rattle.sheet_recalc.specs.ProposedSheet.{names_with};
 ghost use Rattle.sheet_recalc.specs.Planning.{IsProposalAt};
 ghost use Rattle.sheet_recalc.specs.Pending.{IsPendingOn, IsProposedOn, steps_left};
 ghost use Rattle.sheet_recalc.specs.Changes.{Change, Accepts, Refuses, Define, Store, Put, SetCell, AddRow, Erase, CannotBecome};
-ghost use Rattle.sheet_recalc.specs.Costs.{HasCost};
+ghost use Rattle.sheet_recalc.specs.Costs.{HasCost, expression_cost, IsStepCost};
 
 use crate::cell::cell_patch;
 use crate::commit::make;
@@ -23,7 +23,7 @@ use crate::entry::Entry;
 use crate::evaluation::{absent, plan_at_rest};
 use crate::growth::growth_for;
 use crate::pending::Pending;
-use crate::planning::{apply_next, apply_rest, begun, settle};
+use crate::planning::{apply_next, begun, plan_rest, settle};
 use crate::proposal::Proposal;
 use crate::proposed_sheet::ProposedSheet;
 use crate::refusal::Refusal;
@@ -163,8 +163,9 @@ impl Sheet {
     }
 
     /// Begins a definition: it is refused here, or worked out by steps and then made.
-    pub fn begin_define(&self, name: Name, tree: Expr) -> Result<Pending, Refusal>
+    pub(crate) fn begin_define(&self, name: Name, tree: Expr) -> Result<Pending, Refusal>
         ensures ok { IfOk result (IsPendingOn self.now (Define name (tree_of tree))) }
+        ensures ticks { IfOk result (λ pending. pending.ticks ≤ expression_cost self.now.names (Define name (tree_of tree))) }
         ensures refused { IfErr result (Refuses self.now.names (Define name (tree_of tree))) }
     {
         let formula = Formula::build(self.alloc, tree)?;
@@ -172,13 +173,15 @@ impl Sheet {
     }
 
     /// Does one more step of a change that was begun on the sheet as it is: applies one function, and plans what comes after that as far as
-    /// no function is to be applied. It answers how many steps are left; where none was, nothing is done. Where memory is refused,
-    /// what is left and the items counted are as they were.
+    /// no function is to be applied. It answers how many steps are left; where none was, nothing is done. It computes no more items than
+    /// some one function of the change costs. Where memory is refused, what is left and the items counted are as they were.
     pub fn advance(&self, pending: &mut Pending) -> Result<u32, AllocError>
         requires { (change : Change) × IsPendingOn self.now change pending.old }
         ensures left { IfOk result (λ n. n ≡ min (steps_left pending.new) 4294967295) }
         ensures one { OnOk result (steps_left pending.new ≡ steps_left pending.old - 1) }
         ensures kept { (change : Change) → IsPendingOn self.now change pending.old → IsPendingOn self.now change pending.new }
+        ensures ticks { OnOk result (0 < steps_left pending.old → (change : Change) → IsPendingOn self.now change pending.old → (cost : ℕ) × IsStepCost self.now.names change cost × (pending.new.ticks ≤ pending.old.ticks + cost)) }
+        ensures none { steps_left pending.old ≡ 0 → pending.new ≡ pending.old }
         ensures err { OnErr result (steps_left pending.new ≡ steps_left pending.old) }
         ensures err_ticks { OnErr result (pending.new.ticks ≡ pending.old.ticks) }
     {
@@ -223,6 +226,7 @@ impl Sheet {
         requires cut { pending.old.is_cut ≡ true }
         ensures kept { (change : Change) → IsPendingOn self.now change pending.old → IsPendingOn self.now change pending.new }
         ensures one { OnOk result (steps_left pending.new + 1 ≡ steps_left pending.old) }
+        ensures ticks { OnOk result ((change : Change) → IsPendingOn self.now change pending.old → (cost : ℕ) × IsStepCost self.now.names change cost × (pending.new.ticks ≤ pending.old.ticks + cost)) }
         ensures err { OnErr result (steps_left pending.new ≡ steps_left pending.old) }
         ensures err_ticks { OnErr result (pending.new.ticks ≡ pending.old.ticks) }
     {
@@ -237,28 +241,24 @@ impl Sheet {
         Ok(())
     }
 
-    /// Does all steps of the formula that is next.
-    fn advance_formula(&self, pending: &mut Pending) -> Result<(), AllocError>
-        requires begun { (change : Change) × IsPendingOn self.now change pending.old }
-        requires left { 0 < steps_left pending.old }
+    /// Does all steps that are left; what a formula reads is looked up once.
+    fn advance_to_end(&self, pending: &mut Pending) -> Result<(), AllocError>
+        requires { (change : Change) × IsPendingOn self.now change pending.old }
         ensures kept { OnOk result ((change : Change) → IsPendingOn self.now change pending.old → IsPendingOn self.now change pending.new) }
-        ensures fewer { OnOk result (steps_left pending.new < steps_left pending.old) }
+        ensures none { OnOk result (steps_left pending.new ≡ 0) }
     {
-        if pending.is_cut {
-            return self.plan_ahead(pending);
-        }
         let proposed = ProposedSheet {
             entries: &self.entries,
             name: pending.name,
             proposal: &pending.proposal,
         };
-        apply_rest(
+        plan_rest(
             self.alloc,
             &proposed,
             &mut pending.plans,
             &mut pending.meter,
         )?;
-        settle(self.alloc, &proposed, &mut pending.plans)?;
+        pending.is_cut = false;
         pending.ticks = pending.meter.ticks();
         Ok(())
     }
@@ -284,9 +284,7 @@ impl Sheet {
         ensures cost { OnOk result ((change : Change) → IsPendingOn self.old change pending → HasCost self.old.names change self.new.names self.new.cost) }
         ensures err { OnErr result (self.new ≡ self.old) }
     {
-        while pending.left() > 0 {
-            self.advance_formula(&mut pending)?;
-        }
+        self.advance_to_end(&mut pending)?;
         self.adopt(pending);
         Ok(())
     }
@@ -304,8 +302,9 @@ impl Sheet {
     }
 
     /// Begins to store what an expression has now; the expression itself is worked out here.
-    pub fn begin_data(&self, name: Name, tree: Expr) -> Result<Pending, Refusal>
+    pub(crate) fn begin_data(&self, name: Name, tree: Expr) -> Result<Pending, Refusal>
         ensures ok { IfOk result (IsPendingOn self.now (Store name (tree_of tree))) }
+        ensures ticks { IfOk result (λ pending. pending.ticks ≤ expression_cost self.now.names (Store name (tree_of tree))) }
         ensures refused { IfErr result (Refuses self.now.names (Store name (tree_of tree))) }
     {
         let mut meter = Meter::new();
@@ -336,13 +335,14 @@ impl Sheet {
     }
 
     /// Begins to replace one item of data.
-    pub fn begin_cell(
+    pub(crate) fn begin_cell(
         &self,
         name: Name,
         positions: &[i64],
         literal: &Literal,
     ) -> Result<Pending, Refusal>
         ensures ok { IfOk result (IsPendingOn self.now (SetCell name positions.now (literal_of literal.now))) }
+        ensures ticks { IfOk result (λ pending. pending.ticks ≤ expression_cost self.now.names (SetCell name positions.now (literal_of literal.now))) }
         ensures refused { IfErr result (Refuses self.now.names (SetCell name positions.now (literal_of literal.now))) }
     {
         let patch = cell_patch(self.alloc, &self.entries, name, positions, literal)?;
@@ -364,8 +364,9 @@ impl Sheet {
     }
 
     /// Begins to put a row at the end of data.
-    pub fn begin_row(&self, name: Name, literal: &Literal) -> Result<Pending, Refusal>
+    pub(crate) fn begin_row(&self, name: Name, literal: &Literal) -> Result<Pending, Refusal>
         ensures ok { IfOk result (IsPendingOn self.now (AddRow name (literal_of literal.now))) }
+        ensures ticks { IfOk result (λ pending. pending.ticks ≤ expression_cost self.now.names (AddRow name (literal_of literal.now))) }
         ensures refused { IfErr result (Refuses self.now.names (AddRow name (literal_of literal.now))) }
     {
         let array = data_with_row(self.alloc, &self.entries, name, literal)?;
@@ -385,8 +386,9 @@ impl Sheet {
     }
 
     /// Begins to remove a name.
-    pub fn begin_erase(&self, name: Name) -> Result<Pending, Refusal>
+    pub(crate) fn begin_erase(&self, name: Name) -> Result<Pending, Refusal>
         ensures ok { IfOk result (IsPendingOn self.now (Erase name)) }
+        ensures ticks { IfOk result (λ pending. pending.ticks ≤ expression_cost self.now.names (Erase name)) }
         ensures refused { IfErr result (Refuses self.now.names (Erase name)) }
     {
         if !self.entries.contains_key(&name) {
@@ -408,8 +410,9 @@ impl Sheet {
     }
 
     /// Begins to bind a name to an array.
-    pub fn begin_put(&self, name: Name, array: Array) -> Result<Pending, Refusal>
+    pub(crate) fn begin_put(&self, name: Name, array: Array) -> Result<Pending, Refusal>
         ensures ok { IfOk result (IsPendingOn self.now (Put name array)) }
+        ensures ticks { IfOk result (λ pending. pending.ticks ≤ expression_cost self.now.names (Put name array)) }
         ensures refused { IfErr result (Refuses self.now.names (Put name array)) }
     {
         let change = Delta::Whole(Ok(array));

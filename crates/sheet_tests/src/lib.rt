@@ -16,3 +16,5 @@ mod formula_core_tests;
 mod sheet_cli_tests;
 #[cfg(test)]
 mod sheet_recalc_tests;
+#[cfg(test)]
+mod steps_tests;

@@ -4,7 +4,7 @@ use Rattle.sheet_recalc.specs.Live.{plan_in}
 use Rattle.sheet_recalc.specs.ProposedSheet.{outline_of}
 use Rattle.sheet_recalc.specs.Planning.{waiting_names}
 use Rattle.sheet_recalc.proofs.Working.{reads_done}
-use Rattle.sheet_recalc.proofs.Forward.{next_planned, no_formula_left, applied_way}
+use Rattle.sheet_recalc.proofs.Forward.{next_planned, next_cost, no_formula_left, applied_way}
 use Rattle.sheet_recalc.proofs.planning.apply_next.Goals as goal
 
 pub apply_to-requires-clause-done : goal.apply_to-requires-clause-done
@@ -33,5 +33,17 @@ returns-clause-way c = λ base way.
 
 pub returns-in_default-formula_of-clause-left : goal.returns-in_default-formula_of-clause-left
 returns-in_default-formula_of-clause-left c =
+    let w = c.args.plans.now in
+    absurd (no_formula_left (outline_of c.args.proposed.now) c.requires.proposed c.requires.way.0 c.args.meter.now.ticks w c.in-Some.name (take (w.waiting - 1) (keys_of w.found.entries)) c.requires.way.1 c.requires.left c.in-Some.ensures.1 c.in_default-formula_of.ensures)
+
+pub returns-clause-ticks : goal.returns-clause-ticks
+returns-clause-ticks c =
+    let w = c.args.plans.now in
+    let cost = next_cost (outline_of c.args.proposed.now) c.requires.proposed c.requires.way.0 c.args.meter.now.ticks w c.in-Some.name (take (w.waiting - 1) (keys_of w.found.entries)) c.in-Some-current.plan c.requires.way.1 c.in-Some-current.is c.in-Some.ensures.1
+    c.in-Some-formula_of.formula.now c.in-Some-formula_of.ensures in
+    (_, cost, c.in_ok-apply_to.ensures.ticks)
+
+pub returns-in_default-formula_of-clause-ticks : goal.returns-in_default-formula_of-clause-ticks
+returns-in_default-formula_of-clause-ticks c =
     let w = c.args.plans.now in
     absurd (no_formula_left (outline_of c.args.proposed.now) c.requires.proposed c.requires.way.0 c.args.meter.now.ticks w c.in-Some.name (take (w.waiting - 1) (keys_of w.found.entries)) c.requires.way.1 c.requires.left c.in-Some.ensures.1 c.in_default-formula_of.ensures)

@@ -1,9 +1,12 @@
-use Rattle.std.proofs.Common.{sym, ap, subst, not, true, false}
+use Rattle.std.proofs.Common.{◌≡◌, ◌+◌, ◌≤◌, ℕ, sym, ap, subst, arith, not, true, false}
 use Rattle.std.proofs.lemmas.Bool.{false≢true}
 use Rattle.sheet_recalc.specs.Names.{SheetValue}
 use Rattle.sheet_recalc.specs.Tables.{Tables}
 use Rattle.sheet_recalc.specs.Planning.{IsProposed, IsOnTheWay}
-use Rattle.sheet_recalc.specs.Pending.{outline_for}
+use Rattle.sheet_recalc.specs.Costs.{IsNodeCost}
+use Rattle.sheet_recalc.specs.ProposedSheet.{proposed_change}
+use Rattle.sheet_recalc.specs.Pending.{outline_for, names_after, IsPendingOn}
+use Rattle.sheet_recalc.specs.declared.pending.Pending.{Pending}
 use Rattle.sheet_recalc.proofs.Stepped.{pending_on}
 use Rattle.sheet_recalc.proofs.sheet.Sheet.apply_function.Goals as goal
 
@@ -27,4 +30,12 @@ returns-clause-kept c = λ change h.
     let before = subst (λ (t : Tables). IsOnTheWay (outline_for t p) h.base p.plans true p.meter.ticks) (sym tables)
     (subst (λ b. IsOnTheWay (outline_for c.args.self.now.tables p) h.base p.plans (not b) p.meter.ticks) c.if-pending.false h.begun.way) in
     let after = subst (λ (t : Tables). IsOnTheWay (outline_for t p) h.base c.apply_next.new.plans false c.apply_next.new.meter.ticks) tables (c.in_ok-apply_next.ensures.way h.base before) in
-    pending_on p c.apply_next.new.plans true p.ticks c.apply_next.new.meter c.args.self.now change h after (λ e. absurd (false≢true (sym e))) h.begun.small
+    let k = subst (λ (t : Tables). (cost : ℕ) × IsNodeCost p.name (proposed_change (outline_for t p)) (names_after t p) cost × (c.apply_next.new.meter.ticks ≤ p.meter.ticks + cost)) tables c.in_ok-apply_next.ensures.ticks in
+    let told : p.ticks ≡ p.meter.ticks = h.begun.told c.if-pending.false in
+    pending_on p c.apply_next.new.plans true p.ticks c.apply_next.new.meter c.args.self.now change h after (λ e. absurd (false≢true (sym e))) (λ e. (k.0, k.1, omega (arith, told, k.2))) h.begun.small
+
+pub returns-in_err-apply_next-clause-kept : goal.returns-in_err-apply_next-clause-kept
+returns-in_err-apply_next-clause-kept c = λ change h.
+    let p = c.args.pending.now in
+    let e = c.in_err-apply_next.ensures in
+    subst (λ (q : Pending). IsPendingOn c.args.self.now change q) (λ i. record p { plans = sym e.err i; meter = sym e.err_meter i }) h

@@ -9,7 +9,7 @@ use Rattle.sheet_recalc.specs.Cells.{cell_put}
 use Rattle.sheet_recalc.specs.Entries.{binding_of, HasData}
 use Rattle.sheet_recalc.proofs.Live.{binding_of_name}
 use Rattle.sheet_recalc.proofs.Refused.{refused_patch}
-use Rattle.sheet_recalc.proofs.Asked.{if_ok_map, cell_pending}
+use Rattle.sheet_recalc.proofs.Asked.{if_ok_map, few_at_first, free, cell_pending}
 use Rattle.sheet_recalc.proofs.sheet.Sheet.begin_cell.Goals as goal
 
 pub propose-requires-clause-proposal : goal.propose-requires-clause-proposal
@@ -34,3 +34,6 @@ returns-clause-refused c =
     let is = subst (λ (s : SheetValue). cell_put (binding s.names c.args.name) c.args.positions.now literal ≡ Ok (patched a p)) c.self.view_is c.in_ok-patch.ensures.put.3 in
     IfErr-weaker c.propose.result _ _
     (λ cause h. refused_patch c.args.self.now.names c.args.name c.args.positions.now literal a p held is c.propose.ensures.sound.acyclic cause h) c.propose.ensures.refused
+
+pub returns-clause-ticks : goal.returns-clause-ticks
+returns-clause-ticks c = if_ok_map c.propose.result _ _ (λ p h. few_at_first c.args.self.now c.args.name _ 0 p h 0 free) c.propose.ensures.ok

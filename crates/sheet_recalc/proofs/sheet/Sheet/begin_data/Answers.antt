@@ -17,7 +17,7 @@ use Rattle.sheet_recalc.specs.Planning.{IsProposalAt}
 use Rattle.sheet_recalc.specs.ProposedSheet.{names_with}
 use Rattle.sheet_recalc.specs.declared.proposal.Proposal.TheVariants as proposed
 use Rattle.sheet_recalc.proofs.Accounted.{expression_few}
-use Rattle.sheet_recalc.proofs.Asked.{if_ok_map, data_pending}
+use Rattle.sheet_recalc.proofs.Asked.{if_ok_map, few_at_first, data_pending}
 use Rattle.sheet_recalc.proofs.Refused.{refused_put, refused_data}
 use Rattle.sheet_recalc.proofs.sheet.Sheet.begin_data.Goals as goal
 
@@ -57,3 +57,9 @@ returns-clause-refused c =
     IfErr-weaker c.propose.result _ _
     (λ cause h. refused_data names c.args.name t array.0 array.1 cause (refused_put names c.args.name array.0 c.propose.ensures.sound.acyclic cause
     (subst (λ (d : Delta). CannotBecome names (names_with names c.args.name (proposed.Data d)) c.args.name cause) is h))) c.propose.ensures.refused
+
+pub returns-clause-ticks : goal.returns-clause-ticks
+returns-clause-ticks c =
+    let t = tree_of c.args.tree in
+    let spent = c.cost-spent.ensures ∙ (c.in_ok-plan.ensures.cost ∙ ap (λ (s : SheetValue). ticked 0 (tree_cost true (at_rest s.names) t)) c.self.view_is) in
+    if_ok_map c.propose.result _ _ (λ p h. few_at_first c.args.self.now c.args.name _ c.cost-spent.result p h (tree_cost true (at_rest c.args.self.now.names) t) spent) c.propose.ensures.ok

@@ -5,7 +5,7 @@ use Rattle.formula_core.specs.Formulas.{FormulaValue}
 use Rattle.sheet_recalc.specs.Names.{Formula}
 use Rattle.sheet_recalc.specs.Changes.{CannotPut}
 use Rattle.sheet_recalc.proofs.Refused.{refused_define}
-use Rattle.sheet_recalc.proofs.Asked.{if_ok_map, define_pending}
+use Rattle.sheet_recalc.proofs.Asked.{if_ok_map, few_at_first, free, define_pending}
 use Rattle.sheet_recalc.proofs.sheet.Sheet.begin_define.Goals as goal
 
 pub returns-clause-ok : goal.returns-clause-ok
@@ -18,3 +18,6 @@ returns-clause-refused c =
     (λ cause h. refused_define c.args.self.now.names c.args.name (tree_of c.args.tree) cause
     (subst (λ (u : Tree). CannotPut c.args.self.now.names c.args.name (Formula u) cause) (ap (λ (f : FormulaValue). f.tree) c.in_ok-formula.ensures) h))
     c.propose.ensures.refused
+
+pub returns-clause-ticks : goal.returns-clause-ticks
+returns-clause-ticks c = if_ok_map c.propose.result _ _ (λ p h. few_at_first c.args.self.now c.args.name _ 0 p h 0 free) c.propose.ensures.ok

@@ -2,9 +2,9 @@ use Rattle.std.proofs.Common.{◌<◌, length, sym, subst, arith, List}
 use Rattle.formula_core.specs.declared.input.Input.{Input}
 use Rattle.formula_core.specs.Plans.{IsTold}
 use Rattle.formula_core.specs.Tables.{subtrees}
-use Rattle.formula_core.proofs.Progressed.{left_at, part_left, longer, cost_more, all_among}
+use Rattle.formula_core.proofs.Progressed.{left_at, part_left, longer, cost_more}
 use Rattle.sheet_recalc.specs.ProposedSheet.{outline_of, proposed_change}
-use Rattle.sheet_recalc.proofs.planning.apply_all_to.Goals as goal
+use Rattle.sheet_recalc.proofs.planning.whole_plan.Goals as goal
 
 pub advance-requires-clause-left : goal.advance-requires-clause-left
 advance-requires-clause-left c =
@@ -34,7 +34,7 @@ loop-plan-preserved c =
     let part = part_left f c.loop-plan.plan.changes planned.begun.few (rw c.loop-plan-test.true at c.is_whole.ensures) in
     let under = left_at f c.loop-plan.plan.changes planned.next part planned.begun.known in
     let below : length c.loop-plan.plan.changes < length (subtrees f.tree) = omega (arith, planned.begun.known, part) in
-    let told = subst (λ (inputs : List Input). IsTold f change inputs) (sym c.as_slice.ensures) c.in_ok-inputs.ensures in
+    let told = subst (λ (inputs : List Input). IsTold f change inputs) (sym c.as_slice-in-loop-plan.ensures) c.in_ok-inputs.ensures in
     let one = c.in_ok-advance.ensures.one in
     record {
       planned = c.in_ok-advance.ensures.planned change told planned;
@@ -43,7 +43,3 @@ loop-plan-preserved c =
           cost_more f.is_new change f.tree (length c.loop-plan.plan.changes) (length c.advance.new.plan.changes) start c.loop-plan.meter.ticks c.advance.new.meter.ticks below (longer f c.loop-plan.plan.changes c.advance.new.plan.changes one)
           (c.loop-plan.invariant.ticks start first) (c.in_ok-advance.ensures.ticks change told planned);
     }
-
-pub returns-clause-whole : goal.returns-clause-whole
-returns-clause-whole c =
-    all_among c.args.formula.now c.loop-plan.plan.changes (rw c.loop-plan-test.false at c.is_whole.ensures) c.loop-plan.invariant.planned.begun.known
