@@ -1,5 +1,5 @@
 -- A change that is worked out, and not made yet.
-use Rattle.std.specs.Prelude.{◌≡◌, ◌≤◌, ◌<◌, ◌+◌, ℕ, List, [], length, true, false, not, if◌then◌else◌}
+use Rattle.std.specs.Prelude.{◌≡◌, ◌≤◌, ◌<◌, ◌+◌, ℕ, List, [], length, true, false, not, Option, Some, None, Box, if◌then◌else◌}
 use Rattle.std.specs.Str.{bytes_eq}
 use Rattle.indexmap.specs.IndexMap.{spare}
 use Rattle.dep_order.specs.Room.{FindRoom, AreSetsFor}
@@ -38,10 +38,15 @@ pub record Brings (t : Tables) (references : List (List ℕ)) (g : Growth) : Typ
   pub users : FindRoom (length g.sets.entries) (length t.users.entries) (spare t.users) g.users
   pub sets : AreSetsFor bytes_eq t.users.entries references g.sets.entries
 
+-- it is there, in a box
+abbrev pub IsBrought : {A : Type 0} → Tables → List (List ℕ) → Option (Box Growth A) → Type 0
+IsBrought t references None = ⊥
+IsBrought t references (Some b) = Brings t references b.value
+
 -- there is room for what a proposal puts under its name: a formula, or a whole array
-abbrev pub HasPlace : Tables → Growth → Proposal → Type 0
-HasPlace t g (proposed.Formula f) = Brings t (names_in f.tree) g
-HasPlace t g (proposed.Data (Whole r)) = Brings t [] g
+abbrev pub HasPlace : {A : Type 0} → Tables → Option (Box Growth A) → Proposal → Type 0
+HasPlace t g (proposed.Formula f) = IsBrought t (names_in f.tree) g
+HasPlace t g (proposed.Data (Whole r)) = IsBrought t [] g
 HasPlace t g (proposed.Data delta) = Unit {0}
 HasPlace t g proposed.Removed = Unit {0}
 

@@ -12,7 +12,7 @@ ghost use Rattle.sheet_recalc.specs.declared.entry.Entry.{Entry as EntryValue};
 ghost use Rattle.sheet_recalc.specs.declared.entry.Entry.TheVariants.{Data as DataEntry};
 ghost use Rattle.dep_order.specs.Users.{HasRoomFor, HasNoEmptyBut};
 ghost use Rattle.sheet_recalc.specs.Live.{IsTable, IsCurrent, IsPlanned, IsAdopting, CanAdopt, plan_in};
-ghost use Rattle.sheet_recalc.specs.Pending.{names_after, Brings, IsReady};
+ghost use Rattle.sheet_recalc.specs.Pending.{names_after, IsBrought, IsReady};
 
 use crate::entry::Entry;
 use crate::growth::Growth;
@@ -66,10 +66,10 @@ fn commit_with(
     name: Name,
     entry: Entry,
     found: Found,
-    growth: Growth,
+    growth: Option<Box<Growth>>,
 )
     requires planned { IsPlanned entries.old.entries name (Some entry) (put (names_of entries.old.entries) name (binding_of entry)) (plan_in found.entries) }
-    requires brings { Brings (record { entries = entries.old; users = users.old }) (referred (binding_of entry)) growth }
+    requires brings { IsBrought (record { entries = entries.old; users = users.old }) (referred (binding_of entry)) growth }
     requires tells { IsTable (names_of entries.old.entries) users.old.entries }
     requires used { HasNoEmptyBut bytes_eq users.old.entries [] }
     ensures names { names_of entries.new.entries ≡ put (names_of entries.old.entries) name (binding_of entry) }
@@ -77,6 +77,10 @@ fn commit_with(
     ensures tells { IsTable (put (names_of entries.old.entries) name (binding_of entry)) users.new.entries }
     ensures used { HasNoEmptyBut bytes_eq users.new.entries [] }
 {
+    let Some(growth) = growth else {
+        unreachable!();
+    };
+    let growth = Box::into_inner(growth);
     take_larger(entries, growth.entries, 1);
     take_larger(users, growth.users, growth.sets.len());
     give_sets(users, growth.sets);

@@ -3,7 +3,7 @@
 ghost use Rattle.std.specs.Prelude.{◌≡◌, IfOk};
 ghost use Rattle.std.specs.Str.{bytes_eq};
 ghost use Rattle.dep_order.specs.Users.{Uses, HasRoomFor, HasNoEmptyBut};
-ghost use Rattle.sheet_recalc.specs.Pending.{Brings, HasPlace};
+ghost use Rattle.sheet_recalc.specs.Pending.{IsBrought, HasPlace};
 
 use crate::entry::Entry;
 use crate::proposal::Proposal;
@@ -21,24 +21,21 @@ pub(crate) struct Growth {
     pub(crate) sets: Users<Name>,
 }
 
-/// What the sheet lacks for what a proposal puts under its name. Nothing is copied.
+/// What the sheet lacks for what a proposal puts under its name; nothing where that takes no room. Nothing is copied. It lies in a box of its
+/// own, so that a change is small.
 pub(crate) fn growth_for(
     alloc: Global,
     entries: &IndexMap<Name, Entry>,
     users: &Users<Name>,
     proposal: &Proposal,
-) -> Result<Growth, AllocError>
+) -> Result<Option<Box<Growth>>, AllocError>
     ensures { IfOk result (λ growth. HasPlace (record { entries = entries.now; users = users.now }) growth proposal.now) }
 {
     match proposal {
         Proposal::Formula(formula) => growth_with(alloc, entries, users, formula.references()),
         Proposal::Data(Delta::Whole(_)) => growth_with(alloc, entries, users, &[]),
         Proposal::Data(Delta::Same) | Proposal::Data(Delta::Patch(_)) | Proposal::Removed => {
-            Ok(Growth {
-                entries: None,
-                users: None,
-                sets: IndexMap::new(alloc),
-            })
+            Ok(None)
         }
     }
 }
@@ -49,13 +46,14 @@ fn growth_with(
     entries: &IndexMap<Name, Entry>,
     users: &Users<Name>,
     references: &[Name],
-) -> Result<Growth, AllocError>
-    ensures { IfOk result (Brings (record { entries = entries.now; users = users.now }) references.now) }
+) -> Result<Option<Box<Growth>>, AllocError>
+    ensures { IfOk result (IsBrought (record { entries = entries.now; users = users.now }) references.now) }
 {
     let sets = sets_for(alloc, users, references)?;
-    Ok(Growth {
+    let growth = Growth {
         entries: larger_map(alloc, entries, 1)?,
         users: larger_map(alloc, users, sets.len())?,
         sets,
-    })
+    };
+    Ok(Some(Box::new(alloc, growth)?))
 }

@@ -15,7 +15,7 @@ pub struct Pending {
     pub(crate) name: Name,
     pub(crate) proposal: Proposal,
     pub(crate) plans: Plans,
-    pub(crate) growth: Growth,
+    pub(crate) growth: Option<Box<Growth>>,
     /// A step has applied its function, and could not do what comes after that for want of memory.
     pub(crate) is_cut: bool,
     /// How many items the steps that were done have computed.
