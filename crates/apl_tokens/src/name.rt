@@ -45,24 +45,24 @@ impl Name {
         if !spells_name(text) {
             return None;
         }
-        Name::of_letters(text)
+        Name::of_letters(text.as_bytes())
     }
 
-    /// The name of these bytes, unless they are too many.
-    pub(crate) fn of_letters(letters: &str) -> Option<Name>
+    /// The name of these bytes of UTF-8, unless they are too many.
+    pub(crate) fn of_letters(letters: &[u8]) -> Option<Name>
+        requires { is_utf8 letters.now ≡ true }
         ensures found { IfSome result (λ n. n ≡ letters.now) }
         ensures none { IfNone result (longest_name < length letters.now) }
         ensures room { IfSome result (λ n. length letters.now ≤ longest_name) }
     {
-        let from = letters.as_bytes();
-        if from.len() > LONGEST_NAME {
+        if letters.len() > LONGEST_NAME {
             return None;
         }
         let mut bytes = [0; LONGEST_NAME];
-        bytes[..from.len()].copy_from_slice(from);
+        bytes[..letters.len()].copy_from_slice(letters);
         Some(Name {
             bytes,
-            len: from.len() as u8,
+            len: letters.len() as u8,
         })
     }
 

@@ -25,14 +25,14 @@ fn signed(is_negative: bool, magnitude: u64) -> Option<i64>
     }
 }
 
-/// The number of these digits, unless it is out of range.
+/// The number of these ASCII digits, unless it is out of range.
 #[tactic(auto, using(crate::proofs::Decimals::decimal_grows))]
-pub(crate) fn number(is_negative: bool, digits: &[char]) -> Option<i64>
+pub(crate) fn number(is_negative: bool, digits: &[u8]) -> Option<i64>
     ensures { MatchOption result (fits_number is_negative (decimal_from 0 digits.now) ≡ false) (λ n. (fits_number is_negative (decimal_from 0 digits.now) ≡ true) × (n ≡ signed is_negative (decimal_from 0 digits.now))) }
 {
     let mut magnitude: u64 = 0;
     for digit in digits {
-        let value = u64::from((*digit as u32).saturating_sub(48));
+        let value = u64::from(digit.saturating_sub(48));
         magnitude = magnitude.checked_mul(10)?.checked_add(value)?;
     }
     signed(is_negative, magnitude)

@@ -1,21 +1,24 @@
 //! The scanner: it reads the characters of a line from left to right, once.
 
-ghost use Rattle.std.specs.Prelude.{◌≡◌, ◌+◌, ◌<◌, ◌^◌, [], ◌∷◌, ◌++◌, Ok, length, IfOk, encode_utf8_all};
+ghost use Rattle.std.specs.Prelude.{◌≡◌, ◌+◌, ◌≤◌, ◌<◌, ◌^◌, ℕ, List, [], ◌∷◌, ◌++◌, Ok, length, IfOk};
 ghost use Rattle.std.specs.Char.{len_utf8};
 ghost use Rattle.std.specs.Str.{chars};
 ghost use Rattle.apl_tokens.specs.Lexemes.{lexeme};
 ghost use Rattle.apl_tokens.specs.Scans.{with_front, spanned};
-ghost use Rattle.apl_tokens.specs.Scanner.{begun, ended, then_begun, turn, scan, Between, Digits, Quoted, Goes};
-ghost use Rattle.apl_tokens.specs.Scanning.{scan_of, all_spanned, prepended, Turns, Finds, Gives, AreTokensOf};
+ghost use Rattle.apl_tokens.specs.Scanner.{begun, ended, then_begun, turn, scan, Between, Quoted, Goes};
+ghost use Rattle.apl_tokens.specs.Scanning.{scan_of, all_spanned, prepended, IsReading, StandsAt, Turns, Finds, Gives, AreTokensOf};
 
 use crate::characters::{is_blank, is_letter, is_name_part, joins_number, sign_of};
 use crate::fault::TokenFault;
 use crate::name::Name;
 use crate::numbers::number;
 use crate::token::{Span, Spanned, Token};
-use std::alloc::{AllocError, Global};
+use std::alloc::Global;
 
-/// What is being read, with the byte at which it began.
+/// So many tokens have room from the start: most lines have no more.
+const FEW_TOKENS: usize = 8;
+
+/// What is being read, with the byte at which it began. A number and a name are read no further than where they stand in the text.
 #[derive(Drop)]
 enum Scan {
     /// Nothing: a token may begin.
@@ -24,10 +27,10 @@ enum Scan {
     Comment,
     /// A high minus, which takes these bytes.
     Minus(Span),
-    /// A number: where it begins, whether it has a high minus, and its digits so far.
-    Digits(usize, bool, Vec<char>),
-    /// A name: where it begins, and its letters so far.
-    Letters(usize, String),
+    /// A number: where it begins, whether it has a high minus, and where its digits begin.
+    Digits(usize, bool, usize),
+    /// A name: where it begins.
+    Letters(usize),
     /// A text: where it begins, and its characters so far.
     Quoted(usize, Vec<char>),
     /// The same after a quote, which ends the text or is doubled.
@@ -42,19 +45,18 @@ fn put(out: &mut Vec<Spanned>, token: Token, span: Span) -> Result<(), TokenFaul
     Ok(())
 }
 
-/// Reads the first digit of a number.
-fn first_digit(alloc: Global, start: usize, is_negative: bool, c: char) -> Result<Scan, TokenFault>
-    ensures { Turns result [] (Goes [] (Digits start is_negative (c ∷ []))) }
-{
-    let mut digits = Vec::new(alloc);
-    digits.push(c)?;
-    Ok(Scan::Digits(start, is_negative, digits))
-}
-
 /// Begins to read at a character that stands at byte `at`.
-fn begun(alloc: Global, at: usize, c: char, out: &mut Vec<Spanned>) -> Result<Scan, TokenFault>
-    requires { at + len_utf8 c < 2 ^ 64 }
-    ensures { Turns result out.new.items (prepended (all_spanned out.old.items) (begun at c)) }
+fn begun(
+    alloc: Global,
+    text: &[u8],
+    at: usize,
+    c: char,
+    out: &mut Vec<Spanned>,
+) -> Result<Scan, TokenFault>
+    requires short { at + len_utf8 c < 2 ^ 64 }
+    requires stands { StandsAt text.now at c }
+    ensures turns { Turns text.now (at + len_utf8 c) result out.new.items (prepended (all_spanned out.old.items) (begun at c)) }
+    ensures reading { IfOk result (IsReading text.now (at + len_utf8 c)) }
 {
     let end = at + c.len_utf8();
     if is_blank(c) {
@@ -67,11 +69,9 @@ fn begun(alloc: Global, at: usize, c: char, out: &mut Vec<Spanned>) -> Result<Sc
     if c == '\'' {
         Ok(Scan::Quoted(at, Vec::new(alloc)))
     } else if c.is_ascii_digit() {
-        first_digit(alloc, at, false, c)
+        Ok(Scan::Digits(at, false, at))
     } else if is_letter(c) {
-        let mut letters = String::new(alloc);
-        letters.push(c)?;
-        Ok(Scan::Letters(at, letters))
+        Ok(Scan::Letters(at))
     } else if c == '¯' {
         Ok(Scan::Minus(Span { start: at, end }))
     } else if c == '⍝' {
@@ -82,23 +82,25 @@ fn begun(alloc: Global, at: usize, c: char, out: &mut Vec<Spanned>) -> Result<Sc
 }
 
 /// Ends what is being read, before byte `at`.
-fn ended(at: usize, scan: Scan, out: &mut Vec<Spanned>) -> Result<(), TokenFault>
-    ensures { Finds result out.new.items (with_front (all_spanned out.old.items) (ended at (scan_of scan))) }
+fn ended(text: &[u8], at: usize, scan: Scan, out: &mut Vec<Spanned>) -> Result<(), TokenFault>
+    requires within { at ≤ length text.now }
+    requires reading { IsReading text.now at scan }
+    ensures { Finds result out.new.items (with_front (all_spanned out.old.items) (ended at (scan_of text.now at scan))) }
 {
     match scan {
         Scan::Between => Ok(()),
         Scan::Comment => Ok(()),
         Scan::Minus(span) => Err(TokenFault::Syntax(span)),
-        Scan::Digits(start, is_negative, digits) => {
+        Scan::Digits(start, is_negative, first) => {
             let span = Span { start, end: at };
-            match number(is_negative, &digits) {
+            match number(is_negative, &text[first..at]) {
                 Some(n) => put(out, Token::Num(n), span),
                 None => Err(TokenFault::Limit(span)),
             }
         }
-        Scan::Letters(start, letters) => {
+        Scan::Letters(start) => {
             let span = Span { start, end: at };
-            match Name::of_letters(letters.as_str()) {
+            match Name::of_letters(&text[start..at]) {
                 Some(name) => put(out, Token::Word(name), span),
                 None => Err(TokenFault::Limit(span)),
             }
@@ -111,21 +113,27 @@ fn ended(at: usize, scan: Scan, out: &mut Vec<Spanned>) -> Result<(), TokenFault
 /// Ends what is being read, and begins to read at a character that stands at byte `at`.
 fn then_begun(
     alloc: Global,
+    text: &[u8],
     at: usize,
     c: char,
     scan: Scan,
     out: &mut Vec<Spanned>,
 ) -> Result<Scan, TokenFault>
-    requires { at + len_utf8 c < 2 ^ 64 }
-    ensures { Turns result out.new.items (prepended (all_spanned out.old.items) (then_begun (ended at (scan_of scan)) (begun at c))) }
+    requires short { at + len_utf8 c < 2 ^ 64 }
+    requires within { at ≤ length text.now }
+    requires stands { StandsAt text.now at c }
+    requires reading { IsReading text.now at scan }
+    ensures turns { Turns text.now (at + len_utf8 c) result out.new.items (prepended (all_spanned out.old.items) (then_begun (ended at (scan_of text.now at scan)) (begun at c))) }
+    ensures reading { IfOk result (IsReading text.now (at + len_utf8 c)) }
 {
-    ended(at, scan, out)?;
-    begun(alloc, at, c, out)
+    ended(text, at, scan, out)?;
+    begun(alloc, text, at, c, out)
 }
 
-/// Reads a character of a text.
+/// Reads a character of a text literal.
 fn quoted(start: usize, mut chars: Vec<char>, c: char) -> Result<Scan, TokenFault>
-    ensures { Turns result [] (Goes [] (Quoted start (chars.items ++ c ∷ []))) }
+    ensures turns { (text : List ℕ) → (at : ℕ) → Turns text at result [] (Goes [] (Quoted start (chars.items ++ c ∷ []))) }
+    ensures reading { IfOk result (λ s. (text : List ℕ) → (at : ℕ) → IsReading text at s) }
 {
     chars.push(c)?;
     Ok(Scan::Quoted(start, chars))
@@ -134,65 +142,70 @@ fn quoted(start: usize, mut chars: Vec<char>, c: char) -> Result<Scan, TokenFaul
 /// Reads a character that stands at byte `at`.
 fn turn(
     alloc: Global,
+    text: &[u8],
     at: usize,
     c: char,
     scan: Scan,
     out: &mut Vec<Spanned>,
 ) -> Result<Scan, TokenFault>
-    requires { at + len_utf8 c < 2 ^ 64 }
-    ensures { Turns result out.new.items (prepended (all_spanned out.old.items) (turn at c (scan_of scan))) }
+    requires short { at + len_utf8 c < 2 ^ 64 }
+    requires within { at ≤ length text.now }
+    requires stands { StandsAt text.now at c }
+    requires reading { IsReading text.now at scan }
+    ensures turns { Turns text.now (at + len_utf8 c) result out.new.items (prepended (all_spanned out.old.items) (turn at c (scan_of text.now at scan))) }
+    ensures reading { IfOk result (IsReading text.now (at + len_utf8 c)) }
 {
     match scan {
-        Scan::Between => begun(alloc, at, c, out),
+        Scan::Between => begun(alloc, text, at, c, out),
         Scan::Comment => Ok(Scan::Comment),
-        Scan::Minus(minus) if c.is_ascii_digit() => first_digit(alloc, minus.start, true, c),
+        Scan::Minus(minus) if c.is_ascii_digit() => Ok(Scan::Digits(minus.start, true, at)),
         Scan::Minus(minus) => Err(TokenFault::Syntax(minus)),
-        Scan::Digits(start, is_negative, mut digits) => {
+        Scan::Digits(start, is_negative, first) => {
             if c.is_ascii_digit() {
-                digits.push(c)?;
-                return Ok(Scan::Digits(start, is_negative, digits));
+                return Ok(Scan::Digits(start, is_negative, first));
             }
             if joins_number(c) {
                 return Err(TokenFault::Syntax(Span { start, end: at }));
             }
-            then_begun(alloc, at, c, Scan::Digits(start, is_negative, digits), out)
+            then_begun(
+                alloc,
+                text,
+                at,
+                c,
+                Scan::Digits(start, is_negative, first),
+                out,
+            )
         }
-        Scan::Letters(start, mut letters) => {
+        Scan::Letters(start) => {
             if is_name_part(c) {
-                letters.push(c)?;
-                return Ok(Scan::Letters(start, letters));
+                return Ok(Scan::Letters(start));
             }
-            then_begun(alloc, at, c, Scan::Letters(start, letters), out)
+            then_begun(alloc, text, at, c, Scan::Letters(start), out)
         }
         Scan::Quoted(start, chars) if c == '\'' => Ok(Scan::Quote(start, chars)),
         Scan::Quoted(start, chars) => quoted(start, chars, c),
         Scan::Quote(start, chars) if c == '\'' => quoted(start, chars, c),
-        Scan::Quote(start, chars) => then_begun(alloc, at, c, Scan::Quote(start, chars), out),
+        Scan::Quote(start, chars) => {
+            then_begun(alloc, text, at, c, Scan::Quote(start, chars), out)
+        }
     }
 }
 
-/// The tokens of these characters.
-fn scanned(alloc: Global, chars: &[char]) -> Result<Vec<Spanned>, TokenFault>
-    requires { length (encode_utf8_all chars.now) < 2 ^ 64 }
-    ensures { Gives result (scan chars.now 0 Between) }
+/// The tokens of a text.
+fn scanned(alloc: Global, text: &str) -> Result<Vec<Spanned>, TokenFault>
+    requires { length text.now < 2 ^ 64 }
+    ensures { Gives result (scan (chars text.now) 0 Between) }
 {
-    let mut out = Vec::new(alloc);
+    let bytes = text.as_bytes();
+    let mut out = Vec::with_capacity(alloc, FEW_TOKENS)?;
     let mut reading = Scan::Between;
     let mut at: usize = 0;
-    for c in chars {
-        reading = turn(alloc, at, *c, reading, &mut out)?;
+    for c in text.chars() {
+        reading = turn(alloc, bytes, at, c, reading, &mut out)?;
         at += c.len_utf8();
     }
-    ended(at, reading, &mut out)?;
+    ended(bytes, at, reading, &mut out)?;
     Ok(out)
-}
-
-/// The characters of a text.
-fn characters(alloc: Global, text: &str) -> Result<Vec<char>, AllocError>
-    ensures text { IfOk result (λ v. v.items ≡ chars text.now) }
-    ensures bytes { IfOk result (λ v. encode_utf8_all v.items ≡ text.now) }
-{
-    text.chars().collect(alloc)
 }
 
 /// The tokens of a line, the lexical units of ISO 8485; its comment, which `⍝` begins, and blanks between tokens are none.
@@ -208,6 +221,5 @@ pub fn tokens(alloc: Global, text: &str) -> Result<Vec<Spanned>, TokenFault>
 {
     // The length of a text is below 2^64, so no byte offset in it overflows.
     let _len = text.len();
-    let chars = characters(alloc, text)?;
-    scanned(alloc, &chars)
+    scanned(alloc, text)
 }

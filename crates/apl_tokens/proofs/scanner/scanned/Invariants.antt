@@ -1,12 +1,15 @@
-use Rattle.std.proofs.Common.{◌≡◌, drop, take, length}
-use Rattle.std.specs.Prelude.{encode_utf8_all}
+use Rattle.std.proofs.Common.{◌≡◌, ◌+◌, ◌≤◌, length, drop}
+use Rattle.std.specs.Str.{chars, IsUtf8}
 use Rattle.apl_tokens.specs.Scans.{with_front}
 use Rattle.apl_tokens.specs.Scanner.{scan, Between}
-use Rattle.apl_tokens.specs.Scanning.{all_spanned, scan_of}
+use Rattle.apl_tokens.specs.Scanning.{all_spanned, scan_of, IsReading}
 use Rattle.apl_tokens.proofs.scanner.scanned.Given as goal
 
 abbrev pub invariant-loop-c : goal.invariant-loop-c
 invariant-loop-c l = record {
-  byte : l.at ≡ length (encode_utf8_all (take l.c-index l.chars));
-  kept : with_front (all_spanned l.out.items) (scan (drop l.c-index l.chars) l.at (scan_of l.reading)) ≡ scan l.chars 0 Between;
+  utf8 : IsUtf8 l.c-iterator.rest.now;
+  byte : l.at + length l.c-iterator.rest.now ≡ length l.text;
+  left : drop l.at l.bytes ≡ l.c-iterator.rest.now;
+  reading : IsReading l.bytes l.at l.reading;
+  kept : with_front (all_spanned l.out.items) (scan (chars l.c-iterator.rest.now) l.at (scan_of l.bytes l.at l.reading)) ≡ scan (chars l.text) 0 Between;
 }
