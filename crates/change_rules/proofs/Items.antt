@@ -1,5 +1,6 @@
 -- The items of a box that is all of a result.
 use Rattle.std.proofs.Common.{◌≡◌, ℕ, ◌+◌, ◌-◌, ◌*◌, ◌<◌, ◌≤◌, List, [], ◌∷◌, length, map, Result, Ok, Err, IsTrue, refl, ap, ◌∙◌, sym, subst, arith, inl, inr}
+use Rattle.std.specs.List.{range_with_len}
 use Rattle.std.proofs.lemmas.Bool.{and_parts, leb-true, false≢true, cases_order}
 use Rattle.std.proofs.lemmas.Nat.{mul-le}
 use Rattle.arrays_core.specs.declared.fault.ApplyFault.{ApplyFault}
@@ -10,7 +11,7 @@ use Rattle.arrays_core.specs.declared.item.Kind.{Kind}
 use Rattle.arrays_core.specs.Arrays.{ArrayValue, IsAnswerTo, with_items}
 use Rattle.arrays_core.specs.Items.{all_or_first_error}
 use Rattle.arrays_core.specs.Shapes.{IsWithinLimits, size, indices}
-use Rattle.index_region.specs.Boxes.{Interval, interval_length, box_size, fits, whole_of}
+use Rattle.index_region.specs.Boxes.{Interval, interval_length, box_size, fits, walk_at, whole_of}
 use Rattle.index_region.specs.Checks.{Form, form_of, whole}
 use Rattle.index_region.proofs.Patched.{box_within_size}
 use Rattle.change_core.specs.declared.reach.Reach.{Reach}
@@ -72,6 +73,12 @@ all_holds form item shape t region r e w h =
 -- as many items as places
 pub as_many : (item : List ℕ → Result Item Kind) (region : List Interval) (xs : List Item) → items_in item region ≡ Ok xs → length xs ≡ box_size region
 as_many item region xs e = length-along item region xs (items_are item region ∙ e)
+
+-- a box of one place has the item there, or the error
+pub one_item : (item : List ℕ → Result Item Kind) (region : List Interval) (r : Result Item Kind) → box_size region ≡ 1 → r ≡ item (walk_at region 0) → items_in item region ≡ all_or_first_error (r ∷ [])
+one_item item region r one is =
+    ap (λ (n : ℕ). all_or_first_error (map (λ before. item (walk_at region before)) (range_with_len 0 n))) one
+    ∙ ap (λ (x : Result Item Kind). all_or_first_error (x ∷ [])) (sym is)
 
 -- what may change lies in the result
 pub inside_fit : (form : Result Form Kind) (shape : List ℕ) (t : ItemType) (reach : Reach) (region : List Interval) → form ≡ Ok (form_of shape t) → Inside region ≡ reach → LiesIn form reach → IsTrue (fits region shape)

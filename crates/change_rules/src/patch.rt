@@ -3,6 +3,7 @@
 ghost use Rattle.std.specs.Prelude.{◌≡◌, ◌+◌, ◌≤◌, length, Ok, IsTrue, IfOk};
 ghost use Rattle.index_region.specs.Answers.{IsFormAnswerTo};
 ghost use Rattle.index_region.specs.Boxes.{box_size, fits};
+ghost use Rattle.index_region.specs.Checks.{Form};
 ghost use Rattle.change_core.specs.Parts.{HoldsItems, items_in};
 ghost use Rattle.change_rules.specs.Nodes.{patch_delta};
 
@@ -37,7 +38,23 @@ fn items_of<R: Rule>(
     }
 }
 
-/// The patch of a box of the result, or the first error in it.
+/// The patch of one place of the result, or the error there. It takes no memory.
+fn patch_of_one<R: Rule>(rule: &R, args: &[Seen], region: IndexBox, meter: &mut Meter) -> Delta
+    requires count { length args.now ≡ length (R.model rule.now).selectors }
+    requires one { box_size region ≡ 1 }
+    requires checked { (f : Form) × ((R.model rule.now).form args.now ≡ Ok f) × IsTrue (fits region f.shape) }
+    ensures delta { (f : Form) → (R.model rule.now).form args.now ≡ Ok f → result ≡ patch_delta f.item_type region (items_in ((R.model rule.now).item args.now) region) }
+    ensures ticks { meter.new.ticks ≤ meter.old.ticks + 1 }
+    ensures joins { meter.new.joins ≡ meter.old.joins }
+{
+    let index = region.index_at(0);
+    match rule.item(args, index.as_slice(), meter) {
+        Ok(item) => Delta::Patch(Patch::one(region, item)),
+        Err(kind) => Delta::Whole(Err(Fault { kind, origin: None })),
+    }
+}
+
+/// The patch of a box of the result, or the first error in it. One place that is not all of the result takes no memory.
 pub(crate) fn patch_of<R: Rule>(
     alloc: Global,
     rule: &R,
@@ -53,6 +70,9 @@ pub(crate) fn patch_of<R: Rule>(
     ensures ticks { meter.new.ticks ≤ meter.old.ticks + box_size region }
     ensures joins { meter.new.joins ≡ meter.old.joins }
 {
+    if region.size() == 1 && size(form.0.as_slice()) > 1 {
+        return Ok(patch_of_one(rule, args, region, meter));
+    }
     match items_of(alloc, rule, args, form, &region, meter) {
         Ok(values) => Ok(Delta::Patch(Patch::of(region, values))),
         Err(ApplyFault::Kind(kind)) => Ok(Delta::Whole(Err(Fault { kind, origin: None }))),

@@ -1,5 +1,5 @@
 -- The sums that totals keep follow the changes of their arguments.
-use Rattle.std.proofs.Common.{◌≡◌, ℕ, List, length, Bool, true, false, Option, Some, None, is_some, Result, Ok, Err, IfOk, refl, sym, ap, ◌∙◌, subst, inl, inr}
+use Rattle.std.proofs.Common.{◌≡◌, ℕ, List, length, Box, Global, Bool, true, false, Option, Some, None, is_some, Result, Ok, Err, IfOk, refl, sym, ap, ◌∙◌, subst, inl, inr}
 use Rattle.std.specs.declared.alloc.AllocError.{AllocError}
 use Rattle.std.specs.Option.{option_map_or}
 use Rattle.std.proofs.lemmas.Bool.{false≢true, cases_Bool, cond-true, cond-false}
@@ -45,11 +45,11 @@ kept_of (Ok b) a is = elim (cases_Bool (keeps_sums b)) [
   | inr f ↦ let none : Some a ≡ None = is ∙ cond-false _ _ _ f in absurd (let no : ⊥ = cc in no)
 ]
 
-pub patch_taken : (now : ArrayValue) (p q : PatchValue) (kept : Option ArrayValue) → is_some kept ≡ true → q ≡ p → IsSumsDelta (Ok now) (Patch p) kept (sums.Patch q)
+pub patch_taken : (now : ArrayValue) (p : PatchValue) (q : Box PatchValue Global) (kept : Option ArrayValue) → is_some kept ≡ true → q.value ≡ p → IsSumsDelta (Ok now) (Patch p) kept (sums.Patch q)
 patch_taken now p q None some is = absurd (false≢true some)
 patch_taken now p q (Some a) some is = record { right = right; fit = fit }
   where
-    right : (old : Outcome) → (is_whole (Patch p) ≡ false → WasSummed (Ok now) (Patch p) (Some a) old) → Some (patched a q) ≡ summed_in (Ok now)
+    right : (old : Outcome) → (is_whole (Patch p) ≡ false → WasSummed (Ok now) (Patch p) (Some a) old) → Some (patched a q.value) ≡ summed_in (Ok now)
     right old was =
         let w = was refl in
         let k = kept_of old a w.keeps in
@@ -58,7 +58,7 @@ patch_taken now p q (Some a) some is = record { right = right; fit = fit }
         ap (λ (r : PatchValue). Some (patched a r)) is
         ∙ (sym (cond-true (keeps_sums (patched a p)) (Some (patched a p)) None k.long) ∙ ap (λ (x : ArrayValue). summed x) here)
 
-    fit : (old : Outcome) → (is_whole (Patch p) ≡ false → WasSummed (Ok now) (Patch p) (Some a) old) → FitsPatch a q
+    fit : (old : Outcome) → (is_whole (Patch p) ≡ false → WasSummed (Ok now) (Patch p) (Some a) old) → FitsPatch a q.value
     fit old was =
         let w = was refl in
         let k = kept_of old a w.keeps in

@@ -50,13 +50,13 @@ totalled (node.Index array positions) = None
 -- the sums that a node keeps, with their change
 abbrev pub resummed : SumsDelta → Option ArrayValue → Option ArrayValue
 resummed Same kept = kept
-resummed (Patch p) (Some a) = Some (patched a p)
+resummed (Patch p) (Some a) = Some (patched a p.value)
 resummed (Patch p) None = None
 resummed (Whole s) kept = s
 
 -- a box that changes lies in the array whose lines are summed up
 abbrev pub FitsSums : SumsDelta → Option ArrayValue → Type 0
-FitsSums (Patch p) (Some a) = FitsPatch a p
+FitsSums (Patch p) (Some a) = FitsPatch a p.value
 FitsSums (Patch p) None = ⊥
 FitsSums _ _ = Unit {0}
 

@@ -49,6 +49,11 @@ applies (node.Constant literal) = false
 applies (node.Name place) = false
 applies _ = true
 
+-- it is a literal
+abbrev pub is_literal : Node → Bool
+is_literal (node.Constant literal) = true
+is_literal _ = false
+
 -- the trees of further nodes, behind these
 abbrev pub trees_after : List (List ℕ) → List Tree → List Node → List Tree
 trees_after names trees [] = trees

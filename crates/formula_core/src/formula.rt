@@ -1,6 +1,6 @@
 //! A formula: an expression as a table of nodes, with the result that each node was last given.
 
-ghost use Rattle.std.specs.Prelude.{◌≡◌, ◌+◌, ◌≤◌, ◌<◌, ℕ, false, [], length, get_or, take, map, IfOk, OnOk, OnErr, MatchBool};
+ghost use Rattle.std.specs.Prelude.{◌≡◌, ◌+◌, ◌≤◌, ◌<◌, ℕ, false, [], length, get_or, take, map, min, IfOk, OnOk, OnErr, MatchBool};
 ghost use Rattle.std.specs.List.{count_by};
 ghost use Rattle.apl_expr.specs.Trees.{tree_of};
 ghost use Rattle.formula_core.specs.Outcomes.{read};
@@ -77,8 +77,15 @@ impl Formula {
         self.names.as_slice()
     }
 
-    /// How many functions its expression applies.
-    pub fn operations(&self) -> usize
+    /// How many functions its expression applies; the greatest number of 32 bits where there are more.
+    pub fn operations(&self) -> u32
+        ensures { result ≡ min (operations self.now.tree) 4294967295 }
+    {
+        u32::try_from(self.all_operations()).unwrap_or(u32::MAX)
+    }
+
+    /// How many there are, however many.
+    pub fn all_operations(&self) -> usize
         ensures { result ≡ operations self.now.tree }
     {
         count_operations(self.nodes.as_slice())
@@ -181,12 +188,27 @@ impl Formula {
         ensures same { OnOk result (operations_among self.now changes.new.items ≡ operations_among self.now changes.old.items) }
         ensures begun { OnOk result ((c : Change) → IsTold self.now c inputs.now → (cost : ℕ) → IsBegun self.now c changes.old.items cost → IsBegun self.now c changes.new.items cost) }
     {
-        let mut none = Meter::new();
         while changes.len() < self.nodes.len() && !self.nodes[changes.len()].node.applies() {
-            let (change, _items) = self.next(changes.as_slice(), inputs, &mut none)?;
+            let change = self.next_leaf(changes.as_slice(), inputs)?;
             changes.push(change)?;
         }
         Ok(())
+    }
+
+    /// What changes of the literal or name that comes next after those that have these changes: of a literal nothing, but in a new formula.
+    fn next_leaf(&self, changes: &[NodeChange], inputs: &[Input]) -> Result<NodeChange, AllocError>
+        requires below { length changes.now < length self.now.nodes }
+        requires begun { (c : Change) × (IsTold self.now c inputs.now × ((cost : ℕ) × IsBegun self.now c changes.now cost)) }
+        ensures { IfOk result (λ d. (c : Change) → IsTold self.now c inputs.now → (cost : ℕ) → IsBegun self.now c changes.now cost
+            → IsDone self.now.is_new c (tree_at (subtrees self.now.tree) (length changes.now)) (get_or self.now.nodes (length changes.now) not_worked_out) d) }
+    {
+        let kept = &self.nodes[changes.len()];
+        if !self.is_new && kept.node.is_literal() {
+            return Ok(kept.unchanged());
+        }
+        let mut none = Meter::new();
+        let (change, _items) = self.next(changes, inputs, &mut none)?;
+        Ok(change)
     }
 
     /// What changes of the node that comes next after those that have these changes, and what it costs.

@@ -137,3 +137,20 @@ impl<'a> Input<'a> {
         }
     }
 }
+
+/// What was held and what the change makes of it are arrays, where they are no errors: each array says so itself.
+pub(crate) fn outcomes_are_arrays(held: &Result<Array, Fault>, change: &Delta)
+    requires { FitsIn change.now held.now }
+    ensures held { IfOk held.now IsArray }
+    ensures now { IfOk (applied change.now held.now) IsArray }
+{
+    if let Delta::Whole(Ok(array)) = change {
+        let _is_array = array.shape();
+    }
+    if let Ok(array) = held {
+        let _is_array = array.shape();
+        if let Delta::Patch(patch) = change {
+            let _is_array = Seen::patched(array, patch).shape();
+        }
+    }
+}

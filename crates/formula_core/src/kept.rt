@@ -1,11 +1,12 @@
 //! A node with what it keeps, and what changes of that.
 
-ghost use Rattle.std.specs.Prelude.{◌≡◌, length, None, Err};
+ghost use Rattle.std.specs.Prelude.{◌≡◌, length, None, Err, IfOk};
+ghost use Rattle.arrays_core.specs.Arrays.{IsArray};
 ghost use Rattle.arrays_core.specs.declared.item.Kind.TheVariants.{Value};
 ghost use Rattle.change_rules.specs.Currency.{applied};
 ghost use Rattle.formula_core.specs.Changes.{FitsIn, each_with};
 ghost use Rattle.formula_core.specs.Outcomes.{fault};
-ghost use Rattle.formula_core.specs.Holdings.{holding, holdings_of, taken, IsFit, AllFit};
+ghost use Rattle.formula_core.specs.Holdings.{holding, holdings_of, no_change, taken, IsFit, AllFit};
 
 use crate::sums::{SumsDelta, take_sums_delta};
 use crate::table::Node;
@@ -42,6 +43,20 @@ impl Kept {
             node,
             result: Err(unknown()),
             sums: None,
+        }
+    }
+
+    /// No change of it. Its result says that it is an array, if it is no error.
+    pub(crate) fn unchanged(&self) -> NodeChange
+        ensures none { result ≡ no_change }
+        ensures sound { IfOk self.now.result IsArray }
+    {
+        if let Ok(array) = &self.result {
+            let _is_array = array.shape();
+        }
+        NodeChange {
+            delta: Delta::Same,
+            sums: SumsDelta::Same,
         }
     }
 

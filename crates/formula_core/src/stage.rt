@@ -14,7 +14,7 @@ ghost use Rattle.formula_core.specs.Sums.{summed_at};
 ghost use Rattle.formula_core.specs.Tables.{IsOperand, AreOperands, IsNode, tree_at, tree_of_operand, tree_of_node};
 
 use crate::index_change::change_of_index;
-use crate::input::Input;
+use crate::input::{Input, outcomes_are_arrays};
 use crate::kept::{Kept, NodeChange};
 use crate::literals::array_of;
 use crate::operation_change::{change_of_both, change_of_monad};
@@ -92,8 +92,7 @@ impl<'a> Stage<'a> {
         let kept = &self.nodes[self.changes.len()];
         let (delta, items) = self.change_of(&kept.node, &kept.result, &kept.sums, meter)?;
         let sums = self.sums_of(&kept.node, &kept.sums)?;
-        // What the node gives now says that it is an array.
-        let _sound = Input::of_node(&kept.result, &delta);
+        outcomes_are_arrays(&kept.result, &delta);
         Ok((NodeChange { delta, sums }, items))
     }
 
@@ -147,7 +146,8 @@ impl<'a> Stage<'a> {
     {
         match node.totalled() {
             Some(right) => sums_delta(self.alloc, &self.operand(right), kept),
-            None => Ok(SumsDelta::Whole(None)),
+            None if self.is_new => Ok(SumsDelta::Whole(None)),
+            None => Ok(SumsDelta::Same),
         }
     }
 

@@ -21,7 +21,7 @@ pub(crate) enum SumsDelta {
     /// Nothing.
     Same,
     /// New items for a box of the array whose lines are summed up.
-    Patch(Patch),
+    Patch(Box<Patch>),
     /// Other sums, or none.
     Whole(Option<LineSums>),
 }
@@ -65,7 +65,7 @@ fn patch_delta(
 {
     let places = array.places() as usize;
     if kept.is_some() && patch.region().size() <= places / PLACES_TO_ONE_NEW + 1 {
-        return Ok(SumsDelta::Patch(patch.copy()?));
+        return Ok(SumsDelta::Patch(Box::new(alloc, patch.copy()?)?));
     }
     Ok(SumsDelta::Whole(LineSums::of(alloc, array)?))
 }

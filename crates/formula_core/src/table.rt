@@ -4,7 +4,7 @@ ghost use Rattle.std.specs.Prelude.{◌≡◌, ◌++◌, [], ◌∷◌, length, 
 ghost use Rattle.apl_expr.specs.Trees.{tree_of, position_of, positions_of, literal_of};
 ghost use Rattle.formula_core.specs.declared.table.Operand.TheVariants.{Node as NodeAt};
 ghost use Rattle.formula_core.specs.Sums.{totalled};
-ghost use Rattle.formula_core.specs.Tables.{IsLowered, ArePositionsLowered, applies};
+ghost use Rattle.formula_core.specs.Tables.{IsLowered, ArePositionsLowered, applies, is_literal};
 
 use crate::sums::is_total;
 use apl_expr::{Dyadic, Expr, Literal, Monadic};
@@ -42,6 +42,13 @@ impl Node {
         ensures { result ≡ applies self.now }
     {
         !matches!(self, Node::Constant(_) | Node::Name(_))
+    }
+
+    /// It is a literal.
+    pub(crate) fn is_literal(&self) -> bool
+        ensures { result ≡ is_literal self.now }
+    {
+        matches!(self, Node::Constant(_))
     }
 
     /// The argument whose lines it sums up, where it does that.

@@ -9,3 +9,4 @@ pub mod Boxes
 pub mod Patches
 -- What bodies use.
 pub mod Advancing
+pub mod PatchItems

@@ -9,6 +9,7 @@ mod index_box;
 mod index_list;
 mod intervals;
 mod patch;
+mod patch_items;
 mod primitive;
 mod runs;
 mod seen;

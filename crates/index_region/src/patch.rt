@@ -1,13 +1,15 @@
 //! Patches: new items for a box of an array.
 
-ghost use Rattle.std.specs.Prelude.{◌≡◌, ◌-◌, ◌≤◌, ◌<◌, length, get_or, IsTrue, IfOk};
+ghost use Rattle.std.specs.Prelude.{◌≡◌, ◌-◌, ◌≤◌, ◌<◌, ◌∷◌, [], length, get_or, IsTrue, IfOk};
 ghost use Rattle.arrays_core.specs.Arrays.{IsArray};
 ghost use Rattle.arrays_core.specs.Items.{fill, type_of};
 ghost use Rattle.index_region.specs.Boxes.{box_size, box_offset, is_within};
+ghost use Rattle.index_region.specs.PatchItems.{items_of, type_of_items};
 ghost use Rattle.index_region.specs.Patches.{PatchValue, IsPatch, FitsPatch, patched};
 
 use crate::index_box::IndexBox;
-use arrays_core::{Array, Item, ItemType, position, size};
+use crate::patch_items::PatchItems;
+use arrays_core::{Array, Item, ItemType, position};
 use std::alloc::AllocError;
 use std::marker::Model;
 
@@ -15,15 +17,15 @@ use std::marker::Model;
 #[derive(Drop)]
 pub struct Patch {
     region: IndexBox,
-    values: Array,
+    items: PatchItems,
 }
 
 impl Model for Patch {
     ghost Value = { PatchValue };
 
-    ghost view = { λ p. record { region = p.region; item_type = p.values.item_type; items = p.values.items } };
+    ghost view = { λ p. record { region = p.region; item_type = type_of_items p.items; items = items_of p.items } };
 
-    ghost invariant = { λ p. length p.values.items ≡ box_size p.region };
+    ghost invariant = { λ p. length (items_of p.items) ≡ box_size p.region };
 }
 
 impl Patch {
@@ -32,16 +34,30 @@ impl Patch {
         requires { length values.items ≡ box_size region }
         ensures { result ≡ record { region = region; item_type = values.item_type; items = values.items } }
     {
-        Patch { region, values }
+        Patch {
+            region,
+            items: PatchItems::Many(values),
+        }
     }
 
-    /// A patch of its own with the same box and items.
+    /// The patch of a box of one place. It takes no memory.
+    pub fn one(region: IndexBox, item: Item) -> Patch
+        requires { box_size region ≡ 1 }
+        ensures { result ≡ record { region = region; item_type = type_of item; items = item ∷ [] } }
+    {
+        Patch {
+            region,
+            items: PatchItems::One(item),
+        }
+    }
+
+    /// A patch of its own with the same box and items. Memory is asked for where there is more than one item.
     pub fn copy(&self) -> Result<Patch, AllocError>
         ensures { IfOk result (λ p. p ≡ self.now) }
     {
         Ok(Patch {
             region: self.region.copy(),
-            values: self.values.copy()?,
+            items: self.items.copy()?,
         })
     }
 
@@ -58,7 +74,7 @@ impl Patch {
         ensures sound { IsPatch self.now }
     {
         let _region = &self.region;
-        self.values.item_type()
+        self.items.item_type()
     }
 
     /// The new item at an index list of the box.
@@ -67,9 +83,9 @@ impl Patch {
         ensures is { result ≡ get_or self.now.items (box_offset self.now.region index.now) (fill self.now.item_type) }
         ensures typed { type_of result ≡ self.now.item_type }
     {
-        let _typed = self.values.shape();
-        let offset = self.region.offset(index);
-        self.values.item(offset as u32 + 1)
+        // The count says that the offset has 32 bits.
+        let _count = self.items.count();
+        self.items.item(self.region.offset(index) as u32)
     }
 
     /// Writes the new items into an array: it is then what the array is with the patch laid over it.
@@ -77,13 +93,13 @@ impl Patch {
         requires { FitsPatch array.old self.now }
         ensures { array.new ≡ patched array.old self.now }
     {
-        let items = size(self.values.shape().as_slice());
+        let items = self.items.count();
         // The shape of the array says that it has one item for each place.
         let _one_item_a_place = array.shape();
         let mut index = self.region.index_at(0);
         for before in 0..items {
             let place = position(array.shape(), index.as_slice());
-            array.write_at(place, self.values.item(before + 1));
+            array.write_at(place, self.items.item(before));
             self.region.advance(&mut index);
         }
     }

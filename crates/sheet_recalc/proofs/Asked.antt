@@ -19,7 +19,7 @@ use Rattle.sheet_recalc.specs.Rows.{row_put}
 use Rattle.sheet_recalc.specs.Changes.{Change, Accepts, Define, Put, Store, SetCell, AddRow, Erase}
 use Rattle.sheet_recalc.specs.Entries.{names_of, binding_of, HasData}
 use Rattle.sheet_recalc.specs.ProposedSheet.{data_entry, proposed_entry, proposed_delta, proposed_change}
-use Rattle.sheet_recalc.specs.Pending.{IsPendingOn, IsProposedOn, names_after, outline_for}
+use Rattle.sheet_recalc.specs.Pending.{IsLaidOutOn, IsProposedOn, names_after, outline_for}
 use Rattle.sheet_recalc.specs.declared.entry.Entry.{Entry}
 use Rattle.sheet_recalc.specs.declared.entry.Entry.TheVariants as entry
 use Rattle.sheet_recalc.specs.declared.pending.Pending.{Pending}
@@ -45,7 +45,7 @@ module _ (s : SheetValue) (name : List ℕ) (proposal : Proposal) (spent : ℕ) 
       (λ i. sheet_change (h.names_are i) (names_after s.tables p) (h.name_is i) (proposed_delta (h.name_is i) (names_after s.tables p) (h.proposal_is i)))
       ∙ ap (λ e. sheet_change s.names (names_after s.tables p) name e) is
 
-  pub asked : (change : Change) → spent ≡ ticked 0 (expression_cost s.names change) → Accepts s.names change (names_after s.tables p) → name ≡ changed_name change → proposed_change (outline_for s.tables p) ≡ asked_change s.names change (names_after s.tables p) → IsPendingOn s change p
+  pub asked : (change : Change) → spent ≡ ticked 0 (expression_cost s.names change) → Accepts s.names change (names_after s.tables p) → name ≡ changed_name change → proposed_change (outline_for s.tables p) ≡ asked_change s.names change (names_after s.tables p) → IsLaidOutOn s change p
   asked change first accepts about is = record { base = spent; begun = h.begun; base_is = first; accepts = accepts; name_is = h.name_is ∙ about; makes = is }
 
   -- at first no more items were computed than was spent
@@ -56,20 +56,20 @@ module _ (s : SheetValue) (name : List ℕ) (proposal : Proposal) (spent : ℕ) 
 pub free : 0 ≡ ticked 0 0
 free = omega arith
 
-pub define_pending : (s : SheetValue) (name : List ℕ) (f : FormulaValue) (t : Tree) → f.tree ≡ t → (p : Pending) → IsProposedOn s name (proposed.Formula f) 0 p → IsPendingOn s (Define name t) p
+pub define_pending : (s : SheetValue) (name : List ℕ) (f : FormulaValue) (t : Tree) → f.tree ≡ t → (p : Pending) → IsProposedOn s name (proposed.Formula f) 0 p → IsLaidOutOn s (Define name t) p
 define_pending s name f t is p h =
     asked s name (proposed.Formula f) 0 p h (Define name t) free
     (becomes s name (proposed.Formula f) 0 p h (Some (entry.Formula f)) refl ∙ ap (λ u. put s.names name (Formula u)) is, h.begun.sheet.acyclic, h.room)
     refl (makes s name (proposed.Formula f) 0 p h (Whole (val (names_after s.tables p) name)) refl)
 
-pub erase_pending : (s : SheetValue) (name : List ℕ) → IsSome (binding s.names name) → (p : Pending) → IsProposedOn s name proposed.Removed 0 p → IsPendingOn s (Erase name) p
+pub erase_pending : (s : SheetValue) (name : List ℕ) → IsSome (binding s.names name) → (p : Pending) → IsProposedOn s name proposed.Removed 0 p → IsLaidOutOn s (Erase name) p
 erase_pending s name there p h =
     asked s name proposed.Removed 0 p h (Erase name) free (there, becomes s name proposed.Removed 0 p h None refl) refl (makes s name proposed.Removed 0 p h (Whole (val (names_after s.tables p) name)) refl)
 
 -- data that is patched in one cell
 pub cell_pending : (s : SheetValue) (name : List ℕ) (positions : List ℤ) (literal : Literal) (patch : PatchValue) (a : ArrayValue) → HasData s.tables.entries.entries name a
     → cell_put (binding s.names name) positions literal ≡ Ok (patched a patch) → Patch patch ≡ cell_delta (index_of_numbers positions) (literal_items literal)
-    → (p : Pending) → IsProposedOn s name (proposed.Data (Patch patch)) 0 p → IsPendingOn s (SetCell name positions literal) p
+    → (p : Pending) → IsProposedOn s name (proposed.Data (Patch patch)) 0 p → IsLaidOutOn s (SetCell name positions literal) p
 cell_pending s name positions literal patch a held is delta p h =
     let shows : val s.names name ≡ Ok a = ap (λ ns. val ns name) (sym h.names_are) ∙ val_data (names_of s.tables.entries.entries) name a (binding_of_name s.tables.entries.entries name ∙ ap (option_map binding_of) held) in
     asked s name (proposed.Data (Patch patch)) 0 p h (SetCell name positions literal) free
@@ -84,12 +84,12 @@ module _ (s : SheetValue) (name : List ℕ) (a : ArrayValue) (spent : ℕ) (p : 
   array_makes : proposed_change (outline_for s.tables p) ≡ sheet_change s.names (names_after s.tables p) name (Whole (val (names_after s.tables p) name))
   array_makes = makes s name (proposed.Data (Whole (Ok a))) spent p h (Whole (val (names_after s.tables p) name)) (whole_put s.names (names_after s.tables p) name a (Whole (Ok a)) refl (sym array_names))
 
-  pub data_pending : (t : Tree) → eval t (val s.names) ≡ Ok a → spent ≡ ticked 0 (tree_cost true (at_rest s.names) t) → IsPendingOn s (Store name t) p
+  pub data_pending : (t : Tree) → eval t (val s.names) ≡ Ok a → spent ≡ ticked 0 (tree_cost true (at_rest s.names) t) → IsLaidOutOn s (Store name t) p
   data_pending t is first = asked s name (proposed.Data (Whole (Ok a))) spent p h (Store name t) first (a, is, array_names, h.room) refl array_makes
 
-pub put_pending : (s : SheetValue) (name : List ℕ) (a : ArrayValue) (p : Pending) → IsProposedOn s name (proposed.Data (Whole (Ok a))) 0 p → IsPendingOn s (Put name a) p
+pub put_pending : (s : SheetValue) (name : List ℕ) (a : ArrayValue) (p : Pending) → IsProposedOn s name (proposed.Data (Whole (Ok a))) 0 p → IsLaidOutOn s (Put name a) p
 put_pending s name a p h = asked s name (proposed.Data (Whole (Ok a))) 0 p h (Put name a) free (array_names s name a 0 p h, h.room) refl (array_makes s name a 0 p h)
 
 -- a row is added by putting the longer array
-pub row_pending : (s : SheetValue) (name : List ℕ) (a : ArrayValue) (literal : Literal) → row_put (binding s.names name) literal ≡ Ok a → (p : Pending) → IsPendingOn s (Put name a) p → IsPendingOn s (AddRow name literal) p
+pub row_pending : (s : SheetValue) (name : List ℕ) (a : ArrayValue) (literal : Literal) → row_put (binding s.names name) literal ≡ Ok a → (p : Pending) → IsLaidOutOn s (Put name a) p → IsLaidOutOn s (AddRow name literal) p
 row_pending s name a literal is p h = record { base = h.base; begun = h.begun; base_is = h.base_is; accepts = (a, is, h.accepts.0); name_is = h.name_is; makes = h.makes }

@@ -12,7 +12,7 @@ use Rattle.change_core.specs.Meters.{ticked}
 use Rattle.dep_order.specs.Users.{HasNothing}
 use Rattle.formula_core.specs.Changes.{Change}
 use Rattle.formula_core.specs.Formulas.{FormulaValue, operations}
-use Rattle.formula_core.specs.Plans.{PlanValue, node_cost_at, tree_cost}
+use Rattle.formula_core.specs.Plans.{PlanValue, node_cost_at, tree_cost, IsPlanOf, IsPlanned as IsFormulaPlanned}
 use Rattle.formula_core.specs.Progress.{operations_among, IsPlannedTo}
 use Rattle.formula_core.specs.Tables.{subtrees, tree_at}
 use Rattle.formula_core.proofs.Planned.{planned_at_end, plan_of}
@@ -21,7 +21,7 @@ use Rattle.sheet_recalc.specs.Names.{Names, Binding}
 use Rattle.sheet_recalc.specs.Costs.{IsNodeCost}
 use Rattle.sheet_recalc.specs.Live.{IsPlanned, plan_in}
 use Rattle.sheet_recalc.specs.ProposedSheet.{Outline, own_entry, proposed_names, proposed_change, proposed_cost, entry_of}
-use Rattle.sheet_recalc.specs.Planning.{IsProposed, IsAffected, IsPlanAt, IsUnderWay, IsBegunAs, IsComingTo, IsComing, IsOnTheWay, waiting_names, functions_of, functions_at, applied_in, spent_by, spent_in, name_cost, names_cost}
+use Rattle.sheet_recalc.specs.Planning.{IsProposed, IsAffected, IsPlanAt, IsUnderWay, IsPlanning, AllWait, IsComingTo, IsComing, IsOnTheWay, waiting_names, functions_of, functions_at, name_cost, names_cost}
 use Rattle.sheet_recalc.specs.declared.entry.Entry.TheVariants as entry
 use Rattle.sheet_recalc.specs.declared.plans.Plans.{Plans}
 use Rattle.sheet_recalc.proofs.Accounted.{few_ticks}
@@ -40,6 +40,10 @@ last_same xs ys x y is = sym (last_of xs x) ∙ (ap (λ zs. get_or zs (length zs
 pub keys_long : {X : Type 0} (es : List (List ℕ × X)) → length (keys_of es) ≡ length es
 keys_long [] = refl
 keys_long (e ∷ es) = let rest = keys_long es in omega (arith, rest)
+
+-- all of the names wait
+all_names : (w : Plans) → w.waiting ≡ length w.found.entries → waiting_names w ≡ keys_of w.found.entries
+all_names w waits = take_all w.waiting (keys_of w.found.entries) (omega (arith, waits, keys_long w.found.entries))
 
 -- nothing stands beside any name
 none_in : (es : List (List ℕ × Option PlanValue)) → HasNothing bytes_eq es → (q : List ℕ) → plan_in es q ≡ None
@@ -79,23 +83,83 @@ module _ (o : Outline) where
 
   module _ (ready : IsProposed o) (base : ℕ) where
     -- in the beginning all wait
-    pub begun_way : (w : Plans) (ticks : ℕ) → w.waiting ≡ length w.found.entries → w.current ≡ None → w.left ≡ sum_by (functions_at o) (keys_of w.found.entries) → w.cost ≡ base → base < 18446744073709551616
-        → IsDistinct bytes_eq (keys_of w.found.entries) → IsAffected o (keys_of w.found.entries) → HasNothing bytes_eq w.found.entries → proposed_cost o ≡ names_cost o (keys_of w.found.entries) → ticked 0 ticks ≤ base → IsOnTheWay o base w false ticks
-    begun_way w ticks waits none lefts spent small distinct affected nothing costs low =
+    pub first_way : (w : Plans) (ticks : ℕ) → w.waiting ≡ length w.found.entries → w.cost ≡ base → base < 18446744073709551616
+        → IsDistinct bytes_eq (keys_of w.found.entries) → IsAffected o (keys_of w.found.entries) → HasNothing bytes_eq w.found.entries → proposed_cost o ≡ names_cost o (keys_of w.found.entries) → ticked 0 ticks ≤ base → IsPlanning o base w ticks
+    first_way w ticks waits spent small distinct affected nothing costs low =
         let keys = keys_of w.found.entries in
-        let all : waiting_names w ≡ keys = take_all w.waiting keys (omega (arith, waits, keys_long w.found.entries)) in
+        let all : waiting_names w ≡ keys = all_names w waits in
         record {
           few = omega (arith, waits);
           way = subst (λ ns. IsUnderWay o ns (plan_in w.found.entries)) (sym all) (under_way_first o keys affected distinct (plan_in w.found.entries) (none_in w.found.entries nothing));
-          done = 0;
-          begun = 0;
-          coming = subst (λ q. IsComing o (waiting_names w) false q 0 0) (sym none) (refl, refl, λ e. absurd (false≢true e));
-          count = omega (arith, lefts, ap (sum_by (functions_at o)) all);
           spent = 0;
           split = omega (arith, costs, ap (names_cost o) all);
-          cost = omega (arith, spent, small);
+          cost_is = omega (arith, spent, small);
           before = ticks;
           low = low;
+          ticks_are = omega arith;
+        }
+
+    -- the functions are counted
+    pub counted_way : (ticks : ℕ) (w : Plans) → IsPlanning o base w ticks → AllWait w → (n : ℕ) → n ≡ sum_by (functions_at o) (keys_of w.found.entries) → IsOnTheWay o base (record w { left = n }) false ticks
+    counted_way ticks w now first n count = record {
+      told = ticks;
+      made = now;
+      done = 0;
+      begun = 0;
+      coming = subst (λ q. IsComing o (waiting_names w) false q 0 0) (sym first.none) (refl, refl, λ e. absurd (false≢true e));
+      count = omega (arith, count, ap (sum_by (functions_at o)) (all_names w first.waits));
+      ticks_are = omega arith;
+    }
+
+    -- a name that is bound to no formula has no plan
+    pub passed_over : (ticks : ℕ) (w : Plans) (name : List ℕ) → IsPlanning o base w ticks → 0 < w.waiting → waiting_names w ≡ take (w.waiting - 1) (keys_of w.found.entries) ++ name ∷ []
+        → ((f : FormulaValue) → entry_of o name ≡ Some (entry.Formula f) → ⊥) → IsPlanning o base (record w { waiting = w.waiting - 1 }) ticks
+    passed_over ticks w name now some split plain =
+        let front = take (w.waiting - 1) (keys_of w.found.entries) in
+        record {
+          few = omega (arith, now.few);
+          way = plain_next o ready front name (waiting_names w) split (plan_in w.found.entries) now.way plain;
+          spent = now.spent;
+          split = omega (arith, now.split, cost_split o ready front name (waiting_names w) split (plan_in w.found.entries) now.way, plain_costs_nothing o ready name plain);
+          cost_is = now.cost_is;
+          before = now.before;
+          low = now.low;
+          ticks_are = now.ticks_are;
+        }
+
+    -- a formula has its plan
+    pub planned_way : (ticks : ℕ) (w w' : Plans) (name : List ℕ) (p : PlanValue) (after : ℕ) → IsPlanning o base w ticks → 0 < w.waiting → waiting_names w ≡ take (w.waiting - 1) (keys_of w.found.entries) ++ name ∷ []
+        → (f : FormulaValue) → entry_of o name ≡ Some (entry.Formula f) → IsPlanOf f p → IsFormulaPlanned f c p → after ≤ ticks + tree_cost f.is_new c f.tree
+        → w'.waiting ≡ w.waiting - 1 → keys_of w'.found.entries ≡ keys_of w.found.entries → ((q : List ℕ) → plan_in w'.found.entries q ≡ cond (bytes_eq name q) (Some p) (plan_in w.found.entries q))
+        → w'.cost ≡ min (w.cost + p.cost) 18446744073709551615 → IsPlanning o base w' after
+    planned_way ticks w w' name p after now some split f held of planned more waits keys plans cost =
+        let front = take (w.waiting - 1) (keys_of w.found.entries) in
+        let at : IsPlanAt o name p = record { formula = f; held = held; of = of; planned = planned } in
+        let names : waiting_names w' ≡ front = λ i. take (waits i) (keys i) in
+        let next = formula_next o ready front name (waiting_names w) split (plan_in w.found.entries) now.way p at (plan_in w'.found.entries) plans in
+        let costs = formula_cost o ready name f held in
+        record {
+          few = omega (arith, waits, some, now.few, keys_long w.found.entries, keys_long w'.found.entries, ap length keys);
+          way = subst (λ ns. IsUnderWay o ns (plan_in w'.found.entries)) (sym names) next;
+          spent = now.spent + name_cost o.name c new name;
+          split = omega (arith, now.split, cost_split o ready front name (waiting_names w) split (plan_in w.found.entries) now.way, ap (names_cost o) names);
+          cost_is = cost ∙ omega (arith, now.cost_is, planned.cost, costs);
+          before = now.before;
+          low = now.low;
+          ticks_are = omega (arith, now.ticks_are, more, costs);
+        }
+
+    -- all have theirs
+    pub all_made : (ticks : ℕ) (w : Plans) → IsPlanning o base w ticks → w.waiting ≡ 0 → w.left ≡ 0 → w.current ≡ None → IsOnTheWay o base w true ticks
+    all_made ticks w now end zero none =
+        let names : waiting_names w ≡ [] = ap (λ n. take n (keys_of w.found.entries)) end in
+        record {
+          told = ticks;
+          made = now;
+          done = 0;
+          begun = 0;
+          coming = subst (λ q. IsComing o (waiting_names w) true q 0 0) (sym none) (refl, refl, λ e. names);
+          count = omega (arith, zero, ap (sum_by (functions_at o)) names);
           ticks_are = omega arith;
         }
 
@@ -104,19 +168,13 @@ module _ (o : Outline) where
       pub skipped : (w : Plans) (name : List ℕ) → IsOnTheWay o base w false ticks → 0 < w.waiting → waiting_names w ≡ take (w.waiting - 1) (keys_of w.found.entries) ++ name ∷ []
           → ((f : FormulaValue) → entry_of o name ≡ Some (entry.Formula f) → ⊥) → IsOnTheWay o base (record w { waiting = w.waiting - 1 }) false ticks
       skipped w name now some split plain =
-          let front = take (w.waiting - 1) (keys_of w.found.entries) in
           record {
-            few = omega (arith, now.few);
-            way = plain_next o ready front name (waiting_names w) split (plan_in w.found.entries) now.way plain;
+            told = now.told;
+            made = passed_over now.told w name now.made some split plain;
             done = now.done;
             begun = now.begun;
             coming = by w.current now.coming;
-            count = omega (arith, now.count, ap (sum_by (functions_at o)) split, sum_by_push (functions_at o) front name, plain_applies_none o ready name plain);
-            spent = now.spent;
-            split = omega (arith, now.split, cost_split o ready front name (waiting_names w) split (plan_in w.found.entries) now.way, plain_costs_nothing o ready name plain);
-            cost = now.cost;
-            before = now.before;
-            low = now.low;
+            count = omega (arith, now.count, ap (sum_by (functions_at o)) split, sum_by_push (functions_at o) (take (w.waiting - 1) (keys_of w.found.entries)) name, plain_applies_none o ready name plain);
             ticks_are = now.ticks_are;
           }
         where
@@ -130,17 +188,12 @@ module _ (o : Outline) where
       started_way w name front now none split f held p planned zero =
           let were = none_coming (waiting_names w) false w.current now.done now.begun none now.coming in
           record {
-            few = now.few;
-            way = now.way;
+            told = now.told;
+            made = now.made;
             done = 0;
             begun = sum_by (node_cost_at f.is_new c) (take (length p.changes) (subtrees f.tree));
             coming = record { before = front; name = name; last = split; formula = f; held = held; planned = planned; done_is = sym zero; begun_is = refl; left = λ e. absurd (false≢true e) };
             count = omega (arith, now.count, were.0);
-            spent = now.spent;
-            split = now.split;
-            cost = now.cost;
-            before = now.before;
-            low = now.low;
             ticks_are = omega (arith, now.ticks_are, were.1);
           }
 
@@ -154,26 +207,18 @@ module _ (o : Outline) where
           let k = coming_for (waiting_names w) front name split false p now.done now.begun now.coming f held in
           let known = k.0.begun.known in
           let planned = planned_at_end f c p k.0.begun whole in
-          let at : IsPlanAt o name p = record { formula = f; held = held; of = plan_of f c p k.0.begun whole; planned = planned } in
           let names : waiting_names w' ≡ front = λ i. take (waits i) (keys i) in
-          let next = formula_next o ready front name (waiting_names w) split (plan_in w.found.entries) now.way p at (plan_in w'.found.entries) plans in
           let applies : functions_at o name ≡ operations f.tree = ap (λ (b : Option Binding). option_map_or functions_of b 0) (bound_to o ready name f held) in
-          let costs = formula_cost o ready name f held in
-          let within : ticks ≤ now.before + now.spent + tree_cost f.is_new c f.tree =
-          cost_within f.is_new c f.tree (length p.changes) (now.before + now.spent) ticks (subst (λ n. ticks ≤ now.before + now.spent + n) k.2 now.ticks_are) in
+          let told = now.told + tree_cost f.is_new c f.tree in
+          let within : ticks ≤ told = cost_within f.is_new c f.tree (length p.changes) now.told ticks (subst (λ n. ticks ≤ now.told + n) k.2 now.ticks_are) in
           record {
-            few = omega (arith, waits, some, now.few, keys_long w.found.entries, keys_long w'.found.entries, ap length keys);
-            way = subst (λ ns. IsUnderWay o ns (plan_in w'.found.entries)) (sym names) next;
+            told = told;
+            made = planned_way now.told w w' name p told now.made some split f held (plan_of f c p k.0.begun whole) planned (omega arith) waits keys plans cost;
             done = 0;
             begun = 0;
             coming = subst (λ q. IsComing o (waiting_names w') false q 0 0) (sym none) (refl, refl, λ e. absurd (false≢true e));
             count = omega (arith, lefts, now.count, k.1, all_among f p.changes whole known, ap (sum_by (functions_at o)) split, sum_by_push (functions_at o) front name, applies, ap (sum_by (functions_at o)) names);
-            spent = now.spent + name_cost o.name c new name;
-            split = omega (arith, now.split, cost_split o ready front name (waiting_names w) split (plan_in w.found.entries) now.way, ap (names_cost o) names);
-            cost = cost ∙ omega (arith, now.cost, planned.cost, costs);
-            before = now.before;
-            low = now.low;
-            ticks_are = omega (arith, within, costs);
+            ticks_are = omega (arith, within);
           }
 
       -- a plan of which a function is left is next
@@ -182,63 +227,25 @@ module _ (o : Outline) where
       stopped_way w name front p now split f held part =
           let k = coming_for (waiting_names w) front name split false p now.done now.begun now.coming f held in
           record {
-            few = now.few;
-            way = now.way;
+            told = now.told;
+            made = now.made;
             done = now.done;
             begun = now.begun;
             coming = record { before = front; name = name; last = split; formula = f; held = held; planned = k.0; done_is = k.1; begun_is = k.2; left = λ e. part_left f p.changes k.0.begun.few part };
             count = now.count;
-            spent = now.spent;
-            split = now.split;
-            cost = now.cost;
-            before = now.before;
-            low = now.low;
             ticks_are = now.ticks_are;
           }
-
-      -- plans that rest are on their way
-      pub moving_way : (w : Plans) (rests : Bool) → IsOnTheWay o base w rests ticks → IsOnTheWay o base w false ticks
-      moving_way w rests now =
-          record {
-            few = now.few;
-            way = now.way;
-            done = now.done;
-            begun = now.begun;
-            coming = by w.current now.coming;
-            count = now.count;
-            spent = now.spent;
-            split = now.split;
-            cost = now.cost;
-            before = now.before;
-            low = now.low;
-            ticks_are = now.ticks_are;
-          }
-        where
-          by : (q : Option PlanValue) → IsComing o (waiting_names w) rests q now.done now.begun → IsComing o (waiting_names w) false q now.done now.begun
-          by None h = (h.0, h.1, λ e. absurd (false≢true e))
-          by (Some p) h = record { before = h.before; name = h.name; last = h.last; formula = h.formula; held = h.held; planned = h.planned; done_is = h.done_is; begun_is = h.begun_is; left = λ e. absurd (false≢true e) }
-
-      -- where none waits, none is left
-      pub none_waits : (w : Plans) → IsOnTheWay o base w false ticks → w.waiting ≡ 0 → w.left ≡ 0
-      none_waits w now none =
-          let names : waiting_names w ≡ [] = ap (λ n. take n (keys_of w.found.entries)) none in
-          omega (arith, now.count, ap (sum_by (functions_at o)) names)
 
       -- none waits
       pub ended_way : (w : Plans) → IsOnTheWay o base w false ticks → w.waiting ≡ 0 → IsOnTheWay o base w true ticks
       ended_way w now none =
           record {
-            few = now.few;
-            way = now.way;
+            told = now.told;
+            made = now.made;
             done = now.done;
             begun = now.begun;
             coming = by w.current now.coming;
             count = now.count;
-            spent = now.spent;
-            split = now.split;
-            cost = now.cost;
-            before = now.before;
-            low = now.low;
             ticks_are = now.ticks_are;
           }
         where
@@ -256,57 +263,14 @@ module _ (o : Outline) where
       applied_way w name front p p' after now current split f held some one planned more =
           let k = coming_for (waiting_names w) front name split true p now.done now.begun (some_coming (waiting_names w) true w.current p now.done now.begun current now.coming) f held in
           record {
-            few = now.few;
-            way = now.way;
+            told = now.told;
+            made = now.made;
             done = now.done + 1;
             begun = sum_by (node_cost_at f.is_new c) (take (length p'.changes) (subtrees f.tree));
             coming = record { before = front; name = name; last = split; formula = f; held = held; planned = planned; done_is = omega (arith, k.1, one); begun_is = refl; left = λ e. absurd (false≢true e) };
             count = omega (arith, now.count, some);
-            spent = now.spent;
-            split = now.split;
-            cost = now.cost;
-            before = now.before;
-            low = now.low;
-            ticks_are = cost_more f.is_new c f.tree (length p.changes) (length p'.changes) (now.before + now.spent) ticks after (omega (arith, k.3 refl, k.0.begun.known)) (longer f p.changes p'.changes one)
-                (subst (λ n. ticks ≤ now.before + now.spent + n) k.2 now.ticks_are) more;
-          }
-
-      -- what is on its way is of the formula of the name that comes next
-      begun_at : (w : Plans) (q : Option PlanValue) (name : List ℕ) (front : List (List ℕ)) (done begun : ℕ) → waiting_names w ≡ front ++ name ∷ [] → IsComing o (waiting_names w) false q done begun
-          → (f : FormulaValue) → entry_of o name ≡ Some (entry.Formula f) → IsBegunAs f c q × (done ≡ applied_in f q) × (begun ≡ spent_in f c q)
-      begun_at w None name front done begun split h f held = (tt, h.0, h.1)
-      begun_at w (Some p) name front done begun split h f held = let k = coming_for (waiting_names w) front name split false p done begun h f held in (k.0, k.1, k.2)
-
-      pub begun_as : (w : Plans) (name : List ℕ) (front : List (List ℕ)) → IsOnTheWay o base w false ticks → waiting_names w ≡ front ++ name ∷ [] → (f : FormulaValue) → entry_of o name ≡ Some (entry.Formula f) → IsBegunAs f c w.current
-      begun_as w name front now split f held = (begun_at w w.current name front now.done now.begun split now.coming f held).0
-
-      -- as many functions are left as the formula that comes next has at least
-      pub enough_left : (w : Plans) (name : List ℕ) (front : List (List ℕ)) → IsOnTheWay o base w false ticks → waiting_names w ≡ front ++ name ∷ []
-          → (f : FormulaValue) → entry_of o name ≡ Some (entry.Formula f) → operations f.tree ≤ applied_in f w.current + w.left
-      enough_left w name front now split f held =
-          let k = begun_at w w.current name front now.done now.begun split now.coming f held in
-          let applies : functions_at o name ≡ operations f.tree = ap (λ (b : Option Binding). option_map_or functions_of b 0) (bound_to o ready name f held) in
-          omega (arith, now.count, k.1, applies, ap (sum_by (functions_at o)) split, sum_by_push (functions_at o) front name)
-
-      -- the plan of the formula that comes next is further on
-      pub further_way : (w : Plans) (name : List ℕ) (front : List (List ℕ)) (p : PlanValue) (left after : ℕ) → IsOnTheWay o base w false ticks → waiting_names w ≡ front ++ name ∷ []
-          → (f : FormulaValue) → entry_of o name ≡ Some (entry.Formula f) → operations_among f p.changes + left ≡ applied_in f w.current + w.left → IsPlannedTo f c p
-          → ((start : ℕ) → ticks ≤ start + spent_in f c w.current → after ≤ start + spent_by f c p) → IsOnTheWay o base (record w { current = Some p; left = left }) false after
-      further_way w name front p left after now split f held count planned more =
-          let k = begun_at w w.current name front now.done now.begun split now.coming f held in
-          record {
-            few = now.few;
-            way = now.way;
-            done = operations_among f p.changes;
-            begun = spent_by f c p;
-            coming = record { before = front; name = name; last = split; formula = f; held = held; planned = planned; done_is = refl; begun_is = refl; left = λ e. absurd (false≢true e) };
-            count = omega (arith, now.count, k.1, count);
-            spent = now.spent;
-            split = now.split;
-            cost = now.cost;
-            before = now.before;
-            low = now.low;
-            ticks_are = more (now.before + now.spent) (subst (λ n. ticks ≤ now.before + now.spent + n) k.2 now.ticks_are);
+            ticks_are = cost_more f.is_new c f.tree (length p.changes) (length p'.changes) now.told ticks after (omega (arith, k.3 refl, k.0.begun.known)) (longer f p.changes p'.changes one)
+                (subst (λ n. ticks ≤ now.told + n) k.2 now.ticks_are) more;
           }
 
       -- a function that is left is one of the plan on its way, and can be applied to it
@@ -363,16 +327,16 @@ module _ (o : Outline) where
 
       pub all_planned : (w : Plans) → IsOnTheWay o base w true ticks → w.left ≡ 0 → IsPlanned o.entries o.name (own_entry o) new (plan_in w.found.entries)
       all_planned w now zero =
-          planned_in_the_end o ready (waiting_names w) (plan_in w.found.entries) now.way (λ l. let long = ap length (none_left w now zero) in let never : ⊥ = omega (arith, l, long) in never)
+          planned_in_the_end o ready (waiting_names w) (plan_in w.found.entries) now.made.way (λ l. let long = ap length (none_left w now zero) in let never : ⊥ = omega (arith, l, long) in never)
 
       pub all_cost : (w : Plans) → IsOnTheWay o base w true ticks → w.left ≡ 0 → w.cost ≡ ticked base (proposed_cost o)
-      all_cost w now zero = now.cost ∙ ap (ticked base) (omega (arith, now.split, ap (names_cost o) (none_left w now zero)))
+      all_cost w now zero = now.made.cost_is ∙ ap (ticked base) (omega (arith, now.made.split, ap (names_cost o) (none_left w now zero)))
 
       pub all_few : (w : Plans) → IsOnTheWay o base w true ticks → w.left ≡ 0 → ticks < 18446744073709551616 → ticks ≤ w.cost
       all_few w now zero small =
           let begun : now.begun ≡ 0 = by w.current now.coming in
-          let made : ticks ≤ now.before + proposed_cost o = omega (arith, now.ticks_are, begun, now.split) in
-          few_ticks base (proposed_cost o) now.before ticks ticks w.cost now.low made refl small (all_cost w now zero)
+          let made : ticks ≤ now.made.before + proposed_cost o = omega (arith, now.ticks_are, now.made.ticks_are, begun, now.made.split) in
+          few_ticks base (proposed_cost o) now.made.before ticks ticks w.cost now.made.low made refl small (all_cost w now zero)
         where
           by : (q : Option PlanValue) → IsComing o (waiting_names w) true q now.done now.begun → now.begun ≡ 0
           by None h = h.1

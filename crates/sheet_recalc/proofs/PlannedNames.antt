@@ -398,6 +398,12 @@ inputs_more c (y ∷ names) (j ∷ inputs) x i are is = (are.0, inputs_more c na
 pub all_more : (P : List ℕ → Type 0) (names : List (List ℕ)) (x : List ℕ) → ((y : List ℕ) → Contains names y → P y) → P x → (y : List ℕ) → Contains (names ++ x ∷ []) y → P y
 all_more P names x all one y c = ⊎_elim (λ l. all y l) (λ r. subst P (sym (contains_one x y r)) one) (Contains-append_cases names (x ∷ []) y c)
 
+pub of_one : (P : List ℕ → Type 0) (x : List ℕ) → P x → (y : List ℕ) → Contains (x ∷ []) y → P y
+of_one P x one y c = subst P (sym (contains_one x y c)) one
+
+pub of_two : (P : List ℕ → Type 0) (x z : List ℕ) → P x → P z → (y : List ℕ) → Contains (x ∷ z ∷ []) y → P y
+of_two P x z one two = all_more P (x ∷ []) z (of_one P x one) two
+
 -- the plan that a formula makes of itself is one of the name
 module _ (o : Outline) where
   pub plan_made : (q : List ℕ) (f : FormulaValue) → entry_of o q ≡ Some (entry.Formula f) → (inputs : List Input) (r : Result PlanValue AllocError)

@@ -1,5 +1,6 @@
 -- A change that is being worked out, after a step, and in the end.
 use Rattle.std.proofs.Common.{◌≡◌, ◌+◌, ◌<◌, ◌≤◌, ◌∙◌, ℕ, List, Bool, true, false, not, refl, sym, ap, subst, arith, if◌then◌else◌}
+use Rattle.std.proofs.lemmas.Bool.{false≢true}
 use Rattle.change_core.specs.Meters.{ticked, MeterValue}
 use Rattle.sheet_recalc.specs.Names.{SheetValue}
 use Rattle.sheet_recalc.specs.Tables.{Tables}
@@ -8,7 +9,7 @@ use Rattle.sheet_recalc.specs.Costs.{HasCost, expression_cost, formulas_cost, ch
 use Rattle.formula_core.specs.Changes as formula
 use Rattle.sheet_recalc.specs.ProposedSheet.{proposed_change}
 use Rattle.sheet_recalc.specs.Planning.{IsOnTheWay}
-use Rattle.sheet_recalc.specs.Pending.{outline_for, names_after, steps_left, IsReady, IsBegunOn, IsPendingOn}
+use Rattle.sheet_recalc.specs.Pending.{outline_for, names_after, steps_left, IsReady, IsBegunOn, IsLaidOutOn, IsPendingOn}
 use Rattle.sheet_recalc.specs.declared.pending.Pending.{Pending}
 use Rattle.sheet_recalc.specs.declared.plans.Plans.{Plans}
 use Rattle.sheet_recalc.proofs.Accounted.{expression_more}
@@ -61,6 +62,27 @@ module _ (p : Pending) (w : Plans) (cut : Bool) (ticks : ℕ) (m : MeterValue) w
 
   pub pending_on : (s : SheetValue) (change : Change) (h : IsPendingOn s change p) → IsOnTheWay (outline_for s.tables p) h.base w (not cut) m.ticks → (cut ≡ false → ticks ≡ m.ticks) → IsUntold s.tables → ticks < 18446744073709551616 → IsPendingOn s change after
   pending_on s change h way told untold small = record { base = h.base; begun = begun_on s.tables h.base h.begun way told untold small; base_is = h.base_is; accepts = h.accepts; name_is = h.name_is; makes = h.makes }
+
+-- a change that was laid out, where its plans have come to a rest
+pub of_laid_out : (s : SheetValue) (change : Change) (p : Pending) (h : IsLaidOutOn s change p) (w : Plans) (ticks : ℕ) (m : MeterValue) → IsOnTheWay (outline_for s.tables p) h.base w true m.ticks → ticks ≡ m.ticks
+    → ticks < 18446744073709551616 → IsPendingOn s change (record p { plans = w; ticks = ticks; meter = m })
+of_laid_out s change p h w ticks m way told small = record {
+  base = h.base;
+  begun = record {
+    proposed = h.begun.proposed;
+    kept = h.begun.kept;
+    sheet = h.begun.sheet;
+    place = h.begun.place;
+    way = subst (λ b. IsOnTheWay (outline_for s.tables p) h.base w (not b) m.ticks) (sym h.begun.whole) way;
+    told = λ e. told;
+    untold = λ cut. absurd (false≢true (sym h.begun.whole ∙ cut));
+    small = small;
+  };
+  base_is = h.base_is;
+  accepts = h.accepts;
+  name_is = h.name_is;
+  makes = h.makes;
+}
 
 -- what was not told yet of a change is what some one node of it has cost at most
 pub step_cost : (s : SheetValue) (change : Change) (p : Pending) → IsPendingOn s change p → p.is_cut ≡ true → (cost : ℕ) × IsStepCost s.names change cost × (p.meter.ticks ≤ p.ticks + cost)

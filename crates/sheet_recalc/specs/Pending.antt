@@ -12,7 +12,7 @@ use Rattle.sheet_recalc.specs.Changes.{Change, Accepts, HasRoom}
 use Rattle.sheet_recalc.specs.Costs.{changed_name, asked_change, expression_cost, IsNodeCost}
 use Rattle.sheet_recalc.specs.Entries.{names_of}
 use Rattle.sheet_recalc.specs.Live.{IsPlanned, plan_in}
-use Rattle.sheet_recalc.specs.Planning.{IsProposalAt, IsProposed, IsOnTheWay}
+use Rattle.sheet_recalc.specs.Planning.{IsProposalAt, IsProposed, IsPlanning, AllWait, IsOnTheWay}
 use Rattle.sheet_recalc.specs.ProposedSheet.{Outline, own_entry, proposed_names, proposed_change}
 use Rattle.sheet_recalc.specs.Tables.{Tables}
 use Rattle.sheet_recalc.specs.declared.growth.Growth.{Growth}
@@ -71,24 +71,44 @@ pub record IsBegunOn (t : Tables) (p : Pending) (base : ℕ) : Type 0 where
   pub untold : p.is_cut ≡ true → (cost : ℕ) × IsNodeCost p.name (proposed_change (outline_for t p)) (names_after t p) cost × (p.meter.ticks ≤ p.ticks + cost)
   pub small : p.ticks < 18446744073709551616
 
+-- it is laid out, and this was spent before: what it reaches is found, and no plan begun
+pub record IsLaidOut (t : Tables) (p : Pending) (base : ℕ) : Type 0 where
+  pub proposed : IsProposed (outline_for t p)
+  pub kept : HasOrder (names_after t p)
+  pub sheet : IsSheet (names_after t p)
+  pub place : HasPlace t p.growth p.proposal
+  pub way : IsPlanning (outline_for t p) base p.plans p.meter.ticks
+  pub first : AllWait p.plans
+  pub whole : p.is_cut ≡ false
+  pub told : p.ticks ≡ p.meter.ticks
+  pub small : p.ticks < 18446744073709551616
+
 -- how many steps are left
 abbrev pub steps_left : Pending → ℕ
 steps_left p = p.plans.left + (if p.is_cut then 1 else 0)
 
--- the change is being worked out on the sheet as it is
-pub record IsPendingOn (s : SheetValue) (change : Change) (p : Pending) : Type 0 where
+-- the change is the one that is asked for on the sheet as it is, and this is how far it is
+pub record IsOfChange (s : SheetValue) (change : Change) (p : Pending) (stands : ℕ → Type 0) : Type 0 where
   pub base : ℕ
-  pub begun : IsBegunOn s.tables p base
+  pub begun : stands base
   pub base_is : base ≡ ticked 0 (expression_cost s.names change)
   pub accepts : Accepts s.names change (names_after s.tables p)
   pub name_is : p.name ≡ changed_name change
   pub makes : proposed_change (outline_for s.tables p) ≡ asked_change s.names change (names_after s.tables p)
 
--- what a name is to be bound to is being worked out, where finding that has cost so much
+-- the change is being worked out on the sheet as it is
+abbrev pub IsPendingOn : SheetValue → Change → Pending → Type 0
+IsPendingOn s change p = IsOfChange s change p (IsBegunOn s.tables p)
+
+-- it is laid out there
+abbrev pub IsLaidOutOn : SheetValue → Change → Pending → Type 0
+IsLaidOutOn s change p = IsOfChange s change p (IsLaidOut s.tables p)
+
+-- what a name is to be bound to is laid out, where finding that has cost so much
 pub record IsProposedOn (s : SheetValue) (name : List ℕ) (proposal : Proposal) (spent : ℕ) (p : Pending) : Type 0 where
   pub names_are : names_of s.tables.entries.entries ≡ s.names
   pub name_is : p.name ≡ name
   pub proposal_is : p.proposal ≡ proposal
-  pub begun : IsBegunOn s.tables p spent
+  pub begun : IsLaidOut s.tables p spent
   pub few : ticked 0 p.ticks ≤ spent
   pub room : HasRoom s.names name

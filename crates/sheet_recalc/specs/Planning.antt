@@ -117,19 +117,6 @@ functions_at o q = option_map_or functions_of (binding (proposed_names o) q) 0
 abbrev pub spent_by : FormulaValue → formula.Change → formula_plan.PlanValue → ℕ
 spent_by f c p = sum_by (formula_plan.node_cost_at f.is_new c) (take (length p.changes) (subtrees f.tree))
 
--- a plan of a formula is on its way, or none is: how it was made, how many functions it has applied, and what they cost
-abbrev pub IsBegunAs : FormulaValue → formula.Change → Option formula_plan.PlanValue → Type 0
-IsBegunAs f c None = Unit {0}
-IsBegunAs f c (Some p) = IsPlannedTo f c p
-
-abbrev pub applied_in : FormulaValue → Option formula_plan.PlanValue → ℕ
-applied_in f None = 0
-applied_in f (Some p) = operations_among f p.changes
-
-abbrev pub spent_in : FormulaValue → formula.Change → Option formula_plan.PlanValue → ℕ
-spent_in f c None = 0
-spent_in f c (Some p) = spent_by f c p
-
 -- a plan of the formula of the last of these names is on its way: so many of its functions are applied, and its nodes so far cost so much; where
 -- it rests, one is left
 pub record IsComingTo (o : Outline) (names : List (List ℕ)) (rests : Bool) (p : formula_plan.PlanValue) (done begun : ℕ) : Type 0 where
@@ -148,21 +135,37 @@ abbrev pub IsComing : Outline → List (List ℕ) → Bool → Option formula_pl
 IsComing o names rests None done begun = (done ≡ 0) × (begun ≡ 0) × (rests ≡ true → names ≡ [])
 IsComing o names rests (Some p) done begun = IsComingTo o names rests p done begun
 
+-- of these names, all but so many from the first on have their plans, which cost this; so many items were computed, and this was spent before them
+pub record ArePlanned (o : Outline) (base waiting : ℕ) (found : List (List ℕ × Option formula_plan.PlanValue)) (cost ticks : ℕ) : Type 0 where
+  pub few : waiting ≤ length found
+  pub way : IsUnderWay o (take waiting (keys_of found)) (plan_in found)
+  pub spent : ℕ
+  pub split : spent + names_cost o (take waiting (keys_of found)) ≡ proposed_cost o
+  pub cost_is : cost ≡ ticked base spent
+  pub before : ℕ
+  pub low : ticked 0 before ≤ base
+  pub ticks_are : ticks ≤ before + spent
+
+-- the plans of a change are made a formula at a time
+abbrev pub IsPlanning : Outline → ℕ → Plans → ℕ → Type 0
+IsPlanning o base w ticks = ArePlanned o base w.waiting w.found.entries w.cost ticks
+
+-- no plan is begun yet, and no function counted
+pub record AllWait (w : Plans) : Type 0 where
+  pub waits : w.waiting ≡ length w.found.entries
+  pub uncounted : w.left ≡ 0
+  pub none : w.current ≡ None
+
 -- the plans of a change are on their way, and so many items were computed; this was spent before them. Where they rest, a function is to be
 -- applied next, or none is left
 pub record IsOnTheWay (o : Outline) (base : ℕ) (w : Plans) (rests : Bool) (ticks : ℕ) : Type 0 where
-  pub few : w.waiting ≤ length w.found.entries
-  pub way : IsUnderWay o (waiting_names w) (plan_in w.found.entries)
+  pub told : ℕ
+  pub made : IsPlanning o base w told
   pub done : ℕ
   pub begun : ℕ
   pub coming : IsComing o (waiting_names w) rests w.current done begun
   pub count : w.left + done ≡ sum_by (functions_at o) (waiting_names w)
-  pub spent : ℕ
-  pub split : spent + names_cost o (waiting_names w) ≡ proposed_cost o
-  pub cost : w.cost ≡ ticked base spent
-  pub before : ℕ
-  pub low : ticked 0 before ≤ base
-  pub ticks_are : ticks ≤ before + spent + begun
+  pub ticks_are : ticks ≤ told + begun
 
 -- the sheet can be so: the names have an order then, no name reaches itself, and there is room
 pub record CanBe (o : Outline) : Type 0 where

@@ -1,6 +1,6 @@
 //! What names show ahead of a change.
 
-ghost use Rattle.std.specs.Prelude.{◌≡◌, ℕ, IfOk, MatchOption, Some, None, List};
+ghost use Rattle.std.specs.Prelude.{◌≡◌, ◌∷◌, [], ℕ, IfOk, MatchOption, Some, None, List};
 ghost use Rattle.std.specs.List.{Contains};
 ghost use Rattle.formula_core.specs.Outcomes.{Outcome};
 ghost use Rattle.formula_core.specs.Meaning.{names_in};
@@ -60,6 +60,34 @@ impl<'a, 'b> Ahead<'a, 'b> {
         ensures { IfOk result (λ inputs. IsTold formula.now (proposed_change (outline_of self.now.proposed.now)) inputs.items) }
     {
         self.all_inputs(alloc, formula.references())
+    }
+
+    /// The same where one name stands in it. It takes no memory.
+    pub(crate) fn input_of_one(&self, name: Name, formula: &Formula, one: Name) -> [Input<'_>; 1]
+        requires ahead { IsAhead self.now }
+        requires held { entry_of (outline_of self.now.proposed.now) name ≡ Some (FormulaEntry formula.now) }
+        requires done { (x : List ℕ) → Contains (names_in formula.now.tree) x → IsDone (outline_of self.now.proposed.now) (plan_in self.now.found.now.entries) x }
+        requires names { names_in formula.now.tree ≡ one ∷ [] }
+        ensures { IsTold formula.now (proposed_change (outline_of self.now.proposed.now)) result }
+    {
+        [self.input_of(one)]
+    }
+
+    /// The same where two names stand in it. It takes no memory.
+    pub(crate) fn inputs_of_two(
+        &self,
+        name: Name,
+        formula: &Formula,
+        one: Name,
+        two: Name,
+    ) -> [Input<'_>; 2]
+        requires ahead { IsAhead self.now }
+        requires held { entry_of (outline_of self.now.proposed.now) name ≡ Some (FormulaEntry formula.now) }
+        requires done { (x : List ℕ) → Contains (names_in formula.now.tree) x → IsDone (outline_of self.now.proposed.now) (plan_in self.now.found.now.entries) x }
+        requires names { names_in formula.now.tree ≡ one ∷ two ∷ [] }
+        ensures { IsTold formula.now (proposed_change (outline_of self.now.proposed.now)) result }
+    {
+        [self.input_of(one), self.input_of(two)]
     }
 
     /// What each of these names shows, with what changed of it.

@@ -1,10 +1,9 @@
 //! Edits of one cell of data.
 
-ghost use Rattle.std.specs.Prelude.{◌≡◌, IfOk, IfErr, MatchOption, Some, Ok, Err, true, false, [], ◌∷◌, ◌≤◌, length};
+ghost use Rattle.std.specs.Prelude.{◌≡◌, IfOk, IfErr, MatchOption, Some, Ok, Err, true, false, ◌≤◌, length};
 ghost use Rattle.apl_expr.specs.Trees.{literal_of};
 ghost use Rattle.arrays_core.specs.Arrays.{ArrayValue};
 ghost use Rattle.arrays_core.specs.Limits.{most_axes};
-ghost use Rattle.arrays_core.specs.Items.{type_of};
 ghost use Rattle.arrays_core.specs.Shapes.{IsWithinLimits, is_index_of};
 ghost use Rattle.index_region.specs.Patches.{FitsPatch, patched};
 ghost use Rattle.index_region.specs.declared.delta.Delta.TheVariants.{Patch as IsPatched};
@@ -21,11 +20,9 @@ use arrays_core::{Array, Item, Shape, position};
 use index_region::{IndexBox, Patch};
 use indexmap::IndexMap;
 use smallvec::SmallVec;
-use std::alloc::{AllocError, Global};
 
-/// The patch of the data of a name that puts a literal in one cell, or why there is none. The data is not copied.
+/// The patch of the data of a name that puts a literal in one cell, or why there is none. It takes no memory.
 pub(crate) fn cell_patch(
-    alloc: Global,
     entries: &IndexMap<Name, Entry>,
     name: Name,
     positions: &[i64],
@@ -39,17 +36,12 @@ pub(crate) fn cell_patch(
     match entries.get(&name) {
         None => Err(Refusal::NotFound),
         Some(Entry::Formula(_)) => Err(Refusal::NotData),
-        Some(Entry::Data(array)) => patch_of(alloc, array, positions, literal),
+        Some(Entry::Data(array)) => patch_of(array, positions, literal),
     }
 }
 
 /// The patch of an array that puts a literal in one cell, or why there is none.
-fn patch_of(
-    alloc: Global,
-    array: &Array,
-    positions: &[i64],
-    literal: &Literal,
-) -> Result<Patch, Refusal>
+fn patch_of(array: &Array, positions: &[i64], literal: &Literal) -> Result<Patch, Refusal>
     ensures put { IfOk result (λ patch. cell_put (Some (Data array.now)) positions.now (literal_of literal.now) ≡ Ok (patched array.now patch)) }
     ensures fits { IfOk result (λ patch. FitsPatch array.now patch) }
     ensures delta { IfOk result (λ patch. IsPatched patch ≡ cell_delta (index_of_numbers positions.now) (literal_items (literal_of literal.now))) }
@@ -61,16 +53,11 @@ fn patch_of(
     let Some(index) = index_of(array.shape(), positions) else {
         return Err(Refusal::Index);
     };
-    patch_with(alloc, array, &index, literal)
+    patch_with(array, &index, literal)
 }
 
 /// The patch of an array that puts a literal of one item of its type at an index list.
-fn patch_with(
-    alloc: Global,
-    array: &Array,
-    index: &Shape,
-    literal: &Literal,
-) -> Result<Patch, Refusal>
+fn patch_with(array: &Array, index: &Shape, literal: &Literal) -> Result<Patch, Refusal>
     requires { is_index_of array.now.shape index.now.items ≡ true }
     ensures put { IfOk result (λ patch. item_put array.now index.now.items (literal_items (literal_of literal.now)) ≡ Ok (patched array.now patch)) }
     ensures fits { IfOk result (λ patch. FitsPatch array.now patch) }
@@ -83,28 +70,17 @@ fn patch_with(
     if item.item_type() != array.item_type() {
         return Err(Refusal::Domain);
     }
-    Ok(patch_at(alloc, array.shape(), index, item)?)
+    Ok(patch_at(array.shape(), index, item))
 }
 
 /// The patch of one place of a shape, with this item.
-fn patch_at(alloc: Global, shape: &Shape, index: &Shape, item: Item) -> Result<Patch, AllocError>
+fn patch_at(shape: &Shape, index: &Shape, item: Item) -> Patch
     requires within { IsWithinLimits shape.now.items }
     requires inside { is_index_of shape.now.items index.now.items ≡ true }
-    ensures { IfOk result (λ patch. patch ≡ patch_of_cell index.now.items item) }
+    ensures { result ≡ patch_of_cell index.now.items item }
 {
     let place = position(shape, index.as_slice());
-    let region = IndexBox::cover(shape, place, place);
-    Ok(Patch::of(region, only(alloc, item)?))
-}
-
-/// The scalar of an item.
-fn only(alloc: Global, item: Item) -> Result<Array, AllocError>
-    ensures { IfOk result (λ a. a ≡ record { item_type = type_of item; shape = []; items = item ∷ [] }) }
-{
-    match item {
-        Item::Num(number) => Array::scalar(alloc, number),
-        Item::Char(character) => Array::character(alloc, character),
-    }
+    Patch::one(IndexBox::cover(shape, place, place), item)
 }
 
 /// The item of a literal that has one item.

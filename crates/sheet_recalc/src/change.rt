@@ -4,7 +4,7 @@ ghost use Rattle.std.specs.Prelude.{◌≡◌, ◌≤◌, IfOk, IfErr, OnErr, ma
 ghost use Rattle.sheet_recalc.specs.Changes.{Refuses};
 ghost use Rattle.sheet_recalc.specs.Costs.{expression_cost};
 ghost use Rattle.sheet_recalc.specs.History.{Run, Step, change_of};
-ghost use Rattle.sheet_recalc.specs.Pending.{IsPendingOn};
+ghost use Rattle.sheet_recalc.specs.Pending.{IsLaidOutOn, IsPendingOn};
 
 use crate::pending::Pending;
 use crate::refusal::Refusal;
@@ -36,6 +36,17 @@ impl Sheet {
     /// Begins a change: it is refused here, or worked out by steps (`advance`) and then made (`adopt`). Nothing of the sheet is changed.
     pub fn begin(&self, change: Change) -> Result<Pending, Refusal>
         ensures ok { IfOk result (IsPendingOn self.now (change_of change)) }
+        ensures ticks { IfOk result (λ pending. pending.ticks ≤ expression_cost self.now.names (change_of change)) }
+        ensures refused { IfErr result (Refuses self.now.names (change_of change)) }
+    {
+        let mut pending = self.laid_out(change)?;
+        self.count(&mut pending)?;
+        Ok(pending)
+    }
+
+    /// Lays a change out, or says why not.
+    fn laid_out(&self, change: Change) -> Result<Pending, Refusal>
+        ensures ok { IfOk result (IsLaidOutOn self.now (change_of change)) }
         ensures ticks { IfOk result (λ pending. pending.ticks ≤ expression_cost self.now.names (change_of change)) }
         ensures refused { IfErr result (Refuses self.now.names (change_of change)) }
     {

@@ -3,6 +3,7 @@
 ghost use Rattle.std.specs.Prelude.{◌≡◌, ◌+◌, ◌≤◌, ℕ, List, true, IfOk, OnOk};
 ghost use Rattle.std.specs.List.{Contains};
 ghost use Rattle.apl_expr.specs.Trees.{tree_of};
+ghost use Rattle.arrays_core.specs.Arrays.{IsArray};
 ghost use Rattle.arrays_core.specs.declared.item.Kind.TheVariants.{Value};
 ghost use Rattle.change_core.specs.Meters.{ticked};
 ghost use Rattle.index_region.specs.declared.delta.Delta.TheVariants.{Same, Whole as WholeDelta};
@@ -73,6 +74,15 @@ pub(crate) fn shown(entries: &IndexMap<Name, Entry>, name: Name) -> Result<&Arra
     match entries.get(&name) {
         Some(entry) => entry.result(name),
         None => Err(absent()),
+    }
+}
+
+/// What a name shows is an array, if it is no error: the array says so itself.
+pub(crate) fn shown_is_array(shown: &Result<&Array, Fault>)
+    ensures { IfOk (read shown.now) IsArray }
+{
+    if let Ok(array) = shown {
+        let _is_array = array.shape();
     }
 }
 

@@ -5,9 +5,8 @@ ghost use Rattle.std.specs.List.{Contains, sum_by};
 ghost use Rattle.std.specs.Map.{keys_of};
 ghost use Rattle.change_core.specs.Meters.{ticked};
 ghost use Rattle.formula_core.specs.Formulas.{operations};
-ghost use Rattle.formula_core.specs.Changes.{Change};
 ghost use Rattle.formula_core.specs.Meaning.{names_in};
-ghost use Rattle.formula_core.specs.Plans.{IsTold, node_cost_at};
+ghost use Rattle.formula_core.specs.Plans.{IsPlanOf, IsPlanned, node_cost_at, tree_cost};
 ghost use Rattle.formula_core.specs.Progress.{operations_among, IsPlannedTo};
 ghost use Rattle.formula_core.specs.Tables.{subtrees, tree_at};
 ghost use Rattle.sheet_recalc.specs.ProposedSheet.{outline_of, proposed_names, proposed_change, entry_of};
@@ -15,13 +14,13 @@ ghost use Rattle.sheet_recalc.specs.Changes.{HasRoom, IsFullFor, CannotBecome};
 ghost use Rattle.sheet_recalc.specs.Costs.{IsNodeCost};
 ghost use Rattle.sheet_recalc.specs.Entries.{names_of};
 ghost use Rattle.sheet_recalc.specs.Live.{IsLive, plan_in};
-ghost use Rattle.sheet_recalc.specs.Planning.{IsProposalAt, IsProposed, ArePlans, IsDone, IsBegunAs, IsOnTheWay, CanBe, waiting_names, functions_at, applied_in, spent_by, spent_in};
+ghost use Rattle.sheet_recalc.specs.Planning.{IsProposalAt, IsProposed, ArePlans, IsDone, IsPlanning, AllWait, IsOnTheWay, CanBe, waiting_names, functions_at};
 ghost use Rattle.sheet_recalc.specs.declared.entry.Entry.TheVariants.{Formula as FormulaEntry};
 
 use crate::ahead::Ahead;
 use crate::cycle::cycle_through;
 use crate::entry::Entry;
-use crate::evaluation::shown;
+use crate::evaluation::{shown, shown_is_array};
 use crate::plans::{Found, Plans};
 use crate::proposed_sheet::ProposedSheet;
 use crate::refusal::Refusal;
@@ -29,13 +28,13 @@ use crate::sheet::MOST_NAMES;
 use apl_tokens::Name;
 use change_core::Meter;
 use dep_order::{Users, affected, first_found};
-use formula_core::{Formula, Input, Plan};
+use formula_core::{Formula, Plan};
 use index_region::Delta;
 use indexmap::IndexMap;
 use std::alloc::{AllocError, Global};
 
-/// The plans of a change of which no function is applied yet, where this was spent before, or why it is refused: the name would reach
-/// itself, or there is no room for it.
+/// What a change reaches, of which no plan is made yet and no function counted, where this was spent before, or why it is refused: the
+/// name would reach itself, or there is no room for it.
 pub(crate) fn begun(
     alloc: Global,
     proposed: &ProposedSheet<'_>,
@@ -45,13 +44,12 @@ pub(crate) fn begun(
     requires live { IsLive proposed.now.entries.now.entries users.now.entries }
     requires proposal { IsProposalAt proposed.now.entries.now.entries proposed.now.name proposed.now.proposal.now }
     ensures proposed { OnOk result (IsProposed (outline_of proposed.now)) }
-    ensures way { IfOk result (λ w. (ticks : ℕ) → ticked 0 ticks ≤ spent → IsOnTheWay (outline_of proposed.now) spent w true ticks) }
+    ensures way { IfOk result (λ w. (ticks : ℕ) → ticked 0 ticks ≤ spent → IsPlanning (outline_of proposed.now) spent w ticks) }
+    ensures first { IfOk result AllWait }
     ensures can { OnOk result (CanBe (outline_of proposed.now)) }
     ensures refused { IfErr result (CannotBecome (names_of proposed.now.entries.now.entries) (proposed_names (outline_of proposed.now)) proposed.now.name) }
 {
-    // What the name shows is sound.
-    let unchanged = Delta::Same;
-    let _sound = Input::of(&shown(proposed.entries, proposed.name), &unchanged);
+    shown_is_array(&shown(proposed.entries, proposed.name));
     let found = affected(alloc, users, proposed.name, proposed.entries.len())?;
     if let Some(reference) = first_found(&found, proposed.proposal.references()) {
         return Err(Refusal::Cycle(cycle_through(alloc, proposed, &found, reference)?));
@@ -59,15 +57,13 @@ pub(crate) fn begun(
     if !has_room(proposed.entries, proposed.name) {
         return Err(Refusal::SheetFull);
     }
-    let mut plans = Plans {
+    Ok(Plans {
         waiting: found.len(),
-        left: functions_in(proposed, &found),
+        left: 0,
         found,
         current: None,
         cost: spent,
-    };
-    settle(alloc, proposed, &mut plans)?;
-    Ok(plans)
+    })
 }
 
 /// There is room for a name: it is present, or fewer than `MOST_NAMES` names are.
@@ -78,7 +74,7 @@ fn has_room(entries: &IndexMap<Name, Entry>, name: Name) -> bool
 }
 
 /// How many functions the formulas of these names apply.
-fn functions_in(proposed: &ProposedSheet<'_>, found: &Found) -> u128
+pub(crate) fn functions_in(proposed: &ProposedSheet<'_>, found: &Found) -> u128
     ensures { result ≡ sum_by (functions_at (outline_of proposed.now)) (keys_of found.now.entries) }
 {
     let mut count = 0;
@@ -104,7 +100,7 @@ fn functions_of(proposed: &ProposedSheet<'_>, name: Name) -> u64
     ensures { result ≡ functions_at (outline_of proposed.now) name }
 {
     match proposed.formula_of(name) {
-        Some(formula) => formula.operations() as u64,
+        Some(formula) => formula.all_operations() as u64,
         None => 0,
     }
 }
@@ -251,63 +247,47 @@ fn apply_to(
     formula.advance(plan, inputs.as_slice(), meter)
 }
 
-/// Plans all that is left; what a formula reads is looked up once.
-pub(crate) fn plan_rest(
+/// Makes all plans, a formula at a time.
+pub(crate) fn plan_all(
     alloc: Global,
     proposed: &ProposedSheet<'_>,
     plans: &mut Plans,
     meter: &mut Meter,
 ) -> Result<(), AllocError>
     requires proposed { IsProposed (outline_of proposed.now) }
-    requires way { (base : ℕ) × IsOnTheWay (outline_of proposed.now) base plans.old false meter.old.ticks }
-    ensures way { OnOk result ((base : ℕ) → IsOnTheWay (outline_of proposed.now) base plans.old false meter.old.ticks → IsOnTheWay (outline_of proposed.now) base plans.new true meter.new.ticks) }
-    ensures left { OnOk result (plans.new.left ≡ 0) }
+    requires way { (base : ℕ) × IsPlanning (outline_of proposed.now) base plans.old meter.old.ticks }
+    ensures way { OnOk result ((base : ℕ) → IsPlanning (outline_of proposed.now) base plans.old meter.old.ticks → IsPlanning (outline_of proposed.now) base plans.new meter.new.ticks) }
+    ensures all { OnOk result (plans.new.waiting ≡ 0) }
+    ensures left { plans.new.left ≡ plans.old.left }
+    ensures current { plans.new.current ≡ plans.old.current }
 {
     while let Some(name) = plans.next_name() {
         let Some(formula) = proposed.formula_of(name) else {
             plans.waiting -= 1;
             continue;
         };
-        let begun = plans.current.take();
-        let left = &mut plans.left;
-        let plan = whole_plan(
-            alloc,
-            proposed,
-            &plans.found,
-            name,
-            formula,
-            begun,
-            left,
-            meter,
-        )?;
+        let plan = whole_plan(alloc, proposed, &plans.found, name, formula, meter)?;
         plans.keep(plan);
     }
     Ok(())
 }
 
-/// The whole plan of a name's formula, where all that it refers to is done, from where it is begun; each function that is applied is one
-/// less that is left.
+/// The whole plan of a name's formula, where all that it refers to is done. What up to two names show takes no memory.
 fn whole_plan(
     alloc: Global,
     proposed: &ProposedSheet<'_>,
     found: &Found,
     name: Name,
     formula: &Formula,
-    begun: Option<Plan>,
-    left: &mut u128,
     meter: &mut Meter,
 ) -> Result<Plan, AllocError>
     requires proposed { IsProposed (outline_of proposed.now) }
     requires plans { ArePlans (outline_of proposed.now) (plan_in found.now.entries) }
     requires held { entry_of (outline_of proposed.now) name ≡ Some (FormulaEntry formula.now) }
     requires done { (x : List ℕ) → Contains (names_in formula.now.tree) x → IsDone (outline_of proposed.now) (plan_in found.now.entries) x }
-    requires begun { IsBegunAs formula.now (proposed_change (outline_of proposed.now)) begun }
-    requires enough { operations formula.now.tree ≤ applied_in formula.now begun + left.old }
-    ensures whole { IfOk result (λ p. length p.changes ≡ length formula.now.nodes) }
-    ensures count { IfOk result (λ p. operations_among formula.now p.changes + left.new ≡ applied_in formula.now begun + left.old) }
-    ensures planned { IfOk result (IsPlannedTo formula.now (proposed_change (outline_of proposed.now))) }
-    ensures ticks { IfOk result (λ p. (start : ℕ) → meter.old.ticks ≤ start + spent_in formula.now (proposed_change (outline_of proposed.now)) begun
-        → meter.new.ticks ≤ start + spent_by formula.now (proposed_change (outline_of proposed.now)) p) }
+    ensures of { IfOk result (IsPlanOf formula.now) }
+    ensures planned { IfOk result (IsPlanned formula.now (proposed_change (outline_of proposed.now))) }
+    ensures ticks { OnOk result (meter.new.ticks ≤ meter.old.ticks + tree_cost formula.now.is_new (proposed_change (outline_of proposed.now)) formula.now.tree) }
 {
     let unchanged = Delta::Same;
     let ahead = Ahead {
@@ -315,24 +295,12 @@ fn whole_plan(
         found,
         unchanged: &unchanged,
     };
-    let inputs = ahead.inputs_of(alloc, name, formula)?;
-    let mut plan = resumed(formula, inputs.as_slice(), begun)?;
-    while !formula.is_whole(&plan) {
-        formula.advance(&mut plan, inputs.as_slice(), meter)?;
-        *left -= 1;
-    }
-    Ok(plan)
-}
-
-/// A plan that is begun, or else one of which no function is applied.
-fn resumed(formula: &Formula, inputs: &[Input], begun: Option<Plan>) -> Result<Plan, AllocError>
-    requires { (c : Change) × IsTold formula.now c inputs.now }
-    ensures count { IfOk result (λ p. operations_among formula.now p.changes ≡ applied_in formula.now begun) }
-    ensures planned { IfOk result (λ p. (c : Change) → IsTold formula.now c inputs.now → IsBegunAs formula.now c begun → IsPlannedTo formula.now c p) }
-    ensures spent { IfOk result (λ p. (c : Change) → spent_in formula.now c begun ≤ spent_by formula.now c p) }
-{
-    match begun {
-        Some(made) => Ok(made),
-        None => formula.start(inputs),
+    match formula.references() {
+        [one] => formula.plan(&ahead.input_of_one(name, formula, *one), meter),
+        [one, two] => formula.plan(&ahead.inputs_of_two(name, formula, *one, *two), meter),
+        _ => {
+            let inputs = ahead.inputs_of(alloc, name, formula)?;
+            formula.plan(inputs.as_slice(), meter)
+        }
     }
 }

@@ -13,7 +13,7 @@ ghost use Rattle.sheet_recalc.specs.Names.{binding, IsSheet};
 ghost use Rattle.sheet_recalc.specs.Meaning.{val};
 ghost use Rattle.sheet_recalc.specs.ProposedSheet.{names_with};
 ghost use Rattle.sheet_recalc.specs.Planning.{IsProposalAt};
-ghost use Rattle.sheet_recalc.specs.Pending.{IsPendingOn, IsProposedOn, steps_left};
+ghost use Rattle.sheet_recalc.specs.Pending.{IsLaidOutOn, IsPendingOn, IsProposedOn, steps_left};
 ghost use Rattle.sheet_recalc.specs.Changes.{Change, Accepts, Refuses, Define, Store, Put, SetCell, AddRow, Erase, CannotBecome};
 ghost use Rattle.sheet_recalc.specs.Costs.{HasCost, expression_cost, IsStepCost};
 
@@ -23,7 +23,7 @@ use crate::entry::Entry;
 use crate::evaluation::{absent, plan_at_rest};
 use crate::growth::growth_for;
 use crate::pending::Pending;
-use crate::planning::{apply_next, begun, plan_rest, settle};
+use crate::planning::{apply_next, begun, functions_in, plan_all, settle};
 use crate::proposal::Proposal;
 use crate::proposed_sheet::ProposedSheet;
 use crate::refusal::Refusal;
@@ -162,9 +162,9 @@ impl Sheet {
         Ok(self.complete(pending)?)
     }
 
-    /// Begins a definition: it is refused here, or worked out by steps and then made.
+    /// Lays a definition out: it is refused here, or worked out and then made.
     pub(crate) fn begin_define(&self, name: Name, tree: Expr) -> Result<Pending, Refusal>
-        ensures ok { IfOk result (IsPendingOn self.now (Define name (tree_of tree))) }
+        ensures ok { IfOk result (IsLaidOutOn self.now (Define name (tree_of tree))) }
         ensures ticks { IfOk result (λ pending. pending.ticks ≤ expression_cost self.now.names (Define name (tree_of tree))) }
         ensures refused { IfErr result (Refuses self.now.names (Define name (tree_of tree))) }
     {
@@ -241,10 +241,26 @@ impl Sheet {
         Ok(())
     }
 
-    /// Does all steps that are left; what a formula reads is looked up once.
-    fn advance_to_end(&self, pending: &mut Pending) -> Result<(), AllocError>
-        requires { (change : Change) × IsPendingOn self.now change pending.old }
-        ensures kept { OnOk result ((change : Change) → IsPendingOn self.now change pending.old → IsPendingOn self.now change pending.new) }
+    /// Counts the functions of a change that is laid out, and plans what comes before the first.
+    pub(crate) fn count(&self, pending: &mut Pending) -> Result<(), AllocError>
+        requires { (change : Change) × IsLaidOutOn self.now change pending.old }
+        ensures begun { OnOk result ((change : Change) → IsLaidOutOn self.now change pending.old → IsPendingOn self.now change pending.new) }
+        ensures ticks { pending.new.ticks ≡ pending.old.ticks }
+    {
+        let proposed = ProposedSheet {
+            entries: &self.entries,
+            name: pending.name,
+            proposal: &pending.proposal,
+        };
+        pending.plans.left = functions_in(&proposed, &pending.plans.found);
+        settle(self.alloc, &proposed, &mut pending.plans)?;
+        Ok(())
+    }
+
+    /// Plans all that a change reaches, formula by formula; no function is counted.
+    fn plan_change(&self, pending: &mut Pending) -> Result<(), AllocError>
+        requires { (change : Change) × IsLaidOutOn self.now change pending.old }
+        ensures made { OnOk result ((change : Change) → IsLaidOutOn self.now change pending.old → IsPendingOn self.now change pending.new) }
         ensures none { OnOk result (steps_left pending.new ≡ 0) }
     {
         let proposed = ProposedSheet {
@@ -252,13 +268,12 @@ impl Sheet {
             name: pending.name,
             proposal: &pending.proposal,
         };
-        plan_rest(
+        plan_all(
             self.alloc,
             &proposed,
             &mut pending.plans,
             &mut pending.meter,
         )?;
-        pending.is_cut = false;
         pending.ticks = pending.meter.ticks();
         Ok(())
     }
@@ -277,14 +292,14 @@ impl Sheet {
         self.ticks = ticks;
     }
 
-    /// Does all steps of a change that was begun on the sheet as it is, and makes it.
+    /// Works out a change that is laid out on the sheet as it is, and makes it.
     fn complete(&mut self, mut pending: Pending) -> Result<(), AllocError>
-        requires { (change : Change) × IsPendingOn self.old change pending }
-        ensures made { OnOk result ((change : Change) → IsPendingOn self.old change pending → Accepts self.old.names change self.new.names) }
-        ensures cost { OnOk result ((change : Change) → IsPendingOn self.old change pending → HasCost self.old.names change self.new.names self.new.cost) }
+        requires { (change : Change) × IsLaidOutOn self.old change pending }
+        ensures made { OnOk result ((change : Change) → IsLaidOutOn self.old change pending → Accepts self.old.names change self.new.names) }
+        ensures cost { OnOk result ((change : Change) → IsLaidOutOn self.old change pending → HasCost self.old.names change self.new.names self.new.cost) }
         ensures err { OnErr result (self.new ≡ self.old) }
     {
-        self.advance_to_end(&mut pending)?;
+        self.plan_change(&mut pending)?;
         self.adopt(pending);
         Ok(())
     }
@@ -301,9 +316,9 @@ impl Sheet {
         Ok(self.complete(pending)?)
     }
 
-    /// Begins to store what an expression has now; the expression itself is worked out here.
+    /// Lays out to store what an expression has now; the expression itself is worked out here.
     pub(crate) fn begin_data(&self, name: Name, tree: Expr) -> Result<Pending, Refusal>
-        ensures ok { IfOk result (IsPendingOn self.now (Store name (tree_of tree))) }
+        ensures ok { IfOk result (IsLaidOutOn self.now (Store name (tree_of tree))) }
         ensures ticks { IfOk result (λ pending. pending.ticks ≤ expression_cost self.now.names (Store name (tree_of tree))) }
         ensures refused { IfErr result (Refuses self.now.names (Store name (tree_of tree))) }
     {
@@ -341,11 +356,11 @@ impl Sheet {
         positions: &[i64],
         literal: &Literal,
     ) -> Result<Pending, Refusal>
-        ensures ok { IfOk result (IsPendingOn self.now (SetCell name positions.now (literal_of literal.now))) }
+        ensures ok { IfOk result (IsLaidOutOn self.now (SetCell name positions.now (literal_of literal.now))) }
         ensures ticks { IfOk result (λ pending. pending.ticks ≤ expression_cost self.now.names (SetCell name positions.now (literal_of literal.now))) }
         ensures refused { IfErr result (Refuses self.now.names (SetCell name positions.now (literal_of literal.now))) }
     {
-        let patch = cell_patch(self.alloc, &self.entries, name, positions, literal)?;
+        let patch = cell_patch(&self.entries, name, positions, literal)?;
         let change = Delta::Patch(patch);
         self.propose(name, Proposal::Data(change), 0, Meter::new())
     }
@@ -365,7 +380,7 @@ impl Sheet {
 
     /// Begins to put a row at the end of data.
     pub(crate) fn begin_row(&self, name: Name, literal: &Literal) -> Result<Pending, Refusal>
-        ensures ok { IfOk result (IsPendingOn self.now (AddRow name (literal_of literal.now))) }
+        ensures ok { IfOk result (IsLaidOutOn self.now (AddRow name (literal_of literal.now))) }
         ensures ticks { IfOk result (λ pending. pending.ticks ≤ expression_cost self.now.names (AddRow name (literal_of literal.now))) }
         ensures refused { IfErr result (Refuses self.now.names (AddRow name (literal_of literal.now))) }
     {
@@ -387,7 +402,7 @@ impl Sheet {
 
     /// Begins to remove a name.
     pub(crate) fn begin_erase(&self, name: Name) -> Result<Pending, Refusal>
-        ensures ok { IfOk result (IsPendingOn self.now (Erase name)) }
+        ensures ok { IfOk result (IsLaidOutOn self.now (Erase name)) }
         ensures ticks { IfOk result (λ pending. pending.ticks ≤ expression_cost self.now.names (Erase name)) }
         ensures refused { IfErr result (Refuses self.now.names (Erase name)) }
     {
@@ -411,7 +426,7 @@ impl Sheet {
 
     /// Begins to bind a name to an array.
     pub(crate) fn begin_put(&self, name: Name, array: Array) -> Result<Pending, Refusal>
-        ensures ok { IfOk result (IsPendingOn self.now (Put name array)) }
+        ensures ok { IfOk result (IsLaidOutOn self.now (Put name array)) }
         ensures ticks { IfOk result (λ pending. pending.ticks ≤ expression_cost self.now.names (Put name array)) }
         ensures refused { IfErr result (Refuses self.now.names (Put name array)) }
     {

@@ -41,7 +41,7 @@ fn an_expression_gives_its_value(rt: HostRuntime) {
 }
 
 /// How many functions the formula of a text applies, where it shows VALUE ERROR, as one does that was not worked out yet.
-fn operations_of(alloc: Global, text: &str) -> Option<usize> {
+fn operations_of(alloc: Global, text: &str) -> Option<u32> {
     let formula = Formula::build(alloc, tree_of(alloc, text)?).ok()?;
     match formula.result() {
         Err(fault) if fault.kind == Kind::Value && fault.origin.is_none() => {

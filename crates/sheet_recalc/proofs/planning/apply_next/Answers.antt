@@ -10,7 +10,7 @@ use Rattle.sheet_recalc.proofs.planning.apply_next.Goals as goal
 pub apply_to-requires-clause-done : goal.apply_to-requires-clause-done
 apply_to-requires-clause-done c =
     let w = c.args.plans.now in
-    reads_done (outline_of c.args.proposed.now) c.requires.proposed (take (w.waiting - 1) (keys_of w.found.entries)) c.in-Some.name (waiting_names w) c.in-Some.ensures.1 (plan_in w.found.entries) c.requires.way.1.way
+    reads_done (outline_of c.args.proposed.now) c.requires.proposed (take (w.waiting - 1) (keys_of w.found.entries)) c.in-Some.name (waiting_names w) c.in-Some.ensures.1 (plan_in w.found.entries) c.requires.way.1.made.way
     c.in-Some-formula_of.formula.now c.in-Some-formula_of.ensures
 
 pub apply_to-requires-clause-planned : goal.apply_to-requires-clause-planned

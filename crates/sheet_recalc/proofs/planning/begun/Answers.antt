@@ -10,7 +10,7 @@ use Rattle.sheet_recalc.specs.Entries.{names_of, binding_of}
 use Rattle.sheet_recalc.specs.ProposedSheet.{outline_of, own_entry, proposed_names, proposed_references}
 use Rattle.sheet_recalc.specs.declared.entry.Entry.{Entry}
 use Rattle.sheet_recalc.specs.declared.plans.Plans.{Plans}
-use Rattle.sheet_recalc.proofs.Forward.{begun_way}
+use Rattle.sheet_recalc.proofs.Forward.{first_way}
 use Rattle.sheet_recalc.proofs.NameEquality.{equal-true}
 use Rattle.sheet_recalc.proofs.Keeping.{within, name_order}
 use Rattle.sheet_recalc.proofs.Rebound.{reaching_new, referred_refers}
@@ -52,27 +52,6 @@ returns-then-not-has_room-clause-refused c =
     let apart = λ (d : List ℕ) (stands : Contains (proposed_references o.proposal) d). c.in_default.ensures d (subst (λ (rs : List (List ℕ)). Contains rs d) (sym c.references.ensures) stands) in
     (ready_acyclic o c.args.users.now.entries c.requires.live (keys_of c.in_ok-found.found.entries) f.closed f.named f.sound f.distinct apart, rw c.if-not-has_room.true at c.has_room.ensures)
 
-pub settle-requires-clause-proposed : goal.settle-requires-clause-proposed
-settle-requires-clause-proposed c =
-    let o = outline_of c.args.proposed.now in
-    let f = c.in_ok-found.ensures in
-    let apart = λ (d : List ℕ) (stands : Contains (proposed_references o.proposal) d). c.in_default.ensures d (subst (λ (rs : List (List ℕ)). Contains rs d) (sym c.references.ensures) stands) in
-    ready_proposed o c.args.users.now.entries c.requires.live (keys_of c.in_ok-found.found.entries) f.closed f.named f.sound f.distinct apart c.requires.proposal (subst (λ (r : Outcome). IfOk r IsArray) c.shown.ensures c.of-sound.ensures.held)
-
-pub settle-requires-clause-way : goal.settle-requires-clause-way
-settle-requires-clause-way c =
-    let o = outline_of c.args.proposed.now in
-    let f = c.in_ok-found.ensures in
-    let keys = keys_of c.in_ok-found.found.entries in
-    let users = c.args.users.now.entries in
-    let live = c.requires.live in
-    let apart = λ (d : List ℕ) (stands : Contains (proposed_references o.proposal) d). c.in_default.ensures d (subst (λ (rs : List (List ℕ)). Contains rs d) (sym c.references.ensures) stands) in
-    let ready = ready_proposed o users live keys f.closed f.named f.sound f.distinct apart c.requires.proposal (subst (λ (r : Outcome). IfOk r IsArray) c.shown.ensures c.of-sound.ensures.held) in
-    let affected = ready_affected o users live keys f.closed f.named f.sound f.distinct apart in
-    let costs = ready_cost o users live keys f.closed f.named f.sound f.distinct apart in
-    let plans : Plans = record { found = c.in_ok-found.found; waiting = c.len-2.result; current = None; left = c.functions_in.result; cost = c.args.spent } in
-    (c.args.spent, 0, begun_way o ready c.args.spent plans 0 c.len-2.ensures.len refl c.functions_in.ensures refl c.ranges.spent.fits f.distinct affected f.none costs (omega arith))
-
 pub returns-clause-way : goal.returns-clause-way
 returns-clause-way c = λ ticks low.
     let o = outline_of c.args.proposed.now in
@@ -81,11 +60,11 @@ returns-clause-way c = λ ticks low.
     let users = c.args.users.now.entries in
     let live = c.requires.live in
     let apart = λ (d : List ℕ) (stands : Contains (proposed_references o.proposal) d). c.in_default.ensures d (subst (λ (rs : List (List ℕ)). Contains rs d) (sym c.references.ensures) stands) in
-    let ready = ready_proposed o users live keys f.closed f.named f.sound f.distinct apart c.requires.proposal (subst (λ (r : Outcome). IfOk r IsArray) c.shown.ensures c.of-sound.ensures.held) in
+    let ready = ready_proposed o users live keys f.closed f.named f.sound f.distinct apart c.requires.proposal (subst (λ (r : Outcome). IfOk r IsArray) c.shown.ensures c.shown_is_array.ensures) in
     let affected = ready_affected o users live keys f.closed f.named f.sound f.distinct apart in
     let costs = ready_cost o users live keys f.closed f.named f.sound f.distinct apart in
-    let plans : Plans = record { found = c.in_ok-found.found; waiting = c.len-2.result; current = None; left = c.functions_in.result; cost = c.args.spent } in
-    c.in_ok-settle.ensures.settled c.args.spent ticks (begun_way o ready c.args.spent plans ticks c.len-2.ensures.len refl c.functions_in.ensures refl c.ranges.spent.fits f.distinct affected f.none costs low)
+    let plans : Plans = record { found = c.in_ok-found.found; waiting = c.len-2.result; current = None; left = 0; cost = c.args.spent } in
+    first_way o ready c.args.spent plans ticks c.len-2.ensures.len refl c.ranges.spent.fits f.distinct affected f.none costs low
 
 pub returns-clause-can : goal.returns-clause-can
 returns-clause-can c =
@@ -99,4 +78,4 @@ returns-clause-proposed c =
     let o = outline_of c.args.proposed.now in
     let f = c.in_ok-found.ensures in
     let apart = λ (d : List ℕ) (stands : Contains (proposed_references o.proposal) d). c.in_default.ensures d (subst (λ (rs : List (List ℕ)). Contains rs d) (sym c.references.ensures) stands) in
-    ready_proposed o c.args.users.now.entries c.requires.live (keys_of c.in_ok-found.found.entries) f.closed f.named f.sound f.distinct apart c.requires.proposal (subst (λ (r : Outcome). IfOk r IsArray) c.shown.ensures c.of-sound.ensures.held)
+    ready_proposed o c.args.users.now.entries c.requires.live (keys_of c.in_ok-found.found.entries) f.closed f.named f.sound f.distinct apart c.requires.proposal (subst (λ (r : Outcome). IfOk r IsArray) c.shown.ensures c.shown_is_array.ensures)

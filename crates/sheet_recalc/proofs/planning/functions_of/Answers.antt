@@ -13,7 +13,7 @@ use Rattle.sheet_recalc.proofs.planning.functions_of.Goals as goal
 pub returns-in-Some : goal.returns-in-Some
 returns-in-Some c =
     let o = outline_of c.args.proposed.now in
-    c.operations.ensures ∙ sym (ap (λ (b : Option Binding). option_map_or functions_of b 0) (binding_entry o c.args.name ∙ ap (option_map binding_of) c.in-Some.ensures))
+    c.all_operations.ensures ∙ sym (ap (λ (b : Option Binding). option_map_or functions_of b 0) (binding_entry o c.args.name ∙ ap (option_map binding_of) c.in-Some.ensures))
 
 none_applied : (o : Outline) (q : List ℕ) → ((f : FormulaValue) → entry_of o q ≡ Some (entry.Formula f) → ⊥) → 0 ≡ functions_at o q
 none_applied o q plain = sym (ap (λ (b : Option Binding). option_map_or functions_of b 0) (binding_entry o q) ∙ by (entry_of o q) refl)

@@ -8,7 +8,10 @@ use Rattle.sheet_recalc.proofs.Forward.{skipped, kept_way, stopped_way, ended_wa
 use Rattle.sheet_recalc.proofs.planning.settle.Goals as goal
 
 pub next_name-requires : goal.next_name-requires
-next_name-requires c = (c.loop-name.invariant.way c.requires.way.0 c.requires.way.1 c.requires.way.2).few
+next_name-requires c = (c.loop-name.invariant.way c.requires.way.0 c.requires.way.1 c.requires.way.2).made.few
+
+pub taken-requires-clause-way : goal.taken-requires-clause-way
+taken-requires-clause-way c = (c.requires.way.0, c.requires.way.1, c.loop-name.invariant.way c.requires.way.0 c.requires.way.1 c.requires.way.2)
 
 pub loop-name-preserved-in_default-formula_of : goal.loop-name-preserved-in_default-formula_of
 loop-name-preserved-in_default-formula_of c = record {

@@ -9,7 +9,7 @@ use Rattle.sheet_recalc.proofs.planning.taken.Goals as goal
 pub started-requires-clause-done : goal.started-requires-clause-done
 started-requires-clause-done c =
     let w = c.args.plans.now in
-    reads_done (outline_of c.args.proposed.now) c.requires.proposed c.requires.last.0 c.args.name (waiting_names w) c.requires.last.1 (plan_in w.found.entries) c.requires.way.2.way c.args.formula.now c.requires.held
+    reads_done (outline_of c.args.proposed.now) c.requires.proposed c.requires.last.0 c.args.name (waiting_names w) c.requires.last.1 (plan_in w.found.entries) c.requires.way.2.made.way c.args.formula.now c.requires.held
 
 if_ok_both : {T E : Type 0} (r : Result T E) (P Q R : T → Type 0) → ((t : T) → P t → Q t → R t) → IfOk r P → IfOk r Q → IfOk r R
 if_ok_both (Ok t) P Q R f p q = f t p q

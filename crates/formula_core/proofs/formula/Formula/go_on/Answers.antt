@@ -35,7 +35,7 @@ loop-changes-preserved c =
       begun = λ change told cost begun.
           let now = inv.begun change told cost begun in
           let seen : IsBegun f change c.as_slice.result.now cost = subst (λ (ds : List NodeChange). IsBegun f change ds cost) (sym c.as_slice.ensures.value) now in
-          let done = subst (λ (ds : List NodeChange). IsDone f.is_new change (tree_at (subtrees f.tree) (length ds)) (get_or f.nodes (length ds) not_worked_out) d) c.as_slice.ensures.value (c.in_ok-change.ensures.done change told cost seen) in
+          let done = subst (λ (ds : List NodeChange). IsDone f.is_new change (tree_at (subtrees f.tree) (length ds)) (get_or f.nodes (length ds) not_worked_out) d) c.as_slice.ensures.value (c.in_ok-change.ensures change told cost seen) in
           begun_more f change changes c.push.new.self.items d cost 0 cost now under is (spent_none cost _ now.costs) (free f.is_new change (tree_at (subtrees f.tree) (length changes)) plain) done;
     }
 

@@ -44,8 +44,8 @@ returns-in_err-sums-clause-ticks c = λ change names trees staged.
     subst (λ (t : Tree). c.change_of.new.meter.ticks ≤ c.args.meter.now.ticks + node_cost_at s.is_new change t) (sym (next_tree change names trees s staged c.requires.below k at))
     (c.change_of.ensures change names trees staged (λ old. ap (λ (h : Holding). h.result) (next_held change names trees s staged c.requires.below k at old))).ticks
 
-pub of_node-sound-requires : goal.of_node-sound-requires
-of_node-sound-requires c =
+pub outcomes_are_arrays-requires : goal.outcomes_are_arrays-requires
+outcomes_are_arrays-requires c =
     let w = c.requires.staged in
     let s = c.args.self.now in
     let k = get_or s.nodes.now (length s.changes.now) c.index-self-self.result in
@@ -60,7 +60,7 @@ returns-clause-done c = λ change names trees staged.
     let at = get_or_default s.nodes.now (length s.changes.now) k c.index-self-self.result c.requires.below in
     let step = c.in_ok-delta.ensures change names trees staged (λ old. ap (λ (h : Holding). h.result) (next_held change names trees s staged c.requires.below k at old)) in
     let sums = c.in_ok-sums.ensures change names trees staged (λ old. ap (λ (h : Holding). h.sums) (next_held change names trees s staged c.requires.below k at old)) in
-    next_done change names trees s staged c.requires.below k at (record { delta = c.in_ok-delta.delta; sums = c.in_ok-sums.sums }) step.delta sums c.of_node-sound.ensures.held c.of_node-sound.ensures.sound
+    next_done change names trees s staged c.requires.below k at (record { delta = c.in_ok-delta.delta; sums = c.in_ok-sums.sums }) step.delta sums c.outcomes_are_arrays.ensures.held c.outcomes_are_arrays.ensures.now
 
 pub returns-clause-cost : goal.returns-clause-cost
 returns-clause-cost c = λ change names trees staged.

@@ -19,47 +19,41 @@ pub index_at-index-requires-clause-below : goal.index_at-index-requires-clause-b
 index_at-index-requires-clause-below c =
     subst (λ (r : List Interval). 0 < box_size r) (sym (ap (λ (q : PatchValue). q.region) c.self.view_is)) (some_place c.args.self.now.region c.args.array.now.shape c.requires.inside)
 
--- as many items as the box has places
+-- the box has as many places as there are items
 pub index_at-index-requires-clause-size : goal.index_at-index-requires-clause-size
 index_at-index-requires-clause-size c =
-    let many : c.size-items.result ≡ box_size c.self.inside.region =
-    c.size-items.ensures ∙ ap size (c.as_slice.ensures ∙ c.shape.ensures.is) ∙ sym c.shape.ensures.sound.one_item_a_place ∙ c.self.invariant in
-    omega (arith, c.size-items.type_inv)
+    let many : c.count-items.result ≡ box_size c.self.inside.region = c.count-items.ensures ∙ c.self.invariant in
+    omega (arith, c.count-items.type_inv)
 
 pub position-place-requires-clause-in_range : goal.position-place-requires-clause-in_range
 position-place-requires-clause-in_range c =
     let p = c.args.self.now in
     let a = c.args.array.now in
     let region : c.self.inside.region ≡ p.region = ap (λ (q : PatchValue). q.region) c.self.view_is in
-    let many : c.size-items.result ≡ box_size c.self.inside.region =
-    c.size-items.ensures ∙ ap size (c.as_slice.ensures ∙ c.shape.ensures.is) ∙ sym c.shape.ensures.sound.one_item_a_place ∙ c.self.invariant in
+    let many : c.count-items.result ≡ box_size c.self.inside.region = c.count-items.ensures ∙ c.self.invariant in
     let below : c.loop-before.before < box_size p.region = subst (λ (r : List Interval). c.loop-before.before < box_size r) region (omega (arith, c.loop-before-test.true)) in
     let within = fits_within p.region a.shape (walk_at p.region c.loop-before.before) c.requires.inside (walk_within p.region c.loop-before.before below) in
-    let index : c.as_slice-in-loop-before.result.now ≡ walk_at p.region c.loop-before.before =
-    c.as_slice-in-loop-before.ensures.is ∙ c.loop-before.invariant.at below in
-    let shape : c.shape-in-loop-before.result.now.items ≡ a.shape = c.shape-in-loop-before.ensures.is ∙ c.loop-before.invariant.written.shaped in
-    (ap (λ (s : List ℕ). is_index_of s c.as_slice-in-loop-before.result.now) shape ∙ ap (is_index_of a.shape) index) ∙ within
+    let index : c.as_slice.result.now ≡ walk_at p.region c.loop-before.before =
+    c.as_slice.ensures.is ∙ c.loop-before.invariant.at below in
+    let shape : c.shape.result.now.items ≡ a.shape = c.shape.ensures.is ∙ c.loop-before.invariant.written.shaped in
+    (ap (λ (s : List ℕ). is_index_of s c.as_slice.result.now) shape ∙ ap (is_index_of a.shape) index) ∙ within
 
 pub loop-before-preserved : goal.loop-before-preserved
 loop-before-preserved c =
     let p = c.args.self.now in
     let a = c.args.array.now in
     let region : c.self.inside.region ≡ p.region = ap (λ (q : PatchValue). q.region) c.self.view_is in
-    let many : c.size-items.result ≡ box_size c.self.inside.region =
-    c.size-items.ensures ∙ ap size (c.as_slice.ensures ∙ c.shape.ensures.is) ∙ sym c.shape.ensures.sound.one_item_a_place ∙ c.self.invariant in
+    let many : c.count-items.result ≡ box_size c.self.inside.region = c.count-items.ensures ∙ c.self.invariant in
     let below : c.loop-before.before < box_size p.region = subst (λ (r : List Interval). c.loop-before.before < box_size r) region (omega (arith, c.loop-before-test.true)) in
     let more = written_more a p c.loop-before.before c.loop-before.array c.requires c.loop-before.invariant.written below in
-    let index : c.as_slice-in-loop-before.result.now ≡ walk_at p.region c.loop-before.before =
-    c.as_slice-in-loop-before.ensures.is ∙ c.loop-before.invariant.at below in
-    let shape : c.shape-in-loop-before.result.now.items ≡ a.shape = c.shape-in-loop-before.ensures.is ∙ c.loop-before.invariant.written.shaped in
-    let counted : places_before c.shape-in-loop-before.result.now.items c.as_slice-in-loop-before.result.now ≡ places_before a.shape (walk_at p.region c.loop-before.before) =
+    let index : c.as_slice.result.now ≡ walk_at p.region c.loop-before.before =
+    c.as_slice.ensures.is ∙ c.loop-before.invariant.at below in
+    let shape : c.shape.result.now.items ≡ a.shape = c.shape.ensures.is ∙ c.loop-before.invariant.written.shaped in
+    let counted : places_before c.shape.result.now.items c.as_slice.result.now ≡ places_before a.shape (walk_at p.region c.loop-before.before) =
     λ i. places_before (shape i) (index i) in
     let place : c.position-place.result - 1 ≡ places_before a.shape (walk_at p.region c.loop-before.before) = omega (arith, c.position-place.ensures.is, counted) in
-    let before : c.loop-before.before + 1 - 1 ≡ c.loop-before.before = omega arith in
     let item : c.item.result ≡ get_or p.items c.loop-before.before (fill p.item_type) =
-    c.item.ensures.is
-    ∙ ap (λ (n : ℕ). get_or c.self.inside.values.items n (fill c.self.inside.values.item_type)) before
-    ∙ ap (λ (q : PatchValue). get_or q.items c.loop-before.before (fill q.item_type)) c.self.view_is in
+    c.item.ensures.is ∙ ap (λ (q : PatchValue). get_or q.items c.loop-before.before (fill q.item_type)) c.self.view_is in
     record {
       written = subst (λ (now : ArrayValue). IsWritten a p (c.loop-before.before + 1) now)
           (sym (c.write_at.ensures ∙ (λ i. record c.loop-before.array { items = set c.loop-before.array.items (place i) (item i) })))
@@ -72,8 +66,7 @@ pub returns : goal.returns
 returns c =
     let p = c.args.self.now in
     let region : c.self.inside.region ≡ p.region = ap (λ (q : PatchValue). q.region) c.self.view_is in
-    let many : c.size-items.result ≡ box_size c.self.inside.region =
-    c.size-items.ensures ∙ ap size (c.as_slice.ensures ∙ c.shape.ensures.is) ∙ sym c.shape.ensures.sound.one_item_a_place ∙ c.self.invariant in
-    let ended : c.loop-before.before ≡ c.size-items.result = omega (arith, c.loop-before-test.false, c.loop-before.auto.before-end) in
+    let many : c.count-items.result ≡ box_size c.self.inside.region = c.count-items.ensures ∙ c.self.invariant in
+    let ended : c.loop-before.before ≡ c.count-items.result = omega (arith, c.loop-before-test.false, c.loop-before.auto.before-end) in
     let all : c.loop-before.before ≡ box_size p.region = ended ∙ many ∙ ap box_size region in
     written_all c.args.array.now p c.loop-before.array (subst (λ (n : ℕ). IsWritten c.args.array.now p n c.loop-before.array) all c.loop-before.invariant.written)

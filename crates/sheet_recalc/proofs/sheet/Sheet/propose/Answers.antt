@@ -1,5 +1,4 @@
 use Rattle.std.proofs.Common.{◌≤◌, refl, sym, ap, subst, false}
-use Rattle.std.proofs.lemmas.Bool.{false≢true}
 use Rattle.change_core.specs.Meters.{ticked}
 use Rattle.std.proofs.lemmas.Result.{err_from_is_err_and}
 use Rattle.sheet_recalc.specs.Names.{SheetValue}
@@ -38,8 +37,9 @@ returns-clause-ok c =
         sheet = begun.can.sheet;
         place = c.in_ok-growth.ensures;
         way = begun.way c.args.meter.ticks c.requires.few;
-        told = λ e. c.ticks.ensures;
-        untold = λ e. absurd (false≢true e);
+        first = begun.first;
+        whole = refl;
+        told = c.ticks.ensures;
         small = c.ticks.type_inv;
       };
       few = subst (λ n. ticked 0 n ≤ c.args.spent) (sym c.ticks.ensures) c.requires.few;

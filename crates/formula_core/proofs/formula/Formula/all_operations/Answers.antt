@@ -4,7 +4,7 @@ use Rattle.formula_core.specs.declared.kept.Kept.{Kept}
 use Rattle.formula_core.specs.Tables.{applies}
 use Rattle.formula_core.specs.Formulas.{FormulaValue, operations}
 use Rattle.formula_core.proofs.Rooted.{operations_counted}
-use Rattle.formula_core.proofs.formula.Formula.operations.Goals as goal
+use Rattle.formula_core.proofs.formula.Formula.all_operations.Goals as goal
 
 pub returns : goal.returns
 returns c =

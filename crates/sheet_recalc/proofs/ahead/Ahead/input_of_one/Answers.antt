@@ -1,0 +1,14 @@
+use Rattle.std.proofs.Common.{[], ◌∷◌, sym}
+use Rattle.formula_core.specs.Changes.{IsNameChanged}
+use Rattle.formula_core.specs.Plans.{IsNameSound}
+use Rattle.sheet_recalc.specs.ProposedSheet.{outline_of, proposed_change}
+use Rattle.sheet_recalc.proofs.PlannedNames.{formula_told, of_one}
+use Rattle.sheet_recalc.proofs.ahead.Ahead.input_of_one.Goals as goal
+
+pub returns : goal.returns
+returns c =
+    let o = outline_of c.args.self.now.proposed.now in
+    let change = proposed_change o in
+    let i = c.input_of.ensures in
+    formula_told o c.requires.ahead.proposed c.args.name c.args.formula.now c.requires.held (c.args.one ∷ []) (c.input_of.result ∷ []) (sym c.requires.names) (i.input, tt)
+    (of_one (IsNameChanged change) c.args.one i.changed) (of_one (IsNameSound change) c.args.one i.sound)

@@ -1,0 +1,42 @@
+use Rattle.std.proofs.Common.{◌-◌, ◌∙◌, Some, ap, take, cond}
+use Rattle.std.specs.Str.{bytes_eq}
+use Rattle.std.specs.Map.{keys_of}
+use Rattle.sheet_recalc.specs.Live.{plan_in}
+use Rattle.sheet_recalc.specs.ProposedSheet.{outline_of}
+use Rattle.sheet_recalc.specs.Planning.{waiting_names}
+use Rattle.sheet_recalc.proofs.Working.{reads_done}
+use Rattle.sheet_recalc.proofs.Forward.{passed_over, planned_way}
+use Rattle.sheet_recalc.proofs.planning.plan_all.Goals as goal
+
+pub next_name-requires : goal.next_name-requires
+next_name-requires c = (c.loop-name.invariant.way c.requires.way.0 c.requires.way.1).few
+
+pub loop-name-preserved-in_default-formula_of : goal.loop-name-preserved-in_default-formula_of
+loop-name-preserved-in_default-formula_of c = record {
+  way = λ base way. passed_over (outline_of c.args.proposed.now) c.requires.proposed base c.loop-name.meter.ticks c.loop-name.plans c.in-Some.name (c.loop-name.invariant.way base way) c.in-Some.ensures.0 c.in-Some.ensures.1 c.in_default-formula_of.ensures;
+  left = c.loop-name.invariant.left;
+  current = c.loop-name.invariant.current;
+}
+
+pub whole_plan-requires-clause-plans : goal.whole_plan-requires-clause-plans
+whole_plan-requires-clause-plans c = (c.loop-name.invariant.way c.requires.way.0 c.requires.way.1).way.plans
+
+pub whole_plan-requires-clause-done : goal.whole_plan-requires-clause-done
+whole_plan-requires-clause-done c =
+    let w = c.loop-name.plans in
+    reads_done (outline_of c.args.proposed.now) c.requires.proposed (take (w.waiting - 1) (keys_of w.found.entries)) c.in-Some.name (waiting_names w) c.in-Some.ensures.1 (plan_in w.found.entries)
+    (c.loop-name.invariant.way c.requires.way.0 c.requires.way.1).way c.in-Some-formula_of.formula.now c.in-Some-formula_of.ensures
+
+pub loop-name-preserved : goal.loop-name-preserved
+loop-name-preserved c =
+    let w = c.loop-name.plans in
+    let p = c.in_ok-plan.plan in
+    let made = c.in_ok-plan.ensures in
+    record {
+      way = λ base way.
+          planned_way (outline_of c.args.proposed.now) c.requires.proposed base c.loop-name.meter.ticks w c.keep.new.self c.in-Some.name p c.whole_plan.new.meter.ticks (c.loop-name.invariant.way base way) c.in-Some.ensures.0 c.in-Some.ensures.1
+          c.in-Some-formula_of.formula.now c.in-Some-formula_of.ensures made.of made.planned made.ticks c.keep.ensures.waiting c.keep.ensures.keys
+          (λ q. c.keep.ensures.plans q ∙ ap (λ k. cond (bytes_eq k q) (Some p) (plan_in w.found.entries q)) c.in-Some.ensures.2) c.keep.ensures.cost;
+      left = c.keep.ensures.left ∙ c.loop-name.invariant.left;
+      current = c.keep.ensures.current ∙ c.loop-name.invariant.current;
+    }

@@ -1,0 +1,14 @@
+use Rattle.std.proofs.Common.{◌≡◌, ℕ}
+use Rattle.sheet_recalc.specs.ProposedSheet.{outline_of}
+use Rattle.sheet_recalc.specs.Planning.{IsPlanning}
+use Rattle.sheet_recalc.proofs.planning.plan_all.Given as goal
+
+abbrev pub invariant-loop-name : goal.invariant-loop-name
+invariant-loop-name l = record {
+  way : (base : ℕ) → IsPlanning (outline_of l.proposed) base l.fn.plans l.fn.meter.ticks → IsPlanning (outline_of l.proposed) base l.plans l.meter.ticks;
+  left : l.plans.left ≡ l.fn.plans.left;
+  current : l.plans.current ≡ l.fn.plans.current;
+}
+
+abbrev pub decreases-loop-name : goal.decreases-loop-name
+decreases-loop-name l = l.plans.waiting
