@@ -1,7 +1,9 @@
 -- Entries, the names that they stand for, and what they show.
 use Rattle.std.proofs.Common.{◌≡◌, ℕ, ◌<◌, Bool, true, false, cond, List, [], ◌∷◌, ◌++◌, length, Option, Some, None, Ok, Err, IsSome, is_some, refl, sym, ap, ◌∙◌, subst, arith, if◌then◌else◌}
 use Rattle.std.specs.Str.{bytes_eq}
-use Rattle.std.specs.Map.{lookup, keys_of, set_value}
+use Rattle.std.specs.Map.{lookup, keys_of, set_value, remove_entry}
+use Rattle.std.proofs.lemmas.Map.{lookup-remove_entry}
+use Rattle.std.proofs.lemmas.Map.Keys.{IsDistinct-tail}
 use Rattle.std.specs.Option.{option_map, unwrap_or}
 use Rattle.std.specs.List.{IsDistinct}
 use Rattle.indexmap.specs.IndexSet.{IndexSet}
@@ -137,21 +139,21 @@ holding_val es current q = by (lookup (bytes_eq q) es) refl
 
 -- ---- plans are taken one after another
 
-lookup_last : {X : Type 0} (q : List ℕ) (p : X) (ps : List (List ℕ × X)) → lookup (bytes_eq q) ps ≡ None → lookup (bytes_eq q) (ps ++ (q, p) ∷ []) ≡ Some p
-lookup_last q p [] h = rw (equal-same q q refl) refl
-lookup_last q p (r ∷ ps) h = by (bytes_eq q r.0) refl (lookup_last q p ps)
-  where
-    by : (b : Bool) → bytes_eq q r.0 ≡ b → (lookup (bytes_eq q) ps ≡ None → lookup (bytes_eq q) (ps ++ (q, p) ∷ []) ≡ Some p) → lookup (bytes_eq q) ((r ∷ ps) ++ (q, p) ∷ []) ≡ Some p
-    by true is rest = let never : Some r.1 ≡ None = rw is at h in absurd cc
-    by false is rest = let there : lookup (bytes_eq q) ps ≡ None = rw is at h in rw is (rest there)
+-- the first of what a change reached is taken
+module _ (found found' : List (List ℕ × Option PlanValue)) (name : List ℕ) (p : Option PlanValue) (all : found ≡ (name, p) ∷ found') (once : IsDistinct bytes_eq (keys_of found)) where
+  distinct : IsDistinct bytes_eq (keys_of ((name, p) ∷ found'))
+  distinct = subst (λ (ps : List (List ℕ × Option PlanValue)). IsDistinct bytes_eq (keys_of ps)) all once
 
--- the last of what a change reached is taken
-module _ (found found' : List (List ℕ × Option PlanValue)) (name : List ℕ) (p : Option PlanValue)
-    (all : found ≡ found' ++ (name, p) ∷ []) (taken : (q : List ℕ) → lookup (bytes_eq q) found' ≡ cond (bytes_eq name q) None (lookup (bytes_eq q) found)) where
-  pub reached_last : plan_in found name ≡ p
-  reached_last =
-      let gone : lookup (bytes_eq name) found' ≡ None = rw (equal-same name name refl) at (taken name) in
-      ap (λ ps. plan_in ps name) all ∙ ap (λ o. unwrap_or o None) (lookup_last name p found' gone)
+  pub once_after : IsDistinct bytes_eq (keys_of found')
+  once_after = IsDistinct-tail bytes_eq name (keys_of found') distinct
+
+  pub reached_first : plan_in found name ≡ p
+  reached_first = ap (λ ps. plan_in ps name) all ∙ rw (equal-same name name refl) refl
+
+  taken : (q : List ℕ) → lookup (bytes_eq q) found' ≡ cond (bytes_eq name q) None (lookup (bytes_eq q) found)
+  taken q =
+      let rest : remove_entry (bytes_eq name) ((name, p) ∷ found') ≡ found' = rw (equal-same name name refl) refl in
+      ap (lookup (bytes_eq q)) (sym rest) ∙ lookup-remove_entry names_equal (bytes_eq name) (λ x y h. ap (λ z. bytes_eq z y) (equal-true name x h)) q ((name, p) ∷ found') distinct ∙ ap (λ ps. cond (bytes_eq name q) None (lookup (bytes_eq q) ps)) (sym all)
 
   pub reached_others : (q : List ℕ) → plan_in found' q ≡ cond (bytes_eq name q) None (plan_in found q)
   reached_others q = by (bytes_eq name q) refl

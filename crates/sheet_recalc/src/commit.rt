@@ -170,12 +170,12 @@ fn references_of(entries: &IndexMap<Name, Entry>, name: Name) -> &[Name]
 }
 
 /// Gives each formula that has a plan its new results.
-fn adopt_all(entries: &mut IndexMap<Name, Entry>, mut found: Found)
+fn adopt_all(entries: &mut IndexMap<Name, Entry>, found: Found)
     requires { IsAdopting (names_of entries.old.entries) entries.old.entries (plan_in found.entries) }
     ensures names { names_of entries.new.entries ≡ names_of entries.old.entries }
     ensures current { IsCurrent entries.new.entries }
 {
-    while let Some(reached) = found.pop() {
+    for reached in found {
         let (name, plan) = reached;
         if let Some(plan) = plan {
             adopt_one(entries, name, plan);

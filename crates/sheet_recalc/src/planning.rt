@@ -70,7 +70,7 @@ pub(crate) fn begun(
 fn has_room(entries: &IndexMap<Name, Entry>, name: Name) -> bool
     ensures { MatchBool result (HasRoom (names_of entries.now.entries) name) (IsFullFor (names_of entries.now.entries) name) }
 {
-    entries.contains_key(&name) || entries.len() < MOST_NAMES
+    entries.len() < MOST_NAMES || entries.contains_key(&name)
 }
 
 /// How many functions the formulas of these names apply.

@@ -163,9 +163,9 @@ impl Sheet {
     }
 
     /// Lays a definition out: it is refused here, or worked out and then made.
-    pub(crate) fn begin_define(&self, name: Name, tree: Expr) -> Result<Pending, Refusal>
-        ensures ok { IfOk result (IsLaidOutOn self.now (Define name (tree_of tree))) }
-        ensures ticks { IfOk result (λ pending. pending.ticks ≤ expression_cost self.now.names (Define name (tree_of tree))) }
+    pub(crate) fn begin_define(&self, name: Name, tree: Expr) -> Result<Box<Pending>, Refusal>
+        ensures ok { IfOk result (λ pending. IsLaidOutOn self.now (Define name (tree_of tree)) pending.value) }
+        ensures ticks { IfOk result (λ pending. pending.value.ticks ≤ expression_cost self.now.names (Define name (tree_of tree))) }
         ensures refused { IfErr result (Refuses self.now.names (Define name (tree_of tree))) }
     {
         let formula = Formula::build(self.alloc, tree)?;
@@ -293,14 +293,14 @@ impl Sheet {
     }
 
     /// Works out a change that is laid out on the sheet as it is, and makes it.
-    fn complete(&mut self, mut pending: Pending) -> Result<(), AllocError>
-        requires { (change : Change) × IsLaidOutOn self.old change pending }
-        ensures made { OnOk result ((change : Change) → IsLaidOutOn self.old change pending → Accepts self.old.names change self.new.names) }
-        ensures cost { OnOk result ((change : Change) → IsLaidOutOn self.old change pending → HasCost self.old.names change self.new.names self.new.cost) }
+    fn complete(&mut self, mut pending: Box<Pending>) -> Result<(), AllocError>
+        requires { (change : Change) × IsLaidOutOn self.old change pending.value }
+        ensures made { OnOk result ((change : Change) → IsLaidOutOn self.old change pending.value → Accepts self.old.names change self.new.names) }
+        ensures cost { OnOk result ((change : Change) → IsLaidOutOn self.old change pending.value → HasCost self.old.names change self.new.names self.new.cost) }
         ensures err { OnErr result (self.new ≡ self.old) }
     {
         self.plan_change(&mut pending)?;
-        self.adopt(pending);
+        self.adopt(Box::into_inner(pending));
         Ok(())
     }
 
@@ -317,9 +317,9 @@ impl Sheet {
     }
 
     /// Lays out to store what an expression has now; the expression itself is worked out here.
-    pub(crate) fn begin_data(&self, name: Name, tree: Expr) -> Result<Pending, Refusal>
-        ensures ok { IfOk result (IsLaidOutOn self.now (Store name (tree_of tree))) }
-        ensures ticks { IfOk result (λ pending. pending.ticks ≤ expression_cost self.now.names (Store name (tree_of tree))) }
+    pub(crate) fn begin_data(&self, name: Name, tree: Expr) -> Result<Box<Pending>, Refusal>
+        ensures ok { IfOk result (λ pending. IsLaidOutOn self.now (Store name (tree_of tree)) pending.value) }
+        ensures ticks { IfOk result (λ pending. pending.value.ticks ≤ expression_cost self.now.names (Store name (tree_of tree))) }
         ensures refused { IfErr result (Refuses self.now.names (Store name (tree_of tree))) }
     {
         let mut meter = Meter::new();
@@ -349,15 +349,15 @@ impl Sheet {
         Ok(self.complete(pending)?)
     }
 
-    /// Begins to replace one item of data.
+    /// Lays out to replace one item of data.
     pub(crate) fn begin_cell(
         &self,
         name: Name,
         positions: &[i64],
         literal: &Literal,
-    ) -> Result<Pending, Refusal>
-        ensures ok { IfOk result (IsLaidOutOn self.now (SetCell name positions.now (literal_of literal.now))) }
-        ensures ticks { IfOk result (λ pending. pending.ticks ≤ expression_cost self.now.names (SetCell name positions.now (literal_of literal.now))) }
+    ) -> Result<Box<Pending>, Refusal>
+        ensures ok { IfOk result (λ pending. IsLaidOutOn self.now (SetCell name positions.now (literal_of literal.now)) pending.value) }
+        ensures ticks { IfOk result (λ pending. pending.value.ticks ≤ expression_cost self.now.names (SetCell name positions.now (literal_of literal.now))) }
         ensures refused { IfErr result (Refuses self.now.names (SetCell name positions.now (literal_of literal.now))) }
     {
         let patch = cell_patch(&self.entries, name, positions, literal)?;
@@ -378,10 +378,10 @@ impl Sheet {
         Ok(self.complete(pending)?)
     }
 
-    /// Begins to put a row at the end of data.
-    pub(crate) fn begin_row(&self, name: Name, literal: &Literal) -> Result<Pending, Refusal>
-        ensures ok { IfOk result (IsLaidOutOn self.now (AddRow name (literal_of literal.now))) }
-        ensures ticks { IfOk result (λ pending. pending.ticks ≤ expression_cost self.now.names (AddRow name (literal_of literal.now))) }
+    /// Lays out to put a row at the end of data.
+    pub(crate) fn begin_row(&self, name: Name, literal: &Literal) -> Result<Box<Pending>, Refusal>
+        ensures ok { IfOk result (λ pending. IsLaidOutOn self.now (AddRow name (literal_of literal.now)) pending.value) }
+        ensures ticks { IfOk result (λ pending. pending.value.ticks ≤ expression_cost self.now.names (AddRow name (literal_of literal.now))) }
         ensures refused { IfErr result (Refuses self.now.names (AddRow name (literal_of literal.now))) }
     {
         let array = data_with_row(self.alloc, &self.entries, name, literal)?;
@@ -400,10 +400,10 @@ impl Sheet {
         Ok(self.complete(pending)?)
     }
 
-    /// Begins to remove a name.
-    pub(crate) fn begin_erase(&self, name: Name) -> Result<Pending, Refusal>
-        ensures ok { IfOk result (IsLaidOutOn self.now (Erase name)) }
-        ensures ticks { IfOk result (λ pending. pending.ticks ≤ expression_cost self.now.names (Erase name)) }
+    /// Lays out to remove a name.
+    pub(crate) fn begin_erase(&self, name: Name) -> Result<Box<Pending>, Refusal>
+        ensures ok { IfOk result (λ pending. IsLaidOutOn self.now (Erase name) pending.value) }
+        ensures ticks { IfOk result (λ pending. pending.value.ticks ≤ expression_cost self.now.names (Erase name)) }
         ensures refused { IfErr result (Refuses self.now.names (Erase name)) }
     {
         if !self.entries.contains_key(&name) {
@@ -424,27 +424,28 @@ impl Sheet {
         Ok(self.complete(pending)?)
     }
 
-    /// Begins to bind a name to an array.
-    pub(crate) fn begin_put(&self, name: Name, array: Array) -> Result<Pending, Refusal>
-        ensures ok { IfOk result (IsLaidOutOn self.now (Put name array)) }
-        ensures ticks { IfOk result (λ pending. pending.ticks ≤ expression_cost self.now.names (Put name array)) }
+    /// Lays out to bind a name to an array.
+    pub(crate) fn begin_put(&self, name: Name, array: Array) -> Result<Box<Pending>, Refusal>
+        ensures ok { IfOk result (λ pending. IsLaidOutOn self.now (Put name array) pending.value) }
+        ensures ticks { IfOk result (λ pending. pending.value.ticks ≤ expression_cost self.now.names (Put name array)) }
         ensures refused { IfErr result (Refuses self.now.names (Put name array)) }
     {
         let change = Delta::Whole(Ok(array));
         self.propose(name, Proposal::Data(change), 0, Meter::new())
     }
 
-    /// Begins to bind a name as a proposal says, where finding that has cost so much and the meter shows so many items.
+    /// Lays out to bind a name as a proposal says, where finding that has cost so much and the meter shows so many items. The change lies in a
+    /// box, so that it is handed on without a copy.
     fn propose(
         &self,
         name: Name,
         proposal: Proposal,
         spent: u64,
         meter: Meter,
-    ) -> Result<Pending, Refusal>
+    ) -> Result<Box<Pending>, Refusal>
         requires proposal { IsProposalAt self.now.tables.entries.entries name proposal }
         requires few { ticked 0 meter.ticks ≤ spent }
-        ensures ok { IfOk result (IsProposedOn self.now name proposal spent) }
+        ensures ok { IfOk result (λ pending. IsProposedOn self.now name proposal spent pending.value) }
         ensures refused { IfErr result (CannotBecome self.now.names (names_with self.now.names name proposal) name) }
         ensures sound { IsSheet self.now.names }
     {
@@ -455,7 +456,7 @@ impl Sheet {
         };
         let plans = begun(self.alloc, &proposed, &self.users, spent)?;
         let growth = growth_for(self.alloc, &self.entries, &self.users, &proposal)?;
-        Ok(Pending {
+        let pending = Pending {
             name,
             proposal,
             plans,
@@ -463,7 +464,8 @@ impl Sheet {
             is_cut: false,
             ticks: meter.ticks(),
             meter,
-        })
+        };
+        Ok(Box::new(self.alloc, pending)?)
     }
 
     pub(crate) fn alloc(&self) -> Global {

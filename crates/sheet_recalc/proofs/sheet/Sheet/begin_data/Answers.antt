@@ -45,7 +45,7 @@ returns-clause-ok c =
     let array = array_in (eval t (val c.args.self.now.names)) c.into_delta-change.result gives c.in_default.ensures in
     let is = gives ∙ ap (λ (o : Outcome). Whole o) array.1 in
     if_ok_map c.propose.result _ _
-    (λ p h. data_pending c.args.self.now c.args.name array.0 c.cost-spent.result p (subst (λ (d : Delta). IsProposedOn c.args.self.now c.args.name (proposed.Data d) c.cost-spent.result p) is h) t array.1 spent) c.propose.ensures.ok
+    (λ p h. data_pending c.args.self.now c.args.name array.0 c.cost-spent.result p.value (subst (λ (d : Delta). IsProposedOn c.args.self.now c.args.name (proposed.Data d) c.cost-spent.result p.value) is h) t array.1 spent) c.propose.ensures.ok
 
 pub returns-clause-refused : goal.returns-clause-refused
 returns-clause-refused c =
@@ -62,4 +62,4 @@ pub returns-clause-ticks : goal.returns-clause-ticks
 returns-clause-ticks c =
     let t = tree_of c.args.tree in
     let spent = c.cost-spent.ensures ∙ (c.in_ok-plan.ensures.cost ∙ ap (λ (s : SheetValue). ticked 0 (tree_cost true (at_rest s.names) t)) c.self.view_is) in
-    if_ok_map c.propose.result _ _ (λ p h. few_at_first c.args.self.now c.args.name _ c.cost-spent.result p h (tree_cost true (at_rest c.args.self.now.names) t) spent) c.propose.ensures.ok
+    if_ok_map c.propose.result _ _ (λ p h. few_at_first c.args.self.now c.args.name _ c.cost-spent.result p.value h (tree_cost true (at_rest c.args.self.now.names) t) spent) c.propose.ensures.ok

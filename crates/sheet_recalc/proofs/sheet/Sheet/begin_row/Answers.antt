@@ -10,7 +10,7 @@ use Rattle.sheet_recalc.proofs.sheet.Sheet.begin_row.Goals as goal
 pub returns-clause-ok : goal.returns-clause-ok
 returns-clause-ok c =
     let is = subst (λ (s : SheetValue). row_put (binding s.names c.args.name) (literal_of c.args.literal.now) ≡ Ok c.in_ok-array.array) c.self.view_is c.in_ok-array.ensures in
-    if_ok_map c.begin_put.result _ _ (λ p h. row_pending c.args.self.now c.args.name c.in_ok-array.array (literal_of c.args.literal.now) is p h) c.begin_put.ensures.ok
+    if_ok_map c.begin_put.result _ _ (λ p h. row_pending c.args.self.now c.args.name c.in_ok-array.array (literal_of c.args.literal.now) is p.value h) c.begin_put.ensures.ok
 
 pub returns-clause-refused : goal.returns-clause-refused
 returns-clause-refused c =

@@ -26,7 +26,8 @@ returns-clause-ok c =
     let begun = c.in_ok-plans.ensures in
     let pending : Pending =
     record { name = c.args.name; proposal = c.args.proposal; plans = c.in_ok-plans.plans; growth = c.in_ok-growth.growth; is_cut = false; ticks = c.ticks.result; meter = c.args.meter } in
-    subst (λ (s : SheetValue). IsProposedOn s c.args.name c.args.proposal c.args.spent pending) c.self.view_is
+    subst (λ (q : Pending). IsProposedOn c.args.self.now c.args.name c.args.proposal c.args.spent q) (sym c.in_ok-new.ensures.ok)
+    (subst (λ (s : SheetValue). IsProposedOn s c.args.name c.args.proposal c.args.spent pending) c.self.view_is
     (record {
       names_are = refl;
       name_is = refl;
@@ -44,4 +45,4 @@ returns-clause-ok c =
       };
       few = subst (λ n. ticked 0 n ≤ c.args.spent) (sym c.ticks.ensures) c.requires.few;
       room = begun.can.room;
-    })
+    }))
