@@ -25,7 +25,7 @@ use Rattle.formula_core.specs.Tables.{tree_of_operand, tree_of_node, IsOperand, 
 use Rattle.formula_core.specs.Changes.{Change, change, FitsIn}
 use Rattle.formula_core.specs.Inputs.{shown, delta_of, IsInput}
 use Rattle.formula_core.specs.Stages.{IsStaged, IsReady, IsKeptBy, IsSumsStep}
-use Rattle.formula_core.specs.Sums.{is_total, summed_in, summed_at, totalled, WasSummed, IsSumsDelta, IsSummedFor}
+use Rattle.formula_core.specs.Sums.{is_total, in_box, summed_in, summed_at, totalled, WasSummed, IsSumsDelta, IsSummedFor}
 use Rattle.formula_core.proofs.Steps.{operand_changed, fit_held}
 
 -- ---- an array that is patched
@@ -64,7 +64,7 @@ patch_taken now p q (Some a) some is = record { right = right; fit = fit }
         let k = kept_of old a w.keeps in
         subst (λ (r : PatchValue). FitsPatch a r) (sym is) (subst (λ (o : Outcome). FitsIn (Patch p) o) k.is w.fit)
 
-pub sums_made : (now : Outcome) (d : Delta) (kept s : Option ArrayValue) → s ≡ summed_in now → IsSumsDelta now d kept (sums.Whole s)
+pub sums_made : (now : Outcome) (d : Delta) (kept : Option ArrayValue) (s : Option (Box ArrayValue Global)) → in_box s ≡ summed_in now → IsSumsDelta now d kept (sums.Whole s)
 sums_made now d kept s is = record { right = λ old was. is; fit = λ old was. tt }
 
 pub sums_stay : (now : Outcome) (kept : Option ArrayValue) → IsSumsDelta now Same kept sums.Same

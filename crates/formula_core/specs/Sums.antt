@@ -1,5 +1,7 @@
 -- The sums of lines that the totals of a formula keep.
 use Rattle.std.specs.Prelude.{◌≡◌, ℕ, List, Bool, true, false, Option, Some, None, Ok, Err, if◌then◌else◌}
+use Rattle.std.specs.Global.{Box}
+use Rattle.std.specs.Option.{option_map}
 use Rattle.apl_expr.specs.Trees.{Tree, Const, Name, Monad, Dyad, Index}
 use Rattle.apl_expr.specs.declared.expr.ScalarDyad.TheVariants as scalar_dyad
 use Rattle.apl_expr.specs.declared.expr.Along.TheVariants as axis
@@ -47,12 +49,16 @@ totalled (node.Monad f right) = if is_total f then Some right else None
 totalled (node.Dyad f left right) = None
 totalled (node.Index array positions) = None
 
+-- the array whose lines are summed up by what lies in a box
+abbrev pub in_box : Option (Box ArrayValue) → Option ArrayValue
+in_box s = option_map (λ (b : Box ArrayValue). b.value) s
+
 -- the sums that a node keeps, with their change
 abbrev pub resummed : SumsDelta → Option ArrayValue → Option ArrayValue
 resummed Same kept = kept
 resummed (Patch p) (Some a) = Some (patched a p.value)
 resummed (Patch p) None = None
-resummed (Whole s) kept = s
+resummed (Whole s) kept = in_box s
 
 -- a box that changes lies in the array whose lines are summed up
 abbrev pub FitsSums : SumsDelta → Option ArrayValue → Type 0

@@ -4,7 +4,7 @@ ghost use Rattle.std.specs.Prelude.{◌≡◌, Ok, IfOk};
 ghost use Rattle.index_region.specs.declared.delta.Delta.TheVariants.{Patch as PatchDelta};
 ghost use Rattle.index_region.specs.Patches.{FitsPatch};
 ghost use Rattle.formula_core.specs.Inputs.{shown, delta_of, HasFit};
-ghost use Rattle.formula_core.specs.Sums.{is_total as is_sum, resummed, FitsSums, IsSumsDelta};
+ghost use Rattle.formula_core.specs.Sums.{is_total as is_sum, in_box, resummed, FitsSums, IsSumsDelta};
 
 use crate::input::Input;
 use apl_expr::{Along, Monadic, ScalarDyad};
@@ -23,7 +23,7 @@ pub(crate) enum SumsDelta {
     /// New items for a box of the array whose lines are summed up.
     Patch(Box<Patch>),
     /// Other sums, or none.
-    Whole(Option<LineSums>),
+    Whole(Option<Box<LineSums>>),
 }
 
 /// It sums up lines along the last axis, as `+/` does.
@@ -47,7 +47,7 @@ pub(crate) fn sums_delta(
         Input::Bad { .. } => Ok(SumsDelta::Whole(None)),
         Input::Good(array, delta) => match delta {
             Delta::Same => Ok(SumsDelta::Same),
-            Delta::Whole(_) => Ok(SumsDelta::Whole(LineSums::of(alloc, array)?)),
+            Delta::Whole(_) => Ok(SumsDelta::Whole(boxed(alloc, LineSums::of(alloc, array)?)?)),
             Delta::Patch(patch) => patch_delta(alloc, array, patch, kept),
         },
     }
@@ -67,7 +67,27 @@ fn patch_delta(
     if kept.is_some() && patch.region().size() <= places / PLACES_TO_ONE_NEW + 1 {
         return Ok(SumsDelta::Patch(Box::new(alloc, patch.copy()?)?));
     }
-    Ok(SumsDelta::Whole(LineSums::of(alloc, array)?))
+    Ok(SumsDelta::Whole(boxed(alloc, LineSums::of(alloc, array)?)?))
+}
+
+/// Sums in a box, so that a change of a node is small.
+fn boxed(alloc: Global, sums: Option<LineSums>) -> Result<Option<Box<LineSums>>, AllocError>
+    ensures { IfOk result (λ b. in_box b ≡ sums) }
+{
+    match sums {
+        Some(sums) => Ok(Some(Box::new(alloc, sums)?)),
+        None => Ok(None),
+    }
+}
+
+/// The sums that lie in a box.
+fn unboxed(sums: Option<Box<LineSums>>) -> Option<LineSums>
+    ensures { result ≡ in_box sums }
+{
+    match sums {
+        Some(sums) => Some(Box::into_inner(sums)),
+        None => None,
+    }
 }
 
 /// The sums that a node keeps take their change. No memory is asked for.
@@ -77,7 +97,7 @@ pub(crate) fn take_sums_delta(kept: &mut Option<LineSums>, change: SumsDelta)
 {
     match change {
         SumsDelta::Same => {}
-        SumsDelta::Whole(sums) => *kept = sums,
+        SumsDelta::Whole(sums) => *kept = unboxed(sums),
         SumsDelta::Patch(patch) => {
             if let Some(sums) = kept {
                 sums.write(&patch);

@@ -14,7 +14,7 @@ ghost use Rattle.sheet_recalc.specs.Changes.{HasRoom, IsFullFor, CannotBecome};
 ghost use Rattle.sheet_recalc.specs.Costs.{IsNodeCost};
 ghost use Rattle.sheet_recalc.specs.Entries.{names_of};
 ghost use Rattle.sheet_recalc.specs.Live.{IsLive, plan_in};
-ghost use Rattle.sheet_recalc.specs.Planning.{IsProposalAt, IsProposed, ArePlans, IsDone, IsPlanning, AllWait, IsOnTheWay, CanBe, waiting_names, functions_at};
+ghost use Rattle.sheet_recalc.specs.Planning.{IsProposalAt, IsProposed, ArePlans, IsDone, IsAhead, IsPlanning, AllWait, IsOnTheWay, CanBe, waiting_names, functions_at};
 ghost use Rattle.sheet_recalc.specs.declared.entry.Entry.TheVariants.{Formula as FormulaEntry};
 
 use crate::ahead::Ahead;
@@ -298,9 +298,25 @@ fn whole_plan(
     match formula.references() {
         [one] => formula.plan(&ahead.input_of_one(name, formula, *one), meter),
         [one, two] => formula.plan(&ahead.inputs_of_two(name, formula, *one, *two), meter),
-        _ => {
-            let inputs = ahead.inputs_of(alloc, name, formula)?;
-            formula.plan(inputs.as_slice(), meter)
-        }
+        _ => plan_of_many(alloc, &ahead, name, formula, meter),
     }
+}
+
+/// The same, for any number of names.
+fn plan_of_many(
+    alloc: Global,
+    ahead: &Ahead<'_, '_>,
+    name: Name,
+    formula: &Formula,
+    meter: &mut Meter,
+) -> Result<Plan, AllocError>
+    requires ahead { IsAhead ahead.now }
+    requires held { entry_of (outline_of ahead.now.proposed.now) name ≡ Some (FormulaEntry formula.now) }
+    requires done { (x : List ℕ) → Contains (names_in formula.now.tree) x → IsDone (outline_of ahead.now.proposed.now) (plan_in ahead.now.found.now.entries) x }
+    ensures of { IfOk result (IsPlanOf formula.now) }
+    ensures planned { IfOk result (IsPlanned formula.now (proposed_change (outline_of ahead.now.proposed.now))) }
+    ensures ticks { OnOk result (meter.new.ticks ≤ meter.old.ticks + tree_cost formula.now.is_new (proposed_change (outline_of ahead.now.proposed.now)) formula.now.tree) }
+{
+    let inputs = ahead.inputs_of(alloc, name, formula)?;
+    formula.plan(inputs.as_slice(), meter)
 }
