@@ -1,8 +1,8 @@
 //! The change of a node, from the changes of its arguments.
 
-ghost use Rattle.std.specs.Prelude.{◌≡◌, ◌+◌, ◌≤◌, length, IfOk, false};
+ghost use Rattle.std.specs.Prelude.{◌≡◌, ◌+◌, ◌≤◌, length, IfOk, true, false};
 ghost use Rattle.change_core.specs.Reaches.{AllFit};
-ghost use Rattle.change_rules.specs.Nodes.{views, moved, all_same as all_are_same, node_delta, node_cost, reached_delta, reached_cost};
+ghost use Rattle.change_rules.specs.Nodes.{views, moved, all_same as all_are_same, starts_anew as is_anew, node_delta, node_cost, reached_delta, reached_cost};
 ghost use Rattle.change_rules.specs.Currency.{BringsUpToDate, IsRight};
 
 use crate::arguments::{all_same, moved_by, moves_of, starts_anew, views_are_arrays, views_of};
@@ -68,15 +68,36 @@ fn change_from<R: Rule>(
     ensures joins { meter.new.joins ≡ meter.old.joins }
 {
     if starts_anew(args, old) {
-        let whole = evaluate(alloc, rule, seen, meter)?;
-        // counted from its own shape, as the checks of an index look at all its positions
-        let cost = match &whole {
-            Ok(array) => size(array.shape().as_slice()),
-            Err(_) => places(rule, seen),
-        };
-        return Ok((Delta::Whole(whole), cost));
+        return change_anew(alloc, rule, seen, args, old, meter);
     }
     reached(alloc, rule, seen, boxes, meter)
+}
+
+/// The change of a node that is evaluated anew as a whole, and what it costs.
+fn change_anew<R: Rule>(
+    alloc: Global,
+    rule: &R,
+    seen: &[Seen],
+    args: &[(Seen, &Delta)],
+    old: &Result<Array, Fault>,
+    meter: &mut Meter,
+) -> Result<(Delta, u32), AllocError>
+    requires count { length args.now ≡ length (R.model rule.now).selectors }
+    requires seen { seen.now ≡ views args.now }
+    requires some { all_are_same args.now ≡ false }
+    requires anew { is_anew args.now old.now ≡ true }
+    ensures delta { IfOk result (λ r. r.0 ≡ node_delta (R.model rule.now) args.now old.now) }
+    ensures cost { IfOk result (λ r. r.1 ≡ node_cost (R.model rule.now) args.now old.now) }
+    ensures ticks { meter.new.ticks ≤ meter.old.ticks + node_cost (R.model rule.now) args.now old.now }
+    ensures joins { meter.new.joins ≡ meter.old.joins }
+{
+    let whole = evaluate(alloc, rule, seen, meter)?;
+    // counted from its own shape, as the checks of an index look at all its positions
+    let cost = match &whole {
+        Ok(array) => size(array.shape().as_slice()),
+        Err(_) => places(rule, seen),
+    };
+    Ok((Delta::Whole(whole), cost))
 }
 
 /// The change of a node, and what it costs. Views and boxes of up to three arguments take no memory.
@@ -108,6 +129,27 @@ fn change_of<R: Rule>(
             let boxes = [moved_by(d), moved_by(e)];
             change_from(alloc, rule, &seen, &boxes, args, old, meter)
         }
+        _ => change_of_more(alloc, rule, args, old, meter),
+    }
+}
+
+/// The change of a node of more arguments, of which some changed, and what it costs.
+fn change_of_more<R: Rule>(
+    alloc: Global,
+    rule: &R,
+    args: &[(Seen, &Delta)],
+    old: &Result<Array, Fault>,
+    meter: &mut Meter,
+) -> Result<(Delta, u32), AllocError>
+    requires count { length args.now ≡ length (R.model rule.now).selectors }
+    requires fit { AllFit (views args.now) (moved args.now) }
+    requires some { all_are_same args.now ≡ false }
+    ensures delta { IfOk result (λ r. r.0 ≡ node_delta (R.model rule.now) args.now old.now) }
+    ensures cost { IfOk result (λ r. r.1 ≡ node_cost (R.model rule.now) args.now old.now) }
+    ensures ticks { meter.new.ticks ≤ meter.old.ticks + node_cost (R.model rule.now) args.now old.now }
+    ensures joins { meter.new.joins ≡ meter.old.joins }
+{
+    match args {
         [(a, d), (b, e), (c, f)] => {
             let seen = [a.again(), b.again(), c.again()];
             let boxes = [moved_by(d), moved_by(e), moved_by(f)];
