@@ -1,4 +1,4 @@
-use Rattle.std.proofs.Common.{◌≡◌, ◌+◌, ◌≤◌, length, drop}
+use Rattle.std.proofs.Common.{◌≡◌, ◌+◌, length, drop}
 use Rattle.std.specs.Str.{chars, IsUtf8}
 use Rattle.apl_tokens.specs.Scans.{with_front}
 use Rattle.apl_tokens.specs.Scanner.{scan, Between}

@@ -1,7 +1,7 @@
 use Rattle.std.proofs.Common.{◌∙◌, sym, ap, subst}
 use Rattle.sheet_recalc.specs.Names.{SheetValue}
 use Rattle.sheet_recalc.specs.Tables.{Tables}
-use Rattle.sheet_recalc.specs.Planning.{IsProposed, IsPlanning}
+use Rattle.sheet_recalc.specs.Planning.{IsPlanning}
 use Rattle.sheet_recalc.specs.Pending.{outline_for}
 use Rattle.sheet_recalc.proofs.Forward.{all_made}
 use Rattle.sheet_recalc.proofs.Stepped.{of_laid_out}
