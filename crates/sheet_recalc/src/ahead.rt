@@ -1,7 +1,8 @@
 //! What names show ahead of a change.
 
-ghost use Rattle.std.specs.Prelude.{◌≡◌, ◌∷◌, [], ℕ, IfOk, MatchOption, Some, None, List};
+ghost use Rattle.std.specs.Prelude.{◌≡◌, ◌∷◌, [], ℕ, IfOk, IfSome, MatchOption, get_or, Some, None, List};
 ghost use Rattle.std.specs.List.{Contains};
+ghost use Rattle.std.specs.Map.{keys_of};
 ghost use Rattle.formula_core.specs.Outcomes.{Outcome};
 ghost use Rattle.formula_core.specs.Meaning.{names_in};
 ghost use Rattle.formula_core.specs.Changes.{IsNameChanged};
@@ -62,15 +63,41 @@ impl<'a, 'b> Ahead<'a, 'b> {
         self.all_inputs(alloc, formula.references())
     }
 
-    /// The same where one name stands in it. It takes no memory.
-    pub(crate) fn input_of_one(&self, name: Name, formula: &Formula, one: Name) -> [Input<'_>; 1]
+    /// The same where one name stands in it. It takes no memory. If the plan at this place of the list is one of a formula that is told, that
+    /// name is looked at first.
+    pub(crate) fn input_of_one<'c>(
+        &'c self,
+        name: Name,
+        formula: &Formula,
+        one: Name,
+        place: usize,
+        last: Option<&'c Formula>,
+    ) -> [Input<'c>; 1]
         requires ahead { IsAhead self.now }
         requires held { entry_of (outline_of self.now.proposed.now) name ≡ Some (FormulaEntry formula.now) }
         requires done { (x : List ℕ) → Contains (names_in formula.now.tree) x → IsDone (outline_of self.now.proposed.now) (plan_in self.now.found.now.entries) x }
         requires names { names_in formula.now.tree ≡ one ∷ [] }
+        requires last { IfSome last (λ f. entry_of (outline_of self.now.proposed.now) (get_or (keys_of self.now.found.now.entries) place []) ≡ Some (FormulaEntry f.now)) }
         ensures { IsTold formula.now (proposed_change (outline_of self.now.proposed.now)) result }
     {
-        [self.input_of(one)]
+        [self.input_near(one, place, last)]
+    }
+
+    /// What a name shows, with what changed of it: if it is the one at this place, by the plan of its formula, which is told.
+    fn input_near<'c>(&'c self, name: Name, place: usize, last: Option<&'c Formula>) -> Input<'c>
+        requires ahead { IsAhead self.now }
+        requires done { IsDone (outline_of self.now.proposed.now) (plan_in self.now.found.now.entries) name }
+        requires last { IfSome last (λ f. entry_of (outline_of self.now.proposed.now) (get_or (keys_of self.now.found.now.entries) place []) ≡ Some (FormulaEntry f.now)) }
+        ensures input { IsInput ((proposed_change (outline_of self.now.proposed.now)).new name) ((proposed_change (outline_of self.now.proposed.now)).delta name) result }
+        ensures changed { IsNameChanged (proposed_change (outline_of self.now.proposed.now)) name }
+        ensures sound { IsNameSound (proposed_change (outline_of self.now.proposed.now)) name }
+    {
+        match (last, self.found.get_index(place)) {
+            (Some(formula), Some((there, Some(plan)))) if *there == name => {
+                self.by_plan(*there, formula, plan)
+            }
+            _ => self.input_of(name),
+        }
     }
 
     /// The same where two names stand in it. It takes no memory.
@@ -128,12 +155,22 @@ impl<'a, 'b> Ahead<'a, 'b> {
         ensures sound { IsNameSound (proposed_change (outline_of self.now.proposed.now)) name }
     {
         match self.proposed.formula_of(name) {
-            Some(formula) => {
-                let held = formula.result();
-                in_formula(name, Input::of(&held, plan.delta()))
-            }
+            Some(formula) => self.by_plan(name, formula, plan),
             None => unreachable!(),
         }
+    }
+
+    /// What a name shows by the plan of its formula, which is this.
+    fn by_plan<'c>(&self, name: Name, formula: &'c Formula, plan: &'c Plan) -> Input<'c>
+        requires ahead { IsAhead self.now }
+        requires held { entry_of (outline_of self.now.proposed.now) name ≡ Some (FormulaEntry formula.now) }
+        requires plan { IsPlanAt (outline_of self.now.proposed.now) name plan.now }
+        ensures input { IsInput ((proposed_change (outline_of self.now.proposed.now)).new name) ((proposed_change (outline_of self.now.proposed.now)).delta name) result }
+        ensures changed { IsNameChanged (proposed_change (outline_of self.now.proposed.now)) name }
+        ensures sound { IsNameSound (proposed_change (outline_of self.now.proposed.now)) name }
+    {
+        let held = formula.result();
+        in_formula(name, Input::of(&held, plan.delta()))
     }
 
     /// What a name shows that has no plan.

@@ -1,6 +1,6 @@
 //! The plans of a change, made a function at a time, in an order in which each formula comes after all that it refers to.
 
-ghost use Rattle.std.specs.Prelude.{◌≡◌, ◌+◌, ◌≤◌, ◌<◌, ◌∷◌, ◌++◌, ℕ, [], true, false, length, get_or, take, IfOk, IfErr, OnOk, OnErr, Some, None, List, MatchBool};
+ghost use Rattle.std.specs.Prelude.{◌≡◌, ◌+◌, ◌≤◌, ◌<◌, ◌∷◌, ◌++◌, ℕ, [], true, false, length, get_or, take, IfOk, IfSome, IfErr, OnOk, OnErr, Some, None, List, MatchBool};
 ghost use Rattle.std.specs.List.{Contains, sum_by};
 ghost use Rattle.std.specs.Map.{keys_of};
 ghost use Rattle.change_core.specs.Meters.{ticked};
@@ -261,22 +261,37 @@ pub(crate) fn plan_all(
     ensures left { plans.new.left ≡ plans.old.left }
     ensures current { plans.new.current ≡ plans.old.current }
 {
+    let mut last = None;
     while let Some(name) = plans.next_name() {
         let Some(formula) = proposed.formula_of(name) else {
             plans.waiting -= 1;
+            last = None;
             continue;
         };
-        let plan = whole_plan(alloc, proposed, &plans.found, name, formula, meter)?;
+        let plan = whole_plan(
+            alloc,
+            proposed,
+            &plans.found,
+            plans.waiting,
+            last,
+            name,
+            formula,
+            meter,
+        )?;
         plans.keep(plan);
+        last = Some(formula);
     }
     Ok(())
 }
 
-/// The whole plan of a name's formula, where all that it refers to is done. What up to two names show takes no memory.
+/// The whole plan of a name's formula, where all that it refers to is done. What up to two names show takes no memory. The plan at this place of
+/// the list was made last, of this formula, if one is told: most often the next formula refers to its name.
 fn whole_plan(
     alloc: Global,
     proposed: &ProposedSheet<'_>,
     found: &Found,
+    place: usize,
+    last: Option<&Formula>,
     name: Name,
     formula: &Formula,
     meter: &mut Meter,
@@ -285,6 +300,7 @@ fn whole_plan(
     requires plans { ArePlans (outline_of proposed.now) (plan_in found.now.entries) }
     requires held { entry_of (outline_of proposed.now) name ≡ Some (FormulaEntry formula.now) }
     requires done { (x : List ℕ) → Contains (names_in formula.now.tree) x → IsDone (outline_of proposed.now) (plan_in found.now.entries) x }
+    requires last { IfSome last (λ f. entry_of (outline_of proposed.now) (get_or (keys_of found.now.entries) place []) ≡ Some (FormulaEntry f.now)) }
     ensures of { IfOk result (IsPlanOf formula.now) }
     ensures planned { IfOk result (IsPlanned formula.now (proposed_change (outline_of proposed.now))) }
     ensures ticks { OnOk result (meter.new.ticks ≤ meter.old.ticks + tree_cost formula.now.is_new (proposed_change (outline_of proposed.now)) formula.now.tree) }
@@ -296,7 +312,10 @@ fn whole_plan(
         unchanged: &unchanged,
     };
     match formula.references() {
-        [one] => formula.plan(&ahead.input_of_one(name, formula, *one), meter),
+        [one] => {
+            let input = ahead.input_of_one(name, formula, *one, place, last);
+            formula.plan(&input, meter)
+        },
         [one, two] => formula.plan(&ahead.inputs_of_two(name, formula, *one, *two), meter),
         _ => plan_of_many(alloc, &ahead, name, formula, meter),
     }

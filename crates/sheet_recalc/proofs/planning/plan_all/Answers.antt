@@ -1,8 +1,8 @@
-use Rattle.std.proofs.Common.{◌-◌, ◌∙◌, Some, ap, take, cond}
+use Rattle.std.proofs.Common.{◌≡◌, ◌-◌, ◌∙◌, [], get_or, Some, ap, take, cond}
 use Rattle.std.specs.Str.{bytes_eq}
 use Rattle.std.specs.Map.{keys_of}
 use Rattle.sheet_recalc.specs.Live.{plan_in}
-use Rattle.sheet_recalc.specs.ProposedSheet.{outline_of}
+use Rattle.sheet_recalc.specs.ProposedSheet.{outline_of, entry_of}
 use Rattle.sheet_recalc.specs.Planning.{waiting_names}
 use Rattle.sheet_recalc.proofs.Working.{reads_done}
 use Rattle.sheet_recalc.proofs.Forward.{passed_over, planned_way}
@@ -16,6 +16,7 @@ loop-name-preserved-in_default-formula_of c = record {
   way = λ base way. passed_over (outline_of c.args.proposed.now) c.requires.proposed base c.loop-name.meter.ticks c.loop-name.plans c.in-Some.name (c.loop-name.invariant.way base way) c.in-Some.ensures.0 c.in-Some.ensures.1 c.in_default-formula_of.ensures;
   left = c.loop-name.invariant.left;
   current = c.loop-name.invariant.current;
+  last = tt;
 }
 
 pub whole_plan-requires-clause-plans : goal.whole_plan-requires-clause-plans
@@ -39,4 +40,7 @@ loop-name-preserved c =
           (λ q. c.keep.ensures.plans q ∙ ap (λ k. cond (bytes_eq k q) (Some p) (plan_in w.found.entries q)) c.in-Some.ensures.2) c.keep.ensures.cost;
       left = c.keep.ensures.left ∙ c.loop-name.invariant.left;
       current = c.keep.ensures.current ∙ c.loop-name.invariant.current;
+      last =
+          let here : get_or (keys_of c.keep.new.self.found.entries) c.keep.new.self.waiting [] ≡ c.in-Some.name = (λ i. get_or (c.keep.ensures.keys i) (c.keep.ensures.waiting i) []) ∙ c.in-Some.ensures.2 in
+          ap (entry_of (outline_of c.args.proposed.now)) here ∙ c.in-Some-formula_of.ensures;
     }

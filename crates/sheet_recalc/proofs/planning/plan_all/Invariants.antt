@@ -1,5 +1,7 @@
-use Rattle.std.proofs.Common.{◌≡◌, ℕ}
-use Rattle.sheet_recalc.specs.ProposedSheet.{outline_of}
+use Rattle.std.proofs.Common.{◌≡◌, ℕ, Some, [], get_or, IfSome}
+use Rattle.std.specs.Map.{keys_of}
+use Rattle.sheet_recalc.specs.ProposedSheet.{outline_of, entry_of}
+use Rattle.sheet_recalc.specs.declared.entry.Entry.TheVariants as entry
 use Rattle.sheet_recalc.specs.Planning.{IsPlanning}
 use Rattle.sheet_recalc.proofs.planning.plan_all.Given as goal
 
@@ -8,6 +10,7 @@ invariant-loop-name l = record {
   way : (base : ℕ) → IsPlanning (outline_of l.proposed) base l.fn.plans l.fn.meter.ticks → IsPlanning (outline_of l.proposed) base l.plans l.meter.ticks;
   left : l.plans.left ≡ l.fn.plans.left;
   current : l.plans.current ≡ l.fn.plans.current;
+  last : IfSome l.last (λ f. entry_of (outline_of l.proposed) (get_or (keys_of l.plans.found.entries) l.plans.waiting []) ≡ Some (entry.Formula f.now));
 }
 
 abbrev pub decreases-loop-name : goal.decreases-loop-name

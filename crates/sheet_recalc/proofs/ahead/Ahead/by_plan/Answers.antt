@@ -11,25 +11,25 @@ use Rattle.sheet_recalc.specs.ProposedSheet.{outline_of}
 use Rattle.sheet_recalc.specs.Costs.{origin_delta}
 use Rattle.sheet_recalc.specs.Meaning.{with_origin}
 use Rattle.sheet_recalc.proofs.PlannedNames.{root_fits, planned_input, planned_changed, planned_sound, plan_now}
-use Rattle.sheet_recalc.proofs.ahead.Ahead.planned.Goals as goal
+use Rattle.sheet_recalc.proofs.ahead.Ahead.by_plan.Goals as goal
 
 pub of-requires : goal.of-requires
 of-requires c =
     let o = outline_of c.args.self.now.proposed.now in
-    let f = c.in-Some.formula.now in
+    let f = c.args.formula.now in
     let p = c.args.plan.now in
-    let now = plan_now o c.args.name p f c.requires.plan c.in-Some.ensures in
+    let now = plan_now o c.args.name p f c.requires.plan c.requires.held in
     subst (λ (d : Delta). FitsIn d (read c.result-held.result)) (sym c.delta.ensures)
-    (subst (FitsIn (root_change p.changes)) (sym c.result-held.ensures) (root_fits o c.requires.ahead.proposed c.args.name f c.in-Some.ensures p now.0 now.1))
+    (subst (FitsIn (root_change p.changes)) (sym c.result-held.ensures) (root_fits o c.requires.ahead.proposed c.args.name f c.requires.held p now.0 now.1))
 
 pub returns-clause-input : goal.returns-clause-input
 returns-clause-input c =
     let o = outline_of c.args.self.now.proposed.now in
-    let f = c.in-Some.formula.now in
+    let f = c.args.formula.now in
     let p = c.args.plan.now in
-    let now = plan_now o c.args.name p f c.requires.plan c.in-Some.ensures in
+    let now = plan_now o c.args.name p f c.requires.plan c.requires.held in
     let given = c.in_formula.ensures (read c.result-held.result) c.delta.result.now c.of.ensures.is in
-    planned_input o c.requires.ahead.proposed c.args.name f c.in-Some.ensures p now.0 now.1 c.in_formula.result
+    planned_input o c.requires.ahead.proposed c.args.name f c.requires.held p now.0 now.1 c.in_formula.result
     (subst (λ (d : Delta). IsInput (with_origin c.args.name (applied d (root_result f.nodes))) (origin_delta c.args.name d) c.in_formula.result) c.delta.ensures
     (subst (λ (h : Outcome). IsInput (with_origin c.args.name (applied c.delta.result.now h)) (origin_delta c.args.name c.delta.result.now) c.in_formula.result) c.result-held.ensures given))
 
@@ -41,9 +41,9 @@ returns-clause-changed c =
 pub returns-clause-sound : goal.returns-clause-sound
 returns-clause-sound c =
     let o = outline_of c.args.self.now.proposed.now in
-    let f = c.in-Some.formula.now in
+    let f = c.args.formula.now in
     let p = c.args.plan.now in
-    let now = plan_now o c.args.name p f c.requires.plan c.in-Some.ensures in
-    planned_sound o c.requires.ahead.proposed c.args.name f c.in-Some.ensures p now.0 now.1
+    let now = plan_now o c.args.name p f c.requires.plan c.requires.held in
+    planned_sound o c.requires.ahead.proposed c.args.name f c.requires.held p now.0 now.1
     (subst (λ (h : Outcome). IfOk h IsArray) c.result-held.ensures c.of.ensures.held)
     (subst (λ (h : Outcome). IfOk h IsArray) (ap (λ (d : Delta). applied d (read c.result-held.result)) c.delta.ensures ∙ ap (applied (root_change p.changes)) c.result-held.ensures) c.of.ensures.sound)
