@@ -8,7 +8,7 @@ mod item;
 mod rule;
 mod shape;
 
-pub use array::Array;
+pub use array::{Array, Room};
 pub use builder::ArrayBuilder;
 pub use fault::{ApplyFault, Fault};
 pub use item::{Item, ItemType, Kind};

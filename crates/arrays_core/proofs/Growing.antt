@@ -1,0 +1,45 @@
+-- Arrays and ravels that grow.
+use Rattle.std.proofs.Common.{◌≡◌, ◌≤◌, ◌<◌, ◌+◌, ◌-◌, ℕ, List, [], ◌∷◌, ◌++◌, length, drop, All, nat_lt, inl, inr, refl, sym, ap, ◌∙◌, arith}
+use Rattle.std.proofs.lemmas.Bool.{cases_Bool, ltb-true, ltb-false}
+use Rattle.std.proofs.lemmas.List.{append-nil, get_or_append_left, get_or-append_right, length-append}
+use Rattle.arrays_core.specs.declared.item.Item.{Item}
+use Rattle.arrays_core.specs.declared.item.ItemType.{ItemType}
+use Rattle.arrays_core.specs.Arrays.{ArrayValue, IsArray}
+use Rattle.arrays_core.specs.Items.{type_of}
+use Rattle.arrays_core.specs.Shapes.{size}
+use Rattle.arrays_core.specs.Growth.{FitsGrowth, grown_by, one_longer}
+
+-- items of two types are none
+pub none_left : (t u : ItemType) (xs : List Item) → All (λ x. type_of x ≡ t) xs → All (λ x. type_of x ≡ u) xs → (t ≡ u → ⊥) → xs ≡ []
+none_left t u [] h k apart = refl
+none_left t u (x ∷ xs) h k apart = absurd (apart (sym (h 0 x (omega arith)) ∙ k 0 x (omega arith)))
+
+-- and nothing is put behind others by them
+pub nothing_behind : (t u : ItemType) (made items xs : List Item) → items ≡ made → All (λ x. type_of x ≡ t) xs → All (λ x. type_of x ≡ u) xs → (t ≡ u → ⊥) → made ≡ items ++ xs
+nothing_behind t u made items xs is h k apart = sym is ∙ sym (append-nil items) ∙ ap (λ (l : List Item). items ++ l) (sym (none_left t u xs h k apart))
+
+pub size_longer : (shape : List ℕ) → 0 < length shape → size (one_longer shape) ≡ size shape + size (drop 1 shape)
+size_longer [] h = absurd (omega arith)
+size_longer (n ∷ shape) h = grind arith
+
+-- as many items as places after they grew
+pub long_grown : (shape : List ℕ) (old more new : List Item) → 0 < length shape → length old ≡ size shape → length more ≡ size (drop 1 shape) → new ≡ old ++ more → length new ≡ size (one_longer shape)
+long_grown shape old more new some p q e = ap (λ (l : List Item). length l) e ∙ length-append old more ∙ (λ i. p i + q i) ∙ sym (size_longer shape some)
+
+-- items behind others, of one type
+both_typed : (t : ItemType) (xs ys : List Item) → All (λ x. type_of x ≡ t) xs → All (λ x. type_of x ≡ t) ys → All (λ x. type_of x ≡ t) (xs ++ ys)
+both_typed t xs ys h k i d b = elim (cases_Bool (nat_lt i (length xs))) [
+  | inl l ↦ ap type_of (get_or_append_left xs ys d i (ltb-true _ _ l)) ∙ h i d (ltb-true _ _ l)
+  | inr g ↦
+      let past : length xs ≤ i = (let o = ltb-false _ _ g in omega arith) in
+      let below : i - length xs < length ys = omega (arith, length-append xs ys) in
+      ap type_of (get_or-append_right xs ys (length xs) i d refl past) ∙ k (i - length xs) d below
+]
+
+-- an array that grew is an array
+pub grown_sound : (a : ArrayValue) (xs : List Item) → IsArray a → FitsGrowth a xs → IsArray (grown_by a xs)
+grown_sound a xs h fits = record {
+  within = fits.within;
+  one_item_a_place = long_grown a.shape a.items xs (a.items ++ xs) fits.some_axis h.one_item_a_place fits.one_place refl;
+  one_type = both_typed a.item_type a.items xs h.one_type fits.typed;
+}
