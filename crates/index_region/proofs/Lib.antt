@@ -9,3 +9,4 @@ pub mod OnAxes
 pub mod Placed
 pub mod Numbers
 pub mod RowIndices
+pub mod Grown

@@ -7,6 +7,8 @@ pub mod ArgumentLists
 pub mod Answers
 pub mod Boxes
 pub mod Patches
+pub mod Tails
 -- What bodies use.
 pub mod Advancing
 pub mod PatchItems
+pub mod Laid

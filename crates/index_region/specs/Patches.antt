@@ -1,9 +1,9 @@
 -- An array with the items of a box replaced.
-use Rattle.std.specs.Prelude.{◌≡◌, true, ℕ, length, All, List, Option, Some, None, if◌then◌else◌, map, get_or}
+use Rattle.std.specs.Prelude.{◌≡◌, true, ℕ, length, All, List, if◌then◌else◌, map, get_or}
 use Rattle.std.specs.List.{range_with_len}
 use Rattle.arrays_core.specs.declared.item.Item.{Item}
 use Rattle.arrays_core.specs.declared.item.ItemType.{ItemType}
-use Rattle.arrays_core.specs.Arrays.{ArrayValue, IsArray, item_of}
+use Rattle.arrays_core.specs.Arrays.{ArrayValue, item_of}
 use Rattle.arrays_core.specs.Items.{fill, type_of}
 use Rattle.arrays_core.specs.Shapes.{size, index_after}
 use Rattle.index_region.specs.Boxes.{Interval, is_within, box_offset, box_size, fits}
@@ -26,11 +26,6 @@ patched a p = record {
   items = map (λ before. patched_item a p (index_after a.shape before)) (range_with_len 0 (size a.shape));
 }
 
--- the array as it is seen: as it is, or patched
-abbrev pub seen : ArrayValue → Option PatchValue → ArrayValue
-seen a None = a
-seen a (Some p) = patched a p
-
 -- what holds of every patch
 pub record IsPatch (p : PatchValue) : Type 0 where
   pub one_item_a_place : length p.items ≡ box_size p.region
@@ -40,8 +35,3 @@ pub record IsPatch (p : PatchValue) : Type 0 where
 pub record FitsPatch (a : ArrayValue) (p : PatchValue) : Type 0 where
   pub inside : fits p.region a.shape ≡ true
   pub typed : p.item_type ≡ a.item_type
-
--- what holds of an array and the patch that is laid over it
-abbrev pub IsLaid : ArrayValue → Option PatchValue → Type 0
-IsLaid a None = IsArray a
-IsLaid a (Some p) = FitsPatch a p × (IsPatch p × IsArray (patched a p))

@@ -14,6 +14,7 @@ mod primitive;
 mod runs;
 mod seen;
 mod source;
+mod tail;
 
 pub use along::Along;
 pub use checks::limited;
@@ -25,3 +26,4 @@ pub use patch::Patch;
 pub use primitive::{Primitive, RowPrimitive, apply, apply_rows};
 pub use seen::Seen;
 pub use source::{Source, item_from};
+pub use tail::Tail;

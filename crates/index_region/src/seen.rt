@@ -1,8 +1,10 @@
 //! Arrays as they are seen.
 
 ghost use Rattle.std.specs.Prelude.{◌≡◌, ◌+◌, ◌-◌, ◌≤◌, ◌↔◌, IfSome, IsNone, IfOk, Ok, not, length, map, take, drop, ◌++◌, get_or, pos};
-ghost use Rattle.std.specs.Option.{option_copied};
-ghost use Rattle.index_region.specs.Patches.{seen, patched, FitsPatch, IsLaid};
+ghost use Rattle.index_region.specs.Patches.{patched, FitsPatch};
+ghost use Rattle.index_region.specs.Tails.{FitsTail};
+ghost use Rattle.index_region.specs.Laid.{seen, IsLaid};
+ghost use Rattle.arrays_core.specs.Growth.{grown_by};
 ghost use Rattle.arrays_core.specs.Arrays.{ArrayValue, IsArray, item_of, item_if_there};
 ghost use Rattle.arrays_core.specs.Shapes.{size as size_of, IsWithinLimits};
 ghost use Rattle.arrays_core.specs.declared.item.Item.TheVariants.{Num, Char};
@@ -11,23 +13,32 @@ ghost use Rattle.arrays_core.specs.Items.{fill, type_of};
 ghost use Rattle.index_region.specs.Arguments.{numbers, none_negative, counts_as_numbers};
 
 use crate::patch::Patch;
-use arrays_core::{Array, Item, ItemType, Shape, index_of_position, size};
+use crate::tail::Tail;
+use arrays_core::{Array, Item, ItemType, Shape, index_of_position, is_index_of, position, size};
 use std::alloc::AllocError;
 use std::marker::Model;
 
-/// An array that is lent, with a patch laid over it where there is one. No item is copied.
+/// What an array is seen with: nothing, a patch laid over it, or a tail behind it.
+#[derive(Clone, Copy, Drop)]
+enum Laid<'a> {
+    Nothing,
+    Over(&'a Patch),
+    Behind(&'a Tail),
+}
+
+/// An array that is lent: as it is, with a patch laid over it, or grown by a tail behind it. No item is copied.
 #[derive(Drop)]
 pub struct Seen<'a> {
     array: &'a Array,
-    patch: Option<&'a Patch>,
+    laid: Laid<'a>,
 }
 
 impl<'a> Model for Seen<'a> {
     ghost Value = { ArrayValue };
 
-    ghost view = { λ s. seen s.array.now (option_copied s.patch) };
+    ghost view = { λ s. seen s.array.now s.laid };
 
-    ghost invariant = { λ s. IsLaid s.array.now (option_copied s.patch) };
+    ghost invariant = { λ s. IsLaid s.array.now s.laid };
 }
 
 /// None of the numbers is below 0.
@@ -65,13 +76,47 @@ fn item_patched(array: &Array, patch: &Patch, position: u32) -> Item
     }
 }
 
+/// The item at a place, counted from 1, of an array with a tail behind it.
+#[tactic(auto, using(crate::proofs::Grown::item_before, crate::proofs::Grown::item_behind))]
+fn item_grown(array: &Array, tail: &Tail, position: u32) -> Item
+    requires fits { FitsTail array.now tail.now }
+    requires low { 1 ≤ position }
+    requires high { position ≤ length (grown_by array.now tail.now.items).items }
+    ensures is { result ≡ get_or (grown_by array.now tail.now.items).items (position - 1) (fill array.now.item_type) }
+    ensures typed { type_of result ≡ array.now.item_type }
+{
+    let places = size(array.shape().as_slice());
+    if position <= places {
+        return array.item(position);
+    }
+    tail.values().item(position - places)
+}
+
+/// The item at an index list of an array with a tail behind it.
+fn at_grown(array: &Array, tail: &Tail, index: &[u32]) -> Option<Item>
+    requires { FitsTail array.now tail.now }
+    ensures is { result ≡ item_if_there (grown_by array.now tail.now.items) index.now }
+    ensures typed { IfSome result (λ x. type_of x ≡ array.now.item_type) }
+{
+    // The shape says that it is an array.
+    let _is_array = array.shape();
+    if is_index_of(tail.shape().as_slice(), index) {
+        Some(item_grown(array, tail, position(tail.shape(), index)))
+    } else {
+        None
+    }
+}
+
 impl<'a> Seen<'a> {
     /// The array as it is.
     pub fn plain(array: &'a Array) -> Seen<'a>
         ensures { result ≡ array.now }
     {
         let _sound = array.shape();
-        Seen { array, patch: None }
+        Seen {
+            array,
+            laid: Laid::Nothing,
+        }
     }
 
     /// The array with a patch laid over it.
@@ -84,7 +129,20 @@ impl<'a> Seen<'a> {
         let _patch = patch.item_type();
         Seen {
             array,
-            patch: Some(patch),
+            laid: Laid::Over(patch),
+        }
+    }
+
+    /// The array grown by a tail: with one more place of its first axis, whose items are those of the tail.
+    #[tactic(auto, using(crate::proofs::Grown::tail_sound))]
+    pub fn grown(array: &'a Array, tail: &'a Tail) -> Seen<'a>
+        requires { FitsTail array.now tail.now }
+        ensures { result ≡ grown_by array.now tail.now.items }
+    {
+        let _sound = array.shape();
+        Seen {
+            array,
+            laid: Laid::Behind(tail),
         }
     }
 
@@ -94,17 +152,17 @@ impl<'a> Seen<'a> {
     {
         Seen {
             array: self.array,
-            patch: self.patch,
+            laid: self.laid,
         }
     }
 
-    /// The array itself, where there is no patch.
+    /// The array itself, where it is seen as it is.
     pub fn array(&self) -> Option<&'a Array>
         ensures { IfSome result (λ a. a.now ≡ self.now) }
     {
-        match self.patch {
-            None => Some(self.array),
-            Some(_) => None,
+        match self.laid {
+            Laid::Nothing => Some(self.array),
+            Laid::Over(_) | Laid::Behind(_) => None,
         }
     }
 
@@ -122,7 +180,10 @@ impl<'a> Seen<'a> {
         ensures inline { result.now.capacity ≡ 4 }
         ensures sound { IsArray self.now }
     {
-        self.array.shape()
+        match self.laid {
+            Laid::Nothing | Laid::Over(_) => self.array.shape(),
+            Laid::Behind(tail) => tail.shape(),
+        }
     }
 
     /// How many items there are.
@@ -131,7 +192,7 @@ impl<'a> Seen<'a> {
         ensures size { result ≡ size_of self.now.shape }
         ensures sound { IsArray self.now }
     {
-        size(self.array.shape().as_slice())
+        size(self.shape().as_slice())
     }
 
     /// The item at an index list, if that lies below the shape: one index an axis, each from 1 to the
@@ -140,10 +201,11 @@ impl<'a> Seen<'a> {
         ensures is { result ≡ item_if_there self.now index.now }
         ensures typed { IfSome result (λ x. type_of x ≡ self.now.item_type) }
     {
-        if let Some(patch) = self.patch {
-            return at_patched(self.array, patch, index);
+        match self.laid {
+            Laid::Nothing => self.array.at(index),
+            Laid::Over(patch) => at_patched(self.array, patch, index),
+            Laid::Behind(tail) => at_grown(self.array, tail, index),
         }
-        self.array.at(index)
     }
 
     /// The item at a place in row-major order, counted from 1.
@@ -153,10 +215,11 @@ impl<'a> Seen<'a> {
         ensures is { result ≡ get_or self.now.items (position - 1) (fill self.now.item_type) }
         ensures typed { type_of result ≡ self.now.item_type }
     {
-        if let Some(patch) = self.patch {
-            return item_patched(self.array, patch, position);
+        match self.laid {
+            Laid::Nothing => self.array.item(position),
+            Laid::Over(patch) => item_patched(self.array, patch, position),
+            Laid::Behind(tail) => item_grown(self.array, tail, position),
         }
-        self.array.item(position)
     }
 
     /// The number at a place in row-major order, counted from 1; 0 for a character.
@@ -185,13 +248,19 @@ impl<'a> Seen<'a> {
         self.array()?.characters()
     }
 
-    /// An array of its own with the same items: a copy of the array, with the items of the patch written into it.
+    /// An array of its own with the same items: a copy of the array, with the items of the patch written into it, or
+    /// those of the tail behind it.
     pub fn copy(&self) -> Result<Array, AllocError>
         ensures { IfOk result (λ a. a ≡ self.now) }
     {
         let mut array = self.array.copy()?;
-        if let Some(patch) = self.patch {
-            patch.write_into(&mut array);
+        match self.laid {
+            Laid::Nothing => {}
+            Laid::Over(patch) => patch.write_into(&mut array),
+            Laid::Behind(tail) => {
+                let room = tail.room_behind(&array)?;
+                tail.write_behind(&mut array, room);
+            }
         }
         Ok(array)
     }

@@ -1,6 +1,6 @@
 use Rattle.std.proofs.Common.{◌≡◌, ◌∙◌, ◌<◌, ◌+◌, ◌-◌, ℕ, get_or, set, List, sym, ap, arith, subst}
 use Rattle.arrays_core.specs.Arrays.{ArrayValue}
-use Rattle.arrays_core.specs.Shapes.{size, is_index_of, places_before}
+use Rattle.arrays_core.specs.Shapes.{is_index_of, places_before}
 use Rattle.arrays_core.specs.Items.{fill}
 use Rattle.index_region.specs.Boxes.{Interval, box_size, walk_at}
 use Rattle.index_region.specs.Patches.{PatchValue}

@@ -1,0 +1,29 @@
+-- Arrays with a tail behind them.
+use Rattle.std.proofs.Common.{◌≡◌, ℕ, ◌-◌, ◌<◌, ◌≤◌, List, ◌++◌, length, get_or, refl, ap, ◌∙◌, sym, arith}
+use Rattle.std.proofs.lemmas.List.{get_or_append_left, get_or-append_right, get_or_default, length-append}
+use Rattle.arrays_core.specs.declared.item.Item.{Item}
+use Rattle.arrays_core.specs.Arrays.{ArrayValue, IsArray}
+use Rattle.arrays_core.specs.Growth.{grown_by}
+use Rattle.arrays_core.specs.Items.{fill}
+use Rattle.arrays_core.specs.Shapes.{size}
+use Rattle.arrays_core.proofs.Growing.{grown_sound}
+use Rattle.index_region.specs.Tails.{FitsTail, TailValue}
+
+-- an array with a tail behind it is an array
+pub tail_sound : (a : ArrayValue) (t : TailValue) → IsArray a → FitsTail a t → IsArray (grown_by a t.items)
+tail_sound a t h fits = grown_sound a t.items h fits.grown
+
+-- the item at a place of the array
+pub item_before : (a : ArrayValue) (xs : List Item) (p : ℕ) → IsArray a → 1 ≤ p → p ≤ size a.shape → get_or a.items (p - 1) (fill a.item_type) ≡ get_or (a.items ++ xs) (p - 1) (fill a.item_type)
+item_before a xs p h low high = sym (get_or_append_left a.items xs (fill a.item_type) (p - 1) (omega (arith, h.one_item_a_place)))
+
+-- and at one behind it
+pub item_behind : (a : ArrayValue) (xs : List Item) (p : ℕ) (d : Item) → IsArray a → size a.shape < p → p ≤ length (a.items ++ xs) → get_or xs (p - size a.shape - 1) d ≡ get_or (a.items ++ xs) (p - 1) (fill a.item_type)
+item_behind a xs p d h low high =
+    let long = h.one_item_a_place in
+    let count = length-append a.items xs in
+    let k : p - 1 - length a.items ≡ p - size a.shape - 1 = omega arith in
+    let below : p - size a.shape - 1 < length xs = omega arith in
+    get_or_default xs (p - size a.shape - 1) d (fill a.item_type) below
+    ∙ ap (λ (n : ℕ). get_or xs n (fill a.item_type)) (sym k)
+    ∙ sym (get_or-append_right a.items xs (length a.items) (p - 1) (fill a.item_type) refl (omega arith))

@@ -1,0 +1,19 @@
+-- What an array is seen with: nothing, a patch over it, or a tail behind it.
+use Rattle.arrays_core.specs.Arrays.{ArrayValue, IsArray}
+use Rattle.arrays_core.specs.Growth.{grown_by}
+use Rattle.index_region.specs.declared.seen.Laid.{Laid}
+use Rattle.index_region.specs.declared.seen.Laid.TheVariants.{Nothing, Over, Behind}
+use Rattle.index_region.specs.Patches.{FitsPatch, IsPatch, patched}
+use Rattle.index_region.specs.Tails.{FitsTail}
+
+-- the array as it is seen
+abbrev pub seen : ArrayValue → Laid → ArrayValue
+seen a Nothing = a
+seen a (Over p) = patched a p.now
+seen a (Behind t) = grown_by a t.now.items
+
+-- what holds of an array and what it is seen with
+abbrev pub IsLaid : ArrayValue → Laid → Type 0
+IsLaid a Nothing = IsArray a
+IsLaid a (Over p) = FitsPatch a p.now × (IsPatch p.now × IsArray (patched a p.now))
+IsLaid a (Behind t) = FitsTail a t.now × IsArray (grown_by a t.now.items)
