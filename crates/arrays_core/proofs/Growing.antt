@@ -1,12 +1,12 @@
 -- Arrays and ravels that grow.
-use Rattle.std.proofs.Common.{◌≡◌, ◌≤◌, ◌<◌, ◌+◌, ◌-◌, ℕ, List, [], ◌∷◌, ◌++◌, length, drop, All, nat_lt, inl, inr, refl, sym, ap, ◌∙◌, arith}
+use Rattle.std.proofs.Common.{◌≡◌, ◌≤◌, ◌<◌, ◌+◌, ◌-◌, ℕ, List, [], ◌∷◌, ◌++◌, length, drop, get_or, All, nat_lt, inl, inr, refl, sym, ap, subst, ◌∙◌, arith}
 use Rattle.std.proofs.lemmas.Bool.{cases_Bool, ltb-true, ltb-false}
-use Rattle.std.proofs.lemmas.List.{append-nil, get_or_append_left, get_or-append_right, length-append}
+use Rattle.std.proofs.lemmas.List.{append-nil, get_or_append_left, get_or-append-add, get_or-append_right, length-append}
 use Rattle.arrays_core.specs.declared.item.Item.{Item}
 use Rattle.arrays_core.specs.declared.item.ItemType.{ItemType}
 use Rattle.arrays_core.specs.Arrays.{ArrayValue, IsArray}
 use Rattle.arrays_core.specs.Items.{type_of}
-use Rattle.arrays_core.specs.Shapes.{size}
+use Rattle.arrays_core.specs.Shapes.{size, IsWithinLimits}
 use Rattle.arrays_core.specs.Growth.{FitsGrowth, grown_by, one_longer}
 
 -- items of two types are none
@@ -21,6 +21,10 @@ nothing_behind t u made items xs is h k apart = sym is ∙ sym (append-nil items
 pub size_longer : (shape : List ℕ) → 0 < length shape → size (one_longer shape) ≡ size shape + size (drop 1 shape)
 size_longer [] h = absurd (omega arith)
 size_longer (n ∷ shape) h = grind arith
+
+pub rank_longer : (shape : List ℕ) → length (one_longer shape) ≡ length shape
+rank_longer [] = refl
+rank_longer (n ∷ shape) = refl
 
 -- as many items as places after they grew
 pub long_grown : (shape : List ℕ) (old more new : List Item) → 0 < length shape → length old ≡ size shape → length more ≡ size (drop 1 shape) → new ≡ old ++ more → length new ≡ size (one_longer shape)
@@ -43,3 +47,23 @@ grown_sound a xs h fits = record {
   one_item_a_place = long_grown a.shape a.items xs (a.items ++ xs) fits.some_axis h.one_item_a_place fits.one_place refl;
   one_type = both_typed a.item_type a.items xs h.one_type fits.typed;
 }
+
+-- an array with items behind it that is one too, and has an axis, grew by one place
+pub fits_growth : (a n : ArrayValue) (xs : List Item) → IsArray a → IsArray n → grown_by a xs ≡ n → 0 < length n.shape → FitsGrowth a xs
+fits_growth a n xs h k e axis =
+    let shape : n.shape ≡ one_longer a.shape = ap (λ (v : ArrayValue). v.shape) (sym e) in
+    let items : n.items ≡ a.items ++ xs = ap (λ (v : ArrayValue). v.items) (sym e) in
+    let type : n.item_type ≡ a.item_type = ap (λ (v : ArrayValue). v.item_type) (sym e) in
+    let long : length n.shape ≡ length a.shape = ap (λ (s : List ℕ). length s) shape ∙ rank_longer a.shape in
+    let some : 0 < length a.shape = omega (arith, long, axis) in
+    let count : length n.items ≡ length a.items + length xs = ap (λ (l : List Item). length l) items ∙ length-append a.items xs in
+    let places : size n.shape ≡ size a.shape + size (drop 1 a.shape) = ap size shape ∙ size_longer a.shape some in
+    record {
+      some_axis = some;
+      within = subst IsWithinLimits shape k.within;
+      one_place = omega (arith, count, places, h.one_item_a_place, k.one_item_a_place);
+      typed = λ i d b.
+          let below : length a.items + i < length n.items = omega (arith, count) in
+          let at : get_or n.items (length a.items + i) d ≡ get_or xs i d = ap (λ (l : List Item). get_or l (length a.items + i) d) items ∙ get_or-append-add a.items xs i d in
+          ap type_of (sym at) ∙ k.one_type (length a.items + i) d below ∙ type;
+    }
