@@ -17,11 +17,9 @@ use crate::parser::parse;
 use apl_tokens::{Name, Spanned, Token, TokenFault, tokens};
 use std::alloc::Global;
 
-/// What a line asks for.
+/// A change of the sheet that a line asks for.
 #[derive(Debug, Drop)]
-pub enum Command {
-    /// Nothing: a line without tokens.
-    Nothing,
+pub enum Change {
     /// `NAME ← expr`: the name is defined by the formula.
     Define(Name, Expr),
     /// `) DATA NAME ← expr`: the name is given the value that the expression has now.
@@ -32,6 +30,15 @@ pub enum Command {
     Row(Name, Literal),
     /// `) ERASE NAME`: the name is taken out.
     Erase(Name),
+}
+
+/// What a line asks for.
+#[derive(Debug, Drop)]
+pub enum Command {
+    /// Nothing: a line without tokens.
+    Nothing,
+    /// A change of the sheet.
+    Change(Change),
     /// `expr`: its value is shown.
     Show(Expr),
     /// `) NAMES`: the names are listed.
@@ -106,7 +113,7 @@ fn define(alloc: Global, name: Name, rest: &[Spanned]) -> Result<Command, ParseF
     ensures { IsCommand (Named name ∷ Sign left_arrow ∷ lexemes rest.now) result }
 {
     let formula = parse(alloc, rest)?;
-    Ok(Command::Define(name, formula))
+    Ok(Command::Change(Change::Define(name, formula)))
 }
 
 /// The data with what comes after `) DATA`.
@@ -118,7 +125,7 @@ fn data(alloc: Global, rest: &[Spanned]) -> Result<Command, ParseFault>
         return Err(ParseFault::Syntax);
     };
     let value = parse(alloc, front.rest)?;
-    Ok(Command::Data(front.name, value))
+    Ok(Command::Change(Change::Data(front.name, value)))
 }
 
 /// The row with what comes after `) ROW`.
@@ -130,7 +137,7 @@ fn row(alloc: Global, rest: &[Spanned]) -> Result<Command, ParseFault>
         return Err(ParseFault::Syntax);
     };
     let items = whole_literal(alloc, front.rest)?;
-    Ok(Command::Row(front.name, items))
+    Ok(Command::Change(Change::Row(front.name, items)))
 }
 
 /// What is erased, with what comes after `) ERASE`.
@@ -139,7 +146,7 @@ fn erase(rest: &[Spanned]) -> Result<Command, ParseFault>
     ensures { IsCommand (Sign right_parenthesis ∷ Named erase_word ∷ lexemes rest.now) result }
 {
     match only_name(rest) {
-        Some(name) => Ok(Command::Erase(name)),
+        Some(name) => Ok(Command::Change(Change::Erase(name))),
         None => Err(ParseFault::Syntax),
     }
 }
@@ -220,7 +227,7 @@ fn cell(
     ensures { IsCommand (lexemes tokens.now) result }
 {
     match edited(alloc, rest) {
-        Ok((positions, literal)) => Ok(Command::Cell(name, positions, literal)),
+        Ok((positions, literal)) => Ok(Command::Change(Change::Cell(name, positions, literal))),
         Err(ParseFault::Syntax) => show(alloc, tokens),
         Err(fault) => Err(fault),
     }
