@@ -2,12 +2,15 @@
 use Rattle.std.proofs.Common.{◌≡◌, ℕ, List, codes, Result, Ok, Err, IfErr, OnOk, OnErr}
 use Rattle.std.proofs.lemmas.List.{length-map}
 use Rattle.apl_tokens.specs.Scans.{SpannedLexeme}
+use Rattle.apl_expr.specs.declared.command.Change as asked
+use Rattle.apl_expr.specs.declared.command.Change.TheVariants as lined
 use Rattle.apl_expr.specs.declared.command.Command.{Command}
 use Rattle.apl_expr.specs.declared.fault.LineFault.TheVariants.{Syntax, Limit}
-use Rattle.apl_expr.specs.Lines.{meaning}
+use Rattle.apl_expr.specs.Lines.{meaning, change_meaning}
 use Rattle.apl_expr.specs.Answers.{IsAnswered}
 use Rattle.sheet_recalc.specs.Changes.{Change, Accepts, Refuses}
 use Rattle.sheet_recalc.specs.Costs.{HasCost}
+use Rattle.sheet_recalc.specs.History.{change_of}
 use Rattle.sheet_recalc.specs.Names.{SheetValue}
 use Rattle.sheet_recalc.specs.declared.refusal.Refusal.{Refusal}
 use Rattle.sheet_cli.specs.Answer.{State, state_of, IsEdited, accepted, refused, IsCarriedOut, IsTextAnswer, no_line, too_large, carried_out}
@@ -17,6 +20,13 @@ pub edited : (outcome : Result (Unit {0}) Refusal) (old new : SheetValue) (edit 
     IfErr outcome (λ cause. Refuses old.names edit cause) → OnErr outcome (new ≡ old) → IsEditText outcome text → IsEdited (state_of old) edit text (state_of new)
 edited (Ok u) old new edit text a h r k e = rw e (accepted a h)
 edited (Err cause) old new edit text a h r k e = rw (k, e.0) (refused cause r e.1)
+
+pub change_carried_out : (change : asked.Change) (old : State) (text : List ℕ) (new : State) → IsEdited old (change_of change) text new → IsCarriedOut old (change_meaning change) text new
+change_carried_out (lined.Define name tree) old text new h = h
+change_carried_out (lined.Data name tree) old text new h = h
+change_carried_out (lined.Cell name positions literal) old text new h = h
+change_carried_out (lined.Row name literal) old text new h = h
+change_carried_out (lined.Erase name) old text new h = h
 
 pub answered_no_line : (old : State) (cs answer : List ℕ) → IsAnswered cs (Err Syntax) → answer ≡ codes "SYNTAX ERROR\n" → IsTextAnswer old cs answer old
 answered_no_line old cs answer h e = rw e (no_line h)

@@ -53,13 +53,7 @@ fn carry_out(alloc: Global, sheet: &mut Sheet, command: Command) -> Result<Print
 {
     match command {
         Command::Nothing => Ok(Printed::Fixed("")),
-        Command::Define(name, expr) => edit_text(alloc, sheet.define(name, expr)),
-        Command::Data(name, expr) => edit_text(alloc, sheet.data(name, expr)),
-        Command::Cell(name, positions, literal) => {
-            edit_text(alloc, sheet.set_cell(name, &positions, &literal))
-        }
-        Command::Row(name, literal) => edit_text(alloc, sheet.add_row(name, &literal)),
-        Command::Erase(name) => edit_text(alloc, sheet.erase(name)),
+        Command::Change(change) => edit_text(alloc, sheet.apply(change)),
         Command::Show(expr) => Ok(Printed::Made(show(alloc, sheet, &expr)?)),
         Command::Names => Ok(Printed::Made(list_names(alloc, sheet)?)),
         Command::Cost => Ok(Printed::Count(CountLine::new(sheet.last_cost()))),

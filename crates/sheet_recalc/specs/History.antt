@@ -2,18 +2,17 @@
 use Rattle.std.specs.Prelude.{◌≡◌, List, [], ◌∷◌, Result, Ok, Err}
 use Rattle.sheet_recalc.specs.Names.{Names}
 use Rattle.apl_expr.specs.Trees.{tree_of, literal_of}
-use Rattle.sheet_recalc.specs.Changes.{Change, Define, Store, Put, SetCell, AddRow, Erase, Accepts, Refuses}
-use Rattle.sheet_recalc.specs.declared.change.Change as code
-use Rattle.sheet_recalc.specs.declared.change.Change.TheVariants as made
+use Rattle.sheet_recalc.specs.Changes.{Change, Define, Store, SetCell, AddRow, Erase, Accepts, Refuses}
+use Rattle.apl_expr.specs.declared.command.Change as code
+use Rattle.apl_expr.specs.declared.command.Change.TheVariants as made
 use Rattle.sheet_recalc.specs.declared.refusal.Refusal.{Refusal}
 
--- what the code's change asks for
+-- what a change of a line asks of a sheet
 abbrev pub change_of : code.Change → Change
 change_of (made.Define name tree) = Define name (tree_of tree)
-change_of (made.Store name tree) = Store name (tree_of tree)
-change_of (made.Put name array) = Put name array
-change_of (made.SetCell name positions literal) = SetCell name positions.items (literal_of literal)
-change_of (made.AddRow name literal) = AddRow name (literal_of literal)
+change_of (made.Data name tree) = Store name (tree_of tree)
+change_of (made.Cell name positions literal) = SetCell name positions.items (literal_of literal)
+change_of (made.Row name literal) = AddRow name (literal_of literal)
 change_of (made.Erase name) = Erase name
 
 -- from old, the change may have this answer and lead to new

@@ -1,36 +1,17 @@
-//! Lists of changes.
+//! Changes as lines ask for them: one that is begun, one that is made, and a list of them.
 
-ghost use Rattle.std.specs.Prelude.{◌≡◌, ◌≤◌, IfOk, IfErr, OnErr, map};
-ghost use Rattle.sheet_recalc.specs.Changes.{Refuses};
-ghost use Rattle.sheet_recalc.specs.Costs.{expression_cost};
-ghost use Rattle.sheet_recalc.specs.History.{Run, Step, change_of};
+ghost use Rattle.std.specs.Prelude.{◌≡◌, ◌≤◌, IfOk, IfErr, OnOk, OnErr, map};
+ghost use Rattle.sheet_recalc.specs.Changes.{Accepts, Refuses};
+ghost use Rattle.sheet_recalc.specs.Costs.{HasCost, expression_cost};
+ghost use Rattle.sheet_recalc.specs.History.{Run, change_of};
 ghost use Rattle.sheet_recalc.specs.Pending.{IsLaidOutOn, IsPendingOn};
 
 use crate::pending::Pending;
 use crate::refusal::Refusal;
 use crate::sheet::Sheet;
-use apl_expr::{Expr, Literal};
-use apl_tokens::Name;
-use arrays_core::Array;
+use apl_expr::Change;
 use std::alloc::{AllocError, Global};
 use std::collections::VecDeque;
-
-/// A change to a sheet.
-#[derive(Drop)]
-pub enum Change {
-    /// Bind a name to a formula.
-    Define(Name, Expr),
-    /// Bind a name to the array that an expression has now.
-    Store(Name, Expr),
-    /// Bind a name to an array.
-    Put(Name, Array),
-    /// Replace one item of data.
-    SetCell(Name, Vec<i64>, Literal),
-    /// Put a row at the end of data.
-    AddRow(Name, Literal),
-    /// Remove a name.
-    Erase(Name),
-}
 
 impl Sheet {
     /// Begins a change: it is refused here, or worked out by steps (`advance`) and then made (`adopt`). Nothing of the sheet is changed.
@@ -52,26 +33,25 @@ impl Sheet {
     {
         match change {
             Change::Define(name, tree) => self.begin_define(name, tree),
-            Change::Store(name, tree) => self.begin_data(name, tree),
-            Change::Put(name, array) => self.begin_put(name, array),
-            Change::SetCell(name, positions, literal) => {
-                self.begin_cell(name, &positions, &literal)
-            }
-            Change::AddRow(name, literal) => self.begin_row(name, &literal),
+            Change::Data(name, tree) => self.begin_data(name, tree),
+            Change::Cell(name, positions, literal) => self.begin_cell(name, &positions, &literal),
+            Change::Row(name, literal) => self.begin_row(name, &literal),
             Change::Erase(name) => self.begin_erase(name),
         }
     }
 
-    /// Makes one change, or says why not.
+    /// Makes one change, or says why not: what `define`, `data`, `set_cell`, `add_row` and `erase` do.
     pub fn apply(&mut self, change: Change) -> Result<(), Refusal>
-        ensures { Step self.old.names (change_of change) result self.new.names }
+        ensures ok { OnOk result (Accepts self.old.names (change_of change) self.new.names) }
+        ensures cost { OnOk result (HasCost self.old.names (change_of change) self.new.names self.new.cost) }
+        ensures refused { IfErr result (Refuses self.old.names (change_of change)) }
+        ensures err { OnErr result (self.new ≡ self.old) }
     {
         match change {
             Change::Define(name, tree) => self.define(name, tree),
-            Change::Store(name, tree) => self.data(name, tree),
-            Change::Put(name, array) => self.put_array(name, array),
-            Change::SetCell(name, positions, literal) => self.set_cell(name, &positions, &literal),
-            Change::AddRow(name, literal) => self.add_row(name, &literal),
+            Change::Data(name, tree) => self.data(name, tree),
+            Change::Cell(name, positions, literal) => self.set_cell(name, &positions, &literal),
+            Change::Row(name, literal) => self.add_row(name, &literal),
             Change::Erase(name) => self.erase(name),
         }
     }

@@ -18,7 +18,6 @@ mod refusal;
 mod row;
 mod sheet;
 
-pub use change::Change;
 pub use pending::Pending;
 pub use refusal::Refusal;
 pub use sheet::{MOST_NAMES, Sheet};

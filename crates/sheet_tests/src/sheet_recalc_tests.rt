@@ -1,10 +1,10 @@
 //! Each change to a sheet, what it then shows, a cycle, and changes in a list.
 
 use crate::fixtures::{are_characters, are_numbers, tree_of};
-use apl_expr::Literal;
+use apl_expr::{Change, Literal};
 use apl_tokens::Name;
 use arrays_core::Array;
-use sheet_recalc::{Change, Refusal, Sheet};
+use sheet_recalc::{Refusal, Sheet};
 use std::alloc::Global;
 use std::collections::VecDeque;
 
@@ -80,13 +80,13 @@ fn answers_changes_in_order(rt: HostRuntime) {
 fn put(alloc: Global, sheet: &mut Sheet, name: &str, numbers: &[i64]) -> Option<()> {
     let name = Name::read(name)?;
     let array = Array::vector(alloc, numbers.to_vec(alloc).ok()?).ok()?;
-    sheet.apply(Change::Put(name, array)).ok()
+    sheet.put_array(name, array).ok()
 }
 
 /// Puts a literal at the end of a name's data, where that is accepted.
 fn add_row(sheet: &mut Sheet, name: &str, row: Literal) -> Option<()> {
     let name = Name::read(name)?;
-    sheet.apply(Change::AddRow(name, row)).ok()
+    sheet.apply(Change::Row(name, row)).ok()
 }
 
 #[test]

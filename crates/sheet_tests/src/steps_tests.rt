@@ -4,10 +4,10 @@ ghost use Rattle.sheet_recalc.specs.Changes.{Change as Asked};
 ghost use Rattle.sheet_recalc.specs.Pending.{IsPendingOn};
 
 use crate::fixtures::{are_numbers, tree_of};
-use apl_expr::Literal;
+use apl_expr::{Change, Literal};
 use apl_tokens::Name;
 use arrays_core::Array;
-use sheet_recalc::{Change, Pending, Sheet};
+use sheet_recalc::{Pending, Sheet};
 use std::alloc::Global;
 
 /// The most times that a call is made: once more where memory is refused, which leaves all as it was.
@@ -98,7 +98,7 @@ fn defined_in_steps(alloc: Global, sheet: &mut Sheet, name: &str, text: &str) ->
 /// The edit that makes the second item of `D` 10.
 fn cell_edit(alloc: Global) -> Option<Change> {
     let positions = vec![in alloc; 2].ok()?;
-    Some(Change::SetCell(Name::read("D")?, positions, Literal::Num(10)))
+    Some(Change::Cell(Name::read("D")?, positions, Literal::Num(10)))
 }
 
 /// Makes that edit in three steps.
