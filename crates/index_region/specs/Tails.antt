@@ -1,15 +1,30 @@
--- What an array grew to by one place of its first axis.
-use Rattle.std.specs.Prelude.{◌≡◌, ℕ, List}
+-- What an array grows by at the end of its first axis.
+use Rattle.std.specs.Prelude.{◌≡◌, ◌≤◌, ℕ, List}
 use Rattle.arrays_core.specs.declared.item.Item.{Item}
+use Rattle.arrays_core.specs.declared.item.ItemType.{ItemType}
 use Rattle.arrays_core.specs.Arrays.{ArrayValue}
-use Rattle.arrays_core.specs.Growth.{one_longer, FitsGrowth}
+use Rattle.arrays_core.specs.Growth.{one_longer, FitsGrowth, RoomValue}
+use Rattle.arrays_core.specs.Shapes.{size, IsWithinLimits}
 
--- the shape that an array grew to, and the items of its last place in row-major order
+-- the items of one more place of the first axis in row-major order, their type, and the shape that the array has with them
 pub record TailValue : Type 0 where
+  pub item_type : ItemType
   pub shape : List ℕ
   pub items : List Item
 
--- an array grows to that shape by those items
+-- an array grows by that to that shape
 pub record FitsTail (a : ArrayValue) (t : TailValue) : Type 0 where
   pub grown : FitsGrowth a t.items
   pub shaped : t.shape ≡ one_longer a.shape
+  pub typed : t.item_type ≡ a.item_type
+
+-- the tail of an array that grows to this shape by the items of another
+abbrev pub tail_of : List ℕ → ArrayValue → TailValue
+tail_of shape values = record { item_type = values.item_type; shape = shape; items = values.items }
+
+-- the shape lies inline and within the limits, and there is room for as many items as it has
+pub record IsTailOf (capacity : ℕ) (shape : List ℕ) (values : ArrayValue) (room : RoomValue) : Type 0 where
+  pub inline : capacity ≡ 4
+  pub within : IsWithinLimits shape
+  pub typed : room.item_type ≡ values.item_type
+  pub places : size shape ≤ room.places

@@ -253,16 +253,15 @@ impl<'a> Seen<'a> {
     pub fn copy(&self) -> Result<Array, AllocError>
         ensures { IfOk result (λ a. a ≡ self.now) }
     {
-        let mut array = self.array.copy()?;
         match self.laid {
-            Laid::Nothing => {}
-            Laid::Over(patch) => patch.write_into(&mut array),
-            Laid::Behind(tail) => {
-                let room = tail.room_behind(&array)?;
-                tail.write_behind(&mut array, room);
+            Laid::Nothing => self.array.copy(),
+            Laid::Over(patch) => {
+                let mut array = self.array.copy()?;
+                patch.write_into(&mut array);
+                Ok(array)
             }
+            Laid::Behind(tail) => tail.grown(self.array),
         }
-        Ok(array)
     }
 
     /// The items of a run of places, after `skipped` places, as an array of another shape that has as many.

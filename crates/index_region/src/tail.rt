@@ -1,77 +1,116 @@
-//! Tails: what an array grew to by one place of its first axis.
+//! Tails: what an array grows by at the end of its first axis.
 
-ghost use Rattle.std.specs.Prelude.{◌≡◌, length, IfOk};
-ghost use Rattle.arrays_core.specs.Growth.{grown_by, IsRoomFor};
-ghost use Rattle.index_region.specs.Tails.{TailValue, FitsTail};
+ghost use Rattle.std.specs.Prelude.{◌≡◌, ◌≤◌, IfOk};
+ghost use Rattle.arrays_core.specs.Growth.{grown_by};
+ghost use Rattle.arrays_core.specs.Shapes.{IsWithinLimits};
+ghost use Rattle.index_region.specs.Tails.{FitsTail};
 
 use arrays_core::{Array, Room, Shape, shape_of, size};
 use std::alloc::AllocError;
 use std::marker::Model;
 
-/// The shape that an array grew to by one place of its first axis, and the items of that place in row-major order.
+/// The items of one more place of the first axis of an array in row-major order, the shape that the array has with them, and room for all
+/// its items.
 #[derive(Drop)]
-pub struct Tail {
+struct Parts {
     shape: Shape,
     values: Array,
+    room: Room,
+}
+
+/// What an array grows by: one more place of its first axis, with the items of that place in row-major order, and the shape that it has then. A tail
+/// brings the room that the array may need, so that growing by it takes no memory. It lies in a box, so that a change which is none is small.
+#[derive(Drop)]
+pub struct Tail {
+    parts: Box<Parts>,
 }
 
 impl Model for Tail {
+    ghost use Rattle.index_region.specs.Tails.{TailValue, tail_of, IsTailOf};
+
     ghost Value = { TailValue };
 
-    ghost view = { λ t. record { shape = t.shape.items; items = t.values.items } };
+    ghost view = { λ t. tail_of t.parts.value.shape.items t.parts.value.values };
 
-    ghost invariant = { λ t. t.shape.capacity ≡ 4 };
+    ghost invariant = { λ t. IsTailOf t.parts.value.shape.capacity t.parts.value.shape.items t.parts.value.values t.parts.value.room };
+}
+
+/// Room for so many items of the type of these, where an array grows to them: twice as much where they do not fit where the array's own items
+/// lie, so that most later ones do.
+fn room_for(array: &Array, values: &Array, places: u32) -> Result<Room, AllocError>
+    ensures typed { IfOk result (λ r. r.item_type ≡ values.now.item_type) }
+    ensures places { IfOk result (λ r. places ≤ r.places) }
+{
+    if array.item_type() != values.item_type() {
+        return values.room(places);
+    }
+    array.room(places.saturating_sub(size(array.shape().as_slice())))
 }
 
 impl Tail {
-    /// The tail of an array that grew to this shape, which lies inline, by the items of another array, whatever its
-    /// shape. It takes no memory but what it is given.
-    pub fn of(shape: Shape, values: Array) -> Tail
-        requires { shape.capacity ≡ 4 }
-        ensures { result ≡ record { shape = shape.items; items = values.items } }
+    /// What an array grows by to this shape, which lies inline and within the limits: by the items of another array, whatever the shape of that is.
+    /// AllocError where memory for it is refused.
+    pub fn behind(array: &Array, shape: Shape, values: Array) -> Result<Tail, AllocError>
+        requires inline { shape.capacity ≡ 4 }
+        requires within { IsWithinLimits shape.items }
+        ensures { IfOk result (λ t. t ≡ record { item_type = values.item_type; shape = shape.items; items = values.items }) }
     {
-        Tail { shape, values }
+        let alloc = *shape.allocator();
+        let room = room_for(array, &values, size(shape.as_slice()))?;
+        let parts = Parts {
+            shape,
+            values,
+            room,
+        };
+        Ok(Tail {
+            parts: Box::new(alloc, parts)?,
+        })
     }
 
-    /// A tail of its own with the same shape and items.
-    pub fn copy(&self) -> Result<Tail, AllocError>
+    /// The same again, for another array that grows by it.
+    pub fn again_behind(&self, array: &Array) -> Result<Tail, AllocError>
         ensures { IfOk result (λ t. t ≡ self.now) }
     {
-        let values = self.values.copy()?;
-        // The length says that the axes are no more than lie inline.
-        let _axes = self.shape.len();
-        let shape = shape_of(*self.shape.allocator(), self.shape.as_slice());
-        Ok(Tail { shape, values })
+        let shape = shape_of(*self.parts.shape.allocator(), self.shape().as_slice());
+        Tail::behind(array, shape, self.parts.values.copy()?)
     }
 
-    /// The shape that the array grew to.
+    /// The shape that the array has then.
     pub fn shape(&self) -> &Shape
         ensures is { result.now.items ≡ self.now.shape }
         ensures inline { result.now.capacity ≡ 4 }
     {
-        &self.shape
+        &self.parts.shape
     }
 
-    /// The items of the new place, as an array of some shape; where there are none, its type may be any.
+    /// The items of the new place, as an array of some shape.
     pub fn values(&self) -> &Array
-        ensures { result.now.items ≡ self.now.items }
+        ensures items { result.now.items ≡ self.now.items }
+        ensures typed { result.now.item_type ≡ self.now.item_type }
     {
-        &self.values
+        &self.parts.values
     }
 
-    /// Room in which an array can grow by these items.
-    pub fn room_behind(&self, array: &Array) -> Result<Room, AllocError>
-        ensures { IfOk result (λ r. IsRoomFor r array.now (length self.now.items)) }
+    /// A copy of an array that grew by it.
+    pub(crate) fn grown(&self, array: &Array) -> Result<Array, AllocError>
+        requires { FitsTail array.now self.now }
+        ensures { IfOk result (λ a. a ≡ grown_by array.now self.now.items) }
     {
-        array.room(size(self.values.shape().as_slice()))
+        let values = self.values();
+        let mut copy = array.copy()?;
+        let room = copy.room(size(values.shape().as_slice()))?;
+        copy.grow(room, values);
+        Ok(copy)
     }
 
-    /// Puts the items behind those of an array, which has then the tail's shape. It takes no memory.
-    pub fn write_behind(&self, array: &mut Array, room: Room)
-        requires fits { FitsTail array.old self.now }
-        requires room { IsRoomFor room array.old (length self.now.items) }
-        ensures { array.new ≡ grown_by array.old self.now.items }
+    /// An array grows by it. It takes no memory.
+    pub fn write_behind(self, array: &mut Array)
+        requires { FitsTail array.old self }
+        ensures { array.new ≡ grown_by array.old self.items }
     {
-        array.grow(room, &self.values);
+        // The shape says that it is an array.
+        let _is_array = array.shape();
+        let parts = Box::into_inner(self.parts);
+        array.grow(parts.room, &parts.values);
     }
 }
