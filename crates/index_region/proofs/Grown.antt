@@ -1,17 +1,27 @@
 -- Arrays with a tail behind them.
-use Rattle.std.proofs.Common.{◌≡◌, ℕ, ◌-◌, ◌<◌, ◌≤◌, List, ◌++◌, length, get_or, refl, ap, ◌∙◌, sym, arith}
+use Rattle.std.proofs.Common.{◌≡◌, ℕ, ◌-◌, ◌<◌, ◌≤◌, List, ◌++◌, length, get_or, All, refl, ap, ◌∙◌, sym, subst, arith}
 use Rattle.std.proofs.lemmas.List.{get_or_append_left, get_or-append_right, get_or_default, length-append}
 use Rattle.arrays_core.specs.declared.item.Item.{Item}
 use Rattle.arrays_core.specs.Arrays.{ArrayValue, IsArray}
-use Rattle.arrays_core.specs.Growth.{grown_by}
-use Rattle.arrays_core.specs.Items.{fill}
-use Rattle.arrays_core.specs.Shapes.{size}
+use Rattle.arrays_core.specs.declared.item.ItemType.{ItemType}
+use Rattle.arrays_core.specs.Growth.{grown_by, FitsGrowth}
+use Rattle.arrays_core.specs.Items.{fill, type_of}
+use Rattle.arrays_core.specs.Shapes.{size, IsWithinLimits}
 use Rattle.arrays_core.proofs.Growing.{grown_sound}
-use Rattle.index_region.specs.Tails.{FitsTail, TailValue}
+use Rattle.index_region.specs.Tails.{FitsTail, IsTail, TailValue}
+
+-- what fits are the items of one more place within the limits
+pub grows_by : (a : ArrayValue) (t : TailValue) → FitsTail a t → IsTail t → FitsGrowth a t.items
+grows_by a t fits tail = record {
+  some_axis = fits.some_axis;
+  within = subst IsWithinLimits fits.shaped tail.within;
+  one_place = fits.one_place;
+  typed = subst (λ (item_type : ItemType). All (λ x. type_of x ≡ item_type) t.items) fits.typed tail.one_type;
+}
 
 -- an array with a tail behind it is an array
-pub tail_sound : (a : ArrayValue) (t : TailValue) → IsArray a → FitsTail a t → IsArray (grown_by a t.items)
-tail_sound a t h fits = grown_sound a t.items h fits.grown
+pub tail_sound : (a : ArrayValue) (t : TailValue) → IsArray a → FitsTail a t → IsTail t → IsArray (grown_by a t.items)
+tail_sound a t h fits tail = grown_sound a t.items h (grows_by a t fits tail)
 
 -- the item at a place of the array
 pub item_before : (a : ArrayValue) (xs : List Item) (p : ℕ) → IsArray a → 1 ≤ p → p ≤ size a.shape → get_or a.items (p - 1) (fill a.item_type) ≡ get_or (a.items ++ xs) (p - 1) (fill a.item_type)

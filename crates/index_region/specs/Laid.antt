@@ -4,7 +4,7 @@ use Rattle.arrays_core.specs.Growth.{grown_by}
 use Rattle.index_region.specs.declared.seen.Laid.{Laid}
 use Rattle.index_region.specs.declared.seen.Laid.TheVariants.{Nothing, Over, Behind}
 use Rattle.index_region.specs.Patches.{FitsPatch, IsPatch, patched}
-use Rattle.index_region.specs.Tails.{FitsTail}
+use Rattle.index_region.specs.Tails.{FitsTail, IsTail}
 
 -- the array as it is seen
 abbrev pub seen : ArrayValue → Laid → ArrayValue
@@ -16,4 +16,4 @@ seen a (Behind t) = grown_by a t.now.items
 abbrev pub IsLaid : ArrayValue → Laid → Type 0
 IsLaid a Nothing = IsArray a
 IsLaid a (Over p) = FitsPatch a p.now × (IsPatch p.now × IsArray (patched a p.now))
-IsLaid a (Behind t) = FitsTail a t.now × IsArray (grown_by a t.now.items)
+IsLaid a (Behind t) = FitsTail a t.now × (IsTail t.now × IsArray (grown_by a t.now.items))

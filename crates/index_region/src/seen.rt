@@ -140,6 +140,7 @@ impl<'a> Seen<'a> {
         ensures { result ≡ grown_by array.now tail.now.items }
     {
         let _sound = array.shape();
+        let _tail = tail.shape();
         Seen {
             array,
             laid: Laid::Behind(tail),

@@ -3,7 +3,7 @@
 ghost use Rattle.std.specs.Prelude.{◌≡◌, ◌≤◌, IfOk};
 ghost use Rattle.arrays_core.specs.Growth.{grown_by};
 ghost use Rattle.arrays_core.specs.Shapes.{IsWithinLimits};
-ghost use Rattle.index_region.specs.Tails.{FitsTail};
+ghost use Rattle.index_region.specs.Tails.{FitsTail, IsTail};
 
 use arrays_core::{Array, Room, Shape, shape_of, size};
 use std::alloc::AllocError;
@@ -79,7 +79,10 @@ impl Tail {
     pub fn shape(&self) -> &Shape
         ensures is { result.now.items ≡ self.now.shape }
         ensures inline { result.now.capacity ≡ 4 }
+        ensures sound { IsTail self.now }
     {
+        // The shape of the items says that they are an array.
+        let _is_array = self.parts.values.shape();
         &self.parts.shape
     }
 
@@ -92,10 +95,12 @@ impl Tail {
     }
 
     /// A copy of an array that grew by it.
+    #[tactic(auto, using(crate::proofs::Grown::grows_by))]
     pub(crate) fn grown(&self, array: &Array) -> Result<Array, AllocError>
         requires { FitsTail array.now self.now }
         ensures { IfOk result (λ a. a ≡ grown_by array.now self.now.items) }
     {
+        let _is_tail = self.shape();
         let values = self.values();
         let mut copy = array.copy()?;
         let room = copy.room(size(values.shape().as_slice()))?;
@@ -104,12 +109,14 @@ impl Tail {
     }
 
     /// An array grows by it. It takes no memory.
+    #[tactic(auto, using(crate::proofs::Grown::grows_by))]
     pub fn write_behind(self, array: &mut Array)
         requires { FitsTail array.old self }
         ensures { array.new ≡ grown_by array.old self.items }
     {
-        // The shape says that it is an array.
+        // The shapes say that it is an array, and that this is a tail.
         let _is_array = array.shape();
+        let _is_tail = self.shape();
         let parts = Box::into_inner(self.parts);
         array.grow(parts.room, &parts.values);
     }

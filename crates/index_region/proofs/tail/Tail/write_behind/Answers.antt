@@ -12,9 +12,9 @@ grow-requires-clause-room c =
     let tail = c.self.invariant in
     let view = c.self.view_is in
     let shaped = ap size (ap (λ (t : TailValue). t.shape) view ∙ c.requires.shaped) in
-    let longer = size_longer a.shape c.requires.grown.some_axis in
+    let longer = size_longer a.shape c.requires.some_axis in
     let old = c.shape-is_array.ensures.sound.one_item_a_place in
-    let more = ap (λ (t : TailValue). length t.items) view ∙ c.requires.grown.one_place in
+    let more = ap (λ (t : TailValue). length t.items) view ∙ c.requires.one_place in
     subst (λ (q : Parts). IsRoomFor q.room a (length q.values.items)) (sym c.into_inner-parts.ensures)
     (record {
       typed = tail.typed ∙ (ap (λ (t : TailValue). t.item_type) view ∙ c.requires.typed);
