@@ -7,7 +7,7 @@ use Rattle.arrays_core.specs.declared.item.ItemType.{ItemType}
 use Rattle.arrays_core.specs.Growth.{grown_by, FitsGrowth}
 use Rattle.arrays_core.specs.Items.{fill, type_of}
 use Rattle.arrays_core.specs.Shapes.{size, IsWithinLimits}
-use Rattle.arrays_core.proofs.Growing.{grown_sound}
+use Rattle.arrays_core.proofs.Growing.{fits_growth, grown_sound}
 use Rattle.index_region.specs.Tails.{FitsTail, IsTail, TailValue}
 
 -- what fits are the items of one more place within the limits
@@ -22,6 +22,17 @@ grows_by a t fits tail = record {
 -- an array with a tail behind it is an array
 pub tail_sound : (a : ArrayValue) (t : TailValue) → IsArray a → FitsTail a t → IsTail t → IsArray (grown_by a t.items)
 tail_sound a t h fits tail = grown_sound a t.items h (grows_by a t fits tail)
+
+-- a tail of the shape and type of an array that has its items behind those of another fits that one
+pub fits_tail : (a n : ArrayValue) (t : TailValue) → IsArray a → IsArray n → grown_by a t.items ≡ n → 0 < length n.shape → t.shape ≡ n.shape → t.item_type ≡ n.item_type → FitsTail a t
+fits_tail a n t h k e axis shape type =
+    let grown = fits_growth a n t.items h k e axis in
+    record {
+      some_axis = grown.some_axis;
+      shaped = shape ∙ ap (λ (v : ArrayValue). v.shape) (sym e);
+      one_place = grown.one_place;
+      typed = type ∙ ap (λ (v : ArrayValue). v.item_type) (sym e);
+    }
 
 -- the item at a place of the array
 pub item_before : (a : ArrayValue) (xs : List Item) (p : ℕ) → IsArray a → 1 ≤ p → p ≤ size a.shape → get_or a.items (p - 1) (fill a.item_type) ≡ get_or (a.items ++ xs) (p - 1) (fill a.item_type)
