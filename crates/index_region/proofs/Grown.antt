@@ -1,5 +1,5 @@
 -- Arrays with a tail behind them.
-use Rattle.std.proofs.Common.{◌≡◌, ℕ, ◌-◌, ◌<◌, ◌≤◌, List, ◌++◌, length, get_or, All, refl, ap, ◌∙◌, sym, subst, arith}
+use Rattle.std.proofs.Common.{◌≡◌, ℕ, ◌+◌, ◌-◌, ◌<◌, ◌≤◌, List, ◌++◌, length, get_or, All, refl, ap, ◌∙◌, sym, subst, arith}
 use Rattle.std.proofs.lemmas.List.{get_or_append_left, get_or-append_right, get_or_default, length-append}
 use Rattle.arrays_core.specs.declared.item.Item.{Item}
 use Rattle.arrays_core.specs.Arrays.{ArrayValue, IsArray}
@@ -7,7 +7,7 @@ use Rattle.arrays_core.specs.declared.item.ItemType.{ItemType}
 use Rattle.arrays_core.specs.Growth.{grown_by, FitsGrowth}
 use Rattle.arrays_core.specs.Items.{fill, type_of}
 use Rattle.arrays_core.specs.Shapes.{size, IsWithinLimits}
-use Rattle.arrays_core.proofs.Growing.{fits_growth, grown_sound}
+use Rattle.arrays_core.proofs.Growing.{fits_growth, grown_sound, size_longer}
 use Rattle.index_region.specs.Tails.{FitsTail, IsTail, TailValue}
 
 -- what fits are the items of one more place within the limits
@@ -18,6 +18,13 @@ grows_by a t fits tail = record {
   one_place = fits.one_place;
   typed = subst (λ (item_type : ItemType). All (λ x. type_of x ≡ item_type) t.items) fits.typed tail.one_type;
 }
+
+-- there are as many items as the tail's shape has places
+pub tail_long : (a : ArrayValue) (t : TailValue) → IsArray a → FitsTail a t → length a.items + length t.items ≡ size t.shape
+tail_long a t h fits =
+    let longer = size_longer a.shape fits.some_axis in
+    let shape = ap size fits.shaped in
+    omega (arith, longer, shape, h.one_item_a_place, fits.one_place)
 
 -- an array with a tail behind it is an array
 pub tail_sound : (a : ArrayValue) (t : TailValue) → IsArray a → FitsTail a t → IsTail t → IsArray (grown_by a t.items)

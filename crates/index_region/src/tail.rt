@@ -95,17 +95,14 @@ impl Tail {
     }
 
     /// A copy of an array that grew by it.
-    #[tactic(auto, using(crate::proofs::Grown::grows_by))]
+    #[tactic(auto, using(crate::proofs::Grown::tail_long))]
     pub(crate) fn grown(&self, array: &Array) -> Result<Array, AllocError>
         requires { FitsTail array.now self.now }
         ensures { IfOk result (λ a. a ≡ grown_by array.now self.now.items) }
     {
-        let _is_tail = self.shape();
-        let values = self.values();
-        let mut copy = array.copy()?;
-        let room = copy.room(size(values.shape().as_slice()))?;
-        copy.grow(room, values);
-        Ok(copy)
+        // The shapes say that it is an array, and that this is a tail.
+        let _is_array = array.shape();
+        array.joined(self.values(), self.shape())
     }
 
     /// An array grows by it. It takes no memory.
