@@ -7,3 +7,4 @@ pub mod Steps
 pub mod Collected
 pub mod Walking
 pub mod Filling
+pub mod Growing

@@ -3,6 +3,7 @@ pub mod RuleModels
 pub mod Reaches
 pub mod Laws
 pub mod Meters
+pub mod Growth
 pub mod Parts
 -- What rules say.
 pub mod Ways

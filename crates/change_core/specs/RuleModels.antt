@@ -13,13 +13,18 @@ pub record Use : Type 0 where
   pub reads : List ℕ → List (List ℕ)
   pub box : List Interval → Option (List Interval)
 
--- a function of arrays: which arguments say by their items what is read of the others, the checks, the items, and, given
--- the shape of the result and the arguments, how the result uses each of these
+-- when a result grows with its arguments: by these, as they are now, and which of them grew
+abbrev pub Growth : Type 0
+Growth = List ArrayValue → List Bool → Bool
+
+-- a function of arrays: which arguments say by their items what is read of the others, the checks, the items, given
+-- the shape of the result and the arguments, how the result uses each of these, and when it grows with them
 pub record RuleModel : Type 0 where
   pub selectors : List Bool
   pub form : List ArrayValue → Result Form Kind
   pub item : List ArrayValue → List ℕ → Result Item Kind
   pub uses : List ℕ → List ArrayValue → List Use
+  pub grows : Growth
 
 -- the intervals of the result for a changed box of one of the arguments
 abbrev pub box_at : List Use → ℕ → List Interval → Option (List Interval)

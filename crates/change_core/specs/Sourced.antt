@@ -57,6 +57,7 @@ one_rule form item use_of = record {
   form = λ args. of_one_argument form args;
   item = λ args index. of_one_argument (λ b. item b index) args;
   uses = λ shape args. uses_of_one use_of shape args;
+  grows = λ args marks. false;
 }
 
 abbrev pub two_rule : Bool → (ArrayValue → ArrayValue → Result Form Kind) → (ArrayValue → ArrayValue → List ℕ → Result Item Kind)
@@ -66,6 +67,7 @@ two_rule selects form item left right = record {
   form = λ args. of_two_arguments form args;
   item = λ args index. of_two_arguments (λ a b. item a b index) args;
   uses = λ shape args. uses_of_two left right shape args;
+  grows = λ args marks. false;
 }
 
 -- a function of one array whose items come from places of it

@@ -5,6 +5,7 @@ ghost use Rattle.arrays_core.specs.Arrays.{ArrayValue, IsAnswerTo};
 ghost use Rattle.index_region.specs.Checks.{whole};
 ghost use Rattle.change_core.specs.RuleModels.{Use, FitsAt, HasShape, box_at, form_size};
 ghost use Rattle.change_core.specs.Laws.{IsTight};
+ghost use Rattle.change_core.specs.Growth.{IsGrowing, never};
 
 use crate::meter::Meter;
 use crate::rule::{Rule, Tight};
@@ -19,6 +20,16 @@ pub trait Announced: Primitive {
 
     /// How its results use its arguments, given the shape of the result.
     ghost uses: { Self → List ℕ → List ArrayValue → List Use };
+
+    /// When its results grow with its arguments, given these, as they are now, and which of them grew.
+    ghost growth: { Self → List ArrayValue → List Bool → Bool } = { λ _. never };
+
+    /// Where the marked arguments grew by one place of their first axis, and the others are as they were, its result
+    /// grows so too.
+    fn grows(&self, args: &[Seen], grown: &[bool]) -> bool
+        requires count { length args.now ≡ Self.arity self.now }
+        requires marks { length grown.now ≡ length args.now }
+        ensures { result ≡ growth self.now args.now grown.now };
 
     /// A change of the argument makes the result anew.
     fn selects(&self, which: usize) -> bool
@@ -49,9 +60,12 @@ pub trait Announced: Primitive {
     ghost counted: { (rule : Self) → length (selectors rule) ≡ Self.arity rule };
 }
 
-/// A function of arrays whose boxes hold all that changes of its result: it is a `Tight` rule.
+/// A function of arrays whose boxes hold all that changes of its result, which grows where it says so: it is a `Tight`
+/// rule.
 pub trait Lawful: Announced {
-    ghost tight: { (rule : Self) → IsTight (record { selectors = Self.selectors rule; form = Self.form rule; item = Self.item rule; uses = Self.uses rule }) };
+    ghost tight: { (rule : Self) → IsTight (record { selectors = Self.selectors rule; form = Self.form rule; item = Self.item rule; uses = Self.uses rule; grows = Self.growth rule }) };
+
+    ghost growing: { (rule : Self) → IsGrowing (record { selectors = Self.selectors rule; form = Self.form rule; item = Self.item rule; uses = Self.uses rule; grows = Self.growth rule }) (Self.growth rule) };
 }
 
 /// How many places the result has; none where a check fails.
@@ -66,7 +80,7 @@ fn places<P: Primitive>(primitive: &P, args: &[Seen]) -> u32
 }
 
 impl<P: Announced> Rule for P {
-    ghost model = { λ rule. record { selectors = P.selectors rule; form = P.form rule; item = P.item rule; uses = P.uses rule } };
+    ghost model = { λ rule. record { selectors = P.selectors rule; form = P.form rule; item = P.item rule; uses = P.uses rule; grows = P.growth rule } };
 
     fn shape(&self, args: &[Seen]) -> Result<(Shape, ItemType), Kind> {
         self.shape_of(args)
@@ -87,6 +101,10 @@ impl<P: Announced> Rule for P {
         whole
     }
 
+    fn grows(&self, args: &[Seen], grown: &[bool]) -> bool {
+        Announced::grows(self, args, grown)
+    }
+
     fn selects(&self, which: usize) -> bool {
         Announced::selects(self, which)
     }
@@ -104,4 +122,6 @@ impl<P: Announced> Rule for P {
 
 impl<P: Lawful> Tight for P {
     ghost tight = { P.tight };
+
+    ghost growing = { P.growing };
 }

@@ -4,6 +4,7 @@ ghost use Rattle.std.specs.Prelude.{◌≡◌, ◌≤◌, ℕ, List, length, Som
 ghost use Rattle.arrays_core.specs.Limits.{most_axes};
 ghost use Rattle.index_region.specs.Boxes.{join_boxes};
 ghost use Rattle.change_core.specs.Reaches.{bounded, as_reach as reach_of_box};
+ghost use Rattle.change_core.specs.Growth.{last_place};
 ghost use Rattle.change_core.specs.Laws.{ReachCovers, ReachLies};
 
 use crate::rule::Tight;
@@ -38,6 +39,18 @@ pub(crate) fn bounded(shape: &[u32], region: Option<Intervals>) -> Option<IndexB
     ensures { result ≡ bounded shape.now region }
 {
     IndexBox::inside(shape, &region?)
+}
+
+/// The box of the last place of the first axis of a shape, unless it has no items.
+pub fn last_place(shape: &[u32]) -> Option<IndexBox>
+    requires { length shape.now ≤ most_axes }
+    ensures { result ≡ last_place shape.now }
+{
+    let last = match shape.first() {
+        None => Intervals::none(),
+        Some(length) => Intervals::one(*length, *length),
+    };
+    IndexBox::inside(shape, &last)
 }
 
 /// The reach of a box, if there is one.

@@ -79,6 +79,13 @@ pub trait Rule {
         Ok(values)
     }
 
+    /// Where the marked arguments grew by one place of their first axis, and the others are as they were, the result
+    /// grows so too.
+    fn grows(&self, args: &[Seen], grown: &[bool]) -> bool
+        requires count { length args.now ≡ length (model self.now).selectors }
+        requires marks { length grown.now ≡ length args.now }
+        ensures { result ≡ (model self.now).grows args.now grown.now };
+
     /// A change of the argument makes the result anew, its shape too.
     fn selects(&self, which: usize) -> bool
         ensures { result ≡ get_or (model self.now).selectors which false };
@@ -135,9 +142,12 @@ pub trait Rule {
     }
 }
 
-/// A rule whose boxes hold all that changes.
+/// A rule whose boxes hold all that changes, and whose result grows where it says so.
 pub trait Tight: Rule {
     ghost use Rattle.change_core.specs.Laws.{IsTight};
+    ghost use Rattle.change_core.specs.Growth.{IsGrowing};
 
     ghost tight: { (rule : Self) → IsTight (Self.model rule) };
+
+    ghost growing: { (rule : Self) → IsGrowing (Self.model rule) (Self.model rule).grows };
 }

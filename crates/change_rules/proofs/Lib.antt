@@ -2,6 +2,8 @@ pub mod Walked
 pub mod PatchRight
 pub mod Nodes
 pub mod Refreshed
+pub mod GrownRight
+pub mod NodeRight
 pub mod Right
 pub mod Items
 pub mod Copied

@@ -1,15 +1,15 @@
--- The change of a node makes the whole evaluation of the new arguments.
+-- Where arguments changed in boxes, the change of a node makes the whole evaluation of the new ones.
 use Rattle.index_region.proofs.Walks.{walk_within}
-use Rattle.std.proofs.Common.{◌≡◌, ◌≢◌, ℕ, zero, suc, ◌+◌, ◌<◌, List, [], ◌∷◌, length, map, refl, ap, ◌∙◌, sym, subst, arith, IsTrue, true, false, Bool, ◌&&◌, ◌||◌, not, Option, Some, None, Result, Ok, Err, inl, inr, is_ok, IsOk, IfOk}
+use Rattle.std.proofs.Common.{◌≡◌, ◌≢◌, ℕ, zero, suc, ◌+◌, ◌<◌, List, [], ◌∷◌, length, map, refl, ap, ◌∙◌, sym, subst, arith, IsTrue, true, false, Bool, ◌&&◌, ◌||◌, Option, Some, None, Result, Ok, Err, is_ok, IsOk, IfOk}
 use Rattle.std.proofs.lemmas.List.{length-map}
 use Rattle.std.proofs.lemmas.List.FromFn.{length-map-range_with_len}
 use Rattle.arrays_core.specs.Shapes.{index_after}
 use Rattle.std.specs.List.{range_with_len, list_all, list_any}
-use Rattle.std.proofs.lemmas.Bool.{or_parts, false≢true, true≢false, cases_Bool, cond-true, cond-false, not-false}
+use Rattle.std.proofs.lemmas.Bool.{false≢true, true≢false, cond-false}
 use Rattle.arrays_core.specs.declared.item.Item.{Item}
 use Rattle.arrays_core.specs.declared.item.Kind.{Kind}
 use Rattle.index_region.specs.declared.delta.Delta.{Delta}
-use Rattle.index_region.specs.declared.delta.Delta.TheVariants.{Same, Patch, Whole}
+use Rattle.index_region.specs.declared.delta.Delta.TheVariants.{Same, Patch, Grown, Whole}
 use Rattle.arrays_core.specs.Arrays.{ArrayValue, IsArray, item_of}
 use Rattle.arrays_core.specs.Shapes.{is_index_of, size}
 use Rattle.change_core.specs.declared.reach.Reach.{Reach}
@@ -21,9 +21,9 @@ use Rattle.change_core.specs.Laws.{Each, ReachCovers, AllAgree, ArgumentChange, 
 use Rattle.change_core.specs.Reaches.{AllFit, LiesIn, reach_of, is_moved, is_reached}
 use Rattle.change_rules.proofs.PatchRight.{error_right, patch_right}
 use Rattle.change_rules.proofs.Walked.{array_of, walked, walked_is, walked_delta, walked_delta_is}
-use Rattle.change_rules.specs.Currency.{IsEvaluation, BringsUpToDate, Shows, applied}
+use Rattle.change_rules.specs.Currency.{IsEvaluation, Shows, applied}
 use Rattle.change_core.specs.RuleModels.{RuleModel}
-use Rattle.change_rules.specs.Nodes.{Argument, all_same, is_same, is_whole, moved, moved_by, node_delta, patch_delta, delta_in, starts_anew, views}
+use Rattle.change_rules.specs.Nodes.{Argument, all_same, is_same, is_whole, moved, moved_by, patch_delta, delta_in, is_grown, views}
 use Rattle.change_rules.specs.Outcomes.{Outcome, evaluation}
 use Rattle.index_region.proofs.Patched.{patched_at}
 use Rattle.index_region.specs.Boxes.{Interval, box_size, walk_at, whole_of}
@@ -43,28 +43,29 @@ ShowsAll _ _ _ = ⊥
 abbrev pub deltas : List Argument → List Delta
 deltas args = map (λ a. a.1.now) args
 
-shows_all : (olds : List Outcome) (args : List Argument) → Shows olds args → ShowsAll olds (deltas args) (views args)
+pub shows_all : (olds : List Outcome) (args : List Argument) → Shows olds args → ShowsAll olds (deltas args) (views args)
 shows_all [] [] h = h
 shows_all (o ∷ olds) (a ∷ args) h = (record { becomes = h.0.becomes; sound = h.0.sound }, shows_all olds args h.1)
 shows_all [] (a ∷ args) h = absurd h
 shows_all (o ∷ olds) [] h = absurd h
 
-same_deltas : (args : List Argument) → list_all is_same (deltas args) ≡ all_same args
+pub same_deltas : (args : List Argument) → list_all is_same (deltas args) ≡ all_same args
 same_deltas [] = refl
 same_deltas (a ∷ args) = ap (λ (b : Bool). is_same a.1.now && b) (same_deltas args)
 
-whole_deltas : (args : List Argument) → list_any is_whole (deltas args) ≡ list_any (λ (a : Argument). is_whole a.1.now) args
+pub whole_deltas : (args : List Argument) → list_any is_whole (deltas args) ≡ list_any (λ (a : Argument). is_whole a.1.now) args
 whole_deltas [] = refl
 whole_deltas (a ∷ args) = ap (λ (b : Bool). is_whole a.1.now || b) (whole_deltas args)
 
-moved_deltas : (args : List Argument) → moved args ≡ map moved_by (deltas args)
+pub moved_deltas : (args : List Argument) → moved args ≡ map moved_by (deltas args)
 moved_deltas [] = refl
 moved_deltas (a ∷ args) = ap (λ (m : List (Option (List Interval))). moved_by a.1.now ∷ m) (moved_deltas args)
 
-same_olds : (os : List Outcome) (ds : List Delta) (ns : List ArrayValue) → ShowsAll os ds ns → list_all is_same ds ≡ true → os ≡ map (λ a. Ok a) ns
+pub same_olds : (os : List Outcome) (ds : List Delta) (ns : List ArrayValue) → ShowsAll os ds ns → list_all is_same ds ≡ true → os ≡ map (λ a. Ok a) ns
 same_olds [] [] [] h k = refl
 same_olds (o ∷ os) (Same ∷ ds) (n ∷ ns) h k = let rest = same_olds os ds ns h.1 k in let e = h.0.becomes in λ i. e i ∷ rest i
 same_olds (o ∷ os) (Patch p ∷ ds) (n ∷ ns) h k = absurd (false≢true k)
+same_olds (o ∷ os) (Grown t ∷ ds) (n ∷ ns) h k = absurd (false≢true k)
 same_olds (o ∷ os) (Whole r ∷ ds) (n ∷ ns) h k = absurd (false≢true k)
 same_olds [] [] (n ∷ ns) h k = absurd h
 same_olds [] (d ∷ ds) ns h k = absurd h
@@ -94,10 +95,10 @@ as_many o a p n e q h =
     let sound : IsArray a = subst (λ (x : Outcome). IfOk x IsArray) e h in
     sound.one_item_a_place ∙ sym (length-map-range_with_len (λ (place : ℕ). patched_item a p (index_after a.shape place)) 0 (size a.shape)) ∙ ap (λ (x : ArrayValue). length x.items) q
 
-pub arguments_before : (os : List Outcome) (ds : List Delta) (ns : List ArrayValue) → ShowsAll os ds ns → list_any is_whole ds ≡ false → AllFit ns (map moved_by ds) → Each IsArray ns → Before os ds ns
-arguments_before [] [] [] h k f sound = record { changes = []; old = refl; new = refl; moved = refl; agree = tt }
-arguments_before (o ∷ os) (Same ∷ ds) (n ∷ ns) h k f sound =
-    let rest = arguments_before os ds ns h.1 k f.1 sound.1 in
+pub arguments_before : (os : List Outcome) (ds : List Delta) (ns : List ArrayValue) → ShowsAll os ds ns → list_any is_whole ds ≡ false → list_any is_grown ds ≡ false → AllFit ns (map moved_by ds) → Each IsArray ns → Before os ds ns
+arguments_before [] [] [] h k g f sound = record { changes = []; old = refl; new = refl; moved = refl; agree = tt }
+arguments_before (o ∷ os) (Same ∷ ds) (n ∷ ns) h k g f sound =
+    let rest = arguments_before os ds ns h.1 k g f.1 sound.1 in
     let here = h.0.becomes in
     let ro = rest.old in
     let rn = rest.new in
@@ -109,8 +110,8 @@ arguments_before (o ∷ os) (Same ∷ ds) (n ∷ ns) h k f sound =
       moved = λ i. None ∷ rm i;
       agree = (record { sound = sound.0; fit = tt; kind = refl; shape = refl; count = refl; same = λ _. refl; outside = λ index p u. refl }, rest.agree);
     }
-arguments_before (o ∷ os) (Patch p ∷ ds) (n ∷ ns) h k f sound =
-    let rest = arguments_before os ds ns h.1 k f.1 sound.1 in
+arguments_before (o ∷ os) (Patch p ∷ ds) (n ∷ ns) h k g f sound =
+    let rest = arguments_before os ds ns h.1 k g f.1 sound.1 in
     let part = part_of o p n h.0.becomes in
     let here = part.1 in
     let ro = rest.old in
@@ -123,14 +124,15 @@ arguments_before (o ∷ os) (Patch p ∷ ds) (n ∷ ns) h k f sound =
       moved = λ i. Some p.region ∷ rm i;
       agree = (record { sound = sound.0; fit = f.0; count = as_many o part.0 p n part.1 part.2 h.0.sound; same = λ e. absurd cc; kind = ap (λ (v : ArrayValue). v.item_type) part.2; shape = ap (λ (v : ArrayValue). v.shape) part.2; outside = outside_patch part.0 n p part.2 }, rest.agree);
     }
-arguments_before (o ∷ os) (Whole r ∷ ds) (n ∷ ns) h k f sound = absurd (true≢false k)
-arguments_before [] [] (n ∷ ns) h k f sound = absurd h
-arguments_before [] (d ∷ ds) ns h k f sound = absurd h
-arguments_before (o ∷ os) [] ns h k f sound = absurd h
-arguments_before (o ∷ os) (d ∷ ds) [] h k f sound = absurd h
+arguments_before (o ∷ os) (Grown t ∷ ds) (n ∷ ns) h k g f sound = absurd (true≢false g)
+arguments_before (o ∷ os) (Whole r ∷ ds) (n ∷ ns) h k g f sound = absurd (true≢false k)
+arguments_before [] [] (n ∷ ns) h k g f sound = absurd h
+arguments_before [] (d ∷ ds) ns h k g f sound = absurd h
+arguments_before (o ∷ os) [] ns h k g f sound = absurd h
+arguments_before (o ∷ os) (d ∷ ds) [] h k g f sound = absurd h
 
 -- the same items make the same array
-same_whole : (f : Form) (old new : List ℕ → Result Item Kind) → ((index : List ℕ) → IsTrue (is_index_of f.shape index) → old index ≡ new index) → walked (Ok f) old ≡ walked (Ok f) new
+pub same_whole : (f : Form) (old new : List ℕ → Result Item Kind) → ((index : List ℕ) → IsTrue (is_index_of f.shape index) → old index ≡ new index) → walked (Ok f) old ≡ walked (Ok f) new
 same_whole f old new h = ap (λ (rs : List (Result Item Kind)). array_of f (collected rs)) (same_along f.shape old new h)
   where
     same_map : (f g : ℕ → Result Item Kind) (n a : ℕ) → ((p : ℕ) → p < a + n → f p ≡ g p) → map f (range_with_len a n) ≡ map g (range_with_len a n)
@@ -163,7 +165,7 @@ ok_form : (form : Result Form Kind) (f : Form) → form ≡ Ok f → IsOk form
 ok_form (Ok g) f e = refl
 ok_form (Err k) f e = absurd cc
 
-kept_right : (p : RuleModel) → ReachCovers p → (os : List Outcome) (ds : List Delta) (ns : List ArrayValue) (old : Outcome) → length ns ≡ length p.selectors → LiesIn (p.form ns) (reach_of p ns (map moved_by ds))
+pub kept_right : (p : RuleModel) → ReachCovers p → (os : List Outcome) (ds : List Delta) (ns : List ArrayValue) (old : Outcome) → length ns ≡ length p.selectors → LiesIn (p.form ns) (reach_of p ns (map moved_by ds))
     → Before os ds ns → IsEvaluation p os old → is_ok old ≡ true → applied (delta_in (p.form ns) (p.item ns) (reach_of p ns (map moved_by ds))) old ≡ evaluation p ns
 kept_right p law os ds ns (Err x) count lies before evaluated ok = absurd (false≢true ok)
 kept_right p law os ds ns (Ok a) count lies before evaluated ok =
@@ -181,24 +183,3 @@ kept_right p law os ds ns (Ok a) count lies before evaluated ok =
     (λ f e r index q u. (here (ok_form _ f e) r).outside index (subst (λ (x : Result Form Kind). IsPlaceOf x index) (sym e) q) u)
     (λ f e r. was ∙ ap (λ (x : Result Form Kind). walked x (p.item (olds ch))) ((here (ok_form _ f e) r).form ∙ e))
     ∙ walked_is (p.form ns) (p.item ns)
-
--- the change of a node makes of the old whole evaluation the new one
-pub brings_up_to_date : (p : RuleModel) → ReachCovers p → (args : List Argument) (old : Outcome) → length args ≡ length p.selectors → LiesIn (p.form (views args)) (reach_of p (views args) (moved args)) → AllFit (views args) (moved args)
-    → Each IsArray (views args) → BringsUpToDate p args old (node_delta p args old)
-brings_up_to_date p law args old count lies fit sound os shows evaluated =
-    let boxes = moved_deltas args in
-    let all = shows_all os args shows in
-    let many : length (views args) ≡ length p.selectors = length-map args (λ (a : Argument). a.0) ∙ count in
-    let then = λ (d : Delta). applied d old in
-    elim (cases_Bool (all_same args)) [
-      | inl t ↦ ap then (cond-true _ _ _ t) ∙ evaluated (views args) (same_olds os (deltas args) (views args) all (same_deltas args ∙ t))
-      | inr f ↦ elim (cases_Bool (starts_anew args old)) [
-        | inl t ↦ ap then (cond-false _ _ _ f ∙ cond-true _ _ _ t)
-        | inr g ↦
-            let parts = or_parts (list_any (λ (a : Argument). is_whole a.1.now) args) (not (is_ok old)) g in
-            let before = arguments_before os (deltas args) (views args) all (whole_deltas args ∙ parts.0) (subst (AllFit (views args)) boxes fit) sound in
-            ap then (cond-false _ _ _ f ∙ cond-false _ _ _ g)
-            ∙ ap (λ (m : List (Option (List Interval))). applied (delta_in (p.form (views args)) (p.item (views args)) (reach_of p (views args) m)) old) boxes
-            ∙ kept_right p law os (deltas args) (views args) old many (subst (λ (m : List (Option (List Interval))). LiesIn (p.form (views args)) (reach_of p (views args) m)) boxes lies) before evaluated (not-false (is_ok old) parts.1)
-      ]
-    ]

@@ -1,6 +1,6 @@
 -- What a change says is so of the result.
 use Rattle.index_region.proofs.Walks.{walk_within, walk_of_offset, offset_below}
-use Rattle.std.proofs.Common.{◌≡◌, ℕ, inl, inr, ◌+◌, List, Result, Ok, Err, IfOk, true, refl, ap, ◌∙◌, sym, subst, arith}
+use Rattle.std.proofs.Common.{◌≡◌, ℕ, inl, inr, ◌+◌, List, Option, Some, None, Result, Ok, Err, IfOk, true, refl, ap, ◌∙◌, sym, subst, arith}
 use Rattle.std.specs.declared.alloc.AllocError.{AllocError}
 use Rattle.std.proofs.lemmas.Bool.{cases_Bool, cond-true, cond-false}
 use Rattle.arrays_core.specs.declared.item.Item.{Item}
@@ -16,11 +16,13 @@ use Rattle.change_core.specs.declared.reach.Reach.{Reach}
 use Rattle.change_core.specs.declared.reach.Reach.TheVariants.{Unmoved, Inside, Anew}
 use Rattle.change_core.specs.Parts.{items_in}
 use Rattle.change_core.specs.Reaches.{LiesIn, reach_of}
+use Rattle.change_core.specs.Growth.{last_interval, last_place}
 use Rattle.change_core.specs.RuleModels.{RuleModel}
+use Rattle.change_core.proofs.Regions.{HasFit, bounded-fits}
 use Rattle.change_core.proofs.Collected.{items_are}
 use Rattle.change_core.proofs.Covers.{reaches_inside}
 use Rattle.change_rules.specs.Currency.{IsRight}
-use Rattle.change_rules.specs.Nodes.{Argument, views, moved, all_same, starts_anew, node_delta, patch_delta, delta_in}
+use Rattle.change_rules.specs.Nodes.{Argument, views, moved, all_same, starts_anew, node_delta, patch_delta, delta_in, any_grown, grown_in, node_grows, items_at, tail_delta}
 use Rattle.change_rules.specs.Outcomes.{Outcome, given}
 use Rattle.change_rules.proofs.PatchRight.{collected_in, first_error}
 
@@ -53,13 +55,30 @@ reached_is_right p args (Ok f) Unmoved e lies = tt
 reached_is_right p args (Ok f) Anew e lies = inl (ap (λ (x : Result Form Kind). given (whole x (p.item args))) (sym e))
 reached_is_right p args (Ok f) (Inside region) e lies = patch_is_right p args f region (items_in (p.item args) region) e lies refl
 
+-- the items of the last place, or the error of one of them
+tail_is_right : (p : RuleModel) (args : List ArrayValue) (f : Form) (o : Option (List Interval)) (r : Result (List Item) Kind) → p.form args ≡ Ok f → last_place f.shape ≡ o → HasFit f.shape o → items_at (p.item args) o ≡ r
+    → IsRight p args (tail_delta f.shape r)
+tail_is_right p args f o (Ok xs) e at fit is = record { form = f; passes = e; shaped = refl; items = ap (items_at (p.item args)) at ∙ is }
+tail_is_right p args f None (Err k) e at fit is = absurd (let no : ⊥ = cc in no)
+tail_is_right p args f (Some region) (Err k) e at fit is = patch_is_right p args f region (Err k) e fit is
+
+grown_is_right : (p : RuleModel) (args : List ArrayValue) (form : Result Form Kind) → p.form args ≡ form → IsRight p args (grown_in form (p.item args))
+grown_is_right p args (Err k) e = inl (ap (λ (x : Result Form Kind). given (whole x (p.item args))) (sym e))
+grown_is_right p args (Ok f) e = tail_is_right p args f (last_place f.shape) (items_at (p.item args) (last_place f.shape)) e refl (bounded-fits f.shape (Some (last_interval f.shape))) refl
+
 pub node_is_right : (p : RuleModel) (args : List Argument) (old : Outcome) → IsRight p (views args) (node_delta p args old)
 node_is_right p args old = elim (cases_Bool (all_same args)) [
   | inl t ↦ subst (IsRight p (views args)) (sym (cond-true _ _ _ t)) tt
   | inr f ↦ elim (cases_Bool (starts_anew args old)) [
     | inl t ↦ subst (IsRight p (views args)) (sym (cond-false _ _ _ f ∙ cond-true _ _ _ t)) (inl refl)
-    | inr g ↦ subst (IsRight p (views args)) (sym (cond-false _ _ _ f ∙ cond-false _ _ _ g))
-        (reached_is_right p (views args) (p.form (views args)) (reach_of p (views args) (moved args)) refl (reaches_inside p (views args) (moved args)))
+    | inr g ↦ elim (cases_Bool (any_grown args)) [
+      | inl some ↦ subst (IsRight p (views args)) (sym (cond-false _ _ _ f ∙ cond-false _ _ _ g ∙ cond-true _ _ _ some)) (elim (cases_Bool (node_grows p args)) [
+        | inl t ↦ subst (IsRight p (views args)) (sym (cond-true _ _ _ t)) (grown_is_right p (views args) (p.form (views args)) refl)
+        | inr n ↦ subst (IsRight p (views args)) (sym (cond-false _ _ _ n)) (inl refl)
+      ])
+      | inr none ↦ subst (IsRight p (views args)) (sym (cond-false _ _ _ f ∙ cond-false _ _ _ g ∙ cond-false _ _ _ none))
+          (reached_is_right p (views args) (p.form (views args)) (reach_of p (views args) (moved args)) refl (reaches_inside p (views args) (moved args)))
+    ]
   ]
 ]
 

@@ -1,29 +1,39 @@
 -- What makes a change right.
-use Rattle.std.specs.Prelude.{◌≡◌, ◌⊎◌, true, ℕ, List, [], ◌∷◌, Ok, Err, IsTrue, IfOk, map, get_or}
+use Rattle.std.specs.Prelude.{◌≡◌, ◌<◌, ◌⊎◌, length, true, ℕ, List, [], ◌∷◌, Ok, Err, IsTrue, IfOk, map, get_or}
 use Rattle.arrays_core.specs.declared.item.Kind.{Kind}
 use Rattle.arrays_core.specs.Arrays.{ArrayValue, IsArray}
 use Rattle.arrays_core.specs.Items.{fill}
 use Rattle.index_region.specs.declared.delta.Delta.{Delta}
-use Rattle.index_region.specs.declared.delta.Delta.TheVariants.{Same, Patch, Whole}
+use Rattle.index_region.specs.declared.delta.Delta.TheVariants.{Same, Patch, Grown, Whole}
 use Rattle.index_region.specs.Answers.{IsPlaceOf}
 use Rattle.index_region.specs.Boxes.{is_within, fits, box_offset}
 use Rattle.index_region.specs.Checks.{Form}
+use Rattle.arrays_core.specs.Growth.{grown_by}
+use Rattle.index_region.specs.Tails.{TailValue}
+use Rattle.change_core.specs.Growth.{last_place}
 use Rattle.index_region.specs.Patches.{PatchValue, patched}
 use Rattle.change_core.specs.RuleModels.{RuleModel}
 use Rattle.change_rules.specs.Outcomes.{Outcome, fault, evaluation}
-use Rattle.change_rules.specs.Nodes.{Argument, views}
+use Rattle.change_rules.specs.Nodes.{Argument, views, is_grown, items_at}
 
 -- what a change makes of an array or an error
 abbrev pub applied : Delta → Outcome → Outcome
 applied Same old = old
 applied (Patch p) (Ok a) = Ok (patched a p)
 applied (Patch p) (Err f) = Err f
+applied (Grown t) (Ok a) = Ok (grown_by a t.items)
+applied (Grown t) (Err f) = Err f
 applied (Whole r) old = r
 
 -- the argument is what its change makes of what it was, which was an array or an error
 pub record Became (old : Outcome) (a : Argument) : Type 0 where
   pub becomes : applied a.1.now old ≡ Ok a.0
   pub sound : IfOk old IsArray
+
+-- an argument that grew has an axis
+abbrev pub HasAxis : List Argument → Type 0
+HasAxis [] = Unit {0}
+HasAxis (a ∷ args) = (is_grown a.1.now ≡ true → 0 < length a.0.shape) × HasAxis args
 
 -- so is each argument
 abbrev pub Shows : List Outcome → List Argument → Type 0
@@ -55,9 +65,17 @@ pub record IsItemError (p : RuleModel) (args : List ArrayValue) (r : Outcome) : 
   pub fails : p.item args index ≡ Err kind
   pub is : r ≡ Err (fault kind)
 
+-- the shape is that of the result, and the items are those of its last place
+pub record IsRightTail (p : RuleModel) (args : List ArrayValue) (t : TailValue) : Type 0 where
+  pub form : Form
+  pub passes : p.form args ≡ Ok form
+  pub shaped : t.shape ≡ form.shape
+  pub items : items_at (p.item args) (last_place form.shape) ≡ Ok t.items
+
 -- what a change says is so of the result: the items of a patch are its items, and a whole is the whole evaluation, or the
 -- error of an item
 abbrev pub IsRight : RuleModel → List ArrayValue → Delta → Type 0
 IsRight p args Same = Unit {0}
 IsRight p args (Patch patch) = IsRightPatch p args patch
+IsRight p args (Grown t) = IsRightTail p args t
 IsRight p args (Whole r) = (r ≡ evaluation p args) ⊎ IsItemError p args r

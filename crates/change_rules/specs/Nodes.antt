@@ -1,5 +1,5 @@
 -- The change of a node, from the changes of its arguments.
-use Rattle.std.specs.Prelude.{ℕ, List, Bool, true, false, ◌||◌, not, Option, Some, None, Result, Ok, Err, if◌then◌else◌, map, is_ok}
+use Rattle.std.specs.Prelude.{ℕ, List, [], ◌&&◌, Bool, true, false, ◌||◌, not, Option, Some, None, Result, Ok, Err, if◌then◌else◌, map, is_ok}
 use Rattle.std.specs.Borrow.{Bor}
 use Rattle.std.specs.List.{list_all, list_any}
 use Rattle.arrays_core.specs.declared.item.Item.{Item}
@@ -8,12 +8,13 @@ use Rattle.arrays_core.specs.declared.item.Kind.{Kind}
 use Rattle.arrays_core.specs.Arrays.{ArrayValue}
 use Rattle.arrays_core.specs.Shapes.{size}
 use Rattle.index_region.specs.declared.delta.Delta.{Delta}
-use Rattle.index_region.specs.declared.delta.Delta.TheVariants.{Same, Patch, Whole}
+use Rattle.index_region.specs.declared.delta.Delta.TheVariants.{Same, Patch, Grown, Whole}
 use Rattle.index_region.specs.Boxes.{Interval, box_size}
 use Rattle.index_region.specs.Checks.{Form, whole}
 use Rattle.change_core.specs.declared.reach.Reach.{Reach}
 use Rattle.change_core.specs.declared.reach.Reach.TheVariants.{Unmoved, Inside, Anew}
 use Rattle.change_core.specs.Parts.{items_in}
+use Rattle.change_core.specs.Growth.{last_place}
 use Rattle.change_core.specs.Reaches.{reach_of}
 use Rattle.change_core.specs.RuleModels.{RuleModel, form_size}
 use Rattle.change_rules.specs.Outcomes.{Outcome, fault, given, evaluation}
@@ -32,6 +33,23 @@ is_same _ = false
 abbrev pub is_whole : Delta → Bool
 is_whole (Whole r) = true
 is_whole _ = false
+
+abbrev pub is_grown : Delta → Bool
+is_grown (Grown t) = true
+is_grown _ = false
+
+-- it is as it was, or grew
+abbrev pub is_grown_at_most : Delta → Bool
+is_grown_at_most Same = true
+is_grown_at_most (Grown t) = true
+is_grown_at_most _ = false
+
+-- which arguments grew
+abbrev pub marks : List Argument → List Bool
+marks args = map (λ a. is_grown a.1.now) args
+
+abbrev pub any_grown : List Argument → Bool
+any_grown args = list_any (λ a. is_grown a.1.now) args
 
 -- the changed box of an argument
 abbrev pub moved_by : Delta → Option (List Interval)
@@ -64,11 +82,35 @@ delta_in (Ok f) item Anew = Whole (given (whole (Ok f) item))
 abbrev pub reached_delta : RuleModel → List ArrayValue → List (Option (List Interval)) → Delta
 reached_delta p args moves = delta_in (p.form args) (p.item args) (reach_of p args moves)
 
+-- the node grows: no other argument changed, and its rule says so
+abbrev pub node_grows : RuleModel → List Argument → Bool
+node_grows p args = list_all (λ a. is_grown_at_most a.1.now) args && p.grows (views args) (marks args)
+
+-- the items of a box, if there is one, or the first error among them
+abbrev pub items_at : (List ℕ → Result Item Kind) → Option (List Interval) → Result (List Item) Kind
+items_at item None = Ok []
+items_at item (Some region) = items_in item region
+
+-- one more place of these items, or the first error among them
+abbrev pub tail_delta : List ℕ → Result (List Item) Kind → Delta
+tail_delta shape (Ok items) = Grown (record { shape = shape; items = items })
+tail_delta shape (Err kind) = Whole (Err (fault kind))
+
+-- the result with the items of its last place new; or the error of the checks
+abbrev pub grown_in : Result Form Kind → (List ℕ → Result Item Kind) → Delta
+grown_in (Err kind) item = Whole (Err (fault kind))
+grown_in (Ok f) item = tail_delta f.shape (items_at item (last_place f.shape))
+
+-- the change of a node that held an array, where an argument grew and none is another array: the checks are made again
+abbrev pub grown_delta : RuleModel → List Argument → Delta
+grown_delta p args = if node_grows p args then grown_in (p.form (views args)) (p.item (views args)) else Whole (evaluation p (views args))
+
 -- the change of a node, by its rule, its arguments and what it held
 abbrev pub node_delta : RuleModel → List Argument → Outcome → Delta
 node_delta p args old =
     if all_same args then Same
     else if starts_anew args old then Whole (evaluation p (views args))
+    else if any_grown args then grown_delta p args
     else reached_delta p (views args) (moved args)
 
 -- how many places of the result may change
@@ -81,9 +123,22 @@ size_in (Ok f) Anew = size f.shape
 abbrev pub reached_cost : RuleModel → List ArrayValue → List (Option (List Interval)) → ℕ
 reached_cost p args moves = size_in (p.form args) (reach_of p args moves)
 
+-- how many items a box has, if there is one
+abbrev pub size_at : Option (List Interval) → ℕ
+size_at None = 0
+size_at (Some region) = box_size region
+
+abbrev pub grown_size : Result Form Kind → ℕ
+grown_size (Err kind) = 0
+grown_size (Ok f) = size_at (last_place f.shape)
+
+abbrev pub grown_cost : RuleModel → List Argument → ℕ
+grown_cost p args = if node_grows p args then grown_size (p.form (views args)) else form_size (p.form (views args))
+
 -- how many items of the result a change computes at most
 abbrev pub node_cost : RuleModel → List Argument → Outcome → ℕ
 node_cost p args old =
     if all_same args then 0
     else if starts_anew args old then form_size (p.form (views args))
+    else if any_grown args then grown_cost p args
     else reached_cost p (views args) (moved args)

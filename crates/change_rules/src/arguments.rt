@@ -1,8 +1,8 @@
 //! The arguments of a node as they are handed in: each as it is now, with what changed of it.
 
 ghost use Rattle.std.specs.Prelude.{◌≡◌, IfOk, is_ok, not, ◌||◌};
-ghost use Rattle.change_rules.specs.Nodes.{views, moved, moved_by as box_moved_by, all_same as all_are_same, starts_anew as anew, is_whole};
-ghost use Rattle.std.specs.List.{list_any};
+ghost use Rattle.change_rules.specs.Nodes.{views, moved, moved_by as box_moved_by, all_same as all_are_same, starts_anew as anew, is_whole, is_grown, is_grown_at_most, any_grown as any_one_grown, marks};
+ghost use Rattle.std.specs.List.{list_all, list_any};
 ghost use Rattle.arrays_core.specs.Arrays.{IsArray};
 ghost use Rattle.change_core.specs.Laws.{Each};
 
@@ -76,4 +76,37 @@ pub(crate) fn starts_anew(args: &[(Seen, &Delta)], old: &Result<Array, Fault>) -
     ensures { result ≡ anew args.now old.now }
 {
     any_whole(args) || old.is_err()
+}
+
+/// An argument grew.
+pub(crate) fn any_grown(args: &[(Seen, &Delta)]) -> bool
+    ensures { result ≡ any_one_grown args.now }
+{
+    args.iter()
+        .any(|(_, delta)| matches!(delta, Delta::Grown(_)))
+}
+
+/// No argument changed but those that grew.
+pub(crate) fn grown_at_most(args: &[(Seen, &Delta)]) -> bool
+    ensures { result ≡ list_all (λ a. is_grown_at_most a.1.now) args.now }
+{
+    args.iter().all(|(_, delta)| matches!(delta, Delta::Same | Delta::Grown(_)))
+}
+
+/// It grew.
+pub(crate) fn is_grown(delta: &Delta) -> bool
+    ensures { result ≡ is_grown delta.now }
+{
+    matches!(delta, Delta::Grown(_))
+}
+
+/// Which arguments grew.
+pub(crate) fn marks_of(alloc: Global, args: &[(Seen, &Delta)]) -> Result<Vec<bool>, AllocError>
+    ensures { IfOk result (λ v. v.items ≡ marks args.now) }
+{
+    let mut marks = Vec::new(alloc);
+    for (_, delta) in args {
+        marks.push(is_grown(delta))?;
+    }
+    Ok(marks)
 }

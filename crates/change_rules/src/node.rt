@@ -2,15 +2,21 @@
 
 ghost use Rattle.std.specs.Prelude.{◌≡◌, ◌+◌, ◌≤◌, length, IfOk, true, false};
 ghost use Rattle.change_core.specs.Reaches.{AllFit};
-ghost use Rattle.change_rules.specs.Nodes.{views, moved, all_same as all_are_same, starts_anew as is_anew, node_delta, node_cost, reached_delta, reached_cost};
-ghost use Rattle.change_rules.specs.Currency.{BringsUpToDate, IsRight};
+ghost use Rattle.change_core.specs.RuleModels.{form_size};
+ghost use Rattle.index_region.specs.declared.delta.Delta.TheVariants.{Whole};
+ghost use Rattle.change_rules.specs.Outcomes.{evaluation};
+ghost use Rattle.change_rules.specs.Nodes.{views, moved, all_same as all_are_same, any_grown as any_one_grown, starts_anew as is_anew, node_delta, node_cost, reached_delta, reached_cost, node_grows, grown_delta, grown_cost, grown_in, grown_size};
+ghost use Rattle.change_rules.specs.Currency.{BringsUpToDate, HasAxis, IsRight};
 
-use crate::arguments::{all_same, moved_by, moves_of, starts_anew, views_are_arrays, views_of};
+use crate::arguments::{
+    all_same, any_grown, grown_at_most, is_grown, marks_of, moved_by, moves_of, starts_anew,
+    views_are_arrays, views_of,
+};
 use crate::evaluation::{evaluate, places};
 use crate::patch::patch_of;
-use arrays_core::{Array, Fault, size};
-use change_core::{Meter, Reach, Rule, Tight};
-use index_region::{Delta, IndexBox, Seen};
+use arrays_core::{ApplyFault, Array, Fault, shape_of, size};
+use change_core::{Meter, Reach, Rule, Tight, last_place};
+use index_region::{Delta, IndexBox, Seen, Tail};
 use std::alloc::{AllocError, Global};
 
 /// The change of a node that held an array, where arguments were patched, and what it costs.
@@ -68,7 +74,10 @@ fn change_from<R: Rule>(
     ensures joins { meter.new.joins ≡ meter.old.joins }
 {
     if starts_anew(args, old) {
-        return change_anew(alloc, rule, seen, args, old, meter);
+        return change_anew(alloc, rule, seen, meter);
+    }
+    if any_grown(args) {
+        return change_grown(alloc, rule, seen, args, meter);
     }
     reached(alloc, rule, seen, boxes, meter)
 }
@@ -78,17 +87,12 @@ fn change_anew<R: Rule>(
     alloc: Global,
     rule: &R,
     seen: &[Seen],
-    args: &[(Seen, &Delta)],
-    old: &Result<Array, Fault>,
     meter: &mut Meter,
 ) -> Result<(Delta, u32), AllocError>
-    requires count { length args.now ≡ length (R.model rule.now).selectors }
-    requires seen { seen.now ≡ views args.now }
-    requires some { all_are_same args.now ≡ false }
-    requires anew { is_anew args.now old.now ≡ true }
-    ensures delta { IfOk result (λ r. r.0 ≡ node_delta (R.model rule.now) args.now old.now) }
-    ensures cost { IfOk result (λ r. r.1 ≡ node_cost (R.model rule.now) args.now old.now) }
-    ensures ticks { meter.new.ticks ≤ meter.old.ticks + node_cost (R.model rule.now) args.now old.now }
+    requires { length seen.now ≡ length (R.model rule.now).selectors }
+    ensures delta { IfOk result (λ r. r.0 ≡ Whole (evaluation (R.model rule.now) seen.now)) }
+    ensures cost { IfOk result (λ r. r.1 ≡ form_size ((R.model rule.now).form seen.now)) }
+    ensures ticks { meter.new.ticks ≤ meter.old.ticks + form_size ((R.model rule.now).form seen.now) }
     ensures joins { meter.new.joins ≡ meter.old.joins }
 {
     let whole = evaluate(alloc, rule, seen, meter)?;
@@ -98,6 +102,84 @@ fn change_anew<R: Rule>(
         Err(_) => places(rule, seen),
     };
     Ok((Delta::Whole(whole), cost))
+}
+
+/// The change of a node that held an array, where an argument grew and none is another array, and what it costs.
+fn change_grown<R: Rule>(
+    alloc: Global,
+    rule: &R,
+    seen: &[Seen],
+    args: &[(Seen, &Delta)],
+    meter: &mut Meter,
+) -> Result<(Delta, u32), AllocError>
+    requires count { length args.now ≡ length (R.model rule.now).selectors }
+    requires seen { seen.now ≡ views args.now }
+    ensures delta { IfOk result (λ r. r.0 ≡ grown_delta (R.model rule.now) args.now) }
+    ensures cost { IfOk result (λ r. r.1 ≡ grown_cost (R.model rule.now) args.now) }
+    ensures ticks { meter.new.ticks ≤ meter.old.ticks + grown_cost (R.model rule.now) args.now }
+    ensures joins { meter.new.joins ≡ meter.old.joins }
+{
+    if node_grows(alloc, rule, seen, args)? {
+        tail_of(alloc, rule, seen, meter)
+    } else {
+        change_anew(alloc, rule, seen, meter)
+    }
+}
+
+/// The node grows by one place of its first axis. Up to three arguments are marked without memory.
+fn node_grows<R: Rule>(
+    alloc: Global,
+    rule: &R,
+    seen: &[Seen],
+    args: &[(Seen, &Delta)],
+) -> Result<bool, AllocError>
+    requires count { length args.now ≡ length (R.model rule.now).selectors }
+    requires seen { seen.now ≡ views args.now }
+    ensures { IfOk result (λ b. b ≡ node_grows (R.model rule.now) args.now) }
+{
+    if !grown_at_most(args) {
+        return Ok(false);
+    }
+    match args {
+        [(_, d)] => Ok(rule.grows(seen, &[is_grown(d)])),
+        [(_, d), (_, e)] => Ok(rule.grows(seen, &[is_grown(d), is_grown(e)])),
+        [(_, d), (_, e), (_, f)] => {
+            Ok(rule.grows(seen, &[is_grown(d), is_grown(e), is_grown(f)]))
+        }
+        _ => {
+            let marks = marks_of(alloc, args)?;
+            Ok(rule.grows(seen, &marks))
+        }
+    }
+}
+
+/// The new place of a node that grows, and what it costs: the checks are made again.
+fn tail_of<R: Rule>(
+    alloc: Global,
+    rule: &R,
+    seen: &[Seen],
+    meter: &mut Meter,
+) -> Result<(Delta, u32), AllocError>
+    requires { length seen.now ≡ length (R.model rule.now).selectors }
+    ensures delta { IfOk result (λ r. r.0 ≡ grown_in ((R.model rule.now).form seen.now) ((R.model rule.now).item seen.now)) }
+    ensures cost { IfOk result (λ r. r.1 ≡ grown_size ((R.model rule.now).form seen.now)) }
+    ensures ticks { meter.new.ticks ≤ meter.old.ticks + grown_size ((R.model rule.now).form seen.now) }
+    ensures joins { meter.new.joins ≡ meter.old.joins }
+{
+    let (shape, item_type) = match rule.shape(seen) {
+        Ok(form) => form,
+        Err(kind) => return Ok((Delta::Whole(Err(Fault { kind, origin: None })), 0)),
+    };
+    let Some(region) = last_place(shape.as_slice()) else {
+        let none = Array::filled(alloc, item_type, &shape_of(alloc, &[0]))?;
+        return Ok((Delta::Grown(Tail::of(shape, none)), 0));
+    };
+    let cost = region.size() as u32;
+    match rule.part(alloc, seen, shape.as_slice(), item_type, &region, meter) {
+        Ok(values) => Ok((Delta::Grown(Tail::of(shape, values)), cost)),
+        Err(ApplyFault::Kind(kind)) => Ok((Delta::Whole(Err(Fault { kind, origin: None })), cost)),
+        Err(ApplyFault::NoMemory) => Err(AllocError),
+    }
 }
 
 /// The change of a node, and what it costs. Views and boxes of up to three arguments take no memory.
@@ -175,6 +257,7 @@ pub fn refresh<R: Tight>(
 ) -> Result<Delta, AllocError>
     requires count { length args.now ≡ length (R.model rule.now).selectors }
     requires fit { AllFit (views args.now) (moved args.now) }
+    requires axes { HasAxis args.now }
     ensures delta { IfOk result (λ d. d ≡ node_delta (R.model rule.now) args.now old.now) }
     ensures ticks { meter.new.ticks ≤ meter.old.ticks + node_cost (R.model rule.now) args.now old.now }
     ensures joins { meter.new.joins ≡ meter.old.joins }
@@ -194,6 +277,7 @@ pub fn refresh_with_cost<R: Tight>(
 ) -> Result<(Delta, u32), AllocError>
     requires count { length args.now ≡ length (R.model rule.now).selectors }
     requires fit { AllFit (views args.now) (moved args.now) }
+    requires axes { HasAxis args.now }
     ensures delta { IfOk result (λ r. r.0 ≡ node_delta (R.model rule.now) args.now old.now) }
     ensures cost { IfOk result (λ r. r.1 ≡ node_cost (R.model rule.now) args.now old.now) }
     ensures ticks { meter.new.ticks ≤ meter.old.ticks + node_cost (R.model rule.now) args.now old.now }

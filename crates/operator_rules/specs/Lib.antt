@@ -10,3 +10,6 @@ pub mod ScanLaw
 pub mod OuterProductLaw
 pub mod InnerProductReads
 pub mod InnerProductLaw
+pub mod Growth
+pub mod LinesGrowth
+pub mod OuterProductGrowth

@@ -11,6 +11,7 @@ use Rattle.index_region.proofs.Passing.{limited_gives}
 use Rattle.change_core.specs.Laws.{IsTight, Covered}
 use Rattle.change_core.specs.Sourced.{other}
 use Rattle.change_core.specs.Ways.{front, back}
+use Rattle.change_core.proofs.Growing.{tight_growing}
 use Rattle.change_core.proofs.Sourced.{two_tight}
 use Rattle.change_core.proofs.UsedWays.{front-onto, back-onto, onto_covered, index-take, index-drop}
 use Rattle.operator_fns.specs.OuterProduct.{outer_form, outer_item}
@@ -27,7 +28,7 @@ one_same : (d : ArrayValue) (xs : List Item) (place : List ℕ) → is_index_of 
 one_same d xs place inside read = item_same (other d xs) d place inside inside (cc)
 
 pub outer_tight : (f : Scalar2) → IsTight (outer_rule f)
-outer_tight f = two_tight false outer_form (outer_item f) front_use back_use (record {
+outer_tight f = tight_growing _ _ (two_tight false outer_form (outer_item f) front_use back_use (record {
   blind = λ c d xs ys p q. refl;
   settled = λ c d xs ys g index p q e place read_left read_right.
       let inside = rw (joined_shape c d g e) at place in
@@ -38,4 +39,4 @@ outer_tight f = two_tight false outer_form (outer_item f) front_use back_use (re
       subst (λ (shape : List ℕ). Covered a.shape shape (front (length a.shape) b.shape)) (sym (joined_shape a b g e)) (onto_covered a.shape (a.shape ++ b.shape) _ (front-onto a.shape b.shape));
   covered_right = λ a b g e.
       subst (λ (shape : List ℕ). Covered b.shape shape (back a.shape)) (sym (joined_shape a b g e)) (onto_covered b.shape (a.shape ++ b.shape) _ (back-onto a.shape b.shape));
-})
+}))

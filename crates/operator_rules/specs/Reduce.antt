@@ -7,8 +7,10 @@ use Rattle.index_region.specs.declared.along.Along.{Along}
 use Rattle.index_region.specs.Arguments.{is_scalar}
 use Rattle.index_region.specs.Axes.{axis_at, places_along}
 use Rattle.change_core.specs.RuleModels.{RuleModel, Use}
+use Rattle.change_core.specs.Growth.{growing}
 use Rattle.change_core.specs.Sourced.{one_rule}
 use Rattle.operator_fns.specs.Reduce.{reduce_form, reduce_item}
+use Rattle.operator_rules.specs.Growth.{lines_grow}
 
 -- each item reads the line along an axis (from 0) at its index list, and a scalar is a line of its one item: a changed
 -- box goes to itself without that axis
@@ -22,4 +24,4 @@ abbrev pub reduce_use : Along → List ℕ → ArrayValue → Use
 reduce_use along shape b = line_use (axis_at (length b.shape) along) b
 
 abbrev pub reduce_rule : Scalar2 → Along → RuleModel
-reduce_rule f along = one_rule (reduce_form along) (reduce_item f along) (reduce_use along)
+reduce_rule f along = growing (one_rule (reduce_form along) (reduce_item f along) (reduce_use along)) (lines_grow along)

@@ -12,6 +12,7 @@ use Rattle.index_region.specs.Axes.{axis_at, places_along}
 use Rattle.index_region.specs.Boxes.{Interval, fits, is_within}
 use Rattle.change_core.specs.Laws.{IsTight, Covered, Each}
 use Rattle.change_core.specs.Sourced.{other}
+use Rattle.change_core.proofs.Growing.{tight_growing}
 use Rattle.change_core.proofs.Sourced.{one_tight}
 use Rattle.change_core.proofs.UsedWays.{lines-covered}
 use Rattle.operator_fns.specs.Reduce.{reduce_form, reduce_item}
@@ -64,7 +65,7 @@ line_covered b shape axis shaped there region index fit place = elim (cases_Bool
 ]
 
 pub reduce_tight : (f : Scalar2) (along : Along) → IsTight (reduce_rule f along)
-reduce_tight f along = one_tight (reduce_form along) (reduce_item f along) (reduce_use along) (record {
+reduce_tight f along = tight_growing _ _ (one_tight (reduce_form along) (reduce_item f along) (reduce_use along) (record {
   blind = λ d xs n. refl;
   settled = λ d xs g index n e place read.
       let facts = reduce_facts along d g.shape g.item_type e in
@@ -72,4 +73,4 @@ reduce_tight f along = one_tight (reduce_form along) (reduce_item f along) (redu
   covered = λ b g e.
       let facts = reduce_facts along b g.shape g.item_type e in
       line_covered b g.shape (axis_at (length b.shape) along) facts.shaped (λ some. axis_below along (length b.shape) some facts.on_axis);
-})
+}))

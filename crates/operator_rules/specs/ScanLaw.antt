@@ -13,6 +13,7 @@ use Rattle.index_region.specs.declared.along.Along.{Along}
 use Rattle.index_region.specs.Axes.{axis_at, places_along}
 use Rattle.change_core.specs.Laws.{IsTight, Covered}
 use Rattle.change_core.specs.Sourced.{other}
+use Rattle.change_core.proofs.Growing.{tight_growing}
 use Rattle.change_core.proofs.Sourced.{one_tight}
 use Rattle.change_core.proofs.UsedWays.{Follows, along-covered, each_range}
 use Rattle.operator_fns.specs.Scan.{scan_form, scan_item}
@@ -92,10 +93,10 @@ run_covered b shape axis shaped = along-covered b.shape shape axis _ _ (λ index
     each_range (Follows (λ s. (s.0, places_along b.shape axis)) (get_or index axis 0)) 1 (get_or index axis 1) (λ j low below s first l u. (omega arith, omega (arith, on_axis.high))))
 
 pub scan_tight : (f : Scalar2) (along : Along) → IsTight (scan_rule f along)
-scan_tight f along = one_tight (scan_form along) (scan_item f along) (scan_use along) (record {
+scan_tight f along = tight_growing _ _ (one_tight (scan_form along) (scan_item f along) (scan_use along) (record {
   blind = λ d xs n. rw n refl;
   settled = λ d xs g index n e place read.
       let facts = scan_facts along d g.shape g.item_type e in
       ap (fold_right f) (run_same d xs (axis_at (length d.shape) along) index (λ some. axis_below along (length d.shape) some facts.on_axis) (rw (facts.shaped) at place) read);
   covered = λ b g e. run_covered b g.shape (axis_at (length b.shape) along) (scan_facts along b g.shape g.item_type e).shaped;
-})
+}))

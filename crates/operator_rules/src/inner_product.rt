@@ -5,6 +5,7 @@ ghost use Rattle.std.proofs.Common.{rules};
 ghost use Rattle.change_core.specs.Sourced.{uses_of_two};
 ghost use Rattle.operator_rules.specs.InnerProduct.{row_use, column_use};
 ghost use Rattle.operator_rules.specs.InnerProductLaw.{inner_tight};
+ghost use Rattle.change_core.proofs.Growing.{never_grows};
 
 use crate::ruled::Ruled;
 use arrays_core::{ApplyFault, Array};
@@ -34,6 +35,10 @@ impl Announced for Ruled<Inner> {
     ghost selectors = { λ _. false ∷ false ∷ [] };
 
     ghost uses = { λ _ shape args. uses_of_two row_use column_use shape args };
+
+    fn grows(&self, _args: &[Seen], _grown: &[bool]) -> bool {
+        false
+    }
 
     fn selects(&self, _which: usize) -> bool {
         false
@@ -65,4 +70,6 @@ impl Announced for Ruled<Inner> {
 
 impl Lawful for Ruled<Inner> {
     ghost tight = { λ i. inner_tight i.function.fold i.function.each };
+
+    ghost growing = { λ _. never_grows _ };
 }

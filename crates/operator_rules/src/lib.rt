@@ -2,6 +2,7 @@
 #![tactic(auto)]
 
 mod inner_product;
+mod lines;
 mod outer_product;
 mod reduce;
 mod ruled;

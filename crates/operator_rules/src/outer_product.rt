@@ -5,6 +5,8 @@ ghost use Rattle.std.proofs.Common.{rules};
 ghost use Rattle.change_core.specs.Sourced.{uses_of_two};
 ghost use Rattle.operator_rules.specs.OuterProduct.{front_use, back_use};
 ghost use Rattle.operator_rules.specs.OuterProductLaw.{outer_tight};
+ghost use Rattle.operator_rules.specs.OuterProductGrowth.{outer_growing};
+ghost use Rattle.operator_rules.specs.Growth.{outer_grows};
 
 use crate::ruled::Ruled;
 use arrays_core::{ApplyFault, Array};
@@ -17,6 +19,12 @@ impl Announced for Ruled<Outer> {
     ghost selectors = { λ _. false ∷ false ∷ [] };
 
     ghost uses = { λ _ shape args. uses_of_two front_use back_use shape args };
+
+    ghost growth = { λ _. outer_grows };
+
+    fn grows(&self, _args: &[Seen], grown: &[bool]) -> bool {
+        grown[0] && !grown[1]
+    }
 
     fn selects(&self, _which: usize) -> bool {
         false
@@ -46,4 +54,6 @@ impl Announced for Ruled<Outer> {
 
 impl Lawful for Ruled<Outer> {
     ghost tight = { λ o. outer_tight o.function.function };
+
+    ghost growing = { λ o. outer_growing o.function.function };
 }

@@ -7,7 +7,10 @@ ghost use Rattle.index_region.specs.Axes.{places_along};
 ghost use Rattle.change_core.specs.Sourced.{uses_of_one};
 ghost use Rattle.operator_rules.specs.Scan.{scan_use};
 ghost use Rattle.operator_rules.specs.ScanLaw.{scan_tight};
+ghost use Rattle.operator_rules.specs.LinesGrowth.{scan_growing};
+ghost use Rattle.operator_rules.specs.Growth.{lines_grow};
 
+use crate::lines::is_along_a_later_axis;
 use crate::ruled::Ruled;
 use arrays_core::{ApplyFault, Array};
 use change_core::{Announced, Lawful};
@@ -32,6 +35,12 @@ impl Announced for Ruled<Scan> {
     ghost selectors = { λ _. false ∷ [] };
 
     ghost uses = { λ r shape args. uses_of_one (scan_use r.function.along) shape args };
+
+    ghost growth = { λ r. lines_grow r.function.along };
+
+    fn grows(&self, args: &[Seen], grown: &[bool]) -> bool {
+        grown[0] && is_along_a_later_axis(&args[0], self.function.along)
+    }
 
     fn selects(&self, _which: usize) -> bool {
         false
@@ -58,4 +67,6 @@ impl Announced for Ruled<Scan> {
 
 impl Lawful for Ruled<Scan> {
     ghost tight = { λ s. scan_tight s.function.function s.function.along };
+
+    ghost growing = { λ s. scan_growing s.function.function s.function.along };
 }

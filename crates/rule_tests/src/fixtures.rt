@@ -1,13 +1,15 @@
 //! Arrays, patches, and what a rule reaches where a box of one of them changed.
 
-ghost use Rattle.std.specs.Prelude.{◌≡◌, ◌∷◌, [], IfSome, IsTrue, Some, None, length};
+ghost use Rattle.std.specs.Prelude.{◌≡◌, ◌<◌, ◌∷◌, [], IfSome, IsTrue, Some, None, length};
 ghost use Rattle.change_core.specs.Reaches.{AllFit};
 ghost use Rattle.index_region.specs.Boxes.{fits};
+ghost use Rattle.arrays_core.specs.Growth.{one_longer as longer_by_one};
+ghost use Rattle.index_region.specs.Tails.{FitsTail};
 ghost use Rattle.index_region.specs.Patches.{FitsPatch};
 
-use arrays_core::{Array, ItemType, is_within_limits, shape_of};
+use arrays_core::{Array, ItemType, Shape, is_within_limits, shape_of, size};
 use change_core::{Reach, Rule};
-use index_region::{IndexBox, Patch, Seen};
+use index_region::{IndexBox, Patch, Seen, Tail};
 use std::alloc::Global;
 
 /// An array of zeros.
@@ -21,6 +23,44 @@ pub(crate) fn zeros(alloc: Global, axes: &[u32]) -> Option<Array> {
 /// The vector of these numbers.
 pub(crate) fn vector(alloc: Global, numbers: &[i64]) -> Option<Array> {
     Array::vector(alloc, numbers.to_vec(alloc).ok()?).ok()
+}
+
+/// The array of these numbers, if they are as many as its places.
+pub(crate) fn array_of(alloc: Global, axes: &[u32], numbers: &[i64]) -> Option<Array> {
+    if !is_within_limits(axes) || size(axes) as usize != numbers.len() {
+        return None;
+    }
+    let numbers = numbers.to_vec(alloc).ok()?;
+    Some(Array::from_numbers(&shape_of(alloc, axes), numbers))
+}
+
+/// The shape with one more place of its first axis, if it has one.
+fn one_longer(shape: &Shape) -> Option<Shape>
+    ensures longer { IfSome result (λ s. s.items ≡ longer_by_one shape.now.items) }
+    ensures inline { IfSome result (λ s. s.capacity ≡ 4) }
+    ensures axis { IfSome result (λ s. 0 < length shape.now.items) }
+{
+    let mut longer = shape_of(*shape.allocator(), shape.as_slice());
+    let length = longer.first()?.checked_add(1)?;
+    longer[0] = length;
+    Some(longer)
+}
+
+/// What an array of numbers grows by, if these are the items of one more place of its first axis.
+pub(crate) fn tail_of(alloc: Global, array: &Array, numbers: &[i64]) -> Option<Tail>
+    ensures { IfSome result (λ t. FitsTail array.now t) }
+{
+    let shape = one_longer(array.shape())?;
+    if array.item_type() != ItemType::Nums || !is_within_limits(shape.as_slice()) {
+        return None;
+    }
+    let others = &array.shape().as_slice()[1..];
+    if !is_within_limits(others) || size(others) as usize != numbers.len() {
+        return None;
+    }
+    let values = Array::vector(alloc, numbers.to_vec(alloc).ok()?).ok()?;
+    let _typed = values.item_type();
+    Some(Tail::of(shape, values))
 }
 
 /// The patch of a box of an array by these numbers.

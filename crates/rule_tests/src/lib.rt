@@ -4,6 +4,8 @@
 #[cfg(test)]
 mod fixtures;
 #[cfg(test)]
+mod growth_tests;
+#[cfg(test)]
 mod line_sums_tests;
 #[cfg(test)]
 mod reach_tests;

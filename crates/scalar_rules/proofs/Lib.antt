@@ -1,2 +1,3 @@
 pub mod ScalarAnswers
 mod ScalarCases
+mod GrowthExamples

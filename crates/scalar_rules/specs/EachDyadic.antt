@@ -11,7 +11,9 @@ use Rattle.scalar_fns.specs.ScalarExtension.{common, extended, for_shape}
 use Rattle.index_region.specs.Boxes.{whole_of}
 use Rattle.index_region.specs.Checks.{Form, form_of}
 use Rattle.change_core.specs.RuleModels.{RuleModel, Use}
+use Rattle.change_core.specs.Growth.{growing}
 use Rattle.change_core.specs.Sourced.{Spread, two_rule}
+use Rattle.scalar_rules.specs.Growth.{each_dyadic_grows}
 
 -- numbers in the common shape, where there is one
 abbrev pub each_dyadic_form : ArrayValue → ArrayValue → Result Form Kind
@@ -33,4 +35,4 @@ extended_use shape a = record {
 }
 
 abbrev pub each_dyadic_rule : Scalar2 → RuleModel
-each_dyadic_rule f = two_rule false each_dyadic_form (each_dyadic_item f) (λ shape a b. extended_use shape a) (λ shape a b. extended_use shape b)
+each_dyadic_rule f = growing (two_rule false each_dyadic_form (each_dyadic_item f) (λ shape a b. extended_use shape a) (λ shape a b. extended_use shape b)) each_dyadic_grows

@@ -16,6 +16,7 @@ use Rattle.index_region.specs.Boxes.{Interval, is_within, whole_of}
 use Rattle.index_region.specs.Checks.{Form, form_of}
 use Rattle.change_core.specs.Laws.{Covered, IsTight}
 use Rattle.change_core.specs.Sourced.{other}
+use Rattle.change_core.proofs.Growing.{tight_growing}
 use Rattle.change_core.proofs.Sourced.{two_tight}
 use Rattle.change_core.proofs.UsedWays.{within-whole}
 use Rattle.scalar_rules.specs.EachDyadic.{each_dyadic_form, each_dyadic_item, each_dyadic_rule, extended_use}
@@ -89,7 +90,7 @@ common_is a b f h = by (common a.shape b.shape) h
     by (Err k) h = let no : ⊥ = cc in absurd no
 
 pub each_dyadic_tight : (f : Scalar2) → IsTight (each_dyadic_rule f)
-each_dyadic_tight f = two_tight false each_dyadic_form (each_dyadic_item f) _ _ (record {
+each_dyadic_tight f = tight_growing _ _ (two_tight false each_dyadic_form (each_dyadic_item f) _ _ (record {
   blind = λ c d xs ys p q. refl;
   settled = λ c d xs ys g index p q e place left right.
       let fits = common_extends c.shape d.shape g.shape (common_is c d g e) in
@@ -98,4 +99,4 @@ each_dyadic_tight f = two_tight false each_dyadic_form (each_dyadic_item f) _ _ 
       λ i. dyadic_on_items f (first i) (second i);
   covered_left = λ a b g e. extended_covered a g.shape;
   covered_right = λ a b g e. extended_covered b g.shape;
-})
+}))

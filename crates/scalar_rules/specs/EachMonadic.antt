@@ -9,7 +9,9 @@ use Rattle.scalar_fns.specs.Items.{monadic_on_item}
 use Rattle.index_region.specs.Checks.{Form, form_of}
 use Rattle.change_core.specs.RuleModels.{RuleModel}
 use Rattle.change_core.specs.Sourced.{one_rule}
+use Rattle.change_core.specs.Growth.{growing}
 use Rattle.change_core.specs.Ways.{alike}
+use Rattle.scalar_rules.specs.Growth.{each_monadic_grows}
 
 -- no check: numbers in the shape of the argument
 abbrev pub each_monadic_form : ArrayValue → Result Form Kind
@@ -21,4 +23,4 @@ each_monadic_item f b index = monadic_on_item f (item_of b index)
 
 -- each item reads its own place, and so the box stays
 abbrev pub each_monadic_rule : Scalar1 → RuleModel
-each_monadic_rule f = one_rule each_monadic_form (each_monadic_item f) (λ shape b. alike)
+each_monadic_rule f = growing (one_rule each_monadic_form (each_monadic_item f) (λ shape b. alike)) each_monadic_grows

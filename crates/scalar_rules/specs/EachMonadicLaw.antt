@@ -10,6 +10,7 @@ use Rattle.scalar_fns.specs.Items.{monadic_on_item}
 use Rattle.index_region.specs.Checks.{Form, form_of}
 use Rattle.change_core.specs.Laws.{IsTight}
 use Rattle.change_core.specs.Sourced.{other}
+use Rattle.change_core.proofs.Growing.{tight_growing}
 use Rattle.change_core.proofs.Sourced.{one_tight}
 use Rattle.change_core.proofs.UsedWays.{alike-covered}
 use Rattle.scalar_rules.specs.EachMonadic.{each_monadic_form, each_monadic_item, each_monadic_rule}
@@ -28,11 +29,11 @@ item_same a c index in_a in_c read =
     some_same _ _ (sym (there a index in_a) ∙ alike ∙ there c index in_c)
 
 pub each_monadic_tight : (f : Scalar1) → IsTight (each_monadic_rule f)
-each_monadic_tight f = one_tight each_monadic_form (each_monadic_item f) _ (record {
+each_monadic_tight f = tight_growing _ _ (one_tight each_monadic_form (each_monadic_item f) _ (record {
   blind = λ d xs n. refl;
   settled = λ d xs g index n e place read.
       let same : form_of d.shape Nums ≡ g = cc in
       let inside : is_index_of d.shape index ≡ true = ap (λ (x : Form). is_index_of x.shape index) same ∙ place in
       ap (monadic_on_item f) (item_same (other d xs) d index inside inside read);
   covered = λ b g e. alike-covered b.shape g.shape;
-})
+}))

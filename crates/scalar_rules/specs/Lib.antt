@@ -4,3 +4,6 @@ pub mod EachDyadic
 -- The laws that the impls cite.
 pub mod EachMonadicLaw
 pub mod EachDyadicLaw
+pub mod Growth
+pub mod EachMonadicGrowth
+pub mod EachDyadicGrowth

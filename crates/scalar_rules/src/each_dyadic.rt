@@ -7,6 +7,8 @@ ghost use Rattle.scalar_fns.specs.ScalarExtension.{extended};
 ghost use Rattle.index_region.specs.ArgumentLists.{of_two_arguments};
 ghost use Rattle.scalar_rules.specs.EachDyadic.{each_dyadic_form, each_dyadic_item, each_dyadic_rule};
 ghost use Rattle.scalar_rules.specs.EachDyadicLaw.{each_dyadic_tight};
+ghost use Rattle.scalar_rules.specs.EachDyadicGrowth.{each_dyadic_growing};
+ghost use Rattle.scalar_rules.specs.Growth.{is_extended_to};
 
 use arrays_core::{ApplyFault, Array, Item, ItemType, Kind, Shape, position};
 use change_core::{Announced, Lawful};
@@ -30,6 +32,13 @@ fn extended_item(array: &Seen, index: &[u32]) -> Item
         return array.item(1);
     }
     array.item(position(array.shape(), index))
+}
+
+/// The other array has one item and no greater rank.
+fn is_extended_to(array: &Seen, other: &Seen) -> bool
+    ensures { result ≡ is_extended_to array.now other.now }
+{
+    other.places() == 1 && other.shape().len() <= array.shape().len()
 }
 
 impl Primitive for EachDyadic {
@@ -59,6 +68,18 @@ impl Announced for EachDyadic {
     ghost selectors = { λ e. (each_dyadic_rule e.function).selectors };
 
     ghost uses = { λ e. (each_dyadic_rule e.function).uses };
+
+    ghost growth = { λ e. (each_dyadic_rule e.function).grows };
+
+    fn grows(&self, args: &[Seen], grown: &[bool]) -> bool {
+        let (left, right) = (&args[0], &args[1]);
+        match (grown[0], grown[1]) {
+            (true, false) => is_extended_to(left, right),
+            (false, true) => is_extended_to(right, left),
+            (true, true) => left.shape().as_slice() == right.shape().as_slice(),
+            (false, false) => false,
+        }
+    }
 
     fn selects(&self, _which: usize) -> bool {
         false
@@ -91,4 +112,6 @@ impl Announced for EachDyadic {
 
 impl Lawful for EachDyadic {
     ghost tight = { λ e. each_dyadic_tight e.function };
+
+    ghost growing = { λ e. each_dyadic_growing e.function };
 }

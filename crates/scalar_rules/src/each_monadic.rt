@@ -5,6 +5,7 @@ ghost use Rattle.std.proofs.Common.{rules};
 ghost use Rattle.index_region.specs.ArgumentLists.{of_one_argument};
 ghost use Rattle.scalar_rules.specs.EachMonadic.{each_monadic_form, each_monadic_item, each_monadic_rule};
 ghost use Rattle.scalar_rules.specs.EachMonadicLaw.{each_monadic_tight};
+ghost use Rattle.scalar_rules.specs.EachMonadicGrowth.{each_monadic_growing};
 
 use arrays_core::{ApplyFault, Array, Item, ItemType, Kind, Shape, position, shape_of};
 use change_core::{Announced, Lawful};
@@ -45,6 +46,12 @@ impl Announced for EachMonadic {
 
     ghost uses = { λ e. (each_monadic_rule e.function).uses };
 
+    ghost growth = { λ e. (each_monadic_rule e.function).grows };
+
+    fn grows(&self, _args: &[Seen], grown: &[bool]) -> bool {
+        grown[0]
+    }
+
     fn selects(&self, _which: usize) -> bool {
         false
     }
@@ -71,4 +78,6 @@ impl Announced for EachMonadic {
 
 impl Lawful for EachMonadic {
     ghost tight = { λ e. each_monadic_tight e.function };
+
+    ghost growing = { λ e. each_monadic_growing e.function };
 }

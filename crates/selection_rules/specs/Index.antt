@@ -9,6 +9,7 @@ use Rattle.change_core.specs.RuleModels.{Use, RuleModel}
 use Rattle.change_core.specs.Places.{lies_in}
 use Rattle.change_core.specs.Sourced.{Spread, left_used}
 use Rattle.selection_fns.specs.Index.{Position, written_positions, of_array_and_positions, index_form, index_source, index_item}
+use Rattle.selection_rules.specs.Growth.{index_grows}
 
 -- the place of an axis that an index names
 abbrev pub place_named : Item → ℕ
@@ -72,4 +73,5 @@ index_rule written = record {
   form = λ args. of_array_and_positions written index_form args;
   item = λ args index. of_array_and_positions written (λ a positions. index_item a positions index) args;
   uses = λ shape args. index_uses written shape args;
+  grows = index_grows written;
 }

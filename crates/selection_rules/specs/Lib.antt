@@ -19,3 +19,5 @@ pub mod DecodeLaw
 pub mod ReplicateLaw
 pub mod LeastBoxes
 pub mod IndexLaw
+pub mod Growth
+pub mod IndexGrowth

@@ -2,6 +2,7 @@
 
 ghost use Rattle.std.specs.Prelude.{◌≡◌};
 ghost use Rattle.std.proofs.Common.{rules};
+ghost use Rattle.change_core.proofs.Growing.{never_grows};
 ghost use Rattle.selection_rules.specs.Decode.{decode_rule};
 ghost use Rattle.selection_rules.specs.DecodeLaw.{decode_tight};
 
@@ -16,6 +17,10 @@ impl Announced for Ruled<Decode> {
     ghost selectors = { λ _. decode_rule.selectors };
 
     ghost uses = { λ _ shape args. decode_rule.uses shape args };
+
+    fn grows(&self, _args: &[Seen], _grown: &[bool]) -> bool {
+        false
+    }
 
     fn selects(&self, _which: usize) -> bool {
         false
@@ -46,4 +51,6 @@ impl Announced for Ruled<Decode> {
 
 impl Lawful for Ruled<Decode> {
     ghost tight = { λ _. decode_tight };
+
+    ghost growing = { λ _. never_grows _ };
 }

@@ -2,6 +2,7 @@
 
 ghost use Rattle.std.specs.Prelude.{◌≡◌};
 ghost use Rattle.std.proofs.Common.{rules};
+ghost use Rattle.change_core.proofs.Growing.{never_grows};
 ghost use Rattle.selection_rules.specs.Encode.{encode_rule};
 ghost use Rattle.selection_rules.specs.EncodeLaw.{encode_tight};
 
@@ -16,6 +17,10 @@ impl Announced for Ruled<Encode> {
     ghost selectors = { λ _. encode_rule.selectors };
 
     ghost uses = { λ _ shape args. encode_rule.uses shape args };
+
+    fn grows(&self, _args: &[Seen], _grown: &[bool]) -> bool {
+        false
+    }
 
     fn selects(&self, _which: usize) -> bool {
         false
@@ -48,4 +53,6 @@ impl Announced for Ruled<Encode> {
 
 impl Lawful for Ruled<Encode> {
     ghost tight = { λ _. encode_tight };
+
+    ghost growing = { λ _. never_grows _ };
 }

@@ -1,12 +1,15 @@
 //! Indexed reference as a change rule.
 
-ghost use Rattle.std.specs.Prelude.{◌≡◌, ◌≤◌, ◌<◌, IfSome, Some, length, false, unsigned_abs};
+ghost use Rattle.std.specs.Prelude.{◌≡◌, ◌≤◌, ◌<◌, IfSome, Some, length, false, not, unsigned_abs};
+ghost use Rattle.std.specs.List.{list_all};
 ghost use Rattle.arrays_core.specs.Limits.{most_axes};
 ghost use Rattle.index_region.specs.Boxes.{join_boxes};
 ghost use Rattle.change_core.specs.Places.{lies_in};
 ghost use Rattle.change_core.specs.RuleModels.{FitsAt, box_at};
 ghost use Rattle.selection_fns.specs.Index.{count_written, written_positions};
 ghost use Rattle.selection_rules.specs.Index.{index_rule, position_box as box_in_position, position_uses, indexed_box as box_in_result};
+ghost use Rattle.selection_rules.specs.Growth.{first_alone as is_first_alone, first_empty as is_first_empty, index_grows};
+ghost use Rattle.selection_rules.specs.IndexGrowth.{index_growing};
 ghost use Rattle.selection_rules.specs.PositionAxes.{count_axes, axes_before as axes_before_position};
 ghost use Rattle.selection_rules.specs.IndexLaw.{index_tight, length-selectors};
 
@@ -118,10 +121,40 @@ fn position_box(
         .and_whole(&shape[after..])
 }
 
+/// None is marked.
+fn none_marked(marks: &[bool]) -> bool
+    ensures { result ≡ list_all (λ m. not m) marks.now }
+{
+    marks.iter().all(|mark| !*mark)
+}
+
+/// The first argument is marked, and no other.
+fn first_alone(marks: &[bool]) -> bool
+    ensures { result ≡ is_first_alone marks.now }
+{
+    match marks {
+        [true, others @ ..] => none_marked(others),
+        _ => false,
+    }
+}
+
+/// The first position is empty.
+fn first_empty(written: &[bool]) -> bool
+    ensures { result ≡ is_first_empty written.now }
+{
+    matches!(written, [false, ..])
+}
+
 impl<'w> Announced for Ruled<Index<'w>> {
     ghost selectors = { λ r. (index_rule r.function.written.now).selectors };
 
     ghost uses = { λ r shape args. (index_rule r.function.written.now).uses shape args };
+
+    ghost growth = { λ r. index_grows r.function.written.now };
+
+    fn grows(&self, args: &[Seen], grown: &[bool]) -> bool {
+        first_alone(grown) && first_empty(self.function.written) && args[0].shape().len() >= 2
+    }
 
     fn selects(&self, _which: usize) -> bool {
         false
@@ -151,4 +184,6 @@ impl<'w> Announced for Ruled<Index<'w>> {
 
 impl<'w> Lawful for Ruled<Index<'w>> {
     ghost tight = { λ r. index_tight r.function.written.now };
+
+    ghost growing = { λ r. index_growing r.function.written.now };
 }

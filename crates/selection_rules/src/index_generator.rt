@@ -2,6 +2,7 @@
 
 ghost use Rattle.std.specs.Prelude.{◌≡◌};
 ghost use Rattle.std.proofs.Common.{rules};
+ghost use Rattle.change_core.proofs.Growing.{never_grows};
 ghost use Rattle.selection_rules.specs.IndexGenerator.{generator_rule};
 ghost use Rattle.selection_rules.specs.IndexGeneratorLaw.{generator_tight};
 
@@ -16,6 +17,10 @@ impl Announced for Ruled<IndexGenerator> {
     ghost selectors = { λ _. generator_rule.selectors };
 
     ghost uses = { λ _ shape args. generator_rule.uses shape args };
+
+    fn grows(&self, _args: &[Seen], _grown: &[bool]) -> bool {
+        false
+    }
 
     fn selects(&self, which: usize) -> bool {
         which == 0
@@ -40,4 +45,6 @@ impl Announced for Ruled<IndexGenerator> {
 
 impl Lawful for Ruled<IndexGenerator> {
     ghost tight = { λ _. generator_tight };
+
+    ghost growing = { λ _. never_grows _ };
 }

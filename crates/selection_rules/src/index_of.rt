@@ -2,6 +2,7 @@
 
 ghost use Rattle.std.specs.Prelude.{◌≡◌};
 ghost use Rattle.std.proofs.Common.{rules};
+ghost use Rattle.change_core.proofs.Growing.{never_grows};
 ghost use Rattle.selection_rules.specs.IndexOf.{index_of_rule};
 ghost use Rattle.selection_rules.specs.IndexOfLaw.{index_of_tight};
 
@@ -16,6 +17,10 @@ impl Announced for Ruled<IndexOf> {
     ghost selectors = { λ _. index_of_rule.selectors };
 
     ghost uses = { λ _ shape args. index_of_rule.uses shape args };
+
+    fn grows(&self, _args: &[Seen], _grown: &[bool]) -> bool {
+        false
+    }
 
     fn selects(&self, _which: usize) -> bool {
         false
@@ -43,4 +48,6 @@ impl Announced for Ruled<IndexOf> {
 
 impl Lawful for Ruled<IndexOf> {
     ghost tight = { λ _. index_of_tight };
+
+    ghost growing = { λ _. never_grows _ };
 }

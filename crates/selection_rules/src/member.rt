@@ -2,6 +2,7 @@
 
 ghost use Rattle.std.specs.Prelude.{◌≡◌};
 ghost use Rattle.std.proofs.Common.{rules};
+ghost use Rattle.change_core.proofs.Growing.{never_grows};
 ghost use Rattle.selection_rules.specs.Member.{member_rule};
 ghost use Rattle.selection_rules.specs.MemberLaw.{member_tight};
 
@@ -16,6 +17,10 @@ impl Announced for Ruled<Member> {
     ghost selectors = { λ _. member_rule.selectors };
 
     ghost uses = { λ _ shape args. member_rule.uses shape args };
+
+    fn grows(&self, _args: &[Seen], _grown: &[bool]) -> bool {
+        false
+    }
 
     fn selects(&self, _which: usize) -> bool {
         false
@@ -43,4 +48,6 @@ impl Announced for Ruled<Member> {
 
 impl Lawful for Ruled<Member> {
     ghost tight = { λ _. member_tight };
+
+    ghost growing = { λ _. never_grows _ };
 }

@@ -7,6 +7,7 @@ ghost use Rattle.index_region.specs.Arguments.{numbers};
 ghost use Rattle.index_region.specs.Boxes.{fits};
 ghost use Rattle.change_core.specs.RuleModels.{HasShape};
 ghost use Rattle.selection_fns.specs.Replicate.{times, replicate_form};
+ghost use Rattle.change_core.proofs.Growing.{never_grows};
 ghost use Rattle.selection_rules.specs.Replicate.{replicate_rule, replicate_box, copies_before as copies_of_first, copied_interval as interval_of_copies};
 ghost use Rattle.selection_rules.specs.ReplicateLaw.{replicate_tight};
 
@@ -98,6 +99,10 @@ impl Announced for Ruled<Replicate> {
 
     ghost uses = { λ r shape args. (replicate_rule r.function.along).uses shape args };
 
+    fn grows(&self, _args: &[Seen], _grown: &[bool]) -> bool {
+        false
+    }
+
     fn selects(&self, which: usize) -> bool {
         which == 0
     }
@@ -124,4 +129,6 @@ impl Announced for Ruled<Replicate> {
 
 impl Lawful for Ruled<Replicate> {
     ghost tight = { λ r. replicate_tight r.function.along };
+
+    ghost growing = { λ _. never_grows _ };
 }

@@ -2,6 +2,7 @@
 
 ghost use Rattle.std.specs.Prelude.{◌≡◌};
 ghost use Rattle.std.proofs.Common.{rules};
+ghost use Rattle.change_core.proofs.Growing.{never_grows};
 ghost use Rattle.selection_rules.specs.Shape.{shape_rule};
 ghost use Rattle.selection_rules.specs.ShapeLaw.{shape_tight};
 
@@ -16,6 +17,10 @@ impl Announced for Ruled<ShapeOf> {
     ghost selectors = { λ _. shape_rule.selectors };
 
     ghost uses = { λ _ shape args. shape_rule.uses shape args };
+
+    fn grows(&self, _args: &[Seen], _grown: &[bool]) -> bool {
+        false
+    }
 
     fn selects(&self, _which: usize) -> bool {
         false
@@ -40,4 +45,6 @@ impl Announced for Ruled<ShapeOf> {
 
 impl Lawful for Ruled<ShapeOf> {
     ghost tight = { λ _. shape_tight };
+
+    ghost growing = { λ _. never_grows _ };
 }

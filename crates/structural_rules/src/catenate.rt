@@ -4,6 +4,7 @@ ghost use Rattle.std.specs.Prelude.{◌≡◌, ◌+◌, ◌≤◌, ◌<◌, Some
 ghost use Rattle.std.proofs.Common.{rules};
 ghost use Rattle.index_region.specs.Boxes.{fits};
 ghost use Rattle.structural_fns.specs.Catenate.{joined_places as places_joined};
+ghost use Rattle.change_core.proofs.Growing.{never_grows};
 ghost use Rattle.structural_rules.specs.Catenate.{side_box as box_of_side, catenate_rule};
 ghost use Rattle.structural_rules.specs.CatenateLaw.{catenate_tight};
 ghost use Rattle.structural_rules.specs.JoinedAxes.{IsSide};
@@ -62,6 +63,10 @@ impl Announced for Ruled<Catenate> {
 
     ghost uses = { λ r. (catenate_rule r.function.along).uses };
 
+    fn grows(&self, _args: &[Seen], _grown: &[bool]) -> bool {
+        false
+    }
+
     fn selects(&self, _which: usize) -> bool {
         false
     }
@@ -91,4 +96,6 @@ impl Announced for Ruled<Catenate> {
 
 impl Lawful for Ruled<Catenate> {
     ghost tight = { λ r. catenate_tight r.function.along };
+
+    ghost growing = { λ _. never_grows _ };
 }

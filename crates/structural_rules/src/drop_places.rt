@@ -4,6 +4,7 @@ ghost use Rattle.std.specs.Prelude.{◌≡◌, ◌≤◌, ℕ, length};
 ghost use Rattle.std.proofs.Common.{rules};
 ghost use Rattle.index_region.specs.Arguments.{numbers};
 ghost use Rattle.change_core.specs.Ways.{images};
+ghost use Rattle.change_core.proofs.Growing.{never_grows};
 ghost use Rattle.structural_rules.specs.DropLaw.{drop_tight};
 ghost use Rattle.structural_rules.specs.Drop.{kept, kept_axes, drop_rule};
 
@@ -51,6 +52,10 @@ impl Announced for Ruled<DropPlaces> {
 
     ghost uses = { λ _. drop_rule.uses };
 
+    fn grows(&self, _args: &[Seen], _grown: &[bool]) -> bool {
+        false
+    }
+
     fn selects(&self, which: usize) -> bool {
         which == 0
     }
@@ -80,4 +85,6 @@ impl Announced for Ruled<DropPlaces> {
 
 impl Lawful for Ruled<DropPlaces> {
     ghost tight = { λ _. drop_tight };
+
+    ghost growing = { λ _. never_grows _ };
 }

@@ -4,6 +4,7 @@ ghost use Rattle.std.specs.Prelude.{◌≡◌, ◌≤◌, ◌<◌, length, get_o
 ghost use Rattle.std.proofs.Common.{rules};
 ghost use Rattle.arrays_core.specs.Limits.{most_axes};
 ghost use Rattle.change_core.specs.Ways.{meet_at as meet_on_axis, meets as meets_on_axes};
+ghost use Rattle.change_core.proofs.Growing.{never_grows};
 ghost use Rattle.structural_rules.specs.DyadicTranspose.{axes_from_zero, transpose_by_rule};
 ghost use Rattle.structural_rules.specs.DyadicTransposeLaw.{transpose_by_tight};
 
@@ -62,6 +63,10 @@ impl Announced for Ruled<DyadicTranspose> {
 
     ghost uses = { λ _. transpose_by_rule.uses };
 
+    fn grows(&self, _args: &[Seen], _grown: &[bool]) -> bool {
+        false
+    }
+
     fn selects(&self, which: usize) -> bool {
         which == 0
     }
@@ -90,4 +95,6 @@ impl Announced for Ruled<DyadicTranspose> {
 
 impl Lawful for Ruled<DyadicTranspose> {
     ghost tight = { λ _. transpose_by_tight };
+
+    ghost growing = { λ _. never_grows _ };
 }

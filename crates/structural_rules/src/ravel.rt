@@ -1,6 +1,7 @@
 //! Ravel as a rule.
 
 ghost use Rattle.std.proofs.Common.{rules};
+ghost use Rattle.change_core.proofs.Growing.{never_grows};
 ghost use Rattle.structural_rules.specs.RavelLaw.{ravel_tight};
 ghost use Rattle.structural_rules.specs.Ravel.{ravel_rule};
 
@@ -16,6 +17,10 @@ impl Announced for Ruled<Ravel> {
     ghost selectors = { λ _. ravel_rule.selectors };
 
     ghost uses = { λ _. ravel_rule.uses };
+
+    fn grows(&self, _args: &[Seen], _grown: &[bool]) -> bool {
+        false
+    }
 
     fn selects(&self, _which: usize) -> bool {
         false
@@ -41,4 +46,6 @@ impl Announced for Ruled<Ravel> {
 
 impl Lawful for Ruled<Ravel> {
     ghost tight = { λ _. ravel_tight };
+
+    ghost growing = { λ _. never_grows _ };
 }

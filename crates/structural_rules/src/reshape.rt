@@ -4,6 +4,7 @@ ghost use Rattle.std.specs.Prelude.{◌≡◌, ◌-◌, ◌≤◌};
 ghost use Rattle.std.proofs.Common.{rules};
 ghost use Rattle.arrays_core.specs.Shapes.{IsWithinLimits};
 ghost use Rattle.change_core.specs.Places.{cover_in};
+ghost use Rattle.change_core.proofs.Growing.{never_grows};
 ghost use Rattle.structural_rules.specs.ReshapeLaw.{reshape_tight};
 ghost use Rattle.structural_rules.specs.Reshape.{reshape_rule};
 
@@ -35,6 +36,10 @@ impl Announced for Ruled<Reshape> {
     ghost selectors = { λ _. reshape_rule.selectors };
 
     ghost uses = { λ _. reshape_rule.uses };
+
+    fn grows(&self, _args: &[Seen], _grown: &[bool]) -> bool {
+        false
+    }
 
     fn selects(&self, which: usize) -> bool {
         which == 0
@@ -68,4 +73,6 @@ impl Announced for Ruled<Reshape> {
 
 impl Lawful for Ruled<Reshape> {
     ghost tight = { λ _. reshape_tight };
+
+    ghost growing = { λ _. never_grows _ };
 }

@@ -4,6 +4,7 @@ ghost use Rattle.std.specs.Prelude.{◌≡◌, IsTrue, set, get_or};
 ghost use Rattle.std.proofs.Common.{rules};
 ghost use Rattle.index_region.specs.Axes.{places_along};
 ghost use Rattle.index_region.specs.Boxes.{fits};
+ghost use Rattle.change_core.proofs.Growing.{never_grows};
 ghost use Rattle.structural_rules.specs.Reverse.{reversed, reverse_rule};
 ghost use Rattle.structural_rules.specs.ReverseLaw.{reverse_tight};
 
@@ -33,6 +34,10 @@ impl Announced for Ruled<Reverse> {
 
     ghost uses = { λ r. (reverse_rule r.function.along).uses };
 
+    fn grows(&self, _args: &[Seen], _grown: &[bool]) -> bool {
+        false
+    }
+
     fn selects(&self, _which: usize) -> bool {
         false
     }
@@ -58,4 +63,6 @@ impl Announced for Ruled<Reverse> {
 
 impl Lawful for Ruled<Reverse> {
     ghost tight = { λ r. reverse_tight r.function.along };
+
+    ghost growing = { λ _. never_grows _ };
 }

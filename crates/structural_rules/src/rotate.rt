@@ -3,6 +3,7 @@
 ghost use Rattle.std.specs.Prelude.{◌≡◌};
 ghost use Rattle.std.proofs.Common.{rules};
 ghost use Rattle.index_region.specs.Axes.{places_along as length_along};
+ghost use Rattle.change_core.proofs.Growing.{never_grows};
 ghost use Rattle.structural_rules.specs.Rotate.{rotate_rule};
 ghost use Rattle.structural_rules.specs.RotateLaw.{rotate_tight};
 
@@ -24,6 +25,10 @@ impl Announced for Ruled<Rotate> {
     ghost selectors = { λ r. (rotate_rule r.function.along).selectors };
 
     ghost uses = { λ r. (rotate_rule r.function.along).uses };
+
+    fn grows(&self, _args: &[Seen], _grown: &[bool]) -> bool {
+        false
+    }
 
     fn selects(&self, _which: usize) -> bool {
         false
@@ -59,4 +64,6 @@ impl Announced for Ruled<Rotate> {
 
 impl Lawful for Ruled<Rotate> {
     ghost tight = { λ r. rotate_tight r.function.along };
+
+    ghost growing = { λ _. never_grows _ };
 }

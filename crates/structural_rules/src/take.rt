@@ -6,6 +6,7 @@ ghost use Rattle.index_region.specs.Arguments.{numbers};
 ghost use Rattle.index_region.specs.Boxes.{fits};
 ghost use Rattle.change_core.specs.Ways.{images};
 ghost use Rattle.structural_fns.specs.Reshape.{magnitudes};
+ghost use Rattle.change_core.proofs.Growing.{never_grows};
 ghost use Rattle.structural_rules.specs.TakeLaw.{take_tight};
 ghost use Rattle.structural_rules.specs.Take.{taken, taken_axes, take_rule};
 
@@ -56,6 +57,10 @@ impl Announced for Ruled<Take> {
 
     ghost uses = { λ _. take_rule.uses };
 
+    fn grows(&self, _args: &[Seen], _grown: &[bool]) -> bool {
+        false
+    }
+
     fn selects(&self, which: usize) -> bool {
         which == 0
     }
@@ -85,4 +90,6 @@ impl Announced for Ruled<Take> {
 
 impl Lawful for Ruled<Take> {
     ghost tight = { λ _. take_tight };
+
+    ghost growing = { λ _. never_grows _ };
 }

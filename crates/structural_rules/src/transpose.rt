@@ -2,6 +2,7 @@
 
 ghost use Rattle.std.specs.Prelude.{◌≡◌, reverse};
 ghost use Rattle.std.proofs.Common.{rules};
+ghost use Rattle.change_core.proofs.Growing.{never_grows};
 ghost use Rattle.structural_rules.specs.Transpose.{transpose_rule};
 ghost use Rattle.structural_rules.specs.TransposeLaw.{transpose_tight};
 
@@ -30,6 +31,10 @@ impl Announced for Ruled<Transpose> {
 
     ghost uses = { λ _. transpose_rule.uses };
 
+    fn grows(&self, _args: &[Seen], _grown: &[bool]) -> bool {
+        false
+    }
+
     fn selects(&self, _which: usize) -> bool {
         false
     }
@@ -53,4 +58,6 @@ impl Announced for Ruled<Transpose> {
 
 impl Lawful for Ruled<Transpose> {
     ghost tight = { λ _. transpose_tight };
+
+    ghost growing = { λ _. never_grows _ };
 }

@@ -18,7 +18,7 @@ use Rattle.change_core.specs.Reaches.{as_reach, reach_by, reach_of}
 use Rattle.change_core.proofs.Filling.{few_places}
 use Rattle.index_region.specs.declared.delta.Delta.{Delta}
 use Rattle.index_region.specs.declared.delta.Delta.TheVariants.{Patch}
-use Rattle.change_rules.specs.Nodes.{Argument, all_same, is_same, is_whole, moved_by, node_delta, reached_cost, reached_delta, size_in, starts_anew}
+use Rattle.change_rules.specs.Nodes.{Argument, all_same, any_grown, is_grown, is_same, is_whole, moved_by, node_delta, reached_cost, reached_delta, size_in, starts_anew}
 use Rattle.change_rules.specs.Outcomes.{Outcome}
 use Rattle.change_rules.proofs.Nodes.{delta_reached}
 use Rattle.sum_rules.specs.LineSums.{array_of}
@@ -68,4 +68,5 @@ pub delta_is : (arg : Argument) (p : PatchValue) (old : Outcome) → arg.1.now �
 delta_is arg p old is ok =
     let some : all_same (arg ∷ []) ≡ false = ap (λ (d : Delta). is_same d && true) is in
     let kept : starts_anew (arg ∷ []) old ≡ false = λ i. (is_whole (is i) || false) || not (ok i) in
-    ap (λ (d : Delta). reached_delta total_rule (arg.0 ∷ []) (moved_by d ∷ [])) (sym is) ∙ delta_reached total_rule (arg ∷ []) old some kept
+    let none : any_grown (arg ∷ []) ≡ false = ap (λ (d : Delta). is_grown d || false) is in
+    ap (λ (d : Delta). reached_delta total_rule (arg.0 ∷ []) (moved_by d ∷ [])) (sym is) ∙ delta_reached total_rule (arg ∷ []) old some kept none

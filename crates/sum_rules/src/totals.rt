@@ -15,7 +15,7 @@ ghost use Rattle.operator_fns.specs.SumTree.{IsWithinDigitsOf};
 ghost use Rattle.change_core.specs.Parts.{HoldsItems, items_in};
 ghost use Rattle.change_core.specs.Reaches.{AllFit};
 ghost use Rattle.change_rules.specs.Nodes.{views, moved, node_delta, node_cost, reached_delta, reached_cost, patch_delta};
-ghost use Rattle.change_rules.specs.Currency.{BringsUpToDate, IsRight};
+ghost use Rattle.change_rules.specs.Currency.{BringsUpToDate, HasAxis, IsRight};
 ghost use Rattle.sum_rules.specs.LineSums.{StandFor, AreAllAsLong, array_of, last_length as length_of_lines};
 ghost use Rattle.sum_rules.specs.Totals.{total_rule, StoodFor, IsSummedUp, AreJoinsWithin, new_items, is_one_a_line as has_one_a_line, lines_of};
 
@@ -172,6 +172,7 @@ pub fn refresh_sums_with_cost(
     meter: &mut Meter,
 ) -> Result<(Delta, u32), AllocError>
     requires fit { AllFit (views (arg ∷ [])) (moved (arg ∷ [])) }
+    requires axes { HasAxis (arg ∷ []) }
     requires sums { IsSummedUp arg sums.now }
     ensures delta { IfOk result (λ r. r.0 ≡ node_delta total_rule (arg.entry ∷ []) old.now) }
     ensures cost { IfOk result (λ r. r.1 ≡ node_cost total_rule (arg.entry ∷ []) old.now) }
@@ -200,6 +201,7 @@ pub fn refresh_sums(
     meter: &mut Meter,
 ) -> Result<Delta, AllocError>
     requires fit { AllFit (views (arg ∷ [])) (moved (arg ∷ [])) }
+    requires axes { HasAxis (arg ∷ []) }
     requires sums { IsSummedUp arg sums.now }
     ensures delta { IfOk result (λ d. d ≡ node_delta total_rule (arg.entry ∷ []) old.now) }
     ensures ticks { meter.new.ticks ≤ meter.old.ticks + node_cost total_rule (arg.entry ∷ []) old.now }

@@ -1,7 +1,7 @@
 use Rattle.change_core.proofs.Covers.{covers, reaches_inside}
 use Rattle.change_rules.specs.Currency.{BringsUpToDate, IsRight}
 use Rattle.change_rules.specs.Nodes.{views, moved}
-use Rattle.change_rules.proofs.Refreshed.{brings_up_to_date}
+use Rattle.change_rules.proofs.NodeRight.{brings_up_to_date}
 use Rattle.change_rules.proofs.Right.{answered, node_is_right}
 use Rattle.change_rules.proofs.node.refresh_with_cost.Goals as goal
 
@@ -16,4 +16,4 @@ returns-clause-whole g c =
     let model = g.R.Rule.model rule in
     let args = c.args.args.now in
     answered (BringsUpToDate model args c.args.old.now) c.change_of.result _ c.change_of.ensures.delta
-    (brings_up_to_date model (covers model (g.met.R.Tight.tight rule)) args c.args.old.now c.requires.count (reaches_inside model (views args) (moved args)) c.requires.fit c.views_are_arrays.ensures)
+    (brings_up_to_date model (covers model (g.met.R.Tight.tight rule)) (g.met.R.Tight.growing rule) args c.args.old.now c.requires.count (reaches_inside model (views args) (moved args)) c.requires.fit c.requires.axes c.views_are_arrays.ensures)

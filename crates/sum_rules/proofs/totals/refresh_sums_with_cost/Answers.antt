@@ -4,8 +4,9 @@ use Rattle.index_region.specs.declared.along.Along.TheVariants.{Last}
 use Rattle.change_core.proofs.Covers.{covers, reaches_inside}
 use Rattle.change_rules.specs.Currency.{BringsUpToDate, IsRight}
 use Rattle.change_rules.specs.Nodes.{views, moved}
-use Rattle.change_rules.proofs.Refreshed.{brings_up_to_date}
+use Rattle.change_rules.proofs.NodeRight.{brings_up_to_date}
 use Rattle.change_rules.proofs.Right.{answered, node_is_right}
+use Rattle.operator_rules.specs.LinesGrowth.{reduce_growing}
 use Rattle.operator_rules.specs.ReduceLaw.{reduce_tight}
 use Rattle.sum_rules.specs.Totals.{total_rule}
 use Rattle.sum_rules.proofs.ChangedTotals.{delta_is}
@@ -25,4 +26,4 @@ returns-then-is_one_a_line-clause-whole c =
     let same = delta_is c.args.arg c.in-Patch.patch old c.in-Patch.is (sym c.is_ok.ensures.value ∙ c.if-is_ok.true) in
     answered (BringsUpToDate total_rule args old) c.change_by_trees.result _ c.change_by_trees.ensures.delta
     (subst (BringsUpToDate total_rule args old) (sym same)
-    (brings_up_to_date total_rule (covers total_rule (reduce_tight Plus Last)) args old refl (reaches_inside total_rule (views args) (moved args)) c.requires.fit (c.shape-is_array.ensures.sound, tt)))
+    (brings_up_to_date total_rule (covers total_rule (reduce_tight Plus Last)) (reduce_growing Plus Last) args old refl (reaches_inside total_rule (views args) (moved args)) c.requires.fit c.requires.axes (c.shape-is_array.ensures.sound, tt)))
