@@ -9,7 +9,7 @@ use Rattle.arrays_core.specs.declared.item.ItemType.{ItemType}
 use Rattle.arrays_core.specs.declared.item.Kind.{Kind}
 use Rattle.arrays_core.specs.Arrays.{ArrayValue, IsArray, with_items}
 use Rattle.arrays_core.specs.Items.{after, all_or_first_error, type_of}
-use Rattle.arrays_core.proofs.Growing.{size_longer}
+use Rattle.arrays_core.proofs.Growing.{fits_growth}
 use Rattle.arrays_core.specs.Shapes.{indices, is_index_of, size, IsWithinLimits}
 use Rattle.index_region.specs.declared.delta.Delta.{Delta}
 use Rattle.index_region.specs.declared.delta.Delta.TheVariants.{Same, Patch, Grown, Whole}
@@ -21,7 +21,6 @@ use Rattle.change_core.specs.Growth.{AllGrew, IsGrowing, last_interval, last_pla
 use Rattle.change_core.specs.Laws.{Each}
 use Rattle.change_core.specs.Parts.{items_in}
 use Rattle.change_core.specs.RuleModels.{RuleModel}
-use Rattle.change_core.proofs.Growing.{length-longer}
 use Rattle.change_core.proofs.Regions.{HasFit, bounded-fits}
 use Rattle.change_core.proofs.Walking.{walk_is}
 use Rattle.change_rules.specs.Currency.{applied}
@@ -160,12 +159,12 @@ tail_right : (t : ItemType) (n : ℕ) (s : List ℕ) (item : List ℕ → Result
 tail_right t n s item old (Err k) e h ok = absurd (false≢true (ap is_ok (sym h) ∙ ok))
 tail_right t n s item old (Ok xs) e h ok =
     let ss = all_or_first_error (map (λ index. item ((n + 1) ∷ index)) (indices s)) in
-    ap (λ (r : Result (List Item) Kind). applied (tail_delta ((n + 1) ∷ s) r) old) (place_items item n s)
-    ∙ ap (λ (o : Outcome). applied (tail_delta ((n + 1) ∷ s) ss) o) h
+    ap (λ (r : Result (List Item) Kind). applied (tail_delta t ((n + 1) ∷ s) r) old) (place_items item n s)
+    ∙ ap (λ (o : Outcome). applied (tail_delta t ((n + 1) ∷ s) ss) o) h
     ∙ put ss
     ∙ ap (λ (r : Result (List Item) Kind). given (with_items t ((n + 1) ∷ s) r)) (sym (whole_longer item n s xs e))
   where
-    put : (r : Result (List Item) Kind) → applied (tail_delta ((n + 1) ∷ s) r) (Ok (array t (n ∷ s) xs)) ≡ given (with_items t ((n + 1) ∷ s) (joined xs r))
+    put : (r : Result (List Item) Kind) → applied (tail_delta t ((n + 1) ∷ s) r) (Ok (array t (n ∷ s) xs)) ≡ given (with_items t ((n + 1) ∷ s) (joined xs r))
     put (Ok ys) = refl
     put (Err k) = refl
 
@@ -201,26 +200,6 @@ pub record BeforeGrowth (os : List Outcome) (ds : List Delta) (ns : List ArrayVa
   pub old : os ≡ map (λ a. Ok a) olds
   pub grew : AllGrew (map is_grown ds) olds ns
   pub sound : Each IsArray olds
-
--- an array that is one with more items behind it, and has an axis, grew by one place
-fits_growth : (a n : ArrayValue) (xs : List Item) → IsArray a → IsArray n → grown_by a xs ≡ n → 0 < length n.shape → FitsGrowth a xs
-fits_growth a n xs sa sn e axis =
-    let shape : n.shape ≡ one_longer a.shape = ap (λ (v : ArrayValue). v.shape) (sym e) in
-    let items : n.items ≡ a.items ++ xs = ap (λ (v : ArrayValue). v.items) (sym e) in
-    let type : n.item_type ≡ a.item_type = ap (λ (v : ArrayValue). v.item_type) (sym e) in
-    let long : length n.shape ≡ length a.shape = ap (λ (s : List ℕ). length s) shape ∙ length-longer a.shape in
-    let some : 0 < length a.shape = omega (arith, long, axis) in
-    let count : length n.items ≡ length a.items + length xs = ap (λ (l : List Item). length l) items ∙ length-append a.items xs in
-    let places : size n.shape ≡ size a.shape + size (drop 1 a.shape) = ap size shape ∙ size_longer a.shape some in
-    record {
-      some_axis = some;
-      within = subst IsWithinLimits shape sn.within;
-      one_place = omega (arith, count, places, sa.one_item_a_place, sn.one_item_a_place);
-      typed = λ k d b.
-          let below : length a.items + k < length n.items = omega (arith, count) in
-          let at : get_or n.items (length a.items + k) d ≡ get_or xs k d = ap (λ (l : List Item). get_or l (length a.items + k) d) items ∙ get_or-append-add a.items xs k d in
-          ap type_of (sym at) ∙ sn.one_type (length a.items + k) d below ∙ type;
-    }
 
 tail_of : (o : Outcome) (t : TailValue) (n : ArrayValue) → applied (Grown t) o ≡ Ok n → (a : ArrayValue) × (o ≡ Ok a) × (grown_by a t.items ≡ n)
 tail_of (Ok a) t n e = (a, refl, (let s : grown_by a t.items ≡ n = cc in s))

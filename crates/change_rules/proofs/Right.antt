@@ -57,8 +57,8 @@ reached_is_right p args (Ok f) (Inside region) e lies = patch_is_right p args f 
 
 -- the items of the last place, or the error of one of them
 tail_is_right : (p : RuleModel) (args : List ArrayValue) (f : Form) (o : Option (List Interval)) (r : Result (List Item) Kind) → p.form args ≡ Ok f → last_place f.shape ≡ o → HasFit f.shape o → items_at (p.item args) o ≡ r
-    → IsRight p args (tail_delta f.shape r)
-tail_is_right p args f o (Ok xs) e at fit is = record { form = f; passes = e; shaped = refl; items = ap (items_at (p.item args)) at ∙ is }
+    → IsRight p args (tail_delta f.item_type f.shape r)
+tail_is_right p args f o (Ok xs) e at fit is = record { form = f; passes = e; shaped = refl; typed = refl; items = ap (items_at (p.item args)) at ∙ is }
 tail_is_right p args f None (Err k) e at fit is = absurd (let no : ⊥ = cc in no)
 tail_is_right p args f (Some region) (Err k) e at fit is = patch_is_right p args f region (Err k) e fit is
 

@@ -65,11 +65,12 @@ pub record IsItemError (p : RuleModel) (args : List ArrayValue) (r : Outcome) : 
   pub fails : p.item args index ≡ Err kind
   pub is : r ≡ Err (fault kind)
 
--- the shape is that of the result, and the items are those of its last place
+-- the type and the shape are those of the result, and the items are those of its last place
 pub record IsRightTail (p : RuleModel) (args : List ArrayValue) (t : TailValue) : Type 0 where
   pub form : Form
   pub passes : p.form args ≡ Ok form
   pub shaped : t.shape ≡ form.shape
+  pub typed : t.item_type ≡ form.item_type
   pub items : items_at (p.item args) (last_place form.shape) ≡ Ok t.items
 
 -- what a change says is so of the result: the items of a patch are its items, and a whole is the whole evaluation, or the

@@ -92,14 +92,14 @@ items_at item None = Ok []
 items_at item (Some region) = items_in item region
 
 -- one more place of these items, or the first error among them
-abbrev pub tail_delta : List ℕ → Result (List Item) Kind → Delta
-tail_delta shape (Ok items) = Grown (record { shape = shape; items = items })
-tail_delta shape (Err kind) = Whole (Err (fault kind))
+abbrev pub tail_delta : ItemType → List ℕ → Result (List Item) Kind → Delta
+tail_delta item_type shape (Ok items) = Grown (record { item_type = item_type; shape = shape; items = items })
+tail_delta item_type shape (Err kind) = Whole (Err (fault kind))
 
 -- the result with the items of its last place new; or the error of the checks
 abbrev pub grown_in : Result Form Kind → (List ℕ → Result Item Kind) → Delta
 grown_in (Err kind) item = Whole (Err (fault kind))
-grown_in (Ok f) item = tail_delta f.shape (items_at item (last_place f.shape))
+grown_in (Ok f) item = tail_delta f.item_type f.shape (items_at item (last_place f.shape))
 
 -- the change of a node that held an array, where an argument grew and none is another array: the checks are made again
 abbrev pub grown_delta : RuleModel → List Argument → Delta

@@ -77,7 +77,7 @@ fn change_from<R: Rule>(
         return change_anew(alloc, rule, seen, meter);
     }
     if any_grown(args) {
-        return change_grown(alloc, rule, seen, args, meter);
+        return change_grown(alloc, rule, seen, args, old, meter);
     }
     reached(alloc, rule, seen, boxes, meter)
 }
@@ -110,6 +110,7 @@ fn change_grown<R: Rule>(
     rule: &R,
     seen: &[Seen],
     args: &[(Seen, &Delta)],
+    old: &Result<Array, Fault>,
     meter: &mut Meter,
 ) -> Result<(Delta, u32), AllocError>
     requires count { length args.now ≡ length (R.model rule.now).selectors }
@@ -120,7 +121,7 @@ fn change_grown<R: Rule>(
     ensures joins { meter.new.joins ≡ meter.old.joins }
 {
     if node_grows(alloc, rule, seen, args)? {
-        tail_of(alloc, rule, seen, meter)
+        tail_of(alloc, rule, seen, old, meter)
     } else {
         change_anew(alloc, rule, seen, meter)
     }
@@ -158,6 +159,7 @@ fn tail_of<R: Rule>(
     alloc: Global,
     rule: &R,
     seen: &[Seen],
+    old: &Result<Array, Fault>,
     meter: &mut Meter,
 ) -> Result<(Delta, u32), AllocError>
     requires { length seen.now ≡ length (R.model rule.now).selectors }
@@ -166,17 +168,18 @@ fn tail_of<R: Rule>(
     ensures ticks { meter.new.ticks ≤ meter.old.ticks + grown_size ((R.model rule.now).form seen.now) }
     ensures joins { meter.new.joins ≡ meter.old.joins }
 {
+    let held = old.as_ref().ok();
     let (shape, item_type) = match rule.shape(seen) {
         Ok(form) => form,
         Err(kind) => return Ok((Delta::Whole(Err(Fault { kind, origin: None })), 0)),
     };
     let Some(region) = last_place(shape.as_slice()) else {
         let none = Array::filled(alloc, item_type, &shape_of(alloc, &[0]))?;
-        return Ok((Delta::Grown(Tail::of(shape, none)), 0));
+        return Ok((Delta::Grown(Tail::behind(held, shape, none)?), 0));
     };
     let cost = region.size() as u32;
     match rule.part(alloc, seen, shape.as_slice(), item_type, &region, meter) {
-        Ok(values) => Ok((Delta::Grown(Tail::of(shape, values)), cost)),
+        Ok(values) => Ok((Delta::Grown(Tail::behind(held, shape, values)?), cost)),
         Err(ApplyFault::Kind(kind)) => Ok((Delta::Whole(Err(Fault { kind, origin: None })), cost)),
         Err(ApplyFault::NoMemory) => Err(AllocError),
     }

@@ -36,27 +36,29 @@ impl Model for Tail {
 }
 
 /// Room for so many items of the type of these, where an array grows to them: twice as much where they do not fit where the array's own items
-/// lie, so that most later ones do.
-fn room_for(array: &Array, values: &Array, places: u32) -> Result<Room, AllocError>
+/// lie, so that most later ones do. Where the array is not known, as much as it may need.
+fn room_for(held: Option<&Array>, values: &Array, places: u32) -> Result<Room, AllocError>
     ensures typed { IfOk result (λ r. r.item_type ≡ values.now.item_type) }
     ensures places { IfOk result (λ r. places ≤ r.places) }
 {
-    if array.item_type() != values.item_type() {
-        return values.room(places);
+    match held {
+        Some(array) if array.item_type() == values.item_type() => {
+            array.room(places.saturating_sub(size(array.shape().as_slice())))
+        }
+        _ => values.room(places),
     }
-    array.room(places.saturating_sub(size(array.shape().as_slice())))
 }
 
 impl Tail {
-    /// What an array grows by to this shape, which lies inline and within the limits: by the items of another array, whatever the shape of that is.
-    /// AllocError where memory for it is refused.
-    pub fn behind(array: &Array, shape: Shape, values: Array) -> Result<Tail, AllocError>
+    /// What an array, if it is known, grows by to this shape, which lies inline and within the limits: by the items of another array, whatever the
+    /// shape of that is. AllocError where memory for it is refused.
+    pub fn behind(held: Option<&Array>, shape: Shape, values: Array) -> Result<Tail, AllocError>
         requires inline { shape.capacity ≡ 4 }
         requires within { IsWithinLimits shape.items }
         ensures { IfOk result (λ t. t ≡ record { item_type = values.item_type; shape = shape.items; items = values.items }) }
     {
         let alloc = *shape.allocator();
-        let room = room_for(array, &values, size(shape.as_slice()))?;
+        let room = room_for(held, &values, size(shape.as_slice()))?;
         let parts = Parts {
             shape,
             values,
@@ -68,11 +70,11 @@ impl Tail {
     }
 
     /// The same again, for another array that grows by it.
-    pub fn again_behind(&self, array: &Array) -> Result<Tail, AllocError>
+    pub fn again_behind(&self, held: Option<&Array>) -> Result<Tail, AllocError>
         ensures { IfOk result (λ t. t ≡ self.now) }
     {
         let shape = shape_of(*self.parts.shape.allocator(), self.shape().as_slice());
-        Tail::behind(array, shape, self.parts.values.copy()?)
+        Tail::behind(held, shape, self.parts.values.copy()?)
     }
 
     /// The shape that the array has then.

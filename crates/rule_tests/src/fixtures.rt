@@ -60,7 +60,7 @@ pub(crate) fn tail_of(alloc: Global, array: &Array, numbers: &[i64]) -> Option<T
     }
     let values = Array::vector(alloc, numbers.to_vec(alloc).ok()?).ok()?;
     let _typed = values.item_type();
-    Some(Tail::of(shape, values))
+    Tail::behind(Some(array), shape, values).ok()
 }
 
 /// The patch of a box of an array by these numbers.
