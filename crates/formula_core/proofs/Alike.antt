@@ -203,6 +203,7 @@ all_paired [] ds h = refl
 all_paired (a ∷ arrays) [] h = refl
 all_paired (a ∷ arrays) (Same ∷ ds) h = all_paired arrays ds h
 all_paired (a ∷ arrays) (Patch p ∷ ds) h = absurd (false≢true h)
+all_paired (a ∷ arrays) (Grown t ∷ ds) h = absurd (false≢true h)
 all_paired (a ∷ arrays) (Whole r ∷ ds) h = absurd (false≢true h)
 
 -- an operation of whose arguments nothing changed does not change, and costs nothing

@@ -1,5 +1,6 @@
 -- The change of a node makes of what it held what it now gives.
-use Rattle.std.proofs.Common.{◌≡◌, ℕ, suc, List, [], ◌∷◌, length, map, Bool, true, false, ◌||◌, Result, Ok, Err, refl, sym, ap, ◌∙◌, subst, inl, inr}
+use Rattle.std.proofs.Common.{◌≡◌, ℕ, suc, ◌+◌, ◌<◌, List, [], ◌∷◌, ◌++◌, length, map, Bool, true, false, ◌||◌, Result, Ok, Err, IfOk, refl, sym, ap, ◌∙◌, subst, arith, inl, inr}
+use Rattle.std.proofs.lemmas.List.{length-append, length-map}
 use Rattle.std.specs.List.{list_all, list_any}
 use Rattle.std.proofs.lemmas.Bool.{false≢true, cases_Bool, cond-true, cond-false}
 use Rattle.apl_expr.specs.Trees.{Tree, Monad, Dyad, Index, Positions, NoPositions, Empty, Filled}
@@ -8,25 +9,30 @@ use Rattle.apl_expr.specs.declared.expr.Monadic.TheVariants as monadic
 use Rattle.apl_expr.specs.declared.expr.Dyadic.{Dyadic}
 use Rattle.apl_expr.specs.declared.expr.Dyadic.TheVariants as dyadic
 use Rattle.arrays_core.specs.Arrays.{ArrayValue, IsArray, with_items}
-use Rattle.arrays_core.specs.Items.{all_or_first_error}
-use Rattle.arrays_core.specs.Shapes.{indices}
+use Rattle.arrays_core.specs.Growth.{grown_by, one_longer}
+use Rattle.arrays_core.specs.Items.{after, all_or_first_error}
+use Rattle.arrays_core.specs.Shapes.{indices, size}
+use Rattle.arrays_core.proofs.Growing.{size_longer}
+use Rattle.arrays_core.proofs.Order.{length-indices}
 use Rattle.arrays_core.specs.declared.fault.Fault.{Fault}
 use Rattle.arrays_core.specs.declared.item.Item.{Item}
 use Rattle.arrays_core.specs.declared.item.ItemType.{ItemType}
 use Rattle.arrays_core.specs.declared.item.Kind.{Kind}
 use Rattle.index_region.specs.declared.delta.Delta.{Delta}
-use Rattle.index_region.specs.declared.delta.Delta.TheVariants.{Same, Patch, Whole}
+use Rattle.index_region.specs.declared.delta.Delta.TheVariants.{Same, Patch, Grown, Whole}
 use Rattle.index_region.specs.Boxes.{fits}
 use Rattle.index_region.specs.Checks.{Form, whole}
 use Rattle.index_region.specs.Patches.{PatchValue, FitsPatch, patched}
+use Rattle.index_region.specs.Tails.{TailValue, FitsTail}
+use Rattle.change_core.specs.Growth.{IsGrowing, last_place}
 use Rattle.change_core.specs.Laws.{ReachCovers, Each}
 use Rattle.change_core.specs.Reaches.{AllFit}
 use Rattle.change_core.specs.RuleModels.{RuleModel}
 use Rattle.change_core.proofs.Covers.{reaches_inside}
-use Rattle.change_rules.specs.Currency.{applied, Shows, IsRight, IsRightPatch}
-use Rattle.change_rules.specs.Nodes.{Argument, views, moved, is_same, is_whole, all_same, node_delta}
+use Rattle.change_rules.specs.Currency.{applied, Shows, HasAxis, IsRight, IsRightPatch, IsRightTail}
+use Rattle.change_rules.specs.Nodes.{Argument, views, moved, is_same, is_whole, all_same, items_at, node_delta}
 use Rattle.change_rules.specs.Outcomes.{evaluation}
-use Rattle.change_rules.proofs.Refreshed.{brings_up_to_date}
+use Rattle.change_rules.proofs.NodeRight.{brings_up_to_date}
 use Rattle.change_rules.proofs.Right.{node_is_right}
 use Rattle.selection_fns.specs.Index.{Position, count_written, written_positions}
 use Rattle.selection_rules.specs.Index.{index_rule}
@@ -34,8 +40,9 @@ use Rattle.selection_rules.specs.IndexLaw.{length-selectors}
 use Rattle.formula_core.specs.Outcomes.{Outcome, given}
 use Rattle.formula_core.specs.Meaning.{eval, eval_positions, applied1, applied2, in_front, empty_in_front, indexed}
 use Rattle.formula_core.specs.Rules.{right_rule, both_rule}
-use Rattle.formula_core.specs.Changes.{Change, argument_in_front, arguments, result_of, paired, operation_delta, written, values_of, change, changes, FitsIn, IsChanged, IsTreeChanged}
-use Rattle.formula_core.proofs.Covering.{rules_cover}
+use Rattle.formula_core.specs.Changes.{Change, argument_in_front, arguments, result_of, paired, operation_delta, written, values_of, change, changes, FitsIn, FitsNow, IsChanged, IsTreeChanged}
+use Rattle.formula_core.proofs.Covering.{rules_cover, rules_grow}
+use Rattle.formula_core.proofs.Fitting.{fit_now, axis_lies}
 use Rattle.formula_core.proofs.Meant.{right_meant, both_meant, index_meant}
 
 -- so is each argument
@@ -73,6 +80,7 @@ unchanged : (os : List Outcome) (ds : List Delta) (ns : List Outcome) → AllCha
 unchanged [] [] [] h k = refl
 unchanged (o ∷ os) (Same ∷ ds) (n ∷ ns) h k = let here = h.0.right in let rest = unchanged os ds ns h.1 k in λ i. here i ∷ rest i
 unchanged (o ∷ os) (Patch p ∷ ds) (n ∷ ns) h k = absurd (false≢true k)
+unchanged (o ∷ os) (Grown t ∷ ds) (n ∷ ns) h k = absurd (false≢true k)
 unchanged (o ∷ os) (Whole r ∷ ds) (n ∷ ns) h k = absurd (false≢true k)
 unchanged [] [] (n ∷ ns) h k = absurd h
 unchanged [] (d ∷ ds) ns h k = absurd h
@@ -85,23 +93,27 @@ record Handed (os : List Outcome) (ds : List Delta) (arrays : List ArrayValue) :
   pub seen : views (paired arrays ds) ≡ arrays
   pub count : length (paired arrays ds) ≡ length ds
   pub fit : AllFit (views (paired arrays ds)) (moved (paired arrays ds))
+  pub axes : HasAxis (paired arrays ds)
   pub sound : Each IsArray (views (paired arrays ds))
 
-box_fits : (d : Delta) (a : ArrayValue) (arrays : List ArrayValue) (ds : List Delta) → FitsIn d (Ok a) → AllFit (views (paired arrays ds)) (moved (paired arrays ds))
+box_fits : (d : Delta) (a : ArrayValue) (arrays : List ArrayValue) (ds : List Delta) → FitsNow d (Ok a) → AllFit (views (paired arrays ds)) (moved (paired arrays ds))
     → AllFit (views (paired (a ∷ arrays) (d ∷ ds))) (moved (paired (a ∷ arrays) (d ∷ ds)))
 box_fits Same a arrays ds h rest = (tt, rest)
 box_fits (Patch p) a arrays ds h rest = (h.inside, rest)
+box_fits (Grown t) a arrays ds h rest = (tt, rest)
 box_fits (Whole r) a arrays ds h rest = (tt, rest)
 
 handed : (os : List Outcome) (ds : List Delta) (arrays : List ArrayValue) → AllChanged os ds (map (λ a. Ok a) arrays) → Handed os ds arrays
-handed [] [] [] h = record { shows = tt; seen = refl; count = refl; fit = tt; sound = tt }
+handed [] [] [] h = record { shows = tt; seen = refl; count = refl; fit = tt; axes = tt; sound = tt }
 handed (o ∷ os) (d ∷ ds) (a ∷ arrays) h =
     let rest = handed os ds arrays h.1 in
+    let now = subst (λ (n : Outcome). FitsNow d n) h.0.right (fit_now d o h.0.fit) in
     record {
       shows = (record { becomes = h.0.right; sound = h.0.sound_old }, rest.shows);
       seen = ap (λ xs. a ∷ xs) rest.seen;
       count = ap suc rest.count;
-      fit = box_fits d a arrays ds h.0.fit rest.fit;
+      fit = box_fits d a arrays ds now rest.fit;
+      axes = (axis_lies a d now, rest.axes);
       sound = (h.0.sound_new, rest.sound);
     }
 handed [] [] (a ∷ arrays) h = absurd h
@@ -121,29 +133,74 @@ patch_fits p arrays q b h is =
     in_shape q b h.form.item_type h.form.shape (all_or_first_error (map (p.item arrays) (indices h.form.shape))) h.fit h.typed
     (is ∙ ap (λ (f : Result Form Kind). given (whole f (p.item arrays))) h.passes)
 
--- beside an error there is no patch
+-- as many items as there are places
+counted : (rs : List (Result Item Kind)) (xs : List Item) → all_or_first_error rs ≡ Ok xs → length xs ≡ length rs
+counted [] xs h = let none : [] ≡ xs = cc in ap (λ (l : List Item). length l) (sym none)
+counted (Err k ∷ rs) xs h = absurd (let no : ⊥ = cc in no)
+counted (Ok x ∷ rs) xs h = behind (all_or_first_error rs) refl h
+  where
+    behind : (r : Result (List Item) Kind) → all_or_first_error rs ≡ r → after x r ≡ Ok xs → length xs ≡ suc (length rs)
+    behind (Ok ys) e h = let all : x ∷ ys ≡ xs = cc in ap (λ (l : List Item). length l) (sym all) ∙ ap suc (counted rs ys e)
+    behind (Err k) e h = absurd (let no : ⊥ = cc in no)
+
+-- a result that grew has an axis: the place of a result without axes is one item, and that one was there
+grown_axis : (item : List ℕ → Result Item Kind) (shape : List ℕ) (xs ys : List Item) → items_at item (last_place (one_longer shape)) ≡ Ok xs → length ys ≡ size shape → length ys + length xs ≡ size (one_longer shape) → 0 < length shape
+grown_axis item [] xs ys h old all = let one : length xs ≡ 1 = counted _ xs h in absurd (omega (arith, one, old, all))
+grown_axis item (n ∷ shape) xs ys h old all = omega arith
+
+-- what a result grew by fits it
+in_longer : (t : TailValue) (a : ArrayValue) (item : List ℕ → Result Item Kind) (item_type : ItemType) (shape : List ℕ) (r : Result (List Item) Kind) → IsArray a → t.shape ≡ shape → t.item_type ≡ item_type
+    → items_at item (last_place shape) ≡ Ok t.items → all_or_first_error (map item (indices shape)) ≡ r → Ok (grown_by a t.items) ≡ given (with_items item_type shape r) → FitsTail a t
+in_longer t a item item_type shape (Err k) sound shaped typed last made is = absurd (let no : ⊥ = cc in no)
+in_longer t a item item_type shape (Ok items) sound shaped typed last made is =
+    let same : grown_by a t.items ≡ record { item_type = item_type; shape = shape; items = items } = cc in
+    let longer : one_longer a.shape ≡ shape = ap (λ (b : ArrayValue). b.shape) same in
+    let many : length (a.items ++ t.items) ≡ length items = ap (λ (b : ArrayValue). length b.items) same in
+    let each : length items ≡ length (map item (indices shape)) = counted (map item (indices shape)) items made in
+    let places : length (map item (indices shape)) ≡ size (one_longer a.shape) = length-map (indices shape) item ∙ length-indices shape ∙ ap size (sym longer) in
+    let joined = length-append a.items t.items in
+    let old = sound.one_item_a_place in
+    let all : length a.items + length t.items ≡ size (one_longer a.shape) = sym joined ∙ many ∙ each ∙ places in
+    let axis = grown_axis item a.shape t.items a.items (subst (λ (s : List ℕ). items_at item (last_place s) ≡ Ok t.items) (sym longer) last) old all in
+    let parts = size_longer a.shape axis in
+    record {
+      some_axis = axis;
+      shaped = shaped ∙ sym longer;
+      one_place = omega (arith, all, parts, old);
+      typed = typed ∙ sym (ap (λ (b : ArrayValue). b.item_type) same);
+    }
+
+tail_fits : (p : RuleModel) (arrays : List ArrayValue) (t : TailValue) (a : ArrayValue) → IsArray a → IsRightTail p arrays t → Ok (grown_by a t.items) ≡ evaluation p arrays → FitsTail a t
+tail_fits p arrays t a sound h is =
+    in_longer t a (p.item arrays) h.form.item_type h.form.shape (all_or_first_error (map (p.item arrays) (indices h.form.shape))) sound h.shaped h.typed h.items refl
+    (is ∙ ap (λ (f : Result Form Kind). given (whole f (p.item arrays))) h.passes)
+
+-- beside an error there is no patch, and nothing grows
 or_yes : (b : Bool) → (b || true) ≡ true
 or_yes true = refl
 or_yes false = refl
 
-no_patch : (p : RuleModel) (args : List Argument) (e : Fault) (q : PatchValue) → node_delta p args (Err e) ≡ Patch q → ⊥
-no_patch p args e q is = elim (cases_Bool (all_same args)) [
-  | inl t ↦ let h : Same ≡ Patch q = sym (cond-true _ _ _ t) ∙ is in let no : ⊥ = cc in no
-  | inr f ↦
-      let h : Whole (evaluation p (views args)) ≡ Patch q = sym (cond-false _ _ _ f ∙ cond-true _ _ _ (or_yes (list_any (λ a. is_whole a.1.now) args))) ∙ is in
-      let no : ⊥ = cc in
-      no
+abbrev IsNoPart : Delta → Type 0
+IsNoPart (Patch q) = ⊥
+IsNoPart (Grown t) = ⊥
+IsNoPart _ = Unit {0}
+
+no_part : (p : RuleModel) (args : List Argument) (e : Fault) → IsNoPart (node_delta p args (Err e))
+no_part p args e = elim (cases_Bool (all_same args)) [
+  | inl t ↦ subst IsNoPart (sym (cond-true _ _ _ t)) tt
+  | inr f ↦ subst IsNoPart (sym (cond-false _ _ _ f ∙ cond-true _ _ _ (or_yes (list_any (λ a. is_whole a.1.now) args)))) tt
 ]
 
-fit_of : (p : RuleModel) (args : List Argument) (old : Outcome) (d : Delta) → node_delta p args old ≡ d → IsRight p (views args) d → applied d old ≡ evaluation p (views args) → FitsIn d (evaluation p (views args))
-fit_of p args old Same is h becomes = tt
-fit_of p args old (Whole r) is h becomes = tt
-fit_of p args (Err e) (Patch q) is h becomes = absurd (no_patch p args e q is)
-fit_of p args (Ok a) (Patch q) is h becomes =
-    subst (λ (o : Outcome). FitsIn (Patch q) o) becomes (patch_fits p (views args) q (patched a q) h becomes)
+fit_of : (p : RuleModel) (args : List Argument) (old : Outcome) (d : Delta) → node_delta p args old ≡ d → IfOk old IsArray → IsRight p (views args) d → applied d old ≡ evaluation p (views args) → FitsIn d old
+fit_of p args old Same is sound h becomes = tt
+fit_of p args old (Whole r) is sound h becomes = tt
+fit_of p args (Err e) (Patch q) is sound h becomes = absurd (subst IsNoPart is (no_part p args e))
+fit_of p args (Err e) (Grown t) is sound h becomes = absurd (subst IsNoPart is (no_part p args e))
+fit_of p args (Ok a) (Patch q) is sound h becomes = let now = patch_fits p (views args) q (patched a q) h becomes in record { inside = now.inside; typed = now.typed }
+fit_of p args (Ok a) (Grown t) is sound h becomes = tail_fits p (views args) t a sound h becomes
 
 -- an operation, by the law of its rule
-module _ (p : RuleModel) (law : ReachCovers p) (os : List Outcome) (ds : List Delta) (ns : List Outcome) (all : AllChanged os ds ns) (count : length ds ≡ length p.selectors) where
+module _ (p : RuleModel) (law : ReachCovers p) (growing : IsGrowing p p.grows) (os : List Outcome) (ds : List Delta) (ns : List Outcome) (all : AllChanged os ds ns) (count : length ds ≡ length p.selectors) where
   operation_becomes : (r : Result (List ArrayValue) Fault) → arguments ns ≡ r → applied (operation_delta p r ds (result_of p (arguments os))) (result_of p (arguments os)) ≡ result_of p r
   operation_becomes (Err e) is = elim (cases_Bool (list_all is_same ds)) [
     | inl t ↦ ap (λ d. applied d (result_of p (arguments os))) (cond-true _ _ _ t) ∙ (ap (λ xs. result_of p (arguments xs)) (unchanged os ds ns all t) ∙ ap (result_of p) is)
@@ -152,22 +209,21 @@ module _ (p : RuleModel) (law : ReachCovers p) (os : List Outcome) (ds : List De
   operation_becomes (Ok arrays) is =
       let given_all = handed os ds arrays (subst (λ (xs : List Outcome). AllChanged os ds xs) (all_arrays ns arrays is) all) in
       let args = paired arrays ds in
-      brings_up_to_date p law args (result_of p (arguments os)) (given_all.count ∙ count) (reaches_inside p (views args) (moved args)) given_all.fit given_all.sound os given_all.shows
+      brings_up_to_date p law growing args (result_of p (arguments os)) (given_all.count ∙ count) (reaches_inside p (views args) (moved args)) given_all.fit given_all.axes given_all.sound os given_all.shows
       (λ xs e. ap (λ ys. result_of p (arguments ys)) e ∙ ap (result_of p) (arrays_given xs))
       ∙ ap (evaluation p) given_all.seen
 
-  operation_fits : (r : Result (List ArrayValue) Fault) → arguments ns ≡ r → FitsIn (operation_delta p r ds (result_of p (arguments os))) (result_of p r)
-  operation_fits (Err e) is = elim (cases_Bool (list_all is_same ds)) [
-    | inl t ↦ subst (λ (d : Delta). FitsIn d (Err e)) (sym (cond-true _ _ _ t)) tt
-    | inr f ↦ subst (λ (d : Delta). FitsIn d (Err e)) (sym (cond-false _ _ _ f)) tt
+  operation_fits : IfOk (result_of p (arguments os)) IsArray → (r : Result (List ArrayValue) Fault) → arguments ns ≡ r → FitsIn (operation_delta p r ds (result_of p (arguments os))) (result_of p (arguments os))
+  operation_fits sound (Err e) is = elim (cases_Bool (list_all is_same ds)) [
+    | inl t ↦ subst (λ (d : Delta). FitsIn d (result_of p (arguments os))) (sym (cond-true _ _ _ t)) tt
+    | inr f ↦ subst (λ (d : Delta). FitsIn d (result_of p (arguments os))) (sym (cond-false _ _ _ f)) tt
   ]
-  operation_fits (Ok arrays) is =
+  operation_fits sound (Ok arrays) is =
       let given_all = handed os ds arrays (subst (λ (xs : List Outcome). AllChanged os ds xs) (all_arrays ns arrays is) all) in
       let args = paired arrays ds in
       let old = result_of p (arguments os) in
       let seen : evaluation p (views args) ≡ evaluation p arrays = ap (evaluation p) given_all.seen in
-      subst (λ (o : Outcome). FitsIn (node_delta p args old) o) seen
-      (fit_of p args old (node_delta p args old) refl (node_is_right p args old) (operation_becomes (Ok arrays) is ∙ sym seen))
+      fit_of p args old (node_delta p args old) refl sound (node_is_right p args old) (operation_becomes (Ok arrays) is ∙ sym seen)
 
 -- what a function gives by its rule is what its expression means
 pub monad_meant : (f : Monadic) (o : Outcome) → result_of (right_rule f) (arguments (o ∷ [])) ≡ applied1 f o
@@ -241,29 +297,30 @@ written_many c (Empty ps) = written_many c ps
 written_many c (Filled e ps) = ap suc (written_many c ps)
 
 -- an operation whose arguments changed so
-operation_changed : (p : RuleModel) → ReachCovers p → (os : List Outcome) (ds : List Delta) (ns : List Outcome) (old new : Outcome) → AllChanged os ds ns → length ds ≡ length p.selectors
+operation_changed : (p : RuleModel) → ReachCovers p → IsGrowing p p.grows → (os : List Outcome) (ds : List Delta) (ns : List Outcome) (old new : Outcome) → IfOk old IsArray → AllChanged os ds ns → length ds ≡ length p.selectors
     → result_of p (arguments os) ≡ old → result_of p (arguments ns) ≡ new
-    → (applied (operation_delta p (arguments ns) ds old) old ≡ new) × FitsIn (operation_delta p (arguments ns) ds old) new
-operation_changed p law os ds ns old new all count was is =
-    subst (λ (o : Outcome). (applied (operation_delta p (arguments ns) ds o) o ≡ new) × FitsIn (operation_delta p (arguments ns) ds o) new) was
-    (subst (λ (n : Outcome). (applied (operation_delta p (arguments ns) ds (result_of p (arguments os))) (result_of p (arguments os)) ≡ n) × FitsIn (operation_delta p (arguments ns) ds (result_of p (arguments os))) n) is
-    (operation_becomes p law os ds ns all count (arguments ns) refl, operation_fits p law os ds ns all count (arguments ns) refl))
+    → (applied (operation_delta p (arguments ns) ds old) old ≡ new) × FitsIn (operation_delta p (arguments ns) ds old) old
+operation_changed p law growing os ds ns old new sound all count was is =
+    let held = subst (λ (o : Outcome). IfOk o IsArray) (sym was) sound in
+    subst (λ (o : Outcome). (applied (operation_delta p (arguments ns) ds o) o ≡ new) × FitsIn (operation_delta p (arguments ns) ds o) o) was
+    (operation_becomes p law growing os ds ns all count (arguments ns) refl ∙ is, operation_fits p law growing os ds ns all count held (arguments ns) refl)
 
 -- the change of an operation makes of what it gave what it gives, where that of each argument does
-pub monad_changed : (c : Change) (f : Monadic) (b : Tree) → IsChanged (eval b c.old) (change c b) (eval b c.new) → IsTreeChanged c (Monad f b)
-monad_changed c f b right =
-    let h = operation_changed (right_rule f) (rules_cover.of_right f) (eval b c.old ∷ []) (change c b ∷ []) (eval b c.new ∷ []) (eval (Monad f b) c.old) (eval (Monad f b) c.new)
+pub monad_changed : (c : Change) (f : Monadic) (b : Tree) → IfOk (eval (Monad f b) c.old) IsArray → IsChanged (eval b c.old) (change c b) (eval b c.new) → IsTreeChanged c (Monad f b)
+monad_changed c f b sound right =
+    let h = operation_changed (right_rule f) (rules_cover.of_right f) (rules_grow.of_right f) (eval b c.old ∷ []) (change c b ∷ []) (eval b c.new ∷ []) (eval (Monad f b) c.old) (eval (Monad f b) c.new) sound
     (right, tt) (one_selector f) (monad_meant f (eval b c.old)) (monad_meant f (eval b c.new)) in
     record { right = h.0; fit = h.1 }
 
-pub dyad_changed : (c : Change) (f : Dyadic) (a b : Tree) → IsChanged (eval a c.old) (change c a) (eval a c.new) → IsChanged (eval b c.old) (change c b) (eval b c.new) → IsTreeChanged c (Dyad f a b)
-dyad_changed c f a b left right =
-    let h = operation_changed (both_rule f) (rules_cover.of_both f) (eval a c.old ∷ eval b c.old ∷ []) (change c a ∷ change c b ∷ []) (eval a c.new ∷ eval b c.new ∷ []) (eval (Dyad f a b) c.old) (eval (Dyad f a b) c.new)
+pub dyad_changed : (c : Change) (f : Dyadic) (a b : Tree) → IfOk (eval (Dyad f a b) c.old) IsArray → IsChanged (eval a c.old) (change c a) (eval a c.new) → IsChanged (eval b c.old) (change c b) (eval b c.new) → IsTreeChanged c (Dyad f a b)
+dyad_changed c f a b sound left right =
+    let h = operation_changed (both_rule f) (rules_cover.of_both f) (rules_grow.of_both f) (eval a c.old ∷ eval b c.old ∷ []) (change c a ∷ change c b ∷ []) (eval a c.new ∷ eval b c.new ∷ []) (eval (Dyad f a b) c.old) (eval (Dyad f a b) c.new) sound
     (left, (right, tt)) (two_selectors f) (dyad_meant f (eval a c.old) (eval b c.old)) (dyad_meant f (eval a c.new) (eval b c.new)) in
     record { right = h.0; fit = h.1 }
 
-pub index_changed : (c : Change) (a : Tree) (ps : Positions) → IsChanged (eval a c.old) (change c a) (eval a c.new) → AllChanged (values_of ps c.old) (changes c ps) (values_of ps c.new) → IsTreeChanged c (Index a ps)
-index_changed c a ps array positions =
-    let h = operation_changed (index_rule (written ps)) (rules_cover.of_positions (written ps)) (eval a c.old ∷ values_of ps c.old) (change c a ∷ changes c ps) (eval a c.new ∷ values_of ps c.new) (eval (Index a ps) c.old) (eval (Index a ps) c.new)
-    (array, positions) (ap suc (written_many c ps) ∙ sym (length-selectors (written ps))) (indexing_meant a ps c.old) (indexing_meant a ps c.new) in
+pub index_changed : (c : Change) (a : Tree) (ps : Positions) → IfOk (eval (Index a ps) c.old) IsArray → IsChanged (eval a c.old) (change c a) (eval a c.new) → AllChanged (values_of ps c.old) (changes c ps) (values_of ps c.new) → IsTreeChanged c (Index a ps)
+index_changed c a ps sound array positions =
+    let ws = written ps in
+    let h = operation_changed (index_rule ws) (rules_cover.of_positions ws) (rules_grow.of_positions ws) (eval a c.old ∷ values_of ps c.old) (change c a ∷ changes c ps) (eval a c.new ∷ values_of ps c.new) (eval (Index a ps) c.old) (eval (Index a ps) c.new) sound
+    (array, positions) (ap suc (written_many c ps) ∙ sym (length-selectors ws)) (indexing_meant a ps c.old) (indexing_meant a ps c.new) in
     record { right = h.0; fit = h.1 }

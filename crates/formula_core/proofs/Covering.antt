@@ -1,12 +1,16 @@
--- The law of the rule of each function of an expression.
+-- The laws of the rule of each function of an expression.
 use Rattle.apl_expr.specs.declared.expr.Monadic.{Monadic}
 use Rattle.apl_expr.specs.declared.expr.Monadic.TheVariants as monadic
 use Rattle.apl_expr.specs.declared.expr.Dyadic.{Dyadic}
 use Rattle.apl_expr.specs.declared.expr.Dyadic.TheVariants as dyadic
+use Rattle.change_core.specs.Growth.{IsGrowing}
 use Rattle.change_core.specs.Laws.{IsTight}
 use Rattle.change_core.proofs.Covers.{covers}
+use Rattle.change_core.proofs.Growing.{never_grows}
 use Rattle.scalar_rules.specs.EachMonadicLaw.{each_monadic_tight}
+use Rattle.scalar_rules.specs.EachMonadicGrowth.{each_monadic_growing}
 use Rattle.scalar_rules.specs.EachDyadicLaw.{each_dyadic_tight}
+use Rattle.scalar_rules.specs.EachDyadicGrowth.{each_dyadic_growing}
 use Rattle.structural_rules.specs.ReshapeLaw.{reshape_tight}
 use Rattle.structural_rules.specs.RavelLaw.{ravel_tight}
 use Rattle.structural_rules.specs.CatenateLaw.{catenate_tight}
@@ -21,17 +25,20 @@ use Rattle.selection_rules.specs.IndexGeneratorLaw.{generator_tight}
 use Rattle.selection_rules.specs.ReplicateLaw.{replicate_tight}
 use Rattle.selection_rules.specs.Index.{index_rule}
 use Rattle.selection_rules.specs.IndexLaw.{index_tight}
+use Rattle.selection_rules.specs.IndexGrowth.{index_growing}
 use Rattle.selection_rules.specs.IndexOfLaw.{index_of_tight}
 use Rattle.selection_rules.specs.MemberLaw.{member_tight}
 use Rattle.selection_rules.specs.EncodeLaw.{encode_tight}
 use Rattle.selection_rules.specs.DecodeLaw.{decode_tight}
 use Rattle.operator_rules.specs.ReduceLaw.{reduce_tight}
 use Rattle.operator_rules.specs.ScanLaw.{scan_tight}
+use Rattle.operator_rules.specs.LinesGrowth.{reduce_growing, scan_growing}
 use Rattle.operator_rules.specs.OuterProductLaw.{outer_tight}
+use Rattle.operator_rules.specs.OuterProductGrowth.{outer_growing}
 use Rattle.operator_rules.specs.InnerProductLaw.{inner_tight}
 use Rattle.formula_core.specs.Meaning.{scalar1_of, scalar2_of, along_of}
 use Rattle.formula_core.specs.Rules.{right_rule, both_rule}
-use Rattle.formula_core.specs.Changes.{RulesCover}
+use Rattle.formula_core.specs.Changes.{RulesCover, RulesGrow}
 
 right_tight : (f : Monadic) → IsTight (right_rule f)
 right_tight (monadic.Scalar f) = each_monadic_tight (scalar1_of f)
@@ -65,4 +72,38 @@ rules_cover = record {
   of_right = λ f. covers (right_rule f) (right_tight f);
   of_both = λ f. covers (both_rule f) (both_tight f);
   of_positions = λ positions. covers (index_rule positions) (index_tight positions);
+}
+
+right_growing : (f : Monadic) → IsGrowing (right_rule f) (right_rule f).grows
+right_growing (monadic.Scalar f) = each_monadic_growing (scalar1_of f)
+right_growing monadic.Ravel = never_grows _
+right_growing (monadic.Reverse k) = never_grows _
+right_growing monadic.Transpose = never_grows _
+right_growing monadic.Shape = never_grows _
+right_growing monadic.Iota = never_grows _
+right_growing (monadic.Reduce f k) = reduce_growing (scalar2_of f) (along_of k)
+right_growing (monadic.Scan f k) = scan_growing (scalar2_of f) (along_of k)
+
+both_growing : (f : Dyadic) → IsGrowing (both_rule f) (both_rule f).grows
+both_growing (dyadic.Scalar f) = each_dyadic_growing (scalar2_of f)
+both_growing dyadic.Reshape = never_grows _
+both_growing (dyadic.Catenate k) = never_grows _
+both_growing dyadic.Take = never_grows _
+both_growing dyadic.Drop = never_grows _
+both_growing (dyadic.Rotate k) = never_grows _
+both_growing dyadic.Transpose = never_grows _
+both_growing (dyadic.Replicate k) = never_grows _
+both_growing dyadic.IndexOf = never_grows _
+both_growing dyadic.Member = never_grows _
+both_growing dyadic.Encode = never_grows _
+both_growing dyadic.Decode = never_grows _
+both_growing (dyadic.Outer f) = outer_growing (scalar2_of f)
+both_growing (dyadic.Inner f g) = never_grows _
+
+-- where the rule of each function says that its node grows, the result does
+pub rules_grow : RulesGrow
+rules_grow = record {
+  of_right = right_growing;
+  of_both = both_growing;
+  of_positions = index_growing;
 }

@@ -1,5 +1,5 @@
 -- The operands of an operation, gathered for its rule where none of them is an error.
-use Rattle.std.proofs.Common.{◌≡◌, ℕ, suc, ◌+◌, ◌≤◌, List, [], ◌∷◌, length, map, Bool, ◌&&◌, ◌||◌, not, Option, Some, None, is_some, is_ok, Result, Ok, Err, refl, sym, ap, ◌∙◌, subst, IfOk, if◌then◌else◌, arith}
+use Rattle.std.proofs.Common.{◌≡◌, ℕ, suc, ◌+◌, ◌<◌, ◌≤◌, List, [], ◌∷◌, length, map, Bool, true, ◌&&◌, ◌||◌, not, Option, Some, None, is_some, is_ok, Result, Ok, Err, refl, sym, ap, ◌∙◌, subst, IfOk, if◌then◌else◌, arith}
 use Rattle.std.specs.Borrow.{Bor}
 use Rattle.std.specs.List.{list_all, list_any}
 use Rattle.std.specs.Result.{result_err}
@@ -7,18 +7,21 @@ use Rattle.std.specs.declared.alloc.AllocError.{AllocError}
 use Rattle.arrays_core.specs.Arrays.{ArrayValue}
 use Rattle.arrays_core.specs.declared.fault.Fault.{Fault}
 use Rattle.index_region.specs.declared.delta.Delta.{Delta}
-use Rattle.index_region.specs.declared.delta.Delta.TheVariants.{Same, Patch, Whole}
+use Rattle.index_region.specs.declared.delta.Delta.TheVariants.{Same, Patch, Grown, Whole}
+use Rattle.index_region.specs.Boxes.{Interval}
 use Rattle.change_core.specs.Reaches.{Fits, AllFit}
 use Rattle.change_core.specs.RuleModels.{RuleModel, form_size}
-use Rattle.change_rules.specs.Nodes.{Argument, views, moved, moved_by, is_same, is_whole, all_same, starts_anew, node_delta, node_cost, reached_delta, reached_cost}
+use Rattle.change_rules.specs.Nodes.{Argument, views, moved, moved_by, marks, is_same, is_whole, is_grown, is_grown_at_most, any_grown, all_same, node_delta, node_cost, grown_in, grown_size, reached_delta, reached_cost}
+use Rattle.change_rules.specs.Currency.{HasAxis}
 use Rattle.change_rules.specs.Outcomes.{evaluation}
 use Rattle.selection_fns.specs.Index.{count_written}
 use Rattle.formula_core.specs.declared.input.Input.{Input}
 use Rattle.formula_core.specs.declared.input.Input.TheVariants.{Good, Bad}
 use Rattle.formula_core.specs.Outcomes.{Outcome}
 use Rattle.formula_core.specs.Rules.{IsRefreshed}
-use Rattle.formula_core.specs.Changes.{FitsIn, argument_in_front, arguments, paired, operation_delta, operation_cost}
+use Rattle.formula_core.specs.Changes.{FitsNow, argument_in_front, arguments, paired, operation_delta, operation_cost}
 use Rattle.formula_core.specs.Inputs.{shown, stays, delta_of, HasFit, AllHaveFit, IsOperationChange, written_inputs, arrays_among, last_error}
+use Rattle.formula_core.proofs.Fitting.{axis_lies}
 use Rattle.formula_core.proofs.Stepping.{stays_same}
 
 -- the same arrays with the same changes, wherever those lie
@@ -26,6 +29,9 @@ record AreAlike (xs ys : List Argument) : Type 0 where
   pub same : all_same xs ≡ all_same ys
   pub whole : list_any (λ a. is_whole a.1.now) xs ≡ list_any (λ a. is_whole a.1.now) ys
   pub seen : views xs ≡ views ys
+  pub grown : any_grown xs ≡ any_grown ys
+  pub most : list_all (λ a. is_grown_at_most a.1.now) xs ≡ list_all (λ a. is_grown_at_most a.1.now) ys
+  pub which : marks xs ≡ marks ys
   pub moves : moved xs ≡ moved ys
 
 -- the operands are all arrays, and this is what they are
@@ -43,7 +49,7 @@ some_in_front f (Err e) h = cc
 some_in_front f (Ok arrays) h = cc
 
 gathered : (inputs : List Input) → last_error inputs ≡ None → IsGathered inputs
-gathered [] h = record { are = refl; alike = record { same = refl; whole = refl; seen = refl; moves = refl }; count = refl }
+gathered [] h = record { are = refl; alike = record { same = refl; whole = refl; seen = refl; grown = refl; most = refl; which = refl; moves = refl }; count = refl }
 gathered (Good a d ∷ inputs) h =
     let rest = gathered inputs (none_behind a (arguments (map shown inputs)) h) in
     record {
@@ -52,6 +58,9 @@ gathered (Good a d ∷ inputs) h =
         same = ap (λ b. is_same d.now && b) rest.alike.same;
         whole = ap (λ b. is_whole d.now || b) rest.alike.whole;
         seen = ap (λ xs. a ∷ xs) rest.alike.seen;
+        grown = ap (λ b. is_grown d.now || b) rest.alike.grown;
+        most = ap (λ b. is_grown_at_most d.now && b) rest.alike.most;
+        which = ap (λ xs. is_grown d.now ∷ xs) rest.alike.which;
         moves = ap (λ xs. moved_by d.now ∷ xs) rest.alike.moves;
       };
       count = ap suc rest.count;
@@ -62,20 +71,26 @@ gathered (Bad f changed ∷ inputs) h = absurd (some_in_front f (arguments (map 
 pub none_with_array : (a : ArrayValue) (d : Bor Delta) (inputs : List Input) → last_error inputs ≡ None → last_error (Good a d ∷ inputs) ≡ None
 none_with_array a d inputs h = ap (λ r. result_err (argument_in_front (Ok a) r)) (gathered inputs h).are
 
--- only the arrays and their changes count
+-- only the arrays and their changes count: which are new, which grew, and which boxes changed
+abbrev delta_from : (p : RuleModel) (same whole : Bool) (seen : List ArrayValue) (grown most : Bool) (which : List Bool) (moves : List (Option (List Interval))) (held : Outcome) → Delta
+delta_from p same whole seen grown most which moves held =
+    if same then Same
+    else if whole || not (is_ok held) then Whole (evaluation p seen)
+    else if grown then (if most && p.grows seen which then grown_in (p.form seen) (p.item seen) else Whole (evaluation p seen))
+    else reached_delta p seen moves
+
+abbrev cost_from : (p : RuleModel) (same whole : Bool) (seen : List ArrayValue) (grown most : Bool) (which : List Bool) (moves : List (Option (List Interval))) (held : Outcome) → ℕ
+cost_from p same whole seen grown most which moves held =
+    if same then 0
+    else if whole || not (is_ok held) then form_size (p.form seen)
+    else if grown then (if most && p.grows seen which then grown_size (p.form seen) else form_size (p.form seen))
+    else reached_cost p seen moves
+
 delta_alike : (p : RuleModel) (xs ys : List Argument) (held : Outcome) → AreAlike xs ys → node_delta p xs held ≡ node_delta p ys held
-delta_alike p xs ys held h =
-    ap (λ (b : Bool). if b then Same else if starts_anew xs held then Whole (evaluation p (views xs)) else reached_delta p (views xs) (moved xs)) h.same
-    ∙ ap (λ (b : Bool). if all_same ys then Same else if b || not (is_ok held) then Whole (evaluation p (views xs)) else reached_delta p (views xs) (moved xs)) h.whole
-    ∙ ap (λ (vs : List ArrayValue). if all_same ys then Same else if starts_anew ys held then Whole (evaluation p vs) else reached_delta p vs (moved xs)) h.seen
-    ∙ ap (λ ms. if all_same ys then Same else if starts_anew ys held then Whole (evaluation p (views ys)) else reached_delta p (views ys) ms) h.moves
+delta_alike p xs ys held h = λ i. delta_from p (h.same i) (h.whole i) (h.seen i) (h.grown i) (h.most i) (h.which i) (h.moves i) held
 
 cost_alike : (p : RuleModel) (xs ys : List Argument) (held : Outcome) → AreAlike xs ys → node_cost p xs held ≡ node_cost p ys held
-cost_alike p xs ys held h =
-    ap (λ (b : Bool). if b then 0 else if starts_anew xs held then form_size (p.form (views xs)) else reached_cost p (views xs) (moved xs)) h.same
-    ∙ ap (λ (b : Bool). if all_same ys then 0 else if b || not (is_ok held) then form_size (p.form (views xs)) else reached_cost p (views xs) (moved xs)) h.whole
-    ∙ ap (λ (vs : List ArrayValue). if all_same ys then 0 else if starts_anew ys held then form_size (p.form vs) else reached_cost p vs (moved xs)) h.seen
-    ∙ ap (λ ms. if all_same ys then 0 else if starts_anew ys held then form_size (p.form (views ys)) else reached_cost p (views ys) ms) h.moves
+cost_alike p xs ys held h = λ i. cost_from p (h.same i) (h.whole i) (h.seen i) (h.grown i) (h.most i) (h.which i) (h.moves i) held
 
 -- where all operands are arrays, the rule's change is that of the operation
 pub refreshed_change : (p : RuleModel) (inputs : List Input) (held : Outcome) (before after : ℕ) (r : Result (Delta × ℕ) AllocError) → last_error inputs ≡ None
@@ -119,7 +134,7 @@ error_change p inputs held before e d some is =
       ticks = omega arith;
     }
 
--- the boxes of the patches lie in the arrays
+-- the boxes of the patches lie in the arrays, and those that grew have axes
 abbrev pub EachHasFit : List Input → Type 0
 EachHasFit [] = Unit {0}
 EachHasFit (i ∷ inputs) = HasFit i × EachHasFit inputs
@@ -129,15 +144,21 @@ written_fit [] h = tt
 written_fit (Some i ∷ positions) h = (h.0, written_fit positions h.1)
 written_fit (None ∷ positions) h = written_fit positions h
 
-box_lies : (a : ArrayValue) (d : Delta) → FitsIn d (Ok a) → Fits a (moved_by d)
+box_lies : (a : ArrayValue) (d : Delta) → FitsNow d (Ok a) → Fits a (moved_by d)
 box_lies a Same h = tt
 box_lies a (Patch p) h = h.inside
+box_lies a (Grown t) h = tt
 box_lies a (Whole r) h = tt
 
 pub arrays_fit : (inputs : List Input) → EachHasFit inputs → AllFit (views (arrays_among inputs)) (moved (arrays_among inputs))
 arrays_fit [] h = tt
 arrays_fit (Good a d ∷ inputs) h = (box_lies a d.now h.0, arrays_fit inputs h.1)
 arrays_fit (Bad f changed ∷ inputs) h = arrays_fit inputs h.1
+
+pub arrays_have_axes : (inputs : List Input) → EachHasFit inputs → HasAxis (arrays_among inputs)
+arrays_have_axes [] h = tt
+arrays_have_axes (Good a d ∷ inputs) h = (axis_lies a d.now h.0, arrays_have_axes inputs h.1)
+arrays_have_axes (Bad f changed ∷ inputs) h = arrays_have_axes inputs h.1
 
 -- as many as are written
 written_count : (positions : List (Option Input)) → length (written_inputs positions) ≡ count_written (map is_some positions)

@@ -3,6 +3,7 @@ pub mod Tabled
 pub mod Rooted
 pub mod Meant
 pub mod Covering
+pub mod Fitting
 pub mod Changed
 pub mod Alike
 pub mod Stepping

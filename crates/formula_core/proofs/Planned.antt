@@ -60,15 +60,15 @@ module _ (c : Change) (names : List (List ℕ)) (trees : List Tree) (s : Stage) 
       ∙ (get_or-map (holding_at c.old) trees place (Const (Numbers [])) (holding k) (omega (arith, below, staged.known)) ∙ ap (holding_at c.old) next_tree))
 
   -- and its change makes of that what its tree gives
-  pub next_fits : (d : Delta) → d ≡ node_change s.is_new c t → (applied d k.result ≡ eval t c.new) × FitsIn d k.result
-  next_fits d made =
+  pub next_fits : (d : Delta) → d ≡ node_change s.is_new c t → IfOk k.result IsArray → (applied d k.result ≡ eval t c.new) × FitsIn d k.result
+  next_fits d made sound =
       subst (λ (e : Delta). (applied e k.result ≡ eval t c.new) × FitsIn e k.result) (sym made)
-      (change_fits c names trees s staged s.is_new refl k.node next_node k.result (λ old. ap (λ (h : Holding). h.result) (next_held old)))
+      (change_fits c names trees s staged s.is_new refl k.node next_node k.result (λ old. ap (λ (h : Holding). h.result) (next_held old)) sound)
 
   pub next_done : (d : NodeChange) → d.delta ≡ node_change s.is_new c t → IsSumsStep c t k.sums d.sums → IfOk k.result IsArray → IfOk (applied d.delta k.result) IsArray
       → IsDone s.is_new c (tree_at trees place) (get_or (holdings_of s.nodes.now) place not_worked_out) d
   next_done d made sums sound_held sound_new =
-      let fits = next_fits d.delta made in
+      let fits = next_fits d.delta made sound_held in
       let result = fits.0 in
       let sums_are = sums.right in
       let right : taking d (holding k) ≡ holding_at c.new t = λ i. record { result = result i; sums = sums_are i } in

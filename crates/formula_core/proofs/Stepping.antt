@@ -10,7 +10,7 @@ use Rattle.apl_expr.specs.declared.expr.Dyadic.{Dyadic}
 use Rattle.arrays_core.specs.Arrays.{ArrayValue}
 use Rattle.arrays_core.specs.declared.fault.Fault.{Fault}
 use Rattle.index_region.specs.declared.delta.Delta.{Delta}
-use Rattle.index_region.specs.declared.delta.Delta.TheVariants.{Same, Patch, Whole}
+use Rattle.index_region.specs.declared.delta.Delta.TheVariants.{Same, Patch, Grown, Whole}
 use Rattle.change_core.specs.RuleModels.{RuleModel, form_size}
 use Rattle.change_rules.specs.Nodes.{views, is_same, is_whole, node_delta, node_cost}
 use Rattle.change_rules.specs.Outcomes.{evaluation}
@@ -106,6 +106,7 @@ record IsWhole (p : RuleModel) (r : Result (List ArrayValue) Fault) (ds : List D
 whole_by : (p : RuleModel) (r : Result (List ArrayValue) Fault) (d : Delta) (ds : List Delta) (held : Outcome) → is_whole d ≡ true → ((arrays : List ArrayValue) → r ≡ Ok arrays → length (d ∷ ds) ≡ length arrays) → IsWhole p r (d ∷ ds) held
 whole_by p r Same ds held w count = absurd (false≢true w)
 whole_by p r (Patch q) ds held w count = absurd (false≢true w)
+whole_by p r (Grown t) ds held w count = absurd (false≢true w)
 whole_by p (Err e) (Whole o) ds held w count = record { delta = refl; cost = refl }
 whole_by p (Ok []) (Whole o) ds held w count = absurd (omega (arith, count [] refl))
 whole_by p (Ok (a ∷ arrays)) (Whole o) ds held w count =

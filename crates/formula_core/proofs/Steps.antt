@@ -8,7 +8,7 @@ use Rattle.apl_expr.specs.Trees.{Tree, Const, Name, Monad, Dyad, Index, Numbers,
 use Rattle.arrays_core.specs.Arrays.{IsArray}
 use Rattle.arrays_core.specs.declared.item.Kind.TheVariants.{Value}
 use Rattle.index_region.specs.declared.delta.Delta.{Delta}
-use Rattle.index_region.specs.declared.delta.Delta.TheVariants.{Same, Patch, Whole}
+use Rattle.index_region.specs.declared.delta.Delta.TheVariants.{Same, Patch, Grown, Whole}
 use Rattle.change_rules.specs.Currency.{applied}
 use Rattle.change_rules.specs.Nodes.{is_same}
 use Rattle.formula_core.specs.declared.input.Input.{Input}
@@ -21,31 +21,19 @@ use Rattle.formula_core.specs.declared.table.Node.TheVariants as node
 use Rattle.formula_core.specs.Meaning.{eval}
 use Rattle.formula_core.specs.Outcomes.{Outcome, fault}
 use Rattle.formula_core.specs.Tables.{tree_at, tree_of_operand, tree_of_node, IsOperand, AreOperands, IsNode}
-use Rattle.formula_core.specs.Changes.{Change, change, changes, values_of, FitsIn, IsChanged, IsNameChanged, IsTreeChanged}
-use Rattle.formula_core.specs.Inputs.{shown, HasFit, IsNoPatch, IsInput}
+use Rattle.formula_core.specs.Changes.{Change, change, changes, values_of, FitsIn, FitsNow, IsChanged, IsNameChanged, IsTreeChanged}
+use Rattle.formula_core.specs.Inputs.{shown, HasFit, IsAllOrNothing, IsInput}
 use Rattle.formula_core.specs.Holdings.{Holding, holding_at, holdings_of, not_worked_out, no_change}
 use Rattle.formula_core.specs.Plans.{node_change, AreInputs}
 use Rattle.formula_core.specs.Stages.{IsStaged, IsTaken, AreReady, IsStep}
 use Rattle.formula_core.specs.Formulas.{is_operation}
+use Rattle.formula_core.proofs.Fitting.{fit_now}
 use Rattle.formula_core.proofs.Changed.{AllChanged, monad_changed, dyad_changed, index_changed}
 use Rattle.formula_core.proofs.Stepping.{ready_more}
 
--- what fits in what was held fits in what is there now, and the other way round
-pub fit_now : (d : Delta) (o : Outcome) → FitsIn d o → FitsIn d (applied d o)
-fit_now Same o h = h
-fit_now (Whole r) o h = tt
-fit_now (Patch p) (Ok a) h = record { inside = h.inside; typed = h.typed }
-fit_now (Patch p) (Err e) h = h
-
-pub fit_held : (d : Delta) (o : Outcome) → FitsIn d (applied d o) → FitsIn d o
-fit_held Same o h = tt
-fit_held (Whole r) o h = tt
-fit_held (Patch p) (Ok a) h = record { inside = h.inside; typed = h.typed }
-fit_held (Patch p) (Err e) h = h
-
--- an input that says what changed has a box that fits
-pub input_fits : (now : Outcome) (d : Delta) (i : Input) → IsInput now d i → FitsIn d now → HasFit i
-input_fits now d (Good array delta) h fit = subst (λ (e : Delta). FitsIn e (Ok array)) (sym h.delta) (subst (λ (o : Outcome). FitsIn d o) (sym h.is) fit)
+-- an input that says what changed fits
+pub input_fits : (now : Outcome) (d : Delta) (i : Input) → IsInput now d i → FitsNow d now → HasFit i
+input_fits now d (Good array delta) h fit = subst (λ (e : Delta). FitsNow e (Ok array)) (sym h.delta) (subst (λ (o : Outcome). FitsNow d o) (sym h.is) fit)
 input_fits now d (Bad f changed) h fit = tt
 
 -- the inputs, one for each name
@@ -89,8 +77,7 @@ module _ (c : Change) (names : List (List ℕ)) (trees : List Tree) (s : Stage) 
       let right : applied (change c t) (eval t c.old) ≡ eval t c.new = ap (λ e. applied e (eval t c.old)) (sym is) ∙ (ap (applied d) (sym held) ∙ ap (λ (h : Holding). h.result) done.right) in
       record {
         right = right;
-        fit = subst (λ (o : Outcome). FitsIn (change c t) o) right (fit_now (change c t) (eval t c.old)
-            (subst (λ (o : Outcome). FitsIn (change c t) o) held (subst (λ (e : Delta). FitsIn e was) is done.fit.delta)));
+        fit = subst (λ (o : Outcome). FitsIn (change c t) o) held (subst (λ (e : Delta). FitsIn e was) is done.fit.delta);
         sound_old = subst (λ (o : Outcome). IfOk o IsArray) held done.sound_held;
         sound_new = done.sound_new;
       }
@@ -102,15 +89,15 @@ module _ (c : Change) (names : List (List ℕ)) (trees : List Tree) (s : Stage) 
   operands_changed old (Some o ∷ os) within = (operand_changed old o within.0, operands_changed old os within.1)
 
   -- the change of a node makes of what it gave what it gives
-  pub node_changed : s.is_new ≡ false → (n : Node) → IsNode (length s.inputs.now) (length s.changes.now) n → IsTreeChanged c (tree_of_node names trees n)
-  node_changed old (node.Constant l) within = record { right = refl; fit = tt }
-  node_changed old (node.Name k) within =
+  pub node_changed : s.is_new ≡ false → (n : Node) → IsNode (length s.inputs.now) (length s.changes.now) n → IfOk (eval (tree_of_node names trees n) c.old) IsArray → IsTreeChanged c (tree_of_node names trees n)
+  node_changed old (node.Constant l) within sound = record { right = refl; fit = tt }
+  node_changed old (node.Name k) within sound =
       let told = staged.changed (get_or names k []) (known_name k within) in
       record { right = told.right; fit = told.fit }
-  node_changed old (node.Monad f b) within = monad_changed c f (tree_of_operand names trees b) (operand_changed old b within)
-  node_changed old (node.Dyad f a b) within = dyad_changed c f (tree_of_operand names trees a) (tree_of_operand names trees b) (operand_changed old a within.0) (operand_changed old b within.1)
-  node_changed old (node.Index a os) within =
-      index_changed c (tree_of_operand names trees a) (positions_of (map (option_map (tree_of_operand names trees)) os.items)) (operand_changed old a within.0) (operands_changed old os.items within.1)
+  node_changed old (node.Monad f b) within sound = monad_changed c f (tree_of_operand names trees b) sound (operand_changed old b within)
+  node_changed old (node.Dyad f a b) within sound = dyad_changed c f (tree_of_operand names trees a) (tree_of_operand names trees b) sound (operand_changed old a within.0) (operand_changed old b within.1)
+  node_changed old (node.Index a os) within sound =
+      index_changed c (tree_of_operand names trees a) (positions_of (map (option_map (tree_of_operand names trees)) os.items)) sound (operand_changed old a within.0) (operands_changed old os.items within.1)
 
   -- an operand as it stands is an input of its tree
   pub taken_input : s.is_new ≡ false → (o : Operand) → IsOperand (length s.inputs.now) (length s.changes.now) o → (i : Input) → IsTaken s.inputs.now (holdings_of s.nodes.now) s.changes.now o i → IsInput (eval (tree_of_operand names trees o) c.new) (change c (tree_of_operand names trees o)) i
@@ -136,17 +123,19 @@ module _ (c : Change) (names : List (List ℕ)) (trees : List Tree) (s : Stage) 
 
   pub taken_fits : s.is_new ≡ false → (o : Operand) → IsOperand (length s.inputs.now) (length s.changes.now) o → (i : Input) → IsTaken s.inputs.now (holdings_of s.nodes.now) s.changes.now o i → HasFit i
   taken_fits old o within i taken =
-      input_fits (eval (tree_of_operand names trees o) c.new) (change c (tree_of_operand names trees o)) i (taken_input old o within i taken) (operand_changed old o within).fit
+      let t = tree_of_operand names trees o in
+      let changed = operand_changed old o within in
+      input_fits (eval t c.new) (change c t) i (taken_input old o within i taken) (subst (λ (n : Outcome). FitsNow (change c t) n) changed.right (fit_now (change c t) (eval t c.old) changed.fit))
 
   -- the change of a node lies in what it held
-  pub change_fits : (is_new : Bool) → s.is_new ≡ is_new → (n : Node) → IsNode (length s.inputs.now) (length s.changes.now) n → (held : Outcome) → (is_new ≡ false → held ≡ eval (tree_of_node names trees n) c.old)
+  pub change_fits : (is_new : Bool) → s.is_new ≡ is_new → (n : Node) → IsNode (length s.inputs.now) (length s.changes.now) n → (held : Outcome) → (is_new ≡ false → held ≡ eval (tree_of_node names trees n) c.old) → IfOk held IsArray
       → (applied (node_change is_new c (tree_of_node names trees n)) held ≡ eval (tree_of_node names trees n) c.new) × FitsIn (node_change is_new c (tree_of_node names trees n)) held
-  change_fits true is n within held holds = (refl, tt)
-  change_fits false is n within held holds =
+  change_fits true is n within held holds sound = (refl, tt)
+  change_fits false is n within held holds sound =
       let t = tree_of_node names trees n in
-      let changed = node_changed is n within in
-      let right : applied (change c t) held ≡ eval t c.new = ap (applied (change c t)) (holds refl) ∙ changed.right in
-      (right, fit_held (change c t) held (subst (λ (o : Outcome). FitsIn (change c t) o) (sym right) changed.fit))
+      let was = holds refl in
+      let changed = node_changed is n within (subst (λ (o : Outcome). IfOk o IsArray) was sound) in
+      (ap (applied (change c t)) was ∙ changed.right, subst (λ (o : Outcome). FitsIn (change c t) o) (sym was) changed.fit)
 
 -- each written position of an index is an operand
 pub operand_within : (names place : ℕ) (os : List (Option Operand)) → AreOperands names place os → (k : ℕ) (o : Operand) → k < length os → get_or os k None ≡ Some o → IsOperand names place o
@@ -164,9 +153,10 @@ position_ready is_new c f os k x is i below at h one =
     (ready_more is_new c (map f (take k os)) is (f (get_or os k None)) i h (subst (λ (o : Option Operand). AreReady is_new c (f o ∷ []) (i ∷ [])) (sym at) one))
 
 -- the change of a name that is the whole tree
-whole_name : (old now : Outcome) (d : Delta) → IsNoPatch d → is_same d ≡ false → applied d old ≡ now → d ≡ Whole now
+whole_name : (old now : Outcome) (d : Delta) → IsAllOrNothing d → is_same d ≡ false → applied d old ≡ now → d ≡ Whole now
 whole_name old now Same none same is = absurd (false≢true (sym same))
 whole_name old now (Patch p) none same is = absurd none
+whole_name old now (Grown t) none same is = absurd none
 whole_name old now (Whole r) none same is = ap (λ o. Whole o) is
 
 -- a step of a node that applies no function costs nothing

@@ -6,7 +6,7 @@ use Rattle.std.proofs.lemmas.Bool.{false≢true, cases_Bool, cond-true, cond-fal
 use Rattle.apl_expr.specs.Trees.{Tree}
 use Rattle.arrays_core.specs.Arrays.{ArrayValue}
 use Rattle.index_region.specs.declared.delta.Delta.{Delta}
-use Rattle.index_region.specs.declared.delta.Delta.TheVariants.{Same, Patch, Whole}
+use Rattle.index_region.specs.declared.delta.Delta.TheVariants.{Same, Patch, Grown, Whole}
 use Rattle.index_region.specs.Patches.{PatchValue, FitsPatch, patched}
 use Rattle.change_rules.specs.Currency.{applied}
 use Rattle.change_rules.specs.Nodes.{is_same, is_whole}
@@ -83,6 +83,7 @@ record Follows (d : Delta) (old now : Outcome) : Type 0 where
 same_of : (d : Delta) → is_same d ≡ true → d ≡ Same
 same_of Same h = refl
 same_of (Patch p) h = absurd (false≢true h)
+same_of (Grown t) h = absurd (false≢true h)
 same_of (Whole r) h = absurd (false≢true h)
 
 follows : (old now : Outcome) (d : Delta) (i : Input) → IsInput now d i → applied d old ≡ now → FitsIn d old → is_whole (delta_of i) ≡ false → Follows (delta_of i) old (shown i)
@@ -108,8 +109,7 @@ module _ (c : Change) (names : List (List ℕ)) (trees : List Tree) (s : Stage) 
       by true is = absurd (false≢true (sym other ∙ ready.anew is))
       by false is =
           let changed = operand_changed c names trees s staged is o within in
-          let fit = fit_held (change c t) (eval t c.old) (subst (λ (x : Outcome). FitsIn (change c t) x) (sym changed.right) changed.fit) in
-          let now = follows (eval t c.old) (eval t c.new) (change c t) i (ready.is is) changed.right fit other in
+          let now = follows (eval t c.old) (eval t c.new) (change c t) i (ready.is is) changed.right changed.fit other in
           record { becomes = now.becomes; fit = now.fit; keeps = holds is }
 
   pub now_shown : shown i ≡ eval (tree_of_operand names trees o) c.new

@@ -1,5 +1,5 @@
 -- What a change of the names changes of the result of each node of a formula that holds results.
-use Rattle.std.specs.Prelude.{◌≡◌, ℕ, List, [], ◌∷◌, Bool, true, false, Result, Ok, Err, IfOk, if◌then◌else◌}
+use Rattle.std.specs.Prelude.{◌≡◌, ◌<◌, ℕ, List, [], ◌∷◌, Bool, true, false, length, Result, Ok, Err, IfOk, if◌then◌else◌}
 use Rattle.std.specs.List.{list_all}
 use Rattle.apl_expr.specs.Trees.{Tree, Const, Name, Monad, Dyad, Index, Positions, NoPositions, Empty, Filled}
 use Rattle.apl_expr.specs.declared.expr.Monadic.{Monadic}
@@ -7,8 +7,10 @@ use Rattle.apl_expr.specs.declared.expr.Dyadic.{Dyadic}
 use Rattle.arrays_core.specs.Arrays.{ArrayValue, IsArray}
 use Rattle.arrays_core.specs.declared.fault.Fault.{Fault}
 use Rattle.index_region.specs.declared.delta.Delta.{Delta}
-use Rattle.index_region.specs.declared.delta.Delta.TheVariants.{Same, Patch, Whole}
+use Rattle.index_region.specs.declared.delta.Delta.TheVariants.{Same, Patch, Grown, Whole}
 use Rattle.index_region.specs.Patches.{FitsPatch}
+use Rattle.index_region.specs.Tails.{FitsTail}
+use Rattle.change_core.specs.Growth.{IsGrowing}
 use Rattle.change_core.specs.Laws.{ReachCovers}
 use Rattle.change_core.specs.RuleModels.{RuleModel, form_size}
 use Rattle.change_rules.specs.Currency.{applied}
@@ -109,31 +111,47 @@ each_with f [] xs = xs
 each_with f (c ∷ changes) [] = []
 each_with f (c ∷ changes) (x ∷ xs) = f c x ∷ each_with f changes xs
 
--- what is patched is an array in which the box lies, and the items are of its type
+-- what is patched is an array in which the box lies, and the items are of its type; what grows is an array that the tail fits
 abbrev pub FitsIn : Delta → Outcome → Type 0
 FitsIn (Patch p) (Ok a) = FitsPatch a p
 FitsIn (Patch p) (Err e) = ⊥
+FitsIn (Grown t) (Ok a) = FitsTail a t
+FitsIn (Grown t) (Err e) = ⊥
 FitsIn _ _ = Unit {0}
+
+-- what is there after such a change: the box of a patch lies in it, and what grew has an axis
+abbrev pub FitsNow : Delta → Outcome → Type 0
+FitsNow (Patch p) (Ok a) = FitsPatch a p
+FitsNow (Patch p) (Err e) = ⊥
+FitsNow (Grown t) (Ok a) = 0 < length a.shape
+FitsNow (Grown t) (Err e) = ⊥
+FitsNow _ _ = Unit {0}
 
 -- what was, with its change, is what is; both are arrays or errors
 pub record IsChanged (old : Outcome) (d : Delta) (new : Outcome) : Type 0 where
   pub right : applied d old ≡ new
-  pub fit : FitsIn d new
+  pub fit : FitsIn d old
   pub sound_old : IfOk old IsArray
   pub sound_new : IfOk new IsArray
 
 -- what a name showed, with its change, is what it shows
 pub record IsNameChanged (c : Change) (x : List ℕ) : Type 0 where
   pub right : applied (c.delta x) (c.old x) ≡ c.new x
-  pub fit : FitsIn (c.delta x) (c.new x)
+  pub fit : FitsIn (c.delta x) (c.old x)
 
 -- so is what a tree gave
 pub record IsTreeChanged (c : Change) (t : Tree) : Type 0 where
   pub right : applied (change c t) (eval t c.old) ≡ eval t c.new
-  pub fit : FitsIn (change c t) (eval t c.new)
+  pub fit : FitsIn (change c t) (eval t c.old)
 
 -- the law of each rule: where arguments agree outside their changed boxes, results agree outside what is reached
 pub record RulesCover : Type 0 where
   pub of_right : (f : Monadic) → ReachCovers (right_rule f)
   pub of_both : (f : Dyadic) → ReachCovers (both_rule f)
   pub of_positions : (positions : List Bool) → ReachCovers (index_rule positions)
+
+-- and where it says that its node grows, the result grows by one place
+pub record RulesGrow : Type 0 where
+  pub of_right : (f : Monadic) → IsGrowing (right_rule f) (right_rule f).grows
+  pub of_both : (f : Dyadic) → IsGrowing (both_rule f) (both_rule f).grows
+  pub of_positions : (positions : List Bool) → IsGrowing (index_rule positions) (index_rule positions).grows

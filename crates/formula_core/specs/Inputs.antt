@@ -4,13 +4,13 @@ use Rattle.std.specs.Result.{result_err}
 use Rattle.arrays_core.specs.declared.fault.Fault.{Fault}
 use Rattle.std.specs.declared.alloc.AllocError.{AllocError}
 use Rattle.index_region.specs.declared.delta.Delta.{Delta}
-use Rattle.index_region.specs.declared.delta.Delta.TheVariants.{Same, Patch, Whole}
+use Rattle.index_region.specs.declared.delta.Delta.TheVariants.{Same, Patch, Grown, Whole}
 use Rattle.change_core.specs.RuleModels.{RuleModel}
 use Rattle.change_rules.specs.Nodes.{Argument, is_same}
 use Rattle.formula_core.specs.declared.input.Input.{Input}
 use Rattle.formula_core.specs.declared.input.Input.TheVariants.{Good, Bad}
 use Rattle.formula_core.specs.Outcomes.{Outcome}
-use Rattle.formula_core.specs.Changes.{FitsIn, arguments, operation_delta, operation_cost}
+use Rattle.formula_core.specs.Changes.{FitsNow, arguments, operation_delta, operation_cost}
 
 -- the array or the error
 abbrev pub shown : Input → Outcome
@@ -22,15 +22,16 @@ abbrev pub stays : Input → Bool
 stays (Good array delta) = is_same delta.now
 stays (Bad fault changed) = not changed
 
--- it is no patch
-abbrev pub IsNoPatch : Delta → Type 0
-IsNoPatch (Patch p) = ⊥
-IsNoPatch _ = Unit {0}
+-- the whole changed, or nothing
+abbrev pub IsAllOrNothing : Delta → Type 0
+IsAllOrNothing (Patch p) = ⊥
+IsAllOrNothing (Grown t) = ⊥
+IsAllOrNothing _ = Unit {0}
 
--- what changed of an array; beside an error, that it is no patch
+-- what changed of an array; beside an error, that it is the whole or nothing
 abbrev pub HasDelta : Delta → Input → Type 0
 HasDelta d (Good array delta) = delta.now ≡ d
-HasDelta d (Bad fault changed) = IsNoPatch d
+HasDelta d (Bad fault changed) = IsAllOrNothing d
 
 -- the input says what is there now and what changed of it; of an error only whether anything did
 pub record IsInput (now : Outcome) (d : Delta) (input : Input) : Type 0 where
@@ -44,9 +45,9 @@ delta_of (Good array delta) = delta.now
 delta_of (Bad fault true) = Whole (Err fault)
 delta_of (Bad fault false) = Same
 
--- the box of a patch lies in its array
+-- the box of a patch lies in its array, and an array that grew has an axis
 abbrev pub HasFit : Input → Type 0
-HasFit (Good array delta) = FitsIn delta.now (Ok array)
+HasFit (Good array delta) = FitsNow delta.now (Ok array)
 HasFit (Bad fault changed) = Unit {0}
 
 -- the change of an operation, by its rule, from what its operands give, what it costs, and how far the meter rises by it
@@ -55,7 +56,7 @@ pub record IsOperationChange (rule : RuleModel) (operands : List Input) (held : 
   pub cost : IfOk r (λ s. s.1 ≡ operation_cost rule (arguments (map shown operands)) (map delta_of operands) held)
   pub ticks : after ≤ before + operation_cost rule (arguments (map shown operands)) (map delta_of operands) held
 
--- the box of each written position's patch lies in its array
+-- so it is with each written position
 abbrev pub AllHaveFit : List (Option Input) → Type 0
 AllHaveFit [] = Unit {0}
 AllHaveFit (Some input ∷ positions) = HasFit input × AllHaveFit positions

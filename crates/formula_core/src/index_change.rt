@@ -4,6 +4,7 @@ ghost use Rattle.std.specs.Prelude.{◌≡◌, ◌≤◌, ◌∷◌, IfOk, is_so
 ghost use Rattle.std.specs.List.{list_all};
 ghost use Rattle.change_core.specs.Reaches.{AllFit};
 ghost use Rattle.change_rules.specs.Nodes.{views, moved};
+ghost use Rattle.change_rules.specs.Currency.{HasAxis};
 ghost use Rattle.selection_fns.specs.Index.{count_written};
 ghost use Rattle.selection_rules.specs.Index.{index_rule};
 ghost use Rattle.formula_core.specs.Rules.{IsRefreshed};
@@ -53,6 +54,7 @@ fn change_of_arrays(
 ) -> Result<(Delta, u32), AllocError>
     requires count { length (arrays_among (written_inputs positions.now)) ≡ count_written (map is_some positions.now) }
     requires fit { AllFit (views (indexed.now ∷ arrays_among (written_inputs positions.now))) (moved (indexed.now ∷ arrays_among (written_inputs positions.now))) }
+    requires axes { HasAxis (indexed.now ∷ arrays_among (written_inputs positions.now)) }
     ensures { IsRefreshed (index_rule (map is_some positions.now)) (indexed.now ∷ arrays_among (written_inputs positions.now)) held.now meter.old.ticks meter.new.ticks result }
 {
     if positions.len() <= FEW_POSITIONS {
@@ -73,6 +75,7 @@ fn change_by_arguments(
 ) -> Result<(Delta, u32), AllocError>
     requires count { length args.now ≡ suc (count_written (map is_some positions.now)) }
     requires fit { AllFit (views args.now) (moved args.now) }
+    requires axes { HasAxis args.now }
     ensures { IsRefreshed (index_rule (map is_some positions.now)) args.now held.now meter.old.ticks meter.new.ticks result }
 {
     let written = written_of(alloc, positions)?;

@@ -129,6 +129,7 @@ impl<'a> Input<'a> {
                 changed: true,
             },
             (Ok(array), Delta::Patch(patch)) => Input::Good(Seen::patched(array, patch), change),
+            (Ok(array), Delta::Grown(tail)) => Input::Good(Seen::grown(array, tail), change),
             (Ok(array), Delta::Same) => Input::Good(Seen::plain(array), change),
             (Err(fault), _) => Input::Bad {
                 fault: *fault,
@@ -152,5 +153,17 @@ pub(crate) fn outcomes_are_arrays(held: &Result<Array, Fault>, change: &Delta)
         if let Delta::Patch(patch) = change {
             let _is_array = Seen::patched(array, patch).shape();
         }
+        if let Delta::Grown(tail) = change {
+            let _is_array = Seen::grown(array, tail).shape();
+        }
+    }
+}
+
+/// What was held is an array, where it is no error: it says so itself.
+pub(crate) fn outcome_is_array(held: &Result<Array, Fault>)
+    ensures { IfOk held.now IsArray }
+{
+    if let Ok(array) = held {
+        let _is_array = array.shape();
     }
 }

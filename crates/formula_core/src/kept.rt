@@ -80,7 +80,8 @@ pub(crate) fn unknown() -> Fault
     }
 }
 
-/// The result of a node takes its change. No memory is asked for: a patch writes its items where they lie.
+/// The result of a node takes its change. No memory is asked for: a patch writes its items where they lie, and a tail brings the room that its
+/// items may need.
 fn adopt_change(held: &mut Result<Array, Fault>, change: Delta)
     requires { FitsIn change held.old }
     ensures { held.new ≡ applied change held.old }
@@ -91,6 +92,11 @@ fn adopt_change(held: &mut Result<Array, Fault>, change: Delta)
         Delta::Patch(patch) => {
             if let Ok(array) = held {
                 patch.write_into(array);
+            }
+        }
+        Delta::Grown(tail) => {
+            if let Ok(array) = held {
+                tail.write_behind(array);
             }
         }
     }

@@ -3,6 +3,7 @@
 ghost use Rattle.std.specs.Prelude.{◌≡◌, suc, length};
 ghost use Rattle.change_core.specs.Reaches.{AllFit};
 ghost use Rattle.change_rules.specs.Nodes.{views, moved};
+ghost use Rattle.change_rules.specs.Currency.{HasAxis};
 ghost use Rattle.selection_fns.specs.Index.{count_written};
 ghost use Rattle.selection_rules.specs.Index.{index_rule};
 ghost use Rattle.formula_core.specs.Meaning.{scalar1_of, scalar2_of, along_of};
@@ -41,6 +42,7 @@ impl<'a> Operation<'a> {
     fn by<R: Tight>(&self, rule: &R, meter: &mut Meter) -> Result<(Delta, u32), AllocError>
         requires count { length self.now.args.now ≡ length (R.model rule.now).selectors }
         requires fit { AllFit (views self.now.args.now) (moved self.now.args.now) }
+        requires axes { HasAxis self.now.args.now }
         ensures { IsRefreshed (R.model rule.now) self.now.args.now self.now.held.now meter.old.ticks meter.new.ticks result }
     {
         refresh_with_cost(self.alloc, rule, self.args, self.held, meter)
@@ -54,6 +56,7 @@ impl<'a> Operation<'a> {
     ) -> Result<(Delta, u32), AllocError>
         requires count { length self.now.args.now ≡ 1 }
         requires fit { AllFit (views self.now.args.now) (moved self.now.args.now) }
+        requires axes { HasAxis self.now.args.now }
         ensures { IsRefreshed (right_rule function) self.now.args.now self.now.held.now meter.old.ticks meter.new.ticks result }
     {
         match function {
@@ -86,6 +89,7 @@ impl<'a> Operation<'a> {
     ) -> Result<(Delta, u32), AllocError>
         requires count { length self.now.args.now ≡ 2 }
         requires fit { AllFit (views self.now.args.now) (moved self.now.args.now) }
+        requires axes { HasAxis self.now.args.now }
         ensures { IsRefreshed (both_rule function) self.now.args.now self.now.held.now meter.old.ticks meter.new.ticks result }
     {
         match function {
@@ -124,6 +128,7 @@ impl<'a> Operation<'a> {
     ) -> Result<(Delta, u32), AllocError>
         requires count { length self.now.args.now ≡ suc (count_written written.now) }
         requires fit { AllFit (views self.now.args.now) (moved self.now.args.now) }
+        requires axes { HasAxis self.now.args.now }
         ensures { IsRefreshed (index_rule written.now) self.now.args.now self.now.held.now meter.old.ticks meter.new.ticks result }
     {
         let function = Index { written };

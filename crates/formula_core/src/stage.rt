@@ -14,7 +14,7 @@ ghost use Rattle.formula_core.specs.Sums.{summed_at};
 ghost use Rattle.formula_core.specs.Tables.{IsOperand, AreOperands, IsNode, tree_at, tree_of_operand, tree_of_node};
 
 use crate::index_change::change_of_index;
-use crate::input::{Input, outcomes_are_arrays};
+use crate::input::{Input, outcome_is_array, outcomes_are_arrays};
 use crate::kept::{Kept, NodeChange};
 use crate::literals::array_of;
 use crate::operation_change::{change_of_both, change_of_monad};
@@ -90,6 +90,7 @@ impl<'a> Stage<'a> {
             → meter.new.ticks ≤ meter.old.ticks + node_cost_at self.now.is_new c (tree_at trees (length self.now.changes.now)) }
     {
         let kept = &self.nodes[self.changes.len()];
+        outcome_is_array(&kept.result);
         let (delta, items) = self.change_of(&kept.node, &kept.result, &kept.sums, meter)?;
         let sums = self.sums_of(&kept.node, &kept.sums)?;
         outcomes_are_arrays(&kept.result, &delta);
@@ -117,7 +118,7 @@ impl<'a> Stage<'a> {
             Node::Name(place) => {
                 let name = Operand::Name(*place);
                 let input = taken(name, self.inputs, self.nodes, self.changes);
-                Ok((self.change_of_name(&input)?, 0))
+                Ok((self.change_of_name(&input, held)?, 0))
             }
             Node::Monad(function, right) => {
                 let right = self.operand(*right);
@@ -166,7 +167,11 @@ impl<'a> Stage<'a> {
     }
 
     /// The change of a name that is the whole expression: that of the name, and in a new formula it is new.
-    fn change_of_name(&self, input: &Input) -> Result<Delta, AllocError>
+    fn change_of_name(
+        &self,
+        input: &Input,
+        held: &Result<Array, Fault>,
+    ) -> Result<Delta, AllocError>
         ensures { IfOk result (λ d. (c : Change) → (x : List ℕ) → IsInput (c.new x) (c.delta x) input.now → IsNameChanged c x → d ≡ node_change self.now.is_new c (Name x)) }
     {
         if self.is_new {
@@ -175,6 +180,9 @@ impl<'a> Stage<'a> {
         match input {
             Input::Good(_, Delta::Same) => Ok(Delta::Same),
             Input::Good(_, Delta::Patch(patch)) => Ok(Delta::Patch(patch.copy()?)),
+            Input::Good(_, Delta::Grown(tail)) => {
+                Ok(Delta::Grown(tail.again_behind(held.as_ref().ok())?))
+            },
             Input::Bad { changed: false, .. } => Ok(Delta::Same),
             _ => Ok(Delta::Whole(input.copy()?)),
         }

@@ -47,7 +47,9 @@ pub(crate) fn sums_delta(
         Input::Bad { .. } => Ok(SumsDelta::Whole(None)),
         Input::Good(array, delta) => match delta {
             Delta::Same => Ok(SumsDelta::Same),
-            Delta::Whole(_) => Ok(SumsDelta::Whole(boxed(alloc, LineSums::of(alloc, array)?)?)),
+            Delta::Whole(_) | Delta::Grown(_) => {
+                Ok(SumsDelta::Whole(boxed(alloc, LineSums::of(alloc, array)?)?))
+            }
             Delta::Patch(patch) => patch_delta(alloc, array, patch, kept),
         },
     }

@@ -5,16 +5,18 @@ use Rattle.apl_expr.specs.Trees.{Tree, Literal}
 use Rattle.arrays_core.specs.Arrays.{ArrayValue}
 use Rattle.change_core.specs.Meters.{ticked}
 use Rattle.change_rules.specs.Currency.{applied}
+use Rattle.arrays_core.specs.Growth.{grown_by}
 use Rattle.index_region.specs.Patches.{PatchValue, patched}
+use Rattle.index_region.specs.Tails.{TailValue, FitsTail}
 use Rattle.index_region.specs.declared.delta.Delta.{Delta}
-use Rattle.index_region.specs.declared.delta.Delta.TheVariants.{Patch, Whole}
+use Rattle.index_region.specs.declared.delta.Delta.TheVariants.{Patch, Grown, Whole}
 use Rattle.formula_core.specs.Formulas.{FormulaValue}
 use Rattle.formula_core.specs.Meaning.{eval}
 use Rattle.formula_core.specs.Plans.{tree_cost}
 use Rattle.sheet_recalc.specs.Names.{SheetValue, Data, Formula, binding, put, rebound}
 use Rattle.sheet_recalc.specs.Meaning.{val}
 use Rattle.sheet_recalc.specs.Cells.{cell_put, index_of_numbers, literal_items}
-use Rattle.sheet_recalc.specs.Costs.{at_rest, cell_delta, changed_name, asked_change, expression_cost, sheet_change}
+use Rattle.sheet_recalc.specs.Costs.{at_rest, cell_delta, row_delta, changed_name, asked_change, expression_cost, sheet_change}
 use Rattle.sheet_recalc.specs.Rows.{row_put}
 use Rattle.sheet_recalc.specs.Changes.{Change, Accepts, Define, Put, Store, SetCell, AddRow, Erase}
 use Rattle.sheet_recalc.specs.Entries.{names_of, binding_of, HasData}
@@ -25,8 +27,12 @@ use Rattle.sheet_recalc.specs.declared.entry.Entry.TheVariants as entry
 use Rattle.sheet_recalc.specs.declared.pending.Pending.{Pending}
 use Rattle.sheet_recalc.specs.declared.proposal.Proposal.{Proposal}
 use Rattle.sheet_recalc.specs.declared.proposal.Proposal.TheVariants as proposed
-use Rattle.sheet_recalc.proofs.Accounted.{whole_put}
+use Rattle.sheet_recalc.proofs.Accounted.{shows_put, whole_put}
 use Rattle.sheet_recalc.proofs.Live.{val_data, binding_of_name}
+
+pub if_ok_both : {T E : Type 0} (r : Result T E) (P Q R : T → Type 0) → ((t : T) → P t → Q t → R t) → IfOk r P → IfOk r Q → IfOk r R
+if_ok_both (Ok t) P Q R f p q = f t p q
+if_ok_both (Err e) P Q R f p q = p
 
 pub if_ok_map : {T E : Type 0} (r : Result T E) (P Q : T → Type 0) → ((t : T) → P t → Q t) → IfOk r P → IfOk r Q
 if_ok_map (Ok t) P Q f h = f t h
@@ -90,6 +96,17 @@ module _ (s : SheetValue) (name : List ℕ) (a : ArrayValue) (spent : ℕ) (p : 
 pub put_pending : (s : SheetValue) (name : List ℕ) (a : ArrayValue) (p : Pending) → IsProposedOn s name (proposed.Data (Whole (Ok a))) 0 p → IsLaidOutOn s (Put name a) p
 put_pending s name a p h = asked s name (proposed.Data (Whole (Ok a))) 0 p h (Put name a) free (array_names s name a 0 p h, h.room) refl (array_makes s name a 0 p h)
 
--- a row is added by putting the longer array
-pub row_pending : (s : SheetValue) (name : List ℕ) (a : ArrayValue) (literal : Literal) → row_put (binding s.names name) literal ≡ Ok a → (p : Pending) → IsLaidOutOn s (Put name a) p → IsLaidOutOn s (AddRow name literal) p
-row_pending s name a literal is p h = record { base = h.base; begun = h.begun; base_is = h.base_is; accepts = (a, is, h.accepts.0); name_is = h.name_is; makes = h.makes }
+-- data that grows by a row
+pub row_pending : (s : SheetValue) (name : List ℕ) (literal : Literal) (tail : TailValue) (a : ArrayValue) → HasData s.tables.entries.entries name a → FitsTail a tail
+    → row_put (binding s.names name) literal ≡ Ok (grown_by a tail.items) → tail.items ≡ literal_items literal
+    → (p : Pending) → IsProposedOn s name (proposed.Data (Grown tail)) 0 p → IsLaidOutOn s (AddRow name literal) p
+row_pending s name literal tail a held fits is items p h =
+    let longer = grown_by a tail.items in
+    let shows : val s.names name ≡ Ok a = ap (λ ns. val ns name) (sym h.names_are) ∙ val_data (names_of s.tables.entries.entries) name a (binding_of_name s.tables.entries.entries name ∙ ap (option_map binding_of) held) in
+    let names : names_after s.tables p ≡ put s.names name (Data longer) = becomes s name (proposed.Data (Grown tail)) 0 p h (Some (entry.Data longer)) (ap (λ r. data_entry (applied (Grown tail) r)) shows) in
+    let now : val (names_after s.tables p) name ≡ Ok longer = ap (λ ns. val ns name) names ∙ shows_put s.names name longer in
+    let typed = fits.typed in
+    let shaped = fits.shaped in
+    let grown : Grown tail ≡ row_delta (Ok longer) (literal_items literal) = λ i. Grown (record { item_type = typed i; shape = shaped i; items = items i }) in
+    asked s name (proposed.Data (Grown tail)) 0 p h (AddRow name literal) free (longer, is, names) refl
+    (makes s name (proposed.Data (Grown tail)) 0 p h (row_delta (val (names_after s.tables p) name) (literal_items literal)) (grown ∙ sym (ap (λ r. row_delta r (literal_items literal)) now)))

@@ -14,9 +14,10 @@ use Rattle.apl_expr.specs.Trees.{Tree}
 use Rattle.arrays_core.specs.Arrays.{ArrayValue, IsArray}
 use Rattle.arrays_core.specs.declared.fault.Fault.{Fault}
 use Rattle.arrays_core.specs.declared.item.Kind.TheVariants.{Value}
+use Rattle.arrays_core.specs.Growth.{grown_by}
 use Rattle.index_region.specs.Patches.{patched}
 use Rattle.index_region.specs.declared.delta.Delta.{Delta}
-use Rattle.index_region.specs.declared.delta.Delta.TheVariants.{Same, Patch, Whole}
+use Rattle.index_region.specs.declared.delta.Delta.TheVariants.{Same, Patch, Grown, Whole}
 use Rattle.std.specs.declared.alloc.AllocError.{AllocError}
 use Rattle.change_core.specs.Meters.{ticked}
 use Rattle.change_rules.specs.Currency.{applied}
@@ -28,7 +29,7 @@ use Rattle.formula_core.specs.Formulas.{FormulaValue, root_result}
 use Rattle.formula_core.specs.Changes.{Change, FitsIn, IsNameChanged}
 use Rattle.formula_core.specs.declared.kept.NodeChange.{NodeChange}
 use Rattle.formula_core.specs.Holdings.{Holding, holding_at, not_worked_out, no_change, taking, adopted}
-use Rattle.formula_core.specs.Inputs.{IsInput, IsNoPatch}
+use Rattle.formula_core.specs.Inputs.{IsInput, IsAllOrNothing}
 use Rattle.formula_core.specs.Plans.{PlanValue, IsPlanOf, IsPlanned, root_change, node_change, IsNameSound, AreInputs, IsTold, tree_cost}
 use Rattle.formula_core.specs.declared.input.Input.{Input}
 use Rattle.formula_core.specs.declared.input.Input.TheVariants.{Good, Bad}
@@ -54,12 +55,16 @@ pub origin_applied : (x : List ℕ) (d : Delta) (o : Outcome) → applied (origi
 origin_applied x Same o = refl
 origin_applied x (Patch p) (Ok a) = refl
 origin_applied x (Patch p) (Err e) = refl
+origin_applied x (Grown t) (Ok a) = refl
+origin_applied x (Grown t) (Err e) = refl
 origin_applied x (Whole r) o = refl
 
-pub origin_fits : (x : List ℕ) (d : Delta) (o : Outcome) → FitsIn d o → FitsIn (origin_delta x d) (with_origin x (applied d o))
+pub origin_fits : (x : List ℕ) (d : Delta) (o : Outcome) → FitsIn d o → FitsIn (origin_delta x d) (with_origin x o)
 origin_fits x Same o f = tt
-origin_fits x (Patch p) (Ok a) f = record { inside = f.inside; typed = f.typed }
+origin_fits x (Patch p) (Ok a) f = f
 origin_fits x (Patch p) (Err e) f = f
+origin_fits x (Grown t) (Ok a) f = f
+origin_fits x (Grown t) (Err e) f = f
 origin_fits x (Whole r) o f = tt
 
 pub origin_sound : (x : List ℕ) (o : Outcome) → IfOk o IsArray → IfOk (with_origin x o) IsArray
@@ -69,11 +74,13 @@ origin_sound x (Err e) s = tt
 same_origin : (x : List ℕ) (d : Delta) → is_same d ≡ is_same (origin_delta x d)
 same_origin x Same = refl
 same_origin x (Patch p) = refl
+same_origin x (Grown t) = refl
 same_origin x (Whole r) = refl
 
 good_delta : (x : List ℕ) (d : Delta) (held : Outcome) (a : ArrayValue) → Ok a ≡ applied d held → d ≡ origin_delta x d
 good_delta x Same held a is = refl
 good_delta x (Patch p) held a is = refl
+good_delta x (Grown t) held a is = refl
 good_delta x (Whole (Ok b)) held a is = refl
 good_delta x (Whole (Err e)) held a is = let never : Ok a ≡ Err e = is in absurd cc
 
@@ -85,16 +92,17 @@ good_origin x d held a delta i = record {
   delta = i.delta ∙ good_delta x d held a i.is;
 }
 
-no_patch_by_origin : (x : List ℕ) (d : Delta) → IsNoPatch d → IsNoPatch (origin_delta x d)
-no_patch_by_origin x Same h = tt
-no_patch_by_origin x (Patch p) h = h
-no_patch_by_origin x (Whole r) h = tt
+all_by_origin : (x : List ℕ) (d : Delta) → IsAllOrNothing d → IsAllOrNothing (origin_delta x d)
+all_by_origin x Same h = tt
+all_by_origin x (Patch p) h = h
+all_by_origin x (Grown t) h = h
+all_by_origin x (Whole r) h = tt
 
 pub bad_origin : (x : List ℕ) (d : Delta) (held : Outcome) (e f : Fault) (changed : Bool) → f ≡ in_formula x e → IsInput (applied d held) d (Bad e changed) → IsInput (with_origin x (applied d held)) (origin_delta x d) (Bad f changed)
 bad_origin x d held e f changed from i = record {
   is = ap (λ g. Err g) from ∙ ap (with_origin x) i.is;
   same = i.same ∙ same_origin x d;
-  delta = no_patch_by_origin x d i.delta;
+  delta = all_by_origin x d i.delta;
 }
 
 -- what is told of something that did not change
@@ -135,13 +143,6 @@ no_formula : (r : Outcome) (f : FormulaValue) → data_entry r ≡ Some (entry.F
 no_formula (Ok a) f is = let never : Some (entry.Data a) ≡ Some (entry.Formula f) = is in absurd cc
 no_formula (Err e) f is = let never : None ≡ Some (entry.Formula f) = is in absurd cc
 
--- what a change makes of what it fits in, it fits in
-fits_after : (d : Delta) (o : Outcome) → FitsIn d o → FitsIn d (applied d o)
-fits_after Same o f = tt
-fits_after (Patch p) (Ok a) f = record { inside = f.inside; typed = f.typed }
-fits_after (Patch p) (Err e) f = f
-fits_after (Whole r) o f = tt
-
 -- data that may be proposed is an array that its change makes of what the name shows
 pub data_made : (es : List (List ℕ × Entry)) (name : List ℕ) (d : Delta) → IsProposalAt es name (proposed.Data d) → (a : ArrayValue) × (applied d (val (names_of es) name) ≡ Ok a) × FitsIn d (val (names_of es) name)
 data_made es name (Whole (Ok a)) h = (a, refl, tt)
@@ -150,6 +151,9 @@ data_made es name Same h = absurd h
 data_made es name (Patch p) h =
     let shows : val (names_of es) name ≡ Ok h.0 = val_data (names_of es) name h.0 (binding_of_name es name ∙ ap (option_map binding_of) h.1) in
     (patched h.0 p, ap (applied (Patch p)) shows, subst (FitsIn (Patch p)) (sym shows) h.2)
+data_made es name (Grown t) h =
+    let shows : val (names_of es) name ≡ Ok h.0 = val_data (names_of es) name h.0 (binding_of_name es name ∙ ap (option_map binding_of) h.1) in
+    (grown_by h.0 t.items, ap (applied (Grown t)) shows, subst (FitsIn (Grown t)) (sym shows) h.2)
 
 module _ (o : Outline) where
   abbrev es : List (List ℕ × Entry)
@@ -291,7 +295,7 @@ module _ (o : Outline) where
                 ∙ (ap (λ b. delta_by q b c) (sym bound_to) ∙ sym (delta_other q is))
 
         pub planned_changed : IsNameChanged c q
-        planned_changed = record { right = by (bytes_eq q o.name) refl; fit = fit }
+        planned_changed = record { right = by (bytes_eq q o.name) refl; fit = fit (bytes_eq q o.name) refl }
           where
             by : (t : Bool) → bytes_eq q o.name ≡ t → applied (c.delta q) (val old q) ≡ val new q
             by true is = ap (λ d. applied d (val old q)) (delta_own q is ∙ own_whole is) ∙ ap (val new) (sym (equal-true q o.name is))
@@ -299,8 +303,9 @@ module _ (o : Outline) where
                 ap (λ d. applied d (val old q)) (sym planned_delta)
                 ∙ (ap (applied (origin_delta q root_delta)) (sym (formula_old is).1) ∙ (origin_applied q root_delta root ∙ planned_shows))
 
-            fit : FitsIn (c.delta q) (val new q)
-            fit = subst (λ d. FitsIn d (val new q)) planned_delta (subst (FitsIn (origin_delta q root_delta)) planned_shows (origin_fits q root_delta root root_fits))
+            fit : (t : Bool) → bytes_eq q o.name ≡ t → FitsIn (c.delta q) (val old q)
+            fit true is = subst (λ d. FitsIn d (val old q)) (sym (delta_own q is ∙ own_whole is)) tt
+            fit false is = subst (λ d. FitsIn d (val old q)) planned_delta (subst (FitsIn (origin_delta q root_delta)) (formula_old is).1 (origin_fits q root_delta root root_fits))
 
         pub planned_sound : IfOk root IsArray → IfOk (applied root_delta root) IsArray → IsNameSound c q
         planned_sound before after = record { old = by (bytes_eq q o.name) refl; new = subst (λ r. IfOk r IsArray) planned_shows (origin_sound q (applied root_delta root) after) }
@@ -317,7 +322,7 @@ module _ (o : Outline) where
       pub untouched_changed : IsNameChanged c q
       untouched_changed = record {
         right = ap (λ d. applied d (val old q)) still.same ∙ sym still.shows;
-        fit = subst (λ d. FitsIn d (val new q)) (sym still.same) tt;
+        fit = subst (λ d. FitsIn d (val old q)) (sym still.same) tt;
       }
 
       pub untouched_sound : IfOk (val old q) IsArray → IsNameSound c q
@@ -352,7 +357,7 @@ module _ (o : Outline) where
       pub data_changed : IsNameChanged c o.name
       data_changed = record {
         right = ap (λ e. applied e (val old o.name)) (sym data_delta) ∙ data_shows;
-        fit = subst (λ e. FitsIn e (val new o.name)) data_delta (subst (FitsIn d) data_shows (fits_after d (val old o.name) data_fits));
+        fit = subst (λ e. FitsIn e (val old o.name)) data_delta data_fits;
       }
 
       pub data_sound : IfOk (applied d (val old o.name)) IsArray → IsNameSound c o.name
@@ -369,13 +374,13 @@ module _ (o : Outline) where
       none_input e same = record {
         is = ap (λ f. Err f) same ∙ sym none_shows;
         same = ap is_same (sym none_delta);
-        delta = subst IsNoPatch (sym none_delta) tt;
+        delta = subst IsAllOrNothing (sym none_delta) tt;
       }
 
       pub none_changed : IsNameChanged c o.name
       none_changed = record {
         right = ap (λ d. applied d (val old o.name)) none_delta;
-        fit = subst (λ d. FitsIn d (val new o.name)) (sym none_delta) tt;
+        fit = subst (λ d. FitsIn d (val old o.name)) (sym none_delta) tt;
       }
 
       pub none_sound : IsNameSound c o.name

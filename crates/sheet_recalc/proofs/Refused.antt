@@ -8,8 +8,10 @@ use Rattle.apl_expr.specs.Trees.{Tree, Literal}
 use Rattle.arrays_core.specs.Arrays.{ArrayValue}
 use Rattle.change_rules.specs.Currency.{applied}
 use Rattle.formula_core.specs.Meaning.{eval}
+use Rattle.arrays_core.specs.Growth.{grown_by}
 use Rattle.index_region.specs.Patches.{PatchValue, patched}
-use Rattle.index_region.specs.declared.delta.Delta.TheVariants.{Patch}
+use Rattle.index_region.specs.Tails.{TailValue}
+use Rattle.index_region.specs.declared.delta.Delta.TheVariants.{Patch, Grown}
 use Rattle.sheet_recalc.specs.Names.{Names, Binding, Data, Formula, binding, put, without, rebound, Refers, referred, most_names}
 use Rattle.sheet_recalc.specs.Meaning.{val}
 use Rattle.sheet_recalc.specs.Cells.{cell_put}
@@ -123,6 +125,15 @@ pub refused_row : (names : Names) (name : List ℕ) (literal : Literal) (a : Arr
     → (cause : Refusal) → Refuses names (Put name a) cause → Refuses names (AddRow name literal) cause
 refused_row names name literal a is cause h =
     subst (λ (y : Refusal). Refuses names (AddRow name literal) y) (sym (only_memory names name a (row_present (binding names name) literal a is) cause h)) tt
+
+-- so it is where the data grows
+pub refused_tail : (names : Names) (name : List ℕ) (literal : Literal) (a : ArrayValue) (t : TailValue) → binding names name ≡ Some (Data a) → row_put (binding names name) literal ≡ Ok (grown_by a t.items)
+    → IsAcyclic (Refers names) → (cause : Refusal) → CannotBecome names (names_with names name (proposed.Data (Grown t))) name cause → Refuses names (AddRow name literal) cause
+refused_tail names name literal a t held is acyclic cause h =
+    let longer = grown_by a t.items in
+    let grown_names : names_with names name (proposed.Data (Grown t)) ≡ put names name (Data longer) =
+    ap (λ r. rebound names name (option_map binding_of (data_entry (applied (Grown t) r)))) (val_data names name a held) in
+    refused_row names name literal longer is cause (refused_put names name longer acyclic cause (subst (λ ns. CannotBecome names ns name cause) grown_names h))
 
 -- how many names there are once one is bound anew
 module _ (names : Names) (name : List ℕ) (b : Binding) where

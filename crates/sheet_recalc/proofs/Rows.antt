@@ -1,10 +1,11 @@
 -- Rows of data: the types of their items, and that a row which passes the checks is put.
-use Rattle.std.proofs.Common.{◌≡◌, ℕ, ℤ, List, [], ◌∷◌, length, true, false, Some, Ok, Err, refl, eq-eqb}
+use Rattle.std.proofs.Common.{◌≡◌, ℕ, ℤ, List, [], ◌∷◌, length, drop, true, false, Some, Ok, Err, refl, sym, ◌∙◌, ◌<◌, arith, eq-eqb}
 use Rattle.std.specs.Prelude.{◌==◌}
 use Rattle.std.proofs.lemmas.Bool.{false_from_ne_true}
 use Rattle.apl_expr.specs.Trees.{Numbers, Text}
 use Rattle.arrays_core.specs.Arrays.{ArrayValue}
-use Rattle.arrays_core.specs.Shapes.{IsWithinLimits}
+use Rattle.arrays_core.specs.Growth.{one_longer, grown_by}
+use Rattle.arrays_core.specs.Shapes.{IsWithinLimits, size}
 use Rattle.arrays_core.specs.declared.item.Item.{Item}
 use Rattle.arrays_core.specs.declared.item.ItemType.{ItemType}
 use Rattle.arrays_core.specs.declared.item.ItemType.TheVariants.{Nums, Chars}
@@ -12,7 +13,7 @@ use Rattle.index_region.specs.Checks.{is_within_limits}
 use Rattle.index_region.proofs.Passing.{is_within_from, within_limits}
 use Rattle.sheet_recalc.specs.Cells.{literal_items, is_same_type}
 use Rattle.sheet_recalc.specs.declared.refusal.Refusal.TheVariants.{Limit}
-use Rattle.sheet_recalc.specs.Rows.{row_length, grown, are_of_type, with_row, row_items_put}
+use Rattle.sheet_recalc.specs.Rows.{row_length, are_of_type, row_items_put}
 
 all_numbers : (ns : List ℤ) → are_of_type Nums (literal_items (Numbers ns)) ≡ true
 all_numbers [] = refl
@@ -34,13 +35,20 @@ are_characters Nums (c ∷ cs) some = refl
 are_characters Chars (c ∷ cs) some = all_characters cs
 
 -- a row that passes each check is put
-pub row_is_put : (a : ArrayValue) (count : ℕ) (row : List Item) → row_length a.shape ≡ Some count → length row ≡ count → are_of_type a.item_type row ≡ true → IsWithinLimits (grown a.shape)
-    → row_items_put a (row_length a.shape) row ≡ Ok (with_row a row)
+pub row_is_put : (a : ArrayValue) (count : ℕ) (row : List Item) → row_length a.shape ≡ Some count → length row ≡ count → are_of_type a.item_type row ≡ true → IsWithinLimits (one_longer a.shape)
+    → row_items_put a (row_length a.shape) row ≡ Ok (grown_by a row)
 row_is_put a count row has long typed limits =
-    rw (has, eq-eqb (length row) count long, typed, is_within_from (grown a.shape) limits) refl
+    rw (has, eq-eqb (length row) count long, typed, is_within_from (one_longer a.shape) limits) refl
 
 -- one that passes all but the last is refused for the limits
-pub row_is_beyond : (a : ArrayValue) (count : ℕ) (row : List Item) → row_length a.shape ≡ Some count → length row ≡ count → are_of_type a.item_type row ≡ true → (IsWithinLimits (grown a.shape) → ⊥)
+pub row_is_beyond : (a : ArrayValue) (count : ℕ) (row : List Item) → row_length a.shape ≡ Some count → length row ≡ count → are_of_type a.item_type row ≡ true → (IsWithinLimits (one_longer a.shape) → ⊥)
     → row_items_put a (row_length a.shape) row ≡ Err Limit
 row_is_beyond a count row has long typed beyond =
-    rw (has, eq-eqb (length row) count long, typed, false_from_ne_true (is_within_limits (grown a.shape)) (λ t. beyond (within_limits (grown a.shape) t))) refl
+    rw (has, eq-eqb (length row) count long, typed, false_from_ne_true (is_within_limits (one_longer a.shape)) (λ t. beyond (within_limits (one_longer a.shape) t))) refl
+
+-- a row has as many items as one place of the first axis, of which there is one
+pub row_fits : (shape : List ℕ) (count : ℕ) → row_length shape ≡ Some count → (0 < length shape) × (count ≡ size (drop 1 shape))
+row_fits [] count has = absurd (let no : ⊥ = cc in no)
+row_fits (n ∷ []) count has = let one : 1 ≡ count = cc in (omega arith, sym one)
+row_fits (n ∷ columns ∷ []) count has = let same : columns ≡ count = cc in (omega arith, sym same ∙ (let places : columns ≡ size (columns ∷ []) = omega arith in places))
+row_fits (n ∷ columns ∷ k ∷ shape) count has = absurd (let no : ⊥ = cc in no)

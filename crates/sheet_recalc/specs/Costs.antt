@@ -1,14 +1,15 @@
 -- What a change changes of each name, and what it costs.
-use Rattle.std.specs.Prelude.{◌≡◌, ◌+◌, ◌<◌, ℕ, zero, suc, List, [], ◌∷◌, map, length, true, Option, Some, if◌then◌else◌}
+use Rattle.std.specs.Prelude.{◌≡◌, ◌+◌, ◌<◌, ℕ, zero, suc, List, [], ◌∷◌, map, length, true, Option, Some, Ok, Err, if◌then◌else◌}
 use Rattle.std.specs.Str.{bytes_eq}
 use Rattle.std.specs.List.{sum_by}
 use Rattle.arrays_core.specs.declared.item.Item.{Item}
 use Rattle.arrays_core.specs.Items.{type_of}
 use Rattle.index_region.specs.declared.delta.Delta.{Delta}
-use Rattle.index_region.specs.declared.delta.Delta.TheVariants.{Same, Patch, Whole}
+use Rattle.index_region.specs.declared.delta.Delta.TheVariants.{Same, Patch, Grown, Whole}
 use Rattle.index_region.specs.Patches.{PatchValue}
 use Rattle.change_core.specs.Meters.{ticked}
 use Rattle.formula_core.specs.Changes as formula
+use Rattle.formula_core.specs.Outcomes.{Outcome}
 use Rattle.apl_expr.specs.Trees.{Tree}
 use Rattle.formula_core.specs.Plans.{tree_cost, node_cost_at}
 use Rattle.formula_core.specs.Tables.{subtrees, tree_at}
@@ -26,6 +27,11 @@ abbrev pub cell_delta : List ℕ → List Item → Delta
 cell_delta index [] = Same
 cell_delta index (item ∷ items) = Patch (cell_patch index item)
 
+-- the change of data that has now one more row, of these items
+abbrev pub row_delta : Outcome → List Item → Delta
+row_delta (Ok a) items = Grown (record { item_type = a.item_type; shape = a.shape; items = items })
+row_delta (Err e) items = Whole (Err e)
+
 -- the name that a change is about
 abbrev pub changed_name : Change → List ℕ
 changed_name (Define n t) = n
@@ -35,9 +41,10 @@ changed_name (SetCell n positions literal) = n
 changed_name (AddRow n literal) = n
 changed_name (Erase n) = n
 
--- what it changes of that name: one place by an edit of a cell, by any other change the whole
+-- what it changes of that name: one place by an edit of a cell, one more place of its first axis by a row, by any other change the whole
 abbrev pub own_delta : Change → Names → Delta
 own_delta (SetCell n positions literal) new = cell_delta (index_of_numbers positions) (literal_items literal)
+own_delta (AddRow n literal) new = row_delta (val new n) (literal_items literal)
 own_delta change new = Whole (val new (changed_name change))
 
 -- a change of what a name's formula gives, as a change of what the name shows: an error gets its origin there

@@ -7,7 +7,8 @@ use Rattle.std.specs.Option.{option_map_or}
 use Rattle.arrays_core.specs.Arrays.{ArrayValue, IsArray}
 use Rattle.apl_expr.specs.Trees.{Tree}
 use Rattle.index_region.specs.Patches.{FitsPatch}
-use Rattle.index_region.specs.declared.delta.Delta.TheVariants.{Same, Patch, Whole}
+use Rattle.index_region.specs.Tails.{FitsTail}
+use Rattle.index_region.specs.declared.delta.Delta.TheVariants.{Same, Patch, Grown, Whole}
 use Rattle.change_core.specs.Meters.{ticked}
 use Rattle.formula_core.specs.Meaning.{names_in}
 use Rattle.formula_core.specs.Formulas.{FormulaValue, operations}
@@ -31,11 +32,12 @@ use Rattle.sheet_recalc.specs.declared.plans.Plans.{Plans}
 use Rattle.sheet_recalc.specs.declared.proposal.Proposal.{Proposal}
 use Rattle.sheet_recalc.specs.declared.proposal.Proposal.TheVariants as proposed
 
--- a formula was not worked out yet; data is an array, or a patch that lies in the data of the name
+-- a formula was not worked out yet; data is an array, or a patch that lies in the data of the name, or a tail that fits it
 abbrev pub IsProposalAt : List (List ℕ × Entry) → List ℕ → Proposal → Type 0
 IsProposalAt entries name (proposed.Formula f) = f.is_new ≡ true
 IsProposalAt entries name (proposed.Data (Whole (Ok a))) = Unit {0}
 IsProposalAt entries name (proposed.Data (Patch p)) = (a : ArrayValue) × HasData entries name a × FitsPatch a p
+IsProposalAt entries name (proposed.Data (Grown t)) = (a : ArrayValue) × HasData entries name a × FitsTail a t
 IsProposalAt entries name (proposed.Data delta) = ⊥
 IsProposalAt entries name proposed.Removed = Unit {0}
 

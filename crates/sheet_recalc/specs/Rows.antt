@@ -1,8 +1,9 @@
 -- A row at the end of data.
-use Rattle.std.specs.Prelude.{ℕ, ◌+◌, ◌==◌, Bool, List, [], ◌∷◌, ◌++◌, length, Option, Some, None, Result, Ok, Err, if◌then◌else◌}
+use Rattle.std.specs.Prelude.{ℕ, ◌==◌, Bool, List, [], ◌∷◌, length, Option, Some, None, Result, Ok, Err, if◌then◌else◌}
 use Rattle.std.specs.List.{list_all}
 use Rattle.apl_expr.specs.Trees.{Literal}
 use Rattle.arrays_core.specs.Arrays.{ArrayValue}
+use Rattle.arrays_core.specs.Growth.{one_longer, grown_by}
 use Rattle.arrays_core.specs.Items.{type_of}
 use Rattle.arrays_core.specs.declared.item.Item.{Item}
 use Rattle.arrays_core.specs.declared.item.ItemType.{ItemType}
@@ -18,24 +19,15 @@ row_length (items ∷ []) = Some 1
 row_length (rows ∷ columns ∷ []) = Some columns
 row_length shape = None
 
--- a shape with one more place along its first axis
-abbrev pub grown : List ℕ → List ℕ
-grown [] = []
-grown (n ∷ shape) = (n + 1) ∷ shape
-
 -- each of these items is of this type, so no items are of any
 abbrev pub are_of_type : ItemType → List Item → Bool
 are_of_type item_type items = list_all (λ item. is_same_type (type_of item) item_type) items
-
--- the array with these items after its own
-abbrev pub with_row : ArrayValue → List Item → ArrayValue
-with_row a row = record a { shape = grown a.shape; items = a.items ++ row }
 
 -- items of the array's type are put after its own, where the limits leave room
 abbrev pub items_put : ArrayValue → List Item → Result ArrayValue Refusal
 items_put a row =
     if are_of_type a.item_type row
-    then (if is_within_limits (grown a.shape) then Ok (with_row a row) else Err Limit)
+    then (if is_within_limits (one_longer a.shape) then Ok (grown_by a row) else Err Limit)
     else Err Domain
 
 -- as many items as a row has are put after the others

@@ -1,13 +1,13 @@
 //! The part of a change that takes no memory.
 
-ghost use Rattle.std.specs.Prelude.{◌≡◌, ◌<◌, ℕ, List, [], Some, None, if◌then◌else◌};
+ghost use Rattle.std.specs.Prelude.{◌≡◌, ◌<◌, ℕ, List, [], Some, None, Ok, if◌then◌else◌};
 ghost use Rattle.std.specs.Str.{bytes_eq};
 ghost use Rattle.std.specs.Map.{lookup, set_value};
 ghost use Rattle.indexmap.specs.IndexMap.{spare, insert_entry};
 ghost use Rattle.arrays_core.specs.Arrays.{ArrayValue};
-ghost use Rattle.index_region.specs.Patches.{patched, FitsPatch};
+ghost use Rattle.formula_core.specs.Changes.{FitsIn};
 ghost use Rattle.sheet_recalc.specs.Names.{Data, put, without, referred, referred_by};
-ghost use Rattle.sheet_recalc.specs.Entries.{names_of, binding_of, adopting, HasData};
+ghost use Rattle.sheet_recalc.specs.Entries.{names_of, binding_of, adopting, changed_data, HasData};
 ghost use Rattle.sheet_recalc.specs.declared.entry.Entry.{Entry as EntryValue};
 ghost use Rattle.sheet_recalc.specs.declared.entry.Entry.TheVariants.{Data as DataEntry};
 ghost use Rattle.dep_order.specs.Users.{HasRoomFor, HasNoEmptyBut};
@@ -22,7 +22,7 @@ use crate::proposal::Proposal;
 use apl_tokens::Name;
 use dep_order::{Users, give_sets, refer, take_larger};
 use formula_core::Plan;
-use index_region::{Delta, Patch};
+use index_region::Delta;
 use indexmap::IndexMap;
 
 /// Makes a change that is worked out. No memory is asked for.
@@ -52,9 +52,7 @@ pub(crate) fn make(entries: &mut IndexMap<Name, Entry>, users: &mut Users<Name>,
             let entry = Entry::Data(array);
             commit_with(entries, users, name, entry, found, growth);
         }
-        Proposal::Data(Delta::Patch(patch)) => commit_patch(entries, name, &patch, found),
-        Proposal::Data(Delta::Same) => {}
-        Proposal::Data(Delta::Whole(Err(_))) => {}
+        Proposal::Data(change) => commit_in_place(entries, name, change, found),
         Proposal::Removed => commit_removal(entries, users, name, found),
     }
 }
@@ -137,25 +135,26 @@ fn commit_removal(
     adopt_all(entries, found);
 }
 
-/// Writes new items into the data of a name, where it lies, and gives each formula its new results.
-fn commit_patch(entries: &mut IndexMap<Name, Entry>, name: Name, patch: &Patch, found: Found)
-    requires data { (a : ArrayValue) × HasData entries.old.entries name a × FitsPatch a patch.now }
+/// Changes the data of a name where it lies, and gives each formula its new results.
+fn commit_in_place(entries: &mut IndexMap<Name, Entry>, name: Name, change: Delta, found: Found)
+    requires data { (a : ArrayValue) × HasData entries.old.entries name a × FitsIn change (Ok a) }
     requires planned { (a : ArrayValue) → HasData entries.old.entries name a
-        → IsPlanned entries.old.entries name (Some (DataEntry (patched a patch.now))) (put (names_of entries.old.entries) name (Data (patched a patch.now))) (plan_in found.entries) }
-    ensures names { (a : ArrayValue) → HasData entries.old.entries name a → names_of entries.new.entries ≡ put (names_of entries.old.entries) name (Data (patched a patch.now)) }
+        → IsPlanned entries.old.entries name (Some (DataEntry (changed_data a change))) (put (names_of entries.old.entries) name (Data (changed_data a change))) (plan_in found.entries) }
+    ensures names { (a : ArrayValue) → HasData entries.old.entries name a → names_of entries.new.entries ≡ put (names_of entries.old.entries) name (Data (changed_data a change)) }
     ensures current { IsCurrent entries.new.entries }
 {
-    write_patch(entries, name, patch);
+    change_data(entries, name, change);
     adopt_all(entries, found);
 }
 
-/// Writes new items into the data of a name.
-fn write_patch(entries: &mut IndexMap<Name, Entry>, name: Name, patch: &Patch)
-    requires { (a : ArrayValue) × HasData entries.old.entries name a × FitsPatch a patch.now }
-    ensures { (a : ArrayValue) → HasData entries.old.entries name a → entries.new.entries ≡ insert_entry bytes_eq entries.old.entries name (DataEntry (patched a patch.now)) }
+/// Changes the data of a name where it lies.
+fn change_data(entries: &mut IndexMap<Name, Entry>, name: Name, change: Delta)
+    requires { (a : ArrayValue) × HasData entries.old.entries name a × FitsIn change (Ok a) }
+    ensures { (a : ArrayValue) → HasData entries.old.entries name a → entries.new.entries ≡ insert_entry bytes_eq entries.old.entries name (DataEntry (changed_data a change)) }
 {
-    if let Some(entry) = entries.get_mut(&name) {
-        entry.write(patch);
+    match entries.get_mut(&name) {
+        Some(entry) => entry.change(change),
+        None => drop(change),
     }
 }
 

@@ -34,7 +34,7 @@ pub(crate) fn growth_for(
     match proposal {
         Proposal::Formula(formula) => growth_with(alloc, entries, users, formula.references()),
         Proposal::Data(Delta::Whole(_)) => growth_with(alloc, entries, users, &[]),
-        Proposal::Data(Delta::Same) | Proposal::Data(Delta::Patch(_)) | Proposal::Removed => {
+        Proposal::Data(Delta::Same | Delta::Patch(_) | Delta::Grown(_)) | Proposal::Removed => {
             Ok(None)
         }
     }

@@ -1,14 +1,16 @@
 //! Rows at the end of data.
 
-ghost use Rattle.std.specs.Prelude.{◌≡◌, ◌+◌, ◌++◌, ◌<◌, ◌≤◌, IfOk, true, length};
+ghost use Rattle.std.specs.Prelude.{◌≡◌, ◌<◌, ◌≤◌, IfOk, IfErr, Ok, Err, Some, true, length};
 ghost use Rattle.apl_expr.specs.Trees.{literal_of};
+ghost use Rattle.arrays_core.specs.Arrays.{ArrayValue};
+ghost use Rattle.arrays_core.specs.Growth.{one_longer, grown_by};
 ghost use Rattle.arrays_core.specs.Limits.{most_places};
-ghost use Rattle.arrays_core.specs.Shapes.{size, IsWithinLimits};
-ghost use Rattle.formula_core.specs.Meaning.{array_of};
+ghost use Rattle.arrays_core.specs.Shapes.{IsWithinLimits};
+ghost use Rattle.index_region.specs.Tails.{FitsTail};
 ghost use Rattle.sheet_recalc.specs.Names.{binding, Data};
-ghost use Rattle.sheet_recalc.specs.Entries.{names_of};
+ghost use Rattle.sheet_recalc.specs.Entries.{names_of, HasData};
 ghost use Rattle.sheet_recalc.specs.Cells.{literal_items, IsDataAnswer};
-ghost use Rattle.sheet_recalc.specs.Rows.{row_put, row_length, grown, are_of_type};
+ghost use Rattle.sheet_recalc.specs.Rows.{row_put, row_length, are_of_type};
 
 use crate::entry::Entry;
 use crate::refusal::Refusal;
@@ -16,28 +18,35 @@ use apl_expr::Literal;
 use apl_tokens::Name;
 use arrays_core::{ApplyFault, Array, ItemType, Shape, is_within_limits, shape_of};
 use formula_core::array_of;
+use index_region::Tail;
 use indexmap::IndexMap;
 use std::alloc::{AllocError, Global};
 
-/// The data of a name with a literal as its last row, or why not.
-pub(crate) fn data_with_row(
+/// What the data of a name grows by with a literal as its last row, or why not.
+pub(crate) fn row_behind(
     alloc: Global,
     entries: &IndexMap<Name, Entry>,
     name: Name,
     literal: &Literal,
-) -> Result<Array, Refusal>
-    ensures { IsDataAnswer (row_put (binding (names_of entries.now.entries) name) (literal_of literal.now)) result }
+) -> Result<Tail, Refusal>
+    ensures put { IfOk result (λ tail. (a : ArrayValue) × HasData entries.now.entries name a × FitsTail a tail
+        × (row_put (binding (names_of entries.now.entries) name) (literal_of literal.now) ≡ Ok (grown_by a tail.items))) }
+    ensures items { IfOk result (λ tail. tail.items ≡ literal_items (literal_of literal.now)) }
+    ensures refused { IfErr result (λ cause. IsDataAnswer (row_put (binding (names_of entries.now.entries) name) (literal_of literal.now)) (Err cause)) }
 {
     match entries.get(&name) {
         None => Err(Refusal::NotFound),
         Some(Entry::Formula(_)) => Err(Refusal::NotData),
-        Some(Entry::Data(array)) => with_row(alloc, array, literal),
+        Some(Entry::Data(array)) => tail_of(alloc, array, literal),
     }
 }
 
-/// The array with a literal as its last row, or why not.
-fn with_row(alloc: Global, array: &Array, literal: &Literal) -> Result<Array, Refusal>
-    ensures { IsDataAnswer (row_put (Some (Data array.now)) (literal_of literal.now)) result }
+/// What an array grows by with a literal as its last row, or why not.
+fn tail_of(alloc: Global, array: &Array, literal: &Literal) -> Result<Tail, Refusal>
+    ensures put { IfOk result (λ tail. row_put (Some (Data array.now)) (literal_of literal.now) ≡ Ok (grown_by array.now tail.items)) }
+    ensures fits { IfOk result (FitsTail array.now) }
+    ensures items { IfOk result (λ tail. tail.items ≡ literal_items (literal_of literal.now)) }
+    ensures refused { IfErr result (λ cause. IsDataAnswer (row_put (Some (Data array.now)) (literal_of literal.now)) (Err cause)) }
 {
     let Some(count) = row_length(array.shape().as_slice()) else {
         return Err(Refusal::Rank);
@@ -48,11 +57,12 @@ fn with_row(alloc: Global, array: &Array, literal: &Literal) -> Result<Array, Re
     if !is_of_type(literal, array.item_type()) {
         return Err(Refusal::Domain);
     }
-    let shape = grown(array.shape());
+    let shape = one_longer(array.shape());
     if !is_within_limits(shape.as_slice()) {
         return Err(Refusal::Limit);
     }
-    Ok(with_items(alloc, array, literal, &shape)?)
+    let row = row_of(alloc, literal, array.item_type())?;
+    Ok(Tail::behind(Some(array), shape, row)?)
 }
 
 /// How many items a row of an array of this shape has, if it has rows.
@@ -91,44 +101,27 @@ fn is_of_type(literal: &Literal, item_type: ItemType) -> bool
 }
 
 /// The shape with one more place along its first axis.
-fn grown(shape: &Shape) -> Shape
+fn one_longer(shape: &Shape) -> Shape
     requires rank { 0 < length shape.now.items }
     requires within { IsWithinLimits shape.now.items }
-    ensures { result.items ≡ grown shape.now.items }
+    ensures is { result.items ≡ one_longer shape.now.items }
+    ensures inline { result.capacity ≡ 4 }
 {
-    let mut grown = shape_of(*shape.allocator(), shape.as_slice());
-    grown[0] += 1;
-    grown
+    let mut longer = shape_of(*shape.allocator(), shape.as_slice());
+    longer[0] += 1;
+    longer
 }
 
-/// The array of a shape with the items of a literal of its type after its own.
-fn with_items(
-    alloc: Global,
-    array: &Array,
-    literal: &Literal,
-    shape: &Shape,
-) -> Result<Array, AllocError>
-    requires within { IsWithinLimits shape.now.items }
-    requires one_item_a_place { length array.now.items + length (literal_items (literal_of literal.now)) ≡ size shape.now.items }
-    requires typed { are_of_type array.now.item_type (literal_items (literal_of literal.now)) ≡ true }
-    ensures { IfOk result (λ a. a ≡ record {
-      item_type = array.now.item_type;
-      shape = shape.now.items;
-      items = array.now.items ++ literal_items (literal_of literal.now);
-    }) }
+/// The items of a literal that has no more than an array may have, which are of this type, as an array of it.
+fn row_of(alloc: Global, literal: &Literal, item_type: ItemType) -> Result<Array, AllocError>
+    requires few { length (literal_items (literal_of literal.now)) ≤ most_places }
+    requires typed { are_of_type item_type (literal_items (literal_of literal.now)) ≡ true }
+    ensures items { IfOk result (λ row. row.items ≡ literal_items (literal_of literal.now)) }
+    ensures typed { IfOk result (λ row. row.item_type ≡ item_type) }
 {
     if items_in(literal) == 0 {
-        return array.part(0, shape);
+        return Array::filled(alloc, item_type, &shape_of(alloc, &[0]));
     }
-    let row = row_of(alloc, literal)?;
-    array.joined(&row, shape)
-}
-
-/// The array of a literal that has no more items than an array may have.
-fn row_of(alloc: Global, literal: &Literal) -> Result<Array, AllocError>
-    requires { length (literal_items (literal_of literal.now)) ≤ most_places }
-    ensures { IfOk result (λ row. array_of (literal_of literal.now) ≡ Ok row) }
-{
     match array_of(alloc, literal) {
         Ok(row) => Ok(row),
         Err(ApplyFault::NoMemory) => Err(AllocError),

@@ -27,7 +27,7 @@ use crate::planning::{apply_next, begun, functions_in, plan_all, settle};
 use crate::proposal::Proposal;
 use crate::proposed_sheet::ProposedSheet;
 use crate::refusal::Refusal;
-use crate::row::data_with_row;
+use crate::row::row_behind;
 use apl_expr::{Expr, Literal};
 use apl_tokens::Name;
 use arrays_core::{Array, Fault};
@@ -367,7 +367,8 @@ impl Sheet {
 
     /// Puts a literal at the end of data: one more item of a vector, one more row of a table. The first of these refuses it:
     /// the name is absent, or bound to a formula; the data is of another rank; the literal has not as many items as a row, or
-    /// items of the other type; the data would go beyond the limits of arrays.
+    /// items of the other type; the data would go beyond the limits of arrays. The items lie behind those of the data: these are moved only
+    /// where no room is left behind them, and then into room for twice as many.
     pub fn add_row(&mut self, name: Name, literal: &Literal) -> Result<(), Refusal>
         ensures ok { OnOk result (Accepts self.old.names (AddRow name (literal_of literal.now)) self.new.names) }
         ensures cost { OnOk result (HasCost self.old.names (AddRow name (literal_of literal.now)) self.new.names self.new.cost) }
@@ -384,8 +385,9 @@ impl Sheet {
         ensures ticks { IfOk result (λ pending. pending.value.ticks ≤ expression_cost self.now.names (AddRow name (literal_of literal.now))) }
         ensures refused { IfErr result (Refuses self.now.names (AddRow name (literal_of literal.now))) }
     {
-        let array = data_with_row(self.alloc, &self.entries, name, literal)?;
-        self.begin_put(name, array)
+        let tail = row_behind(self.alloc, &self.entries, name, literal)?;
+        let change = Delta::Grown(tail);
+        self.propose(name, Proposal::Data(change), 0, Meter::new())
     }
 
     /// Removes a name, as the command `)ERASE` does (ISO/IEC 13751, "System Commands"). The names after it move up, and
@@ -479,6 +481,6 @@ fn error_in(change: &Delta) -> Option<Fault>
 {
     match change {
         Delta::Whole(Err(fault)) => Some(*fault),
-        Delta::Whole(Ok(_)) | Delta::Same | Delta::Patch(_) => None,
+        Delta::Whole(Ok(_)) | Delta::Same | Delta::Patch(_) | Delta::Grown(_) => None,
     }
 }

@@ -12,7 +12,7 @@ use Rattle.formula_core.specs.Holdings.{adopted}
 use Rattle.formula_core.specs.Plans.{PlanValue, AreInputs, IsTold, IsPlanned}
 
 -- an array before and after, and what changed of it
-module _ (a b : ArrayValue) (d : Delta) (becomes : applied d (Ok a) ≡ Ok b) (fit : FitsIn d (Ok b)) (sound_a : IsArray a) (sound_b : IsArray b) where
+module _ (a b : ArrayValue) (d : Delta) (becomes : applied d (Ok a) ≡ Ok b) (fit : FitsIn d (Ok a)) (sound_a : IsArray a) (sound_b : IsArray b) where
   abbrev pub one_change : Change
   one_change = record { old = λ x. Ok a; new = λ x. Ok b; delta = λ x. d }
 

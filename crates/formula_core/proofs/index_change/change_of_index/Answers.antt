@@ -1,13 +1,14 @@
 use Rattle.std.proofs.Common.{◌≡◌, ◌∷◌, sym, ◌∙◌, subst, map, is_some, None, Some}
 use Rattle.arrays_core.specs.Arrays.{ArrayValue}
 use Rattle.change_core.specs.Reaches.{AllFit}
+use Rattle.change_rules.specs.Currency.{HasAxis}
 use Rattle.change_rules.specs.Nodes.{views, moved}
 use Rattle.selection_rules.specs.Index.{index_rule}
 use Rattle.formula_core.specs.declared.input.Input.{Input}
 use Rattle.formula_core.specs.declared.input.Input.TheVariants.{Good}
 use Rattle.formula_core.specs.Rules.{IsRefreshed}
 use Rattle.formula_core.specs.Inputs.{HasFit, IsOperationChange, arrays_among, last_error, written_inputs}
-use Rattle.formula_core.proofs.Gathered.{none_with_array, refreshed_change, error_behind, error_in_front, error_change, written_fit, arrays_fit, arrays_count}
+use Rattle.formula_core.proofs.Gathered.{none_with_array, refreshed_change, error_behind, error_in_front, error_change, written_fit, arrays_fit, arrays_have_axes, arrays_count}
 use Rattle.formula_core.proofs.index_change.change_of_index.Goals as goal
 
 pub change_of_arrays-requires-clause-count : goal.change_of_arrays-requires-clause-count
@@ -20,6 +21,14 @@ change_of_arrays-requires-clause-fit c =
     let array_fits : HasFit (Good c.in-None-Good.array delta) = subst HasFit c.in-None-Good.is-1 c.requires.array in
     subst (λ (a : ArrayValue). AllFit (views ((a, delta) ∷ arrays_among others)) (moved ((a, delta) ∷ arrays_among others))) (sym c.again.ensures)
     (arrays_fit (Good c.in-None-Good.array delta ∷ others) (array_fits, written_fit c.args.positions.now c.requires.positions))
+
+pub change_of_arrays-requires-clause-axes : goal.change_of_arrays-requires-clause-axes
+change_of_arrays-requires-clause-axes c =
+    let delta = c.in-None-Good.delta in
+    let others = written_inputs c.args.positions.now in
+    let array_fits : HasFit (Good c.in-None-Good.array delta) = subst HasFit c.in-None-Good.is-1 c.requires.array in
+    subst (λ (a : ArrayValue). HasAxis ((a, delta) ∷ arrays_among others)) (sym c.again.ensures)
+    (arrays_have_axes (Good c.in-None-Good.array delta ∷ others) (array_fits, written_fit c.args.positions.now c.requires.positions))
 
 pub returns-in-Some-default : goal.returns-in-Some-default
 returns-in-Some-default c =

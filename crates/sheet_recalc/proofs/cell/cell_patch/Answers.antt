@@ -1,4 +1,4 @@
-use Rattle.std.proofs.Common.{◌≡◌, ◌∙◌, sym, ap, subst, Option, Some, None, Result, Ok, Err, IfOk}
+use Rattle.std.proofs.Common.{◌≡◌, ◌∙◌, sym, ap, subst, Option, Some, None, Err}
 use Rattle.std.specs.Option.{option_map}
 use Rattle.std.proofs.lemmas.Result.{IfErr-weaker}
 use Rattle.apl_expr.specs.Trees.{literal_of}
@@ -6,12 +6,9 @@ use Rattle.sheet_recalc.specs.Names.{Binding, Data, binding}
 use Rattle.sheet_recalc.specs.Entries.{names_of, binding_of}
 use Rattle.sheet_recalc.specs.Cells.{cell_put, IsDataAnswer}
 use Rattle.sheet_recalc.specs.declared.entry.Entry.{Entry}
+use Rattle.sheet_recalc.proofs.Asked.{if_ok_both}
 use Rattle.sheet_recalc.proofs.Live.{binding_of_name}
 use Rattle.sheet_recalc.proofs.cell.cell_patch.Goals as goal
-
-if_ok_both : {T E : Type 0} (r : Result T E) (P Q R : T → Type 0) → ((t : T) → P t → Q t → R t) → IfOk r P → IfOk r Q → IfOk r R
-if_ok_both (Ok t) P Q R f p q = f t p q
-if_ok_both (Err e) P Q R f p q = p
 
 pub returns-in-None-clause-refused : goal.returns-in-None-clause-refused
 returns-in-None-clause-refused c =

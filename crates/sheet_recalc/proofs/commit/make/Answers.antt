@@ -1,13 +1,14 @@
-use Rattle.std.proofs.Common.{◌≡◌, ◌∙◌, ℕ, List, sym, ap, subst, Some, Option}
+use Rattle.std.proofs.Common.{◌≡◌, ◌∙◌, ℕ, List, refl, sym, ap, subst, Some, Option, Ok, Err}
 use Rattle.std.specs.Option.{option_map}
 use Rattle.change_rules.specs.Currency.{applied}
-use Rattle.index_region.specs.Patches.{PatchValue, patched}
 use Rattle.index_region.specs.declared.delta.Delta.{Delta}
-use Rattle.index_region.specs.declared.delta.Delta.TheVariants.{Patch, Whole}
+use Rattle.index_region.specs.declared.delta.Delta.TheVariants.{Same, Patch, Grown, Whole}
 use Rattle.arrays_core.specs.Arrays.{ArrayValue}
 use Rattle.sheet_recalc.specs.Names.{Data, binding, rebound}
 use Rattle.sheet_recalc.specs.Meaning.{val}
-use Rattle.sheet_recalc.specs.Entries.{names_of, binding_of, HasData}
+use Rattle.sheet_recalc.specs.Entries.{names_of, binding_of, changed_data, HasData}
+use Rattle.formula_core.specs.Changes.{FitsIn}
+use Rattle.sheet_recalc.specs.Planning.{IsProposalAt}
 use Rattle.sheet_recalc.specs.Live.{IsTable, IsPlanned, plan_in}
 use Rattle.sheet_recalc.specs.ProposedSheet.{data_entry, proposed_entry, names_with}
 use Rattle.sheet_recalc.specs.declared.entry.Entry.{Entry}
@@ -18,11 +19,25 @@ use Rattle.sheet_recalc.proofs.Live.{val_data, binding_of_name}
 use Rattle.sheet_recalc.proofs.Accounted.{table_kept}
 use Rattle.sheet_recalc.proofs.commit.make.Goals as goal
 
--- the entry that a patch makes of data
-patched_own : (es : List (List ℕ × Entry)) (name : List ℕ) (p : PatchValue) (s : Proposal) → s ≡ proposed.Data (Patch p) → (a : ArrayValue) → HasData es name a → proposed_entry (val (names_of es) name) s ≡ Some (entry.Data (patched a p))
-patched_own es name p s is a held =
-    let shows = val_data (names_of es) name a (binding_of_name es name ∙ ap (option_map binding_of) held) in
-    ap (proposed_entry (val (names_of es) name)) is ∙ ap (λ r. data_entry (applied (Patch p) r)) shows
+-- data that is no new array is changed where it lies
+in_place : (es : List (List ℕ × Entry)) (name : List ℕ) (d : Delta) → IsProposalAt es name (proposed.Data d) → ((b : ArrayValue) → d ≡ Whole (Ok b) → ⊥) → (a : ArrayValue) × HasData es name a × FitsIn d (Ok a)
+in_place es name Same h other = absurd h
+in_place es name (Patch p) h other = h
+in_place es name (Grown t) h other = h
+in_place es name (Whole (Ok b)) h other = absurd (other b refl)
+in_place es name (Whole (Err e)) h other = absurd h
+
+-- and this is the entry that it makes of it
+own_changed : (es : List (List ℕ × Entry)) (name : List ℕ) (d : Delta) → IsProposalAt es name (proposed.Data d) → ((b : ArrayValue) → d ≡ Whole (Ok b) → ⊥) → (a : ArrayValue) → HasData es name a
+    → proposed_entry (val (names_of es) name) (proposed.Data d) ≡ Some (entry.Data (changed_data a d))
+own_changed es name d h other a held = ap (λ r. data_entry (applied d r)) (val_data (names_of es) name a (binding_of_name es name ∙ ap (option_map binding_of) held)) ∙ by d h other
+  where
+    by : (d : Delta) → IsProposalAt es name (proposed.Data d) → ((b : ArrayValue) → d ≡ Whole (Ok b) → ⊥) → data_entry (applied d (Ok a)) ≡ Some (entry.Data (changed_data a d))
+    by Same h other = absurd h
+    by (Patch p) h other = refl
+    by (Grown t) h other = refl
+    by (Whole (Ok b)) h other = absurd (other b refl)
+    by (Whole (Err e)) h other = absurd h
 
 pub returns-in-Formula-clause-tells : goal.returns-in-Formula-clause-tells
 returns-in-Formula-clause-tells c =
@@ -38,36 +53,30 @@ returns-in-Data-Whole-Ok-clause-tells c =
     let is = whole.is ∙ (ap (λ (d : Delta). proposed.Data d) (whole.field-0-is ∙ ap Whole whole.field-0-0-is)) in
     subst (λ (p : Proposal). IsTable (names_with (names_of c.args.entries.now.entries) c.args.pending.name p) c.commit_with-in-Data-Whole-Ok.new.users.entries) (sym is) c.commit_with-in-Data-Whole-Ok.ensures.tells
 
-pub commit_patch-requires-clause-planned : goal.commit_patch-requires-clause-planned
-commit_patch-requires-clause-planned c = λ a held.
-    let es = c.args.entries.now.entries in
-    let name = c.args.pending.name in
-    let own = patched_own es name c.in-Data-Patch.patch c.args.pending.proposal (c.in-Data-Patch.is ∙ ap (λ (d : Delta). proposed.Data d) c.in-Data-Patch.field-0-is) a held in
-    subst (λ (e : Option Entry). IsPlanned es name e (rebound (names_of es) name (option_map binding_of e)) (plan_in c.args.pending.plans.found.entries)) own c.requires.ready.planned
+-- where the data is changed in place
+module _ (t : Tables) (p : Pending) (d : Delta) (is : p.proposal ≡ proposed.Data d) (other : (b : ArrayValue) → d ≡ Whole (Ok b) → ⊥) (ready : IsReady t p) where
+  abbrev es : List (List ℕ × Entry)
+  es = t.entries.entries
 
-pub returns-in-Data-Patch-clause-names : goal.returns-in-Data-Patch-clause-names
-returns-in-Data-Patch-clause-names c =
-    let es = c.args.entries.now.entries in
-    let name = c.args.pending.name in
-    let is = c.in-Data-Patch.is ∙ ap (λ (d : Delta). proposed.Data d) c.in-Data-Patch.field-0-is in
-    let w = rw is at c.requires.ready.proposal in
-    c.commit_patch.ensures.names w.0 w.1 ∙ sym (ap (λ (e : Option Entry). rebound (names_of es) name (option_map binding_of e)) (patched_own es name c.in-Data-Patch.patch c.args.pending.proposal is w.0 w.1))
+  stands : IsProposalAt es p.name (proposed.Data d)
+  stands = subst (IsProposalAt es p.name) is ready.proposal
 
-pub returns-in-Data-Patch-clause-tells : goal.returns-in-Data-Patch-clause-tells
-returns-in-Data-Patch-clause-tells c =
-    let es = c.args.entries.now.entries in
-    let name = c.args.pending.name in
-    let p = c.in-Data-Patch.patch in
-    let is = c.in-Data-Patch.is ∙ ap (λ (d : Delta). proposed.Data d) c.in-Data-Patch.field-0-is in
-    let w = rw is at c.requires.ready.proposal in
-    let held : binding (names_of es) name ≡ Some (Data w.0) = binding_of_name es name ∙ ap (option_map binding_of) w.1 in
-    subst (λ (e : Option Entry). IsTable (rebound (names_of es) name (option_map binding_of e)) c.args.users.now.entries) (sym (patched_own es name p c.args.pending.proposal is w.0 w.1))
-    (table_kept (names_of es) name w.0 (patched w.0 p) c.args.users.now.entries held c.requires.tells)
+  held : (a : ArrayValue) × HasData es p.name a × FitsIn d (Ok a)
+  held = in_place es p.name d stands other
 
-pub returns-in-Data-Same-clause-tells : goal.returns-in-Data-Same-clause-tells
-returns-in-Data-Same-clause-tells c = absurd (rw (c.in-Data-Same.is ∙ ap (λ (d : Delta). proposed.Data d) c.in-Data-Same.field-0-is) at c.requires.ready.proposal)
+  own : (a : ArrayValue) → HasData es p.name a → proposed_entry (val (names_of es) p.name) p.proposal ≡ Some (entry.Data (changed_data a d))
+  own a there = ap (proposed_entry (val (names_of es) p.name)) is ∙ own_changed es p.name d stands other a there
 
-pub returns-in-Data-Whole-Err-clause-tells : goal.returns-in-Data-Whole-Err-clause-tells
-returns-in-Data-Whole-Err-clause-tells c =
-    let whole = c.in-Data-Whole-Err in
-    absurd (rw (whole.is ∙ (ap (λ (d : Delta). proposed.Data d) (whole.field-0-is ∙ ap Whole whole.field-0-0-is))) at c.requires.ready.proposal)
+  fits_planned : (a : ArrayValue) → HasData es p.name a → IsPlanned es p.name (Some (entry.Data (changed_data a d))) (put (names_of es) p.name (Data (changed_data a d))) (plan_in p.plans.found.entries)
+  fits_planned a there =
+      subst (λ (e : Option Entry). IsPlanned es p.name e (rebound (names_of es) p.name (option_map binding_of e)) (plan_in p.plans.found.entries)) (own a there) ready.planned
+
+  makes_names : (new : Names) → ((a : ArrayValue) → HasData es p.name a → new ≡ put (names_of es) p.name (Data (changed_data a d))) → new ≡ names_after t p
+  makes_names new made =
+      made held.0 held.1 ∙ sym (ap (λ (e : Option Entry). rebound (names_of es) p.name (option_map binding_of e)) (own held.0 held.1))
+
+  makes_table : (users : List (List ℕ × _)) → IsTable (names_of es) users → IsTable (names_after t p) users
+  makes_table users tells =
+      let there : binding (names_of es) p.name ≡ Some (Data held.0) = binding_of_name es p.name ∙ ap (option_map binding_of) held.1 in
+      subst (λ (e : Option Entry). IsTable (rebound (names_of es) p.name (option_map binding_of e)) users) (sym (own held.0 held.1))
+      (table_kept (names_of es) p.name held.0 (changed_data held.0 d) users there tells)

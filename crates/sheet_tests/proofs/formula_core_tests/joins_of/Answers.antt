@@ -3,9 +3,6 @@ use Rattle.arrays_core.specs.Arrays.{ArrayValue, IsArray}
 use Rattle.index_region.specs.declared.delta.Delta.{Delta}
 use Rattle.index_region.specs.Patches.{patched}
 use Rattle.change_rules.specs.Currency.{applied}
-use Rattle.formula_core.specs.Outcomes.{Outcome}
-use Rattle.formula_core.specs.Changes.{FitsIn}
-use Rattle.formula_core.proofs.Steps.{fit_now}
 use Rattle.sheet_tests.proofs.OneName.{one_change, told_of_one}
 use Rattle.sheet_tests.proofs.formula_core_tests.joins_of.Goals as goal
 
@@ -15,8 +12,7 @@ plan-requires c =
     let d = c.args.delta.now in
     let b = patched a c.in-Patch.patch in
     let becomes : applied d (Ok a) ≡ Ok b = ap (λ (e : Delta). applied e (Ok a)) c.in-Patch.is in
-    let fit : FitsIn d (Ok b) = subst (λ (o : Outcome). FitsIn d o) becomes (fit_now d (Ok a) c.requires.fit) in
     let sound : IsArray b = subst IsArray c.patched-2.ensures c.item_type-sound_now.ensures.sound in (
-      one_change a b d becomes fit c.shape-sound.ensures.sound sound,
-      told_of_one a b d becomes fit c.shape-sound.ensures.sound sound c.args.formula.now (λ old. c.requires.held) c.requires.one _ (record { is = ap (λ (x : ArrayValue). Ok x) c.patched.ensures; same = refl; delta = refl }),
+      one_change a b d becomes c.requires.fit c.shape-sound.ensures.sound sound,
+      told_of_one a b d becomes c.requires.fit c.shape-sound.ensures.sound sound c.args.formula.now (λ old. c.requires.held) c.requires.one _ (record { is = ap (λ (x : ArrayValue). Ok x) c.patched.ensures; same = refl; delta = refl }),
     )

@@ -51,7 +51,7 @@ outcomes_are_arrays-requires c =
     let k = get_or s.nodes.now (length s.changes.now) c.index-self-self.result in
     let at = get_or_default s.nodes.now (length s.changes.now) k c.index-self-self.result c.requires.below in
     let step = c.in_ok-delta.ensures w.0 w.1.0 w.1.1.0 w.1.1.1 (λ old. ap (λ (h : Holding). h.result) (next_held w.0 w.1.0 w.1.1.0 s w.1.1.1 c.requires.below k at old)) in
-    (next_fits w.0 w.1.0 w.1.1.0 s w.1.1.1 c.requires.below k at c.in_ok-delta.delta step.delta).1
+    (next_fits w.0 w.1.0 w.1.1.0 s w.1.1.1 c.requires.below k at c.in_ok-delta.delta step.delta c.outcome_is_array.ensures).1
 
 pub returns-clause-done : goal.returns-clause-done
 returns-clause-done c = λ change names trees staged.

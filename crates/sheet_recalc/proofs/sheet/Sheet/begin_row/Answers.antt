@@ -1,20 +1,39 @@
-use Rattle.std.proofs.Common.{◌≡◌, subst, Ok}
-use Rattle.apl_expr.specs.Trees.{literal_of}
+use Rattle.std.proofs.Common.{◌≡◌, ◌∙◌, ap, subst, Ok, Some}
+use Rattle.std.specs.Option.{option_map}
 use Rattle.std.proofs.lemmas.Result.{IfErr-weaker}
-use Rattle.sheet_recalc.specs.Names.{SheetValue, binding}
+use Rattle.apl_expr.specs.Trees.{literal_of}
+use Rattle.arrays_core.specs.Arrays.{ArrayValue}
+use Rattle.arrays_core.specs.Growth.{grown_by}
+use Rattle.index_region.specs.Tails.{FitsTail}
+use Rattle.sheet_recalc.specs.Names.{SheetValue, Data, binding}
 use Rattle.sheet_recalc.specs.Rows.{row_put}
-use Rattle.sheet_recalc.proofs.Refused.{refused_row}
-use Rattle.sheet_recalc.proofs.Asked.{if_ok_map, row_pending}
+use Rattle.sheet_recalc.specs.Entries.{binding_of, HasData}
+use Rattle.sheet_recalc.proofs.Live.{binding_of_name}
+use Rattle.sheet_recalc.proofs.Refused.{refused_tail}
+use Rattle.sheet_recalc.proofs.Asked.{if_ok_map, few_at_first, free, row_pending}
 use Rattle.sheet_recalc.proofs.sheet.Sheet.begin_row.Goals as goal
+
+pub propose-requires-clause-proposal : goal.propose-requires-clause-proposal
+propose-requires-clause-proposal c =
+    let h = c.in_ok-tail.ensures.put in
+    subst (λ (s : SheetValue). (a : ArrayValue) × HasData s.tables.entries.entries c.args.name a × FitsTail a c.in_ok-tail.tail) c.self.view_is (h.0, h.1, h.2)
 
 pub returns-clause-ok : goal.returns-clause-ok
 returns-clause-ok c =
-    let is = subst (λ (s : SheetValue). row_put (binding s.names c.args.name) (literal_of c.args.literal.now) ≡ Ok c.in_ok-array.array) c.self.view_is c.in_ok-array.ensures in
-    if_ok_map c.begin_put.result _ _ (λ p h. row_pending c.args.self.now c.args.name c.in_ok-array.array (literal_of c.args.literal.now) is p.value h) c.begin_put.ensures.ok
+    let literal = literal_of c.args.literal.now in
+    let t = c.in_ok-tail.tail in
+    let h = subst (λ (s : SheetValue). (a : ArrayValue) × HasData s.tables.entries.entries c.args.name a × FitsTail a t × (row_put (binding s.names c.args.name) literal ≡ Ok (grown_by a t.items))) c.self.view_is c.in_ok-tail.ensures.put in
+    if_ok_map c.propose.result _ _ (λ pending told. row_pending c.args.self.now c.args.name literal t h.0 h.1 h.2 h.3 c.in_ok-tail.ensures.items pending.value told) c.propose.ensures.ok
 
 pub returns-clause-refused : goal.returns-clause-refused
 returns-clause-refused c =
-    let is = subst (λ (s : SheetValue). row_put (binding s.names c.args.name) (literal_of c.args.literal.now) ≡ Ok c.in_ok-array.array) c.self.view_is c.in_ok-array.ensures in
-    IfErr-weaker c.begin_put.result _ _
-    (λ cause h. refused_row c.args.self.now.names c.args.name (literal_of c.args.literal.now) c.in_ok-array.array is cause h)
-    c.begin_put.ensures.refused
+    let literal = literal_of c.args.literal.now in
+    let t = c.in_ok-tail.tail in
+    let a = c.in_ok-tail.ensures.put.0 in
+    let es = c.self.inside.entries.entries in
+    let held = subst (λ (s : SheetValue). binding s.names c.args.name ≡ Some (Data a)) c.self.view_is (binding_of_name es c.args.name ∙ ap (option_map binding_of) c.in_ok-tail.ensures.put.1) in
+    let is = subst (λ (s : SheetValue). row_put (binding s.names c.args.name) literal ≡ Ok (grown_by a t.items)) c.self.view_is c.in_ok-tail.ensures.put.3 in
+    IfErr-weaker c.propose.result _ _ (λ cause h. refused_tail c.args.self.now.names c.args.name literal a t held is c.propose.ensures.sound.acyclic cause h) c.propose.ensures.refused
+
+pub returns-clause-ticks : goal.returns-clause-ticks
+returns-clause-ticks c = if_ok_map c.propose.result _ _ (λ p h. few_at_first c.args.self.now c.args.name _ 0 p.value h 0 free) c.propose.ensures.ok
