@@ -38,12 +38,12 @@ fn change_of_one<R: Tight>(
 }
 
 /// The change of a node of two arguments, of which the left one grew.
-fn change_beside<R: Tight>(
+fn change_beside<'a, R: Tight>(
     alloc: Global,
     rule: &R,
-    array: &Array,
+    array: &'a Array,
     tail: Tail,
-    right: &Array,
+    right: &'a Array,
     old: &Result<Array, Fault>,
 ) -> Option<(Delta, u32)>
     requires count { length (R.model rule.now).selectors ≡ 2 }

@@ -1,18 +1,17 @@
 -- The growth of indexed reference.
-use Rattle.std.proofs.Common.{◌≡◌, ℕ, ◌+◌, ◌<◌, ◌≤◌, zero, suc, ap, sym, ◌∙◌, refl, arith, true, false, Bool, not, ◌&&◌, nat_le, nat_eq, List, [], ◌∷◌, length, get_or, drop, Some, None, Ok, Result, unwrap_or, inl, inr}
+use Rattle.std.proofs.Common.{◌≡◌, ℕ, ◌+◌, ◌<◌, ◌≤◌, ap, sym, ◌∙◌, refl, arith, true, false, Bool, not, ◌&&◌, nat_le, nat_eq, List, [], ◌∷◌, length, get_or, drop, Some, None, Ok, unwrap_or, inl, inr}
 use Rattle.std.specs.List.{list_all}
 use Rattle.std.proofs.lemmas.Bool.{and_parts, and_from, cases_Bool, cond-true, cond-false, eqb-true, false≢true, leb-true, le-leb}
 use Rattle.arrays_core.specs.declared.item.Item.{Item}
-use Rattle.arrays_core.specs.declared.item.Kind.{Kind}
-use Rattle.arrays_core.specs.Arrays.{ArrayValue, IsArray, item_of, item_if_there}
+use Rattle.arrays_core.specs.Arrays.{ArrayValue, IsArray, item_if_there}
 use Rattle.arrays_core.specs.Items.{fill}
-use Rattle.arrays_core.specs.Shapes.{size, is_index_of}
+use Rattle.arrays_core.specs.Shapes.{is_index_of}
 use Rattle.index_region.specs.Arguments.{is_scalar}
-use Rattle.index_region.specs.Checks.{Form, form_of, limited}
+use Rattle.index_region.specs.Checks.{Form, form_of}
 use Rattle.index_region.proofs.Passing.{gives, limited_gives}
 use Rattle.arrays_core.specs.Growth.{one_longer}
 use Rattle.change_core.specs.Growth.{AllGrew, IsGrown, IsGrowing}
-use Rattle.change_core.proofs.Growing.{item_kept, longer_form, shape_grown, still_inside, type_grown}
+use Rattle.change_core.proofs.Growing.{item_kept, longer_form, shape_grown, type_grown}
 use Rattle.selection_fns.specs.Index.{Position, are_numbers, are_on, indexed_shape, index_form, index_item, source_index, written_positions}
 use Rattle.selection_rules.specs.Growth.{index_grows}
 use Rattle.selection_rules.specs.Index.{index_rule}
@@ -89,8 +88,8 @@ index_growing written [] (o ∷ olds) news f g h so sn listed e k = absurd h
 index_growing written (m ∷ marks) [] news f g h so sn listed e k = absurd h
 index_growing written (m ∷ marks) (o ∷ olds) [] f g h so sn listed e k = absurd h
 index_growing written (false ∷ marks) (o ∷ olds) (a ∷ news) f g h so sn listed e k = absurd (false≢true listed)
-index_growing [] (true ∷ marks) (o ∷ olds) (a ∷ news) f g h so sn listed e k = absurd (false≢true (and_parts _ _ (and_parts _ _ listed).1).0)
-index_growing (true ∷ written) (true ∷ marks) (o ∷ olds) (a ∷ news) f g h so sn listed e k = absurd (false≢true (and_parts _ _ (and_parts _ _ listed).1).0)
+index_growing [] (true ∷ marks) (o ∷ olds) (a ∷ news) f g h so sn listed e k = absurd (false≢true (and_parts _ _ listed).1)
+index_growing (true ∷ written) (true ∷ marks) (o ∷ olds) (a ∷ news) f g h so sn listed e k = absurd (false≢true (and_parts _ _ listed).1)
 index_growing (false ∷ written) (true ∷ marks) (old ∷ olds) (new ∷ news) f g h so sn listed e k =
     let none = (and_parts _ _ listed).0 in
     let same : olds ≡ news = positions_same marks olds news h.1 none in
