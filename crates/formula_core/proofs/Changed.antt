@@ -1,7 +1,7 @@
 -- The change of a node makes of what it held what it now gives.
 use Rattle.std.proofs.Common.{◌≡◌, ℕ, suc, ◌+◌, ◌<◌, List, [], ◌∷◌, ◌++◌, length, map, Bool, true, false, ◌||◌, Result, Ok, Err, IfOk, refl, sym, ap, ◌∙◌, subst, arith, inl, inr}
 use Rattle.std.proofs.lemmas.List.{length-append, length-map}
-use Rattle.std.specs.List.{list_all, list_any}
+use Rattle.std.specs.List.{list_all, list_any, range_with_len}
 use Rattle.std.proofs.lemmas.Bool.{false≢true, cases_Bool, cond-true, cond-false}
 use Rattle.apl_expr.specs.Trees.{Tree, Monad, Dyad, Index, Positions, NoPositions, Empty, Filled}
 use Rattle.apl_expr.specs.declared.expr.Monadic.{Monadic}
@@ -20,7 +20,7 @@ use Rattle.arrays_core.specs.declared.item.ItemType.{ItemType}
 use Rattle.arrays_core.specs.declared.item.Kind.{Kind}
 use Rattle.index_region.specs.declared.delta.Delta.{Delta}
 use Rattle.index_region.specs.declared.delta.Delta.TheVariants.{Same, Patch, Grown, Whole}
-use Rattle.index_region.specs.Boxes.{fits}
+use Rattle.index_region.specs.Boxes.{fits, walk_at, box_size}
 use Rattle.index_region.specs.Checks.{Form, whole}
 use Rattle.index_region.specs.Patches.{PatchValue, FitsPatch, patched}
 use Rattle.index_region.specs.Tails.{TailValue, FitsTail}
@@ -137,15 +137,15 @@ patch_fits p arrays q b h is =
 counted : (rs : List (Result Item Kind)) (xs : List Item) → all_or_first_error rs ≡ Ok xs → length xs ≡ length rs
 counted [] xs h = let none : [] ≡ xs = cc in ap (λ (l : List Item). length l) (sym none)
 counted (Err k ∷ rs) xs h = absurd (let no : ⊥ = cc in no)
-counted (Ok x ∷ rs) xs h = behind (all_or_first_error rs) refl h
+counted (Ok x ∷ rs) xs h = behind (all_or_first_error rs) (counted rs) refl h
   where
-    behind : (r : Result (List Item) Kind) → all_or_first_error rs ≡ r → after x r ≡ Ok xs → length xs ≡ suc (length rs)
-    behind (Ok ys) e h = let all : x ∷ ys ≡ xs = cc in ap (λ (l : List Item). length l) (sym all) ∙ ap suc (counted rs ys e)
-    behind (Err k) e h = absurd (let no : ⊥ = cc in no)
+    behind : (r : Result (List Item) Kind) → ((ys : List Item) → all_or_first_error rs ≡ Ok ys → length ys ≡ length rs) → all_or_first_error rs ≡ r → after x r ≡ Ok xs → length xs ≡ suc (length rs)
+    behind (Ok ys) others e h = let all : x ∷ ys ≡ xs = cc in ap (λ (l : List Item). length l) (sym all) ∙ ap suc (others ys e)
+    behind (Err k) others e h = absurd (let no : ⊥ = cc in no)
 
 -- a result that grew has an axis: the place of a result without axes is one item, and that one was there
 grown_axis : (item : List ℕ → Result Item Kind) (shape : List ℕ) (xs ys : List Item) → items_at item (last_place (one_longer shape)) ≡ Ok xs → length ys ≡ size shape → length ys + length xs ≡ size (one_longer shape) → 0 < length shape
-grown_axis item [] xs ys h old all = let one : length xs ≡ 1 = counted _ xs h in absurd (omega (arith, one, old, all))
+grown_axis item [] xs ys h old all = let one : length xs ≡ 1 = counted (map (λ before. item (walk_at [] before)) (range_with_len 0 (box_size []))) xs h in absurd (omega (arith, one, old, all))
 grown_axis item (n ∷ shape) xs ys h old all = omega arith
 
 -- what a result grew by fits it

@@ -26,7 +26,7 @@ use Rattle.formula_core.specs.Changes.{Change, change, FitsIn}
 use Rattle.formula_core.specs.Inputs.{shown, delta_of, IsInput}
 use Rattle.formula_core.specs.Stages.{IsStaged, IsReady, IsKeptBy, IsSumsStep}
 use Rattle.formula_core.specs.Sums.{is_total, in_box, summed_in, summed_at, totalled, WasSummed, IsSumsDelta, IsSummedFor}
-use Rattle.formula_core.proofs.Steps.{operand_changed, fit_held}
+use Rattle.formula_core.proofs.Steps.{operand_changed}
 
 -- ---- an array that is patched
 

@@ -9,6 +9,12 @@ use Rattle.formula_core.proofs.Planned.{counted, known, tree_there, begun_more}
 use Rattle.formula_core.proofs.Progressed.{applied_there, free, among_plain, spent_none}
 use Rattle.formula_core.proofs.formula.Formula.go_on.Goals as goal
 
+pub next_leaf-requires-clause-begun : goal.next_leaf-requires-clause-begun
+next_leaf-requires-clause-begun c =
+    let f = c.args.self.now in
+    let h = c.requires.begun in
+    (h.0, (h.1.0, (h.1.1.0, subst (λ (ds : List NodeChange). IsBegun f h.0 ds h.1.1.0) (sym c.as_slice.ensures.value) (c.loop-changes.invariant.begun h.0 h.1.0 h.1.1.0 h.1.1.1))))
+
 pub loop-changes-preserved : goal.loop-changes-preserved
 loop-changes-preserved c =
     let f = c.args.self.now in
