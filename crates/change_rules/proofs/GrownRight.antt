@@ -1,21 +1,21 @@
 -- A node that grows: its new places make of the old whole evaluation the new one.
-use Rattle.std.proofs.Common.{◌≡◌, ℕ, zero, suc, ◌+◌, ◌*◌, ◌/◌, ◌%◌, ◌<◌, ◌≤◌, List, [], ◌∷◌, ◌++◌, length, map, max, min, get_or, drop, refl, ap, ◌∙◌, sym, subst, arith, true, Bool, nat_lt, Some, Result, Ok, Err, is_ok, IfOk, inl, inr, add-zero}
+use Rattle.std.proofs.Common.{◌≡◌, ℕ, zero, suc, ◌+◌, ◌*◌, ◌/◌, ◌%◌, ◌<◌, ◌≤◌, List, [], ◌∷◌, ◌++◌, length, map, max, min, refl, ap, ◌∙◌, sym, subst, arith, true, Bool, nat_lt, Some, Result, Ok, Err, is_ok, IfOk, inl, inr, add-zero}
 use Rattle.std.specs.List.{range_with_len, flat_map, list_all}
 use Rattle.std.proofs.lemmas.Bool.{cases_Bool, cond-true, cond-false, false≢true, ltb-true}
-use Rattle.std.proofs.lemmas.List.{append-nil, append_assoc, get_or-append-add, length-append, map-append}
+use Rattle.std.proofs.lemmas.List.{append-nil, append_assoc, map-append}
 use Rattle.std.proofs.lemmas.Nat.{div-mul-add, mod-mul-add}
 use Rattle.arrays_core.specs.declared.item.Item.{Item}
 use Rattle.arrays_core.specs.declared.item.ItemType.{ItemType}
 use Rattle.arrays_core.specs.declared.item.Kind.{Kind}
 use Rattle.arrays_core.specs.Arrays.{ArrayValue, IsArray, with_items}
-use Rattle.arrays_core.specs.Items.{after, all_or_first_error, type_of}
+use Rattle.arrays_core.specs.Items.{after, all_or_first_error}
 use Rattle.arrays_core.proofs.Growing.{fits_growth}
-use Rattle.arrays_core.specs.Shapes.{indices, is_index_of, size, IsWithinLimits}
+use Rattle.arrays_core.specs.Shapes.{indices, is_index_of}
 use Rattle.index_region.specs.declared.delta.Delta.{Delta}
 use Rattle.index_region.specs.declared.delta.Delta.TheVariants.{Same, Patch, Grown, Whole}
 use Rattle.index_region.specs.Boxes.{Interval, box_size, fits, interval_length, is_empty, met, unless_empty, walk_at, whole_of}
 use Rattle.index_region.specs.Checks.{Form, form_of, whole}
-use Rattle.arrays_core.specs.Growth.{FitsGrowth, grown_by, one_longer}
+use Rattle.arrays_core.specs.Growth.{grown_by, one_longer}
 use Rattle.index_region.specs.Tails.{TailValue}
 use Rattle.change_core.specs.Growth.{AllGrew, IsGrowing, last_interval, last_place}
 use Rattle.change_core.specs.Laws.{Each}

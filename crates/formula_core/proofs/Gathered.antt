@@ -1,5 +1,5 @@
 -- The operands of an operation, gathered for its rule where none of them is an error.
-use Rattle.std.proofs.Common.{◌≡◌, ℕ, suc, ◌+◌, ◌<◌, ◌≤◌, List, [], ◌∷◌, length, map, Bool, true, ◌&&◌, ◌||◌, not, Option, Some, None, is_some, is_ok, Result, Ok, Err, refl, sym, ap, ◌∙◌, subst, IfOk, if◌then◌else◌, arith}
+use Rattle.std.proofs.Common.{◌≡◌, ℕ, suc, ◌+◌, ◌≤◌, List, [], ◌∷◌, length, map, Bool, ◌&&◌, ◌||◌, not, Option, Some, None, is_some, is_ok, Result, Ok, Err, refl, sym, ap, ◌∙◌, subst, IfOk, if◌then◌else◌, arith}
 use Rattle.std.specs.Borrow.{Bor}
 use Rattle.std.specs.List.{list_all, list_any}
 use Rattle.std.specs.Result.{result_err}

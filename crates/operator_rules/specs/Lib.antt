@@ -3,6 +3,7 @@ pub mod Reduce
 pub mod Scan
 pub mod OuterProduct
 pub mod InnerProduct
+pub mod Growth
 -- The laws that the impls cite.
 pub mod ReadLines
 pub mod ReduceLaw
@@ -10,6 +11,5 @@ pub mod ScanLaw
 pub mod OuterProductLaw
 pub mod InnerProductReads
 pub mod InnerProductLaw
-pub mod Growth
 pub mod LinesGrowth
 pub mod OuterProductGrowth

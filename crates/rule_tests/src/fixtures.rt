@@ -34,23 +34,25 @@ pub(crate) fn array_of(alloc: Global, axes: &[u32], numbers: &[i64]) -> Option<A
     Some(Array::from_numbers(&shape_of(alloc, axes), numbers))
 }
 
-/// The shape with one more place of its first axis, if it has one.
-fn one_longer(shape: &Shape) -> Option<Shape>
-    ensures longer { IfSome result (λ s. s.items ≡ longer_by_one shape.now.items) }
+/// The shape of an array with one more place of its first axis, if it has one.
+fn one_longer(alloc: Global, array: &Array) -> Option<Shape>
+    ensures longer { IfSome result (λ s. s.items ≡ longer_by_one array.now.shape) }
     ensures inline { IfSome result (λ s. s.capacity ≡ 4) }
-    ensures axis { IfSome result (λ s. 0 < length shape.now.items) }
+    ensures axis { IfSome result (λ s. 0 < length array.now.shape) }
 {
-    let mut longer = shape_of(*shape.allocator(), shape.as_slice());
-    let length = longer.first()?.checked_add(1)?;
-    longer[0] = length;
-    Some(longer)
+    let mut shape = shape_of(alloc, array.shape().as_slice());
+    if shape.is_empty() {
+        return None;
+    }
+    shape[0] += 1;
+    Some(shape)
 }
 
 /// What an array of numbers grows by, if these are the items of one more place of its first axis.
 pub(crate) fn tail_of(alloc: Global, array: &Array, numbers: &[i64]) -> Option<Tail>
     ensures { IfSome result (λ t. FitsTail array.now t) }
 {
-    let shape = one_longer(array.shape())?;
+    let shape = one_longer(alloc, array)?;
     if array.item_type() != ItemType::Nums || !is_within_limits(shape.as_slice()) {
         return None;
     }

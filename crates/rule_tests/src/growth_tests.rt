@@ -2,6 +2,7 @@
 
 ghost use Rattle.std.specs.Prelude.{◌≡◌, length};
 ghost use Rattle.index_region.specs.Tails.{FitsTail};
+ghost use Rattle.index_region.specs.declared.delta.Delta.TheVariants.{Same, Grown};
 
 use crate::fixtures::{array_of, tail_of, vector, zeros};
 use arrays_core::{Array, Fault, Kind};
@@ -37,29 +38,25 @@ fn change_of_one<R: Tight>(
     }
 }
 
-/// The change of a node of two arguments, of which the left one grew.
+/// The change of a node of two arguments, of which the left one grew and the right one is as it was.
 fn change_beside<'a, R: Tight>(
     alloc: Global,
     rule: &R,
-    array: &'a Array,
-    tail: Tail,
-    right: &'a Array,
+    left: (&'a Array, &'a Tail, &'a Delta),
+    right: (&'a Array, &'a Delta),
     old: &Result<Array, Fault>,
 ) -> Option<(Delta, u32)>
     requires count { length (R.model rule.now).selectors ≡ 2 }
-    requires fits { FitsTail array.now tail }
+    requires fits { FitsTail left.0.now left.1.now }
+    requires grown { left.2.now ≡ Grown left.1.now }
+    requires same { right.1.now ≡ Same }
 {
-    let moved = Delta::Grown(tail);
-    match &moved {
-        Delta::Grown(tail) => {
-            let args = [
-                (Seen::grown(array, tail), &moved),
-                (Seen::plain(right), &Delta::Same),
-            ];
-            refresh_with_cost(alloc, rule, &args, old, &mut Meter::new()).ok()
-        }
-        _ => None,
-    }
+    let (array, tail, moved) = left;
+    let args = [
+        (Seen::grown(array, tail), moved),
+        (Seen::plain(right.0), right.1),
+    ];
+    refresh_with_cost(alloc, rule, &args, old, &mut Meter::new()).ok()
 }
 
 /// The change of a node whose two arguments are one array, which grew.
@@ -117,7 +114,14 @@ fn with_numbers_beside<R: Tight>(
         return None;
     };
     let tail = tail_of(alloc, array, numbers)?;
-    change_beside(alloc, rule, array, tail, right, shown)
+    let moved = Delta::Grown(tail.copy().ok()?);
+    change_beside(
+        alloc,
+        rule,
+        (array, &tail, &moved),
+        (right, &Delta::Same),
+        shown,
+    )
 }
 
 /// The change of a node whose two arguments are one array, which grew by these numbers.

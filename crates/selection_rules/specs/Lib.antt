@@ -7,6 +7,7 @@ pub mod Encode
 pub mod Decode
 pub mod Replicate
 pub mod Index
+pub mod Growth
 -- What the laws and the bodies use.
 pub mod PositionAxes
 pub mod ShapeLaw
@@ -19,5 +20,4 @@ pub mod DecodeLaw
 pub mod ReplicateLaw
 pub mod LeastBoxes
 pub mod IndexLaw
-pub mod Growth
 pub mod IndexGrowth

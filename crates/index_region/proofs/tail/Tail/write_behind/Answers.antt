@@ -1,4 +1,4 @@
-use Rattle.std.proofs.Common.{ℕ, List, length, sym, ap, ◌∙◌, subst, arith}
+use Rattle.std.proofs.Common.{length, sym, ap, ◌∙◌, subst, arith}
 use Rattle.arrays_core.specs.Shapes.{size}
 use Rattle.arrays_core.specs.Growth.{IsRoomFor}
 use Rattle.arrays_core.proofs.Growing.{size_longer}
