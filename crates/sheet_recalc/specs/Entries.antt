@@ -6,10 +6,8 @@ use Rattle.std.specs.Option.{unwrap_or, option_map}
 use Rattle.arrays_core.specs.declared.item.Kind.TheVariants.{Value}
 use Rattle.arrays_core.specs.Arrays.{ArrayValue}
 use Rattle.arrays_core.specs.Growth.{grown_by}
-use Rattle.index_region.specs.declared.delta.Delta.{Delta}
-use Rattle.index_region.specs.declared.delta.Delta.TheVariants.{Patch, Grown}
-use Rattle.index_region.specs.Patches.{patched}
-use Rattle.formula_core.specs.Changes.{FitsIn}
+use Rattle.index_region.specs.Patches.{PatchValue, FitsPatch, patched}
+use Rattle.index_region.specs.Tails.{TailValue, FitsTail}
 use Rattle.formula_core.specs.Outcomes.{Outcome, fault}
 use Rattle.formula_core.specs.Formulas.{root_result}
 use Rattle.formula_core.specs.Holdings.{adopted}
@@ -34,21 +32,25 @@ abbrev pub adopting : Entry → PlanValue → Entry
 adopting (entry.Data a) plan = entry.Data a
 adopting (entry.Formula f) plan = entry.Formula (record { tree = f.tree; is_new = false; nodes = adopted plan.changes f.nodes })
 
--- data that is changed where it lies: a patch is written into it, or a tail put behind it
-abbrev pub changed_data : ArrayValue → Delta → ArrayValue
-changed_data a (Patch p) = patched a p
-changed_data a (Grown t) = grown_by a t.items
-changed_data a d = a
+-- the patch lies in an entry, if that is data
+abbrev pub FitsEntry : Entry → PatchValue → Type 0
+FitsEntry (entry.Data a) patch = FitsPatch a patch
+FitsEntry (entry.Formula f) patch = Unit {0}
 
--- such a change fits an entry, if that is data
-abbrev pub FitsEntry : Entry → Delta → Type 0
-FitsEntry (entry.Data a) d = FitsIn d (Ok a)
-FitsEntry (entry.Formula f) d = Unit {0}
+-- an entry into which a patch was written, if it is data
+abbrev pub patched_entry : Entry → PatchValue → Entry
+patched_entry (entry.Data a) patch = entry.Data (patched a patch)
+patched_entry (entry.Formula f) patch = entry.Formula f
 
--- an entry that is changed so, if it is data
-abbrev pub changed_entry : Entry → Delta → Entry
-changed_entry (entry.Data a) d = entry.Data (changed_data a d)
-changed_entry (entry.Formula f) d = entry.Formula f
+-- the tail fits an entry, if that is data
+abbrev pub FitsBehind : Entry → TailValue → Type 0
+FitsBehind (entry.Data a) tail = FitsTail a tail
+FitsBehind (entry.Formula f) tail = Unit {0}
+
+-- an entry behind which a tail was put, if it is data
+abbrev pub grown_entry : Entry → TailValue → Entry
+grown_entry (entry.Data a) tail = entry.Data (grown_by a tail.items)
+grown_entry (entry.Formula f) tail = entry.Formula f
 
 -- a name is bound to this data
 abbrev pub HasData : List (List ℕ × Entry) → List ℕ → ArrayValue → Type 0

@@ -1,13 +1,15 @@
 //! The part of a change that takes no memory.
 
-ghost use Rattle.std.specs.Prelude.{◌≡◌, ◌<◌, ℕ, List, [], Some, None, Ok, if◌then◌else◌};
+ghost use Rattle.std.specs.Prelude.{◌≡◌, ◌<◌, ℕ, List, [], Some, None, if◌then◌else◌};
 ghost use Rattle.std.specs.Str.{bytes_eq};
 ghost use Rattle.std.specs.Map.{lookup, set_value};
 ghost use Rattle.indexmap.specs.IndexMap.{spare, insert_entry};
 ghost use Rattle.arrays_core.specs.Arrays.{ArrayValue};
-ghost use Rattle.formula_core.specs.Changes.{FitsIn};
+ghost use Rattle.arrays_core.specs.Growth.{grown_by};
+ghost use Rattle.index_region.specs.Patches.{patched, FitsPatch};
+ghost use Rattle.index_region.specs.Tails.{FitsTail};
 ghost use Rattle.sheet_recalc.specs.Names.{Data, put, without, referred, referred_by};
-ghost use Rattle.sheet_recalc.specs.Entries.{names_of, binding_of, adopting, changed_data, HasData};
+ghost use Rattle.sheet_recalc.specs.Entries.{names_of, binding_of, adopting, HasData};
 ghost use Rattle.sheet_recalc.specs.declared.entry.Entry.{Entry as EntryValue};
 ghost use Rattle.sheet_recalc.specs.declared.entry.Entry.TheVariants.{Data as DataEntry};
 ghost use Rattle.dep_order.specs.Users.{HasRoomFor, HasNoEmptyBut};
@@ -22,7 +24,7 @@ use crate::proposal::Proposal;
 use apl_tokens::Name;
 use dep_order::{Users, give_sets, refer, take_larger};
 use formula_core::Plan;
-use index_region::Delta;
+use index_region::{Delta, Patch, Tail};
 use indexmap::IndexMap;
 
 /// Makes a change that is worked out. No memory is asked for.
@@ -52,7 +54,10 @@ pub(crate) fn make(entries: &mut IndexMap<Name, Entry>, users: &mut Users<Name>,
             let entry = Entry::Data(array);
             commit_with(entries, users, name, entry, found, growth);
         }
-        Proposal::Data(change) => commit_in_place(entries, name, change, found),
+        Proposal::Data(Delta::Patch(patch)) => commit_patch(entries, name, &patch, found),
+        Proposal::Data(Delta::Grown(tail)) => commit_row(entries, name, tail, found),
+        Proposal::Data(Delta::Same) => {}
+        Proposal::Data(Delta::Whole(Err(_))) => {}
         Proposal::Removed => commit_removal(entries, users, name, found),
     }
 }
@@ -135,26 +140,48 @@ fn commit_removal(
     adopt_all(entries, found);
 }
 
-/// Changes the data of a name where it lies, and gives each formula its new results.
-fn commit_in_place(entries: &mut IndexMap<Name, Entry>, name: Name, change: Delta, found: Found)
-    requires data { (a : ArrayValue) × HasData entries.old.entries name a × FitsIn change (Ok a) }
+/// Writes new items into the data of a name, where it lies, and gives each formula its new results.
+fn commit_patch(entries: &mut IndexMap<Name, Entry>, name: Name, patch: &Patch, found: Found)
+    requires data { (a : ArrayValue) × HasData entries.old.entries name a × FitsPatch a patch.now }
     requires planned { (a : ArrayValue) → HasData entries.old.entries name a
-        → IsPlanned entries.old.entries name (Some (DataEntry (changed_data a change))) (put (names_of entries.old.entries) name (Data (changed_data a change))) (plan_in found.entries) }
-    ensures names { (a : ArrayValue) → HasData entries.old.entries name a → names_of entries.new.entries ≡ put (names_of entries.old.entries) name (Data (changed_data a change)) }
+        → IsPlanned entries.old.entries name (Some (DataEntry (patched a patch.now))) (put (names_of entries.old.entries) name (Data (patched a patch.now))) (plan_in found.entries) }
+    ensures names { (a : ArrayValue) → HasData entries.old.entries name a → names_of entries.new.entries ≡ put (names_of entries.old.entries) name (Data (patched a patch.now)) }
     ensures current { IsCurrent entries.new.entries }
 {
-    change_data(entries, name, change);
+    write_patch(entries, name, patch);
     adopt_all(entries, found);
 }
 
-/// Changes the data of a name where it lies.
-fn change_data(entries: &mut IndexMap<Name, Entry>, name: Name, change: Delta)
-    requires { (a : ArrayValue) × HasData entries.old.entries name a × FitsIn change (Ok a) }
-    ensures { (a : ArrayValue) → HasData entries.old.entries name a → entries.new.entries ≡ insert_entry bytes_eq entries.old.entries name (DataEntry (changed_data a change)) }
+/// Writes new items into the data of a name.
+fn write_patch(entries: &mut IndexMap<Name, Entry>, name: Name, patch: &Patch)
+    requires { (a : ArrayValue) × HasData entries.old.entries name a × FitsPatch a patch.now }
+    ensures { (a : ArrayValue) → HasData entries.old.entries name a → entries.new.entries ≡ insert_entry bytes_eq entries.old.entries name (DataEntry (patched a patch.now)) }
+{
+    if let Some(entry) = entries.get_mut(&name) {
+        entry.write(patch);
+    }
+}
+
+/// Puts a row behind the data of a name, where it lies, and gives each formula its new results.
+fn commit_row(entries: &mut IndexMap<Name, Entry>, name: Name, tail: Tail, found: Found)
+    requires data { (a : ArrayValue) × HasData entries.old.entries name a × FitsTail a tail }
+    requires planned { (a : ArrayValue) → HasData entries.old.entries name a
+        → IsPlanned entries.old.entries name (Some (DataEntry (grown_by a tail.items))) (put (names_of entries.old.entries) name (Data (grown_by a tail.items))) (plan_in found.entries) }
+    ensures names { (a : ArrayValue) → HasData entries.old.entries name a → names_of entries.new.entries ≡ put (names_of entries.old.entries) name (Data (grown_by a tail.items)) }
+    ensures current { IsCurrent entries.new.entries }
+{
+    put_behind(entries, name, tail);
+    adopt_all(entries, found);
+}
+
+/// Puts items behind the data of a name.
+fn put_behind(entries: &mut IndexMap<Name, Entry>, name: Name, tail: Tail)
+    requires { (a : ArrayValue) × HasData entries.old.entries name a × FitsTail a tail }
+    ensures { (a : ArrayValue) → HasData entries.old.entries name a → entries.new.entries ≡ insert_entry bytes_eq entries.old.entries name (DataEntry (grown_by a tail.items)) }
 {
     match entries.get_mut(&name) {
-        Some(entry) => entry.change(change),
-        None => drop(change),
+        Some(entry) => entry.grow(tail),
+        None => drop(tail),
     }
 }
 

@@ -3,14 +3,14 @@
 ghost use Rattle.std.specs.Prelude.{◌≡◌};
 ghost use Rattle.formula_core.specs.Outcomes.{read};
 ghost use Rattle.sheet_recalc.specs.Meaning.{in_formula};
-ghost use Rattle.sheet_recalc.specs.Entries.{binding_of, entry_outcome, adopting, changed_entry, FitsEntry};
+ghost use Rattle.sheet_recalc.specs.Entries.{binding_of, entry_outcome, adopting, patched_entry, grown_entry, FitsEntry, FitsBehind};
 ghost use Rattle.sheet_recalc.specs.Names.{referred};
 ghost use Rattle.sheet_recalc.specs.Live.{CanAdopt};
 
 use apl_tokens::Name;
 use arrays_core::{Array, Fault};
 use formula_core::{Formula, Plan};
-use index_region::Delta;
+use index_region::{Patch, Tail};
 
 /// Data, or a formula with its results.
 #[derive(Drop)]
@@ -56,18 +56,25 @@ impl Entry {
         }
     }
 
-    /// Changes data where it lies: a patch writes its items into it, and a tail puts its own behind them. A formula stays.
-    pub(crate) fn change(&mut self, change: Delta)
-        requires { FitsEntry self.old change }
-        ensures { self.new ≡ changed_entry self.old change }
+    /// Writes the new items of a patch into data, where it lies. A formula stays.
+    pub(crate) fn write(&mut self, patch: &Patch)
+        requires { FitsEntry self.old patch.now }
+        ensures { self.new ≡ patched_entry self.old patch.now }
     {
-        let Entry::Data(array) = self else {
-            return;
-        };
-        match change {
-            Delta::Patch(patch) => patch.write_into(array),
-            Delta::Grown(tail) => tail.write_behind(array),
-            Delta::Same | Delta::Whole(_) => {}
+        match self {
+            Entry::Data(array) => patch.write_into(array),
+            Entry::Formula(_) => {}
+        }
+    }
+
+    /// Puts the items of a tail behind those of data, where these lie. A formula stays.
+    pub(crate) fn grow(&mut self, tail: Tail)
+        requires { FitsBehind self.old tail }
+        ensures { self.new ≡ grown_entry self.old tail }
+    {
+        match self {
+            Entry::Data(array) => tail.write_behind(array),
+            Entry::Formula(_) => drop(tail),
         }
     }
 }

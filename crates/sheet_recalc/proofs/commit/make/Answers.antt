@@ -1,25 +1,37 @@
 use Rattle.std.proofs.Common.{◌≡◌, ◌∙◌, ℕ, List, refl, sym, ap, subst, Some, Option, Ok, Err}
 use Rattle.std.specs.Option.{option_map}
+use Rattle.indexmap.specs.IndexSet.{IndexSet}
 use Rattle.change_rules.specs.Currency.{applied}
+use Rattle.arrays_core.specs.Growth.{grown_by}
+use Rattle.index_region.specs.Patches.{PatchValue, patched}
+use Rattle.index_region.specs.Tails.{TailValue}
 use Rattle.index_region.specs.declared.delta.Delta.{Delta}
 use Rattle.index_region.specs.declared.delta.Delta.TheVariants.{Same, Patch, Grown, Whole}
 use Rattle.arrays_core.specs.Arrays.{ArrayValue}
-use Rattle.sheet_recalc.specs.Names.{Data, binding, rebound}
+use Rattle.sheet_recalc.specs.Names.{Names, Data, binding, put, rebound}
 use Rattle.sheet_recalc.specs.Meaning.{val}
-use Rattle.sheet_recalc.specs.Entries.{names_of, binding_of, changed_data, HasData}
+use Rattle.sheet_recalc.specs.Entries.{names_of, binding_of, HasData}
 use Rattle.formula_core.specs.Changes.{FitsIn}
 use Rattle.sheet_recalc.specs.Planning.{IsProposalAt}
+use Rattle.sheet_recalc.specs.Tables.{Tables}
+use Rattle.sheet_recalc.specs.Pending.{IsReady, names_after}
 use Rattle.sheet_recalc.specs.Live.{IsTable, IsPlanned, plan_in}
 use Rattle.sheet_recalc.specs.ProposedSheet.{data_entry, proposed_entry, names_with}
 use Rattle.sheet_recalc.specs.declared.entry.Entry.{Entry}
 use Rattle.sheet_recalc.specs.declared.entry.Entry.TheVariants as entry
+use Rattle.sheet_recalc.specs.declared.pending.Pending.{Pending}
 use Rattle.sheet_recalc.specs.declared.proposal.Proposal.{Proposal}
 use Rattle.sheet_recalc.specs.declared.proposal.Proposal.TheVariants as proposed
 use Rattle.sheet_recalc.proofs.Live.{val_data, binding_of_name}
 use Rattle.sheet_recalc.proofs.Accounted.{table_kept}
 use Rattle.sheet_recalc.proofs.commit.make.Goals as goal
 
--- data that is no new array is changed where it lies
+-- data that is changed where it lies
+abbrev changed_data : ArrayValue → Delta → ArrayValue
+changed_data a (Patch p) = patched a p
+changed_data a (Grown t) = grown_by a t.items
+changed_data a d = a
+
 in_place : (es : List (List ℕ × Entry)) (name : List ℕ) (d : Delta) → IsProposalAt es name (proposed.Data d) → ((b : ArrayValue) → d ≡ Whole (Ok b) → ⊥) → (a : ArrayValue) × HasData es name a × FitsIn d (Ok a)
 in_place es name Same h other = absurd h
 in_place es name (Patch p) h other = h
@@ -75,8 +87,58 @@ module _ (t : Tables) (p : Pending) (d : Delta) (is : p.proposal ≡ proposed.Da
   makes_names new made =
       made held.0 held.1 ∙ sym (ap (λ (e : Option Entry). rebound (names_of es) p.name (option_map binding_of e)) (own held.0 held.1))
 
-  makes_table : (users : List (List ℕ × _)) → IsTable (names_of es) users → IsTable (names_after t p) users
+  makes_table : {S : Type 0} (users : List (List ℕ × IndexSet (List ℕ) S)) → IsTable (names_of es) users → IsTable (names_after t p) users
   makes_table users tells =
       let there : binding (names_of es) p.name ≡ Some (Data held.0) = binding_of_name es p.name ∙ ap (option_map binding_of) held.1 in
       subst (λ (e : Option Entry). IsTable (rebound (names_of es) p.name (option_map binding_of e)) users) (sym (own held.0 held.1))
       (table_kept (names_of es) p.name held.0 (changed_data held.0 d) users there tells)
+
+no_array : (p : PatchValue) (b : ArrayValue) → Patch p ≡ Whole (Ok b) → ⊥
+no_array p b h = cc
+
+tail_no_array : (t : TailValue) (b : ArrayValue) → Grown t ≡ Whole (Ok b) → ⊥
+tail_no_array t b h = cc
+
+pub commit_patch-requires-clause-planned : goal.commit_patch-requires-clause-planned
+commit_patch-requires-clause-planned c =
+    let p = c.in-Data-Patch.patch in
+    let is = c.in-Data-Patch.is ∙ ap (λ (d : Delta). proposed.Data d) c.in-Data-Patch.field-0-is in
+    fits_planned (record { entries = c.args.entries.now; users = c.args.users.now }) c.args.pending (Patch p) is (no_array p) c.requires.ready
+
+pub returns-in-Data-Patch-clause-names : goal.returns-in-Data-Patch-clause-names
+returns-in-Data-Patch-clause-names c =
+    let p = c.in-Data-Patch.patch in
+    let is = c.in-Data-Patch.is ∙ ap (λ (d : Delta). proposed.Data d) c.in-Data-Patch.field-0-is in
+    makes_names (record { entries = c.args.entries.now; users = c.args.users.now }) c.args.pending (Patch p) is (no_array p) c.requires.ready (names_of c.commit_patch.new.entries.entries) c.commit_patch.ensures.names
+
+pub returns-in-Data-Patch-clause-tells : goal.returns-in-Data-Patch-clause-tells
+returns-in-Data-Patch-clause-tells c =
+    let p = c.in-Data-Patch.patch in
+    let is = c.in-Data-Patch.is ∙ ap (λ (d : Delta). proposed.Data d) c.in-Data-Patch.field-0-is in
+    makes_table (record { entries = c.args.entries.now; users = c.args.users.now }) c.args.pending (Patch p) is (no_array p) c.requires.ready c.args.users.now.entries c.requires.tells
+
+pub commit_row-requires-clause-planned : goal.commit_row-requires-clause-planned
+commit_row-requires-clause-planned c =
+    let t = c.in-Data-Grown.tail in
+    let is = c.in-Data-Grown.is ∙ ap (λ (d : Delta). proposed.Data d) c.in-Data-Grown.field-0-is in
+    fits_planned (record { entries = c.args.entries.now; users = c.args.users.now }) c.args.pending (Grown t) is (tail_no_array t) c.requires.ready
+
+pub returns-in-Data-Grown-clause-names : goal.returns-in-Data-Grown-clause-names
+returns-in-Data-Grown-clause-names c =
+    let t = c.in-Data-Grown.tail in
+    let is = c.in-Data-Grown.is ∙ ap (λ (d : Delta). proposed.Data d) c.in-Data-Grown.field-0-is in
+    makes_names (record { entries = c.args.entries.now; users = c.args.users.now }) c.args.pending (Grown t) is (tail_no_array t) c.requires.ready (names_of c.commit_row.new.entries.entries) c.commit_row.ensures.names
+
+pub returns-in-Data-Grown-clause-tells : goal.returns-in-Data-Grown-clause-tells
+returns-in-Data-Grown-clause-tells c =
+    let t = c.in-Data-Grown.tail in
+    let is = c.in-Data-Grown.is ∙ ap (λ (d : Delta). proposed.Data d) c.in-Data-Grown.field-0-is in
+    makes_table (record { entries = c.args.entries.now; users = c.args.users.now }) c.args.pending (Grown t) is (tail_no_array t) c.requires.ready c.args.users.now.entries c.requires.tells
+
+pub returns-in-Data-Same-clause-tells : goal.returns-in-Data-Same-clause-tells
+returns-in-Data-Same-clause-tells c = absurd (rw (c.in-Data-Same.is ∙ ap (λ (d : Delta). proposed.Data d) c.in-Data-Same.field-0-is) at c.requires.ready.proposal)
+
+pub returns-in-Data-Whole-Err-clause-tells : goal.returns-in-Data-Whole-Err-clause-tells
+returns-in-Data-Whole-Err-clause-tells c =
+    let whole = c.in-Data-Whole-Err in
+    absurd (rw (whole.is ∙ (ap (λ (d : Delta). proposed.Data d) (whole.field-0-is ∙ ap Whole whole.field-0-0-is))) at c.requires.ready.proposal)

@@ -1,24 +1,25 @@
 use Rattle.std.proofs.Common.{◌≡◌, ◌∙◌, sym, ap, Some, IsSome, refl, subst}
 use Rattle.std.specs.Str.{bytes_eq}
 use Rattle.std.specs.Map.{lookup, set_value}
-use Rattle.sheet_recalc.specs.Entries.{FitsEntry, changed_data, changed_entry}
+use Rattle.index_region.specs.Patches.{patched}
+use Rattle.sheet_recalc.specs.Entries.{FitsEntry, patched_entry}
 use Rattle.sheet_recalc.specs.declared.entry.Entry.{Entry}
 use Rattle.sheet_recalc.specs.declared.entry.Entry.TheVariants as entry
 use Rattle.sheet_recalc.proofs.Live.{set_is_put}
-use Rattle.sheet_recalc.proofs.commit.change_data.Goals as goal
+use Rattle.sheet_recalc.proofs.commit.write_patch.Goals as goal
 
-pub change-requires : goal.change-requires
-change-requires c =
+pub write-requires : goal.write-requires
+write-requires c =
     let found : Some (c.in-Some.entry.now) ≡ Some (entry.Data c.requires.0) = c.in-Some.ensures.value ∙ c.requires.1 in
     let this : c.in-Some.entry.now ≡ entry.Data c.requires.0 = cc in
-    subst (λ (e : Entry). FitsEntry e c.args.change) (sym this) c.requires.2
+    subst (λ (e : Entry). FitsEntry e c.args.patch.now) (sym this) c.requires.2
 
 pub returns-in-Some : goal.returns-in-Some
 returns-in-Some c = λ a is.
     let es = c.args.entries.now.entries in
     let e = c.in-Some.entry.now in
-    let wrote = c.get_mut.follows.holds c.change.new.self in
+    let wrote = c.get_mut.follows.holds c.write.new.self in
     let found : Some e ≡ Some (entry.Data a) = c.in-Some.ensures.value ∙ is in
     let this : e ≡ entry.Data a = cc in
     let there : IsSome (lookup (bytes_eq c.args.name) es) = subst (λ o. IsSome o) (sym is) refl in
-    wrote.0 ∙ (ap (λ v. set_value (bytes_eq c.args.name) es v) (c.change.ensures ∙ ap (λ (f : Entry). changed_entry f c.args.change) this) ∙ set_is_put c.args.name (entry.Data (changed_data a c.args.change)) es there)
+    wrote.0 ∙ (ap (λ v. set_value (bytes_eq c.args.name) es v) (c.write.ensures ∙ ap (λ (f : Entry). patched_entry f c.args.patch.now) this) ∙ set_is_put c.args.name (entry.Data (patched a c.args.patch.now)) es there)
