@@ -1,11 +1,13 @@
 //! A live sheet as someone would write it by hand in plain Rust for a few forms of lines: what bench/cells compares edits of one cell
-//! with. It reads lines from standard input and answers them as aplsheet does:
+//! and added rows with. It reads lines from standard input and answers them as aplsheet does:
 //!
-//!     )DATA N←E     N←E     N[i]←k     N[i;j]←k     E
+//!     )DATA N←E     N←E     N[i]←k     N[i;j]←k     )ROW N k     )ROW N k k k     E
 //!
 //! where E is a list of numbers, a name, N[k], A+B, A-B, A×B, A⍴B, ⍳B, +/B or +⌿B, and A is one of the first three. Each node of a
 //! formula keeps its result, and an edit of a cell goes through the formulas above it, of which each writes the one item that changes.
-//! A line of a total is added up anew, from its right, with a check a step. Matrices are not printed.
+//! A line of a total is added up anew, from its right, with a check a step. A row is put behind the data where it lies. So are the items
+//! that it brings to A+B, A-B and A×B, where the other argument has one item or has grown too, and the one total that it brings to +/B of
+//! a matrix; any other node that it reaches is worked out anew, all of it. Matrices are not printed.
 
 use std::collections::HashMap;
 use std::fmt::{self, Display};
@@ -74,14 +76,15 @@ enum Along {
 impl Along {
     /// How far the items of a line lie apart, how many they are, and how many lines there are.
     fn strides(self, shape: &[usize]) -> (usize, usize, usize) {
-        let size: usize = shape.iter().product();
         match self {
-            Along::Last => (
-                1,
-                shape[shape.len() - 1],
-                size / shape[shape.len() - 1].max(1),
-            ),
-            Along::First => (size / shape[0].max(1), shape[0], size / shape[0].max(1)),
+            Along::Last => {
+                let last = shape.len() - 1;
+                (1, shape[last], shape[..last].iter().product())
+            }
+            Along::First => {
+                let lines = shape[1..].iter().product();
+                (lines, shape[0], lines)
+            }
         }
     }
 
@@ -93,9 +96,9 @@ impl Along {
         } else {
             line
         };
-        let items = argument.items[begin..].iter().step_by(stride).take(length);
-        items
-            .rev()
+        let items = argument.items.get(begin..).unwrap_or_default().iter();
+        let line = items.step_by(stride).take(length);
+        line.rev()
             .try_fold(0i64, |total, item| item.checked_add(total))
             .ok_or(fault("LIMIT ERROR"))
     }
@@ -219,11 +222,12 @@ fn index(argument: &Value, position: i64) -> Value {
         .map_err(fault)
 }
 
-/// What a change does to an array: nothing, one item, or all.
+/// What a change does to an array: nothing, one item, one more place of the first axis behind the others, or all.
 #[derive(Clone, Copy)]
 enum Change {
     Same,
     Cell(usize),
+    Row,
     Whole,
 }
 
@@ -256,6 +260,21 @@ fn put(value: &mut Value, place: usize, item: Result<i64, Fault>) -> Change {
 fn put_all(value: &mut Value, found: Value) -> Change {
     *value = found;
     Change::Whole
+}
+
+/// Puts the items of one more place of the first axis behind the others, or all that one of them gives where it is an error.
+fn grow(value: &mut Value, row: impl Iterator<Item = Result<i64, Fault>>) -> Change {
+    let Ok(array) = value else {
+        unreachable!("an error is made whole")
+    };
+    for item in row {
+        match item {
+            Ok(item) => array.items.push(item),
+            Err(fault) => return put_all(value, Err(fault)),
+        }
+    }
+    array.shape[0] += 1;
+    Change::Row
 }
 
 impl Node {
@@ -324,6 +343,12 @@ impl Node {
                         let line = along.line_of(argument, place);
                         put(value, line, along.total(argument, line))
                     }
+                    (Change::Row, Ok(argument))
+                        if value.is_ok() && *along == Along::Last && argument.shape.len() == 2 =>
+                    {
+                        let line = argument.shape[0] - 1;
+                        grow(value, std::iter::once(along.total(argument, line)))
+                    }
                     (_, argument) => put_all(value, along.apply(argument)),
                 }
             }
@@ -366,14 +391,29 @@ fn refresh_pair(
             }
             _ => None,
         };
+        let item = |place| function.item(left.at(place), right.at(place));
         if let Some(place) = place {
-            return put(value, place, function.item(left.at(place), right.at(place)));
+            return put(value, place, item(place));
+        }
+        let longer = match changes {
+            (Change::Row, Change::Same) if stands_for_all(right, left) => Some(left),
+            (Change::Same, Change::Row) if stands_for_all(left, right) => Some(right),
+            (Change::Row, Change::Row) if left.shape == right.shape => Some(left),
+            _ => None,
+        };
+        if let Some(longer) = longer {
+            return grow(value, (size..longer.items.len()).map(item));
         }
     }
     match changes {
         (Change::Same, Change::Same) => Change::Same,
         _ => put_all(value, function.apply(left, right)),
     }
+}
+
+/// Whether an array has one item that stands for every place of another, also where that has one item too.
+fn stands_for_all(array: &Array, other: &Array) -> bool {
+    array.items.len() == 1 && array.shape.len() <= other.shape.len()
 }
 
 enum Binding {
@@ -508,17 +548,42 @@ impl Sheet {
         Ok(())
     }
 
-    fn set_cell(&mut self, name: &str, positions: &[i64], item: i64) -> Result<(), Text> {
+    /// The number of a name of data, and its array.
+    fn array(&mut self, name: &str) -> Result<(usize, &mut Array), Text> {
         let at = *self.places.get(name).ok_or("NOT FOUND")?;
-        let array = match &mut self.entries[at].binding {
-            Binding::Absent => return Err("NOT FOUND".into()),
-            Binding::Data(Ok(array)) => array,
-            _ => return Err("NOT DATA".into()),
-        };
+        match &mut self.entries[at].binding {
+            Binding::Absent => Err("NOT FOUND".into()),
+            Binding::Data(Ok(array)) => Ok((at, array)),
+            _ => Err("NOT DATA".into()),
+        }
+    }
+
+    fn set_cell(&mut self, name: &str, positions: &[i64], item: i64) -> Result<(), Text> {
+        let (at, array) = self.array(name)?;
         let place = array.place(positions)?;
         array.items[place] = item;
         self.reach(at);
         self.follow(Change::Cell(place));
+        Ok(())
+    }
+
+    fn add_row(&mut self, name: &str, row: &[i64]) -> Result<(), Text> {
+        let (at, array) = self.array(name)?;
+        let length = match array.shape[..] {
+            [_] => 1,
+            [_, columns] => columns,
+            _ => return Err("RANK ERROR".into()),
+        };
+        if row.len() != length {
+            return Err("LENGTH ERROR".into());
+        }
+        if array.items.len() + length > LIMIT {
+            return Err("LIMIT ERROR".into());
+        }
+        array.items.extend_from_slice(row);
+        array.shape[0] += 1;
+        self.reach(at);
+        self.follow(Change::Row);
         Ok(())
     }
 
@@ -729,7 +794,11 @@ fn answer(sheet: &mut Sheet, line: &str, out: &mut impl Write) -> io::Result<Res
         return Ok(Ok(()));
     }
     if parser.takes(")") {
-        return Ok(answer_data(sheet, &mut parser));
+        return Ok(match parser.name() {
+            Some("DATA") => answer_data(sheet, &mut parser),
+            Some("ROW") => answer_row(sheet, &mut parser),
+            _ => Err(SYNTAX.into()),
+        });
     }
     if let Some(name) = parser.name() {
         if parser.takes("←") {
@@ -757,15 +826,21 @@ fn answer(sheet: &mut Sheet, line: &str, out: &mut impl Write) -> io::Result<Res
 }
 
 fn answer_data(sheet: &mut Sheet, parser: &mut Parser) -> Result<(), Text> {
-    if parser.name() != Some("DATA") {
-        return Err(SYNTAX.into());
-    }
     let name = parser.name().ok_or(SYNTAX)?;
     if !parser.takes("←") {
         return Err(SYNTAX.into());
     }
     let node = parser.expression(sheet)?;
     sheet.data(name, node)
+}
+
+fn answer_row(sheet: &mut Sheet, parser: &mut Parser) -> Result<(), Text> {
+    let name = parser.name().ok_or(SYNTAX)?;
+    let row = parser.numbers()?;
+    if row.is_empty() || parser.next().is_some() {
+        return Err(SYNTAX.into());
+    }
+    sheet.add_row(name, &row)
 }
 
 impl Display for Array {
