@@ -8,13 +8,7 @@ use std::alloc::Global;
 /// Makes the change of a line, where it is one and is accepted.
 fn change(alloc: Global, sheet: &mut Sheet, text: &str) -> Option<()> {
     match line(alloc, text).ok()? {
-        Command::Define(name, tree) => sheet.define(name, tree).ok(),
-        Command::Data(name, tree) => sheet.data(name, tree).ok(),
-        Command::Cell(name, positions, literal) => {
-            sheet.set_cell(name, positions.as_slice(), &literal).ok()
-        }
-        Command::Row(name, row) => sheet.add_row(name, &row).ok(),
-        Command::Erase(name) => sheet.erase(name).ok(),
+        Command::Change(change) => sheet.apply(change).ok(),
         _ => None,
     }
 }

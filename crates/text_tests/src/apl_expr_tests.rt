@@ -1,6 +1,6 @@
 //! A tree of each kind, a line of each kind, the largest expressions, and what faults say.
 
-use apl_expr::{Command, Expr, LineFault, ParseFault, line, parse};
+use apl_expr::{Change, Command, Expr, LineFault, ParseFault, line, parse};
 use apl_tokens::tokens;
 use std::alloc::{AllocError, Global};
 
@@ -28,11 +28,11 @@ fn is_beyond(alloc: Global, text: &str, count: usize) -> bool {
 fn asked(alloc: Global, text: &str) -> &'static str {
     match line(alloc, text) {
         Ok(Command::Nothing) => "nothing",
-        Ok(Command::Define(_, _)) => "a formula",
-        Ok(Command::Data(_, _)) => "data",
-        Ok(Command::Cell(_, _, _)) => "a cell",
-        Ok(Command::Row(_, _)) => "a row",
-        Ok(Command::Erase(_)) => "a removal",
+        Ok(Command::Change(Change::Define(_, _))) => "a formula",
+        Ok(Command::Change(Change::Data(_, _))) => "data",
+        Ok(Command::Change(Change::Cell(_, _, _))) => "a cell",
+        Ok(Command::Change(Change::Row(_, _))) => "a row",
+        Ok(Command::Change(Change::Erase(_))) => "a removal",
         Ok(Command::Show(_)) => "a value",
         Ok(Command::Names) => "the names",
         Ok(Command::Cost) => "the cost",
