@@ -1,6 +1,6 @@
 //! Reads a table from the bytes of a file.
 
-ghost use Rattle.std.specs.Prelude.{◌≡◌, ◌≤◌, ◌*◌, ◌∷◌, ◌++◌, List, [], map, true, None, Some, vec_len};
+ghost use Rattle.std.specs.Prelude.{◌≡◌, ◌≤◌, ◌*◌, ◌∷◌, ◌++◌, List, [], map, true, None, Some, IfOk, vec_len};
 ghost use Rattle.csv.specs.Records.{fields_of};
 ghost use Rattle.arrays_core.specs.declared.item.Item.TheVariants.{Num};
 ghost use Rattle.arrays_core.specs.declared.item.ItemType.TheVariants.{Nums};
@@ -12,7 +12,7 @@ use crate::records::{read_next, reader_of};
 use crate::table_fault::TableFault;
 use arrays_core::{Array, shape_of};
 use csv::{ByteRecord, Reader};
-use std::alloc::Global;
+use std::alloc::{AllocError, Global};
 
 /// The most rows of a table, the most columns, and the most places.
 const MOST_PLACES: u64 = 1_048_576;
@@ -38,15 +38,15 @@ fn rows_of(header: bool, count: u64) -> u64
     }
 }
 
-/// The matrix of these numbers. It allocates nothing.
-fn matrix(alloc: Global, rows: u64, columns: usize, numbers: Vec<i64>) -> Array
+/// The matrix of these numbers.
+fn matrix(alloc: Global, rows: u64, columns: usize, numbers: Vec<i64>) -> Result<Array, AllocError>
     requires within { within_limits rows columns ≡ true }
     requires full { vec_len numbers ≡ rows * columns }
-    ensures { result ≡ record {
+    ensures { IfOk result (λ a. a ≡ record {
       item_type = Nums;
       shape = rows ∷ columns ∷ [];
       items = map (λ z. Num z) numbers.items;
-    } }
+    }) }
 {
     let shape = shape_of(alloc, &[rows as u32, columns as u32]);
     Array::from_numbers(&shape, numbers)
@@ -135,5 +135,5 @@ pub fn read_table(alloc: Global, bytes: &[u8], header: bool) -> Result<Array, Ta
     let mut row = ByteRecord::new(alloc);
     let mut numbers = Vec::new(alloc);
     let (rows, columns) = push_records(&mut reader, &mut row, header, &mut numbers)?;
-    Ok(matrix(alloc, rows, columns, numbers))
+    Ok(matrix(alloc, rows, columns, numbers)?)
 }

@@ -1,5 +1,6 @@
--- Arrays that grow by one place of their first axis.
-use Rattle.std.specs.Prelude.{◌≡◌, ◌≤◌, ◌<◌, ◌+◌, ℕ, List, [], ◌∷◌, ◌++◌, length, drop, All}
+-- Arrays that grow by one place of their first axis, and the room for that.
+use Rattle.std.specs.Prelude.{◌≡◌, ◌≤◌, ◌<◌, ◌+◌, ◌/◌, ◌⊎◌, ℕ, List, [], ◌∷◌, ◌++◌, length, drop, All}
+use Rattle.std.specs.Int.{IsNextPowerOfTwo}
 use Rattle.arrays_core.specs.declared.item.Item.{Item}
 use Rattle.arrays_core.specs.declared.item.ItemType.{ItemType}
 use Rattle.arrays_core.specs.Arrays.{ArrayValue}
@@ -22,7 +23,20 @@ pub record FitsGrowth (a : ArrayValue) (xs : List Item) : Type 0 where
   pub one_place : length xs ≡ size (drop 1 a.shape)
   pub typed : All (λ x. type_of x ≡ a.item_type) xs
 
--- a buffer for items of a type, and how many
+-- so many items lie in a piece of memory that has room for the next power of two as many
+abbrev pub IsRoomy : (items capacity : ℕ) → Type 0
+IsRoomy items capacity = 0 < items → (p : ℕ) → IsNextPowerOfTwo items p → p ≤ capacity
+
+-- where so many lie, there is room for more: the next power of two is the same
+pub record IsSameRoom (held items : ℕ) : Type 0 where
+  pub some : 0 < held
+  pub same : (p : ℕ) → IsNextPowerOfTwo items p → p / 2 < held
+
+-- so many more items go where the held ones lie, or there is a piece of memory of this capacity for all of them
+abbrev pub HasRoom : (held items capacity : ℕ) → Type 0
+HasRoom held items capacity = IsSameRoom held items ⊎ IsRoomy items capacity
+
+-- a piece of memory for items of a type, and for how many
 pub record RoomValue : Type 0 where
   pub item_type : ItemType
   pub places : ℕ
@@ -30,4 +44,4 @@ pub record RoomValue : Type 0 where
 -- room for the items of an array and so many more
 pub record IsRoomFor (r : RoomValue) (a : ArrayValue) (more : ℕ) : Type 0 where
   pub typed : r.item_type ≡ a.item_type
-  pub places : length a.items + more ≤ r.places
+  pub room : HasRoom (length a.items) (length a.items + more) r.places

@@ -7,6 +7,7 @@ ghost use Rattle.arrays_core.specs.Shapes.{size as size_of, IsWithinLimits};
 
 use crate::array::{Array, Ravel};
 use crate::item::{Item, ItemType};
+use crate::room::room_of;
 use crate::shape::Shape;
 use std::alloc::{AllocError, Global};
 use std::marker::Model;
@@ -141,7 +142,7 @@ impl ArrayBuilder {
     ) -> Result<ArrayBuilder, AllocError>
         ensures { IfOk result (λ b. b ≡ record { item_type = item_type; items = [] }) }
     {
-        let ravel = Ravel::with_capacity(alloc, item_type, places)?;
+        let ravel = Ravel::with_capacity(alloc, item_type, room_of(places))?;
         Ok(ArrayBuilder { ravel })
     }
 
@@ -304,11 +305,12 @@ impl ArrayBuilder {
         self.ravel.push(item)
     }
 
-    /// The array of a shape that has as many places as there are items. It takes no memory.
-    pub fn into_array(self, shape: &Shape) -> Array
+    /// The array of a shape that has as many places as there are items. It takes memory only where there are more than
+    /// were announced.
+    pub fn into_array(self, shape: &Shape) -> Result<Array, AllocError>
         requires within { IsWithinLimits shape.now.items }
         requires one_item_a_place { length self.items ≡ size_of shape.now.items }
-        ensures { result ≡ record { item_type = self.item_type; shape = shape.now.items; items = self.items } }
+        ensures { IfOk result (λ a. a ≡ record { item_type = self.item_type; shape = shape.now.items; items = self.items }) }
     {
         Array::of_ravel(shape, self.ravel)
     }

@@ -1,7 +1,7 @@
 pub mod Walked
 pub mod PatchRight
-pub mod Nodes
 pub mod Refreshed
+pub mod Nodes
 pub mod GrownRight
 pub mod NodeRight
 pub mod Right

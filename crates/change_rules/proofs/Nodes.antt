@@ -1,29 +1,67 @@
--- The change of a node by cases.
-use Rattle.std.proofs.Common.{◌≡◌, List, true, false, ◌∙◌, sym}
-use Rattle.std.proofs.lemmas.Bool.{cond-true, cond-false}
-use Rattle.index_region.specs.declared.delta.Delta.TheVariants.{Same, Whole}
-use Rattle.change_core.specs.RuleModels.{RuleModel, form_size}
-use Rattle.change_rules.specs.Outcomes.{Outcome, evaluation}
-use Rattle.change_rules.specs.Nodes.{Argument, views, all_same, any_grown, grown_delta, grown_cost, starts_anew, node_delta, node_cost, moved, reached_delta, reached_cost}
+-- The change of a node by cases of what changed of its arguments.
+use Rattle.std.proofs.Common.{◌≡◌, List, [], ◌∷◌, Bool, true, false, ◌&&◌, ◌||◌, not, is_ok, refl, ap, sym, ◌∙◌}
+use Rattle.std.specs.List.{list_all, list_any}
+use Rattle.std.proofs.lemmas.Bool.{cond-true, cond-false, false≢true, or_parts}
+use Rattle.index_region.specs.declared.delta.Delta.{Delta}
+use Rattle.index_region.specs.declared.delta.Delta.TheVariants.{Same, Patch, Grown, Whole}
+use Rattle.change_core.specs.RuleModels.{RuleModel}
+use Rattle.change_rules.specs.Outcomes.{Outcome}
+use Rattle.change_rules.specs.Nodes.{Argument, views, all_same, any_grown, all_patched_at_most, is_grown, is_whole, is_patched_at_most, grown_delta, grown_cost, starts_anew, node_delta, node_cost, moved, reached_delta, reached_cost}
+use Rattle.change_rules.proofs.Refreshed.{deltas, whole_deltas}
 
-pub delta_same : (p : RuleModel) (args : List Argument) (old : Outcome) → all_same args ≡ true → Same ≡ node_delta p args old
-delta_same p args old h = sym (cond-true _ _ _ h)
+grown_deltas : (args : List Argument) → list_any is_grown (deltas args) ≡ any_grown args
+grown_deltas [] = refl
+grown_deltas (a ∷ args) = ap (λ (b : Bool). is_grown a.1.now || b) (grown_deltas args)
 
-pub delta_whole : (p : RuleModel) (args : List Argument) (old : Outcome) → all_same args ≡ false → starts_anew args old ≡ true → Whole (evaluation p (views args)) ≡ node_delta p args old
-delta_whole p args old h k = sym (cond-false _ _ _ h ∙ cond-true _ _ _ k)
+patched_deltas : (args : List Argument) → list_all is_patched_at_most (deltas args) ≡ all_patched_at_most args
+patched_deltas [] = refl
+patched_deltas (a ∷ args) = ap (λ (b : Bool). is_patched_at_most a.1.now && b) (patched_deltas args)
 
-pub delta_grown : (p : RuleModel) (args : List Argument) (old : Outcome) → all_same args ≡ false → starts_anew args old ≡ false → any_grown args ≡ true → grown_delta p args ≡ node_delta p args old
-delta_grown p args old h k g = sym (cond-false _ _ _ h ∙ cond-false _ _ _ k ∙ cond-true _ _ _ g)
+none_whole : (ds : List Delta) → list_all is_patched_at_most ds ≡ true → list_any is_whole ds ≡ false
+none_whole [] h = refl
+none_whole (Same ∷ ds) h = none_whole ds h
+none_whole (Patch p ∷ ds) h = none_whole ds h
+none_whole (Grown t ∷ ds) h = absurd (false≢true h)
+none_whole (Whole r ∷ ds) h = absurd (false≢true h)
 
-pub delta_reached : (p : RuleModel) (args : List Argument) (old : Outcome) → all_same args ≡ false → starts_anew args old ≡ false → any_grown args ≡ false
-    → reached_delta p (views args) (moved args) ≡ node_delta p args old
-delta_reached p args old h k g = sym (cond-false _ _ _ h ∙ cond-false _ _ _ k ∙ cond-false _ _ _ g)
+none_grown : (ds : List Delta) → list_all is_patched_at_most ds ≡ true → list_any is_grown ds ≡ false
+none_grown [] h = refl
+none_grown (Same ∷ ds) h = none_grown ds h
+none_grown (Patch p ∷ ds) h = none_grown ds h
+none_grown (Grown t ∷ ds) h = absurd (false≢true h)
+none_grown (Whole r ∷ ds) h = absurd (false≢true h)
 
-pub cost_whole : (p : RuleModel) (args : List Argument) (old : Outcome) → all_same args ≡ false → starts_anew args old ≡ true → node_cost p args old ≡ form_size (p.form (views args))
-cost_whole p args old h k = cond-false _ _ _ h ∙ cond-true _ _ _ k
+some_grown : (ds : List Delta) → list_all is_patched_at_most ds ≡ false → list_any is_whole ds ≡ false → list_any is_grown ds ≡ true
+some_grown [] h k = absurd (false≢true (sym h))
+some_grown (Same ∷ ds) h k = some_grown ds h k
+some_grown (Patch p ∷ ds) h k = some_grown ds h k
+some_grown (Grown t ∷ ds) h k = refl
+some_grown (Whole r ∷ ds) h k = absurd (false≢true (sym k))
 
-pub cost_grown : (p : RuleModel) (args : List Argument) (old : Outcome) → all_same args ≡ false → starts_anew args old ≡ false → any_grown args ≡ true → node_cost p args old ≡ grown_cost p args
-cost_grown p args old h k g = cond-false _ _ _ h ∙ cond-false _ _ _ k ∙ cond-true _ _ _ g
+-- where arguments were patched at most and the node held an array, nothing starts anew
+not_anew : (args : List Argument) (old : Outcome) → is_ok old ≡ true → all_patched_at_most args ≡ true → starts_anew args old ≡ false
+not_anew args old ok h =
+    let whole = sym (whole_deltas args) ∙ none_whole (deltas args) (patched_deltas args ∙ h) in
+    ap (λ (b : Bool). b || not (is_ok old)) whole ∙ ap (λ (b : Bool). not b) ok
 
-pub cost_reached : (p : RuleModel) (args : List Argument) (old : Outcome) → all_same args ≡ false → starts_anew args old ≡ false → any_grown args ≡ false → node_cost p args old ≡ reached_cost p (views args) (moved args)
-cost_reached p args old h k g = cond-false _ _ _ h ∙ cond-false _ _ _ k ∙ cond-false _ _ _ g
+-- where none starts anew and one changed otherwise, one grew
+one_grew : (args : List Argument) (old : Outcome) → all_patched_at_most args ≡ false → starts_anew args old ≡ false → any_grown args ≡ true
+one_grew args old h k =
+    let parts = or_parts (list_any (λ (a : Argument). is_whole a.1.now) args) (not (is_ok old)) k in
+    sym (grown_deltas args) ∙ some_grown (deltas args) (patched_deltas args ∙ h) (whole_deltas args ∙ parts.0)
+
+pub delta_reached : (p : RuleModel) (args : List Argument) (old : Outcome) → all_same args ≡ false → is_ok old ≡ true → all_patched_at_most args ≡ true → reached_delta p (views args) (moved args) ≡ node_delta p args old
+delta_reached p args old some ok h =
+    let none = sym (grown_deltas args) ∙ none_grown (deltas args) (patched_deltas args ∙ h) in
+    sym (cond-false _ _ _ some ∙ cond-false _ _ _ (not_anew args old ok h) ∙ cond-false _ _ _ none)
+
+pub cost_reached : (p : RuleModel) (args : List Argument) (old : Outcome) → all_same args ≡ false → is_ok old ≡ true → all_patched_at_most args ≡ true → reached_cost p (views args) (moved args) ≡ node_cost p args old
+cost_reached p args old some ok h =
+    let none = sym (grown_deltas args) ∙ none_grown (deltas args) (patched_deltas args ∙ h) in
+    sym (cond-false _ _ _ some ∙ cond-false _ _ _ (not_anew args old ok h) ∙ cond-false _ _ _ none)
+
+pub delta_grown : (p : RuleModel) (args : List Argument) (old : Outcome) → all_same args ≡ false → all_patched_at_most args ≡ false → starts_anew args old ≡ false → grown_delta p args ≡ node_delta p args old
+delta_grown p args old some h k = sym (cond-false _ _ _ some ∙ cond-false _ _ _ k ∙ cond-true _ _ _ (one_grew args old h k))
+
+pub cost_grown : (p : RuleModel) (args : List Argument) (old : Outcome) → all_same args ≡ false → all_patched_at_most args ≡ false → starts_anew args old ≡ false → grown_cost p args ≡ node_cost p args old
+cost_grown p args old some h k = sym (cond-false _ _ _ some ∙ cond-false _ _ _ k ∙ cond-true _ _ _ (one_grew args old h k))

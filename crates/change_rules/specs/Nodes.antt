@@ -38,6 +38,12 @@ abbrev pub is_grown : Delta → Bool
 is_grown (Grown t) = true
 is_grown _ = false
 
+-- it is as it was, or was patched
+abbrev pub is_patched_at_most : Delta → Bool
+is_patched_at_most Same = true
+is_patched_at_most (Patch p) = true
+is_patched_at_most _ = false
+
 -- it is as it was, or grew
 abbrev pub is_grown_at_most : Delta → Bool
 is_grown_at_most Same = true
@@ -47,6 +53,9 @@ is_grown_at_most _ = false
 -- which arguments grew
 abbrev pub marks : List Argument → List Bool
 marks args = map (λ a. is_grown a.1.now) args
+
+abbrev pub all_patched_at_most : List Argument → Bool
+all_patched_at_most args = list_all (λ a. is_patched_at_most a.1.now) args
 
 abbrev pub any_grown : List Argument → Bool
 any_grown args = list_any (λ a. is_grown a.1.now) args

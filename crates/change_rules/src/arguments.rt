@@ -1,7 +1,7 @@
 //! The arguments of a node as they are handed in: each as it is now, with what changed of it.
 
 ghost use Rattle.std.specs.Prelude.{◌≡◌, IfOk, is_ok, not, ◌||◌};
-ghost use Rattle.change_rules.specs.Nodes.{views, moved, moved_by as box_moved_by, all_same as all_are_same, starts_anew as anew, is_whole, is_grown, is_grown_at_most, any_grown as any_one_grown, marks};
+ghost use Rattle.change_rules.specs.Nodes.{views, moved, moved_by as box_moved_by, all_same as all_are_same, starts_anew as anew, is_whole, is_grown, is_grown_at_most, all_patched_at_most, marks};
 ghost use Rattle.std.specs.List.{list_all, list_any};
 ghost use Rattle.arrays_core.specs.Arrays.{IsArray};
 ghost use Rattle.change_core.specs.Laws.{Each};
@@ -78,12 +78,11 @@ pub(crate) fn starts_anew(args: &[(Seen, &Delta)], old: &Result<Array, Fault>) -
     any_whole(args) || old.is_err()
 }
 
-/// An argument grew.
-pub(crate) fn any_grown(args: &[(Seen, &Delta)]) -> bool
-    ensures { result ≡ any_one_grown args.now }
+/// No argument changed but those that were patched.
+pub(crate) fn patched_at_most(args: &[(Seen, &Delta)]) -> bool
+    ensures { result ≡ all_patched_at_most args.now }
 {
-    args.iter()
-        .any(|(_, delta)| matches!(delta, Delta::Grown(_)))
+    args.iter().all(|(_, delta)| matches!(delta, Delta::Same | Delta::Patch(_)))
 }
 
 /// No argument changed but those that grew.

@@ -5,11 +5,11 @@ ghost use Rattle.change_core.specs.Reaches.{AllFit};
 ghost use Rattle.change_core.specs.RuleModels.{form_size};
 ghost use Rattle.index_region.specs.declared.delta.Delta.TheVariants.{Whole};
 ghost use Rattle.change_rules.specs.Outcomes.{evaluation};
-ghost use Rattle.change_rules.specs.Nodes.{views, moved, all_same as all_are_same, any_grown as any_one_grown, starts_anew as is_anew, node_delta, node_cost, reached_delta, reached_cost, node_grows, grown_delta, grown_cost, grown_in, grown_size};
+ghost use Rattle.change_rules.specs.Nodes.{views, moved, all_same as all_are_same, starts_anew as is_anew, node_delta, node_cost, reached_delta, reached_cost, node_grows, grown_delta, grown_cost, grown_in, grown_size};
 ghost use Rattle.change_rules.specs.Currency.{BringsUpToDate, HasAxis, IsRight};
 
 use crate::arguments::{
-    all_same, any_grown, grown_at_most, is_grown, marks_of, moved_by, moves_of, starts_anew,
+    all_same, grown_at_most, is_grown, marks_of, moved_by, moves_of, patched_at_most, starts_anew,
     views_are_arrays, views_of,
 };
 use crate::evaluation::{evaluate, places};
@@ -73,13 +73,13 @@ fn change_from<R: Rule>(
     ensures ticks { meter.new.ticks ≤ meter.old.ticks + node_cost (R.model rule.now) args.now old.now }
     ensures joins { meter.new.joins ≡ meter.old.joins }
 {
+    if old.is_ok() && patched_at_most(args) {
+        return reached(alloc, rule, seen, boxes, meter);
+    }
     if starts_anew(args, old) {
         return change_anew(alloc, rule, seen, meter);
     }
-    if any_grown(args) {
-        return change_grown(alloc, rule, seen, args, old, meter);
-    }
-    reached(alloc, rule, seen, boxes, meter)
+    change_grown(alloc, rule, seen, args, meter)
 }
 
 /// The change of a node that is evaluated anew as a whole, and what it costs.
@@ -110,7 +110,6 @@ fn change_grown<R: Rule>(
     rule: &R,
     seen: &[Seen],
     args: &[(Seen, &Delta)],
-    old: &Result<Array, Fault>,
     meter: &mut Meter,
 ) -> Result<(Delta, u32), AllocError>
     requires count { length args.now ≡ length (R.model rule.now).selectors }
@@ -121,7 +120,7 @@ fn change_grown<R: Rule>(
     ensures joins { meter.new.joins ≡ meter.old.joins }
 {
     if node_grows(alloc, rule, seen, args)? {
-        tail_of(alloc, rule, seen, old, meter)
+        tail_of(alloc, rule, seen, meter)
     } else {
         change_anew(alloc, rule, seen, meter)
     }
@@ -159,7 +158,6 @@ fn tail_of<R: Rule>(
     alloc: Global,
     rule: &R,
     seen: &[Seen],
-    old: &Result<Array, Fault>,
     meter: &mut Meter,
 ) -> Result<(Delta, u32), AllocError>
     requires { length seen.now ≡ length (R.model rule.now).selectors }
@@ -168,18 +166,17 @@ fn tail_of<R: Rule>(
     ensures ticks { meter.new.ticks ≤ meter.old.ticks + grown_size ((R.model rule.now).form seen.now) }
     ensures joins { meter.new.joins ≡ meter.old.joins }
 {
-    let held = old.as_ref().ok();
     let (shape, item_type) = match rule.shape(seen) {
         Ok(form) => form,
         Err(kind) => return Ok((Delta::Whole(Err(Fault { kind, origin: None })), 0)),
     };
     let Some(region) = last_place(shape.as_slice()) else {
         let none = Array::filled(alloc, item_type, &shape_of(alloc, &[0]))?;
-        return Ok((Delta::Grown(Tail::behind(held, shape, none)?), 0));
+        return Ok((Delta::Grown(Tail::of(shape, none)?), 0));
     };
     let cost = region.size() as u32;
     match rule.part(alloc, seen, shape.as_slice(), item_type, &region, meter) {
-        Ok(values) => Ok((Delta::Grown(Tail::behind(held, shape, values)?), cost)),
+        Ok(values) => Ok((Delta::Grown(Tail::of(shape, values)?), cost)),
         Err(ApplyFault::Kind(kind)) => Ok((Delta::Whole(Err(Fault { kind, origin: None })), cost)),
         Err(ApplyFault::NoMemory) => Err(AllocError),
     }

@@ -6,7 +6,7 @@ ghost use Rattle.arrays_core.specs.Arrays.{IsAnswerTo};
 ghost use Rattle.formula_core.specs.Meaning.{array_of};
 
 use apl_expr::Literal;
-use arrays_core::{ApplyFault, Array};
+use arrays_core::{ApplyFault, Array, copied};
 use std::alloc::Global;
 
 /// The array of a literal: one number is a scalar, several are a vector, and so it is with the characters of a text. More
@@ -29,7 +29,7 @@ fn array_of_numbers(alloc: Global, numbers: &[i64]) -> Result<Array, ApplyFault>
     if numbers.len() == 1 {
         return Ok(Array::scalar(alloc, numbers[0])?);
     }
-    Ok(Array::vector(alloc, numbers.to_vec(alloc)?)?)
+    Array::vector(alloc, copied(alloc, numbers)?)
 }
 
 /// The array of a text: one character is a scalar, else they are a vector.
@@ -39,5 +39,5 @@ fn array_of_text(alloc: Global, characters: &[char]) -> Result<Array, ApplyFault
     if characters.len() == 1 {
         return Ok(Array::character(alloc, characters[0])?);
     }
-    Ok(Array::text(alloc, characters.to_vec(alloc)?)?)
+    Array::text(alloc, copied(alloc, characters)?)
 }

@@ -118,7 +118,7 @@ impl<'a> Stage<'a> {
             Node::Name(place) => {
                 let name = Operand::Name(*place);
                 let input = taken(name, self.inputs, self.nodes, self.changes);
-                Ok((self.change_of_name(&input, held)?, 0))
+                Ok((self.change_of_name(&input)?, 0))
             }
             Node::Monad(function, right) => {
                 let right = self.operand(*right);
@@ -167,11 +167,7 @@ impl<'a> Stage<'a> {
     }
 
     /// The change of a name that is the whole expression: that of the name, and in a new formula it is new.
-    fn change_of_name(
-        &self,
-        input: &Input,
-        held: &Result<Array, Fault>,
-    ) -> Result<Delta, AllocError>
+    fn change_of_name(&self, input: &Input) -> Result<Delta, AllocError>
         ensures { IfOk result (λ d. (c : Change) → (x : List ℕ) → IsInput (c.new x) (c.delta x) input.now → IsNameChanged c x → d ≡ node_change self.now.is_new c (Name x)) }
     {
         if self.is_new {
@@ -180,9 +176,7 @@ impl<'a> Stage<'a> {
         match input {
             Input::Good(_, Delta::Same) => Ok(Delta::Same),
             Input::Good(_, Delta::Patch(patch)) => Ok(Delta::Patch(patch.copy()?)),
-            Input::Good(_, Delta::Grown(tail)) => {
-                Ok(Delta::Grown(tail.again_behind(held.as_ref().ok())?))
-            },
+            Input::Good(_, Delta::Grown(tail)) => Ok(Delta::Grown(tail.copy()?)),
             Input::Bad { changed: false, .. } => Ok(Delta::Same),
             _ => Ok(Delta::Whole(input.copy()?)),
         }

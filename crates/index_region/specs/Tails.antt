@@ -1,9 +1,9 @@
 -- What an array grows by at the end of its first axis.
-use Rattle.std.specs.Prelude.{◌≡◌, ◌<◌, ◌≤◌, ℕ, List, length, drop, All}
+use Rattle.std.specs.Prelude.{◌≡◌, ◌<◌, ◌-◌, ℕ, List, length, drop, All}
 use Rattle.arrays_core.specs.declared.item.Item.{Item}
 use Rattle.arrays_core.specs.declared.item.ItemType.{ItemType}
 use Rattle.arrays_core.specs.Arrays.{ArrayValue}
-use Rattle.arrays_core.specs.Growth.{one_longer, RoomValue}
+use Rattle.arrays_core.specs.Growth.{one_longer, HasRoom, RoomValue}
 use Rattle.arrays_core.specs.Items.{type_of}
 use Rattle.arrays_core.specs.Shapes.{size, IsWithinLimits}
 
@@ -29,9 +29,9 @@ pub record FitsTail (a : ArrayValue) (t : TailValue) : Type 0 where
 abbrev pub tail_of : List ℕ → ArrayValue → TailValue
 tail_of shape values = record { item_type = values.item_type; shape = shape; items = values.items }
 
--- what a tail is made of: the shape lies inline and within the limits, and there is room for as many items as it has
+-- what a tail is made of: the shape lies inline and within the limits, and there is room for as many items as it has, of which the array holds the others
 pub record IsTailOf (capacity : ℕ) (shape : List ℕ) (values : ArrayValue) (room : RoomValue) : Type 0 where
   pub inline : capacity ≡ 4
   pub within : IsWithinLimits shape
   pub typed : room.item_type ≡ values.item_type
-  pub places : size shape ≤ room.places
+  pub places : HasRoom (size shape - length values.items) (size shape) room.places

@@ -10,7 +10,7 @@ use std::alloc::AllocError;
 use std::marker::Model;
 
 /// The items of one more place of the first axis of an array in row-major order, the shape that the array has with them, and room for all
-/// its items.
+/// its items if it needs that.
 #[derive(Drop)]
 struct Parts {
     shape: Shape,
@@ -35,30 +35,18 @@ impl Model for Tail {
     ghost invariant = { λ t. IsTailOf t.parts.value.shape.capacity t.parts.value.shape.items t.parts.value.values t.parts.value.room };
 }
 
-/// Room for so many items of the type of these, where an array grows to them: twice as much where they do not fit where the array's own items
-/// lie, so that most later ones do. Where the array is not known, as much as it may need.
-fn room_for(held: Option<&Array>, values: &Array, places: u32) -> Result<Room, AllocError>
-    ensures typed { IfOk result (λ r. r.item_type ≡ values.now.item_type) }
-    ensures places { IfOk result (λ r. places ≤ r.places) }
-{
-    match held {
-        Some(array) if array.item_type() == values.item_type() => {
-            array.room(places.saturating_sub(size(array.shape().as_slice())))
-        }
-        _ => values.room(places),
-    }
-}
-
 impl Tail {
-    /// What an array, if it is known, grows by to this shape, which lies inline and within the limits: by the items of another array, whatever the
-    /// shape of that is. AllocError where memory for it is refused.
-    pub fn behind(held: Option<&Array>, shape: Shape, values: Array) -> Result<Tail, AllocError>
+    /// What an array grows by to this shape, which lies inline and within the limits: by the items of another array, whatever the shape of that is.
+    /// AllocError where memory for it is refused.
+    pub fn of(shape: Shape, values: Array) -> Result<Tail, AllocError>
         requires inline { shape.capacity ≡ 4 }
         requires within { IsWithinLimits shape.items }
         ensures { IfOk result (λ t. t ≡ record { item_type = values.item_type; shape = shape.items; items = values.items }) }
     {
         let alloc = *shape.allocator();
-        let room = room_for(held, &values, size(shape.as_slice()))?;
+        let places = size(shape.as_slice()) as usize;
+        let held = places.saturating_sub(size(values.shape().as_slice()) as usize);
+        let room = Room::between(alloc, values.item_type(), held, places)?;
         let parts = Parts {
             shape,
             values,
@@ -69,12 +57,12 @@ impl Tail {
         })
     }
 
-    /// The same again, for another array that grows by it.
-    pub fn again_behind(&self, held: Option<&Array>) -> Result<Tail, AllocError>
+    /// The same tail again.
+    pub fn copy(&self) -> Result<Tail, AllocError>
         ensures { IfOk result (λ t. t ≡ self.now) }
     {
         let shape = shape_of(*self.parts.shape.allocator(), self.shape().as_slice());
-        Tail::behind(held, shape, self.parts.values.copy()?)
+        Tail::of(shape, self.parts.values.copy()?)
     }
 
     /// The shape that the array has then.

@@ -7,7 +7,7 @@ ghost use Rattle.scalar_fns.specs.Folds.{strided, folded};
 ghost use Rattle.operator_fns.specs.Strides.{line_start};
 ghost use Rattle.operator_fns.specs.Columns.{ArePutOver, AreColumnFolds, EndsInFolds};
 
-use arrays_core::{ApplyFault, Kind};
+use arrays_core::{ApplyFault, Kind, room_of};
 use scalar_fns::Scalar2;
 use scalar_fns::kernels::{And, Maximum, Minimum, Minus, Or, Plus, Times, TwoNumbers};
 use std::alloc::Global;
@@ -109,7 +109,7 @@ pub(crate) fn column_folds<S: RowFold>(
     ensures long { IfOk result (λ v. vec_len v ≡ places) }
     ensures is { IfOk result (λ v. all_or_first_error (map (λ place. folded (S.gives step.now) (strided (pos 0) numbers.now (line_start stride count place) stride count)) (range_with_len 0 places)) ≡ Ok v.items) }
 {
-    let mut folds = Vec::with_capacity(alloc, places)?;
+    let mut folds = Vec::with_capacity(alloc, room_of(places))?;
     for block in 0..places / stride {
         let size = count * stride;
         let first = block * size;

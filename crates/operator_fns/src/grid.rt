@@ -125,7 +125,7 @@ fn sums_of_products(
         return products_by(alloc, &Plus, &Times, left, right, grid, shape);
     }
     let numbers = small_products(alloc, left, right, grid.columns, grid.count, places)?;
-    Ok(Array::from_numbers(shape, numbers))
+    Ok(Array::from_numbers(shape, numbers)?)
 }
 
 /// The same for functions that are chosen; the most usual products have a loop of their own.

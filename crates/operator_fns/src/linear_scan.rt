@@ -10,7 +10,7 @@ ghost use Rattle.operator_fns.specs.LinearScan.{folded_left, left_rule, scanned,
 
 use crate::limits::MOST_ITEMS;
 use crate::sum::are_small;
-use arrays_core::{ApplyFault, Kind};
+use arrays_core::{ApplyFault, Kind, room_of};
 use scalar_fns::kernels::{Plus, TwoNumbers};
 use std::alloc::Global;
 
@@ -125,7 +125,7 @@ fn running_beside<S: TwoNumbers>(
     ensures long { IfOk result (λ v. vec_len v ≡ length numbers.now) }
     ensures read { HasRead (folded_left (S.gives step.now)) numbers.now 1 count result }
 {
-    let mut results = Vec::with_capacity(alloc, numbers.len())?;
+    let mut results = Vec::with_capacity(alloc, room_of(numbers.len()))?;
     while results.len() < numbers.len() {
         push_line(&mut results, step, numbers, count)?;
     }
@@ -147,7 +147,7 @@ fn running_apart<S: TwoNumbers>(
     ensures long { IfOk result (λ v. vec_len v ≡ length numbers.now) }
     ensures read { HasRead (folded_left (S.gives step.now)) numbers.now stride count result }
 {
-    let mut results = Vec::with_capacity(alloc, numbers.len())?;
+    let mut results = Vec::with_capacity(alloc, room_of(numbers.len()))?;
     let block = count * stride;
     let mut block_place = 0;
     for place in 0..numbers.len() {

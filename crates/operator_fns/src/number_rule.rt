@@ -10,7 +10,7 @@ ghost use Rattle.arrays_core.specs.Arrays.{collect as collected, with_items, IsA
 ghost use Rattle.scalar_fns.specs.Items.{number_item};
 ghost use Rattle.scalar_fns.specs.NumberLists.{number_items, IsListAnswerTo};
 
-use arrays_core::{ApplyFault, Array, Kind, Shape, size};
+use arrays_core::{ApplyFault, Array, Kind, Shape, room_of, size};
 use std::alloc::Global;
 
 /// The number at each place of a result; a place is given by how many come before it in row-major order.
@@ -31,7 +31,7 @@ fn numbers_of<R: NumberRule>(alloc: Global, rule: &R, places: usize) -> Result<V
     ensures is { IsListAnswerTo (all_or_first_error (map (R.number rule.now) (range_with_len 0 places))) result }
     ensures long { IfOk result (λ v. vec_len v ≡ places) }
 {
-    let mut numbers = Vec::with_capacity(alloc, places)?;
+    let mut numbers = Vec::with_capacity(alloc, room_of(places))?;
     for place in 0..places {
         let number = rule.number_at(place)?;
         numbers.push(number)?;
@@ -46,7 +46,7 @@ fn array_of<R: NumberRule>(alloc: Global, rule: &R, shape: &Shape) -> Result<Arr
     ensures { IsAnswerTo (with_items Nums shape.now.items (number_items (all_or_first_error (map (R.number rule.now) (range_with_len 0 (size_of shape.now.items)))))) result }
 {
     let numbers = numbers_of(alloc, rule, size(shape.as_slice()) as usize)?;
-    Ok(Array::from_numbers(shape, numbers))
+    Ok(Array::from_numbers(shape, numbers)?)
 }
 
 /// The array of a rule's numbers, or the error of the first place in row-major order that has one.

@@ -15,7 +15,8 @@ ghost use Rattle.operator_fns.specs.ResultTable.{table as table_of, with_results
 ghost use Rattle.operator_fns.specs.OuterProduct.{outer_form, outer_item, outer_whole};
 
 use arrays_core::{
-    ApplyFault, Array, Item, ItemType, Kind, MOST_AXES, Shape, append_axes, position, shape_of,
+    ApplyFault, Array, Item, ItemType, Kind, MOST_AXES, Shape, append_axes, position, room_of,
+    shape_of,
 };
 use index_region::{Primitive, Seen, apply, limited};
 use scalar_fns::kernels::{Equal, LessOrEqual, Maximum, Minimum, Minus, Plus, Times, TwoNumbers};
@@ -49,7 +50,7 @@ fn table_numbers<S: TwoNumbers>(
     ensures is { IsListAnswerTo (all_or_first_error (table_of (S.gives step.now) left.now right.now)) result }
     ensures long { IfOk result (λ v. vec_len v ≡ length left.now * length right.now) }
 {
-    let mut numbers = Vec::with_capacity(alloc, left.len() * right.len())?;
+    let mut numbers = Vec::with_capacity(alloc, room_of(left.len() * right.len()))?;
     for number in left {
         push_row(&mut numbers, step, *number, right)?;
     }
@@ -69,7 +70,7 @@ fn table_by<S: TwoNumbers>(
     ensures { IsAnswerTo (with_items Nums shape.now.items (number_items (all_or_first_error (table_of (S.gives step.now) left.now right.now)))) result }
 {
     let numbers = table_numbers(alloc, step, left, right)?;
-    Ok(Array::from_numbers(shape, numbers))
+    Ok(Array::from_numbers(shape, numbers)?)
 }
 
 /// The same for a function that is chosen; the most usual ones have a loop of their own.

@@ -145,7 +145,7 @@ fn folds_by<S: RowFold>(
     }
     let places = size(shape.as_slice()) as usize;
     match column_folds(alloc, step, numbers, stride, count, places) {
-        Ok(folds) => Ok(Array::from_numbers(shape, folds)),
+        Ok(folds) => Ok(Array::from_numbers(shape, folds)?),
         Err(ApplyFault::NoMemory) => Err(ApplyFault::NoMemory),
         Err(ApplyFault::Kind(_)) => folds_of_lines(alloc, step, numbers, stride, count, shape),
     }

@@ -89,7 +89,7 @@ fn scans_on<S: TwoNumbers>(
     ensures { IsAnswerTo (collected Nums shape.now.items (λ index. number_item (folded (S.gives step.now) (run_to (pos 0) numbers.now stride count (places_before shape.now.items index))))) result }
 {
     let numbers = running_folds(alloc, step, numbers, stride, count)?;
-    Ok(Array::from_numbers(shape, numbers))
+    Ok(Array::from_numbers(shape, numbers)?)
 }
 
 /// The same by the sum, in time in proportion to the numbers.
@@ -108,7 +108,7 @@ fn sums(
     ensures { IsAnswerTo (collected Nums shape.now.items (λ index. number_item (folded (dyadic_on_numbers Plus) (run_to (pos 0) numbers.now stride count (places_before shape.now.items index))))) result }
 {
     let numbers = running_sums(alloc, numbers, stride, count)?;
-    Ok(Array::from_numbers(shape, numbers))
+    Ok(Array::from_numbers(shape, numbers)?)
 }
 
 /// The same by a function that is chosen.

@@ -3,6 +3,7 @@
 ghost use Rattle.std.specs.Prelude.{◌≡◌, ◌<◌, ◌≤◌, ℕ, ◌+◌, ◌*◌, ◌/◌, ◌%◌, ◌^◌, ◌+ℤ◌, ◌*ℤ◌, true, pos, length, get_or, All, FitsSigned, OnOk, IfOk, vec_len};
 ghost use Rattle.operator_fns.specs.SmallProducts.{sum_of_products, IsNear, AddUp, RowFits, AreSums, EndsInSums, IsProduct};
 
+use arrays_core::room_of;
 use std::alloc::{AllocError, Global};
 
 /// How far the numbers of a list are from 0 at most.
@@ -110,7 +111,7 @@ pub(crate) fn small_products(
     ensures long { IfOk result (λ v. vec_len v ≡ places) }
     ensures is { IfOk result (λ v. (place : ℕ) → place < places → IsProduct left.now right.now columns count place (get_or v.items place (pos 0))) }
 {
-    let mut sums = Vec::with_capacity(alloc, places)?;
+    let mut sums = Vec::with_capacity(alloc, room_of(places))?;
     let rows = &right[..count * columns];
     for row in 0..places / columns {
         let first = row * count;

@@ -4,6 +4,8 @@ ghost use Rattle.std.specs.Prelude.{◌≡◌, ◌<◌, ◌∷◌, [], IfSome, I
 ghost use Rattle.change_core.specs.Reaches.{AllFit};
 ghost use Rattle.index_region.specs.Boxes.{fits};
 ghost use Rattle.arrays_core.specs.Growth.{one_longer as longer_by_one};
+ghost use Rattle.arrays_core.specs.Shapes.{size as size_of};
+ghost use Rattle.arrays_core.specs.declared.item.ItemType.TheVariants.{Nums};
 ghost use Rattle.index_region.specs.Tails.{FitsTail};
 ghost use Rattle.index_region.specs.Patches.{FitsPatch};
 
@@ -26,12 +28,15 @@ pub(crate) fn vector(alloc: Global, numbers: &[i64]) -> Option<Array> {
 }
 
 /// The array of these numbers, if they are as many as its places.
-pub(crate) fn array_of(alloc: Global, axes: &[u32], numbers: &[i64]) -> Option<Array> {
+pub(crate) fn array_of(alloc: Global, axes: &[u32], numbers: &[i64]) -> Option<Array>
+    ensures places { IfSome result (λ a. length a.items ≡ size_of axes.now) }
+    ensures typed { IfSome result (λ a. a.item_type ≡ Nums) }
+{
     if !is_within_limits(axes) || size(axes) as usize != numbers.len() {
         return None;
     }
     let numbers = numbers.to_vec(alloc).ok()?;
-    Some(Array::from_numbers(&shape_of(alloc, axes), numbers))
+    Array::from_numbers(&shape_of(alloc, axes), numbers).ok()
 }
 
 /// The shape of an array with one more place of its first axis, if it has one.
@@ -56,13 +61,8 @@ pub(crate) fn tail_of(alloc: Global, array: &Array, numbers: &[i64]) -> Option<T
     if array.item_type() != ItemType::Nums || !is_within_limits(shape.as_slice()) {
         return None;
     }
-    let others = &array.shape().as_slice()[1..];
-    if !is_within_limits(others) || size(others) as usize != numbers.len() {
-        return None;
-    }
-    let values = Array::vector(alloc, numbers.to_vec(alloc).ok()?).ok()?;
-    let _typed = values.item_type();
-    Tail::behind(Some(array), shape, values).ok()
+    let values = array_of(alloc, &array.shape().as_slice()[1..], numbers)?;
+    Tail::of(shape, values).ok()
 }
 
 /// The patch of a box of an array by these numbers.

@@ -114,7 +114,7 @@ fn with_numbers_beside<R: Tight>(
         return None;
     };
     let tail = tail_of(alloc, array, numbers)?;
-    let moved = Delta::Grown(tail.again_behind(None).ok()?);
+    let moved = Delta::Grown(tail.copy().ok()?);
     change_beside(
         alloc,
         rule,

@@ -5,7 +5,7 @@ ghost use Rattle.arrays_core.specs.Items.{all_or_first_error};
 ghost use Rattle.scalar_fns.specs.NumberLists.{results_by, paired_length, IsListAnswerTo};
 
 use crate::kernels::{OneNumber, TwoNumbers, WithLeft, WithRight};
-use arrays_core::{ApplyFault, Kind};
+use arrays_core::{ApplyFault, Kind, room_of};
 use std::alloc::Global;
 
 /// A function of each number of a list.
@@ -17,7 +17,7 @@ pub(crate) fn on_each<S: OneNumber>(
     ensures is { IsListAnswerTo (all_or_first_error (map (S.gives step.now) numbers.now)) result }
     ensures long { IfOk result (λ v. vec_len v ≡ length numbers.now) }
 {
-    let mut results = Vec::with_capacity(alloc, numbers.len())?;
+    let mut results = Vec::with_capacity(alloc, room_of(numbers.len()))?;
     for number in numbers {
         let result = step.at(*number)?;
         results.push(result)?;
@@ -46,7 +46,7 @@ fn on_pairs<S: TwoNumbers>(
     ensures is { IsListAnswerTo (all_or_first_error (results_by (S.gives step.now) left.now right.now)) result }
     ensures long { IfOk result (λ v. vec_len v ≡ length left.now) }
 {
-    let mut results = Vec::with_capacity(alloc, left.len())?;
+    let mut results = Vec::with_capacity(alloc, room_of(left.len()))?;
     for place in 0..left.len() {
         let result = at_place(step, left, right, place)?;
         results.push(result)?;

@@ -120,7 +120,7 @@ fn apply_to_numbers(
         (with_items Nums shape.now.items (number_items (all_or_first_error (monadic_results function numbers.now)))) result }
 {
     let results = on_numbers(alloc, function, numbers)?;
-    Ok(Array::from_numbers(shape, results))
+    Ok(Array::from_numbers(shape, results)?)
 }
 
 /// A scalar function of two arrays of numbers, by their ravels.
@@ -138,7 +138,7 @@ fn apply_to_number_lists(
         (with_items Nums shape.now.items (number_items (all_or_first_error (dyadic_results function left.now right.now)))) result }
 {
     let results = on_number_lists(alloc, function, left, right)?;
-    Ok(Array::from_numbers(shape, results))
+    Ok(Array::from_numbers(shape, results)?)
 }
 
 /// A scalar function of an array, item by item (ISO/IEC 13751, "Monadic scalar functions"). The result is of numbers and has

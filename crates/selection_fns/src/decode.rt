@@ -19,7 +19,9 @@ ghost use Rattle.selection_fns.specs.DecodedRows.{HaveRadices, AreDecoded, HasLi
 use crate::axes::places_along;
 use crate::more_digits::{add_digits, one_more};
 use crate::number_at::number_at;
-use arrays_core::{ApplyFault, Array, Item, ItemType, Kind, Shape, append_axes, shape_of, size};
+use arrays_core::{
+    ApplyFault, Array, Item, ItemType, Kind, Shape, append_axes, repeated, shape_of, size,
+};
 use index_region::{Primitive, Seen, apply, limited};
 use std::alloc::{AllocError, Global};
 
@@ -155,9 +157,9 @@ fn decoded_rows(
     requires within { IsWithinLimits shape.now.items }
     ensures { IsAnswerTo (collect Nums shape.now.items (decode_item radices.now array.now)) result }
 {
-    let mut numbers = vec![in alloc; 0; size(shape.as_slice()) as usize]?;
+    let mut numbers = repeated(alloc, 0, size(shape.as_slice()) as usize)?;
     add_rows(&mut numbers, radices, array, digits)?;
-    Ok(Array::from_numbers(shape, numbers))
+    Ok(Array::from_numbers(shape, numbers)?)
 }
 
 impl Decode {

@@ -74,7 +74,7 @@ impl Encode {
     {
         let (shape, _) = self.shape_of(args)?;
         match encoded_rows(alloc, &args[0], &args[1]) {
-            Ok(digits) => Ok(Array::from_numbers(&shape, digits)),
+            Ok(digits) => Ok(Array::from_numbers(&shape, digits)?),
             Err(ApplyFault::NoMemory) => Err(ApplyFault::NoMemory),
             Err(ApplyFault::Kind(_)) => apply(alloc, self, args),
         }

@@ -9,7 +9,7 @@ ghost use Rattle.selection_fns.specs.EncodedRows.{AreCarried, AreDigits, HasRow}
 
 use crate::encode::carried;
 use crate::numbers_of::numbers_of;
-use arrays_core::{ApplyFault, Kind};
+use arrays_core::{ApplyFault, Kind, repeated};
 use index_region::Seen;
 use scalar_fns::residue;
 use std::alloc::Global;
@@ -83,7 +83,7 @@ pub(crate) fn encoded_rows(
 {
     let radices = numbers_of(alloc, radices)?;
     let mut rests = numbers_of(alloc, array)?;
-    let mut digits = vec![in alloc; 0; radices.len() * rests.len()]?;
+    let mut digits = repeated(alloc, 0, radices.len() * rests.len())?;
     put_rows(&radices, &mut rests, &mut digits)?;
     Ok(digits)
 }

@@ -8,7 +8,7 @@ ghost use Rattle.index_region.specs.ArgumentLists.{of_one_argument};
 ghost use Rattle.selection_fns.specs.IndexGenerator.{generator_form, generator_item, generator_whole};
 
 use crate::axes::LONGEST_AXIS;
-use arrays_core::{ApplyFault, Array, Item, ItemType, Kind, Shape, shape_of};
+use arrays_core::{ApplyFault, Array, Item, ItemType, Kind, Shape, room_of, shape_of};
 use index_region::{Primitive, Seen, limited};
 use std::alloc::{AllocError, Global};
 
@@ -17,7 +17,7 @@ fn first_numbers(alloc: Global, count: u32) -> Result<Vec<i64>, AllocError>
     requires { count ≤ longest_axis }
     ensures { IfOk result (λ numbers. numbers.items ≡ map pos (range_with_len 1 count)) }
 {
-    let mut numbers = Vec::with_capacity(alloc, count as usize)?;
+    let mut numbers = Vec::with_capacity(alloc, room_of(count as usize))?;
     for k in 0..count {
         numbers.push_reserved(i64::from(k + 1));
     }
@@ -38,7 +38,7 @@ impl IndexGenerator {
     {
         let (shape, _) = self.shape_of(args)?;
         let numbers = first_numbers(alloc, shape[0])?;
-        Ok(Array::vector(alloc, numbers)?)
+        Array::vector(alloc, numbers)
     }
 }
 

@@ -95,7 +95,7 @@ impl IndexOf {
         let (shape, _) = self.shape_of(args)?;
         let (array, sought) = (&args[0], &args[1]);
         let places = first_places_in(alloc, array, sought)?;
-        Ok(Array::from_numbers(&shape, places))
+        Ok(Array::from_numbers(&shape, places)?)
     }
 }
 

@@ -7,6 +7,7 @@ ghost use Rattle.std.specs.HashMap.{get};
 ghost use Rattle.arrays_core.specs.Limits.{most_places};
 ghost use Rattle.scalar_fns.specs.Numbers.{truth};
 
+use arrays_core::{repeated, room_of};
 use std::alloc::{AllocError, Global};
 use std::collections::HashMap;
 use std::hash::Hash;
@@ -53,7 +54,7 @@ pub(crate) fn first_places<T: Eq + Hash + Copy + Drop>(
     ensures { IfOk result (λ v. v.items ≡ map (λ x. pos (suc (position_or_len (T.eq x) items.now))) sought.now) }
 {
     let places = first_place_table(alloc, items)?;
-    let mut found = Vec::with_capacity(alloc, sought.len())?;
+    let mut found = Vec::with_capacity(alloc, room_of(sought.len()))?;
     for item in sought {
         let before = before_first_place(items, &places, *item) as u32;
         found.push(i64::from(before + 1))?;
@@ -79,7 +80,7 @@ pub(crate) fn members_of<T: Eq + Hash + Copy + Drop>(
     ensures { IfOk result (λ v. v.items ≡ map (λ x. truth (list_any (T.eq x) items.now)) sought.now) }
 {
     let places = first_place_table(alloc, items)?;
-    let mut found = Vec::with_capacity(alloc, sought.len())?;
+    let mut found = Vec::with_capacity(alloc, room_of(sought.len()))?;
     for item in sought {
         let is_member = is_found(items, &places, *item);
         found.push(i64::from(is_member))?;
@@ -91,5 +92,5 @@ pub(crate) fn members_of<T: Eq + Hash + Copy + Drop>(
 pub(crate) fn all_of(alloc: Global, number: i64, count: u32) -> Result<Vec<i64>, AllocError>
     ensures { IfOk result (λ v. v.items ≡ replicate count number) }
 {
-    vec![in alloc; number; count as usize]
+    repeated(alloc, number, count as usize)
 }

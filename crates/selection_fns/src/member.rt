@@ -79,7 +79,7 @@ impl Member {
         let (shape, _) = self.shape_of(args)?;
         let (sought, array) = (&args[0], &args[1]);
         let members = are_members(alloc, array, sought)?;
-        Ok(Array::from_numbers(&shape, members))
+        Ok(Array::from_numbers(&shape, members)?)
     }
 }
 

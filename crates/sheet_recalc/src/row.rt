@@ -62,7 +62,7 @@ fn tail_of(alloc: Global, array: &Array, literal: &Literal) -> Result<Tail, Refu
         return Err(Refusal::Limit);
     }
     let row = row_of(alloc, literal, array.item_type())?;
-    Ok(Tail::behind(Some(array), shape, row)?)
+    Ok(Tail::of(shape, row)?)
 }
 
 /// How many items a row of an array of this shape has, if it has rows.

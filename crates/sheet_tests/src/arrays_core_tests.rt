@@ -88,9 +88,13 @@ fn grow(array: &mut Array, more: &Array) -> Option<()> {
     if !are_one_more_place(array, more) {
         return None;
     }
-    let room = array.room(size(more.shape().as_slice())).ok()?;
-    array.grow(room, more);
-    Some(())
+    match array.room(size(more.shape().as_slice())) {
+        Ok(room) => {
+            array.grow(room, more);
+            Some(())
+        }
+        Err(_) => None,
+    }
 }
 
 /// These numbers in a shape.
@@ -99,7 +103,7 @@ fn numbers_in(alloc: Global, axes: &[u32], numbers: &[i64]) -> Option<Array> {
         return None;
     }
     let numbers = numbers.to_vec(alloc).ok()?;
-    Some(Array::from_numbers(&shape_of(alloc, axes), numbers))
+    Array::from_numbers(&shape_of(alloc, axes), numbers).ok()
 }
 
 /// Numbers in a shape, which grows by these places one after the other.

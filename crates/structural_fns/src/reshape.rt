@@ -41,11 +41,11 @@ fn recycled(alloc: Global, array: &Seen, shape: &Shape) -> Result<Array, AllocEr
     let mut items = ArrayBuilder::with_capacity(alloc, item_type, places as usize)?;
     if round == 0 {
         items.extend_with(item_type.fill(), places)?;
-        return Ok(items.into_array(shape));
+        return items.into_array(shape);
     }
     array.extend_run(&mut items, 0, round)?;
     items.repeat_to(places)?;
-    Ok(items.into_array(shape))
+    items.into_array(shape)
 }
 
 /// Reshape, `A⍴B` (ISO/IEC 13751, "Reshape"): an array of shape A whose items are those of B in

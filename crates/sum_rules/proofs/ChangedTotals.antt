@@ -1,5 +1,5 @@
 -- The totals of which one number of the line is new.
-use Rattle.std.proofs.Common.{◌≡◌, ℕ, ◌-◌, ◌≤◌, true, false, ◌&&◌, ◌||◌, not, is_ok, ℤ, List, [], ◌∷◌, length, remove, Option, Some, None, Result, Ok, ap, sym, ◌∙◌, arith}
+use Rattle.std.proofs.Common.{◌≡◌, ℕ, ◌-◌, ◌≤◌, true, false, ◌&&◌, is_ok, ℤ, List, [], ◌∷◌, length, remove, Option, Some, None, Result, Ok, ap, sym, ◌∙◌, arith}
 use Rattle.std.proofs.lemmas.Bool.{cond-false}
 use Rattle.arrays_core.specs.Arrays.{ArrayValue}
 use Rattle.arrays_core.specs.declared.item.Kind.{Kind}
@@ -18,7 +18,7 @@ use Rattle.change_core.specs.Reaches.{as_reach, reach_by, reach_of}
 use Rattle.change_core.proofs.Filling.{few_places}
 use Rattle.index_region.specs.declared.delta.Delta.{Delta}
 use Rattle.index_region.specs.declared.delta.Delta.TheVariants.{Patch}
-use Rattle.change_rules.specs.Nodes.{Argument, all_same, any_grown, is_grown, is_same, is_whole, moved_by, node_delta, reached_cost, reached_delta, size_in, starts_anew}
+use Rattle.change_rules.specs.Nodes.{Argument, all_patched_at_most, all_same, is_patched_at_most, is_same, moved_by, node_delta, reached_cost, reached_delta, size_in}
 use Rattle.change_rules.specs.Outcomes.{Outcome}
 use Rattle.change_rules.proofs.Nodes.{delta_reached}
 use Rattle.sum_rules.specs.LineSums.{array_of}
@@ -67,6 +67,5 @@ module _ (sums : List (List ℤ)) (p : PatchValue) (now : ArrayValue) (stood : S
 pub delta_is : (arg : Argument) (p : PatchValue) (old : Outcome) → arg.1.now ≡ Patch p → is_ok old ≡ true → reached_delta total_rule (arg.0 ∷ []) (Some p.region ∷ []) ≡ node_delta total_rule (arg ∷ []) old
 delta_is arg p old is ok =
     let some : all_same (arg ∷ []) ≡ false = ap (λ (d : Delta). is_same d && true) is in
-    let kept : starts_anew (arg ∷ []) old ≡ false = λ i. (is_whole (is i) || false) || not (ok i) in
-    let none : any_grown (arg ∷ []) ≡ false = ap (λ (d : Delta). is_grown d || false) is in
-    ap (λ (d : Delta). reached_delta total_rule (arg.0 ∷ []) (moved_by d ∷ [])) (sym is) ∙ delta_reached total_rule (arg ∷ []) old some kept none
+    let patched : all_patched_at_most (arg ∷ []) ≡ true = ap (λ (d : Delta). is_patched_at_most d && true) is in
+    ap (λ (d : Delta). reached_delta total_rule (arg.0 ∷ []) (moved_by d ∷ [])) (sym is) ∙ delta_reached total_rule (arg ∷ []) old some ok patched

@@ -44,7 +44,7 @@ fn array_of(alloc: Global, axes: &[u32], numbers: &[i64]) -> Option<Array> {
         return None;
     }
     let numbers = numbers.to_vec(alloc).ok()?;
-    Some(Array::from_numbers(&shape_of(alloc, axes), numbers))
+    Array::from_numbers(&shape_of(alloc, axes), numbers).ok()
 }
 
 /// The array is a table of numbers, whose file is this.

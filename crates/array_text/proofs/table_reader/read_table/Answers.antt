@@ -19,4 +19,4 @@ pub returns : goal.returns
 returns c =
     let all = records_of c.args.bytes.now in
     let read = c.in_ok-rows.ensures all c.reader_of-reader.ensures in
-    (read.0, c.matrix.ensures ∙ table_is c.args.header all c.in_ok-rows.rows c.in_ok-rows.columns c.push_records.new.numbers.items read.1)
+    (read.0, c.in_ok-matrix.ensures ∙ table_is c.args.header all c.in_ok-rows.rows c.in_ok-rows.columns c.push_records.new.numbers.items read.1)

@@ -42,4 +42,4 @@ returns c =
     (c.in_ok-numbers.ensures.is k below)) in
     numbers_collected shape rule
     ∙ ap (λ r. with_items Nums shape (number_items r)) (ap (λ m. all_or_first_error (map rule (range_with_len 0 m))) (sym places) ∙ made)
-    ∙ ap Ok (sym c.from_numbers.ensures)
+    ∙ ap Ok (sym c.in_ok-from_numbers.ensures)

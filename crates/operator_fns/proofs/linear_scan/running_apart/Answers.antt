@@ -13,7 +13,7 @@ loop-place-init g c =
     let made = c.in_ok-results.ensures in
     record {
       so_far = none_yet (left_rule (g.S.TwoNumbers.gives c.args.step.now) c.args.numbers.now c.args.stride c.args.count) c.args.numbers.now c.in_ok-results.results made.items made.len
-          made.capacity;
+          (omega (arith, c.room_of.ensures.low, made.capacity));
       here = sym (zero-mod (c.args.count * c.args.stride));
     }
 

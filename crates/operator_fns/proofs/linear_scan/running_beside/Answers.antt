@@ -8,7 +8,7 @@ pub loop-results-init : goal.loop-results-init
 loop-results-init g c =
     let rule = left_rule (g.S.TwoNumbers.gives c.args.step.now) c.args.numbers.now 1 c.args.count in
     let made = c.in_ok-results.ensures in
-    let none = none_yet rule c.args.numbers.now c.in_ok-results.results made.items made.len made.capacity in
+    let none = none_yet rule c.args.numbers.now c.in_ok-results.results made.items made.len (omega (arith, c.room_of.ensures.low, made.capacity)) in
     record {
       so_far = subst (λ place. AreResultsTo place rule c.args.numbers.now c.in_ok-results.results) (sym made.len) none;
       within = omega (arith, made.len);

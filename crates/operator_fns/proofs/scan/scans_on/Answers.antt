@@ -23,4 +23,4 @@ returns g c =
     let shape = c.args.shape.now.items in
     scan_collected f zs c.args.stride c.args.count shape c.requires.long
     ∙ ap (λ r. with_items Nums shape (number_items r)) c.in_ok-numbers.ensures.is
-    ∙ ap Ok (sym c.from_numbers.ensures)
+    ∙ ap Ok (sym c.in_ok-from_numbers.ensures)

@@ -1,3 +1,4 @@
+use Rattle.std.proofs.lemmas.Result.{IfOk-weaker}
 use Rattle.std.proofs.Common.{◌≡◌, ◌%◌, ◌∙◌, ap, length, get_or, arith}
 use Rattle.std.proofs.lemmas.List.FromFn.{length-map-range_with_len}
 use Rattle.arrays_core.specs.Items.{fill}
@@ -30,10 +31,11 @@ returns c =
     c.places-round.ensures.is in
     let typed : c.extend_run.new.items.item_type ≡ b.item_type = c.in_ok-extend_run.ensures.typed ∙ ap (λ x. x.item_type) c.in_ok-items.ensures ∙ c.item_type-item_type.ensures.is in
     let sized : c.size-places.result ≡ size c.args.shape.now.items = c.size-places.ensures ∙ ap size c.as_slice.ensures in
-    c.into_array-2.ensures
+    IfOk-weaker c.into_array-2.result _ _ (λ made is. is
     ∙ ap (λ t. record { item_type = t; shape = c.args.shape.now.items; items = c.repeat_to.new.self.items }) (c.in_ok-repeat_to.ensures.typed ∙ typed)
     ∙ ap (λ xs. record { item_type = b.item_type; shape = c.args.shape.now.items; items = xs })
     (c.in_ok-repeat_to.ensures.items
     ∙ ap (λ xs. listed c.size-places.result (λ k. get_or xs (k % length xs) (fill c.extend_run.new.items.item_type))) all
     ∙ ap (λ t. listed c.size-places.result (λ k. get_or b.items (k % length b.items) (fill t))) typed
-    ∙ ap (λ n. listed n (λ k. get_or b.items (k % length b.items) (fill b.item_type))) sized)
+    ∙ ap (λ n. listed n (λ k. get_or b.items (k % length b.items) (fill b.item_type))) sized))
+    c.into_array-2.ensures

@@ -17,12 +17,12 @@ module _ {A B : Type 0} (f : A → B) (places skipped : ℕ) (made lent held : L
       ap (λ ys. map f ys) (is ∙ ap (λ n. take n (drop skipped lent)) long ∙ ap (λ ys. take places (drop skipped ys)) same)
       ∙ part_of f places skipped held ∙ ap (λ ys. take places (drop skipped ys)) (sym whole)
 
-pub returns-in_ok-to_vec-in-Nums-clause-items : goal.returns-in_ok-to_vec-in-Nums-clause-items
-returns-in_ok-to_vec-in-Nums-clause-items c =
-    made_of (λ (z : ℤ). Num z) c.args.places c.args.skipped c.in_ok-to_vec-in-Nums.field-0.items c.deref.result.now c.in-Nums.numbers.items (ravel_items c.args.self.now)
-    (c.in_ok-to_vec-in-Nums.ensures.items_if_clones_equal (λ x y e. e)) c.deref.ensures.value (ap ravel_items c.in-Nums.is)
+pub returns-in_ok-copied-in-Nums-clause-items : goal.returns-in_ok-copied-in-Nums-clause-items
+returns-in_ok-copied-in-Nums-clause-items c =
+    made_of (λ (z : ℤ). Num z) c.args.places c.args.skipped c.in_ok-copied-in-Nums.field-0.items c.deref.result.now c.in-Nums.numbers.items (ravel_items c.args.self.now)
+    c.in_ok-copied-in-Nums.ensures c.deref.ensures.value (ap ravel_items c.in-Nums.is)
 
-pub returns-in_ok-to_vec-in-Chars-clause-items : goal.returns-in_ok-to_vec-in-Chars-clause-items
-returns-in_ok-to_vec-in-Chars-clause-items c =
-    made_of (λ (z : ℕ). Char z) c.args.places c.args.skipped c.in_ok-to_vec-in-Chars.field-0.items c.deref-in-Chars.result.now c.in-Chars.characters.items (ravel_items c.args.self.now)
-    (c.in_ok-to_vec-in-Chars.ensures.items_if_clones_equal (λ x y e. e)) c.deref-in-Chars.ensures.value (ap ravel_items c.in-Chars.is)
+pub returns-in_ok-copied-in-Chars-clause-items : goal.returns-in_ok-copied-in-Chars-clause-items
+returns-in_ok-copied-in-Chars-clause-items c =
+    made_of (λ (z : ℕ). Char z) c.args.places c.args.skipped c.in_ok-copied-in-Chars.field-0.items c.deref-in-Chars.result.now c.in-Chars.characters.items (ravel_items c.args.self.now)
+    c.in_ok-copied-in-Chars.ensures c.deref-in-Chars.ensures.value (ap ravel_items c.in-Chars.is)

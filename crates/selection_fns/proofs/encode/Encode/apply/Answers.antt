@@ -19,7 +19,7 @@ returns-in-Ok c =
     let e = c.in-Ok.ensures in
     encode_answer c.args.args.now c.index-args-0.result c.index-args-1.result c.requires c.index-args-0.is c.index-args-1.is c.in_ok-shape.shape.items c.in_ok-shape.field-0-1
     c.in_ok-shape.ensures.0 c.in-Ok.digits.items e.sound_radices e.sound_array e.is
-    ∙ ap (λ (w : ArrayValue). Ok w) (sym c.from_numbers.ensures)
+    ∙ ap (λ (w : ArrayValue). Ok w) (sym c.in_ok-from_numbers-in-Ok.ensures)
 
 pub returns : goal.returns
 returns c = subst (λ w. IsAnswerTo w c.apply.result) (whole_of_two encode_form encode_item c.args.args.now c.requires) c.apply.ensures

@@ -14,4 +14,4 @@ pub returns : goal.returns
 returns c =
     index_of_answer c.args.args.now c.index-args-0.result c.index-args-1.result c.requires c.index-args-0.is c.index-args-1.is c.in_ok-shape.shape.items c.in_ok-shape.field-0-1
     c.in_ok-shape.ensures.0 c.in_ok-places.ensures.long c.in_ok-places.places.items c.in_ok-places.ensures.is
-    ∙ ap (λ (w : ArrayValue). Ok w) (sym c.from_numbers.ensures)
+    ∙ ap (λ (w : ArrayValue). Ok w) (sym c.in_ok-from_numbers.ensures)

@@ -1,0 +1,95 @@
+//! The memory that the items of an array lie in, and the room for more behind them.
+
+ghost use Rattle.std.specs.Prelude.{◌≡◌, ◌≤◌, ◌<◌, ◌^◌, IfOk, length, replicate, vec_capacity};
+ghost use Rattle.std.specs.Int.{IsNextPowerOfTwo};
+ghost use Rattle.arrays_core.specs.Growth.{IsRoomy, HasRoom};
+
+use crate::array::Ravel;
+use crate::item::ItemType;
+use std::alloc::{AllocError, Global};
+use std::marker::Model;
+
+/// No power of two that is greater fits.
+const GREATEST_POWER: usize = 1 << 63;
+
+/// For how many items so many have room where they lie: the next power of two, so that most arrays that grow stay
+/// there; nothing for none.
+pub fn room_of(places: usize) -> usize
+    ensures low { places ≤ result }
+    ensures next { 0 < places → places ≤ 2 ^ 63 → IsNextPowerOfTwo places result }
+    ensures roomy { places ≤ 2 ^ 63 → IsRoomy places result }
+{
+    if places == 0 || places > GREATEST_POWER {
+        return places;
+    }
+    places.next_power_of_two()
+}
+
+/// Items with the room of so many: where they lie if there is room for the next power of two as many.
+pub fn roomy<T: Drop>(items: Vec<T>) -> Result<Vec<T>, AllocError>
+    ensures items { IfOk result (λ v. v.items ≡ items.items) }
+    ensures roomy { IfOk result (λ v. IsRoomy (length v.items) (vec_capacity v)) }
+{
+    let mut items = items;
+    let room = room_of(items.len());
+    if items.capacity() < room {
+        items.reserve_exact(room - items.len())?;
+    }
+    Ok(items)
+}
+
+/// Items with the room of so many, in a list of their own.
+pub fn copied<T: Copy + Drop>(alloc: Global, items: &[T]) -> Result<Vec<T>, AllocError>
+    ensures { IfOk result (λ v. v.items ≡ items.now) }
+{
+    let mut copy = Vec::with_capacity(alloc, room_of(items.len()))?;
+    copy.extend_from_slice(items)?;
+    Ok(copy)
+}
+
+/// The same item so many times, with the room of so many.
+pub fn repeated<T: Copy + Drop>(alloc: Global, item: T, places: usize) -> Result<Vec<T>, AllocError>
+    ensures { IfOk result (λ v. v.items ≡ replicate places item) }
+{
+    let mut items = Vec::with_capacity(alloc, room_of(places))?;
+    items.resize(places, item)?;
+    Ok(items)
+}
+
+/// Memory for the items of an array and more behind them, of which `Array::grow` makes use; none where there is room
+/// for them where its items lie. Contracts see the type and how many items there is room for.
+#[derive(Drop)]
+pub struct Room {
+    pub(crate) ravel: Ravel,
+}
+
+impl Model for Room {
+    ghost use Rattle.std.specs.Prelude.{◌≡◌, []};
+    ghost use Rattle.arrays_core.specs.Growth.{RoomValue};
+    ghost use Rattle.arrays_core.specs.Ravels.{ravel_items, ravel_type, ravel_capacity};
+
+    ghost Value = { RoomValue };
+
+    ghost view = { λ r. record { item_type = ravel_type r.ravel; places = ravel_capacity r.ravel } };
+
+    ghost invariant = { λ r. ravel_items r.ravel ≡ [] };
+}
+
+impl Room {
+    /// Room for so many items of a type, of which an array holds so many; AllocError where the memory for it is refused.
+    pub fn between(
+        alloc: Global,
+        item_type: ItemType,
+        held: usize,
+        places: usize,
+    ) -> Result<Room, AllocError>
+        requires { places ≤ 2 ^ 63 }
+        ensures typed { IfOk result (λ r. r.item_type ≡ item_type) }
+        ensures room { IfOk result (λ r. HasRoom held places r.places) }
+    {
+        let room = room_of(places);
+        let needed = if room / 2 < held { 0 } else { room };
+        let ravel = Ravel::with_capacity(alloc, item_type, needed)?;
+        Ok(Room { ravel })
+    }
+}
