@@ -1,12 +1,14 @@
 -- What fits in what was held fits what is there now.
-use Rattle.std.proofs.Common.{◌≡◌, ◌<◌, length, true, Ok, Err, arith}
+use Rattle.std.proofs.Common.{◌≡◌, ◌∙◌, ◌<◌, length, true, Ok, Err, ap, sym, arith}
 use Rattle.std.proofs.lemmas.Bool.{false≢true}
 use Rattle.arrays_core.specs.Arrays.{ArrayValue}
 use Rattle.arrays_core.proofs.Growing.{rank_longer}
+use Rattle.arrays_core.specs.Shapes.{size}
 use Rattle.index_region.specs.declared.delta.Delta.{Delta}
 use Rattle.index_region.specs.declared.delta.Delta.TheVariants.{Same, Patch, Grown, Whole}
 use Rattle.change_rules.specs.Currency.{applied}
 use Rattle.change_rules.specs.Nodes.{is_grown}
+use Rattle.sum_rules.proofs.MoreLines.{others_longer}
 use Rattle.formula_core.specs.Outcomes.{Outcome}
 use Rattle.formula_core.specs.Changes.{FitsIn, FitsNow}
 
@@ -15,12 +17,17 @@ fit_now Same o h = tt
 fit_now (Whole r) o h = tt
 fit_now (Patch p) (Ok a) h = record { inside = h.inside; typed = h.typed }
 fit_now (Patch p) (Err e) h = h
-fit_now (Grown t) (Ok a) h = let same = rank_longer a.shape in let some = h.some_axis in omega (arith, same, some)
+fit_now (Grown t) (Ok a) h = record {
+  some_axis = let same = rank_longer a.shape in let some = h.some_axis in omega (arith, same, some);
+  shaped = h.shaped;
+  one_place = h.one_place ∙ ap size (sym (others_longer a.shape));
+  typed = h.typed;
+}
 fit_now (Grown t) (Err e) h = h
 
 -- an array that grew has an axis
 pub axis_lies : (a : ArrayValue) (d : Delta) → FitsNow d (Ok a) → is_grown d ≡ true → 0 < length a.shape
 axis_lies a Same h grown = absurd (false≢true grown)
 axis_lies a (Patch p) h grown = absurd (false≢true grown)
-axis_lies a (Grown t) h grown = h
+axis_lies a (Grown t) h grown = h.some_axis
 axis_lies a (Whole r) h grown = absurd (false≢true grown)

@@ -1,15 +1,16 @@
 -- What a change of the names changes of the result of each node of a formula that holds results.
-use Rattle.std.specs.Prelude.{◌≡◌, ◌<◌, ℕ, List, [], ◌∷◌, Bool, true, false, length, Result, Ok, Err, IfOk, if◌then◌else◌}
+use Rattle.std.specs.Prelude.{◌≡◌, ◌<◌, ℕ, List, [], ◌∷◌, Bool, true, false, length, drop, Result, Ok, Err, IfOk, if◌then◌else◌}
 use Rattle.std.specs.List.{list_all}
 use Rattle.apl_expr.specs.Trees.{Tree, Const, Name, Monad, Dyad, Index, Positions, NoPositions, Empty, Filled}
 use Rattle.apl_expr.specs.declared.expr.Monadic.{Monadic}
 use Rattle.apl_expr.specs.declared.expr.Dyadic.{Dyadic}
 use Rattle.arrays_core.specs.Arrays.{ArrayValue, IsArray}
+use Rattle.arrays_core.specs.Shapes.{size}
 use Rattle.arrays_core.specs.declared.fault.Fault.{Fault}
 use Rattle.index_region.specs.declared.delta.Delta.{Delta}
 use Rattle.index_region.specs.declared.delta.Delta.TheVariants.{Same, Patch, Grown, Whole}
 use Rattle.index_region.specs.Patches.{FitsPatch}
-use Rattle.index_region.specs.Tails.{FitsTail}
+use Rattle.index_region.specs.Tails.{TailValue, FitsTail}
 use Rattle.change_core.specs.Growth.{IsGrowing}
 use Rattle.change_core.specs.Laws.{ReachCovers}
 use Rattle.change_core.specs.RuleModels.{RuleModel, form_size}
@@ -119,11 +120,18 @@ FitsIn (Grown t) (Ok a) = FitsTail a t
 FitsIn (Grown t) (Err e) = ⊥
 FitsIn _ _ = Unit {0}
 
--- what is there after such a change: the box of a patch lies in it, and what grew has an axis
+-- an array that grew by this ends with it: these are the items of the last place of its first axis, of its type
+pub record HasGrown (a : ArrayValue) (t : TailValue) : Type 0 where
+  pub some_axis : 0 < length a.shape
+  pub shaped : t.shape ≡ a.shape
+  pub one_place : length t.items ≡ size (drop 1 a.shape)
+  pub typed : t.item_type ≡ a.item_type
+
+-- what is there after such a change: the box of a patch lies in it, and what grew ends with what it grew by
 abbrev pub FitsNow : Delta → Outcome → Type 0
 FitsNow (Patch p) (Ok a) = FitsPatch a p
 FitsNow (Patch p) (Err e) = ⊥
-FitsNow (Grown t) (Ok a) = 0 < length a.shape
+FitsNow (Grown t) (Ok a) = HasGrown a t
 FitsNow (Grown t) (Err e) = ⊥
 FitsNow _ _ = Unit {0}
 

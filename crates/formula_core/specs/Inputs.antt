@@ -45,7 +45,7 @@ delta_of (Good array delta) = delta.now
 delta_of (Bad fault true) = Whole (Err fault)
 delta_of (Bad fault false) = Same
 
--- the box of a patch lies in its array, and an array that grew has an axis
+-- the box of a patch lies in its array, and an array that grew ends with what it grew by
 abbrev pub HasFit : Input → Type 0
 HasFit (Good array delta) = FitsNow delta.now (Ok array)
 HasFit (Bad fault changed) = Unit {0}

@@ -8,14 +8,16 @@ use Rattle.apl_expr.specs.declared.expr.Along.TheVariants as axis
 use Rattle.apl_expr.specs.declared.expr.Monadic.{Monadic}
 use Rattle.apl_expr.specs.declared.expr.Monadic.TheVariants as monadic
 use Rattle.arrays_core.specs.Arrays.{ArrayValue}
+use Rattle.arrays_core.specs.Growth.{grown_by}
 use Rattle.index_region.specs.declared.delta.Delta.{Delta}
 use Rattle.index_region.specs.declared.delta.Delta.TheVariants.{Patch as PatchDelta}
 use Rattle.index_region.specs.Patches.{PatchValue, FitsPatch, patched}
+use Rattle.index_region.specs.Tails.{FitsTail}
 use Rattle.change_rules.specs.Currency.{applied}
 use Rattle.change_rules.specs.Nodes.{is_whole}
 use Rattle.sum_rules.specs.LineSums.{summed}
 use Rattle.formula_core.specs.declared.sums.SumsDelta.{SumsDelta}
-use Rattle.formula_core.specs.declared.sums.SumsDelta.TheVariants.{Same, Patch, Whole}
+use Rattle.formula_core.specs.declared.sums.SumsDelta.TheVariants.{Same, Patch, Grown, Whole}
 use Rattle.formula_core.specs.Changes.{FitsIn}
 use Rattle.formula_core.specs.declared.table.Node.{Node}
 use Rattle.formula_core.specs.declared.table.Node.TheVariants as node
@@ -58,12 +60,16 @@ abbrev pub resummed : SumsDelta → Option ArrayValue → Option ArrayValue
 resummed Same kept = kept
 resummed (Patch p) (Some a) = Some (patched a p.value)
 resummed (Patch p) None = None
+resummed (Grown l) (Some a) = Some (grown_by a l.value.items)
+resummed (Grown l) None = None
 resummed (Whole s) kept = in_box s
 
--- a box that changes lies in the array whose lines are summed up
+-- a box that changes lies in the array whose lines are summed up, and new lines are what that grows by
 abbrev pub FitsSums : SumsDelta → Option ArrayValue → Type 0
 FitsSums (Patch p) (Some a) = FitsPatch a p.value
 FitsSums (Patch p) None = ⊥
+FitsSums (Grown l) (Some a) = FitsTail a l.value
+FitsSums (Grown l) None = ⊥
 FitsSums _ _ = Unit {0}
 
 -- the argument is what this change makes of what it was, and sums that were kept are those of that

@@ -1,16 +1,18 @@
 //! The sums of lines that the totals of a formula keep.
 
-ghost use Rattle.std.specs.Prelude.{◌≡◌, Ok, IfOk};
-ghost use Rattle.index_region.specs.declared.delta.Delta.TheVariants.{Patch as PatchDelta};
+ghost use Rattle.std.specs.Prelude.{◌≡◌, Option, Ok, IfOk};
+ghost use Rattle.arrays_core.specs.Arrays.{ArrayValue};
+ghost use Rattle.index_region.specs.declared.delta.Delta.TheVariants.{Patch as PatchDelta, Grown as GrownDelta};
 ghost use Rattle.index_region.specs.Patches.{FitsPatch};
+ghost use Rattle.formula_core.specs.Changes.{HasGrown};
 ghost use Rattle.formula_core.specs.Inputs.{shown, delta_of, HasFit};
 ghost use Rattle.formula_core.specs.Sums.{is_total as is_sum, in_box, resummed, FitsSums, IsSumsDelta};
 
 use crate::input::Input;
 use apl_expr::{Along, Monadic, ScalarDyad};
-use index_region::{Delta, Patch, Seen};
+use index_region::{Delta, Patch, Seen, Tail};
 use std::alloc::{AllocError, Global};
-use sum_rules::LineSums;
+use sum_rules::{LineSums, NewLines, keeps_sums};
 
 /// A patch of more than one place in so many makes the sums anew: taking its items one by one would be slower.
 const PLACES_TO_ONE_NEW: usize = 32;
@@ -22,6 +24,8 @@ pub(crate) enum SumsDelta {
     Same,
     /// New items for a box of the array whose lines are summed up.
     Patch(Box<Patch>),
+    /// The sums of new lines behind the others.
+    Grown(Box<NewLines>),
     /// Other sums, or none.
     Whole(Option<Box<LineSums>>),
 }
@@ -33,8 +37,8 @@ pub(crate) fn is_total(function: Monadic) -> bool
     matches!(function, Monadic::Reduce(ScalarDyad::Plus, Along::Last))
 }
 
-/// What changes of the sums of the lines of an argument, where these were kept: a small patch is kept for them, and else
-/// they are made anew.
+/// What changes of the sums of the lines of an argument, where these were kept: a small patch is kept for them, those
+/// of new lines go behind them, and else they are made anew.
 pub(crate) fn sums_delta(
     alloc: Global,
     input: &Input,
@@ -47,9 +51,8 @@ pub(crate) fn sums_delta(
         Input::Bad { .. } => Ok(SumsDelta::Whole(None)),
         Input::Good(array, delta) => match delta {
             Delta::Same => Ok(SumsDelta::Same),
-            Delta::Whole(_) | Delta::Grown(_) => {
-                Ok(SumsDelta::Whole(boxed(alloc, LineSums::of(alloc, array)?)?))
-            }
+            Delta::Whole(_) => Ok(SumsDelta::Whole(boxed(alloc, LineSums::of(alloc, array)?)?)),
+            Delta::Grown(tail) => grown_delta(alloc, array, tail),
             Delta::Patch(patch) => patch_delta(alloc, array, patch, kept),
         },
     }
@@ -70,6 +73,22 @@ fn patch_delta(
         return Ok(SumsDelta::Patch(Box::new(alloc, patch.copy()?)?));
     }
     Ok(SumsDelta::Whole(boxed(alloc, LineSums::of(alloc, array)?)?))
+}
+
+/// The same of an array that grew. The one line of a vector is longer then, so that its sums are made anew. Any other
+/// array has new lines, whose sums go behind those that are kept, if lines like these have any.
+fn grown_delta(alloc: Global, array: &Seen, tail: &Tail) -> Result<SumsDelta, AllocError>
+    requires { HasGrown array.now tail.now }
+    ensures { IfOk result (λ s. (kept : Option ArrayValue) → IsSumsDelta (Ok array.now) (GrownDelta tail.now) kept s) }
+{
+    if array.shape().as_slice().len() < 2 {
+        return Ok(SumsDelta::Whole(boxed(alloc, LineSums::of(alloc, array)?)?));
+    }
+    if !keeps_sums(array) {
+        return Ok(SumsDelta::Same);
+    }
+    let lines = NewLines::of(alloc, tail)?;
+    Ok(SumsDelta::Grown(Box::new(alloc, lines)?))
 }
 
 /// Sums in a box, so that a change of a node is small.
@@ -103,6 +122,11 @@ pub(crate) fn take_sums_delta(kept: &mut Option<LineSums>, change: SumsDelta)
         SumsDelta::Patch(patch) => {
             if let Some(sums) = kept {
                 sums.write(&patch);
+            }
+        }
+        SumsDelta::Grown(lines) => {
+            if let Some(sums) = kept {
+                sums.grow(Box::into_inner(lines));
             }
         }
     }

@@ -1,14 +1,15 @@
 //! The change of totals by trees of the sums of lines.
 
+ghost use Rattle.std.specs.Prelude.{◌≡◌, IfSome};
 ghost use Rattle.index_region.specs.Patches.{FitsPatch};
 
-use crate::fixtures::patch_of;
+use crate::fixtures::{patch_of, tail_of};
 use arrays_core::{Array, Fault, Item, Kind, is_within_limits, shape_of, size};
 use change_core::Meter;
 use index_region::{Delta, Patch, Seen};
 use operator_fns::SumTree;
 use std::alloc::Global;
-use sum_rules::{LineSums, refresh_sums};
+use sum_rules::{LineSums, NewLines, keeps_sums, refresh_sums};
 
 /// The array of some numbers, and after them others that are all alike.
 fn array_of(alloc: Global, axes: &[u32], first: &[i64], others: i64) -> Option<Array> {
@@ -17,7 +18,7 @@ fn array_of(alloc: Global, axes: &[u32], first: &[i64], others: i64) -> Option<A
     }
     let mut numbers = first.to_vec(alloc).ok()?;
     numbers.resize(size(axes) as usize, others).ok()?;
-    Some(Array::from_numbers(&shape_of(alloc, axes), numbers))
+    Array::from_numbers(&shape_of(alloc, axes), numbers).ok()
 }
 
 /// The change of the totals of an array over which a patch is laid, by the trees of its lines; none where there are
@@ -178,4 +179,71 @@ fn totals_of_ends(alloc: Global) -> Option<(i64, i64)> {
 #[test]
 fn sums_follow_a_patch(rt: HostRuntime) {
     assert_eq!(rt; totals_of_ends(rt.alloc()), Some((18, 22)));
+}
+
+/// An array grows by a line of these numbers, and the sums of its lines by theirs.
+fn grow_both(alloc: Global, array: &mut Array, sums: &mut LineSums, numbers: &[i64]) -> Option<()>
+    requires { sums.old ≡ array.old }
+    ensures { IfSome result (λ _. sums.new ≡ array.new) }
+{
+    let tail = tail_of(alloc, array, numbers)?;
+    if array.shape().as_slice().len() < 2 || !keeps_sums(&Seen::plain(array)) {
+        return None;
+    }
+    sums.grow(NewLines::of(alloc, &tail).ok()?);
+    tail.write_behind(array);
+    Some(())
+}
+
+/// The totals of the lines of an array are those that these trees tell.
+fn tells_totals(alloc: Global, array: &Array, sums: &[SumTree]) -> Option<bool> {
+    let whole = LineSums::of(alloc, &Seen::plain(array)).ok()??;
+    let same = whole.trees().len() == sums.len();
+    let mut lines = whole.trees().iter().zip(sums);
+    Some(same && lines.all(|(line, sum)| line.result() == sum.result()))
+}
+
+/// Three lines of twenty ones with their sums, which four lines of greater numbers are put behind.
+fn seven_lines(alloc: Global) -> Option<(Array, LineSums)>
+    ensures { IfSome result (λ r. r.1 ≡ r.0) }
+{
+    let mut array = array_of(alloc, &[3, 20], &[], 1)?;
+    let mut sums = LineSums::of(alloc, &Seen::plain(&array)).ok()??;
+    grow_both(alloc, &mut array, &mut sums, &[2; 20])?;
+    grow_both(alloc, &mut array, &mut sums, &[3; 20])?;
+    grow_both(alloc, &mut array, &mut sums, &[4; 20])?;
+    grow_both(alloc, &mut array, &mut sums, &[5; 20])?;
+    Some((array, sums))
+}
+
+/// The total of each of the seven lines.
+fn totals_of_seven(alloc: Global) -> Option<Vec<i64>> {
+    let (_, sums) = seven_lines(alloc)?;
+    let mut totals = Vec::new(alloc);
+    for line in sums.trees() {
+        totals.push(line.result().ok()?).ok()?;
+    }
+    Some(totals)
+}
+
+#[test]
+fn sums_of_new_lines_go_behind_the_others(rt: HostRuntime) {
+    let totals = totals_of_seven(rt.alloc());
+    let wanted = [20, 20, 20, 40, 60, 80, 100];
+    assert!(rt; totals.is_some_and(|totals| totals.as_slice() == wanted.as_slice()));
+}
+
+/// The sums of the seven lines are those of the array, before and after a patch in lines that were put behind.
+fn seven_lines_follow(alloc: Global) -> Option<bool> {
+    let (mut array, mut sums) = seven_lines(alloc)?;
+    let before = tells_totals(alloc, &array, sums.trees())?;
+    let patch = patch_of(alloc, &array, &[(5, 6), (3, 4)], &[7, 8, 9, 10])?;
+    sums.write(&patch);
+    patch.write_into(&mut array);
+    Some(before && tells_totals(alloc, &array, sums.trees())?)
+}
+
+#[test]
+fn sums_of_new_lines_follow_a_patch(rt: HostRuntime) {
+    assert_eq!(rt; seven_lines_follow(rt.alloc()), Some(true));
 }

@@ -1,3 +1,4 @@
 -- What public contracts mean.
 pub mod LineSums
+pub mod NewLines
 pub mod Totals

@@ -5,6 +5,7 @@ use Rattle.arrays_core.specs.declared.item.Item.TheVariants.{Num}
 use Rattle.arrays_core.specs.declared.item.ItemType.TheVariants.{Nums}
 use Rattle.arrays_core.specs.Arrays.{ArrayValue, IsArray}
 use Rattle.index_region.specs.Arguments.{is_of_numbers}
+use Rattle.arrays_core.specs.Growth.{IsRoomy}
 
 -- a line with no more items is summed up as fast without a tree
 abbrev pub most_without_tree : ℕ
@@ -40,3 +41,8 @@ pub record StandFor (sums : List (List ℤ)) (a : ArrayValue) : Type 0 where
   pub long : most_without_tree < last_length a.shape
   pub one_tree_a_line : AreAllAsLong (last_length a.shape) sums
   pub is : a ≡ array_of a.shape sums
+
+-- what the sums of lines are made of: a tree a line, in a piece of memory of this capacity that has room for the next power of two as many
+pub record AreLinesOf (shape : List ℕ) (trees : List (List ℤ)) (capacity : ℕ) : Type 0 where
+  pub lines : StandFor trees (array_of shape trees)
+  pub room : IsRoomy (length trees) capacity

@@ -2,7 +2,9 @@
 #![tactic(auto)]
 
 mod line_sums;
+mod new_lines;
 mod totals;
 
-pub use line_sums::LineSums;
+pub use line_sums::{LineSums, keeps_sums};
+pub use new_lines::NewLines;
 pub use totals::{refresh_sums, refresh_sums_with_cost};

@@ -1,17 +1,22 @@
 //! The sums of the lines of an array, by trees.
 
-ghost use Rattle.std.specs.Prelude.{◌≡◌, ◌%◌, ◌<◌, length, map, set, IfOk};
+ghost use Rattle.std.specs.Prelude.{◌≡◌, ◌+◌, ◌%◌, ◌^◌, ◌<◌, ◌≤◌, [], ◌++◌, length, map, set, vec_len, vec_capacity, IfOk};
 ghost use Rattle.arrays_core.specs.declared.item.Item.TheVariants.{Num};
 ghost use Rattle.arrays_core.specs.declared.item.ItemType.TheVariants.{Nums};
+ghost use Rattle.arrays_core.specs.Growth.{grown_by};
 ghost use Rattle.arrays_core.specs.Items.{type_of};
 ghost use Rattle.index_region.specs.Patches.{FitsPatch, patched};
+ghost use Rattle.index_region.specs.Tails.{FitsTail};
 ghost use Rattle.sum_rules.specs.LineSums.{last_length as length_of_lines, keeps_sums as is_kept, summed, array_of, all_numbers, AreAllAsLong, StandFor};
+ghost use Rattle.arrays_core.specs.Growth.{IsRoomy, HasRoom};
 
+use crate::new_lines::NewLines;
 use arrays_core::{Array, Item, ItemType, Shape, position, shape_of};
 use index_region::{Patch, Seen};
 use operator_fns::SumTree;
 use std::alloc::{AllocError, Global};
 use std::marker::Model;
+use std::mem;
 
 /// A line with no more items is summed up as fast without a tree.
 const MOST_WITHOUT_TREE: u32 = 16;
@@ -26,22 +31,28 @@ pub(crate) fn last_length(shape: &[u32]) -> u32
     }
 }
 
-/// The array is of numbers, and its lines are long enough.
-fn keeps_sums(array: &Seen) -> bool
+/// The sums of the lines of an array along its last axis are worth keeping: it is of numbers, and its lines are long
+/// enough.
+pub fn keeps_sums(array: &Seen) -> bool
     ensures { result ≡ is_kept array.now }
 {
     array.item_type() == ItemType::Nums && last_length(array.shape().as_slice()) > MOST_WITHOUT_TREE
 }
 
 /// The trees of lines of so many numbers, which lie one after another.
-fn trees_of(alloc: Global, numbers: &[i64], count: usize) -> Result<Vec<SumTree>, AllocError>
+pub(crate) fn trees_of(
+    alloc: Global,
+    numbers: &[i64],
+    count: usize,
+) -> Result<Vec<SumTree>, AllocError>
     requires some { 0 < count }
     requires whole { length numbers.now % count ≡ 0 }
     ensures numbers { IfOk result (λ trees. all_numbers trees.items ≡ numbers.now) }
     ensures lines { IfOk result (λ trees. AreAllAsLong count trees.items) }
+    ensures room { IfOk result (λ trees. IsRoomy (length trees.items) (vec_capacity trees)) }
 {
     let lines = numbers.len() / count;
-    let mut trees = Vec::with_capacity(alloc, lines)?;
+    let mut trees = Vec::with_capacity(alloc, lines.next_power_of_two())?;
     for line in 0..lines {
         let first = line * count;
         trees.push(SumTree::build(alloc, &numbers[first..first + count])?)?;
@@ -109,7 +120,38 @@ fn write_into(shape: &Shape, trees: &mut [SumTree], patch: &Patch)
     }
 }
 
-/// The sums of the lines of an array of numbers along its last axis, each kept as a tree.
+/// Puts trees behind others, for which there is room. It takes no memory.
+fn append(trees: &mut Vec<SumTree>, mut more: Vec<SumTree>)
+    requires { vec_len trees.old + vec_len more ≤ vec_capacity trees.old }
+    ensures items { trees.new.items ≡ trees.old.items ++ more.items }
+    ensures room { vec_capacity trees.old ≤ vec_capacity trees.new }
+{
+    match trees.append(&mut more) {
+        Ok(()) => (),
+        Err(_) => unreachable!(),
+    }
+}
+
+/// Puts trees behind others: where these lie if there is room for the next power of two as many, else all go into the
+/// room that is handed in. It takes no memory.
+fn put_behind(trees: &mut Vec<SumTree>, more: Vec<SumTree>, room: Vec<SumTree>)
+    requires few { length trees.old.items + length more.items ≤ 2 ^ 63 }
+    requires held { IsRoomy (length trees.old.items) (vec_capacity trees.old) }
+    requires empty { room.items ≡ [] }
+    requires room { HasRoom (length trees.old.items) (length trees.old.items + length more.items) (vec_capacity room) }
+    ensures items { trees.new.items ≡ trees.old.items ++ more.items }
+    ensures room { IsRoomy (length trees.new.items) (vec_capacity trees.new) }
+{
+    let all = trees.len() + more.len();
+    if trees.capacity() < all.next_power_of_two() {
+        let held = mem::replace(trees, room);
+        append(trees, held);
+    }
+    append(trees, more);
+}
+
+/// The sums of the lines of an array of numbers along its last axis, each kept as a tree. The list of trees always lies
+/// in a piece of memory for the next power of two of its length.
 #[derive(Drop)]
 pub struct LineSums {
     shape: Shape,
@@ -117,14 +159,15 @@ pub struct LineSums {
 }
 
 impl Model for LineSums {
+    ghost use Rattle.std.specs.Prelude.{vec_capacity};
     ghost use Rattle.arrays_core.specs.Arrays.{ArrayValue};
-    ghost use Rattle.sum_rules.specs.LineSums.{array_of, StandFor};
+    ghost use Rattle.sum_rules.specs.LineSums.{array_of, AreLinesOf};
 
     ghost Value = { ArrayValue };
 
     ghost view = { λ s. array_of s.shape.items s.trees.items };
 
-    ghost invariant = { λ s. StandFor s.trees.items (array_of s.shape.items s.trees.items) };
+    ghost invariant = { λ s. AreLinesOf s.shape.items s.trees.items (vec_capacity s.trees) };
 }
 
 impl LineSums {
@@ -155,5 +198,14 @@ impl LineSums {
         ensures { self.new ≡ patched self.old patch.now }
     {
         write_into(&self.shape, &mut self.trees, patch);
+    }
+
+    /// Takes the sums of new lines behind the others. It takes no memory.
+    pub fn grow(&mut self, lines: NewLines)
+        requires { FitsTail self.old lines }
+        ensures { self.new ≡ grown_by self.old lines.items }
+    {
+        put_behind(&mut self.trees, lines.trees, lines.room);
+        self.shape = lines.shape;
     }
 }

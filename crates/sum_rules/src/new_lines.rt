@@ -1,0 +1,72 @@
+//! The sums of the lines that an array grows by.
+
+ghost use Rattle.std.specs.Prelude.{◌≡◌, ◌<◌, ◌≤◌, ◌^◌, [], length, drop, vec_capacity, IfOk};
+ghost use Rattle.arrays_core.specs.declared.item.ItemType.TheVariants.{Nums};
+ghost use Rattle.arrays_core.specs.Shapes.{size as size_of};
+ghost use Rattle.sum_rules.specs.LineSums.{last_length as length_of_lines, most_without_tree};
+ghost use Rattle.arrays_core.specs.Growth.{HasRoom};
+
+use crate::line_sums::{last_length, trees_of};
+use arrays_core::{Shape, shape_of, size};
+use index_region::Tail;
+use operator_fns::SumTree;
+use std::alloc::{AllocError, Global};
+use std::marker::Model;
+
+/// Room for the trees of all lines where so many of them have trees before: none where those lie in a piece of memory
+/// that is as large.
+fn room_for(alloc: Global, held: usize, all: usize) -> Result<Vec<SumTree>, AllocError>
+    requires few { all ≤ 2 ^ 63 }
+    ensures empty { IfOk result (λ r. r.items ≡ []) }
+    ensures room { IfOk result (λ r. HasRoom held all (vec_capacity r)) }
+{
+    let room = all.next_power_of_two();
+    if room / 2 < held {
+        return Ok(Vec::new(alloc));
+    }
+    Vec::with_capacity(alloc, room)
+}
+
+/// The sums of the lines that an array of numbers grows by, each kept as a tree, with the shape that the array has
+/// then. They bring the room that the trees of all its lines may need, so that `LineSums::grow` takes no memory.
+#[derive(Drop)]
+pub struct NewLines {
+    pub(crate) shape: Shape,
+    pub(crate) trees: Vec<SumTree>,
+    pub(crate) room: Vec<SumTree>,
+}
+
+impl Model for NewLines {
+    ghost use Rattle.std.specs.Prelude.{◌≡◌, [], vec_capacity};
+    ghost use Rattle.index_region.specs.Tails.{TailValue};
+    ghost use Rattle.sum_rules.specs.NewLines.{lines_behind, AreNewLinesOf};
+
+    ghost Value = { TailValue };
+
+    ghost view = { λ l. lines_behind l.shape.items l.trees.items };
+
+    ghost invariant = { λ l. AreNewLinesOf l.shape.items l.trees.items (vec_capacity l.room) × (l.room.items ≡ []) };
+}
+
+impl NewLines {
+    /// The sums of the lines of a tail, which is one place of an array of numbers that has more than one axis and lines
+    /// that are long enough for sums to be kept. AllocError where memory for them, or for the room, is refused.
+    pub fn of(alloc: Global, tail: &Tail) -> Result<NewLines, AllocError>
+        requires numbers { tail.now.item_type ≡ Nums }
+        requires axes { 1 < length tail.now.shape }
+        requires long { most_without_tree < length_of_lines tail.now.shape }
+        requires one_place { length tail.now.items ≡ size_of (drop 1 tail.now.shape) }
+        ensures { IfOk result (λ l. l ≡ tail.now) }
+    {
+        let shape = shape_of(alloc, tail.shape().as_slice());
+        let count = last_length(shape.as_slice()) as usize;
+        let numbers = match tail.values().numbers() {
+            Some(numbers) => numbers,
+            None => unreachable!(),
+        };
+        let trees = trees_of(alloc, numbers, count)?;
+        let lines = size(shape.as_slice()) as usize / count;
+        let room = room_for(alloc, lines.saturating_sub(trees.len()), lines)?;
+        Ok(NewLines { shape, trees, room })
+    }
+}
