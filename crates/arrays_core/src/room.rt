@@ -1,8 +1,8 @@
 //! The memory that the items of an array lie in, and the room for more behind them.
 
-ghost use Rattle.std.specs.Prelude.{◌≡◌, ◌≤◌, ◌<◌, ◌^◌, IfOk, length, replicate, vec_capacity};
+ghost use Rattle.std.specs.Prelude.{◌≡◌, ◌≤◌, ◌<◌, ◌^◌, [], IfOk, IsOk, length, replicate, vec_capacity};
 ghost use Rattle.std.specs.Int.{IsNextPowerOfTwo};
-ghost use Rattle.arrays_core.specs.Growth.{IsRoomy, HasRoom};
+ghost use Rattle.arrays_core.specs.Growth.{IsRoomy, IsSameRoom, HasRoom};
 
 use crate::array::Ravel;
 use crate::item::ItemType;
@@ -18,6 +18,7 @@ pub fn room_of(places: usize) -> usize
     ensures low { places ≤ result }
     ensures next { 0 < places → places ≤ 2 ^ 63 → IsNextPowerOfTwo places result }
     ensures roomy { places ≤ 2 ^ 63 → IsRoomy places result }
+    ensures none { places ≡ 0 → result ≡ 0 }
 {
     if places == 0 || places > GREATEST_POWER {
         return places;
@@ -56,6 +57,26 @@ pub fn repeated<T: Copy + Drop>(alloc: Global, item: T, places: usize) -> Result
     Ok(items)
 }
 
+/// An empty list, with room for so many items, of which so many are held elsewhere. Where those lie in a piece of memory that is as large, no
+/// room is made, and no memory asked for.
+pub fn room_between<T: Drop>(
+    alloc: Global,
+    held: usize,
+    places: usize,
+) -> Result<Vec<T>, AllocError>
+    requires { places ≤ 2 ^ 63 }
+    ensures empty { IfOk result (λ v. v.items ≡ []) }
+    ensures room { IfOk result (λ v. HasRoom held places (vec_capacity v)) }
+    ensures taken { IsSameRoom held places → IsOk result }
+    ensures same { IsSameRoom held places → IfOk result (λ v. vec_capacity v ≡ 0) }
+{
+    let room = room_of(places);
+    if room / 2 < held {
+        return Ok(Vec::new(alloc));
+    }
+    Vec::with_capacity(alloc, room)
+}
+
 /// Memory for the items of an array and more behind them, of which `Array::grow` makes use; none where there is room
 /// for them where its items lie. Contracts see the type and how many items there is room for.
 #[derive(Drop)]
@@ -76,7 +97,8 @@ impl Model for Room {
 }
 
 impl Room {
-    /// Room for so many items of a type, of which an array holds so many; AllocError where the memory for it is refused.
+    /// Room for so many items of a type, of which an array holds so many: none where these lie in a piece of memory that is as large, and then
+    /// no memory is asked for; AllocError where the memory for it is refused.
     pub fn between(
         alloc: Global,
         item_type: ItemType,
@@ -86,10 +108,13 @@ impl Room {
         requires { places ≤ 2 ^ 63 }
         ensures typed { IfOk result (λ r. r.item_type ≡ item_type) }
         ensures room { IfOk result (λ r. HasRoom held places r.places) }
+        ensures taken { IsSameRoom held places → IsOk result }
+        ensures same { IsSameRoom held places → IfOk result (λ r. r.places ≡ 0) }
     {
-        let room = room_of(places);
-        let needed = if room / 2 < held { 0 } else { room };
-        let ravel = Ravel::with_capacity(alloc, item_type, needed)?;
+        let ravel = match item_type {
+            ItemType::Nums => Ravel::Nums(room_between(alloc, held, places)?),
+            ItemType::Chars => Ravel::Chars(room_between(alloc, held, places)?),
+        };
         Ok(Room { ravel })
     }
 }

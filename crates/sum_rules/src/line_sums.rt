@@ -11,7 +11,7 @@ ghost use Rattle.sum_rules.specs.LineSums.{last_length as length_of_lines, keeps
 ghost use Rattle.arrays_core.specs.Growth.{IsRoomy, HasRoom};
 
 use crate::new_lines::NewLines;
-use arrays_core::{Array, Item, ItemType, Shape, position, shape_of};
+use arrays_core::{Array, Item, ItemType, Shape, position, room_of, shape_of};
 use index_region::{Patch, Seen};
 use operator_fns::SumTree;
 use std::alloc::{AllocError, Global};
@@ -52,7 +52,7 @@ pub(crate) fn trees_of(
     ensures room { IfOk result (λ trees. IsRoomy (length trees.items) (vec_capacity trees)) }
 {
     let lines = numbers.len() / count;
-    let mut trees = Vec::with_capacity(alloc, lines.next_power_of_two())?;
+    let mut trees = Vec::with_capacity(alloc, room_of(lines))?;
     for line in 0..lines {
         let first = line * count;
         trees.push(SumTree::build(alloc, &numbers[first..first + count])?)?;
@@ -143,7 +143,7 @@ fn put_behind(trees: &mut Vec<SumTree>, more: Vec<SumTree>, room: Vec<SumTree>)
     ensures room { IsRoomy (length trees.new.items) (vec_capacity trees.new) }
 {
     let all = trees.len() + more.len();
-    if trees.capacity() < all.next_power_of_two() {
+    if trees.capacity() < room_of(all) {
         let held = mem::replace(trees, room);
         append(trees, held);
     }

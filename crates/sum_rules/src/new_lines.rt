@@ -1,31 +1,16 @@
 //! The sums of the lines that an array grows by.
 
-ghost use Rattle.std.specs.Prelude.{◌≡◌, ◌<◌, ◌≤◌, ◌^◌, [], length, drop, vec_capacity, IfOk};
+ghost use Rattle.std.specs.Prelude.{◌≡◌, ◌<◌, length, drop, IfOk};
 ghost use Rattle.arrays_core.specs.declared.item.ItemType.TheVariants.{Nums};
 ghost use Rattle.arrays_core.specs.Shapes.{size as size_of};
 ghost use Rattle.sum_rules.specs.LineSums.{last_length as length_of_lines, most_without_tree};
-ghost use Rattle.arrays_core.specs.Growth.{HasRoom};
 
 use crate::line_sums::{last_length, trees_of};
-use arrays_core::{Shape, shape_of, size};
+use arrays_core::{Shape, room_between, shape_of, size};
 use index_region::Tail;
 use operator_fns::SumTree;
 use std::alloc::{AllocError, Global};
 use std::marker::Model;
-
-/// Room for the trees of all lines where so many of them have trees before: none where those lie in a piece of memory
-/// that is as large.
-fn room_for(alloc: Global, held: usize, all: usize) -> Result<Vec<SumTree>, AllocError>
-    requires few { all ≤ 2 ^ 63 }
-    ensures empty { IfOk result (λ r. r.items ≡ []) }
-    ensures room { IfOk result (λ r. HasRoom held all (vec_capacity r)) }
-{
-    let room = all.next_power_of_two();
-    if room / 2 < held {
-        return Ok(Vec::new(alloc));
-    }
-    Vec::with_capacity(alloc, room)
-}
 
 /// The sums of the lines that an array of numbers grows by, each kept as a tree, with the shape that the array has
 /// then. They bring the room that the trees of all its lines may need, so that `LineSums::grow` takes no memory.
@@ -66,7 +51,7 @@ impl NewLines {
         };
         let trees = trees_of(alloc, numbers, count)?;
         let lines = size(shape.as_slice()) as usize / count;
-        let room = room_for(alloc, lines.saturating_sub(trees.len()), lines)?;
+        let room = room_between(alloc, lines.saturating_sub(trees.len()), lines)?;
         Ok(NewLines { shape, trees, room })
     }
 }

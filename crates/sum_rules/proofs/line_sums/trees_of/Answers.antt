@@ -3,7 +3,7 @@ use Rattle.std.proofs.lemmas.List.{length-append, length-take, length-drop}
 use Rattle.std.proofs.lemmas.List.Elements.{All-push, All-same}
 use Rattle.sum_rules.specs.LineSums.{all_numbers}
 use Rattle.arrays_core.specs.Growth.{IsRoomy}
-use Rattle.sum_rules.proofs.Rooms.{larger, roomy}
+use Rattle.sum_rules.proofs.Rooms.{larger}
 use Rattle.sum_rules.proofs.Lines.{one_line_more, line_within}
 use Rattle.sum_rules.proofs.line_sums.trees_of.Goals as goal
 
@@ -28,7 +28,7 @@ loop-line-init c = record {
   numbers = search rules;
   lines = search rules;
   many = ap length c.in_ok-trees.ensures.items;
-  room = roomy _ c.next_power_of_two.result _ c.next_power_of_two.ensures.power c.next_power_of_two.ensures.lower_bound c.in_ok-trees.ensures.capacity;
+  room = larger _ _ _ (c.room_of.ensures.roomy (omega arith)) c.in_ok-trees.ensures.capacity;
 }
 
 pub returns-clause-room : goal.returns-clause-room
