@@ -1,6 +1,6 @@
 -- Worked examples of the grammar: what some lines ask for.
-use Rattle.std.proofs.Common.{ℕ, [], ◌∷◌, refl}
-use Rattle.std.specs.Prelude.{pos, codes}
+use Rattle.std.proofs.Common.{ℕ, [], ◌∷◌, refl, arith}
+use Rattle.std.specs.Prelude.{pos, negsuc, codes}
 use Rattle.apl_tokens.specs.Lexemes.{Number, Characters, Named, Sign}
 use Rattle.apl_expr.specs.declared.expr.ScalarMonad.TheVariants as monad
 use Rattle.apl_expr.specs.declared.expr.ScalarDyad.TheVariants as dyad
@@ -11,9 +11,13 @@ use Rattle.apl_expr.specs.Symbols.{scalar_monad_of, scalar_dyad_of, array_monad,
 use Rattle.apl_expr.specs.Trees.{Tree, Numbers, Text, Const, Name, Monad, Dyad, Index, Filled, Empty, NoPositions}
 use Rattle.apl_expr.specs.Machine.{run}
 use Rattle.apl_expr.specs.Grammar.{IsTreeOf, one, more}
-use Rattle.apl_expr.specs.Lines.{IsLine, show, change, cell, define, row, erase, word, about, nums_lit, text_lit, last, further, Define, Cell, Row, Erase, Show, Names, Cost, Csv}
+use Rattle.apl_expr.specs.Lines.{IsLine, show, change, cell, define, row, erase, word, about, opened, numbered, nums_lit, text_lit, last, further}
+use Rattle.apl_expr.specs.declared.fault.ParseFault.TheVariants.{Syntax}
+use Rattle.apl_expr.specs.Lines.{Meaning, Define, Cell, Row, Erase, Show, Names, Cost, Csv, Open, Step, Commit, Drop}
 use Rattle.apl_expr.proofs.Complete.{complete}
 use Rattle.apl_expr.proofs.Sound.{correct, run_none}
+use Rattle.apl_expr.proofs.Changes.{no_change_word, no_front}
+use Rattle.apl_expr.proofs.Commands.{open_none, open_err, step_none, drop_none}
 
 abbrev number : ℕ → Tree
 number n = Const (Numbers (pos n ∷ []))
@@ -134,3 +138,65 @@ shown_cost = word refl
 -- )CSV D
 written_table : IsLine (Sign 0x29 ∷ Named (codes "CSV") ∷ Named (codes "D") ∷ []) (Csv (codes "D"))
 written_table = about refl
+
+-- )OPEN 2 D[1]←5
+opened_edit : IsLine (Sign 0x29 ∷ Named (codes "OPEN") ∷ Number (pos 2) ∷ Named (codes "D") ∷ Sign 0x5b ∷ Number (pos 1) ∷ Sign 0x5d ∷ Sign 0x2190 ∷ Number (pos 5) ∷ []) (Open (pos 2) (Cell (codes "D") (pos 1 ∷ []) (Numbers (pos 5 ∷ []))))
+opened_edit = opened (cell last (nums_lit one)) refl
+
+-- )OPEN ¯1 )ERASE OPEN: any number is of the grammar, and after its word, OPEN is a name
+opened_erasure : IsLine (Sign 0x29 ∷ Named (codes "OPEN") ∷ Number (negsuc 0) ∷ Sign 0x29 ∷ Named (codes "ERASE") ∷ Named (codes "OPEN") ∷ []) (Open (negsuc 0) (Erase (codes "OPEN")))
+opened_erasure = opened (erase refl) refl
+
+-- )STEP 9
+step_of_slot : IsLine (Sign 0x29 ∷ Named (codes "STEP") ∷ Number (pos 9) ∷ []) (Step (pos 9))
+step_of_slot = numbered refl
+
+-- )COMMIT 1
+commit_of_slot : IsLine (Sign 0x29 ∷ Named (codes "COMMIT") ∷ Number (pos 1) ∷ []) (Commit (pos 1))
+commit_of_slot = numbered refl
+
+-- )DROP ¯3
+drop_of_slot : IsLine (Sign 0x29 ∷ Named (codes "DROP") ∷ Number (negsuc 2) ∷ []) (Drop (negsuc 2))
+drop_of_slot = numbered refl
+
+-- OPEN←1: elsewhere it is a name
+open_is_a_name : IsLine (Named (codes "OPEN") ∷ Sign 0x2190 ∷ Number (pos 1) ∷ []) (Define (codes "OPEN") (number 1))
+unfolding run
+open_is_a_name = change (define (correct _ _ refl))
+
+-- )OPEN 2 )NAMES is no line: a change is opened, and nothing else
+query_opened : (m : Meaning) → IsLine (Sign 0x29 ∷ Named (codes "OPEN") ∷ Number (pos 2) ∷ Sign 0x29 ∷ Named (codes "NAMES") ∷ []) m → ⊥
+query_opened = (open_err (Number (pos 2) ∷ Sign 0x29 ∷ Named (codes "NAMES") ∷ []) (omega arith) (pos 2) _ refl Syntax (no_change_word (codes "NAMES") [] refl)).1
+
+-- )OPEN 1 )STEP 2 is none
+step_opened : (m : Meaning) → IsLine (Sign 0x29 ∷ Named (codes "OPEN") ∷ Number (pos 1) ∷ Sign 0x29 ∷ Named (codes "STEP") ∷ Number (pos 2) ∷ []) m → ⊥
+step_opened = (open_err (Number (pos 1) ∷ Sign 0x29 ∷ Named (codes "STEP") ∷ Number (pos 2) ∷ []) (omega arith) (pos 1) _ refl Syntax (no_change_word (codes "STEP") (Number (pos 2) ∷ []) refl)).1
+
+-- )OPEN 1 )OPEN 2 A←1 is none
+opened_twice : (m : Meaning) → IsLine (Sign 0x29 ∷ Named (codes "OPEN") ∷ Number (pos 1) ∷ Sign 0x29 ∷ Named (codes "OPEN") ∷ Number (pos 2) ∷ Named (codes "A") ∷ Sign 0x2190 ∷ Number (pos 1) ∷ []) m → ⊥
+opened_twice =
+    let behind = Number (pos 2) ∷ Named (codes "A") ∷ Sign 0x2190 ∷ Number (pos 1) ∷ [] in
+    (open_err (Number (pos 1) ∷ Sign 0x29 ∷ Named (codes "OPEN") ∷ behind) (omega arith) (pos 1) _ refl Syntax (no_change_word (codes "OPEN") behind refl)).1
+
+-- )OPEN 1 1+1 is none
+expression_opened : (m : Meaning) → IsLine (Sign 0x29 ∷ Named (codes "OPEN") ∷ Number (pos 1) ∷ Number (pos 1) ∷ Sign 0x2b ∷ Number (pos 1) ∷ []) m → ⊥
+expression_opened = (open_err (Number (pos 1) ∷ Number (pos 1) ∷ Sign 0x2b ∷ Number (pos 1) ∷ []) (omega arith) (pos 1) _ refl Syntax (no_front _ refl refl refl)).1
+
+-- )OPEN 1 is none
+nothing_opened : (m : Meaning) → IsLine (Sign 0x29 ∷ Named (codes "OPEN") ∷ Number (pos 1) ∷ []) m → ⊥
+nothing_opened = (open_err (Number (pos 1) ∷ []) (omega arith) (pos 1) [] refl Syntax (no_front [] refl refl refl)).1
+
+-- )OPEN A←1 is none
+opened_nowhere : (m : Meaning) → IsLine (Sign 0x29 ∷ Named (codes "OPEN") ∷ Named (codes "A") ∷ Sign 0x2190 ∷ Number (pos 1) ∷ []) m → ⊥
+opened_nowhere = (open_none (Named (codes "A") ∷ Sign 0x2190 ∷ Number (pos 1) ∷ []) (omega arith) refl).1
+
+-- )STEP and )STEP 1 2 are none
+step_nowhere : (m : Meaning) → IsLine (Sign 0x29 ∷ Named (codes "STEP") ∷ []) m → ⊥
+step_nowhere = (step_none [] (omega arith) refl).1
+
+two_steps : (m : Meaning) → IsLine (Sign 0x29 ∷ Named (codes "STEP") ∷ Number (pos 1) ∷ Number (pos 2) ∷ []) m → ⊥
+two_steps = (step_none (Number (pos 1) ∷ Number (pos 2) ∷ []) (omega arith) refl).1
+
+-- )DROP A is none
+drop_of_a_name : (m : Meaning) → IsLine (Sign 0x29 ∷ Named (codes "DROP") ∷ Named (codes "A") ∷ []) m → ⊥
+drop_of_a_name = (drop_none (Named (codes "A") ∷ []) (omega arith) refl).1

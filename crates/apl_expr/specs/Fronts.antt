@@ -1,8 +1,7 @@
 -- The first tokens of a line, which say what it asks for.
-use Rattle.std.specs.Prelude.{ℕ, Option, Some, None, List, [], ◌∷◌, if◌then◌else◌, ◌==◌}
-use Rattle.apl_tokens.specs.Lexemes.{Lexeme, Named, Sign}
-use Rattle.apl_tokens.specs.Signs.{right_parenthesis, left_bracket}
-use Rattle.apl_expr.specs.Edits.{Open, Written, edits}
+use Rattle.std.specs.Prelude.{ℕ, ℤ, Option, Some, None, List, [], ◌∷◌, if◌then◌else◌, ◌==◌}
+use Rattle.apl_tokens.specs.Lexemes.{Lexeme, Number, Named, Sign}
+use Rattle.apl_tokens.specs.Signs.{right_parenthesis}
 
 -- the name and what comes after the sign, where the two lexemes are a name and the sign c
 abbrev pub name_and_sign : ℕ → Lexeme → Lexeme → List Lexeme → Option (List ℕ × List Lexeme)
@@ -36,11 +35,12 @@ abbrev pub only_name : List Lexeme → Option (List ℕ)
 only_name (Named n ∷ []) = Some n
 only_name ts = None
 
--- the edit that comes after `NAME [`
-abbrev after_name : Option (List ℕ × List Lexeme) → Option Written
-after_name None = None
-after_name (Some x) = edits x.1 (Some (Open []))
+-- the number at the front, and what comes after it
+abbrev pub number_first : List Lexeme → Option (ℤ × List Lexeme)
+number_first (Number k ∷ ts) = Some (k, ts)
+number_first ts = None
 
--- the edit of a cell that the tokens are: what comes after `NAME [`
-abbrev pub edit_in : List Lexeme → Option Written
-edit_in ts = after_name (name_before left_bracket ts)
+-- the number that is all of the tokens
+abbrev pub only_number : List Lexeme → Option ℤ
+only_number (Number k ∷ []) = Some k
+only_number ts = None

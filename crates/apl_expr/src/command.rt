@@ -5,8 +5,9 @@ ghost use Rattle.std.specs.Str.{chars};
 ghost use Rattle.apl_tokens.specs.Lexemes.{lexemes, Named, Sign};
 ghost use Rattle.apl_tokens.specs.Signs.{left_arrow, right_parenthesis, left_bracket};
 ghost use Rattle.apl_expr.specs.Limits.{most_tokens};
-ghost use Rattle.apl_expr.specs.Lines.{data_word, row_word, erase_word, names_word, cost_word, csv_word, IsCommand};
-ghost use Rattle.apl_expr.specs.Fronts.{name_before, name_first, only_name, command_word, edit_in};
+ghost use Rattle.apl_expr.specs.Lines.{data_word, row_word, erase_word, names_word, cost_word, csv_word, open_word, step_word, commit_word, drop_word, IsCommand};
+ghost use Rattle.apl_expr.specs.Fronts.{name_before, name_first, only_name, number_first, only_number, command_word};
+ghost use Rattle.apl_expr.specs.Changes.{IsNoChange, IsChangeOf};
 ghost use Rattle.apl_expr.specs.Answers.{IsAnswered};
 
 use crate::edit::{edited, whole_literal};
@@ -47,6 +48,14 @@ pub enum Command {
     Cost,
     /// `) CSV NAME`: the name's value is written as a table.
     Csv(Name),
+    /// `) OPEN num change`: the change is begun in the slot of this number, and made later.
+    Open(i64, Box<Change>),
+    /// `) STEP num`: the change that was opened in the slot of this number is brought one step further.
+    Step(i64),
+    /// `) COMMIT num`: the change that was opened in the slot of this number is made.
+    Commit(i64),
+    /// `) DROP num`: the change that was opened in the slot of this number is given up.
+    Drop(i64),
 }
 
 /// The name or the word that stands at the front of a line, and the tokens after what stands there.
@@ -96,6 +105,30 @@ fn only_name(tokens: &[Spanned]) -> Option<Name>
     }
 }
 
+/// The number at the front, and what comes after it.
+fn number_first(tokens: &[Spanned]) -> Option<(i64, &[Spanned])>
+    ensures { MatchOption result (number_first (lexemes tokens.now) ≡ None) (λ front. number_first (lexemes tokens.now) ≡ Some (front.0, lexemes front.1.now)) }
+{
+    let (first, rest) = tokens.split_first()?;
+    match &first.token {
+        Token::Num(number) => Some((*number, rest)),
+        _ => None,
+    }
+}
+
+/// The number that is all of the tokens.
+fn only_number(tokens: &[Spanned]) -> Option<i64>
+    ensures { MatchOption result (only_number (lexemes tokens.now) ≡ None) (λ k. only_number (lexemes tokens.now) ≡ Some k) }
+{
+    let [spanned] = tokens else {
+        return None;
+    };
+    match &spanned.token {
+        Token::Num(number) => Some(*number),
+        _ => None,
+    }
+}
+
 /// The word at the front, after `)`, and what comes after it.
 fn command_word(tokens: &[Spanned]) -> Option<Front<'_>>
     ensures { MatchOption result (command_word (lexemes tokens.now) ≡ None) (λ front. command_word (lexemes tokens.now) ≡ Some (front.name, lexemes front.rest.now)) }
@@ -108,47 +141,84 @@ fn command_word(tokens: &[Spanned]) -> Option<Front<'_>>
 }
 
 /// The definition with what comes after `NAME ←`.
-fn define(alloc: Global, name: Name, rest: &[Spanned]) -> Result<Command, ParseFault>
-    requires { 2 + length rest.now ≤ most_tokens }
-    ensures { IsCommand (Named name ∷ Sign left_arrow ∷ lexemes rest.now) result }
+fn define(alloc: Global, name: Name, rest: &[Spanned]) -> Result<Change, ParseFault>
+    requires { length rest.now ≤ most_tokens }
+    ensures { IsChangeOf (Named name ∷ Sign left_arrow ∷ lexemes rest.now) result }
 {
     let formula = parse(alloc, rest)?;
-    Ok(Command::Change(Change::Define(name, formula)))
+    Ok(Change::Define(name, formula))
+}
+
+/// The edit of a cell with what comes after `NAME [`.
+fn cell(alloc: Global, name: Name, rest: &[Spanned]) -> Result<Change, ParseFault>
+    ensures { IsChangeOf (Named name ∷ Sign left_bracket ∷ lexemes rest.now) result }
+{
+    let (positions, literal) = edited(alloc, rest)?;
+    Ok(Change::Cell(name, positions, literal))
 }
 
 /// The data with what comes after `) DATA`.
-fn data(alloc: Global, rest: &[Spanned]) -> Result<Command, ParseFault>
-    requires { 2 + length rest.now ≤ most_tokens }
-    ensures { IsCommand (Sign right_parenthesis ∷ Named data_word ∷ lexemes rest.now) result }
+fn data(alloc: Global, rest: &[Spanned]) -> Result<Change, ParseFault>
+    requires { length rest.now ≤ most_tokens }
+    ensures { IsChangeOf (Sign right_parenthesis ∷ Named data_word ∷ lexemes rest.now) result }
 {
     let Some(front) = name_before(rest, '←') else {
         return Err(ParseFault::Syntax);
     };
     let value = parse(alloc, front.rest)?;
-    Ok(Command::Change(Change::Data(front.name, value)))
+    Ok(Change::Data(front.name, value))
 }
 
 /// The row with what comes after `) ROW`.
-fn row(alloc: Global, rest: &[Spanned]) -> Result<Command, ParseFault>
-    requires { 2 + length rest.now ≤ most_tokens }
-    ensures { IsCommand (Sign right_parenthesis ∷ Named row_word ∷ lexemes rest.now) result }
+fn row(alloc: Global, rest: &[Spanned]) -> Result<Change, ParseFault>
+    ensures { IsChangeOf (Sign right_parenthesis ∷ Named row_word ∷ lexemes rest.now) result }
 {
     let Some(front) = name_first(rest) else {
         return Err(ParseFault::Syntax);
     };
     let items = whole_literal(alloc, front.rest)?;
-    Ok(Command::Change(Change::Row(front.name, items)))
+    Ok(Change::Row(front.name, items))
 }
 
 /// What is erased, with what comes after `) ERASE`.
-fn erase(rest: &[Spanned]) -> Result<Command, ParseFault>
-    requires { 2 + length rest.now ≤ most_tokens }
-    ensures { IsCommand (Sign right_parenthesis ∷ Named erase_word ∷ lexemes rest.now) result }
+fn erase(rest: &[Spanned]) -> Result<Change, ParseFault>
+    ensures { IsChangeOf (Sign right_parenthesis ∷ Named erase_word ∷ lexemes rest.now) result }
 {
     match only_name(rest) {
-        Some(name) => Ok(Command::Change(Change::Erase(name))),
+        Some(name) => Ok(Change::Erase(name)),
         None => Err(ParseFault::Syntax),
     }
+}
+
+/// The change of this word, with what comes after it.
+fn worded_change(alloc: Global, word: Name, rest: &[Spanned]) -> Result<Change, ParseFault>
+    requires { length rest.now ≤ most_tokens }
+    ensures { IsChangeOf (Sign right_parenthesis ∷ Named word ∷ lexemes rest.now) result }
+{
+    match word.text() {
+        "DATA" => data(alloc, rest),
+        "ROW" => row(alloc, rest),
+        "ERASE" => erase(rest),
+        _ => Err(ParseFault::Syntax),
+    }
+}
+
+/// The change that the tokens are.
+#[inline(always)]
+fn change_of(alloc: Global, tokens: &[Spanned]) -> Result<Change, ParseFault>
+    requires { length tokens.now ≤ most_tokens }
+    ensures { IsChangeOf (lexemes tokens.now) result }
+{
+    if let Some(front) = name_before(tokens, '←') {
+        return define(alloc, front.name, front.rest);
+    }
+    if let Some(front) = name_before(tokens, '[') {
+        return cell(alloc, front.name, front.rest);
+    }
+    if let Some(front) = command_word(tokens) {
+        return worded_change(alloc, front.name, front.rest);
+    }
+    Err(ParseFault::Syntax)
 }
 
 /// The list of names, with what comes after `) NAMES`.
@@ -186,18 +256,66 @@ fn csv(rest: &[Spanned]) -> Result<Command, ParseFault>
     }
 }
 
-/// The command of this word, with what comes after it.
-fn worded(alloc: Global, word: Name, rest: &[Spanned]) -> Result<Command, ParseFault>
+/// The change that is opened, and the number of its slot, with what comes after `) OPEN`.
+fn open(alloc: Global, rest: &[Spanned]) -> Result<Command, ParseFault>
     requires { 2 + length rest.now ≤ most_tokens }
+    ensures { IsCommand (Sign right_parenthesis ∷ Named open_word ∷ lexemes rest.now) result }
+{
+    let Some((slot, tokens)) = number_first(rest) else {
+        return Err(ParseFault::Syntax);
+    };
+    let change = change_of(alloc, tokens)?;
+    let change = Box::new(alloc, change)?;
+    Ok(Command::Open(slot, change))
+}
+
+/// The slot whose change goes on, with what comes after `) STEP`.
+fn step(rest: &[Spanned]) -> Result<Command, ParseFault>
+    requires { 2 + length rest.now ≤ most_tokens }
+    ensures { IsCommand (Sign right_parenthesis ∷ Named step_word ∷ lexemes rest.now) result }
+{
+    match only_number(rest) {
+        Some(slot) => Ok(Command::Step(slot)),
+        None => Err(ParseFault::Syntax),
+    }
+}
+
+/// The slot whose change is made, with what comes after `) COMMIT`.
+fn commit(rest: &[Spanned]) -> Result<Command, ParseFault>
+    requires { 2 + length rest.now ≤ most_tokens }
+    ensures { IsCommand (Sign right_parenthesis ∷ Named commit_word ∷ lexemes rest.now) result }
+{
+    match only_number(rest) {
+        Some(slot) => Ok(Command::Commit(slot)),
+        None => Err(ParseFault::Syntax),
+    }
+}
+
+/// The slot whose change is given up, with what comes after `) DROP`.
+fn give_up(rest: &[Spanned]) -> Result<Command, ParseFault>
+    requires { 2 + length rest.now ≤ most_tokens }
+    ensures { IsCommand (Sign right_parenthesis ∷ Named drop_word ∷ lexemes rest.now) result }
+{
+    match only_number(rest) {
+        Some(slot) => Ok(Command::Drop(slot)),
+        None => Err(ParseFault::Syntax),
+    }
+}
+
+/// The command of this word, which is no change, with what comes after it.
+fn worded(alloc: Global, word: Name, rest: &[Spanned]) -> Result<Command, ParseFault>
+    requires short { 2 + length rest.now ≤ most_tokens }
+    requires no_change { IsNoChange (Sign right_parenthesis ∷ Named word ∷ lexemes rest.now) }
     ensures { IsCommand (Sign right_parenthesis ∷ Named word ∷ lexemes rest.now) result }
 {
     match word.text() {
-        "DATA" => data(alloc, rest),
-        "ROW" => row(alloc, rest),
-        "ERASE" => erase(rest),
         "NAMES" => names(rest),
         "COST" => cost(rest),
         "CSV" => csv(rest),
+        "OPEN" => open(alloc, rest),
+        "STEP" => step(rest),
+        "COMMIT" => commit(rest),
+        "DROP" => give_up(rest),
         _ => Err(ParseFault::Syntax),
     }
 }
@@ -206,30 +324,24 @@ fn worded(alloc: Global, word: Name, rest: &[Spanned]) -> Result<Command, ParseF
 fn show(alloc: Global, tokens: &[Spanned]) -> Result<Command, ParseFault>
     requires some { 0 < length tokens.now }
     requires short { length tokens.now ≤ most_tokens }
-    requires no_definition { name_before left_arrow (lexemes tokens.now) ≡ None }
+    requires no_change { IsNoChange (lexemes tokens.now) }
     requires no_word { command_word (lexemes tokens.now) ≡ None }
-    requires no_edit { edit_in (lexemes tokens.now) ≡ None }
     ensures { IsCommand (lexemes tokens.now) result }
 {
     let shown = parse(alloc, tokens)?;
     Ok(Command::Show(shown))
 }
 
-/// The edit of a cell, with what comes after `NAME [`, if the tokens are one; else the expression to show.
-fn cell(
-    alloc: Global,
-    tokens: &[Spanned],
-    name: Name,
-    rest: &[Spanned],
-) -> Result<Command, ParseFault>
+/// What a line asks for that is not empty and no change.
+fn no_change(alloc: Global, tokens: &[Spanned]) -> Result<Command, ParseFault>
+    requires some { 0 < length tokens.now }
     requires short { length tokens.now ≤ most_tokens }
-    requires begins { name_before left_bracket (lexemes tokens.now) ≡ Some (name, lexemes rest.now) }
+    requires no_change { IsNoChange (lexemes tokens.now) }
     ensures { IsCommand (lexemes tokens.now) result }
 {
-    match edited(alloc, rest) {
-        Ok((positions, literal)) => Ok(Command::Change(Change::Cell(name, positions, literal))),
-        Err(ParseFault::Syntax) => show(alloc, tokens),
-        Err(fault) => Err(fault),
+    match command_word(tokens) {
+        Some(front) => worded(alloc, front.name, front.rest),
+        None => show(alloc, tokens),
     }
 }
 
@@ -243,24 +355,20 @@ fn command_of(alloc: Global, tokens: &[Spanned]) -> Result<Command, ParseFault>
     if tokens.is_empty() {
         return Ok(Command::Nothing);
     }
-    if let Some(front) = name_before(tokens, '←') {
-        return define(alloc, front.name, front.rest);
+    match change_of(alloc, tokens) {
+        Ok(change) => Ok(Command::Change(change)),
+        Err(ParseFault::Syntax) => no_change(alloc, tokens),
+        Err(ParseFault::Limit) => Err(ParseFault::Limit),
+        Err(ParseFault::NoMemory) => Err(ParseFault::NoMemory),
     }
-    if let Some(front) = command_word(tokens) {
-        return worded(alloc, front.name, front.rest);
-    }
-    if let Some(front) = name_before(tokens, '[') {
-        return cell(alloc, tokens, front.name, front.rest);
-    }
-    show(alloc, tokens)
 }
 
 /// What a line of text asks for.
 ///
 /// The first token fault from the left comes before all else. Then more than 4,096 tokens are `Limit`, whatever they are;
 /// then tokens that are no line of the grammar are `Syntax`; then an expression whose tree is more than 256 high or has
-/// more than 512 nodes is `Limit`. `DATA`, `ROW`, `ERASE`, `NAMES`, `COST` and `CSV` are words only after `)`, and
-/// ordinary names elsewhere.
+/// more than 512 nodes is `Limit`. `DATA`, `ROW`, `ERASE`, `NAMES`, `COST`, `CSV`, `OPEN`, `STEP`, `COMMIT` and `DROP` are
+/// words only after `)`, and ordinary names elsewhere.
 pub fn line(alloc: Global, text: &str) -> Result<Command, LineFault>
     ensures { IsAnswered (chars text.now) result }
 {

@@ -6,6 +6,7 @@ use array_text::{TableFault, read_table};
 use arrays_core::Array;
 use program_words::not_text;
 use sheet_cli::{Device, Ending, RunFault, Source, Words, run, status, words};
+use sheet_desk::Desk;
 use sheet_recalc::Sheet;
 use std::alloc::Global;
 use std::fs::File;
@@ -68,11 +69,11 @@ fn first_sheet(rt: &HostRuntime, table: Option<&(Name, String, bool)>) -> Result
 /// Answers the lines of a source.
 fn answer<R: Source>(
     rt: &(impl Print + AllocGlobal),
-    sheet: &mut Sheet,
+    desk: &mut Desk,
     source: &mut R,
 ) -> Result<(), Ending> {
     let mut sink = Device::new(io::writer(rt));
-    run(rt.alloc(), sheet, source, &mut sink)?;
+    run(rt.alloc(), desk, source, &mut sink)?;
     Ok(())
 }
 
@@ -80,12 +81,12 @@ fn answer<R: Source>(
 fn perform(rt: &HostRuntime) -> Result<(), Ending> {
     let all = started_with(rt)?;
     let asked = asked_for(rt.alloc(), all.as_slice())?;
-    let mut sheet = first_sheet(rt, asked.table.as_ref())?;
+    let mut desk = Desk::new(first_sheet(rt, asked.table.as_ref())?);
     let Some(path) = &asked.script else {
-        return answer(rt, &mut sheet, &mut Device::new(rt.reader()));
+        return answer(rt, &mut desk, &mut Device::new(rt.reader()));
     };
     match File::open(rt, path.as_str()) {
-        Ok(file) => answer(rt, &mut sheet, &mut Device::new(file)),
+        Ok(file) => answer(rt, &mut desk, &mut Device::new(file)),
         Err(_) => Err(Ending::CannotRead),
     }
 }

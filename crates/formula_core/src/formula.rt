@@ -58,9 +58,16 @@ impl Formula {
     pub fn build(alloc: Global, tree: Expr) -> Result<Formula, AllocError>
         ensures { IfOk result (λ formula. formula ≡ new_formula (tree_of tree)) }
     {
+        Formula::of(alloc, &tree)
+    }
+
+    /// The same, of an expression that is lent.
+    pub fn of(alloc: Global, tree: &Expr) -> Result<Formula, AllocError>
+        ensures { IfOk result (λ formula. formula ≡ new_formula (tree_of tree.now)) }
+    {
         let mut names = Vec::new(alloc);
         let mut nodes = Vec::new(alloc);
-        lower_whole(alloc, &mut names, &mut nodes, &tree)?;
+        lower_whole(alloc, &mut names, &mut nodes, tree)?;
         let nodes = all_new(alloc, nodes)?;
         Ok(Formula {
             alloc,
@@ -133,6 +140,7 @@ impl Formula {
 
     /// The plan of which no function is done yet: it has the changes of the literals and names that stand before the first. The inputs
     /// are as for `plan`.
+    #[inline(always)]
     pub fn start(&self, inputs: &[Input]) -> Result<Plan, AllocError>
         requires { (c : Change) × IsTold self.now c inputs.now }
         ensures none { IfOk result (λ p. operations_among self.now p.changes ≡ 0) }
@@ -148,6 +156,7 @@ impl Formula {
 
     /// One function more of a plan of this formula as it is, of which fewer were done than there are, with the literals and names that
     /// come after it; the inputs tell the same change each time. Where memory is refused, the plan and the meter are as they were.
+    #[inline(always)]
     pub fn advance(
         &self,
         plan: &mut Plan,

@@ -1,32 +1,37 @@
 -- What is printed for what a line asks for.
-use Rattle.std.proofs.Common.{◌≡◌, ℕ, List, codes, Result, Ok, Err, IfErr, OnOk, OnErr}
+use Rattle.std.proofs.Common.{◌≡◌, ℕ, ℤ, List, codes, Ok, Err, refl}
 use Rattle.std.proofs.lemmas.List.{length-map}
 use Rattle.apl_tokens.specs.Scans.{SpannedLexeme}
 use Rattle.apl_expr.specs.declared.command.Change as asked
 use Rattle.apl_expr.specs.declared.command.Change.TheVariants as lined
 use Rattle.apl_expr.specs.declared.command.Command.{Command}
 use Rattle.apl_expr.specs.declared.fault.LineFault.TheVariants.{Syntax, Limit}
-use Rattle.apl_expr.specs.Lines.{meaning, change_meaning}
+use Rattle.apl_expr.specs.Lines.{Open, meaning, change_meaning}
 use Rattle.apl_expr.specs.Answers.{IsAnswered}
-use Rattle.sheet_recalc.specs.Changes.{Change, Accepts, Refuses}
-use Rattle.sheet_recalc.specs.Costs.{HasCost}
 use Rattle.sheet_recalc.specs.History.{change_of}
-use Rattle.sheet_recalc.specs.Names.{SheetValue}
-use Rattle.sheet_recalc.specs.declared.refusal.Refusal.{Refusal}
-use Rattle.sheet_cli.specs.Answer.{State, state_of, IsEdited, accepted, refused, IsCarriedOut, IsTextAnswer, no_line, too_large, carried_out}
-use Rattle.sheet_cli.specs.Edits.{IsEditText}
+use Rattle.sheet_desk.specs.Desk as desk
+use Rattle.sheet_desk.specs.Desk.{SlotValue, DeskValue, held_in, commit_refusal, drop_refusal, IsRefused, IsEvent}
+use Rattle.sheet_cli.specs.Answer.{State, state_of, IsEdited, IsPrintedFor, IsAsked, IsCarriedOut, IsTextAnswer, no_line, too_large, carried_out}
 
-pub edited : (outcome : Result (Unit {0}) Refusal) (old new : SheetValue) (edit : Change) (text : List ℕ) → OnOk outcome (Accepts old.names edit new.names) → OnOk outcome (HasCost old.names edit new.names new.cost) →
-    IfErr outcome (λ cause. Refuses old.names edit cause) → OnErr outcome (new ≡ old) → IsEditText outcome text → IsEdited (state_of old) edit text (state_of new)
-edited (Ok u) old new edit text a h r k e = rw e (accepted a h)
-edited (Err cause) old new edit text a h r k e = rw (k, e.0) (refused cause r e.1)
-
+-- the changes of lines are edits
 pub change_carried_out : (change : asked.Change) (old : State) (text : List ℕ) (new : State) → IsEdited old (change_of change) text new → IsCarriedOut old (change_meaning change) text new
 change_carried_out (lined.Define name tree) old text new h = h
 change_carried_out (lined.Data name tree) old text new h = h
 change_carried_out (lined.Cell name positions literal) old text new h = h
 change_carried_out (lined.Row name literal) old text new h = h
 change_carried_out (lined.Erase name) old text new h = h
+
+-- and can be opened
+pub opening_carried_out : (k : ℤ) (change : asked.Change) (old : State) (text : List ℕ) (new : State) → IsAsked old (desk.Open k (change_of change)) text new → IsCarriedOut old (Open k (change_meaning change)) text new
+opening_carried_out k (lined.Define name tree) old text new h = h
+opening_carried_out k (lined.Data name tree) old text new h = h
+opening_carried_out k (lined.Cell name positions literal) old text new h = h
+opening_carried_out k (lined.Row name literal) old text new h = h
+opening_carried_out k (lined.Erase name) old text new h = h
+
+-- an event of a desk, as a run keeps it
+pub asked_of : (d next : DeskValue) (event : desk.Event) (answer : desk.Answer) (text : List ℕ) → IsEvent d event answer next → IsPrintedFor answer text → IsAsked (state_of d) event text (state_of next)
+asked_of d next event answer text e t = record { before = d; after = next; answer = answer; event_is = e; before_is = refl; after_is = refl; text_is = t }
 
 pub answered_no_line : (old : State) (cs answer : List ℕ) → IsAnswered cs (Err Syntax) → answer ≡ codes "SYNTAX ERROR\n" → IsTextAnswer old cs answer old
 answered_no_line old cs answer h e = rw e (no_line h)

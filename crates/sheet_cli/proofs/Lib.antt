@@ -1,4 +1,5 @@
 pub mod EditLemmas
+pub mod OneEvent
 pub mod OneEdit
 pub mod OneAnswer
 pub mod AnswerLemmas

@@ -1,18 +1,20 @@
 -- A line has one answer, and leads to one state.
-use Rattle.std.proofs.Common.{◌≡◌, ℕ, ◌<◌, ◌≤◌, ◌⊎◌, inl, inr, List, length, Ok, Err, refl, sym, ap, subst, ◌∙◌, arith}
+use Rattle.std.proofs.Common.{◌≡◌, ℕ, ◌<◌, ◌≤◌, ◌⊎◌, inl, inr, ℤ, List, length, Option, Some, None, Ok, Err, refl, sym, ap, subst, ◌∙◌, arith}
 use Rattle.std.proofs.lemmas.List.{length-map}
 use Rattle.apl_tokens.specs.Scans.{Scans, SpannedLexeme, Fault, SyntaxAt, LimitAt}
 use Rattle.apl_tokens.proofs.Complete.{one_answer_of}
 use Rattle.apl_expr.specs.Limits.{most_tokens}
 use Rattle.apl_expr.specs.declared.fault.LineFault.TheVariants.{Syntax, Limit}
 use Rattle.apl_expr.specs.Grammar.{IsTooLarge}
-use Rattle.apl_expr.specs.Lines.{Meaning, Nothing, Define, Data, Cell, Row, Erase, Show, Names, Cost, Csv, IsLine, HasTree}
+use Rattle.apl_expr.specs.Lines.{Meaning, Nothing, Define, Data, Cell, Row, Erase, Show, Names, Cost, Csv, Open, Step, Commit, Drop, IsLine, HasTree}
 use Rattle.apl_expr.specs.Answers.{lexemes_of, IsAnswered, IsReadAs}
 use Rattle.apl_expr.proofs.Commands.{one_meaning_of}
 use Rattle.sheet_recalc.specs.Changes as change
-use Rattle.sheet_cli.specs.Answer.{State, IsCarriedOut, IsTextAnswer, no_line, too_large, carried_out, too_long, not_text, of_text}
+use Rattle.sheet_desk.specs.Desk as desk
+use Rattle.sheet_cli.specs.Answer.{State, change_meant, IsOpening, IsCarriedOut, IsTextAnswer, no_line, too_large, carried_out, too_long, not_text, of_text}
 use Rattle.sheet_cli.specs.Answers.{EachLineHasOneAnswer}
 use Rattle.sheet_cli.proofs.OneEdit.{edit_one}
+use Rattle.sheet_cli.proofs.OneEvent.{asked_one}
 
 module _ (cs : List ℕ) where
   tokens_one : (ts us : List SpannedLexeme) → Scans 0 cs (Ok ts) → Scans 0 cs (Ok us) → us ≡ ts
@@ -56,6 +58,10 @@ module _ (cs : List ℕ) where
   read_one : (m n : Meaning) → IsReadAs cs m → IsReadAs cs n → n ≡ m
   read_one m n a b = sym (one_meaning_of a.3 n (line_in a.0 b.0 n a.1 b.1 b.3))
 
+opening_one : (old : State) (k : ℤ) (edit : Option change.Change) (text₁ text₂ : List ℕ) (new₁ new₂ : State) → IsOpening old k edit text₁ new₁ → IsOpening old k edit text₂ new₂ → (text₁ ≡ text₂) × (new₁ ≡ new₂)
+opening_one old k None text₁ text₂ new₁ new₂ a b = absurd a
+opening_one old k (Some edit) text₁ text₂ new₁ new₂ a b = asked_one old (desk.Open k edit) text₁ text₂ new₁ new₂ a b
+
 carried_out_one : (old : State) (m : Meaning) (text₁ text₂ : List ℕ) (new₁ new₂ : State) → IsCarriedOut old m text₁ new₁ → IsCarriedOut old m text₂ new₂ → (text₁ ≡ text₂) × (new₁ ≡ new₂)
 carried_out_one old Nothing text₁ text₂ new₁ new₂ a b = (a.0 ∙ sym b.0, a.1 ∙ sym b.1)
 carried_out_one old (Define n t) text₁ text₂ new₁ new₂ a b = edit_one old (change.Define n t) text₁ text₂ new₁ new₂ a b
@@ -67,6 +73,10 @@ carried_out_one old (Show t) text₁ text₂ new₁ new₂ a b = (a.0 ∙ sym b.
 carried_out_one old Names text₁ text₂ new₁ new₂ a b = (a.0 ∙ sym b.0, a.1 ∙ sym b.1)
 carried_out_one old Cost text₁ text₂ new₁ new₂ a b = (a.0 ∙ sym b.0, a.1 ∙ sym b.1)
 carried_out_one old (Csv n) text₁ text₂ new₁ new₂ a b = (a.0 ∙ sym b.0, a.1 ∙ sym b.1)
+carried_out_one old (Open k m) text₁ text₂ new₁ new₂ a b = opening_one old k (change_meant m) text₁ text₂ new₁ new₂ a b
+carried_out_one old (Step k) text₁ text₂ new₁ new₂ a b = asked_one old (desk.Step k) text₁ text₂ new₁ new₂ a b
+carried_out_one old (Commit k) text₁ text₂ new₁ new₂ a b = asked_one old (desk.Commit k) text₁ text₂ new₁ new₂ a b
+carried_out_one old (Drop k) text₁ text₂ new₁ new₂ a b = asked_one old (desk.Drop k) text₁ text₂ new₁ new₂ a b
 
 text_one : (old : State) (cs text₁ text₂ : List ℕ) (new₁ new₂ : State) → IsTextAnswer old cs text₁ new₁ → IsTextAnswer old cs text₂ new₂ → (text₁ ≡ text₂) × (new₁ ≡ new₂)
 text_one old cs text₁ text₂ new₁ new₂ (no_line a) (no_line b) = (refl, refl)

@@ -1,10 +1,11 @@
 -- What one line is answered.
-use Rattle.std.specs.Prelude.{◌≡◌, ◌≢◌, ℕ, ◌<◌, ◌≤◌, nat_lt, Bool, false, List, [], ◌++◌, length, map, codes, decimal, Option, Some, None, Result, Ok, Err, if◌then◌else◌}
+use Rattle.std.specs.Prelude.{◌≡◌, ◌≢◌, ℕ, ℤ, ◌<◌, ◌≤◌, nat_lt, Bool, true, false, List, [], ◌++◌, length, map, codes, decimal, Option, Some, None, Result, Ok, Err, if◌then◌else◌}
 use Rattle.std.specs.List.{flat_map}
+use Rattle.std.specs.Option.{option_map}
 use Rattle.std.specs.Map.{keys_of}
 use Rattle.std.specs.Str.{IsUtf8, chars}
 use Rattle.apl_expr.specs.declared.fault.LineFault.TheVariants.{Syntax, Limit}
-use Rattle.apl_expr.specs.Lines.{Meaning, Nothing, Define, Data, Cell, Row, Erase, Show, Names, Cost, Csv}
+use Rattle.apl_expr.specs.Lines.{Meaning, Nothing, Define, Data, Cell, Row, Erase, Show, Names, Cost, Csv, Open, Step, Commit, Drop}
 use Rattle.apl_expr.specs.Answers.{IsAnswered, IsReadAs}
 use Rattle.arrays_core.specs.Arrays.{ArrayValue}
 use Rattle.arrays_core.specs.declared.fault.Fault.{Fault}
@@ -15,23 +16,41 @@ use Rattle.array_text.specs.Text.{line_end, item_number, array_text, fault_text}
 use Rattle.array_text.specs.Tables.{table_text}
 use Rattle.formula_core.specs.Meaning.{eval}
 use Rattle.sheet_recalc.specs.Names as sheet
-use Rattle.sheet_recalc.specs.Names.{SheetValue, Binding, binding}
+use Rattle.sheet_recalc.specs.Names.{Binding, binding}
 use Rattle.sheet_recalc.specs.Meaning.{val}
 use Rattle.sheet_recalc.specs.Changes.{Change, Accepts, Refuses}
 use Rattle.sheet_recalc.specs.Changes as change
 use Rattle.sheet_recalc.specs.Costs.{HasCost}
 use Rattle.sheet_recalc.specs.declared.refusal.Refusal.{Refusal}
 use Rattle.sheet_recalc.specs.declared.refusal.Refusal.TheVariants as why
+use Rattle.sheet_desk.specs.Desk as desk
+use Rattle.sheet_desk.specs.Desk.{SlotValue, DeskValue, IsEvent}
 use Rattle.sheet_cli.specs.Lines.{longest_line, strip_cr}
 
--- what a run keeps from line to line: names with what they are bound to, and the cost of the last change that was accepted
+-- a change that is open: whether another change was made since, and how many steps are left
+pub record OpenChange : Type 0 where
+  pub change : Change
+  pub is_stale : Bool
+  pub left : ℕ
+
+-- what a run keeps from line to line: names with what they are bound to, the cost of the last change that was accepted, and slots for changes
+-- that are open
 pub record State : Type 0 where
   pub names : sheet.Names
   pub cost : ℕ
+  pub slots : List (Option OpenChange)
 
--- what a run keeps in a sheet
-abbrev pub state_of : SheetValue → State
-state_of s = record { names = s.names; cost = s.cost }
+-- what a run keeps of a change that is open; no answer tells how many items were computed for it
+abbrev pub open_change : SlotValue → OpenChange
+open_change s = record { change = s.change; is_stale = s.is_stale; left = s.left }
+
+-- what a run keeps in a desk
+abbrev pub state_of : DeskValue → State
+state_of d = record { names = d.names; cost = d.cost; slots = map (option_map open_change) d.slots }
+
+-- another change was made
+abbrev pub as_stale : OpenChange → OpenChange
+as_stale o = record { change = o.change; is_stale = true; left = o.left }
 
 -- the line that a refusal prints
 abbrev pub refusal_text : Refusal → List ℕ
@@ -45,6 +64,10 @@ refusal_text why.Domain = codes "DOMAIN ERROR\n"
 refusal_text why.Limit = codes "LIMIT ERROR\n"
 refusal_text why.SheetFull = codes "SHEET FULL\n"
 refusal_text why.NoMemory = codes "NO MEMORY\n"
+refusal_text why.Stale = codes "STALE\n"
+refusal_text why.NotReady = codes "NOT READY\n"
+refusal_text why.NoSlot = codes "NO SLOT\n"
+refusal_text why.SlotInUse = codes "SLOT IN USE\n"
 refusal_text (why.Fault f) = fault_text f
 
 -- what a shown value prints, or its error
@@ -78,10 +101,46 @@ shown_table None shown = refusal_text why.NotFound
 shown_table (Some b) (Ok a) = array_table a
 shown_table (Some b) (Err f) = fault_text f
 
--- an edit is accepted, prints nothing and its cost is kept; or it is refused, not for want of memory, prints why and changes nothing
+-- what a refusal prints, for want of memory aside
+abbrev pub IsRefusalText : Refusal → List ℕ → Type 0
+IsRefusalText cause text = (text ≡ refusal_text cause) × (cause ≢ why.NoMemory)
+
+-- an edit is accepted, prints nothing, its cost is kept and all changes that are open are stale; or it is refused, not for want of memory,
+-- prints why and changes nothing
 pub data IsEdited : State → Change → List ℕ → State → Type 0 where
-  accepted : {old new : State} {edit : Change} → Accepts old.names edit new.names → HasCost old.names edit new.names new.cost → IsEdited old edit [] new
+  accepted : {old new : State} {edit : Change} → Accepts old.names edit new.names → HasCost old.names edit new.names new.cost → new.slots ≡ map (option_map as_stale) old.slots → IsEdited old edit [] new
   refused : {old : State} {edit : Change} (cause : Refusal) → Refuses old.names edit cause → cause ≢ why.NoMemory → IsEdited old edit (refusal_text cause) old
+
+-- what a desk answers to a line about a slot, as it is printed: nothing where the thing is done, how many steps are left, or why it is refused
+abbrev pub IsPrintedFor : desk.Answer → List ℕ → Type 0
+IsPrintedFor desk.Done text = text ≡ []
+IsPrintedFor (desk.Left n) text = text ≡ cost_text n
+IsPrintedFor (desk.Shown outcome) text = ⊥
+IsPrintedFor (desk.Refused cause) text = IsRefusalText cause text
+
+-- an event is answered this text by a desk that keeps the old state, and keeps the new one then, whatever was computed for its open changes
+pub record IsAsked (old : State) (event : desk.Event) (text : List ℕ) (new : State) : Type 0 where
+  pub before : DeskValue
+  pub after : DeskValue
+  pub answer : desk.Answer
+  pub event_is : IsEvent before event answer after
+  pub before_is : state_of before ≡ old
+  pub after_is : state_of after ≡ new
+  pub text_is : IsPrintedFor answer text
+
+-- the change that is meant, if it is one
+abbrev pub change_meant : Meaning → Option Change
+change_meant (Define n t) = Some (change.Define n t)
+change_meant (Data n t) = Some (change.Store n t)
+change_meant (Cell n ps l) = Some (change.SetCell n ps l)
+change_meant (Row n l) = Some (change.AddRow n l)
+change_meant (Erase n) = Some (change.Erase n)
+change_meant m = None
+
+-- this change is opened in the slot of a number
+abbrev pub IsOpening : State → ℤ → Option Change → List ℕ → State → Type 0
+IsOpening old k None text new = ⊥
+IsOpening old k (Some edit) text new = IsAsked old (desk.Open k edit) text new
 
 -- what a line means is carried out
 abbrev pub IsCarriedOut : State → Meaning → List ℕ → State → Type 0
@@ -95,6 +154,10 @@ IsCarriedOut old (Show t) text new = (text ≡ shown_text (eval t (val old.names
 IsCarriedOut old Names text new = (text ≡ names_text (keys_of old.names)) × (new ≡ old)
 IsCarriedOut old Cost text new = (text ≡ cost_text old.cost) × (new ≡ old)
 IsCarriedOut old (Csv n) text new = (text ≡ shown_table (binding old.names n) (val old.names n)) × (new ≡ old)
+IsCarriedOut old (Open k m) text new = IsOpening old k (change_meant m) text new
+IsCarriedOut old (Step k) text new = IsAsked old (desk.Step k) text new
+IsCarriedOut old (Commit k) text new = IsAsked old (desk.Commit k) text new
+IsCarriedOut old (Drop k) text new = IsAsked old (desk.Drop k) text new
 
 -- the answer to characters: they are no line, or too large a one, or what they mean is carried out
 pub data IsTextAnswer : State → List ℕ → List ℕ → State → Type 0 where

@@ -6,6 +6,6 @@ pub mod Run
 pub mod Devices
 pub mod Endings
 -- What proofs and bodies use.
-pub mod Edits
+pub mod Refusals
 pub mod Printed
 pub mod Progress

@@ -1,18 +1,22 @@
-//! What an edit prints.
+//! What an edit prints, and what a line about a slot.
 
-ghost use Rattle.std.specs.Prelude.{◌≡◌, IfOk, IsOk};
-ghost use Rattle.sheet_cli.specs.Edits.{IsRefusalText, IsEditText};
+ghost use Rattle.std.specs.Prelude.{◌≡◌, true, IfOk, IsOk, IfErr};
+ghost use Rattle.sheet_desk.specs.Asked.{count_answer, done_answer};
+ghost use Rattle.sheet_cli.specs.Answer.{IsRefusalText, IsPrintedFor};
+ghost use Rattle.sheet_cli.specs.Refusals.{is_always_there};
 ghost use Rattle.sheet_cli.specs.Printed.{printed_bytes};
 
+use crate::count_line::CountLine;
 use crate::printed::Printed;
 use array_text::print_fault;
 use sheet_recalc::Refusal;
 use std::alloc::{AllocError, Global};
 
-/// The text of an edit. Only that of one that was refused by an error of its expression needs memory.
+/// The text of what is done, or of the refusal in its place. Only that of an error of an expression needs memory.
 pub(crate) fn edit_text(alloc: Global, outcome: Result<(), Refusal>) -> Result<Printed, AllocError>
-    ensures text { IfOk result (λ text. IsEditText outcome (printed_bytes text)) }
-    ensures accepted { IsOk outcome → IsOk result }
+    ensures text { IfOk result (λ text. IsPrintedFor (done_answer outcome) (printed_bytes text)) }
+    ensures done { IsOk outcome → IsOk result }
+    ensures always { IfErr outcome (λ cause. is_always_there cause ≡ true → IsOk result) }
 {
     match outcome {
         Ok(()) => Ok(Printed::Fixed("")),
@@ -20,9 +24,24 @@ pub(crate) fn edit_text(alloc: Global, outcome: Result<(), Refusal>) -> Result<P
     }
 }
 
+/// The text of a count of steps, or of the refusal in its place.
+pub(crate) fn count_text(
+    alloc: Global,
+    outcome: Result<u32, Refusal>,
+) -> Result<Printed, AllocError>
+    ensures text { IfOk result (λ text. IsPrintedFor (count_answer outcome) (printed_bytes text)) }
+    ensures done { IsOk outcome → IsOk result }
+{
+    match outcome {
+        Ok(count) => Ok(Printed::Count(CountLine::new(u64::from(count)))),
+        Err(refusal) => refusal_text(alloc, &refusal),
+    }
+}
+
 /// The line that a refusal prints. For want of memory there is none.
 pub(crate) fn refusal_text(alloc: Global, refusal: &Refusal) -> Result<Printed, AllocError>
-    ensures { IfOk result (λ text. IsRefusalText refusal.now (printed_bytes text)) }
+    ensures text { IfOk result (λ text. IsRefusalText refusal.now (printed_bytes text)) }
+    ensures always { is_always_there refusal.now ≡ true → IsOk result }
 {
     match refusal {
         Refusal::Cycle(_) => Ok(Printed::Fixed("CYCLE\n")),
@@ -35,6 +54,10 @@ pub(crate) fn refusal_text(alloc: Global, refusal: &Refusal) -> Result<Printed, 
         Refusal::Limit => Ok(Printed::Fixed("LIMIT ERROR\n")),
         Refusal::SheetFull => Ok(Printed::Fixed("SHEET FULL\n")),
         Refusal::NoMemory => Err(AllocError),
+        Refusal::Stale => Ok(Printed::Fixed("STALE\n")),
+        Refusal::NotReady => Ok(Printed::Fixed("NOT READY\n")),
+        Refusal::NoSlot => Ok(Printed::Fixed("NO SLOT\n")),
+        Refusal::SlotInUse => Ok(Printed::Fixed("SLOT IN USE\n")),
         Refusal::Fault(fault) => Ok(Printed::Made(print_fault(alloc, fault)?)),
     }
 }

@@ -9,7 +9,7 @@ ghost use Rattle.sheet_cli.specs.Run.{Completes, BreaksOff, IsCut};
 use crate::answer::answer;
 use crate::device::{Failed, Sink, Source};
 use crate::line_buffer::OpenLine;
-use sheet_recalc::Sheet;
+use sheet_desk::Desk;
 use std::alloc::{AllocError, Global};
 
 /// What a run counted.
@@ -61,7 +61,7 @@ fn strip_bom(bytes: &[u8]) -> &[u8]
 /// Answers one line, and counts it.
 fn answer_line<W: Sink>(
     alloc: Global,
-    sheet: &mut Sheet,
+    desk: &mut Desk,
     sink: &mut W,
     tally: &mut Tally,
     line: &[u8],
@@ -71,13 +71,13 @@ fn answer_line<W: Sink>(
     ensures lines { tally.new.lines ≡ tally.old.lines + 1 }
     ensures refused { tally.new.refused_for_memory ≤ tally.old.refused_for_memory + 1 }
     ensures ok { OnOk result ((text : List ℕ) × Appends (W.written sink.old) (W.written sink.new) text
-        × AnswersLine (state_of sheet.old) line.now tally.old.refused_for_memory tally.new.refused_for_memory text (state_of sheet.new)) }
+        × AnswersLine (state_of desk.old) line.now tally.old.refused_for_memory tally.new.refused_for_memory text (state_of desk.new)) }
     ensures err { OnErr result ((part : List ℕ) × (unwritten : List ℕ) × Appends (W.written sink.old) (W.written sink.new) part
-        × AnswersLine (state_of sheet.old) line.now tally.old.refused_for_memory tally.new.refused_for_memory (part ++ unwritten) (state_of sheet.new)) }
+        × AnswersLine (state_of desk.old) line.now tally.old.refused_for_memory tally.new.refused_for_memory (part ++ unwritten) (state_of desk.new)) }
     ensures fault { OnErr result (W.has_failed sink.new ≡ true) }
 {
     tally.lines += 1;
-    match answer(alloc, sheet, line) {
+    match answer(alloc, desk, line) {
         Ok(text) => put_all(sink, text.as_bytes()),
         Err(AllocError) => {
             tally.refused_for_memory += 1;
@@ -136,7 +136,7 @@ fn find_line_feed(bytes: &[u8]) -> Option<usize>
 /// Answers the line that an LF ends.
 fn end_line<W: Sink>(
     alloc: Global,
-    sheet: &mut Sheet,
+    desk: &mut Desk,
     sink: &mut W,
     progress: &mut Progress,
 ) -> Result<(), Failed>
@@ -145,13 +145,13 @@ fn end_line<W: Sink>(
     ensures lines { progress.new.tally.lines ≡ progress.old.tally.lines + 1 }
     ensures refused { progress.new.tally.refused_for_memory ≤ progress.old.tally.refused_for_memory + 1 }
     ensures ok { OnOk result ((text : List ℕ) × Appends (W.written sink.old) (W.written sink.new) text
-        × Feeds (10 ∷ []) (standing progress.old.open_line progress.old.tally (state_of sheet.old)) text (standing progress.new.open_line progress.new.tally (state_of sheet.new))) }
+        × Feeds (10 ∷ []) (standing progress.old.open_line progress.old.tally (state_of desk.old)) text (standing progress.new.open_line progress.new.tally (state_of desk.new))) }
     ensures err { OnErr result ((text : List ℕ) × Appends (W.written sink.old) (W.written sink.new) text
-        × StopsIn (10 ∷ []) (standing progress.old.open_line progress.old.tally (state_of sheet.old)) text (state_of sheet.new)) }
+        × StopsIn (10 ∷ []) (standing progress.old.open_line progress.old.tally (state_of desk.old)) text (state_of desk.new)) }
     ensures fault { OnErr result (W.has_failed sink.new ≡ true) }
 {
     let line = line_of(&progress.open_line, progress.tally.lines);
-    answer_line(alloc, sheet, sink, &mut progress.tally, line)?;
+    answer_line(alloc, desk, sink, &mut progress.tally, line)?;
     progress.open_line.clear();
     Ok(())
 }
@@ -159,7 +159,7 @@ fn end_line<W: Sink>(
 /// Takes the next bytes of the input up to an LF and with it, or all, and says how many it took.
 fn take_piece<W: Sink>(
     alloc: Global,
-    sheet: &mut Sheet,
+    desk: &mut Desk,
     sink: &mut W,
     progress: &mut Progress,
     bytes: &[u8],
@@ -170,9 +170,9 @@ fn take_piece<W: Sink>(
     ensures lines { IfOk result (λ n. progress.new.tally.lines ≤ progress.old.tally.lines + n) }
     ensures refused { IfOk result (λ n. progress.new.tally.refused_for_memory ≤ progress.old.tally.refused_for_memory + n) }
     ensures ok { IfOk result (λ n. (text : List ℕ) × Appends (W.written sink.old) (W.written sink.new) text
-        × Feeds (take n bytes.now) (standing progress.old.open_line progress.old.tally (state_of sheet.old)) text (standing progress.new.open_line progress.new.tally (state_of sheet.new))) }
+        × Feeds (take n bytes.now) (standing progress.old.open_line progress.old.tally (state_of desk.old)) text (standing progress.new.open_line progress.new.tally (state_of desk.new))) }
     ensures err { OnErr result ((text : List ℕ) × Appends (W.written sink.old) (W.written sink.new) text
-        × StopsIn bytes.now (standing progress.old.open_line progress.old.tally (state_of sheet.old)) text (state_of sheet.new)) }
+        × StopsIn bytes.now (standing progress.old.open_line progress.old.tally (state_of desk.old)) text (state_of desk.new)) }
     ensures fault { OnErr result (W.has_failed sink.new ≡ true) }
 {
     let Some(end) = find_line_feed(bytes) else {
@@ -180,14 +180,14 @@ fn take_piece<W: Sink>(
         return Ok(bytes.len());
     };
     progress.open_line.append(&bytes[..end]);
-    end_line(alloc, sheet, sink, progress)?;
+    end_line(alloc, desk, sink, progress)?;
     Ok(end + 1)
 }
 
 /// Takes the next bytes of the input, and answers the lines that they end.
 fn take_bytes<W: Sink>(
     alloc: Global,
-    sheet: &mut Sheet,
+    desk: &mut Desk,
     sink: &mut W,
     progress: &mut Progress,
     bytes: &[u8],
@@ -197,14 +197,14 @@ fn take_bytes<W: Sink>(
     ensures lines { OnOk result (progress.new.tally.lines ≤ progress.old.tally.lines + length bytes.now) }
     ensures refused { OnOk result (progress.new.tally.refused_for_memory ≤ progress.old.tally.refused_for_memory + length bytes.now) }
     ensures ok { OnOk result ((text : List ℕ) × Appends (W.written sink.old) (W.written sink.new) text
-        × Feeds bytes.now (standing progress.old.open_line progress.old.tally (state_of sheet.old)) text (standing progress.new.open_line progress.new.tally (state_of sheet.new))) }
+        × Feeds bytes.now (standing progress.old.open_line progress.old.tally (state_of desk.old)) text (standing progress.new.open_line progress.new.tally (state_of desk.new))) }
     ensures err { OnErr result ((text : List ℕ) × Appends (W.written sink.old) (W.written sink.new) text
-        × StopsIn bytes.now (standing progress.old.open_line progress.old.tally (state_of sheet.old)) text (state_of sheet.new)) }
+        × StopsIn bytes.now (standing progress.old.open_line progress.old.tally (state_of desk.old)) text (state_of desk.new)) }
     ensures fault { OnErr result (W.has_failed sink.new ≡ true) }
 {
     let mut rest = bytes;
     while !rest.is_empty() {
-        let n = take_piece(alloc, sheet, sink, progress, rest)?;
+        let n = take_piece(alloc, desk, sink, progress, rest)?;
         rest = &rest[n..];
     }
     Ok(())
@@ -213,42 +213,42 @@ fn take_bytes<W: Sink>(
 /// Answers a last line without LF.
 fn answer_last<W: Sink>(
     alloc: Global,
-    sheet: &mut Sheet,
+    desk: &mut Desk,
     sink: &mut W,
     progress: &mut Progress,
 ) -> Result<(), Failed>
     requires lines { progress.old.tally.lines < u64.MAX }
     requires refused { progress.old.tally.refused_for_memory < u64.MAX }
     ensures ok { OnOk result ((text : List ℕ) × Appends (W.written sink.old) (W.written sink.new) text
-        × Finishes (standing progress.old.open_line progress.old.tally (state_of sheet.old)) text progress.new.tally (state_of sheet.new)) }
+        × Finishes (standing progress.old.open_line progress.old.tally (state_of desk.old)) text progress.new.tally (state_of desk.new)) }
     ensures err { OnErr result ((text : List ℕ) × Appends (W.written sink.old) (W.written sink.new) text
-        × StopsAtEnd (standing progress.old.open_line progress.old.tally (state_of sheet.old)) text (state_of sheet.new)) }
+        × StopsAtEnd (standing progress.old.open_line progress.old.tally (state_of desk.old)) text (state_of desk.new)) }
     ensures fault { OnErr result (W.has_failed sink.new ≡ true) }
 {
     let line = line_of(&progress.open_line, progress.tally.lines);
     if line.is_empty() {
         return Ok(());
     }
-    answer_line(alloc, sheet, sink, &mut progress.tally, line)
+    answer_line(alloc, desk, sink, &mut progress.tally, line)
 }
 
 /// Answers a last line without LF, and flushes.
 fn finish<W: Sink>(
     alloc: Global,
-    sheet: &mut Sheet,
+    desk: &mut Desk,
     sink: &mut W,
     progress: &mut Progress,
 ) -> Result<(), Failed>
     requires lines { progress.old.tally.lines < u64.MAX }
     requires refused { progress.old.tally.refused_for_memory < u64.MAX }
     ensures ok { OnOk result ((text : List ℕ) × Appends (W.written sink.old) (W.written sink.new) text
-        × Finishes (standing progress.old.open_line progress.old.tally (state_of sheet.old)) text progress.new.tally (state_of sheet.new)) }
+        × Finishes (standing progress.old.open_line progress.old.tally (state_of desk.old)) text progress.new.tally (state_of desk.new)) }
     ensures err { OnErr result ((text : List ℕ) × Appends (W.written sink.old) (W.written sink.new) text
-        × StopsAtEnd (standing progress.old.open_line progress.old.tally (state_of sheet.old)) text (state_of sheet.new)) }
+        × StopsAtEnd (standing progress.old.open_line progress.old.tally (state_of desk.old)) text (state_of desk.new)) }
     ensures fault { OnErr result (W.has_failed sink.new ≡ true) }
     ensures flushed { OnOk result (W.is_flushed sink.new ≡ true) }
 {
-    answer_last(alloc, sheet, sink, progress)?;
+    answer_last(alloc, desk, sink, progress)?;
     sink.flush()
 }
 
@@ -259,18 +259,18 @@ const CHUNK: usize = 4096;
 /// flushes it at the end.
 pub fn run<R: Source, W: Sink>(
     alloc: Global,
-    sheet: &mut Sheet,
+    desk: &mut Desk,
     source: &mut R,
     sink: &mut W,
 ) -> Result<Tally, RunFault>
     ensures ok { IfOk result (λ tally. Completes (R.remaining source.old) (R.remaining source.new) (W.written sink.old) (W.written sink.new)
-        (state_of sheet.old) (state_of sheet.new) tally) }
+        (state_of desk.old) (state_of desk.new) tally) }
     ensures flushed { OnOk result (W.is_flushed sink.new ≡ true) }
-    ensures memory { IsErrOf result RunFault.Memory → (source.new ≡ source.old) × (sink.new ≡ sink.old) × (sheet.new ≡ sheet.old) }
+    ensures memory { IsErrOf result RunFault.Memory → (source.new ≡ source.old) × (sink.new ≡ sink.old) × (desk.new ≡ desk.old) }
     ensures read { IsErrOf result RunFault.Read → BreaksOff (R.remaining source.old) (R.remaining source.new) (W.written sink.old) (W.written sink.new)
-        (R.has_failed source.new) (state_of sheet.old) (state_of sheet.new) }
+        (R.has_failed source.new) (state_of desk.old) (state_of desk.new) }
     ensures write { IsErrOf result RunFault.Write → IsCut (R.remaining source.old) (R.remaining source.new) (W.written sink.old) (W.written sink.new)
-        (W.has_failed sink.new) (state_of sheet.old) (state_of sheet.new) }
+        (W.has_failed sink.new) (state_of desk.old) (state_of desk.new) }
 {
     let Ok(mut progress) = Progress::new(alloc) else {
         return Err(RunFault::Memory);
@@ -284,13 +284,13 @@ pub fn run<R: Source, W: Sink>(
             return Err(RunFault::Read);
         };
         if n == 0 {
-            let Ok(()) = finish(alloc, sheet, sink, &mut progress) else {
+            let Ok(()) = finish(alloc, desk, sink, &mut progress) else {
                 return Err(RunFault::Write);
             };
             return Ok(progress.tally);
         }
         bytes_read += n as u64;
-        let Ok(()) = take_bytes(alloc, sheet, sink, &mut progress, &into[..n]) else {
+        let Ok(()) = take_bytes(alloc, desk, sink, &mut progress, &into[..n]) else {
             return Err(RunFault::Write);
         };
     }

@@ -21,7 +21,8 @@ use Rattle.sheet_recalc.specs.Names.{Names, Binding}
 use Rattle.sheet_recalc.specs.Costs.{IsNodeCost}
 use Rattle.sheet_recalc.specs.Live.{IsPlanned, plan_in}
 use Rattle.sheet_recalc.specs.ProposedSheet.{Outline, own_entry, proposed_names, proposed_change, proposed_cost, entry_of}
-use Rattle.sheet_recalc.specs.Planning.{IsProposed, IsAffected, IsPlanAt, IsUnderWay, IsPlanning, AllWait, IsComingTo, IsComing, IsOnTheWay, waiting_names, functions_of, functions_at, name_cost, names_cost}
+use Rattle.sheet_recalc.specs.Costs.{functions_of}
+use Rattle.sheet_recalc.specs.Planning.{IsProposed, IsAffected, IsPlanAt, IsUnderWay, IsPlanning, AllWait, IsComingTo, IsComing, IsOnTheWay, waiting_names, functions_at, name_cost, names_cost}
 use Rattle.sheet_recalc.specs.declared.entry.Entry.TheVariants as entry
 use Rattle.sheet_recalc.specs.declared.plans.Plans.{Plans}
 use Rattle.sheet_recalc.proofs.Accounted.{few_ticks}

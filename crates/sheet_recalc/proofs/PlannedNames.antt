@@ -1,5 +1,5 @@
 -- What a plan makes of a formula makes the name show what it is to show.
-use Rattle.std.proofs.Common.{◌≡◌, ℕ, zero, suc, ◌<◌, ◌-◌, Bool, true, false, List, [], ◌∷◌, ◌++◌, length, map, get_or, Option, Some, None, Result, Ok, Err, IfOk, refl, sym, ap, ◌∙◌, subst, arith, ⊎_elim}
+use Rattle.std.proofs.Common.{◌≡◌, ℕ, zero, suc, ◌<◌, ◌-◌, Bool, true, false, List, [], ◌∷◌, ◌++◌, length, map, get_or, Option, Some, None, IsSome, Result, Ok, Err, IfOk, refl, sym, ap, ◌∙◌, subst, arith, ⊎_elim}
 use Rattle.std.specs.Borrow.{Bor}
 use Rattle.std.specs.Str.{bytes_eq}
 use Rattle.std.specs.Map.{lookup}
@@ -39,8 +39,8 @@ use Rattle.sheet_recalc.specs.Meaning.{with_origin, in_formula, shown, val}
 use Rattle.sheet_recalc.specs.Costs.{origin_delta, delta_by, binding_cost}
 use Rattle.sheet_recalc.specs.Entries.{names_of, binding_of}
 use Rattle.sheet_recalc.specs.Live.{IsRight}
-use Rattle.sheet_recalc.specs.ProposedSheet.{Outline, data_entry, proposed_entry, own_entry, proposed_names, proposed_delta, proposed_change, entry_of}
-use Rattle.sheet_recalc.specs.Planning.{IsProposed, IsPlanAt, IsUntouched, NeedsNoPlan, IsProposalAt, name_cost}
+use Rattle.sheet_recalc.specs.ProposedSheet.{Outline, is_data, data_entry, proposed_entry, own_entry, proposed_names, proposed_delta, proposed_change, entry_of}
+use Rattle.sheet_recalc.specs.Planning.{IsProposed, IsPlanAt, ArePlans, IsDone, IsUntouched, NeedsNoPlan, IsProposalAt, name_cost}
 use Rattle.sheet_recalc.specs.declared.entry.Entry.{Entry}
 use Rattle.sheet_recalc.specs.declared.entry.Entry.TheVariants as entry
 use Rattle.sheet_recalc.specs.declared.proposal.Proposal.{Proposal}
@@ -211,6 +211,14 @@ module _ (o : Outline) where
           by (proposed.Data d) is = absurd (no_formula (applied d (val old o.name)) f is)
           by proposed.Removed is = refl
 
+      own_no_data : bytes_eq q o.name ≡ true → is_data o.proposal ≡ false
+      own_no_data same = by o.proposal (entry_own q (Some (entry.Formula f)) same held)
+        where
+          by : (s : Proposal) → proposed_entry (val old o.name) s ≡ Some (entry.Formula f) → is_data s ≡ false
+          by (proposed.Formula g) is = refl
+          by (proposed.Data d) is = absurd (no_formula (applied d (val old o.name)) f is)
+          by proposed.Removed is = refl
+
       pub formula_old : bytes_eq q o.name ≡ false → IsRight (val old) q (entry.Formula f)
       formula_old other = ready.current q (entry.Formula f) (entry_other q (Some (entry.Formula f)) other held)
 
@@ -311,7 +319,7 @@ module _ (o : Outline) where
         planned_sound before after = record { old = by (bytes_eq q o.name) refl; new = subst (λ r. IfOk r IsArray) planned_shows (origin_sound q (applied root_delta root) after) }
           where
             by : (t : Bool) → bytes_eq q o.name ≡ t → IfOk (val old q) IsArray
-            by true is = subst (λ x. IfOk (val old x) IsArray) (sym (equal-true q o.name is)) ready.sound
+            by true is = subst (λ x. IfOk (val old x) IsArray) (sym (equal-true q o.name is)) (ready.sound (own_no_data is))
             by false is = subst (λ r. IfOk r IsArray) (formula_old is).1 (origin_sound q root before)
 
         pub planned_input : (i : Input) → IsInput (with_origin q (applied root_delta root)) (origin_delta q root_delta) i → IsInput (val new q) (c.delta q) i
@@ -360,8 +368,8 @@ module _ (o : Outline) where
         fit = subst (λ e. FitsIn e (val old o.name)) data_delta data_fits;
       }
 
-      pub data_sound : IfOk (applied d (val old o.name)) IsArray → IsNameSound c o.name
-      data_sound after = record { old = ready.sound; new = subst (λ r. IfOk r IsArray) data_shows after }
+      pub data_sound : IfOk (val old o.name) IsArray → IfOk (applied d (val old o.name)) IsArray → IsNameSound c o.name
+      data_sound before after = record { old = before; new = subst (λ r. IfOk r IsArray) data_shows after }
 
     module _ (is : o.proposal ≡ proposed.Removed) where
       none_shows : val new o.name ≡ Err (fault Value)
@@ -384,7 +392,22 @@ module _ (o : Outline) where
       }
 
       pub none_sound : IsNameSound c o.name
-      none_sound = record { old = ready.sound; new = subst (λ r. IfOk r IsArray) (sym none_shows) tt }
+      none_sound = record { old = ready.sound (ap is_data is); new = subst (λ r. IfOk r IsArray) (sym none_shows) tt }
+
+-- the name under which data is put needs no plan
+pub data_needs_none : (o : Outline) (plans : List ℕ → Option PlanValue) → is_data o.proposal ≡ true → ArePlans o plans → IsDone o plans o.name → NeedsNoPlan o o.name
+data_needs_none o plans is_put are done = ⊎_elim (λ some. absurd (planned (plans o.name) refl some)) (λ none. none) done
+  where
+    formula : (s : Proposal) (f : FormulaValue) → is_data s ≡ true → proposed_entry (val (names_of o.entries) o.name) s ≡ Some (entry.Formula f) → ⊥
+    formula (proposed.Formula g) f is h = false≢true is
+    formula (proposed.Data d) f is h = no_formula (applied d (val (names_of o.entries) o.name)) f h
+    formula proposed.Removed f is h = false≢true is
+
+    planned : (p : Option PlanValue) → plans o.name ≡ p → IsSome p → ⊥
+    planned None is some = false≢true some
+    planned (Some p) is some =
+        let at = are o.name p is in
+        formula o.proposal at.formula is_put (entry_own o o.name (Some (entry.Formula at.formula)) (equal-same o.name o.name refl) at.held)
 
 -- the plan of a name is one of the formula that stands there
 pub plan_now : (o : Outline) (q : List ℕ) (p : PlanValue) (f : FormulaValue) → IsPlanAt o q p → entry_of o q ≡ Some (entry.Formula f) → IsPlanOf f p × IsPlanned f (proposed_change o) p

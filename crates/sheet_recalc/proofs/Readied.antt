@@ -1,5 +1,5 @@
 -- A change is ready to be planned, its plans cost what it costs, and the sheet can be so.
-use Rattle.std.proofs.Common.{◌≡◌, ◌≤◌, ℕ, List, [], length, Option, Some, None, Ok, Err, IfOk, subst, refl, arith, ◌⊎◌}
+use Rattle.std.proofs.Common.{◌≡◌, ◌≤◌, false, ℕ, List, [], length, Option, Some, None, Ok, Err, IfOk, subst, refl, arith, ◌⊎◌}
 use Rattle.std.specs.Str.{bytes_eq}
 use Rattle.std.specs.List.{Contains, IsDistinct}
 use Rattle.std.specs.Map.{keys_of}
@@ -14,9 +14,10 @@ use Rattle.index_region.specs.declared.delta.Delta.{Delta}
 use Rattle.sheet_recalc.specs.Names.{Names, Binding, rebound, referred, Refers, most_names}
 use Rattle.sheet_recalc.specs.Meaning.{val}
 use Rattle.sheet_recalc.specs.Changes.{HasRoom}
+use Rattle.sheet_recalc.specs.Costs.{AreAllThatReach}
 use Rattle.sheet_recalc.specs.Entries.{names_of, binding_of}
 use Rattle.sheet_recalc.specs.Live.{IsLive}
-use Rattle.sheet_recalc.specs.ProposedSheet.{Outline, data_entry, proposed_entry, proposed_references, own_entry, proposed_names, proposed_change, proposed_delta, proposed_cost}
+use Rattle.sheet_recalc.specs.ProposedSheet.{Outline, is_data, data_entry, proposed_entry, proposed_references, own_entry, proposed_names, proposed_change, proposed_delta, proposed_cost}
 use Rattle.sheet_recalc.specs.Planning.{IsProposed, IsProposalAt, IsAffected, names_cost, CanBe}
 use Rattle.sheet_recalc.specs.declared.proposal.Proposal.{Proposal}
 use Rattle.sheet_recalc.specs.declared.proposal.Proposal.TheVariants as proposed
@@ -24,7 +25,7 @@ use Rattle.sheet_recalc.proofs.Keeping.{name_order, distinct_once}
 use Rattle.sheet_recalc.proofs.Putting.{distinct_put}
 use Rattle.sheet_recalc.proofs.Removing.{distinct_others, few_others}
 use Rattle.sheet_recalc.proofs.Refused.{few_put}
-use Rattle.sheet_recalc.proofs.Rebound.{has_order, acyclic, settled, closed_new, shown_still}
+use Rattle.sheet_recalc.proofs.Rebound.{has_order, acyclic, settled, closed_new, all_that_reach, shown_still}
 use Rattle.sheet_recalc.proofs.Deltas.{delta_is, delta_unreached}
 use Rattle.sheet_recalc.proofs.Sums.{cost_found}
 
@@ -65,7 +66,7 @@ module _ {S : Type 0} (o : Outline) (users : List (List ℕ × IndexSet (List �
   pub ready_acyclic : IsAcyclic (Refers new)
   ready_acyclic = acyclic o.entries users live o.name b found closed named sound distinct none
 
-  pub ready_proposed : IsProposalAt o.entries o.name o.proposal → IfOk (val (names_of o.entries) o.name) IsArray → IsProposed o
+  pub ready_proposed : IsProposalAt o.entries o.name o.proposal → (is_data o.proposal ≡ false → IfOk (val (names_of o.entries) o.name) IsArray) → IsProposed o
   ready_proposed proposal is_sound =
       let order = has_order o.entries users live o.name b found closed named sound distinct none in
       record {
@@ -87,6 +88,9 @@ module _ {S : Type 0} (o : Outline) (users : List (List ℕ × IndexSet (List �
           same = delta_unreached (names_of o.entries) new o.name own found follows named q outside;
         };
       }
+
+  pub ready_all : AreAllThatReach new o.name found
+  ready_all = all_that_reach o.entries users live o.name b found closed named sound distinct none
 
   pub ready_cost : proposed_cost o ≡ names_cost o found
   ready_cost =

@@ -7,6 +7,7 @@ use Rattle.dep_order.specs.Reachability.{Chain, Reaches, IsAcyclic}
 use Rattle.std.specs.Option.{option_map_or}
 use Rattle.sheet_recalc.specs.Names.{Names, Binding, Data, Formula, binding, rebound, Refers, referred, referred_by, IsSheet}
 use Rattle.sheet_recalc.specs.Meaning.{val, IsSettled}
+use Rattle.sheet_recalc.specs.Costs.{AreAllThatReach}
 use Rattle.sheet_recalc.specs.Entries.{names_of}
 use Rattle.sheet_recalc.specs.Live.{IsLive, IsCurrent, IsTable}
 use Rattle.sheet_recalc.specs.ProposedSheet.{IsReaching}
@@ -16,7 +17,7 @@ use Rattle.sheet_recalc.specs.NameOrder.{IsKeptOrder, HasOrder}
 use Rattle.sheet_recalc.specs.declared.entry.Entry.{Entry}
 use Rattle.sheet_recalc.proofs.Binding.{rebound_same, rebound_own}
 use Rattle.sheet_recalc.proofs.Scratch.{val_is, acyclic_from_order}
-use Rattle.dep_order.proofs.Following.{contains_none, follows_weaker}
+use Rattle.dep_order.proofs.Following.{contains_none, follows_weaker, follows_has}
 use Rattle.sheet_recalc.proofs.Keeping.{cases_name, distinct_once, name_order, kept_order, unaffected}
 
 -- what a name refers to
@@ -91,6 +92,18 @@ module _ {S : Type 0} (es : List (List ℕ × Entry)) (users : List (List ℕ ×
     closed_new = follows_weaker (λ x y. Refers old y x) (λ x y. Refers new y x) (λ x. ⊥) (λ x. ⊥) found
         (λ x y c r. cases_name (Refers old y x) name y (λ e. absurd (free x (subst (λ z. Refers new z x) e r) c)) (λ apart. (r.0, sym (same y apart) ∙ r.1, r.2)))
         (λ x d. d) closed_old
+
+    -- what reaches the name is found
+    reached : (q : List ℕ) (via : List (List ℕ)) → Chain (Refers new) q via name → Contains found q
+    reached q [] refers = ⊎_elim (λ none. absurd none) (λ c. c) (follows_has (λ x y. Refers new y x) (λ x. ⊥) found name q closed_new named refers)
+    reached q (x ∷ via) chain = ⊎_elim (λ none. absurd none) (λ c. c) (follows_has (λ x y. Refers new y x) (λ x. ⊥) found x q closed_new (reached x via chain.1) chain.0)
+
+    -- these are the name and all that reach it
+    pub all_that_reach : AreAllThatReach new name found
+    all_that_reach = record {
+      once = distinct;
+      exact = λ q. (reaching_new.leads q, ⊎_elim (λ (e : q ≡ name). subst (λ x. Contains found x) (sym e) named) (λ (r : Reaches (Refers new) q name). reached q r.0 r.1));
+    }
 
     -- what is not found shows what it did
     pub shown_still : (q : List ℕ) → (Contains found q → ⊥) → val new q ≡ val old q

@@ -38,6 +38,10 @@ refused_define names name t why.Index h = h
 refused_define names name t why.Domain h = h
 refused_define names name t why.Limit h = h
 refused_define names name t (why.Fault e) h = h
+refused_define names name t why.Stale h = absurd h
+refused_define names name t why.NotReady h = absurd h
+refused_define names name t why.NoSlot h = absurd h
+refused_define names name t why.SlotInUse h = absurd h
 
 -- a binding in which no name stands makes no cycle
 never_cycle : (names : Names) (name : List ℕ) (b : Option Binding) → option_map_or referred b [] ≡ [] → IsAcyclic (Refers names) → (cycle : List (List ℕ)) → IsCycleFrom (Refers (rebound names name b)) name cycle → ⊥
@@ -56,6 +60,10 @@ refused_put names name a acyclic why.Index h = h
 refused_put names name a acyclic why.Domain h = h
 refused_put names name a acyclic why.Limit h = h
 refused_put names name a acyclic (why.Fault e) h = absurd h
+refused_put names name a acyclic why.Stale h = absurd h
+refused_put names name a acyclic why.NotReady h = absurd h
+refused_put names name a acyclic why.NoSlot h = absurd h
+refused_put names name a acyclic why.SlotInUse h = absurd h
 
 -- a name that is present is removed without a refusal but for want of memory
 pub refused_erase : (names : Names) (name : List ℕ) → IsAcyclic (Refers names) → IsSome (binding names name) → (cause : Refusal) → CannotBecome names (without names name) name cause → Refuses names (Erase name) cause
@@ -70,6 +78,10 @@ refused_erase names name acyclic present why.Index h = h
 refused_erase names name acyclic present why.Domain h = h
 refused_erase names name acyclic present why.Limit h = h
 refused_erase names name acyclic present (why.Fault e) h = absurd h
+refused_erase names name acyclic present why.Stale h = absurd h
+refused_erase names name acyclic present why.NotReady h = absurd h
+refused_erase names name acyclic present why.NoSlot h = absurd h
+refused_erase names name acyclic present why.SlotInUse h = absurd h
 
 pub refused_data : (names : Names) (name : List ℕ) (t : Tree) (a : ArrayValue) → eval t (val names) ≡ Ok a → (cause : Refusal) → Refuses names (Put name a) cause → Refuses names (Store name t) cause
 refused_data names name t a is why.SheetFull h = (a, is, h)
@@ -83,6 +95,10 @@ refused_data names name t a is why.Index h = h
 refused_data names name t a is why.Domain h = h
 refused_data names name t a is why.Limit h = h
 refused_data names name t a is (why.Fault e) h = absurd h
+refused_data names name t a is why.Stale h = absurd h
+refused_data names name t a is why.NotReady h = absurd h
+refused_data names name t a is why.NoSlot h = absurd h
+refused_data names name t a is why.SlotInUse h = absurd h
 
 -- a name that is present is bound to an array without a refusal but for want of memory
 pub only_memory : (names : Names) (name : List ℕ) (a : ArrayValue) → IsSome (binding names name) → (cause : Refusal) → Refuses names (Put name a) cause → cause ≡ why.NoMemory
@@ -97,6 +113,10 @@ only_memory names name a present why.Index h = absurd h
 only_memory names name a present why.Domain h = absurd h
 only_memory names name a present why.Limit h = absurd h
 only_memory names name a present (why.Fault e) h = absurd h
+only_memory names name a present why.Stale h = absurd h
+only_memory names name a present why.NotReady h = absurd h
+only_memory names name a present why.NoSlot h = absurd h
+only_memory names name a present why.SlotInUse h = absurd h
 
 -- a cell was edited, so its name is present
 pub cell_present : (b : Option Binding) (positions : List ℤ) (literal : Literal) (a : ArrayValue) → cell_put b positions literal ≡ Ok a → IsSome b

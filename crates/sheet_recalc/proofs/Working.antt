@@ -23,7 +23,8 @@ use Rattle.sheet_recalc.specs.Costs.{delta_by, binding_cost}
 use Rattle.sheet_recalc.specs.Entries.{names_of, binding_of, adopting}
 use Rattle.sheet_recalc.specs.Live.{IsRight, IsPlanned, CanAdopt}
 use Rattle.sheet_recalc.specs.ProposedSheet.{Outline, proposed_names, proposed_change, own_entry, entry_of}
-use Rattle.sheet_recalc.specs.Planning.{IsProposed, IsAffected, IsUntouched, IsPlanAt, NeedsNoPlan, IsDone, IsUnderWay, name_cost, names_cost, functions_of, functions_at}
+use Rattle.sheet_recalc.specs.Planning.{IsProposed, IsAffected, IsUntouched, IsPlanAt, NeedsNoPlan, IsDone, IsUnderWay, name_cost, names_cost, functions_at}
+use Rattle.sheet_recalc.specs.Costs.{functions_of}
 use Rattle.sheet_recalc.specs.declared.entry.Entry.{Entry}
 use Rattle.sheet_recalc.specs.declared.entry.Entry.TheVariants as entry
 use Rattle.sheet_recalc.proofs.NameEquality.{equal-true, equal-same}

@@ -1,7 +1,9 @@
 -- What a change changes of each name, and what it costs.
-use Rattle.std.specs.Prelude.{◌≡◌, ◌+◌, ◌<◌, ℕ, zero, suc, List, [], ◌∷◌, map, length, true, Option, Some, Ok, Err, if◌then◌else◌}
+use Rattle.std.specs.Prelude.{◌≡◌, ◌⊎◌, ◌↔◌, ◌+◌, ◌<◌, ℕ, zero, suc, List, [], ◌∷◌, map, length, true, Option, Some, Ok, Err, if◌then◌else◌}
 use Rattle.std.specs.Str.{bytes_eq}
-use Rattle.std.specs.List.{sum_by}
+use Rattle.std.specs.List.{Contains, IsDistinct, sum_by}
+use Rattle.std.specs.Option.{option_map_or}
+use Rattle.dep_order.specs.Reachability.{Reaches}
 use Rattle.arrays_core.specs.declared.item.Item.{Item}
 use Rattle.arrays_core.specs.Items.{type_of}
 use Rattle.index_region.specs.declared.delta.Delta.{Delta}
@@ -9,11 +11,12 @@ use Rattle.index_region.specs.declared.delta.Delta.TheVariants.{Same, Patch, Gro
 use Rattle.index_region.specs.Patches.{PatchValue}
 use Rattle.change_core.specs.Meters.{ticked}
 use Rattle.formula_core.specs.Changes as formula
+use Rattle.formula_core.specs.Formulas.{operations}
 use Rattle.formula_core.specs.Outcomes.{Outcome}
 use Rattle.apl_expr.specs.Trees.{Tree}
 use Rattle.formula_core.specs.Plans.{tree_cost, node_cost_at}
 use Rattle.formula_core.specs.Tables.{subtrees, tree_at}
-use Rattle.sheet_recalc.specs.Names.{Names, Binding, Data, Formula, binding}
+use Rattle.sheet_recalc.specs.Names.{Names, Binding, Data, Formula, binding, Refers}
 use Rattle.sheet_recalc.specs.Meaning.{val, with_origin}
 use Rattle.sheet_recalc.specs.Cells.{index_of_numbers, literal_items}
 use Rattle.sheet_recalc.specs.Changes.{Change, Accepts, Define, Store, Put, SetCell, AddRow, Erase}
@@ -103,6 +106,26 @@ change_cost old change new = expression_cost old change + formulas_cost (changed
 -- the cost of the change is this; the greatest number of 64 bits where it is more
 abbrev pub HasCost : Names → Change → Names → ℕ → Type 0
 HasCost old change new cost = cost ≡ ticked 0 (change_cost old change new)
+
+-- these names, each once, are this one and all that reach it
+pub record AreAllThatReach (names : Names) (name : List ℕ) (found : List (List ℕ)) : Type 0 where
+  pub once : IsDistinct bytes_eq found
+  pub exact : (q : List ℕ) → Contains found q ↔ ((q ≡ name) ⊎ Reaches (Refers names) q name)
+
+-- how many functions what a name is bound to applies
+abbrev pub functions_of : Binding → ℕ
+functions_of (Data a) = 0
+functions_of (Formula t) = operations t
+
+-- and of a name that may be absent
+abbrev pub functions_in : Names → List ℕ → ℕ
+functions_in names q = option_map_or functions_of (binding names q) 0
+
+-- so many functions the formulas apply of a name and of all that reach it, where the names are these
+pub record IsStepCount (names : Names) (name : List ℕ) (steps : ℕ) : Type 0 where
+  pub found : List (List ℕ)
+  pub all : AreAllThatReach names name found
+  pub steps_are : steps ≡ sum_by (functions_in names) found
 
 -- some one node of the formulas costs so much: the node at this place of the tree that this name is bound to
 pub record IsNodeCost (name : List ℕ) (c : formula.Change) (names : Names) (cost : ℕ) : Type 0 where

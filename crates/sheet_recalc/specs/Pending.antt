@@ -1,6 +1,7 @@
 -- A change that is worked out, and not made yet.
 use Rattle.std.specs.Prelude.{◌≡◌, ◌≤◌, ◌<◌, ◌+◌, ℕ, List, [], length, true, false, not, Option, Some, None, Box, if◌then◌else◌}
 use Rattle.std.specs.Str.{bytes_eq}
+use Rattle.std.specs.Map.{keys_of}
 use Rattle.indexmap.specs.IndexMap.{spare}
 use Rattle.dep_order.specs.Room.{FindRoom, AreSetsFor}
 use Rattle.change_core.specs.Meters.{ticked}
@@ -9,7 +10,7 @@ use Rattle.formula_core.specs.Meaning.{names_in}
 use Rattle.sheet_recalc.specs.Names.{Names, SheetValue, IsSheet}
 use Rattle.sheet_recalc.specs.NameOrder.{HasOrder}
 use Rattle.sheet_recalc.specs.Changes.{Change, Accepts, HasRoom}
-use Rattle.sheet_recalc.specs.Costs.{changed_name, asked_change, expression_cost, IsNodeCost}
+use Rattle.sheet_recalc.specs.Costs.{changed_name, asked_change, expression_cost, AreAllThatReach, IsNodeCost}
 use Rattle.sheet_recalc.specs.Entries.{names_of}
 use Rattle.sheet_recalc.specs.Live.{IsPlanned, plan_in}
 use Rattle.sheet_recalc.specs.Planning.{IsProposalAt, IsProposed, IsPlanning, AllWait, IsOnTheWay}
@@ -79,6 +80,7 @@ pub record IsLaidOut (t : Tables) (p : Pending) (base : ℕ) : Type 0 where
   pub place : HasPlace t p.growth p.proposal
   pub way : IsPlanning (outline_for t p) base p.plans p.meter.ticks
   pub first : AllWait p.plans
+  pub all : AreAllThatReach (names_after t p) p.name (keys_of p.plans.found.entries)
   pub whole : p.is_cut ≡ false
   pub told : p.ticks ≡ p.meter.ticks
   pub small : p.ticks < 18446744073709551616

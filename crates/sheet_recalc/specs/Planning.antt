@@ -1,5 +1,5 @@
 -- How the plans of a change are made.
-use Rattle.std.specs.Prelude.{◌≡◌, ◌≢◌, ◌⊎◌, ◌+◌, ◌≤◌, ◌<◌, ℕ, List, [], ◌∷◌, ◌++◌, Bool, true, Option, Some, None, Ok, IfOk, take, length, IsSome, if◌then◌else◌}
+use Rattle.std.specs.Prelude.{◌≡◌, ◌≢◌, ◌⊎◌, ◌+◌, ◌≤◌, ◌<◌, ℕ, List, [], ◌∷◌, ◌++◌, Bool, true, false, Option, Some, None, Ok, IfOk, take, length, IsSome, if◌then◌else◌}
 use Rattle.std.specs.Str.{bytes_eq}
 use Rattle.std.specs.Map.{keys_of}
 use Rattle.std.specs.List.{Contains, IsDistinct, sum_by}
@@ -11,7 +11,7 @@ use Rattle.index_region.specs.Tails.{FitsTail}
 use Rattle.index_region.specs.declared.delta.Delta.TheVariants.{Same, Patch, Grown, Whole}
 use Rattle.change_core.specs.Meters.{ticked}
 use Rattle.formula_core.specs.Meaning.{names_in}
-use Rattle.formula_core.specs.Formulas.{FormulaValue, operations}
+use Rattle.formula_core.specs.Formulas.{FormulaValue}
 use Rattle.formula_core.specs.Progress.{operations_among, IsPlannedTo}
 use Rattle.formula_core.specs.Tables.{subtrees}
 use Rattle.formula_core.specs.Changes as formula
@@ -21,10 +21,10 @@ use Rattle.sheet_recalc.specs.Names.{Names, Binding, Data, Formula, binding, Ref
 use Rattle.sheet_recalc.specs.NameOrder.{HasOrder}
 use Rattle.sheet_recalc.specs.Changes.{HasRoom}
 use Rattle.sheet_recalc.specs.Meaning.{val, IsSettled}
-use Rattle.sheet_recalc.specs.Costs.{delta_by, binding_cost}
+use Rattle.sheet_recalc.specs.Costs.{delta_by, binding_cost, functions_in}
 use Rattle.sheet_recalc.specs.Entries.{names_of, HasData}
 use Rattle.sheet_recalc.specs.Live.{IsCurrent, plan_in}
-use Rattle.sheet_recalc.specs.ProposedSheet.{Outline, outline_of, proposed_names, proposed_delta, proposed_change, proposed_cost, entry_of}
+use Rattle.sheet_recalc.specs.ProposedSheet.{Outline, outline_of, is_data, proposed_names, proposed_delta, proposed_change, proposed_cost, entry_of}
 use Rattle.sheet_recalc.specs.declared.entry.Entry.TheVariants as entry
 use Rattle.sheet_recalc.specs.declared.ahead.Ahead.{Ahead}
 use Rattle.sheet_recalc.specs.declared.entry.Entry.{Entry}
@@ -41,10 +41,11 @@ IsProposalAt entries name (proposed.Data (Grown t)) = (a : ArrayValue) × HasDat
 IsProposalAt entries name (proposed.Data delta) = ⊥
 IsProposalAt entries name proposed.Removed = Unit {0}
 
--- the entries are right as they are, what the name shows is sound, the names show after the change what one step gives, and so do their changes
+-- the entries are right as they are, what the name shows is sound if no data is put under it (where some is, this is asked when it is needed), the
+-- names show after the change what one step gives, and so do their changes
 pub record IsProposed (o : Outline) : Type 0 where
   pub current : IsCurrent o.entries
-  pub sound : IfOk (val (names_of o.entries) o.name) IsArray
+  pub sound : is_data o.proposal ≡ false → IfOk (val (names_of o.entries) o.name) IsArray
   pub settled : IsSettled (proposed_names o)
   pub proposal : IsProposalAt o.entries o.name o.proposal
   pub deltas : (q : List ℕ) → (proposed_change o).delta q
@@ -106,14 +107,9 @@ pub record IsUnderWay (o : Outline) (left : List (List ℕ)) (made : (List ℕ �
 abbrev pub waiting_names : Plans → List (List ℕ)
 waiting_names w = take w.waiting (keys_of w.found.entries)
 
--- how many functions what a name is bound to applies
-abbrev pub functions_of : Binding → ℕ
-functions_of (Data a) = 0
-functions_of (Formula t) = operations t
-
--- and of a name after the change
+-- how many functions what a name is bound to after the change applies
 abbrev pub functions_at : Outline → List ℕ → ℕ
-functions_at o q = option_map_or functions_of (binding (proposed_names o) q) 0
+functions_at o q = functions_in (proposed_names o) q
 
 -- what the nodes so far of a plan of a formula cost
 abbrev pub spent_by : FormulaValue → formula.Change → formula_plan.PlanValue → ℕ

@@ -1,5 +1,5 @@
 -- A sheet as it would be after a change: its entries as they are, and what one name is to be bound to.
-use Rattle.std.specs.Prelude.{◌≡◌, ℕ, List, [], ◌⊎◌, Option, Some, None, Ok, Err}
+use Rattle.std.specs.Prelude.{◌≡◌, ℕ, List, [], ◌⊎◌, Bool, true, false, Option, Some, None, Ok, Err}
 use Rattle.std.specs.List.{Contains}
 use Rattle.std.specs.Option.{option_map}
 use Rattle.index_region.specs.declared.delta.Delta.{Delta}
@@ -36,6 +36,12 @@ abbrev pub proposed_references : Proposal → List (List ℕ)
 proposed_references (proposed.Formula f) = names_in f.tree
 proposed_references (proposed.Data delta) = []
 proposed_references proposed.Removed = []
+
+-- it is data that is put under the name
+abbrev pub is_data : Proposal → Bool
+is_data (proposed.Data delta) = true
+is_data (proposed.Formula f) = false
+is_data proposed.Removed = false
 
 -- an array as an entry; an error is none
 abbrev pub data_entry : Outcome → Option Entry

@@ -140,6 +140,9 @@ impl<'a, 'b> Ahead<'a, 'b> {
         ensures changed { IsNameChanged (proposed_change (outline_of self.now.proposed.now)) name }
         ensures sound { IsNameSound (proposed_change (outline_of self.now.proposed.now)) name }
     {
+        if name == self.proposed.name && self.proposed.proposal.is_data() {
+            return self.own();
+        }
         match plan_in(self.found, name) {
             Some(plan) => self.planned(name, plan),
             None => self.standing(name),

@@ -22,6 +22,7 @@ use indexmap::IndexMap;
 use smallvec::SmallVec;
 
 /// The patch of the data of a name that puts a literal in one cell, or why there is none. It takes no memory.
+#[inline(always)]
 pub(crate) fn cell_patch(
     entries: &IndexMap<Name, Entry>,
     name: Name,

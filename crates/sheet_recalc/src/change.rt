@@ -2,9 +2,10 @@
 
 ghost use Rattle.std.specs.Prelude.{◌≡◌, ◌≤◌, IfOk, IfErr, OnOk, OnErr, map};
 ghost use Rattle.sheet_recalc.specs.Changes.{Accepts, Refuses};
-ghost use Rattle.sheet_recalc.specs.Costs.{HasCost, expression_cost};
+ghost use Rattle.sheet_recalc.specs.Costs.{HasCost, changed_name, expression_cost, IsStepCount};
+ghost use Rattle.sheet_recalc.specs.Names.{Names};
 ghost use Rattle.sheet_recalc.specs.History.{Run, change_of};
-ghost use Rattle.sheet_recalc.specs.Pending.{IsLaidOutOn, IsPendingOn};
+ghost use Rattle.sheet_recalc.specs.Pending.{IsLaidOutOn, IsPendingOn, steps_left};
 
 use crate::pending::Pending;
 use crate::refusal::Refusal;
@@ -17,8 +18,19 @@ impl Sheet {
     /// Begins a change: it is refused here, or worked out by steps (`advance`) and then made (`adopt`). Nothing of the sheet is changed.
     pub fn begin(&self, change: Change) -> Result<Pending, Refusal>
         ensures ok { IfOk result (IsPendingOn self.now (change_of change)) }
+        ensures steps { IfOk result (λ pending. (new : Names) × Accepts self.now.names (change_of change) new × IsStepCount new (changed_name (change_of change)) (steps_left pending)) }
         ensures ticks { IfOk result (λ pending. pending.ticks ≤ expression_cost self.now.names (change_of change)) }
         ensures refused { IfErr result (Refuses self.now.names (change_of change)) }
+    {
+        self.begin_lent(&change)
+    }
+
+    /// The same, of a change that is lent.
+    pub fn begin_lent(&self, change: &Change) -> Result<Pending, Refusal>
+        ensures ok { IfOk result (IsPendingOn self.now (change_of change.now)) }
+        ensures steps { IfOk result (λ pending. (new : Names) × Accepts self.now.names (change_of change.now) new × IsStepCount new (changed_name (change_of change.now)) (steps_left pending)) }
+        ensures ticks { IfOk result (λ pending. pending.ticks ≤ expression_cost self.now.names (change_of change.now)) }
+        ensures refused { IfErr result (Refuses self.now.names (change_of change.now)) }
     {
         let mut pending = Box::into_inner(self.laid_out(change)?);
         self.count(&mut pending)?;
@@ -26,17 +38,17 @@ impl Sheet {
     }
 
     /// Lays a change out, or says why not.
-    fn laid_out(&self, change: Change) -> Result<Box<Pending>, Refusal>
-        ensures ok { IfOk result (λ pending. IsLaidOutOn self.now (change_of change) pending.value) }
-        ensures ticks { IfOk result (λ pending. pending.value.ticks ≤ expression_cost self.now.names (change_of change)) }
-        ensures refused { IfErr result (Refuses self.now.names (change_of change)) }
+    fn laid_out(&self, change: &Change) -> Result<Box<Pending>, Refusal>
+        ensures ok { IfOk result (λ pending. IsLaidOutOn self.now (change_of change.now) pending.value) }
+        ensures ticks { IfOk result (λ pending. pending.value.ticks ≤ expression_cost self.now.names (change_of change.now)) }
+        ensures refused { IfErr result (Refuses self.now.names (change_of change.now)) }
     {
         match change {
-            Change::Define(name, tree) => self.begin_define(name, tree),
-            Change::Data(name, tree) => self.begin_data(name, tree),
-            Change::Cell(name, positions, literal) => self.begin_cell(name, &positions, &literal),
-            Change::Row(name, literal) => self.begin_row(name, &literal),
-            Change::Erase(name) => self.begin_erase(name),
+            Change::Define(name, tree) => self.begin_define(*name, tree),
+            Change::Data(name, tree) => self.begin_data(*name, tree),
+            Change::Cell(name, positions, literal) => self.begin_cell(*name, positions, literal),
+            Change::Row(name, literal) => self.begin_row(*name, literal),
+            Change::Erase(name) => self.begin_erase(*name),
         }
     }
 

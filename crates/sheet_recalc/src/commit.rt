@@ -28,6 +28,7 @@ use index_region::{Delta, Patch, Tail};
 use indexmap::IndexMap;
 
 /// Makes a change that is worked out. No memory is asked for.
+#[inline(always)]
 pub(crate) fn make(entries: &mut IndexMap<Name, Entry>, users: &mut Users<Name>, pending: Pending)
     requires ready { IsReady (record { entries = entries.old; users = users.old }) pending }
     requires tells { IsTable (names_of entries.old.entries) users.old.entries }

@@ -33,15 +33,15 @@ pub(crate) type Inputs<'a> = SmallVec<Input<'a>, 4>;
 pub(crate) fn plan_at_rest(
     alloc: Global,
     entries: &IndexMap<Name, Entry>,
-    tree: Expr,
+    tree: &Expr,
     meter: &mut Meter,
 ) -> Result<Plan, AllocError>
     requires { IsCurrent entries.now.entries }
-    ensures delta { IfOk result (λ p. root_change p.changes ≡ WholeDelta (eval (tree_of tree) (val (names_of entries.now.entries)))) }
-    ensures cost { IfOk result (λ p. p.cost ≡ ticked 0 (tree_cost true (at_rest (names_of entries.now.entries)) (tree_of tree))) }
-    ensures ticks { OnOk result (meter.new.ticks ≤ meter.old.ticks + tree_cost true (at_rest (names_of entries.now.entries)) (tree_of tree)) }
+    ensures delta { IfOk result (λ p. root_change p.changes ≡ WholeDelta (eval (tree_of tree.now) (val (names_of entries.now.entries)))) }
+    ensures cost { IfOk result (λ p. p.cost ≡ ticked 0 (tree_cost true (at_rest (names_of entries.now.entries)) (tree_of tree.now))) }
+    ensures ticks { OnOk result (meter.new.ticks ≤ meter.old.ticks + tree_cost true (at_rest (names_of entries.now.entries)) (tree_of tree.now)) }
 {
-    let formula = Formula::build(alloc, tree)?;
+    let formula = Formula::of(alloc, tree)?;
     let unchanged = Delta::Same;
     let inputs = inputs_at_rest(alloc, entries, formula.references(), &unchanged)?;
     formula.plan(inputs.as_slice(), meter)

@@ -9,11 +9,13 @@ ghost use Rattle.formula_core.specs.Meaning.{names_in};
 ghost use Rattle.formula_core.specs.Plans.{IsPlanOf, IsPlanned, node_cost_at, tree_cost};
 ghost use Rattle.formula_core.specs.Progress.{operations_among, IsPlannedTo};
 ghost use Rattle.formula_core.specs.Tables.{subtrees, tree_at};
-ghost use Rattle.sheet_recalc.specs.ProposedSheet.{outline_of, proposed_names, proposed_change, entry_of};
+ghost use Rattle.arrays_core.specs.Arrays.{IsArray};
+ghost use Rattle.sheet_recalc.specs.Meaning.{val};
+ghost use Rattle.sheet_recalc.specs.ProposedSheet.{outline_of, is_data, proposed_names, proposed_change, entry_of};
 ghost use Rattle.sheet_recalc.specs.Changes.{HasRoom, IsFullFor, CannotBecome};
-ghost use Rattle.sheet_recalc.specs.Costs.{IsNodeCost};
+ghost use Rattle.sheet_recalc.specs.Costs.{AreAllThatReach, IsNodeCost};
 ghost use Rattle.sheet_recalc.specs.Entries.{names_of};
-ghost use Rattle.sheet_recalc.specs.Live.{IsLive, plan_in};
+ghost use Rattle.sheet_recalc.specs.Live.{IsLive, IsCurrent, plan_in};
 ghost use Rattle.sheet_recalc.specs.Planning.{IsProposalAt, IsProposed, ArePlans, IsDone, IsAhead, IsPlanning, AllWait, IsOnTheWay, CanBe, waiting_names, functions_at};
 ghost use Rattle.sheet_recalc.specs.declared.entry.Entry.TheVariants.{Formula as FormulaEntry};
 
@@ -46,10 +48,11 @@ pub(crate) fn begun(
     ensures proposed { OnOk result (IsProposed (outline_of proposed.now)) }
     ensures way { IfOk result (λ w. (ticks : ℕ) → ticked 0 ticks ≤ spent → IsPlanning (outline_of proposed.now) spent w ticks) }
     ensures first { IfOk result AllWait }
+    ensures all { IfOk result (λ w. AreAllThatReach (proposed_names (outline_of proposed.now)) proposed.now.name (keys_of w.found.entries)) }
     ensures can { OnOk result (CanBe (outline_of proposed.now)) }
     ensures refused { IfErr result (CannotBecome (names_of proposed.now.entries.now.entries) (proposed_names (outline_of proposed.now)) proposed.now.name) }
 {
-    shown_is_array(&shown(proposed.entries, proposed.name));
+    shown_is_sound(proposed);
     let found = affected(alloc, users, proposed.name, proposed.entries.len())?;
     if let Some(reference) = first_found(&found, proposed.proposal.references()) {
         return Err(Refusal::Cycle(cycle_through(alloc, proposed, &found, reference)?));
@@ -64,6 +67,17 @@ pub(crate) fn begun(
         current: None,
         cost: spent,
     })
+}
+
+/// What the name shows that is to be bound to a formula, or removed, is an array, if it is no error: it says so itself. Where data is put under it,
+/// nothing is looked up.
+fn shown_is_sound(proposed: &ProposedSheet<'_>)
+    requires { IsCurrent proposed.now.entries.now.entries }
+    ensures { is_data proposed.now.proposal.now ≡ false → IfOk (val (names_of proposed.now.entries.now.entries) proposed.now.name) IsArray }
+{
+    if !proposed.proposal.is_data() {
+        shown_is_array(&shown(proposed.entries, proposed.name));
+    }
 }
 
 /// There is room for a name: it is present, or fewer than `MOST_NAMES` names are.

@@ -1,7 +1,7 @@
 //! What a name is to be bound to.
 
 ghost use Rattle.std.specs.Prelude.{◌≡◌};
-ghost use Rattle.sheet_recalc.specs.ProposedSheet.{proposed_references};
+ghost use Rattle.sheet_recalc.specs.ProposedSheet.{is_data, proposed_references};
 
 use apl_tokens::Name;
 use formula_core::Formula;
@@ -19,6 +19,13 @@ pub(crate) enum Proposal {
 }
 
 impl Proposal {
+    /// It is data that is put under the name.
+    pub(crate) fn is_data(&self) -> bool
+        ensures { result ≡ is_data self.now }
+    {
+        matches!(self, Proposal::Data(_))
+    }
+
     /// The names that stand in it.
     pub(crate) fn references(&self) -> &[Name]
         ensures { result.now ≡ proposed_references self.now }

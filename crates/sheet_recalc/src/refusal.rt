@@ -7,7 +7,7 @@ use apl_tokens::Name;
 use arrays_core::Fault;
 use std::alloc::{AllocError, AllocFailed};
 
-/// Why a change was refused. The sheet is then as it was.
+/// Why a change, or what is asked of one that is begun in a slot, was refused. All is then as it was. A sheet gives none of the last four.
 #[derive(Debug, Drop)]
 pub enum Refusal {
     /// The name would reach itself: a cycle of names, the defined one first, each referring to the next, the last to the first.
@@ -32,6 +32,14 @@ pub enum Refusal {
     Fault(Fault),
     /// A growth was refused.
     NoMemory,
+    /// Another change was made since the one of the slot was begun.
+    Stale,
+    /// Steps of the slot's change are left.
+    NotReady,
+    /// There is no slot of this number, or it is empty.
+    NoSlot,
+    /// The slot holds a change.
+    SlotInUse,
 }
 
 impl From<AllocError> for Refusal {

@@ -9,13 +9,13 @@ ghost use Rattle.change_core.specs.Meters.{ticked};
 ghost use Rattle.index_region.specs.declared.delta.Delta.TheVariants.{Whole};
 ghost use Rattle.formula_core.specs.Outcomes.{read};
 ghost use Rattle.formula_core.specs.Meaning.{eval};
-ghost use Rattle.sheet_recalc.specs.Names.{binding, IsSheet};
+ghost use Rattle.sheet_recalc.specs.Names.{Names, binding, IsSheet};
 ghost use Rattle.sheet_recalc.specs.Meaning.{val};
 ghost use Rattle.sheet_recalc.specs.ProposedSheet.{names_with};
 ghost use Rattle.sheet_recalc.specs.Planning.{IsProposalAt};
 ghost use Rattle.sheet_recalc.specs.Pending.{IsLaidOutOn, IsPendingOn, IsProposedOn, steps_left};
 ghost use Rattle.sheet_recalc.specs.Changes.{Change, Accepts, Refuses, Define, Store, Put, SetCell, AddRow, Erase, CannotBecome};
-ghost use Rattle.sheet_recalc.specs.Costs.{HasCost, expression_cost, IsStepCost};
+ghost use Rattle.sheet_recalc.specs.Costs.{HasCost, changed_name, expression_cost, IsStepCost, IsStepCount};
 
 use crate::cell::cell_patch;
 use crate::commit::make;
@@ -158,17 +158,17 @@ impl Sheet {
         ensures refused { IfErr result (Refuses self.old.names (Define name (tree_of tree))) }
         ensures err { OnErr result (self.new ≡ self.old) }
     {
-        let pending = self.begin_define(name, tree)?;
+        let pending = self.begin_define(name, &tree)?;
         Ok(self.complete(pending)?)
     }
 
     /// Lays a definition out: it is refused here, or worked out and then made.
-    pub(crate) fn begin_define(&self, name: Name, tree: Expr) -> Result<Box<Pending>, Refusal>
-        ensures ok { IfOk result (λ pending. IsLaidOutOn self.now (Define name (tree_of tree)) pending.value) }
-        ensures ticks { IfOk result (λ pending. pending.value.ticks ≤ expression_cost self.now.names (Define name (tree_of tree))) }
-        ensures refused { IfErr result (Refuses self.now.names (Define name (tree_of tree))) }
+    pub(crate) fn begin_define(&self, name: Name, tree: &Expr) -> Result<Box<Pending>, Refusal>
+        ensures ok { IfOk result (λ pending. IsLaidOutOn self.now (Define name (tree_of tree.now)) pending.value) }
+        ensures ticks { IfOk result (λ pending. pending.value.ticks ≤ expression_cost self.now.names (Define name (tree_of tree.now))) }
+        ensures refused { IfErr result (Refuses self.now.names (Define name (tree_of tree.now))) }
     {
-        let formula = Formula::build(self.alloc, tree)?;
+        let formula = Formula::of(self.alloc, tree)?;
         self.propose(name, Proposal::Formula(formula), 0, Meter::new())
     }
 
@@ -245,6 +245,7 @@ impl Sheet {
     pub(crate) fn count(&self, pending: &mut Pending) -> Result<(), AllocError>
         requires { (change : Change) × IsLaidOutOn self.now change pending.old }
         ensures begun { OnOk result ((change : Change) → IsLaidOutOn self.now change pending.old → IsPendingOn self.now change pending.new) }
+        ensures steps { OnOk result ((change : Change) → IsLaidOutOn self.now change pending.old → (new : Names) × Accepts self.now.names change new × IsStepCount new (changed_name change) (steps_left pending.new)) }
         ensures ticks { pending.new.ticks ≡ pending.old.ticks }
     {
         let proposed = ProposedSheet {
@@ -279,6 +280,7 @@ impl Sheet {
     }
 
     /// Makes a change that was begun on the sheet as it is, and of which no step is left. No memory is asked for.
+    #[inline(always)]
     pub fn adopt(&mut self, pending: Pending)
         requires begun { (change : Change) × IsPendingOn self.old change pending }
         requires left { steps_left pending ≡ 0 }
@@ -312,15 +314,15 @@ impl Sheet {
         ensures refused { IfErr result (Refuses self.old.names (Store name (tree_of tree))) }
         ensures err { OnErr result (self.new ≡ self.old) }
     {
-        let pending = self.begin_data(name, tree)?;
+        let pending = self.begin_data(name, &tree)?;
         Ok(self.complete(pending)?)
     }
 
     /// Lays out to store what an expression has now; the expression itself is worked out here.
-    pub(crate) fn begin_data(&self, name: Name, tree: Expr) -> Result<Box<Pending>, Refusal>
-        ensures ok { IfOk result (λ pending. IsLaidOutOn self.now (Store name (tree_of tree)) pending.value) }
-        ensures ticks { IfOk result (λ pending. pending.value.ticks ≤ expression_cost self.now.names (Store name (tree_of tree))) }
-        ensures refused { IfErr result (Refuses self.now.names (Store name (tree_of tree))) }
+    pub(crate) fn begin_data(&self, name: Name, tree: &Expr) -> Result<Box<Pending>, Refusal>
+        ensures ok { IfOk result (λ pending. IsLaidOutOn self.now (Store name (tree_of tree.now)) pending.value) }
+        ensures ticks { IfOk result (λ pending. pending.value.ticks ≤ expression_cost self.now.names (Store name (tree_of tree.now))) }
+        ensures refused { IfErr result (Refuses self.now.names (Store name (tree_of tree.now))) }
     {
         let mut meter = Meter::new();
         let plan = plan_at_rest(self.alloc, &self.entries, tree, &mut meter)?;
@@ -350,6 +352,7 @@ impl Sheet {
     }
 
     /// Lays out to replace one item of data.
+    #[inline(always)]
     pub(crate) fn begin_cell(
         &self,
         name: Name,
@@ -368,7 +371,7 @@ impl Sheet {
     /// Puts a literal at the end of data: one more item of a vector, one more row of a table. The first of these refuses it:
     /// the name is absent, or bound to a formula; the data is of another rank; the literal has not as many items as a row, or
     /// items of the other type; the data would go beyond the limits of arrays. The items lie behind those of the data: these are moved only
-    /// where no room is left behind them, and then into room for twice as many.
+    /// where no room is left behind them, and then into room for the next power of two as many.
     pub fn add_row(&mut self, name: Name, literal: &Literal) -> Result<(), Refusal>
         ensures ok { OnOk result (Accepts self.old.names (AddRow name (literal_of literal.now)) self.new.names) }
         ensures cost { OnOk result (HasCost self.old.names (AddRow name (literal_of literal.now)) self.new.names self.new.cost) }
@@ -380,6 +383,7 @@ impl Sheet {
     }
 
     /// Lays out to put a row at the end of data.
+    #[inline(always)]
     pub(crate) fn begin_row(&self, name: Name, literal: &Literal) -> Result<Box<Pending>, Refusal>
         ensures ok { IfOk result (λ pending. IsLaidOutOn self.now (AddRow name (literal_of literal.now)) pending.value) }
         ensures ticks { IfOk result (λ pending. pending.value.ticks ≤ expression_cost self.now.names (AddRow name (literal_of literal.now))) }

@@ -9,6 +9,8 @@ mod cost_tests;
 #[cfg(test)]
 mod dep_order_tests;
 #[cfg(test)]
+mod desk_tests;
+#[cfg(test)]
 mod fixtures;
 #[cfg(test)]
 mod formula_core_tests;

@@ -3,6 +3,7 @@
 ghost use Rattle.std.specs.Prelude.{None, Some, false};
 
 use sheet_cli::{Device, Failed, RunFault, Sink, Source, Tally, run};
+use sheet_desk::Desk;
 use sheet_recalc::Sheet;
 use std::alloc::{AllocError, Global};
 use std::io::{self, ErrorKind, Write};
@@ -134,9 +135,9 @@ fn run_anew<R: Source, W: Sink>(
     source: &mut R,
     sink: &mut W,
 ) -> (Result<Tally, RunFault>, usize) {
-    let mut sheet = Sheet::new(alloc);
-    let end = run(alloc, &mut sheet, source, sink);
-    (end, sheet.names().len())
+    let mut desk = Desk::new(Sheet::new(alloc));
+    let end = run(alloc, &mut desk, source, sink);
+    (end, desk.sheet().names().len())
 }
 
 /// Gives a line of every length from 0 to 4,097 bytes, each but the empty one answered 5.

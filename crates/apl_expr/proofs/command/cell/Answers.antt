@@ -1,14 +1,15 @@
-use Rattle.std.proofs.lemmas.List.{length-map}
-use Rattle.apl_tokens.specs.Lexemes.{lexemes}
-use Rattle.apl_expr.proofs.Commands.{cell_ok}
+use Rattle.std.proofs.Common.{◌∷◌}
+use Rattle.std.proofs.lemmas.Result.{err_from_is_err_and}
+use Rattle.apl_tokens.specs.Lexemes.{lexemes, Named, Sign}
+use Rattle.apl_expr.specs.Changes.{IsChangeOf}
+use Rattle.apl_expr.proofs.Changes.{cell_ok, cell_err, exits}
 use Rattle.apl_expr.proofs.command.cell.Goals as goal
 
-pub returns-in-Ok : goal.returns-in-Ok
-returns-in-Ok c =
-    let positions = c.in-Ok.positions-is in
-    let literal = c.in-Ok.literal-is in
-    let read = c.in-Ok.ensures in
-    cell_ok c.args.name (lexemes c.args.tokens.now) (lexemes c.args.rest.now) c.requires.begins c.in-Ok.positions c.in-Ok.literal (simp length-map c.requires.short) cc
+pub returns-in_err-positions : goal.returns-in_err-positions
+returns-in_err-positions c =
+    let p = err_from_is_err_and c.from_residual.result c.from_residual.ensures.1 in
+    exits (IsChangeOf (Named c.args.name ∷ Sign 0x5b ∷ lexemes c.args.rest.now)) c.from_residual.result c.in_err-positions.field-0.0 p.0 p.1 p.2
+    (cell_err c.args.name (lexemes c.args.rest.now) c.in_err-positions.field-0.0 c.in_err-positions.ensures)
 
-pub returns-in-Err-Syntax : goal.returns-in-Err-Syntax
-returns-in-Err-Syntax c = c.show.ensures
+pub returns : goal.returns
+returns c = cell_ok c.args.name (lexemes c.args.rest.now) c.in_ok-positions.positions c.in_ok-positions.literal c.in_ok-positions.ensures

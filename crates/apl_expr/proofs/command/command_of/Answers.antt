@@ -1,9 +1,11 @@
-use Rattle.std.proofs.Common.{◌≡◌, [], length, subst, sym, ap, arith}
+use Rattle.std.proofs.Common.{◌≡◌, [], Err, subst, sym, arith}
 use Rattle.std.proofs.lemmas.List.{length-map, nil_from_length}
 use Rattle.std.proofs.lemmas.Grind.{common_steps}
 use Rattle.apl_tokens.specs.Lexemes.{lexemes}
+use Rattle.apl_expr.specs.declared.fault.ParseFault.{ParseFault}
 use Rattle.apl_expr.specs.Lines.{IsLine, nothing, Nothing}
-use Rattle.apl_expr.proofs.Commands.{name_before_is, command_word_is}
+use Rattle.apl_expr.specs.Changes.{IsChangeOf}
+use Rattle.apl_expr.proofs.Commands.{change_ok, change_too_large}
 use Rattle.apl_expr.proofs.command.command_of.Goals as goal
 
 pub returns-then-is_empty : goal.returns-then-is_empty
@@ -11,8 +13,10 @@ returns-then-is_empty c =
     let is_nil : c.args.tokens.now ≡ [] = nil_from_length _ (grind (arith, common_steps)) in
     (simp length-map (omega arith), subst (λ ts. IsLine (lexemes ts) Nothing) (sym is_nil) nothing, λ x. x)
 
-pub define-requires : goal.define-requires
-define-requires c = let lengths = ap length (name_before_is 0x2190 (lexemes c.args.tokens.now) _ _ c.in-Some.ensures) in let sizes = simp length-map at lengths in omega arith
+pub returns-in-Ok : goal.returns-in-Ok
+returns-in-Ok c = change_ok (lexemes c.args.tokens.now) (simp length-map (omega arith)) c.in-Ok.change c.in-Ok.ensures
 
-pub worded-requires : goal.worded-requires
-worded-requires c = let lengths = ap length (command_word_is (lexemes c.args.tokens.now) _ _ c.in-Some-command_word.ensures) in let sizes = simp length-map at lengths in omega arith
+pub returns-in-Err-Limit : goal.returns-in-Err-Limit
+returns-in-Err-Limit c =
+    let large = subst (λ (f : ParseFault). IsChangeOf (lexemes c.args.tokens.now) (Err f)) c.in-Err-Limit.field-0-is c.in-Err-Limit.ensures in
+    change_too_large (lexemes c.args.tokens.now) (simp length-map (omega arith)) large

@@ -2,13 +2,14 @@ use Rattle.std.proofs.Common.{◌∷◌}
 use Rattle.std.proofs.lemmas.List.{length-map}
 use Rattle.std.proofs.lemmas.Result.{err_from_is_err_and}
 use Rattle.apl_tokens.specs.Lexemes.{lexemes, Named, Sign}
-use Rattle.apl_expr.proofs.Commands.{define_ok, define_err, exits}
+use Rattle.apl_expr.specs.Changes.{IsChangeOf}
+use Rattle.apl_expr.proofs.Changes.{define_ok, define_err, exits}
 use Rattle.apl_expr.proofs.command.define.Goals as goal
 
 pub returns-in_err-formula : goal.returns-in_err-formula
 returns-in_err-formula c =
     let p = err_from_is_err_and c.from_residual.result c.from_residual.ensures.1 in
-    exits (Named c.args.name ∷ Sign 0x2190 ∷ lexemes c.args.rest.now) c.from_residual.result c.in_err-formula.field-0.0 p.0 p.1 p.2
+    exits (IsChangeOf (Named c.args.name ∷ Sign 0x2190 ∷ lexemes c.args.rest.now)) c.from_residual.result c.in_err-formula.field-0.0 p.0 p.1 p.2
     (define_err c.args.name (lexemes c.args.rest.now) (simp length-map c.requires) c.in_err-formula.field-0.0 c.in_err-formula.ensures)
 
 pub returns : goal.returns

@@ -1,19 +1,19 @@
 use Rattle.std.proofs.Common.{◌∷◌}
-use Rattle.std.proofs.lemmas.List.{length-map}
 use Rattle.std.proofs.lemmas.Result.{err_from_is_err_and}
 use Rattle.apl_tokens.specs.Lexemes.{lexemes, Named, Sign}
 use Rattle.apl_expr.specs.Lines.{row_word}
-use Rattle.apl_expr.proofs.Commands.{row_none, row_ok, row_err, exits}
+use Rattle.apl_expr.specs.Changes.{IsChangeOf}
+use Rattle.apl_expr.proofs.Changes.{row_none, row_ok, row_err, exits}
 use Rattle.apl_expr.proofs.command.row.Goals as goal
 
 pub returns-in_default : goal.returns-in_default
-returns-in_default c = row_none (lexemes c.args.rest.now) (simp length-map c.requires) c.in_default.ensures
+returns-in_default c = row_none (lexemes c.args.rest.now) c.in_default.ensures
 
 pub returns-in_err-items : goal.returns-in_err-items
 returns-in_err-items c =
     let p = err_from_is_err_and c.from_residual.result c.from_residual.ensures.1 in
-    exits (Sign 0x29 ∷ Named row_word ∷ lexemes c.args.rest.now) c.from_residual.result c.in_err-items.field-0.0 p.0 p.1 p.2
-    (row_err (lexemes c.args.rest.now) (simp length-map c.requires) _ _ c.in-Some.ensures c.in_err-items.field-0.0 c.in_err-items.ensures)
+    exits (IsChangeOf (Sign 0x29 ∷ Named row_word ∷ lexemes c.args.rest.now)) c.from_residual.result c.in_err-items.field-0.0 p.0 p.1 p.2
+    (row_err (lexemes c.args.rest.now) _ _ c.in-Some.ensures c.in_err-items.field-0.0 c.in_err-items.ensures)
 
 pub returns : goal.returns
-returns c = row_ok (lexemes c.args.rest.now) (simp length-map c.requires) _ _ c.in-Some.ensures c.in_ok-items.items c.in_ok-items.ensures
+returns c = row_ok (lexemes c.args.rest.now) _ _ c.in-Some.ensures c.in_ok-items.items c.in_ok-items.ensures

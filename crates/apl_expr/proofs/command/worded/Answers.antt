@@ -8,5 +8,6 @@ pub returns-in_default : goal.returns-in_default
 returns-in_default c =
     let is = c.text.ensures in
     let other = c.in_default in
-    other_word (lexemes c.args.rest.now) (simp length-map c.requires) c.args.word
-    (λ h. other.not-DATA (is ∙ h)) (λ h. other.not-ROW (is ∙ h)) (λ h. other.not-ERASE (is ∙ h)) (λ h. other.not-NAMES (is ∙ h)) (λ h. other.not-COST (is ∙ h)) (λ h. other.not-CSV (is ∙ h))
+    other_word (lexemes c.args.rest.now) (simp length-map c.requires.short) c.args.word c.requires.no_change
+    (λ h. other.not-NAMES (is ∙ h)) (λ h. other.not-COST (is ∙ h)) (λ h. other.not-CSV (is ∙ h))
+    (λ h. other.not-OPEN (is ∙ h)) (λ h. other.not-STEP (is ∙ h)) (λ h. other.not-COMMIT (is ∙ h)) (λ h. other.not-DROP (is ∙ h))

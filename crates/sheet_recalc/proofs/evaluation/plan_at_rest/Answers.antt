@@ -12,7 +12,7 @@ use Rattle.sheet_recalc.proofs.evaluation.plan_at_rest.Goals as goal
 pub plan-requires : goal.plan-requires
 plan-requires c =
     let names = names_of c.args.entries.now.entries in
-    let t = tree_of c.args.tree in
+    let t = tree_of c.args.tree.now in
     let refs : c.references.result.now ≡ names_in t = c.references.ensures ∙ ap (λ (f : FormulaValue). names_in f.tree) c.in_ok-formula.ensures in
     let are : AreInputs (at_rest names) (names_in t) c.as_slice.result.now = rw c.as_slice.ensures (subst (λ (ns : List (List ℕ)). AreInputs (at_rest names) ns c.in_ok-inputs.inputs.items) refs c.in_ok-inputs.ensures.inputs) in
     let sound = subst (λ (ns : List (List ℕ)). (x : List ℕ) → Contains ns x → IsNameSound (at_rest names) x) refs c.in_ok-inputs.ensures.sound in
@@ -21,7 +21,7 @@ plan-requires c =
 pub returns-clause-delta : goal.returns-clause-delta
 returns-clause-delta c =
     let names = names_of c.args.entries.now.entries in
-    let t = tree_of c.args.tree in
+    let t = tree_of c.args.tree.now in
     let refs : c.references.result.now ≡ names_in t = c.references.ensures ∙ ap (λ (f : FormulaValue). names_in f.tree) c.in_ok-formula.ensures in
     let are : AreInputs (at_rest names) (names_in t) c.as_slice.result.now = rw c.as_slice.ensures (subst (λ (ns : List (List ℕ)). AreInputs (at_rest names) ns c.in_ok-inputs.inputs.items) refs c.in_ok-inputs.ensures.inputs) in
     let sound = subst (λ (ns : List (List ℕ)). (x : List ℕ) → Contains ns x → IsNameSound (at_rest names) x) refs c.in_ok-inputs.ensures.sound in
@@ -30,7 +30,7 @@ returns-clause-delta c =
 pub returns-clause-cost : goal.returns-clause-cost
 returns-clause-cost c =
     let names = names_of c.args.entries.now.entries in
-    let t = tree_of c.args.tree in
+    let t = tree_of c.args.tree.now in
     let refs : c.references.result.now ≡ names_in t = c.references.ensures ∙ ap (λ (f : FormulaValue). names_in f.tree) c.in_ok-formula.ensures in
     let are : AreInputs (at_rest names) (names_in t) c.as_slice.result.now = rw c.as_slice.ensures (subst (λ (ns : List (List ℕ)). AreInputs (at_rest names) ns c.in_ok-inputs.inputs.items) refs c.in_ok-inputs.ensures.inputs) in
     let sound = subst (λ (ns : List (List ℕ)). (x : List ℕ) → Contains ns x → IsNameSound (at_rest names) x) refs c.in_ok-inputs.ensures.sound in
@@ -39,7 +39,7 @@ returns-clause-cost c =
 pub returns-clause-ticks : goal.returns-clause-ticks
 returns-clause-ticks c =
     let names = names_of c.args.entries.now.entries in
-    let t = tree_of c.args.tree in
+    let t = tree_of c.args.tree.now in
     let refs : c.references.result.now ≡ names_in t = c.references.ensures ∙ ap (λ (f : FormulaValue). names_in f.tree) c.in_ok-formula.ensures in
     let are : AreInputs (at_rest names) (names_in t) c.as_slice.result.now = rw c.as_slice.ensures (subst (λ (ns : List (List ℕ)). AreInputs (at_rest names) ns c.in_ok-inputs.inputs.items) refs c.in_ok-inputs.ensures.inputs) in
     let sound = subst (λ (ns : List (List ℕ)). (x : List ℕ) → Contains ns x → IsNameSound (at_rest names) x) refs c.in_ok-inputs.ensures.sound in

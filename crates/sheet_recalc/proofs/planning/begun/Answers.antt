@@ -14,7 +14,7 @@ use Rattle.sheet_recalc.proofs.Forward.{first_way}
 use Rattle.sheet_recalc.proofs.NameEquality.{equal-true}
 use Rattle.sheet_recalc.proofs.Keeping.{within, name_order}
 use Rattle.sheet_recalc.proofs.Rebound.{reaching_new, referred_refers}
-use Rattle.sheet_recalc.proofs.Readied.{references_made, ready_acyclic, ready_proposed, ready_affected, ready_names, ready_cost}
+use Rattle.sheet_recalc.proofs.Readied.{references_made, ready_acyclic, ready_proposed, ready_affected, ready_names, ready_all, ready_cost}
 use Rattle.sheet_recalc.proofs.Binding.{rebound_own}
 use Rattle.std.proofs.lemmas.List.{length-map}
 use Rattle.sheet_recalc.proofs.planning.begun.Goals as goal
@@ -60,7 +60,7 @@ returns-clause-way c = λ ticks low.
     let users = c.args.users.now.entries in
     let live = c.requires.live in
     let apart = λ (d : List ℕ) (stands : Contains (proposed_references o.proposal) d). c.in_default.ensures d (subst (λ (rs : List (List ℕ)). Contains rs d) (sym c.references.ensures) stands) in
-    let ready = ready_proposed o users live keys f.closed f.named f.sound f.distinct apart c.requires.proposal (subst (λ (r : Outcome). IfOk r IsArray) c.shown.ensures c.shown_is_array.ensures) in
+    let ready = ready_proposed o users live keys f.closed f.named f.sound f.distinct apart c.requires.proposal c.shown_is_sound.ensures in
     let affected = ready_affected o users live keys f.closed f.named f.sound f.distinct apart in
     let costs = ready_cost o users live keys f.closed f.named f.sound f.distinct apart in
     let plans : Plans = record { found = c.in_ok-found.found; waiting = c.len-2.result; current = None; left = 0; cost = c.args.spent } in
@@ -78,4 +78,11 @@ returns-clause-proposed c =
     let o = outline_of c.args.proposed.now in
     let f = c.in_ok-found.ensures in
     let apart = λ (d : List ℕ) (stands : Contains (proposed_references o.proposal) d). c.in_default.ensures d (subst (λ (rs : List (List ℕ)). Contains rs d) (sym c.references.ensures) stands) in
-    ready_proposed o c.args.users.now.entries c.requires.live (keys_of c.in_ok-found.found.entries) f.closed f.named f.sound f.distinct apart c.requires.proposal (subst (λ (r : Outcome). IfOk r IsArray) c.shown.ensures c.shown_is_array.ensures)
+    ready_proposed o c.args.users.now.entries c.requires.live (keys_of c.in_ok-found.found.entries) f.closed f.named f.sound f.distinct apart c.requires.proposal c.shown_is_sound.ensures
+
+pub returns-clause-all : goal.returns-clause-all
+returns-clause-all c =
+    let o = outline_of c.args.proposed.now in
+    let f = c.in_ok-found.ensures in
+    let apart = λ (d : List ℕ) (stands : Contains (proposed_references o.proposal) d). c.in_default.ensures d (subst (λ (rs : List (List ℕ)). Contains rs d) (sym c.references.ensures) stands) in
+    ready_all o c.args.users.now.entries c.requires.live (keys_of c.in_ok-found.found.entries) f.closed f.named f.sound f.distinct apart

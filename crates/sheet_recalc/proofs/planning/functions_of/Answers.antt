@@ -3,7 +3,8 @@ use Rattle.std.specs.Option.{option_map, option_map_or}
 use Rattle.formula_core.specs.Formulas.{FormulaValue}
 use Rattle.sheet_recalc.specs.Names.{Binding}
 use Rattle.sheet_recalc.specs.Entries.{binding_of}
-use Rattle.sheet_recalc.specs.Planning.{functions_of, functions_at}
+use Rattle.sheet_recalc.specs.Costs.{functions_of}
+use Rattle.sheet_recalc.specs.Planning.{functions_at}
 use Rattle.sheet_recalc.specs.ProposedSheet.{Outline, outline_of, entry_of}
 use Rattle.sheet_recalc.specs.declared.entry.Entry.{Entry}
 use Rattle.sheet_recalc.specs.declared.entry.Entry.TheVariants as entry

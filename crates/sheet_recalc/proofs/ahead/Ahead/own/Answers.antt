@@ -32,7 +32,8 @@ returns-in-Data-clause-changed c =
 pub returns-in-Data-clause-sound : goal.returns-in-Data-clause-sound
 returns-in-Data-clause-sound c =
     let d = c.in-Data.delta in
-    data_sound (outline_of c.args.self.now.proposed.now) c.requires.ahead.proposed d c.in-Data.is (subst (λ (r : Outcome). IfOk (applied d r) IsArray) c.shown.ensures c.of.ensures.sound)
+    data_sound (outline_of c.args.self.now.proposed.now) c.requires.ahead.proposed d c.in-Data.is (subst (λ (r : Outcome). IfOk r IsArray) c.shown.ensures c.of.ensures.held)
+    (subst (λ (r : Outcome). IfOk (applied d r) IsArray) c.shown.ensures c.of.ensures.sound)
 
 pub returns-in-Removed-clause-input : goal.returns-in-Removed-clause-input
 returns-in-Removed-clause-input c =

@@ -39,7 +39,7 @@ propose-requires-clause-proposal c =
 
 pub returns-clause-ok : goal.returns-clause-ok
 returns-clause-ok c =
-    let t = tree_of c.args.tree in
+    let t = tree_of c.args.tree.now in
     let spent = c.cost-spent.ensures ∙ (c.in_ok-plan.ensures.cost ∙ ap (λ (s : SheetValue). ticked 0 (tree_cost true (at_rest s.names) t)) c.self.view_is) in
     let gives = c.into_delta-change.ensures ∙ (c.in_ok-plan.ensures.delta ∙ ap (λ (s : SheetValue). Whole (eval t (val s.names))) c.self.view_is) in
     let array = array_in (eval t (val c.args.self.now.names)) c.into_delta-change.result gives c.in_default.ensures in
@@ -49,7 +49,7 @@ returns-clause-ok c =
 
 pub returns-clause-refused : goal.returns-clause-refused
 returns-clause-refused c =
-    let t = tree_of c.args.tree in
+    let t = tree_of c.args.tree.now in
     let names = c.args.self.now.names in
     let gives = c.into_delta-change.ensures ∙ (c.in_ok-plan.ensures.delta ∙ ap (λ (s : SheetValue). Whole (eval t (val s.names))) c.self.view_is) in
     let array = array_in (eval t (val names)) c.into_delta-change.result gives c.in_default.ensures in
@@ -60,6 +60,6 @@ returns-clause-refused c =
 
 pub returns-clause-ticks : goal.returns-clause-ticks
 returns-clause-ticks c =
-    let t = tree_of c.args.tree in
+    let t = tree_of c.args.tree.now in
     let spent = c.cost-spent.ensures ∙ (c.in_ok-plan.ensures.cost ∙ ap (λ (s : SheetValue). ticked 0 (tree_cost true (at_rest s.names) t)) c.self.view_is) in
     if_ok_map c.propose.result _ _ (λ p h. few_at_first c.args.self.now c.args.name _ c.cost-spent.result p.value h (tree_cost true (at_rest c.args.self.now.names) t) spent) c.propose.ensures.ok

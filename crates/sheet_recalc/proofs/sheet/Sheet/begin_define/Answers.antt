@@ -10,12 +10,12 @@ use Rattle.sheet_recalc.proofs.sheet.Sheet.begin_define.Goals as goal
 
 pub returns-clause-ok : goal.returns-clause-ok
 returns-clause-ok c =
-    if_ok_map c.propose.result _ _ (λ p h. define_pending c.args.self.now c.args.name c.in_ok-formula.formula (tree_of c.args.tree) (ap (λ (f : FormulaValue). f.tree) c.in_ok-formula.ensures) p.value h) c.propose.ensures.ok
+    if_ok_map c.propose.result _ _ (λ p h. define_pending c.args.self.now c.args.name c.in_ok-formula.formula (tree_of c.args.tree.now) (ap (λ (f : FormulaValue). f.tree) c.in_ok-formula.ensures) p.value h) c.propose.ensures.ok
 
 pub returns-clause-refused : goal.returns-clause-refused
 returns-clause-refused c =
     IfErr-weaker c.propose.result _ _
-    (λ cause h. refused_define c.args.self.now.names c.args.name (tree_of c.args.tree) cause
+    (λ cause h. refused_define c.args.self.now.names c.args.name (tree_of c.args.tree.now) cause
     (subst (λ (u : Tree). CannotPut c.args.self.now.names c.args.name (Formula u) cause) (ap (λ (f : FormulaValue). f.tree) c.in_ok-formula.ensures) h))
     c.propose.ensures.refused
 

@@ -1,10 +1,12 @@
-use Rattle.std.proofs.Common.{◌≡◌, sym, ap, subst, false, true}
+use Rattle.std.proofs.Common.{◌≡◌, ◌∙◌, ◌+◌, sym, ap, subst, false, true, arith}
+use Rattle.std.specs.Prelude.{if◌then◌else◌}
 use Rattle.std.specs.List.{sum_by}
 use Rattle.std.specs.Map.{keys_of}
 use Rattle.sheet_recalc.specs.Names.{SheetValue}
 use Rattle.sheet_recalc.specs.Tables.{Tables}
 use Rattle.sheet_recalc.specs.Planning.{IsOnTheWay, functions_at}
-use Rattle.sheet_recalc.specs.Pending.{outline_for}
+use Rattle.sheet_recalc.specs.Costs.{AreAllThatReach}
+use Rattle.sheet_recalc.specs.Pending.{outline_for, names_after}
 use Rattle.sheet_recalc.proofs.Forward.{counted_way}
 use Rattle.sheet_recalc.proofs.Stepped.{of_laid_out}
 use Rattle.sheet_recalc.proofs.sheet.Sheet.count.Goals as goal
@@ -32,3 +34,20 @@ returns-clause-begun c = λ change h.
     (counted_way (outline_for c.args.self.now.tables p) h.begun.proposed h.base p.meter.ticks p.plans h.begun.way h.begun.first n count) in
     let after = subst (λ (t : Tables). IsOnTheWay (outline_for t p) h.base c.settle.new.plans true p.meter.ticks) tables (c.in_ok-settle.ensures.settled h.base p.meter.ticks before) in
     of_laid_out c.args.self.now change p h c.settle.new.plans p.ticks p.meter after h.begun.told h.begun.small
+
+pub returns-clause-steps : goal.returns-clause-steps
+returns-clause-steps c = λ change h.
+    let p = c.args.pending.now in
+    let n = c.functions_in-pending.result in
+    let t = c.args.self.now.tables in
+    let tables = ap (λ (s : SheetValue). s.tables) c.self.view_is in
+    let count = subst (λ (t : Tables). n ≡ sum_by (functions_at (outline_for t p)) (keys_of p.plans.found.entries)) tables c.functions_in-pending.ensures in
+    let left : c.settle.new.plans.left + (if p.is_cut then 1 else 0) ≡ n = rw h.begun.whole (omega (arith, c.settle.ensures.left)) in (
+      names_after t p,
+      h.accepts,
+      record {
+        found = keys_of p.plans.found.entries;
+        all = subst (λ x. AreAllThatReach (names_after t p) x (keys_of p.plans.found.entries)) h.name_is h.begun.all;
+        steps_are = left ∙ count;
+      },
+    )

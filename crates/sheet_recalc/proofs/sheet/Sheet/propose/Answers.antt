@@ -39,6 +39,7 @@ returns-clause-ok c =
         place = c.in_ok-growth.ensures;
         way = begun.way c.args.meter.ticks c.requires.few;
         first = begun.first;
+        all = begun.all;
         whole = refl;
         told = c.ticks.ensures;
         small = c.ticks.type_inv;

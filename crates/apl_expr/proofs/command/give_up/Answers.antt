@@ -1,0 +1,14 @@
+use Rattle.std.proofs.Common.{rules, w64, SFits}
+use Rattle.std.proofs.lemmas.Int.{to_z-of_z}
+use Rattle.std.proofs.lemmas.List.{length-map}
+use Rattle.apl_tokens.specs.Lexemes.{lexemes}
+use Rattle.apl_expr.proofs.Commands.{drop_ok, drop_none}
+use Rattle.apl_expr.proofs.command.give_up.Goals as goal
+
+pub returns-in-Some : goal.returns-in-Some
+returns-in-Some c =
+    let fits : SFits w64 c.in-Some.slot = search rules in
+    rw (to_z-of_z w64 c.in-Some.slot fits) (drop_ok (lexemes c.args.rest.now) (simp length-map c.requires) c.in-Some.slot c.in-Some.ensures)
+
+pub returns-in-None : goal.returns-in-None
+returns-in-None c = drop_none (lexemes c.args.rest.now) (simp length-map c.requires) c.in-None.ensures

@@ -1,0 +1,10 @@
+pub mod Marking
+pub mod Slotted
+pub mod Staling
+pub mod Spent
+pub mod Placed
+pub mod Committed
+pub mod Kept
+pub mod Counted
+pub mod Causes
+pub mod OneAnswer

@@ -1,0 +1,14 @@
+use Rattle.std.proofs.Common.{set, None, Some, ap, ◌∙◌}
+use Rattle.std.specs.Option.{option_map}
+use Rattle.sheet_desk.specs.Held.{marked}
+use Rattle.sheet_desk.proofs.Marking.{one_more}
+use Rattle.sheet_desk.proofs.slot.mark_stale.Goals as goal
+use Rattle.sheet_desk.proofs.slot.mark_stale.Goals.{in-Some, in_default}
+
+pub loop-held-preserved : goal.loop-held-preserved
+loop-held-preserved c =
+    let more = one_more (option_map marked) c.args.slots.now c.loop-held.held-index c.held-item.result c.loop-held-test.true c.loop-held.slots c.match-held.slots in
+    elim c.match-held.branch [
+      | in-Some w ↦ more (Some w.in-Some.slot) c.loop-held.invariant w.in-Some.is w.slots-is
+      | in_default w ↦ more None c.loop-held.invariant w.in_default.is (w.slots-is ∙ ap (set c.loop-held.slots c.loop-held.held-index) w.in_default.is)
+    ]

@@ -1,0 +1,32 @@
+-- What the slots of the code hold, as the model has it.
+use Rattle.std.specs.Prelude.{◌≡◌, false, true, List, map, length, Option, Some, None}
+use Rattle.std.specs.List.{All}
+use Rattle.std.specs.Option.{option_map}
+use Rattle.sheet_recalc.specs.Names.{SheetValue}
+use Rattle.sheet_recalc.specs.History.{change_of}
+use Rattle.sheet_recalc.specs.Pending.{IsPendingOn, steps_left}
+use Rattle.sheet_desk.specs.Slots.{slot_count}
+use Rattle.sheet_desk.specs.Desk.{SlotValue}
+use Rattle.sheet_desk.specs.declared.slot.Slot.{Slot}
+
+-- a change that is open
+abbrev pub slot_of : Slot → SlotValue
+slot_of s = record { change = change_of s.change; is_stale = s.is_stale; left = steps_left s.pending; ticks = s.pending.ticks }
+
+-- and what every slot holds
+abbrev pub slots_of : List (Option Slot) → List (Option SlotValue)
+slots_of slots = map (option_map slot_of) slots
+
+-- what is open and not stale is worked out on the sheet as it is
+abbrev pub IsOpenOn : SheetValue → Option Slot → Type 0
+IsOpenOn sheet None = Unit {0}
+IsOpenOn sheet (Some s) = s.is_stale ≡ false → IsPendingOn sheet (change_of s.change) s.pending
+
+-- so it is of all slots, of which there are eight
+pub record AreOpenOn (sheet : SheetValue) (slots : List (Option Slot)) : Type 0 where
+  pub count : length slots ≡ slot_count
+  pub all : All (IsOpenOn sheet) slots
+
+-- another change was made
+abbrev pub marked : Slot → Slot
+marked s = record s { is_stale = true }

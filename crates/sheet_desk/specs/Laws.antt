@@ -1,0 +1,114 @@
+-- What follows of any list of events.
+use Rattle.std.specs.Prelude.{◌≡◌, ◌≢◌, ℕ, ℤ, Bool, true, false, ◌||◌, ◌⊎◌, List, [], ◌∷◌, ◌++◌, map, Option, Some, None}
+use Rattle.std.specs.Option.{option_map}
+use Rattle.apl_expr.specs.Trees.{Tree}
+use Rattle.formula_core.specs.Meaning.{eval}
+use Rattle.formula_core.specs.Outcomes.{Outcome}
+use Rattle.sheet_recalc.specs.Names.{Names}
+use Rattle.sheet_recalc.specs.Meaning.{val}
+use Rattle.sheet_recalc.specs.Changes.{Change, Accepts}
+use Rattle.sheet_recalc.specs.declared.refusal.Refusal.TheVariants as why
+use Rattle.sheet_desk.specs.Slots.{slot_in, with_slot}
+use Rattle.sheet_desk.specs.Desk.{DeskValue, SlotValue, Event, Open, Commit, Drop, Plain, Show, Answer, Done, Left, Shown, Refused, held_in, IsEvent, AreEvents}
+
+-- the changes that are open, slot by slot
+abbrev pub open_changes : List (Option SlotValue) → List (Option Change)
+open_changes slots = map (option_map (λ (s : SlotValue). s.change)) slots
+
+-- the one that a number names, if there is one
+abbrev pub the_change : Option (Option Change) → List Change
+the_change None = []
+the_change (Some None) = []
+the_change (Some (Some change)) = change ∷ []
+
+-- the change that an event makes, if it makes one, where these are open
+abbrev pub made_by : List (Option Change) → Event → Answer → List Change
+made_by opened (Commit k) Done = the_change (slot_in opened k)
+made_by opened (Plain change) Done = change ∷ []
+made_by opened event answer = []
+
+-- those that are open after it
+abbrev pub opened_after : List (Option Change) → Event → Answer → List (Option Change)
+opened_after opened (Open k change) (Left n) = with_slot opened k (Some change)
+opened_after opened (Commit k) Done = with_slot opened k None
+opened_after opened (Drop k) Done = with_slot opened k None
+opened_after opened event answer = opened
+
+-- the changes that events make, in their order
+abbrev pub committed : List (Option Change) → List Event → List Answer → List Change
+committed opened [] answers = []
+committed opened (event ∷ events) [] = []
+committed opened (event ∷ events) (answer ∷ answers) = made_by opened event answer ++ committed (opened_after opened event answer) events answers
+
+-- the changes, one after another, take old to new
+abbrev pub AreAccepted : Names → List Change → Names → Type 0
+AreAccepted old [] new = new ≡ old
+AreAccepted old (change ∷ changes) new = (mid : Names) × Accepts old change mid × AreAccepted mid changes new
+
+-- after any events the names are those that the changes make of them which were committed, plain ones and commits, in their order
+abbrev pub NamesAreOfChangesCommitted : Type 0
+NamesAreOfChangesCommitted = (d new : DeskValue) (events : List Event) (answers : List Answer) → AreEvents d events answers new →
+    AreAccepted d.names (committed (open_changes d.slots) events answers) new.names
+
+-- and what is shown then is what evaluating from scratch gives under such names: it is of no concern what is open
+abbrev pub ShowsAreOfChangesCommitted : Type 0
+ShowsAreOfChangesCommitted = (d mid new : DeskValue) (events : List Event) (answers : List Answer) (tree : Tree) (outcome : Outcome) (names : Names) →
+    AreEvents d events answers mid → IsEvent mid (Show tree) (Shown outcome) new →
+    AreAccepted d.names (committed (open_changes d.slots) events answers) names → outcome ≡ eval tree (val names)
+
+-- whether an event makes a change
+abbrev pub makes_change : Event → Answer → Bool
+makes_change (Commit k) Done = true
+makes_change (Plain change) Done = true
+makes_change event answer = false
+
+-- and whether one of several does
+abbrev pub make_change : List Event → List Answer → Bool
+make_change [] answers = false
+make_change (event ∷ events) [] = false
+make_change (event ∷ events) (answer ∷ answers) = makes_change event answer || make_change events answers
+
+-- an event does not empty the slot of a number
+abbrev pub Keeps : ℤ → Event → Answer → Type 0
+Keeps k (Commit j) Done = j ≢ k
+Keeps k (Drop j) Done = j ≢ k
+Keeps k event answer = Unit {0}
+
+-- nor do several
+abbrev pub AllKeep : ℤ → List Event → List Answer → Type 0
+AllKeep k [] answers = Unit {0}
+AllKeep k (event ∷ events) [] = Unit {0}
+AllKeep k (event ∷ events) (answer ∷ answers) = Keeps k event answer × AllKeep k events answers
+
+-- a slot holds this change, and it is stale exactly where so it is said
+abbrev pub HoldsStale : DeskValue → ℤ → Change → Bool → Type 0
+HoldsStale d k change is_stale = (s : SlotValue) × (held_in d k ≡ Some (Some s)) × (s.change ≡ change) × (s.is_stale ≡ is_stale)
+
+-- a change that was opened, and neither made nor given up since, is stale exactly where another was made since: what is refused makes none stale
+abbrev pub StaleWhereChanged : Type 0
+StaleWhereChanged = (d mid new : DeskValue) (k : ℤ) (change : Change) (n : ℕ) (events : List Event) (answers : List Answer) →
+    IsEvent d (Open k change) (Left n) mid → AreEvents mid events answers new → AllKeep k events answers → HoldsStale new k change (make_change events answers)
+
+-- what answers tell of a change that is open: not how many items were computed for it
+abbrev pub told_of : SlotValue → Change × Bool × ℕ
+told_of s = (s.change, s.is_stale, s.left)
+
+-- two desks that no answer tells apart
+pub record AreAlike (d e : DeskValue) : Type 0 where
+  pub names : d.names ≡ e.names
+  pub cost : d.cost ≡ e.cost
+  pub slots : map (option_map told_of) d.slots ≡ map (option_map told_of) e.slots
+
+-- a refusal that names a cycle
+abbrev pub names_cycle : Answer → Bool
+names_cycle (Refused (why.Cycle names)) = true
+names_cycle answer = false
+
+-- two answers say the same, but for which cycle is named
+abbrev pub IsSameAnswer : Answer → Answer → Type 0
+IsSameAnswer a b = (a ≡ b) ⊎ ((names_cycle a ≡ true) × (names_cycle b ≡ true))
+
+-- where memory is not wanting, an event has one answer at desks that are alike, and leads to desks that are alike
+abbrev pub EachEventHasOneAnswer : Type 0
+EachEventHasOneAnswer = (d e d' e' : DeskValue) (event : Event) (a b : Answer) → AreAlike d e → IsEvent d event a d' → IsEvent e event b e' →
+    a ≢ Refused why.NoMemory → b ≢ Refused why.NoMemory → IsSameAnswer a b × AreAlike d' e'

@@ -1,0 +1,7 @@
+-- What public contracts mean.
+pub mod Slots
+pub mod Desk
+pub mod Asked
+pub mod Laws
+-- What proofs and bodies use.
+pub mod Held

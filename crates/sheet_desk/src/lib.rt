@@ -1,0 +1,14 @@
+//! The desk: a sheet, and changes that are worked out beside it, step by step.
+#![tactic(auto)]
+
+mod desk;
+mod event;
+mod laws;
+mod slot;
+
+pub use desk::{Desk, SLOTS};
+pub use event::{Answer, Event};
+pub use laws::{
+    each_event_has_one_answer, names_are_of_changes_committed, shows_are_of_changes_committed,
+    stale_where_changed,
+};

@@ -1,8 +1,0 @@
-use Rattle.std.proofs.Common.{sym, subst}
-use Rattle.sheet_recalc.specs.History.{change_of}
-use Rattle.sheet_recalc.specs.Pending.{IsLaidOutOn}
-use Rattle.sheet_recalc.proofs.sheet.Sheet.begin.Goals as goal
-
-pub returns-clause-ok : goal.returns-clause-ok
-returns-clause-ok c = c.in_ok-count.ensures.begun (change_of c.args.change)
-    (subst (λ q. IsLaidOutOn c.args.self.now (change_of c.args.change) q) (sym c.into_inner-pending.ensures) c.in_ok-laid_out.ensures.ok)
