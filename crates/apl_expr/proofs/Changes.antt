@@ -94,7 +94,7 @@ not_large e low few (inr many) = omega arith
 -- the definition
 module _ (name : Name) (us : List Lexeme) (short : length us ≤ most_tokens) where
   pub define_ok : (e : Expr) → IsParsed us (Ok e) → IsChangeOf (Named name ∷ Sign 0x2190 ∷ us) (Ok (changed.Define name e))
-  define_ok e given = (define given.1, not_large (tree_of e) given.2 given.3)
+  define_ok e given = (define given.1, not_large (tree_of e) given.2 given.3, given.4)
 
   pub define_err : (f : ParseFault) → IsParsed us (Err f) → IsChangeOf (Named name ∷ Sign 0x2190 ∷ us) (Err f)
   define_err Syntax given = λ m is. let x = change_define (by_front is) name us refl in given.1 x.0 x.1
@@ -104,8 +104,8 @@ module _ (name : Name) (us : List Lexeme) (short : length us ≤ most_tokens) wh
 
 -- the edit of a cell
 module _ (name : Name) (us : List Lexeme) where
-  pub cell_ok : (ps : Vec ℤ) (l : code.Literal) → edits us (Some (Open [])) ≡ Some (Write ps.items (literal_of l)) → IsChangeOf (Named name ∷ Sign 0x5b ∷ us) (Ok (changed.Cell name ps l))
-  cell_ok ps l is = let x = edit_correct us ps.items (literal_of l) is in (cell x.1 x.2, λ no. no)
+  pub cell_ok : (ps : Vec ℤ) (l : code.Literal) → EditGives (Ok (ps, l)) (edits us (Some (Open []))) → IsChangeOf (Named name ∷ Sign 0x5b ∷ us) (Ok (changed.Cell name ps l))
+  cell_ok ps l given = let x = edit_correct us ps.items (literal_of l) given.0 in (cell x.1 x.2, λ no. no, given.1)
 
   pub cell_err : (f : ParseFault) → EditGives (Err f) (edits us (Some (Open []))) → IsChangeOf (Named name ∷ Sign 0x5b ∷ us) (Err f)
   cell_err Syntax none = λ m is. let x = change_cell (by_front is) name us refl in let found = x.2 in cc
@@ -120,7 +120,7 @@ module _ (us : List Lexeme) (short : length us ≤ most_tokens) where
   module _ (name : Name) (vs : List Lexeme) (is : name_before 0x2190 us ≡ Some (name, vs)) where
     pub data_ok : (e : Expr) → IsParsed vs (Ok e) → IsChangeOf (Sign 0x29 ∷ Named data_word ∷ us) (Ok (changed.Data name e))
     data_ok e given =
-        (subst (λ (xs : List Lexeme). IsChange (Sign 0x29 ∷ Named data_word ∷ xs) (Data name (tree_of e))) (sym (name_before_is 0x2190 us name vs is)) (keep given.1), not_large (tree_of e) given.2 given.3)
+        (subst (λ (xs : List Lexeme). IsChange (Sign 0x29 ∷ Named data_word ∷ xs) (Data name (tree_of e))) (sym (name_before_is 0x2190 us name vs is)) (keep given.1), not_large (tree_of e) given.2 given.3, given.4)
 
     pub data_err : (f : ParseFault) → IsParsed vs (Err f) → IsChangeOf (Sign 0x29 ∷ Named data_word ∷ us) (Err f)
     data_err Syntax given = λ m c. let x = after_data (word_of_change data_word us c) refl in refuted x.1 x.0 x.3 x.2 x.4
@@ -137,9 +137,9 @@ module _ (us : List Lexeme) where
   row_none none = λ m is. let x = after_row (word_of_change row_word us is) refl in no_name_first none x.0 x.1 x.3
 
   module _ (name : Name) (vs : List Lexeme) (is : name_first us ≡ Some (name, vs)) where
-    pub row_ok : (l : code.Literal) → edits vs (Some (Items [] [])) ≡ Some (Write [] (literal_of l)) → IsChangeOf (Sign 0x29 ∷ Named row_word ∷ us) (Ok (changed.Row name l))
-    row_ok l read =
-        (subst (λ (xs : List Lexeme). IsChange (Sign 0x29 ∷ Named row_word ∷ xs) (Row name (literal_of l))) (sym (name_first_is us name vs is)) (row (literal_correct vs (literal_of l) read) refl), λ no. no)
+    pub row_ok : (l : code.Literal) → LiteralGives (Ok l) (edits vs (Some (Items [] []))) → IsChangeOf (Sign 0x29 ∷ Named row_word ∷ us) (Ok (changed.Row name l))
+    row_ok l given =
+        (subst (λ (xs : List Lexeme). IsChange (Sign 0x29 ∷ Named row_word ∷ xs) (Row name (literal_of l))) (sym (name_first_is us name vs is)) (row (literal_correct vs (literal_of l) given.0) refl), λ no. no, given.1)
 
     pub row_err : (f : ParseFault) → LiteralGives (Err f) (edits vs (Some (Items [] []))) → IsChangeOf (Sign 0x29 ∷ Named row_word ∷ us) (Err f)
     row_err Syntax none = λ m c. let x = after_row (word_of_change row_word us c) refl in no_literal x.1 x.0 x.3 x.2 x.4
@@ -156,7 +156,7 @@ module _ (us : List Lexeme) where
 -- what is erased, and another word
 module _ (us : List Lexeme) where
   pub erase_ok : (name : Name) → only_name us ≡ Some name → IsChangeOf (Sign 0x29 ∷ Named erase_word ∷ us) (Ok (changed.Erase name))
-  erase_ok name is = (subst (λ (xs : List Lexeme). IsChange (Sign 0x29 ∷ Named erase_word ∷ xs) (Erase name)) (sym (only_name_is us name is)) (erase refl), λ no. no)
+  erase_ok name is = (subst (λ (xs : List Lexeme). IsChange (Sign 0x29 ∷ Named erase_word ∷ xs) (Erase name)) (sym (only_name_is us name is)) (erase refl), λ no. no, refl)
 
   pub erase_none : only_name us ≡ None → IsChangeOf (Sign 0x29 ∷ Named erase_word ∷ us) (Err Syntax)
   erase_none none = λ m is. let x = after_erase (word_of_change erase_word us is) refl in no_only_name none x.0 x.1

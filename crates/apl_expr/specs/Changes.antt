@@ -1,11 +1,11 @@
 -- The change that tokens are, in a line or behind the word that opens one.
-use Rattle.std.specs.Prelude.{Result, Ok, Err, List}
+use Rattle.std.specs.Prelude.{IsTrue, Result, Ok, Err, List}
 use Rattle.apl_tokens.specs.Lexemes.{Lexeme}
 use Rattle.apl_expr.specs.declared.command.Change.{Change}
 use Rattle.apl_expr.specs.declared.fault.ParseFault.{ParseFault}
 use Rattle.apl_expr.specs.declared.fault.ParseFault.TheVariants.{Syntax, Limit, NoMemory}
 use Rattle.apl_expr.specs.Grammar.{IsTooLarge}
-use Rattle.apl_expr.specs.Lines.{Meaning, change_meaning, IsChange, HasTree}
+use Rattle.apl_expr.specs.Lines.{Meaning, change_meaning, IsChange, HasTree, is_plain_change}
 
 -- the tokens are no change
 abbrev pub IsNoChange : List Lexeme → Type 0
@@ -13,7 +13,7 @@ IsNoChange ts = (m : Meaning) → IsChange ts m → ⊥
 
 -- what tokens, of which there are not too many, are answered as a change
 abbrev pub IsChangeOf : List Lexeme → Result Change ParseFault → Type 0
-IsChangeOf ts (Ok c) = IsChange ts (change_meaning c) × (HasTree IsTooLarge (change_meaning c) → ⊥)
+IsChangeOf ts (Ok c) = IsChange ts (change_meaning c) × (HasTree IsTooLarge (change_meaning c) → ⊥) × IsTrue (is_plain_change c)
 IsChangeOf ts (Err Syntax) = IsNoChange ts
 IsChangeOf ts (Err Limit) = (m : Meaning) × IsChange ts m × HasTree IsTooLarge m
 IsChangeOf ts (Err NoMemory) = Unit {0}

@@ -1,9 +1,9 @@
 -- The reader of a cell's edit as a machine: it reads the lexemes after `NAME [`, one at a time. A literal alone is read
 -- as what comes after `←`.
-use Rattle.std.specs.Prelude.{◌≡◌, ℕ, ℤ, Option, Some, None, Result, Ok, Err, List, [], ◌∷◌, ◌++◌, if◌then◌else◌, ◌==◌}
+use Rattle.std.specs.Prelude.{◌≡◌, IsTrue, ℕ, ℤ, Option, Some, None, Result, Ok, Err, List, [], ◌∷◌, ◌++◌, if◌then◌else◌, ◌==◌}
 use Rattle.std.specs.Global.{Vec}
 use Rattle.apl_expr.specs.declared.expr.Literal as literal
-use Rattle.apl_expr.specs.Trees.{Literal, Numbers, Text, literal_of}
+use Rattle.apl_expr.specs.Trees.{Literal, Numbers, Text, literal_of, is_plain}
 use Rattle.apl_tokens.specs.Lexemes.{Lexeme, Number, Characters, Named, Sign}
 use Rattle.apl_tokens.specs.Signs.{left_arrow, right_bracket, semicolon}
 use Rattle.apl_expr.specs.declared.edit.Edit as code
@@ -96,14 +96,14 @@ EditSteps (Err NoMemory) o = Unit {0}
 
 -- the same for the whole
 abbrev pub EditGives : Result (Vec ℤ × literal.Literal) ParseFault → Option Written → Type 0
-EditGives (Ok w) o = o ≡ Some (Write w.0.items (literal_of w.1))
+EditGives (Ok w) o = (o ≡ Some (Write w.0.items (literal_of w.1))) × IsTrue (is_plain w.1)
 EditGives (Err Syntax) o = o ≡ None
 EditGives (Err Limit) o = ⊥
 EditGives (Err NoMemory) o = Unit {0}
 
 -- the same for a literal alone
 abbrev pub LiteralGives : Result literal.Literal ParseFault → Option Written → Type 0
-LiteralGives (Ok l) o = o ≡ Some (Write [] (literal_of l))
+LiteralGives (Ok l) o = (o ≡ Some (Write [] (literal_of l))) × IsTrue (is_plain l)
 LiteralGives (Err Syntax) o = o ≡ None
 LiteralGives (Err Limit) o = ⊥
 LiteralGives (Err NoMemory) o = Unit {0}

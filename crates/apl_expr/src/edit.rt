@@ -7,7 +7,7 @@ ghost use Rattle.apl_expr.specs.Trees.{Numbers};
 
 use crate::expr::Literal;
 use crate::fault::ParseFault;
-use crate::parser::{literal, text_literal};
+use crate::plain::{literal, text_literal};
 use apl_tokens::{Spanned, Token};
 use std::alloc::Global;
 

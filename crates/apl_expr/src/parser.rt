@@ -1,39 +1,40 @@
 //! The parser: it reads the tokens from left to right, once, a function at a time, and keeps what waits for its right argument or
 //! for a bracket that closes.
 
-ghost use Rattle.std.specs.Prelude.{◌≡◌, Some, [], ◌∷◌, ◌++◌, IfOk, map};
+ghost use Rattle.std.specs.Prelude.{◌≡◌, Some, [], ◌∷◌, ◌++◌, IfOk, map, true};
 ghost use Rattle.apl_tokens.specs.Lexemes.{lexeme, lexemes};
 ghost use Rattle.apl_expr.specs.Machine.{first, settle, position_ended, closed, skipped, ends_position, begin, next, after_reference, step, finish, run, state, Index, Inside, Nothing, Position};
 ghost use Rattle.apl_expr.specs.Parsing.{stack, reading_of, Settles, Steps, Gives, IsParsed};
 ghost use Rattle.apl_expr.specs.Symbols.{indexed_of};
-ghost use Rattle.apl_expr.specs.Trees.{Numbers, Text, literal_of, IsPlain, tree_of, position_of};
+ghost use Rattle.apl_expr.specs.Trees.{is_plain_position, tree_of, position_of};
 
-use crate::expr::{Dyadic, Expr, Literal, Monadic};
+use crate::expr::{Dyadic, Expr, Monadic};
 use crate::fault::ParseFault;
 use crate::functions::{Function, function_from};
 use crate::limits::{MOST_HEIGHT, MOST_NODES, MOST_TOKENS};
+use crate::plain::{OpenIndex, Plain, literal, text_literal};
 use apl_tokens::{Spanned, Token};
 use std::alloc::{AllocError, Global};
 
-/// An open bracket: a parenthesis, or the bracket of an index after its operand, with the positions before this one.
+/// An open bracket: a parenthesis, or that of an index.
 #[derive(Drop)]
 enum Bracket {
     Parenthesis,
-    Index(Expr, Vec<Option<Expr>>),
+    Index(OpenIndex),
 }
 
 /// What waits for a value at its right: a function, or an open bracket.
 #[derive(Drop)]
 enum Waiting {
     Argument1(Monadic),
-    Argument2(Dyadic, Expr),
+    Argument2(Dyadic, Plain),
     Inside(Bracket),
 }
 
 /// A value that the functions took which waited for it, and the bracket that it then stands in, if there is one.
 #[derive(Drop)]
 struct Settled {
-    value: Expr,
+    value: Plain,
     bracket: Option<Bracket>,
 }
 
@@ -44,30 +45,8 @@ enum Reading {
     Nothing,
     Position,
     Strand(Vec<i64>),
-    Whole(Expr),
-    Reference(Expr),
-}
-
-/// The literal of these numbers: one number is a scalar.
-pub(crate) fn literal(numbers: Vec<i64>) -> Literal
-    ensures numbers { literal_of result ≡ Numbers numbers.items }
-    ensures plain { IsPlain result }
-{
-    match numbers.as_slice() {
-        [number] => Literal::Num(*number),
-        _ => Literal::Nums(numbers),
-    }
-}
-
-/// The literal of a text: one character is a scalar.
-pub(crate) fn text_literal(characters: Vec<char>) -> Literal
-    ensures characters { literal_of result ≡ Text characters.items }
-    ensures plain { IsPlain result }
-{
-    match characters.as_slice() {
-        [character] => Literal::Char(*character),
-        _ => Literal::Text(characters),
-    }
+    Whole(Plain),
+    Reference(Plain),
 }
 
 /// Reads a token, or the function that it begins, where an expression is to begin.
@@ -87,9 +66,10 @@ fn first(
         }
         Token::Text(characters) => {
             let characters = characters.to_vec(alloc)?;
-            Ok(Reading::Whole(Expr::Const(text_literal(characters))))
+            let literal = text_literal(characters);
+            Ok(Reading::Whole(Plain::constant(literal)))
         }
-        Token::Word(name) => Ok(Reading::Reference(Expr::Name(*name))),
+        Token::Word(name) => Ok(Reading::Reference(Plain::name(*name))),
         Token::Mark(sign) => match function.alone {
             Some(function) => {
                 waiting.push(Waiting::Argument1(function))?;
@@ -105,15 +85,15 @@ fn first(
 }
 
 /// Gives a value to all that waits for it, up to the innermost open bracket, which is taken off.
-fn settle(alloc: Global, value: Expr, waiting: &mut Vec<Waiting>) -> Result<Settled, AllocError>
-    ensures { IfOk result (λ s. Settles s waiting.new.items (settle (stack waiting.old.items) (tree_of value))) }
+fn settle(alloc: Global, value: Plain, waiting: &mut Vec<Waiting>) -> Result<Settled, AllocError>
+    ensures { IfOk result (λ s. Settles s waiting.new.items (settle (stack waiting.old.items) (tree_of value.expr))) }
 {
     let mut value = value;
     while let Some(frame) = waiting.pop() {
         match frame {
-            Waiting::Argument1(function) => value = Expr::Monad(function, Box::new(alloc, value)?),
+            Waiting::Argument1(function) => value = Plain::monad(alloc, function, value)?,
             Waiting::Argument2(function, left) => {
-                value = Expr::Dyad(function, Box::new(alloc, left)?, Box::new(alloc, value)?);
+                value = Plain::dyad(alloc, function, left, value)?;
             }
             Waiting::Inside(bracket) => {
                 return Ok(Settled {
@@ -131,49 +111,49 @@ fn settle(alloc: Global, value: Expr, waiting: &mut Vec<Waiting>) -> Result<Sett
 
 /// Has the index wait for its next position, after `;`.
 fn next_position(
-    operand: Expr,
-    positions: Vec<Option<Expr>>,
+    index: OpenIndex,
     position: Option<Expr>,
     waiting: &mut Vec<Waiting>,
 ) -> Result<Reading, ParseFault>
-    ensures { Steps result waiting.new.items (Some (state (Inside (Index (tree_of operand) (map position_of positions.items ++ position_of position ∷ [])) ∷ stack waiting.old.items) Position)) }
+    requires { is_plain_position position ≡ true }
+    ensures { Steps result waiting.new.items (Some (state (Inside (Index (tree_of index.operand) (map position_of index.positions.items ++ position_of position ∷ [])) ∷ stack waiting.old.items) Position)) }
 {
-    let mut positions = positions;
-    positions.push(position)?;
-    waiting.push(Waiting::Inside(Bracket::Index(operand, positions)))?;
+    let index = index.with(position)?;
+    waiting.push(Waiting::Inside(Bracket::Index(index)))?;
     Ok(Reading::Position)
 }
 
 /// The index whose last position `]` ends.
+#[tactic(auto, using(crate::proofs::Rows::plain_index))]
 fn index_closed(
     alloc: Global,
-    operand: Expr,
-    positions: Vec<Option<Expr>>,
+    index: OpenIndex,
     position: Option<Expr>,
-) -> Result<Expr, AllocError>
-    ensures { IfOk result (λ e. indexed_of (tree_of operand) (map position_of positions.items ++ position_of position ∷ []) ≡ Some (tree_of e)) }
+) -> Result<Plain, AllocError>
+    requires { is_plain_position position ≡ true }
+    ensures { IfOk result (λ e. indexed_of (tree_of index.operand) (map position_of index.positions.items ++ position_of position ∷ []) ≡ Some (tree_of e.expr)) }
 {
-    let mut positions = positions;
-    positions.push(position)?;
-    let operand = Box::new(alloc, operand)?;
-    Ok(Expr::Index(operand, positions))
+    let whole = index.with(position)?;
+    let operand = Box::new(alloc, whole.operand)?;
+    let expr = Expr::Index(operand, whole.positions);
+    Ok(Plain { expr })
 }
 
 /// Ends a position of an index, by `;` or by `]`.
 fn position_ended(
     alloc: Global,
     sign: char,
-    operand: Expr,
-    positions: Vec<Option<Expr>>,
+    index: OpenIndex,
     position: Option<Expr>,
     waiting: &mut Vec<Waiting>,
 ) -> Result<Reading, ParseFault>
-    ensures { Steps result waiting.new.items (position_ended sign (tree_of operand) (map position_of positions.items) (position_of position) (stack waiting.old.items)) }
+    requires { is_plain_position position ≡ true }
+    ensures { Steps result waiting.new.items (position_ended sign (tree_of index.operand) (map position_of index.positions.items) (position_of position) (stack waiting.old.items)) }
 {
     match sign {
-        ';' => next_position(operand, positions, position, waiting),
+        ';' => next_position(index, position, waiting),
         ']' => {
-            let index = index_closed(alloc, operand, positions, position)?;
+            let index = index_closed(alloc, index, position)?;
             Ok(Reading::Reference(index))
         }
         _ => Err(ParseFault::Syntax),
@@ -184,22 +164,17 @@ fn position_ended(
 fn closed(
     alloc: Global,
     sign: char,
-    operand: Expr,
+    operand: Plain,
     waiting: &mut Vec<Waiting>,
 ) -> Result<Reading, ParseFault>
-    ensures { Steps result waiting.new.items (closed sign (settle (stack waiting.old.items) (tree_of operand))) }
+    ensures { Steps result waiting.new.items (closed sign (settle (stack waiting.old.items) (tree_of operand.expr))) }
 {
     let Settled { value, bracket } = settle(alloc, operand, waiting)?;
     match bracket {
         Some(Bracket::Parenthesis) if sign == ')' => Ok(Reading::Reference(value)),
-        Some(Bracket::Index(indexed, positions)) => position_ended(
-            alloc,
-            sign,
-            indexed,
-            positions,
-            Some(value),
-            waiting,
-        ),
+        Some(Bracket::Index(index)) => {
+            position_ended(alloc, sign, index, Some(value.expr), waiting)
+        }
         _ => Err(ParseFault::Syntax),
     }
 }
@@ -209,8 +184,8 @@ fn skipped(alloc: Global, sign: char, waiting: &mut Vec<Waiting>) -> Result<Read
     ensures { Steps result waiting.new.items (skipped sign (stack waiting.old.items)) }
 {
     match waiting.pop() {
-        Some(Waiting::Inside(Bracket::Index(operand, positions))) => {
-            position_ended(alloc, sign, operand, positions, None, waiting)
+        Some(Waiting::Inside(Bracket::Index(index))) => {
+            position_ended(alloc, sign, index, None, waiting)
         }
         _ => Err(ParseFault::Syntax),
     }
@@ -243,10 +218,10 @@ fn next(
     alloc: Global,
     token: &Token,
     function: Function,
-    operand: Expr,
+    operand: Plain,
     waiting: &mut Vec<Waiting>,
 ) -> Result<Reading, ParseFault>
-    ensures { Steps result waiting.new.items (next (lexeme token.now) function (stack waiting.old.items) (tree_of operand)) }
+    ensures { Steps result waiting.new.items (next (lexeme token.now) function (stack waiting.old.items) (tree_of operand.expr)) }
 {
     let Token::Mark(sign) = token else {
         return Err(ParseFault::Syntax);
@@ -265,14 +240,18 @@ fn after_reference(
     alloc: Global,
     token: &Token,
     function: Function,
-    operand: Expr,
+    operand: Plain,
     waiting: &mut Vec<Waiting>,
 ) -> Result<Reading, ParseFault>
-    ensures { Steps result waiting.new.items (after_reference (lexeme token.now) function (stack waiting.old.items) (tree_of operand)) }
+    ensures { Steps result waiting.new.items (after_reference (lexeme token.now) function (stack waiting.old.items) (tree_of operand.expr)) }
 {
     match token {
         Token::Mark('[') => {
-            waiting.push(Waiting::Inside(Bracket::Index(operand, Vec::new(alloc))))?;
+            let index = OpenIndex {
+                operand: operand.expr,
+                positions: Vec::new(alloc),
+            };
+            waiting.push(Waiting::Inside(Bracket::Index(index)))?;
             Ok(Reading::Position)
         }
         _ => next(alloc, token, function, operand, waiting),
@@ -297,13 +276,10 @@ fn step(
                 numbers.push(*n)?;
                 Ok(Reading::Strand(numbers))
             }
-            _ => next(
-                alloc,
-                token,
-                function,
-                Expr::Const(literal(numbers)),
-                waiting,
-            ),
+            _ => {
+                let literal = Plain::constant(literal(numbers));
+                next(alloc, token, function, literal, waiting)
+            }
         },
         Reading::Whole(operand) => next(alloc, token, function, operand, waiting),
         Reading::Reference(operand) => after_reference(alloc, token, function, operand, waiting),
@@ -311,12 +287,12 @@ fn step(
 }
 
 /// The tree where the tokens end.
-fn finish(alloc: Global, reading: Reading, waiting: &mut Vec<Waiting>) -> Result<Expr, ParseFault>
+fn finish(alloc: Global, reading: Reading, waiting: &mut Vec<Waiting>) -> Result<Plain, ParseFault>
     ensures { Gives result (finish (stack waiting.old.items) (reading_of reading)) }
 {
     let operand = match reading {
         Reading::Nothing | Reading::Position => return Err(ParseFault::Syntax),
-        Reading::Strand(numbers) => Expr::Const(literal(numbers)),
+        Reading::Strand(numbers) => Plain::constant(literal(numbers)),
         Reading::Whole(operand) | Reading::Reference(operand) => operand,
     };
     let whole = settle(alloc, operand, waiting)?;
@@ -327,7 +303,7 @@ fn finish(alloc: Global, reading: Reading, waiting: &mut Vec<Waiting>) -> Result
 }
 
 /// The tree of the tokens, of any size.
-fn tree(alloc: Global, tokens: &[Spanned]) -> Result<Expr, ParseFault>
+fn tree(alloc: Global, tokens: &[Spanned]) -> Result<Plain, ParseFault>
     ensures { Gives result (run 0 (lexemes tokens.now) (Some (state [] Nothing))) }
 {
     let mut waiting = Vec::new(alloc);
@@ -345,19 +321,20 @@ fn tree(alloc: Global, tokens: &[Spanned]) -> Result<Expr, ParseFault>
 ///
 /// More than 4,096 tokens are `Limit`, whatever they are; then tokens that are no expression are `Syntax`; then a tree
 /// that is more than 256 high or has more than 512 nodes is `Limit`. A leaf is 1 high, a list of numbers is one node, an
-/// index is one, and parentheses and an empty position are none.
+/// index is one, and parentheses and an empty position are none. One number is `Literal::Num` and never `Literal::Nums`, and one
+/// character `Literal::Char` and never `Literal::Text`.
 pub fn parse(alloc: Global, tokens: &[Spanned]) -> Result<Expr, ParseFault>
     ensures { IsParsed (lexemes tokens.now) result }
 {
     if tokens.len() > MOST_TOKENS {
         return Err(ParseFault::Limit);
     }
-    let expr = tree(alloc, tokens)?;
-    if !expr.is_within_height(MOST_HEIGHT) {
+    let plain = tree(alloc, tokens)?;
+    if !plain.expr.is_within_height(MOST_HEIGHT) {
         return Err(ParseFault::Limit);
     }
-    if !expr.is_within_nodes(MOST_NODES) {
+    if !plain.expr.is_within_nodes(MOST_NODES) {
         return Err(ParseFault::Limit);
     }
-    Ok(expr)
+    Ok(plain.expr)
 }

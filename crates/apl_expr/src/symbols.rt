@@ -149,7 +149,7 @@ fn folding_of(function: ScalarDyad, folding: char) -> Option<Monadic>
     }
 }
 
-/// The same with an axis after the sign.
+/// What the sign makes of a scalar function along the axis that stands after it.
 #[tactic(auto, unfolding(crate::specs::Symbols::folding_along_of))]
 fn folding_along_of(function: ScalarDyad, folding: char, axis: i64) -> Option<Monadic>
     ensures { result ≡ folding_along_of function folding axis }
@@ -168,7 +168,7 @@ pub(crate) fn folded_of(function: char, folding: char) -> Option<Monadic>
     folding_of(scalar_dyad_of(function)?, folding)
 }
 
-/// The same with an axis after them.
+/// The reduction or scan by a scalar function that the two signs stand for, along the axis that stands after them.
 pub(crate) fn folded_along_of(function: char, folding: char, axis: i64) -> Option<Monadic>
     ensures { result ≡ folded_along_of function folding axis }
 {

@@ -33,7 +33,7 @@ enum Scan {
     Letters(usize),
     /// A text: where it begins, and its characters so far.
     Quoted(usize, Vec<char>),
-    /// The same after a quote, which ends the text or is doubled.
+    /// A text after a quote, which ends it or is doubled: where it begins, and its characters so far.
     Quote(usize, Vec<char>),
 }
 

@@ -48,7 +48,7 @@ pub fn copied<T: Copy + Drop>(alloc: Global, items: &[T]) -> Result<Vec<T>, Allo
     Ok(copy)
 }
 
-/// The same item so many times, with the room of so many.
+/// One item so many times, with the room of so many.
 pub fn repeated<T: Copy + Drop>(alloc: Global, item: T, places: usize) -> Result<Vec<T>, AllocError>
     ensures { IfOk result (λ v. v.items ≡ replicate places item) }
 {

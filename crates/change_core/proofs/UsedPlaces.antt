@@ -1,17 +1,17 @@
 -- Uses by place and by search are covered.
-use Rattle.std.proofs.Common.{◌≡◌, ℕ, suc, zero, ◌+◌, ◌-◌, ◌*◌, ◌/◌, ◌%◌, ◌≤◌, ◌<◌, List, [], ◌∷◌, refl, ap, ◌∙◌, sym, subst, arith, true, Bool, ◌&&◌, Option, inl, inr, nat_le, nat_lt, nat_eq, min}
-use Rattle.std.proofs.lemmas.Bool.{and_parts, leb-true, ltb-false, eqb-true, false≢true, cases_Bool, cond-true, cond-false, and_from, le-leb, lt-ltb, cases_order, both_ways}
-use Rattle.std.proofs.lemmas.Nat.{mod_below, div-add-mod', mul-le}
+use Rattle.std.proofs.Common.{◌≡◌, ℕ, suc, zero, ◌+◌, ◌-◌, ◌*◌, ◌%◌, ◌≤◌, ◌<◌, List, [], ◌∷◌, ap, ◌∙◌, sym, subst, arith, true, Bool, Option, inl, inr, nat_lt, min}
+use Rattle.std.proofs.lemmas.Bool.{and_parts, leb-true, ltb-false, false≢true, cases_Bool, cond-true, cond-false, and_from, le-leb, lt-ltb, cases_order, both_ways}
+use Rattle.std.proofs.lemmas.Nat.{mul-le}
 use Rattle.std.proofs.Math.Nat.{mod-eq_of_lt}
 use Rattle.arrays_core.specs.Shapes.{is_index_of, size, places_before, index_after}
 use Rattle.arrays_core.proofs.Shapes.{places_below}
 use Rattle.arrays_core.proofs.Order.{places_before-index_after}
-use Rattle.change_core.proofs.UsedWays.{within-whole}
+use Rattle.index_region.proofs.Least.{within-whole, cover-within}
 use Rattle.change_core.specs.Laws.{Covered}
 use Rattle.change_core.specs.Places.{by_place, cover_in, first_hit, first_of_box, last_hit, last_of_box, lies_in, searched}
 use Rattle.change_core.specs.Reaches.{is_moved}
 use Rattle.change_core.specs.Ways.{IsSound}
-use Rattle.index_region.specs.Boxes.{Interval, cover, is_within}
+use Rattle.index_region.specs.Boxes.{Interval, is_within}
 
 pub first_hit-le : (test : ℕ → Bool) (from n i : ℕ) → from ≤ i → i < from + n → test i ≡ true → first_hit test from n ≤ i
 first_hit-le test from zero i l u h = absurd (omega arith)
@@ -43,50 +43,6 @@ searched-sound n source = record {
   low = λ s i l u f h k. first_hit-le (λ j. lies_in s (source j)) 1 n i l (omega arith) (and_from _ _ (le-leb _ _ h) (le-leb _ _ k));
   high = λ s i l u f h k. last_hit-le (λ j. lies_in s (source j)) n i l u (and_from _ _ (le-leb _ _ h) (le-leb _ _ k));
 }
-
-row_le : (a x w b o : ℕ) → a * w + b ≤ x * w + o → o < w → a ≤ x
-row_le a x w b o h l = elim (cases_order a x) [
-  | inl e ↦ omega arith
-  | inr s ↦ elim s [
-    | inl m ↦ omega arith
-    | inr m ↦
-        let next : (x + 1) * w ≤ a * w = mul-le (x + 1) w a w (omega arith) (omega arith) in
-        let more : (x + 1) * w ≡ x * w + w = grind arith in
-        absurd (omega arith)
-  ]
-]
-
-same_row : (a x w b o : ℕ) → a ≡ x → a * w + b ≤ x * w + o → b ≤ o
-same_row a x w b o e h = let k = rw e at h in omega arith
-
-pub cover-within : (axes index : List ℕ) (p q : ℕ) → is_index_of axes index ≡ true → p ≤ places_before axes index → places_before axes index ≤ q → q < size axes → is_within (cover axes p q) index ≡ true
-cover-within [] [] p q place l u b = refl
-cover-within [] (i ∷ index) p q place l u b = absurd (false≢true place)
-cover-within (n ∷ axes) [] p q place l u b = absurd (false≢true place)
-cover-within (n ∷ axes) (i ∷ index) p q place l u b =
-    let parts = and_parts _ _ place in
-    let low : 1 ≤ i = leb-true 1 i (and_parts _ _ parts.0).0 in
-    let w = size axes in
-    let o = places_before axes index in
-    let below : o < w = places_below axes index parts.1 in
-    let positive : 0 < w = omega arith in
-    let dp : p / w * w + p % w ≡ p = div-add-mod' p w in
-    let dq : q / w * w + q % w ≡ q = div-add-mod' q w in
-    let mq : q % w < w = mod_below q w positive in
-    let lp : p / w * w + p % w ≤ (i - 1) * w + o = omega arith in
-    let lq : (i - 1) * w + o ≤ q / w * w + q % w = omega arith in
-    let first : p / w ≤ i - 1 = row_le (p / w) (i - 1) w (p % w) o lp below in
-    let last : i - 1 ≤ q / w = row_le (i - 1) (q / w) w o (q % w) lq mq in
-    let here : (nat_le (p / w + 1) i && nat_le i (q / w + 1)) ≡ true = and_from _ _ (le-leb (p / w + 1) i (omega arith)) (le-leb i (q / w + 1) (omega arith)) in
-    let deep = λ (r : List Interval). is_within r index ≡ true in
-    elim (cases_Bool (nat_eq (p / w + 1) (q / w + 1))) [
-      | inl t ↦
-          let same : p / w + 1 ≡ q / w + 1 = eqb-true _ _ t in
-          let pi : p / w ≡ i - 1 = omega arith in
-          let qi : i - 1 ≡ q / w = omega arith in
-          and_from _ _ here (subst deep (sym (cond-true _ _ _ t)) (cover-within axes index (p % w) (q % w) parts.1 (same_row _ _ w _ _ pi lp) (same_row _ _ w _ _ qi lq) mq))
-      | inr f ↦ and_from _ _ here (subst deep (sym (cond-false _ _ _ f)) (within-whole axes index ∙ parts.1))
-    ]
 
 -- an index list in the box lies between the box's first and last in the ravel
 pub offset_between : (axes : List ℕ) (region : List Interval) (index : List ℕ) → is_within region index ≡ true → (places_before axes (first_of_box region) ≤ places_before axes index) × (places_before axes index ≤ places_before axes (last_of_box region))

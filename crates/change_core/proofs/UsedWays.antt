@@ -8,6 +8,7 @@ use Rattle.change_core.specs.Reaches.{is_moved}
 use Rattle.change_core.specs.RuleModels.{Use}
 use Rattle.change_core.specs.Ways.{Axis, IsSound, across, alike, along, back, by_axes, everywhere, front, images, lengths, lines, meet_at, meets, on_box, permuted, read_all, scalar_by_axes, sources, then_by, unread}
 use Rattle.index_region.specs.Boxes.{Interval, fits, is_within, whole_of}
+pub use Rattle.index_region.proofs.Least.{within-whole}
 
 pub each_map : {A B : Type 0} (P : B → Type 0) (f : A → B) (xs : List A) → Each (λ x. P (f x)) xs → Each P (map f xs)
 each_map P f [] h = tt
@@ -20,12 +21,6 @@ each_all P (x ∷ xs) h = (h x, each_all P xs h)
 pub each_range : (P : ℕ → Type 0) (from n : ℕ) → ((k : ℕ) → from ≤ k → k < from + n → P k) → Each P (range_with_len from n)
 each_range P from zero h = tt
 each_range P from (suc n) h = (h from (omega arith) (omega arith), each_range P (from + 1) n (λ k l u. h k (omega arith) (omega arith)))
-
-pub within-whole : (axes index : List ℕ) → is_within (whole_of axes) index ≡ is_index_of axes index
-within-whole [] [] = refl
-within-whole (n ∷ axes) (i ∷ index) = ap (λ (b : Bool). (nat_le 1 i && nat_le i n) && b) (within-whole axes index)
-within-whole [] (i ∷ index) = refl
-within-whole (n ∷ axes) [] = refl
 
 pub unread-covered : (from shape : List ℕ) → Covered from shape unread
 unread-covered from shape region index fit place = tt

@@ -1,6 +1,6 @@
 //! A count that stays at the greatest number of 64 bits.
 
-ghost use Rattle.std.specs.Prelude.{◌≡◌, ℕ};
+ghost use Rattle.std.specs.Prelude.{◌≡◌, ◌≤◌, ℕ};
 ghost use Rattle.change_core.specs.Meters.{ticked};
 
 use std::marker::Model;
@@ -27,14 +27,16 @@ impl Count {
 
     /// Counts so many more.
     pub fn add(&mut self, more: u32)
-        ensures { self.new ≡ ticked self.old more }
+        ensures exact { self.new ≡ ticked self.old more }
+        ensures rises { self.old ≤ self.new }
     {
         self.count = self.count.saturating_add(u64::from(more));
     }
 
     /// Counts what another has counted, too.
     pub fn include(&mut self, other: &Count)
-        ensures { self.new ≡ ticked self.old other.now }
+        ensures exact { self.new ≡ ticked self.old other.now }
+        ensures rises { self.old ≤ self.new }
     {
         self.count = self.count.saturating_add(other.count);
     }

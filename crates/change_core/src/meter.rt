@@ -36,13 +36,15 @@ impl Meter {
     pub fn tick(&mut self)
         ensures exact { self.new ≡ record { ticks = ticked self.old.ticks 1; joins = self.old.joins } }
         ensures by_one { self.new.ticks ≤ self.old.ticks + 1 }
+        ensures rises { self.old.ticks ≤ self.new.ticks }
     {
         self.ticks.add(1);
     }
 
     /// Counts so many items.
     pub fn add(&mut self, items: u32)
-        ensures { self.new ≡ record { ticks = ticked self.old.ticks items; joins = self.old.joins } }
+        ensures exact { self.new ≡ record { ticks = ticked self.old.ticks items; joins = self.old.joins } }
+        ensures rises { self.old.ticks ≤ self.new.ticks }
     {
         self.ticks.add(items);
     }
@@ -56,7 +58,8 @@ impl Meter {
 
     /// Counts what another meter has counted, too.
     pub fn include(&mut self, other: &Meter)
-        ensures { self.new ≡ record { ticks = ticked self.old.ticks other.now.ticks; joins = ticked self.old.joins other.now.joins } }
+        ensures exact { self.new ≡ record { ticks = ticked self.old.ticks other.now.ticks; joins = ticked self.old.joins other.now.joins } }
+        ensures rises { self.old.ticks ≤ self.new.ticks }
     {
         self.ticks.include(&other.ticks);
         self.joins.include(&other.joins);

@@ -37,6 +37,7 @@ pub trait Rule {
         ensures is { result ≡ (model self.now).item args.now index.now }
         ensures typed { IfOk result (HasTypeOf ((model self.now).form args.now)) }
         ensures ticks { meter.new.ticks ≡ ticked meter.old.ticks 1 }
+        ensures rises { meter.old.ticks ≤ meter.new.ticks }
         ensures joins { meter.new.joins ≡ meter.old.joins };
 
     /// The whole result. It ticks as often as the result has places.
@@ -44,6 +45,7 @@ pub trait Rule {
         requires { length args.now ≡ length (model self.now).selectors }
         ensures is { IsAnswerTo (whole ((model self.now).form args.now) ((model self.now).item args.now)) result }
         ensures ticks { meter.new.ticks ≡ ticked meter.old.ticks (form_size ((model self.now).form args.now)) }
+        ensures rises { meter.old.ticks ≤ meter.new.ticks }
         ensures joins { meter.new.joins ≡ meter.old.joins };
 
     /// The items of a box of the result in row-major order, as an array of any shape, or the first error among them. It
@@ -64,6 +66,7 @@ pub trait Rule {
         ensures items { HoldsItems item_type (items_in ((model self.now).item args.now) region.now) result }
         ensures ticks { meter.new.ticks ≤ meter.old.ticks + box_size region.now }
         ensures exact { IfOk result (λ _. meter.new.ticks ≡ ticked meter.old.ticks (box_size region.now)) }
+        ensures rises { meter.old.ticks ≤ meter.new.ticks }
         ensures joins { meter.new.joins ≡ meter.old.joins }
     {
         let places = region.size();

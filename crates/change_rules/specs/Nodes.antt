@@ -34,6 +34,11 @@ abbrev pub is_whole : Delta → Bool
 is_whole (Whole r) = true
 is_whole _ = false
 
+-- the result is an error now
+abbrev pub is_error : Delta → Bool
+is_error (Whole (Err e)) = true
+is_error _ = false
+
 abbrev pub is_grown : Delta → Bool
 is_grown (Grown t) = true
 is_grown _ = false

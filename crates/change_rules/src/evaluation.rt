@@ -1,10 +1,13 @@
 //! The whole evaluation of a node.
 
-ghost use Rattle.std.specs.Prelude.{◌≡◌, ◌+◌, ◌≤◌, length, IfOk, IfSome};
+ghost use Rattle.std.specs.Prelude.{◌≡◌, ◌+◌, ◌≤◌, length, false, IfOk, IfSome};
 ghost use Rattle.arrays_core.specs.Arrays.{IsAnswerTo};
 ghost use Rattle.index_region.specs.Checks.{whole};
+ghost use Rattle.change_core.specs.Meters.{ticked};
 ghost use Rattle.change_core.specs.RuleModels.{form_size};
+ghost use Rattle.index_region.specs.declared.delta.Delta.TheVariants.{Whole};
 ghost use Rattle.change_rules.specs.Copies.{AreCopies};
+ghost use Rattle.change_rules.specs.Nodes.{is_error};
 ghost use Rattle.change_rules.specs.Outcomes.{evaluation};
 
 use arrays_core::{ApplyFault, Array, Fault, size};
@@ -22,6 +25,8 @@ pub(crate) fn evaluate<R: Rule>(
     requires { length args.now ≡ length (R.model rule.now).selectors }
     ensures is { IfOk result (λ r. r ≡ evaluation (R.model rule.now) args.now) }
     ensures ticks { meter.new.ticks ≤ meter.old.ticks + form_size ((R.model rule.now).form args.now) }
+    ensures exact { IfOk result (λ r. is_error (Whole r) ≡ false → meter.new.ticks ≡ ticked meter.old.ticks (form_size ((R.model rule.now).form args.now))) }
+    ensures rises { meter.old.ticks ≤ meter.new.ticks }
     ensures joins { meter.new.joins ≡ meter.old.joins }
 {
     match all_of(alloc, rule, args, meter) {
@@ -52,6 +57,8 @@ pub(crate) fn all_of<R: Rule>(
     requires { length args.now ≡ length (R.model rule.now).selectors }
     ensures is { IsAnswerTo (whole ((R.model rule.now).form args.now) ((R.model rule.now).item args.now)) result }
     ensures ticks { meter.new.ticks ≤ meter.old.ticks + form_size ((R.model rule.now).form args.now) }
+    ensures exact { IfOk result (λ _. meter.new.ticks ≡ ticked meter.old.ticks (form_size ((R.model rule.now).form args.now))) }
+    ensures rises { meter.old.ticks ≤ meter.new.ticks }
     ensures joins { meter.new.joins ≡ meter.old.joins }
 {
     if args.iter().all(|arg| arg.array().is_some()) {

@@ -2,10 +2,11 @@
 
 ghost use Rattle.std.specs.Prelude.{◌≡◌, ◌+◌, ◌≤◌, length, IfOk, true, false};
 ghost use Rattle.change_core.specs.Reaches.{AllFit};
+ghost use Rattle.change_core.specs.Meters.{ticked, most_ticks};
 ghost use Rattle.change_core.specs.RuleModels.{form_size};
 ghost use Rattle.index_region.specs.declared.delta.Delta.TheVariants.{Whole};
 ghost use Rattle.change_rules.specs.Outcomes.{evaluation};
-ghost use Rattle.change_rules.specs.Nodes.{views, moved, all_same as all_are_same, starts_anew as is_anew, node_delta, node_cost, reached_delta, reached_cost, node_grows, grown_delta, grown_cost, grown_in, grown_size};
+ghost use Rattle.change_rules.specs.Nodes.{views, moved, is_error, all_same as all_are_same, starts_anew as is_anew, node_delta, node_cost, reached_delta, reached_cost, node_grows, grown_delta, grown_cost, grown_in, grown_size};
 ghost use Rattle.change_rules.specs.Currency.{BringsUpToDate, HasAxis, IsRight};
 
 use crate::arguments::{
@@ -30,9 +31,12 @@ fn reached<R: Rule>(
     requires count { length args.now ≡ length (R.model rule.now).selectors }
     requires boxes { length boxes.now ≡ length args.now }
     requires fit { AllFit args.now boxes.now }
+    requires small { meter.old.ticks ≤ most_ticks }
     ensures delta { IfOk result (λ r. r.0 ≡ reached_delta (R.model rule.now) args.now boxes.now) }
     ensures cost { IfOk result (λ r. r.1 ≡ reached_cost (R.model rule.now) args.now boxes.now) }
     ensures ticks { meter.new.ticks ≤ meter.old.ticks + reached_cost (R.model rule.now) args.now boxes.now }
+    ensures exact { IfOk result (λ r. is_error r.0 ≡ false → meter.new.ticks ≡ ticked meter.old.ticks r.1) }
+    ensures rises { meter.old.ticks ≤ meter.new.ticks }
     ensures joins { meter.new.joins ≡ meter.old.joins }
 {
     match rule.shape(args) {
@@ -68,9 +72,12 @@ fn change_from<R: Rule>(
     requires seen { seen.now ≡ views args.now }
     requires boxes { boxes.now ≡ moved args.now }
     requires some { all_are_same args.now ≡ false }
+    requires small { meter.old.ticks ≤ most_ticks }
     ensures delta { IfOk result (λ r. r.0 ≡ node_delta (R.model rule.now) args.now old.now) }
     ensures cost { IfOk result (λ r. r.1 ≡ node_cost (R.model rule.now) args.now old.now) }
     ensures ticks { meter.new.ticks ≤ meter.old.ticks + node_cost (R.model rule.now) args.now old.now }
+    ensures exact { IfOk result (λ r. is_error r.0 ≡ false → meter.new.ticks ≡ ticked meter.old.ticks r.1) }
+    ensures rises { meter.old.ticks ≤ meter.new.ticks }
     ensures joins { meter.new.joins ≡ meter.old.joins }
 {
     if old.is_ok() && patched_at_most(args) {
@@ -93,6 +100,8 @@ fn change_anew<R: Rule>(
     ensures delta { IfOk result (λ r. r.0 ≡ Whole (evaluation (R.model rule.now) seen.now)) }
     ensures cost { IfOk result (λ r. r.1 ≡ form_size ((R.model rule.now).form seen.now)) }
     ensures ticks { meter.new.ticks ≤ meter.old.ticks + form_size ((R.model rule.now).form seen.now) }
+    ensures exact { IfOk result (λ r. is_error r.0 ≡ false → meter.new.ticks ≡ ticked meter.old.ticks r.1) }
+    ensures rises { meter.old.ticks ≤ meter.new.ticks }
     ensures joins { meter.new.joins ≡ meter.old.joins }
 {
     let whole = evaluate(alloc, rule, seen, meter)?;
@@ -114,9 +123,12 @@ fn change_grown<R: Rule>(
 ) -> Result<(Delta, u32), AllocError>
     requires count { length args.now ≡ length (R.model rule.now).selectors }
     requires seen { seen.now ≡ views args.now }
+    requires small { meter.old.ticks ≤ most_ticks }
     ensures delta { IfOk result (λ r. r.0 ≡ grown_delta (R.model rule.now) args.now) }
     ensures cost { IfOk result (λ r. r.1 ≡ grown_cost (R.model rule.now) args.now) }
     ensures ticks { meter.new.ticks ≤ meter.old.ticks + grown_cost (R.model rule.now) args.now }
+    ensures exact { IfOk result (λ r. is_error r.0 ≡ false → meter.new.ticks ≡ ticked meter.old.ticks r.1) }
+    ensures rises { meter.old.ticks ≤ meter.new.ticks }
     ensures joins { meter.new.joins ≡ meter.old.joins }
 {
     if node_grows(alloc, rule, seen, args)? {
@@ -160,10 +172,13 @@ fn tail_of<R: Rule>(
     seen: &[Seen],
     meter: &mut Meter,
 ) -> Result<(Delta, u32), AllocError>
-    requires { length seen.now ≡ length (R.model rule.now).selectors }
+    requires count { length seen.now ≡ length (R.model rule.now).selectors }
+    requires small { meter.old.ticks ≤ most_ticks }
     ensures delta { IfOk result (λ r. r.0 ≡ grown_in ((R.model rule.now).form seen.now) ((R.model rule.now).item seen.now)) }
     ensures cost { IfOk result (λ r. r.1 ≡ grown_size ((R.model rule.now).form seen.now)) }
     ensures ticks { meter.new.ticks ≤ meter.old.ticks + grown_size ((R.model rule.now).form seen.now) }
+    ensures exact { IfOk result (λ r. is_error r.0 ≡ false → meter.new.ticks ≡ ticked meter.old.ticks r.1) }
+    ensures rises { meter.old.ticks ≤ meter.new.ticks }
     ensures joins { meter.new.joins ≡ meter.old.joins }
 {
     let (shape, item_type) = match rule.shape(seen) {
@@ -192,9 +207,12 @@ fn change_of<R: Rule>(
 ) -> Result<(Delta, u32), AllocError>
     requires count { length args.now ≡ length (R.model rule.now).selectors }
     requires fit { AllFit (views args.now) (moved args.now) }
+    requires small { meter.old.ticks ≤ most_ticks }
     ensures delta { IfOk result (λ r. r.0 ≡ node_delta (R.model rule.now) args.now old.now) }
     ensures cost { IfOk result (λ r. r.1 ≡ node_cost (R.model rule.now) args.now old.now) }
     ensures ticks { meter.new.ticks ≤ meter.old.ticks + node_cost (R.model rule.now) args.now old.now }
+    ensures exact { IfOk result (λ r. is_error r.0 ≡ false → meter.new.ticks ≡ ticked meter.old.ticks r.1) }
+    ensures rises { meter.old.ticks ≤ meter.new.ticks }
     ensures joins { meter.new.joins ≡ meter.old.joins }
 {
     if all_same(args) {
@@ -226,9 +244,12 @@ fn change_of_more<R: Rule>(
     requires count { length args.now ≡ length (R.model rule.now).selectors }
     requires fit { AllFit (views args.now) (moved args.now) }
     requires some { all_are_same args.now ≡ false }
+    requires small { meter.old.ticks ≤ most_ticks }
     ensures delta { IfOk result (λ r. r.0 ≡ node_delta (R.model rule.now) args.now old.now) }
     ensures cost { IfOk result (λ r. r.1 ≡ node_cost (R.model rule.now) args.now old.now) }
     ensures ticks { meter.new.ticks ≤ meter.old.ticks + node_cost (R.model rule.now) args.now old.now }
+    ensures exact { IfOk result (λ r. is_error r.0 ≡ false → meter.new.ticks ≡ ticked meter.old.ticks r.1) }
+    ensures rises { meter.old.ticks ≤ meter.new.ticks }
     ensures joins { meter.new.joins ≡ meter.old.joins }
 {
     match args {
@@ -260,6 +281,8 @@ pub fn refresh<R: Tight>(
     requires axes { HasAxis args.now }
     ensures delta { IfOk result (λ d. d ≡ node_delta (R.model rule.now) args.now old.now) }
     ensures ticks { meter.new.ticks ≤ meter.old.ticks + node_cost (R.model rule.now) args.now old.now }
+    ensures exact { IfOk result (λ d. is_error d ≡ false → meter.new.ticks ≡ ticked meter.old.ticks (node_cost (R.model rule.now) args.now old.now)) }
+    ensures rises { meter.old.ticks ≤ meter.new.ticks }
     ensures joins { meter.new.joins ≡ meter.old.joins }
     ensures right { IfOk result (λ d. IsRight (R.model rule.now) (views args.now) d) }
     ensures whole { IfOk result (λ d. BringsUpToDate (R.model rule.now) args.now old.now d) }
@@ -267,7 +290,7 @@ pub fn refresh<R: Tight>(
     Ok(refresh_with_cost(alloc, rule, args, old, meter)?.0)
 }
 
-/// The same change, and what it costs: how many items of the result it computes at most.
+/// The change of a node, as `refresh` answers it, and what it costs: how many items of the result it computes at most.
 pub fn refresh_with_cost<R: Tight>(
     alloc: Global,
     rule: &R,
@@ -281,10 +304,14 @@ pub fn refresh_with_cost<R: Tight>(
     ensures delta { IfOk result (λ r. r.0 ≡ node_delta (R.model rule.now) args.now old.now) }
     ensures cost { IfOk result (λ r. r.1 ≡ node_cost (R.model rule.now) args.now old.now) }
     ensures ticks { meter.new.ticks ≤ meter.old.ticks + node_cost (R.model rule.now) args.now old.now }
+    ensures exact { IfOk result (λ r. is_error r.0 ≡ false → meter.new.ticks ≡ ticked meter.old.ticks r.1) }
+    ensures rises { meter.old.ticks ≤ meter.new.ticks }
     ensures joins { meter.new.joins ≡ meter.old.joins }
     ensures right { IfOk result (λ r. IsRight (R.model rule.now) (views args.now) r.0) }
     ensures whole { IfOk result (λ r. BringsUpToDate (R.model rule.now) args.now old.now r.0) }
 {
     views_are_arrays(args);
+    // The count says that it is a number of 64 bits.
+    let _counted = meter.ticks();
     change_of(alloc, rule, args, old, meter)
 }

@@ -1,11 +1,12 @@
 //! The new items of a box of a result.
 
-ghost use Rattle.std.specs.Prelude.{◌≡◌, ◌+◌, ◌≤◌, length, Ok, IsTrue, IfOk};
+ghost use Rattle.std.specs.Prelude.{◌≡◌, ◌+◌, ◌≤◌, length, false, Ok, IsTrue, IfOk};
 ghost use Rattle.index_region.specs.Answers.{IsFormAnswerTo};
 ghost use Rattle.index_region.specs.Boxes.{box_size, fits};
 ghost use Rattle.index_region.specs.Checks.{Form};
+ghost use Rattle.change_core.specs.Meters.{ticked};
 ghost use Rattle.change_core.specs.Parts.{HoldsItems, items_in};
-ghost use Rattle.change_rules.specs.Nodes.{patch_delta};
+ghost use Rattle.change_rules.specs.Nodes.{is_error, patch_delta};
 
 use crate::evaluation::all_of;
 use arrays_core::{ApplyFault, Array, Fault, ItemType, Shape, size};
@@ -28,6 +29,8 @@ fn items_of<R: Rule>(
     requires fit { IsTrue (fits region.now form.now.0.items) }
     ensures items { HoldsItems form.now.1 (items_in ((R.model rule.now).item args.now) region.now) result }
     ensures ticks { meter.new.ticks ≤ meter.old.ticks + box_size region.now }
+    ensures exact { IfOk result (λ _. meter.new.ticks ≡ ticked meter.old.ticks (box_size region.now)) }
+    ensures rises { meter.old.ticks ≤ meter.new.ticks }
     ensures joins { meter.new.joins ≡ meter.old.joins }
 {
     let shape = form.0.as_slice();
@@ -45,6 +48,8 @@ fn patch_of_one<R: Rule>(rule: &R, args: &[Seen], region: IndexBox, meter: &mut 
     requires checked { (f : Form) × ((R.model rule.now).form args.now ≡ Ok f) × IsTrue (fits region f.shape) }
     ensures delta { (f : Form) → (R.model rule.now).form args.now ≡ Ok f → result ≡ patch_delta f.item_type region (items_in ((R.model rule.now).item args.now) region) }
     ensures ticks { meter.new.ticks ≤ meter.old.ticks + 1 }
+    ensures exact { is_error result ≡ false → meter.new.ticks ≡ ticked meter.old.ticks 1 }
+    ensures rises { meter.old.ticks ≤ meter.new.ticks }
     ensures joins { meter.new.joins ≡ meter.old.joins }
 {
     let index = region.index_at(0);
@@ -68,6 +73,8 @@ pub(crate) fn patch_of<R: Rule>(
     requires fit { IsTrue (fits region form.now.0.items) }
     ensures delta { IfOk result (λ d. d ≡ patch_delta form.now.1 region (items_in ((R.model rule.now).item args.now) region)) }
     ensures ticks { meter.new.ticks ≤ meter.old.ticks + box_size region }
+    ensures exact { IfOk result (λ d. is_error d ≡ false → meter.new.ticks ≡ ticked meter.old.ticks (box_size region)) }
+    ensures rises { meter.old.ticks ≤ meter.new.ticks }
     ensures joins { meter.new.joins ≡ meter.old.joins }
 {
     if region.size() == 1 && size(form.0.as_slice()) > 1 {

@@ -104,6 +104,8 @@ refreshed_change p inputs held before after r none made =
           (cost_alike p _ _ held all.alike ∙ ap (λ o. operation_cost p o (map delta_of inputs) held) (sym all.are)) made.cost;
       ticks = subst (λ (x : ℕ). after ≤ before + x)
           (cost_alike p _ _ held all.alike ∙ ap (λ o. operation_cost p o (map delta_of inputs) held) (sym all.are)) made.ticks;
+      least = made.least;
+      rises = made.rises;
     }
 
 -- beside an error
@@ -132,6 +134,8 @@ error_change p inputs held before e d some is =
           ∙ ap (λ o. operation_delta p o (map delta_of inputs) held) (sym error);
       cost = ap (λ o. operation_cost p o (map delta_of inputs) held) (sym error);
       ticks = omega arith;
+      least = λ _. omega arith;
+      rises = omega arith;
     }
 
 -- the boxes of the patches lie in the arrays, and those that grew have axes

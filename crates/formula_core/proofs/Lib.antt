@@ -8,9 +8,11 @@ pub mod Changed
 pub mod Alike
 pub mod Stepping
 pub mod Gathered
+pub mod Given
 pub mod Steps
 pub mod Summed
 pub mod Adopted
 pub mod Placed
 pub mod Planned
 pub mod Progressed
+pub mod AtRest

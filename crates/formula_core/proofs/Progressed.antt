@@ -6,13 +6,15 @@ use Rattle.std.proofs.lemmas.List.{length-append, take_all, take-take}
 use Rattle.std.proofs.lemmas.List.Sums.{sum_by_more, sum_by_more_le, sum_by-take-le, count_by_more_yes, count_by_more_no}
 use Rattle.apl_expr.specs.Trees.{Tree, Const, Name, Monad, Dyad, Index, Numbers}
 use Rattle.change_core.specs.Meters.{ticked}
+use Rattle.change_rules.specs.Nodes.{is_error}
+use Rattle.index_region.specs.declared.delta.Delta.{Delta}
 use Rattle.formula_core.specs.declared.kept.NodeChange.{NodeChange}
 use Rattle.formula_core.specs.declared.table.Node.{Node}
 use Rattle.formula_core.specs.declared.table.Node.TheVariants as node
 use Rattle.formula_core.specs.Changes.{Change}
 use Rattle.formula_core.specs.Formulas.{FormulaValue, is_operation, operations}
 use Rattle.formula_core.specs.Holdings.{not_worked_out}
-use Rattle.formula_core.specs.Plans.{node_cost_at, tree_cost}
+use Rattle.formula_core.specs.Plans.{node_change, node_cost_at, tree_cost, IsComputed}
 use Rattle.formula_core.specs.Progress.{operations_among, IsAtOperation}
 use Rattle.formula_core.specs.Stages.{IsBegun, IsDone}
 use Rattle.formula_core.specs.Tables.{applies, subtrees, tree_at, tree_of_node}
@@ -131,3 +133,23 @@ rolled_at (x ∷ inner) (y ∷ after) d h =
 
 pub rolled : (inner more after : List NodeChange) (d : NodeChange) → more ≡ inner ++ d ∷ [] → take (length more) after ≡ more → take (length inner) after ≡ inner
 rolled inner more after d is kept = rolled_at inner after d (subst (λ (ds : List NodeChange). take (length ds) after ≡ ds) is kept)
+
+-- where no item of a node fails, its cost is counted whole
+counted_by : (failed : Bool) (start cost own after : ℕ) → (failed ≡ true → cost ≡ 0) → (failed ≡ false → ticked 0 cost ≤ own) → own ≤ cost → after ≡ ticked start own → after ≡ ticked start cost
+counted_by true start cost own after free least most is = let none = free refl in omega (arith, most, none, is)
+counted_by false start cost own after free least most is = let all = least refl in omega (arith, most, all, is)
+
+pub counted_whole : (is_new : Bool) (c : Change) (t : Tree) (d : Delta) (start items none own after : ℕ) → d ≡ node_change is_new c t → IsComputed is_new c t → items ≡ node_cost_at is_new c t
+    → own ≤ none + node_cost_at is_new c t → (is_error d ≡ false → ticked none items ≤ own) → none ≡ 0 → after ≡ ticked start own → after ≡ ticked start (node_cost_at is_new c t)
+counted_whole is_new c t d start items none own after is computed costs most least zero_is counted =
+    counted_by (is_error d) start (node_cost_at is_new c t) own after
+    (λ failed. computed (ap is_error (sym is) ∙ failed))
+    (λ sound. let all = least sound in omega (arith, all, costs, zero_is))
+    (omega (arith, most, zero_is)) counted
+
+-- the nodes so far count all that they cost
+pub counted_on : (start before after old new cost : ℕ) → ticked start old ≤ before → after ≡ ticked before cost → new ≡ ticked old cost → ticked start new ≤ after
+counted_on start before after old new cost least is costs = omega (arith, least, is, costs)
+
+pub counted_all : (start now planned cost : ℕ) → ticked start planned ≤ now → now ≤ start + cost → now < 18446744073709551616 → planned ≡ ticked 0 cost → now ≡ ticked start cost
+counted_all start now planned cost least most small is = omega (arith, least, most, small, is)

@@ -86,6 +86,8 @@ held_step p c t os ds is held before after r all changed costs made = record {
   delta = subst (λ (x : Delta). IfOk r (λ s. s.0 ≡ x)) (delta_stepped p os ds is all held ∙ sym changed) made.delta;
   cost = subst (λ (x : ℕ). IfOk r (λ s. s.1 ≡ x)) (cost_stepped p os ds is all held ∙ sym costs) made.cost;
   ticks = subst (λ (x : ℕ). after ≤ before + x) (cost_stepped p os ds is all held ∙ sym costs) made.ticks;
+  least = made.least;
+  rises = made.rises;
 }
 
 -- the first of the operands counts as new
@@ -135,6 +137,8 @@ new_step p c t os is held before after r shows new meant sized made =
       delta = subst (λ (x : Delta). IfOk r (λ s. s.0 ≡ x)) delta made.delta;
       cost = subst (λ (x : ℕ). IfOk r (λ s. s.1 ≡ x)) cost made.cost;
       ticks = subst (λ (x : ℕ). after ≤ before + x) cost made.ticks;
+      least = made.least;
+      rises = made.rises;
     }
 
 pub monad_step : (is_new : Bool) (c : Change) (f : Monadic) (b : Tree) (right : Input) (held : Outcome) (before after : ℕ) (r : Result (Delta × ℕ) AllocError) → IsReady is_new c b right → (is_new ≡ false → held ≡ eval (Monad f b) c.old)

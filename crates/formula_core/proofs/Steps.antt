@@ -161,10 +161,10 @@ whole_name old now (Whole r) none same is = ap (λ o. Whole o) is
 
 -- a step of a node that applies no function costs nothing
 pub free_step : (is_new : Bool) (c : Change) (t : Tree) (meter : ℕ) (d : Delta) → d ≡ node_change is_new c t → is_operation t ≡ false → IsStep is_new c t meter meter (Ok (d, 0))
-free_step true c (Const l) meter d is none = record { delta = is; cost = refl; ticks = omega arith }
-free_step true c (Name x) meter d is none = record { delta = is; cost = refl; ticks = omega arith }
-free_step false c (Const l) meter d is none = record { delta = is; cost = refl; ticks = omega arith }
-free_step false c (Name x) meter d is none = record { delta = is; cost = refl; ticks = omega arith }
+free_step true c (Const l) meter d is none = record { delta = is; cost = refl; ticks = omega arith; least = λ _. omega arith; rises = omega arith }
+free_step true c (Name x) meter d is none = record { delta = is; cost = refl; ticks = omega arith; least = λ _. omega arith; rises = omega arith }
+free_step false c (Const l) meter d is none = record { delta = is; cost = refl; ticks = omega arith; least = λ _. omega arith; rises = omega arith }
+free_step false c (Name x) meter d is none = record { delta = is; cost = refl; ticks = omega arith; least = λ _. omega arith; rises = omega arith }
 free_step is_new c (Monad f b) meter d is none = absurd (false≢true (sym none))
 free_step is_new c (Dyad f a b) meter d is none = absurd (false≢true (sym none))
 free_step is_new c (Index a ps) meter d is none = absurd (false≢true (sym none))

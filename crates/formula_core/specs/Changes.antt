@@ -28,6 +28,10 @@ pub record Change : Type 0 where
   pub new : List ℕ → Outcome
   pub delta : List ℕ → Delta
 
+-- the names show these, and nothing changed of them
+abbrev pub at_rest : (List ℕ → Outcome) → Change
+at_rest names = record { old = names; new = names; delta = λ x. Same }
+
 -- an argument before the others, whose error comes before its own
 abbrev pub argument_in_front : Outcome → Result (List ArrayValue) Fault → Result (List ArrayValue) Fault
 argument_in_front o (Err e) = Err e

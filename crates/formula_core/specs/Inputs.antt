@@ -5,8 +5,9 @@ use Rattle.arrays_core.specs.declared.fault.Fault.{Fault}
 use Rattle.std.specs.declared.alloc.AllocError.{AllocError}
 use Rattle.index_region.specs.declared.delta.Delta.{Delta}
 use Rattle.index_region.specs.declared.delta.Delta.TheVariants.{Same, Patch, Grown, Whole}
+use Rattle.change_core.specs.Meters.{ticked}
 use Rattle.change_core.specs.RuleModels.{RuleModel}
-use Rattle.change_rules.specs.Nodes.{Argument, is_same}
+use Rattle.change_rules.specs.Nodes.{Argument, is_same, is_error}
 use Rattle.formula_core.specs.declared.input.Input.{Input}
 use Rattle.formula_core.specs.declared.input.Input.TheVariants.{Good, Bad}
 use Rattle.formula_core.specs.Outcomes.{Outcome}
@@ -55,6 +56,8 @@ pub record IsOperationChange (rule : RuleModel) (operands : List Input) (held : 
   pub delta : IfOk r (λ s. s.0 ≡ operation_delta rule (arguments (map shown operands)) (map delta_of operands) held)
   pub cost : IfOk r (λ s. s.1 ≡ operation_cost rule (arguments (map shown operands)) (map delta_of operands) held)
   pub ticks : after ≤ before + operation_cost rule (arguments (map shown operands)) (map delta_of operands) held
+  pub least : IfOk r (λ s. is_error s.0 ≡ false → ticked before s.1 ≤ after)
+  pub rises : before ≤ after
 
 -- so it is with each written position
 abbrev pub AllHaveFit : List (Option Input) → Type 0

@@ -1,14 +1,15 @@
 -- What a formula's next results are, planned while its old ones stand.
-use Rattle.std.specs.Prelude.{◌≡◌, ◌-◌, ℕ, List, [], ◌∷◌, Bool, false, IfOk, length, get_or, map, if◌then◌else◌}
+use Rattle.std.specs.Prelude.{◌≡◌, ◌-◌, ◌<◌, ℕ, List, [], ◌∷◌, Bool, true, false, IfOk, length, get_or, map, if◌then◌else◌}
 use Rattle.std.specs.List.{Contains, sum_by}
 use Rattle.apl_expr.specs.Trees.{Tree}
 use Rattle.arrays_core.specs.Arrays.{IsArray}
 use Rattle.index_region.specs.declared.delta.Delta.{Delta}
 use Rattle.index_region.specs.declared.delta.Delta.TheVariants.{Whole}
 use Rattle.change_core.specs.Meters.{ticked}
+use Rattle.change_rules.specs.Nodes.{is_error}
 use Rattle.formula_core.specs.declared.input.Input.{Input}
 use Rattle.formula_core.specs.Meaning.{eval, names_in}
-use Rattle.formula_core.specs.Tables.{subtrees}
+use Rattle.formula_core.specs.Tables.{subtrees, tree_at}
 use Rattle.formula_core.specs.Formulas.{FormulaValue}
 use Rattle.formula_core.specs.Changes.{Change, change, cost_at, size_at, IsNameChanged}
 use Rattle.formula_core.specs.Inputs.{IsInput}
@@ -40,6 +41,14 @@ node_cost_at is_new c t = if is_new then size_at c.new t else cost_at c t
 -- what the change of a tree costs with all in it
 abbrev pub tree_cost : (is_new : Bool) → Change → Tree → ℕ
 tree_cost is_new c t = sum_by (node_cost_at is_new c) (subtrees t)
+
+-- no item of a node fails: its result is no error, unless none of it is computed
+abbrev pub IsComputed : (is_new : Bool) → Change → Tree → Type 0
+IsComputed is_new c t = is_error (node_change is_new c t) ≡ true → node_cost_at is_new c t ≡ 0
+
+-- nor does one of any node in a tree
+abbrev pub AllComputed : (is_new : Bool) → Change → Tree → Type 0
+AllComputed is_new c t = (k : ℕ) → k < length (subtrees t) → IsComputed is_new c (tree_at (subtrees t) k)
 
 -- an input for each name says what it shows now and what changed of it
 abbrev pub AreInputs : Change → List (List ℕ) → List Input → Type 0

@@ -1,13 +1,14 @@
 -- The change rule of each function of an expression.
-use Rattle.std.specs.Prelude.{◌≡◌, ◌+◌, ◌≤◌, ℕ, List, Result, IfOk}
+use Rattle.std.specs.Prelude.{◌≡◌, ◌+◌, ◌≤◌, ℕ, false, List, Result, IfOk}
 use Rattle.std.specs.declared.alloc.AllocError.{AllocError}
 use Rattle.apl_expr.specs.declared.expr.Monadic.{Monadic}
 use Rattle.apl_expr.specs.declared.expr.Monadic.TheVariants as monadic
 use Rattle.apl_expr.specs.declared.expr.Dyadic.{Dyadic}
 use Rattle.apl_expr.specs.declared.expr.Dyadic.TheVariants as dyadic
+use Rattle.change_core.specs.Meters.{ticked}
 use Rattle.change_core.specs.RuleModels.{RuleModel}
 use Rattle.index_region.specs.declared.delta.Delta.{Delta}
-use Rattle.change_rules.specs.Nodes.{Argument, node_delta, node_cost}
+use Rattle.change_rules.specs.Nodes.{Argument, is_error, node_delta, node_cost}
 use Rattle.change_rules.specs.Outcomes.{Outcome}
 use Rattle.scalar_rules.specs.EachMonadic.{each_monadic_rule}
 use Rattle.scalar_rules.specs.EachDyadic.{each_dyadic_rule}
@@ -66,3 +67,5 @@ pub record IsRefreshed (rule : RuleModel) (args : List Argument) (held : Outcome
   pub delta : IfOk r (λ s. s.0 ≡ node_delta rule args held)
   pub cost : IfOk r (λ s. s.1 ≡ node_cost rule args held)
   pub ticks : after ≤ before + node_cost rule args held
+  pub least : IfOk r (λ s. is_error s.0 ≡ false → ticked before s.1 ≤ after)
+  pub rises : before ≤ after

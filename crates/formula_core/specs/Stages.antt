@@ -8,7 +8,7 @@ use Rattle.arrays_core.specs.declared.item.Kind.TheVariants.{Value}
 use Rattle.index_region.specs.declared.delta.Delta.{Delta}
 use Rattle.change_core.specs.Meters.{ticked}
 use Rattle.change_rules.specs.Currency.{applied}
-use Rattle.change_rules.specs.Nodes.{is_whole}
+use Rattle.change_rules.specs.Nodes.{is_whole, is_error}
 use Rattle.formula_core.specs.declared.input.Input.{Input}
 use Rattle.formula_core.specs.declared.input.Input.TheVariants.{Bad}
 use Rattle.formula_core.specs.declared.stage.Stage.{Stage}
@@ -83,6 +83,8 @@ pub record IsStep (is_new : Bool) (c : Change) (t : Tree) (before after : ℕ) (
   pub delta : IfOk r (λ s. s.0 ≡ node_change is_new c t)
   pub cost : IfOk r (λ s. s.1 ≡ node_cost_at is_new c t)
   pub ticks : after ≤ before + node_cost_at is_new c t
+  pub least : IfOk r (λ s. is_error s.0 ≡ false → ticked before s.1 ≤ after)
+  pub rises : before ≤ after
 
 -- the nodes are those of the formula's tree, those that have a change are done, and this is what they cost
 pub record IsBegun (f : FormulaValue) (c : Change) (changes : List NodeChange) (cost : ℕ) : Type 0 where

@@ -1,21 +1,26 @@
 //! The value of an expression.
 
-ghost use Rattle.std.specs.Prelude.{◌≡◌, ◌∷◌, IfOk, Result, Ok, Err, map};
+ghost use Rattle.std.specs.Prelude.{◌≡◌, ◌∷◌, ℕ, List, IfOk, Result, Ok, Err, map};
+ghost use Rattle.std.specs.List.{Contains};
 ghost use Rattle.apl_expr.specs.Trees.{tree_of, position_of, positions_of};
 ghost use Rattle.arrays_core.specs.Arrays.{ArrayValue, IsAnswerTo};
 ghost use Rattle.arrays_core.specs.declared.item.Kind.{Kind as AKind};
 ghost use Rattle.selection_fns.specs.Index.{index_whole};
+ghost use Rattle.index_region.specs.declared.delta.Delta.TheVariants.{Same};
+ghost use Rattle.formula_core.specs.Changes.{at_rest};
 ghost use Rattle.formula_core.specs.Outcomes.{read, given};
+ghost use Rattle.formula_core.specs.Plans.{AreInputs, IsNameSound};
 ghost use Rattle.formula_core.specs.Operands.{outcome_of, array_in, position_in, positions_in, written_arrays};
 ghost use Rattle.formula_core.specs.Meaning.{eval, eval_positions, applied1, applied2, indexed};
 
 use crate::application::{of_both, of_right};
+use crate::input::Input;
 use crate::literals::array_of;
 use crate::positions::written_of;
 use apl_expr::{Dyadic, Expr, Monadic};
 use apl_tokens::Name;
 use arrays_core::{ApplyFault, Array, Fault};
-use index_region::Seen;
+use index_region::{Delta, Seen};
 use selection_fns::Index;
 use std::alloc::{AllocError, Global};
 
@@ -226,4 +231,22 @@ fn made<'a>(applied: Result<Array, ApplyFault>) -> Result<Result<Operand<'a>, Fa
         Err(ApplyFault::Kind(kind)) => Ok(Err(Fault { kind, origin: None })),
         Err(ApplyFault::NoMemory) => Err(AllocError),
     }
+}
+
+/// What each of these names shows, of which nothing changed.
+pub(crate) fn inputs_at_rest<'a, S: Shows>(
+    alloc: Global,
+    names: &'a S,
+    references: &[Name],
+    unchanged: &'a Delta,
+) -> Result<Vec<Input<'a>>, AllocError>
+    requires { unchanged.now ≡ Same }
+    ensures inputs { IfOk result (λ inputs. AreInputs (at_rest (S.shows names.entry.now)) references.now inputs.items) }
+    ensures sound { IfOk result (λ inputs. (x : List ℕ) → Contains references.now x → IsNameSound (at_rest (S.shows names.entry.now)) x) }
+{
+    let mut inputs = Vec::new(alloc);
+    for reference in references {
+        inputs.push(Input::of(&names.result_of(*reference), unchanged))?;
+    }
+    Ok(inputs)
 }

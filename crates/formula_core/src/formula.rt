@@ -1,18 +1,22 @@
 //! A formula: an expression as a table of nodes, with the result that each node was last given.
 
-ghost use Rattle.std.specs.Prelude.{◌≡◌, ◌+◌, ◌≤◌, ◌<◌, ℕ, false, [], length, get_or, take, map, min, IfOk, OnOk, OnErr, MatchBool};
-ghost use Rattle.std.specs.List.{count_by};
+ghost use Rattle.std.specs.Prelude.{◌≡◌, ◌+◌, ◌≤◌, ◌<◌, ℕ, List, true, false, [], length, get_or, take, map, min, IfOk, OnOk, OnErr, MatchBool};
+ghost use Rattle.std.specs.List.{Contains, count_by};
 ghost use Rattle.apl_expr.specs.Trees.{tree_of};
+ghost use Rattle.change_core.specs.Meters.{ticked};
+ghost use Rattle.change_rules.specs.Nodes.{is_error};
+ghost use Rattle.index_region.specs.declared.delta.Delta.TheVariants.{Same};
 ghost use Rattle.formula_core.specs.Outcomes.{read};
-ghost use Rattle.formula_core.specs.Meaning.{names_in};
-ghost use Rattle.formula_core.specs.Changes.{Change};
+ghost use Rattle.formula_core.specs.Meaning.{eval, names_in};
+ghost use Rattle.formula_core.specs.Changes.{Change, at_rest};
 ghost use Rattle.formula_core.specs.Holdings.{holdings_of, nodes_of, not_worked_out, adopted};
-ghost use Rattle.formula_core.specs.Formulas.{new_formula, root_result, operations, IsTableOf};
-ghost use Rattle.formula_core.specs.Plans.{tree_cost, node_cost_at, IsPlanOf, IsTold, IsPlanned};
+ghost use Rattle.formula_core.specs.Formulas.{new_formula, root_result, operations, IsHeld, IsTableOf};
+ghost use Rattle.formula_core.specs.Plans.{tree_cost, node_cost_at, IsComputed, AllComputed, IsPlanOf, IsTold, IsPlanned};
 ghost use Rattle.formula_core.specs.Progress.{operations_among, IsAtOperation, IsPlannedTo};
 ghost use Rattle.formula_core.specs.Stages.{IsBegun, IsDone};
 ghost use Rattle.formula_core.specs.Tables.{applies, subtrees, tree_at};
 
+use crate::evaluation::{Shows, inputs_at_rest};
 use crate::input::Input;
 use crate::kept::{Kept, NodeChange, adopt_all, unknown};
 use crate::plan::Plan;
@@ -61,7 +65,7 @@ impl Formula {
         Formula::of(alloc, &tree)
     }
 
-    /// The same, of an expression that is lent.
+    /// The formula of an expression that is lent. Each of its results is VALUE ERROR until it takes a plan.
     pub fn of(alloc: Global, tree: &Expr) -> Result<Formula, AllocError>
         ensures { IfOk result (λ formula. formula ≡ new_formula (tree_of tree.now)) }
     {
@@ -108,7 +112,7 @@ impl Formula {
         }
     }
 
-    /// The same, lent as it is held.
+    /// The result that its expression was last given, lent as its last node holds it.
     fn held(&self) -> &Result<Array, Fault>
         ensures { result.now ≡ root_result self.now.nodes }
     {
@@ -117,17 +121,23 @@ impl Formula {
 
     /// What the formula changes to where its names show what the inputs say, an input for each of `references`. The
     /// formula still shows what it did: it takes the plan by `adopt`. Where it holds results, each input tells the change
-    /// from what the name showed when they were worked out. The meter counts the items that are computed.
+    /// from what the name showed when they were worked out. The meter counts the items that are computed: as many as the plan costs
+    /// where no item fails, and at most as many where one does. Where nothing changed of the names none is computed, but by a new formula.
     pub fn plan(&self, inputs: &[Input], meter: &mut Meter) -> Result<Plan, AllocError>
         requires { (c : Change) × IsTold self.now c inputs.now }
         ensures of { IfOk result (IsPlanOf self.now) }
         ensures planned { IfOk result (λ p. (c : Change) → IsTold self.now c inputs.now → IsPlanned self.now c p) }
         ensures ticks { (c : Change) → IsTold self.now c inputs.now → meter.new.ticks ≤ meter.old.ticks + tree_cost self.now.is_new c self.now.tree }
+        ensures exact { OnOk result ((c : Change) → IsTold self.now c inputs.now → AllComputed self.now.is_new c self.now.tree → meter.new.ticks ≡ ticked meter.old.ticks (tree_cost self.now.is_new c self.now.tree)) }
+        ensures rises { meter.old.ticks ≤ meter.new.ticks }
+        ensures still { self.now.is_new ≡ false → (c : Change) → IsTold self.now c inputs.now → ((x : List ℕ) → Contains (names_in self.now.tree) x → c.delta x ≡ Same) → meter.new.ticks ≡ meter.old.ticks }
     {
         let mut plan = self.start(inputs)?;
         while !self.is_whole(&plan) {
             self.advance(&mut plan, inputs, meter)?;
         }
+        // The count says that it is a number of 64 bits.
+        let _counted = meter.ticks();
         Ok(plan)
     }
 
@@ -144,6 +154,7 @@ impl Formula {
     pub fn start(&self, inputs: &[Input]) -> Result<Plan, AllocError>
         requires { (c : Change) × IsTold self.now c inputs.now }
         ensures none { IfOk result (λ p. operations_among self.now p.changes ≡ 0) }
+        ensures cost { IfOk result (λ p. p.cost ≡ 0) }
         ensures planned { IfOk result (λ p. (c : Change) → IsTold self.now c inputs.now → IsPlannedTo self.now c p) }
     {
         let mut plan = Plan {
@@ -169,6 +180,11 @@ impl Formula {
         ensures planned { OnOk result ((c : Change) → IsTold self.now c inputs.now → IsPlannedTo self.now c plan.old → IsPlannedTo self.now c plan.new) }
         ensures ticks { OnOk result ((c : Change) → IsTold self.now c inputs.now → IsPlannedTo self.now c plan.old
             → meter.new.ticks ≤ meter.old.ticks + node_cost_at self.now.is_new c (tree_at (subtrees self.now.tree) (length plan.old.changes))) }
+        ensures exact { OnOk result ((c : Change) → IsTold self.now c inputs.now → IsPlannedTo self.now c plan.old → IsComputed self.now.is_new c (tree_at (subtrees self.now.tree) (length plan.old.changes))
+            → meter.new.ticks ≡ ticked meter.old.ticks (node_cost_at self.now.is_new c (tree_at (subtrees self.now.tree) (length plan.old.changes)))) }
+        ensures rises { meter.old.ticks ≤ meter.new.ticks }
+        ensures cost { OnOk result ((c : Change) → IsTold self.now c inputs.now → IsPlannedTo self.now c plan.old
+            → plan.new.cost ≡ ticked plan.old.cost (node_cost_at self.now.is_new c (tree_at (subtrees self.now.tree) (length plan.old.changes)))) }
         ensures err { OnErr result (plan.new ≡ plan.old) }
         ensures err_meter { OnErr result (meter.new ≡ meter.old) }
     {
@@ -236,6 +252,8 @@ impl Formula {
             → r.1 ≡ node_cost_at self.now.is_new c (tree_at (subtrees self.now.tree) (length changes.now))) }
         ensures ticks { (c : Change) → IsTold self.now c inputs.now → (cost : ℕ) → IsBegun self.now c changes.now cost
             → meter.new.ticks ≤ meter.old.ticks + node_cost_at self.now.is_new c (tree_at (subtrees self.now.tree) (length changes.now)) }
+        ensures least { IfOk result (λ r. is_error r.0.delta ≡ false → ticked meter.old.ticks r.1 ≤ meter.new.ticks) }
+        ensures rises { meter.old.ticks ≤ meter.new.ticks }
     {
         let anew = Delta::Whole(Err(unknown()));
         let stage = Stage {
@@ -257,6 +275,46 @@ impl Formula {
     {
         adopt_all(&mut self.nodes, plan.changes);
         self.is_new = false;
+    }
+
+    /// Works out the result of each node anew, where the names show what `names` says of them: an array, or the error in its place. The
+    /// result of the formula is then the value of its expression. Where memory is refused, the formula is as it was.
+    pub fn evaluate<S: Shows>(&mut self, names: &S) -> Result<(), AllocError>
+        ensures tree { self.new.tree ≡ self.old.tree }
+        ensures held { OnOk result (IsHeld self.new (S.shows names.now)) }
+        ensures value { OnOk result (root_result self.new.nodes ≡ eval self.old.tree (S.shows names.now)) }
+        ensures err { OnErr result (self.new ≡ self.old) }
+    {
+        let was_new = self.is_new;
+        self.count_as_new(true);
+        match self.plan_anew(names) {
+            Ok(plan) => {
+                self.adopt(plan);
+                Ok(())
+            }
+            Err(refused) => {
+                self.count_as_new(was_new);
+                Err(refused)
+            }
+        }
+    }
+
+    /// The plan of a formula that counts as new, where the names show what `names` says of them.
+    fn plan_anew<S: Shows>(&self, names: &S) -> Result<Plan, AllocError>
+        requires { self.now.is_new ≡ true }
+        ensures of { IfOk result (IsPlanOf self.now) }
+        ensures planned { IfOk result (IsPlanned self.now (at_rest (S.shows names.now))) }
+    {
+        let unchanged = Delta::Same;
+        let inputs = inputs_at_rest(self.alloc, names, self.references(), &unchanged)?;
+        self.plan(inputs.as_slice(), &mut Meter::new())
+    }
+
+    /// Has a plan work out every node, or only what changes. The results stay.
+    fn count_as_new(&mut self, is_new: bool)
+        ensures { self.new ≡ record { tree = self.old.tree; is_new = is_new; nodes = self.old.nodes } }
+    {
+        self.is_new = is_new;
     }
 }
 

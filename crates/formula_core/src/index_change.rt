@@ -125,7 +125,8 @@ fn arguments_of<'a>(
     Ok(args)
 }
 
-/// The same of few positions, with how many they are; behind them the array stands again.
+/// The array and at most four positions that are arrays, each with what changed of it, and how many these are; behind them
+/// the array stands again.
 fn few_arguments<'a>(
     indexed: &'a (Seen<'a>, &'a Delta),
     positions: &'a [Option<Input>],

@@ -38,7 +38,7 @@ impl Default for Input<'_> {
 }
 
 impl<'a> Input<'a> {
-    /// The same again.
+    /// The input, for as long as this one is lent.
     pub(crate) fn again(&self) -> Input<'_>
         ensures { result ≡ self.now }
     {
@@ -61,7 +61,7 @@ impl<'a> Input<'a> {
         }
     }
 
-    /// The same, all of which counts as new: `anew` is any change of the whole.
+    /// The input with its value as it is now, all of which counts as new: `anew` is any change of the whole.
     pub(crate) fn made_anew(self, anew: &'a Delta) -> Input<'a>
         requires { is_whole anew.now ≡ true }
         ensures shown { shown result ≡ shown self.entry }
@@ -117,7 +117,8 @@ impl<'a> Input<'a> {
         input
     }
 
-    /// The same, which does not tell that it is of arrays.
+    /// What gave this before gives now, with the change of that, as `of` answers it; its contract does not say that what is
+    /// patched or grew was an array.
     fn with_change(held: &Result<&'a Array, Fault>, change: &'a Delta) -> Input<'a>
         requires { FitsIn change.now (read held.now) }
         ensures { IsInput (applied change.now (read held.now)) change.now result }

@@ -42,7 +42,8 @@ fn change_of_right(
     }
 }
 
-/// The same, where the sums of the argument's lines are kept if the function is a total.
+/// The change of a function of one argument, and what it costs. Of a total whose argument has sums of its lines kept, it is
+/// found by these.
 pub(crate) fn change_of_monad(
     alloc: Global,
     function: Monadic,

@@ -33,7 +33,7 @@ impl Plan {
         &self.changes[self.changes.len() - 1].delta
     }
 
-    /// The same, where the plan is needed no longer.
+    /// Takes the change of the formula's result out of a whole plan, which is needed no longer.
     pub fn into_delta(mut self) -> Delta
         requires { 0 < length self.changes }
         ensures { result ≡ root_change self.changes }

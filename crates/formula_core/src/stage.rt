@@ -3,7 +3,8 @@
 ghost use Rattle.std.specs.Prelude.{◌≡◌, ◌+◌, ◌≤◌, ◌<◌, ℕ, List, true, false, length, map, get_or, IfOk};
 ghost use Rattle.std.specs.Option.{option_map};
 ghost use Rattle.apl_expr.specs.Trees.{Tree, Const, Name, literal_of};
-ghost use Rattle.change_rules.specs.Nodes.{is_whole};
+ghost use Rattle.change_core.specs.Meters.{ticked};
+ghost use Rattle.change_rules.specs.Nodes.{is_whole, is_error};
 ghost use Rattle.formula_core.specs.Meaning.{eval};
 ghost use Rattle.formula_core.specs.Changes.{Change, IsNameChanged};
 ghost use Rattle.formula_core.specs.Inputs.{HasFit, AllHaveFit, IsInput};
@@ -88,6 +89,8 @@ impl<'a> Stage<'a> {
             → r.1 ≡ node_cost_at self.now.is_new c (tree_at trees (length self.now.changes.now))) }
         ensures ticks { (c : Change) → (names : List (List ℕ)) → (trees : List Tree) → IsStaged c names trees self.now
             → meter.new.ticks ≤ meter.old.ticks + node_cost_at self.now.is_new c (tree_at trees (length self.now.changes.now)) }
+        ensures least { IfOk result (λ r. is_error r.0.delta ≡ false → ticked meter.old.ticks r.1 ≤ meter.new.ticks) }
+        ensures rises { meter.old.ticks ≤ meter.new.ticks }
     {
         let kept = &self.nodes[self.changes.len()];
         outcome_is_array(&kept.result);

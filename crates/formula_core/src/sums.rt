@@ -58,7 +58,8 @@ pub(crate) fn sums_delta(
     }
 }
 
-/// The same of an array that is patched.
+/// What changes of the sums where the array is patched: a patch that is small beside the array is kept for the trees. Where it is
+/// larger, or no sums were kept, they are made anew.
 fn patch_delta(
     alloc: Global,
     array: &Seen,
@@ -75,8 +76,8 @@ fn patch_delta(
     Ok(SumsDelta::Whole(boxed(alloc, LineSums::of(alloc, array)?)?))
 }
 
-/// The same of an array that grew. The one line of a vector is longer then, so that its sums are made anew. Any other
-/// array has new lines, whose sums go behind those that are kept, if lines like these have any.
+/// What changes of the sums where the array grew. The one line of a vector is longer then, so that its sums are made anew. Any
+/// other array has new lines, whose sums go behind those that are kept, if lines like these have any.
 fn grown_delta(alloc: Global, array: &Seen, tail: &Tail) -> Result<SumsDelta, AllocError>
     requires { HasGrown array.now tail.now }
     ensures { IfOk result (λ s. (kept : Option ArrayValue) → IsSumsDelta (Ok array.now) (GrownDelta tail.now) kept s) }

@@ -96,7 +96,8 @@ pub(crate) fn lower(
     }
 }
 
-/// The same for the positions of an index, from the left.
+/// Adds the names and the nodes of the positions of an index behind these, from the left, and tells what stands for each
+/// position that is written.
 #[cycle(lower)]
 fn lower_positions(
     alloc: Global,

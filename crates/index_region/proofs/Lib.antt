@@ -10,3 +10,5 @@ pub mod Placed
 pub mod Numbers
 pub mod RowIndices
 pub mod Grown
+pub mod Ordered
+pub mod Least

@@ -6,6 +6,7 @@ pub mod Sources
 pub mod ArgumentLists
 pub mod Answers
 pub mod Boxes
+pub mod BoxLaws
 pub mod Patches
 pub mod Tails
 -- What bodies use.

@@ -5,6 +5,7 @@ ghost use Rattle.std.specs.List.{list_all};
 ghost use Rattle.arrays_core.specs.Limits.{most_axes};
 ghost use Rattle.arrays_core.specs.Shapes.{IsWithinLimits, size as size_of};
 ghost use Rattle.index_region.specs.Boxes.{fits, is_box, box_size, box_offset, is_within, hull_of as hull, meet_of as meet, met, unless_empty, walk_at, cover as covering, cover_between};
+ghost use Rattle.index_region.specs.BoxLaws.{AllWalksAreInOrder, HullsAreLeast, CoversAreLeast};
 
 use crate::index_list::IndexList;
 use crate::intervals::{Intervals, hull_of, meet_of};
@@ -70,7 +71,7 @@ impl IndexBox {
         }
     }
 
-    /// The same box.
+    /// A copy of the box.
     pub fn copy(&self) -> IndexBox
         ensures { result ≡ self.now }
     {
@@ -179,6 +180,24 @@ impl IndexBox {
         offset_and_size(self.as_slice(), index).0
     }
 }
+
+/// The walk of a box, by `index_at` and `advance`, goes through its index lists, each once, in row-major order: in the order of the
+/// ravel of any shape in which the box lies. The function does nothing: its contract is the law.
+pub fn law_of_walks()
+    ensures { AllWalksAreInOrder }
+{}
+
+/// The hull of two boxes of one rank holds both, and lies in each box that holds both. The function does nothing: its contract is
+/// the law.
+pub fn law_of_hulls()
+    ensures { HullsAreLeast }
+{}
+
+/// The box that covers some places of a shape holds them, and lies in each box that holds them. The function does nothing: its
+/// contract is the law.
+pub fn law_of_covers()
+    ensures { CoversAreLeast }
+{}
 
 /// There are at most four intervals, and none is empty.
 fn is_box_of(list: &[(u32, u32)]) -> bool

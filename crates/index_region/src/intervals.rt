@@ -60,7 +60,7 @@ impl Intervals {
         Intervals::none().and_whole(axes)
     }
 
-    /// The same intervals.
+    /// A copy of the intervals.
     pub fn copy(&self) -> Intervals
         ensures { result ≡ self.now }
     {
@@ -112,7 +112,7 @@ impl Intervals {
         all
     }
 
-    /// The same with another interval on an axis, where there is such an axis.
+    /// The intervals with another one on an axis, where there is such an axis.
     pub fn with(self, axis: usize, first: u32, last: u32) -> Intervals
         ensures { result ≡ set self axis (first, last) }
     {
@@ -127,7 +127,7 @@ impl Intervals {
         }
     }
 
-    /// The same with one more axis, before the axis of that number, and its interval.
+    /// The intervals with that of one more axis before the axis of that number.
     pub fn with_axis(self, axis: usize, first: u32, last: u32) -> Intervals
         requires few { length self < most_axes }
         requires there { axis ≤ length self }
@@ -139,7 +139,7 @@ impl Intervals {
         more.and_all(after)
     }
 
-    /// The same without an axis, where there is such an axis.
+    /// The intervals without that of an axis, where there is such an axis.
     pub fn without_axis(self, axis: usize) -> Intervals
         ensures { result ≡ remove self axis }
     {

@@ -19,7 +19,7 @@ mod tail;
 pub use along::Along;
 pub use checks::limited;
 pub use delta::Delta;
-pub use index_box::IndexBox;
+pub use index_box::{IndexBox, law_of_covers, law_of_hulls, law_of_walks};
 pub use index_list::IndexList;
 pub use intervals::Intervals;
 pub use patch::Patch;

@@ -15,7 +15,7 @@ pub(crate) enum PatchItems {
 }
 
 impl PatchItems {
-    /// The same items.
+    /// A copy of the items.
     pub(crate) fn copy(&self) -> Result<PatchItems, AllocError>
         ensures { IfOk result (λ items. items ≡ self.now) }
     {

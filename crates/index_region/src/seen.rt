@@ -147,7 +147,7 @@ impl<'a> Seen<'a> {
         }
     }
 
-    /// The same view again, for as long as this one is lent.
+    /// A second view of what this one shows, for as long as this one is lent.
     pub fn again<'b>(&'b self) -> Seen<'b>
         ensures { result ≡ self.now }
     {

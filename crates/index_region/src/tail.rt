@@ -57,7 +57,7 @@ impl Tail {
         })
     }
 
-    /// The same tail again.
+    /// A copy of the tail.
     pub fn copy(&self) -> Result<Tail, AllocError>
         ensures { IfOk result (λ t. t ≡ self.now) }
     {

@@ -108,7 +108,8 @@ fn products_by<F: TwoNumbers, G: TwoNumbers>(
     collect_numbers(alloc, &rule, shape)
 }
 
-/// The same for sums of products, a row of the result at a time where the numbers are small enough.
+/// The array of the sums of the products of rows and columns, a row of the result at a time where the numbers are small
+/// enough.
 fn sums_of_products(
     alloc: Global,
     left: &[i64],
@@ -128,7 +129,8 @@ fn sums_of_products(
     Ok(Array::from_numbers(shape, numbers)?)
 }
 
-/// The same for functions that are chosen; the most usual products have a loop of their own.
+/// The array of the rows folded with the columns by the two scalar functions that are named; the most usual products have a
+/// loop of their own.
 pub(crate) fn grid_products(
     alloc: Global,
     fold: Scalar2,

@@ -159,7 +159,7 @@ fn running_apart<S: TwoNumbers>(
     Ok(results)
 }
 
-/// The same at any stride.
+/// The left folds of the first numbers of each line, where a line has `count` numbers, a stride of 1 or more apart.
 fn running<S: TwoNumbers>(
     alloc: Global,
     step: &S,

@@ -73,7 +73,8 @@ fn table_by<S: TwoNumbers>(
     Ok(Array::from_numbers(shape, numbers)?)
 }
 
-/// The same for a function that is chosen; the most usual ones have a loop of their own.
+/// The array of what the scalar function that is named gives for each number of one list with each of another; the most
+/// usual ones have a loop of their own.
 fn table(
     alloc: Global,
     function: Scalar2,

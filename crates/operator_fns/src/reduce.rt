@@ -123,8 +123,8 @@ fn folds_of_lines<S: TwoNumbers>(
     collect_numbers(alloc, &lines, shape)
 }
 
-/// The same, a row at a time where the numbers of a line do not stand side by side. Where a line has an error,
-/// that of the first line that has one is looked for.
+/// The array of the folds of the lines of some numbers, a row of the array at a time where the numbers of a line do not stand
+/// side by side. Where a line has an error, that of the first line that has one is looked for.
 fn folds_by<S: RowFold>(
     alloc: Global,
     step: &S,
@@ -151,7 +151,7 @@ fn folds_by<S: RowFold>(
     }
 }
 
-/// The same for a function that is chosen; the most usual ones have a loop of their own.
+/// The array of the folds of the lines by the scalar function that is named; the most usual ones have a loop of their own.
 fn folds(
     alloc: Global,
     function: Scalar2,

@@ -71,7 +71,7 @@ fn scans_by<S: TwoNumbers>(
     collect_numbers(alloc, &runs, shape)
 }
 
-/// The same by an associative function, in time in proportion to the numbers.
+/// The array of the folds of the numbers up to each place of its line, by an associative function: one step for each number.
 fn scans_on<S: TwoNumbers>(
     alloc: Global,
     step: &S,
@@ -92,7 +92,7 @@ fn scans_on<S: TwoNumbers>(
     Ok(Array::from_numbers(shape, numbers)?)
 }
 
-/// The same by the sum, in time in proportion to the numbers.
+/// The array of the sums of the numbers up to each place of its line: one step for each number.
 fn sums(
     alloc: Global,
     numbers: &[i64],
@@ -111,7 +111,7 @@ fn sums(
     Ok(Array::from_numbers(shape, numbers)?)
 }
 
-/// The same by a function that is chosen.
+/// The array of the folds of the numbers up to each place of its line, by the scalar function that is named.
 fn scans(
     alloc: Global,
     function: Scalar2,

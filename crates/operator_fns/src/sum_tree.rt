@@ -239,8 +239,8 @@ impl SumTree {
         summary_at(&self.numbers, &self.inner, self.first, 1).sum()
     }
 
-    /// The same with the number at a place replaced, places counted from 0, and how many summaries were
-    /// joined for it: at most as many as the length less one has binary digits.
+    /// What the reduction by + gives of the numbers with the one at a place replaced, places counted from 0, and
+    /// how many summaries were joined for it: at most as many as the length less one has binary digits.
     pub fn result_with(&self, place: usize, number: i64) -> (Result<i64, Kind>, u32)
         requires { place < length self.now }
         ensures result { IsReductionBySum (slice_set self.now place number) result.0 }

@@ -14,7 +14,7 @@ pub(crate) struct Summary {
     greatest: i128,
 }
 
-/// The same within 64 bits.
+/// A `Summary` each of whose numbers is within 64 bits.
 #[derive(Clone, Copy)]
 struct Narrow {
     total: i64,
@@ -51,7 +51,7 @@ impl Narrow {
         Some(narrow)
     }
 
-    /// The same in as many bits as the sum of a longer list takes.
+    /// The summary, in as many bits as the sum of a longer list takes.
     fn widened(&self) -> Summary
         ensures { result ≡ widened_of self.now }
     {

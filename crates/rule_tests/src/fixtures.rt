@@ -10,8 +10,8 @@ ghost use Rattle.index_region.specs.Tails.{FitsTail};
 ghost use Rattle.index_region.specs.Patches.{FitsPatch};
 
 use arrays_core::{Array, ItemType, Shape, is_within_limits, shape_of, size};
-use change_core::{Reach, Rule};
-use index_region::{IndexBox, Patch, Seen, Tail};
+use change_rules::{Patch, Reach, Rule, Seen, Tail};
+use index_region::IndexBox;
 use std::alloc::Global;
 
 /// An array of zeros.

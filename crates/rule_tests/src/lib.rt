@@ -6,6 +6,8 @@ mod fixtures;
 #[cfg(test)]
 mod growth_tests;
 #[cfg(test)]
+mod item_tests;
+#[cfg(test)]
 mod line_sums_tests;
 #[cfg(test)]
 mod reach_tests;
@@ -13,3 +15,5 @@ mod reach_tests;
 mod refresh_tests;
 #[cfg(test)]
 mod sum_tree_tests;
+#[cfg(test)]
+mod surface_tests;

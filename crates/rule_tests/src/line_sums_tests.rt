@@ -169,7 +169,7 @@ fn totals_after(alloc: Global, array: &Array, patch: &Patch) -> Option<(i64, i64
     both_totals(sums.trees())
 }
 
-/// The same where the array is of ones, and the last two numbers of each line are 1 to 4.
+/// The totals of two lines of ones after a patch has made 1 to 4 of the last two numbers of each.
 fn totals_of_ends(alloc: Global) -> Option<(i64, i64)> {
     let ones = array_of(alloc, &[2, 17], &[], 1)?;
     let patch = patch_of(alloc, &ones, &[(1, 2), (16, 17)], &[1, 2, 3, 4])?;

@@ -1,7 +1,7 @@
 //! What a rule reaches where a box of an argument changed. The boxes of each function stand as worked cases in the proofs of its rule.
 
 use crate::fixtures::{reach_of_left, zeros};
-use change_core::Reach;
+use change_rules::Reach;
 use scalar_fns::Scalar2;
 use scalar_rules::EachDyadic;
 use std::alloc::Global;

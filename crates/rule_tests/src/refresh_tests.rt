@@ -5,9 +5,7 @@ ghost use Rattle.index_region.specs.declared.delta.Delta.TheVariants.{Same};
 
 use crate::fixtures::{patch_of, vector};
 use arrays_core::{Array, Fault, Item};
-use change_core::Meter;
-use change_rules::refresh;
-use index_region::{Delta, Seen};
+use change_rules::{Delta, Meter, Seen, refresh};
 use scalar_fns::Scalar2;
 use scalar_rules::EachDyadic;
 use std::alloc::Global;

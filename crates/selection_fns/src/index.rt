@@ -1,11 +1,11 @@
 //! Indexed reference: the items at indices, one position an axis.
 
-ghost use Rattle.std.specs.Prelude.{◌≡◌, ◌<◌, ◌≤◌, ◌+◌, ◌-◌, ◌++◌, ◌∷◌, [], ℕ, IsTrue, IfOk, IfErr, IfSome, OnOk, Result, Ok, Err, suc, length, get_or, drop, pos, unsigned_abs};
+ghost use Rattle.std.specs.Prelude.{◌≡◌, ◌<◌, ◌≤◌, ◌+◌, ◌-◌, ◌++◌, ◌∷◌, [], ℕ, IsTrue, IfOk, IfErr, IfSome, OnOk, Result, Ok, Err, suc, length, get_or, drop, pos, unsigned_abs, List};
 ghost use Rattle.std.specs.List.{list_all};
 ghost use Rattle.arrays_core.specs.Limits.{most_axes};
 ghost use Rattle.arrays_core.specs.declared.item.Kind.{Kind as AKind};
 ghost use Rattle.arrays_core.specs.declared.item.Kind.TheVariants.{Limit};
-ghost use Rattle.arrays_core.specs.Arrays.{item_of, IsArray, IsAnswerTo};
+ghost use Rattle.arrays_core.specs.Arrays.{ArrayValue, item_of, IsArray, IsAnswerTo};
 ghost use Rattle.arrays_core.specs.Building.{with_row};
 ghost use Rattle.arrays_core.specs.Shapes.{is_index_of, places_before};
 ghost use Rattle.index_region.specs.Checks.{Form};
@@ -250,8 +250,19 @@ impl<'w> Index<'w> {
         at
     }
 
-    /// Where the item at an index list of the result comes from. It takes no memory.
-    pub fn source_of(&self, array: &Seen, positions: &[Seen], index: &[u32]) -> Source
+    /// Where the item at an index list of the result comes from, where the checks have passed: from the indexed array. It takes no
+    /// memory. The arguments are that array and the written positions.
+    pub fn source_of(&self, args: &[Seen], index: &[u32]) -> Source
+        requires count { length args.now ≡ suc (count_written self.now.written.now) }
+        requires place { IsPlaceOf (of_array_and_positions self.now.written.now index_form args.now) index.now }
+        ensures is { (a : ArrayValue) (others : List ArrayValue) → args.now ≡ a ∷ others → source_value result ≡ index_source (written_positions self.now.written.now others) index.now }
+        ensures inside { (a : ArrayValue) (others : List ArrayValue) → args.now ≡ a ∷ others → IsSourceIn a a result }
+    {
+        self.source(&args[0], &args[1..], index)
+    }
+
+    /// Where the item at an index list of the result comes from, of this array and these positions.
+    fn source(&self, array: &Seen, positions: &[Seen], index: &[u32]) -> Source
         requires count { length positions.now ≡ count_written self.now.written.now }
         requires place { IsPlaceOf (index_form array.now (written_positions self.now.written.now positions.now)) index.now }
         ensures is { source_value result ≡ index_source (written_positions self.now.written.now positions.now) index.now }
@@ -328,7 +339,7 @@ impl<'w> Primitive for Index<'w> {
 
     fn item_at(&self, args: &[Seen], index: &[u32]) -> Result<Item, Kind> {
         let array = &args[0];
-        let source = self.source_of(array, &args[1..], index);
+        let source = self.source(array, &args[1..], index);
         Ok(item_from(array, array, array.item_type(), source))
     }
 }

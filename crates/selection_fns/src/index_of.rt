@@ -71,7 +71,8 @@ fn first_places_in_array(
     no_places(alloc, &Seen::plain(array), &Seen::plain(sought))
 }
 
-/// The same of arrays as they are seen; where one has a patch, they are copied first.
+/// The first place in an array, as it is seen, of each item that is sought. Where one of the two has a patch or a tail, both
+/// are copied first.
 fn first_places_in(alloc: Global, array: &Seen, sought: &Seen) -> Result<Vec<i64>, AllocError>
     ensures is { IfOk result (λ v. v.items ≡ map (λ x. pos (suc (position_or_len (same_item x) array.now.items))) sought.now.items) }
     ensures long { length sought.now.items ≡ size sought.now.shape }

@@ -55,7 +55,8 @@ fn are_members_of_array(
     no_members(alloc, &Seen::plain(array), &Seen::plain(sought))
 }
 
-/// The same of arrays as they are seen; where one has a patch, they are copied first.
+/// Whether each item that is sought is one of an array, as both are seen. Where one of the two has a patch or a tail, both are
+/// copied first.
 fn are_members(alloc: Global, array: &Seen, sought: &Seen) -> Result<Vec<i64>, AllocError>
     ensures is { IfOk result (λ v. v.items ≡ map (λ x. truth_of (list_any (same_item x) array.now.items)) sought.now.items) }
     ensures long { length sought.now.items ≡ size sought.now.shape }

@@ -10,7 +10,7 @@ use scalar_fns::kernels::{Plus, Times, TwoNumbers};
 /// How far from 0 a number and a digit may be where the machine's product and sum serve.
 const NEAR: u64 = 1_099_511_627_776;
 
-/// The same of the radix.
+/// How far from 0 the radix may be where the machine's product and sum serve.
 const NEAR_RADIX: u64 = 2_097_152;
 
 /// A number, its radix and a digit are so near to 0 that the number with the digit is known to be within

@@ -1,10 +1,10 @@
 //! Replicate: the places of an axis, each as often as its count.
 
-ghost use Rattle.std.specs.Prelude.{◌≡◌, ◌<◌, ◌≤◌, ◌+◌, ◌-◌, ◌*◌, ◌++◌, ℕ, All, Ok, Some, IsTrue, OnOk, IfOk, IfErr, Result, Err, unsigned_abs, length, map, max, sum, insert, remove, replicate, set, get_or};
+ghost use Rattle.std.specs.Prelude.{◌≡◌, ◌<◌, ◌≤◌, ◌+◌, ◌-◌, ◌*◌, ◌++◌, ℕ, All, Ok, Some, IsTrue, OnOk, IfOk, IfErr, Result, Err, unsigned_abs, length, map, max, sum, insert, remove, replicate, set, get_or, ◌∷◌, []};
 ghost use Rattle.arrays_core.specs.Limits.{most_axes, longest_axis};
 ghost use Rattle.arrays_core.specs.declared.item.Kind.{Kind as AKind};
 ghost use Rattle.arrays_core.specs.declared.item.Kind.TheVariants.{Limit};
-ghost use Rattle.arrays_core.specs.Arrays.{IsAnswerTo};
+ghost use Rattle.arrays_core.specs.Arrays.{ArrayValue, IsAnswerTo};
 ghost use Rattle.arrays_core.specs.Shapes.{is_index_of};
 ghost use Rattle.index_region.specs.Checks.{form_of, Form};
 ghost use Rattle.index_region.specs.ArgumentLists.{of_two_arguments};
@@ -298,8 +298,19 @@ pub struct Replicate {
 }
 
 impl Replicate {
-    /// Where the item at an index list of the result comes from. It takes no memory.
-    pub fn source_of(self, counts: &Seen, array: &Seen, index: &[u32]) -> Source
+    /// Where the item at an index list of the result comes from, where the checks have passed. It takes no memory. There are as
+    /// many arguments as the function takes.
+    pub fn source_of(&self, args: &[Seen], index: &[u32]) -> Source
+        requires count { length args.now ≡ 2 }
+        requires place { IsPlaceOf (of_two_arguments (replicate_form self.now.along) args.now) index.now }
+        ensures is { (a b : ArrayValue) → args.now ≡ a ∷ b ∷ [] → source_value result ≡ replicate_source self.now.along a b index.now }
+        ensures inside { (a b : ArrayValue) → args.now ≡ a ∷ b ∷ [] → IsSourceIn a b result }
+    {
+        self.source(&args[0], &args[1], index)
+    }
+
+    /// Where the item at an index list of the result comes from, of these two arguments.
+    fn source(self, counts: &Seen, array: &Seen, index: &[u32]) -> Source
         requires { IsPlaceOf (replicate_form self.along counts.now array.now) index.now }
         ensures is { source_value result ≡ replicate_source self.along counts.now array.now index.now }
         ensures inside { IsSourceIn counts.now array.now result }
@@ -443,7 +454,7 @@ impl Primitive for Replicate {
     fn item_at(&self, args: &[Seen], index: &[u32]) -> Result<Item, Kind> {
         let counts = &args[0];
         let array = &args[1];
-        let source = self.source_of(counts, array, index);
+        let source = self.source(counts, array, index);
         Ok(item_from(array, array, array.item_type(), source))
     }
 }

@@ -1,3 +1,4 @@
+pub mod ProgramLemmas
 pub mod EditLemmas
 pub mod OneEvent
 pub mod OneEdit

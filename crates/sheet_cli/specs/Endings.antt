@@ -1,9 +1,15 @@
--- How the program ends, and with what status.
-use Rattle.std.specs.Prelude.{ℕ}
+-- How the program ends, with what status, and what it tells of that.
+use Rattle.std.specs.Prelude.{ℕ, List, [], ◌++◌, codes, decimal, Option, Some, None, Result, Ok, Err}
 use Rattle.program_words.specs.declared.reading.WordsFault.{WordsFault}
 use Rattle.program_words.specs.declared.reading.WordsFault.TheVariants as fault
 use Rattle.sheet_cli.specs.declared.ending.Ending.{Ending}
-use Rattle.sheet_cli.specs.declared.ending.Ending.TheVariants.{Done, NoMemory, BadName, BadWords}
+use Rattle.sheet_cli.specs.declared.ending.Ending.TheVariants.{Done, Run, Table, CannotRead, NoMemory, BadName, BadWords}
+use Rattle.sheet_cli.specs.declared.host.NotRead.{NotRead}
+use Rattle.sheet_cli.specs.declared.host.NotRead.TheVariants as unread
+use Rattle.sheet_cli.specs.declared.run_loop.RunFault.TheVariants as run
+use Rattle.array_text.specs.declared.table_fault.TableFault.{TableFault}
+use Rattle.array_text.specs.declared.table_fault.TableFault.TheVariants as table
+use Rattle.array_text.specs.Text.{line_end}
 
 -- 0 where all is done, 2 where the words are refused, and else 1
 abbrev pub status_of : Ending → ℕ
@@ -12,11 +18,40 @@ status_of BadName = 2
 status_of (BadWords e) = 2
 status_of _ = 1
 
+-- why a file is no table, as the program tells it
+abbrev pub fault_told : TableFault → List ℕ
+fault_told (table.Field row field) = codes "TABLE ERROR AT RECORD " ++ decimal row ++ codes " FIELD " ++ decimal field ++ line_end
+fault_told (table.Length row) = codes "TABLE ERROR AT RECORD " ++ decimal row ++ line_end
+fault_told table.Limit = codes "LIMIT ERROR\n"
+fault_told table.NoMemory = codes "NO MEMORY\n"
+
+-- what standard error is told of an ending. Of words that are refused it is the text of the error, of which `clap` says nothing
+abbrev pub told_of : Ending → Option (List ℕ)
+told_of Done = Some []
+told_of (Run run.Read) = Some (codes "READ FAULT\n")
+told_of (Run run.Write) = Some (codes "WRITE FAULT\n")
+told_of (Run run.Memory) = Some (codes "NO MEMORY\n")
+told_of (Table fault) = Some (fault_told fault)
+told_of CannotRead = Some (codes "CANNOT READ FILE\n")
+told_of NoMemory = Some (codes "NO MEMORY\n")
+told_of BadName = Some (codes "BAD NAME\n")
+told_of (BadWords e) = None
+
+-- all is done where nothing went wrong
+abbrev pub ended : Result (Unit {0}) Ending → Ending
+ended (Ok done) = Done
+ended (Err ending) = ending
+
 -- the ending that refused words come to
 abbrev pub ending_of : WordsFault → Ending
 ending_of fault.NoMemory = NoMemory
 ending_of fault.BadName = BadName
 ending_of (fault.BadWords e) = BadWords e
+
+-- the ending that a file which is not read comes to
+abbrev pub ending_unread : NotRead → Ending
+ending_unread unread.NoMemory = NoMemory
+ending_unread unread.CannotRead = CannotRead
 
 -- the ending is that of words that are refused, with such a fault
 abbrev pub OfWords : (WordsFault → Type 0) → Ending → Type 0

@@ -5,14 +5,16 @@ ghost use Rattle.clap.specs.Words.{fault_of, subcommand_of, takes};
 ghost use Rattle.clap.specs.Walk.{texts};
 ghost use Rattle.program_words.specs.Asked.{IsNotBadWords, IsRefusalOf, Means};
 ghost use Rattle.program_words.specs.Program.{aplsheet};
-ghost use Rattle.sheet_cli.specs.Endings.{OfWords, ending_of, status_of};
+ghost use Rattle.sheet_cli.specs.Endings.{OfWords, ending_of, ending_unread, status_of, told_of};
 ghost use Rattle.sheet_cli.specs.declared.ending.Ending.TheVariants.{Run, Table};
 
+use crate::host::NotRead;
 use crate::run_loop::RunFault;
 use array_text::TableFault;
 use clap::Error;
 use program_words::{Words, WordsFault, read_words};
 use std::alloc::Global;
+use std::fmt;
 
 /// How the program ends.
 #[derive(Debug, Drop)]
@@ -45,6 +47,17 @@ impl From<WordsFault> for Ending {
     }
 }
 
+impl From<NotRead> for Ending {
+    ghost from_gives = { λ why e. e ≡ ending_unread why };
+
+    fn from(why: NotRead) -> Ending {
+        match why {
+            NotRead::NoMemory => Ending::NoMemory,
+            NotRead::CannotRead => Ending::CannotRead,
+        }
+    }
+}
+
 impl From<RunFault> for Ending {
     ghost from_gives = { λ fault e. e ≡ Run fault };
 
@@ -58,6 +71,29 @@ impl From<TableFault> for Ending {
 
     fn from(fault: TableFault) -> Ending {
         Ending::Table(fault)
+    }
+}
+
+impl fmt::Display for Ending {
+    ghost output = { told_of };
+
+    fn fmt<W: fmt::Write>(&self, f: &mut fmt::Formatter<W>) -> fmt::Result {
+        match self {
+            Ending::Done => Ok(()),
+            Ending::Run(RunFault::Read) => f.write_str("READ FAULT\n"),
+            Ending::Run(RunFault::Write) => f.write_str("WRITE FAULT\n"),
+            Ending::Table(TableFault::Field { row, field }) => {
+                write!(f, "TABLE ERROR AT RECORD {row} FIELD {field}\n")
+            }
+            Ending::Table(TableFault::Length { row }) => {
+                write!(f, "TABLE ERROR AT RECORD {row}\n")
+            }
+            Ending::Table(TableFault::Limit) => f.write_str("LIMIT ERROR\n"),
+            Ending::CannotRead => f.write_str("CANNOT READ FILE\n"),
+            Ending::BadName => f.write_str("BAD NAME\n"),
+            Ending::BadWords(error) => error.fmt(f),
+            _ => f.write_str("NO MEMORY\n"),
+        }
     }
 }
 

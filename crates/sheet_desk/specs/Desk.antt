@@ -7,7 +7,7 @@ use Rattle.formula_core.specs.Outcomes.{Outcome}
 use Rattle.sheet_recalc.specs.Names.{Names}
 use Rattle.sheet_recalc.specs.Meaning.{val}
 use Rattle.sheet_recalc.specs.Changes.{Change, Accepts, Refuses}
-use Rattle.sheet_recalc.specs.Costs.{HasCost, changed_name, expression_cost, IsStepCost, IsStepCount}
+use Rattle.sheet_recalc.specs.Costs.{HasCost, HasTicks, changed_name, expression_cost, IsStepCost, IsStepCount}
 use Rattle.sheet_recalc.specs.declared.refusal.Refusal.{Refusal}
 use Rattle.sheet_recalc.specs.declared.refusal.Refusal.TheVariants.{NoMemory, Stale, NotReady, NoSlot, SlotInUse}
 use Rattle.sheet_desk.specs.Slots.{slot_in, with_slot}
@@ -148,6 +148,7 @@ pub record IsStepped (d : DeskValue) (k : ℤ) (n : ℕ) (next : DeskValue) : Ty
 pub record IsMade (d : DeskValue) (change : Change) (next : DeskValue) : Type 0 where
   pub accepts : Accepts d.names change next.names
   pub cost : HasCost d.names change next.names next.cost
+  pub computed : HasTicks d.names change next.names next.ticks
   pub slots : next.slots ≡ map (option_map stale) d.slots
 
 -- the change in a slot is made, which empties the slot: nothing more is computed, and what was is no more than the cost

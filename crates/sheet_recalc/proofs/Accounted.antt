@@ -25,15 +25,15 @@ pub spent_more : (spent planned total cost : ℕ) → planned ≡ ticked 0 cost 
 spent_more spent planned total cost is sum = omega (arith, is, sum)
 
 -- no more items are computed than the change costs
-pub few_ticks : (spent cost before after ticks total : ℕ) → ticked 0 before ≤ spent → after ≤ before + cost → ticks ≡ after → ticks < 18446744073709551616 → total ≡ ticked spent cost → ticks ≤ total
-few_ticks spent cost before after ticks total low made is fits sum = omega (arith, low, made, is, fits, sum)
+pub few_ticks : (spent cost ticks total : ℕ) → ticks ≤ spent + cost → ticks < 18446744073709551616 → total ≡ ticked spent cost → ticks ≤ total
+few_ticks spent cost ticks total made fits sum = omega (arith, made, fits, sum)
 
 -- what an expression costs, and then what its array costs
 pub expression_more : (spent expression cost total : ℕ) → spent ≡ ticked 0 expression → total ≡ ticked spent cost → total ≡ ticked 0 (expression + cost)
 expression_more spent expression cost total is sum = omega (arith, is, sum)
 
-pub expression_few : (spent expression before meter : ℕ) → spent ≡ ticked 0 expression → meter ≤ before + expression → before ≡ 0 → ticked 0 meter ≤ spent
-expression_few spent expression before meter is made none = omega (arith, is, made, none)
+pub expression_even : (spent expression before meter : ℕ) → spent ≡ ticked 0 expression → meter ≡ ticked before expression → before ≡ 0 → meter ≡ spent
+expression_even spent expression before meter is made none = omega (arith, is, made, none)
 
 -- a change that works out no expression costs what the formulas do
 pub formulas_alone : (cost total : ℕ) → total ≡ ticked 0 cost → total ≡ ticked 0 (0 + cost)

@@ -56,7 +56,7 @@ module _ (s : SheetValue) (name : List ℕ) (proposal : Proposal) (spent : ℕ) 
 
   -- at first no more items were computed than was spent
   pub few_at_first : (cost : ℕ) → spent ≡ ticked 0 cost → p.ticks ≤ cost
-  few_at_first cost is = omega (arith, is, h.few, h.begun.small)
+  few_at_first cost is = omega (arith, is, h.even)
 
 -- nothing was spent where no expression is worked out
 pub free : 0 ≡ ticked 0 0

@@ -1,5 +1,5 @@
 -- A new formula is worked out where nothing changed of the names.
-use Rattle.std.proofs.Common.{◌≡◌, ◌+◌, ◌≤◌, ℕ, List, true, Result, Ok, Err, IfOk, OnOk, refl, sym, subst}
+use Rattle.std.proofs.Common.{◌≡◌, ◌+◌, ◌≤◌, ℕ, List, true, Result, Ok, Err, IfOk, IsOk, OnOk, refl, sym, subst}
 use Rattle.std.specs.List.{Contains}
 use Rattle.std.specs.declared.alloc.AllocError.{AllocError}
 use Rattle.std.proofs.lemmas.Bool.{false≢true}
@@ -10,7 +10,8 @@ use Rattle.formula_core.specs.declared.input.Input.{Input}
 use Rattle.formula_core.specs.Meaning.{eval, names_in}
 use Rattle.formula_core.specs.Changes.{Change}
 use Rattle.formula_core.specs.Formulas.{FormulaValue, new_formula}
-use Rattle.formula_core.specs.Plans.{PlanValue, root_change, tree_cost, AreInputs, IsNameSound, IsTold, IsPlanned}
+use Rattle.formula_core.proofs.Given.{given_computed}
+use Rattle.formula_core.specs.Plans.{PlanValue, root_change, tree_cost, AllComputed, AreInputs, IsNameSound, IsTold, IsPlanned}
 use Rattle.sheet_recalc.specs.Names.{Names}
 use Rattle.sheet_recalc.specs.Meaning.{val}
 use Rattle.sheet_recalc.specs.Costs.{at_rest}
@@ -39,3 +40,10 @@ module _ (names : Names) (t : Tree) (inputs : List Input) (are : AreInputs (at_r
     pub ticks_at_rest : (before after : ℕ) (r : Result PlanValue AllocError) → ((c : Change) → IsTold f c inputs → after ≤ before + tree_cost f.is_new c f.tree) → OnOk r (after ≤ before + tree_cost true (at_rest names) t)
     ticks_at_rest before after (Err e) h = tt
     ticks_at_rest before after (Ok p) h = subst (λ (g : FormulaValue). after ≤ before + tree_cost g.is_new (at_rest names) g.tree) is (h (at_rest names) told_at_rest)
+
+    pub all_at_rest : (before after : ℕ) (r : Result PlanValue AllocError) → OnOk r ((c : Change) → IsTold f c inputs → AllComputed f.is_new c f.tree → after ≡ ticked before (tree_cost f.is_new c f.tree))
+        → OnOk r (IsOk (eval t (val names)) → after ≡ ticked before (tree_cost true (at_rest names) t))
+    all_at_rest before after (Err e) h = tt
+    all_at_rest before after (Ok p) h = λ given.
+        subst (λ (g : FormulaValue). AllComputed g.is_new (at_rest names) g.tree → after ≡ ticked before (tree_cost g.is_new (at_rest names) g.tree)) is (h (at_rest names) told_at_rest)
+        (given_computed t (at_rest names) given)

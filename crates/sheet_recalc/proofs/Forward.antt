@@ -12,7 +12,7 @@ use Rattle.change_core.specs.Meters.{ticked}
 use Rattle.dep_order.specs.Users.{HasNothing}
 use Rattle.formula_core.specs.Changes.{Change}
 use Rattle.formula_core.specs.Formulas.{FormulaValue, operations}
-use Rattle.formula_core.specs.Plans.{PlanValue, node_cost_at, tree_cost, IsPlanOf, IsPlanned as IsFormulaPlanned}
+use Rattle.formula_core.specs.Plans.{PlanValue, node_cost_at, tree_cost, IsComputed, AllComputed, IsPlanOf, IsPlanned as IsFormulaPlanned}
 use Rattle.formula_core.specs.Progress.{operations_among, IsPlannedTo}
 use Rattle.formula_core.specs.Tables.{subtrees, tree_at}
 use Rattle.formula_core.proofs.Planned.{planned_at_end, plan_of}
@@ -22,7 +22,7 @@ use Rattle.sheet_recalc.specs.Costs.{IsNodeCost}
 use Rattle.sheet_recalc.specs.Live.{IsPlanned, plan_in}
 use Rattle.sheet_recalc.specs.ProposedSheet.{Outline, own_entry, proposed_names, proposed_change, proposed_cost, entry_of}
 use Rattle.sheet_recalc.specs.Costs.{functions_of}
-use Rattle.sheet_recalc.specs.Planning.{IsProposed, IsAffected, IsPlanAt, IsUnderWay, IsPlanning, AllWait, IsComingTo, IsComing, IsOnTheWay, waiting_names, functions_at, name_cost, names_cost}
+use Rattle.sheet_recalc.specs.Planning.{IsProposed, IsAffected, IsPlanAt, IsUnderWay, NoneFails, AreMade, IsPlanning, coming_cost, AllWait, IsComingTo, IsComing, IsOnTheWay, waiting_names, functions_at, name_cost, names_cost}
 use Rattle.sheet_recalc.specs.declared.entry.Entry.TheVariants as entry
 use Rattle.sheet_recalc.specs.declared.plans.Plans.{Plans}
 use Rattle.sheet_recalc.proofs.Accounted.{few_ticks}
@@ -85,37 +85,47 @@ module _ (o : Outline) where
   module _ (ready : IsProposed o) (base : ℕ) where
     -- in the beginning all wait
     pub first_way : (w : Plans) (ticks : ℕ) → w.waiting ≡ length w.found.entries → w.cost ≡ base → base < 18446744073709551616
-        → IsDistinct bytes_eq (keys_of w.found.entries) → IsAffected o (keys_of w.found.entries) → HasNothing bytes_eq w.found.entries → proposed_cost o ≡ names_cost o (keys_of w.found.entries) → ticked 0 ticks ≤ base → IsPlanning o base w ticks
-    first_way w ticks waits spent small distinct affected nothing costs low =
+        → IsDistinct bytes_eq (keys_of w.found.entries) → IsAffected o (keys_of w.found.entries) → HasNothing bytes_eq w.found.entries → proposed_cost o ≡ names_cost o (keys_of w.found.entries) → ticks ≡ base → IsPlanning o base w ticks
+    first_way w ticks waits spent small distinct affected nothing costs even =
         let keys = keys_of w.found.entries in
         let all : waiting_names w ≡ keys = all_names w waits in
         record {
-          few = omega (arith, waits);
-          way = subst (λ ns. IsUnderWay o ns (plan_in w.found.entries)) (sym all) (under_way_first o keys affected distinct (plan_in w.found.entries) (none_in w.found.entries nothing));
-          spent = 0;
-          split = omega (arith, costs, ap (names_cost o) all);
-          cost_is = omega (arith, spent, small);
-          before = ticks;
-          low = low;
-          ticks_are = omega arith;
+          made = record {
+            few = omega (arith, waits);
+            way = subst (λ ns. IsUnderWay o ns (plan_in w.found.entries)) (sym all) (under_way_first o keys affected distinct (plan_in w.found.entries) (none_in w.found.entries nothing));
+            spent = 0;
+            split = omega (arith, costs, ap (names_cost o) all);
+            cost_is = omega (arith, spent, small);
+            ticks_are = omega (arith, even);
+          };
+          whole = λ _. even ∙ sym spent;
         }
+
+    -- what the whole plans cost fits
+    costs_fit : (w : Plans) (told : ℕ) → AreMade o base w told → w.cost < 18446744073709551616
+    costs_fit w told made = omega (arith, made.cost_is)
+
+    -- where no plan is on its way, what is counted is what the whole ones cost
+    rests_whole : (w : Plans) (ticks : ℕ) {told : ℕ} → AreMade o base w told → w.current ≡ None → ticks ≡ w.cost → ticks ≡ ticked w.cost (coming_cost w.current)
+    rests_whole w ticks {told} made none is = omega (arith, is, costs_fit w told made, ap coming_cost none)
 
     -- the functions are counted
     pub counted_way : (ticks : ℕ) (w : Plans) → IsPlanning o base w ticks → AllWait w → (n : ℕ) → n ≡ sum_by (functions_at o) (keys_of w.found.entries) → IsOnTheWay o base (record w { left = n }) false ticks
     counted_way ticks w now first n count = record {
       told = ticks;
-      made = now;
+      made = now.made;
       done = 0;
       begun = 0;
       coming = subst (λ q. IsComing o (waiting_names w) false q 0 0) (sym first.none) (refl, refl, λ e. absurd (false≢true e));
       count = omega (arith, count, ap (sum_by (functions_at o)) (all_names w first.waits));
       ticks_are = omega arith;
+      whole = λ good. rests_whole w ticks now.made first.none (now.whole good);
     }
 
     -- a name that is bound to no formula has no plan
-    pub passed_over : (ticks : ℕ) (w : Plans) (name : List ℕ) → IsPlanning o base w ticks → 0 < w.waiting → waiting_names w ≡ take (w.waiting - 1) (keys_of w.found.entries) ++ name ∷ []
-        → ((f : FormulaValue) → entry_of o name ≡ Some (entry.Formula f) → ⊥) → IsPlanning o base (record w { waiting = w.waiting - 1 }) ticks
-    passed_over ticks w name now some split plain =
+    passed_so : (ticks : ℕ) (w : Plans) (name : List ℕ) → AreMade o base w ticks → 0 < w.waiting → waiting_names w ≡ take (w.waiting - 1) (keys_of w.found.entries) ++ name ∷ []
+        → ((f : FormulaValue) → entry_of o name ≡ Some (entry.Formula f) → ⊥) → AreMade o base (record w { waiting = w.waiting - 1 }) ticks
+    passed_so ticks w name now some split plain =
         let front = take (w.waiting - 1) (keys_of w.found.entries) in
         record {
           few = omega (arith, now.few);
@@ -123,17 +133,19 @@ module _ (o : Outline) where
           spent = now.spent;
           split = omega (arith, now.split, cost_split o ready front name (waiting_names w) split (plan_in w.found.entries) now.way, plain_costs_nothing o ready name plain);
           cost_is = now.cost_is;
-          before = now.before;
-          low = now.low;
           ticks_are = now.ticks_are;
         }
 
+    pub passed_over : (ticks : ℕ) (w : Plans) (name : List ℕ) → IsPlanning o base w ticks → 0 < w.waiting → waiting_names w ≡ take (w.waiting - 1) (keys_of w.found.entries) ++ name ∷ []
+        → ((f : FormulaValue) → entry_of o name ≡ Some (entry.Formula f) → ⊥) → IsPlanning o base (record w { waiting = w.waiting - 1 }) ticks
+    passed_over ticks w name now some split plain = record { made = passed_so ticks w name now.made some split plain; whole = now.whole }
+
     -- a formula has its plan
-    pub planned_way : (ticks : ℕ) (w w' : Plans) (name : List ℕ) (p : PlanValue) (after : ℕ) → IsPlanning o base w ticks → 0 < w.waiting → waiting_names w ≡ take (w.waiting - 1) (keys_of w.found.entries) ++ name ∷ []
+    planned_so : (ticks : ℕ) (w w' : Plans) (name : List ℕ) (p : PlanValue) (after : ℕ) → AreMade o base w ticks → 0 < w.waiting → waiting_names w ≡ take (w.waiting - 1) (keys_of w.found.entries) ++ name ∷ []
         → (f : FormulaValue) → entry_of o name ≡ Some (entry.Formula f) → IsPlanOf f p → IsFormulaPlanned f c p → after ≤ ticks + tree_cost f.is_new c f.tree
         → w'.waiting ≡ w.waiting - 1 → keys_of w'.found.entries ≡ keys_of w.found.entries → ((q : List ℕ) → plan_in w'.found.entries q ≡ cond (bytes_eq name q) (Some p) (plan_in w.found.entries q))
-        → w'.cost ≡ min (w.cost + p.cost) 18446744073709551615 → IsPlanning o base w' after
-    planned_way ticks w w' name p after now some split f held of planned more waits keys plans cost =
+        → w'.cost ≡ min (w.cost + p.cost) 18446744073709551615 → AreMade o base w' after
+    planned_so ticks w w' name p after now some split f held of planned more waits keys plans cost =
         let front = take (w.waiting - 1) (keys_of w.found.entries) in
         let at : IsPlanAt o name p = record { formula = f; held = held; of = of; planned = planned } in
         let names : waiting_names w' ≡ front = λ i. take (waits i) (keys i) in
@@ -145,10 +157,25 @@ module _ (o : Outline) where
           spent = now.spent + name_cost o.name c new name;
           split = omega (arith, now.split, cost_split o ready front name (waiting_names w) split (plan_in w.found.entries) now.way, ap (names_cost o) names);
           cost_is = cost ∙ omega (arith, now.cost_is, planned.cost, costs);
-          before = now.before;
-          low = now.low;
           ticks_are = omega (arith, now.ticks_are, more, costs);
         }
+
+    -- of a formula no item fails where none does of any
+    pub none_in_formula : (name : List ℕ) (f : FormulaValue) → entry_of o name ≡ Some (entry.Formula f) → NoneFails o → AllComputed f.is_new c f.tree
+    none_in_formula name f held good = subst (λ b. AllComputed b c f.tree) (sym (is_new_own o ready name f held)) (good name f.tree (bound_to o ready name f held))
+
+    pub planned_way : (ticks : ℕ) (w w' : Plans) (name : List ℕ) (p : PlanValue) (after : ℕ) → IsPlanning o base w ticks → 0 < w.waiting → waiting_names w ≡ take (w.waiting - 1) (keys_of w.found.entries) ++ name ∷ []
+        → (f : FormulaValue) → entry_of o name ≡ Some (entry.Formula f) → IsPlanOf f p → IsFormulaPlanned f c p → after ≤ ticks + tree_cost f.is_new c f.tree
+        → (AllComputed f.is_new c f.tree → after ≡ ticked ticks (tree_cost f.is_new c f.tree))
+        → w'.waiting ≡ w.waiting - 1 → keys_of w'.found.entries ≡ keys_of w.found.entries → ((q : List ℕ) → plan_in w'.found.entries q ≡ cond (bytes_eq name q) (Some p) (plan_in w.found.entries q))
+        → w'.cost ≡ min (w.cost + p.cost) 18446744073709551615 → IsPlanning o base w' after
+    planned_way ticks w w' name p after now some split f held of planned more all waits keys plans cost = record {
+      made = planned_so ticks w w' name p after now.made some split f held of planned more waits keys plans cost;
+      whole = λ good.
+          let counted = all (none_in_formula name f held good) in
+          let before = now.whole good in
+          omega (arith, counted, before, cost, planned.cost);
+    }
 
     -- all have theirs
     pub all_made : (ticks : ℕ) (w : Plans) → IsPlanning o base w ticks → w.waiting ≡ 0 → w.left ≡ 0 → w.current ≡ None → IsOnTheWay o base w true ticks
@@ -156,12 +183,13 @@ module _ (o : Outline) where
         let names : waiting_names w ≡ [] = ap (λ n. take n (keys_of w.found.entries)) end in
         record {
           told = ticks;
-          made = now;
+          made = now.made;
           done = 0;
           begun = 0;
           coming = subst (λ q. IsComing o (waiting_names w) true q 0 0) (sym none) (refl, refl, λ e. names);
           count = omega (arith, zero, ap (sum_by (functions_at o)) names);
           ticks_are = omega arith;
+          whole = λ good. rests_whole w ticks now.made none (now.whole good);
         }
 
     module _ (ticks : ℕ) where
@@ -171,12 +199,13 @@ module _ (o : Outline) where
       skipped w name now some split plain =
           record {
             told = now.told;
-            made = passed_over now.told w name now.made some split plain;
+            made = passed_so now.told w name now.made some split plain;
             done = now.done;
             begun = now.begun;
             coming = by w.current now.coming;
             count = omega (arith, now.count, ap (sum_by (functions_at o)) split, sum_by_push (functions_at o) (take (w.waiting - 1) (keys_of w.found.entries)) name, plain_applies_none o ready name plain);
             ticks_are = now.ticks_are;
+            whole = now.whole;
           }
         where
           by : (q : Option PlanValue) → IsComing o (waiting_names w) false q now.done now.begun → IsComing o (take (w.waiting - 1) (keys_of w.found.entries)) false q now.done now.begun
@@ -185,8 +214,8 @@ module _ (o : Outline) where
 
       -- a plan is begun
       pub started_way : (w : Plans) (name : List ℕ) (front : List (List ℕ)) → IsOnTheWay o base w false ticks → w.current ≡ None → waiting_names w ≡ front ++ name ∷ []
-          → (f : FormulaValue) → entry_of o name ≡ Some (entry.Formula f) → (p : PlanValue) → IsPlannedTo f c p → operations_among f p.changes ≡ 0 → IsOnTheWay o base (record w { current = Some p }) false ticks
-      started_way w name front now none split f held p planned zero =
+          → (f : FormulaValue) → entry_of o name ≡ Some (entry.Formula f) → (p : PlanValue) → IsPlannedTo f c p → operations_among f p.changes ≡ 0 → p.cost ≡ 0 → IsOnTheWay o base (record w { current = Some p }) false ticks
+      started_way w name front now none split f held p planned zero free =
           let were = none_coming (waiting_names w) false w.current now.done now.begun none now.coming in
           record {
             told = now.told;
@@ -196,6 +225,7 @@ module _ (o : Outline) where
             coming = record { before = front; name = name; last = split; formula = f; held = held; planned = planned; done_is = sym zero; begun_is = refl; left = λ e. absurd (false≢true e) };
             count = omega (arith, now.count, were.0);
             ticks_are = omega (arith, now.ticks_are, were.1);
+            whole = λ good. let all = now.whole good in omega (arith, all, free, ap coming_cost none);
           }
 
       -- a whole plan is kept
@@ -214,12 +244,13 @@ module _ (o : Outline) where
           let within : ticks ≤ told = cost_within f.is_new c f.tree (length p.changes) now.told ticks (subst (λ n. ticks ≤ now.told + n) k.2 now.ticks_are) in
           record {
             told = told;
-            made = planned_way now.told w w' name p told now.made some split f held (plan_of f c p k.0.begun whole) planned (omega arith) waits keys plans cost;
+            made = planned_so now.told w w' name p told now.made some split f held (plan_of f c p k.0.begun whole) planned (omega arith) waits keys plans cost;
             done = 0;
             begun = 0;
             coming = subst (λ q. IsComing o (waiting_names w') false q 0 0) (sym none) (refl, refl, λ e. absurd (false≢true e));
             count = omega (arith, lefts, now.count, k.1, all_among f p.changes whole known, ap (sum_by (functions_at o)) split, sum_by_push (functions_at o) front name, applies, ap (sum_by (functions_at o)) names);
             ticks_are = omega (arith, within);
+            whole = λ good. let all = now.whole good in omega (arith, all, cost, ap coming_cost none);
           }
 
       -- a plan of which a function is left is next
@@ -235,6 +266,7 @@ module _ (o : Outline) where
             coming = record { before = front; name = name; last = split; formula = f; held = held; planned = k.0; done_is = k.1; begun_is = k.2; left = λ e. part_left f p.changes k.0.begun.few part };
             count = now.count;
             ticks_are = now.ticks_are;
+            whole = now.whole;
           }
 
       -- none waits
@@ -248,6 +280,7 @@ module _ (o : Outline) where
             coming = by w.current now.coming;
             count = now.count;
             ticks_are = now.ticks_are;
+            whole = now.whole;
           }
         where
           names : waiting_names w ≡ []
@@ -260,8 +293,11 @@ module _ (o : Outline) where
       -- one function more is applied
       pub applied_way : (w : Plans) (name : List ℕ) (front : List (List ℕ)) (p p' : PlanValue) (after : ℕ) → IsOnTheWay o base w true ticks → w.current ≡ Some p → waiting_names w ≡ front ++ name ∷ []
           → (f : FormulaValue) → entry_of o name ≡ Some (entry.Formula f) → 0 < w.left → operations_among f p'.changes ≡ operations_among f p.changes + 1 → IsPlannedTo f c p'
-          → after ≤ ticks + node_cost_at f.is_new c (tree_at (subtrees f.tree) (length p.changes)) → IsOnTheWay o base (record w { current = Some p'; left = w.left - 1 }) false after
-      applied_way w name front p p' after now current split f held some one planned more =
+          → after ≤ ticks + node_cost_at f.is_new c (tree_at (subtrees f.tree) (length p.changes))
+          → (IsComputed f.is_new c (tree_at (subtrees f.tree) (length p.changes)) → after ≡ ticked ticks (node_cost_at f.is_new c (tree_at (subtrees f.tree) (length p.changes))))
+          → p'.cost ≡ ticked p.cost (node_cost_at f.is_new c (tree_at (subtrees f.tree) (length p.changes)))
+          → IsOnTheWay o base (record w { current = Some p'; left = w.left - 1 }) false after
+      applied_way w name front p p' after now current split f held some one planned more all cost =
           let k = coming_for (waiting_names w) front name split true p now.done now.begun (some_coming (waiting_names w) true w.current p now.done now.begun current now.coming) f held in
           record {
             told = now.told;
@@ -272,6 +308,10 @@ module _ (o : Outline) where
             count = omega (arith, now.count, some);
             ticks_are = cost_more f.is_new c f.tree (length p.changes) (length p'.changes) now.told ticks after (omega (arith, k.3 refl, k.0.begun.known)) (longer f p.changes p'.changes one)
                 (subst (λ n. ticks ≤ now.told + n) k.2 now.ticks_are) more;
+            whole = λ good.
+                let counted = all (none_in_formula name f held good (length p.changes) (omega (arith, k.3 refl, k.0.begun.known))) in
+                let before = now.whole good in
+                omega (arith, counted, before, cost, ap coming_cost current);
           }
 
       -- a function that is left is one of the plan on its way, and can be applied to it
@@ -336,9 +376,19 @@ module _ (o : Outline) where
       pub all_few : (w : Plans) → IsOnTheWay o base w true ticks → w.left ≡ 0 → ticks < 18446744073709551616 → ticks ≤ w.cost
       all_few w now zero small =
           let begun : now.begun ≡ 0 = by w.current now.coming in
-          let made : ticks ≤ now.made.before + proposed_cost o = omega (arith, now.ticks_are, now.made.ticks_are, begun, now.made.split) in
-          few_ticks base (proposed_cost o) now.made.before ticks ticks w.cost now.made.low made refl small (all_cost w now zero)
+          let made : ticks ≤ base + proposed_cost o = omega (arith, now.ticks_are, now.made.ticks_are, begun, now.made.split) in
+          few_ticks base (proposed_cost o) ticks w.cost made small (all_cost w now zero)
         where
           by : (q : Option PlanValue) → IsComing o (waiting_names w) true q now.done now.begun → now.begun ≡ 0
           by None h = h.1
+          by (Some p) h = absurd (omega (arith, ap length (sym (none_left w now zero) ∙ h.last), length-append h.before (h.name ∷ [])))
+
+      pub all_whole : (w : Plans) → IsOnTheWay o base w true ticks → w.left ≡ 0 → NoneFails o → ticks ≡ w.cost
+      all_whole w now zero good =
+          let none : coming_cost w.current ≡ 0 = by w.current now.coming in
+          let all = now.whole good in
+          omega (arith, all, none, costs_fit w now.told now.made)
+        where
+          by : (q : Option PlanValue) → IsComing o (waiting_names w) true q now.done now.begun → coming_cost q ≡ 0
+          by None h = refl
           by (Some p) h = absurd (omega (arith, ap length (sym (none_left w now zero) ∙ h.last), length-append h.before (h.name ∷ [])))

@@ -5,7 +5,7 @@ use Rattle.change_core.specs.Meters.{ticked, MeterValue}
 use Rattle.sheet_recalc.specs.Names.{SheetValue}
 use Rattle.sheet_recalc.specs.Tables.{Tables}
 use Rattle.sheet_recalc.specs.Changes.{Change}
-use Rattle.sheet_recalc.specs.Costs.{HasCost, expression_cost, formulas_cost, changed_name, IsNodeCost, IsStepCost}
+use Rattle.sheet_recalc.specs.Costs.{HasCost, HasTicks, NoItemFails, expression_cost, formulas_cost, changed_name, IsNodeCost, IsStepCost}
 use Rattle.formula_core.specs.Changes as formula
 use Rattle.sheet_recalc.specs.ProposedSheet.{proposed_change}
 use Rattle.sheet_recalc.specs.Planning.{IsOnTheWay}
@@ -13,7 +13,7 @@ use Rattle.sheet_recalc.specs.Pending.{outline_for, names_after, steps_left, IsR
 use Rattle.sheet_recalc.specs.declared.pending.Pending.{Pending}
 use Rattle.sheet_recalc.specs.declared.plans.Plans.{Plans}
 use Rattle.sheet_recalc.proofs.Accounted.{expression_more}
-use Rattle.sheet_recalc.proofs.Forward.{all_planned, all_cost, all_few}
+use Rattle.sheet_recalc.proofs.Forward.{all_planned, all_cost, all_few, all_whole}
 
 -- where no step is left, none was cut off
 pub none_cut : (p : Pending) → steps_left p ≡ 0 → p.is_cut ≡ false
@@ -40,6 +40,7 @@ module _ (t : Tables) (p : Pending) (base : ℕ) (h : IsBegunOn t p base) (none 
         proposal = h.proposed.proposal;
         place = h.place;
         few = subst (λ n. n ≤ p.plans.cost) (sym told) (all_few (outline_for t p) h.proposed base p.meter.ticks p.plans rests nothing_left (subst (λ n. n < 18446744073709551616) told h.small));
+        whole = λ good. told ∙ all_whole (outline_for t p) h.proposed base p.meter.ticks p.plans rests nothing_left good;
       }
 
 pub whole_cost : (s : SheetValue) (change : Change) (p : Pending) → IsPendingOn s change p → steps_left p ≡ 0 → HasCost s.names change (names_after s.tables p) p.plans.cost
@@ -47,6 +48,19 @@ whole_cost s change p h none =
     let all = all_cost (outline_for s.tables p) h.begun.proposed h.base p.meter.ticks p.plans (rests s.tables p h.base h.begun none) (nothing_left s.tables p h.base h.begun none) in
     let new = names_after s.tables p in
     expression_more h.base (expression_cost s.names change) _ p.plans.cost h.base_is all ∙ (λ i. ticked 0 (expression_cost s.names change + formulas_cost (h.name_is i) (h.makes i) new))
+
+pub whole_ticks : (s : SheetValue) (change : Change) (p : Pending) → IsPendingOn s change p → steps_left p ≡ 0 → HasTicks s.names change (names_after s.tables p) p.ticks
+whole_ticks s change p h none =
+    let cost = whole_cost s change p h none in
+    let ready = is_ready s.tables p h.base h.begun none in
+    let new = names_after s.tables p in
+    record {
+      most = subst (λ n. p.ticks ≤ n) cost ready.few;
+      all = λ good.
+          let same = subst (λ (name : List ℕ). NoItemFails name (proposed_change (outline_for s.tables p)) new) (sym h.name_is)
+          (subst (λ (c : formula.Change). NoItemFails (changed_name change) c new) (sym h.makes) good) in
+          ready.whole same ∙ cost;
+    }
 
 -- the same change, further on
 module _ (p : Pending) (w : Plans) (cut : Bool) (ticks : ℕ) (m : MeterValue) where

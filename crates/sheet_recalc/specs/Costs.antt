@@ -1,5 +1,5 @@
 -- What a change changes of each name, and what it costs.
-use Rattle.std.specs.Prelude.{◌≡◌, ◌⊎◌, ◌↔◌, ◌+◌, ◌<◌, ℕ, zero, suc, List, [], ◌∷◌, map, length, true, Option, Some, Ok, Err, if◌then◌else◌}
+use Rattle.std.specs.Prelude.{◌≡◌, ◌⊎◌, ◌↔◌, ◌+◌, ◌<◌, ◌≤◌, ℕ, zero, suc, List, [], ◌∷◌, map, length, true, Option, Some, Ok, Err, if◌then◌else◌}
 use Rattle.std.specs.Str.{bytes_eq}
 use Rattle.std.specs.List.{Contains, IsDistinct, sum_by}
 use Rattle.std.specs.Option.{option_map_or}
@@ -14,7 +14,7 @@ use Rattle.formula_core.specs.Changes as formula
 use Rattle.formula_core.specs.Formulas.{operations}
 use Rattle.formula_core.specs.Outcomes.{Outcome}
 use Rattle.apl_expr.specs.Trees.{Tree}
-use Rattle.formula_core.specs.Plans.{tree_cost, node_cost_at}
+use Rattle.formula_core.specs.Plans.{tree_cost, node_cost_at, AllComputed}
 use Rattle.formula_core.specs.Tables.{subtrees, tree_at}
 use Rattle.sheet_recalc.specs.Names.{Names, Binding, Data, Formula, binding, Refers}
 use Rattle.sheet_recalc.specs.Meaning.{val, with_origin}
@@ -106,6 +106,15 @@ change_cost old change new = expression_cost old change + formulas_cost (changed
 -- the cost of the change is this; the greatest number of 64 bits where it is more
 abbrev pub HasCost : Names → Change → Names → ℕ → Type 0
 HasCost old change new cost = cost ≡ ticked 0 (change_cost old change new)
+
+-- no item fails of those that the formulas of the names compute, where the change makes this of each and is about this name
+abbrev pub NoItemFails : List ℕ → formula.Change → Names → Type 0
+NoItemFails name c names = (q : List ℕ) (t : Tree) → binding names q ≡ Some (Formula t) → AllComputed (bytes_eq q name) c t
+
+-- so many items were computed in the change: no more than it costs, and as many where none of them fails
+pub record HasTicks (old : Names) (change : Change) (new : Names) (ticks : ℕ) : Type 0 where
+  pub most : ticks ≤ ticked 0 (change_cost old change new)
+  pub all : NoItemFails (changed_name change) (asked_change old change new) new → ticks ≡ ticked 0 (change_cost old change new)
 
 -- these names, each once, are this one and all that reach it
 pub record AreAllThatReach (names : Names) (name : List ℕ) (found : List (List ℕ)) : Type 0 where

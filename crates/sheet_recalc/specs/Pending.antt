@@ -13,7 +13,7 @@ use Rattle.sheet_recalc.specs.Changes.{Change, Accepts, HasRoom}
 use Rattle.sheet_recalc.specs.Costs.{changed_name, asked_change, expression_cost, AreAllThatReach, IsNodeCost}
 use Rattle.sheet_recalc.specs.Entries.{names_of}
 use Rattle.sheet_recalc.specs.Live.{IsPlanned, plan_in}
-use Rattle.sheet_recalc.specs.Planning.{IsProposalAt, IsProposed, IsPlanning, AllWait, IsOnTheWay}
+use Rattle.sheet_recalc.specs.Planning.{IsProposalAt, IsProposed, NoneFails, IsPlanning, AllWait, IsOnTheWay}
 use Rattle.sheet_recalc.specs.ProposedSheet.{Outline, own_entry, proposed_names, proposed_change}
 use Rattle.sheet_recalc.specs.Tables.{Tables}
 use Rattle.sheet_recalc.specs.declared.growth.Growth.{Growth}
@@ -59,6 +59,7 @@ pub record IsReady (t : Tables) (p : Pending) : Type 0 where
   pub proposal : IsProposalAt t.entries.entries p.name p.proposal
   pub place : HasPlace t p.growth p.proposal
   pub few : p.ticks ≤ p.plans.cost
+  pub whole : NoneFails (outline_for t p) → p.ticks ≡ p.plans.cost
 
 -- it is being worked out, and this was spent before: where it was cut off, what came after the last function is not done, and what that has
 -- computed is not told yet
@@ -112,5 +113,5 @@ pub record IsProposedOn (s : SheetValue) (name : List ℕ) (proposal : Proposal)
   pub name_is : p.name ≡ name
   pub proposal_is : p.proposal ≡ proposal
   pub begun : IsLaidOut s.tables p spent
-  pub few : ticked 0 p.ticks ≤ spent
+  pub even : p.ticks ≡ spent
   pub room : HasRoom s.names name

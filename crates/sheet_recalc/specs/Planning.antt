@@ -17,11 +17,11 @@ use Rattle.formula_core.specs.Tables.{subtrees}
 use Rattle.formula_core.specs.Changes as formula
 use Rattle.formula_core.specs.Plans as formula_plan
 use Rattle.dep_order.specs.Follows.{Follows}
-use Rattle.sheet_recalc.specs.Names.{Names, Binding, Data, Formula, binding, Refers, IsSheet}
+use Rattle.sheet_recalc.specs.Names.{Names, Formula, binding, Refers, IsSheet}
 use Rattle.sheet_recalc.specs.NameOrder.{HasOrder}
 use Rattle.sheet_recalc.specs.Changes.{HasRoom}
 use Rattle.sheet_recalc.specs.Meaning.{val, IsSettled}
-use Rattle.sheet_recalc.specs.Costs.{delta_by, binding_cost, functions_in}
+use Rattle.sheet_recalc.specs.Costs.{delta_by, binding_cost, functions_in, NoItemFails}
 use Rattle.sheet_recalc.specs.Entries.{names_of, HasData}
 use Rattle.sheet_recalc.specs.Live.{IsCurrent, plan_in}
 use Rattle.sheet_recalc.specs.ProposedSheet.{Outline, outline_of, is_data, proposed_names, proposed_delta, proposed_change, proposed_cost, entry_of}
@@ -133,20 +133,33 @@ abbrev pub IsComing : Outline → List (List ℕ) → Bool → Option formula_pl
 IsComing o names rests None done begun = (done ≡ 0) × (begun ≡ 0) × (rests ≡ true → names ≡ [])
 IsComing o names rests (Some p) done begun = IsComingTo o names rests p done begun
 
--- of these names, all but so many from the first on have their plans, which cost this; so many items were computed, and this was spent before them
+-- no item fails of those that the formulas compute
+abbrev pub NoneFails : Outline → Type 0
+NoneFails o = NoItemFails o.name (proposed_change o) (proposed_names o)
+
+-- of these names, all but so many from the first on have their plans, which cost this; at most so many items were computed, and this was spent
+-- before them
 pub record ArePlanned (o : Outline) (base waiting : ℕ) (found : List (List ℕ × Option formula_plan.PlanValue)) (cost ticks : ℕ) : Type 0 where
   pub few : waiting ≤ length found
   pub way : IsUnderWay o (take waiting (keys_of found)) (plan_in found)
   pub spent : ℕ
   pub split : spent + names_cost o (take waiting (keys_of found)) ≡ proposed_cost o
   pub cost_is : cost ≡ ticked base spent
-  pub before : ℕ
-  pub low : ticked 0 before ≤ base
-  pub ticks_are : ticks ≤ before + spent
+  pub ticks_are : ticks ≤ base + spent
 
--- the plans of a change are made a formula at a time
-abbrev pub IsPlanning : Outline → ℕ → Plans → ℕ → Type 0
-IsPlanning o base w ticks = ArePlanned o base w.waiting w.found.entries w.cost ticks
+-- so it is with the plans of a change
+abbrev pub AreMade : Outline → ℕ → Plans → ℕ → Type 0
+AreMade o base w ticks = ArePlanned o base w.waiting w.found.entries w.cost ticks
+
+-- they are made a formula at a time; so many items were computed, which are all that they cost unless one fails
+pub record IsPlanning (o : Outline) (base : ℕ) (w : Plans) (ticks : ℕ) : Type 0 where
+  pub made : AreMade o base w ticks
+  pub whole : NoneFails o → ticks ≡ w.cost
+
+-- what a plan that is on its way has cost, if one is
+abbrev pub coming_cost : Option formula_plan.PlanValue → ℕ
+coming_cost None = 0
+coming_cost (Some p) = p.cost
 
 -- no plan is begun yet, and no function counted
 pub record AllWait (w : Plans) : Type 0 where
@@ -158,12 +171,13 @@ pub record AllWait (w : Plans) : Type 0 where
 -- applied next, or none is left
 pub record IsOnTheWay (o : Outline) (base : ℕ) (w : Plans) (rests : Bool) (ticks : ℕ) : Type 0 where
   pub told : ℕ
-  pub made : IsPlanning o base w told
+  pub made : AreMade o base w told
   pub done : ℕ
   pub begun : ℕ
   pub coming : IsComing o (waiting_names w) rests w.current done begun
   pub count : w.left + done ≡ sum_by (functions_at o) (waiting_names w)
   pub ticks_are : ticks ≤ told + begun
+  pub whole : NoneFails o → ticks ≡ ticked w.cost (coming_cost w.current)
 
 -- the sheet can be so: the names have an order then, no name reaches itself, and there is room
 pub record CanBe (o : Outline) : Type 0 where

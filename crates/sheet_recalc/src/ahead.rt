@@ -63,8 +63,8 @@ impl<'a, 'b> Ahead<'a, 'b> {
         self.all_inputs(alloc, formula.references())
     }
 
-    /// The same where one name stands in it. It takes no memory. If the plan at this place of the list is one of a formula that is told, that
-    /// name is looked at first.
+    /// What the name shows that alone stands in the formula of a name. It takes no memory. If the plan at this place of the list is one of a
+    /// formula that is told, that name is looked at first.
     pub(crate) fn input_of_one<'c>(
         &'c self,
         name: Name,
@@ -100,7 +100,7 @@ impl<'a, 'b> Ahead<'a, 'b> {
         }
     }
 
-    /// The same where two names stand in it. It takes no memory.
+    /// What the two names show that stand in the formula of a name. It takes no memory.
     pub(crate) fn inputs_of_two(
         &self,
         name: Name,

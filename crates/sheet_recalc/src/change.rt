@@ -2,9 +2,9 @@
 
 ghost use Rattle.std.specs.Prelude.{◌≡◌, ◌≤◌, IfOk, IfErr, OnOk, OnErr, map};
 ghost use Rattle.sheet_recalc.specs.Changes.{Accepts, Refuses};
-ghost use Rattle.sheet_recalc.specs.Costs.{HasCost, changed_name, expression_cost, IsStepCount};
+ghost use Rattle.sheet_recalc.specs.Costs.{HasCost, HasTicks, changed_name, expression_cost, IsStepCount};
 ghost use Rattle.sheet_recalc.specs.Names.{Names};
-ghost use Rattle.sheet_recalc.specs.History.{Run, change_of};
+ghost use Rattle.sheet_recalc.specs.History.{Run, change_of, state_of};
 ghost use Rattle.sheet_recalc.specs.Pending.{IsLaidOutOn, IsPendingOn, steps_left};
 
 use crate::pending::Pending;
@@ -25,7 +25,7 @@ impl Sheet {
         self.begin_lent(&change)
     }
 
-    /// The same, of a change that is lent.
+    /// Begins a change that is lent: it is refused here, or worked out by steps (`advance`) and then made (`adopt`).
     pub fn begin_lent(&self, change: &Change) -> Result<Pending, Refusal>
         ensures ok { IfOk result (IsPendingOn self.now (change_of change.now)) }
         ensures steps { IfOk result (λ pending. (new : Names) × Accepts self.now.names (change_of change.now) new × IsStepCount new (changed_name (change_of change.now)) (steps_left pending)) }
@@ -56,6 +56,7 @@ impl Sheet {
     pub fn apply(&mut self, change: Change) -> Result<(), Refusal>
         ensures ok { OnOk result (Accepts self.old.names (change_of change) self.new.names) }
         ensures cost { OnOk result (HasCost self.old.names (change_of change) self.new.names self.new.cost) }
+        ensures ticks { OnOk result (HasTicks self.old.names (change_of change) self.new.names self.new.ticks) }
         ensures refused { IfErr result (Refuses self.old.names (change_of change)) }
         ensures err { OnErr result (self.new ≡ self.old) }
     {
@@ -73,7 +74,7 @@ impl Sheet {
         &mut self,
         mut changes: VecDeque<Change>,
     ) -> Result<Vec<Result<(), Refusal>>, AllocError>
-        ensures run { IfOk result (λ answers. Run self.old.names (map change_of changes.items) answers.items self.new.names) }
+        ensures run { IfOk result (λ answers. Run (state_of self.old) (map change_of changes.items) answers.items (state_of self.new)) }
         ensures err { OnErr result (self.new ≡ self.old) }
     {
         let mut answers = Vec::with_capacity(self.alloc(), changes.len())?;

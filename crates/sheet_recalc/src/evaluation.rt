@@ -1,6 +1,6 @@
 //! Expressions worked out where the names show what they show.
 
-ghost use Rattle.std.specs.Prelude.{◌≡◌, ◌+◌, ◌≤◌, ℕ, List, true, IfOk, OnOk};
+ghost use Rattle.std.specs.Prelude.{◌≡◌, ◌+◌, ◌≤◌, ℕ, List, true, IfOk, IsOk, OnOk};
 ghost use Rattle.std.specs.List.{Contains};
 ghost use Rattle.apl_expr.specs.Trees.{tree_of};
 ghost use Rattle.arrays_core.specs.Arrays.{IsArray};
@@ -40,6 +40,7 @@ pub(crate) fn plan_at_rest(
     ensures delta { IfOk result (λ p. root_change p.changes ≡ WholeDelta (eval (tree_of tree.now) (val (names_of entries.now.entries)))) }
     ensures cost { IfOk result (λ p. p.cost ≡ ticked 0 (tree_cost true (at_rest (names_of entries.now.entries)) (tree_of tree.now))) }
     ensures ticks { OnOk result (meter.new.ticks ≤ meter.old.ticks + tree_cost true (at_rest (names_of entries.now.entries)) (tree_of tree.now)) }
+    ensures all { OnOk result (IsOk (eval (tree_of tree.now) (val (names_of entries.now.entries))) → meter.new.ticks ≡ ticked meter.old.ticks (tree_cost true (at_rest (names_of entries.now.entries)) (tree_of tree.now))) }
 {
     let formula = Formula::of(alloc, tree)?;
     let unchanged = Delta::Same;

@@ -6,7 +6,7 @@ ghost use Rattle.std.specs.Map.{keys_of};
 ghost use Rattle.change_core.specs.Meters.{ticked};
 ghost use Rattle.formula_core.specs.Formulas.{operations};
 ghost use Rattle.formula_core.specs.Meaning.{names_in};
-ghost use Rattle.formula_core.specs.Plans.{IsPlanOf, IsPlanned, node_cost_at, tree_cost};
+ghost use Rattle.formula_core.specs.Plans.{IsPlanOf, IsPlanned, IsComputed, AllComputed, node_cost_at, tree_cost};
 ghost use Rattle.formula_core.specs.Progress.{operations_among, IsPlannedTo};
 ghost use Rattle.formula_core.specs.Tables.{subtrees, tree_at};
 ghost use Rattle.arrays_core.specs.Arrays.{IsArray};
@@ -46,7 +46,7 @@ pub(crate) fn begun(
     requires live { IsLive proposed.now.entries.now.entries users.now.entries }
     requires proposal { IsProposalAt proposed.now.entries.now.entries proposed.now.name proposed.now.proposal.now }
     ensures proposed { OnOk result (IsProposed (outline_of proposed.now)) }
-    ensures way { IfOk result (λ w. (ticks : ℕ) → ticked 0 ticks ≤ spent → IsPlanning (outline_of proposed.now) spent w ticks) }
+    ensures way { IfOk result (λ w. (ticks : ℕ) → ticks ≡ spent → IsPlanning (outline_of proposed.now) spent w ticks) }
     ensures first { IfOk result AllWait }
     ensures all { IfOk result (λ w. AreAllThatReach (proposed_names (outline_of proposed.now)) proposed.now.name (keys_of w.found.entries)) }
     ensures can { OnOk result (CanBe (outline_of proposed.now)) }
@@ -186,6 +186,7 @@ fn started(
     requires held { entry_of (outline_of proposed.now) name ≡ Some (FormulaEntry formula.now) }
     requires done { (x : List ℕ) → Contains (names_in formula.now.tree) x → IsDone (outline_of proposed.now) (plan_in found.now.entries) x }
     ensures none { IfOk result (λ p. operations_among formula.now p.changes ≡ 0) }
+    ensures cost { IfOk result (λ p. p.cost ≡ 0) }
     ensures planned { IfOk result (IsPlannedTo formula.now (proposed_change (outline_of proposed.now))) }
 {
     let unchanged = Delta::Same;
@@ -248,6 +249,10 @@ fn apply_to(
     ensures planned { OnOk result (IsPlannedTo formula.now (proposed_change (outline_of proposed.now)) plan.new) }
     ensures ticks { OnOk result (meter.new.ticks ≤ meter.old.ticks
         + node_cost_at formula.now.is_new (proposed_change (outline_of proposed.now)) (tree_at (subtrees formula.now.tree) (length plan.old.changes))) }
+    ensures all { OnOk result (IsComputed formula.now.is_new (proposed_change (outline_of proposed.now)) (tree_at (subtrees formula.now.tree) (length plan.old.changes))
+        → meter.new.ticks ≡ ticked meter.old.ticks (node_cost_at formula.now.is_new (proposed_change (outline_of proposed.now)) (tree_at (subtrees formula.now.tree) (length plan.old.changes)))) }
+    ensures cost { OnOk result (plan.new.cost ≡ ticked plan.old.cost
+        (node_cost_at formula.now.is_new (proposed_change (outline_of proposed.now)) (tree_at (subtrees formula.now.tree) (length plan.old.changes)))) }
     ensures err { OnErr result (plan.new ≡ plan.old) }
     ensures err_meter { OnErr result (meter.new ≡ meter.old) }
 {
@@ -318,6 +323,8 @@ fn whole_plan(
     ensures of { IfOk result (IsPlanOf formula.now) }
     ensures planned { IfOk result (IsPlanned formula.now (proposed_change (outline_of proposed.now))) }
     ensures ticks { OnOk result (meter.new.ticks ≤ meter.old.ticks + tree_cost formula.now.is_new (proposed_change (outline_of proposed.now)) formula.now.tree) }
+    ensures all { OnOk result (AllComputed formula.now.is_new (proposed_change (outline_of proposed.now)) formula.now.tree
+        → meter.new.ticks ≡ ticked meter.old.ticks (tree_cost formula.now.is_new (proposed_change (outline_of proposed.now)) formula.now.tree)) }
 {
     let unchanged = Delta::Same;
     let ahead = Ahead {
@@ -335,7 +342,7 @@ fn whole_plan(
     }
 }
 
-/// The same, for any number of names.
+/// The whole plan of a name's formula, in which any number of names stands, where all that it refers to is done.
 fn plan_of_many(
     alloc: Global,
     ahead: &Ahead<'_, '_>,
@@ -349,6 +356,8 @@ fn plan_of_many(
     ensures of { IfOk result (IsPlanOf formula.now) }
     ensures planned { IfOk result (IsPlanned formula.now (proposed_change (outline_of ahead.now.proposed.now))) }
     ensures ticks { OnOk result (meter.new.ticks ≤ meter.old.ticks + tree_cost formula.now.is_new (proposed_change (outline_of ahead.now.proposed.now)) formula.now.tree) }
+    ensures all { OnOk result (AllComputed formula.now.is_new (proposed_change (outline_of ahead.now.proposed.now)) formula.now.tree
+        → meter.new.ticks ≡ ticked meter.old.ticks (tree_cost formula.now.is_new (proposed_change (outline_of ahead.now.proposed.now)) formula.now.tree)) }
 {
     let inputs = ahead.inputs_of(alloc, name, formula)?;
     formula.plan(inputs.as_slice(), meter)

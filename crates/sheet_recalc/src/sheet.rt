@@ -5,7 +5,6 @@ ghost use Rattle.std.specs.Map.{keys_of};
 ghost use Rattle.std.specs.Option.{option_map};
 ghost use Rattle.apl_expr.specs.Trees.{tree_of, literal_of};
 ghost use Rattle.arrays_core.specs.declared.fault.Fault.{Fault as FaultValue};
-ghost use Rattle.change_core.specs.Meters.{ticked};
 ghost use Rattle.index_region.specs.declared.delta.Delta.TheVariants.{Whole};
 ghost use Rattle.formula_core.specs.Outcomes.{read};
 ghost use Rattle.formula_core.specs.Meaning.{eval};
@@ -15,7 +14,7 @@ ghost use Rattle.sheet_recalc.specs.ProposedSheet.{names_with};
 ghost use Rattle.sheet_recalc.specs.Planning.{IsProposalAt};
 ghost use Rattle.sheet_recalc.specs.Pending.{IsLaidOutOn, IsPendingOn, IsProposedOn, steps_left};
 ghost use Rattle.sheet_recalc.specs.Changes.{Change, Accepts, Refuses, Define, Store, Put, SetCell, AddRow, Erase, CannotBecome};
-ghost use Rattle.sheet_recalc.specs.Costs.{HasCost, changed_name, expression_cost, IsStepCost, IsStepCount};
+ghost use Rattle.sheet_recalc.specs.Costs.{HasCost, HasTicks, changed_name, expression_cost, IsStepCost, IsStepCount};
 
 use crate::cell::cell_patch;
 use crate::commit::make;
@@ -44,7 +43,7 @@ use std::marker::Model;
 pub const MOST_NAMES: usize = 1024;
 
 /// Names bound to data or to formulas, in the order in which they were first bound. Each result of each formula is current.
-/// A sheet is to a run what a workspace is to a session.
+/// A run begins with one sheet, and every line of it reads or changes that sheet.
 #[derive(Drop)]
 pub struct Sheet {
     alloc: Global,
@@ -155,6 +154,7 @@ impl Sheet {
     pub fn define(&mut self, name: Name, tree: Expr) -> Result<(), Refusal>
         ensures ok { OnOk result (Accepts self.old.names (Define name (tree_of tree)) self.new.names) }
         ensures cost { OnOk result (HasCost self.old.names (Define name (tree_of tree)) self.new.names self.new.cost) }
+        ensures ticks { OnOk result (HasTicks self.old.names (Define name (tree_of tree)) self.new.names self.new.ticks) }
         ensures refused { IfErr result (Refuses self.old.names (Define name (tree_of tree))) }
         ensures err { OnErr result (self.new ≡ self.old) }
     {
@@ -287,6 +287,7 @@ impl Sheet {
         ensures made { (change : Change) → IsPendingOn self.old change pending → Accepts self.old.names change self.new.names }
         ensures cost { (change : Change) → IsPendingOn self.old change pending → HasCost self.old.names change self.new.names self.new.cost }
         ensures ticks { self.new.ticks ≡ pending.ticks }
+        ensures computed { (change : Change) → IsPendingOn self.old change pending → HasTicks self.old.names change self.new.names self.new.ticks }
     {
         let (cost, ticks) = (pending.plans.cost, pending.ticks);
         make(&mut self.entries, &mut self.users, pending);
@@ -299,6 +300,7 @@ impl Sheet {
         requires { (change : Change) × IsLaidOutOn self.old change pending.value }
         ensures made { OnOk result ((change : Change) → IsLaidOutOn self.old change pending.value → Accepts self.old.names change self.new.names) }
         ensures cost { OnOk result ((change : Change) → IsLaidOutOn self.old change pending.value → HasCost self.old.names change self.new.names self.new.cost) }
+        ensures ticks { OnOk result ((change : Change) → IsLaidOutOn self.old change pending.value → HasTicks self.old.names change self.new.names self.new.ticks) }
         ensures err { OnErr result (self.new ≡ self.old) }
     {
         self.plan_change(&mut pending)?;
@@ -311,6 +313,7 @@ impl Sheet {
     pub fn data(&mut self, name: Name, tree: Expr) -> Result<(), Refusal>
         ensures ok { OnOk result (Accepts self.old.names (Store name (tree_of tree)) self.new.names) }
         ensures cost { OnOk result (HasCost self.old.names (Store name (tree_of tree)) self.new.names self.new.cost) }
+        ensures ticks { OnOk result (HasTicks self.old.names (Store name (tree_of tree)) self.new.names self.new.ticks) }
         ensures refused { IfErr result (Refuses self.old.names (Store name (tree_of tree))) }
         ensures err { OnErr result (self.new ≡ self.old) }
     {
@@ -344,6 +347,7 @@ impl Sheet {
     ) -> Result<(), Refusal>
         ensures ok { OnOk result (Accepts self.old.names (SetCell name positions.now (literal_of literal.now)) self.new.names) }
         ensures cost { OnOk result (HasCost self.old.names (SetCell name positions.now (literal_of literal.now)) self.new.names self.new.cost) }
+        ensures ticks { OnOk result (HasTicks self.old.names (SetCell name positions.now (literal_of literal.now)) self.new.names self.new.ticks) }
         ensures refused { IfErr result (Refuses self.old.names (SetCell name positions.now (literal_of literal.now))) }
         ensures err { OnErr result (self.new ≡ self.old) }
     {
@@ -375,6 +379,7 @@ impl Sheet {
     pub fn add_row(&mut self, name: Name, literal: &Literal) -> Result<(), Refusal>
         ensures ok { OnOk result (Accepts self.old.names (AddRow name (literal_of literal.now)) self.new.names) }
         ensures cost { OnOk result (HasCost self.old.names (AddRow name (literal_of literal.now)) self.new.names self.new.cost) }
+        ensures ticks { OnOk result (HasTicks self.old.names (AddRow name (literal_of literal.now)) self.new.names self.new.ticks) }
         ensures refused { IfErr result (Refuses self.old.names (AddRow name (literal_of literal.now))) }
         ensures err { OnErr result (self.new ≡ self.old) }
     {
@@ -399,6 +404,7 @@ impl Sheet {
     pub fn erase(&mut self, name: Name) -> Result<(), Refusal>
         ensures ok { OnOk result (Accepts self.old.names (Erase name) self.new.names) }
         ensures cost { OnOk result (HasCost self.old.names (Erase name) self.new.names self.new.cost) }
+        ensures ticks { OnOk result (HasTicks self.old.names (Erase name) self.new.names self.new.ticks) }
         ensures refused { IfErr result (Refuses self.old.names (Erase name)) }
         ensures err { OnErr result (self.new ≡ self.old) }
     {
@@ -423,6 +429,7 @@ impl Sheet {
     pub fn put_array(&mut self, name: Name, array: Array) -> Result<(), Refusal>
         ensures ok { OnOk result (Accepts self.old.names (Put name array) self.new.names) }
         ensures cost { OnOk result (HasCost self.old.names (Put name array) self.new.names self.new.cost) }
+        ensures ticks { OnOk result (HasTicks self.old.names (Put name array) self.new.names self.new.ticks) }
         ensures refused { IfErr result (Refuses self.old.names (Put name array)) }
         ensures err { OnErr result (self.new ≡ self.old) }
     {
@@ -450,7 +457,7 @@ impl Sheet {
         meter: Meter,
     ) -> Result<Box<Pending>, Refusal>
         requires proposal { IsProposalAt self.now.tables.entries.entries name proposal }
-        requires few { ticked 0 meter.ticks ≤ spent }
+        requires even { meter.ticks ≡ spent }
         ensures ok { IfOk result (λ pending. IsProposedOn self.now name proposal spent pending.value) }
         ensures refused { IfErr result (CannotBecome self.now.names (names_with self.now.names name proposal) name) }
         ensures sound { IsSheet self.now.names }

@@ -13,20 +13,25 @@ fn change(alloc: Global, sheet: &mut Sheet, text: &str) -> Option<()> {
     }
 }
 
+/// The last change of a sheet has cost so much, and computed as many items.
+fn has_cost(sheet: &Sheet, cost: u64) -> bool {
+    sheet.last_cost() == cost && sheet.last_ticks() == cost
+}
+
 /// Each change of a sheet is accepted, and costs what stands beside it.
 fn costs(alloc: Global, sheet: &mut Sheet, changes: &[(&str, u64)]) -> bool {
     for (text, wanted) in changes {
-        if change(alloc, sheet, text).is_none() || sheet.last_cost() != *wanted {
+        if change(alloc, sheet, text).is_none() || !has_cost(sheet, *wanted) {
             return false;
         }
     }
     true
 }
 
-/// The same of a new sheet, for which no change was made that costs.
+/// Each change of a new sheet is accepted, and costs what stands beside it; before the first one the cost is 0.
 fn cost(alloc: Global, changes: &[(&str, u64)]) -> bool {
     let mut sheet = Sheet::new(alloc);
-    sheet.last_cost() == 0 && costs(alloc, &mut sheet, changes)
+    has_cost(&sheet, 0) && costs(alloc, &mut sheet, changes)
 }
 
 #[test]

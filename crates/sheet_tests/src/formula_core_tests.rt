@@ -117,7 +117,7 @@ fn joins_of_one(alloc: Global, formula: &mut Formula, array: &Array) -> Option<u
     joins_of(formula, array, &delta)
 }
 
-/// The same where the formula is a total.
+/// How many sums are joined where one number changes in a row of a thousand whose total a new formula shows.
 fn joins_of_a_total(alloc: Global) -> Option<u64> {
     let tree = tree_of(alloc, "+/D")?;
     let Ok(mut formula) = Formula::build(alloc, tree) else {

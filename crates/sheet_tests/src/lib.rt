@@ -5,6 +5,8 @@
 #[cfg(test)]
 mod arrays_core_tests;
 #[cfg(test)]
+mod call_tests;
+#[cfg(test)]
 mod cost_tests;
 #[cfg(test)]
 mod dep_order_tests;
@@ -14,6 +16,7 @@ mod desk_tests;
 mod fixtures;
 #[cfg(test)]
 mod formula_core_tests;
+mod known_host;
 #[cfg(test)]
 mod sheet_cli_tests;
 #[cfg(test)]

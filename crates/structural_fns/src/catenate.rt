@@ -3,7 +3,7 @@
 ghost use Rattle.std.specs.Prelude.{◌≡◌, ◌≤◌, ◌<◌, ◌+◌, ◌-◌, ◌^◌, ◌++◌, ◌∷◌, [], ◌↔◌, ℕ, IfOk, OnOk, Err, IfErr, IsTrue, Result, true, if◌then◌else◌, length, nat_eq, ◌&&◌};
 ghost use Rattle.arrays_core.specs.Limits.{most_axes, longest_axis};
 ghost use Rattle.arrays_core.specs.declared.item.Kind.{Kind as AKind};
-ghost use Rattle.arrays_core.specs.Arrays.{IsAnswerTo, IsArray, item_of};
+ghost use Rattle.arrays_core.specs.Arrays.{ArrayValue, IsAnswerTo, IsArray, item_of};
 ghost use Rattle.arrays_core.specs.Building.{listed};
 ghost use Rattle.arrays_core.specs.Shapes.{size, is_index_of, places_before, IsWithinLimits};
 ghost use Rattle.index_region.specs.Checks.{Form};
@@ -249,8 +249,19 @@ pub struct Catenate {
 }
 
 impl Catenate {
-    /// Where the item at an index list of the result comes from. It takes no memory.
-    pub fn source_of(self, left: &Seen, right: &Seen, index: &[u32]) -> Source
+    /// Where the item at an index list of the result comes from, where the checks have passed. It takes no memory. There are as
+    /// many arguments as the function takes.
+    pub fn source_of(&self, args: &[Seen], index: &[u32]) -> Source
+        requires count { length args.now ≡ 2 }
+        requires place { IsPlaceOf (of_two_arguments (catenate_form self.now.along) args.now) index.now }
+        ensures is { (a b : ArrayValue) → args.now ≡ a ∷ b ∷ [] → source_value result ≡ catenate_source self.now.along a b index.now }
+        ensures inside { (a b : ArrayValue) → args.now ≡ a ∷ b ∷ [] → IsSourceIn a b result }
+    {
+        self.source(&args[0], &args[1], index)
+    }
+
+    /// Where the item at an index list of the result comes from, of these two arguments.
+    fn source(self, left: &Seen, right: &Seen, index: &[u32]) -> Source
         requires { IsPlaceOf (catenate_form self.along left.now right.now) index.now }
         ensures is { source_value result ≡ catenate_source self.along left.now right.now index.now }
         ensures inside { IsSourceIn left.now right.now result }
@@ -318,7 +329,7 @@ impl Primitive for Catenate {
     fn item_at(&self, args: &[Seen], index: &[u32]) -> Result<Item, Kind> {
         let left = &args[0];
         let right = &args[1];
-        let source = self.source_of(left, right, index);
+        let source = self.source(left, right, index);
         Ok(item_from(left, right, joined_type(left, right), source))
     }
 }

@@ -1,8 +1,8 @@
 //! Drop: all places of each axis but a number of the first or of the last.
 
-ghost use Rattle.std.specs.Prelude.{◌≡◌, ◌≤◌, ◌+◌, ℤ, pos, unsigned_abs, IsTrue, IfOk, Ok, All, length};
+ghost use Rattle.std.specs.Prelude.{◌≡◌, ◌≤◌, ◌+◌, ℤ, pos, unsigned_abs, IsTrue, IfOk, Ok, All, length, ◌∷◌, []};
 ghost use Rattle.arrays_core.specs.Limits.{most_axes, longest_axis};
-ghost use Rattle.arrays_core.specs.Arrays.{IsAnswerTo, IsArray};
+ghost use Rattle.arrays_core.specs.Arrays.{ArrayValue, IsAnswerTo, IsArray};
 ghost use Rattle.arrays_core.specs.Shapes.{IsWithinLimits, is_index_of as is_below};
 ghost use Rattle.index_region.specs.ArgumentLists.{of_two_arguments};
 ghost use Rattle.index_region.specs.Arguments.{numbers};
@@ -97,8 +97,19 @@ impl DropPlaces {
         uncounted(array, kept_places(counts, array, index))
     }
 
-    /// Where the item at an index list of the result comes from. It takes no memory.
-    pub fn source_of(self, counts: &Seen, array: &Seen, index: &[u32]) -> Source
+    /// Where the item at an index list of the result comes from, where the checks have passed. It takes no memory. There are as
+    /// many arguments as the function takes.
+    pub fn source_of(&self, args: &[Seen], index: &[u32]) -> Source
+        requires count { length args.now ≡ 2 }
+        requires place { IsPlaceOf (of_two_arguments drop_form args.now) index.now }
+        ensures is { (a b : ArrayValue) → args.now ≡ a ∷ b ∷ [] → source_value result ≡ drop_source a b index.now }
+        ensures inside { (a b : ArrayValue) → args.now ≡ a ∷ b ∷ [] → IsSourceIn a b result }
+    {
+        self.source(&args[0], &args[1], index)
+    }
+
+    /// Where the item at an index list of the result comes from, of these two arguments.
+    fn source(self, counts: &Seen, array: &Seen, index: &[u32]) -> Source
         requires { IsPlaceOf (drop_form counts.now array.now) index.now }
         ensures is { source_value result ≡ drop_source counts.now array.now index.now }
         ensures inside { IsSourceIn counts.now array.now result }
@@ -143,7 +154,7 @@ impl Primitive for DropPlaces {
     fn item_at(&self, args: &[Seen], index: &[u32]) -> Result<Item, Kind> {
         let counts = &args[0];
         let array = &args[1];
-        let source = self.source_of(counts, array, index);
+        let source = self.source(counts, array, index);
         Ok(item_from(array, array, array.item_type(), source))
     }
 }

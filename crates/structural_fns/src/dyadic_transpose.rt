@@ -3,7 +3,7 @@
 ghost use Rattle.std.specs.Prelude.{◌≡◌, ◌≤◌, ◌<◌, ◌++◌, [], get_or, List, ℕ, Option, Some, None, IfOk, IfErr, Err, if◌then◌else◌, ◌∷◌, length};
 ghost use Rattle.arrays_core.specs.Limits.{most_axes, most_places};
 ghost use Rattle.arrays_core.specs.declared.item.ItemType.{ItemType as AType};
-ghost use Rattle.arrays_core.specs.Arrays.{IsAnswerTo, IsArray};
+ghost use Rattle.arrays_core.specs.Arrays.{ArrayValue, IsAnswerTo, IsArray};
 ghost use Rattle.arrays_core.specs.Shapes.{places_before};
 ghost use Rattle.index_region.specs.ArgumentLists.{of_two_arguments};
 ghost use Rattle.index_region.specs.Arguments.{numbers};
@@ -148,8 +148,19 @@ fn gathered(alloc: Global, axes: &Seen, index: &[u32]) -> Shape
 pub struct DyadicTranspose;
 
 impl DyadicTranspose {
-    /// Where the item at an index list of the result comes from. It takes no memory.
-    pub fn source_of(self, axes: &Seen, array: &Seen, index: &[u32]) -> Source
+    /// Where the item at an index list of the result comes from, where the checks have passed. It takes no memory. There are as
+    /// many arguments as the function takes.
+    pub fn source_of(&self, args: &[Seen], index: &[u32]) -> Source
+        requires count { length args.now ≡ 2 }
+        requires place { IsPlaceOf (of_two_arguments transpose_by_form args.now) index.now }
+        ensures is { (a b : ArrayValue) → args.now ≡ a ∷ b ∷ [] → source_value result ≡ transpose_by_source a b index.now }
+        ensures inside { (a b : ArrayValue) → args.now ≡ a ∷ b ∷ [] → IsSourceIn a b result }
+    {
+        self.source(&args[0], &args[1], index)
+    }
+
+    /// Where the item at an index list of the result comes from, of these two arguments.
+    fn source(self, axes: &Seen, array: &Seen, index: &[u32]) -> Source
         requires { IsPlaceOf (transpose_by_form axes.now array.now) index.now }
         ensures is { source_value result ≡ transpose_by_source axes.now array.now index.now }
         ensures inside { IsSourceIn axes.now array.now result }
@@ -209,7 +220,7 @@ impl Primitive for DyadicTranspose {
     fn item_at(&self, args: &[Seen], index: &[u32]) -> Result<Item, Kind> {
         let axes = &args[0];
         let array = &args[1];
-        let source = self.source_of(axes, array, index);
+        let source = self.source(axes, array, index);
         Ok(item_from(array, array, array.item_type(), source))
     }
 }

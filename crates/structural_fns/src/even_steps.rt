@@ -1,4 +1,4 @@
-//! Rows whose items stand an even number of places apart in an array.
+//! Rows whose items are evenly spaced in an array: as many places from each to the next.
 
 ghost use Rattle.std.specs.Prelude.{◌≡◌, ◌<◌, ◌+◌, ◌*◌, ◌++◌, ℕ, OnOk, length, get_or};
 ghost use Rattle.arrays_core.specs.Building.{listed};

@@ -1,7 +1,7 @@
 //! Ravel: the items as a vector.
 
-ghost use Rattle.std.specs.Prelude.{◌≡◌, length};
-ghost use Rattle.arrays_core.specs.Arrays.{IsAnswerTo};
+ghost use Rattle.std.specs.Prelude.{◌≡◌, length, ◌∷◌, []};
+ghost use Rattle.arrays_core.specs.Arrays.{ArrayValue, IsAnswerTo};
 ghost use Rattle.index_region.specs.ArgumentLists.{of_one_argument};
 ghost use Rattle.index_region.specs.Answers.{IsPlaceOf, IsSourceIn, source_value};
 ghost use Rattle.structural_fns.specs.Ravel.{ravel_form, ravel_source, ravel_item, ravel_whole};
@@ -16,8 +16,19 @@ use std::alloc::Global;
 pub struct Ravel;
 
 impl Ravel {
-    /// Where the item at an index list of the result comes from. It takes no memory.
-    pub fn source_of(self, array: &Seen, index: &[u32]) -> Source
+    /// Where the item at an index list of the result comes from, where the checks have passed: from the only argument. It takes no
+    /// memory. There are as many arguments as the function takes.
+    pub fn source_of(&self, args: &[Seen], index: &[u32]) -> Source
+        requires count { length args.now ≡ 1 }
+        requires place { IsPlaceOf (of_one_argument ravel_form args.now) index.now }
+        ensures is { (b : ArrayValue) → args.now ≡ b ∷ [] → source_value result ≡ ravel_source b index.now }
+        ensures inside { (b : ArrayValue) → args.now ≡ b ∷ [] → IsSourceIn b b result }
+    {
+        self.source(&args[0], index)
+    }
+
+    /// Where the item at an index list of the result comes from, of this argument.
+    fn source(self, array: &Seen, index: &[u32]) -> Source
         requires { IsPlaceOf (ravel_form array.now) index.now }
         ensures is { source_value result ≡ ravel_source array.now index.now }
         ensures inside { IsSourceIn array.now array.now result }
@@ -53,7 +64,7 @@ impl Primitive for Ravel {
 
     fn item_at(&self, args: &[Seen], index: &[u32]) -> Result<Item, Kind> {
         let array = &args[0];
-        let source = self.source_of(array, index);
+        let source = self.source(array, index);
         Ok(item_from(array, array, array.item_type(), source))
     }
 }

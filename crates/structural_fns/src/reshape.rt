@@ -1,7 +1,7 @@
 //! Reshape: the ravel again and again, under another shape.
 
-ghost use Rattle.std.specs.Prelude.{◌≡◌, ◌≤◌, IsTrue, IfOk, length};
-ghost use Rattle.arrays_core.specs.Arrays.{IsAnswerTo};
+ghost use Rattle.std.specs.Prelude.{◌≡◌, ◌≤◌, IsTrue, IfOk, length, ◌∷◌, []};
+ghost use Rattle.arrays_core.specs.Arrays.{ArrayValue, IsAnswerTo};
 ghost use Rattle.arrays_core.specs.Shapes.{IsWithinLimits, is_index_of, size as size_of};
 ghost use Rattle.index_region.specs.ArgumentLists.{of_two_arguments};
 ghost use Rattle.index_region.specs.Answers.{IsPlaceOf, IsSourceIn, source_value};
@@ -55,8 +55,19 @@ fn recycled(alloc: Global, array: &Seen, shape: &Shape) -> Result<Array, AllocEr
 pub struct Reshape;
 
 impl Reshape {
-    /// Where the item at an index list of the result comes from. It takes no memory.
-    pub fn source_of(self, counts: &Seen, array: &Seen, index: &[u32]) -> Source
+    /// Where the item at an index list of the result comes from, where the checks have passed. It takes no memory. There are as
+    /// many arguments as the function takes.
+    pub fn source_of(&self, args: &[Seen], index: &[u32]) -> Source
+        requires count { length args.now ≡ 2 }
+        requires place { IsPlaceOf (of_two_arguments reshape_form args.now) index.now }
+        ensures is { (a b : ArrayValue) → args.now ≡ a ∷ b ∷ [] → source_value result ≡ reshape_source (magnitudes_of a) b index.now }
+        ensures inside { (a b : ArrayValue) → args.now ≡ a ∷ b ∷ [] → IsSourceIn a b result }
+    {
+        self.source(&args[0], &args[1], index)
+    }
+
+    /// Where the item at an index list of the result comes from, of these two arguments.
+    fn source(self, counts: &Seen, array: &Seen, index: &[u32]) -> Source
         requires { IsPlaceOf (reshape_form counts.now array.now) index.now }
         ensures is { source_value result ≡ reshape_source (magnitudes_of counts.now) array.now index.now }
         ensures inside { IsSourceIn counts.now array.now result }
@@ -108,7 +119,7 @@ impl Primitive for Reshape {
     fn item_at(&self, args: &[Seen], index: &[u32]) -> Result<Item, Kind> {
         let counts = &args[0];
         let array = &args[1];
-        let source = self.source_of(counts, array, index);
+        let source = self.source(counts, array, index);
         Ok(item_from(array, array, array.item_type(), source))
     }
 }

@@ -1,8 +1,8 @@
 //! Reverse: the places of an axis from the last to the first.
 
-ghost use Rattle.std.specs.Prelude.{◌≡◌, ◌≤◌, ◌-◌, suc, IsTrue, length, All, set, get_or};
+ghost use Rattle.std.specs.Prelude.{◌≡◌, ◌≤◌, ◌-◌, suc, IsTrue, length, All, set, get_or, ◌∷◌, []};
 ghost use Rattle.arrays_core.specs.Limits.{most_axes, longest_axis};
-ghost use Rattle.arrays_core.specs.Arrays.{IsAnswerTo};
+ghost use Rattle.arrays_core.specs.Arrays.{ArrayValue, IsAnswerTo};
 ghost use Rattle.arrays_core.specs.Shapes.{is_index_of};
 ghost use Rattle.index_region.specs.Axes.{is_axis, axis_at, places_along};
 ghost use Rattle.index_region.specs.ArgumentLists.{of_one_argument};
@@ -54,8 +54,19 @@ impl Reverse {
         reversed(*shape.allocator(), self.along, shape.as_slice(), index)
     }
 
-    /// Where the item at an index list of the result comes from. It takes no memory.
-    pub fn source_of(self, array: &Seen, index: &[u32]) -> Source
+    /// Where the item at an index list of the result comes from, where the checks have passed: from the only argument. It takes no
+    /// memory. There are as many arguments as the function takes.
+    pub fn source_of(&self, args: &[Seen], index: &[u32]) -> Source
+        requires count { length args.now ≡ 1 }
+        requires place { IsPlaceOf (of_one_argument (reverse_form self.now.along) args.now) index.now }
+        ensures is { (b : ArrayValue) → args.now ≡ b ∷ [] → source_value result ≡ reverse_source self.now.along b index.now }
+        ensures inside { (b : ArrayValue) → args.now ≡ b ∷ [] → IsSourceIn b b result }
+    {
+        self.source(&args[0], index)
+    }
+
+    /// Where the item at an index list of the result comes from, of this argument.
+    fn source(self, array: &Seen, index: &[u32]) -> Source
         requires { IsPlaceOf (reverse_form self.along array.now) index.now }
         ensures is { source_value result ≡ reverse_source self.along array.now index.now }
         ensures inside { IsSourceIn array.now array.now result }
@@ -92,7 +103,7 @@ impl Primitive for Reverse {
 
     fn item_at(&self, args: &[Seen], index: &[u32]) -> Result<Item, Kind> {
         let array = &args[0];
-        let source = self.source_of(array, index);
+        let source = self.source(array, index);
         Ok(item_from(array, array, array.item_type(), source))
     }
 }

@@ -3,7 +3,7 @@
 ghost use Rattle.std.specs.Prelude.{◌≡◌, ◌≤◌, ◌<◌, ◌≢◌, ◌++◌, ◌∷◌, [], IfOk, OnOk, Ok, Err, IfErr, IsTrue, Result, length, All, set, get_or, remove};
 ghost use Rattle.arrays_core.specs.Limits.{most_axes, longest_axis};
 ghost use Rattle.arrays_core.specs.declared.item.Kind.{Kind as AKind};
-ghost use Rattle.arrays_core.specs.Arrays.{IsAnswerTo};
+ghost use Rattle.arrays_core.specs.Arrays.{ArrayValue, IsAnswerTo};
 ghost use Rattle.arrays_core.specs.Shapes.{is_index_of, size as size_of};
 ghost use Rattle.arrays_core.specs.Building.{with_row};
 ghost use Rattle.index_region.specs.Checks.{Form};
@@ -109,8 +109,19 @@ impl Rotate {
         rotated(*shape.allocator(), axes, axis, amount, index)
     }
 
-    /// Where the item at an index list of the result comes from. It takes no memory.
-    pub fn source_of(self, amounts: &Seen, array: &Seen, index: &[u32]) -> Source
+    /// Where the item at an index list of the result comes from, where the checks have passed. It takes no memory. There are as
+    /// many arguments as the function takes.
+    pub fn source_of(&self, args: &[Seen], index: &[u32]) -> Source
+        requires count { length args.now ≡ 2 }
+        requires place { IsPlaceOf (of_two_arguments (rotate_form self.now.along) args.now) index.now }
+        ensures is { (a b : ArrayValue) → args.now ≡ a ∷ b ∷ [] → source_value result ≡ rotate_source self.now.along a b index.now }
+        ensures inside { (a b : ArrayValue) → args.now ≡ a ∷ b ∷ [] → IsSourceIn a b result }
+    {
+        self.source(&args[0], &args[1], index)
+    }
+
+    /// Where the item at an index list of the result comes from, of these two arguments.
+    fn source(self, amounts: &Seen, array: &Seen, index: &[u32]) -> Source
         requires { IsPlaceOf (rotate_form self.along amounts.now array.now) index.now }
         ensures is { source_value result ≡ rotate_source self.along amounts.now array.now index.now }
         ensures inside { IsSourceIn amounts.now array.now result }
@@ -220,7 +231,7 @@ impl Primitive for Rotate {
     fn item_at(&self, args: &[Seen], index: &[u32]) -> Result<Item, Kind> {
         let amounts = &args[0];
         let array = &args[1];
-        let source = self.source_of(amounts, array, index);
+        let source = self.source(amounts, array, index);
         Ok(item_from(array, array, array.item_type(), source))
     }
 }

@@ -3,7 +3,7 @@
 ghost use Rattle.std.specs.Prelude.{◌≡◌, ◌≤◌, ◌<◌, ◌+◌, ◌^◌, ◌++◌, ◌∷◌, [], ℤ, pos, unsigned_abs, IsTrue, IfOk, OnOk, Ok, All, length, get_or, nat_eq, nat_le, ◌&&◌};
 ghost use Rattle.arrays_core.specs.Limits.{most_axes, longest_axis};
 ghost use Rattle.arrays_core.specs.Building.{with_row};
-ghost use Rattle.arrays_core.specs.Arrays.{IsAnswerTo};
+ghost use Rattle.arrays_core.specs.Arrays.{ArrayValue, IsAnswerTo};
 ghost use Rattle.arrays_core.specs.Shapes.{IsWithinLimits, is_index_of as is_below, size as size_of};
 ghost use Rattle.index_region.specs.ArgumentLists.{of_two_arguments};
 ghost use Rattle.index_region.specs.Arguments.{numbers};
@@ -79,8 +79,19 @@ fn taken_run(counts: &Seen, vector: &Seen, shape: &Shape) -> Result<Array, Alloc
 pub struct Take;
 
 impl Take {
-    /// Where the item at an index list of the result comes from. It takes no memory.
-    pub fn source_of(self, counts: &Seen, array: &Seen, index: &[u32]) -> Source
+    /// Where the item at an index list of the result comes from, where the checks have passed. It takes no memory. There are as
+    /// many arguments as the function takes.
+    pub fn source_of(&self, args: &[Seen], index: &[u32]) -> Source
+        requires count { length args.now ≡ 2 }
+        requires place { IsPlaceOf (of_two_arguments take_form args.now) index.now }
+        ensures is { (a b : ArrayValue) → args.now ≡ a ∷ b ∷ [] → source_value result ≡ take_source a b index.now }
+        ensures inside { (a b : ArrayValue) → args.now ≡ a ∷ b ∷ [] → IsSourceIn a b result }
+    {
+        self.source(&args[0], &args[1], index)
+    }
+
+    /// Where the item at an index list of the result comes from, of these two arguments.
+    fn source(self, counts: &Seen, array: &Seen, index: &[u32]) -> Source
         requires { IsPlaceOf (take_form counts.now array.now) index.now }
         ensures is { source_value result ≡ take_source counts.now array.now index.now }
         ensures inside { IsSourceIn counts.now array.now result }
@@ -115,7 +126,7 @@ impl Take {
         ensures typed { items.new.item_type ≡ items.old.item_type }
     {
         let first = index_in_row(*array.shape().allocator(), row, before + 1);
-        match self.source_of(counts, array, first.as_slice()) {
+        match self.source(counts, array, first.as_slice()) {
             Source::Place { at, .. } => {
                 array.extend_run(items, position(array.shape(), at.as_slice()) - 1, kept)
             }
@@ -155,7 +166,7 @@ impl Primitive for Take {
     fn item_at(&self, args: &[Seen], index: &[u32]) -> Result<Item, Kind> {
         let counts = &args[0];
         let array = &args[1];
-        let source = self.source_of(counts, array, index);
+        let source = self.source(counts, array, index);
         Ok(item_from(array, array, array.item_type(), source))
     }
 }

@@ -87,7 +87,7 @@ fn set_number(trees: &mut [SumTree], count: usize, place: usize, number: i64)
     trees[place / count].set(place % count, number);
 }
 
-/// The same for an item that is a number.
+/// Puts an item that is a number at a place of lines of so many numbers, places counted from 0.
 fn set_item(trees: &mut [SumTree], count: usize, place: usize, item: Item)
     requires lines { AreAllAsLong count trees.old }
     requires some { 0 < count }

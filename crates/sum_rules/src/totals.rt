@@ -1,6 +1,6 @@
 //! The change of the totals of lines, from trees of their sums.
 
-ghost use Rattle.std.specs.Prelude.{◌≡◌, ◌-◌, ◌+◌, ◌/◌, ◌%◌, ◌≤◌, ◌<◌, ◌∷◌, [], true, Some, length, map, get_or, set, IfOk};
+ghost use Rattle.std.specs.Prelude.{◌≡◌, ◌-◌, ◌+◌, ◌/◌, ◌%◌, ◌≤◌, ◌<◌, ◌∷◌, [], true, false, Some, length, map, get_or, set, IfOk};
 ghost use Rattle.arrays_core.specs.declared.item.Item.TheVariants.{Num};
 ghost use Rattle.arrays_core.specs.Items.{type_of};
 ghost use Rattle.arrays_core.specs.declared.item.ItemType.TheVariants.{Nums};
@@ -12,9 +12,10 @@ ghost use Rattle.index_region.specs.Patches.{FitsPatch, patched};
 ghost use Rattle.operator_fns.specs.Reduce.{reduce_item};
 ghost use Rattle.operator_fns.specs.RightFold.{fold_right};
 ghost use Rattle.operator_fns.specs.SumTree.{IsWithinDigitsOf};
+ghost use Rattle.change_core.specs.Meters.{ticked, most_ticks};
 ghost use Rattle.change_core.specs.Parts.{HoldsItems, items_in};
 ghost use Rattle.change_core.specs.Reaches.{AllFit};
-ghost use Rattle.change_rules.specs.Nodes.{views, moved, node_delta, node_cost, reached_delta, reached_cost, patch_delta};
+ghost use Rattle.change_rules.specs.Nodes.{views, moved, is_error, node_delta, node_cost, reached_delta, reached_cost, patch_delta};
 ghost use Rattle.change_rules.specs.Currency.{BringsUpToDate, HasAxis, IsRight};
 ghost use Rattle.sum_rules.specs.LineSums.{StandFor, AreAllAsLong, array_of, last_length as length_of_lines};
 ghost use Rattle.sum_rules.specs.Totals.{total_rule, StoodFor, IsSummedUp, AreJoinsWithin, new_items, is_one_a_line as has_one_a_line, lines_of};
@@ -80,6 +81,8 @@ fn new_totals(
     requires one { has_one_a_line patch.now.region ≡ true }
     ensures totals { HoldsItems Nums (items_in (reduce_item Sum LastAxis (patched (array_of shape.now.items sums.now) patch.now)) (lines_of patch.now.region)) result }
     ensures ticks { meter.new.ticks ≤ meter.old.ticks + box_size patch.now.region }
+    ensures exact { IfOk result (λ _. meter.new.ticks ≡ ticked meter.old.ticks (box_size patch.now.region)) }
+    ensures rises { meter.old.ticks ≤ meter.new.ticks }
     ensures joins { AreJoinsWithin (box_size patch.now.region) (length_of_lines shape.now.items) meter.old.joins meter.new.joins }
 {
     let count = last_length(shape.as_slice()) as usize;
@@ -115,9 +118,12 @@ fn change_by_trees(
 ) -> Result<(Delta, u32), AllocError>
     requires lines { StoodFor sums.now patch.now array.now }
     requires one { has_one_a_line patch.now.region ≡ true }
+    requires small { meter.old.ticks ≤ most_ticks }
     ensures delta { IfOk result (λ r. r.0 ≡ reached_delta total_rule (array.now ∷ []) (Some patch.now.region ∷ [])) }
     ensures cost { IfOk result (λ r. r.1 ≡ reached_cost total_rule (array.now ∷ []) (Some patch.now.region ∷ [])) }
     ensures ticks { meter.new.ticks ≤ meter.old.ticks + reached_cost total_rule (array.now ∷ []) (Some patch.now.region ∷ []) }
+    ensures exact { IfOk result (λ r. is_error r.0 ≡ false → meter.new.ticks ≡ ticked meter.old.ticks r.1) }
+    ensures rises { meter.old.ticks ≤ meter.new.ticks }
     ensures joins { AreJoinsWithin (box_size patch.now.region) (length_of_lines array.now.shape) meter.old.joins meter.new.joins }
 {
     let args = [array.again()];
@@ -151,6 +157,8 @@ fn patch_of(
     requires region { region ≡ lines_of patch.now.region }
     ensures delta { IfOk result (λ d. d ≡ patch_delta Nums region (items_in (reduce_item Sum LastAxis array.now) region)) }
     ensures ticks { meter.new.ticks ≤ meter.old.ticks + box_size patch.now.region }
+    ensures exact { IfOk result (λ d. is_error d ≡ false → meter.new.ticks ≡ ticked meter.old.ticks (box_size patch.now.region)) }
+    ensures rises { meter.old.ticks ≤ meter.new.ticks }
     ensures joins { AreJoinsWithin (box_size patch.now.region) (length_of_lines array.now.shape) meter.old.joins meter.new.joins }
 {
     match new_totals(alloc, array.shape(), sums, patch, meter) {
@@ -177,6 +185,8 @@ pub fn refresh_sums_with_cost(
     ensures delta { IfOk result (λ r. r.0 ≡ node_delta total_rule (arg.entry ∷ []) old.now) }
     ensures cost { IfOk result (λ r. r.1 ≡ node_cost total_rule (arg.entry ∷ []) old.now) }
     ensures ticks { meter.new.ticks ≤ meter.old.ticks + node_cost total_rule (arg.entry ∷ []) old.now }
+    ensures exact { IfOk result (λ r. is_error r.0 ≡ false → meter.new.ticks ≡ ticked meter.old.ticks r.1) }
+    ensures rises { meter.old.ticks ≤ meter.new.ticks }
     ensures joins { AreJoinsWithin (new_items arg.entry.1.now) (length_of_lines arg.entry.0.shape) meter.old.joins meter.new.joins }
     ensures right { IfOk result (λ r. IsRight total_rule (views (arg.entry ∷ [])) r.0) }
     ensures whole { IfOk result (λ r. BringsUpToDate total_rule (arg.entry ∷ []) old.now r.0) }
@@ -186,13 +196,15 @@ pub fn refresh_sums_with_cost(
     let _is_array = array.shape();
     if let Delta::Patch(patch) = delta {
         if old.is_ok() && is_one_a_line(patch.region()) {
+            // The count says that it is a number of 64 bits.
+            let _counted = meter.ticks();
             return change_by_trees(alloc, &array, patch, sums, meter);
         }
     }
     refresh_with_cost(alloc, &TOTALS, &[(array, delta)], old, meter)
 }
 
-/// The same change alone.
+/// The change of `+/B` that `refresh_sums_with_cost` answers, without its cost.
 pub fn refresh_sums(
     alloc: Global,
     arg: (Seen, &Delta),
@@ -205,6 +217,8 @@ pub fn refresh_sums(
     requires sums { IsSummedUp arg sums.now }
     ensures delta { IfOk result (λ d. d ≡ node_delta total_rule (arg.entry ∷ []) old.now) }
     ensures ticks { meter.new.ticks ≤ meter.old.ticks + node_cost total_rule (arg.entry ∷ []) old.now }
+    ensures exact { IfOk result (λ d. is_error d ≡ false → meter.new.ticks ≡ ticked meter.old.ticks (node_cost total_rule (arg.entry ∷ []) old.now)) }
+    ensures rises { meter.old.ticks ≤ meter.new.ticks }
     ensures joins { AreJoinsWithin (new_items arg.entry.1.now) (length_of_lines arg.entry.0.shape) meter.old.joins meter.new.joins }
     ensures right { IfOk result (λ d. IsRight total_rule (views (arg.entry ∷ [])) d) }
     ensures whole { IfOk result (λ d. BringsUpToDate total_rule (arg.entry ∷ []) old.now d) }

@@ -1,6 +1,6 @@
 //! A tree of each kind, a line of each kind, the largest expressions, and what faults say.
 
-use apl_expr::{Change, Command, Expr, LineFault, ParseFault, line, parse};
+use apl_expr::{Change, Command, Expr, LineFault, Literal, ParseFault, line, parse};
 use apl_tokens::tokens;
 use std::alloc::{AllocError, Global};
 
@@ -149,5 +149,29 @@ fn says_what_is_wrong(rt: HostRuntime) {
     ] {
         let text = format!(in rt.alloc(); "{fault}");
         assert!(rt; matches!(&text, Ok(text) if text.as_str() == wanted));
+    }
+}
+
+/// How a literal holds what it says.
+fn held_as(alloc: Global, text: &str) -> &'static str {
+    match tree_of(alloc, text) {
+        Some(Expr::Const(Literal::Num(_))) => "a number",
+        Some(Expr::Const(Literal::Nums(_))) => "numbers",
+        Some(Expr::Const(Literal::Char(_))) => "a character",
+        Some(Expr::Const(Literal::Text(_))) => "characters",
+        _ => "no literal",
+    }
+}
+
+#[test]
+fn holds_one_as_a_scalar(rt: HostRuntime) {
+    for (text, wanted) in [
+        ("5", "a number"),
+        ("5 6", "numbers"),
+        ("'a'", "a character"),
+        ("'ab'", "characters"),
+        ("''", "characters"),
+    ] {
+        assert_eq!(rt; held_as(rt.alloc(), text), wanted);
     }
 }

@@ -1,8 +1,9 @@
 //! Printed text.
 
 use apl_tokens::Name;
-use array_text::print_fault;
-use arrays_core::{Fault, Kind};
+use array_text::{print, print_fault};
+use arrays_core::{Array, Fault, Kind};
+use std::alloc::Global;
 
 #[test]
 fn prints_faults(rt: HostRuntime) {
@@ -18,4 +19,16 @@ fn prints_faults(rt: HostRuntime) {
         let printed = print_fault(rt.alloc(), &Fault { kind, origin });
         assert!(rt; matches!(&printed, Ok(text) if text.as_str() == wanted));
     }
+}
+
+/// The text of a vector of two numbers.
+fn text_of(alloc: Global, numbers: [i64; 2]) -> Option<String> {
+    let array = Array::vector(alloc, numbers.as_slice().to_vec(alloc).ok()?).ok()?;
+    print(alloc, &array).ok()
+}
+
+#[test]
+fn prints_an_array(rt: HostRuntime) {
+    let printed = text_of(rt.alloc(), [7, -8]);
+    assert!(rt; matches!(&printed, Some(text) if text.as_str() == "7 ¯8\n"));
 }

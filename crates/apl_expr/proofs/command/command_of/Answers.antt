@@ -1,4 +1,4 @@
-use Rattle.std.proofs.Common.{◌≡◌, [], Err, subst, sym, arith}
+use Rattle.std.proofs.Common.{◌≡◌, [], Err, subst, sym, refl, arith}
 use Rattle.std.proofs.lemmas.List.{length-map, nil_from_length}
 use Rattle.std.proofs.lemmas.Grind.{common_steps}
 use Rattle.apl_tokens.specs.Lexemes.{lexemes}
@@ -11,7 +11,7 @@ use Rattle.apl_expr.proofs.command.command_of.Goals as goal
 pub returns-then-is_empty : goal.returns-then-is_empty
 returns-then-is_empty c =
     let is_nil : c.args.tokens.now ≡ [] = nil_from_length _ (grind (arith, common_steps)) in
-    (simp length-map (omega arith), subst (λ ts. IsLine (lexemes ts) Nothing) (sym is_nil) nothing, λ x. x)
+    (simp length-map (omega arith), subst (λ ts. IsLine (lexemes ts) Nothing) (sym is_nil) nothing, λ x. x, refl)
 
 pub returns-in-Ok : goal.returns-in-Ok
 returns-in-Ok c = change_ok (lexemes c.args.tokens.now) (simp length-map (omega arith)) c.in-Ok.change c.in-Ok.ensures

@@ -12,4 +12,4 @@ returns-then-is_empty c =
 pub returns-in-Items : goal.returns-in-Items
 returns-in-Items c =
     let some = not_none c.in-Items.items.len c.is_empty.result c.is_empty.ensures c.if-is_empty.false in
-    some_items c.in-Items.positions.items c.in-Items.items.items _ _ (ap edit_of c.in-Items.is) (λ none. some (c.in-Items.items.ok.0 ∙ none)) c.literal.ensures.numbers
+    (some_items c.in-Items.positions.items c.in-Items.items.items _ _ (ap edit_of c.in-Items.is) (λ none. some (c.in-Items.items.ok.0 ∙ none)) c.literal.ensures.numbers, c.literal.ensures.plain)

@@ -1,7 +1,9 @@
-use Rattle.std.proofs.Common.{ap, sym, Some}
+use Rattle.std.proofs.Common.{ap, sym, ◌∙◌, Some}
 use Rattle.apl_expr.specs.Trees.{Tree}
 use Rattle.apl_expr.proofs.Rows.{index_made}
 use Rattle.apl_expr.proofs.parser.index_closed.Goals as goal
 
 pub returns : goal.returns
-returns c = ap (λ (e : Tree). Some e) (sym (index_made c.in_ok-operand.operand c.push.new.self c.args.operand c.args.positions.items c.args.position c.in_ok-operand.ensures.ok c.in_ok-push.ensures.items))
+returns c =
+    let whole = c.in_ok-whole.whole in
+    ap (λ (e : Tree). Some e) (sym (index_made c.in_ok-operand.operand whole.positions c.args.index.operand c.args.index.positions.items c.args.position (c.in_ok-operand.ensures.ok ∙ c.in_ok-whole.ensures.operand) c.in_ok-whole.ensures.positions))

@@ -5,7 +5,7 @@ use Rattle.apl_expr.specs.Trees.{tree_of}
 use Rattle.apl_expr.proofs.parser.settle.Given as goal
 
 abbrev pub invariant-loop-frame : goal.invariant-loop-frame
-invariant-loop-frame l = settle (stack l.waiting.items) (tree_of l.value) ≡ settle (stack l.fn.waiting.items) (tree_of l.fn.value)
+invariant-loop-frame l = settle (stack l.waiting.items) (tree_of l.value.expr) ≡ settle (stack l.fn.waiting.items) (tree_of l.fn.value.expr)
 
 abbrev pub decreases-loop-frame : goal.decreases-loop-frame
 decreases-loop-frame l = goal.left-loop-frame l

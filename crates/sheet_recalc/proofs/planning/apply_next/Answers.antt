@@ -29,7 +29,7 @@ pub returns-clause-way : goal.returns-clause-way
 returns-clause-way c = λ base way.
     let w = c.args.plans.now in
     applied_way (outline_of c.args.proposed.now) c.requires.proposed base c.args.meter.now.ticks w c.in-Some.name (take (w.waiting - 1) (keys_of w.found.entries)) c.in-Some-current.plan c.apply_to.new.plan c.apply_to.new.meter.ticks way c.in-Some-current.is c.in-Some.ensures.1
-    c.in-Some-formula_of.formula.now c.in-Some-formula_of.ensures c.requires.left c.in_ok-apply_to.ensures.one c.in_ok-apply_to.ensures.planned c.in_ok-apply_to.ensures.ticks
+    c.in-Some-formula_of.formula.now c.in-Some-formula_of.ensures c.requires.left c.in_ok-apply_to.ensures.one c.in_ok-apply_to.ensures.planned c.in_ok-apply_to.ensures.ticks c.in_ok-apply_to.ensures.all c.in_ok-apply_to.ensures.cost
 
 pub returns-in_default-formula_of-clause-left : goal.returns-in_default-formula_of-clause-left
 returns-in_default-formula_of-clause-left c =

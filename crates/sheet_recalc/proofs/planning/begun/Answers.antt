@@ -1,9 +1,7 @@
-use Rattle.std.proofs.Common.{ℕ, List, [], Option, ◌∙◌, sym, ap, subst, refl, arith, None, IfOk}
+use Rattle.std.proofs.Common.{ℕ, List, [], Option, ◌∙◌, sym, ap, subst, refl, arith, None}
 use Rattle.std.specs.List.{Contains}
 use Rattle.std.specs.Map.{keys_of}
 use Rattle.std.specs.Option.{option_map, option_map_or}
-use Rattle.arrays_core.specs.Arrays.{IsArray}
-use Rattle.formula_core.specs.Outcomes.{Outcome}
 use Rattle.sheet_recalc.specs.Names.{Binding, referred}
 use Rattle.sheet_recalc.specs.Meaning.{val}
 use Rattle.sheet_recalc.specs.Entries.{names_of, binding_of}
@@ -53,7 +51,7 @@ returns-then-not-has_room-clause-refused c =
     (ready_acyclic o c.args.users.now.entries c.requires.live (keys_of c.in_ok-found.found.entries) f.closed f.named f.sound f.distinct apart, rw c.if-not-has_room.true at c.has_room.ensures)
 
 pub returns-clause-way : goal.returns-clause-way
-returns-clause-way c = λ ticks low.
+returns-clause-way c = λ ticks even.
     let o = outline_of c.args.proposed.now in
     let f = c.in_ok-found.ensures in
     let keys = keys_of c.in_ok-found.found.entries in
@@ -64,7 +62,7 @@ returns-clause-way c = λ ticks low.
     let affected = ready_affected o users live keys f.closed f.named f.sound f.distinct apart in
     let costs = ready_cost o users live keys f.closed f.named f.sound f.distinct apart in
     let plans : Plans = record { found = c.in_ok-found.found; waiting = c.len-2.result; current = None; left = 0; cost = c.args.spent } in
-    first_way o ready c.args.spent plans ticks c.len-2.ensures.len refl c.ranges.spent.fits f.distinct affected f.none costs low
+    first_way o ready c.args.spent plans ticks c.len-2.ensures.len refl c.ranges.spent.fits f.distinct affected f.none costs even
 
 pub returns-clause-can : goal.returns-clause-can
 returns-clause-can c =

@@ -9,7 +9,7 @@ use Rattle.sheet_recalc.proofs.Forward.{passed_over, planned_way}
 use Rattle.sheet_recalc.proofs.planning.plan_all.Goals as goal
 
 pub next_name-requires : goal.next_name-requires
-next_name-requires c = (c.loop-name.invariant.way c.requires.way.0 c.requires.way.1).few
+next_name-requires c = (c.loop-name.invariant.way c.requires.way.0 c.requires.way.1).made.few
 
 pub loop-name-preserved-in_default-formula_of : goal.loop-name-preserved-in_default-formula_of
 loop-name-preserved-in_default-formula_of c = record {
@@ -20,13 +20,13 @@ loop-name-preserved-in_default-formula_of c = record {
 }
 
 pub whole_plan-requires-clause-plans : goal.whole_plan-requires-clause-plans
-whole_plan-requires-clause-plans c = (c.loop-name.invariant.way c.requires.way.0 c.requires.way.1).way.plans
+whole_plan-requires-clause-plans c = (c.loop-name.invariant.way c.requires.way.0 c.requires.way.1).made.way.plans
 
 pub whole_plan-requires-clause-done : goal.whole_plan-requires-clause-done
 whole_plan-requires-clause-done c =
     let w = c.loop-name.plans in
     reads_done (outline_of c.args.proposed.now) c.requires.proposed (take (w.waiting - 1) (keys_of w.found.entries)) c.in-Some.name (waiting_names w) c.in-Some.ensures.1 (plan_in w.found.entries)
-    (c.loop-name.invariant.way c.requires.way.0 c.requires.way.1).way c.in-Some-formula_of.formula.now c.in-Some-formula_of.ensures
+    (c.loop-name.invariant.way c.requires.way.0 c.requires.way.1).made.way c.in-Some-formula_of.formula.now c.in-Some-formula_of.ensures
 
 pub loop-name-preserved : goal.loop-name-preserved
 loop-name-preserved c =
@@ -36,7 +36,7 @@ loop-name-preserved c =
     record {
       way = λ base way.
           planned_way (outline_of c.args.proposed.now) c.requires.proposed base c.loop-name.meter.ticks w c.keep.new.self c.in-Some.name p c.whole_plan.new.meter.ticks (c.loop-name.invariant.way base way) c.in-Some.ensures.0 c.in-Some.ensures.1
-          c.in-Some-formula_of.formula.now c.in-Some-formula_of.ensures made.of made.planned made.ticks c.keep.ensures.waiting c.keep.ensures.keys
+          c.in-Some-formula_of.formula.now c.in-Some-formula_of.ensures made.of made.planned made.ticks made.all c.keep.ensures.waiting c.keep.ensures.keys
           (λ q. c.keep.ensures.plans q ∙ ap (λ k. cond (bytes_eq k q) (Some p) (plan_in w.found.entries q)) c.in-Some.ensures.2) c.keep.ensures.cost;
       left = c.keep.ensures.left ∙ c.loop-name.invariant.left;
       current = c.keep.ensures.current ∙ c.loop-name.invariant.current;

@@ -1,9 +1,10 @@
-use Rattle.std.proofs.Common.{◌≡◌, ◌-◌, ◌<◌, ◌++◌, ◌∷◌, [], ◌∙◌, Some, ap, sym, take, get_or, cond, arith}
+use Rattle.std.proofs.Common.{◌≡◌, ◌-◌, ◌<◌, ◌++◌, ◌∷◌, [], ◌∙◌, Some, Result, Ok, Err, OnErr, false, ap, sym, subst, length, take, get_or, cond, arith}
 use Rattle.std.specs.Str.{bytes_eq}
 use Rattle.std.specs.Map.{keys_of}
 use Rattle.sheet_recalc.specs.ProposedSheet.{outline_of}
 use Rattle.sheet_recalc.specs.Live.{plan_in}
-use Rattle.sheet_recalc.specs.Planning.{waiting_names}
+use Rattle.sheet_recalc.specs.Planning.{IsOnTheWay, waiting_names}
+use Rattle.sheet_recalc.specs.declared.plans.Plans.{Plans}
 use Rattle.sheet_recalc.proofs.Forward.{skipped, kept_way, stopped_way, ended_way}
 use Rattle.sheet_recalc.proofs.planning.settle.Goals as goal
 
@@ -49,3 +50,17 @@ loop-name-preserved c =
 
 pub returns-clause-settled : goal.returns-clause-settled
 returns-clause-settled c = λ base ticks way. ended_way (outline_of c.args.proposed.now) c.requires.proposed base ticks c.loop-name.plans (c.loop-name.invariant.way base ticks way) c.in_default.ensures
+
+pub keep-requires-clause-few : goal.keep-requires-clause-few
+keep-requires-clause-few c =
+    let w = c.loop-name.invariant.way c.requires.way.0 c.requires.way.1 c.requires.way.2 in
+    omega (arith, c.taken.ensures.waiting, ap (λ f. length f.entries) c.taken.ensures.found, w.made.few)
+
+on_err : {T E : Type 0} (r : Result T E) (P : Type 0) → P → OnErr r P
+on_err (Ok t) P p = tt
+on_err (Err e) P p = p
+
+pub returns-in_err-plan-clause-err : goal.returns-in_err-plan-clause-err
+returns-in_err-plan-clause-err c =
+    let o = outline_of c.args.proposed.now in
+    on_err c.from_residual.result _ (λ base ticks way. subst (λ (w : Plans). IsOnTheWay o base w false ticks) (sym c.in_err-plan.ensures.err) (c.loop-name.invariant.way base ticks way))

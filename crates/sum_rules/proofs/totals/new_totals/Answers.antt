@@ -1,4 +1,4 @@
-use Rattle.std.proofs.Common.{◌≡◌, ◌∙◌, ◌<◌, ◌+◌, ◌-◌, ◌≤◌, ℕ, List, get_or, take, sym, ap, arith, subst}
+use Rattle.std.proofs.Common.{◌≡◌, refl, ◌∙◌, ◌<◌, ◌+◌, ◌-◌, ◌≤◌, ℕ, List, get_or, take, sym, ap, arith, subst}
 use Rattle.arrays_core.specs.Arrays.{ArrayValue}
 use Rattle.arrays_core.specs.Items.{fill}
 use Rattle.arrays_core.specs.Shapes.{is_index_of, places_before}
@@ -9,9 +9,9 @@ use Rattle.index_region.specs.Patches.{patched}
 use Rattle.index_region.proofs.Patched.{fits_within}
 use Rattle.index_region.proofs.Walks.{offset_of_walk, some_place, walk_within}
 use Rattle.operator_fns.specs.Reduce.{reduce_item}
-use Rattle.change_core.specs.Meters.{MeterValue}
+use Rattle.change_core.specs.Meters.{MeterValue, ticked}
 use Rattle.change_core.proofs.Collected.{items_are}
-use Rattle.change_core.proofs.Filling.{all_filled, as_many_written, few_places, filled_many, nothing_filled, one_filled, vector_within}
+use Rattle.change_core.proofs.Filling.{all_filled, as_many_written, few_places, filled_many, nothing_filled, one_filled, one_more_tick, vector_within}
 use Rattle.change_core.proofs.Walking.{rest_err}
 use Rattle.sum_rules.specs.LineSums.{array_of, last_length}
 use Rattle.sum_rules.specs.Totals.{lines_of}
@@ -44,6 +44,9 @@ loop-line-init c =
     let as_many = as_many_lines c.args.sums.now a p c.requires.lines c.requires.fit c.requires.one in
     record {
       ticks = omega arith;
+      none = λ _. refl;
+      some = λ h. absurd (omega arith);
+      rises = omega arith;
       joins = λ digits h. omega arith;
       at = λ _. c.index_at-index.ensures ∙ ap (λ (r : List Interval). walk_at r 0) c.region-region.ensures;
       many = filled_many c.in_ok-totals.totals _ c.shape_of.result.items c.size-lines.result (box_size region) c.in_ok-totals.ensures c.shape_of.ensures.items (c.size-lines.ensures ∙ ap box_size c.region-region.ensures ∙ as_many);
@@ -135,6 +138,9 @@ loop-line-preserved c =
     let given = total ∙ sym c.total_with-total.ensures.total ∙ c.in-Ok.is in
     record {
       ticks = omega (arith, c.tick.ensures.by_one, ap (λ (m : MeterValue). m.ticks) c.count_joins.ensures, c.loop-line.invariant.ticks);
+      none = λ h. absurd (omega arith);
+      some = λ _. one_more_tick c.args.meter.now.ticks before c.loop-line.meter.ticks _ c.loop-line.invariant.none c.loop-line.invariant.some (ap (λ (m : MeterValue). m.ticks) c.count_joins.ensures ∙ ap (λ (m : MeterValue). m.ticks) c.tick.ensures.exact);
+      rises = omega (arith, c.tick.ensures.rises, ap (λ (m : MeterValue). m.ticks) c.count_joins.ensures, c.loop-line.invariant.rises);
       joins = λ digits h.
           let so_far = c.loop-line.invariant.joins digits h in
           let more = c.total_with-total.ensures.joins digits (rw count h) in
@@ -160,3 +166,10 @@ returns-clause-totals c =
       sym (items_are item region) ∙ all_filled c.loop-line.totals (λ q. item (walk_at region q)) (box_size region) c.loop-line.line _ c.loop-line.invariant.many ended c.loop-line.invariant.rest,
       c.loop-line.invariant.typed,
     )
+
+pub returns-clause-exact : goal.returns-clause-exact
+returns-clause-exact c =
+    let p = c.args.patch.now in
+    let last : c.loop-line.line ≡ box_size p.region = omega (arith, c.loop-line-test.false, c.size-lines.ensures, ap box_size c.region-region.ensures) in
+    let some : 0 < c.loop-line.line = omega (arith, last, some_place p.region c.args.shape.now.items c.requires.fit.inside) in
+    c.loop-line.invariant.some some ∙ ap (ticked c.args.meter.now.ticks) last

@@ -5,6 +5,7 @@ use Rattle.index_region.specs.declared.along.Along.TheVariants.{Last}
 use Rattle.index_region.specs.Boxes.{box_size, walk_at}
 use Rattle.index_region.specs.Patches.{patched}
 use Rattle.operator_fns.specs.Reduce.{reduce_item}
+use Rattle.change_core.specs.Meters.{ticked}
 use Rattle.change_core.proofs.Collected.{along, collected}
 use Rattle.change_core.proofs.Walking.{prepend, rest_from}
 use Rattle.sum_rules.specs.LineSums.{array_of, last_length}
@@ -17,6 +18,9 @@ invariant-loop-line l =
     let region = lines_of l.fn.patch.region in
     record {
       ticks : l.meter.ticks ≤ l.fn.meter.ticks + l.line;
+      none : l.line ≡ 0 → l.meter.ticks ≡ l.fn.meter.ticks;
+      some : 0 < l.line → l.meter.ticks ≡ ticked l.fn.meter.ticks l.line;
+      rises : l.fn.meter.ticks ≤ l.meter.ticks;
       joins : AreJoinsWithin l.line (last_length l.fn.shape.items) l.fn.meter.joins l.meter.joins;
       at : l.line < box_size l.fn.patch.region → l.index ≡ walk_at l.fn.patch.region l.line;
       many : length l.totals.items ≡ box_size region;

@@ -12,6 +12,7 @@ invariant-loop-place g l =
       none : l.place ≡ 0 → l.meter.ticks ≡ l.initial.meter.ticks;
       some : 0 < l.place → l.meter.ticks ≡ ticked l.initial.meter.ticks l.place;
       ticks : l.meter.ticks ≤ l.initial.meter.ticks + l.place;
+      rises : l.initial.meter.ticks ≤ l.meter.ticks;
       joins : l.meter.joins ≡ l.initial.meter.joins;
       at : l.place < box_size l.region → l.index ≡ walk_at l.region l.place;
       many : length l.values.items ≡ box_size l.region;

@@ -7,7 +7,7 @@ use Rattle.formula_core.specs.Plans.{PlanValue, node_cost_at}
 use Rattle.formula_core.specs.Progress.{operations_among}
 use Rattle.formula_core.specs.Stages.{IsBegun, IsDone}
 use Rattle.formula_core.specs.Tables.{subtrees, tree_at}
-use Rattle.formula_core.proofs.Progressed.{node_left, among_more, begun_one, rolled}
+use Rattle.formula_core.proofs.Progressed.{node_left, among_more, begun_one, counted_whole, rolled}
 use Rattle.formula_core.proofs.formula.Formula.advance.Goals as goal
 
 pub next-requires-clause-below : goal.next-requires-clause-below
@@ -62,7 +62,7 @@ returns-clause-planned c = λ change told planned.
     let items = subst (λ (ds : List NodeChange). c.in_ok-change.items ≡ node_cost_at f.is_new change (tree_at (subtrees f.tree) (length ds))) c.as_slice.ensures.value (c.in_ok-change.ensures.cost change told cost seen) in
     let done = subst (λ (ds : List NodeChange). IsDone f.is_new change (tree_at (subtrees f.tree) (length ds)) (get_or f.nodes (length ds) not_worked_out) c.in_ok-change.change) c.as_slice.ensures.value (c.in_ok-change.ensures.done change told cost seen) in
     let more = begun_one f change inner c.push.new.self.items c.in_ok-change.change cost c.in_ok-change.items begun left c.in_ok-push.ensures.items items done in
-    let total : c.add.new.self ≡ ticked cost c.in_ok-change.items = c.add.ensures ∙ ap (λ (p : PlanValue). ticked p.cost c.in_ok-change.items) c.plan.view_is in
+    let total : c.add.new.self ≡ ticked cost c.in_ok-change.items = c.add.ensures.exact ∙ ap (λ (p : PlanValue). ticked p.cost c.in_ok-change.items) c.plan.view_is in
     record {
       begun = subst (λ k. IsBegun f change c.go_on.new.changes.items k) (sym total) (c.in-Ok.ensures.begun change told _ more);
       next = c.in-Ok.ensures.next;
@@ -74,4 +74,24 @@ returns-clause-ticks c = λ change told planned.
     let was : c.plan.inside.changes.items ≡ c.args.plan.now.changes = ap (λ (p : PlanValue). p.changes) c.plan.view_is in
     let seen = subst (λ (ds : List NodeChange). IsBegun f change ds c.args.plan.now.cost) (sym (c.as_slice.ensures.value ∙ was)) planned.begun in
     let ticks = subst (λ (ds : List NodeChange). c.next.new.meter.ticks ≤ c.new-own.result.ticks + node_cost_at f.is_new change (tree_at (subtrees f.tree) (length ds))) (c.as_slice.ensures.value ∙ was) (c.next.ensures.ticks change told c.args.plan.now.cost seen) in
-    omega (arith, ticks, ap (λ (m : MeterValue). m.ticks) c.include.ensures, ap (λ (m : MeterValue). m.ticks) c.new-own.ensures)
+    omega (arith, ticks, ap (λ (m : MeterValue). m.ticks) c.include.ensures.exact, ap (λ (m : MeterValue). m.ticks) c.new-own.ensures)
+
+pub returns-clause-exact : goal.returns-clause-exact
+returns-clause-exact c = λ change told planned computed.
+    let f = c.args.self.now in
+    let was : c.plan.inside.changes.items ≡ c.args.plan.now.changes = ap (λ (p : PlanValue). p.changes) c.plan.view_is in
+    let seen = subst (λ (ds : List NodeChange). IsBegun f change ds c.args.plan.now.cost) (sym (c.as_slice.ensures.value ∙ was)) planned.begun in
+    let t = tree_at (subtrees f.tree) (length c.args.plan.now.changes) in
+    let most = subst (λ (ds : List NodeChange). c.next.new.meter.ticks ≤ c.new-own.result.ticks + node_cost_at f.is_new change (tree_at (subtrees f.tree) (length ds))) (c.as_slice.ensures.value ∙ was) (c.next.ensures.ticks change told c.args.plan.now.cost seen) in
+    let cost : c.in_ok-change.items ≡ node_cost_at f.is_new change t = subst (λ (ds : List NodeChange). c.in_ok-change.items ≡ node_cost_at f.is_new change (tree_at (subtrees f.tree) (length ds))) (c.as_slice.ensures.value ∙ was) (c.in_ok-change.ensures.cost change told c.args.plan.now.cost seen) in
+    let done = subst (λ (ds : List NodeChange). IsDone f.is_new change (tree_at (subtrees f.tree) (length ds)) (get_or f.nodes (length ds) not_worked_out) c.in_ok-change.change) (c.as_slice.ensures.value ∙ was) (c.in_ok-change.ensures.done change told c.args.plan.now.cost seen) in
+    let none : c.new-own.result.ticks ≡ 0 = ap (λ (m : MeterValue). m.ticks) c.new-own.ensures in
+    counted_whole f.is_new change t c.in_ok-change.change.delta c.args.meter.now.ticks c.in_ok-change.items c.new-own.result.ticks c.next.new.meter.ticks _ done.is computed cost most c.in_ok-change.ensures.least none (ap (λ (m : MeterValue). m.ticks) c.include.ensures.exact)
+
+pub returns-clause-cost : goal.returns-clause-cost
+returns-clause-cost c = λ change told planned.
+    let f = c.args.self.now in
+    let was : c.plan.inside.changes.items ≡ c.args.plan.now.changes = ap (λ (p : PlanValue). p.changes) c.plan.view_is in
+    let seen = subst (λ (ds : List NodeChange). IsBegun f change ds c.args.plan.now.cost) (sym (c.as_slice.ensures.value ∙ was)) planned.begun in
+    let cost = subst (λ (ds : List NodeChange). c.in_ok-change.items ≡ node_cost_at f.is_new change (tree_at (subtrees f.tree) (length ds))) (c.as_slice.ensures.value ∙ was) (c.in_ok-change.ensures.cost change told c.args.plan.now.cost seen) in
+    c.add.ensures.exact ∙ (ap (λ (p : PlanValue). ticked p.cost c.in_ok-change.items) c.plan.view_is ∙ ap (ticked c.args.plan.now.cost) cost)

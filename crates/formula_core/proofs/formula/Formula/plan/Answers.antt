@@ -1,7 +1,9 @@
-use Rattle.std.proofs.Common.{◌<◌, ap, length, arith}
+use Rattle.std.proofs.Common.{◌∙◌, ◌<◌, Bool, ap, length, arith}
 use Rattle.formula_core.specs.Tables.{subtrees}
+use Rattle.formula_core.specs.Plans.{tree_cost}
+use Rattle.formula_core.proofs.Alike.{unchanged_tree_costs_nothing}
 use Rattle.formula_core.proofs.Planned.{planned_at_end, plan_of}
-use Rattle.formula_core.proofs.Progressed.{left_at, part_left, longer, cost_more, cost_within}
+use Rattle.formula_core.proofs.Progressed.{left_at, part_left, longer, cost_more, cost_within, counted_on, counted_all}
 use Rattle.formula_core.proofs.formula.Formula.plan.Goals as goal
 
 pub advance-requires-clause-left : goal.advance-requires-clause-left
@@ -32,6 +34,11 @@ loop-plan-preserved c =
       ticks = λ change told.
           cost_more f.is_new change f.tree (length c.loop-plan.plan.changes) (length c.advance.new.plan.changes) c.args.meter.now.ticks c.loop-plan.meter.ticks _ below (longer f c.loop-plan.plan.changes c.advance.new.plan.changes one)
           (c.loop-plan.invariant.ticks change told) (c.in_ok-advance.ensures.ticks change told (c.loop-plan.invariant.planned change told));
+      least = λ change told all.
+          let so_far = c.loop-plan.invariant.planned change told in
+          counted_on c.args.meter.now.ticks c.loop-plan.meter.ticks _ c.loop-plan.plan.cost _ _ (c.loop-plan.invariant.least change told all)
+          (c.in_ok-advance.ensures.exact change told so_far (all (length c.loop-plan.plan.changes) below)) (c.in_ok-advance.ensures.cost change told so_far);
+      rises = omega (arith, c.loop-plan.invariant.rises, c.advance.ensures.rises);
     }
 
 pub returns-in_err-advance-clause-ticks : goal.returns-in_err-advance-clause-ticks
@@ -53,3 +60,24 @@ pub returns-clause-ticks : goal.returns-clause-ticks
 returns-clause-ticks c = λ change told.
     let f = c.args.self.now in
     cost_within f.is_new change f.tree (length c.loop-plan.plan.changes) c.args.meter.now.ticks c.loop-plan.meter.ticks (c.loop-plan.invariant.ticks change told)
+
+pub returns-clause-exact : goal.returns-clause-exact
+returns-clause-exact c = λ change told all.
+    let f = c.args.self.now in
+    let planned = planned_at_end f change c.loop-plan.plan (c.loop-plan.invariant.planned change told).begun (rw c.loop-plan-test.false at c.is_whole.ensures) in
+    let most = cost_within f.is_new change f.tree (length c.loop-plan.plan.changes) c.args.meter.now.ticks c.loop-plan.meter.ticks (c.loop-plan.invariant.ticks change told) in
+    counted_all c.args.meter.now.ticks c.loop-plan.meter.ticks c.loop-plan.plan.cost (tree_cost f.is_new change f.tree) (c.loop-plan.invariant.least change told all) most (omega (arith, c.ticks-counted.ensures, c.ticks-counted.type_inv)) planned.cost
+
+pub returns-in_err-advance-clause-still : goal.returns-in_err-advance-clause-still
+returns-in_err-advance-clause-still c = λ old change told same.
+    let f = c.args.self.now in
+    let most = cost_within f.is_new change f.tree (length c.loop-plan.plan.changes) c.args.meter.now.ticks c.loop-plan.meter.ticks (c.loop-plan.invariant.ticks change told) in
+    let free = ap (λ (b : Bool). tree_cost b change f.tree) old ∙ unchanged_tree_costs_nothing f.tree change same in
+    omega (arith, most, free, ap (λ m. m.ticks) c.in_err-advance.ensures.err_meter, c.loop-plan.invariant.rises)
+
+pub returns-clause-still : goal.returns-clause-still
+returns-clause-still c = λ old change told same.
+    let f = c.args.self.now in
+    let most = cost_within f.is_new change f.tree (length c.loop-plan.plan.changes) c.args.meter.now.ticks c.loop-plan.meter.ticks (c.loop-plan.invariant.ticks change told) in
+    let free = ap (λ (b : Bool). tree_cost b change f.tree) old ∙ unchanged_tree_costs_nothing f.tree change same in
+    omega (arith, most, free, c.loop-plan.invariant.rises)

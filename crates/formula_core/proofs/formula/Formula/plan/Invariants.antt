@@ -1,8 +1,9 @@
 use Rattle.std.proofs.Common.{◌+◌, ◌-◌, ◌≤◌, length, take}
 use Rattle.std.specs.List.{sum_by}
+use Rattle.change_core.specs.Meters.{ticked}
 use Rattle.formula_core.specs.Changes.{Change}
 use Rattle.formula_core.specs.Formulas.{operations}
-use Rattle.formula_core.specs.Plans.{node_cost_at, IsTold}
+use Rattle.formula_core.specs.Plans.{node_cost_at, AllComputed, IsTold}
 use Rattle.formula_core.specs.Progress.{operations_among, IsPlannedTo}
 use Rattle.formula_core.specs.Tables.{subtrees}
 use Rattle.formula_core.proofs.formula.Formula.plan.Given as goal
@@ -11,6 +12,8 @@ abbrev pub invariant-loop-plan : goal.invariant-loop-plan
 invariant-loop-plan l = record {
   planned : (c : Change) → IsTold l.fn.self c l.fn.inputs → IsPlannedTo l.fn.self c l.plan;
   ticks : (c : Change) → IsTold l.fn.self c l.fn.inputs → l.meter.ticks ≤ l.fn.meter.ticks + sum_by (node_cost_at l.fn.self.is_new c) (take (length l.plan.changes) (subtrees l.fn.self.tree));
+  least : (c : Change) → IsTold l.fn.self c l.fn.inputs → AllComputed l.fn.self.is_new c l.fn.self.tree → ticked l.fn.meter.ticks l.plan.cost ≤ l.meter.ticks;
+  rises : l.fn.meter.ticks ≤ l.meter.ticks;
 }
 
 abbrev pub decreases-loop-plan : goal.decreases-loop-plan

@@ -77,3 +77,35 @@ returns-clause-ticks c = λ change names trees staged.
     let at = get_or_default s.nodes.now (length s.changes.now) k c.index-self-self.result c.requires.below in
     subst (λ (t : Tree). c.change_of.new.meter.ticks ≤ c.args.meter.now.ticks + node_cost_at s.is_new change t) (sym (next_tree change names trees s staged c.requires.below k at))
     (c.change_of.ensures change names trees staged (λ old. ap (λ (h : Holding). h.result) (next_held change names trees s staged c.requires.below k at old))).ticks
+
+pub returns-in_err-delta-clause-rises : goal.returns-in_err-delta-clause-rises
+returns-in_err-delta-clause-rises c =
+    let w = c.requires.staged in
+    let s = c.args.self.now in
+    let k = get_or s.nodes.now (length s.changes.now) c.index-self-self.result in
+    let at = get_or_default s.nodes.now (length s.changes.now) k c.index-self-self.result c.requires.below in
+    (c.change_of.ensures w.0 w.1.0 w.1.1.0 w.1.1.1 (λ old. ap (λ (h : Holding). h.result) (next_held w.0 w.1.0 w.1.1.0 s w.1.1.1 c.requires.below k at old))).rises
+
+pub returns-in_err-sums-clause-rises : goal.returns-in_err-sums-clause-rises
+returns-in_err-sums-clause-rises c =
+    let w = c.requires.staged in
+    let s = c.args.self.now in
+    let k = get_or s.nodes.now (length s.changes.now) c.index-self-self.result in
+    let at = get_or_default s.nodes.now (length s.changes.now) k c.index-self-self.result c.requires.below in
+    (c.change_of.ensures w.0 w.1.0 w.1.1.0 w.1.1.1 (λ old. ap (λ (h : Holding). h.result) (next_held w.0 w.1.0 w.1.1.0 s w.1.1.1 c.requires.below k at old))).rises
+
+pub returns-clause-rises : goal.returns-clause-rises
+returns-clause-rises c =
+    let w = c.requires.staged in
+    let s = c.args.self.now in
+    let k = get_or s.nodes.now (length s.changes.now) c.index-self-self.result in
+    let at = get_or_default s.nodes.now (length s.changes.now) k c.index-self-self.result c.requires.below in
+    (c.change_of.ensures w.0 w.1.0 w.1.1.0 w.1.1.1 (λ old. ap (λ (h : Holding). h.result) (next_held w.0 w.1.0 w.1.1.0 s w.1.1.1 c.requires.below k at old))).rises
+
+pub returns-clause-least : goal.returns-clause-least
+returns-clause-least c =
+    let w = c.requires.staged in
+    let s = c.args.self.now in
+    let k = get_or s.nodes.now (length s.changes.now) c.index-self-self.result in
+    let at = get_or_default s.nodes.now (length s.changes.now) k c.index-self-self.result c.requires.below in
+    (c.in_ok-delta.ensures w.0 w.1.0 w.1.1.0 w.1.1.1 (λ old. ap (λ (h : Holding). h.result) (next_held w.0 w.1.0 w.1.1.0 s w.1.1.1 c.requires.below k at old))).least

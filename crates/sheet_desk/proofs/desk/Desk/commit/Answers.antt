@@ -6,7 +6,7 @@ use mir.Val.{to_z, of_z, SFits}
 use Rattle.std.proofs.lemmas.Result.{err_from_is_err_and}
 use Rattle.sheet_recalc.specs.Names.{SheetValue}
 use Rattle.sheet_recalc.specs.Changes.{Accepts}
-use Rattle.sheet_recalc.specs.Costs.{HasCost}
+use Rattle.sheet_recalc.specs.Costs.{HasCost, HasTicks}
 use Rattle.sheet_recalc.specs.History.{change_of}
 use Rattle.sheet_recalc.specs.Pending.{IsPendingOn}
 use Rattle.sheet_recalc.specs.declared.refusal.Refusal.{Refusal}
@@ -69,6 +69,7 @@ returns c =
       made = record {
         accepts = subst (λ (d : DeskValue). Accepts d.names change c.adopt.new.self.names) c.self.view_is accepts;
         cost = subst (λ (d : DeskValue). HasCost d.names change c.adopt.new.self.names c.adopt.new.self.cost) c.self.view_is costs;
+        computed = subst (λ (d : DeskValue). HasTicks d.names change c.adopt.new.self.names c.adopt.new.self.ticks) c.self.view_is (c.adopt.ensures.computed change begun);
         slots =
             ap slots_of (c.mark_stale.ensures ∙ ap (map (option_map marked)) out)
             ∙ marked_seen _

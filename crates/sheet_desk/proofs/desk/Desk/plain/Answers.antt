@@ -3,7 +3,7 @@ use Rattle.std.specs.Option.{option_map}
 use Rattle.std.proofs.lemmas.Result.{err_from_is_err_and}
 use Rattle.sheet_recalc.specs.Names.{SheetValue}
 use Rattle.sheet_recalc.specs.Changes.{Accepts, Refuses}
-use Rattle.sheet_recalc.specs.Costs.{HasCost}
+use Rattle.sheet_recalc.specs.Costs.{HasCost, HasTicks}
 use Rattle.sheet_recalc.specs.History.{change_of}
 use Rattle.sheet_recalc.specs.declared.refusal.Refusal.{Refusal}
 use Rattle.sheet_desk.specs.Desk.{DeskValue, Plain, IsEvent, stale}
@@ -29,6 +29,7 @@ returns c =
     record {
       accepts = subst (λ (d : DeskValue). Accepts d.names change c.apply.new.self.names) c.self.view_is c.in_ok-apply.ensures.ok;
       cost = subst (λ (d : DeskValue). HasCost d.names change c.apply.new.self.names c.apply.new.self.cost) c.self.view_is c.in_ok-apply.ensures.cost;
+      computed = subst (λ (d : DeskValue). HasTicks d.names change c.apply.new.self.names c.apply.new.self.ticks) c.self.view_is c.in_ok-apply.ensures.ticks;
       slots = ap slots_of c.mark_stale.ensures ∙ marked_seen c.self.inside.slots ∙ ap (λ (d : DeskValue). map (option_map stale) d.slots) c.self.view_is;
     }
 

@@ -4,9 +4,9 @@ use Rattle.sheet_recalc.specs.Entries.{names_of}
 use Rattle.sheet_recalc.specs.Tables.{Tables}
 use Rattle.sheet_recalc.specs.Pending.{IsReady, names_after}
 use Rattle.sheet_recalc.specs.Changes.{Accepts}
-use Rattle.sheet_recalc.specs.Costs.{HasCost}
+use Rattle.sheet_recalc.specs.Costs.{HasCost, HasTicks}
 use Rattle.sheet_recalc.proofs.Rebound.{live_after}
-use Rattle.sheet_recalc.proofs.Stepped.{is_ready, whole_cost}
+use Rattle.sheet_recalc.proofs.Stepped.{is_ready, whole_cost, whole_ticks}
 use Rattle.sheet_recalc.proofs.sheet.Sheet.adopt.Goals as goal
 
 pub make-requires-clause-ready : goal.make-requires-clause-ready
@@ -33,3 +33,8 @@ pub returns-clause-cost : goal.returns-clause-cost
 returns-clause-cost c = λ change pending.
     let is : names_after c.args.self.now.tables c.args.pending ≡ names_of c.make.new.entries.entries = ap (λ (s : SheetValue). names_after s.tables c.args.pending) (sym c.self.view_is) ∙ sym c.make.ensures.names in
     subst (λ (ns : Names). HasCost c.args.self.now.names change ns c.args.pending.plans.cost) is (whole_cost c.args.self.now change c.args.pending pending c.requires.left)
+
+pub returns-clause-computed : goal.returns-clause-computed
+returns-clause-computed c = λ change pending.
+    let is : names_after c.args.self.now.tables c.args.pending ≡ names_of c.make.new.entries.entries = ap (λ (s : SheetValue). names_after s.tables c.args.pending) (sym c.self.view_is) ∙ sym c.make.ensures.names in
+    subst (λ (ns : Names). HasTicks c.args.self.now.names change ns c.args.pending.ticks) is (whole_ticks c.args.self.now change c.args.pending pending c.requires.left)

@@ -1,4 +1,4 @@
-use Rattle.std.proofs.Common.{◌≡◌, ◌∙◌, ap, sym, subst, refl, true, Ok, Err}
+use Rattle.std.proofs.Common.{◌≡◌, ◌∙◌, ap, sym, subst, refl, true, is_ok, Ok, Err}
 use Rattle.std.proofs.lemmas.Result.{IfErr-weaker}
 use Rattle.apl_expr.specs.Trees.{tree_of}
 use Rattle.arrays_core.specs.Arrays.{ArrayValue}
@@ -16,7 +16,7 @@ use Rattle.sheet_recalc.specs.Pending.{IsProposedOn}
 use Rattle.sheet_recalc.specs.Planning.{IsProposalAt}
 use Rattle.sheet_recalc.specs.ProposedSheet.{names_with}
 use Rattle.sheet_recalc.specs.declared.proposal.Proposal.TheVariants as proposed
-use Rattle.sheet_recalc.proofs.Accounted.{expression_few}
+use Rattle.sheet_recalc.proofs.Accounted.{expression_even}
 use Rattle.sheet_recalc.proofs.Asked.{if_ok_map, few_at_first, data_pending}
 use Rattle.sheet_recalc.proofs.Refused.{refused_put, refused_data}
 use Rattle.sheet_recalc.proofs.sheet.Sheet.begin_data.Goals as goal
@@ -26,9 +26,11 @@ array_in : (o : Outcome) (d : Delta) → d ≡ Whole o → ((e : _) → d ≡ Wh
 array_in (Ok a) d is none = (a, refl)
 array_in (Err e) d is none = absurd (none e is)
 
-pub propose-requires-clause-few : goal.propose-requires-clause-few
-propose-requires-clause-few c =
-    expression_few c.cost-spent.result _ c.new-meter.result.ticks c.plan_at_rest.new.meter.ticks (c.cost-spent.ensures ∙ c.in_ok-plan.ensures.cost) c.in_ok-plan.ensures.ticks (ap (λ (m : MeterValue). m.ticks) c.new-meter.ensures)
+pub propose-requires-clause-even : goal.propose-requires-clause-even
+propose-requires-clause-even c =
+    let gives = c.into_delta-change.ensures ∙ c.in_ok-plan.ensures.delta in
+    let array = array_in _ c.into_delta-change.result gives c.in_default.ensures in
+    expression_even c.cost-spent.result _ c.new-meter.result.ticks c.plan_at_rest.new.meter.ticks (c.cost-spent.ensures ∙ c.in_ok-plan.ensures.cost) (c.in_ok-plan.ensures.all (ap is_ok array.1)) (ap (λ (m : MeterValue). m.ticks) c.new-meter.ensures)
 
 pub propose-requires-clause-proposal : goal.propose-requires-clause-proposal
 propose-requires-clause-proposal c =

@@ -1,5 +1,4 @@
-use Rattle.std.proofs.Common.{◌≤◌, refl, sym, ap, subst, false}
-use Rattle.change_core.specs.Meters.{ticked}
+use Rattle.std.proofs.Common.{◌∙◌, refl, sym, ap, subst, false}
 use Rattle.std.proofs.lemmas.Result.{err_from_is_err_and}
 use Rattle.sheet_recalc.specs.Names.{SheetValue}
 use Rattle.sheet_recalc.specs.Tables.{Tables}
@@ -37,13 +36,13 @@ returns-clause-ok c =
         kept = begun.can.kept;
         sheet = begun.can.sheet;
         place = c.in_ok-growth.ensures;
-        way = begun.way c.args.meter.ticks c.requires.few;
+        way = begun.way c.args.meter.ticks c.requires.even;
         first = begun.first;
         all = begun.all;
         whole = refl;
         told = c.ticks.ensures;
         small = c.ticks.type_inv;
       };
-      few = subst (λ n. ticked 0 n ≤ c.args.spent) (sym c.ticks.ensures) c.requires.few;
+      even = c.ticks.ensures ∙ c.requires.even;
       room = begun.can.room;
     }))

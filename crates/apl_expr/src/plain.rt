@@ -1,0 +1,108 @@
+//! Literals as the parser makes them: one number is a scalar and never a vector, and so is one character.
+
+ghost use Rattle.std.specs.Prelude.{◌≡◌, [], ◌∷◌, ◌++◌, IfOk, true};
+ghost use Rattle.apl_expr.specs.Trees.{Numbers, Text, Const, Name as Named, Monad, Dyad, literal_of, tree_of, is_plain, is_plain_expr, is_plain_position, are_plain};
+
+use crate::expr::{Dyadic, Expr, Literal, Monadic};
+use apl_tokens::Name;
+use std::alloc::{AllocError, Global};
+
+/// The literal of these numbers: one number is a scalar.
+pub(crate) fn literal(numbers: Vec<i64>) -> Literal
+    ensures numbers { literal_of result ≡ Numbers numbers.items }
+    ensures plain { is_plain result ≡ true }
+{
+    match numbers.as_slice() {
+        [number] => Literal::Num(*number),
+        _ => Literal::Nums(numbers),
+    }
+}
+
+/// The literal of a text: one character is a scalar.
+pub(crate) fn text_literal(characters: Vec<char>) -> Literal
+    ensures characters { literal_of result ≡ Text characters.items }
+    ensures plain { is_plain result ≡ true }
+{
+    match characters.as_slice() {
+        [character] => Literal::Char(*character),
+        _ => Literal::Text(characters),
+    }
+}
+
+/// An expression that holds one number as a scalar and never as a vector, and so one character.
+#[derive(Drop)]
+pub(crate) struct Plain {
+    pub(crate) expr: Expr,
+    ghost plain: { is_plain_expr expr ≡ true },
+}
+
+impl Plain {
+    /// A literal.
+    pub(crate) fn constant(literal: Literal) -> Plain
+        requires { is_plain literal ≡ true }
+        ensures { tree_of result.expr ≡ Const (literal_of literal) }
+    {
+        let expr = Expr::Const(literal);
+        Plain { expr }
+    }
+
+    /// A name.
+    pub(crate) fn name(name: Name) -> Plain
+        ensures { tree_of result.expr ≡ Named name }
+    {
+        let expr = Expr::Name(name);
+        Plain { expr }
+    }
+
+    /// A function with its right argument.
+    pub(crate) fn monad(alloc: Global, function: Monadic, right: Plain) -> Result<Plain, AllocError>
+        ensures { IfOk result (λ e. tree_of e.expr ≡ Monad function (tree_of right.expr)) }
+    {
+        let Plain { expr } = right;
+        let right = Box::new(alloc, expr)?;
+        let expr = Expr::Monad(function, right);
+        Ok(Plain { expr })
+    }
+
+    /// A function between its left argument and its right one.
+    pub(crate) fn dyad(
+        alloc: Global,
+        function: Dyadic,
+        left: Plain,
+        right: Plain,
+    ) -> Result<Plain, AllocError>
+        ensures { IfOk result (λ e. tree_of e.expr ≡ Dyad function (tree_of left.expr) (tree_of right.expr)) }
+    {
+        let (Plain { expr: left }, Plain { expr: right }) = (left, right);
+        let left = Box::new(alloc, left)?;
+        let right = Box::new(alloc, right)?;
+        let expr = Expr::Dyad(function, left, right);
+        Ok(Plain { expr })
+    }
+}
+
+/// An index whose bracket is open: its operand, and the positions before the one that is read.
+#[derive(Drop)]
+pub(crate) struct OpenIndex {
+    pub(crate) operand: Expr,
+    pub(crate) positions: Vec<Option<Expr>>,
+    ghost plain_operand: { is_plain_expr operand ≡ true },
+    ghost plain_positions: { are_plain positions.items ≡ true },
+}
+
+impl OpenIndex {
+    /// The index with one position more.
+    #[tactic(auto, using(crate::proofs::Rows::plain_more))]
+    pub(crate) fn with(self, position: Option<Expr>) -> Result<OpenIndex, AllocError>
+        requires { is_plain_position position ≡ true }
+        ensures operand { IfOk result (λ index. index.operand ≡ self.operand) }
+        ensures positions { IfOk result (λ index. index.positions.items ≡ self.positions.items ++ position ∷ []) }
+    {
+        let OpenIndex {
+            operand,
+            mut positions,
+        } = self;
+        positions.push(position)?;
+        Ok(OpenIndex { operand, positions })
+    }
+}

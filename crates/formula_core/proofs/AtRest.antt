@@ -1,0 +1,64 @@
+-- A formula is worked out anew where nothing changed of the names.
+use Rattle.std.proofs.Common.{◌≡◌, ◌∙◌, ◌-◌, ℕ, zero, suc, List, [], ◌∷◌, ◌++◌, length, map, get_or, true, false, refl, sym, ap, subst, arith, Result, Ok, Err, IfOk, ⊎_elim}
+use Rattle.std.specs.List.{Contains}
+use Rattle.std.specs.declared.alloc.AllocError.{AllocError}
+use Rattle.std.proofs.lemmas.Bool.{false≢true}
+use Rattle.std.proofs.lemmas.List.{length-append, map-append}
+use Rattle.std.proofs.lemmas.List.Elements.{Contains-append_cases}
+use Rattle.std.proofs.Math.Seq.{get_or-append_seam}
+use Rattle.apl_expr.specs.Trees.{Tree}
+use Rattle.index_region.specs.declared.delta.Delta.{Delta}
+use Rattle.index_region.specs.declared.delta.Delta.TheVariants.{Same}
+use Rattle.change_rules.specs.Currency.{applied}
+use Rattle.formula_core.specs.declared.input.Input.{Input}
+use Rattle.formula_core.specs.Outcomes.{Outcome}
+use Rattle.formula_core.specs.Meaning.{eval, names_in}
+use Rattle.formula_core.specs.Tables.{subtrees}
+use Rattle.formula_core.specs.Changes.{Change, at_rest}
+use Rattle.formula_core.specs.Inputs.{IsInput}
+use Rattle.formula_core.specs.Formulas.{FormulaValue, root_result}
+use Rattle.formula_core.specs.Holdings.{Holding, holding_at, not_worked_out, adopted}
+use Rattle.formula_core.specs.Plans.{PlanValue, AreInputs, IsNameSound, IsTold, IsPlanned}
+use Rattle.formula_core.proofs.Rooted.{before_root, root_last}
+
+-- the inputs of further names
+pub inputs_more : (c : Change) (names : List (List ℕ)) (inputs : List Input) (x : List ℕ) (i : Input) → AreInputs c names inputs → IsInput (c.new x) (c.delta x) i → AreInputs c (names ++ x ∷ []) (inputs ++ i ∷ [])
+inputs_more c [] [] x i are is = (is, tt)
+inputs_more c [] (j ∷ inputs) x i are is = absurd are
+inputs_more c (y ∷ names) [] x i are is = absurd are
+inputs_more c (y ∷ names) (j ∷ inputs) x i are is = (are.0, inputs_more c names inputs x i are.1 is)
+
+one_name : (x y : List ℕ) → Contains (x ∷ []) y → y ≡ x
+one_name x y (zero, h, e) = sym e
+one_name x y (suc k, h, e) = absurd (omega (arith, h))
+
+-- what holds of some names and of one more holds of all these
+pub all_more : (P : List ℕ → Type 0) (names : List (List ℕ)) (x : List ℕ) → ((y : List ℕ) → Contains names y → P y) → P x → (y : List ℕ) → Contains (names ++ x ∷ []) y → P y
+all_more P names x all one y c = ⊎_elim (λ l. all y l) (λ r. subst P (sym (one_name x y r)) one) (Contains-append_cases names (x ∷ []) y c)
+
+-- an input of which nothing changed shows what is shown
+pub rest_input : (d : Delta) → d ≡ Same → (r o : Outcome) → r ≡ o → (i : Input) → IsInput (applied d r) d i → IsInput o Same i
+rest_input d same r o is i told = subst (λ s. IsInput s Same i) is (subst (λ e. IsInput (applied e r) e i) same told)
+
+-- a formula that counts as new is told by the inputs
+pub told_at_rest : (f : FormulaValue) (names : List ℕ → Outcome) (inputs : List Input) → f.is_new ≡ true → AreInputs (at_rest names) (names_in f.tree) inputs → ((x : List ℕ) → Contains (names_in f.tree) x → IsNameSound (at_rest names) x) → IsTold f (at_rest names) inputs
+told_at_rest f names inputs new are sound = record { holds = λ old. absurd (false≢true (sym old ∙ new)); tell = are; changed = λ x stands. record { right = refl; fit = tt }; sound = sound }
+
+at_root : {X : Type 0} (g : Tree → X) (t : Tree) (d : X) → get_or (map g (subtrees t)) (length (map g (subtrees t)) - 1) d ≡ g t
+at_root g t d =
+    let all : map g (subtrees t) ≡ map g (before_root t) ++ g t ∷ [] = ap (map g) (root_last t) ∙ map-append g (before_root t) (t ∷ []) in
+    let long : length (map g (before_root t) ++ g t ∷ []) - 1 ≡ length (map g (before_root t)) = omega (arith, length-append (map g (before_root t)) (g t ∷ [])) in
+    ap (λ ys. get_or ys (length ys - 1) d) all ∙ (ap (λ k. get_or (map g (before_root t) ++ g t ∷ []) k d) long ∙ get_or-append_seam (map g (before_root t)) (g t) [] d)
+
+-- the result of a formula that holds what its tree gives
+pub held_result : (t : Tree) (names : List ℕ → Outcome) (held : List Holding) → held ≡ map (holding_at names) (subtrees t) → root_result held ≡ eval t names
+held_result t names held is = ap root_result is ∙ ap (λ (h : Holding). h.result) (at_root (holding_at names) t not_worked_out)
+
+-- what it holds with its plan, and the result of that
+pub planned_result : (f : FormulaValue) (names : List ℕ → Outcome) (p : PlanValue) (held : List Holding) → IsPlanned f (at_rest names) p → held ≡ adopted p.changes f.nodes → root_result held ≡ eval f.tree names
+planned_result f names p held planned is = held_result f.tree names held (is ∙ planned.right)
+
+-- what a plan is for every change that the inputs tell, it is where nothing changed
+pub planned_at_rest : (f : FormulaValue) (names : List ℕ → Outcome) (inputs : List Input) (r : Result PlanValue AllocError) → IsTold f (at_rest names) inputs → IfOk r (λ p. (c : Change) → IsTold f c inputs → IsPlanned f c p) → IfOk r (λ p. IsPlanned f (at_rest names) p)
+planned_at_rest f names inputs (Ok p) told planned = planned (at_rest names) told
+planned_at_rest f names inputs (Err e) told planned = tt

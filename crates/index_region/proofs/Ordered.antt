@@ -1,0 +1,55 @@
+-- The walk of a box keeps the order of the ravel of a shape in which the box lies.
+use Rattle.std.proofs.Common.{◌≡◌, ℕ, ◌+◌, ◌-◌, ◌*◌, ◌/◌, ◌%◌, ◌<◌, ◌≤◌, List, [], ◌∷◌, arith, true, inl, inr}
+use Rattle.std.proofs.lemmas.Bool.{and_parts, leb-true, false≢true, cases_order}
+use Rattle.std.proofs.lemmas.Nat.{mod_below, div-add-mod', mul-le}
+use Rattle.arrays_core.specs.Shapes.{size, places_before}
+use Rattle.arrays_core.proofs.Shapes.{places_below}
+use Rattle.index_region.specs.Boxes.{Interval, box_size, interval_length, walk_at, fits}
+use Rattle.index_region.proofs.Walks.{rest_positive, walk_within}
+use Rattle.index_region.proofs.Patched.{fits_within}
+
+-- a row before another row is wholly before it
+rows_apart : (i j w a b : ℕ) → i < j → a < w → i * w + a < j * w + b
+rows_apart i j w a b h k =
+    let next : (i + 1) * w ≤ j * w = mul-le (i + 1) w j w (omega arith) (omega arith) in
+    let more : (i + 1) * w ≡ i * w + w = grind arith in
+    omega arith
+
+-- of two places in one row the one that comes first stands first in it
+rest_before : (i j w a b : ℕ) → i ≡ j → i * w + a < j * w + b → a < b
+rest_before i j w a b e h = let k = rw e at h in omega arith
+
+rest_after : (i j w a b : ℕ) → i ≡ j → a < b → i * w + a < j * w + b
+rest_after i j w a b e h = rw e (omega arith)
+
+pub walk_ascends : (region : List Interval) (shape : List ℕ) (p q : ℕ) → fits region shape ≡ true → p < q → q < box_size region
+    → places_before shape (walk_at region p) < places_before shape (walk_at region q)
+walk_ascends [] [] p q fit l b = absurd (omega arith)
+walk_ascends [] (n ∷ shape) p q fit l b = absurd (false≢true fit)
+walk_ascends (s ∷ region) [] p q fit l b = absurd (false≢true fit)
+walk_ascends (s ∷ region) (n ∷ shape) p q fit l b =
+    let parts = and_parts _ _ fit in
+    let low : 1 ≤ s.0 = leb-true 1 s.0 (and_parts _ _ (and_parts _ _ parts.0).0).0 in
+    let w = box_size region in
+    let positive : 0 < w = rest_positive q (interval_length s) w b in
+    let dp : p / w * w + p % w ≡ p = div-add-mod' p w in
+    let dq : q / w * w + q % w ≡ q = div-add-mod' q w in
+    let mp : p % w < w = mod_below p w positive in
+    let mq : q % w < w = mod_below q w positive in
+    let both : p / w * w + p % w < q / w * w + q % w = omega (arith, dp, dq, l) in
+    let inside = fits_within region shape (walk_at region (p % w)) parts.1 (walk_within region (p % w) mp) in
+    let below = places_below shape (walk_at region (p % w)) inside in
+    let first = places_before shape (walk_at region (p % w)) in
+    let last = places_before shape (walk_at region (q % w)) in
+    elim (cases_order (p / w) (q / w)) [
+      | inl e ↦
+          let rest : p % w < q % w = rest_before (p / w) (q / w) w (p % w) (q % w) e both in
+          let same : s.0 + p / w - 1 ≡ s.0 + q / w - 1 = omega (arith, e) in
+          rest_after (s.0 + p / w - 1) (s.0 + q / w - 1) (size shape) first last same (walk_ascends region shape (p % w) (q % w) parts.1 rest mq)
+      | inr o ↦ elim o [
+        | inl m ↦ rows_apart (s.0 + p / w - 1) (s.0 + q / w - 1) (size shape) first last (omega (arith, low, m)) below
+        | inr m ↦
+            let back = rows_apart (q / w) (p / w) w (q % w) (p % w) m mq in
+            absurd (omega (arith, back, both))
+      ]
+    ]

@@ -1,0 +1,127 @@
+-- What the program does with its words, its files and its devices.
+use Rattle.std.specs.Prelude.{◌≡◌, ℕ, Bool, true, List, [], ◌∷◌, replicate, Option, Some, None, Ok, Err, IfSome, ◌⊎◌, string_bytes}
+use Rattle.std.specs.Io.KnownBytes.{Appends}
+use Rattle.std.specs.declared.alloc.Global.{Global}
+use Rattle.std.specs.declared.string.String.{String}
+use Rattle.clap.specs.Words.{Text, fault_of, subcommand_of, takes}
+use Rattle.arrays_core.specs.Arrays.{ArrayValue}
+use Rattle.array_text.specs.Tables.{IsTableOf, records_of}
+use Rattle.program_words.specs.Asked.{IsNotBadWords, IsNotText, IsRefusalOf, Means}
+use Rattle.program_words.specs.Program.{aplsheet}
+use Rattle.program_words.specs.declared.reading.Words.{Words}
+use Rattle.program_words.specs.declared.reading.WordsFault.{WordsFault}
+use Rattle.sheet_recalc.specs.Names.{Names, Data}
+use Rattle.sheet_desk.specs.Slots.{slot_count}
+use Rattle.sheet_cli.specs.Answer.{State}
+use Rattle.sheet_cli.specs.Endings.{OfWords, ending_of, status_of, told_of}
+use Rattle.sheet_cli.specs.Hosts.{HostValue, HasWords, HasNoText, Reads, FailsToRead, Opens, FailsToOpen}
+use Rattle.sheet_cli.specs.Run.{Completes, BreaksOff, IsCut}
+use Rattle.sheet_cli.specs.declared.ending.Ending.{Ending}
+use Rattle.sheet_cli.specs.declared.ending.Ending.TheVariants.{Done, Run, Table, CannotRead, NoMemory}
+use Rattle.sheet_cli.specs.declared.run_loop.RunFault.TheVariants as run
+use Rattle.sheet_cli.specs.declared.run_loop.Tally.{Tally}
+
+-- the words have no fault, and mean this
+pub record AsksFor (host : HostValue) (asked : Words) : Type 0 where
+  pub words : List Text
+  pub given : HasWords host words
+  pub faultless : fault_of aplsheet words ≡ []
+  pub means : Means (subcommand_of aplsheet words) asked
+
+-- why the words are refused: for want of memory; because one is no text; or for what is wrong with them
+pub data RefusesWords (host : HostValue) : Ending → Type 0 where
+  no_memory : RefusesWords host NoMemory
+  no_text : (fault : WordsFault) → HasNoText host → IsNotText fault → RefusesWords host (ending_of fault)
+  refused : {ending : Ending} (words : List Text) → HasWords host words → OfWords (IsRefusalOf words) ending →
+      (takes aplsheet words ≡ true → OfWords IsNotBadWords ending) → RefusesWords host ending
+
+-- the file of a path can be read, and is the table of this array
+abbrev pub GivesTable : HostValue → Text → Bool → ArrayValue → Type 0
+GivesTable host path header a = (bytes : List ℕ) × Reads host path bytes × IsTableOf header (records_of bytes) (Ok a)
+
+-- why it gives no table: it cannot be read; it has this fault; or for want of memory
+abbrev pub GivesNoTable : HostValue → Text → Bool → Ending → Type 0
+GivesNoTable host path header CannotRead = FailsToRead host path
+GivesNoTable host path header (Table fault) = (bytes : List ℕ) × Reads host path bytes × IsTableOf header (records_of bytes) (Err fault)
+GivesNoTable host path header NoMemory = Unit {0}
+GivesNoTable host path header ending = ⊥
+
+-- a table that the words ask for: its name, its file, and whether the first record of that is a header
+abbrev pub AskedTable : Type 0
+AskedTable = Text × String Global × Bool
+
+-- the names that the lines begin with: none, or that of the table alone, with its array
+abbrev pub BeginsWith : HostValue → Option AskedTable → Names → Type 0
+BeginsWith host None names = names ≡ []
+BeginsWith host (Some t) names = (a : ArrayValue) × GivesTable host (string_bytes t.1) t.2 a × (names ≡ (t.0, Data a) ∷ [])
+
+-- why the lines do not begin: the table that is asked for cannot be had
+abbrev pub FailsToBegin : HostValue → Option AskedTable → Ending → Type 0
+FailsToBegin host None ending = ⊥
+FailsToBegin host (Some t) ending = GivesNoTable host (string_bytes t.1) t.2 ending
+
+-- the state that lines begin with, where these are the names
+abbrev pub first_state : Names → State
+first_state names = record { names = names; cost = 0; slots = replicate slot_count None }
+
+-- what contracts see of the sources of a type: the bytes that one has left to give, where they are known, and whether a call has failed
+pub record Sources (R : Type 0) : Type 0 where
+  pub remaining : R → Option (List ℕ)
+  pub has_failed : R → Bool
+
+-- and of sinks: the bytes that one has taken, whether a call has failed, and whether all is passed on
+pub record Sinks (W : Type 0) : Type 0 where
+  pub written : W → Option (List ℕ)
+  pub has_failed : W → Bool
+  pub is_flushed : W → Bool
+
+-- how the lines of a source ended, of which the answers went to a sink
+abbrev pub LinesComeTo : {R W : Type 0} → Sources R → Sinks W → R → R → W → W → State → Ending → Type 0
+LinesComeTo r w source₁ source₂ sink₁ sink₂ old Done = (new : State) × (tally : Tally)
+    × Completes (r.remaining source₁) (r.remaining source₂) (w.written sink₁) (w.written sink₂) old new tally × (w.is_flushed sink₂ ≡ true)
+LinesComeTo r w source₁ source₂ sink₁ sink₂ old (Run run.Read) = (new : State)
+    × BreaksOff (r.remaining source₁) (r.remaining source₂) (w.written sink₁) (w.written sink₂) (r.has_failed source₂) old new
+LinesComeTo r w source₁ source₂ sink₁ sink₂ old (Run run.Write) = (new : State)
+    × IsCut (r.remaining source₁) (r.remaining source₂) (w.written sink₁) (w.written sink₂) (w.has_failed sink₂) old new
+LinesComeTo r w source₁ source₂ sink₁ sink₂ old (Run run.Memory) = (source₂ ≡ source₁) × (sink₂ ≡ sink₁)
+LinesComeTo r w source₁ source₂ sink₁ sink₂ old ending = ⊥
+
+-- what the program is started in: its words and files, and its input and output before and after; with what contracts see of a source such as
+-- the input, of a file that is open, and of a sink such as the output
+pub record Setting (R S W : Type 0) : Type 0 where
+  pub host : HostValue
+  pub inputs : Sources R
+  pub scripts : Sources S
+  pub outputs : Sinks W
+  pub input₁ : R
+  pub input₂ : R
+  pub output₁ : W
+  pub output₂ : W
+
+-- nothing is read of the input, and nothing written
+abbrev pub IsIdle : {R S W : Type 0} → Setting R S W → Type 0
+IsIdle s = (s.input₂ ≡ s.input₁) × (s.output₂ ≡ s.output₁)
+
+-- what all comes to that the words ask for. First the words are read, then the file of the table, then the script is opened, and then lines are
+-- answered: of the script where there is one, and else of the input
+pub data ComesTo {R S W : Type 0} (s : Setting R S W) : Ending → Type 0 where
+  bad_words : {ending : Ending} → RefusesWords s.host ending → IsIdle s → ComesTo s ending
+  no_table : {ending : Ending} (asked : Words) → AsksFor s.host asked → FailsToBegin s.host asked.table ending → IsIdle s → ComesTo s ending
+  no_script : (asked : Words) (names : Names) (path : String Global) → AsksFor s.host asked → BeginsWith s.host asked.table names →
+      asked.script ≡ Some path → FailsToOpen s.host (string_bytes path) → IsIdle s → ComesTo s CannotRead
+  of_script : {ending : Ending} (asked : Words) (names : Names) (path : String Global) (script₁ script₂ : S) → AsksFor s.host asked →
+      BeginsWith s.host asked.table names → asked.script ≡ Some path → Opens s.host (string_bytes path) (s.scripts.remaining script₁) →
+      s.input₂ ≡ s.input₁ → LinesComeTo s.scripts s.outputs script₁ script₂ s.output₁ s.output₂ (first_state names) ending → ComesTo s ending
+  of_input : {ending : Ending} (asked : Words) (names : Names) → AsksFor s.host asked → BeginsWith s.host asked.table names → asked.script ≡ None →
+      LinesComeTo s.inputs s.outputs s.input₁ s.input₂ s.output₁ s.output₂ (first_state names) ending → ComesTo s ending
+
+-- what is told of an ending was taken, or a call has failed
+abbrev pub IsTold : Option (List ℕ) → Option (List ℕ) → Bool → Ending → Type 0
+IsTold told₁ told₂ has_failed ending = IfSome (told_of ending) (λ text. Appends told₁ told₂ text ⊎ (has_failed ≡ true))
+
+-- the whole program: it comes to an ending, tells it, and its exit status is that of the ending
+pub record Performs {R S W : Type 0} (s : Setting R S W) (told₁ told₂ : Option (List ℕ)) (has_failed : Bool) (status : ℕ) : Type 0 where
+  pub ending : Ending
+  pub comes_to : ComesTo s ending
+  pub is_told : IsTold told₁ told₂ has_failed ending
+  pub status_is : status ≡ status_of ending

@@ -1,0 +1,97 @@
+//! The whole program in a host of which all is known: it has these words and one file, and keeps what it is told. That there is such a host, so
+//! that the program's contract says something of it, is proved; what the program does is tried on the built one, so no test makes the call.
+
+ghost use Rattle.std.specs.Prelude.{Some, map, string_bytes};
+ghost use Rattle.sheet_cli.specs.Hosts.{Closed, Whole};
+
+use sheet_cli::{Device, Failed, Host, NoWords, NotRead, Teller, program};
+use std::alloc::{AllocError, Global};
+use std::fmt::Display;
+
+/// Words, and the bytes of a file that is at every path, or of none.
+#[derive(Drop)]
+pub struct Shelf<'a> {
+    alloc: Global,
+    words: &'a [&'a str],
+    file: Option<&'a [u8]>,
+}
+
+impl<'a> Host for Shelf<'a> {
+    type File = Device<&'a [u8]>;
+
+    ghost use Rattle.std.specs.Option.{option_map_or};
+
+    ghost value = { λ s. record {
+      words = Some (map (λ word. word.now) s.words.now);
+      file = λ _. Some (option_map_or (λ f. Whole f.now) s.file Closed);
+    } };
+
+    fn words(&self) -> Result<Vec<String>, NoWords> {
+        let mut all = Vec::new(self.alloc);
+        for word in self.words {
+            let word = String::from_str(self.alloc, word)?;
+            if all.push(word).is_err() {
+                return Err(NoWords::NoMemory);
+            }
+        }
+        Ok(all)
+    }
+
+    fn read(&self, _path: &str) -> Result<Vec<u8>, NotRead> {
+        let Some(file) = self.file else {
+            return Err(NotRead::CannotRead);
+        };
+        let mut bytes = Vec::new(self.alloc);
+        bytes.extend_from_slice(file)?;
+        Ok(bytes)
+    }
+
+    fn open(&self, _path: &str) -> Result<Device<&'a [u8]>, Failed> {
+        match self.file {
+            Some(file) => Ok(Device::new(file)),
+            None => Err(Failed),
+        }
+    }
+}
+
+/// Keeps what it is told.
+#[derive(Drop)]
+struct Heard {
+    text: String,
+    failed: bool,
+}
+
+impl Teller for Heard {
+    ghost told = { λ h. Some (string_bytes h.text) };
+
+    ghost has_failed = { λ h. h.failed };
+
+    fn tell<D: Display + Drop>(&mut self, value: D) -> Result<(), Failed> {
+        match write!(self.text, "{value}") {
+            Ok(()) => Ok(()),
+            Err(AllocError) => {
+                self.failed = true;
+                Err(Failed)
+            }
+        }
+    }
+}
+
+/// The program answers these lines so, with this status, and tells this.
+pub fn ends_so(shelf: &Shelf<'_>, lines: &[u8], status: u8, answers: &str, told: &str) -> bool {
+    let mut output = Device::new(Vec::new(shelf.alloc));
+    let mut heard = Heard {
+        text: String::new(shelf.alloc),
+        failed: false,
+    };
+    let ended = program(
+        shelf.alloc,
+        shelf,
+        &mut Device::new(lines),
+        &mut output,
+        &mut heard,
+    );
+    ended == status
+        && output.into_inner().as_slice() == answers.as_bytes()
+        && heard.text.as_str() == told
+}
