@@ -33,6 +33,14 @@ impl Count {
         self.count = self.count.saturating_add(u64::from(more));
     }
 
+    /// Counts so many more, where they may be beyond 32 bits.
+    pub fn add_many(&mut self, more: u64)
+        ensures exact { self.new ≡ ticked self.old more }
+        ensures rises { self.old ≤ self.new }
+    {
+        self.count = self.count.saturating_add(more);
+    }
+
     /// Counts what another has counted, too.
     pub fn include(&mut self, other: &Count)
         ensures exact { self.new ≡ ticked self.old other.now }

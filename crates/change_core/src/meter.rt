@@ -50,10 +50,10 @@ impl Meter {
     }
 
     /// Counts so many joins of sums of parts.
-    pub fn count_joins(&mut self, joins: u32)
+    pub fn count_joins(&mut self, joins: u64)
         ensures { self.new ≡ record { ticks = self.old.ticks; joins = ticked self.old.joins joins } }
     {
-        self.joins.add(joins);
+        self.joins.add_many(joins);
     }
 
     /// Counts what another meter has counted, too.

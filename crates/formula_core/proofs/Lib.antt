@@ -7,12 +7,17 @@ pub mod Fitting
 pub mod Changed
 pub mod Alike
 pub mod Stepping
+pub mod Digits
+pub mod Narrow
+pub mod Totalled
 pub mod Gathered
 pub mod Given
 pub mod Steps
 pub mod Summed
+pub mod Joined
 pub mod Adopted
 pub mod Placed
 pub mod Planned
 pub mod Progressed
+pub mod Tallied
 pub mod AtRest

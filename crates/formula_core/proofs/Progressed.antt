@@ -47,7 +47,7 @@ module _ {X : Type 0} (f : X → ℕ) (xs : List X) (d : X) where
   front_within : (i m : ℕ) → i ≤ m → sum_by f (take i xs) ≤ sum_by f (take m xs)
   front_within i m h = omega (arith, sum_by-take-le f (take m xs) i, ap (λ ys. sum_by f ys) (take-take i m xs h))
 
-  front_more : (i m : ℕ) → i < length xs → i < m → sum_by f (take i xs) + f (get_or xs i d) ≤ sum_by f (take m xs)
+  pub front_more : (i m : ℕ) → i < length xs → i < m → sum_by f (take i xs) + f (get_or xs i d) ≤ sum_by f (take m xs)
   front_more i m below h = omega (arith, sum_by_more f xs i d below, front_within (i + 1) m (omega (arith, h)))
 
 -- one more change

@@ -52,7 +52,7 @@ all_stay [] (d ∷ ds) is h = absurd h
 all_stay (o ∷ os) [] is h = absurd h
 all_stay (o ∷ os) (d ∷ ds) [] h = absurd h
 
-array_delta : (i : Input) (a : ArrayValue) (d : Delta) → IsInput (Ok a) d i → delta_of i ≡ d
+pub array_delta : (i : Input) (a : ArrayValue) (d : Delta) → IsInput (Ok a) d i → delta_of i ≡ d
 array_delta (Good array delta) a d h = h.delta
 array_delta (Bad fault changed) a d h = absurd (let is : Err fault ≡ Ok a = h.is in let no : ⊥ = cc in no)
 
@@ -101,7 +101,7 @@ views_paired (a ∷ arrays) [] h = absurd (omega (arith, h))
 views_paired (a ∷ arrays) (d ∷ ds) h = ap (λ xs. a ∷ xs) (views_paired arrays ds (omega (arith, h)))
 
 -- an operation of which an argument is new is worked out whole
-record IsWhole (p : RuleModel) (r : Result (List ArrayValue) Fault) (ds : List Delta) (held : Outcome) : Type 0 where
+pub record IsWhole (p : RuleModel) (r : Result (List ArrayValue) Fault) (ds : List Delta) (held : Outcome) : Type 0 where
   pub delta : operation_delta p r ds held ≡ Whole (result_of p r)
   pub cost : operation_cost p r ds held ≡ operation_size p r
 
@@ -121,7 +121,7 @@ whole_by p (Ok (a ∷ arrays)) (Whole o) ds held w count =
 whole_count : (arrays : List ArrayValue) (is : List Input) → map shown is ≡ map (λ a. Ok a) arrays → length (map delta_of is) ≡ length arrays
 whole_count arrays is given = length-map is delta_of ∙ (sym (length-map is shown) ∙ (ap (λ xs. length xs) given ∙ length-map arrays (λ a. Ok a)))
 
-whole_all : (p : RuleModel) (os : List Outcome) (is : List Input) (held : Outcome) → map shown is ≡ os → BeginsAnew is → IsWhole p (arguments (map shown is)) (map delta_of is) held
+pub whole_all : (p : RuleModel) (os : List Outcome) (is : List Input) (held : Outcome) → map shown is ≡ os → BeginsAnew is → IsWhole p (arguments (map shown is)) (map delta_of is) held
 whole_all p os [] held shows new = absurd new
 whole_all p os (i ∷ is) held shows new = whole_by p (arguments (map shown (i ∷ is))) (delta_of i) (map delta_of is) held new
     (λ arrays given. whole_count arrays (i ∷ is) (all_arrays (map shown (i ∷ is)) arrays given))

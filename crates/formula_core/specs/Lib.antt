@@ -9,6 +9,7 @@ pub mod Inputs
 pub mod Sums
 pub mod Holdings
 pub mod Plans
+pub mod Joins
 -- What proofs and bodies use.
 pub mod Operands
 pub mod Stages

@@ -9,18 +9,20 @@ use Rattle.index_region.specs.declared.delta.Delta.{Delta}
 use Rattle.change_core.specs.Meters.{ticked}
 use Rattle.change_rules.specs.Currency.{applied}
 use Rattle.change_rules.specs.Nodes.{is_whole, is_error}
+use Rattle.sum_rules.specs.Totals.{total_rule}
 use Rattle.formula_core.specs.declared.input.Input.{Input}
 use Rattle.formula_core.specs.declared.input.Input.TheVariants.{Bad}
 use Rattle.formula_core.specs.declared.stage.Stage.{Stage}
 use Rattle.formula_core.specs.declared.table.Operand.{Operand}
 use Rattle.formula_core.specs.declared.table.Operand.TheVariants as operand
 use Rattle.formula_core.specs.Meaning.{eval}
-use Rattle.formula_core.specs.Outcomes.{fault}
+use Rattle.formula_core.specs.Outcomes.{Outcome, fault}
 use Rattle.formula_core.specs.Tables.{tree_at, tree_of_node, trees_after, subtrees, IsTable}
 use Rattle.formula_core.specs.Holdings.{Holding, holding_at, holdings_of, nodes_of, not_worked_out, no_change, taking, IsFit}
 use Rattle.formula_core.specs.Formulas.{FormulaValue}
-use Rattle.formula_core.specs.Changes.{Change, change, IsNameChanged}
+use Rattle.formula_core.specs.Changes.{Change, change, arguments, operation_cost, IsNameChanged}
 use Rattle.formula_core.specs.Inputs.{shown, delta_of, IsInput}
+use Rattle.formula_core.specs.Joins.{most_joins_of, least_joins_of, most_joins, least_joins}
 use Rattle.formula_core.specs.Plans.{node_change, node_cost_at, AreInputs, IsNameSound}
 use Rattle.formula_core.specs.Sums.{summed_at, resummed, FitsSums}
 use Rattle.formula_core.specs.declared.sums.SumsDelta.{SumsDelta}
@@ -92,3 +94,13 @@ pub record IsBegun (f : FormulaValue) (c : Change) (changes : List NodeChange) (
   pub few : length changes ≤ length f.nodes
   pub done : (k : ℕ) → k < length changes → IsDone f.is_new c (tree_at (subtrees f.tree) k) (get_or f.nodes k not_worked_out) (get_or changes k no_change)
   pub costs : cost ≡ ticked 0 (sum_by (node_cost_at f.is_new c) (take (length changes) (subtrees f.tree)))
+
+-- how many sums are joined for the totals of what an input gives
+pub record AreTotalsJoined (right : Input) (held : Outcome) (before after : ℕ) (r : Result (Delta × ℕ) AllocError) : Type 0 where
+  pub most : after ≤ before + most_joins_of (shown right) (delta_of right) held (operation_cost total_rule (arguments (shown right ∷ [])) (delta_of right ∷ []) held)
+  pub least : IfOk r (λ s. is_error s.0 ≡ false → ticked before (least_joins_of (shown right) (delta_of right) held (operation_cost total_rule (arguments (shown right ∷ [])) (delta_of right ∷ []) held)) ≤ after)
+
+-- how many for the change of the node of a tree
+pub record IsJoined (is_new : Bool) (c : Change) (t : Tree) (before after : ℕ) (r : Result (Delta × ℕ) AllocError) : Type 0 where
+  pub most : after ≤ before + most_joins is_new c t
+  pub least : IfOk r (λ s. is_error s.0 ≡ false → ticked before (least_joins is_new c t) ≤ after)

@@ -1,5 +1,5 @@
 -- The sums of lines that the totals of a formula keep.
-use Rattle.std.specs.Prelude.{◌≡◌, ℕ, List, Bool, true, false, Option, Some, None, Ok, Err, if◌then◌else◌}
+use Rattle.std.specs.Prelude.{◌≡◌, ℕ, List, Bool, true, false, Option, Some, None, is_some, Ok, Err, if◌then◌else◌}
 use Rattle.std.specs.Global.{Box}
 use Rattle.std.specs.Option.{option_map}
 use Rattle.apl_expr.specs.Trees.{Tree, Const, Name, Monad, Dyad, Index}
@@ -15,7 +15,7 @@ use Rattle.index_region.specs.Patches.{PatchValue, FitsPatch, patched}
 use Rattle.index_region.specs.Tails.{FitsTail}
 use Rattle.change_rules.specs.Currency.{applied}
 use Rattle.change_rules.specs.Nodes.{is_whole}
-use Rattle.sum_rules.specs.LineSums.{summed}
+use Rattle.sum_rules.specs.LineSums.{keeps_sums, summed}
 use Rattle.formula_core.specs.declared.sums.SumsDelta.{SumsDelta}
 use Rattle.formula_core.specs.declared.sums.SumsDelta.TheVariants.{Same, Patch, Grown, Whole}
 use Rattle.formula_core.specs.Changes.{FitsIn}
@@ -86,3 +86,7 @@ pub record IsSumsDelta (now : Outcome) (d : Delta) (kept : Option ArrayValue) (s
 -- where an array is patched, sums that are kept are those of what it was
 abbrev pub IsSummedFor : (now : Outcome) → Delta → (kept : Option ArrayValue) → Type 0
 IsSummedFor now d kept = (p : PatchValue) (a : ArrayValue) → d ≡ PatchDelta p → kept ≡ Some a → FitsPatch a p × (now ≡ Ok (patched a p))
+
+-- where an array is patched, the sums of its lines are kept if these are long enough
+abbrev pub AreSumsKept : (now : Outcome) → Delta → (kept : Option ArrayValue) → Type 0
+AreSumsKept now d kept = (p : PatchValue) (a : ArrayValue) → d ≡ PatchDelta p → now ≡ Ok a → is_some kept ≡ keeps_sums a

@@ -11,6 +11,7 @@ ghost use Rattle.formula_core.specs.Meaning.{eval, names_in};
 ghost use Rattle.formula_core.specs.Changes.{Change, at_rest};
 ghost use Rattle.formula_core.specs.Holdings.{holdings_of, nodes_of, not_worked_out, adopted};
 ghost use Rattle.formula_core.specs.Formulas.{new_formula, root_result, operations, IsHeld, IsTableOf};
+ghost use Rattle.formula_core.specs.Joins.{most_joins, least_joins, tree_joins, tree_least_joins};
 ghost use Rattle.formula_core.specs.Plans.{tree_cost, node_cost_at, IsComputed, AllComputed, IsPlanOf, IsTold, IsPlanned};
 ghost use Rattle.formula_core.specs.Progress.{operations_among, IsAtOperation, IsPlannedTo};
 ghost use Rattle.formula_core.specs.Stages.{IsBegun, IsDone};
@@ -122,7 +123,8 @@ impl Formula {
     /// What the formula changes to where its names show what the inputs say, an input for each of `references`. The
     /// formula still shows what it did: it takes the plan by `adopt`. Where it holds results, each input tells the change
     /// from what the name showed when they were worked out. The meter counts the items that are computed: as many as the plan costs
-    /// where no item fails, and at most as many where one does. Where nothing changed of the names none is computed, but by a new formula.
+    /// where no item fails, and at most as many where one does. Where nothing changed of the names none is computed, but by a new formula. It counts each join of sums of numbers, too:
+    /// a total `+/` whose lines keep trees of sums joins, for each new number, at most as many as the length of a line has binary digits.
     pub fn plan(&self, inputs: &[Input], meter: &mut Meter) -> Result<Plan, AllocError>
         requires { (c : Change) × IsTold self.now c inputs.now }
         ensures of { IfOk result (IsPlanOf self.now) }
@@ -130,6 +132,8 @@ impl Formula {
         ensures ticks { (c : Change) → IsTold self.now c inputs.now → meter.new.ticks ≤ meter.old.ticks + tree_cost self.now.is_new c self.now.tree }
         ensures exact { OnOk result ((c : Change) → IsTold self.now c inputs.now → AllComputed self.now.is_new c self.now.tree → meter.new.ticks ≡ ticked meter.old.ticks (tree_cost self.now.is_new c self.now.tree)) }
         ensures rises { meter.old.ticks ≤ meter.new.ticks }
+        ensures joins { (c : Change) → IsTold self.now c inputs.now → meter.new.joins ≤ meter.old.joins + tree_joins self.now.is_new c self.now.tree }
+        ensures joined { OnOk result ((c : Change) → IsTold self.now c inputs.now → AllComputed self.now.is_new c self.now.tree → ticked meter.old.joins (tree_least_joins self.now.is_new c self.now.tree) ≤ meter.new.joins) }
         ensures still { self.now.is_new ≡ false → (c : Change) → IsTold self.now c inputs.now → ((x : List ℕ) → Contains (names_in self.now.tree) x → c.delta x ≡ Same) → meter.new.ticks ≡ meter.old.ticks }
     {
         let mut plan = self.start(inputs)?;
@@ -185,6 +189,10 @@ impl Formula {
         ensures rises { meter.old.ticks ≤ meter.new.ticks }
         ensures cost { OnOk result ((c : Change) → IsTold self.now c inputs.now → IsPlannedTo self.now c plan.old
             → plan.new.cost ≡ ticked plan.old.cost (node_cost_at self.now.is_new c (tree_at (subtrees self.now.tree) (length plan.old.changes)))) }
+        ensures joins { OnOk result ((c : Change) → IsTold self.now c inputs.now → IsPlannedTo self.now c plan.old
+            → meter.new.joins ≤ meter.old.joins + most_joins self.now.is_new c (tree_at (subtrees self.now.tree) (length plan.old.changes))) }
+        ensures joined { OnOk result ((c : Change) → IsTold self.now c inputs.now → IsPlannedTo self.now c plan.old → IsComputed self.now.is_new c (tree_at (subtrees self.now.tree) (length plan.old.changes))
+            → ticked meter.old.joins (least_joins self.now.is_new c (tree_at (subtrees self.now.tree) (length plan.old.changes))) ≤ meter.new.joins) }
         ensures err { OnErr result (plan.new ≡ plan.old) }
         ensures err_meter { OnErr result (meter.new ≡ meter.old) }
     {
@@ -254,6 +262,10 @@ impl Formula {
             → meter.new.ticks ≤ meter.old.ticks + node_cost_at self.now.is_new c (tree_at (subtrees self.now.tree) (length changes.now)) }
         ensures least { IfOk result (λ r. is_error r.0.delta ≡ false → ticked meter.old.ticks r.1 ≤ meter.new.ticks) }
         ensures rises { meter.old.ticks ≤ meter.new.ticks }
+        ensures joins { (c : Change) → IsTold self.now c inputs.now → (cost : ℕ) → IsBegun self.now c changes.now cost
+            → meter.new.joins ≤ meter.old.joins + most_joins self.now.is_new c (tree_at (subtrees self.now.tree) (length changes.now)) }
+        ensures joined { IfOk result (λ r. (c : Change) → IsTold self.now c inputs.now → (cost : ℕ) → IsBegun self.now c changes.now cost → is_error r.0.delta ≡ false
+            → ticked meter.old.joins (least_joins self.now.is_new c (tree_at (subtrees self.now.tree) (length changes.now))) ≤ meter.new.joins) }
     {
         let anew = Delta::Whole(Err(unknown()));
         let stage = Stage {

@@ -30,7 +30,8 @@ pub(crate) fn change_of_index(
 ) -> Result<(Delta, u32), AllocError>
     requires array { HasFit array.now }
     requires positions { AllHaveFit positions.now }
-    ensures { IsOperationChange (index_rule (map is_some positions.now)) (array.now ∷ written_inputs positions.now) held.now meter.old.ticks meter.new.ticks result }
+    ensures change { IsOperationChange (index_rule (map is_some positions.now)) (array.now ∷ written_inputs positions.now) held.now meter.old.ticks meter.new.ticks result }
+    ensures joins { meter.new.joins ≡ meter.old.joins }
 {
     match (last_fault(positions), array) {
         (Some(fault), _) => Ok((beside_error(fault, all_stay(array, positions)), 0)),
@@ -55,7 +56,8 @@ fn change_of_arrays(
     requires count { length (arrays_among (written_inputs positions.now)) ≡ count_written (map is_some positions.now) }
     requires fit { AllFit (views (indexed.now ∷ arrays_among (written_inputs positions.now))) (moved (indexed.now ∷ arrays_among (written_inputs positions.now))) }
     requires axes { HasAxis (indexed.now ∷ arrays_among (written_inputs positions.now)) }
-    ensures { IsRefreshed (index_rule (map is_some positions.now)) (indexed.now ∷ arrays_among (written_inputs positions.now)) held.now meter.old.ticks meter.new.ticks result }
+    ensures refreshed { IsRefreshed (index_rule (map is_some positions.now)) (indexed.now ∷ arrays_among (written_inputs positions.now)) held.now meter.old.ticks meter.new.ticks result }
+    ensures joins { meter.new.joins ≡ meter.old.joins }
 {
     if positions.len() <= FEW_POSITIONS {
         let (args, count) = few_arguments(indexed, positions);
@@ -76,7 +78,8 @@ fn change_by_arguments(
     requires count { length args.now ≡ suc (count_written (map is_some positions.now)) }
     requires fit { AllFit (views args.now) (moved args.now) }
     requires axes { HasAxis args.now }
-    ensures { IsRefreshed (index_rule (map is_some positions.now)) args.now held.now meter.old.ticks meter.new.ticks result }
+    ensures refreshed { IsRefreshed (index_rule (map is_some positions.now)) args.now held.now meter.old.ticks meter.new.ticks result }
+    ensures joins { meter.new.joins ≡ meter.old.joins }
 {
     let written = written_of(alloc, positions)?;
     let operation = Operation { alloc, args, held };

@@ -1,11 +1,12 @@
 //! The change of an operation, from what its operands give.
 
-ghost use Rattle.std.specs.Prelude.{◌≡◌, [], ◌∷◌, true, Some, Err, if◌then◌else◌};
+ghost use Rattle.std.specs.Prelude.{◌≡◌, [], ◌∷◌, true, false, Err, if◌then◌else◌};
 ghost use Rattle.index_region.specs.declared.delta.Delta.TheVariants.{Same, Whole as WholeDelta};
 ghost use Rattle.sum_rules.specs.Totals.{total_rule};
 ghost use Rattle.formula_core.specs.Inputs.{shown, delta_of, HasFit, IsOperationChange};
 ghost use Rattle.formula_core.specs.Rules.{right_rule, both_rule};
-ghost use Rattle.formula_core.specs.Sums.{is_total as is_sum, IsSummedFor};
+ghost use Rattle.formula_core.specs.Stages.{AreTotalsJoined};
+ghost use Rattle.formula_core.specs.Sums.{is_total as is_sum, IsSummedFor, AreSumsKept};
 
 use crate::input::Input;
 use crate::refreshing::Operation;
@@ -15,7 +16,7 @@ use arrays_core::{Array, Fault};
 use change_core::Meter;
 use index_region::Delta;
 use std::alloc::{AllocError, Global};
-use sum_rules::{LineSums, refresh_sums_with_cost};
+use sum_rules::{LineSums, fold_totals_with_cost, refresh_totals_with_cost};
 
 /// The change of a function of its right argument, and what it costs; beside an error it is that error.
 fn change_of_right(
@@ -26,7 +27,8 @@ fn change_of_right(
     meter: &mut Meter,
 ) -> Result<(Delta, u32), AllocError>
     requires { HasFit right.now }
-    ensures { IsOperationChange (right_rule function) (right.now ∷ []) held.now meter.old.ticks meter.new.ticks result }
+    ensures change { IsOperationChange (right_rule function) (right.now ∷ []) held.now meter.old.ticks meter.new.ticks result }
+    ensures joins { meter.new.joins ≡ meter.old.joins }
 {
     match right {
         Input::Good(array, delta) => {
@@ -43,7 +45,7 @@ fn change_of_right(
 }
 
 /// The change of a function of one argument, and what it costs. Of a total whose argument has sums of its lines kept, it is
-/// found by these.
+/// found by these. Only totals join sums.
 pub(crate) fn change_of_monad(
     alloc: Global,
     function: Monadic,
@@ -54,30 +56,37 @@ pub(crate) fn change_of_monad(
 ) -> Result<(Delta, u32), AllocError>
     requires fit { HasFit right.now }
     requires kept { is_sum function ≡ true → IsSummedFor (shown right.now) (delta_of right.now) kept.now }
-    ensures { IsOperationChange (right_rule function) (right.now ∷ []) held.now meter.old.ticks meter.new.ticks result }
+    ensures change { IsOperationChange (right_rule function) (right.now ∷ []) held.now meter.old.ticks meter.new.ticks result }
+    ensures joins { is_sum function ≡ true → AreSumsKept (shown right.now) (delta_of right.now) kept.now → AreTotalsJoined right.now held.now meter.old.joins meter.new.joins result }
+    ensures no_joins { is_sum function ≡ false → meter.new.joins ≡ meter.old.joins }
 {
-    match kept {
-        Some(sums) if is_total(function) => change_of_total(alloc, right, sums, held, meter),
-        _ => change_of_right(alloc, function, right, held, meter),
+    if is_total(function) {
+        return change_of_total(alloc, right, kept, held, meter);
     }
+    change_of_right(alloc, function, right, held, meter)
 }
 
-/// The change of a total, and what it costs, where the sums of the argument's lines are kept; beside an error it is that error.
+/// The change of a total, and what it costs: by the sums of the argument's lines where these are kept, else the lines are summed up;
+/// beside an error it is that error.
 fn change_of_total(
     alloc: Global,
     right: &Input,
-    sums: &LineSums,
+    kept: &Option<LineSums>,
     held: &Result<Array, Fault>,
     meter: &mut Meter,
 ) -> Result<(Delta, u32), AllocError>
     requires fit { HasFit right.now }
-    requires kept { IsSummedFor (shown right.now) (delta_of right.now) (Some sums.now) }
-    ensures { IsOperationChange total_rule (right.now ∷ []) held.now meter.old.ticks meter.new.ticks result }
+    requires kept { IsSummedFor (shown right.now) (delta_of right.now) kept.now }
+    ensures change { IsOperationChange total_rule (right.now ∷ []) held.now meter.old.ticks meter.new.ticks result }
+    ensures joins { AreSumsKept (shown right.now) (delta_of right.now) kept.now → AreTotalsJoined right.now held.now meter.old.joins meter.new.joins result }
 {
     match right {
         Input::Good(array, delta) => {
             let arg = (array.again(), *delta);
-            refresh_sums_with_cost(alloc, arg, held, sums.trees(), meter)
+            match kept {
+                Some(sums) => refresh_totals_with_cost(alloc, arg, held, sums.trees(), meter),
+                None => fold_totals_with_cost(alloc, arg, held, meter),
+            }
         }
         Input::Bad { .. } => {
             let total = Monadic::Reduce(ScalarDyad::Plus, Along::Last);
@@ -97,7 +106,8 @@ pub(crate) fn change_of_both(
 ) -> Result<(Delta, u32), AllocError>
     requires left { HasFit left.now }
     requires right { HasFit right.now }
-    ensures { IsOperationChange (both_rule function) (left.now ∷ right.now ∷ []) held.now meter.old.ticks meter.new.ticks result }
+    ensures change { IsOperationChange (both_rule function) (left.now ∷ right.now ∷ []) held.now meter.old.ticks meter.new.ticks result }
+    ensures joins { meter.new.joins ≡ meter.old.joins }
 {
     let stay = left.stays() && right.stays();
     match (left, right) {

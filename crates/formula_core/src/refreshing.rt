@@ -43,7 +43,8 @@ impl<'a> Operation<'a> {
         requires count { length self.now.args.now ≡ length (R.model rule.now).selectors }
         requires fit { AllFit (views self.now.args.now) (moved self.now.args.now) }
         requires axes { HasAxis self.now.args.now }
-        ensures { IsRefreshed (R.model rule.now) self.now.args.now self.now.held.now meter.old.ticks meter.new.ticks result }
+        ensures refreshed { IsRefreshed (R.model rule.now) self.now.args.now self.now.held.now meter.old.ticks meter.new.ticks result }
+        ensures joins { meter.new.joins ≡ meter.old.joins }
     {
         refresh_with_cost(self.alloc, rule, self.args, self.held, meter)
     }
@@ -57,7 +58,8 @@ impl<'a> Operation<'a> {
         requires count { length self.now.args.now ≡ 1 }
         requires fit { AllFit (views self.now.args.now) (moved self.now.args.now) }
         requires axes { HasAxis self.now.args.now }
-        ensures { IsRefreshed (right_rule function) self.now.args.now self.now.held.now meter.old.ticks meter.new.ticks result }
+        ensures refreshed { IsRefreshed (right_rule function) self.now.args.now self.now.held.now meter.old.ticks meter.new.ticks result }
+        ensures joins { meter.new.joins ≡ meter.old.joins }
     {
         match function {
             Monadic::Scalar(scalar) => self.by(&each_item(scalar), meter),
@@ -90,7 +92,8 @@ impl<'a> Operation<'a> {
         requires count { length self.now.args.now ≡ 2 }
         requires fit { AllFit (views self.now.args.now) (moved self.now.args.now) }
         requires axes { HasAxis self.now.args.now }
-        ensures { IsRefreshed (both_rule function) self.now.args.now self.now.held.now meter.old.ticks meter.new.ticks result }
+        ensures refreshed { IsRefreshed (both_rule function) self.now.args.now self.now.held.now meter.old.ticks meter.new.ticks result }
+        ensures joins { meter.new.joins ≡ meter.old.joins }
     {
         match function {
             Dyadic::Scalar(scalar) => self.by(&between_items(scalar), meter),
@@ -129,7 +132,8 @@ impl<'a> Operation<'a> {
         requires count { length self.now.args.now ≡ suc (count_written written.now) }
         requires fit { AllFit (views self.now.args.now) (moved self.now.args.now) }
         requires axes { HasAxis self.now.args.now }
-        ensures { IsRefreshed (index_rule written.now) self.now.args.now self.now.held.now meter.old.ticks meter.new.ticks result }
+        ensures refreshed { IsRefreshed (index_rule written.now) self.now.args.now self.now.held.now meter.old.ticks meter.new.ticks result }
+        ensures joins { meter.new.joins ≡ meter.old.joins }
     {
         let function = Index { written };
         self.by(&SelectionRule { function }, meter)

@@ -9,8 +9,9 @@ ghost use Rattle.formula_core.specs.Meaning.{eval};
 ghost use Rattle.formula_core.specs.Changes.{Change, IsNameChanged};
 ghost use Rattle.formula_core.specs.Inputs.{HasFit, AllHaveFit, IsInput};
 ghost use Rattle.formula_core.specs.Holdings.{holdings_of, not_worked_out, AllFit};
+ghost use Rattle.formula_core.specs.Joins.{most_joins, least_joins};
 ghost use Rattle.formula_core.specs.Plans.{node_change, node_cost_at};
-ghost use Rattle.formula_core.specs.Stages.{IsStaged, StagedBy, IsKeptBy, IsTaken, IsReady, AreReady, IsStep, IsDone, IsSumsStep};
+ghost use Rattle.formula_core.specs.Stages.{IsStaged, StagedBy, IsKeptBy, IsTaken, IsReady, AreReady, IsStep, IsJoined, IsDone, IsSumsStep};
 ghost use Rattle.formula_core.specs.Sums.{summed_at};
 ghost use Rattle.formula_core.specs.Tables.{IsOperand, AreOperands, IsNode, tree_at, tree_of_operand, tree_of_node};
 
@@ -91,6 +92,10 @@ impl<'a> Stage<'a> {
             → meter.new.ticks ≤ meter.old.ticks + node_cost_at self.now.is_new c (tree_at trees (length self.now.changes.now)) }
         ensures least { IfOk result (λ r. is_error r.0.delta ≡ false → ticked meter.old.ticks r.1 ≤ meter.new.ticks) }
         ensures rises { meter.old.ticks ≤ meter.new.ticks }
+        ensures joins { (c : Change) → (names : List (List ℕ)) → (trees : List Tree) → IsStaged c names trees self.now
+            → meter.new.joins ≤ meter.old.joins + most_joins self.now.is_new c (tree_at trees (length self.now.changes.now)) }
+        ensures joined { IfOk result (λ r. (c : Change) → (names : List (List ℕ)) → (trees : List Tree) → IsStaged c names trees self.now → is_error r.0.delta ≡ false
+            → ticked meter.old.joins (least_joins self.now.is_new c (tree_at trees (length self.now.changes.now))) ≤ meter.new.joins) }
     {
         let kept = &self.nodes[self.changes.len()];
         outcome_is_array(&kept.result);
@@ -112,9 +117,12 @@ impl<'a> Stage<'a> {
         requires staged { StagedBy self.now }
         requires kept { IsKeptBy self.now node.now kept.now }
         requires anew { is_whole self.now.anew.now ≡ true }
-        ensures { (c : Change) → (names : List (List ℕ)) → (trees : List Tree) → IsStaged c names trees self.now
+        ensures step { (c : Change) → (names : List (List ℕ)) → (trees : List Tree) → IsStaged c names trees self.now
             → (self.now.is_new ≡ false → held.now ≡ eval (tree_of_node names trees node.now) c.old)
             → IsStep self.now.is_new c (tree_of_node names trees node.now) meter.old.ticks meter.new.ticks result }
+        ensures joins { (c : Change) → (names : List (List ℕ)) → (trees : List Tree) → IsStaged c names trees self.now
+            → (self.now.is_new ≡ false → held.now ≡ eval (tree_of_node names trees node.now) c.old)
+            → IsJoined self.now.is_new c (tree_of_node names trees node.now) meter.old.joins meter.new.joins result }
     {
         match node {
             Node::Constant(literal) => Ok((self.change_of_literal(literal)?, 0)),

@@ -5,6 +5,7 @@ pub mod Scan
 pub mod OuterProduct
 pub mod InnerProduct
 pub mod SumTree
+pub mod SumTrees
 -- What proofs and bodies use.
 pub mod Strides
 pub mod Columns
@@ -14,3 +15,4 @@ pub mod RowByColumn
 pub mod ResultTable
 pub mod Sum
 pub mod SumNodes
+pub mod LineTrees

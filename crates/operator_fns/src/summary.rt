@@ -1,137 +1,166 @@
-//! What is kept of neighbouring numbers, so that the sum of a longer list is known without them.
+//! What is kept of the sums of neighbouring numbers, so that the sum of a longer list is known without them.
 
-ghost use Rattle.std.specs.Prelude.{◌≡◌, ℕ, ◌+◌, ◌^◌, ◌<◌, length, IfSome};
-ghost use Rattle.operator_fns.specs.SumNodes.{none as none_of, single as single_of, join as join_of, summary_of, widened as widened_of, sum_told, IsOrdered, IsWithin};
+ghost use Rattle.std.specs.Prelude.{◌≡◌, ◌+◌, ◌^◌, ◌<◌, ◌≤◌, ℤ, pos, ◌+ℤ◌, ◌-ℤ◌, ◌≤ℤ◌, neg_ℤ};
+ghost use Rattle.std.specs.Int.{int_wrap, w64};
+ghost use Rattle.operator_fns.specs.SumNodes.{Sums, IsOrdered, Tells, told, none as none_of, single as single_of, join as join_of, sum_told};
 
 use arrays_core::Kind;
 
-/// The total of a list of numbers, and the least and the greatest sum of an ending of it. The ending of
-/// no numbers is one of them, and its sum is 0.
+/// The bits of a number are lost from there on.
+const ALL: i128 = 1 << 64;
+
+/// How far the sums of the endings of a list of numbers go below 0 and above it, and how far its total is above the
+/// least of them. The ending of no numbers is one of them, and its sum is 0. Where the least and the greatest are 2 to the
+/// power 64 apart or more, no list that has these numbers in it sums up within 64 bits, whatever comes after them: then the
+/// first two fields are together as great, and tell no more.
 #[derive(Clone, Copy)]
 pub(crate) struct Summary {
-    total: i128,
-    least: i128,
-    greatest: i128,
+    below: u64,
+    above: u64,
+    total: u64,
 }
 
-/// A `Summary` each of whose numbers is within 64 bits.
-#[derive(Clone, Copy)]
-struct Narrow {
-    total: i64,
-    least: i64,
-    greatest: i64,
-}
-
-impl Narrow {
-    /// That of the list with one number before it; none where the total leaves 64 bits.
-    fn after(&self, number: i64) -> Option<Narrow>
-        requires { IsOrdered (widened_of self.now) }
-        ensures { IfSome result (λ s. widened_of s ≡ join_of (single_of number) (widened_of self.now)) }
-    {
-        let total = self.total.checked_add(number)?;
-        Some(Narrow {
-            total,
-            least: self.least.min(total),
-            greatest: self.greatest.max(total),
-        })
-    }
-
-    /// That of a list; none where the sum of an ending leaves 64 bits.
-    fn of(numbers: &[i64]) -> Option<Narrow>
-        ensures { IfSome result (λ s. widened_of s ≡ summary_of numbers.now) }
-    {
-        let mut narrow = Narrow {
-            total: 0,
-            least: 0,
-            greatest: 0,
-        };
-        for place in (0..numbers.len()).rev() {
-            narrow = narrow.after(numbers[place])?;
+/// The sum of two numbers, of which this is left in 64 bits.
+fn sum_of_two(left: i64, right: i64, sum: i64) -> i128
+    requires { sum ≡ int_wrap w64 (left +ℤ right) }
+    ensures { result ≡ left +ℤ right }
+{
+    if left < 0 {
+        if right < 0 {
+            return i128::from(sum.cast_unsigned()) - ALL;
         }
-        Some(narrow)
+    } else if right >= 0 {
+        return i128::from(sum.cast_unsigned());
     }
-
-    /// The summary, in as many bits as the sum of a longer list takes.
-    fn widened(&self) -> Summary
-        ensures { result ≡ widened_of self.now }
-    {
-        Summary {
-            total: i128::from(self.total),
-            least: i128::from(self.least),
-            greatest: i128::from(self.greatest),
-        }
-    }
+    i128::from(sum)
 }
 
 impl Summary {
     /// That of no numbers.
     pub(crate) fn none() -> Summary
-        ensures { result ≡ none_of }
+        ensures { Tells result none_of }
     {
         Summary {
+            below: 0,
+            above: 0,
             total: 0,
-            least: 0,
-            greatest: 0,
         }
     }
 
-    /// That of a list, of few numbers mostly: in 64 bits where its sums keep to them, which takes less time.
-    pub(crate) fn of(numbers: &[i64]) -> Summary
-        ensures { result ≡ summary_of numbers.now }
+    /// That of one number.
+    pub(crate) fn of(number: i64) -> Summary
+        ensures { Tells result (single_of number) }
     {
-        match Narrow::of(numbers) {
-            Some(narrow) => narrow.widened(),
-            None => Summary::none().after_all(numbers),
+        let size = number.unsigned_abs();
+        if number < 0 {
+            Summary {
+                below: size,
+                above: 0,
+                total: 0,
+            }
+        } else {
+            Summary {
+                below: 0,
+                above: size,
+                total: size,
+            }
         }
     }
 
-    /// That of the list with one number before it.
-    pub(crate) fn after(&self, number: i64) -> Summary
-        requires { (n : ℕ) × IsWithin n self.now × (n < 2 ^ 63) }
-        ensures { result ≡ join_of (single_of number) self.now }
+    /// That of two numbers: of the second one, and of one before it of which the sum with it is given, as far as 64 bits hold that.
+    pub(crate) fn of_pair(sum: i64, right: i64) -> Summary
+        ensures { Tells result (join_of (single_of (int_wrap w64 (sum -ℤ right))) (single_of right)) }
     {
-        let total = self.total + i128::from(number);
+        if let Some(_left) = sum.checked_sub(right) {
+            return Summary::of_narrow(sum, sum.min(right).min(0), sum.max(right).max(0));
+        }
+        let left = sum.wrapping_sub(right);
+        let total = sum_of_two(left, right, sum);
+        let later = i128::from(right);
+        Summary::of_sums(total, total.min(later).min(0), total.max(later).max(0))
+    }
+
+    /// That of a list with this total, and with this least and greatest sum of an ending, where they are within 64 bits.
+    fn of_narrow(total: i64, least: i64, greatest: i64) -> Summary
+        requires { IsOrdered (record { total = total; least = least; greatest = greatest }) }
+        ensures { Tells result (record { total = total; least = least; greatest = greatest }) }
+    {
         Summary {
-            total,
-            least: self.least.min(total),
-            greatest: self.greatest.max(total),
+            below: least.unsigned_abs(),
+            above: greatest.unsigned_abs(),
+            total: (i128::from(total) - i128::from(least)) as u64,
         }
     }
 
-    /// That of the list with other numbers before it.
-    pub(crate) fn after_all(&self, earlier: &[i64]) -> Summary
-        requires { (n : ℕ) × IsWithin n self.now × (n + length earlier.now < 2 ^ 63) }
-        ensures { result ≡ join_of (summary_of earlier.now) self.now }
+    /// That of a list with this total, and with this least and greatest sum of an ending.
+    fn of_sums(total: i128, least: i128, greatest: i128) -> Summary
+        requires ordered { IsOrdered (record { total = total; least = least; greatest = greatest }) }
+        requires low { neg_ℤ (pos 73786976294838206464) ≤ℤ least }
+        requires high { greatest ≤ℤ pos 73786976294838206464 }
+        ensures { Tells result (record { total = total; least = least; greatest = greatest }) }
     {
-        let mut summary = *self;
-        for place in (0..earlier.len()).rev() {
-            summary = summary.after(earlier[place]);
+        if greatest - least >= ALL {
+            return Summary {
+                below: u64::MAX,
+                above: u64::MAX,
+                total: 0,
+            };
         }
-        summary
+        Summary {
+            below: (-least) as u64,
+            above: greatest as u64,
+            total: (total - least) as u64,
+        }
     }
 
-    /// That of a list and of a later one after it.
+    /// The total that it tells.
+    fn total(&self) -> i128
+        ensures is { result ≡ (told self.now).total }
+        ensures low { neg_ℤ (pos 18446744073709551616) ≤ℤ result }
+        ensures high { result ≤ℤ pos 18446744073709551616 }
+    {
+        i128::from(self.total) - i128::from(self.below)
+    }
+
+    /// The least sum of an ending that it tells.
+    fn least(&self) -> i128
+        ensures is { result ≡ (told self.now).least }
+        ensures low { neg_ℤ (pos 18446744073709551616) ≤ℤ result }
+        ensures high { result ≤ℤ pos 0 }
+    {
+        -i128::from(self.below)
+    }
+
+    /// The greatest sum of an ending that it tells.
+    fn greatest(&self) -> i128
+        ensures is { result ≡ (told self.now).greatest }
+        ensures low { pos 0 ≤ℤ result }
+        ensures high { result ≤ℤ pos 18446744073709551616 }
+    {
+        i128::from(self.above)
+    }
+
+    /// That of a list and of a later one after it. Where the sums of one of them are too far apart, those of both are.
     pub(crate) fn join(&self, later: &Summary) -> Summary
-        requires here { (n : ℕ) × IsWithin n self.now × (n < 2 ^ 63) }
-        requires later { (n : ℕ) × IsWithin n later.now × (n < 2 ^ 63) }
-        ensures { result ≡ join_of self.now later.now }
+        requires here { (sums : Sums) × Tells self.now sums }
+        requires later { (sums : Sums) × Tells later.now sums }
+        ensures { (earlier : Sums) → (rest : Sums) → Tells self.now earlier → Tells later.now rest → Tells result (join_of earlier rest) }
     {
-        Summary {
-            total: self.total + later.total,
-            least: later.least.min(self.least + later.total),
-            greatest: later.greatest.max(self.greatest + later.total),
-        }
+        let shift = later.total();
+        let least = (self.least() + shift).min(later.least());
+        let greatest = (self.greatest() + shift).max(later.greatest());
+        Summary::of_sums(self.total() + shift, least, greatest)
     }
 
-    /// The sum of the list from its last number to its first, or LIMIT where that leaves 64 bits on its
-    /// way: where the sum of an ending does.
+    /// The sum of the list from its last number to its first, or LIMIT where that leaves 64 bits on its way: where the sum of an
+    /// ending does.
     pub(crate) fn sum(&self) -> Result<i64, Kind>
-        requires { (n : ℕ) × IsWithin n self.now }
-        ensures { result ≡ sum_told self.now }
+        requires { (sums : Sums) × Tells self.now sums }
+        ensures { (sums : Sums) → Tells self.now sums → result ≡ sum_told sums }
     {
-        if i64::try_from(self.least).is_err() || i64::try_from(self.greatest).is_err() {
+        if self.below > 1 << 63 || self.above >= 1 << 63 {
             return Err(Kind::Limit);
         }
-        Ok(self.total as i64)
+        Ok(self.total() as i64)
     }
 }

@@ -7,9 +7,9 @@ use crate::fixtures::{patch_of, tail_of};
 use arrays_core::{Array, Fault, Item, Kind, is_within_limits, shape_of, size};
 use change_core::Meter;
 use index_region::{Delta, Patch, Seen};
-use operator_fns::SumTree;
+use operator_fns::SumTrees;
 use std::alloc::Global;
-use sum_rules::{LineSums, NewLines, keeps_sums, refresh_sums};
+use sum_rules::{LineSums, NewLines, keeps_sums, refresh_sums, refresh_totals_with_cost};
 
 /// The array of some numbers, and after them others that are all alike.
 fn array_of(alloc: Global, axes: &[u32], first: &[i64], others: i64) -> Option<Array> {
@@ -19,6 +19,21 @@ fn array_of(alloc: Global, axes: &[u32], first: &[i64], others: i64) -> Option<A
     let mut numbers = first.to_vec(alloc).ok()?;
     numbers.resize(size(axes) as usize, others).ok()?;
     Array::from_numbers(&shape_of(alloc, axes), numbers).ok()
+}
+
+/// What a name without a value shows.
+fn no_value() -> Fault {
+    Fault {
+        kind: Kind::Value,
+        origin: None,
+    }
+}
+
+/// The sums of the lines of an array, where these are kept.
+fn sums_of(alloc: Global, array: &Array) -> Option<LineSums>
+    ensures { IfSome result (λ sums. sums ≡ array.now) }
+{
+    LineSums::of(alloc, &Seen::plain(array)).ok()?
 }
 
 /// The change of the totals of an array over which a patch is laid, by the trees of its lines; none where there are
@@ -35,9 +50,10 @@ fn totals_with(
     if !patch.region().lies_in(array.shape().as_slice()) || patch.item_type() != array.item_type() {
         return None;
     }
-    let sums = LineSums::of(alloc, &Seen::plain(array)).ok()??;
+    let sums = sums_of(alloc, array)?;
     let arg = (Seen::patched(array, patch), moved);
-    refresh_sums(alloc, arg, shown, sums.trees(), meter).ok()
+    let (delta, _) = refresh_totals_with_cost(alloc, arg, shown, sums.trees(), meter).ok()?;
+    Some(delta)
 }
 
 /// The change of the totals of an array, if it is there, of which a box has these numbers now.
@@ -116,6 +132,28 @@ fn a_column_gives_each_line_one_new_number(rt: HostRuntime) {
     }
 }
 
+/// How many sums are joined for the totals of an array that is new, and how many totals are worked out.
+fn joins_anew(alloc: Global, array: Option<Array>) -> Option<(u64, u64)> {
+    let array = array?;
+    let anew = Delta::Whole(Err(no_value()));
+    let old = Err(no_value());
+    let mut meter = Meter::new();
+    if array.shape().as_slice().is_empty() {
+        return None;
+    }
+    let arg = (Seen::plain(&array), &anew);
+    let _change = refresh_sums(alloc, arg, &old, &[], &mut meter).ok()?;
+    Some((meter.joins(), meter.ticks()))
+}
+
+#[test]
+fn a_line_that_is_summed_up_joins_all_its_numbers(rt: HostRuntime) {
+    let three = array_of(rt.alloc(), &[2, 3], &[], 1);
+    assert_eq!(rt; joins_anew(rt.alloc(), three), Some((4, 2)));
+    let long = array_of(rt.alloc(), &[5, 20], &[], 1);
+    assert_eq!(rt; joins_anew(rt.alloc(), long), Some((95, 5)));
+}
+
 #[test]
 fn several_numbers_of_a_line_are_summed_up_with_it(rt: HostRuntime) {
     let ones = array_of(rt.alloc(), &[3, 20], &[], 1);
@@ -129,7 +167,7 @@ fn several_numbers_of_a_line_are_summed_up_with_it(rt: HostRuntime) {
     );
     assert_eq!(rt; item_in(delta, &[2]), Some(Item::Num(77)));
     assert_eq!(rt; meter.ticks(), 1);
-    assert_eq!(rt; meter.joins(), 0);
+    assert_eq!(rt; meter.joins(), 19);
 }
 
 /// Of how many lines of an array the sums are kept, if of any; none at all where the array is not there.
@@ -144,27 +182,35 @@ fn lines_kept(alloc: Global, array: Option<Array>) -> Option<Option<usize>> {
 #[test]
 fn sums_are_kept_of_long_lines_of_numbers(rt: HostRuntime) {
     let alloc = rt.alloc();
-    let short = array_of(alloc, &[20, 16], &[], 1);
+    let short = array_of(alloc, &[20, 3], &[], 1);
     assert_eq!(rt; lines_kept(alloc, short), Some(None));
     let text = Array::character(alloc, 'a').ok();
     assert_eq!(rt; lines_kept(alloc, text), Some(None));
-    let long = array_of(alloc, &[2, 17], &[], 1);
+    let long = array_of(alloc, &[2, 4], &[], 1);
     assert_eq!(rt; lines_kept(alloc, long), Some(Some(2)));
 }
 
-/// The totals of two lines.
-fn both_totals(sums: &[SumTree]) -> Option<(i64, i64)> {
-    match sums {
-        [first, second] => Some((first.result().ok()?, second.result().ok()?)),
-        _ => None,
+/// The total of a line, if there are so many.
+fn total_in(sums: &SumTrees, line: usize) -> Option<i64> {
+    if line >= sums.len() {
+        return None;
     }
+    sums.result(line).ok()
+}
+
+/// The totals of two lines.
+fn both_totals(sums: &SumTrees) -> Option<(i64, i64)> {
+    if sums.len() != 2 {
+        return None;
+    }
+    Some((total_in(sums, 0)?, total_in(sums, 1)?))
 }
 
 /// The totals of the two lines of an array after a patch is written into their sums.
 fn totals_after(alloc: Global, array: &Array, patch: &Patch) -> Option<(i64, i64)>
     requires { FitsPatch array.now patch.now }
 {
-    let mut sums = LineSums::of(alloc, &Seen::plain(array)).ok()??;
+    let mut sums = sums_of(alloc, array)?;
     sums.write(patch);
     both_totals(sums.trees())
 }
@@ -196,11 +242,13 @@ fn grow_both(alloc: Global, array: &mut Array, sums: &mut LineSums, numbers: &[i
 }
 
 /// The totals of the lines of an array are those that these trees tell.
-fn tells_totals(alloc: Global, array: &Array, sums: &[SumTree]) -> Option<bool> {
-    let whole = LineSums::of(alloc, &Seen::plain(array)).ok()??;
-    let same = whole.trees().len() == sums.len();
-    let mut lines = whole.trees().iter().zip(sums);
-    Some(same && lines.all(|(line, sum)| line.result() == sum.result()))
+fn tells_totals(alloc: Global, array: &Array, sums: &SumTrees) -> Option<bool> {
+    let whole = sums_of(alloc, array)?;
+    let mut same = whole.trees().len() == sums.len();
+    for line in 0..sums.len() {
+        same = same && total_in(whole.trees(), line) == total_in(sums, line);
+    }
+    Some(same)
 }
 
 /// Three lines of twenty ones with their sums, which four lines of greater numbers are put behind.
@@ -208,7 +256,7 @@ fn seven_lines(alloc: Global) -> Option<(Array, LineSums)>
     ensures { IfSome result (λ r. r.1 ≡ r.0) }
 {
     let mut array = array_of(alloc, &[3, 20], &[], 1)?;
-    let mut sums = LineSums::of(alloc, &Seen::plain(&array)).ok()??;
+    let mut sums = sums_of(alloc, &array)?;
     grow_both(alloc, &mut array, &mut sums, &[2; 20])?;
     grow_both(alloc, &mut array, &mut sums, &[3; 20])?;
     grow_both(alloc, &mut array, &mut sums, &[4; 20])?;
@@ -220,8 +268,8 @@ fn seven_lines(alloc: Global) -> Option<(Array, LineSums)>
 fn totals_of_seven(alloc: Global) -> Option<Vec<i64>> {
     let (_, sums) = seven_lines(alloc)?;
     let mut totals = Vec::new(alloc);
-    for line in sums.trees() {
-        totals.push(line.result().ok()?).ok()?;
+    for line in 0..sums.trees().len() {
+        totals.push(total_in(sums.trees(), line)?).ok()?;
     }
     Some(totals)
 }

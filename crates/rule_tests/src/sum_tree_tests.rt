@@ -15,7 +15,7 @@ fn sum_from_the_right(numbers: &[i64]) -> Result<i64, Kind> {
 }
 
 /// Whether a tree answers what its list does, while each number of a row is replaced in turn, and joins
-/// no more summaries than that for it. In a long row it is asked at both ends of each run only.
+/// no more summaries than that for it, and some where there are two numbers. In a long row it is asked at some places only.
 fn agrees(alloc: Global, row: &[i64], other: i64, most_joins: u32) -> Result<bool, AllocError> {
     let mut numbers = row.to_vec(alloc)?;
     let mut tree = SumTree::build(alloc, row)?;
@@ -23,7 +23,7 @@ fn agrees(alloc: Global, row: &[i64], other: i64, most_joins: u32) -> Result<boo
     for place in 0..row.len() {
         if place < numbers.len() && place < tree.len() {
             let (wanted, joins) = tree.result_with(place, other);
-            agrees = agrees && joins <= most_joins;
+            agrees = agrees && joins <= most_joins && (joins > 0 || row.len() < 2);
             numbers[place] = other;
             tree.set(place, other);
             if row.len() <= 100 || place % 16 == 0 || place % 16 == 15 {
@@ -33,6 +33,19 @@ fn agrees(alloc: Global, row: &[i64], other: i64, most_joins: u32) -> Result<boo
         }
     }
     Ok(agrees)
+}
+
+/// How many summaries are joined at most where one number of so many is replaced.
+fn greatest_count(alloc: Global, length: usize) -> Result<u32, AllocError> {
+    let tree = SumTree::build(alloc, &small_numbers(alloc, length)?)?;
+    let mut greatest = 0;
+    for place in 0..length {
+        if place < tree.len() {
+            let (_, joins) = tree.result_with(place, 7);
+            greatest = greatest.max(joins);
+        }
+    }
+    Ok(greatest)
 }
 
 /// Numbers from ¯999 to 999 in no order.
@@ -102,7 +115,7 @@ fn trees_of_all_lengths_agree_with_their_lists(rt: HostRuntime) -> Result<(), Fa
 }
 
 #[test]
-fn trees_of_several_runs_agree_with_their_lists(rt: HostRuntime) -> Result<(), Fail> {
+fn trees_of_long_lists_agree_with_their_lists(rt: HostRuntime) -> Result<(), Fail> {
     for length in [0, 1, 15, 16, 17, 31, 32, 33, 64, 65, 100, 1000] {
         let row = small_numbers(rt.alloc(), length)?;
         assert!(rt; agrees(rt.alloc(), &row, 7, 10)?);
@@ -113,14 +126,22 @@ fn trees_of_several_runs_agree_with_their_lists(rt: HostRuntime) -> Result<(), F
 }
 
 #[test]
-fn the_runs_of_a_long_list_are_joined(rt: HostRuntime) -> Result<(), Fail> {
-    let row = small_numbers(rt.alloc(), 1000)?;
-    let tree = SumTree::build(rt.alloc(), &row)?;
-    if 500 < tree.len() {
-        let (_, joins) = tree.result_with(500, 7);
-        assert!(rt; 1 <= joins);
-        assert!(rt; joins <= 10);
+fn one_number_takes_as_many_joins_as_the_length_less_one_has_binary_digits(
+    rt: HostRuntime,
+) -> Result<(), Fail> {
+    for (length, joins) in [
+        (1, 0),
+        (2, 1),
+        (3, 2),
+        (4, 2),
+        (5, 3),
+        (8, 3),
+        (9, 4),
+        (17, 5),
+        (1024, 10),
+        (1025, 11),
+    ] {
+        assert_eq!(rt; greatest_count(rt.alloc(), length)?, joins);
     }
-    assert_eq!(rt; tree.len(), 1000);
     Ok(())
 }

@@ -61,7 +61,7 @@ module _ (sums : List (List ℤ)) (a : ArrayValue) (p : PatchValue) (stand : Sta
   as_many_axes = fits_length p.region a.shape fit.inside
 
   some_axes : 0 < length a.shape
-  some_axes = has_axes a.shape (let long = stand.long in omega arith)
+  some_axes = has_axes a.shape (let some = stand.some in omega arith)
 
   shape_is : a.shape ≡ others ++ n ∷ []
   shape_is = without_last a.shape 0 some_axes
@@ -123,7 +123,7 @@ module _ (sums : List (List ℤ)) (a : ArrayValue) (p : PatchValue) (stand : Sta
     -- there is a tree for the line
     tree_there : which < length sums
     tree_there =
-        let place : places_before a.shape (insert index axis 1) < size a.shape = places_below a.shape (insert index axis 1) (inside_shape 1 (omega arith) (let l = stand.long in omega arith)) in
+        let place : places_before a.shape (insert index axis 1) < size a.shape = places_below a.shape (insert index axis 1) (inside_shape 1 (omega arith) (let l = stand.some in omega arith)) in
         let many : size a.shape ≡ length sums * n =
         sym stand.sound.one_item_a_place ∙ ap (λ (b : ArrayValue). length b.items) stand.is ∙ length-map (all_numbers sums) (λ (y : ℤ). Num y) ∙ long in
         elim (cases_lt which (length sums)) [

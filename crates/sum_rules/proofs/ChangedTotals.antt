@@ -12,7 +12,7 @@ use Rattle.index_region.specs.Patches.{PatchValue, patched}
 use Rattle.index_region.proofs.Boxes.{fits_length}
 use Rattle.operator_fns.specs.Reduce.{reduce_form, reduce_item}
 use Rattle.operator_fns.proofs.Reduced.{reduce_facts}
-use Rattle.change_core.specs.declared.reach.Reach.TheVariants.{Inside}
+use Rattle.change_core.specs.declared.reach.Reach.TheVariants.{Inside, Unmoved}
 use Rattle.change_core.specs.Parts.{items_in}
 use Rattle.change_core.specs.Reaches.{as_reach, reach_by, reach_of}
 use Rattle.change_core.proofs.Filling.{few_places}
@@ -53,6 +53,9 @@ module _ (sums : List (List ℤ)) (p : PatchValue) (now : ArrayValue) (stood : S
 
   pub reached_box : (region : List Interval) → Inside region ≡ reach_of total_rule (now ∷ []) (Some p.region ∷ []) → region ≡ lines_of p.region
   reached_box region is = let same = is ∙ reach_is in cc
+
+  pub some_reached : Unmoved ≡ reach_of total_rule (now ∷ []) (Some p.region ∷ []) → ⊥
+  some_reached is = let same = is ∙ reach_is in cc
 
   pub reached_size : reached_cost total_rule (now ∷ []) (Some p.region ∷ []) ≡ box_size p.region
   reached_size =

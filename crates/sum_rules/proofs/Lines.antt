@@ -1,8 +1,12 @@
 -- The numbers of lines that are all as long, one line after another.
-use Rattle.std.proofs.Common.{◌≡◌, ℕ, zero, suc, ◌+◌, ◌-◌, ◌*◌, ◌/◌, ◌%◌, ◌<◌, ◌≤◌, ℤ, List, [], ◌∷◌, ◌++◌, length, get_or, set, take, drop, ap, sym, ◌∙◌, arith}
-use Rattle.std.proofs.lemmas.List.{length-append, set-append_left, set-append_right, get_or_append_left, get_or-append_right, flat_map_more, take-take, drop-take, take-append-drop, drop_all}
-use Rattle.std.proofs.lemmas.List.Elements.{All-head, All-tail}
-use Rattle.std.proofs.Math.Nat.{mul-le-mul_right, mul-mod_left}
+use Rattle.std.proofs.Common.{◌≡◌, ℕ, zero, suc, ◌+◌, ◌-◌, ◌*◌, ◌/◌, ◌%◌, ◌<◌, ℤ, List, [], ◌∷◌, ◌++◌, length, map, pos, get_or, set, drop, ap, sym, ◌∙◌, arith}
+use Rattle.std.proofs.lemmas.List.{length-append, set-append_left, set-append_right, get_or_append_left, get_or-append_right, drop_all, ext_get_or}
+use Rattle.std.proofs.lemmas.List.Elements.{All-head, All-tail, All-map}
+use Rattle.std.proofs.lemmas.List.FromFn.{length-map-range_with_len, get_or-map-range_with_len}
+use Rattle.std.specs.List.{range_with_len}
+use Rattle.operator_fns.specs.LineTrees.{slot_of}
+use Rattle.operator_fns.specs.SumTrees.{lines_of, line_at}
+use Rattle.std.proofs.Math.Nat.{mul-mod_left}
 use Rattle.std.proofs.lemmas.Nat.{div-add-mod', mod_below, div_below}
 use Rattle.arrays_core.specs.Shapes.{size}
 use Rattle.operator_fns.proofs.Reduced.{sizes}
@@ -64,26 +68,6 @@ set_number count lines place none z h some below =
     set_at count lines (place / count) (place % count) none z h (line_there count lines place h some below) (mod_below place count some)
     ∙ ap (λ k. set (all_numbers lines) k z) (div-add-mod' place count)
 
--- the numbers of one line more
-pub one_line_more : (count line : ℕ) (lines : List (List ℤ)) (next numbers : List ℤ) → all_numbers lines ≡ take (line * count) numbers → next ≡ take count (drop (line * count) numbers)
-    → all_numbers (lines ++ next ∷ []) ≡ take ((line + 1) * count) numbers
-one_line_more count line lines next numbers so_far is =
-    let before = line * count in
-    let past : before + count ≡ (line + 1) * count = omega arith in
-    sym (flat_map_more (λ (l : List ℤ). l) [] lines next)
-    ∙ (λ i. so_far i ++ is i)
-    ∙ (λ i. sym (take-take before (before + count) numbers (omega arith)) i ++ sym (drop-take before count numbers) i)
-    ∙ take-append-drop before (take (before + count) numbers)
-    ∙ ap (λ k. take k numbers) past
-
--- a line lies in the numbers
-pub line_within : (count line many : ℕ) → 0 < count → line < many / count → line * count + count ≤ many
-line_within count line many some below =
-    let whole = div-add-mod' many count in
-    let most : (line + 1) * count ≤ many / count * count = mul-le-mul_right count (omega arith) in
-    let e : (line + 1) * count ≡ line * count + count = omega arith in
-    omega arith
-
 -- the lines along the last axis are all whole
 pub whole_lines : (shape : List ℕ) → 0 < last_length shape → size shape % last_length shape ≡ 0
 whole_lines [] h = absurd (omega arith)
@@ -94,3 +78,52 @@ whole_lines (n ∷ shape) h =
     let none : drop (suc axis) all ≡ [] = drop_all (suc axis) all (omega arith) in
     let alone : last_length all * size (drop (suc axis) all) ≡ last_length all = ap (λ (rest : List ℕ). last_length all * size rest) none ∙ omega arith in
     ap (λ k. k % last_length all) (parts.all ∙ ap (λ k. parts.lines * k) alone) ∙ mul-mod_left parts.lines (last_length all)
+
+-- ---- the lines of numbers that lie one after another
+
+-- each is as long
+pub each_as_long : (count : ℕ) (numbers : List ℤ) → AreAllAsLong count (lines_of count 1 numbers)
+each_as_long count numbers =
+    All-map (λ (l : List ℤ). length l ≡ count) (λ line. map (slot_of (line_at count 1 line) numbers) (range_with_len 0 count)) (range_with_len 0 (length numbers / count))
+    (λ k d h. length-map-range_with_len (slot_of (line_at count 1 (get_or (range_with_len 0 (length numbers / count)) k d)) numbers) 0 count)
+
+-- how many there are
+pub many_lines : (count : ℕ) (numbers : List ℤ) → length (lines_of count 1 numbers) ≡ length numbers / count
+many_lines count numbers = length-map-range_with_len (λ line. map (slot_of (line_at count 1 line) numbers) (range_with_len 0 count)) 0 (length numbers / count)
+
+-- together they are the numbers
+pub all_of_lines : (count : ℕ) (numbers : List ℤ) → 0 < count → length numbers % count ≡ 0 → all_numbers (lines_of count 1 numbers) ≡ numbers
+all_of_lines count numbers some whole =
+    ext_get_or (pos 0) (all_numbers lines) numbers long (λ k h.
+    let which = k / count in
+    let place = k % count in
+    let back : which * count + place ≡ k = div-add-mod' k count in
+    let inside : k < length numbers = omega (arith, long, h) in
+    let there : which < length numbers / count = div_below k count (length numbers / count) some (omega (arith, inside, all)) in
+    let below : place < count = mod_below k count some in
+    let same : which / 1 ≡ which = omega arith in
+    let unit : count * 1 ≡ count = omega arith in
+    let none : which % 1 ≡ 0 = omega arith in
+    let one : place * 1 ≡ place = omega arith in
+    let rest : which * count + 0 + place ≡ which * count + place = omega arith in
+    let at : which / 1 * (count * 1) + which % 1 + place * 1 ≡ which * count + place = (λ i. same i * unit i + none i + one i) ∙ rest in
+    ap (λ m. get_or (all_numbers lines) m (pos 0)) (sym back)
+    ∙ number_of_line count lines which place [] (pos 0) each (omega (arith, many, there)) below
+    ∙ ap (λ (l : List ℤ). get_or l place (pos 0)) (get_or-map-range_with_len (λ line. map (slot_of (line_at count 1 line) numbers) (range_with_len 0 count)) 0 (length numbers / count) which which [] there (omega arith))
+    ∙ get_or-map-range_with_len (slot_of (line_at count 1 which) numbers) 0 count place place (pos 0) below (omega arith)
+    ∙ ap (λ m. get_or numbers m (pos 0)) (at ∙ back))
+  where
+    lines : List (List ℤ)
+    lines = lines_of count 1 numbers
+
+    each : AreAllAsLong count lines
+    each = each_as_long count numbers
+
+    many : length lines ≡ length numbers / count
+    many = many_lines count numbers
+
+    all : length numbers / count * count ≡ length numbers
+    all = let e = div-add-mod' (length numbers) count in omega (arith, e, whole)
+
+    long : length (all_numbers lines) ≡ length numbers
+    long = length-all_numbers count lines each ∙ ap (λ n. n * count) many ∙ all

@@ -1,5 +1,5 @@
 -- Lines behind those of an array that grows.
-use Rattle.std.proofs.Common.{◌≡◌, ℕ, zero, suc, ◌+◌, ◌-◌, ◌*◌, ◌/◌, ◌%◌, ◌^◌, ◌<◌, ◌≤◌, ℤ, List, [], ◌∷◌, ◌++◌, length, get_or, map, drop, refl, ap, sym, subst, ◌∙◌, arith}
+use Rattle.std.proofs.Common.{◌≡◌, ℕ, suc, ◌+◌, ◌-◌, ◌*◌, ◌/◌, ◌%◌, ◌<◌, ℤ, List, [], ◌∷◌, ◌++◌, length, get_or, map, drop, refl, ap, sym, subst, ◌∙◌, arith}
 use Rattle.std.proofs.Math.Nat.{mul-div_cancel}
 use Rattle.std.proofs.lemmas.List.{length-append, length-map}
 use Rattle.std.proofs.lemmas.List.Elements.{All-append, All-map}
@@ -11,6 +11,7 @@ use Rattle.arrays_core.specs.Shapes.{size}
 use Rattle.arrays_core.proofs.Growing.{size_longer, rank_longer}
 use Rattle.index_region.specs.Tails.{FitsTail}
 use Rattle.sum_rules.specs.LineSums.{last_length, all_numbers, array_of, AreAllAsLong, StandFor}
+use Rattle.operator_fns.specs.SumTrees.{NewTreesValue}
 use Rattle.sum_rules.specs.NewLines.{line_count, lines_behind, AreNewLinesOf}
 use Rattle.sum_rules.proofs.Lines.{length-all_numbers, whole_lines}
 
@@ -48,52 +49,41 @@ distributed : (a b n : ℕ) → a * n + b * n ≡ (a + b) * n
 distributed a b n = omega arith
 
 -- an array of lines that grows by more of them
-module _ (old new : List ℕ) (lines more : List (List ℤ)) (capacity : ℕ) (stand : StandFor lines (array_of old lines)) (made : AreNewLinesOf new more capacity) (fits : FitsTail (array_of old lines) (lines_behind new more)) where
+module _ (old new : List ℕ) (lines : List (List ℤ)) (more : NewTreesValue) (stand : StandFor lines (array_of old lines)) (made : AreNewLinesOf new more) (fits : FitsTail (array_of old lines) (lines_behind new more.lines)) where
   axes : 1 < length old
   axes = let rank = ap length fits.shaped ∙ rank_longer old in let two = made.axes in omega arith
 
-  last : last_length new ≡ last_length old
+  pub last : last_length new ≡ last_length old
   last = ap last_length fits.shaped ∙ last_longer old axes
 
   old_places : size old ≡ length lines * last_length new
   old_places = sym stand.sound.one_item_a_place ∙ items_of_lines (last_length old) lines stand.one_tree_a_line ∙ ap (λ n. length lines * n) (sym last)
 
-  more_places : size (drop 1 old) ≡ length more * last_length new
-  more_places = sym fits.one_place ∙ items_of_lines (last_length new) more made.one_tree_a_line
+  more_places : size (drop 1 old) ≡ length more.lines * last_length new
+  more_places = sym fits.one_place ∙ items_of_lines (last_length new) more.lines made.one_tree_a_line
 
-  places : size new ≡ (length lines + length more) * last_length new
-  places = ap size fits.shaped ∙ size_longer old fits.some_axis ∙ (λ i. old_places i + more_places i) ∙ distributed (length lines) (length more) (last_length new)
+  places : size new ≡ (length lines + length more.lines) * last_length new
+  places = ap size fits.shaped ∙ size_longer old fits.some_axis ∙ (λ i. old_places i + more_places i) ∙ distributed (length lines) (length more.lines) (last_length new)
 
   some : 0 < last_length new
   some = let long = made.long in omega arith
 
   -- there is a tree for each line
-  pub all_lines : line_count new ≡ length lines + length more
-  all_lines = ap (λ n. n / last_length new) places ∙ mul-div_cancel (length lines + length more) some
-
-  -- there are not many
-  pub few_lines : length lines + length more ≤ 2 ^ 63
-  few_lines =
-      let within = made.within.size_within in
-      let least = at_least (length lines + length more) (last_length new) some in
-      omega (arith, places)
-    where
-      at_least : (a n : ℕ) → 0 < n → a ≤ a * n
-      at_least a zero h = absurd (omega arith)
-      at_least a (suc n) h = omega arith
+  pub all_lines : line_count new ≡ length lines + length more.lines
+  all_lines = ap (λ n. n / last_length new) places ∙ mul-div_cancel (length lines + length more.lines) some
 
   -- the trees stand for the lines of the array that grew
-  pub stand_grown : (trees : List (List ℤ)) → trees ≡ lines ++ more → StandFor trees (array_of new trees)
+  pub stand_grown : (trees : List (List ℤ)) → trees ≡ lines ++ more.lines → StandFor trees (array_of new trees)
   stand_grown trees is = subst (λ (ts : List (List ℤ)). StandFor ts (array_of new ts)) (sym is) (record {
     sound = record {
       within = made.within;
-      one_item_a_place = items_of_lines (last_length new) (lines ++ more) each ∙ ap (λ n. n * last_length new) (length-append lines more) ∙ sym places;
-      one_type = All-map (λ x. type_of x ≡ Nums) (λ (z : ℤ). Num z) (all_numbers (lines ++ more)) (λ k d h. refl);
+      one_item_a_place = items_of_lines (last_length new) (lines ++ more.lines) each ∙ ap (λ n. n * last_length new) (length-append lines more.lines) ∙ sym places;
+      one_type = All-map (λ x. type_of x ≡ Nums) (λ (z : ℤ). Num z) (all_numbers (lines ++ more.lines)) (λ k d h. refl);
     };
-    long = made.long;
+    some = let long = made.long in omega arith;
     one_tree_a_line = each;
     is = refl;
   })
     where
-      each : AreAllAsLong (last_length new) (lines ++ more)
-      each = All-append (λ (l : List ℤ). length l ≡ last_length new) lines more (subst (λ (n : ℕ). AreAllAsLong n lines) (sym last) stand.one_tree_a_line) made.one_tree_a_line
+      each : AreAllAsLong (last_length new) (lines ++ more.lines)
+      each = All-append (λ (l : List ℤ). length l ≡ last_length new) lines more.lines (subst (λ (n : ℕ). AreAllAsLong n lines) (sym last) stand.one_tree_a_line) made.one_tree_a_line

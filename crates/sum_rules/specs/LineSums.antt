@@ -5,11 +5,11 @@ use Rattle.arrays_core.specs.declared.item.Item.TheVariants.{Num}
 use Rattle.arrays_core.specs.declared.item.ItemType.TheVariants.{Nums}
 use Rattle.arrays_core.specs.Arrays.{ArrayValue, IsArray}
 use Rattle.index_region.specs.Arguments.{is_of_numbers}
-use Rattle.arrays_core.specs.Growth.{IsRoomy}
+use Rattle.operator_fns.specs.SumTrees.{TreesValue}
 
 -- a line with no more items is summed up as fast without a tree
 abbrev pub most_without_tree : ℕ
-most_without_tree = 16
+most_without_tree = 3
 
 -- how long the lines along the last axis are; an array without axes has none
 abbrev pub last_length : List ℕ → ℕ
@@ -38,11 +38,18 @@ array_of shape lines = record { item_type = Nums; shape = shape; items = map (λ
 -- trees of sums stand for the lines of an array of numbers along its last axis, in order
 pub record StandFor (sums : List (List ℤ)) (a : ArrayValue) : Type 0 where
   pub sound : IsArray a
-  pub long : most_without_tree < last_length a.shape
+  pub some : 0 < last_length a.shape
   pub one_tree_a_line : AreAllAsLong (last_length a.shape) sums
   pub is : a ≡ array_of a.shape sums
 
--- what the sums of lines are made of: a tree a line, in a piece of memory of this capacity that has room for the next power of two as many
-pub record AreLinesOf (shape : List ℕ) (trees : List (List ℤ)) (capacity : ℕ) : Type 0 where
-  pub lines : StandFor trees (array_of shape trees)
-  pub room : IsRoomy (length trees) capacity
+-- trees of lines of so many numbers, whose neighbours lie side by side
+pub record AreLineTrees (count : ℕ) (t : TreesValue) : Type 0 where
+  pub some : 0 < count
+  pub counted : t.count ≡ count
+  pub beside : t.step ≡ 1
+  pub each : AreAllAsLong count t.lines
+
+-- what the sums of the lines of an array of this shape are made of: a tree a line
+pub record AreLinesOf (shape : List ℕ) (t : TreesValue) : Type 0 where
+  pub lines : StandFor t.lines (array_of shape t.lines)
+  pub trees : AreLineTrees (last_length shape) t

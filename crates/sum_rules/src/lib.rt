@@ -2,9 +2,11 @@
 #![tactic(auto)]
 
 mod line_sums;
+mod line_totals;
 mod new_lines;
 mod totals;
 
 pub use line_sums::{LineSums, keeps_sums};
+pub use line_totals::LineTotals;
 pub use new_lines::NewLines;
-pub use totals::{refresh_sums, refresh_sums_with_cost};
+pub use totals::{fold_totals_with_cost, refresh_sums, refresh_totals_with_cost};

@@ -5,32 +5,30 @@ ghost use Rattle.arrays_core.specs.declared.item.ItemType.TheVariants.{Nums};
 ghost use Rattle.arrays_core.specs.Shapes.{size as size_of};
 ghost use Rattle.sum_rules.specs.LineSums.{last_length as length_of_lines, most_without_tree};
 
-use crate::line_sums::{last_length, trees_of};
-use arrays_core::{Shape, room_between, shape_of, size};
+use crate::line_sums::last_length;
+use arrays_core::{Shape, shape_of, size};
 use index_region::Tail;
-use operator_fns::SumTree;
+use operator_fns::NewTrees;
 use std::alloc::{AllocError, Global};
 use std::marker::Model;
 
-/// The sums of the lines that an array of numbers grows by, each kept as a tree, with the shape that the array has
+/// The sums of the lines that an array of numbers grows by, as trees, with the shape that the array has
 /// then. They bring the room that the trees of all its lines may need, so that `LineSums::grow` takes no memory.
 #[derive(Drop)]
 pub struct NewLines {
     pub(crate) shape: Shape,
-    pub(crate) trees: Vec<SumTree>,
-    pub(crate) room: Vec<SumTree>,
+    pub(crate) trees: NewTrees,
 }
 
 impl Model for NewLines {
-    ghost use Rattle.std.specs.Prelude.{◌≡◌, [], vec_capacity};
     ghost use Rattle.index_region.specs.Tails.{TailValue};
     ghost use Rattle.sum_rules.specs.NewLines.{lines_behind, AreNewLinesOf};
 
     ghost Value = { TailValue };
 
-    ghost view = { λ l. lines_behind l.shape.items l.trees.items };
+    ghost view = { λ l. lines_behind l.shape.items l.trees.lines };
 
-    ghost invariant = { λ l. AreNewLinesOf l.shape.items l.trees.items (vec_capacity l.room) × (l.room.items ≡ []) };
+    ghost invariant = { λ l. AreNewLinesOf l.shape.items l.trees };
 }
 
 impl NewLines {
@@ -49,9 +47,9 @@ impl NewLines {
             Some(numbers) => numbers,
             None => unreachable!(),
         };
-        let trees = trees_of(alloc, numbers, count)?;
         let lines = size(shape.as_slice()) as usize / count;
-        let room = room_between(alloc, lines.saturating_sub(trees.len()), lines)?;
-        Ok(NewLines { shape, trees, room })
+        let old_lines = lines.saturating_sub(numbers.len() / count);
+        let trees = NewTrees::build(alloc, numbers, count, 1, old_lines)?;
+        Ok(NewLines { shape, trees })
     }
 }

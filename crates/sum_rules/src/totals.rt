@@ -18,9 +18,10 @@ ghost use Rattle.change_core.specs.Reaches.{AllFit};
 ghost use Rattle.change_rules.specs.Nodes.{views, moved, is_error, node_delta, node_cost, reached_delta, reached_cost, patch_delta};
 ghost use Rattle.change_rules.specs.Currency.{BringsUpToDate, HasAxis, IsRight};
 ghost use Rattle.sum_rules.specs.LineSums.{StandFor, AreAllAsLong, array_of, last_length as length_of_lines};
-ghost use Rattle.sum_rules.specs.Totals.{total_rule, StoodFor, IsSummedUp, AreJoinsWithin, new_items, is_one_a_line as has_one_a_line, lines_of};
+ghost use Rattle.sum_rules.specs.Totals.{total_rule, StoodFor, IsSummedUp, AreJoinsWithin, AreJoinsFrom, AreFoldsWithin, AreFolds, HasJoins, HasAllJoins, is_one_a_line as has_one_a_line, lines_of};
 
 use crate::line_sums::last_length;
+use crate::line_totals::{LineTotals, TreeALine};
 use arrays_core::{ApplyFault, Array, Fault, Item, ItemType, Kind, Shape, position, shape_of};
 use change_core::{Meter, Reach, Rule};
 use change_rules::refresh_with_cost;
@@ -49,19 +50,25 @@ fn is_one_a_line(region: &IndexBox) -> bool
 }
 
 /// The total of a line with a new item at a place among those of all lines, and how many sums were joined for it.
-fn total_with(sums: &[SumTree], count: usize, place: usize, item: Item) -> (Result<Item, Kind>, u32)
+fn total_with<S: LineTotals>(
+    sums: &S,
+    count: usize,
+    place: usize,
+    item: Item,
+) -> (Result<Item, Kind>, u32)
     requires some { 0 < count }
-    requires there { place / count < length sums.now }
-    requires lines { AreAllAsLong count sums.now }
-    ensures total { result.0 ≡ fold_right Sum (map (λ z. Num z) (set (get_or sums.now (place / count) []) (place % count) (number_of item))) }
+    requires there { place / count < length (S.lines sums.now) }
+    requires lines { AreAllAsLong count (S.lines sums.now) }
+    ensures total { result.0 ≡ fold_right Sum (map (λ z. Num z) (set (get_or (S.lines sums.now) (place / count) []) (place % count) (number_of item))) }
     ensures typed { IfOk result.0 (λ total. type_of total ≡ Nums) }
     ensures joins { IsWithinDigitsOf (count - 1) result.1 }
+    ensures some { 1 < count → 0 < result.1 }
 {
     let number = match item {
         Item::Num(number) => number,
         Item::Char(_) => 0,
     };
-    let (total, joins) = sums[place / count].result_with(place % count, number);
+    let (total, joins) = sums.total_with(place / count, place % count, number);
     match total {
         Ok(total) => (Ok(Item::Num(total)), joins),
         Err(kind) => (Err(kind), joins),
@@ -69,21 +76,22 @@ fn total_with(sums: &[SumTree], count: usize, place: usize, item: Item) -> (Resu
 }
 
 /// The totals of the lines of an array of this shape that have a new number each, or the first error among them.
-fn new_totals(
+fn new_totals<S: LineTotals>(
     alloc: Global,
     shape: &Shape,
-    sums: &[SumTree],
+    sums: &S,
     patch: &Patch,
     meter: &mut Meter,
 ) -> Result<Array, ApplyFault>
-    requires lines { StandFor sums.now (array_of shape.now.items sums.now) }
-    requires fit { FitsPatch (array_of shape.now.items sums.now) patch.now }
+    requires lines { StandFor (S.lines sums.now) (array_of shape.now.items (S.lines sums.now)) }
+    requires fit { FitsPatch (array_of shape.now.items (S.lines sums.now)) patch.now }
     requires one { has_one_a_line patch.now.region ≡ true }
-    ensures totals { HoldsItems Nums (items_in (reduce_item Sum LastAxis (patched (array_of shape.now.items sums.now) patch.now)) (lines_of patch.now.region)) result }
+    ensures totals { HoldsItems Nums (items_in (reduce_item Sum LastAxis (patched (array_of shape.now.items (S.lines sums.now)) patch.now)) (lines_of patch.now.region)) result }
     ensures ticks { meter.new.ticks ≤ meter.old.ticks + box_size patch.now.region }
     ensures exact { IfOk result (λ _. meter.new.ticks ≡ ticked meter.old.ticks (box_size patch.now.region)) }
     ensures rises { meter.old.ticks ≤ meter.new.ticks }
     ensures joins { AreJoinsWithin (box_size patch.now.region) (length_of_lines shape.now.items) meter.old.joins meter.new.joins }
+    ensures least { IfOk result (λ _. AreJoinsFrom (box_size patch.now.region) (length_of_lines shape.now.items) meter.old.joins meter.new.joins) }
 {
     let count = last_length(shape.as_slice()) as usize;
     // The type of the items says that the patch has one item for each place.
@@ -97,7 +105,7 @@ fn new_totals(
         let item = patch.item(index.as_slice());
         let (total, joins) = total_with(sums, count, place as usize, item);
         meter.tick();
-        meter.count_joins(joins);
+        meter.count_joins(u64::from(joins));
         match total {
             Ok(total) => totals.write_at(line as u32 + 1, total),
             Err(kind) => return Err(ApplyFault::Kind(kind)),
@@ -109,14 +117,14 @@ fn new_totals(
 
 /// The change of the totals of an array of which a box that has one place on the last axis is new, where they were an
 /// array, and what it costs.
-fn change_by_trees(
+fn change_by_trees<S: LineTotals>(
     alloc: Global,
     array: &Seen,
     patch: &Patch,
-    sums: &[SumTree],
+    sums: &S,
     meter: &mut Meter,
 ) -> Result<(Delta, u32), AllocError>
-    requires lines { StoodFor sums.now patch.now array.now }
+    requires lines { StoodFor (S.lines sums.now) patch.now array.now }
     requires one { has_one_a_line patch.now.region ≡ true }
     requires small { meter.old.ticks ≤ most_ticks }
     ensures delta { IfOk result (λ r. r.0 ≡ reached_delta total_rule (array.now ∷ []) (Some patch.now.region ∷ [])) }
@@ -125,6 +133,7 @@ fn change_by_trees(
     ensures exact { IfOk result (λ r. is_error r.0 ≡ false → meter.new.ticks ≡ ticked meter.old.ticks r.1) }
     ensures rises { meter.old.ticks ≤ meter.new.ticks }
     ensures joins { AreJoinsWithin (box_size patch.now.region) (length_of_lines array.now.shape) meter.old.joins meter.new.joins }
+    ensures least { IfOk result (λ r. is_error r.0 ≡ false → AreJoinsFrom (box_size patch.now.region) (length_of_lines array.now.shape) meter.old.joins meter.new.joins) }
 {
     let args = [array.again()];
     let form = match TOTALS.shape(&args) {
@@ -144,15 +153,15 @@ fn change_by_trees(
 }
 
 /// The patch of the totals of the lines of a box, or the first error among them.
-fn patch_of(
+fn patch_of<S: LineTotals>(
     alloc: Global,
     region: IndexBox,
     array: &Seen,
-    sums: &[SumTree],
+    sums: &S,
     patch: &Patch,
     meter: &mut Meter,
 ) -> Result<Delta, AllocError>
-    requires lines { StoodFor sums.now patch.now array.now }
+    requires lines { StoodFor (S.lines sums.now) patch.now array.now }
     requires one { has_one_a_line patch.now.region ≡ true }
     requires region { region ≡ lines_of patch.now.region }
     ensures delta { IfOk result (λ d. d ≡ patch_delta Nums region (items_in (reduce_item Sum LastAxis array.now) region)) }
@@ -160,6 +169,7 @@ fn patch_of(
     ensures exact { IfOk result (λ d. is_error d ≡ false → meter.new.ticks ≡ ticked meter.old.ticks (box_size patch.now.region)) }
     ensures rises { meter.old.ticks ≤ meter.new.ticks }
     ensures joins { AreJoinsWithin (box_size patch.now.region) (length_of_lines array.now.shape) meter.old.joins meter.new.joins }
+    ensures least { IfOk result (λ d. is_error d ≡ false → AreJoinsFrom (box_size patch.now.region) (length_of_lines array.now.shape) meter.old.joins meter.new.joins) }
 {
     match new_totals(alloc, array.shape(), sums, patch, meter) {
         Ok(values) => Ok(Delta::Patch(Patch::of(region, values))),
@@ -168,26 +178,56 @@ fn patch_of(
     }
 }
 
-/// The change of `+/B`, as `refresh_with_cost` answers it, and what it costs: how many totals it works out at most.
-/// Where the totals were an array and the box of B that changed has one place on the last axis, each total comes from
-/// the tree of its line, in as many joins of sums as the length of the line less one has binary digits. In every other
-/// case the lines are summed up.
-pub fn refresh_sums_with_cost(
+/// The change of `+/B`, as `refresh_with_cost` answers it, and what it costs: how many totals it works out at most. Each of
+/// these lines is summed up, which joins as many numbers as the line has, less one.
+pub fn fold_totals_with_cost(
     alloc: Global,
     arg: (Seen, &Delta),
     old: &Result<Array, Fault>,
-    sums: &[SumTree],
     meter: &mut Meter,
 ) -> Result<(Delta, u32), AllocError>
     requires fit { AllFit (views (arg ∷ [])) (moved (arg ∷ [])) }
     requires axes { HasAxis (arg ∷ []) }
-    requires sums { IsSummedUp arg sums.now }
     ensures delta { IfOk result (λ r. r.0 ≡ node_delta total_rule (arg.entry ∷ []) old.now) }
     ensures cost { IfOk result (λ r. r.1 ≡ node_cost total_rule (arg.entry ∷ []) old.now) }
     ensures ticks { meter.new.ticks ≤ meter.old.ticks + node_cost total_rule (arg.entry ∷ []) old.now }
     ensures exact { IfOk result (λ r. is_error r.0 ≡ false → meter.new.ticks ≡ ticked meter.old.ticks r.1) }
     ensures rises { meter.old.ticks ≤ meter.new.ticks }
-    ensures joins { AreJoinsWithin (new_items arg.entry.1.now) (length_of_lines arg.entry.0.shape) meter.old.joins meter.new.joins }
+    ensures joins { AreFoldsWithin (node_cost total_rule (arg.entry ∷ []) old.now) (length_of_lines arg.entry.0.shape) meter.old.joins meter.new.joins }
+    ensures folds { IfOk result (λ r. is_error r.0 ≡ false → AreFolds r.1 (length_of_lines arg.entry.0.shape) meter.old.joins meter.new.joins) }
+    ensures right { IfOk result (λ r. IsRight total_rule (views (arg.entry ∷ [])) r.0) }
+    ensures whole { IfOk result (λ r. BringsUpToDate total_rule (arg.entry ∷ []) old.now r.0) }
+{
+    let (array, delta) = arg;
+    let long = last_length(array.shape().as_slice());
+    let mut own = Meter::new();
+    let change = refresh_with_cost(alloc, &TOTALS, &[(array, delta)], old, &mut own)?;
+    own.count_joins(own.ticks() * u64::from(long.saturating_sub(1)));
+    meter.include(&own);
+    Ok(change)
+}
+
+/// The change of `+/B`, as `refresh_with_cost` answers it, and what it costs: how many totals it works out at most.
+/// Where the totals were an array and the box of B that changed has one place on the last axis, each total comes from
+/// the tree of its line, in as many joins of sums as the length of the line less one has binary digits. In every other
+/// case the lines are summed up.
+pub fn refresh_totals_with_cost<S: LineTotals>(
+    alloc: Global,
+    arg: (Seen, &Delta),
+    old: &Result<Array, Fault>,
+    sums: &S,
+    meter: &mut Meter,
+) -> Result<(Delta, u32), AllocError>
+    requires fit { AllFit (views (arg ∷ [])) (moved (arg ∷ [])) }
+    requires axes { HasAxis (arg ∷ []) }
+    requires sums { IsSummedUp arg (S.lines sums.now) }
+    ensures delta { IfOk result (λ r. r.0 ≡ node_delta total_rule (arg.entry ∷ []) old.now) }
+    ensures cost { IfOk result (λ r. r.1 ≡ node_cost total_rule (arg.entry ∷ []) old.now) }
+    ensures ticks { meter.new.ticks ≤ meter.old.ticks + node_cost total_rule (arg.entry ∷ []) old.now }
+    ensures exact { IfOk result (λ r. is_error r.0 ≡ false → meter.new.ticks ≡ ticked meter.old.ticks r.1) }
+    ensures rises { meter.old.ticks ≤ meter.new.ticks }
+    ensures joins { HasJoins arg.entry old.now meter.old.joins meter.new.joins }
+    ensures least { IfOk result (λ r. is_error r.0 ≡ false → HasAllJoins arg.entry old.now meter.old.joins meter.new.joins) }
     ensures right { IfOk result (λ r. IsRight total_rule (views (arg.entry ∷ [])) r.0) }
     ensures whole { IfOk result (λ r. BringsUpToDate total_rule (arg.entry ∷ []) old.now r.0) }
 {
@@ -201,10 +241,10 @@ pub fn refresh_sums_with_cost(
             return change_by_trees(alloc, &array, patch, sums, meter);
         }
     }
-    refresh_with_cost(alloc, &TOTALS, &[(array, delta)], old, meter)
+    fold_totals_with_cost(alloc, (array, delta), old, meter)
 }
 
-/// The change of `+/B` that `refresh_sums_with_cost` answers, without its cost.
+/// The change of `+/B` that `refresh_totals_with_cost` answers by a tree for each line, without its cost.
 pub fn refresh_sums(
     alloc: Global,
     arg: (Seen, &Delta),
@@ -219,9 +259,10 @@ pub fn refresh_sums(
     ensures ticks { meter.new.ticks ≤ meter.old.ticks + node_cost total_rule (arg.entry ∷ []) old.now }
     ensures exact { IfOk result (λ d. is_error d ≡ false → meter.new.ticks ≡ ticked meter.old.ticks (node_cost total_rule (arg.entry ∷ []) old.now)) }
     ensures rises { meter.old.ticks ≤ meter.new.ticks }
-    ensures joins { AreJoinsWithin (new_items arg.entry.1.now) (length_of_lines arg.entry.0.shape) meter.old.joins meter.new.joins }
+    ensures joins { HasJoins arg.entry old.now meter.old.joins meter.new.joins }
+    ensures least { IfOk result (λ d. is_error d ≡ false → HasAllJoins arg.entry old.now meter.old.joins meter.new.joins) }
     ensures right { IfOk result (λ d. IsRight total_rule (views (arg.entry ∷ [])) d) }
     ensures whole { IfOk result (λ d. BringsUpToDate total_rule (arg.entry ∷ []) old.now d) }
 {
-    Ok(refresh_sums_with_cost(alloc, arg, old, sums, meter)?.0)
+    Ok(refresh_totals_with_cost(alloc, arg, old, &TreeALine { trees: sums }, meter)?.0)
 }

@@ -30,14 +30,14 @@ change_of_arrays-requires-clause-axes c =
     subst (λ (a : ArrayValue). HasAxis ((a, delta) ∷ arrays_among others)) (sym c.again.ensures)
     (arrays_have_axes (Good c.in-None-Good.array delta ∷ others) (array_fits, written_fit c.args.positions.now c.requires.positions))
 
-pub returns-in-Some-default : goal.returns-in-Some-default
-returns-in-Some-default c =
+pub returns-in-Some-default-clause-change : goal.returns-in-Some-default-clause-change
+returns-in-Some-default-clause-change c =
     let others = written_inputs c.args.positions.now in
     let first : last_error (c.args.array.now ∷ others) ≡ Some c.in-Some-default.fault = error_behind c.args.array.now others c.in-Some-default.fault (sym c.last_fault.ensures ∙ c.in-Some-default.is-0) in
     error_change (index_rule (map is_some c.args.positions.now)) (c.args.array.now ∷ others) c.args.held.now c.args.meter.now.ticks c.in-Some-default.fault c.beside_error.result first (rw (← c.all_stay.ensures) c.beside_error.ensures)
 
-pub returns-in-None-Bad : goal.returns-in-None-Bad
-returns-in-None-Bad c =
+pub returns-in-None-Bad-clause-change : goal.returns-in-None-Bad-clause-change
+returns-in-None-Bad-clause-change c =
     let others = written_inputs c.args.positions.now in
     let fault = c.in-None-Bad.fault in
     let first : last_error (c.args.array.now ∷ others) ≡ Some fault =
@@ -45,8 +45,8 @@ returns-in-None-Bad c =
     error_change (index_rule (map is_some c.args.positions.now)) (c.args.array.now ∷ others) c.args.held.now c.args.meter.now.ticks fault c.beside_error-in-None-Bad.result first
     (rw (← c.all_stay-in-None-Bad.ensures) c.beside_error-in-None-Bad.ensures)
 
-pub returns-in-None-Good : goal.returns-in-None-Good
-returns-in-None-Good c =
+pub returns-in-None-Good-clause-change : goal.returns-in-None-Good-clause-change
+returns-in-None-Good-clause-change c =
     let array = c.in-None-Good.array in
     let delta = c.in-None-Good.delta in
     let others = written_inputs c.args.positions.now in
@@ -54,4 +54,4 @@ returns-in-None-Good c =
     let none : last_error (Good array delta ∷ others) ≡ None = none_with_array array delta others (sym c.last_fault.ensures ∙ c.in-None-Good.is-0) in
     subst (λ (i : Input). IsOperationChange rule (i ∷ others) c.args.held.now c.args.meter.now.ticks c.change_of_arrays.new.meter.ticks c.change_of_arrays.result) (sym c.in-None-Good.is-1)
     (refreshed_change rule (Good array delta ∷ others) c.args.held.now c.args.meter.now.ticks c.change_of_arrays.new.meter.ticks c.change_of_arrays.result none
-    (subst (λ (a : ArrayValue). IsRefreshed rule ((a, delta) ∷ arrays_among others) c.args.held.now c.args.meter.now.ticks c.change_of_arrays.new.meter.ticks c.change_of_arrays.result) c.again.ensures c.change_of_arrays.ensures))
+    (subst (λ (a : ArrayValue). IsRefreshed rule ((a, delta) ∷ arrays_among others) c.args.held.now c.args.meter.now.ticks c.change_of_arrays.new.meter.ticks c.change_of_arrays.result) c.again.ensures c.change_of_arrays.ensures.refreshed))

@@ -9,4 +9,4 @@ pub returns-in-Num-clause-items : goal.returns-in-Num-clause-items
 returns-in-Num-clause-items c =
     let fits : SFits w64 c.in-Num.number = search rules in
     let same : to_z w64 (of_z w64 c.in-Num.number) ≡ c.in-Num.number = to_z-of_z w64 c.in-Num.number fits in
-    ap (map (λ (z : ℤ). Num z)) c.set_number.ensures.numbers ∙ (rw (same, c.in-Num.is) (map-set (λ z. Num z) (all_numbers c.args.trees.now) c.args.place c.in-Num.number))
+    ap (map (λ (z : ℤ). Num z)) c.set_number.ensures.numbers ∙ (rw (same, c.in-Num.is) (map-set (λ z. Num z) (all_numbers c.args.trees.now.lines) c.args.place c.in-Num.number))

@@ -1,4 +1,5 @@
 use Rattle.std.proofs.Common.{◌≡◌, ◌∙◌, ◌<◌, ◌+◌, ◌-◌, ℕ, ℤ, List, get_or, set, map, sym, ap, arith, refl, subst}
+use Rattle.std.proofs.lemmas.List.{length-map}
 use Rattle.arrays_core.specs.declared.item.Item.{Item}
 use Rattle.arrays_core.specs.declared.item.Item.TheVariants.{Num}
 use Rattle.arrays_core.specs.declared.item.ItemType.TheVariants.{Nums}
@@ -10,19 +11,19 @@ use Rattle.index_region.specs.Patches.{patched}
 use Rattle.index_region.proofs.Patched.{box_within_size, fits_within, patched_sound}
 use Rattle.index_region.proofs.Walks.{offset_of_walk, some_place, walk_within}
 use Rattle.index_region.proofs.Written.{IsWritten, written_none, written_more, written_all}
-use Rattle.sum_rules.specs.LineSums.{array_of, all_numbers, last_length, AreAllAsLong}
+use Rattle.sum_rules.specs.LineSums.{array_of, all_numbers, last_length, AreLineTrees}
 use Rattle.sum_rules.proofs.line_sums.write_into.Goals as goal
 
 pub index_at-index-requires-clause-size : goal.index_at-index-requires-clause-size
 index_at-index-requires-clause-size c =
     let most = box_within_size c.args.patch.now.region c.args.shape.now.items c.requires.fit.inside in
-    let within = c.requires.lines.sound.within.size_within in
+    let within = c.requires.lines.lines.sound.within.size_within in
     subst (λ (r : List Interval). box_size r < 18446744073709551616) (sym c.region-region.ensures) (omega arith)
 
 pub size-before-end-requires : goal.size-before-end-requires
 size-before-end-requires c =
     let most = box_within_size c.args.patch.now.region c.args.shape.now.items c.requires.fit.inside in
-    let within = c.requires.lines.sound.within.size_within in
+    let within = c.requires.lines.lines.sound.within.size_within in
     subst (λ (r : List Interval). box_size r < 18446744073709551616) (sym c.region-region.ensures) (omega arith)
 
 pub index_at-index-requires-clause-below : goal.index_at-index-requires-clause-below
@@ -31,8 +32,8 @@ index_at-index-requires-clause-below c =
 
 pub loop-before-init : goal.loop-before-init
 loop-before-init c = record {
-  written = written_none (array_of c.args.shape.now.items c.args.trees.now) c.args.patch.now c.requires.lines.sound;
-  lines = c.requires.lines.one_tree_a_line;
+  written = written_none (array_of c.args.shape.now.items c.args.trees.now.lines) c.args.patch.now c.requires.lines.lines.sound;
+  lines = c.requires.lines.trees;
   at = λ _. c.index_at-index.ensures ∙ ap (λ (r : List Interval). walk_at r 0) c.region-region.ensures;
 }
 
@@ -58,7 +59,7 @@ loop-before-preserved c =
     let before = c.loop-before.before in
     let below : before < box_size p.region =
     subst (λ (r : List Interval). before < box_size r) c.region-region.ensures (omega (arith, c.loop-before-test.true, c.size-before-end.ensures)) in
-    let more = written_more (array_of shape c.args.trees.now) p before (array_of shape c.loop-before.trees) c.requires.fit c.loop-before.invariant.written below in
+    let more = written_more (array_of shape c.args.trees.now.lines) p before (array_of shape c.loop-before.trees.lines) c.requires.fit c.loop-before.invariant.written below in
     let here = c.loop-before.invariant.at below in
     let index : c.as_slice-in-loop-before.result.now ≡ walk_at p.region before = c.as_slice-in-loop-before.ensures.is ∙ here in
     let counted : places_before shape c.as_slice-in-loop-before.result.now ≡ places_before shape (walk_at p.region before) = ap (places_before shape) index in
@@ -67,13 +68,13 @@ loop-before-preserved c =
     c.item.ensures.is
     ∙ ap (λ (i : List ℕ). get_or p.items (box_offset p.region i) (fill p.item_type)) (c.as_slice-in-loop-before-2.ensures.is ∙ here)
     ∙ ap (λ (n : ℕ). get_or p.items n (fill p.item_type)) (offset_of_walk p.region before below) in
-    let now : map (λ (z : ℤ). Num z) (all_numbers c.set_item.new.trees)
-    ≡ set (map (λ (z : ℤ). Num z) (all_numbers c.loop-before.trees)) (places_before shape (walk_at p.region before)) (get_or p.items before (fill p.item_type)) =
-    c.set_item.ensures.items ∙ (λ i. set (map (λ (z : ℤ). Num z) (all_numbers c.loop-before.trees)) (place i) (item i)) in
+    let now : map (λ (z : ℤ). Num z) (all_numbers c.set_item.new.trees.lines)
+    ≡ set (map (λ (z : ℤ). Num z) (all_numbers c.loop-before.trees.lines)) (places_before shape (walk_at p.region before)) (get_or p.items before (fill p.item_type)) =
+    c.set_item.ensures.items ∙ (λ i. set (map (λ (z : ℤ). Num z) (all_numbers c.loop-before.trees.lines)) (place i) (item i)) in
     let count : c.last_length-count.result ≡ last_length shape = c.last_length-count.ensures ∙ ap last_length c.as_slice.ensures in
     record {
-      written = subst (λ (xs : List Item). IsWritten (array_of shape c.args.trees.now) p (before + 1) (record { item_type = Nums; shape = shape; items = xs })) (sym now) more;
-      lines = subst (λ (n : ℕ). AreAllAsLong n c.set_item.new.trees) count c.set_item.ensures.lines;
+      written = subst (λ (xs : List Item). IsWritten (array_of shape c.args.trees.now.lines) p (before + 1) (record { item_type = Nums; shape = shape; items = xs })) (sym now) more;
+      lines = subst (λ (n : ℕ). AreLineTrees n c.set_item.new.trees) count c.set_item.ensures.lines;
       at = subst (λ (r : List Interval). before + 1 < box_size r → c.advance.new.index ≡ walk_at r (before + 1)) c.region-region.ensures
           (λ later. c.advance.ensures.next before later (here ∙ ap (λ (r : List Interval). walk_at r before) (sym c.region-region.ensures)));
     }
@@ -81,23 +82,37 @@ loop-before-preserved c =
 pub returns-clause-numbers : goal.returns-clause-numbers
 returns-clause-numbers c =
     let p = c.args.patch.now in
-    let a = array_of c.args.shape.now.items c.args.trees.now in
+    let a = array_of c.args.shape.now.items c.args.trees.now.lines in
     let all : c.loop-before.before ≡ box_size p.region =
     subst (λ (r : List Interval). c.loop-before.before ≡ box_size r) c.region-region.ensures (omega (arith, c.loop-before-test.false, c.loop-before.auto.before-end, c.size-before-end.ensures)) in
-    written_all a p (array_of c.args.shape.now.items c.loop-before.trees)
-    (subst (λ (n : ℕ). IsWritten a p n (array_of c.args.shape.now.items c.loop-before.trees)) all c.loop-before.invariant.written)
+    written_all a p (array_of c.args.shape.now.items c.loop-before.trees.lines)
+    (subst (λ (n : ℕ). IsWritten a p n (array_of c.args.shape.now.items c.loop-before.trees.lines)) all c.loop-before.invariant.written)
 
 pub returns-clause-lines : goal.returns-clause-lines
 returns-clause-lines c =
     let p = c.args.patch.now in
-    let a = array_of c.args.shape.now.items c.args.trees.now in
-    let now = array_of c.args.shape.now.items c.loop-before.trees in
+    let a = array_of c.args.shape.now.items c.args.trees.now.lines in
+    let now = array_of c.args.shape.now.items c.loop-before.trees.lines in
     let all : c.loop-before.before ≡ box_size p.region =
     subst (λ (r : List Interval). c.loop-before.before ≡ box_size r) c.region-region.ensures (omega (arith, c.loop-before-test.false, c.loop-before.auto.before-end, c.size-before-end.ensures)) in
     let same : now ≡ patched a p = written_all a p now (subst (λ (n : ℕ). IsWritten a p n now) all c.loop-before.invariant.written) in
     record {
-      sound = subst IsArray (sym same) (patched_sound a p c.requires.lines.sound c.item_type-one_item_a_place.ensures.sound c.requires.fit);
-      long = c.requires.lines.long;
-      one_tree_a_line = c.loop-before.invariant.lines;
-      is = refl;
+      lines = record {
+        sound = subst IsArray (sym same) (patched_sound a p c.requires.lines.lines.sound c.item_type-one_item_a_place.ensures.sound c.requires.fit);
+        some = c.requires.lines.lines.some;
+        one_tree_a_line = c.loop-before.invariant.lines.each;
+        is = refl;
+      };
+      trees = c.loop-before.invariant.lines;
     }
+
+pub set_item-requires-clause-lines : goal.set_item-requires-clause-lines
+set_item-requires-clause-lines c =
+    let count : c.last_length-count.result ≡ last_length c.args.shape.now.items = c.last_length-count.ensures ∙ ap last_length c.as_slice.ensures in
+    subst (λ (n : ℕ). AreLineTrees n c.loop-before.trees) (sym count) c.loop-before.invariant.lines
+
+pub set_item-requires-clause-place : goal.set_item-requires-clause-place
+set_item-requires-clause-place c =
+    let lines = c.loop-before.trees.lines in
+    let long = sym (length-map (all_numbers lines) (λ (z : ℤ). Num z)) ∙ c.loop-before.invariant.written.long in
+    omega (arith, long, c.position-place.ensures.low, c.position-place.ensures.high)

@@ -19,35 +19,36 @@ use Rattle.sum_rules.proofs.ChangedLines.{as_many_lines, line_below, total_there
 use Rattle.sum_rules.proofs.totals.new_totals.Goals as goal
 
 pub size-lines-requires : goal.size-lines-requires
-size-lines-requires c =
+size-lines-requires g c =
     let few = few_places c.args.patch.now.region c.args.shape.now.items c.requires.fit.inside c.requires.lines.sound.within in
     omega (arith, ap box_size c.region-region.ensures)
 
 pub overflow_cast-lines : goal.overflow_cast-lines
-overflow_cast-lines c =
+overflow_cast-lines g c =
     let few = few_places c.args.patch.now.region c.args.shape.now.items c.requires.fit.inside c.requires.lines.sound.within in
     omega (arith, c.size-lines.ensures, ap box_size c.region-region.ensures)
 
 pub filled-requires : goal.filled-requires
-filled-requires c =
+filled-requires g c =
     let few = few_places c.args.patch.now.region c.args.shape.now.items c.requires.fit.inside c.requires.lines.sound.within in
     vector_within _ _ c.shape_of.ensures.items (omega (arith, c.size-lines.ensures, ap box_size c.region-region.ensures))
 
 pub index_at-index-requires-clause-below : goal.index_at-index-requires-clause-below
-index_at-index-requires-clause-below c = rw c.region-region.ensures (some_place c.args.patch.now.region c.args.shape.now.items c.requires.fit.inside)
+index_at-index-requires-clause-below g c = rw c.region-region.ensures (some_place c.args.patch.now.region c.args.shape.now.items c.requires.fit.inside)
 
 pub loop-line-init : goal.loop-line-init
-loop-line-init c =
+loop-line-init g c =
     let p = c.args.patch.now in
-    let a = array_of c.args.shape.now.items c.args.sums.now in
+    let a = array_of c.args.shape.now.items (g.S.LineTotals.lines c.args.sums.now) in
     let region = lines_of p.region in
-    let as_many = as_many_lines c.args.sums.now a p c.requires.lines c.requires.fit c.requires.one in
+    let as_many = as_many_lines (g.S.LineTotals.lines c.args.sums.now) a p c.requires.lines c.requires.fit c.requires.one in
     record {
       ticks = omega arith;
       none = λ _. refl;
       some = λ h. absurd (omega arith);
       rises = omega arith;
       joins = λ digits h. omega arith;
+      least = λ two. omega arith;
       at = λ _. c.index_at-index.ensures ∙ ap (λ (r : List Interval). walk_at r 0) c.region-region.ensures;
       many = filled_many c.in_ok-totals.totals _ c.shape_of.result.items c.size-lines.result (box_size region) c.in_ok-totals.ensures c.shape_of.ensures.items (c.size-lines.ensures ∙ ap box_size c.region-region.ensures ∙ as_many);
       typed = ap (λ (b : ArrayValue). b.item_type) c.in_ok-totals.ensures;
@@ -55,7 +56,7 @@ loop-line-init c =
     }
 
 pub position-place-requires-clause-in_range : goal.position-place-requires-clause-in_range
-position-place-requires-clause-in_range c =
+position-place-requires-clause-in_range g c =
     let p = c.args.patch.now in
     let before = c.loop-line.line in
     let below : before < box_size p.region = omega (arith, c.loop-line-test.true, c.size-lines.ensures, ap box_size c.region-region.ensures) in
@@ -63,17 +64,17 @@ position-place-requires-clause-in_range c =
     ∙ fits_within p.region c.args.shape.now.items (walk_at p.region before) c.requires.fit.inside (walk_within p.region before below)
 
 pub item-item-requires : goal.item-item-requires
-item-item-requires c =
+item-item-requires g c =
     let p = c.args.patch.now in
     let before = c.loop-line.line in
     let below : before < box_size p.region = omega (arith, c.loop-line-test.true, c.size-lines.ensures, ap box_size c.region-region.ensures) in
     ap (is_within p.region) (c.as_slice-in-loop-line-2.ensures.is ∙ c.loop-line.invariant.at below) ∙ walk_within p.region before below
 
 pub total_with-total-requires-clause-there : goal.total_with-total-requires-clause-there
-total_with-total-requires-clause-there c =
+total_with-total-requires-clause-there g c =
     let p = c.args.patch.now in
     let shape = c.args.shape.now.items in
-    let sums = c.args.sums.now in
+    let sums = (g.S.LineTotals.lines c.args.sums.now) in
     let a = array_of shape sums in
     let before = c.loop-line.line in
     let below : before < box_size p.region = omega (arith, c.loop-line-test.true, c.size-lines.ensures, ap box_size c.region-region.ensures) in
@@ -84,17 +85,17 @@ total_with-total-requires-clause-there c =
     rw count (line_below sums a p c.requires.lines c.requires.fit c.requires.one c.item_type-one_item_a_place.ensures.sound before (omega (arith, as_many)) (c.position-place.result - 1) place)
 
 pub write_at-requires-clause-high : goal.write_at-requires-clause-high
-write_at-requires-clause-high c =
+write_at-requires-clause-high g c =
     let p = c.args.patch.now in
-    let sums = c.args.sums.now in
+    let sums = (g.S.LineTotals.lines c.args.sums.now) in
     let as_many = as_many_lines sums (array_of c.args.shape.now.items sums) p c.requires.lines c.requires.fit c.requires.one in
     omega (arith, c.loop-line.invariant.many, c.loop-line-test.true, c.size-lines.ensures, ap box_size c.region-region.ensures)
 
 pub returns-in-Err-clause-totals : goal.returns-in-Err-clause-totals
-returns-in-Err-clause-totals c =
+returns-in-Err-clause-totals g c =
     let p = c.args.patch.now in
     let shape = c.args.shape.now.items in
-    let sums = c.args.sums.now in
+    let sums = (g.S.LineTotals.lines c.args.sums.now) in
     let a = array_of shape sums in
     let region = lines_of p.region in
     let item = reduce_item Plus Last (patched a p) in
@@ -115,10 +116,10 @@ returns-in-Err-clause-totals c =
     sym (items_are item region) ∙ sym c.loop-line.invariant.rest ∙ rest_err (λ q. item (walk_at region q)) (box_size region) before (take before c.loop-line.totals.items) _ under failed
 
 pub loop-line-preserved : goal.loop-line-preserved
-loop-line-preserved c =
+loop-line-preserved g c =
     let p = c.args.patch.now in
     let shape = c.args.shape.now.items in
-    let sums = c.args.sums.now in
+    let sums = (g.S.LineTotals.lines c.args.sums.now) in
     let a = array_of shape sums in
     let region = lines_of p.region in
     let item = reduce_item Plus Last (patched a p) in
@@ -147,6 +148,12 @@ loop-line-preserved c =
           let kept = ap (λ (m : MeterValue). m.joins) c.tick.ensures.exact in
           let now = ap (λ (m : MeterValue). m.joins) c.count_joins.ensures in
           omega (arith, so_far, more, kept, now);
+      least = λ two.
+          let so_far = c.loop-line.invariant.least two in
+          let more = c.total_with-total.ensures.some (rw count two) in
+          let kept = ap (λ (m : MeterValue). m.joins) c.tick.ensures.exact in
+          let now = ap (λ (m : MeterValue). m.joins) c.count_joins.ensures in
+          omega (arith, so_far, more, kept, now);
       at = subst (λ (r : List Interval). before + 1 < box_size r → c.advance.new.index ≡ walk_at r (before + 1)) c.region-region.ensures
           (λ later. c.advance.ensures.next before later (here ∙ ap (λ (r : List Interval). walk_at r before) (sym c.region-region.ensures)));
       many = as_many_written c.loop-line.totals c.write_at.new.self (box_size region) before _ c.loop-line.invariant.many c.write_at.ensures;
@@ -155,9 +162,9 @@ loop-line-preserved c =
     }
 
 pub returns-clause-totals : goal.returns-clause-totals
-returns-clause-totals c =
+returns-clause-totals g c =
     let p = c.args.patch.now in
-    let sums = c.args.sums.now in
+    let sums = (g.S.LineTotals.lines c.args.sums.now) in
     let a = array_of c.args.shape.now.items sums in
     let region = lines_of p.region in
     let item = reduce_item Plus Last (patched a p) in
@@ -168,7 +175,7 @@ returns-clause-totals c =
     )
 
 pub returns-clause-exact : goal.returns-clause-exact
-returns-clause-exact c =
+returns-clause-exact g c =
     let p = c.args.patch.now in
     let last : c.loop-line.line ≡ box_size p.region = omega (arith, c.loop-line-test.false, c.size-lines.ensures, ap box_size c.region-region.ensures) in
     let some : 0 < c.loop-line.line = omega (arith, last, some_place p.region c.args.shape.now.items c.requires.fit.inside) in

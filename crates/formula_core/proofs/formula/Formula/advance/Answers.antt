@@ -1,13 +1,16 @@
-use Rattle.std.proofs.Common.{◌≡◌, ◌∙◌, ◌<◌, ◌≤◌, ◌+◌, List, sym, ap, subst, length, take, get_or, arith, true}
+use Rattle.std.proofs.Common.{◌≡◌, ◌∙◌, ◌<◌, ◌≤◌, ◌+◌, List, sym, ap, subst, length, take, get_or, arith, true, false}
 use Rattle.change_core.specs.Meters.{ticked, MeterValue}
 use Rattle.formula_core.specs.declared.kept.NodeChange.{NodeChange}
 use Rattle.formula_core.specs.Formulas.{is_operation, operations}
 use Rattle.formula_core.specs.Holdings.{not_worked_out}
+use Rattle.change_rules.specs.Nodes.{is_error}
+use Rattle.formula_core.specs.Joins.{least_joins, most_joins}
 use Rattle.formula_core.specs.Plans.{PlanValue, node_cost_at}
 use Rattle.formula_core.specs.Progress.{operations_among}
 use Rattle.formula_core.specs.Stages.{IsBegun, IsDone}
 use Rattle.formula_core.specs.Tables.{subtrees, tree_at}
 use Rattle.formula_core.proofs.Progressed.{node_left, among_more, begun_one, counted_whole, rolled}
+use Rattle.formula_core.proofs.Tallied.{joined_whole}
 use Rattle.formula_core.proofs.formula.Formula.advance.Goals as goal
 
 pub next-requires-clause-below : goal.next-requires-clause-below
@@ -95,3 +98,23 @@ returns-clause-cost c = λ change told planned.
     let seen = subst (λ (ds : List NodeChange). IsBegun f change ds c.args.plan.now.cost) (sym (c.as_slice.ensures.value ∙ was)) planned.begun in
     let cost = subst (λ (ds : List NodeChange). c.in_ok-change.items ≡ node_cost_at f.is_new change (tree_at (subtrees f.tree) (length ds))) (c.as_slice.ensures.value ∙ was) (c.in_ok-change.ensures.cost change told c.args.plan.now.cost seen) in
     c.add.ensures.exact ∙ (ap (λ (p : PlanValue). ticked p.cost c.in_ok-change.items) c.plan.view_is ∙ ap (ticked c.args.plan.now.cost) cost)
+
+pub returns-clause-joins : goal.returns-clause-joins
+returns-clause-joins c = λ change told planned.
+    let f = c.args.self.now in
+    let was : c.plan.inside.changes.items ≡ c.args.plan.now.changes = ap (λ (p : PlanValue). p.changes) c.plan.view_is in
+    let seen = subst (λ (ds : List NodeChange). IsBegun f change ds c.args.plan.now.cost) (sym (c.as_slice.ensures.value ∙ was)) planned.begun in
+    let joins = subst (λ (ds : List NodeChange). c.next.new.meter.joins ≤ c.new-own.result.joins + most_joins f.is_new change (tree_at (subtrees f.tree) (length ds))) (c.as_slice.ensures.value ∙ was) (c.next.ensures.joins change told c.args.plan.now.cost seen) in
+    omega (arith, joins, ap (λ (m : MeterValue). m.joins) c.include.ensures.exact, ap (λ (m : MeterValue). m.joins) c.new-own.ensures)
+
+pub returns-clause-joined : goal.returns-clause-joined
+returns-clause-joined c = λ change told planned computed.
+    let f = c.args.self.now in
+    let was : c.plan.inside.changes.items ≡ c.args.plan.now.changes = ap (λ (p : PlanValue). p.changes) c.plan.view_is in
+    let seen = subst (λ (ds : List NodeChange). IsBegun f change ds c.args.plan.now.cost) (sym (c.as_slice.ensures.value ∙ was)) planned.begun in
+    let t = tree_at (subtrees f.tree) (length c.args.plan.now.changes) in
+    let joined = subst (λ (ds : List NodeChange). is_error c.in_ok-change.change.delta ≡ false → ticked c.new-own.result.joins (least_joins f.is_new change (tree_at (subtrees f.tree) (length ds))) ≤ c.next.new.meter.joins) (c.as_slice.ensures.value ∙ was)
+    (c.in_ok-change.ensures.joined change told c.args.plan.now.cost seen) in
+    let done = subst (λ (ds : List NodeChange). IsDone f.is_new change (tree_at (subtrees f.tree) (length ds)) (get_or f.nodes (length ds) not_worked_out) c.in_ok-change.change) (c.as_slice.ensures.value ∙ was) (c.in_ok-change.ensures.done change told c.args.plan.now.cost seen) in
+    let none : c.new-own.result.joins ≡ 0 = ap (λ (m : MeterValue). m.joins) c.new-own.ensures in
+    joined_whole f.is_new change t c.in_ok-change.change.delta c.args.meter.now.joins c.new-own.result.joins c.next.new.meter.joins _ done.is computed joined none (ap (λ (m : MeterValue). m.joins) c.include.ensures.exact)

@@ -4,6 +4,8 @@ use Rattle.formula_core.specs.declared.kept.Kept.{Kept}
 use Rattle.formula_core.specs.Formulas.{FormulaValue}
 use Rattle.formula_core.specs.Holdings.{Holding, holdings_of, not_worked_out}
 use Rattle.formula_core.specs.Meaning.{names_in}
+use Rattle.change_core.specs.Meters.{ticked}
+use Rattle.formula_core.specs.Joins.{least_joins, most_joins}
 use Rattle.formula_core.specs.Plans.{node_cost_at}
 use Rattle.formula_core.specs.Stages.{IsDone}
 use Rattle.formula_core.specs.Tables.{subtrees, tree_at}
@@ -68,3 +70,24 @@ returns-clause-ticks c = λ change told cost begun.
     let place = length c.args.changes.now in
     let staged = staged_by f c.self.inside.names.items c.self.inside.nodes.items c.self.invariant (ap (λ (v : FormulaValue). v.tree) c.self.view_is) nodes_are change c.args.inputs.now told c.args.changes.now cost begun _ is_new refl c.as_slice.ensures.value refl in
     subst (λ (b : Bool). c.next.new.meter.ticks ≤ c.args.meter.now.ticks + node_cost_at b change (tree_at (subtrees f.tree) place)) is_new (c.next.ensures.ticks change (names_in f.tree) (subtrees f.tree) staged)
+
+pub returns-clause-joins : goal.returns-clause-joins
+returns-clause-joins c = λ change told cost begun.
+    let f = c.args.self.now in
+    let is_new = ap (λ (v : FormulaValue). v.is_new) c.self.view_is in
+    let nodes_are = ap (λ (v : FormulaValue). v.nodes) c.self.view_is in
+    let place = length c.args.changes.now in
+    let staged = staged_by f c.self.inside.names.items c.self.inside.nodes.items c.self.invariant (ap (λ (v : FormulaValue). v.tree) c.self.view_is) nodes_are change c.args.inputs.now told c.args.changes.now cost begun _ is_new refl c.as_slice.ensures.value refl in
+    subst (λ (b : Bool). c.next.new.meter.joins ≤ c.args.meter.now.joins + most_joins b change (tree_at (subtrees f.tree) place)) is_new (c.next.ensures.joins change (names_in f.tree) (subtrees f.tree) staged)
+
+pub returns-clause-joined : goal.returns-clause-joined
+returns-clause-joined c =
+    let f = c.args.self.now in
+    let is_new = ap (λ (v : FormulaValue). v.is_new) c.self.view_is in
+    let nodes_are = ap (λ (v : FormulaValue). v.nodes) c.self.view_is in
+    let place = length c.args.changes.now in
+    IfOk-weaker c.next.result _ _
+    (λ r joined change told cost begun sound.
+    let staged = staged_by f c.self.inside.names.items c.self.inside.nodes.items c.self.invariant (ap (λ (v : FormulaValue). v.tree) c.self.view_is) nodes_are change c.args.inputs.now told c.args.changes.now cost begun _ is_new refl c.as_slice.ensures.value refl in
+    subst (λ (b : Bool). ticked c.args.meter.now.joins (least_joins b change (tree_at (subtrees f.tree) place)) ≤ c.next.new.meter.joins) is_new (joined change (names_in f.tree) (subtrees f.tree) staged sound))
+    c.next.ensures.joined

@@ -4,7 +4,18 @@ use Rattle.formula_core.specs.Plans.{tree_cost}
 use Rattle.formula_core.proofs.Alike.{unchanged_tree_costs_nothing}
 use Rattle.formula_core.proofs.Planned.{planned_at_end, plan_of}
 use Rattle.formula_core.proofs.Progressed.{left_at, part_left, longer, cost_more, cost_within, counted_on, counted_all}
+use Rattle.formula_core.proofs.Tallied.{joined_all, joined_on, joins_more, joins_within, none_joined}
 use Rattle.formula_core.proofs.formula.Formula.plan.Goals as goal
+
+pub loop-plan-init : goal.loop-plan-init
+loop-plan-init c = record {
+  planned = c.in_ok-plan.ensures.planned;
+  ticks = λ change told. omega arith;
+  least = λ change told all. omega (arith, c.in_ok-plan.ensures.cost);
+  joins = λ change told. omega arith;
+  joined = λ change told all. none_joined c.args.self.now change c.in_ok-plan.plan.changes c.args.meter.now.joins c.in_ok-plan.ensures.none;
+  rises = omega arith;
+}
 
 pub advance-requires-clause-left : goal.advance-requires-clause-left
 advance-requires-clause-left c =
@@ -38,6 +49,13 @@ loop-plan-preserved c =
           let so_far = c.loop-plan.invariant.planned change told in
           counted_on c.args.meter.now.ticks c.loop-plan.meter.ticks _ c.loop-plan.plan.cost _ _ (c.loop-plan.invariant.least change told all)
           (c.in_ok-advance.ensures.exact change told so_far (all (length c.loop-plan.plan.changes) below)) (c.in_ok-advance.ensures.cost change told so_far);
+      joins = λ change told.
+          joins_more f.is_new change f.tree (length c.loop-plan.plan.changes) (length c.advance.new.plan.changes) c.args.meter.now.joins c.loop-plan.meter.joins _ below (longer f c.loop-plan.plan.changes c.advance.new.plan.changes one)
+          (c.loop-plan.invariant.joins change told) (c.in_ok-advance.ensures.joins change told (c.loop-plan.invariant.planned change told));
+      joined = λ change told all.
+          let so_far = c.loop-plan.invariant.planned change told in
+          joined_on f change c.loop-plan.plan.changes c.advance.new.plan.changes c.args.meter.now.joins c.loop-plan.meter.joins _ so_far.next under so_far.begun.known one (c.loop-plan.invariant.joined change told all)
+          (c.in_ok-advance.ensures.joined change told so_far (all (length c.loop-plan.plan.changes) below));
       rises = omega (arith, c.loop-plan.invariant.rises, c.advance.ensures.rises);
     }
 
@@ -67,6 +85,23 @@ returns-clause-exact c = λ change told all.
     let planned = planned_at_end f change c.loop-plan.plan (c.loop-plan.invariant.planned change told).begun (rw c.loop-plan-test.false at c.is_whole.ensures) in
     let most = cost_within f.is_new change f.tree (length c.loop-plan.plan.changes) c.args.meter.now.ticks c.loop-plan.meter.ticks (c.loop-plan.invariant.ticks change told) in
     counted_all c.args.meter.now.ticks c.loop-plan.meter.ticks c.loop-plan.plan.cost (tree_cost f.is_new change f.tree) (c.loop-plan.invariant.least change told all) most (omega (arith, c.ticks-counted.ensures, c.ticks-counted.type_inv)) planned.cost
+
+pub returns-in_err-advance-clause-joins : goal.returns-in_err-advance-clause-joins
+returns-in_err-advance-clause-joins c = λ change told.
+    let f = c.args.self.now in
+    omega (arith, ap (λ m. m.joins) c.in_err-advance.ensures.err_meter, joins_within f.is_new change f.tree (length c.loop-plan.plan.changes) c.args.meter.now.joins c.loop-plan.meter.joins (c.loop-plan.invariant.joins change told))
+
+pub returns-clause-joins : goal.returns-clause-joins
+returns-clause-joins c = λ change told.
+    let f = c.args.self.now in
+    joins_within f.is_new change f.tree (length c.loop-plan.plan.changes) c.args.meter.now.joins c.loop-plan.meter.joins (c.loop-plan.invariant.joins change told)
+
+pub returns-clause-joined : goal.returns-clause-joined
+returns-clause-joined c = λ change told all.
+    let f = c.args.self.now in
+    let planned = c.loop-plan.invariant.planned change told in
+    let whole = rw c.loop-plan-test.false at c.is_whole.ensures in
+    joined_all f change c.loop-plan.plan.changes c.args.meter.now.joins c.loop-plan.meter.joins (whole ∙ planned.begun.known) (c.loop-plan.invariant.joined change told all)
 
 pub returns-in_err-advance-clause-still : goal.returns-in_err-advance-clause-still
 returns-in_err-advance-clause-still c = λ old change told same.

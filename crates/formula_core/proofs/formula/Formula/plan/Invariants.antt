@@ -3,6 +3,7 @@ use Rattle.std.specs.List.{sum_by}
 use Rattle.change_core.specs.Meters.{ticked}
 use Rattle.formula_core.specs.Changes.{Change}
 use Rattle.formula_core.specs.Formulas.{operations}
+use Rattle.formula_core.specs.Joins.{least_joins, most_joins}
 use Rattle.formula_core.specs.Plans.{node_cost_at, AllComputed, IsTold}
 use Rattle.formula_core.specs.Progress.{operations_among, IsPlannedTo}
 use Rattle.formula_core.specs.Tables.{subtrees}
@@ -13,6 +14,9 @@ invariant-loop-plan l = record {
   planned : (c : Change) → IsTold l.fn.self c l.fn.inputs → IsPlannedTo l.fn.self c l.plan;
   ticks : (c : Change) → IsTold l.fn.self c l.fn.inputs → l.meter.ticks ≤ l.fn.meter.ticks + sum_by (node_cost_at l.fn.self.is_new c) (take (length l.plan.changes) (subtrees l.fn.self.tree));
   least : (c : Change) → IsTold l.fn.self c l.fn.inputs → AllComputed l.fn.self.is_new c l.fn.self.tree → ticked l.fn.meter.ticks l.plan.cost ≤ l.meter.ticks;
+  joins : (c : Change) → IsTold l.fn.self c l.fn.inputs → l.meter.joins ≤ l.fn.meter.joins + sum_by (most_joins l.fn.self.is_new c) (take (length l.plan.changes) (subtrees l.fn.self.tree));
+  joined : (c : Change) → IsTold l.fn.self c l.fn.inputs → AllComputed l.fn.self.is_new c l.fn.self.tree
+      → ticked l.fn.meter.joins (sum_by (least_joins l.fn.self.is_new c) (take (length l.plan.changes) (subtrees l.fn.self.tree))) ≤ l.meter.joins;
   rises : l.fn.meter.ticks ≤ l.meter.ticks;
 }
 

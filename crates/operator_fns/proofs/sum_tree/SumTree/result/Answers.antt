@@ -1,35 +1,20 @@
-use Rattle.std.proofs.Common.{◌≡◌, ◌∙◌, ◌<◌, ap, sym, subst, refl, length, List, ℤ, vec_len, arith}
-use Rattle.std.proofs.lemmas.Bool.{eqb-false}
+use Rattle.std.proofs.Common.{◌≡◌, ◌∙◌, ap, sym, subst, length, List, ℤ}
 use Rattle.operator_fns.specs.SumTree.{IsReductionBySum}
-use Rattle.operator_fns.specs.SumNodes.{sum_told, run_count, node_summary, IsWithin}
-use Rattle.operator_fns.proofs.SumRuns.{counts}
-use Rattle.operator_fns.proofs.SumTrees.{root_told, kept_leaves}
+use Rattle.operator_fns.specs.SumNodes.{Tells, sums_of, sums_from}
+use Rattle.operator_fns.specs.LineTrees.{one_line, number_of, numbers_in}
+use Rattle.operator_fns.proofs.SumEndings.{told_reduction}
+use Rattle.operator_fns.proofs.ListTrees.{sums_listed, numbers_fit}
 use Rattle.operator_fns.proofs.sum_tree.SumTree.result.Goals as goal
-
-pub summary_at-requires-clause-high : goal.summary_at-requires-clause-high
-summary_at-requires-clause-high c =
-    let some = eqb-false (vec_len c.self.inside.numbers) 0 (sym c.is_empty.ensures ∙ c.if-is_empty.false) in
-    let count = counts c.deref.result.now in
-    let enough = count.enough in
-    omega (arith, some, c.deref.ensures.len)
 
 pub returns : goal.returns
 returns c =
-    let xs = c.self.inside.numbers.items in
-    let inner = c.self.inside.inner.items in
-    let first = c.self.inside.first in
+    let slots = c.self.inside.slots.items in
     let tree = c.self.invariant in
-    let numbers = c.deref.ensures.value in
-    let summaries = c.deref-2.ensures.value in
-    let same : c.summary_at.result ≡ node_summary xs inner first 1 = c.summary_at.ensures.is ∙ (λ i. node_summary (numbers i) (summaries i) first 1) in
-    let bounded = c.summary_at.ensures.bounded in
-    let long = ap (λ (l : List ℤ). length l) numbers in
-    let full = eqb-false (vec_len c.self.inside.numbers) 0 (sym c.is_empty.ensures ∙ c.if-is_empty.false) in
-    let some : 0 < length xs = omega (arith, full, long, c.deref.ensures.len) in
-    let count = counts xs in
-    let enough = count.enough in
-    let runs : 0 < run_count xs = omega arith in
+    let slots_are = c.deref.ensures.value in
+    let long : c.len.result ≡ length slots = c.len.ensures ∙ sym c.deref.ensures.len ∙ ap (λ (l : List ℤ). length l) slots_are in
+    let line : c.one_line-line.result ≡ one_line (length slots) = c.one_line-line.ensures ∙ ap one_line long in
+    let sums = sums_of (numbers_in slots) in
+    let told : Tells c.whole.result sums =
+    subst (Tells c.whole.result) ((λ i. sums_from (number_of (line i) (slots_are i)) 0 ((line i).count)) ∙ sums_listed (number_of (one_line (length slots)) slots) 0 (length slots)) c.whole.ensures in
     subst (λ ys. IsReductionBySum ys c.sum.result) c.self.view_is
-    (subst (IsReductionBySum xs) (sym (c.sum.ensures ∙ ap sum_told same))
-    (root_told (run_count xs) first xs (node_summary xs inner first) runs refl tree.nodes.fit tree.nodes.power (kept_leaves xs inner first) tree.joined bounded.0
-    (subst (IsWithin bounded.0) same bounded.1)))
+    (subst (IsReductionBySum (numbers_in slots)) (sym (c.sum.ensures sums told)) (told_reduction (numbers_in slots) (numbers_fit slots tree.few tree.fit)))

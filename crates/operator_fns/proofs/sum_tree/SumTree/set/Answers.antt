@@ -1,61 +1,61 @@
-use Rattle.std.proofs.Common.{◌≡◌, ◌<◌, ◌/◌, ◌∙◌, ap, sym, subst, ℤ, List, length, set, drop, arith, to_z, of_z, w64, FitsSigned}
+use Rattle.std.proofs.Common.{◌≡◌, ◌∙◌, ℕ, ◌<◌, ap, sym, subst, length, map, get_or, set, drop, List, ℤ, pos, arith, to_z, of_z, w64}
 use Rattle.std.proofs.lemmas.Int.{to_z-of_z}
-use Rattle.std.proofs.lemmas.List.{take_at}
-use Rattle.operator_fns.specs.SumNodes.{AreNodes, AreJoinedBut, run_count, node_summary, leaf_node}
-use Rattle.operator_fns.proofs.SumRuns.{run_of_place, set_count}
-use Rattle.operator_fns.proofs.SumTrees.{nodes_number, replaced_joined, tree_from}
+use Rattle.std.specs.List.{range_with_len}
+use Rattle.std.proofs.lemmas.List.{take_at, length-set}
+use Rattle.operator_fns.specs.declared.summary.Summary.{Summary}
+use Rattle.operator_fns.specs.declared.line_tree.Line.{Line}
+use Rattle.operator_fns.specs.LineTrees.{one_line, number_of, node_of, numbers_in, replaced, AreKept}
+use Rattle.operator_fns.proofs.ListTrees.{length_numbers, number_at, list_replaced, numbers_are, tree_from}
 use Rattle.operator_fns.proofs.sum_tree.SumTree.set.Goals as goal
 
-pub leaf_node-node-requires-clause-place : goal.leaf_node-node-requires-clause-place
-leaf_node-node-requires-clause-place c =
-    let xs = c.self.inside.numbers.items in
+pub write-requires-clause-place : goal.write-requires-clause-place
+write-requires-clause-place c =
+    let slots = c.self.inside.slots.items in
+    let count = ap (λ (l : Line). l.count) c.one_line-line.ensures in
     let seen = ap (λ (l : List ℤ). length l) c.self.view_is in
-    let run = run_of_place xs c.args.place (omega (arith, seen, c.requires)) in
-    omega (arith, run, c.len.ensures, c.self.inside.inner.ok.0, c.self.invariant.nodes.sized)
-
-pub rejoin-requires-clause-nodes : goal.rejoin-requires-clause-nodes
-rejoin-requires-clause-nodes c =
-    let xs = c.self.inside.numbers.items in
-    let first = c.self.inside.first in
-    let z = to_z w64 (of_z w64 c.args.number) in
-    let number : z ≡ c.args.number = to_z-of_z w64 c.args.number c.ranges.number in
-    subst (λ l. AreNodes l c.deref_mut.result.now first) (sym c.deref.ensures.value)
-    (subst (λ l. AreNodes (set xs c.args.place z) l first) (sym c.deref_mut.ensures.value)
-    (nodes_number xs c.self.inside.inner.items first c.args.place z (subst (FitsSigned w64) (sym number) c.ranges.number) c.self.invariant.nodes))
-
-pub rejoin-requires-clause-high : goal.rejoin-requires-clause-high
-rejoin-requires-clause-high c =
-    let xs = c.self.inside.numbers.items in
-    let z = to_z w64 (of_z w64 c.args.number) in
-    let same = ap run_count c.deref.ensures.value ∙ set_count xs c.args.place z in
-    omega (arith, same, c.len.ensures, c.self.inside.inner.ok.0, c.self.invariant.nodes.sized, c.leaf_node-node.ensures.high)
-
-pub rejoin-requires-clause-joined : goal.rejoin-requires-clause-joined
-rejoin-requires-clause-joined c =
-    let xs = c.self.inside.numbers.items in
-    let inner = c.self.inside.inner.items in
-    let first = c.self.inside.first in
-    let place = c.args.place in
-    let z = to_z w64 (of_z w64 c.args.number) in
-    let ys = set xs place z in
-    let seen = ap (λ (l : List ℤ). length l) c.self.view_is in
-    let inside : place < length xs = omega (arith, seen, c.requires) in
-    let count : c.len.result ≡ run_count xs = omega (arith, c.len.ensures, c.self.inside.inner.ok.0, c.self.invariant.nodes.sized) in
-    let leaf = c.leaf_node-node.result in
-    let leaf_is : leaf ≡ leaf_node (run_count xs) first (place / 16) = c.leaf_node-node.ensures.is ∙ ap (λ n. leaf_node n first (place / 16)) count in
-    subst (λ l. AreJoinedBut (leaf / 2) (run_count l) (node_summary l c.deref_mut.result.now first)) (sym c.deref.ensures.value)
-    (subst (λ l. AreJoinedBut (leaf / 2) (run_count ys) (node_summary ys l first)) (sym c.deref_mut.ensures.value)
-    (subst (λ n. AreJoinedBut (leaf / 2) n (node_summary ys inner first)) (sym (set_count xs place z))
-    (subst (λ k. AreJoinedBut (k / 2) (run_count xs) (node_summary ys inner first)) (sym leaf_is) (replaced_joined xs inner first place z inside c.self.invariant))))
+    omega (arith, count, seen, length_numbers slots, c.requires, c.len.ensures, c.self.inside.slots.ok.0)
 
 pub invariant_of-self : goal.invariant_of-self
 invariant_of-self c =
-    let xs = c.self.inside.numbers.items in
-    let inner = c.self.inside.inner.items in
+    let slots = c.self.inside.slots.items in
+    let nodes = c.self.inside.nodes.items in
+    let new_slots = c.write.new.slots in
+    let new_nodes = c.write.new.nodes in
+    let tree = c.self.invariant in
+    let wrote = c.write.ensures in
+    let long : c.len.result ≡ length slots = c.len.ensures ∙ c.self.inside.slots.ok.0 in
+    let line : c.one_line-line.result ≡ one_line (length slots) = c.one_line-line.ensures ∙ ap one_line long in
+    let slot_count : length new_slots ≡ length slots = wrote.slot_count ∙ ap (λ (l : List ℤ). length l) c.deref_mut.ensures.value in
+    let node_count : length new_nodes ≡ length nodes = wrote.node_count ∙ ap (λ (l : List Summary). length l) c.deref_mut-2.ensures.value in
+    let slots_are = take_at new_slots (drop (length new_slots) slots) c.self.inside.slots.len (slot_count ∙ sym c.self.inside.slots.ok.0) in
+    let nodes_are = take_at new_nodes (drop (length new_nodes) nodes) c.self.inside.nodes.len (node_count ∙ sym c.self.inside.nodes.ok.0) in
+    let lined : c.one_line-line.result ≡ one_line (length new_slots) = line ∙ ap one_line (sym slot_count) in
+    tree_from new_slots _ new_nodes _ (sym slots_are) (sym nodes_are) (record {
+      few = omega (arith, slot_count, tree.few);
+      fit = wrote.fit;
+      sized = omega (arith, node_count, slot_count, tree.sized);
+      kept = subst (λ (l : Line). AreKept l.count (number_of l new_slots) (node_of l new_nodes)) lined wrote.kept;
+    })
+
+pub returns : goal.returns
+returns c =
+    let slots = c.self.inside.slots.items in
+    let new_slots = c.write.new.slots in
     let place = c.args.place in
-    let z = to_z w64 (of_z w64 c.args.number) in
-    let same = ap run_count c.deref.ensures.value ∙ set_count xs place z in
-    let made = c.rejoin.new.inner in
-    let count : length made ≡ c.self.inside.inner.len = omega (arith, same, c.self.inside.inner.ok.0, c.self.invariant.nodes.sized, c.rejoin.ensures.nodes.sized) in
-    tree_from c.deref.result.now (set xs place z) made _ c.self.inside.first (sym c.deref.ensures.value) (take_at made (drop (length made) inner) c.self.inside.inner.len count)
-    c.rejoin.ensures.nodes c.rejoin.ensures.joined
+    let number : to_z w64 (of_z w64 c.args.number) ≡ c.args.number = to_z-of_z w64 c.args.number c.ranges.number in
+    let wrote = c.write.ensures in
+    let long : c.len.result ≡ length slots = c.len.ensures ∙ c.self.inside.slots.ok.0 in
+    let line : c.one_line-line.result ≡ one_line (length slots) = c.one_line-line.ensures ∙ ap one_line long in
+    let slot_count : length new_slots ≡ length slots = wrote.slot_count ∙ ap (λ (l : List ℤ). length l) c.deref_mut.ensures.value in
+    let slots_are = take_at new_slots (drop (length new_slots) slots) c.self.inside.slots.len (slot_count ∙ sym c.self.inside.slots.ok.0) in
+    let x = number_of (one_line (length slots)) slots in
+    let same : (i : ℕ) → i < length slots → number_of (one_line (length slots)) new_slots i ≡ get_or (set (numbers_in slots) place c.args.number) i (pos 0) = λ i h.
+    sym (ap (λ (l : Line). number_of l new_slots i) line)
+    ∙ wrote.numbers i (omega (arith, h, ap (λ (l : Line). l.count) line))
+    ∙ (λ k. replaced (number_of (line k) (c.deref_mut.ensures.value k)) place (number k) i)
+    ∙ sym (number_at (replaced x place c.args.number) (length slots) i h)
+    ∙ ap (λ l. get_or l i (pos 0)) (list_replaced x (length slots) place c.args.number) in
+    ap numbers_in slots_are
+    ∙ ap (λ n. map (number_of (one_line n) new_slots) (range_with_len 0 n)) slot_count
+    ∙ numbers_are (number_of (one_line (length slots)) new_slots) (length slots) (set (numbers_in slots) place c.args.number) (length-set (numbers_in slots) place c.args.number ∙ length_numbers slots) same
+    ∙ ap (λ ys. set ys place c.args.number) c.self.view_is

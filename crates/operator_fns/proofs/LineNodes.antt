@@ -1,0 +1,352 @@
+-- What is kept of the parts of a line, while it is joined anew.
+use Rattle.std.proofs.Common.{◌≡◌, ◌≢◌, ℕ, zero, suc, ◌+◌, ◌-◌, ◌*◌, ◌/◌, ◌%◌, ◌^◌, ◌<◌, ◌≤◌, ◌⊎◌, min, List, length, set, refl, ap, sym, subst, ◌∙◌, arith, inl, inr, ℤ}
+use Rattle.std.proofs.lemmas.Nat.{pow_pos, pow-add}
+use Rattle.std.proofs.Math.Nat.{pow-le-pow_right}
+use Rattle.std.proofs.lemmas.Bool.{cases_lt, cases_eq}
+use Rattle.std.proofs.lemmas.List.{get_or-set_same, get_or-set_other}
+use Rattle.operator_fns.specs.declared.summary.Summary.{Summary}
+use Rattle.operator_fns.specs.declared.line_tree.Line.{Line}
+use Rattle.operator_fns.specs.LineTrees.{node_at, node_of, empty, IsKept, AreKept, AreKeptWithin, AreKeptIn, other_half, sums_at}
+use Rattle.operator_fns.specs.SumNodes.{Tells, sums_from}
+use Rattle.operator_fns.proofs.LineParts.{IsClimb, climb_up, odd_block, even_block}
+use Rattle.operator_fns.proofs.LineWrites.{steps_apart}
+
+-- for the parts that a place is not in, and for those that are not wider than this
+abbrev pub AreKeptTo : (width at count : ℕ) → (ℕ → ℤ) → (ℕ → Summary) → Type 0
+AreKeptTo width at count x node = (level place : ℕ) → (4 * 2 ^ level ≤ width ⊎ (at < place * (4 * 2 ^ level) ⊎ place * (4 * 2 ^ level) + 4 * 2 ^ level ≤ at))
+    → IsKept count x node (place * (4 * 2 ^ level)) (2 * 2 ^ level)
+
+-- ---- where the halves of a part meet
+
+-- an odd multiple of a power of two is one of no other
+pub odd_multiples : (a b i j : ℕ) → (2 * a + 1) * 2 ^ i ≡ (2 * b + 1) * 2 ^ j → i ≡ j
+odd_multiples a b i j e = elim (cases_lt i j) [
+  | inl less ↦ absurd (uneven a b i j less e)
+  | inr enough ↦ elim (cases_lt j i) [
+    | inl less ↦ absurd (uneven b a j i less (sym e))
+    | inr rest ↦ omega (arith, enough, rest)
+  ]
+]
+  where
+    uneven : (a b i j : ℕ) → i < j → (2 * a + 1) * 2 ^ i ≡ (2 * b + 1) * 2 ^ j → ⊥
+    uneven a b i j less e =
+        let more = j - i - 1 in
+        let is : j ≡ suc more + i = omega (arith, less) in
+        let power : 2 ^ j ≡ 2 * 2 ^ more * 2 ^ i = ap (λ k. 2 ^ k) is ∙ pow-add 2 (suc more) i ∙ ap (λ p. p * 2 ^ i) (grind arith) in
+        let all : (2 * b + 1) * 2 ^ j ≡ 2 * ((2 * b + 1) * 2 ^ more) * 2 ^ i = ap (λ p. (2 * b + 1) * p) power ∙ grind arith in
+        let same = steps_apart (2 * a + 1) (2 * ((2 * b + 1) * 2 ^ more)) (2 ^ i) (pow_pos i) (e ∙ all) in
+        omega (arith, same)
+
+-- parts with one meeting
+pub meetings_apart : (level place other_level other : ℕ) → place * (4 * 2 ^ level) + 2 * 2 ^ level ≡ other * (4 * 2 ^ other_level) + 2 * 2 ^ other_level → level ≡ other_level
+meetings_apart level place other_level other e =
+    let here : (2 * place + 1) * 2 ^ level * 2 ≡ place * (4 * 2 ^ level) + 2 * 2 ^ level = grind arith in
+    let there : (2 * other + 1) * 2 ^ other_level * 2 ≡ other * (4 * 2 ^ other_level) + 2 * 2 ^ other_level = grind arith in
+    odd_multiples place other level other_level (omega (arith, here, there, e))
+
+-- another node
+pub node_here : (l : Line) (nodes : List Summary) (meeting : ℕ) (s : Summary) → node_at l meeting < length nodes → node_of l (set nodes (node_at l meeting) s) meeting ≡ s
+node_here l nodes meeting s h = get_or-set_same nodes (node_at l meeting) s empty h
+
+pub node_other : (l : Line) (nodes : List Summary) (m k : ℕ) (s : Summary) → 0 < l.step → 1 ≤ m → 1 ≤ k → k ≢ m → node_of l (set nodes (node_at l (2 * m)) s) (2 * k) ≡ node_of l nodes (2 * k)
+node_other l nodes m k s some h g other =
+    get_or-set_other nodes (node_at l (2 * m)) (node_at l (2 * k)) s empty (λ e. other (
+    let halves : 2 * m / 2 ≡ m = omega arith in
+    let halves2 : 2 * k / 2 ≡ k = omega arith in
+    let same = steps_apart (2 * k / 2 - 1) (2 * m / 2 - 1) l.step some (omega (arith, e)) in
+    omega (arith, same, halves, halves2, h, g)))
+
+-- ---- a step up from a place
+
+-- what is kept after a step: the wider part's summary where the two halves of it meet, or nothing new where there is no second half
+abbrev pub IsStepUp : (l : Line) (nodes after : List Summary) (block width : ℕ) → Summary → Type 0
+IsStepUp l nodes after block width s =
+    (after ≡ set nodes (node_at l ((block / 2 * 2 + 1) * width)) s × node_at l ((block / 2 * 2 + 1) * width) < length nodes)
+    ⊎ (after ≡ nodes × block % 2 ≡ 0 × l.count ≤ block * width + width)
+
+module _ (l : Line) (nodes after : List Summary) (x : ℕ → ℤ) (at block width : ℕ) (s : Summary) (climb : IsClimb at block width) (wide : 2 ≤ width) (some : 0 < l.step)
+    (kept : AreKeptTo width at l.count x (node_of l nodes)) (told : Tells s (sums_at l.count x (block / 2) (2 * width))) (new : IsStepUp l nodes after block width s) where
+  low_level : (below : ℕ) × climb.level ≡ suc below
+  low_level = pick climb.level climb.width_is
+    where
+      pick : (level : ℕ) → width ≡ 2 ^ level → (below : ℕ) × level ≡ suc below
+      pick zero e = let no : ⊥ = omega (arith, e, wide) in absurd no
+      pick (suc below) e = (below, refl)
+
+  half : ℕ
+  half = 2 ^ low_level.0
+
+  width_is : width ≡ 2 * half
+  unfolding half
+  width_is = climb.width_is ∙ ap (λ k. 2 ^ k) low_level.1 ∙ grind arith
+
+  meeting : ℕ
+  meeting = (block / 2 * 2 + 1) * width
+
+  meeting_is : meeting ≡ block / 2 * (4 * half) + 2 * half
+  unfolding meeting half
+  meeting_is = ap (λ w. (block / 2 * 2 + 1) * w) width_is ∙ grind arith
+
+  twice : (place unit : ℕ) → place * (4 * unit) + 2 * unit ≡ 2 * ((2 * place + 1) * unit)
+  twice place unit = grind arith
+
+  stays : (level place : ℕ) → place * (4 * 2 ^ level) + 2 * 2 ^ level ≢ block / 2 * (4 * half) + 2 * half
+      → node_of l after (place * (4 * 2 ^ level) + 2 * 2 ^ level) ≡ node_of l nodes (place * (4 * 2 ^ level) + 2 * 2 ^ level)
+  unfolding meeting half
+  stays level place apart = elim new [
+    | inl set_so ↦
+        let here = twice place (2 ^ level) in
+        let there = meeting_is ∙ twice (block / 2) half in
+        let first : 1 ≤ (2 * place + 1) * 2 ^ level = let p = pow_pos level in let e : (2 * place + 1) * 2 ^ level ≡ 2 * (place * 2 ^ level) + 2 ^ level = grind arith in omega (arith, p, e) in
+        let second : 1 ≤ (2 * (block / 2) + 1) * half = let p = pow_pos low_level.0 in let e : (2 * (block / 2) + 1) * half ≡ 2 * (block / 2 * half) + half = grind arith in omega (arith, p, e) in
+        ap (λ (ns : List Summary). node_of l ns (place * (4 * 2 ^ level) + 2 * 2 ^ level)) (set_so.0 ∙ ap (λ m. set nodes (node_at l m) s) there)
+        ∙ ap (node_of l (set nodes (node_at l (2 * ((2 * (block / 2) + 1) * half))) s)) here
+        ∙ node_other l nodes ((2 * (block / 2) + 1) * half) ((2 * place + 1) * 2 ^ level) s some second first (λ e. apart (here ∙ ap (λ k. 2 * k) e ∙ sym (twice (block / 2) half)))
+        ∙ sym (ap (node_of l nodes) here)
+    | inr none ↦ ap (λ (ns : List Summary). node_of l ns (place * (4 * 2 ^ level) + 2 * 2 ^ level)) none.0
+  ]
+
+  -- the step's own part
+  renewed : (level place : ℕ) → suc level ≡ climb.level → place ≡ block / 2 → IsKept l.count x (node_of l after) (place * (4 * 2 ^ level)) (2 * 2 ^ level)
+  unfolding meeting half
+  renewed level place e f inside = elim new [
+    | inl set_so ↦
+        subst (λ n. Tells n (sums_from x (place * (4 * unit)) (min (2 * (2 * unit)) (l.count - place * (4 * unit)))))
+        (sym (ap (node_of l after) (sym meets) ∙ ap (λ (ns : List Summary). node_of l ns meeting) set_so.0 ∙ node_here l nodes meeting s set_so.1))
+        (subst (Tells s) (λ i. sums_from x (start i) (min (double i) (l.count - start i))) told)
+    | inr none ↦
+        let at = even_block block width none.1 in
+        let no : ⊥ = omega (arith, at.0, at.2, start, w, none.2, inside) in
+        absurd no
+  ]
+    where
+      unit : ℕ
+      unit = 2 ^ level
+
+      w : width ≡ 2 * unit
+      w = climb.width_is ∙ sym (ap (λ k. 2 ^ k) e) ∙ grind arith
+
+      double : 2 * width ≡ 2 * (2 * unit)
+      double = ap (λ k. 2 * k) w
+
+      start : block / 2 * (2 * width) ≡ place * (4 * unit)
+      start = (λ i. sym f i * (2 * w i)) ∙ grind arith
+
+      meets : meeting ≡ place * (4 * unit) + 2 * unit
+      meets = (λ i. (sym f i * 2 + 1) * w i) ∙ grind arith
+
+  -- a part of the same width elsewhere has not the place
+  elsewhere : (level place : ℕ) → suc level ≡ climb.level → place ≢ block / 2 → at < place * (4 * 2 ^ level) ⊎ place * (4 * 2 ^ level) + 4 * 2 ^ level ≤ at
+  elsewhere level place e other = elim (cases_lt place (block / 2)) [
+    | inl less ↦
+        let more = block / 2 - place - 1 in
+        let is : block / 2 ≡ place + 1 + more = omega (arith, less) in
+        let all : block / 2 * (4 * unit) ≡ place * (4 * unit) + 4 * unit + more * (4 * unit) = ap (λ k. k * (4 * unit)) is ∙ grind arith in
+        inr (omega (arith, all, start, up.low))
+    | inr enough ↦
+        let more = place - block / 2 - 1 in
+        let is : place ≡ block / 2 + 1 + more = omega (arith, enough, other) in
+        let all : place * (4 * unit) ≡ block / 2 * (4 * unit) + 4 * unit + more * (4 * unit) = ap (λ k. k * (4 * unit)) is ∙ grind arith in
+        inl (omega (arith, all, start, w, up.high))
+  ]
+    where
+      unit : ℕ
+      unit = 2 ^ level
+
+      up : IsClimb at (block / 2) (2 * width)
+      up = climb_up at block width climb
+
+      w : width ≡ 2 * unit
+      w = climb.width_is ∙ sym (ap (λ k. 2 ^ k) e) ∙ grind arith
+
+      start : block / 2 * (2 * width) ≡ block / 2 * (4 * unit)
+      start = ap (λ k. block / 2 * (2 * k)) w ∙ grind arith
+
+  -- a part that is not wider than the step's, and of another width, is narrower than its half
+  narrower : (level : ℕ) → suc level ≢ climb.level → 4 * 2 ^ level ≤ 2 * width → 4 * 2 ^ level ≤ width
+  narrower level differ few = elim (cases_lt (suc level) climb.level) [
+    | inl less ↦
+        let two : 0 < 2 = omega arith in
+        let more : 2 ^ suc (suc level) ≤ 2 ^ climb.level = pow-le-pow_right two less in
+        let double : 2 ^ suc (suc level) ≡ 4 * 2 ^ level = grind arith in
+        let is = climb.width_is in
+        omega (arith, more, double, is)
+    | inr enough ↦
+        let two : 0 < 2 = omega arith in
+        let above : suc climb.level ≤ suc level = omega (arith, enough, differ) in
+        let more : 2 ^ suc climb.level ≤ 2 ^ suc level = pow-le-pow_right two above in
+        let double : 2 ^ suc level ≡ 2 * 2 ^ level = grind arith in
+        let double_width : 2 ^ suc climb.level ≡ 2 * 2 ^ climb.level = grind arith in
+        let is = climb.width_is in
+        let positive = pow_pos climb.level in
+        let no : ⊥ = omega (arith, more, double, double_width, is, few, positive) in
+        absurd no
+  ]
+
+  pub step_up : AreKeptTo (2 * width) at l.count x (node_of l after)
+  unfolding half
+  step_up level place h = elim (cases_eq (suc level) climb.level) [
+    | inl e ↦ elim (cases_eq place (block / 2)) [
+      | inl f ↦ renewed level place e f
+      | inr other ↦ λ inside.
+          let unit = 2 ^ level in
+          let w : half ≡ unit = ap (λ k. 2 ^ k) (omega (arith, e, low_level.1)) in
+          let apart : place * (4 * unit) + 2 * unit ≢ block / 2 * (4 * half) + 2 * half = λ same.
+          let there : block / 2 * (4 * half) ≡ block / 2 * (4 * unit) = ap (λ k. block / 2 * (4 * k)) w in
+          let positive : 0 < 4 * unit = let p = pow_pos level in omega (arith, p) in
+          other (steps_apart place (block / 2) (4 * unit) positive (omega (arith, same, there, w))) in
+          subst (λ n. Tells n (sums_from x (place * (4 * unit)) (min (2 * (2 * unit)) (l.count - place * (4 * unit))))) (sym (stays level place apart))
+          (kept level place (inr (elsewhere level place e other)) inside)
+    ]
+    | inr differ ↦ λ inside.
+        let unit = 2 ^ level in
+        let apart : place * (4 * unit) + 2 * unit ≢ block / 2 * (4 * half) + 2 * half = λ same. differ (ap (λ k. suc k) (meetings_apart level place low_level.0 (block / 2) same) ∙ sym low_level.1) in
+        let old : 4 * unit ≤ width ⊎ (at < place * (4 * unit) ⊎ place * (4 * unit) + 4 * unit ≤ at) = elim h [
+          | inl few ↦ inl (narrower level differ few)
+          | inr beside ↦ inr beside
+        ] in
+        subst (λ n. Tells n (sums_from x (place * (4 * unit)) (min (2 * (2 * unit)) (l.count - place * (4 * unit))))) (sym (stays level place apart))
+        (kept level place old inside)
+  ]
+
+-- at the end of the way up all is kept
+pub all_kept : (width at count : ℕ) (x : ℕ → ℤ) (node : ℕ → Summary) → (level : ℕ) → width ≡ 2 ^ level → count ≤ width → AreKeptTo width at count x node → AreKept count x node
+all_kept width at count x node top is wide kept level place inside = kept level place (inl few) inside
+  where
+    few : 4 * 2 ^ level ≤ width
+    few = elim (cases_lt (suc level) top) [
+      | inl less ↦
+          let two : 0 < 2 = omega arith in
+          let more : 2 ^ suc (suc level) ≤ 2 ^ top = pow-le-pow_right two less in
+          let double : 2 ^ suc (suc level) ≡ 4 * 2 ^ level = grind arith in
+          omega (arith, more, double, is)
+      | inr enough ↦
+          let two : 0 < 2 = omega arith in
+          let more : 2 ^ top ≤ 2 ^ suc level = pow-le-pow_right two enough in
+          let double : 2 ^ suc level ≡ 2 * 2 ^ level = grind arith in
+          let no : ⊥ = omega (arith, more, double, is, wide, inside) in
+          absurd no
+    ]
+
+-- the parts of the other half have not the place
+pub kept_beside : (width at block count : ℕ) (x : ℕ → ℤ) (node : ℕ → Summary) → IsClimb at block width → AreKeptTo width at count x node → AreKeptIn (other_half block * width) width count x node
+kept_beside width at block count x node climb kept level place low high = kept level place (inr beside)
+  where
+    beside : at < place * (4 * 2 ^ level) ⊎ place * (4 * 2 ^ level) + 4 * 2 ^ level ≤ at
+    beside = elim (cases_eq (block % 2) 0) [
+      | inl even ↦ let a = even_block block width even in inl (omega (arith, a.0, a.1, low, climb.high))
+      | inr odd ↦ let is : block % 2 ≡ 1 = omega (arith, odd) in let a = odd_block block width is in inr (omega (arith, a.0, a.1, high, climb.low))
+    ]
+
+-- ---- level by level
+
+-- for all narrower parts, and for the first ones whose halves are so wide
+abbrev pub AreKeptBefore : (half first count : ℕ) → (ℕ → ℤ) → (ℕ → Summary) → Type 0
+AreKeptBefore half first count x node = (level place : ℕ) → (4 * 2 ^ level ≤ half ⊎ 4 * 2 ^ level ≡ 2 * half × place < first) → IsKept count x node (place * (4 * 2 ^ level)) (2 * 2 ^ level)
+
+-- one more
+pub fill_on : (l : Line) (nodes : List Summary) (x : ℕ → ℤ) (at half : ℕ) (first : ℕ) (s : Summary) → half ≡ 2 * 2 ^ at → 0 < l.step
+    → node_at l (first * (2 * half) + half) < length nodes → Tells s (sums_from x (first * (2 * half)) (min (2 * half) (l.count - first * (2 * half))))
+    → AreKeptBefore half first l.count x (node_of l nodes) → AreKeptBefore half (suc first) l.count x (node_of l (set nodes (node_at l (first * (2 * half) + half)) s))
+fill_on l nodes x at half first s is some inside told kept level place h = elim (cases_eq level at) [
+  | inl e ↦ elim (cases_eq place first) [
+    | inl f ↦ λ below.
+        let unit : 2 * 2 ^ level ≡ half = ap (λ k. 2 * 2 ^ k) e ∙ sym is in
+        let start : place * (4 * 2 ^ level) ≡ first * (2 * half) = (λ i. f i * (4 * 2 ^ e i)) ∙ ap (λ k. first * k) (omega (arith, is)) in
+        let double : 2 * (2 * 2 ^ level) ≡ 2 * half = ap (λ k. 2 * k) unit in
+        subst (λ n. Tells n (sums_from x (place * (4 * 2 ^ level)) (min (2 * (2 * 2 ^ level)) (l.count - place * (4 * 2 ^ level)))))
+        (sym ((λ i. node_of l (set nodes (node_at l (first * (2 * half) + half)) s) (start i + unit i)) ∙ node_here l nodes (first * (2 * half) + half) s inside))
+        (subst (Tells s) (sym (λ i. sums_from x (start i) (min (double i) (l.count - start i)))) told)
+    | inr other ↦ λ below.
+        let apart : place * (4 * 2 ^ level) + 2 * 2 ^ level ≢ first * (4 * 2 ^ at) + 2 * 2 ^ at = λ same.
+        let there : place * (4 * 2 ^ at) ≡ place * (4 * 2 ^ level) = sym (ap (λ k. place * (4 * 2 ^ k)) e) in
+        let unit : 2 ^ level ≡ 2 ^ at = ap (λ k. 2 ^ k) e in
+        let positive : 0 < 4 * 2 ^ at = let p = pow_pos at in omega (arith, p) in
+        other (steps_apart place first (4 * 2 ^ at) positive (omega (arith, same, there, unit))) in
+        moved apart (kept level place (elim h [
+          | inl few ↦ let unit : 2 ^ level ≡ 2 ^ at = ap (λ k. 2 ^ k) e in let p = pow_pos at in let no : ⊥ = omega (arith, few, unit, is, p) in absurd no
+          | inr here ↦ inr (here.0, omega (arith, here.1, other))
+        ]) below)
+  ]
+  | inr differ ↦ λ below.
+      moved (λ same. differ (meetings_apart level place at first same)) (kept level place (elim h [
+        | inl few ↦ inl few
+        | inr here ↦
+            let powers : 2 ^ suc (suc level) ≡ 2 ^ suc (suc at) = let a : 2 ^ suc (suc level) ≡ 4 * 2 ^ level = grind arith in let b : 2 ^ suc (suc at) ≡ 4 * 2 ^ at = grind arith in omega (arith, a, b, here.0, is) in
+            let one : (2 * 0 + 1) * 2 ^ suc (suc level) ≡ (2 * 0 + 1) * 2 ^ suc (suc at) = omega (arith, powers) in
+            let same = odd_multiples 0 0 (suc (suc level)) (suc (suc at)) one in
+            let no : ⊥ = differ (omega (arith, same)) in
+            absurd no
+      ]) below)
+]
+  where
+    meets : first * (2 * half) + half ≡ first * (4 * 2 ^ at) + 2 * 2 ^ at
+    meets = (λ i. first * (2 * is i) + is i) ∙ grind arith
+
+    twice : (place unit : ℕ) → place * (4 * unit) + 2 * unit ≡ 2 * ((2 * place + 1) * unit)
+    twice place unit = grind arith
+
+    some_of : (place level : ℕ) → 1 ≤ (2 * place + 1) * 2 ^ level
+    some_of place level = let p = pow_pos level in let e : (2 * place + 1) * 2 ^ level ≡ 2 * (place * 2 ^ level) + 2 ^ level = grind arith in omega (arith, p, e)
+
+    moved : place * (4 * 2 ^ level) + 2 * 2 ^ level ≢ first * (4 * 2 ^ at) + 2 * 2 ^ at
+        → Tells (node_of l nodes (place * (4 * 2 ^ level) + 2 * 2 ^ level)) (sums_from x (place * (4 * 2 ^ level)) (min (2 * (2 * 2 ^ level)) (l.count - place * (4 * 2 ^ level))))
+        → Tells (node_of l (set nodes (node_at l (first * (2 * half) + half)) s) (place * (4 * 2 ^ level) + 2 * 2 ^ level)) (sums_from x (place * (4 * 2 ^ level)) (min (2 * (2 * 2 ^ level)) (l.count - place * (4 * 2 ^ level))))
+    moved apart =
+        let here = twice place (2 ^ level) in
+        let there = meets ∙ twice first (2 ^ at) in
+        let same = ap (λ m. node_of l (set nodes (node_at l m) s) (place * (4 * 2 ^ level) + 2 * 2 ^ level)) there
+        ∙ ap (node_of l (set nodes (node_at l (2 * ((2 * first + 1) * 2 ^ at))) s)) here
+        ∙ node_other l nodes ((2 * first + 1) * 2 ^ at) ((2 * place + 1) * 2 ^ level) s some (some_of first at) (some_of place level)
+        (λ e. apart (here ∙ ap (λ k. 2 * k) e ∙ sym (twice first (2 ^ at))))
+        ∙ sym (ap (node_of l nodes) here) in
+        subst (λ n. Tells n (sums_from x (place * (4 * 2 ^ level)) (min (2 * (2 * 2 ^ level)) (l.count - place * (4 * 2 ^ level))))) (sym same)
+
+-- once the last of these parts is done
+pub level_done : (half at first count : ℕ) (x : ℕ → ℤ) (node : ℕ → Summary) → half ≡ 2 * 2 ^ at → count ≤ first * (2 * half) + half → AreKeptBefore half first count x node
+    → AreKeptWithin (2 * half) count x node
+level_done half at first count x node is last kept level place few inside = kept level place which inside
+  where
+    which : 4 * 2 ^ level ≤ half ⊎ 4 * 2 ^ level ≡ 2 * half × place < first
+    which = elim (cases_lt level at) [
+      | inl less ↦
+          let two : 0 < 2 = omega arith in
+          let more : 2 ^ suc level ≤ 2 ^ at = pow-le-pow_right two less in
+          let double : 2 ^ suc level ≡ 2 * 2 ^ level = grind arith in
+          inl (omega (arith, more, double, is))
+      | inr enough ↦
+          let two : 0 < 2 = omega arith in
+          let more : 2 ^ at ≤ 2 ^ level = pow-le-pow_right two enough in
+          let same : 4 * 2 ^ level ≡ 2 * half = omega (arith, more, few, is) in
+          let start : place * (4 * 2 ^ level) ≡ place * (2 * half) = ap (λ k. place * k) same in
+          inr (
+            same,
+            elim (cases_lt place first) [
+              | inl before ↦ before
+              | inr after ↦
+                  let rest = place - first in
+                  let sum : place ≡ first + rest = omega (arith, after) in
+                  let all : place * (2 * half) ≡ first * (2 * half) + rest * (2 * half) = ap (λ k. k * (2 * half)) sum ∙ grind arith in
+                  let no : ⊥ = omega (arith, all, start, same, inside, last) in
+                  absurd no
+            ],
+          )
+    ]
+
+-- once no wider part has a second half
+pub levels_done : (half at count : ℕ) (x : ℕ → ℤ) (node : ℕ → Summary) → half ≡ 2 * 2 ^ at → count ≤ half → AreKeptWithin half count x node → AreKept count x node
+levels_done half at count x node is wide kept level place inside = kept level place few inside
+  where
+    few : 4 * 2 ^ level ≤ half
+    few = elim (cases_lt level at) [
+      | inl less ↦
+          let two : 0 < 2 = omega arith in
+          let more : 2 ^ suc level ≤ 2 ^ at = pow-le-pow_right two less in
+          let double : 2 ^ suc level ≡ 2 * 2 ^ level = grind arith in
+          omega (arith, more, double, is)
+      | inr enough ↦
+          let two : 0 < 2 = omega arith in
+          let more : 2 ^ at ≤ 2 ^ level = pow-le-pow_right two enough in
+          let no : ⊥ = omega (arith, more, is, wide, inside) in
+          absurd no
+    ]

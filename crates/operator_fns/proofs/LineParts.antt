@@ -1,0 +1,270 @@
+-- Parts of a line of numbers: their sums, and where they begin.
+use Rattle.std.proofs.Common.{◌≡◌, ◌≢◌, ℕ, zero, suc, ◌+◌, ◌-◌, ◌*◌, ◌/◌, ◌%◌, ◌^◌, ◌<◌, ◌≤◌, min, refl, ap, sym, ◌∙◌, arith, inl, inr, List, ℤ, ◌-ℤ◌, ◌&&◌, nat_lt, w64}
+use Rattle.std.specs.Int.{IsNextPowerOfTwo, int_wrap}
+use Rattle.std.proofs.lemmas.Nat.{pow_pos, pow-add}
+use Rattle.std.proofs.Math.Nat.{pow-le-pow_right}
+use Rattle.std.proofs.lemmas.Bool.{cases_lt, cases_eq, and_from, eq-eqb, ne_eqb, lt-ltb, le-ltb, cond-true, cond-false}
+use Rattle.operator_fns.specs.SumNodes.{none, single, join, IsOrdered, sums_from}
+use Rattle.operator_fns.specs.declared.line_tree.Line.{Line}
+use Rattle.operator_fns.specs.LineTrees.{IsPart, slot_of, number_of, other_half, AreSameIn, sums_at, replaced}
+use Rattle.operator_fns.proofs.JoinedSums.{join_assoc, join_none, none_join, ordered_join, ordered_single, ordered_none}
+
+-- ---- the sums of a part
+
+pub ordered_from : (x : ℕ → ℤ) (from count : ℕ) → IsOrdered (sums_from x from count)
+ordered_from x from zero = ordered_none
+ordered_from x from (suc count) = ordered_join (single (x from)) (sums_from x (from + 1) count) (ordered_single (x from)) (ordered_from x (from + 1) count)
+
+pub sums_split : (x : ℕ → ℤ) (from a b : ℕ) → sums_from x from (a + b) ≡ join (sums_from x from a) (sums_from x (from + a) b)
+sums_split x from zero b =
+    let here : from + zero ≡ from = omega arith in
+    let all : zero + b ≡ b = omega arith in
+    ap (sums_from x from) all ∙ sym (none_join (sums_from x from b) (ordered_from x from b)) ∙ sym (ap (λ k. join none (sums_from x k b)) here)
+sums_split x from (suc a) b =
+    let all : suc a + b ≡ suc (a + b) = omega arith in
+    let next : from + 1 + a ≡ from + suc a = omega arith in
+    ap (sums_from x from) all
+    ∙ ap (join (single (x from))) (sums_split x (from + 1) a b ∙ ap (λ k. join (sums_from x (from + 1) a) (sums_from x k b)) next)
+    ∙ sym (join_assoc (single (x from)) (sums_from x (from + 1) a) (sums_from x (from + suc a) b))
+
+pub sums_same : (x y : ℕ → ℤ) (from count : ℕ) → ((i : ℕ) → from ≤ i → i < from + count → x i ≡ y i) → sums_from x from count ≡ sums_from y from count
+sums_same x y from zero same = refl
+sums_same x y from (suc count) same =
+    let here = same from (omega arith) (omega arith) in
+    let later = sums_same x y (from + 1) count (λ i low high. same i (omega (arith, low)) (omega (arith, high))) in
+    λ i. join (single (here i)) (later i)
+
+pub sums_one : (x : ℕ → ℤ) (from : ℕ) → sums_from x from 1 ≡ single (x from)
+sums_one x from = join_none (single (x from)) (ordered_single (x from))
+
+pub sums_two : (x : ℕ → ℤ) (from : ℕ) → sums_from x from 2 ≡ join (single (x from)) (single (x (from + 1)))
+sums_two x from = ap (join (single (x from))) (sums_one x (from + 1))
+
+-- ---- where a part begins
+
+-- the least part that has so many numbers, where they are the first of a part
+pub record IsLeast (from width long p : ℕ) : Type 0 where
+  pub level : ℕ
+  pub place : ℕ
+  pub power : p ≡ 2 ^ level
+  pub from_is : from ≡ place * 2 ^ level
+  pub enough : long ≤ p
+  pub within : p ≤ width
+
+pub least_part : (from width long p : ℕ) → IsPart from width → 1 ≤ long → long ≤ width → IsNextPowerOfTwo long p → IsLeast from width long p
+least_part from width long p part some few next = elim (cases_lt part.level e) [
+  | inl above ↦
+      let below = e - 1 in
+      let up : e ≡ suc below = omega arith in
+      let double : 2 ^ suc below ≡ 2 * 2 ^ below = grind arith in
+      let p_is : p ≡ 2 * 2 ^ below = next.0.1 ∙ ap (λ k. 2 ^ k) up ∙ double in
+      let two : 0 < 2 = omega arith in
+      let more : 2 ^ part.level ≤ 2 ^ below = pow-le-pow_right two (omega arith) in
+      let positive = pow_pos below in
+      let width_is = part.width_is in
+      let half = next.2 in
+      let no : ⊥ = omega (arith, half, few) in
+      absurd no
+  | inr within ↦
+      let rest = part.level - e in
+      let all : part.level ≡ rest + e = omega arith in
+      let pieces : 2 ^ part.level ≡ 2 ^ rest * 2 ^ e = ap (λ k. 2 ^ k) all ∙ pow-add 2 rest e in
+      let two : 0 < 2 = omega arith in
+      let less : 2 ^ e ≤ 2 ^ part.level = pow-le-pow_right two within in
+      let width_is = part.width_is in
+      let p_is = next.0.1 in
+      record {
+        level = e;
+        place = part.place * 2 ^ rest;
+        power = next.0.1;
+        from_is = part.from_is ∙ ap (λ k. part.place * k) pieces ∙ grind arith;
+        enough = next.1;
+        within = omega arith;
+      }
+]
+  where
+    e : ℕ
+    e = next.0.0
+
+-- a power of two whose half is 1
+pub one_level : (level p : ℕ) → p ≡ 2 ^ level → p / 2 ≡ 1 → level ≡ 1
+one_level zero p is half = let no : ⊥ = omega (arith, is, half) in absurd no
+one_level (suc zero) p is half = refl
+one_level (suc (suc more)) p is half =
+    let double : 2 ^ suc (suc more) ≡ 4 * 2 ^ more = grind arith in
+    let positive = pow_pos more in
+    let no : ⊥ = omega (arith, is, half) in
+    absurd no
+
+-- one whose half is more
+pub more_levels : (level p : ℕ) → p ≡ 2 ^ level → 2 ≤ p → (p / 2 ≡ 1 → ⊥) → (less : ℕ) × (p ≡ 4 * 2 ^ less) × (level ≡ suc (suc less))
+more_levels zero p is some half = let no : ⊥ = omega (arith, is, some) in absurd no
+more_levels (suc zero) p is some half = let one : p / 2 ≡ 1 = omega (arith, is) in absurd (half one)
+more_levels (suc (suc more)) p is some half = let double : 2 ^ suc (suc more) ≡ 4 * 2 ^ more = grind arith in (more, is ∙ double, refl)
+
+-- ---- the numbers of a line
+
+-- at an even place that another one comes after
+pub number_before : (l : Line) (slots : List ℤ) (place : ℕ) → place % 2 ≡ 0 → place + 1 < l.count
+    → number_of l slots place ≡ int_wrap w64 (slot_of l slots place -ℤ slot_of l slots (place + 1))
+number_before l slots place even next = cond-true _ _ _ (and_from _ _ (eq-eqb (place % 2) 0 even) (lt-ltb (place + 1) l.count next))
+
+-- at an odd place
+pub number_odd : (l : Line) (slots : List ℤ) (place : ℕ) → place % 2 ≡ 1 → number_of l slots place ≡ slot_of l slots place
+number_odd l slots place odd = cond-false _ _ _ (ap (λ b. b && nat_lt (place + 1) l.count) (ne_eqb (place % 2) 0 (λ e. let no : ⊥ = omega (arith, e, odd) in no)))
+
+-- at the last place
+pub number_last : (l : Line) (slots : List ℤ) (place : ℕ) → l.count ≤ place + 1 → number_of l slots place ≡ slot_of l slots place
+number_last l slots place last = elim (cases_eq (place % 2) 0) [
+  | inl even ↦ cond-false _ _ _ ((λ i. eq-eqb (place % 2) 0 even i && le-ltb (place + 1) l.count last i))
+  | inr odd ↦ number_odd l slots place (omega (arith, odd))
+]
+
+-- ---- a part and the one twice as wide
+
+-- where it begins
+pub odd_block : (block width : ℕ) → block % 2 ≡ 1 → (block * width ≡ 2 * (block / 2 * width) + width) × (other_half block * width ≡ 2 * (block / 2 * width)) × (block / 2 * (2 * width) ≡ 2 * (block / 2 * width))
+odd_block block width odd =
+    let half = block / 2 in
+    let is : block ≡ 2 * half + 1 = omega (arith, odd) in
+    let before : block - 1 ≡ 2 * half = omega (arith, odd) in
+    (ap (λ b. b * width) is ∙ grind arith, ap (λ b. b * width) (cond-false _ _ _ (ne_eqb (block % 2) 0 (λ e. let no : ⊥ = omega (arith, e, odd) in no)) ∙ before) ∙ grind arith, grind arith)
+
+pub even_block : (block width : ℕ) → block % 2 ≡ 0 → (block * width ≡ 2 * (block / 2 * width)) × (other_half block * width ≡ 2 * (block / 2 * width) + width) × (block / 2 * (2 * width) ≡ 2 * (block / 2 * width))
+even_block block width even =
+    let half = block / 2 in
+    let is : block ≡ 2 * half = omega (arith, even) in
+    let behind : block + 1 ≡ 2 * half + 1 = omega (arith, even) in
+    (ap (λ b. b * width) is ∙ grind arith, ap (λ b. b * width) (cond-true _ _ _ (eq-eqb (block % 2) 0 even) ∙ behind) ∙ grind arith, grind arith)
+
+module _ (count : ℕ) (x : ℕ → ℤ) (block width : ℕ) where
+  pub widen_odd : block % 2 ≡ 1 → block * width < count
+      → join (sums_from x (block * width - width) (min width (count - (block * width - width)))) (sums_at count x block width) ≡ sums_at count x (block / 2) (2 * width)
+  widen_odd odd below =
+      let at = odd_block block width odd in
+      let start = block / 2 * (2 * width) in
+      let first : block * width - width ≡ start = omega (arith, at.0, at.2) in
+      let whole : min width (count - (block * width - width)) ≡ width = omega (arith, at.0, below) in
+      let next : block * width ≡ start + width = omega (arith, at.0, at.2) in
+      let all : width + min width (count - block * width) ≡ min (2 * width) (count - start) = omega (arith, at.0, at.2, below) in
+      (λ i. join (sums_from x (first i) (whole i)) (sums_from x (next i) (min width (count - block * width))))
+      ∙ sym (sums_split x start width (min width (count - block * width)))
+      ∙ ap (sums_from x start) all
+
+  pub widen_even : block % 2 ≡ 0 → block * width + width < count
+      → join (sums_at count x block width) (sums_from x (block * width + width) (min width (count - (block * width + width)))) ≡ sums_at count x (block / 2) (2 * width)
+  widen_even even below =
+      let at = even_block block width even in
+      let start = block / 2 * (2 * width) in
+      let first : block * width ≡ start = omega (arith, at.0, at.2) in
+      let whole : min width (count - block * width) ≡ width = omega (arith, below) in
+      let next : block * width + width ≡ start + width = omega (arith, at.0, at.2) in
+      let all : width + min width (count - (block * width + width)) ≡ min (2 * width) (count - start) = omega (arith, at.0, at.2, below) in
+      (λ i. join (sums_from x (first i) (whole i)) (sums_from x (next i) (min width (count - (block * width + width)))))
+      ∙ sym (sums_split x start width (min width (count - (block * width + width))))
+      ∙ ap (sums_from x start) all
+
+  pub widen_alone : block % 2 ≡ 0 → block * width < count → count ≤ block * width + width → sums_at count x block width ≡ sums_at count x (block / 2) (2 * width)
+  widen_alone even some last =
+      let at = even_block block width even in
+      let start = block / 2 * (2 * width) in
+      let first : block * width ≡ start = omega (arith, at.0, at.2) in
+      let all : min width (count - block * width) ≡ min (2 * width) (count - start) = omega (arith, at.0, at.2, some, last) in
+      λ i. sums_from x (first i) (all i)
+
+-- ---- the way up from a place
+
+-- so far up: the block of the place
+pub record IsClimb (place block width : ℕ) : Type 0 where
+  pub level : ℕ
+  pub width_is : width ≡ 2 ^ level
+  pub low : block * width ≤ place
+  pub high : place < block * width + width
+
+pub climb_start : (place : ℕ) → IsClimb place place 1
+climb_start place = record { level = 0; width_is = refl; low = grind arith; high = grind arith }
+
+pub climb_up : (place block width : ℕ) → IsClimb place block width → IsClimb place (block / 2) (2 * width)
+climb_up place block width climb = record {
+  level = suc climb.level;
+  width_is = ap (λ w. 2 * w) climb.width_is ∙ grind arith;
+  low = within.0;
+  high = within.1;
+}
+  where
+    within : (block / 2 * (2 * width) ≤ place) × (place < block / 2 * (2 * width) + 2 * width)
+    within = elim (cases_eq (block % 2) 0) [
+      | inl even ↦ let at = even_block block width even in (omega (arith, at.0, at.2, climb.low), omega (arith, at.0, at.2, climb.high))
+      | inr odd ↦
+          let is : block % 2 ≡ 1 = omega (arith, odd) in
+          let at = odd_block block width is in
+          (omega (arith, at.0, at.2, climb.low), omega (arith, at.0, at.2, climb.high))
+    ]
+
+pub level_up : (place block width : ℕ) (climb : IsClimb place block width) → (climb_up place block width climb).level ≡ suc climb.level
+unfolding climb_up
+level_up place block width climb = refl
+
+-- at its end the block is the whole line
+pub climb_end : (count place block width : ℕ) → IsClimb place block width → place < count → count ≤ width → block ≡ 0
+climb_end count place zero width climb h wide = refl
+climb_end count place (suc block) width climb h wide =
+    let more : suc block * width ≡ block * width + width = grind arith in
+    let no : ⊥ = omega (arith, more, climb.low, h, wide) in
+    absurd no
+
+-- as many levels as the count less one has binary digits
+pub levels_within : (level digits count : ℕ) → 2 ^ level < 2 * count → count - 1 < 2 ^ digits → level ≤ digits
+levels_within level digits count few enough = elim (cases_lt digits level) [
+  | inl above ↦
+      let two : 0 < 2 = omega arith in
+      let more : 2 ^ suc digits ≤ 2 ^ level = pow-le-pow_right two above in
+      let double : 2 ^ suc digits ≡ 2 * 2 ^ digits = grind arith in
+      let no : ⊥ = omega (arith, more, double, few, enough) in
+      absurd no
+  | inr within ↦ within
+]
+
+-- the number at the place, and those at others
+pub replaced_here : (x : ℕ → ℤ) (place : ℕ) (z : ℤ) → replaced x place z place ≡ z
+replaced_here x place z = cond-true _ _ _ (eq-eqb place place refl)
+
+pub replaced_other : (x : ℕ → ℤ) (place : ℕ) (z : ℤ) (i : ℕ) → i ≢ place → replaced x place z i ≡ x i
+replaced_other x place z i h = cond-false _ _ _ (ne_eqb i place h)
+
+-- the other half has no number of the block
+pub other_half_same : (place block width : ℕ) (x : ℕ → ℤ) (z : ℤ) → IsClimb place block width → AreSameIn (other_half block * width) width x (replaced x place z)
+other_half_same place block width x z climb i low high = sym (replaced_other x place z i apart)
+  where
+    apart : i ≢ place
+    apart e = elim (cases_eq (block % 2) 0) [
+      | inl even ↦ let at = even_block block width even in omega (arith, at.0, at.1, low, high, e, climb.low, climb.high)
+      | inr odd ↦
+          let is : block % 2 ≡ 1 = omega (arith, odd) in
+          let at = odd_block block width is in
+          omega (arith, at.0, at.1, low, high, e, climb.low, climb.high)
+    ]
+
+-- ---- a part of two numbers and more
+
+-- it begins at an even place
+pub even_start : (from width : ℕ) → IsPart from width → 1 < width → from % 2 ≡ 0
+even_start from width part wide = pick part.level part.width_is part.from_is
+  where
+    pick : (level : ℕ) → width ≡ 2 ^ level → from ≡ part.place * 2 ^ level → from % 2 ≡ 0
+    pick zero is at = let no : ⊥ = omega (arith, is, wide) in absurd no
+    pick (suc level) is at =
+        let power : 2 ^ suc level ≡ 2 * 2 ^ level = grind arith in
+        let double : part.place * 2 ^ suc level ≡ 2 * (part.place * 2 ^ level) = ap (λ p. part.place * p) power ∙ grind arith in
+        omega (arith, at, double)
+
+-- one of more than two has four or eight and so on
+pub two_levels : (from width : ℕ) (part : IsPart from width) → 1 < width → (width ≡ 2 → ⊥) → (less : ℕ) × (width ≡ 4 * 2 ^ less) × (from ≡ part.place * (4 * 2 ^ less))
+two_levels from width part wide other = pick part.level part.width_is part.from_is
+  where
+    pick : (level : ℕ) → width ≡ 2 ^ level → from ≡ part.place * 2 ^ level → (less : ℕ) × (width ≡ 4 * 2 ^ less) × (from ≡ part.place * (4 * 2 ^ less))
+    pick zero is at = let no : ⊥ = omega (arith, is, wide) in absurd no
+    pick (suc zero) is at = let two : width ≡ 2 = omega (arith, is) in absurd (other two)
+    pick (suc (suc less)) is at =
+        let four : 2 ^ suc (suc less) ≡ 4 * 2 ^ less = grind arith in
+        (less, is ∙ four, at ∙ ap (λ k. part.place * k) four)

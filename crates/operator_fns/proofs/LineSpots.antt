@@ -1,0 +1,96 @@
+-- Where the slots and the nodes of different lines lie.
+use Rattle.std.proofs.Common.{◌≡◌, ◌≢◌, ◌∙◌, ℕ, ◌+◌, ◌-◌, ◌*◌, ◌/◌, ◌%◌, ◌^◌, ◌<◌, ◌≤◌, sym, ap, arith}
+use Rattle.std.proofs.lemmas.Nat.{div-add-mod', div-mul-add, same_from_place, mul-add-lt, div_below, mod_below, mul-le}
+use Rattle.operator_fns.specs.LineTrees.{slot_at, node_at, HasSlots, IsIn}
+use Rattle.operator_fns.specs.SumTrees.{line_at, nodes_in_line, AreLines}
+
+-- the spot of a place of a line among lines that have so many each
+abbrev pub spot : (unit step line place : ℕ) → ℕ
+spot unit step line place = line / step * (unit * step) + line % step + place * step
+
+-- as a place in a grid
+pub spot_is : (unit step line place : ℕ) → spot unit step line place ≡ (line / step * unit + place) * step + line % step
+spot_is unit step line place = grind arith
+
+-- spots of different lines are apart
+pub same_line : (unit step a b i j : ℕ) → 0 < step → i < unit → j < unit → spot unit step a i ≡ spot unit step b j → a ≡ b
+same_line unit step a b i j some p q e =
+    let both = same_from_place (a / step * unit + i) (a % step) (b / step * unit + j) (b % step) step (mod_below a step some) (mod_below b step some)
+    (sym (spot_is unit step a i) ∙ e ∙ spot_is unit step b j) in
+    let blocks = same_from_place (a / step) i (b / step) j unit p q both.0 in
+    sym (div-add-mod' a step) ∙ (λ k. blocks.0 k * step + both.1 k) ∙ div-add-mod' b step
+
+-- all spots lie within
+pub spot_inside : (unit step blocks line place : ℕ) → 0 < step → line < blocks * step → place < unit → spot unit step line place < blocks * (unit * step)
+spot_inside unit step blocks line place some h p =
+    let row = mul-add-lt (line / step) unit place blocks (div_below line step blocks some h) p in
+    let all = mul-add-lt (line / step * unit + place) step (line % step) (unit * blocks) row (mod_below line step some) in
+    let order : step * (unit * blocks) ≡ blocks * (unit * step) = grind arith in
+    omega (arith, all, order, spot_is unit step line place)
+
+module _ (count step slots : ℕ) (are : AreLines count step slots) where
+  -- how many blocks of as many lines as the step there are
+  pub blocks : ℕ
+  blocks = slots / (count * step)
+
+  pub slots_are : slots ≡ blocks * (count * step)
+  unfolding blocks
+  slots_are = let parts = div-add-mod' slots (count * step) in omega (arith, parts, are.whole)
+
+  pub lines_are : slots / count ≡ blocks * step
+  lines_are =
+      let all : slots ≡ blocks * step * count + 0 = slots_are ∙ grind arith in
+      ap (λ n. n / count) all ∙ div-mul-add (blocks * step) count 0 are.some
+
+  pub all_slots : slots ≡ slots / count * count
+  all_slots = slots_are ∙ grind arith ∙ ap (λ n. n * count) (sym lines_are)
+
+  pub fewer_nodes : (nodes : ℕ) → nodes ≡ slots / count * nodes_in_line count → nodes ≤ slots
+  fewer_nodes nodes sized =
+      let less = mul-le (slots / count) (nodes_in_line count) (slots / count) count (omega arith) (omega arith) in
+      omega (arith, less, sized, all_slots)
+
+  module _ (line : ℕ) (h : line < slots / count) where
+    pub line_below : line < blocks * step
+    line_below = omega (arith, h, lines_are)
+
+    -- a line is not longer than the list
+    pub line_fits : line / step * (count * step) + count * step ≤ slots
+    line_fits =
+        let row = div_below line step blocks are.apart line_below in
+        let most : (line / step + 1) * (count * step) ≤ blocks * (count * step) = mul-le (line / step + 1) (count * step) blocks (count * step) (omega (arith, row)) (omega arith) in
+        let sum : (line / step + 1) * (count * step) ≡ line / step * (count * step) + count * step = grind arith in
+        omega (arith, most, sum, slots_are)
+
+    pub slot_within : (place : ℕ) → place < count → slot_at (line_at count step line) place < slots
+    slot_within place p = let inside = spot_inside count step blocks line place are.apart line_below p in omega (arith, inside, slots_are)
+
+    pub node_within : (nodes : ℕ) → nodes ≡ slots / count * nodes_in_line count → (meeting : ℕ) → 2 ≤ meeting → meeting < count → node_at (line_at count step line) meeting < nodes
+    node_within nodes sized meeting low high =
+        let within = spot_inside (nodes_in_line count) step blocks line (meeting / 2 - 1) are.apart line_below (omega (arith, low, high)) in
+        let many : nodes ≡ blocks * (nodes_in_line count * step) = sized ∙ ap (λ n. n * nodes_in_line count) lines_are ∙ grind arith in
+        omega (arith, within, many)
+
+    pub in_slots : slots < 2 ^ 62 → HasSlots (line_at count step line) slots
+    in_slots few = record { few = count_few; apart = are.apart; fit = omega (arith, few); slot = slot_within }
+      where
+        count_few : count < 2 ^ 62
+        count_few =
+            let some = are.apart in
+            let wide : count * 1 ≤ count * step = mul-le count 1 count step (omega arith) (omega (arith, some)) in
+            omega (arith, line_fits, wide, few)
+
+    pub in_both : (nodes : ℕ) → nodes ≡ slots / count * nodes_in_line count → slots < 2 ^ 62 → IsIn (line_at count step line) slots nodes
+    in_both nodes sized few = record {
+      slots = in_slots few;
+      nodes = record { fit = omega (arith, few, fewer_nodes nodes sized); node = node_within nodes sized };
+    }
+
+-- a slot of one line is none of another
+pub slots_apart : (count step a b i j : ℕ) → 0 < step → i < count → j < count → a ≢ b → slot_at (line_at count step a) i ≢ slot_at (line_at count step b) j
+slots_apart count step a b i j some p q apart e = apart (same_line count step a b i j some p q e)
+
+-- and a node of one line none of another
+pub nodes_apart : (count step a b m n : ℕ) → 0 < step → 2 ≤ m → m < count → 2 ≤ n → n < count → a ≢ b → node_at (line_at count step a) m ≢ node_at (line_at count step b) n
+nodes_apart count step a b m n some low high low2 high2 apart e =
+    apart (same_line (nodes_in_line count) step a b (m / 2 - 1) (n / 2 - 1) some (omega (arith, low, high)) (omega (arith, low2, high2)) e)

@@ -1,0 +1,179 @@
+-- Lines behind others.
+use Rattle.std.proofs.Common.{◌≡◌, ◌∙◌, ℕ, ◌+◌, ◌-◌, ◌*◌, ◌/◌, ◌%◌, ◌^◌, ◌<◌, ◌≤◌, ℤ, pos, List, [], ◌++◌, length, get_or, sym, ap, subst, arith, refl, inl, inr, FitsSigned, w64}
+use Rattle.std.proofs.lemmas.Bool.{cases_lt}
+use Rattle.std.proofs.lemmas.List.{ext_get_or, length-append, get_or_append_left, get_or-append-add, get_or-append_right}
+use Rattle.std.proofs.lemmas.List.Elements.{All-append}
+use Rattle.std.proofs.lemmas.Nat.{div-add-mod', div-mul-add, mod-mul-add, mod_below, mul-le}
+use Rattle.operator_fns.specs.declared.summary.Summary.{Summary}
+use Rattle.operator_fns.specs.LineTrees.{slot_at, node_at, number_of, node_of, empty, AreKept}
+use Rattle.operator_fns.specs.SumTrees.{line_at, lines_kept, nodes_in_line, AreLineTrees}
+use Rattle.operator_fns.proofs.LineSpots.{spot, blocks, slots_are, lines_are, all_slots, slot_within, node_within}
+use Rattle.operator_fns.proofs.LineTables.{same_over, numbers_alike, numbers_moved, kept_alike, lines_count, kept_line}
+
+-- the spots of a line behind whole blocks
+pub spot_behind : (unit step blocks line place : ℕ) → 0 < step → spot unit step (blocks * step + line) place ≡ blocks * (unit * step) + spot unit step line place
+spot_behind unit step blocks line place some =
+    let low = mod_below line step some in
+    let parts : blocks * step + line ≡ (blocks + line / step) * step + line % step = ap (λ k. blocks * step + k) (sym (div-add-mod' line step)) ∙ grind arith in
+    let row = ap (λ k. k / step) parts ∙ div-mul-add (blocks + line / step) step (line % step) low in
+    let first = ap (λ k. k % step) parts ∙ mod-mul-add (blocks + line / step) step (line % step) low in
+    (λ i. row i * (unit * step) + first i + place * step) ∙ grind arith
+
+module _ (count step : ℕ) (slots more : List ℤ) (nodes more_nodes : List Summary) (old : AreLineTrees count step slots nodes) (new : AreLineTrees count step more more_nodes) where
+  old_lines : ℕ
+  old_lines = length slots / count
+
+  new_lines : ℕ
+  new_lines = length more / count
+
+  old_blocks : ℕ
+  old_blocks = blocks count step (length slots) old.lines
+
+  old_are : old_lines ≡ old_blocks * step
+  unfolding old_lines old_blocks
+  old_are = lines_are count step (length slots) old.lines
+
+  -- as many lines as both have
+  all_lines : length (slots ++ more) / count ≡ old_lines + new_lines
+  unfolding old_lines new_lines
+  all_lines =
+      let long = length-append slots more in
+      let sum : length slots / count * count + length more / count * count ≡ (length slots / count + length more / count) * count + 0 = grind arith in
+      let one = all_slots count step (length slots) old.lines in
+      let other = all_slots count step (length more) new.lines in
+      ap (λ n. n / count) (omega (arith, long, sum, one, other)) ∙ div-mul-add (length slots / count + length more / count) count 0 old.lines.some
+
+  -- where the slots and the nodes of the later lines lie
+  slot_behind : (line place : ℕ) → slot_at (line_at count step (old_lines + line)) place ≡ length slots + slot_at (line_at count step line) place
+  unfolding old_lines old_blocks
+  slot_behind line place =
+      ap (λ n. spot count step (n + line) place) old_are
+      ∙ spot_behind count step old_blocks line place old.lines.apart
+      ∙ ap (λ n. n + spot count step line place) (sym (slots_are count step (length slots) old.lines))
+
+  node_behind : (line meeting : ℕ) → node_at (line_at count step (old_lines + line)) meeting ≡ length nodes + node_at (line_at count step line) meeting
+  unfolding old_lines old_blocks
+  node_behind line meeting =
+      let half = nodes_in_line count in
+      let many : length nodes ≡ old_blocks * (half * step) = old.sized ∙ ap (λ n. n * half) old_are ∙ grind arith in
+      ap (λ n. spot half step (n + line) (meeting / 2 - 1)) old_are
+      ∙ spot_behind half step old_blocks line (meeting / 2 - 1) old.lines.apart
+      ∙ ap (λ n. n + spot half step line (meeting / 2 - 1)) (sym many)
+
+  -- the numbers of both
+  first_numbers : (line : ℕ) → line < old_lines → (i : ℕ) → i < count → number_of (line_at count step line) (slots ++ more) i ≡ number_of (line_at count step line) slots i
+  unfolding old_lines
+  first_numbers line h = numbers_alike (line_at count step line) slots (slots ++ more) (λ i p.
+      get_or_append_left slots more (pos 0) (slot_at (line_at count step line) i) (slot_within count step (length slots) old.lines line h i p))
+
+  later_numbers : (line i : ℕ) → i < count → number_of (line_at count step (old_lines + line)) (slots ++ more) i ≡ number_of (line_at count step line) more i
+  later_numbers line = numbers_moved (line_at count step line) (line_at count step (old_lines + line)) more (slots ++ more) refl (λ i p.
+      ap (λ k. get_or (slots ++ more) k (pos 0)) (slot_behind line i) ∙ get_or-append-add slots more (slot_at (line_at count step line) i) (pos 0))
+
+  pub more_lines : lines_kept count step (slots ++ more) ≡ lines_kept count step slots ++ lines_kept count step more
+  unfolding old_lines new_lines
+  more_lines = ext_get_or [] all (first ++ later) long same
+    where
+      all : List (List ℤ)
+      all = lines_kept count step (slots ++ more)
+
+      first : List (List ℤ)
+      first = lines_kept count step slots
+
+      later : List (List ℤ)
+      later = lines_kept count step more
+
+      long : length all ≡ length (first ++ later)
+      long = lines_count count step (slots ++ more) ∙ all_lines ∙ sym (length-append first later ∙ (λ i. lines_count count step slots i + lines_count count step more i))
+
+      same : (k : ℕ) → k < length all → get_or all k [] ≡ get_or (first ++ later) k []
+      same k h =
+          let within : k < length (slots ++ more) / count = omega (arith, h, lines_count count step (slots ++ more)) in
+          let old_count = lines_count count step slots in
+          elim (cases_lt k (length slots / count)) [
+            | inl before ↦
+                kept_line count step (slots ++ more) k within
+                ∙ same_over (number_of (line_at count step k) (slots ++ more)) (number_of (line_at count step k) slots) 0 count (λ i low high. first_numbers k before i (omega (arith, high)))
+                ∙ sym (kept_line count step slots k before)
+                ∙ sym (get_or_append_left first later [] k (omega (arith, before, old_count)))
+            | inr after ↦
+                let j = k - length slots / count in
+                let is : k ≡ length slots / count + j = omega (arith, after) in
+                kept_line count step (slots ++ more) k within
+                ∙ same_over (number_of (line_at count step k) (slots ++ more)) (number_of (line_at count step j) more) 0 count
+                (λ i low high. ap (λ n. number_of (line_at count step n) (slots ++ more) i) is ∙ later_numbers j i (omega (arith, high)))
+                ∙ sym (kept_line count step more j (omega (arith, within, all_lines, after)))
+                ∙ sym (get_or-append_right first later (length slots / count) k [] old_count after)
+          ]
+
+  -- what is kept of the parts of both
+  pub more_trees : AreLineTrees count step (slots ++ more) (nodes ++ more_nodes)
+  unfolding old_lines new_lines
+  more_trees = record {
+    lines = record {
+      some = old.lines.some;
+      apart = old.lines.apart;
+      whole = whole;
+    };
+    fit = All-append (FitsSigned w64) slots more old.fit new.fit;
+    sized = length-append nodes more_nodes ∙ (λ i. old.sized i + new.sized i) ∙ grind arith ∙ ap (λ n. n * nodes_in_line count) (sym all_lines);
+    kept = λ k h. elim (cases_lt k (length slots / count)) [
+      | inl before ↦
+          kept_alike count (number_of (line_at count step k) slots) (number_of (line_at count step k) (slots ++ more)) (node_of (line_at count step k) nodes)
+          (node_of (line_at count step k) (nodes ++ more_nodes)) (first_numbers k before) (first_nodes k before) (old.kept k before)
+      | inr after ↦
+          let j = k - length slots / count in
+          let is : k ≡ length slots / count + j = omega (arith, after) in
+          subst (λ n. AreKept count (number_of (line_at count step n) (slots ++ more)) (node_of (line_at count step n) (nodes ++ more_nodes))) (sym is)
+          (kept_alike count (number_of (line_at count step j) more) (number_of (line_at count step (length slots / count + j)) (slots ++ more)) (node_of (line_at count step j) more_nodes)
+          (node_of (line_at count step (length slots / count + j)) (nodes ++ more_nodes)) (later_numbers j) (later_nodes j) (new.kept j (omega (arith, h, all_lines, after))))
+    ];
+  }
+    where
+      whole : length (slots ++ more) % (count * step) ≡ 0
+      whole =
+          let block = count * step in
+          let more_blocks = blocks count step (length more) new.lines in
+          let sum : blocks count step (length slots) old.lines * block + more_blocks * block ≡ (blocks count step (length slots) old.lines + more_blocks) * block + 0 = grind arith in
+          let one = slots_are count step (length slots) old.lines in
+          let other = slots_are count step (length more) new.lines in
+          let some = old.lines.some in
+          let apart = old.lines.apart in
+          let wide : 1 * 1 ≤ count * step = mul-le 1 1 count step (omega (arith, some)) (omega (arith, apart)) in
+          ap (λ n. n % block) (omega (arith, length-append slots more, sum, one, other))
+          ∙ mod-mul-add (blocks count step (length slots) old.lines + more_blocks) block 0 (omega (arith, wide))
+
+      first_nodes : (line : ℕ) → line < length slots / count → (meeting : ℕ) → 2 ≤ meeting → meeting < count
+          → node_of (line_at count step line) (nodes ++ more_nodes) meeting ≡ node_of (line_at count step line) nodes meeting
+      first_nodes line h meeting low high =
+          get_or_append_left nodes more_nodes empty (node_at (line_at count step line) meeting) (node_within count step (length slots) old.lines line h (length nodes) old.sized meeting low high)
+
+      later_nodes : (line meeting : ℕ) → 2 ≤ meeting → meeting < count
+          → node_of (line_at count step (length slots / count + line)) (nodes ++ more_nodes) meeting ≡ node_of (line_at count step line) more_nodes meeting
+      later_nodes line meeting low high =
+          ap (λ k. get_or (nodes ++ more_nodes) k empty) (node_behind line meeting) ∙ get_or-append-add nodes more_nodes (node_at (line_at count step line) meeting) empty
+
+-- ---- how many slots and nodes there are in all
+
+-- so many lines have few slots and nodes
+pub record AreFew (lines count : ℕ) : Type 0 where
+  pub lines_few : lines < 2 ^ 63
+  pub slots_few : lines * count < 2 ^ 63
+  pub nodes_few : lines * nodes_in_line count < 2 ^ 63
+
+pub few_in_all : (old new count numbers : ℕ) → 0 < count → new ≡ numbers / count → old * count + numbers < 2 ^ 63 → AreFew (old + new) count
+few_in_all old new count numbers some many few =
+    let parts = div-add-mod' numbers count in
+    let new_slots : new * count ≡ numbers / count * count = ap (λ n. n * count) many in
+    let sum : (old + new) * count ≡ old * count + new * count = grind arith in
+    let wide : (old + new) * 1 ≤ (old + new) * count = mul-le (old + new) 1 (old + new) count (omega arith) (omega (arith, some)) in
+    let half : (old + new) * nodes_in_line count ≤ (old + new) * count = mul-le (old + new) (nodes_in_line count) (old + new) count (omega arith) (omega arith) in
+    record {
+      lines_few = omega (arith, parts, new_slots, sum, wide, few);
+      slots_few = omega (arith, parts, new_slots, sum, few);
+      nodes_few = omega (arith, parts, new_slots, sum, half, few);
+    }
+
+-- of lines of so many slots each, and of others behind them
+pub in_all : (old new held more each : ℕ) → held ≡ old * each → more ≡ new * each → (old + new) * each ≡ held + more
+in_all old new held more each a b = let sum : (old + new) * each ≡ old * each + new * each = grind arith in omega (arith, sum, a, b)

@@ -1,0 +1,135 @@
+use Rattle.std.proofs.Common.{◌≡◌, ◌∙◌, ◌+◌, ◌*◌, ◌/◌, ◌<◌, ◌^◌, ◌++◌, ℤ, List, length, sym, ap, subst, arith, vec_capacity}
+use Rattle.arrays_core.specs.Growth.{HasRoom}
+use Rattle.operator_fns.specs.declared.summary.Summary.{Summary}
+use Rattle.operator_fns.specs.SumTrees.{TreesValue, NewTreesValue, nodes_in_line, lines_kept, with_lines, AreLineTrees}
+use Rattle.operator_fns.proofs.LineSpots.{all_slots, fewer_nodes}
+use Rattle.operator_fns.proofs.LineTables.{lines_count}
+use Rattle.operator_fns.proofs.MoreLines.{in_all, more_lines, more_trees}
+use Rattle.operator_fns.proofs.sum_trees.SumTrees.grow.Goals.{After-trees}
+use Rattle.operator_fns.proofs.sum_trees.SumTrees.grow.Goals as goal
+
+-- ---- the new lines are as long as the old ones, their neighbours as far apart, and the room is for them
+
+seen_count : (c : After-trees) → c.more.inside.trees.count ≡ c.self.inside.count
+seen_count c = ap (λ (n : NewTreesValue). n.count) c.more.view_is ∙ c.requires.count ∙ sym (ap (λ (t : TreesValue). t.count) c.self.view_is)
+
+same_count : (c : After-trees) → c.trees.inside.count ≡ c.self.inside.count
+same_count c = ap (λ (t : TreesValue). t.count) c.trees.view_is ∙ seen_count c
+
+same_step : (c : After-trees) → c.trees.inside.step ≡ c.self.inside.step
+same_step c =
+    ap (λ (t : TreesValue). t.step) c.trees.view_is ∙ ap (λ (n : NewTreesValue). n.step) c.more.view_is ∙ c.requires.step ∙ sym (ap (λ (t : TreesValue). t.step) c.self.view_is)
+
+new_trees : (c : After-trees) → AreLineTrees c.self.inside.count c.self.inside.step c.trees.inside.slots.items c.trees.inside.nodes.items
+new_trees c =
+    subst (λ step. AreLineTrees c.self.inside.count step c.trees.inside.slots.items c.trees.inside.nodes.items) (same_step c)
+    (subst (λ count. AreLineTrees count c.trees.inside.step c.trees.inside.slots.items c.trees.inside.nodes.items) (same_count c) c.trees.invariant.trees)
+
+new_lines : (c : After-trees) → lines_kept c.self.inside.count c.self.inside.step c.trees.inside.slots.items ≡ c.more.inside.trees.lines
+new_lines c =
+    ap (λ count. lines_kept count c.self.inside.step c.trees.inside.slots.items) (sym (same_count c))
+    ∙ ap (λ step. lines_kept c.trees.inside.count step c.trees.inside.slots.items) (sym (same_step c))
+    ∙ ap (λ (t : TreesValue). t.lines) c.trees.view_is
+
+old_count : (c : After-trees) → c.more.inside.old_lines ≡ length c.self.inside.slots.items / c.self.inside.count
+old_count c =
+    ap (λ (n : NewTreesValue). n.old_lines) c.more.view_is ∙ c.requires.old_lines ∙ sym (ap (λ (t : TreesValue). length t.lines) c.self.view_is)
+    ∙ lines_count c.self.inside.count c.self.inside.step c.self.inside.slots.items
+
+new_count : (c : After-trees) → length c.more.inside.trees.lines ≡ length c.trees.inside.slots.items / c.self.inside.count
+new_count c = sym (ap (λ (ls : List (List ℤ)). length ls) (new_lines c)) ∙ lines_count c.self.inside.count c.self.inside.step c.trees.inside.slots.items
+
+-- how many slots there are, in lines
+held_slots : (c : After-trees) → length c.self.inside.slots.items ≡ c.more.inside.old_lines * c.self.inside.count
+held_slots c =
+    all_slots c.self.inside.count c.self.inside.step (length c.self.inside.slots.items) c.self.invariant.trees.lines ∙ ap (λ n. n * c.self.inside.count) (sym (old_count c))
+
+more_slots : (c : After-trees) → length c.trees.inside.slots.items ≡ length c.more.inside.trees.lines * c.self.inside.count
+more_slots c =
+    let trees = new_trees c in
+    all_slots c.self.inside.count c.self.inside.step (length c.trees.inside.slots.items) trees.lines ∙ ap (λ n. n * c.self.inside.count) (sym (new_count c))
+
+slots_in_all : (c : After-trees) → (c.more.inside.old_lines + length c.more.inside.trees.lines) * c.self.inside.count ≡ length c.self.inside.slots.items + length c.trees.inside.slots.items
+slots_in_all c =
+    in_all c.more.inside.old_lines (length c.more.inside.trees.lines) (length c.self.inside.slots.items) (length c.trees.inside.slots.items) c.self.inside.count (held_slots c) (more_slots c)
+
+slot_room : (c : After-trees) → HasRoom (length c.self.inside.slots.items) (length c.self.inside.slots.items + length c.trees.inside.slots.items) (vec_capacity c.more.inside.slots)
+slot_room c =
+    let count = c.self.inside.count in
+    let old = c.more.inside.old_lines in
+    let new = length c.more.inside.trees.lines in
+    let capacity = vec_capacity c.more.inside.slots in
+    subst (λ n. HasRoom n (length c.self.inside.slots.items + length c.trees.inside.slots.items) capacity) (sym (held_slots c))
+    (subst (λ n. HasRoom (old * count) n capacity) (slots_in_all c)
+    (subst (λ n. HasRoom (old * n) ((old + new) * n) capacity) (seen_count c) c.more.invariant.slot_room))
+
+node_room : (c : After-trees) → HasRoom (length c.self.inside.nodes.items) (length c.self.inside.nodes.items + length c.trees.inside.nodes.items) (vec_capacity c.more.inside.nodes)
+node_room c =
+    let count = c.self.inside.count in
+    let step = c.self.inside.step in
+    let old = c.more.inside.old_lines in
+    let new = length c.more.inside.trees.lines in
+    let capacity = vec_capacity c.more.inside.nodes in
+    let trees = new_trees c in
+    let held = c.self.invariant.trees.sized ∙ ap (λ n. n * nodes_in_line count) (sym (old_count c)) in
+    let more = trees.sized ∙ ap (λ n. n * nodes_in_line count) (sym (new_count c)) in
+    subst (λ n. HasRoom n (length c.self.inside.nodes.items + length c.trees.inside.nodes.items) capacity) (sym held)
+    (subst (λ n. HasRoom (old * nodes_in_line count) n capacity) (in_all old new (length c.self.inside.nodes.items) (length c.trees.inside.nodes.items) (nodes_in_line count) held more)
+    (subst (λ n. HasRoom (old * nodes_in_line n) ((old + new) * nodes_in_line n) capacity) (seen_count c) c.more.invariant.node_room))
+
+few_slots : (c : After-trees) → length c.self.inside.slots.items + length c.trees.inside.slots.items < 2 ^ 63
+few_slots c =
+    let few = subst (λ n. (c.more.inside.old_lines + length c.more.inside.trees.lines) * n < 2 ^ 63) (seen_count c) c.more.invariant.few in
+    omega (arith, few, slots_in_all c)
+
+few_nodes : (c : After-trees) → length c.self.inside.nodes.items + length c.trees.inside.nodes.items < 2 ^ 63
+few_nodes c =
+    let count = c.self.inside.count in
+    let step = c.self.inside.step in
+    let trees = new_trees c in
+    let old = fewer_nodes count step (length c.self.inside.slots.items) c.self.invariant.trees.lines (length c.self.inside.nodes.items) c.self.invariant.trees.sized in
+    let new = fewer_nodes count step (length c.trees.inside.slots.items) trees.lines (length c.trees.inside.nodes.items) trees.sized in
+    omega (arith, old, new, few_slots c)
+
+pub put_behind-requires-clause-few : goal.put_behind-requires-clause-few
+put_behind-requires-clause-few c = omega (arith, few_slots c)
+
+pub put_behind-requires-2-clause-few : goal.put_behind-requires-2-clause-few
+put_behind-requires-2-clause-few c = omega (arith, few_nodes (goal.at.put_behind-requires-2-clause-few c).After-trees)
+
+pub put_behind-requires-clause-room : goal.put_behind-requires-clause-room
+put_behind-requires-clause-room c = slot_room c
+
+pub put_behind-requires-2-clause-room : goal.put_behind-requires-2-clause-room
+put_behind-requires-2-clause-room c = node_room (goal.at.put_behind-requires-2-clause-room c).After-trees
+
+pub invariant_of-self : goal.invariant_of-self
+invariant_of-self c =
+    let count = c.self.inside.count in
+    let step = c.self.inside.step in
+    let slots = c.self.inside.slots.items in
+    let nodes = c.self.inside.nodes.items in
+    let more = c.trees.inside.slots.items in
+    let more_nodes = c.trees.inside.nodes.items in
+    let all = more_trees count step slots more nodes more_nodes c.self.invariant.trees (new_trees (goal.at.invariant_of-self c).After-trees) in
+    record {
+      trees = subst (λ (l : List ℤ). AreLineTrees count step l c.put_behind-2.new.items.items) (sym c.put_behind.ensures.items)
+          (subst (λ (l : List Summary). AreLineTrees count step (slots ++ more) l) (sym c.put_behind-2.ensures.items) all);
+      slot_room = c.put_behind.ensures.room;
+      node_room = c.put_behind-2.ensures.room;
+    }
+
+pub returns : goal.returns
+returns c =
+    let count = c.self.inside.count in
+    let step = c.self.inside.step in
+    let slots = c.self.inside.slots.items in
+    let nodes = c.self.inside.nodes.items in
+    let more = c.trees.inside.slots.items in
+    let more_nodes = c.trees.inside.nodes.items in
+    let before = (goal.at.returns c).After-trees in
+    let lines = ap (lines_kept count step) c.put_behind.ensures.items
+    ∙ more_lines count step slots more nodes more_nodes c.self.invariant.trees (new_trees before)
+    ∙ ap (λ (ls : List (List ℤ)). lines_kept count step slots ++ ls) (new_lines before ∙ ap (λ (n : NewTreesValue). n.lines) c.more.view_is) in
+    let made = λ (ls : List (List ℤ)). let t : TreesValue = record { count = count; step = step; lines = ls } in t in
+    ap made lines ∙ ap (λ (t : TreesValue). with_lines t c.args.more.lines) c.self.view_is

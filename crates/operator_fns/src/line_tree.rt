@@ -1,0 +1,280 @@
+//! The tree of sums of one line of numbers, among lists that hold those of several.
+
+ghost use Rattle.std.specs.Prelude.{◌≡◌, ◌≢◌, pos, get_or, ℕ, ◌+◌, ◌-◌, ◌*◌, ◌/◌, ◌%◌, ◌^◌, ◌<◌, ◌≤◌, min, ℤ, length, FitsSigned, All};
+ghost use Rattle.std.specs.Int.{w64};
+ghost use Rattle.operator_fns.specs.SumNodes.{Sums, Tells, sums_from};
+ghost use Rattle.operator_fns.specs.LineTrees.{slot_at as slot_place, node_at as node_place, slot_of, number_of, node_of, HasSlots, IsIn, AreKept, AreKeptIn, AreKeptBeside, AreKeptWithin, IsPart, empty, AreSameIn, other_half, sums_at, replaced};
+ghost use Rattle.operator_fns.specs.SumTree.{IsWithinDigitsOf};
+
+use crate::summary::Summary;
+
+/// Where a line of numbers lies in a list of slots, and what is kept of its parts in a list of nodes.
+#[derive(Clone, Copy)]
+pub(crate) struct Line {
+    /// How many numbers there are.
+    pub(crate) count: usize,
+    /// From one of them to the next in their list, and likewise from node to node.
+    pub(crate) step: usize,
+    /// The slot of the first.
+    pub(crate) slot: usize,
+    /// The first node.
+    pub(crate) node: usize,
+}
+
+impl Line {
+    /// The slot of a place.
+    fn slot_at(&self, place: usize) -> usize
+        requires { slot_place self.now place < 2 ^ 64 }
+        ensures { result ≡ slot_place self.now place }
+    {
+        self.slot + place * self.step
+    }
+
+    /// The node of two parts that meet at an even place.
+    fn node_at(&self, meeting: usize) -> usize
+        requires some { 2 ≤ meeting }
+        requires fit { node_place self.now meeting < 2 ^ 64 }
+        ensures { result ≡ node_place self.now meeting }
+    {
+        self.node + (meeting / 2 - 1) * self.step
+    }
+}
+
+/// A line with the lists that it lies in.
+#[derive(Clone, Copy)]
+pub(crate) struct LineTree<'a> {
+    pub(crate) line: Line,
+    pub(crate) slots: &'a [i64],
+    pub(crate) nodes: &'a [Summary],
+}
+
+impl<'a> LineTree<'a> {
+    /// The number at a place.
+    pub(crate) fn number(&self, place: usize) -> i64
+        requires inside { IsIn self.now.line (length self.now.slots.now) (length self.now.nodes.now) }
+        requires place { place < self.now.line.count }
+        ensures { result ≡ number_of self.now.line self.now.slots.now place }
+    {
+        let kept = self.slots[self.line.slot_at(place)];
+        if place % 2 == 0 && place + 1 < self.line.count {
+            return kept.wrapping_sub(self.slots[self.line.slot_at(place + 1)]);
+        }
+        kept
+    }
+
+    /// The summary of the part that begins at a place and has this width, of two numbers or more.
+    fn full_part(&self, from: usize, width: usize) -> Summary
+        requires inside { IsIn self.now.line (length self.now.slots.now) (length self.now.nodes.now) }
+        requires full { from + width ≤ self.now.line.count }
+        requires wide { 1 < width }
+        requires part { IsPart from width }
+        requires kept { AreKeptIn from width self.now.line.count (number_of self.now.line self.now.slots.now) (node_of self.now.line self.now.nodes.now) }
+        ensures { Tells result (sums_from (number_of self.now.line self.now.slots.now) from width) }
+    {
+        if width == 2 {
+            let sum = self.slots[self.line.slot_at(from)];
+            return Summary::of_pair(sum, self.slots[self.line.slot_at(from + 1)]);
+        }
+        self.nodes[self.line.node_at(from + width / 2)]
+    }
+
+    /// The summary of the part that begins at a place and has this width, or ends with the line.
+    fn part(&self, from: usize, width: usize) -> Summary
+        requires inside { IsIn self.now.line (length self.now.slots.now) (length self.now.nodes.now) }
+        requires from { from < self.now.line.count }
+        requires part { IsPart from width }
+        requires kept { AreKeptIn from width self.now.line.count (number_of self.now.line self.now.slots.now) (node_of self.now.line self.now.nodes.now) }
+        ensures { Tells result (sums_from (number_of self.now.line self.now.slots.now) from (min width (self.now.line.count - from))) }
+    {
+        let long = width.min(self.line.count - from);
+        if long == width && width > 1 {
+            return self.full_part(from, width);
+        }
+        if long == 1 {
+            return Summary::of(self.number(from));
+        }
+        let half = long.next_power_of_two() / 2;
+        if half == 1 {
+            let sum = self.slots[self.line.slot_at(from)];
+            return Summary::of_pair(sum, self.slots[self.line.slot_at(from + 1)]);
+        }
+        self.nodes[self.line.node_at(from + half)]
+    }
+
+    /// The summary of all numbers.
+    pub(crate) fn whole(&self) -> Summary
+        requires inside { IsIn self.now.line (length self.now.slots.now) (length self.now.nodes.now) }
+        requires some { 0 < self.now.line.count }
+        requires kept { AreKept self.now.line.count (number_of self.now.line self.now.slots.now) (node_of self.now.line self.now.nodes.now) }
+        ensures { Tells result (sums_from (number_of self.now.line self.now.slots.now) 0 self.now.line.count) }
+    {
+        self.part(0, self.line.count.next_power_of_two())
+    }
+
+    /// The summary of the part twice as wide as a block that has this summary, and how many summaries were joined for it: none where
+    /// the line ends with that block, else one more.
+    fn widened(&self, block: usize, width: usize, summary: &Summary) -> (Summary, u32)
+        requires inside { IsIn self.now.line (length self.now.slots.now) (length self.now.nodes.now) }
+        requires from { block * width < self.now.line.count }
+        requires short { width < self.now.line.count }
+        requires level { (level : ℕ) × (width ≡ 2 ^ level) }
+        requires kept { AreKeptIn (other_half block * width) width self.now.line.count (number_of self.now.line self.now.slots.now) (node_of self.now.line self.now.nodes.now) }
+        requires told { (sums : Sums) × Tells summary.now sums }
+        ensures is { (x : ℕ → ℤ) → AreSameIn (other_half block * width) width (number_of self.now.line self.now.slots.now) x
+            → Tells summary.now (sums_at self.now.line.count x block width) → Tells result.0 (sums_at self.now.line.count x (block / 2) (2 * width)) }
+        ensures joins { result.1 ≤ 1 }
+        ensures none { result.1 ≡ 0 → (block % 2 ≡ 0) × (self.now.line.count ≤ block * width + width) }
+        ensures one { result.1 ≡ 1 → (block / 2 * 2 + 1) * width < self.now.line.count }
+    {
+        let from = block * width;
+        if block % 2 == 1 {
+            return (self.part(from - width, width).join(summary), 1);
+        }
+        if self.line.count <= from + width {
+            return (*summary, 0);
+        }
+        (summary.join(&self.part(from + width, width)), 1)
+    }
+
+    /// The summary of all numbers where the one at a place is another, and how many summaries were joined for it: at most as many as
+    /// the count less one has binary digits.
+    pub(crate) fn with(&self, place: usize, number: i64) -> (Summary, u32)
+        requires inside { IsIn self.now.line (length self.now.slots.now) (length self.now.nodes.now) }
+        requires place { place < self.now.line.count }
+        requires kept { AreKept self.now.line.count (number_of self.now.line self.now.slots.now) (node_of self.now.line self.now.nodes.now) }
+        ensures is { Tells result.0 (sums_from (replaced (number_of self.now.line self.now.slots.now) place number) 0 self.now.line.count) }
+        ensures most { IsWithinDigitsOf (self.now.line.count - 1) result.1 }
+        ensures least { 1 < self.now.line.count → 0 < result.1 }
+    {
+        let mut summary = Summary::of(number);
+        let mut block = place;
+        let mut width = 1;
+        let mut joins = 0;
+        while width < self.line.count {
+            let (wider, joined) = self.widened(block, width, &summary);
+            summary = wider;
+            joins += joined;
+            block /= 2;
+            width = 2 * width;
+        }
+        (summary, joins)
+    }
+}
+
+/// Puts a number at a place of a line. What is kept of its parts stays.
+fn put(slots: &mut [i64], line: Line, place: usize, number: i64)
+    requires slots { HasSlots line (length slots.old) }
+    requires fit { All (FitsSigned w64) slots.old }
+    requires place { place < line.count }
+    ensures numbers { (i : ℕ) → i < line.count → number_of line slots.new i ≡ replaced (number_of line slots.old) place number i }
+    ensures fit { All (FitsSigned w64) slots.new }
+    ensures others { (p : ℕ) → ((i : ℕ) → i < line.count → p ≢ slot_place line i) → get_or slots.new p (pos 0) ≡ get_or slots.old p (pos 0) }
+    ensures length { length slots.new ≡ length slots.old }
+{
+    let here = line.slot_at(place);
+    if place % 2 == 1 {
+        let before = line.slot_at(place - 1);
+        let left = slots[before].wrapping_sub(slots[here]);
+        slots[here] = number;
+        slots[before] = left.wrapping_add(number);
+    } else if place + 1 < line.count {
+        let next = line.slot_at(place + 1);
+        slots[here] = number.wrapping_add(slots[next]);
+    } else {
+        slots[here] = number;
+    }
+}
+
+/// Joins anew what is kept of the parts that a place is in.
+fn renew(slots: &[i64], nodes: &mut [Summary], line: Line, place: usize)
+    requires inside { IsIn line (length slots.now) (length nodes.old) }
+    requires place { place < line.count }
+    requires kept { AreKeptBeside place line.count (number_of line slots.now) (node_of line nodes.old) }
+    ensures kept { AreKept line.count (number_of line slots.now) (node_of line nodes.new) }
+    ensures others { (p : ℕ) → ((meeting : ℕ) → 2 ≤ meeting → meeting < line.count → p ≢ node_place line meeting) → get_or nodes.new p empty ≡ get_or nodes.old p empty }
+    ensures length { length nodes.new ≡ length nodes.old }
+{
+    let mut block = place / 2;
+    let mut width = 2;
+    let mut summary = LineTree { line, slots, nodes }.part(2 * block, 2);
+    while width < line.count {
+        let (wider, joined) = LineTree { line, slots, nodes }.widened(block, width, &summary);
+        summary = wider;
+        if joined == 1 {
+            nodes[line.node_at((block / 2 * 2 + 1) * width)] = summary;
+        }
+        block /= 2;
+        width = 2 * width;
+    }
+}
+
+/// Joins what is kept of all parts whose halves are so wide, where that of the narrower parts is.
+fn fill_level(slots: &[i64], nodes: &mut [Summary], line: Line, half: usize)
+    requires inside { IsIn line (length slots.now) (length nodes.old) }
+    requires half { (level : ℕ) × (half ≡ 2 * 2 ^ level) }
+    requires short { half < line.count }
+    requires kept { AreKeptWithin half line.count (number_of line slots.now) (node_of line nodes.old) }
+    ensures kept { AreKeptWithin (2 * half) line.count (number_of line slots.now) (node_of line nodes.new) }
+    ensures others { (p : ℕ) → ((meeting : ℕ) → 2 ≤ meeting → meeting < line.count → p ≢ node_place line meeting) → get_or nodes.new p empty ≡ get_or nodes.old p empty }
+    ensures length { length nodes.new ≡ length nodes.old }
+{
+    let mut meeting = half;
+    while meeting < line.count {
+        let tree = LineTree { line, slots, nodes };
+        let both = tree
+            .part(meeting - half, half)
+            .join(&tree.part(meeting, half));
+        nodes[line.node_at(meeting)] = both;
+        meeting += 2 * half;
+    }
+}
+
+/// Joins what is kept of all parts of a line.
+pub(crate) fn fill(slots: &[i64], nodes: &mut [Summary], line: Line)
+    requires inside { IsIn line (length slots.now) (length nodes.old) }
+    ensures kept { AreKept line.count (number_of line slots.now) (node_of line nodes.new) }
+    ensures others { (p : ℕ) → ((meeting : ℕ) → 2 ≤ meeting → meeting < line.count → p ≢ node_place line meeting) → get_or nodes.new p empty ≡ get_or nodes.old p empty }
+    ensures length { length nodes.new ≡ length nodes.old }
+{
+    let mut half = 2;
+    while half < line.count {
+        fill_level(slots, nodes, line, half);
+        half = 2 * half;
+    }
+}
+
+/// Puts the sum of two numbers in the place of the first one, for each two that lie in the slots of a line.
+pub(crate) fn pair(slots: &mut [i64], line: Line)
+    requires slots { HasSlots line (length slots.old) }
+    requires fit { All (FitsSigned w64) slots.old }
+    ensures numbers { (i : ℕ) → i < line.count → number_of line slots.new i ≡ slot_of line slots.old i }
+    ensures fit { All (FitsSigned w64) slots.new }
+    ensures others { (p : ℕ) → ((i : ℕ) → i < line.count → p ≢ slot_place line i) → get_or slots.new p (pos 0) ≡ get_or slots.old p (pos 0) }
+    ensures length { length slots.new ≡ length slots.old }
+{
+    let mut place = 0;
+    while place + 1 < line.count {
+        let here = line.slot_at(place);
+        let next = line.slot_at(place + 1);
+        slots[here] = slots[here].wrapping_add(slots[next]);
+        place += 2;
+    }
+}
+
+/// Puts another number at a place of a line, and joins anew what is kept of the parts that the place is in.
+pub(crate) fn write(slots: &mut [i64], nodes: &mut [Summary], line: Line, place: usize, number: i64)
+    requires inside { IsIn line (length slots.old) (length nodes.old) }
+    requires place { place < line.count }
+    requires fit { All (FitsSigned w64) slots.old }
+    requires kept { AreKept line.count (number_of line slots.old) (node_of line nodes.old) }
+    ensures numbers { (i : ℕ) → i < line.count → number_of line slots.new i ≡ replaced (number_of line slots.old) place number i }
+    ensures fit { All (FitsSigned w64) slots.new }
+    ensures kept { AreKept line.count (number_of line slots.new) (node_of line nodes.new) }
+    ensures other_slots { (p : ℕ) → ((i : ℕ) → i < line.count → p ≢ slot_place line i) → get_or slots.new p (pos 0) ≡ get_or slots.old p (pos 0) }
+    ensures other_nodes { (p : ℕ) → ((meeting : ℕ) → 2 ≤ meeting → meeting < line.count → p ≢ node_place line meeting) → get_or nodes.new p empty ≡ get_or nodes.old p empty }
+    ensures slot_count { length slots.new ≡ length slots.old }
+    ensures node_count { length nodes.new ≡ length nodes.old }
+{
+    put(slots, line, place, number);
+    renew(slots, nodes, line, place);
+}
