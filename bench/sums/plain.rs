@@ -1,4 +1,5 @@
-//! A list of its own of the same numbers, added up from the right, each step checked.
+//! A list of its own of the same numbers, added up from the right, each step checked: all of them, each of 1024 rows, and each of 1024
+//! columns, which go over the rows from the last one up.
 use std::hint::black_box;
 use std::time::Instant;
 
@@ -17,14 +18,34 @@ fn sum(numbers: &[i64]) -> i64 {
     numbers.iter().rev().try_fold(0i64, |sum, number| number.checked_add(sum)).unwrap()
 }
 
-fn main() {
-    let row = numbers(1048576);
+fn total_of_rows(numbers: &[i64]) -> i64 {
+    numbers.chunks(1024).map(sum).sum()
+}
+
+fn total_of_columns(numbers: &[i64]) -> i64 {
+    let mut totals = vec![0i64; 1024];
+    for row in numbers.chunks(1024).rev() {
+        for (total, number) in totals.iter_mut().zip(row) {
+            *total = number.checked_add(*total).unwrap();
+        }
+    }
+    totals.iter().sum()
+}
+
+fn time(name: &str, numbers: &[i64], total: fn(&[i64]) -> i64) {
     let (mut least, mut end) = (u128::MAX, 0);
     for _ in 0..RUNS {
         let start = Instant::now();
-        let copy = black_box(&row[..]).to_vec();
-        end = sum(black_box(&copy));
+        let copy = black_box(numbers).to_vec();
+        end = total(black_box(&copy));
         least = least.min(start.elapsed().as_nanos());
     }
-    println!("building {least} {end}");
+    println!("{name} {least} {end}");
+}
+
+fn main() {
+    let row = numbers(1048576);
+    time("building", &row, sum);
+    time("rows", &row, total_of_rows);
+    time("columns", &row, total_of_columns);
 }

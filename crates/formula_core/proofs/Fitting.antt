@@ -1,16 +1,21 @@
 -- What fits in what was held fits what is there now.
-use Rattle.std.proofs.Common.{◌≡◌, ◌∙◌, ◌<◌, length, true, Ok, Err, ap, sym, arith}
+use Rattle.std.proofs.Common.{◌≡◌, ◌∙◌, ◌<◌, ℕ, List, [], ◌∷◌, length, drop, true, Ok, Err, refl, ap, sym, arith}
 use Rattle.std.proofs.lemmas.Bool.{false≢true}
 use Rattle.arrays_core.specs.Arrays.{ArrayValue}
+use Rattle.arrays_core.specs.Growth.{one_longer}
 use Rattle.arrays_core.proofs.Growing.{rank_longer}
 use Rattle.arrays_core.specs.Shapes.{size}
 use Rattle.index_region.specs.declared.delta.Delta.{Delta}
 use Rattle.index_region.specs.declared.delta.Delta.TheVariants.{Same, Patch, Grown, Whole}
 use Rattle.change_rules.specs.Currency.{applied}
 use Rattle.change_rules.specs.Nodes.{is_grown}
-use Rattle.sum_rules.proofs.MoreLines.{others_longer}
 use Rattle.formula_core.specs.Outcomes.{Outcome}
 use Rattle.formula_core.specs.Changes.{FitsIn, FitsNow}
+
+-- each place of the first axis stays as large
+pub others_longer : (shape : List ℕ) → drop 1 (one_longer shape) ≡ drop 1 shape
+others_longer [] = refl
+others_longer (n ∷ shape) = refl
 
 pub fit_now : (d : Delta) (o : Outcome) → FitsIn d o → FitsNow d (applied d o)
 fit_now Same o h = tt

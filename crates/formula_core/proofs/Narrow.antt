@@ -1,96 +1,90 @@
 -- The totals of lines of which one place each changed: no more are worked out than places changed.
-use Rattle.std.proofs.Common.{◌≡◌, ℕ, ◌-◌, ◌<◌, ◌≤◌, true, ◌++◌, is_ok, List, [], ◌∷◌, length, get_or, remove, Option, Some, None, Result, Ok, Err, refl, ap, sym, ◌∙◌, arith}
-use Rattle.std.proofs.lemmas.Bool.{cond-false, eqb-true, false≢true}
+use Rattle.std.proofs.Common.{◌≡◌, ℕ, zero, suc, ◌+◌, ◌-◌, ◌<◌, ◌≤◌, true, is_ok, List, [], ◌∷◌, length, remove, min, max, Some, None, Result, Ok, Err, ap, ◌∙◌, subst, sym, refl, arith, inl, inr}
+use Rattle.std.proofs.lemmas.Bool.{cases_Bool, cond-false, cond-true, eqb-true, false≢true}
 use Rattle.std.proofs.lemmas.List.Edits.{length-remove}
+use Rattle.std.proofs.Math.Nat.{mul-le-mul}
 use Rattle.arrays_core.specs.Arrays.{ArrayValue}
 use Rattle.arrays_core.specs.declared.item.Kind.{Kind}
-use Rattle.arrays_core.specs.declared.item.ItemType.{ItemType}
-use Rattle.index_region.specs.declared.along.Along.TheVariants.{Last}
+use Rattle.index_region.specs.Axes.{axis_at}
+use Rattle.index_region.specs.declared.along.Along.{Along}
 use Rattle.index_region.specs.declared.delta.Delta.{Delta}
 use Rattle.index_region.specs.declared.delta.Delta.TheVariants.{Same, Patch, Grown, Whole}
-use Rattle.index_region.specs.Boxes.{Interval, box_size, fits, met, unless_empty, join_boxes}
-use Rattle.index_region.specs.Checks.{Form, form_of}
+use Rattle.index_region.specs.Boxes.{Interval, box_size, fits, is_empty, join_boxes, met, unless_empty}
+use Rattle.index_region.specs.Checks.{Form}
 use Rattle.index_region.specs.Patches.{PatchValue}
 use Rattle.index_region.proofs.Boxes.{fits_length}
 use Rattle.operator_fns.specs.Reduce.{reduce_form}
 use Rattle.operator_fns.proofs.Reduced.{reduce_facts}
-use Rattle.change_core.specs.declared.reach.Reach.TheVariants.{Inside}
 use Rattle.change_core.specs.Reaches.{as_reach, reach_by, reach_of}
 use Rattle.change_rules.specs.Nodes.{Argument, reached_cost, size_in}
 use Rattle.change_rules.proofs.Nodes.{cost_reached}
-use Rattle.sum_rules.specs.LineSums.{last_length}
 use Rattle.sum_rules.specs.Totals.{is_narrow, is_one_a_line, lines_of, new_items, total_rule}
-use Rattle.sum_rules.proofs.LastAxis.{FitsLast, fit_some, fits_last, met_fit, size_with_one, without_last}
+use Rattle.sum_rules.proofs.OneAxis.{size_with_one}
 use Rattle.formula_core.specs.Outcomes.{Outcome}
 use Rattle.formula_core.specs.Changes.{FitsNow, operation_cost}
 
-has_axes : (region : List Interval) (shape : List ℕ) → fits region shape ≡ true → is_one_a_line region ≡ true → 0 < length shape
-has_axes [] shape fit one = absurd (false≢true one)
-has_axes (s ∷ region) [] fit one = absurd (false≢true fit)
-has_axes (s ∷ region) (n ∷ shape) fit one = omega arith
+-- ---- a box without an axis
 
-module _ (a : ArrayValue) (p : PatchValue) (inside : fits p.region a.shape ≡ true) (one : is_one_a_line p.region ≡ true) where
-  abbrev s : Interval
-  s = get_or p.region (length p.region - 1) (1, 0)
+-- where a box has one place on an axis, it has this axis
+on_axis : (axis : ℕ) (region : List Interval) → is_one_a_line axis region ≡ true → axis < length region
+on_axis zero [] one = absurd (false≢true one)
+on_axis (suc axis) [] one = absurd (false≢true one)
+on_axis zero (s ∷ region) one = omega arith
+on_axis (suc axis) (s ∷ region) one = let there = on_axis axis region one in omega (arith, there)
 
-  abbrev others : List ℕ
-  others = remove a.shape (length a.shape - 1)
+-- what lies in a shape of a box of as many axes has no more places
+met_within : (shape : List ℕ) (region : List Interval) → length region ≡ length shape → box_size (met shape region) ≤ box_size region
+met_within [] [] e = omega arith
+met_within [] (s ∷ region) e = absurd (omega (arith, e))
+met_within (n ∷ shape) [] e = absurd (omega (arith, e))
+met_within (n ∷ shape) (s ∷ region) e =
+    let first : min s.1 n + 1 - max 1 s.0 ≤ s.1 + 1 - s.0 = omega arith in
+    mul-le-mul first (met_within shape region (omega (arith, e)))
 
-  as_many_axes : length p.region ≡ length a.shape
-  as_many_axes = fits_length p.region a.shape inside
+-- a box that may be empty is no larger
+reached_size : (f : Form) (region : List Interval) → size_in (Ok f) (as_reach (join_boxes (unless_empty region) None)) ≤ box_size region
+reached_size f region = elim (cases_Bool (is_empty region)) [
+  | inl t ↦ subst (λ m. size_in (Ok f) (as_reach (join_boxes m None)) ≤ box_size region) (sym (cond-true (is_empty region) None (Some region) t)) (omega arith)
+  | inr e ↦ subst (λ m. size_in (Ok f) (as_reach (join_boxes m None)) ≤ box_size region) (sym (cond-false (is_empty region) None (Some region) e)) (omega arith)
+]
 
-  some_axes : 0 < length a.shape
-  some_axes = has_axes p.region a.shape inside one
+-- ---- a patch with one place a line
 
-  box_is : p.region ≡ lines_of p.region ++ s ∷ []
-  box_is = without_last p.region (1, 0) (omega (arith, as_many_axes, some_axes))
+module _ (along : Along) (a : ArrayValue) (p : PatchValue) (inside : fits p.region a.shape ≡ true) (one : is_one_a_line (axis_at (length a.shape) along) p.region ≡ true) where
+  abbrev axis : ℕ
+  axis = axis_at (length a.shape) along
 
-  as_many_others : length (lines_of p.region) ≡ length others
-  as_many_others =
-      omega (
-        arith,
-        as_many_axes,
-        some_axes,
-        length-remove p.region (length p.region - 1) (omega (arith, as_many_axes, some_axes)),
-        length-remove a.shape (length a.shape - 1) (omega (arith, some_axes)),
-      )
+  abbrev lines : List Interval
+  lines = lines_of axis p.region
 
-  fits_axes : FitsLast (lines_of p.region) s others (last_length a.shape)
-  fits_axes =
-      let shape_is = without_last a.shape 0 some_axes in
-      let same : fits p.region a.shape ≡ fits (lines_of p.region ++ s ∷ []) (others ++ last_length a.shape ∷ []) = λ i. fits (box_is i) (shape_is i) in
-      fits_last (lines_of p.region) s others (last_length a.shape) as_many_others (sym same ∙ inside)
+  as_many_axes : length lines ≡ length (remove a.shape axis)
+  as_many_axes =
+      let all = fits_length p.region a.shape inside in
+      let there = on_axis axis p.region one in
+      omega (arith, all, there, length-remove p.region axis there, length-remove a.shape axis (omega (arith, all, there)))
 
-  as_many_lines : box_size p.region ≡ box_size (lines_of p.region)
-  as_many_lines = ap box_size box_is ∙ size_with_one (lines_of p.region) s (eqb-true _ _ one)
+  abbrev cost : ℕ
+  cost = reached_cost (total_rule along) (a ∷ []) (Some p.region ∷ [])
 
-  -- the box of what may change of the result
-  reach_is : (shape : List ℕ) (t : ItemType) → reduce_form Last a ≡ Ok (form_of shape t) → reach_of total_rule (a ∷ []) (Some p.region ∷ []) ≡ Inside (lines_of p.region)
-  reach_is shape t form =
-      let axis : length a.shape - 1 ≡ length p.region - 1 = omega (arith, as_many_axes) in
-      let met_is : unless_empty (met shape (remove p.region (length a.shape - 1))) ≡ Some (lines_of p.region) =
-      (λ i. unless_empty (met ((reduce_facts Last a shape t form).shaped i) (remove p.region (axis i))))
-      ∙ ap unless_empty (met_fit others (lines_of p.region) fits_axes.rest)
-      ∙ cond-false _ _ _ (fit_some (lines_of p.region) others fits_axes.rest) in
-      ap (λ (x : Result Form Kind). reach_by x total_rule.uses (a ∷ []) (Some p.region ∷ [])) form
-      ∙ ap (λ (m : Option (List Interval)). as_reach (join_boxes m None)) met_is
-
-  cost_by : (r : Result Form Kind) → reduce_form Last a ≡ r → reached_cost total_rule (a ∷ []) (Some p.region ∷ []) ≤ box_size p.region
+  cost_by : (r : Result Form Kind) → reduce_form along a ≡ r → cost ≤ box_size p.region
   cost_by (Ok f) form =
-      let reach = reach_is f.shape f.item_type form in
-      let size : reached_cost total_rule (a ∷ []) (Some p.region ∷ []) ≡ box_size (lines_of p.region) = λ i. size_in (form i) (reach i) in
-      omega (arith, size, as_many_lines)
+      let counted : cost ≡ size_in (Ok f) (as_reach (join_boxes (unless_empty (met f.shape lines)) None)) =
+      ap (λ (x : Result Form Kind). size_in x (reach_by x (total_rule along).uses (a ∷ []) (Some p.region ∷ []))) form in
+      let shaped = (reduce_facts along a f.shape f.item_type form).shaped in
+      let within = met_within f.shape lines (as_many_axes ∙ ap length (sym shaped)) in
+      omega (arith, counted, reached_size f (met f.shape lines), within, size_with_one axis p.region (on_axis axis p.region one) (eqb-true _ _ one))
   cost_by (Err kind) form =
-      let none : reached_cost total_rule (a ∷ []) (Some p.region ∷ []) ≡ 0 = ap (λ (x : Result Form Kind). size_in x (reach_of total_rule (a ∷ []) (Some p.region ∷ []))) form in
+      let none : cost ≡ 0 = ap (λ (x : Result Form Kind). size_in x (reach_of (total_rule along) (a ∷ []) (Some p.region ∷ []))) form in
       omega (arith, none)
 
-  reached_within : reached_cost total_rule (a ∷ []) (Some p.region ∷ []) ≤ box_size p.region
-  reached_within = cost_by (reduce_form Last a) refl
+  reached_within : cost ≤ box_size p.region
+  reached_within = cost_by (reduce_form along a) refl
 
-pub narrow_within : (a : ArrayValue) (d : Delta) (held : Outcome) → FitsNow d (Ok a) → is_narrow d ≡ true → is_ok held ≡ true → operation_cost total_rule (Ok (a ∷ [])) (d ∷ []) held ≤ new_items d
-narrow_within a (Patch p) held fit narrow ok =
+pub narrow_within : (along : Along) (a : ArrayValue) (d : Delta) (held : Outcome) → FitsNow d (Ok a) → is_narrow (axis_at (length a.shape) along) d ≡ true → is_ok held ≡ true
+    → operation_cost (total_rule along) (Ok (a ∷ [])) (d ∷ []) held ≤ new_items d
+narrow_within along a (Patch p) held fit narrow ok =
     let arg : Argument = (a, record { ref_ptr = (0, 0); now = Patch p }) in
-    omega (arith, cost_reached total_rule (arg ∷ []) held refl ok refl, reached_within a p fit.inside narrow)
-narrow_within a Same held fit narrow ok = absurd (false≢true narrow)
-narrow_within a (Grown t) held fit narrow ok = absurd (false≢true narrow)
-narrow_within a (Whole r) held fit narrow ok = absurd (false≢true narrow)
+    omega (arith, cost_reached (total_rule along) (arg ∷ []) held refl ok refl, reached_within along a p fit.inside narrow)
+narrow_within along a Same held fit narrow ok = absurd (false≢true narrow)
+narrow_within along a (Grown t) held fit narrow ok = absurd (false≢true narrow)
+narrow_within along a (Whole r) held fit narrow ok = absurd (false≢true narrow)

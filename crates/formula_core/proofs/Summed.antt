@@ -1,16 +1,25 @@
 -- The sums that totals keep follow the changes of their arguments.
 use Rattle.std.proofs.Common.{◌≡◌, ℕ, List, length, Box, Global, Bool, true, false, Option, Some, None, is_some, Result, Ok, Err, IfOk, refl, sym, ap, ◌∙◌, subst, inl, inr}
 use Rattle.std.specs.declared.alloc.AllocError.{AllocError}
-use Rattle.std.specs.Option.{option_map_or}
+use Rattle.std.specs.Option.{option_map, option_map_or}
 use Rattle.std.proofs.lemmas.Bool.{false≢true, cases_Bool, cond-true, cond-false}
 use Rattle.apl_expr.specs.Trees.{Tree}
 use Rattle.arrays_core.specs.Arrays.{ArrayValue}
+use Rattle.arrays_core.specs.Growth.{grown_by}
+use Rattle.arrays_core.proofs.Growing.{rank_longer}
+use Rattle.index_region.specs.Axes.{axis_at}
+use Rattle.index_region.specs.declared.along.Along.{Along}
 use Rattle.index_region.specs.declared.delta.Delta.{Delta}
 use Rattle.index_region.specs.declared.delta.Delta.TheVariants.{Same, Patch, Grown, Whole}
-use Rattle.index_region.specs.Patches.{PatchValue, FitsPatch, patched}
+use Rattle.index_region.specs.Patches.{PatchValue, patched}
+use Rattle.index_region.specs.Tails.{TailValue, FitsTail}
 use Rattle.change_rules.specs.Currency.{applied}
 use Rattle.change_rules.specs.Nodes.{is_same, is_whole}
-use Rattle.sum_rules.specs.LineSums.{keeps_sums, summed}
+use Rattle.operator_fns.specs.SumTrees.{TreesValue}
+use Rattle.sum_rules.specs.LineSums.{StandFor, SummedValue, keeps_sums, grown_sums, summed}
+use Rattle.sum_rules.specs.NewLines.{NewLinesValue, FitsSums as FitBehind}
+use Rattle.sum_rules.specs.Totals.{StoodFor}
+use Rattle.sum_rules.proofs.KeptSums.{kept_parts}
 use Rattle.formula_core.specs.declared.input.Input.{Input}
 use Rattle.formula_core.specs.declared.input.Input.TheVariants.{Good, Bad}
 use Rattle.formula_core.specs.declared.stage.Stage.{Stage}
@@ -25,53 +34,88 @@ use Rattle.formula_core.specs.Tables.{tree_of_operand, tree_of_node, IsOperand, 
 use Rattle.formula_core.specs.Changes.{Change, change, FitsIn}
 use Rattle.formula_core.specs.Inputs.{shown, delta_of, IsInput}
 use Rattle.formula_core.specs.Stages.{IsStaged, IsReady, IsKeptBy, IsSumsStep}
-use Rattle.formula_core.specs.Sums.{is_total, in_box, summed_in, summed_at, totalled, WasSummed, IsSumsDelta, IsSummedFor}
+use Rattle.formula_core.specs.Sums.{summed_in, summed_at, total_along, totalled, WasPatched, WasSummed, IsSumsDelta, IsSummedFor}
 use Rattle.formula_core.proofs.Steps.{operand_changed}
+
+-- an array whose lines along an axis are summed up
+abbrev pub at_axis : ℕ → ArrayValue → SummedValue
+at_axis axis a = record { axis = axis; array = a }
+
+-- an array whose sums are kept is summed up along the axis that is meant
+as_summed : (along : Along) (axis : ℕ) (a : ArrayValue) → axis ≡ axis_at (length a.shape) along → keeps_sums along a ≡ true → Some (at_axis axis a) ≡ summed along a
+as_summed along axis a meant keeps = ap (λ k. Some (at_axis k a)) meant ∙ sym (cond-true (keeps_sums along a) (Some (at_axis (axis_at (length a.shape) along) a)) None keeps)
 
 -- ---- an array that is patched
 
 -- sums that are kept of it
-record Kept (o : Outcome) (a : ArrayValue) : Type 0 where
-  pub is : o ≡ Ok a
-  pub long : keeps_sums a ≡ true
+pub record Kept (along : Along) (o : Outcome) (s : SummedValue) : Type 0 where
+  pub is : o ≡ Ok s.array
+  pub meant : s.axis ≡ axis_at (length s.array.shape) along
+  pub long : keeps_sums along s.array ≡ true
 
-kept_of : (o : Outcome) (a : ArrayValue) → Some a ≡ summed_in o → Kept o a
-kept_of (Err e) a is = absurd (let no : ⊥ = cc in no)
-kept_of (Ok b) a is = elim (cases_Bool (keeps_sums b)) [
+pub kept_of : (along : Along) (o : Outcome) (s : SummedValue) → Some s ≡ summed_in along o → Kept along o s
+kept_of along (Err e) s is = absurd (let no : ⊥ = cc in no)
+kept_of along (Ok b) s is = elim (cases_Bool (keeps_sums along b)) [
   | inl t ↦
-      let same : Some a ≡ Some b = is ∙ cond-true _ _ _ t in
-      let here : a ≡ b = cc in
-      record { is = ap (λ (x : ArrayValue). Ok x) (sym here); long = ap keeps_sums here ∙ t }
-  | inr f ↦ let none : Some a ≡ None = is ∙ cond-false _ _ _ f in absurd (let no : ⊥ = cc in no)
+      let same : Some s ≡ Some (at_axis (axis_at (length b.shape) along) b) = is ∙ cond-true _ _ _ t in
+      let here : s ≡ at_axis (axis_at (length b.shape) along) b = cc in
+      let array : s.array ≡ b = ap (λ (x : SummedValue). x.array) here in
+      record {
+        is = ap (λ (x : ArrayValue). Ok x) (sym array);
+        meant = ap (λ (x : SummedValue). x.axis) here ∙ ap (λ (x : ArrayValue). axis_at (length x.shape) along) (sym array);
+        long = ap (keeps_sums along) array ∙ t;
+      }
+  | inr f ↦ let none : Some s ≡ None = is ∙ cond-false _ _ _ f in absurd (let no : ⊥ = cc in no)
 ]
 
-pub patch_taken : (now : ArrayValue) (p : PatchValue) (q : Box PatchValue Global) (kept : Option ArrayValue) → is_some kept ≡ true → q.value ≡ p → IsSumsDelta (Ok now) (Patch p) kept (sums.Patch q)
-patch_taken now p q None some is = absurd (false≢true some)
-patch_taken now p q (Some a) some is = record { right = right; fit = fit }
+-- where an array is patched, the trees of sums that are kept stand for what it was
+pub stood_for : (along : Along) (a : ArrayValue) (p : PatchValue) (s : SummedValue) (t : TreesValue) → WasPatched along (Ok a) p s → StandFor t s.axis s.array → StoodFor along t p a
+stood_for along a p s t was stand =
+    let kept = kept_of along (Ok s.array) s (sym was.lines) in
+    let becomes : Ok a ≡ Ok (patched s.array p) = was.becomes in
+    let same : a ≡ patched s.array p = cc in
+    record {
+      before = s.array;
+      on_axis = (kept_parts along s.array kept.long).on_axis;
+      lines = subst (λ (axis : ℕ). StandFor t axis s.array) kept.meant stand;
+      fit = was.fit;
+      is = same;
+    }
+
+-- ---- an array that grew
+
+-- by new lines along the axis of the sums that are kept
+pub lines_taken : (along : Along) (now : ArrayValue) (t : TailValue) (q : Box NewLinesValue Global) (kept : Option SummedValue) → is_some kept ≡ true → keeps_sums along now ≡ true
+    → q.value.axis ≡ axis_at (length now.shape) along → q.value.tail ≡ t → IsSumsDelta along (Ok now) (Grown t) kept (sums.Grown q)
+lines_taken along now t q None some keeps on_axis is = absurd (false≢true some)
+lines_taken along now t q (Some s) some keeps on_axis is = record { right = right; fit = fit }
   where
-    right : (old : Outcome) → (is_whole (Patch p) ≡ false → WasSummed (Ok now) (Patch p) (Some a) old) → Some (patched a q.value) ≡ summed_in (Ok now)
+    -- the axis that is meant stays
+    meant_now : (old : Outcome) → WasSummed along (Ok now) (Grown t) (Some s) old → s.axis ≡ axis_at (length now.shape) along
+    meant_now old w =
+        let k = kept_of along old s w.keeps in
+        let becomes : Ok (grown_by s.array t.items) ≡ Ok now = ap (applied (Grown t)) (sym k.is) ∙ w.becomes in
+        let grown : grown_by s.array t.items ≡ now = cc in
+        let rank : length s.array.shape ≡ length now.shape = sym (rank_longer s.array.shape) ∙ ap (λ (x : ArrayValue). length x.shape) grown in
+        k.meant ∙ ap (λ n. axis_at n along) rank
+
+    right : (old : Outcome) → (is_whole (Grown t) ≡ false → WasSummed along (Ok now) (Grown t) (Some s) old) → Some (grown_sums s q.value.tail.items) ≡ summed_in along (Ok now)
     right old was =
         let w = was refl in
-        let k = kept_of old a w.keeps in
-        let becomes : Ok (patched a p) ≡ Ok now = ap (applied (Patch p)) (sym k.is) ∙ w.becomes in
-        let here : patched a p ≡ now = cc in
-        ap (λ (r : PatchValue). Some (patched a r)) is
-        ∙ (sym (cond-true (keeps_sums (patched a p)) (Some (patched a p)) None k.long) ∙ ap (λ (x : ArrayValue). summed x) here)
+        let k = kept_of along old s w.keeps in
+        let becomes : Ok (grown_by s.array t.items) ≡ Ok now = ap (applied (Grown t)) (sym k.is) ∙ w.becomes in
+        let grown : grown_by s.array t.items ≡ now = cc in
+        ap (λ (u : TailValue). Some (grown_sums s u.items)) is
+        ∙ (ap (λ (x : ArrayValue). Some (at_axis s.axis x)) grown ∙ as_summed along s.axis now (meant_now old w) keeps)
 
-    fit : (old : Outcome) → (is_whole (Patch p) ≡ false → WasSummed (Ok now) (Patch p) (Some a) old) → FitsPatch a q.value
+    fit : (old : Outcome) → (is_whole (Grown t) ≡ false → WasSummed along (Ok now) (Grown t) (Some s) old) → FitBehind s q.value
     fit old was =
         let w = was refl in
-        let k = kept_of old a w.keeps in
-        subst (λ (r : PatchValue). FitsPatch a r) (sym is) (subst (λ (o : Outcome). FitsIn (Patch p) o) k.is w.fit)
-
-pub sums_made : (now : Outcome) (d : Delta) (kept : Option ArrayValue) (s : Option (Box ArrayValue Global)) → in_box s ≡ summed_in now → IsSumsDelta now d kept (sums.Whole s)
-sums_made now d kept s is = record { right = λ old was. is; fit = λ old was. tt }
-
-pub sums_stay : (now : Outcome) (kept : Option ArrayValue) → IsSumsDelta now Same kept sums.Same
-sums_stay now kept = record {
-  right = λ old was. let w = was refl in w.keeps ∙ ap summed_in w.becomes;
-  fit = λ old was. tt;
-}
+        let k = kept_of along old s w.keeps in
+        record {
+          axis = on_axis ∙ sym (meant_now old w);
+          tail = subst (λ (u : TailValue). FitsTail s.array u) (sym is) (subst (λ (o : Outcome). FitsIn (Grown t) o) k.is w.fit);
+        }
 
 -- ---- an operand of a node
 
@@ -97,15 +141,15 @@ follows old now d (Bad f false) input is fit other = record {
   fit = tt;
 }
 
-module _ (c : Change) (names : List (List ℕ)) (trees : List Tree) (s : Stage) (staged : IsStaged c names trees s) (o : Operand) (within : IsOperand (length s.inputs.now) (length s.changes.now) o)
-    (i : Input) (ready : IsReady s.is_new c (tree_of_operand names trees o) i) (kept : Option ArrayValue) (holds : s.is_new ≡ false → kept ≡ summed_in (eval (tree_of_operand names trees o) c.old)) where
-  pub was_summed : is_whole (delta_of i) ≡ false → WasSummed (shown i) (delta_of i) kept (eval (tree_of_operand names trees o) c.old)
+module _ (along : Along) (c : Change) (names : List (List ℕ)) (trees : List Tree) (s : Stage) (staged : IsStaged c names trees s) (o : Operand) (within : IsOperand (length s.inputs.now) (length s.changes.now) o)
+    (i : Input) (ready : IsReady s.is_new c (tree_of_operand names trees o) i) (kept : Option SummedValue) (holds : s.is_new ≡ false → kept ≡ summed_in along (eval (tree_of_operand names trees o) c.old)) where
+  pub was_summed : is_whole (delta_of i) ≡ false → WasSummed along (shown i) (delta_of i) kept (eval (tree_of_operand names trees o) c.old)
   was_summed other = by s.is_new refl
     where
       t : Tree
       t = tree_of_operand names trees o
 
-      by : (b : Bool) → s.is_new ≡ b → WasSummed (shown i) (delta_of i) kept (eval (tree_of_operand names trees o) c.old)
+      by : (b : Bool) → s.is_new ≡ b → WasSummed along (shown i) (delta_of i) kept (eval (tree_of_operand names trees o) c.old)
       by true is = absurd (false≢true (sym other ∙ ready.anew is))
       by false is =
           let changed = operand_changed c names trees s staged is o within in
@@ -121,61 +165,68 @@ module _ (c : Change) (names : List (List ℕ)) (trees : List Tree) (s : Stage) 
 
 -- ---- a node
 
-abbrev pub summed_by : (List ℕ → Outcome) → List (List ℕ) → List Tree → Option Operand → Option ArrayValue
-summed_by shows names trees o = option_map_or (λ x. summed_in (eval (tree_of_operand names trees x) shows)) o None
+abbrev beside : Operand → Along → Along × Operand
+beside o along = (along, o)
+
+abbrev pub summed_by : (List ℕ → Outcome) → List (List ℕ) → List Tree → Option (Along × Operand) → Option SummedValue
+summed_by shows names trees total = option_map_or (λ (t : Along × Operand). summed_in t.0 (eval (tree_of_operand names trees t.1) shows)) total None
+
+total_summed : (names : List (List ℕ)) (trees : List Tree) (b : Operand) (shows : List ℕ → Outcome) (o : Option Along)
+    → option_map_or (λ along. summed_in along (eval (tree_of_operand names trees b) shows)) o None ≡ summed_by shows names trees (option_map (beside b) o)
+total_summed names trees b shows None = refl
+total_summed names trees b shows (Some along) = refl
 
 pub totalled_summed : (names : List (List ℕ)) (trees : List Tree) (n : Node) (shows : List ℕ → Outcome) → summed_at shows (tree_of_node names trees n) ≡ summed_by shows names trees (totalled n)
 totalled_summed names trees (node.Constant l) shows = refl
 totalled_summed names trees (node.Name k) shows = refl
-totalled_summed names trees (node.Monad f b) shows = elim (cases_Bool (is_total f)) [
-  | inl t ↦ cond-true _ _ _ t ∙ sym (ap (summed_by shows names trees) (cond-true _ _ _ t))
-  | inr e ↦ cond-false _ _ _ e ∙ sym (ap (summed_by shows names trees) (cond-false _ _ _ e))
-]
+totalled_summed names trees (node.Monad f b) shows = total_summed names trees b shows (total_along f)
 totalled_summed names trees (node.Dyad f a b) shows = refl
 totalled_summed names trees (node.Index a ps) shows = refl
 
-pub totalled_within : (names place : ℕ) (n : Node) (o : Operand) → IsNode names place n → totalled n ≡ Some o → IsOperand names place o
-totalled_within names place (node.Constant l) o h is = absurd (let no : ⊥ = cc in no)
-totalled_within names place (node.Name k) o h is = absurd (let no : ⊥ = cc in no)
-totalled_within names place (node.Monad f b) o h is = elim (cases_Bool (is_total f)) [
-  | inl t ↦ let same : Some b ≡ Some o = sym (cond-true _ _ _ t) ∙ is in let here : b ≡ o = cc in subst (λ (x : Operand). IsOperand names place x) here h
-  | inr e ↦ let none : None ≡ Some o = sym (cond-false _ _ _ e) ∙ is in absurd (let no : ⊥ = cc in no)
-]
-totalled_within names place (node.Dyad f a b) o h is = absurd (let no : ⊥ = cc in no)
-totalled_within names place (node.Index a ps) o h is = absurd (let no : ⊥ = cc in no)
+operand_of_total : (b : Operand) (k : Option Along) (along : Along) (o : Operand) → option_map (beside b) k ≡ Some (along, o) → b ≡ o
+operand_of_total b None along o is = absurd (let no : ⊥ = cc in no)
+operand_of_total b (Some k) along o is = let same : (k, b) ≡ (along, o) = cc in ap (λ (t : Along × Operand). t.1) same
+
+pub totalled_within : (names place : ℕ) (n : Node) (along : Along) (o : Operand) → IsNode names place n → totalled n ≡ Some (along, o) → IsOperand names place o
+totalled_within names place (node.Constant l) along o h is = absurd (let no : ⊥ = cc in no)
+totalled_within names place (node.Name k) along o h is = absurd (let no : ⊥ = cc in no)
+totalled_within names place (node.Monad f b) along o h is = subst (λ (x : Operand). IsOperand names place x) (operand_of_total b (total_along f) along o is) h
+totalled_within names place (node.Dyad f a b) along o h is = absurd (let no : ⊥ = cc in no)
+totalled_within names place (node.Index a ps) along o h is = absurd (let no : ⊥ = cc in no)
 
 -- the step of the sums of a total
-pub sums_step : (c : Change) (names : List (List ℕ)) (trees : List Tree) (s : Stage) → IsStaged c names trees s → (n : Node) → IsNode (length s.inputs.now) (length s.changes.now) n → (o : Operand) → totalled n ≡ Some o
-    → (i : Input) → IsReady s.is_new c (tree_of_operand names trees o) i → (kept : Option ArrayValue) → (s.is_new ≡ false → kept ≡ summed_at c.old (tree_of_node names trees n))
-    → (d : SumsDelta) → IsSumsDelta (shown i) (delta_of i) kept d → IsSumsStep c (tree_of_node names trees n) kept d
-sums_step c names trees s staged n within o is i ready kept holds d delta =
-    let at : (shows : List ℕ → Outcome) → summed_at shows (tree_of_node names trees n) ≡ summed_in (eval (tree_of_operand names trees o) shows) =
+pub sums_step : (c : Change) (names : List (List ℕ)) (trees : List Tree) (s : Stage) → IsStaged c names trees s → (n : Node) → IsNode (length s.inputs.now) (length s.changes.now) n → (along : Along) (o : Operand) → totalled n ≡ Some (along, o)
+    → (i : Input) → IsReady s.is_new c (tree_of_operand names trees o) i → (kept : Option SummedValue) → (s.is_new ≡ false → kept ≡ summed_at c.old (tree_of_node names trees n))
+    → (d : SumsDelta) → IsSumsDelta along (shown i) (delta_of i) kept d → IsSumsStep c (tree_of_node names trees n) kept d
+sums_step c names trees s staged n within along o is i ready kept holds d delta =
+    let at : (shows : List ℕ → Outcome) → summed_at shows (tree_of_node names trees n) ≡ summed_in along (eval (tree_of_operand names trees o) shows) =
     λ shows. totalled_summed names trees n shows ∙ ap (summed_by shows names trees) is in
-    let inside = totalled_within (length s.inputs.now) (length s.changes.now) n o within is in
-    let held : s.is_new ≡ false → kept ≡ summed_in (eval (tree_of_operand names trees o) c.old) = λ old. holds old ∙ at c.old in
-    let was = was_summed c names trees s staged o inside i ready kept held in
+    let inside = totalled_within (length s.inputs.now) (length s.changes.now) n along o within is in
+    let held : s.is_new ≡ false → kept ≡ summed_in along (eval (tree_of_operand names trees o) c.old) = λ old. holds old ∙ at c.old in
+    let was = was_summed along c names trees s staged o inside i ready kept held in
     record {
-      right = delta.right (eval (tree_of_operand names trees o) c.old) was ∙ (ap summed_in (now_shown c names trees s staged o inside i ready kept held) ∙ sym (at c.new));
+      right = delta.right (eval (tree_of_operand names trees o) c.old) was ∙ (ap (summed_in along) (now_shown along c names trees s staged o inside i ready kept held) ∙ sym (at c.new));
       fit = delta.fit (eval (tree_of_operand names trees o) c.old) was;
     }
 
-pub no_sums_step : (c : Change) (names : List (List ℕ)) (trees : List Tree) (n : Node) → totalled n ≡ None → (kept : Option ArrayValue) → IsSumsStep c (tree_of_node names trees n) kept (sums.Whole None)
-no_sums_step c names trees n none kept = record { right = sym (totalled_summed names trees n c.new ∙ ap (summed_by c.new names trees) none); fit = tt }
-
 -- the sums that a total keeps are those of what its argument was
-pub kept_for : (s : Stage) (f : _) (b : Operand) → IsOperand (length s.inputs.now) (length s.changes.now) b → (kept : Option ArrayValue) → IsKeptBy s (node.Monad f b) kept → (i : Input)
-    → ((c : Change) → (names : List (List ℕ)) → (trees : List Tree) → IsStaged c names trees s → IsReady s.is_new c (tree_of_operand names trees b) i) → is_total f ≡ true → IsSummedFor (shown i) (delta_of i) kept
-kept_for s f b within kept keeps i ready total p a patch some =
+pub kept_for : (s : Stage) (f : _) (b : Operand) → IsOperand (length s.inputs.now) (length s.changes.now) b → (kept : Option SummedValue) → IsKeptBy s (node.Monad f b) kept → (i : Input)
+    → ((c : Change) → (names : List (List ℕ)) → (trees : List Tree) → IsStaged c names trees s → IsReady s.is_new c (tree_of_operand names trees b) i)
+    → (along : Along) → total_along f ≡ Some along → IsSummedFor along (shown i) (delta_of i) kept
+kept_for s f b within kept keeps i ready along total p value patch some =
     let c = keeps.0 in
     let names = keeps.1.0 in
     let trees = keeps.1.1.0 in
     let staged = keeps.1.1.1.0 in
-    let held : s.is_new ≡ false → kept ≡ summed_in (eval (tree_of_operand names trees b) c.old) = λ old. keeps.1.1.1.1 old ∙ cond-true _ _ _ total in
-    let was = was_summed c names trees s staged b within i (ready c names trees staged) kept held (ap is_whole patch) in
-    let k = kept_of (eval (tree_of_operand names trees b) c.old) a (sym some ∙ was.keeps) in (
-      subst (λ (o : Outcome). FitsIn (Patch p) o) k.is (subst (λ (d : Delta). FitsIn d (eval (tree_of_operand names trees b) c.old)) patch was.fit),
-      sym (ap (applied (Patch p)) (sym k.is) ∙ (ap (λ (d : Delta). applied d (eval (tree_of_operand names trees b) c.old)) (sym patch) ∙ was.becomes)),
-    )
+    let old = eval (tree_of_operand names trees b) c.old in
+    let held : s.is_new ≡ false → kept ≡ summed_in along old = λ was. keeps.1.1.1.1 was ∙ ap (λ (k : Option Along). option_map_or (λ x. summed_in x old) k None) total in
+    let was = was_summed along c names trees s staged b within i (ready c names trees staged) kept held (ap is_whole patch) in
+    let k = kept_of along old value (sym some ∙ was.keeps) in
+    record {
+      fit = subst (λ (o : Outcome). FitsIn (Patch p) o) k.is (subst (λ (d : Delta). FitsIn d old) patch was.fit);
+      becomes = sym (ap (applied (Patch p)) (sym k.is) ∙ (ap (λ (d : Delta). applied d old) (sym patch) ∙ was.becomes));
+      lines = sym (as_summed along value.axis value.array k.meant k.long);
+    }
 
 -- what holds of a change, where it could be made
 pub change_or : (P Q : SumsDelta → Type 0) (r : Result SumsDelta AllocError) → ((d : SumsDelta) → P d → Q d) → IfOk r P → IfOk r Q

@@ -1,9 +1,9 @@
 -- What the nodes of a formula keep, and what changes of it.
 use Rattle.std.specs.Prelude.{ℕ, ◌<◌, List, Option, None, Err, length, get_or, map}
-use Rattle.arrays_core.specs.Arrays.{ArrayValue}
 use Rattle.arrays_core.specs.declared.item.Kind.TheVariants.{Value}
 use Rattle.index_region.specs.declared.delta.Delta.TheVariants.{Same}
 use Rattle.change_rules.specs.Currency.{applied}
+use Rattle.sum_rules.specs.LineSums.{SummedValue}
 use Rattle.apl_expr.specs.Trees.{Tree}
 use Rattle.formula_core.specs.declared.kept.Kept.{Kept}
 use Rattle.formula_core.specs.declared.kept.NodeChange.{NodeChange}
@@ -14,10 +14,10 @@ use Rattle.formula_core.specs.Meaning.{eval}
 use Rattle.formula_core.specs.Outcomes.{Outcome, fault}
 use Rattle.formula_core.specs.Sums.{summed_at, resummed, FitsSums}
 
--- what a node holds: its result, and the array of whose lines it keeps the sums, if it does
+-- what a node holds: its result, and the array of whose lines it keeps the sums, with their axis, if it does
 pub record Holding : Type 0 where
   pub result : Outcome
-  pub sums : Option ArrayValue
+  pub sums : Option SummedValue
 
 -- where it was not worked out yet
 abbrev pub not_worked_out : Holding

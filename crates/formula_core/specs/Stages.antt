@@ -3,12 +3,14 @@ use Rattle.std.specs.Prelude.{◌≡◌, ◌+◌, ◌≤◌, ◌<◌, ℕ, List,
 use Rattle.std.specs.declared.alloc.AllocError.{AllocError}
 use Rattle.std.specs.List.{Contains, sum_by}
 use Rattle.apl_expr.specs.Trees.{Tree}
-use Rattle.arrays_core.specs.Arrays.{ArrayValue, IsArray}
+use Rattle.arrays_core.specs.Arrays.{IsArray}
 use Rattle.arrays_core.specs.declared.item.Kind.TheVariants.{Value}
+use Rattle.index_region.specs.declared.along.Along.{Along}
 use Rattle.index_region.specs.declared.delta.Delta.{Delta}
 use Rattle.change_core.specs.Meters.{ticked}
 use Rattle.change_rules.specs.Currency.{applied}
 use Rattle.change_rules.specs.Nodes.{is_whole, is_error}
+use Rattle.sum_rules.specs.LineSums.{SummedValue}
 use Rattle.sum_rules.specs.Totals.{total_rule}
 use Rattle.formula_core.specs.declared.input.Input.{Input}
 use Rattle.formula_core.specs.declared.input.Input.TheVariants.{Bad}
@@ -54,11 +56,11 @@ abbrev pub StagedBy : Stage → Type 0
 StagedBy s = (c : Change) × ((names : List (List ℕ)) × ((trees : List Tree) × IsStaged c names trees s))
 
 -- the sums that a node keeps are those of what its argument was
-abbrev pub IsKeptBy : Stage → Node → Option ArrayValue → Type 0
+abbrev pub IsKeptBy : Stage → Node → Option SummedValue → Type 0
 IsKeptBy s n kept = (c : Change) × ((names : List (List ℕ)) × ((trees : List Tree) × (IsStaged c names trees s × (s.is_new ≡ false → kept ≡ summed_at c.old (tree_of_node names trees n)))))
 
 -- the change of the sums that the node of a tree keeps makes of them those of what its argument is now
-pub record IsSumsStep (c : Change) (t : Tree) (kept : Option ArrayValue) (s : SumsDelta) : Type 0 where
+pub record IsSumsStep (c : Change) (t : Tree) (kept : Option SummedValue) (s : SumsDelta) : Type 0 where
   pub right : resummed s kept ≡ summed_at c.new t
   pub fit : FitsSums s kept
 
@@ -95,10 +97,10 @@ pub record IsBegun (f : FormulaValue) (c : Change) (changes : List NodeChange) (
   pub done : (k : ℕ) → k < length changes → IsDone f.is_new c (tree_at (subtrees f.tree) k) (get_or f.nodes k not_worked_out) (get_or changes k no_change)
   pub costs : cost ≡ ticked 0 (sum_by (node_cost_at f.is_new c) (take (length changes) (subtrees f.tree)))
 
--- how many sums are joined for the totals of what an input gives
-pub record AreTotalsJoined (right : Input) (held : Outcome) (before after : ℕ) (r : Result (Delta × ℕ) AllocError) : Type 0 where
-  pub most : after ≤ before + most_joins_of (shown right) (delta_of right) held (operation_cost total_rule (arguments (shown right ∷ [])) (delta_of right ∷ []) held)
-  pub least : IfOk r (λ s. is_error s.0 ≡ false → ticked before (least_joins_of (shown right) (delta_of right) held (operation_cost total_rule (arguments (shown right ∷ [])) (delta_of right ∷ []) held)) ≤ after)
+-- how many sums are joined for the totals along an axis of what an input gives
+pub record AreTotalsJoined (along : Along) (right : Input) (held : Outcome) (before after : ℕ) (r : Result (Delta × ℕ) AllocError) : Type 0 where
+  pub most : after ≤ before + most_joins_of along (shown right) (delta_of right) held (operation_cost (total_rule along) (arguments (shown right ∷ [])) (delta_of right ∷ []) held)
+  pub least : IfOk r (λ s. is_error s.0 ≡ false → ticked before (least_joins_of along (shown right) (delta_of right) held (operation_cost (total_rule along) (arguments (shown right ∷ [])) (delta_of right ∷ []) held)) ≤ after)
 
 -- how many for the change of the node of a tree
 pub record IsJoined (is_new : Bool) (c : Change) (t : Tree) (before after : ℕ) (r : Result (Delta × ℕ) AllocError) : Type 0 where

@@ -32,8 +32,8 @@ use std::alloc::{AllocError, Global};
 use std::marker::Model;
 
 /// An expression as a table of nodes, each after those whose results it takes, with the result that each node was last
-/// given, and for each total `+/` the sums of its argument's lines. A name inside the expression is no node: what it shows
-/// is lent, and not kept.
+/// given, and for each total, as `+/` and `+⌿` are, the sums of its argument's lines. A name inside the expression is no node: what it
+/// shows is lent, and not kept.
 #[derive(Drop)]
 pub struct Formula {
     alloc: Global,
@@ -124,7 +124,8 @@ impl Formula {
     /// formula still shows what it did: it takes the plan by `adopt`. Where it holds results, each input tells the change
     /// from what the name showed when they were worked out. The meter counts the items that are computed: as many as the plan costs
     /// where no item fails, and at most as many where one does. Where nothing changed of the names none is computed, but by a new formula. It counts each join of sums of numbers, too:
-    /// a total `+/` whose lines keep trees of sums joins, for each new number, at most as many as the length of a line has binary digits.
+    /// a total, as `+/` and `+⌿` are, whose lines keep trees of sums joins, for each new number, at most as many as the length of a line
+    /// has binary digits.
     pub fn plan(&self, inputs: &[Input], meter: &mut Meter) -> Result<Plan, AllocError>
         requires { (c : Change) × IsTold self.now c inputs.now }
         ensures of { IfOk result (IsPlanOf self.now) }

@@ -1,20 +1,20 @@
 //! The change of an operation, from what its operands give.
 
-ghost use Rattle.std.specs.Prelude.{◌≡◌, [], ◌∷◌, true, false, Err, if◌then◌else◌};
+ghost use Rattle.std.specs.Prelude.{◌≡◌, [], ◌∷◌, Some, None, Err, if◌then◌else◌};
 ghost use Rattle.index_region.specs.declared.delta.Delta.TheVariants.{Same, Whole as WholeDelta};
 ghost use Rattle.sum_rules.specs.Totals.{total_rule};
 ghost use Rattle.formula_core.specs.Inputs.{shown, delta_of, HasFit, IsOperationChange};
 ghost use Rattle.formula_core.specs.Rules.{right_rule, both_rule};
 ghost use Rattle.formula_core.specs.Stages.{AreTotalsJoined};
-ghost use Rattle.formula_core.specs.Sums.{is_total as is_sum, IsSummedFor, AreSumsKept};
+ghost use Rattle.formula_core.specs.Sums.{total_along as axis_of_total, IsSummedFor, AreSumsKept};
 
 use crate::input::Input;
 use crate::refreshing::Operation;
-use crate::sums::is_total;
-use apl_expr::{Along, Dyadic, Monadic, ScalarDyad};
+use crate::sums::total_along;
+use apl_expr::{Dyadic, Monadic};
 use arrays_core::{Array, Fault};
 use change_core::Meter;
-use index_region::Delta;
+use index_region::{Along, Delta};
 use std::alloc::{AllocError, Global};
 use sum_rules::{LineSums, fold_totals_with_cost, refresh_totals_with_cost};
 
@@ -55,43 +55,44 @@ pub(crate) fn change_of_monad(
     meter: &mut Meter,
 ) -> Result<(Delta, u32), AllocError>
     requires fit { HasFit right.now }
-    requires kept { is_sum function ≡ true → IsSummedFor (shown right.now) (delta_of right.now) kept.now }
+    requires kept { (along : Along) → axis_of_total function ≡ Some along → IsSummedFor along (shown right.now) (delta_of right.now) kept.now }
     ensures change { IsOperationChange (right_rule function) (right.now ∷ []) held.now meter.old.ticks meter.new.ticks result }
-    ensures joins { is_sum function ≡ true → AreSumsKept (shown right.now) (delta_of right.now) kept.now → AreTotalsJoined right.now held.now meter.old.joins meter.new.joins result }
-    ensures no_joins { is_sum function ≡ false → meter.new.joins ≡ meter.old.joins }
+    ensures joins { (along : Along) → axis_of_total function ≡ Some along → AreSumsKept along (shown right.now) (delta_of right.now) kept.now
+        → AreTotalsJoined along right.now held.now meter.old.joins meter.new.joins result }
+    ensures no_joins { axis_of_total function ≡ None → meter.new.joins ≡ meter.old.joins }
 {
-    if is_total(function) {
-        return change_of_total(alloc, right, kept, held, meter);
+    match total_along(function) {
+        Some(along) => change_of_total(alloc, along, right, kept, held, meter),
+        None => change_of_right(alloc, function, right, held, meter),
     }
-    change_of_right(alloc, function, right, held, meter)
 }
 
-/// The change of a total, and what it costs: by the sums of the argument's lines where these are kept, else the lines are summed up;
-/// beside an error it is that error.
+/// The change of a total along an axis, and what it costs: by the sums of the argument's lines where these are kept, else the lines are
+/// summed up; beside an error it is that error.
 fn change_of_total(
     alloc: Global,
+    along: Along,
     right: &Input,
     kept: &Option<LineSums>,
     held: &Result<Array, Fault>,
     meter: &mut Meter,
 ) -> Result<(Delta, u32), AllocError>
     requires fit { HasFit right.now }
-    requires kept { IsSummedFor (shown right.now) (delta_of right.now) kept.now }
-    ensures change { IsOperationChange total_rule (right.now ∷ []) held.now meter.old.ticks meter.new.ticks result }
-    ensures joins { AreSumsKept (shown right.now) (delta_of right.now) kept.now → AreTotalsJoined right.now held.now meter.old.joins meter.new.joins result }
+    requires kept { IsSummedFor along (shown right.now) (delta_of right.now) kept.now }
+    ensures change { IsOperationChange (total_rule along) (right.now ∷ []) held.now meter.old.ticks meter.new.ticks result }
+    ensures joins { AreSumsKept along (shown right.now) (delta_of right.now) kept.now → AreTotalsJoined along right.now held.now meter.old.joins meter.new.joins result }
 {
     match right {
         Input::Good(array, delta) => {
             let arg = (array.again(), *delta);
             match kept {
-                Some(sums) => refresh_totals_with_cost(alloc, arg, held, sums.trees(), meter),
-                None => fold_totals_with_cost(alloc, arg, held, meter),
+                Some(sums) => {
+                    refresh_totals_with_cost(alloc, along, arg, held, sums.trees(), meter)
+                }
+                None => fold_totals_with_cost(alloc, along, arg, held, meter),
             }
         }
-        Input::Bad { .. } => {
-            let total = Monadic::Reduce(ScalarDyad::Plus, Along::Last);
-            change_of_right(alloc, total, right, held, meter)
-        }
+        Input::Bad { fault, .. } => Ok((beside_error(*fault, right.stays()), 0)),
     }
 }
 

@@ -1,21 +1,22 @@
 //! The sums of lines that the totals of a formula keep.
 
 ghost use Rattle.std.specs.Prelude.{◌≡◌, Option, Ok, IfOk};
-ghost use Rattle.arrays_core.specs.Arrays.{ArrayValue};
 ghost use Rattle.index_region.specs.declared.delta.Delta.TheVariants.{Patch as PatchDelta, Grown as GrownDelta};
 ghost use Rattle.index_region.specs.Patches.{FitsPatch};
+ghost use Rattle.sum_rules.specs.LineSums.{SummedValue};
 ghost use Rattle.formula_core.specs.Changes.{HasGrown};
 ghost use Rattle.formula_core.specs.Inputs.{shown, delta_of, HasFit};
-ghost use Rattle.formula_core.specs.Sums.{is_total as is_sum, in_box, resummed, FitsSums, IsSumsDelta};
+ghost use Rattle.formula_core.specs.Sums.{total_along as axis_of_total, in_box, resummed, FitsSums, IsSumsDelta};
 
 use crate::input::Input;
-use apl_expr::{Along, Monadic, ScalarDyad};
-use index_region::{Delta, Patch, Seen, Tail};
+use crate::symbols::along_of;
+use apl_expr::{Monadic, ScalarDyad};
+use index_region::{Along, Delta, Patch, Seen, Tail};
 use std::alloc::{AllocError, Global};
 use sum_rules::{LineSums, NewLines, keeps_sums};
 
 /// A patch of more than one place in so many makes the sums anew: taking its items one by one would be slower.
-const PLACES_TO_ONE_NEW: usize = 32;
+const PLACES_TO_ONE_NEW: usize = 16;
 
 /// What changes of the sums that a node keeps.
 #[derive(Drop)]
@@ -24,72 +25,90 @@ pub(crate) enum SumsDelta {
     Same,
     /// New items for a box of the array whose lines are summed up.
     Patch(Box<Patch>),
-    /// The sums of new lines behind the others.
+    /// What the lines get where the array grew.
     Grown(Box<NewLines>),
     /// Other sums, or none.
     Whole(Option<Box<LineSums>>),
 }
 
-/// It sums up lines along the last axis, as `+/` does.
-pub(crate) fn is_total(function: Monadic) -> bool
-    ensures { result ≡ is_sum function }
+/// The axis along which a function sums up lines, if it does, as `+/` and `+⌿` do.
+pub(crate) fn total_along(function: Monadic) -> Option<Along>
+    ensures { result ≡ axis_of_total function }
 {
-    matches!(function, Monadic::Reduce(ScalarDyad::Plus, Along::Last))
+    match function {
+        Monadic::Reduce(ScalarDyad::Plus, along) => Some(along_of(along)),
+        _ => None,
+    }
 }
 
-/// What changes of the sums of the lines of an argument, where these were kept: a small patch is kept for them, those
-/// of new lines go behind them, and else they are made anew.
+/// What changes of the sums of the lines of an argument along an axis, where these were kept: a small patch is kept for them, what
+/// the lines get where the array grew goes behind them, and else they are made anew.
 pub(crate) fn sums_delta(
     alloc: Global,
+    along: Along,
     input: &Input,
     kept: &Option<LineSums>,
 ) -> Result<SumsDelta, AllocError>
     requires { HasFit input.now }
-    ensures { IfOk result (IsSumsDelta (shown input.now) (delta_of input.now) kept.now) }
+    ensures { IfOk result (IsSumsDelta along (shown input.now) (delta_of input.now) kept.now) }
 {
     match input {
         Input::Bad { .. } => Ok(SumsDelta::Whole(None)),
         Input::Good(array, delta) => match delta {
             Delta::Same => Ok(SumsDelta::Same),
-            Delta::Whole(_) => Ok(SumsDelta::Whole(boxed(alloc, LineSums::of(alloc, array)?)?)),
-            Delta::Grown(tail) => grown_delta(alloc, array, tail),
-            Delta::Patch(patch) => patch_delta(alloc, array, patch, kept),
+            Delta::Whole(_) => made_anew(alloc, along, array),
+            Delta::Grown(tail) => grown_delta(alloc, along, array, tail, kept),
+            Delta::Patch(patch) => patch_delta(alloc, along, array, patch, kept),
         },
     }
+}
+
+/// The sums of the lines of an array, made anew if lines like these have any.
+fn made_anew(alloc: Global, along: Along, array: &Seen) -> Result<SumsDelta, AllocError>
+    ensures { IfOk result (λ s. (d : Delta) → (kept : Option SummedValue) → IsSumsDelta along (Ok array.now) d kept s) }
+{
+    let sums = LineSums::of(alloc, along, array)?;
+    Ok(SumsDelta::Whole(boxed(alloc, sums)?))
 }
 
 /// What changes of the sums where the array is patched: a patch that is small beside the array is kept for the trees. Where it is
 /// larger, or no sums were kept, they are made anew.
 fn patch_delta(
     alloc: Global,
+    along: Along,
     array: &Seen,
     patch: &Patch,
     kept: &Option<LineSums>,
 ) -> Result<SumsDelta, AllocError>
     requires { FitsPatch array.now patch.now }
-    ensures { IfOk result (IsSumsDelta (Ok array.now) (PatchDelta patch.now) kept.now) }
+    ensures { IfOk result (IsSumsDelta along (Ok array.now) (PatchDelta patch.now) kept.now) }
 {
     let places = array.places() as usize;
     if kept.is_some() && patch.region().size() <= places / PLACES_TO_ONE_NEW + 1 {
         return Ok(SumsDelta::Patch(Box::new(alloc, patch.copy()?)?));
     }
-    Ok(SumsDelta::Whole(boxed(alloc, LineSums::of(alloc, array)?)?))
+    made_anew(alloc, along, array)
 }
 
-/// What changes of the sums where the array grew. The one line of a vector is longer then, so that its sums are made anew. Any
-/// other array has new lines, whose sums go behind those that are kept, if lines like these have any.
-fn grown_delta(alloc: Global, array: &Seen, tail: &Tail) -> Result<SumsDelta, AllocError>
+/// What changes of the sums where the array grew: what its lines along the axis get goes behind what is kept. Where no sums were kept,
+/// they are made anew.
+#[tactic(auto, using(crate::proofs::Summed::lines_taken))]
+fn grown_delta(
+    alloc: Global,
+    along: Along,
+    array: &Seen,
+    tail: &Tail,
+    kept: &Option<LineSums>,
+) -> Result<SumsDelta, AllocError>
     requires { HasGrown array.now tail.now }
-    ensures { IfOk result (λ s. (kept : Option ArrayValue) → IsSumsDelta (Ok array.now) (GrownDelta tail.now) kept s) }
+    ensures { IfOk result (IsSumsDelta along (Ok array.now) (GrownDelta tail.now) kept.now) }
 {
-    if array.shape().as_slice().len() < 2 {
-        return Ok(SumsDelta::Whole(boxed(alloc, LineSums::of(alloc, array)?)?));
+    if kept.is_some() && keeps_sums(along, array) {
+        let axis = along.axis_at(array.shape().as_slice().len() as u32);
+        let lines = NewLines::of(alloc, axis, tail)?;
+        return Ok(SumsDelta::Grown(Box::new(alloc, lines)?));
     }
-    if !keeps_sums(array) {
-        return Ok(SumsDelta::Same);
-    }
-    let lines = NewLines::of(alloc, tail)?;
-    Ok(SumsDelta::Grown(Box::new(alloc, lines)?))
+    made_anew(alloc, along, array)
 }
 
 /// Sums in a box, so that a change of a node is small.

@@ -6,9 +6,10 @@ ghost use Rattle.formula_core.specs.declared.table.Operand.TheVariants.{Node as 
 ghost use Rattle.formula_core.specs.Sums.{totalled};
 ghost use Rattle.formula_core.specs.Tables.{IsLowered, ArePositionsLowered, applies, is_literal};
 
-use crate::sums::is_total;
+use crate::sums::total_along;
 use apl_expr::{Dyadic, Expr, Literal, Monadic};
 use apl_tokens::Name;
+use index_region::Along;
 use std::alloc::{AllocError, Global};
 
 /// What a node takes as an argument: what a name shows, by its place among the references, or the result of a node
@@ -51,12 +52,12 @@ impl Node {
         matches!(self, Node::Constant(_))
     }
 
-    /// The argument whose lines it sums up, where it does that.
-    pub(crate) fn totalled(&self) -> Option<Operand>
+    /// The argument whose lines it sums up, where it does that, behind the axis of these.
+    pub(crate) fn totalled(&self) -> Option<(Along, Operand)>
         ensures { result ≡ totalled self.now }
     {
         match self {
-            Node::Monad(function, right) if is_total(*function) => Some(*right),
+            Node::Monad(function, right) => Some((total_along(*function)?, *right)),
             _ => None,
         }
     }

@@ -6,7 +6,7 @@ use Rattle.std.proofs.lemmas.Bool.{cases_lt, cases_eq}
 use Rattle.std.proofs.lemmas.List.{get_or-set_same, get_or-set_other}
 use Rattle.operator_fns.specs.declared.summary.Summary.{Summary}
 use Rattle.operator_fns.specs.declared.line_tree.Line.{Line}
-use Rattle.operator_fns.specs.LineTrees.{node_at, node_of, empty, IsKept, AreKept, AreKeptWithin, AreKeptIn, other_half, sums_at}
+use Rattle.operator_fns.specs.LineTrees.{node_at, node_of, empty, IsKept, AreKept, AreKeptIn, other_half, sums_at}
 use Rattle.operator_fns.specs.SumNodes.{Tells, sums_from}
 use Rattle.operator_fns.proofs.LineParts.{IsClimb, climb_up, odd_block, even_block}
 use Rattle.operator_fns.proofs.LineWrites.{steps_apart}
@@ -236,117 +236,4 @@ kept_beside width at block count x node climb kept level place low high = kept l
     beside = elim (cases_eq (block % 2) 0) [
       | inl even ↦ let a = even_block block width even in inl (omega (arith, a.0, a.1, low, climb.high))
       | inr odd ↦ let is : block % 2 ≡ 1 = omega (arith, odd) in let a = odd_block block width is in inr (omega (arith, a.0, a.1, high, climb.low))
-    ]
-
--- ---- level by level
-
--- for all narrower parts, and for the first ones whose halves are so wide
-abbrev pub AreKeptBefore : (half first count : ℕ) → (ℕ → ℤ) → (ℕ → Summary) → Type 0
-AreKeptBefore half first count x node = (level place : ℕ) → (4 * 2 ^ level ≤ half ⊎ 4 * 2 ^ level ≡ 2 * half × place < first) → IsKept count x node (place * (4 * 2 ^ level)) (2 * 2 ^ level)
-
--- one more
-pub fill_on : (l : Line) (nodes : List Summary) (x : ℕ → ℤ) (at half : ℕ) (first : ℕ) (s : Summary) → half ≡ 2 * 2 ^ at → 0 < l.step
-    → node_at l (first * (2 * half) + half) < length nodes → Tells s (sums_from x (first * (2 * half)) (min (2 * half) (l.count - first * (2 * half))))
-    → AreKeptBefore half first l.count x (node_of l nodes) → AreKeptBefore half (suc first) l.count x (node_of l (set nodes (node_at l (first * (2 * half) + half)) s))
-fill_on l nodes x at half first s is some inside told kept level place h = elim (cases_eq level at) [
-  | inl e ↦ elim (cases_eq place first) [
-    | inl f ↦ λ below.
-        let unit : 2 * 2 ^ level ≡ half = ap (λ k. 2 * 2 ^ k) e ∙ sym is in
-        let start : place * (4 * 2 ^ level) ≡ first * (2 * half) = (λ i. f i * (4 * 2 ^ e i)) ∙ ap (λ k. first * k) (omega (arith, is)) in
-        let double : 2 * (2 * 2 ^ level) ≡ 2 * half = ap (λ k. 2 * k) unit in
-        subst (λ n. Tells n (sums_from x (place * (4 * 2 ^ level)) (min (2 * (2 * 2 ^ level)) (l.count - place * (4 * 2 ^ level)))))
-        (sym ((λ i. node_of l (set nodes (node_at l (first * (2 * half) + half)) s) (start i + unit i)) ∙ node_here l nodes (first * (2 * half) + half) s inside))
-        (subst (Tells s) (sym (λ i. sums_from x (start i) (min (double i) (l.count - start i)))) told)
-    | inr other ↦ λ below.
-        let apart : place * (4 * 2 ^ level) + 2 * 2 ^ level ≢ first * (4 * 2 ^ at) + 2 * 2 ^ at = λ same.
-        let there : place * (4 * 2 ^ at) ≡ place * (4 * 2 ^ level) = sym (ap (λ k. place * (4 * 2 ^ k)) e) in
-        let unit : 2 ^ level ≡ 2 ^ at = ap (λ k. 2 ^ k) e in
-        let positive : 0 < 4 * 2 ^ at = let p = pow_pos at in omega (arith, p) in
-        other (steps_apart place first (4 * 2 ^ at) positive (omega (arith, same, there, unit))) in
-        moved apart (kept level place (elim h [
-          | inl few ↦ let unit : 2 ^ level ≡ 2 ^ at = ap (λ k. 2 ^ k) e in let p = pow_pos at in let no : ⊥ = omega (arith, few, unit, is, p) in absurd no
-          | inr here ↦ inr (here.0, omega (arith, here.1, other))
-        ]) below)
-  ]
-  | inr differ ↦ λ below.
-      moved (λ same. differ (meetings_apart level place at first same)) (kept level place (elim h [
-        | inl few ↦ inl few
-        | inr here ↦
-            let powers : 2 ^ suc (suc level) ≡ 2 ^ suc (suc at) = let a : 2 ^ suc (suc level) ≡ 4 * 2 ^ level = grind arith in let b : 2 ^ suc (suc at) ≡ 4 * 2 ^ at = grind arith in omega (arith, a, b, here.0, is) in
-            let one : (2 * 0 + 1) * 2 ^ suc (suc level) ≡ (2 * 0 + 1) * 2 ^ suc (suc at) = omega (arith, powers) in
-            let same = odd_multiples 0 0 (suc (suc level)) (suc (suc at)) one in
-            let no : ⊥ = differ (omega (arith, same)) in
-            absurd no
-      ]) below)
-]
-  where
-    meets : first * (2 * half) + half ≡ first * (4 * 2 ^ at) + 2 * 2 ^ at
-    meets = (λ i. first * (2 * is i) + is i) ∙ grind arith
-
-    twice : (place unit : ℕ) → place * (4 * unit) + 2 * unit ≡ 2 * ((2 * place + 1) * unit)
-    twice place unit = grind arith
-
-    some_of : (place level : ℕ) → 1 ≤ (2 * place + 1) * 2 ^ level
-    some_of place level = let p = pow_pos level in let e : (2 * place + 1) * 2 ^ level ≡ 2 * (place * 2 ^ level) + 2 ^ level = grind arith in omega (arith, p, e)
-
-    moved : place * (4 * 2 ^ level) + 2 * 2 ^ level ≢ first * (4 * 2 ^ at) + 2 * 2 ^ at
-        → Tells (node_of l nodes (place * (4 * 2 ^ level) + 2 * 2 ^ level)) (sums_from x (place * (4 * 2 ^ level)) (min (2 * (2 * 2 ^ level)) (l.count - place * (4 * 2 ^ level))))
-        → Tells (node_of l (set nodes (node_at l (first * (2 * half) + half)) s) (place * (4 * 2 ^ level) + 2 * 2 ^ level)) (sums_from x (place * (4 * 2 ^ level)) (min (2 * (2 * 2 ^ level)) (l.count - place * (4 * 2 ^ level))))
-    moved apart =
-        let here = twice place (2 ^ level) in
-        let there = meets ∙ twice first (2 ^ at) in
-        let same = ap (λ m. node_of l (set nodes (node_at l m) s) (place * (4 * 2 ^ level) + 2 * 2 ^ level)) there
-        ∙ ap (node_of l (set nodes (node_at l (2 * ((2 * first + 1) * 2 ^ at))) s)) here
-        ∙ node_other l nodes ((2 * first + 1) * 2 ^ at) ((2 * place + 1) * 2 ^ level) s some (some_of first at) (some_of place level)
-        (λ e. apart (here ∙ ap (λ k. 2 * k) e ∙ sym (twice first (2 ^ at))))
-        ∙ sym (ap (node_of l nodes) here) in
-        subst (λ n. Tells n (sums_from x (place * (4 * 2 ^ level)) (min (2 * (2 * 2 ^ level)) (l.count - place * (4 * 2 ^ level))))) (sym same)
-
--- once the last of these parts is done
-pub level_done : (half at first count : ℕ) (x : ℕ → ℤ) (node : ℕ → Summary) → half ≡ 2 * 2 ^ at → count ≤ first * (2 * half) + half → AreKeptBefore half first count x node
-    → AreKeptWithin (2 * half) count x node
-level_done half at first count x node is last kept level place few inside = kept level place which inside
-  where
-    which : 4 * 2 ^ level ≤ half ⊎ 4 * 2 ^ level ≡ 2 * half × place < first
-    which = elim (cases_lt level at) [
-      | inl less ↦
-          let two : 0 < 2 = omega arith in
-          let more : 2 ^ suc level ≤ 2 ^ at = pow-le-pow_right two less in
-          let double : 2 ^ suc level ≡ 2 * 2 ^ level = grind arith in
-          inl (omega (arith, more, double, is))
-      | inr enough ↦
-          let two : 0 < 2 = omega arith in
-          let more : 2 ^ at ≤ 2 ^ level = pow-le-pow_right two enough in
-          let same : 4 * 2 ^ level ≡ 2 * half = omega (arith, more, few, is) in
-          let start : place * (4 * 2 ^ level) ≡ place * (2 * half) = ap (λ k. place * k) same in
-          inr (
-            same,
-            elim (cases_lt place first) [
-              | inl before ↦ before
-              | inr after ↦
-                  let rest = place - first in
-                  let sum : place ≡ first + rest = omega (arith, after) in
-                  let all : place * (2 * half) ≡ first * (2 * half) + rest * (2 * half) = ap (λ k. k * (2 * half)) sum ∙ grind arith in
-                  let no : ⊥ = omega (arith, all, start, same, inside, last) in
-                  absurd no
-            ],
-          )
-    ]
-
--- once no wider part has a second half
-pub levels_done : (half at count : ℕ) (x : ℕ → ℤ) (node : ℕ → Summary) → half ≡ 2 * 2 ^ at → count ≤ half → AreKeptWithin half count x node → AreKept count x node
-levels_done half at count x node is wide kept level place inside = kept level place few inside
-  where
-    few : 4 * 2 ^ level ≤ half
-    few = elim (cases_lt level at) [
-      | inl less ↦
-          let two : 0 < 2 = omega arith in
-          let more : 2 ^ suc level ≤ 2 ^ at = pow-le-pow_right two less in
-          let double : 2 ^ suc level ≡ 2 * 2 ^ level = grind arith in
-          omega (arith, more, double, is)
-      | inr enough ↦
-          let two : 0 < 2 = omega arith in
-          let more : 2 ^ at ≤ 2 ^ level = pow-le-pow_right two enough in
-          let no : ⊥ = omega (arith, more, is, wide, inside) in
-          absurd no
     ]

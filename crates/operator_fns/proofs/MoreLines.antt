@@ -1,14 +1,16 @@
 -- Lines behind others.
-use Rattle.std.proofs.Common.{◌≡◌, ◌∙◌, ℕ, ◌+◌, ◌-◌, ◌*◌, ◌/◌, ◌%◌, ◌^◌, ◌<◌, ◌≤◌, ℤ, pos, List, [], ◌++◌, length, get_or, sym, ap, subst, arith, refl, inl, inr, FitsSigned, w64}
+use Rattle.std.proofs.Common.{◌≡◌, ◌∙◌, ℕ, ◌+◌, ◌-◌, ◌*◌, ◌/◌, ◌%◌, ◌^◌, ◌<◌, ◌≤◌, ℤ, pos, List, ◌++◌, length, get_or, sym, ap, subst, arith, refl, inl, inr, FitsSigned, w64}
 use Rattle.std.proofs.lemmas.Bool.{cases_lt}
 use Rattle.std.proofs.lemmas.List.{ext_get_or, length-append, get_or_append_left, get_or-append-add, get_or-append_right}
 use Rattle.std.proofs.lemmas.List.Elements.{All-append}
 use Rattle.std.proofs.lemmas.Nat.{div-add-mod', div-mul-add, mod-mul-add, mod_below, mul-le}
 use Rattle.operator_fns.specs.declared.summary.Summary.{Summary}
 use Rattle.operator_fns.specs.LineTrees.{slot_at, node_at, number_of, node_of, empty, AreKept}
-use Rattle.operator_fns.specs.SumTrees.{line_at, lines_kept, nodes_in_line, AreLineTrees}
+use Rattle.operator_fns.specs.SumTrees.{line_at, line_through, number_kept, numbers_kept, nodes_in_line, AreLineTrees}
+use Rattle.operator_fns.proofs.KeptNumbers.{kept_count, kept_at}
+use Rattle.operator_fns.proofs.LinePlaces.{some_places, spot_line, spot_place, place_spot, line_within}
 use Rattle.operator_fns.proofs.LineSpots.{spot, blocks, slots_are, lines_are, all_slots, slot_within, node_within}
-use Rattle.operator_fns.proofs.LineTables.{same_over, numbers_alike, numbers_moved, kept_alike, lines_count, kept_line}
+use Rattle.operator_fns.proofs.LineTables.{numbers_alike, numbers_moved, kept_alike}
 
 -- the spots of a line behind whole blocks
 pub spot_behind : (unit step blocks line place : ℕ) → 0 < step → spot unit step (blocks * step + line) place ≡ blocks * (unit * step) + spot unit step line place
@@ -60,6 +62,10 @@ module _ (count step : ℕ) (slots more : List ℤ) (nodes more_nodes : List Sum
       ∙ spot_behind half step old_blocks line (meeting / 2 - 1) old.lines.apart
       ∙ ap (λ n. n + spot half step line (meeting / 2 - 1)) (sym many)
 
+  -- a place behind the old ones, as a spot
+  slots_behind : (k : ℕ) → length slots + k ≡ spot count step (old_lines + line_through count step k) (k / step % count)
+  slots_behind k = ap (λ n. length slots + n) (sym (place_spot count step old.lines.some old.lines.apart k)) ∙ sym (slot_behind (line_through count step k) (k / step % count))
+
   -- the numbers of both
   first_numbers : (line : ℕ) → line < old_lines → (i : ℕ) → i < count → number_of (line_at count step line) (slots ++ more) i ≡ number_of (line_at count step line) slots i
   unfolding old_lines
@@ -70,40 +76,50 @@ module _ (count step : ℕ) (slots more : List ℤ) (nodes more_nodes : List Sum
   later_numbers line = numbers_moved (line_at count step line) (line_at count step (old_lines + line)) more (slots ++ more) refl (λ i p.
       ap (λ k. get_or (slots ++ more) k (pos 0)) (slot_behind line i) ∙ get_or-append-add slots more (slot_at (line_at count step line) i) (pos 0))
 
-  pub more_lines : lines_kept count step (slots ++ more) ≡ lines_kept count step slots ++ lines_kept count step more
-  unfolding old_lines new_lines
-  more_lines = ext_get_or [] all (first ++ later) long same
+  -- its line, and where on it
+  line_behind : (k : ℕ) → line_through count step (length slots + k) ≡ old_lines + line_through count step k
+  unfolding old_lines
+  line_behind k = ap (line_through count step) (slots_behind k) ∙ spot_line count step old.lines.some old.lines.apart (old_lines + line_through count step k) (k / step % count) (mod_below (k / step) count old.lines.some)
+
+  place_behind : (k : ℕ) → (length slots + k) / step % count ≡ k / step % count
+  place_behind k = ap (λ n. n / step % count) (slots_behind k) ∙ spot_place count step old.lines.some old.lines.apart (old_lines + line_through count step k) (k / step % count) (mod_below (k / step) count old.lines.some)
+
+  -- the numbers of all lines
+  pub more_numbers : numbers_kept count step (slots ++ more) ≡ numbers_kept count step slots ++ numbers_kept count step more
+  unfolding old_lines
+  more_numbers = ext_get_or (pos 0) all (first ++ later) long same
     where
-      all : List (List ℤ)
-      all = lines_kept count step (slots ++ more)
+      all : List ℤ
+      all = numbers_kept count step (slots ++ more)
 
-      first : List (List ℤ)
-      first = lines_kept count step slots
+      first : List ℤ
+      first = numbers_kept count step slots
 
-      later : List (List ℤ)
-      later = lines_kept count step more
+      later : List ℤ
+      later = numbers_kept count step more
 
       long : length all ≡ length (first ++ later)
-      long = lines_count count step (slots ++ more) ∙ all_lines ∙ sym (length-append first later ∙ (λ i. lines_count count step slots i + lines_count count step more i))
+      long = kept_count count step (slots ++ more) ∙ length-append slots more ∙ sym (length-append first later ∙ (λ i. kept_count count step slots i + kept_count count step more i))
 
-      same : (k : ℕ) → k < length all → get_or all k [] ≡ get_or (first ++ later) k []
+      same : (k : ℕ) → k < length all → get_or all k (pos 0) ≡ get_or (first ++ later) k (pos 0)
       same k h =
-          let within : k < length (slots ++ more) / count = omega (arith, h, lines_count count step (slots ++ more)) in
-          let old_count = lines_count count step slots in
-          elim (cases_lt k (length slots / count)) [
+          let within : k < length (slots ++ more) = omega (arith, h, kept_count count step (slots ++ more)) in
+          let old_count = kept_count count step slots in
+          elim (cases_lt k (length slots)) [
             | inl before ↦
-                kept_line count step (slots ++ more) k within
-                ∙ same_over (number_of (line_at count step k) (slots ++ more)) (number_of (line_at count step k) slots) 0 count (λ i low high. first_numbers k before i (omega (arith, high)))
-                ∙ sym (kept_line count step slots k before)
-                ∙ sym (get_or_append_left first later [] k (omega (arith, before, old_count)))
+                kept_at count step (slots ++ more) k within
+                ∙ first_numbers (line_through count step k) (line_within count step (length slots) old.lines k before) (k / step % count) (mod_below (k / step) count old.lines.some)
+                ∙ sym (kept_at count step slots k before)
+                ∙ sym (get_or_append_left first later (pos 0) k (omega (arith, before, old_count)))
             | inr after ↦
-                let j = k - length slots / count in
-                let is : k ≡ length slots / count + j = omega (arith, after) in
-                kept_line count step (slots ++ more) k within
-                ∙ same_over (number_of (line_at count step k) (slots ++ more)) (number_of (line_at count step j) more) 0 count
-                (λ i low high. ap (λ n. number_of (line_at count step n) (slots ++ more) i) is ∙ later_numbers j i (omega (arith, high)))
-                ∙ sym (kept_line count step more j (omega (arith, within, all_lines, after)))
-                ∙ sym (get_or-append_right first later (length slots / count) k [] old_count after)
+                let j = k - length slots in
+                let is : k ≡ length slots + j = omega (arith, after) in
+                kept_at count step (slots ++ more) k within
+                ∙ ap (number_kept count step (slots ++ more)) is
+                ∙ (λ i. number_of (line_at count step (line_behind j i)) (slots ++ more) (place_behind j i))
+                ∙ later_numbers (line_through count step j) (j / step % count) (mod_below (j / step) count old.lines.some)
+                ∙ sym (kept_at count step more j (omega (arith, within, length-append slots more, after)))
+                ∙ sym (get_or-append_right first later (length slots) k (pos 0) old_count after)
           ]
 
   -- what is kept of the parts of both
@@ -137,11 +153,8 @@ module _ (count step : ℕ) (slots more : List ℤ) (nodes more_nodes : List Sum
           let sum : blocks count step (length slots) old.lines * block + more_blocks * block ≡ (blocks count step (length slots) old.lines + more_blocks) * block + 0 = grind arith in
           let one = slots_are count step (length slots) old.lines in
           let other = slots_are count step (length more) new.lines in
-          let some = old.lines.some in
-          let apart = old.lines.apart in
-          let wide : 1 * 1 ≤ count * step = mul-le 1 1 count step (omega (arith, some)) (omega (arith, apart)) in
           ap (λ n. n % block) (omega (arith, length-append slots more, sum, one, other))
-          ∙ mod-mul-add (blocks count step (length slots) old.lines + more_blocks) block 0 (omega (arith, wide))
+          ∙ mod-mul-add (blocks count step (length slots) old.lines + more_blocks) block 0 (some_places count step old.lines.some old.lines.apart)
 
       first_nodes : (line : ℕ) → line < length slots / count → (meeting : ℕ) → 2 ≤ meeting → meeting < count
           → node_of (line_at count step line) (nodes ++ more_nodes) meeting ≡ node_of (line_at count step line) nodes meeting

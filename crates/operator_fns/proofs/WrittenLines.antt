@@ -1,57 +1,18 @@
--- A number is put at a place of one of many lines.
-use Rattle.std.proofs.Common.{map, true, false, nat_eq, nat_lt, ◌&&◌, if◌then◌else◌, ◌%◌, ◌+◌, ◌<◌, ◌-ℤ◌, ◌≡◌, ◌≢◌, ◌∙◌, ℕ, ◌*◌, ◌/◌, ◌≤◌, ℤ, pos, List, [], length, get_or, set, sym, ap, subst, arith, inl, inr, FitsSigned, w64}
-use Rattle.std.specs.List.{All, range_with_len}
+-- A number is put at a place of all lines.
+use Rattle.std.proofs.Common.{◌%◌, ◌<◌, ◌≡◌, ◌≢◌, ◌∙◌, ℕ, ◌*◌, ◌/◌, ◌≤◌, ℤ, pos, List, length, get_or, set, sym, ap, subst, arith, inl, inr, FitsSigned, w64}
+use Rattle.std.specs.List.{All}
 use Rattle.std.proofs.lemmas.Bool.{cases_eq}
-use Rattle.std.specs.Int.{int_wrap}
-use Rattle.std.proofs.lemmas.Int.{SFits-int_wrap}
-use Rattle.std.proofs.lemmas.List.Elements.{All-same, All-from_get_or}
-use Rattle.std.proofs.lemmas.List.FromFn.{length-map-range_with_len, get_or-map-range_with_len}
 use Rattle.std.proofs.lemmas.List.{ext_get_or, length-set, get_or-set_same, get_or-set_other}
+use Rattle.std.proofs.lemmas.Nat.{mod_below}
 use Rattle.operator_fns.specs.declared.summary.Summary.{Summary}
 use Rattle.operator_fns.specs.declared.line_tree.Line.{Line}
-use Rattle.operator_fns.specs.SumNodes.{sums_of, sums_from}
-use Rattle.operator_fns.specs.LineTrees.{slot_of, slot_at, node_at, number_of, node_of, empty, replaced, AreKept}
-use Rattle.operator_fns.specs.SumTrees.{line_at, lines_kept, nodes_in_line, AreLines, AreLineTrees}
-use Rattle.operator_fns.proofs.LineSpots.{slots_apart, nodes_apart, slot_within}
-use Rattle.operator_fns.proofs.LineTables.{same_over, numbers_alike, kept_alike, lines_count, kept_line, sums_listed, set_listed}
-
--- ---- the sums of a line
-
-pub line_sums : (count step : ℕ) (slots : List ℤ) (line : ℕ) → line < length slots / count
-    → sums_from (number_of (line_at count step line) slots) 0 count ≡ sums_of (get_or (lines_kept count step slots) line [])
-line_sums count step slots line h = sym (ap sums_of (kept_line count step slots line h) ∙ sums_listed (number_of (line_at count step line) slots) 0 count)
-
-pub line_sums_with : (count step : ℕ) (slots : List ℤ) (line place : ℕ) (z : ℤ) → line < length slots / count → place < count
-    → sums_from (replaced (number_of (line_at count step line) slots) place z) 0 count ≡ sums_of (set (get_or (lines_kept count step slots) line []) place z)
-line_sums_with count step slots line place z h p =
-    let x = number_of (line_at count step line) slots in
-    sym (ap (λ (xs : List ℤ). sums_of (set xs place z)) (kept_line count step slots line h) ∙ ap sums_of (set_listed x count place z p) ∙ sums_listed (replaced x place z) 0 count)
-
--- ---- the numbers of a line fit 64 bits
-
-number_fits : (l : Line) (slots : List ℤ) (place : ℕ) → slot_at l place < length slots → All (FitsSigned w64) slots → FitsSigned w64 (number_of l slots place)
-number_fits l slots place inside fit =
-    elim (nat_eq (place % 2) 0 && nat_lt (place + 1) l.count) as (λ b. FitsSigned w64 (if b then int_wrap w64 (slot_of l slots place -ℤ slot_of l slots (place + 1)) else slot_of l slots place)) [
-      | true ↦ SFits-int_wrap w64 (slot_of l slots place -ℤ slot_of l slots (place + 1))
-      | false ↦ fit (slot_at l place) (pos 0) inside
-    ]
-
-pub line_fit : (count step : ℕ) (slots : List ℤ) (line : ℕ) → AreLines count step (length slots) → All (FitsSigned w64) slots → line < length slots / count
-    → All (FitsSigned w64) (get_or (lines_kept count step slots) line [])
-line_fit count step slots line are fit h =
-    All-same (FitsSigned w64) (get_or (lines_kept count step slots) line []) listed (kept_line count step slots line h)
-    (All-from_get_or (FitsSigned w64) listed (pos 0) (λ i p.
-    let below : i < count = omega (arith, p, length-map-range_with_len x 0 count) in
-    subst (FitsSigned w64) (sym (get_or-map-range_with_len x 0 count i i (pos 0) below (omega arith)))
-    (number_fits (line_at count step line) slots i (slot_within count step (length slots) are line h i below) fit)))
-  where
-    x : ℕ → ℤ
-    x = number_of (line_at count step line) slots
-
-    listed : List ℤ
-    listed = map x (range_with_len 0 count)
-
--- ---- what is written
+use Rattle.operator_fns.specs.LineTrees.{slot_at, node_at, number_of, node_of, empty, replaced, AreKept}
+use Rattle.operator_fns.specs.SumTrees.{line_at, line_through, number_kept, numbers_kept, nodes_in_line, AreLines, AreLineTrees}
+use Rattle.operator_fns.proofs.KeptNumbers.{kept_count, kept_at}
+use Rattle.operator_fns.proofs.LineParts.{replaced_here, replaced_other}
+use Rattle.operator_fns.proofs.LinePlaces.{place_spot}
+use Rattle.operator_fns.proofs.LineSpots.{spot, slots_apart, nodes_apart}
+use Rattle.operator_fns.proofs.LineTables.{numbers_alike, kept_alike}
 
 -- a number is put at a place of a line, and what is kept of its parts is joined anew; slots and nodes of no place of it stay
 pub record IsWritten (l : Line) (place : ℕ) (z : ℤ) (slots after : List ℤ) (nodes nodes_after : List Summary) : Type 0 where
@@ -63,52 +24,61 @@ pub record IsWritten (l : Line) (place : ℕ) (z : ℤ) (slots after : List ℤ)
   pub node_count : length nodes_after ≡ length nodes
   pub fit : All (FitsSigned w64) after
 
-module _ (count step : ℕ) (slots after : List ℤ) (nodes nodes_after : List Summary) (line place : ℕ) (z : ℤ) (trees : AreLineTrees count step slots nodes)
-    (inside : line < length slots / count) (below : place < count) (new : IsWritten (line_at count step line) place z slots after nodes nodes_after) where
+module _ (count step : ℕ) (slots after : List ℤ) (nodes nodes_after : List Summary) (place : ℕ) (z : ℤ) (trees : AreLineTrees count step slots nodes)
+    (inside : place < length slots) (new : IsWritten (line_at count step (line_through count step place)) (place / step % count) z slots after nodes nodes_after) where
+  -- where the place lies
+  abbrev line : ℕ
+  line = line_through count step place
+
+  abbrev at : ℕ
+  at = place / step % count
+
   same_lines : length after / count ≡ length slots / count
   same_lines = ap (λ n. n / count) new.slot_count
 
+  -- the other lines stay
   elsewhere : (k : ℕ) → k ≢ line → (i : ℕ) → i < count → number_of (line_at count step k) after i ≡ number_of (line_at count step k) slots i
   elsewhere k other = numbers_alike (line_at count step k) slots after
       (λ i p. new.other_slots (slot_at (line_at count step k) i) (λ j q. slots_apart count step k line i j trees.lines.apart p q other))
 
-  pub written_lines : lines_kept count step after ≡ set (lines_kept count step slots) line (set (get_or (lines_kept count step slots) line []) place z)
-  written_lines = ext_get_or [] (lines_kept count step after) (set old line changed) long same
+  -- the numbers of all lines
+  pub written_numbers : numbers_kept count step after ≡ set (numbers_kept count step slots) place z
+  written_numbers = ext_get_or (pos 0) (numbers_kept count step after) (set old place z) long same
     where
-      old : List (List ℤ)
-      old = lines_kept count step slots
+      old : List ℤ
+      old = numbers_kept count step slots
 
-      changed : List ℤ
-      changed = set (get_or old line []) place z
+      long : length (numbers_kept count step after) ≡ length (set old place z)
+      long = kept_count count step after ∙ new.slot_count ∙ sym (length-set old place z ∙ kept_count count step slots)
 
-      x : ℕ → ℤ
-      x = number_of (line_at count step line) slots
+      -- at another place
+      kept : (k : ℕ) → k ≢ place → number_kept count step after k ≡ number_kept count step slots k
+      kept k apart = elim (cases_eq (line_through count step k) line) [
+        | inl on ↦
+            let beside : k / step % count ≢ at = λ e.
+            apart (sym (place_spot count step trees.lines.some trees.lines.apart k) ∙ (λ i. spot count step (on i) (e i)) ∙ place_spot count step trees.lines.some trees.lines.apart place) in
+            ap (λ j. number_of (line_at count step j) after (k / step % count)) on
+            ∙ new.numbers (k / step % count) (mod_below (k / step) count trees.lines.some)
+            ∙ replaced_other (number_of (line_at count step line) slots) at z (k / step % count) beside
+            ∙ sym (ap (λ j. number_of (line_at count step j) slots (k / step % count)) on)
+        | inr other ↦ elsewhere (line_through count step k) other (k / step % count) (mod_below (k / step) count trees.lines.some)
+      ]
 
-      long : length (lines_kept count step after) ≡ length (set old line changed)
-      long = lines_count count step after ∙ same_lines ∙ sym (length-set old line changed ∙ lines_count count step slots)
-
-      here : get_or (lines_kept count step after) line [] ≡ changed
-      here =
-          kept_line count step after line (omega (arith, inside, same_lines))
-          ∙ same_over (number_of (line_at count step line) after) (replaced x place z) 0 count (λ i low high. new.numbers i (omega (arith, high)))
-          ∙ sym (set_listed x count place z below)
-          ∙ sym (ap (λ (xs : List ℤ). set xs place z) (kept_line count step slots line inside))
-
-      same : (k : ℕ) → k < length (lines_kept count step after) → get_or (lines_kept count step after) k [] ≡ get_or (set old line changed) k []
+      same : (k : ℕ) → k < length (numbers_kept count step after) → get_or (numbers_kept count step after) k (pos 0) ≡ get_or (set old place z) k (pos 0)
       same k h =
-          let within : k < length after / count = omega (arith, h, lines_count count step after) in
-          elim (cases_eq k line) [
+          let within : k < length after = omega (arith, h, kept_count count step after) in
+          kept_at count step after k within
+          ∙ elim (cases_eq k place) [
             | inl e ↦
-                ap (λ j. get_or (lines_kept count step after) j []) e ∙ here
-                ∙ sym (get_or-set_same old line changed [] (omega (arith, inside, lines_count count step slots)))
-                ∙ sym (ap (λ j. get_or (set old line changed) j []) e)
-            | inr other ↦
-                kept_line count step after k within
-                ∙ same_over (number_of (line_at count step k) after) (number_of (line_at count step k) slots) 0 count (λ i low high. elsewhere k other i (omega (arith, high)))
-                ∙ sym (kept_line count step slots k (omega (arith, within, same_lines)))
-                ∙ sym (get_or-set_other old line k changed [] other)
+                ap (number_kept count step after) e
+                ∙ new.numbers at (mod_below (place / step) count trees.lines.some)
+                ∙ replaced_here (number_of (line_at count step line) slots) at z
+                ∙ sym (get_or-set_same old place z (pos 0) (omega (arith, inside, kept_count count step slots)))
+                ∙ sym (ap (λ j. get_or (set old place z) j (pos 0)) e)
+            | inr apart ↦ kept k apart ∙ sym (kept_at count step slots k (omega (arith, within, new.slot_count))) ∙ sym (get_or-set_other old place k z (pos 0) apart)
           ]
 
+  -- and what is kept of their parts
   pub written_trees : AreLineTrees count step after nodes_after
   written_trees = record {
     lines = subst (AreLines count step) (sym new.slot_count) trees.lines;

@@ -16,3 +16,4 @@ pub mod ResultTable
 pub mod Sum
 pub mod SumNodes
 pub mod LineTrees
+pub mod LineBlocks

@@ -73,10 +73,6 @@ AreKeptIn from width count x node = (level place : ℕ) → from ≤ place * (4 
 abbrev pub AreKeptBeside : (at count : ℕ) → (ℕ → ℤ) → (ℕ → Summary) → Type 0
 AreKeptBeside at count x node = (level place : ℕ) → (at < place * (4 * 2 ^ level) ⊎ place * (4 * 2 ^ level) + 4 * 2 ^ level ≤ at) → IsKept count x node (place * (4 * 2 ^ level)) (2 * 2 ^ level)
 
--- for those that are no wider than this
-abbrev pub AreKeptWithin : (width count : ℕ) → (ℕ → ℤ) → (ℕ → Summary) → Type 0
-AreKeptWithin width count x node = (level place : ℕ) → 4 * 2 ^ level ≤ width → IsKept count x node (place * (4 * 2 ^ level)) (2 * 2 ^ level)
-
 -- the other half of the part twice as wide, parts of one width counted from 0
 abbrev pub other_half : ℕ → ℕ
 other_half block = if nat_eq (block % 2) 0 then block + 1 else block - 1
@@ -92,6 +88,10 @@ sums_at count x block width = sums_from x (block * width) (min width (count - bl
 -- the numbers where the one at a place is another
 abbrev pub replaced : (ℕ → ℤ) → (place : ℕ) → ℤ → ℕ → ℤ
 replaced x place number i = if nat_eq i place then number else x i
+
+-- the line without its last number
+abbrev pub shorter : Line → Line
+shorter l = record { count = l.count - 1; step = l.step; slot = l.slot; node = l.node }
 
 -- ---- a list that is by itself
 

@@ -24,4 +24,4 @@ pub use outer_product::Outer;
 pub use reduce::Reduce;
 pub use scan::Scan;
 pub use sum_tree::SumTree;
-pub use sum_trees::{NewTrees, SumTrees};
+pub use sum_trees::{NewPlaces, NewTrees, SumTrees};

@@ -1,10 +1,11 @@
 //! The tree of sums of one line of numbers, among lists that hold those of several.
 
-ghost use Rattle.std.specs.Prelude.{◌≡◌, ◌≢◌, pos, get_or, ℕ, ◌+◌, ◌-◌, ◌*◌, ◌/◌, ◌%◌, ◌^◌, ◌<◌, ◌≤◌, min, ℤ, length, FitsSigned, All};
+ghost use Rattle.std.specs.Prelude.{◌≡◌, ◌≢◌, pos, get_or, ℕ, ◌+◌, ◌-◌, ◌*◌, ◌/◌, ◌%◌, ◌^◌, ◌<◌, ◌≤◌, min, ℤ, length, FitsSigned, All, ◌⊎◌};
 ghost use Rattle.std.specs.Int.{w64};
-ghost use Rattle.operator_fns.specs.SumNodes.{Sums, Tells, sums_from};
-ghost use Rattle.operator_fns.specs.LineTrees.{slot_at as slot_place, node_at as node_place, slot_of, number_of, node_of, HasSlots, IsIn, AreKept, AreKeptIn, AreKeptBeside, AreKeptWithin, IsPart, empty, AreSameIn, other_half, sums_at, replaced};
+ghost use Rattle.operator_fns.specs.SumNodes.{Sums, Tells, sums_from, join as join_of};
+ghost use Rattle.operator_fns.specs.LineTrees.{slot_at as slot_place, node_at as node_place, slot_of, number_of, node_of, HasSlots, IsIn, AreKept, AreKeptIn, AreKeptBeside, IsPart, empty, AreSameIn, other_half, sums_at, replaced, shorter};
 ghost use Rattle.operator_fns.specs.SumTree.{IsWithinDigitsOf};
+ghost use Rattle.operator_fns.specs.LineBlocks.{line_of, slots_end, nodes_end, HaveSlots, HaveNodes, AreKeptBehind, AreKeptFrom};
 
 use crate::summary::Summary;
 
@@ -37,6 +38,20 @@ impl Line {
         ensures { result ≡ node_place self.now meeting }
     {
         self.node + (meeting / 2 - 1) * self.step
+    }
+
+    /// The line so many behind the first one of a block.
+    fn nth(&self, column: usize) -> Line
+        requires slot { self.now.slot + column < 2 ^ 64 }
+        requires node { self.now.node + column < 2 ^ 64 }
+        ensures { result ≡ line_of self.now column }
+    {
+        Line {
+            count: self.count,
+            step: self.step,
+            slot: self.slot + column,
+            node: self.node + column,
+        }
     }
 }
 
@@ -208,56 +223,143 @@ fn renew(slots: &[i64], nodes: &mut [Summary], line: Line, place: usize)
     }
 }
 
-/// Joins what is kept of all parts whose halves are so wide, where that of the narrower parts is.
-fn fill_level(slots: &[i64], nodes: &mut [Summary], line: Line, half: usize)
-    requires inside { IsIn line (length slots.now) (length nodes.old) }
-    requires half { (level : ℕ) × (half ≡ 2 * 2 ^ level) }
-    requires short { half < line.count }
-    requires kept { AreKeptWithin half line.count (number_of line slots.now) (node_of line nodes.old) }
-    ensures kept { AreKeptWithin (2 * half) line.count (number_of line slots.now) (node_of line nodes.new) }
-    ensures others { (p : ℕ) → ((meeting : ℕ) → 2 ≤ meeting → meeting < line.count → p ≢ node_place line meeting) → get_or nodes.new p empty ≡ get_or nodes.old p empty }
+/// Joins what is kept of the part of four numbers that begins at a place, for each line of a block.
+fn fours_row(slots: &[i64], nodes: &mut [Summary], first: Line, from: usize)
+    requires slots { HaveSlots first (length slots.now) }
+    requires nodes { HaveNodes first (length nodes.old) }
+    requires even { from % 2 ≡ 0 }
+    requires full { from + 4 ≤ first.count }
+    ensures told { (column : ℕ) → column < first.step → Tells (node_of (line_of first column) nodes.new (from + 2)) (sums_from (number_of (line_of first column) slots.now) from 4) }
+    ensures others { (p : ℕ) → (p < node_place first (from + 2) ⊎ node_place first (from + 2) + first.step ≤ p) → get_or nodes.new p empty ≡ get_or nodes.old p empty }
     ensures length { length nodes.new ≡ length nodes.old }
 {
-    let mut meeting = half;
-    while meeting < line.count {
-        let tree = LineTree { line, slots, nodes };
-        let both = tree
-            .part(meeting - half, half)
-            .join(&tree.part(meeting, half));
-        nodes[line.node_at(meeting)] = both;
-        meeting += 2 * half;
+    let step = first.step;
+    let row = first.slot_at(from);
+    let node = first.node_at(from + 2);
+    for column in 0..step {
+        let at = row + column;
+        let right = slots[at + step];
+        let later = slots[at + 2 * step];
+        nodes[node + column] = Summary::of_four(slots[at], right, later, slots[at + 3 * step]);
     }
 }
 
-/// Joins what is kept of all parts of a line.
-pub(crate) fn fill(slots: &[i64], nodes: &mut [Summary], line: Line)
-    requires inside { IsIn line (length slots.now) (length nodes.old) }
-    ensures kept { AreKept line.count (number_of line slots.now) (node_of line nodes.new) }
-    ensures others { (p : ℕ) → ((meeting : ℕ) → 2 ≤ meeting → meeting < line.count → p ≢ node_place line meeting) → get_or nodes.new p empty ≡ get_or nodes.old p empty }
+/// Joins the nodes of the two halves of the part that begins at a place, where both are of four numbers and more, for each line of a block.
+fn halves_row(nodes: &mut [Summary], first: Line, from: usize, half: usize)
+    requires nodes { HaveNodes first (length nodes.old) }
+    requires wide { 4 ≤ half }
+    requires full { from + 2 * half ≤ first.count }
+    requires told { (column : ℕ) → column < first.step → (sums : Sums) × Tells (node_of (line_of first column) nodes.old (from + half / 2)) sums }
+    requires later { (column : ℕ) → column < first.step → (sums : Sums) × Tells (node_of (line_of first column) nodes.old (from + half + half / 2)) sums }
+    ensures told { (column : ℕ) → column < first.step → (earlier rest : Sums) → Tells (node_of (line_of first column) nodes.old (from + half / 2)) earlier
+        → Tells (node_of (line_of first column) nodes.old (from + half + half / 2)) rest → Tells (node_of (line_of first column) nodes.new (from + half)) (join_of earlier rest) }
+    ensures others { (p : ℕ) → (p < node_place first (from + half) ⊎ node_place first (from + half) + first.step ≤ p) → get_or nodes.new p empty ≡ get_or nodes.old p empty }
+    ensures length { length nodes.new ≡ length nodes.old }
+{
+    let earlier = first.node_at(from + half / 2);
+    let later = first.node_at(from + half + half / 2);
+    let node = first.node_at(from + half);
+    for column in 0..first.step {
+        nodes[node + column] = nodes[earlier + column].join(&nodes[later + column]);
+    }
+}
+
+/// Joins what is kept of the part that begins at a place and has halves so wide, or ends with the line, for each line of a block.
+#[inline(never)]
+fn last_row(slots: &[i64], nodes: &mut [Summary], first: Line, from: usize, half: usize)
+    requires slots { HaveSlots first (length slots.now) }
+    requires nodes { HaveNodes first (length nodes.old) }
+    requires half { (level : ℕ) × (half ≡ 2 * 2 ^ level) }
+    requires from { (place : ℕ) × (from ≡ place * (2 * half)) }
+    requires short { from + half < first.count }
+    requires kept { AreKeptBehind from half first slots.now nodes.old }
+    ensures told { (column : ℕ) → column < first.step
+        → Tells (node_of (line_of first column) nodes.new (from + half)) (sums_from (number_of (line_of first column) slots.now) from (min (2 * half) (first.count - from))) }
+    ensures others { (p : ℕ) → (p < node_place first (from + half) ⊎ node_place first (from + half) + first.step ≤ p) → get_or nodes.new p empty ≡ get_or nodes.old p empty }
+    ensures length { length nodes.new ≡ length nodes.old }
+{
+    for column in 0..first.step {
+        let line = first.nth(column);
+        let tree = LineTree { line, slots, nodes };
+        let both = tree.part(from, half).join(&tree.part(from + half, half));
+        nodes[line.node_at(from + half)] = both;
+    }
+}
+
+/// Joins what is kept of the part that begins at a place and has halves so wide, for each line of a block, where that of the parts behind it and of the
+/// narrower ones that begin there is.
+fn join_row(slots: &[i64], nodes: &mut [Summary], first: Line, from: usize, half: usize)
+    requires slots { HaveSlots first (length slots.now) }
+    requires nodes { HaveNodes first (length nodes.old) }
+    requires half { (level : ℕ) × (half ≡ 2 * 2 ^ level) }
+    requires from { (place : ℕ) × (from ≡ place * (2 * half)) }
+    requires short { from + half < first.count }
+    requires kept { AreKeptBehind from half first slots.now nodes.old }
+    ensures kept { AreKeptBehind from (2 * half) first slots.now nodes.new }
+    ensures others { (p : ℕ) → (p < first.node ⊎ nodes_end first ≤ p) → get_or nodes.new p empty ≡ get_or nodes.old p empty }
+    ensures length { length nodes.new ≡ length nodes.old }
+{
+    if first.count - from < 2 * half {
+        last_row(slots, nodes, first, from, half);
+    } else if half == 2 {
+        fours_row(slots, nodes, first, from);
+    } else {
+        halves_row(nodes, first, from, half);
+    }
+}
+
+/// Joins what is kept of all parts that begin at a place, for each line of a block, where that of the parts behind it is.
+fn fill_from(slots: &[i64], nodes: &mut [Summary], first: Line, from: usize)
+    requires slots { HaveSlots first (length slots.now) }
+    requires nodes { HaveNodes first (length nodes.old) }
+    requires four { from % 4 ≡ 0 }
+    requires below { from < first.count }
+    requires kept { AreKeptFrom (from + 4) first slots.now nodes.old }
+    ensures kept { AreKeptFrom from first slots.now nodes.new }
+    ensures others { (p : ℕ) → (p < first.node ⊎ nodes_end first ≤ p) → get_or nodes.new p empty ≡ get_or nodes.old p empty }
     ensures length { length nodes.new ≡ length nodes.old }
 {
     let mut half = 2;
-    while half < line.count {
-        fill_level(slots, nodes, line, half);
+    while half < first.count - from && from % (2 * half) == 0 {
+        join_row(slots, nodes, first, from, half);
         half = 2 * half;
     }
 }
 
-/// Puts the sum of two numbers in the place of the first one, for each two that lie in the slots of a line.
-pub(crate) fn pair(slots: &mut [i64], line: Line)
-    requires slots { HasSlots line (length slots.old) }
+/// Joins what is kept of all parts of each line of a block, from the last ones to the first.
+pub(crate) fn fill_block(slots: &[i64], nodes: &mut [Summary], first: Line)
+    requires slots { HaveSlots first (length slots.now) }
+    requires nodes { HaveNodes first (length nodes.old) }
+    ensures kept { (column : ℕ) → column < first.step → AreKept first.count (number_of (line_of first column) slots.now) (node_of (line_of first column) nodes.new) }
+    ensures others { (p : ℕ) → (p < first.node ⊎ nodes_end first ≤ p) → get_or nodes.new p empty ≡ get_or nodes.old p empty }
+    ensures length { length nodes.new ≡ length nodes.old }
+{
+    let mut fours = first.count.div_ceil(4);
+    while fours > 0 {
+        fours -= 1;
+        fill_from(slots, nodes, first, 4 * fours);
+    }
+}
+
+/// Puts the sum of two numbers in the place of the first one, for each two that lie in the slots of each line of a block.
+pub(crate) fn pair_block(slots: &mut [i64], first: Line)
+    requires slots { HaveSlots first (length slots.old) }
     requires fit { All (FitsSigned w64) slots.old }
-    ensures numbers { (i : ℕ) → i < line.count → number_of line slots.new i ≡ slot_of line slots.old i }
+    ensures numbers { (column : ℕ) → column < first.step → (i : ℕ) → i < first.count → number_of (line_of first column) slots.new i ≡ slot_of (line_of first column) slots.old i }
     ensures fit { All (FitsSigned w64) slots.new }
-    ensures others { (p : ℕ) → ((i : ℕ) → i < line.count → p ≢ slot_place line i) → get_or slots.new p (pos 0) ≡ get_or slots.old p (pos 0) }
+    ensures others { (p : ℕ) → (p < first.slot ⊎ slots_end first ≤ p) → get_or slots.new p (pos 0) ≡ get_or slots.old p (pos 0) }
     ensures length { length slots.new ≡ length slots.old }
 {
     let mut place = 0;
-    while place + 1 < line.count {
-        let here = line.slot_at(place);
-        let next = line.slot_at(place + 1);
-        slots[here] = slots[here].wrapping_add(slots[next]);
-        place += 2;
+    let mut column = 0;
+    while place + 1 < first.count {
+        let here = first.slot_at(place) + column;
+        slots[here] = slots[here].wrapping_add(slots[here + first.step]);
+        column += 1;
+        if column == first.step {
+            column = 0;
+            place += 2;
+        }
     }
 }
 
@@ -277,4 +379,44 @@ pub(crate) fn write(slots: &mut [i64], nodes: &mut [Summary], line: Line, place:
 {
     put(slots, line, place, number);
     renew(slots, nodes, line, place);
+}
+
+/// Takes one more number for a line, the one in the slot behind those of its others: where the last two are a pair now, puts their sum in the
+/// place of the first one.
+fn pair_last(slots: &mut [i64], line: Line)
+    requires slots { HasSlots line (length slots.old) }
+    requires more { 1 < line.count }
+    requires fit { All (FitsSigned w64) slots.old }
+    ensures numbers { (i : ℕ) → i < line.count - 1 → number_of line slots.new i ≡ number_of (shorter line) slots.old i }
+    ensures last { number_of line slots.new (line.count - 1) ≡ slot_of line slots.old (line.count - 1) }
+    ensures fit { All (FitsSigned w64) slots.new }
+    ensures others { (p : ℕ) → ((i : ℕ) → i < line.count → p ≢ slot_place line i) → get_or slots.new p (pos 0) ≡ get_or slots.old p (pos 0) }
+    ensures length { length slots.new ≡ length slots.old }
+{
+    let place = line.count - 1;
+    if place % 2 == 1 {
+        let here = line.slot_at(place);
+        let before = line.slot_at(place - 1);
+        slots[before] = slots[before].wrapping_add(slots[here]);
+    }
+}
+
+/// Takes one more number for a line, the one in the slot behind those of its others, and joins anew what is kept of the parts that it is in. The
+/// line is told with that number; what is kept until then is that of the line without it.
+pub(crate) fn take_last(slots: &mut [i64], nodes: &mut [Summary], line: Line)
+    requires inside { IsIn line (length slots.old) (length nodes.old) }
+    requires more { 1 < line.count }
+    requires fit { All (FitsSigned w64) slots.old }
+    requires kept { AreKept (line.count - 1) (number_of (shorter line) slots.old) (node_of (shorter line) nodes.old) }
+    ensures numbers { (i : ℕ) → i < line.count - 1 → number_of line slots.new i ≡ number_of (shorter line) slots.old i }
+    ensures last { number_of line slots.new (line.count - 1) ≡ slot_of line slots.old (line.count - 1) }
+    ensures fit { All (FitsSigned w64) slots.new }
+    ensures kept { AreKept line.count (number_of line slots.new) (node_of line nodes.new) }
+    ensures other_slots { (p : ℕ) → ((i : ℕ) → i < line.count → p ≢ slot_place line i) → get_or slots.new p (pos 0) ≡ get_or slots.old p (pos 0) }
+    ensures other_nodes { (p : ℕ) → ((meeting : ℕ) → 2 ≤ meeting → meeting < line.count → p ≢ node_place line meeting) → get_or nodes.new p empty ≡ get_or nodes.old p empty }
+    ensures slot_count { length slots.new ≡ length slots.old }
+    ensures node_count { length nodes.new ≡ length nodes.old }
+{
+    pair_last(slots, line);
+    renew(slots, nodes, line, line.count - 1);
 }

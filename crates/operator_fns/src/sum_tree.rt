@@ -5,7 +5,7 @@ ghost use Rattle.std.specs.Int.{w64};
 ghost use Rattle.operator_fns.specs.SumTree.{IsReductionBySum, IsWithinDigitsOf};
 ghost use Rattle.operator_fns.specs.LineTrees.{one_line as line_of_all};
 
-use crate::line_tree::{Line, LineTree, fill, pair, write};
+use crate::line_tree::{Line, LineTree, fill_block, pair_block, write};
 use crate::summary::Summary;
 use arrays_core::Kind;
 use std::alloc::{AllocError, Global};
@@ -69,9 +69,9 @@ impl SumTree {
     {
         let mut slots = copied(alloc, numbers)?;
         let line = one_line(slots.len());
-        pair(&mut slots, line);
+        pair_block(&mut slots, line);
         let mut nodes = vec![in alloc; Summary::none(); slots.len().saturating_sub(1) / 2]?;
-        fill(&slots, &mut nodes, line);
+        fill_block(&slots, &mut nodes, line);
         Ok(SumTree { slots, nodes })
     }
 

@@ -1,13 +1,14 @@
 //! The trees of sums of all lines of an array along one axis, in two lists.
 
-ghost use Rattle.std.specs.Prelude.{◌≡◌, ℕ, ◌+◌, ◌-◌, ◌*◌, ◌/◌, ◌%◌, ◌^◌, ◌<◌, ◌≤◌, ◌==◌, ◌++◌, ℤ, [], length, vec_len, vec_capacity, get_or, set, All, FitsSigned, IfOk};
+ghost use Rattle.std.specs.Prelude.{◌≡◌, ℕ, ◌+◌, ◌-◌, ◌*◌, ◌/◌, ◌%◌, ◌^◌, ◌<◌, ◌≤◌, ◌==◌, ◌++◌, [], length, vec_len, vec_capacity, All, FitsSigned, IfOk};
 ghost use Rattle.std.specs.Int.{w64};
 ghost use Rattle.arrays_core.specs.Growth.{IsRoomy, HasRoom};
-ghost use Rattle.operator_fns.specs.LineTrees.{number_of, node_of, IsIn, AreKept};
+ghost use Rattle.operator_fns.specs.LineTrees.{slot_of, number_of, node_of, IsIn, AreKept, shorter};
+ghost use Rattle.operator_fns.specs.LineBlocks.{block_at};
 ghost use Rattle.operator_fns.specs.SumTree.{IsReductionBySum, IsWithinDigitsOf};
-ghost use Rattle.operator_fns.specs.SumTrees.{FitBehind, with_lines, line_at, nodes_in_line, lines_of, lines_kept, with_number, AreLines, AreAllKept, AreLineTrees};
+ghost use Rattle.operator_fns.specs.SumTrees.{FitBehind, FitNext, with_lines, with_places, line_at, line_through as line_of_place, nodes_in_line, numbers_kept, line_count as lines_in, numbers_of_line, numbers_through, with_number, AreLines, AreAllKept, AreLineTrees};
 
-use crate::line_tree::{Line, LineTree, fill, pair, write};
+use crate::line_tree::{Line, LineTree, fill_block, pair_block, take_last, write};
 use crate::sum_tree::read_all;
 use crate::summary::Summary;
 use arrays_core::{Kind, copied, repeated, room_between, room_of, roomy};
@@ -32,6 +33,15 @@ fn nth_line(count: usize, step: usize, line: usize) -> Line
     }
 }
 
+/// The line that a place of all numbers is on, lines and places counted from 0.
+fn line_through(count: usize, step: usize, place: usize) -> usize
+    requires some { 0 < count }
+    requires apart { 0 < step }
+    ensures { result ≡ line_of_place count step place }
+{
+    place / step / count * step + place % step
+}
+
 /// The tree of a line, lines counted from 0.
 fn nth_tree<'a>(
     slots: &'a [i64],
@@ -52,16 +62,30 @@ fn nth_tree<'a>(
     LineTree { line, slots, nodes }
 }
 
+/// Where the first line of a block of as many lines as the step lies among all numbers, blocks counted from 0.
+fn nth_block(count: usize, step: usize, block: usize) -> Line
+    requires some { 0 < count }
+    requires fit { block * (count * step) + count * step < 2 ^ 64 }
+    ensures { result ≡ block_at count step block }
+{
+    Line {
+        count,
+        step,
+        slot: block * (count * step),
+        node: block * ((count - 1) / 2 * step),
+    }
+}
+
 /// Puts the sum of two numbers in the place of the first one, for each two of all lines.
 fn pair_all(slots: &mut [i64], count: usize, step: usize)
     requires lines { AreLines count step (length slots.old) }
     requires fit { All (FitsSigned w64) slots.old }
-    ensures lines { lines_kept count step slots.new ≡ lines_of count step slots.old }
+    ensures numbers { numbers_kept count step slots.new ≡ slots.old }
     ensures fit { All (FitsSigned w64) slots.new }
     ensures length { length slots.new ≡ length slots.old }
 {
-    for line in 0..slots.len() / count {
-        pair(slots, nth_line(count, step, line));
+    for block in 0..slots.len() / count / step {
+        pair_block(slots, nth_block(count, step, block));
     }
 }
 
@@ -72,8 +96,29 @@ fn fill_all(slots: &[i64], nodes: &mut [Summary], count: usize, step: usize)
     ensures kept { AreAllKept count step slots.now nodes.new }
     ensures length { length nodes.new ≡ length nodes.old }
 {
-    for line in 0..slots.len() / count {
-        fill(slots, nodes, nth_line(count, step, line));
+    for block in 0..slots.len() / count / step {
+        fill_block(slots, nodes, nth_block(count, step, block));
+    }
+}
+
+/// Takes one more number for each line, where all lines lie between one another and these numbers in the slots behind the others. The count is that
+/// with these numbers; what is kept until then is that of the lines without them.
+fn take_places(slots: &mut [i64], nodes: &mut [Summary], count: usize, step: usize)
+    requires more { 1 < count }
+    requires apart { 0 < step }
+    requires slot_count { length slots.old ≡ count * step }
+    requires node_count { length nodes.old ≡ nodes_in_line count * step }
+    requires fit { All (FitsSigned w64) slots.old }
+    requires kept { (line : ℕ) → line < step → AreKept (count - 1) (number_of (shorter (line_at count step line)) slots.old) (node_of (shorter (line_at count step line)) nodes.old) }
+    ensures numbers { (line i : ℕ) → line < step → i < count - 1 → number_of (line_at count step line) slots.new i ≡ number_of (shorter (line_at count step line)) slots.old i }
+    ensures last { (line : ℕ) → line < step → number_of (line_at count step line) slots.new (count - 1) ≡ slot_of (line_at count step line) slots.old (count - 1) }
+    ensures fit { All (FitsSigned w64) slots.new }
+    ensures kept { (line : ℕ) → line < step → AreKept count (number_of (line_at count step line) slots.new) (node_of (line_at count step line) nodes.new) }
+    ensures slot_length { length slots.new ≡ length slots.old }
+    ensures node_length { length nodes.new ≡ length nodes.old }
+{
+    for line in 0..step {
+        take_last(slots, nodes, nth_line(count, step, line));
     }
 }
 
@@ -120,11 +165,11 @@ pub struct SumTrees {
 
 impl Model for SumTrees {
     ghost use Rattle.std.specs.Prelude.{vec_capacity};
-    ghost use Rattle.operator_fns.specs.SumTrees.{TreesValue, lines_kept, AreTrees};
+    ghost use Rattle.operator_fns.specs.SumTrees.{TreesValue, numbers_kept, AreTrees};
 
     ghost Value = { TreesValue };
 
-    ghost view = { λ t. record { count = t.count; step = t.step; lines = lines_kept t.count t.step t.slots.items } };
+    ghost view = { λ t. record { count = t.count; step = t.step; numbers = numbers_kept t.count t.step t.slots.items } };
 
     ghost invariant = { λ t. AreTrees t.count t.step t.slots.items t.nodes.items (vec_capacity t.slots) (vec_capacity t.nodes) };
 }
@@ -140,7 +185,7 @@ impl SumTrees {
         requires some { 0 < count }
         requires apart { 0 < step }
         requires whole { length numbers.now % (count * step) ≡ 0 }
-        ensures { IfOk result (λ t. t ≡ record { count = count; step = step; lines = lines_of count step numbers.now }) }
+        ensures { IfOk result (λ t. t ≡ record { count = count; step = step; numbers = numbers.now }) }
     {
         read_all(numbers);
         let node_count = numbers.len() / count * ((count - 1) / 2);
@@ -156,59 +201,70 @@ impl SumTrees {
         })
     }
 
-    /// How many lines there are; they are all as long.
+    /// How many lines there are.
     pub fn len(&self) -> usize
-        ensures many { result ≡ length self.now.lines }
-        ensures each { All (λ l. length l ≡ self.now.count) self.now.lines }
+        ensures { result ≡ lines_in self.now }
     {
         self.slots.len() / self.count
     }
 
     /// Whether there are no lines.
     pub fn is_empty(&self) -> bool
-        ensures { result ≡ (length self.now.lines == 0) }
+        ensures { result ≡ (lines_in self.now == 0) }
     {
         self.len() == 0
     }
 
     /// The sum of the numbers of a line from the last to the first, or LIMIT where it leaves 64 bits on its way.
     pub fn result(&self, line: usize) -> Result<i64, Kind>
-        requires { line < length self.now.lines }
-        ensures { IsReductionBySum (get_or self.now.lines line []) result }
+        requires { line < lines_in self.now }
+        ensures { IsReductionBySum (numbers_of_line self.now line) result }
     {
         let tree = nth_tree(&self.slots, &self.nodes, self.count, self.step, line);
         tree.whole().sum()
     }
 
-    /// The sum of the numbers of a line from the last to the first where the one at a place is another, or LIMIT where it
-    /// leaves 64 bits on its way, and how many summaries were joined for it: at most as many as the length of a line less
-    /// one has binary digits.
-    pub fn result_with(&self, line: usize, place: usize, number: i64) -> (Result<i64, Kind>, u32)
-        requires line { line < length self.now.lines }
-        requires place { place < self.now.count }
-        ensures result { IsReductionBySum (set (get_or self.now.lines line []) place number) result.0 }
+    /// The sum of the numbers of the line that a place is on, from the last to the first, where the one at this place is another,
+    /// or LIMIT where it leaves 64 bits on its way, and how many summaries were joined for it: at most as many as the length of a
+    /// line less one has binary digits. Places are counted from 0.
+    pub fn result_with(&self, place: usize, number: i64) -> (Result<i64, Kind>, u32)
+        requires { place < length self.now.numbers }
+        ensures result { IsReductionBySum (numbers_through (with_number self.now place number) place) result.0 }
         ensures most { IsWithinDigitsOf (self.now.count - 1) result.1 }
         ensures least { 1 < self.now.count → 0 < result.1 }
     {
+        let line = line_through(self.count, self.step, place);
         let tree = nth_tree(&self.slots, &self.nodes, self.count, self.step, line);
-        let (all, joins) = tree.with(place, number);
+        let (all, joins) = tree.with(place / self.step % self.count, number);
         (all.sum(), joins)
     }
 
-    /// Puts another number at a place of a line. It takes no memory.
-    pub fn set(&mut self, line: usize, place: usize, number: i64)
-        requires line { line < length self.old.lines }
-        requires place { place < self.old.count }
-        ensures { self.new ≡ with_number self.old line place number }
+    /// Puts another number at a place of all lines, places counted from 0. It takes no memory.
+    pub fn set(&mut self, place: usize, number: i64)
+        requires { place < length self.old.numbers }
+        ensures { self.new ≡ with_number self.old place number }
     {
+        let line = line_through(self.count, self.step, place);
         let line = nth_line(self.count, self.step, line);
+        let place = place / self.step % self.count;
         write(&mut self.slots, &mut self.nodes, line, place, number);
+    }
+
+    /// Takes one more number for each line, behind its last one. It takes no memory.
+    pub fn lengthen(&mut self, more: NewPlaces)
+        requires { FitNext self.old more }
+        ensures { self.new ≡ with_places self.old more.numbers }
+    {
+        put_behind(&mut self.slots, more.numbers, more.slots);
+        put_behind(&mut self.nodes, more.more_nodes, more.nodes);
+        self.count += 1;
+        take_places(&mut self.slots, &mut self.nodes, self.count, self.step);
     }
 
     /// Takes the trees of further lines behind the others. It takes no memory.
     pub fn grow(&mut self, more: NewTrees)
         requires { FitBehind self.old more }
-        ensures { self.new ≡ with_lines self.old more.lines }
+        ensures { self.new ≡ with_lines self.old more.numbers }
     {
         let trees = more.trees;
         put_behind(&mut self.slots, trees.slots, more.slots);
@@ -232,7 +288,7 @@ impl Model for NewTrees {
 
     ghost Value = { NewTreesValue };
 
-    ghost view = { λ n. record { count = n.trees.count; step = n.trees.step; old_lines = n.old_lines; lines = n.trees.lines } };
+    ghost view = { λ n. record { count = n.trees.count; step = n.trees.step; old_lines = n.old_lines; numbers = n.trees.numbers } };
 
     ghost invariant = { λ n. AreRooms n.old_lines n.trees n.slots.items n.nodes.items (vec_capacity n.slots) (vec_capacity n.nodes) };
 }
@@ -251,7 +307,7 @@ impl NewTrees {
         requires apart { 0 < step }
         requires whole { length numbers.now % (count * step) ≡ 0 }
         requires few { old_lines * count + length numbers.now < 2 ^ 63 }
-        ensures { IfOk result (λ t. t ≡ record { count = count; step = step; old_lines = old_lines; lines = lines_of count step numbers.now }) }
+        ensures { IfOk result (λ t. t ≡ record { count = count; step = step; old_lines = old_lines; numbers = numbers.now }) }
     {
         let trees = SumTrees::build(alloc, numbers, count, step)?;
         let lines = old_lines + trees.len();
@@ -261,6 +317,53 @@ impl NewTrees {
         Ok(NewTrees {
             trees,
             old_lines,
+            slots,
+            nodes,
+        })
+    }
+}
+
+/// The numbers of one more place of each line, where all lines lie between one another. They bring the room that the longer
+/// lines may need, so that `SumTrees::lengthen` takes no memory.
+#[derive(Drop)]
+pub struct NewPlaces {
+    count: usize,
+    numbers: Vec<i64>,
+    more_nodes: Vec<Summary>,
+    slots: Vec<i64>,
+    nodes: Vec<Summary>,
+}
+
+impl Model for NewPlaces {
+    ghost use Rattle.std.specs.Prelude.{vec_capacity};
+    ghost use Rattle.operator_fns.specs.SumTrees.{NewPlacesValue, AreNextRooms};
+
+    ghost Value = { NewPlacesValue };
+
+    ghost view = { λ n. record { count = n.count; numbers = n.numbers.items } };
+
+    ghost invariant = { λ n. AreNextRooms n.count n.numbers.items n.slots.items n.more_nodes.items n.nodes.items (vec_capacity n.slots) (vec_capacity n.nodes) };
+}
+
+impl NewPlaces {
+    /// The numbers of one more place of each of as many lines as there are numbers, which have so many numbers each until then. AllocError
+    /// where memory for them, or for the room, is refused.
+    pub fn build(alloc: Global, numbers: &[i64], count: usize) -> Result<NewPlaces, AllocError>
+        requires some { 0 < count }
+        requires few { (count + 1) * length numbers.now < 2 ^ 63 }
+        ensures { IfOk result (λ n. n ≡ record { count = count; numbers = numbers.now }) }
+    {
+        read_all(numbers);
+        let step = numbers.len();
+        let half = (count - 1) / 2;
+        let slots = room_between(alloc, count * step, count * step + step)?;
+        let nodes = room_between(alloc, half * step, count / 2 * step)?;
+        let more_nodes = repeated(alloc, Summary::of(0), (count / 2 - half) * step)?;
+        let numbers = copied(alloc, numbers)?;
+        Ok(NewPlaces {
+            count,
+            numbers,
+            more_nodes,
             slots,
             nodes,
         })

@@ -1,6 +1,6 @@
 //! What is kept of the sums of neighbouring numbers, so that the sum of a longer list is known without them.
 
-ghost use Rattle.std.specs.Prelude.{◌≡◌, ◌+◌, ◌^◌, ◌<◌, ◌≤◌, ℤ, pos, ◌+ℤ◌, ◌-ℤ◌, ◌≤ℤ◌, neg_ℤ};
+ghost use Rattle.std.specs.Prelude.{◌≡◌, ◌+◌, ◌^◌, ◌<◌, ◌≤◌, true, unsigned_abs, ℤ, pos, ◌+ℤ◌, ◌-ℤ◌, ◌≤ℤ◌, neg_ℤ};
 ghost use Rattle.std.specs.Int.{int_wrap, w64};
 ghost use Rattle.operator_fns.specs.SumNodes.{Sums, IsOrdered, Tells, told, none as none_of, single as single_of, join as join_of, sum_told};
 
@@ -8,6 +8,9 @@ use arrays_core::Kind;
 
 /// The bits of a number are lost from there on.
 const ALL: i128 = 1 << 64;
+
+/// A few numbers that are nearer to 0 than this are added within 64 bits.
+const NEAR: u64 = 1 << 61;
 
 /// How far the sums of the endings of a list of numbers go below 0 and above it, and how far its total is above the
 /// least of them. The ending of no numbers is one of them, and its sum is 0. Where the least and the greatest are 2 to the
@@ -80,6 +83,43 @@ impl Summary {
         Summary::of_sums(total, total.min(later).min(0), total.max(later).max(0))
     }
 
+    /// That of four numbers: of the second and the fourth one, and of those before them of which the sums with them are given, as far
+    /// as 64 bits hold these.
+    pub(crate) fn of_four(sum: i64, right: i64, later: i64, last: i64) -> Summary
+        ensures { Tells result (join_of (join_of (single_of (int_wrap w64 (sum -ℤ right))) (single_of right)) (join_of (single_of (int_wrap w64 (later -ℤ last))) (single_of last))) }
+    {
+        let first_near = sum.unsigned_abs() < NEAR && right.unsigned_abs() < NEAR;
+        let later_near = later.unsigned_abs() < NEAR && last.unsigned_abs() < NEAR;
+        if first_near && later_near {
+            return Summary::of_near(sum, right, later, last);
+        }
+        Summary::of_far(sum, right, later, last)
+    }
+
+    /// The same, worked out two by two.
+    #[cold]
+    #[inline(never)]
+    fn of_far(sum: i64, right: i64, later: i64, last: i64) -> Summary
+        ensures { Tells result (join_of (join_of (single_of (int_wrap w64 (sum -ℤ right))) (single_of right)) (join_of (single_of (int_wrap w64 (later -ℤ last))) (single_of last))) }
+    {
+        Summary::of_pair(sum, right).join(&Summary::of_pair(later, last))
+    }
+
+    /// That of four numbers whose sums are near, worked out in 64 bits.
+    fn of_near(sum: i64, right: i64, later: i64, last: i64) -> Summary
+        requires sum { unsigned_abs sum < 2 ^ 61 }
+        requires right { unsigned_abs right < 2 ^ 61 }
+        requires later { unsigned_abs later < 2 ^ 61 }
+        requires last { unsigned_abs last < 2 ^ 61 }
+        ensures { Tells result (join_of (join_of (single_of (int_wrap w64 (sum -ℤ right))) (single_of right)) (join_of (single_of (int_wrap w64 (later -ℤ last))) (single_of last))) }
+    {
+        let three = right + later;
+        let total = sum + later;
+        let least = total.min(three).min(later).min(last).min(0);
+        let greatest = total.max(three).max(later).max(last).max(0);
+        Summary::of_narrow(total, least, greatest)
+    }
+
     /// That of a list with this total, and with this least and greatest sum of an ending, where they are within 64 bits.
     fn of_narrow(total: i64, least: i64, greatest: i64) -> Summary
         requires { IsOrdered (record { total = total; least = least; greatest = greatest }) }
@@ -146,10 +186,50 @@ impl Summary {
         requires later { (sums : Sums) × Tells later.now sums }
         ensures { (earlier : Sums) → (rest : Sums) → Tells self.now earlier → Tells later.now rest → Tells result (join_of earlier rest) }
     {
+        if self.is_near() && later.is_near() {
+            return self.join_near(later);
+        }
+        self.join_far(later)
+    }
+
+    /// The same, worked out in 128 bits.
+    #[cold]
+    #[inline(never)]
+    fn join_far(&self, later: &Summary) -> Summary
+        requires here { (sums : Sums) × Tells self.now sums }
+        requires later { (sums : Sums) × Tells later.now sums }
+        ensures { (earlier : Sums) → (rest : Sums) → Tells self.now earlier → Tells later.now rest → Tells result (join_of earlier rest) }
+    {
         let shift = later.total();
         let least = (self.least() + shift).min(later.least());
         let greatest = (self.greatest() + shift).max(later.greatest());
         Summary::of_sums(self.total() + shift, least, greatest)
+    }
+
+    /// Whether the sums that it tells are near.
+    fn is_near(&self) -> bool
+        ensures { result ≡ true → (self.now.below < 2 ^ 61) × (self.now.above < 2 ^ 61) }
+    {
+        self.below < NEAR && self.above < NEAR
+    }
+
+    /// That of a list and of a later one after it whose sums are near, worked out in 64 bits.
+    fn join_near(&self, later: &Summary) -> Summary
+        requires sound { IsOrdered (told self.now) }
+        requires near { (self.now.below < 2 ^ 61) × (self.now.above < 2 ^ 61) }
+        requires later_sound { IsOrdered (told later.now) }
+        requires later_near { (later.now.below < 2 ^ 61) × (later.now.above < 2 ^ 61) }
+        ensures { told result ≡ join_of (told self.now) (told later.now) }
+    {
+        let below = later.below + self.below.saturating_sub(later.total);
+        let up = self.above + later.total;
+        let above = later.above.max(up.saturating_sub(later.below));
+        let total = self.total + later.total + below;
+        Summary {
+            below,
+            above,
+            total: total - (self.below + later.below),
+        }
     }
 
     /// The sum of the list from its last number to its first, or LIMIT where that leaves 64 bits on its way: where the sum of an

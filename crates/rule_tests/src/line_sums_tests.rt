@@ -1,15 +1,17 @@
 //! The change of totals by trees of the sums of lines.
 
-ghost use Rattle.std.specs.Prelude.{◌≡◌, IfSome};
+ghost use Rattle.std.specs.Prelude.{◌≡◌, length, IfSome};
+ghost use Rattle.index_region.specs.Axes.{axis_at as axis_meant};
+ghost use Rattle.index_region.specs.declared.along.Along.TheVariants.{Last as LastAxis};
 ghost use Rattle.index_region.specs.Patches.{FitsPatch};
 
 use crate::fixtures::{patch_of, tail_of};
-use arrays_core::{Array, Fault, Item, Kind, is_within_limits, shape_of, size};
+use arrays_core::{Array, Fault, Item, ItemType, Kind, is_within_limits, shape_of, size};
 use change_core::Meter;
-use index_region::{Delta, Patch, Seen};
+use index_region::{Along, Delta, Patch, Seen};
 use operator_fns::SumTrees;
 use std::alloc::Global;
-use sum_rules::{LineSums, NewLines, keeps_sums, refresh_sums, refresh_totals_with_cost};
+use sum_rules::{LineSums, NewLines, refresh_sums, refresh_totals_with_cost};
 
 /// The array of some numbers, and after them others that are all alike.
 fn array_of(alloc: Global, axes: &[u32], first: &[i64], others: i64) -> Option<Array> {
@@ -29,17 +31,18 @@ fn no_value() -> Fault {
     }
 }
 
-/// The sums of the lines of an array, where these are kept.
-fn sums_of(alloc: Global, array: &Array) -> Option<LineSums>
-    ensures { IfSome result (λ sums. sums ≡ array.now) }
+/// The sums of the lines of an array along an axis, where these are kept.
+fn sums_of(alloc: Global, along: Along, array: &Array) -> Option<LineSums>
+    ensures { IfSome result (λ sums. sums ≡ record { axis = axis_meant (length array.now.shape) along; array = array.now }) }
 {
-    LineSums::of(alloc, &Seen::plain(array)).ok()?
+    LineSums::of(alloc, along, &Seen::plain(array)).ok()?
 }
 
-/// The change of the totals of an array over which a patch is laid, by the trees of its lines; none where there are
+/// The change of the totals along an axis of an array over which a patch is laid, by the trees of its lines; none where there are
 /// none. Of the totals before it tells only that they were an array, as this one is.
 fn totals_with(
     alloc: Global,
+    along: Along,
     shown: &Result<Array, Fault>,
     moved: &Delta,
     meter: &mut Meter,
@@ -50,15 +53,18 @@ fn totals_with(
     if !patch.region().lies_in(array.shape().as_slice()) || patch.item_type() != array.item_type() {
         return None;
     }
-    let sums = sums_of(alloc, array)?;
+    let Ok(Some(sums)) = LineSums::of(alloc, along, &Seen::plain(array)) else {
+        return None;
+    };
     let arg = (Seen::patched(array, patch), moved);
-    let (delta, _) = refresh_totals_with_cost(alloc, arg, shown, sums.trees(), meter).ok()?;
-    Some(delta)
+    let change = refresh_totals_with_cost(alloc, along, arg, shown, sums.trees(), meter);
+    Some(change.ok()?.0)
 }
 
-/// The change of the totals of an array, if it is there, of which a box has these numbers now.
-fn totals_where(
+/// The change of the totals along an axis of an array, if it is there, of which a box has these numbers now.
+fn totals_along(
     alloc: Global,
+    along: Along,
     array: Option<Array>,
     changed: &[(u32, u32)],
     numbers: &[i64],
@@ -66,7 +72,18 @@ fn totals_where(
 ) -> Option<Delta> {
     let array = array?;
     let moved = Delta::Patch(patch_of(alloc, &array, changed, numbers)?);
-    totals_with(alloc, &Ok(array), &moved, meter)
+    totals_with(alloc, along, &Ok(array), &moved, meter)
+}
+
+/// The change of the totals along the last axis.
+fn totals_where(
+    alloc: Global,
+    array: Option<Array>,
+    changed: &[(u32, u32)],
+    numbers: &[i64],
+    meter: &mut Meter,
+) -> Option<Delta> {
+    totals_along(alloc, Along::Last, array, changed, numbers, meter)
 }
 
 /// It is LIMIT, with no name in whose formula it arose.
@@ -93,6 +110,51 @@ fn one_number_of_a_long_row_takes_few_joins(rt: HostRuntime) {
     assert_eq!(rt; item_in(delta, &[1]), Some(Item::Num(1006)));
     assert_eq!(rt; meter.ticks(), 1);
     assert!(rt; 1 <= meter.joins() && meter.joins() <= 10);
+}
+
+#[test]
+fn one_number_of_a_long_column_takes_few_joins(rt: HostRuntime) {
+    let ones = array_of(rt.alloc(), &[1000, 3], &[], 1);
+    let mut meter = Meter::new();
+    let changed = [(500, 500), (2, 2)];
+    let delta = totals_along(rt.alloc(), Along::First, ones, &changed, &[7], &mut meter);
+    assert_eq!(rt; item_in(delta, &[2]), Some(Item::Num(1006)));
+    assert_eq!(rt; meter.ticks(), 1);
+    assert!(rt; 1 <= meter.joins() && meter.joins() <= 10);
+}
+
+/// The total of a column of twenty ones of which three have a row changed, and what was counted for it.
+fn total_beside_row(alloc: Global, column: u32, meter: &mut Meter) -> Option<Item> {
+    let ones = array_of(alloc, &[20, 3], &[], 1);
+    let changed = [(4, 4), (2, 3)];
+    let delta = totals_along(alloc, Along::Axis(1), ones, &changed, &[10, 20], meter);
+    item_in(delta, &[column])
+}
+
+#[test]
+fn a_row_gives_each_column_one_new_number(rt: HostRuntime) {
+    for (column, wanted) in [
+        (1, None),
+        (2, Some(Item::Num(29))),
+        (3, Some(Item::Num(39))),
+    ] {
+        let mut meter = Meter::new();
+        let total = total_beside_row(rt.alloc(), column, &mut meter);
+        assert_eq!(rt; total, wanted);
+        assert_eq!(rt; meter.ticks(), 2);
+        assert!(rt; 2 <= meter.joins() && meter.joins() <= 10);
+    }
+}
+
+#[test]
+fn a_line_along_a_middle_axis_has_its_tree(rt: HostRuntime) {
+    let ones = array_of(rt.alloc(), &[2, 5, 3], &[], 1);
+    let mut meter = Meter::new();
+    let changed = [(2, 2), (4, 4), (3, 3)];
+    let delta = totals_along(rt.alloc(), Along::Axis(2), ones, &changed, &[7], &mut meter);
+    assert_eq!(rt; item_in(delta, &[2, 3]), Some(Item::Num(11)));
+    assert_eq!(rt; meter.ticks(), 1);
+    assert!(rt; 1 <= meter.joins() && meter.joins() <= 3);
 }
 
 /// The change of the total of ¯5, the greatest number and zeros, where the third of them is another number.
@@ -170,10 +232,10 @@ fn several_numbers_of_a_line_are_summed_up_with_it(rt: HostRuntime) {
     assert_eq!(rt; meter.joins(), 19);
 }
 
-/// Of how many lines of an array the sums are kept, if of any; none at all where the array is not there.
-fn lines_kept(alloc: Global, array: Option<Array>) -> Option<Option<usize>> {
+/// Of how many lines of an array along an axis the sums are kept, if of any; none at all where the array is not there.
+fn lines_kept(alloc: Global, along: Along, array: Option<Array>) -> Option<Option<usize>> {
     let array = array?;
-    match LineSums::of(alloc, &Seen::plain(&array)).ok()? {
+    match LineSums::of(alloc, along, &Seen::plain(&array)).ok()? {
         Some(sums) => Some(Some(sums.trees().len())),
         None => Some(None),
     }
@@ -183,11 +245,17 @@ fn lines_kept(alloc: Global, array: Option<Array>) -> Option<Option<usize>> {
 fn sums_are_kept_of_long_lines_of_numbers(rt: HostRuntime) {
     let alloc = rt.alloc();
     let short = array_of(alloc, &[20, 3], &[], 1);
-    assert_eq!(rt; lines_kept(alloc, short), Some(None));
+    assert_eq!(rt; lines_kept(alloc, Along::Last, short), Some(None));
     let text = Array::character(alloc, 'a').ok();
-    assert_eq!(rt; lines_kept(alloc, text), Some(None));
+    assert_eq!(rt; lines_kept(alloc, Along::Last, text), Some(None));
     let long = array_of(alloc, &[2, 4], &[], 1);
-    assert_eq!(rt; lines_kept(alloc, long), Some(Some(2)));
+    assert_eq!(rt; lines_kept(alloc, Along::Last, long), Some(Some(2)));
+    let tall = array_of(alloc, &[20, 3], &[], 1);
+    assert_eq!(rt; lines_kept(alloc, Along::First, tall), Some(Some(3)));
+    let flat = array_of(alloc, &[20, 3], &[], 1);
+    assert_eq!(rt; lines_kept(alloc, Along::Axis(3), flat), Some(None));
+    let empty = array_of(alloc, &[20, 0], &[], 1);
+    assert_eq!(rt; lines_kept(alloc, Along::First, empty), Some(None));
 }
 
 /// The total of a line, if there are so many.
@@ -210,7 +278,7 @@ fn both_totals(sums: &SumTrees) -> Option<(i64, i64)> {
 fn totals_after(alloc: Global, array: &Array, patch: &Patch) -> Option<(i64, i64)>
     requires { FitsPatch array.now patch.now }
 {
-    let mut sums = sums_of(alloc, array)?;
+    let mut sums = sums_of(alloc, Along::Last, array)?;
     sums.write(patch);
     both_totals(sums.trees())
 }
@@ -227,23 +295,34 @@ fn sums_follow_a_patch(rt: HostRuntime) {
     assert_eq!(rt; totals_of_ends(rt.alloc()), Some((18, 22)));
 }
 
-/// An array grows by a line of these numbers, and the sums of its lines by theirs.
-fn grow_both(alloc: Global, array: &mut Array, sums: &mut LineSums, numbers: &[i64]) -> Option<()>
-    requires { sums.old ≡ array.old }
-    ensures { IfSome result (λ _. sums.new ≡ array.new) }
+/// An array grows by a line of these numbers, and the sums of its lines along an axis by theirs.
+fn grow_both(
+    alloc: Global,
+    along: Along,
+    array: &mut Array,
+    sums: &mut LineSums,
+    numbers: &[i64],
+) -> Option<()>
+    requires { sums.old ≡ record { axis = axis_meant (length array.old.shape) along; array = array.old } }
+    ensures { IfSome result (λ _. sums.new ≡ record { axis = axis_meant (length array.new.shape) along; array = array.new }) }
 {
     let tail = tail_of(alloc, array, numbers)?;
-    if array.shape().as_slice().len() < 2 || !keeps_sums(&Seen::plain(array)) {
+    let rank = array.shape().as_slice().len() as u32;
+    if rank == 0 || !along.is_axis(rank) || array.item_type() != ItemType::Nums {
         return None;
     }
-    sums.grow(NewLines::of(alloc, &tail).ok()?);
+    if size(tail.shape().as_slice()) == 0 {
+        return None;
+    }
+    let axis = along.axis_at(rank);
+    sums.grow(NewLines::of(alloc, axis, &tail).ok()?);
     tail.write_behind(array);
     Some(())
 }
 
-/// The totals of the lines of an array are those that these trees tell.
-fn tells_totals(alloc: Global, array: &Array, sums: &SumTrees) -> Option<bool> {
-    let whole = sums_of(alloc, array)?;
+/// The totals of the lines of an array along an axis are those that these trees tell.
+fn tells_totals(alloc: Global, along: Along, array: &Array, sums: &SumTrees) -> Option<bool> {
+    let whole = sums_of(alloc, along, array)?;
     let mut same = whole.trees().len() == sums.len();
     for line in 0..sums.len() {
         same = same && total_in(whole.trees(), line) == total_in(sums, line);
@@ -251,22 +330,22 @@ fn tells_totals(alloc: Global, array: &Array, sums: &SumTrees) -> Option<bool> {
     Some(same)
 }
 
-/// Three lines of twenty ones with their sums, which four lines of greater numbers are put behind.
-fn seven_lines(alloc: Global) -> Option<(Array, LineSums)>
-    ensures { IfSome result (λ r. r.1 ≡ r.0) }
+/// Four lines of twenty ones with the sums along an axis, which four lines of greater numbers are put behind.
+fn eight_lines(alloc: Global, along: Along) -> Option<(Array, LineSums)>
+    ensures { IfSome result (λ r. r.1 ≡ record { axis = axis_meant (length r.0.shape) along; array = r.0 }) }
 {
-    let mut array = array_of(alloc, &[3, 20], &[], 1)?;
-    let mut sums = sums_of(alloc, &array)?;
-    grow_both(alloc, &mut array, &mut sums, &[2; 20])?;
-    grow_both(alloc, &mut array, &mut sums, &[3; 20])?;
-    grow_both(alloc, &mut array, &mut sums, &[4; 20])?;
-    grow_both(alloc, &mut array, &mut sums, &[5; 20])?;
+    let mut array = array_of(alloc, &[4, 20], &[], 1)?;
+    let mut sums = sums_of(alloc, along, &array)?;
+    grow_both(alloc, along, &mut array, &mut sums, &[2; 20])?;
+    grow_both(alloc, along, &mut array, &mut sums, &[3; 20])?;
+    grow_both(alloc, along, &mut array, &mut sums, &[4; 20])?;
+    grow_both(alloc, along, &mut array, &mut sums, &[5; 20])?;
     Some((array, sums))
 }
 
-/// The total of each of the seven lines.
-fn totals_of_seven(alloc: Global) -> Option<Vec<i64>> {
-    let (_, sums) = seven_lines(alloc)?;
+/// The total of each of the eight lines.
+fn totals_of_eight(alloc: Global) -> Option<Vec<i64>> {
+    let (_, sums) = eight_lines(alloc, Along::Last)?;
     let mut totals = Vec::new(alloc);
     for line in 0..sums.trees().len() {
         totals.push(total_in(sums.trees(), line)?).ok()?;
@@ -276,22 +355,58 @@ fn totals_of_seven(alloc: Global) -> Option<Vec<i64>> {
 
 #[test]
 fn sums_of_new_lines_go_behind_the_others(rt: HostRuntime) {
-    let totals = totals_of_seven(rt.alloc());
-    let wanted = [20, 20, 20, 40, 60, 80, 100];
+    let totals = totals_of_eight(rt.alloc());
+    let wanted = [20, 20, 20, 20, 40, 60, 80, 100];
     assert!(rt; totals.is_some_and(|totals| totals.as_slice() == wanted.as_slice()));
 }
 
-/// The sums of the seven lines are those of the array, before and after a patch in lines that were put behind.
-fn seven_lines_follow(alloc: Global) -> Option<bool> {
-    let (mut array, mut sums) = seven_lines(alloc)?;
-    let before = tells_totals(alloc, &array, sums.trees())?;
+/// The sums of the eight lines along an axis are those of the array, before and after a patch in lines that were put behind.
+fn eight_lines_follow(alloc: Global, along: Along) -> Option<bool> {
+    let (mut array, mut sums) = eight_lines(alloc, along)?;
+    let before = tells_totals(alloc, along, &array, sums.trees())?;
     let patch = patch_of(alloc, &array, &[(5, 6), (3, 4)], &[7, 8, 9, 10])?;
     sums.write(&patch);
     patch.write_into(&mut array);
-    Some(before && tells_totals(alloc, &array, sums.trees())?)
+    Some(before && tells_totals(alloc, along, &array, sums.trees())?)
 }
 
 #[test]
 fn sums_of_new_lines_follow_a_patch(rt: HostRuntime) {
-    assert_eq!(rt; seven_lines_follow(rt.alloc()), Some(true));
+    assert_eq!(rt; eight_lines_follow(rt.alloc(), Along::Last), Some(true));
+}
+
+#[test]
+fn sums_of_longer_lines_follow_a_patch(rt: HostRuntime) {
+    assert_eq!(rt; eight_lines_follow(rt.alloc(), Along::First), Some(true));
+}
+
+/// A vector grows by four numbers one by one, and the sums of its line by theirs.
+fn longer_by_four(
+    alloc: Global,
+    array: &mut Array,
+    sums: &mut LineSums,
+    numbers: [i64; 4],
+) -> Option<()>
+    requires { sums.old ≡ record { axis = axis_meant (length array.old.shape) LastAxis; array = array.old } }
+    ensures { IfSome result (λ _. sums.new ≡ record { axis = axis_meant (length array.new.shape) LastAxis; array = array.new }) }
+{
+    let [first, second, third, last] = numbers;
+    grow_both(alloc, Along::Last, array, sums, &[first])?;
+    grow_both(alloc, Along::Last, array, sums, &[second])?;
+    grow_both(alloc, Along::Last, array, sums, &[third])?;
+    grow_both(alloc, Along::Last, array, sums, &[last])
+}
+
+/// The total of a vector of four ones to which eight numbers are added one by one, each greater by one.
+fn total_of_twelve(alloc: Global) -> Option<i64> {
+    let mut array = array_of(alloc, &[4], &[], 1)?;
+    let mut sums = sums_of(alloc, Along::Last, &array)?;
+    longer_by_four(alloc, &mut array, &mut sums, [1, 2, 3, 4])?;
+    longer_by_four(alloc, &mut array, &mut sums, [5, 6, 7, 8])?;
+    total_in(sums.trees(), 0)
+}
+
+#[test]
+fn the_tree_of_a_vector_follows_what_is_put_behind(rt: HostRuntime) {
+    assert_eq!(rt; total_of_twelve(rt.alloc()), Some(40));
 }

@@ -1,55 +1,69 @@
--- Arrays whose lines are summed up by trees.
-use Rattle.std.specs.Prelude.{◌≡◌, ℕ, ◌-◌, ◌<◌, ℤ, nat_lt, List, Bool, ◌&&◌, Option, Some, None, if◌then◌else◌, length, map, get_or, All}
-use Rattle.std.specs.List.{flat_map}
+-- Arrays whose lines along an axis are summed up by trees.
+use Rattle.std.specs.Prelude.{◌≡◌, ℕ, suc, ◌<◌, ℤ, nat_lt, List, Bool, ◌&&◌, Option, Some, None, if◌then◌else◌, length, map, get_or, drop}
 use Rattle.arrays_core.specs.declared.item.Item.TheVariants.{Num}
 use Rattle.arrays_core.specs.declared.item.ItemType.TheVariants.{Nums}
+use Rattle.arrays_core.specs.declared.item.Item.{Item}
 use Rattle.arrays_core.specs.Arrays.{ArrayValue, IsArray}
+use Rattle.arrays_core.specs.Growth.{grown_by}
+use Rattle.arrays_core.specs.Shapes.{size}
 use Rattle.index_region.specs.Arguments.{is_of_numbers}
+use Rattle.index_region.specs.Axes.{is_axis, axis_at}
+use Rattle.index_region.specs.declared.along.Along.{Along}
+use Rattle.index_region.specs.Patches.{PatchValue, patched}
 use Rattle.operator_fns.specs.SumTrees.{TreesValue}
+
+-- ---- the lines of an array
+
+-- how long the lines along an axis are, axes counted from 0; where there is no such axis there are none
+abbrev pub line_length : ℕ → List ℕ → ℕ
+line_length axis shape = get_or shape axis 0
+
+-- how far the neighbours of a line lie apart
+abbrev pub line_step : ℕ → List ℕ → ℕ
+line_step axis shape = size (drop (suc axis) shape)
+
+-- how long the lines along the axis are that is written
+abbrev pub length_along : Along → List ℕ → ℕ
+length_along along shape = if is_axis (length shape) along then line_length (axis_at (length shape) along) shape else 0
+
+-- ---- the sums that are kept of them
+
+-- an array with the axis along which its lines are summed up, axes counted from 0
+pub record SummedValue : Type 0 where
+  pub axis : ℕ
+  pub array : ArrayValue
 
 -- a line with no more items is summed up as fast without a tree
 abbrev pub most_without_tree : ℕ
 most_without_tree = 3
 
--- how long the lines along the last axis are; an array without axes has none
-abbrev pub last_length : List ℕ → ℕ
-last_length shape = get_or shape (length shape - 1) 0
-
--- the totals of its lines along the last axis are kept by trees: it is of numbers, and its lines are long enough
-abbrev pub keeps_sums : ArrayValue → Bool
-keeps_sums a = is_of_numbers a.item_type && nat_lt most_without_tree (last_length a.shape)
+-- the totals of its lines along the axis that is written are kept by trees: it is of numbers, there are some, and its lines are long enough
+abbrev pub keeps_sums : Along → ArrayValue → Bool
+keeps_sums along a = is_of_numbers a.item_type && (nat_lt 0 (size a.shape) && nat_lt most_without_tree (length_along along a.shape))
 
 -- the array whose lines are summed up, if they are
-abbrev pub summed : ArrayValue → Option ArrayValue
-summed a = if keeps_sums a then Some a else None
+abbrev pub summed : Along → ArrayValue → Option SummedValue
+summed along a = if keeps_sums along a then Some (record { axis = axis_at (length a.shape) along; array = a }) else None
 
--- the numbers of all lines, one line after another
-abbrev pub all_numbers : List (List ℤ) → List ℤ
-all_numbers lines = flat_map (λ line. line) lines
+-- a patch is laid over the array
+abbrev pub patched_sums : SummedValue → PatchValue → SummedValue
+patched_sums s p = record { axis = s.axis; array = patched s.array p }
 
--- each line has so many numbers
-abbrev pub AreAllAsLong : ℕ → List (List ℤ) → Type 0
-AreAllAsLong count lines = All (λ line. length line ≡ count) lines
+-- the array grows by these items
+abbrev pub grown_sums : SummedValue → List Item → SummedValue
+grown_sums s items = record { axis = s.axis; array = grown_by s.array items }
 
--- the array of numbers of this shape whose lines along the last axis are these
-abbrev pub array_of : List ℕ → List (List ℤ) → ArrayValue
-array_of shape lines = record { item_type = Nums; shape = shape; items = map (λ z. Num z) (all_numbers lines) }
+-- ---- what tells them
 
--- trees of sums stand for the lines of an array of numbers along its last axis, in order
-pub record StandFor (sums : List (List ℤ)) (a : ArrayValue) : Type 0 where
+-- the array of these numbers
+abbrev pub array_of : List ℕ → List ℤ → ArrayValue
+array_of shape numbers = record { item_type = Nums; shape = shape; items = map (λ z. Num z) numbers }
+
+-- trees of sums stand for the lines of an array of some numbers along an axis
+pub record StandFor (t : TreesValue) (axis : ℕ) (a : ArrayValue) : Type 0 where
   pub sound : IsArray a
-  pub some : 0 < last_length a.shape
-  pub one_tree_a_line : AreAllAsLong (last_length a.shape) sums
-  pub is : a ≡ array_of a.shape sums
-
--- trees of lines of so many numbers, whose neighbours lie side by side
-pub record AreLineTrees (count : ℕ) (t : TreesValue) : Type 0 where
-  pub some : 0 < count
-  pub counted : t.count ≡ count
-  pub beside : t.step ≡ 1
-  pub each : AreAllAsLong count t.lines
-
--- what the sums of the lines of an array of this shape are made of: a tree a line
-pub record AreLinesOf (shape : List ℕ) (t : TreesValue) : Type 0 where
-  pub lines : StandFor t.lines (array_of shape t.lines)
-  pub trees : AreLineTrees (last_length shape) t
+  pub some : 0 < size a.shape
+  pub there : axis < length a.shape
+  pub counted : t.count ≡ line_length axis a.shape
+  pub apart : t.step ≡ line_step axis a.shape
+  pub is : a ≡ array_of a.shape t.numbers

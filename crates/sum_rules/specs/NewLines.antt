@@ -1,26 +1,51 @@
--- The lines that an array grows by.
-use Rattle.std.specs.Prelude.{◌≡◌, ℕ, ◌-◌, ◌/◌, ◌<◌, ℤ, List, length, map}
+-- What the lines of an array get where it grows.
+use Rattle.std.specs.Prelude.{◌≡◌, ℕ, ◌-◌, ◌/◌, ◌<◌, ℤ, max, List, length, map}
 use Rattle.arrays_core.specs.declared.item.Item.TheVariants.{Num}
 use Rattle.arrays_core.specs.declared.item.ItemType.TheVariants.{Nums}
 use Rattle.arrays_core.specs.Shapes.{size, IsWithinLimits}
-use Rattle.index_region.specs.Tails.{TailValue}
-use Rattle.sum_rules.specs.LineSums.{last_length, most_without_tree, all_numbers, AreAllAsLong}
-use Rattle.operator_fns.specs.SumTrees.{NewTreesValue}
+use Rattle.index_region.specs.Tails.{TailValue, FitsTail}
+use Rattle.operator_fns.specs.SumTrees.{TreesValue, FitBehind, FitNext, with_lines, with_places}
+use Rattle.sum_rules.specs.LineSums.{SummedValue, line_length, line_step}
+use Rattle.sum_rules.specs.declared.new_lines.Growth.{Growth}
+use Rattle.sum_rules.specs.declared.new_lines.Growth.TheVariants.{Lines, Places}
 
--- how many lines along the last axis an array of this shape has
-abbrev pub line_count : List ℕ → ℕ
-line_count shape = size shape / last_length shape
+-- what an array of numbers grows by, with the axis along which its lines are summed up
+pub record NewLinesValue : Type 0 where
+  pub axis : ℕ
+  pub tail : TailValue
 
--- what an array of numbers grows by to this shape, whose new lines along the last axis are these
-abbrev pub lines_behind : List ℕ → List (List ℤ) → TailValue
-lines_behind shape lines = record { item_type = Nums; shape = shape; items = map (λ z. Num z) (all_numbers lines) }
+-- the numbers of new lines, or of one more place of each line
+abbrev pub new_numbers : Growth → List ℤ
+new_numbers (Lines t) = t.numbers
+new_numbers (Places p) = p.numbers
 
--- what new lines are made of: trees of lines that are long enough for sums to be kept, which come behind all others that an array of this shape, of more than one axis, has
-pub record AreNewLinesOf (shape : List ℕ) (t : NewTreesValue) : Type 0 where
+-- these numbers, to this shape
+abbrev pub lines_behind : (axis : ℕ) → List ℕ → Growth → NewLinesValue
+lines_behind axis shape g = record { axis = axis; tail = record { item_type = Nums; shape = shape; items = map (λ z. Num z) (new_numbers g) } }
+
+-- new lines lie along another axis than the first, and come behind all others that an array of this shape has; along the first axis each line gets one more place
+abbrev pub AreNew : (axis : ℕ) → List ℕ → Growth → Type 0
+AreNew axis shape (Lines t) = (0 < axis) × ((t.count ≡ line_length axis shape) × ((t.step ≡ line_step axis shape) × (t.old_lines ≡ size shape / line_length axis shape - length t.numbers / line_length axis shape)))
+AreNew axis shape (Places p) = (axis ≡ 0) × (p.count ≡ max 1 (line_length axis shape - 1))
+
+-- what an array grows by to this shape is made of
+pub record AreNewLinesOf (axis : ℕ) (shape : List ℕ) (g : Growth) : Type 0 where
   pub within : IsWithinLimits shape
-  pub axes : 1 < length shape
-  pub long : most_without_tree < last_length shape
-  pub counted : t.count ≡ last_length shape
-  pub beside : t.step ≡ 1
-  pub one_tree_a_line : AreAllAsLong (last_length shape) t.lines
-  pub behind : t.old_lines ≡ line_count shape - length t.lines
+  pub some : 0 < size shape
+  pub there : axis < length shape
+  pub new : AreNew axis shape g
+
+-- trees take them
+abbrev pub FitsTrees : TreesValue → Growth → Type 0
+FitsTrees t (Lines m) = FitBehind t m
+FitsTrees t (Places m) = FitNext t m
+
+-- the trees with them
+abbrev pub trees_grown : TreesValue → Growth → TreesValue
+trees_grown t (Lines m) = with_lines t m.numbers
+trees_grown t (Places m) = with_places t m.numbers
+
+-- they are those that an array grows by whose lines are summed up along the same axis
+pub record FitsSums (s : SummedValue) (l : NewLinesValue) : Type 0 where
+  pub axis : l.axis ≡ s.axis
+  pub tail : FitsTail s.array l.tail

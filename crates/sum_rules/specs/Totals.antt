@@ -1,7 +1,10 @@
 -- The totals of the lines of an array whose sums are kept by trees.
-use Rattle.std.specs.Prelude.{◌≡◌, ℕ, ◌+◌, ◌-◌, ◌*◌, ◌<◌, ◌≤◌, ◌^◌, ℤ, nat_eq, Bool, true, false, ◌&&◌, is_ok, List, [], ◌∷◌, length, get_or, remove}
+use Rattle.std.specs.Prelude.{◌≡◌, ℕ, ◌+◌, ◌-◌, ◌*◌, ◌<◌, ◌≤◌, ◌^◌, ℤ, nat_eq, Bool, true, false, ◌&&◌, is_ok, List, [], ◌∷◌, length, get_or, remove, All}
+use Rattle.std.specs.List.{flat_map}
 use Rattle.scalar_fns.specs.declared.function.Scalar2.TheVariants.{Plus}
 use Rattle.arrays_core.specs.Arrays.{ArrayValue}
+use Rattle.index_region.specs.Axes.{is_axis, axis_at}
+use Rattle.index_region.specs.declared.along.Along.{Along}
 use Rattle.index_region.specs.declared.along.Along.TheVariants.{Last}
 use Rattle.index_region.specs.declared.delta.Delta.{Delta}
 use Rattle.index_region.specs.declared.delta.Delta.TheVariants.{Patch}
@@ -11,23 +14,37 @@ use Rattle.change_core.specs.RuleModels.{RuleModel}
 use Rattle.change_rules.specs.Nodes.{Argument, node_cost}
 use Rattle.change_rules.specs.Outcomes.{Outcome}
 use Rattle.change_core.specs.Meters.{ticked}
+use Rattle.operator_fns.specs.SumTrees.{TreesValue}
 use Rattle.operator_rules.specs.Reduce.{reduce_rule}
-use Rattle.sum_rules.specs.LineSums.{StandFor, last_length}
+use Rattle.sum_rules.specs.LineSums.{StandFor, length_along}
 
--- +/B
-abbrev pub total_rule : RuleModel
-total_rule = reduce_rule Plus Last
+-- the totals along the axis that is written, as of +/B
+abbrev pub total_rule : Along → RuleModel
+total_rule along = reduce_rule Plus along
 
--- trees stand for the lines that this array had before the patch was laid over it
-pub record StoodFor (sums : List (List ℤ)) (p : PatchValue) (now : ArrayValue) : Type 0 where
+-- trees stand for the lines that this array had along the axis that is written, before the patch was laid over it
+pub record StoodFor (along : Along) (t : TreesValue) (p : PatchValue) (now : ArrayValue) : Type 0 where
   pub before : ArrayValue
-  pub lines : StandFor sums before
+  pub on_axis : is_axis (length before.shape) along ≡ true
+  pub lines : StandFor t (axis_at (length before.shape) along) before
   pub fit : FitsPatch before p
   pub is : now ≡ patched before p
 
 -- where a box of the argument changed, the trees stand for what it was
-abbrev pub IsSummedUp : Argument → List (List ℤ) → Type 0
-IsSummedUp arg sums = (p : PatchValue) → arg.1.now ≡ Patch p → StoodFor sums p arg.0
+abbrev pub IsSummedUp : Along → Argument → TreesValue → Type 0
+IsSummedUp along arg t = (p : PatchValue) → arg.1.now ≡ Patch p → StoodFor along t p arg.0
+
+-- lists of numbers that are each as long
+abbrev pub AreAllAsLong : ℕ → List (List ℤ) → Type 0
+AreAllAsLong count lines = All (λ line. length line ≡ count) lines
+
+-- a tree for each line along the last axis tells its numbers, one line after another
+abbrev pub all_trees : ℕ → List (List ℤ) → TreesValue
+all_trees count lines = record { count = count; step = 1; numbers = flat_map (λ line. line) lines }
+
+-- where a box of the argument changed, these are the lines along the last axis of what it was
+abbrev pub IsSummedByLines : Argument → List (List ℤ) → Type 0
+IsSummedByLines arg lines = (p : PatchValue) → arg.1.now ≡ Patch p → AreAllAsLong (length_along Last arg.0.shape) lines × StoodFor Last (all_trees (length_along Last arg.0.shape) lines) p arg.0
 
 -- how many items a patch makes new
 abbrev pub new_items : Delta → ℕ
@@ -50,30 +67,30 @@ AreFoldsWithin lines long old new = new ≤ old + lines * (long - 1)
 abbrev pub AreFolds : (lines long old new : ℕ) → Type 0
 AreFolds lines long old new = new ≡ ticked old (lines * (long - 1))
 
--- a box has one place on the last axis
-abbrev pub is_one_a_line : List Interval → Bool
-is_one_a_line region = let s = get_or region (length region - 1) (1, 0) in nat_eq s.0 s.1
+-- a box has one place on an axis
+abbrev pub is_one_a_line : ℕ → List Interval → Bool
+is_one_a_line axis region = let s = get_or region axis (1, 0) in nat_eq s.0 s.1
 
--- a box without the last axis
-abbrev pub lines_of : List Interval → List Interval
-lines_of region = remove region (length region - 1)
+-- a box without an axis
+abbrev pub lines_of : ℕ → List Interval → List Interval
+lines_of axis region = remove region axis
 
 -- the trees serve: the totals were an array, and the box that changed has one place a line
-abbrev pub is_narrow : Delta → Bool
-is_narrow (Patch p) = is_one_a_line p.region
-is_narrow _ = false
+abbrev pub is_narrow : ℕ → Delta → Bool
+is_narrow axis (Patch p) = is_one_a_line axis p.region
+is_narrow axis _ = false
 
-abbrev pub is_by_trees : Argument → Outcome → Bool
-is_by_trees arg old = is_ok old && is_narrow arg.1.now
+abbrev pub is_by_trees : Along → Argument → Outcome → Bool
+is_by_trees along arg old = is_ok old && is_narrow (axis_at (length arg.0.shape) along) arg.1.now
 
 -- how many joins of sums the change of the totals takes at most: by trees as many for each new item as the length of a line less one has binary digits, else
 -- one less for each line that is summed up than it has numbers
-pub record HasJoins (arg : Argument) (held : Outcome) (old new : ℕ) : Type 0 where
-  pub trees : is_by_trees arg held ≡ true → AreJoinsWithin (new_items arg.1.now) (last_length arg.0.shape) old new
-  pub folds : is_by_trees arg held ≡ false → AreFoldsWithin (node_cost total_rule (arg ∷ []) held) (last_length arg.0.shape) old new
+pub record HasJoins (along : Along) (arg : Argument) (held : Outcome) (old new : ℕ) : Type 0 where
+  pub trees : is_by_trees along arg held ≡ true → AreJoinsWithin (new_items arg.1.now) (length_along along arg.0.shape) old new
+  pub folds : is_by_trees along arg held ≡ false → AreFoldsWithin (node_cost (total_rule along) (arg ∷ []) held) (length_along along arg.0.shape) old new
 
 -- how many it takes where no total fails: by trees at least one for each new item of lines of two numbers and more, else just those of the lines that are
 -- summed up
-pub record HasAllJoins (arg : Argument) (held : Outcome) (old new : ℕ) : Type 0 where
-  pub trees : is_by_trees arg held ≡ true → AreJoinsFrom (new_items arg.1.now) (last_length arg.0.shape) old new
-  pub folds : is_by_trees arg held ≡ false → AreFolds (node_cost total_rule (arg ∷ []) held) (last_length arg.0.shape) old new
+pub record HasAllJoins (along : Along) (arg : Argument) (held : Outcome) (old new : ℕ) : Type 0 where
+  pub trees : is_by_trees along arg held ≡ true → AreJoinsFrom (new_items arg.1.now) (length_along along arg.0.shape) old new
+  pub folds : is_by_trees along arg held ≡ false → AreFolds (node_cost (total_rule along) (arg ∷ []) held) (length_along along arg.0.shape) old new

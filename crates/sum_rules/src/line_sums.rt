@@ -1,17 +1,20 @@
 //! The sums of the lines of an array, by trees.
 
-ghost use Rattle.std.specs.Prelude.{◌≡◌, ◌+◌, ◌%◌, ◌^◌, ◌<◌, ◌≤◌, [], ◌++◌, length, map, set, vec_len, vec_capacity, IfOk};
+ghost use Rattle.std.specs.Prelude.{◌≡◌, ◌+◌, ◌*◌, ◌%◌, ◌^◌, ◌<◌, ◌≤◌, [], ◌++◌, suc, length, map, set, drop, true, vec_len, vec_capacity, IsTrue, IfOk};
 ghost use Rattle.arrays_core.specs.declared.item.Item.TheVariants.{Num};
 ghost use Rattle.arrays_core.specs.declared.item.ItemType.TheVariants.{Nums};
-ghost use Rattle.arrays_core.specs.Growth.{grown_by};
+ghost use Rattle.arrays_core.specs.Arrays.{IsArray};
 ghost use Rattle.arrays_core.specs.Items.{type_of};
+ghost use Rattle.arrays_core.specs.Shapes.{size as size_of, IsWithinLimits};
+ghost use Rattle.index_region.specs.Axes.{is_axis as has_axis, axis_at as axis_meant};
 ghost use Rattle.index_region.specs.Patches.{FitsPatch, patched};
-ghost use Rattle.index_region.specs.Tails.{FitsTail};
-ghost use Rattle.sum_rules.specs.LineSums.{last_length as length_of_lines, keeps_sums as is_kept, summed, array_of, all_numbers, AreLineTrees, AreLinesOf, StandFor};
+ghost use Rattle.operator_fns.specs.SumTrees.{with_number};
+ghost use Rattle.sum_rules.specs.LineSums.{length_along as long_along, line_length as length_of_lines, line_step as step_of_lines, keeps_sums as is_kept, summed, array_of, patched_sums, grown_sums, StandFor};
+ghost use Rattle.sum_rules.specs.NewLines.{FitsSums, FitsTrees, trees_grown};
 
-use crate::new_lines::NewLines;
-use arrays_core::{Array, Item, ItemType, Shape, position, shape_of};
-use index_region::{Patch, Seen};
+use crate::new_lines::{Growth, NewLines};
+use arrays_core::{Array, Item, ItemType, Shape, position, shape_of, size};
+use index_region::{Along, Patch, Seen};
 use operator_fns::SumTrees;
 use std::alloc::{AllocError, Global};
 use std::marker::Model;
@@ -19,136 +22,166 @@ use std::marker::Model;
 /// A line with no more items is summed up as fast without a tree.
 const MOST_WITHOUT_TREE: u32 = 3;
 
-/// How long the lines along the last axis are; 0 where there is no axis.
-pub(crate) fn last_length(shape: &[u32]) -> u32
-    ensures { result ≡ length_of_lines shape.now }
+/// How long the lines along an axis are, axes counted from 0; 0 where there is no such axis.
+pub(crate) fn line_length(axis: usize, shape: &[u32]) -> u32
+    ensures { result ≡ length_of_lines axis shape.now }
 {
-    match shape.last() {
+    match shape.get(axis) {
         Some(count) => *count,
         None => 0,
     }
 }
 
-/// The sums of the lines of an array along its last axis are worth keeping: it is of numbers, and its lines are long
-/// enough.
-pub fn keeps_sums(array: &Seen) -> bool
-    ensures { result ≡ is_kept array.now }
+/// How far the neighbours of a line lie apart.
+pub(crate) fn line_step(axis: usize, shape: &[u32]) -> u32
+    requires within { IsWithinLimits shape.now }
+    requires some { 0 < size_of shape.now }
+    requires there { axis < length shape.now }
+    ensures { result ≡ step_of_lines axis shape.now }
 {
-    array.item_type() == ItemType::Nums && last_length(array.shape().as_slice()) > MOST_WITHOUT_TREE
+    size(&shape[axis + 1..])
+}
+
+/// How long the lines along the axis are that is written; 0 where there is no such axis.
+pub(crate) fn length_along(along: Along, shape: &[u32]) -> u32
+    requires { IsWithinLimits shape.now }
+    ensures { result ≡ long_along along shape.now }
+{
+    let rank = shape.len() as u32;
+    if !along.is_axis(rank) {
+        return 0;
+    }
+    line_length(along.axis_at(rank), shape)
+}
+
+/// The sums of the lines of an array along this axis are worth keeping: it is of numbers, there are some, and its lines are long
+/// enough.
+pub fn keeps_sums(along: Along, array: &Seen) -> bool
+    ensures { result ≡ is_kept along array.now }
+{
+    array.item_type() == ItemType::Nums
+        && array.places() > 0
+        && length_along(along, array.shape().as_slice()) > MOST_WITHOUT_TREE
 }
 
 /// The sums of the lines of an array whose lines are summed up.
-fn sums_of(alloc: Global, array: &Array) -> Result<Option<LineSums>, AllocError>
-    ensures { IfOk result (λ s. s ≡ summed array.now) }
+fn sums_of(alloc: Global, along: Along, array: &Array) -> Result<Option<LineSums>, AllocError>
+    requires { is_kept along array.now ≡ true }
+    ensures { IfOk result (λ s. s ≡ summed along array.now) }
 {
     let shape = array.shape();
-    let count = last_length(shape.as_slice());
+    let axes = shape.as_slice();
+    let axis = along.axis_at(axes.len() as u32);
+    let count = line_length(axis, axes) as usize;
+    let step = line_step(axis, axes) as usize;
     match array.numbers() {
-        Some(numbers) if count > MOST_WITHOUT_TREE => {
-            let trees = SumTrees::build(alloc, numbers, count as usize, 1)?;
-            let shape = shape_of(alloc, shape.as_slice());
-            Ok(Some(LineSums { shape, trees }))
+        Some(numbers) => {
+            let trees = SumTrees::build(alloc, numbers, count, step)?;
+            let shape = shape_of(alloc, axes);
+            Ok(Some(LineSums { axis, shape, trees }))
         }
-        _ => Ok(None),
+        None => unreachable!(),
     }
 }
 
-/// Puts a number at a place of lines of so many numbers, places counted from 0.
-fn set_number(trees: &mut SumTrees, count: usize, place: usize, number: i64)
-    requires lines { AreLineTrees count trees.old }
-    requires place { place < length (all_numbers trees.old.lines) }
-    ensures numbers { all_numbers trees.new.lines ≡ set (all_numbers trees.old.lines) place number }
-    ensures lines { AreLineTrees count trees.new }
-{
-    trees.set(place / count, place % count, number);
-}
-
-/// Puts an item that is a number at a place of lines of so many numbers, places counted from 0.
-fn set_item(trees: &mut SumTrees, count: usize, place: usize, item: Item)
-    requires lines { AreLineTrees count trees.old }
-    requires place { place < length (all_numbers trees.old.lines) }
+/// Puts an item that is a number at a place of all lines, places counted from 0.
+fn set_item(trees: &mut SumTrees, place: usize, item: Item)
+    requires place { place < length trees.old.numbers }
     requires number { type_of item ≡ Nums }
-    ensures items { map (λ z. Num z) (all_numbers trees.new.lines) ≡ set (map (λ z. Num z) (all_numbers trees.old.lines)) place item }
-    ensures lines { AreLineTrees count trees.new }
+    ensures items { map (λ z. Num z) trees.new.numbers ≡ set (map (λ z. Num z) trees.old.numbers) place item }
+    ensures count { trees.new.count ≡ trees.old.count }
+    ensures step { trees.new.step ≡ trees.old.step }
 {
     if let Item::Num(number) = item {
-        set_number(trees, count, place, number);
+        trees.set(place, number);
     }
 }
 
 /// Puts the new items of a patch into the lines of an array of this shape.
 fn write_into(shape: &Shape, trees: &mut SumTrees, patch: &Patch)
-    requires lines { AreLinesOf shape.now.items trees.old }
-    requires fit { FitsPatch (array_of shape.now.items trees.old.lines) patch.now }
-    ensures numbers { array_of shape.now.items trees.new.lines ≡ patched (array_of shape.now.items trees.old.lines) patch.now }
-    ensures lines { AreLinesOf shape.now.items trees.new }
+    requires lines { IsArray (array_of shape.now.items trees.old.numbers) }
+    requires fit { FitsPatch (array_of shape.now.items trees.old.numbers) patch.now }
+    ensures numbers { array_of shape.now.items trees.new.numbers ≡ patched (array_of shape.now.items trees.old.numbers) patch.now }
+    ensures sound { IsArray (array_of shape.now.items trees.new.numbers) }
+    ensures count { trees.new.count ≡ trees.old.count }
+    ensures step { trees.new.step ≡ trees.old.step }
 {
-    let count = last_length(shape.as_slice()) as usize;
     // The type of the items says that the patch has one item for each place.
     let _one_item_a_place = patch.item_type();
     let region = patch.region();
     let mut index = region.index_at(0);
     for before in 0..region.size() {
         let place = position(shape, index.as_slice()) - 1;
-        set_item(trees, count, place as usize, patch.item(index.as_slice()));
+        set_item(trees, place as usize, patch.item(index.as_slice()));
         region.advance(&mut index);
     }
 }
 
-/// The sums of the lines of an array of numbers along its last axis, as trees.
+/// Trees take new lines behind the others, or one more place of each line. They take no memory.
+fn take_growth(trees: &mut SumTrees, growth: Growth)
+    requires { FitsTrees trees.old growth }
+    ensures { trees.new ≡ trees_grown trees.old growth }
+{
+    match growth {
+        Growth::Lines(more) => trees.grow(more),
+        Growth::Places(more) => trees.lengthen(more),
+    }
+}
+
+/// The sums of the lines of an array of numbers along an axis, as trees.
 #[derive(Drop)]
 pub struct LineSums {
+    axis: usize,
     shape: Shape,
     trees: SumTrees,
 }
 
 impl Model for LineSums {
-    ghost use Rattle.arrays_core.specs.Arrays.{ArrayValue};
-    ghost use Rattle.sum_rules.specs.LineSums.{array_of, AreLinesOf};
+    ghost use Rattle.sum_rules.specs.LineSums.{SummedValue, array_of, StandFor};
 
-    ghost Value = { ArrayValue };
+    ghost Value = { SummedValue };
 
-    ghost view = { λ s. array_of s.shape.items s.trees.lines };
+    ghost view = { λ s. record { axis = s.axis; array = array_of s.shape.items s.trees.numbers } };
 
-    ghost invariant = { λ s. AreLinesOf s.shape.items s.trees };
+    ghost invariant = { λ s. StandFor s.trees s.axis (array_of s.shape.items s.trees.numbers) };
 }
 
 impl LineSums {
-    /// The sums of the lines of an array of numbers along its last axis; none for characters, or where a line has
-    /// no more than 3 items, which are summed up as fast without a tree.
-    pub fn of(alloc: Global, array: &Seen) -> Result<Option<LineSums>, AllocError>
-        ensures { IfOk result (λ s. s ≡ summed array.now) }
+    /// The sums of the lines of an array of numbers along this axis; none for characters, where there are no numbers or no such axis, or
+    /// where a line has no more than 3 items, which are summed up as fast without a tree.
+    pub fn of(alloc: Global, along: Along, array: &Seen) -> Result<Option<LineSums>, AllocError>
+        ensures { IfOk result (λ s. s ≡ summed along array.now) }
     {
-        if !keeps_sums(array) {
+        if !keeps_sums(along, array) {
             return Ok(None);
         }
         match array.array() {
-            Some(array) => sums_of(alloc, array),
-            None => sums_of(alloc, &array.copy()?),
+            Some(array) => sums_of(alloc, along, array),
+            None => sums_of(alloc, along, &array.copy()?),
         }
     }
 
-    /// The trees of the lines, in the order of these.
+    /// The trees of the lines.
     pub fn trees(&self) -> &SumTrees
-        ensures { StandFor result.now.lines self.now }
+        ensures { StandFor result.now self.now.axis self.now.array }
     {
         &self.trees
     }
 
     /// Takes new items for the places of a box. It takes no memory.
     pub fn write(&mut self, patch: &Patch)
-        requires { FitsPatch self.old patch.now }
-        ensures { self.new ≡ patched self.old patch.now }
+        requires { FitsPatch self.old.array patch.now }
+        ensures { self.new ≡ patched_sums self.old patch.now }
     {
         write_into(&self.shape, &mut self.trees, patch);
     }
 
-    /// Takes the sums of new lines behind the others. It takes no memory.
+    /// Takes the sums of new lines behind the others, or one more number for each line. It takes no memory.
     pub fn grow(&mut self, lines: NewLines)
-        requires { FitsTail self.old lines }
-        ensures { self.new ≡ grown_by self.old lines.items }
+        requires { FitsSums self.old lines }
+        ensures { self.new ≡ grown_sums self.old lines.tail.items }
     {
-        self.trees.grow(lines.trees);
+        take_growth(&mut self.trees, lines.growth);
         self.shape = lines.shape;
     }
 }

@@ -2,54 +2,90 @@
 
 ghost use Rattle.std.specs.Prelude.{◌≡◌, ◌<◌, length, drop, IfOk};
 ghost use Rattle.arrays_core.specs.declared.item.ItemType.TheVariants.{Nums};
-ghost use Rattle.arrays_core.specs.Shapes.{size as size_of};
-ghost use Rattle.sum_rules.specs.LineSums.{last_length as length_of_lines, most_without_tree};
+ghost use Rattle.arrays_core.specs.Shapes.{size as size_of, IsWithinLimits};
+ghost use Rattle.sum_rules.specs.NewLines.{new_numbers, AreNew};
 
-use crate::line_sums::last_length;
+use crate::line_sums::{line_length, line_step};
 use arrays_core::{Shape, shape_of, size};
 use index_region::Tail;
-use operator_fns::NewTrees;
+use operator_fns::{NewPlaces, NewTrees};
 use std::alloc::{AllocError, Global};
 use std::marker::Model;
 
-/// The sums of the lines that an array of numbers grows by, as trees, with the shape that the array has
-/// then. They bring the room that the trees of all its lines may need, so that `LineSums::grow` takes no memory.
+/// What the lines of an array get where it grows.
+#[derive(Drop)]
+pub(crate) enum Growth {
+    /// New lines behind the others.
+    Lines(NewTrees),
+    /// One more place of each line, where they lie along the first axis.
+    Places(NewPlaces),
+}
+
+/// What the lines of an array of numbers get where it grows, as trees or for the trees that they have, with the shape that the array has
+/// then. It brings the room that the trees of all its lines may need, so that `LineSums::grow` takes no memory.
 #[derive(Drop)]
 pub struct NewLines {
+    axis: usize,
     pub(crate) shape: Shape,
-    pub(crate) trees: NewTrees,
+    pub(crate) growth: Growth,
 }
 
 impl Model for NewLines {
-    ghost use Rattle.index_region.specs.Tails.{TailValue};
-    ghost use Rattle.sum_rules.specs.NewLines.{lines_behind, AreNewLinesOf};
+    ghost use Rattle.sum_rules.specs.NewLines.{NewLinesValue, lines_behind, AreNewLinesOf};
 
-    ghost Value = { TailValue };
+    ghost Value = { NewLinesValue };
 
-    ghost view = { λ l. lines_behind l.shape.items l.trees.lines };
+    ghost view = { λ l. lines_behind l.axis l.shape.items l.growth };
 
-    ghost invariant = { λ l. AreNewLinesOf l.shape.items l.trees };
+    ghost invariant = { λ l. AreNewLinesOf l.axis l.shape.items l.growth };
 }
 
 impl NewLines {
-    /// The sums of the lines of a tail, which is one place of an array of numbers that has more than one axis and lines
-    /// that are long enough for sums to be kept. AllocError where memory for them, or for the room, is refused.
-    pub fn of(alloc: Global, tail: &Tail) -> Result<NewLines, AllocError>
+    /// What the lines along an axis get by a tail, which is one place of an array that has numbers then. Axes are counted from 0.
+    /// AllocError where memory for it, or for the room, is refused.
+    pub fn of(alloc: Global, axis: usize, tail: &Tail) -> Result<NewLines, AllocError>
         requires numbers { tail.now.item_type ≡ Nums }
-        requires axes { 1 < length tail.now.shape }
-        requires long { most_without_tree < length_of_lines tail.now.shape }
+        requires some { 0 < size_of tail.now.shape }
+        requires there { axis < length tail.now.shape }
         requires one_place { length tail.now.items ≡ size_of (drop 1 tail.now.shape) }
-        ensures { IfOk result (λ l. l ≡ tail.now) }
+        ensures { IfOk result (λ l. l ≡ record { axis = axis; tail = tail.now }) }
     {
         let shape = shape_of(alloc, tail.shape().as_slice());
-        let count = last_length(shape.as_slice()) as usize;
         let numbers = match tail.values().numbers() {
             Some(numbers) => numbers,
             None => unreachable!(),
         };
-        let lines = size(shape.as_slice()) as usize / count;
-        let old_lines = lines.saturating_sub(numbers.len() / count);
-        let trees = NewTrees::build(alloc, numbers, count, 1, old_lines)?;
-        Ok(NewLines { shape, trees })
+        let growth = growth_of(alloc, axis, shape.as_slice(), numbers)?;
+        Ok(NewLines {
+            axis,
+            shape,
+            growth,
+        })
     }
+}
+
+/// What the lines along an axis get by these numbers, with which the array has this shape.
+fn growth_of(
+    alloc: Global,
+    axis: usize,
+    shape: &[u32],
+    numbers: &[i64],
+) -> Result<Growth, AllocError>
+    requires within { IsWithinLimits shape.now }
+    requires some { 0 < size_of shape.now }
+    requires there { axis < length shape.now }
+    requires one_place { length numbers.now ≡ size_of (drop 1 shape.now) }
+    ensures numbers { IfOk result (λ g. new_numbers g ≡ numbers.now) }
+    ensures new { IfOk result (AreNew axis shape.now) }
+{
+    let count = line_length(axis, shape) as usize;
+    if axis == 0 {
+        let old = count.saturating_sub(1).max(1);
+        return Ok(Growth::Places(NewPlaces::build(alloc, numbers, old)?));
+    }
+    let step = line_step(axis, shape) as usize;
+    let lines = size(shape) as usize / count;
+    let old_lines = lines.saturating_sub(numbers.len() / count);
+    let trees = NewTrees::build(alloc, numbers, count, step, old_lines)?;
+    Ok(Growth::Lines(trees))
 }

@@ -11,19 +11,19 @@ use Rattle.index_region.specs.Patches.{patched}
 use Rattle.index_region.proofs.Patched.{box_within_size, fits_within, patched_sound}
 use Rattle.index_region.proofs.Walks.{offset_of_walk, some_place, walk_within}
 use Rattle.index_region.proofs.Written.{IsWritten, written_none, written_more, written_all}
-use Rattle.sum_rules.specs.LineSums.{array_of, all_numbers, last_length, AreLineTrees}
+use Rattle.sum_rules.specs.LineSums.{array_of}
 use Rattle.sum_rules.proofs.line_sums.write_into.Goals as goal
 
 pub index_at-index-requires-clause-size : goal.index_at-index-requires-clause-size
 index_at-index-requires-clause-size c =
     let most = box_within_size c.args.patch.now.region c.args.shape.now.items c.requires.fit.inside in
-    let within = c.requires.lines.lines.sound.within.size_within in
+    let within = c.requires.lines.within.size_within in
     subst (λ (r : List Interval). box_size r < 18446744073709551616) (sym c.region-region.ensures) (omega arith)
 
 pub size-before-end-requires : goal.size-before-end-requires
 size-before-end-requires c =
     let most = box_within_size c.args.patch.now.region c.args.shape.now.items c.requires.fit.inside in
-    let within = c.requires.lines.lines.sound.within.size_within in
+    let within = c.requires.lines.within.size_within in
     subst (λ (r : List Interval). box_size r < 18446744073709551616) (sym c.region-region.ensures) (omega arith)
 
 pub index_at-index-requires-clause-below : goal.index_at-index-requires-clause-below
@@ -32,8 +32,9 @@ index_at-index-requires-clause-below c =
 
 pub loop-before-init : goal.loop-before-init
 loop-before-init c = record {
-  written = written_none (array_of c.args.shape.now.items c.args.trees.now.lines) c.args.patch.now c.requires.lines.lines.sound;
-  lines = c.requires.lines.trees;
+  written = written_none (array_of c.args.shape.now.items c.args.trees.now.numbers) c.args.patch.now c.requires.lines;
+  count = refl;
+  step = refl;
   at = λ _. c.index_at-index.ensures ∙ ap (λ (r : List Interval). walk_at r 0) c.region-region.ensures;
 }
 
@@ -42,7 +43,7 @@ position-place-requires-clause-in_range c =
     let p = c.args.patch.now in
     let below : c.loop-before.before < box_size p.region =
     subst (λ (r : List Interval). c.loop-before.before < box_size r) c.region-region.ensures (omega (arith, c.loop-before-test.true, c.size-before-end.ensures)) in
-    ap (is_index_of c.args.shape.now.items) (c.as_slice-in-loop-before.ensures.is ∙ c.loop-before.invariant.at below)
+    ap (is_index_of c.args.shape.now.items) (c.as_slice.ensures.is ∙ c.loop-before.invariant.at below)
     ∙ fits_within p.region c.args.shape.now.items (walk_at p.region c.loop-before.before) c.requires.fit.inside (walk_within p.region c.loop-before.before below)
 
 pub item-requires : goal.item-requires
@@ -50,7 +51,7 @@ item-requires c =
     let p = c.args.patch.now in
     let below : c.loop-before.before < box_size p.region =
     subst (λ (r : List Interval). c.loop-before.before < box_size r) c.region-region.ensures (omega (arith, c.loop-before-test.true, c.size-before-end.ensures)) in
-    ap (is_within p.region) (c.as_slice-in-loop-before-2.ensures.is ∙ c.loop-before.invariant.at below) ∙ walk_within p.region c.loop-before.before below
+    ap (is_within p.region) (c.as_slice-in-loop-before.ensures.is ∙ c.loop-before.invariant.at below) ∙ walk_within p.region c.loop-before.before below
 
 pub loop-before-preserved : goal.loop-before-preserved
 loop-before-preserved c =
@@ -59,22 +60,22 @@ loop-before-preserved c =
     let before = c.loop-before.before in
     let below : before < box_size p.region =
     subst (λ (r : List Interval). before < box_size r) c.region-region.ensures (omega (arith, c.loop-before-test.true, c.size-before-end.ensures)) in
-    let more = written_more (array_of shape c.args.trees.now.lines) p before (array_of shape c.loop-before.trees.lines) c.requires.fit c.loop-before.invariant.written below in
+    let more = written_more (array_of shape c.args.trees.now.numbers) p before (array_of shape c.loop-before.trees.numbers) c.requires.fit c.loop-before.invariant.written below in
     let here = c.loop-before.invariant.at below in
-    let index : c.as_slice-in-loop-before.result.now ≡ walk_at p.region before = c.as_slice-in-loop-before.ensures.is ∙ here in
-    let counted : places_before shape c.as_slice-in-loop-before.result.now ≡ places_before shape (walk_at p.region before) = ap (places_before shape) index in
+    let index : c.as_slice.result.now ≡ walk_at p.region before = c.as_slice.ensures.is ∙ here in
+    let counted : places_before shape c.as_slice.result.now ≡ places_before shape (walk_at p.region before) = ap (places_before shape) index in
     let place : c.position-place.result - 1 ≡ places_before shape (walk_at p.region before) = omega (arith, c.position-place.ensures.is, counted) in
     let item : c.item.result ≡ get_or p.items before (fill p.item_type) =
     c.item.ensures.is
-    ∙ ap (λ (i : List ℕ). get_or p.items (box_offset p.region i) (fill p.item_type)) (c.as_slice-in-loop-before-2.ensures.is ∙ here)
+    ∙ ap (λ (i : List ℕ). get_or p.items (box_offset p.region i) (fill p.item_type)) (c.as_slice-in-loop-before.ensures.is ∙ here)
     ∙ ap (λ (n : ℕ). get_or p.items n (fill p.item_type)) (offset_of_walk p.region before below) in
-    let now : map (λ (z : ℤ). Num z) (all_numbers c.set_item.new.trees.lines)
-    ≡ set (map (λ (z : ℤ). Num z) (all_numbers c.loop-before.trees.lines)) (places_before shape (walk_at p.region before)) (get_or p.items before (fill p.item_type)) =
-    c.set_item.ensures.items ∙ (λ i. set (map (λ (z : ℤ). Num z) (all_numbers c.loop-before.trees.lines)) (place i) (item i)) in
-    let count : c.last_length-count.result ≡ last_length shape = c.last_length-count.ensures ∙ ap last_length c.as_slice.ensures in
+    let now : map (λ (z : ℤ). Num z) c.set_item.new.trees.numbers
+    ≡ set (map (λ (z : ℤ). Num z) c.loop-before.trees.numbers) (places_before shape (walk_at p.region before)) (get_or p.items before (fill p.item_type)) =
+    c.set_item.ensures.items ∙ (λ i. set (map (λ (z : ℤ). Num z) c.loop-before.trees.numbers) (place i) (item i)) in
     record {
-      written = subst (λ (xs : List Item). IsWritten (array_of shape c.args.trees.now.lines) p (before + 1) (record { item_type = Nums; shape = shape; items = xs })) (sym now) more;
-      lines = subst (λ (n : ℕ). AreLineTrees n c.set_item.new.trees) count c.set_item.ensures.lines;
+      written = subst (λ (xs : List Item). IsWritten (array_of shape c.args.trees.now.numbers) p (before + 1) (record { item_type = Nums; shape = shape; items = xs })) (sym now) more;
+      count = c.set_item.ensures.count ∙ c.loop-before.invariant.count;
+      step = c.set_item.ensures.step ∙ c.loop-before.invariant.step;
       at = subst (λ (r : List Interval). before + 1 < box_size r → c.advance.new.index ≡ walk_at r (before + 1)) c.region-region.ensures
           (λ later. c.advance.ensures.next before later (here ∙ ap (λ (r : List Interval). walk_at r before) (sym c.region-region.ensures)));
     }
@@ -82,37 +83,24 @@ loop-before-preserved c =
 pub returns-clause-numbers : goal.returns-clause-numbers
 returns-clause-numbers c =
     let p = c.args.patch.now in
-    let a = array_of c.args.shape.now.items c.args.trees.now.lines in
+    let a = array_of c.args.shape.now.items c.args.trees.now.numbers in
     let all : c.loop-before.before ≡ box_size p.region =
     subst (λ (r : List Interval). c.loop-before.before ≡ box_size r) c.region-region.ensures (omega (arith, c.loop-before-test.false, c.loop-before.auto.before-end, c.size-before-end.ensures)) in
-    written_all a p (array_of c.args.shape.now.items c.loop-before.trees.lines)
-    (subst (λ (n : ℕ). IsWritten a p n (array_of c.args.shape.now.items c.loop-before.trees.lines)) all c.loop-before.invariant.written)
+    written_all a p (array_of c.args.shape.now.items c.loop-before.trees.numbers)
+    (subst (λ (n : ℕ). IsWritten a p n (array_of c.args.shape.now.items c.loop-before.trees.numbers)) all c.loop-before.invariant.written)
 
-pub returns-clause-lines : goal.returns-clause-lines
-returns-clause-lines c =
+pub returns-clause-sound : goal.returns-clause-sound
+returns-clause-sound c =
     let p = c.args.patch.now in
-    let a = array_of c.args.shape.now.items c.args.trees.now.lines in
-    let now = array_of c.args.shape.now.items c.loop-before.trees.lines in
+    let a = array_of c.args.shape.now.items c.args.trees.now.numbers in
+    let now = array_of c.args.shape.now.items c.loop-before.trees.numbers in
     let all : c.loop-before.before ≡ box_size p.region =
     subst (λ (r : List Interval). c.loop-before.before ≡ box_size r) c.region-region.ensures (omega (arith, c.loop-before-test.false, c.loop-before.auto.before-end, c.size-before-end.ensures)) in
     let same : now ≡ patched a p = written_all a p now (subst (λ (n : ℕ). IsWritten a p n now) all c.loop-before.invariant.written) in
-    record {
-      lines = record {
-        sound = subst IsArray (sym same) (patched_sound a p c.requires.lines.lines.sound c.item_type-one_item_a_place.ensures.sound c.requires.fit);
-        some = c.requires.lines.lines.some;
-        one_tree_a_line = c.loop-before.invariant.lines.each;
-        is = refl;
-      };
-      trees = c.loop-before.invariant.lines;
-    }
-
-pub set_item-requires-clause-lines : goal.set_item-requires-clause-lines
-set_item-requires-clause-lines c =
-    let count : c.last_length-count.result ≡ last_length c.args.shape.now.items = c.last_length-count.ensures ∙ ap last_length c.as_slice.ensures in
-    subst (λ (n : ℕ). AreLineTrees n c.loop-before.trees) (sym count) c.loop-before.invariant.lines
+    subst IsArray (sym same) (patched_sound a p c.requires.lines c.item_type-one_item_a_place.ensures.sound c.requires.fit)
 
 pub set_item-requires-clause-place : goal.set_item-requires-clause-place
 set_item-requires-clause-place c =
-    let lines = c.loop-before.trees.lines in
-    let long = sym (length-map (all_numbers lines) (λ (z : ℤ). Num z)) ∙ c.loop-before.invariant.written.long in
+    let numbers = c.loop-before.trees.numbers in
+    let long = sym (length-map numbers (λ (z : ℤ). Num z)) ∙ c.loop-before.invariant.written.long in
     omega (arith, long, c.position-place.ensures.low, c.position-place.ensures.high)

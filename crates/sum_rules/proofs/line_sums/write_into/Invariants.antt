@@ -1,12 +1,13 @@
 use Rattle.std.proofs.Common.{◌≡◌, ◌<◌}
 use Rattle.index_region.specs.Boxes.{box_size, walk_at}
 use Rattle.index_region.proofs.Written.{IsWritten}
-use Rattle.sum_rules.specs.LineSums.{AreLineTrees, array_of, last_length}
+use Rattle.sum_rules.specs.LineSums.{array_of}
 use Rattle.sum_rules.proofs.line_sums.write_into.Given as goal
 
 abbrev pub invariant-loop-before : goal.invariant-loop-before
 invariant-loop-before l = record {
-  written : IsWritten (array_of l.fn.shape.items l.fn.trees.lines) l.fn.patch l.before (array_of l.fn.shape.items l.trees.lines);
-  lines : AreLineTrees (last_length l.fn.shape.items) l.trees;
+  written : IsWritten (array_of l.fn.shape.items l.fn.trees.numbers) l.fn.patch l.before (array_of l.fn.shape.items l.trees.numbers);
+  count : l.trees.count ≡ l.fn.trees.count;
+  step : l.trees.step ≡ l.fn.trees.step;
   at : l.before < box_size l.fn.patch.region → l.index ≡ walk_at l.fn.patch.region l.before;
 }

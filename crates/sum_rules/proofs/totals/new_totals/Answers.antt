@@ -1,9 +1,10 @@
-use Rattle.std.proofs.Common.{◌≡◌, refl, ◌∙◌, ◌<◌, ◌+◌, ◌-◌, ◌≤◌, ℕ, List, get_or, take, sym, ap, arith, subst}
+use Rattle.std.proofs.Common.{◌≡◌, refl, ◌∙◌, ◌<◌, ◌+◌, ◌-◌, ◌*◌, ◌≤◌, ℕ, List, length, get_or, take, sym, ap, arith, subst}
+use Rattle.std.proofs.Math.Nat.{mul-le-mul_right}
 use Rattle.arrays_core.specs.Arrays.{ArrayValue}
 use Rattle.arrays_core.specs.Items.{fill}
 use Rattle.arrays_core.specs.Shapes.{is_index_of, places_before}
 use Rattle.scalar_fns.specs.declared.function.Scalar2.TheVariants.{Plus}
-use Rattle.index_region.specs.declared.along.Along.TheVariants.{Last}
+use Rattle.index_region.specs.Axes.{axis_at}
 use Rattle.index_region.specs.Boxes.{Interval, box_size, box_offset, is_within, walk_at}
 use Rattle.index_region.specs.Patches.{patched}
 use Rattle.index_region.proofs.Patched.{fits_within}
@@ -13,9 +14,10 @@ use Rattle.change_core.specs.Meters.{MeterValue, ticked}
 use Rattle.change_core.proofs.Collected.{items_are}
 use Rattle.change_core.proofs.Filling.{all_filled, as_many_written, few_places, filled_many, nothing_filled, one_filled, one_more_tick, vector_within}
 use Rattle.change_core.proofs.Walking.{rest_err}
-use Rattle.sum_rules.specs.LineSums.{array_of, last_length}
+use Rattle.sum_rules.specs.LineSums.{array_of, length_along}
 use Rattle.sum_rules.specs.Totals.{lines_of}
-use Rattle.sum_rules.proofs.ChangedLines.{as_many_lines, line_below, total_there}
+use Rattle.sum_rules.proofs.KeptSums.{along_axis}
+use Rattle.sum_rules.proofs.ChangedLines.{as_many_lines, place_below, total_there}
 use Rattle.sum_rules.proofs.totals.new_totals.Goals as goal
 
 pub size-lines-requires : goal.size-lines-requires
@@ -39,9 +41,11 @@ index_at-index-requires-clause-below g c = rw c.region-region.ensures (some_plac
 pub loop-line-init : goal.loop-line-init
 loop-line-init g c =
     let p = c.args.patch.now in
-    let a = array_of c.args.shape.now.items (g.S.LineTotals.lines c.args.sums.now) in
-    let region = lines_of p.region in
-    let as_many = as_many_lines (g.S.LineTotals.lines c.args.sums.now) a p c.requires.lines c.requires.fit c.requires.one in
+    let t = g.S.LineTotals.trees c.args.sums.now in
+    let axis = axis_at (length c.args.shape.now.items) c.args.along in
+    let a = array_of c.args.shape.now.items t.numbers in
+    let region = lines_of axis p.region in
+    let as_many = as_many_lines axis t a p c.requires.lines c.requires.fit c.requires.one in
     record {
       ticks = omega arith;
       none = λ _. refl;
@@ -52,7 +56,7 @@ loop-line-init g c =
       at = λ _. c.index_at-index.ensures ∙ ap (λ (r : List Interval). walk_at r 0) c.region-region.ensures;
       many = filled_many c.in_ok-totals.totals _ c.shape_of.result.items c.size-lines.result (box_size region) c.in_ok-totals.ensures c.shape_of.ensures.items (c.size-lines.ensures ∙ ap box_size c.region-region.ensures ∙ as_many);
       typed = ap (λ (b : ArrayValue). b.item_type) c.in_ok-totals.ensures;
-      rest = nothing_filled (λ before. reduce_item Plus Last (patched a p) (walk_at region before)) (box_size region) c.in_ok-totals.totals.items;
+      rest = nothing_filled (λ before. reduce_item Plus c.args.along (patched a p) (walk_at region before)) (box_size region) c.in_ok-totals.totals.items;
     }
 
 pub position-place-requires-clause-in_range : goal.position-place-requires-clause-in_range
@@ -60,7 +64,7 @@ position-place-requires-clause-in_range g c =
     let p = c.args.patch.now in
     let before = c.loop-line.line in
     let below : before < box_size p.region = omega (arith, c.loop-line-test.true, c.size-lines.ensures, ap box_size c.region-region.ensures) in
-    ap (is_index_of c.args.shape.now.items) (c.as_slice-in-loop-line.ensures.is ∙ c.loop-line.invariant.at below)
+    ap (is_index_of c.args.shape.now.items) (c.as_slice.ensures.is ∙ c.loop-line.invariant.at below)
     ∙ fits_within p.region c.args.shape.now.items (walk_at p.region before) c.requires.fit.inside (walk_within p.region before below)
 
 pub item-item-requires : goal.item-item-requires
@@ -68,50 +72,52 @@ item-item-requires g c =
     let p = c.args.patch.now in
     let before = c.loop-line.line in
     let below : before < box_size p.region = omega (arith, c.loop-line-test.true, c.size-lines.ensures, ap box_size c.region-region.ensures) in
-    ap (is_within p.region) (c.as_slice-in-loop-line-2.ensures.is ∙ c.loop-line.invariant.at below) ∙ walk_within p.region before below
+    ap (is_within p.region) (c.as_slice-in-loop-line.ensures.is ∙ c.loop-line.invariant.at below) ∙ walk_within p.region before below
 
-pub total_with-total-requires-clause-there : goal.total_with-total-requires-clause-there
-total_with-total-requires-clause-there g c =
+pub total_with-total-requires : goal.total_with-total-requires
+total_with-total-requires g c =
     let p = c.args.patch.now in
     let shape = c.args.shape.now.items in
-    let sums = (g.S.LineTotals.lines c.args.sums.now) in
-    let a = array_of shape sums in
+    let t = g.S.LineTotals.trees c.args.sums.now in
+    let axis = axis_at (length shape) c.args.along in
+    let a = array_of shape t.numbers in
     let before = c.loop-line.line in
     let below : before < box_size p.region = omega (arith, c.loop-line-test.true, c.size-lines.ensures, ap box_size c.region-region.ensures) in
-    let as_many = as_many_lines sums a p c.requires.lines c.requires.fit c.requires.one in
-    let index : c.as_slice-in-loop-line.result.now ≡ walk_at p.region before = c.as_slice-in-loop-line.ensures.is ∙ c.loop-line.invariant.at below in
+    let as_many = as_many_lines axis t a p c.requires.lines c.requires.fit c.requires.one in
+    let index : c.as_slice.result.now ≡ walk_at p.region before = c.as_slice.ensures.is ∙ c.loop-line.invariant.at below in
     let place : c.position-place.result - 1 ≡ places_before shape (walk_at p.region before) = omega (arith, c.position-place.ensures.is, ap (places_before shape) index) in
-    let count : c.last_length-count.result ≡ last_length shape = c.last_length-count.ensures ∙ ap last_length c.as_slice.ensures in
-    rw count (line_below sums a p c.requires.lines c.requires.fit c.requires.one c.item_type-one_item_a_place.ensures.sound before (omega (arith, as_many)) (c.position-place.result - 1) place)
+    let there = place_below axis t a p c.requires.lines c.requires.fit c.requires.one c.item_type-one_item_a_place.ensures.sound before (omega (arith, below, as_many)) in
+    omega (arith, there, place)
 
 pub write_at-requires-clause-high : goal.write_at-requires-clause-high
 write_at-requires-clause-high g c =
     let p = c.args.patch.now in
-    let sums = (g.S.LineTotals.lines c.args.sums.now) in
-    let as_many = as_many_lines sums (array_of c.args.shape.now.items sums) p c.requires.lines c.requires.fit c.requires.one in
+    let t = g.S.LineTotals.trees c.args.sums.now in
+    let axis = axis_at (length c.args.shape.now.items) c.args.along in
+    let as_many = as_many_lines axis t (array_of c.args.shape.now.items t.numbers) p c.requires.lines c.requires.fit c.requires.one in
     omega (arith, c.loop-line.invariant.many, c.loop-line-test.true, c.size-lines.ensures, ap box_size c.region-region.ensures)
 
 pub returns-in-Err-clause-totals : goal.returns-in-Err-clause-totals
 returns-in-Err-clause-totals g c =
     let p = c.args.patch.now in
     let shape = c.args.shape.now.items in
-    let sums = (g.S.LineTotals.lines c.args.sums.now) in
-    let a = array_of shape sums in
-    let region = lines_of p.region in
-    let item = reduce_item Plus Last (patched a p) in
+    let t = g.S.LineTotals.trees c.args.sums.now in
+    let axis = axis_at (length c.args.shape.now.items) c.args.along in
+    let a = array_of shape t.numbers in
+    let region = lines_of axis p.region in
+    let item = reduce_item Plus c.args.along (patched a p) in
     let before = c.loop-line.line in
     let below : before < box_size p.region = omega (arith, c.loop-line-test.true, c.size-lines.ensures, ap box_size c.region-region.ensures) in
-    let as_many = as_many_lines sums a p c.requires.lines c.requires.fit c.requires.one in
+    let as_many = as_many_lines axis t a p c.requires.lines c.requires.fit c.requires.one in
     let under : before < box_size region = omega (arith, as_many) in
     let here = c.loop-line.invariant.at below in
-    let index : c.as_slice-in-loop-line.result.now ≡ walk_at p.region before = c.as_slice-in-loop-line.ensures.is ∙ here in
+    let index : c.as_slice.result.now ≡ walk_at p.region before = c.as_slice.ensures.is ∙ here in
     let place : c.position-place.result - 1 ≡ places_before shape (walk_at p.region before) = omega (arith, c.position-place.ensures.is, ap (places_before shape) index) in
     let given_item : c.item-item.result ≡ get_or p.items before (fill p.item_type) =
     c.item-item.ensures.is
-    ∙ ap (λ (i : List ℕ). get_or p.items (box_offset p.region i) (fill p.item_type)) (c.as_slice-in-loop-line-2.ensures.is ∙ here)
+    ∙ ap (λ (i : List ℕ). get_or p.items (box_offset p.region i) (fill p.item_type)) (c.as_slice-in-loop-line.ensures.is ∙ here)
     ∙ ap (λ (m : ℕ). get_or p.items m (fill p.item_type)) (offset_of_walk p.region before below) in
-    let count : c.last_length-count.result ≡ last_length shape = c.last_length-count.ensures ∙ ap last_length c.as_slice.ensures in
-    let total = total_there sums a p c.requires.lines c.requires.fit c.requires.one c.item_type-one_item_a_place.ensures.sound before under c.last_length-count.result (c.position-place.result - 1) c.item-item.result count place given_item in
+    let total = total_there axis t a p c.requires.lines c.requires.fit c.requires.one c.item_type-one_item_a_place.ensures.sound before under (c.position-place.result - 1) c.item-item.result place given_item in
     let failed = total ∙ sym c.total_with-total.ensures.total ∙ c.in-Err.is in
     sym (items_are item region) ∙ sym c.loop-line.invariant.rest ∙ rest_err (λ q. item (walk_at region q)) (box_size region) before (take before c.loop-line.totals.items) _ under failed
 
@@ -119,23 +125,24 @@ pub loop-line-preserved : goal.loop-line-preserved
 loop-line-preserved g c =
     let p = c.args.patch.now in
     let shape = c.args.shape.now.items in
-    let sums = (g.S.LineTotals.lines c.args.sums.now) in
-    let a = array_of shape sums in
-    let region = lines_of p.region in
-    let item = reduce_item Plus Last (patched a p) in
+    let t = g.S.LineTotals.trees c.args.sums.now in
+    let axis = axis_at (length c.args.shape.now.items) c.args.along in
+    let a = array_of shape t.numbers in
+    let region = lines_of axis p.region in
+    let item = reduce_item Plus c.args.along (patched a p) in
     let before = c.loop-line.line in
     let below : before < box_size p.region = omega (arith, c.loop-line-test.true, c.size-lines.ensures, ap box_size c.region-region.ensures) in
-    let as_many = as_many_lines sums a p c.requires.lines c.requires.fit c.requires.one in
+    let as_many = as_many_lines axis t a p c.requires.lines c.requires.fit c.requires.one in
     let under : before < box_size region = omega (arith, as_many) in
     let here = c.loop-line.invariant.at below in
-    let index : c.as_slice-in-loop-line.result.now ≡ walk_at p.region before = c.as_slice-in-loop-line.ensures.is ∙ here in
+    let index : c.as_slice.result.now ≡ walk_at p.region before = c.as_slice.ensures.is ∙ here in
     let place : c.position-place.result - 1 ≡ places_before shape (walk_at p.region before) = omega (arith, c.position-place.ensures.is, ap (places_before shape) index) in
     let given_item : c.item-item.result ≡ get_or p.items before (fill p.item_type) =
     c.item-item.ensures.is
-    ∙ ap (λ (i : List ℕ). get_or p.items (box_offset p.region i) (fill p.item_type)) (c.as_slice-in-loop-line-2.ensures.is ∙ here)
+    ∙ ap (λ (i : List ℕ). get_or p.items (box_offset p.region i) (fill p.item_type)) (c.as_slice-in-loop-line.ensures.is ∙ here)
     ∙ ap (λ (m : ℕ). get_or p.items m (fill p.item_type)) (offset_of_walk p.region before below) in
-    let count : c.last_length-count.result ≡ last_length shape = c.last_length-count.ensures ∙ ap last_length c.as_slice.ensures in
-    let total = total_there sums a p c.requires.lines c.requires.fit c.requires.one c.item_type-one_item_a_place.ensures.sound before under c.last_length-count.result (c.position-place.result - 1) c.item-item.result count place given_item in
+    let total = total_there axis t a p c.requires.lines c.requires.fit c.requires.one c.item_type-one_item_a_place.ensures.sound before under (c.position-place.result - 1) c.item-item.result place given_item in
+    let count : t.count ≡ length_along c.args.along shape = c.requires.lines.counted ∙ sym (along_axis c.args.along shape c.requires.on_axis) in
     let given = total ∙ sym c.total_with-total.ensures.total ∙ c.in-Ok.is in
     record {
       ticks = omega (arith, c.tick.ensures.by_one, ap (λ (m : MeterValue). m.ticks) c.count_joins.ensures, c.loop-line.invariant.ticks);
@@ -164,11 +171,12 @@ loop-line-preserved g c =
 pub returns-clause-totals : goal.returns-clause-totals
 returns-clause-totals g c =
     let p = c.args.patch.now in
-    let sums = (g.S.LineTotals.lines c.args.sums.now) in
-    let a = array_of c.args.shape.now.items sums in
-    let region = lines_of p.region in
-    let item = reduce_item Plus Last (patched a p) in
-    let as_many = as_many_lines sums a p c.requires.lines c.requires.fit c.requires.one in
+    let t = g.S.LineTotals.trees c.args.sums.now in
+    let axis = axis_at (length c.args.shape.now.items) c.args.along in
+    let a = array_of c.args.shape.now.items t.numbers in
+    let region = lines_of axis p.region in
+    let item = reduce_item Plus c.args.along (patched a p) in
+    let as_many = as_many_lines axis t a p c.requires.lines c.requires.fit c.requires.one in
     let ended : box_size region ≤ c.loop-line.line = omega (arith, c.loop-line-test.false, c.size-lines.ensures, ap box_size c.region-region.ensures) in (
       sym (items_are item region) ∙ all_filled c.loop-line.totals (λ q. item (walk_at region q)) (box_size region) c.loop-line.line _ c.loop-line.invariant.many ended c.loop-line.invariant.rest,
       c.loop-line.invariant.typed,
@@ -180,3 +188,16 @@ returns-clause-exact g c =
     let last : c.loop-line.line ≡ box_size p.region = omega (arith, c.loop-line-test.false, c.size-lines.ensures, ap box_size c.region-region.ensures) in
     let some : 0 < c.loop-line.line = omega (arith, last, some_place p.region c.args.shape.now.items c.requires.fit.inside) in
     c.loop-line.invariant.some some ∙ ap (ticked c.args.meter.now.ticks) last
+
+pub returns-in-Err-clause-joins : goal.returns-in-Err-clause-joins
+returns-in-Err-clause-joins g c = λ digits h.
+    let shape = c.args.shape.now.items in
+    let t = g.S.LineTotals.trees c.args.sums.now in
+    let count : t.count ≡ length_along c.args.along shape = c.requires.lines.counted ∙ sym (along_axis c.args.along shape c.requires.on_axis) in
+    let below : c.loop-line.line < box_size c.args.patch.now.region = omega (arith, c.loop-line-test.true, c.size-lines.ensures, ap box_size c.region-region.ensures) in
+    let most : (c.loop-line.line + 1) * digits ≤ box_size c.args.patch.now.region * digits = mul-le-mul_right digits (omega (arith, below)) in
+    let so_far = c.loop-line.invariant.joins digits h in
+    let more = c.total_with-total.ensures.joins digits (rw count h) in
+    let kept = ap (λ (m : MeterValue). m.joins) c.tick.ensures.exact in
+    let now = ap (λ (m : MeterValue). m.joins) c.count_joins.ensures in
+    omega (arith, so_far, more, kept, now, most)

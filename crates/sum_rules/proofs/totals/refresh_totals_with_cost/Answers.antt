@@ -1,6 +1,5 @@
-use Rattle.std.proofs.Common.{[], ◌∷◌, ◌∙◌, refl, sym, subst}
+use Rattle.std.proofs.Common.{◌≡◌, ℕ, List, [], ◌∷◌, length, Bool, false, ◌&&◌, is_ok, ◌∙◌, refl, ap, sym, subst}
 use Rattle.scalar_fns.specs.declared.function.Scalar2.TheVariants.{Plus}
-use Rattle.index_region.specs.declared.along.Along.TheVariants.{Last}
 use Rattle.change_core.proofs.Covers.{covers, reaches_inside}
 use Rattle.change_rules.specs.Currency.{BringsUpToDate, IsRight}
 use Rattle.change_rules.specs.Nodes.{views, moved}
@@ -8,22 +7,49 @@ use Rattle.change_rules.proofs.NodeRight.{brings_up_to_date}
 use Rattle.change_rules.proofs.Right.{answered, node_is_right}
 use Rattle.operator_rules.specs.LinesGrowth.{reduce_growing}
 use Rattle.operator_rules.specs.ReduceLaw.{reduce_tight}
-use Rattle.sum_rules.specs.Totals.{total_rule}
-use Rattle.sum_rules.proofs.ChangedTotals.{delta_is}
+use Rattle.sum_rules.specs.Totals.{total_rule, is_by_trees, is_narrow, is_one_a_line}
+use Rattle.index_region.specs.Axes.{is_axis, axis_at}
+use Rattle.arrays_core.specs.Arrays.{ArrayValue}
+use Rattle.sum_rules.proofs.ChangedTotals.{delta_is, folded, not_both, not_patched}
+use Rattle.sum_rules.proofs.totals.refresh_totals_with_cost.Goals.{in-Patch+else-is_ok, else-is_ok-via-then-is_ok+else-is_one_a_line, else-is_ok-via-else-is_ok, in_default}
 use Rattle.sum_rules.proofs.totals.refresh_totals_with_cost.Goals as goal
 
 pub returns-then-is_one_a_line-clause-right : goal.returns-then-is_one_a_line-clause-right
 returns-then-is_one_a_line-clause-right g c =
     let args = c.args.arg ∷ [] in
     let old = c.args.old.now in
-    let same = delta_is c.args.arg c.in-Patch.patch old c.in-Patch.is (sym c.is_ok.ensures.value ∙ c.if-is_ok.true) in
-    answered (IsRight total_rule (views args)) c.change_by_trees.result _ c.change_by_trees.ensures.delta (subst (IsRight total_rule (views args)) (sym same) (node_is_right total_rule args old))
+    let same = delta_is c.args.along c.args.arg c.in-Patch.patch old c.in-Patch.is (sym c.is_ok.ensures.value ∙ c.if-is_ok.true) in
+    answered (IsRight (total_rule c.args.along) (views args)) c.change_by_trees.result _ c.change_by_trees.ensures.delta (subst (IsRight (total_rule c.args.along) (views args)) (sym same) (node_is_right (total_rule c.args.along) args old))
 
 pub returns-then-is_one_a_line-clause-whole : goal.returns-then-is_one_a_line-clause-whole
 returns-then-is_one_a_line-clause-whole g c =
     let args = c.args.arg ∷ [] in
     let old = c.args.old.now in
-    let same = delta_is c.args.arg c.in-Patch.patch old c.in-Patch.is (sym c.is_ok.ensures.value ∙ c.if-is_ok.true) in
-    answered (BringsUpToDate total_rule args old) c.change_by_trees.result _ c.change_by_trees.ensures.delta
-    (subst (BringsUpToDate total_rule args old) (sym same)
-    (brings_up_to_date total_rule (covers total_rule (reduce_tight Plus Last)) (reduce_growing Plus Last) args old refl (reaches_inside total_rule (views args) (moved args)) c.requires.fit c.requires.axes (c.shape-is_array.ensures.sound, tt)))
+    let same = delta_is c.args.along c.args.arg c.in-Patch.patch old c.in-Patch.is (sym c.is_ok.ensures.value ∙ c.if-is_ok.true) in
+    answered (BringsUpToDate (total_rule c.args.along) args old) c.change_by_trees.result _ c.change_by_trees.ensures.delta
+    (subst (BringsUpToDate (total_rule c.args.along) args old) (sym same)
+    (brings_up_to_date (total_rule c.args.along) (covers (total_rule c.args.along) (reduce_tight Plus c.args.along)) (reduce_growing Plus c.args.along) args old refl (reaches_inside (total_rule c.args.along) (views args) (moved args)) c.requires.fit c.requires.axes (c.shape.ensures.sound, tt)))
+
+pub axis_at-requires : goal.axis_at-requires
+axis_at-requires g c =
+    let stood = c.requires.sums c.in-Patch.patch c.in-Patch.is in
+    ap (λ (s : List ℕ). is_axis (length s) c.args.along) (c.as_slice.ensures ∙ c.shape.ensures.is ∙ ap (λ (a : ArrayValue). a.shape) stood.is) ∙ stood.on_axis
+
+pub returns-clause-least : goal.returns-clause-least
+returns-clause-least g c =
+    let along = c.args.along in
+    let arg = c.args.arg in
+    let held = c.args.old.now in
+    let axis = axis_at (length arg.0.shape) along in
+    let none : is_by_trees along arg held ≡ false = elim c.match-delta.branch [
+      | in-Patch+else-is_ok w ↦ elim w.else-is_ok.branch [
+        | else-is_ok-via-then-is_ok+else-is_one_a_line x ↦
+            let meant : x.axis_at.result ≡ axis = x.axis_at.ensures.is ∙ ap (λ (s : List ℕ). axis_at (length s) along) (c.as_slice.ensures ∙ c.shape.ensures.is) in
+            let wide : is_one_a_line axis w.in-Patch.patch.region ≡ false =
+            (λ i. is_one_a_line (sym meant i) (sym x.region.ensures i)) ∙ sym x.is_one_a_line.ensures ∙ x.if-is_one_a_line.false in
+            not_both (is_ok held) (is_narrow axis arg.1.now) (ap (is_narrow axis) w.in-Patch.is ∙ wide)
+        | else-is_ok-via-else-is_ok x ↦ ap (λ (b : Bool). b && is_narrow axis arg.1.now) (sym w.is_ok.ensures.value ∙ x.if-is_ok.false)
+      ]
+      | in_default w ↦ not_both (is_ok held) (is_narrow axis arg.1.now) (not_patched axis arg.1.now w.in_default.not-Patch)
+    ] in
+    folded along arg held c.args.meter.now.joins c.fold_totals_with_cost.new.meter.joins c.fold_totals_with_cost.result none c.fold_totals_with_cost.ensures.cost c.fold_totals_with_cost.ensures.folds

@@ -1,10 +1,10 @@
 use Rattle.std.proofs.Common.{◌≡◌, ◌∙◌, ◌+◌, ◌*◌, ◌/◌, ◌<◌, ◌^◌, ◌++◌, ℤ, List, length, sym, ap, subst, arith, vec_capacity}
 use Rattle.arrays_core.specs.Growth.{HasRoom}
 use Rattle.operator_fns.specs.declared.summary.Summary.{Summary}
-use Rattle.operator_fns.specs.SumTrees.{TreesValue, NewTreesValue, nodes_in_line, lines_kept, with_lines, AreLineTrees}
+use Rattle.operator_fns.specs.SumTrees.{TreesValue, NewTreesValue, line_count, nodes_in_line, numbers_kept, with_lines, AreLineTrees}
+use Rattle.operator_fns.proofs.KeptNumbers.{kept_count}
 use Rattle.operator_fns.proofs.LineSpots.{all_slots, fewer_nodes}
-use Rattle.operator_fns.proofs.LineTables.{lines_count}
-use Rattle.operator_fns.proofs.MoreLines.{in_all, more_lines, more_trees}
+use Rattle.operator_fns.proofs.MoreLines.{in_all, more_numbers, more_trees}
 use Rattle.operator_fns.proofs.sum_trees.SumTrees.grow.Goals.{After-trees}
 use Rattle.operator_fns.proofs.sum_trees.SumTrees.grow.Goals as goal
 
@@ -25,39 +25,42 @@ new_trees c =
     subst (λ step. AreLineTrees c.self.inside.count step c.trees.inside.slots.items c.trees.inside.nodes.items) (same_step c)
     (subst (λ count. AreLineTrees count c.trees.inside.step c.trees.inside.slots.items c.trees.inside.nodes.items) (same_count c) c.trees.invariant.trees)
 
-new_lines : (c : After-trees) → lines_kept c.self.inside.count c.self.inside.step c.trees.inside.slots.items ≡ c.more.inside.trees.lines
-new_lines c =
-    ap (λ count. lines_kept count c.self.inside.step c.trees.inside.slots.items) (sym (same_count c))
-    ∙ ap (λ step. lines_kept c.trees.inside.count step c.trees.inside.slots.items) (sym (same_step c))
-    ∙ ap (λ (t : TreesValue). t.lines) c.trees.view_is
+new_numbers : (c : After-trees) → numbers_kept c.self.inside.count c.self.inside.step c.trees.inside.slots.items ≡ c.more.inside.trees.numbers
+new_numbers c =
+    ap (λ count. numbers_kept count c.self.inside.step c.trees.inside.slots.items) (sym (same_count c))
+    ∙ ap (λ step. numbers_kept c.trees.inside.count step c.trees.inside.slots.items) (sym (same_step c))
+    ∙ ap (λ (t : TreesValue). t.numbers) c.trees.view_is
 
 old_count : (c : After-trees) → c.more.inside.old_lines ≡ length c.self.inside.slots.items / c.self.inside.count
 old_count c =
-    ap (λ (n : NewTreesValue). n.old_lines) c.more.view_is ∙ c.requires.old_lines ∙ sym (ap (λ (t : TreesValue). length t.lines) c.self.view_is)
-    ∙ lines_count c.self.inside.count c.self.inside.step c.self.inside.slots.items
+    ap (λ (n : NewTreesValue). n.old_lines) c.more.view_is ∙ c.requires.old_lines ∙ sym (ap (λ (t : TreesValue). line_count t) c.self.view_is)
+    ∙ ap (λ n. n / c.self.inside.count) (kept_count c.self.inside.count c.self.inside.step c.self.inside.slots.items)
 
-new_count : (c : After-trees) → length c.more.inside.trees.lines ≡ length c.trees.inside.slots.items / c.self.inside.count
-new_count c = sym (ap (λ (ls : List (List ℤ)). length ls) (new_lines c)) ∙ lines_count c.self.inside.count c.self.inside.step c.trees.inside.slots.items
+new_count : (c : After-trees) → line_count c.more.inside.trees ≡ length c.trees.inside.slots.items / c.self.inside.count
+new_count c =
+    sym (ap (λ (t : TreesValue). line_count t) c.trees.view_is)
+    ∙ ap (λ n. n / c.trees.inside.count) (kept_count c.trees.inside.count c.trees.inside.step c.trees.inside.slots.items)
+    ∙ ap (λ n. length c.trees.inside.slots.items / n) (same_count c)
 
 -- how many slots there are, in lines
 held_slots : (c : After-trees) → length c.self.inside.slots.items ≡ c.more.inside.old_lines * c.self.inside.count
 held_slots c =
     all_slots c.self.inside.count c.self.inside.step (length c.self.inside.slots.items) c.self.invariant.trees.lines ∙ ap (λ n. n * c.self.inside.count) (sym (old_count c))
 
-more_slots : (c : After-trees) → length c.trees.inside.slots.items ≡ length c.more.inside.trees.lines * c.self.inside.count
+more_slots : (c : After-trees) → length c.trees.inside.slots.items ≡ line_count c.more.inside.trees * c.self.inside.count
 more_slots c =
     let trees = new_trees c in
     all_slots c.self.inside.count c.self.inside.step (length c.trees.inside.slots.items) trees.lines ∙ ap (λ n. n * c.self.inside.count) (sym (new_count c))
 
-slots_in_all : (c : After-trees) → (c.more.inside.old_lines + length c.more.inside.trees.lines) * c.self.inside.count ≡ length c.self.inside.slots.items + length c.trees.inside.slots.items
+slots_in_all : (c : After-trees) → (c.more.inside.old_lines + line_count c.more.inside.trees) * c.self.inside.count ≡ length c.self.inside.slots.items + length c.trees.inside.slots.items
 slots_in_all c =
-    in_all c.more.inside.old_lines (length c.more.inside.trees.lines) (length c.self.inside.slots.items) (length c.trees.inside.slots.items) c.self.inside.count (held_slots c) (more_slots c)
+    in_all c.more.inside.old_lines (line_count c.more.inside.trees) (length c.self.inside.slots.items) (length c.trees.inside.slots.items) c.self.inside.count (held_slots c) (more_slots c)
 
 slot_room : (c : After-trees) → HasRoom (length c.self.inside.slots.items) (length c.self.inside.slots.items + length c.trees.inside.slots.items) (vec_capacity c.more.inside.slots)
 slot_room c =
     let count = c.self.inside.count in
     let old = c.more.inside.old_lines in
-    let new = length c.more.inside.trees.lines in
+    let new = line_count c.more.inside.trees in
     let capacity = vec_capacity c.more.inside.slots in
     subst (λ n. HasRoom n (length c.self.inside.slots.items + length c.trees.inside.slots.items) capacity) (sym (held_slots c))
     (subst (λ n. HasRoom (old * count) n capacity) (slots_in_all c)
@@ -68,7 +71,7 @@ node_room c =
     let count = c.self.inside.count in
     let step = c.self.inside.step in
     let old = c.more.inside.old_lines in
-    let new = length c.more.inside.trees.lines in
+    let new = line_count c.more.inside.trees in
     let capacity = vec_capacity c.more.inside.nodes in
     let trees = new_trees c in
     let held = c.self.invariant.trees.sized ∙ ap (λ n. n * nodes_in_line count) (sym (old_count c)) in
@@ -79,7 +82,7 @@ node_room c =
 
 few_slots : (c : After-trees) → length c.self.inside.slots.items + length c.trees.inside.slots.items < 2 ^ 63
 few_slots c =
-    let few = subst (λ n. (c.more.inside.old_lines + length c.more.inside.trees.lines) * n < 2 ^ 63) (seen_count c) c.more.invariant.few in
+    let few = subst (λ n. (c.more.inside.old_lines + line_count c.more.inside.trees) * n < 2 ^ 63) (seen_count c) c.more.invariant.few in
     omega (arith, few, slots_in_all c)
 
 few_nodes : (c : After-trees) → length c.self.inside.nodes.items + length c.trees.inside.nodes.items < 2 ^ 63
@@ -128,8 +131,8 @@ returns c =
     let more = c.trees.inside.slots.items in
     let more_nodes = c.trees.inside.nodes.items in
     let before = (goal.at.returns c).After-trees in
-    let lines = ap (lines_kept count step) c.put_behind.ensures.items
-    ∙ more_lines count step slots more nodes more_nodes c.self.invariant.trees (new_trees before)
-    ∙ ap (λ (ls : List (List ℤ)). lines_kept count step slots ++ ls) (new_lines before ∙ ap (λ (n : NewTreesValue). n.lines) c.more.view_is) in
-    let made = λ (ls : List (List ℤ)). let t : TreesValue = record { count = count; step = step; lines = ls } in t in
-    ap made lines ∙ ap (λ (t : TreesValue). with_lines t c.args.more.lines) c.self.view_is
+    let numbers = ap (numbers_kept count step) c.put_behind.ensures.items
+    ∙ more_numbers count step slots more nodes more_nodes c.self.invariant.trees (new_trees before)
+    ∙ ap (λ (ns : List ℤ). numbers_kept count step slots ++ ns) (new_numbers before ∙ ap (λ (n : NewTreesValue). n.numbers) c.more.view_is) in
+    let made = λ (ns : List ℤ). let t : TreesValue = record { count = count; step = step; numbers = ns } in t in
+    ap made numbers ∙ ap (λ (t : TreesValue). with_lines t c.args.more.numbers) c.self.view_is

@@ -1,39 +1,47 @@
-use Rattle.std.proofs.Common.{◌∙◌, ◌++◌, sym, subst, refl, arith}
+use Rattle.std.proofs.Common.{◌≡◌, ◌∙◌, ℤ, List, ap, sym, subst}
 use Rattle.arrays_core.specs.Arrays.{ArrayValue}
-use Rattle.index_region.specs.Tails.{FitsTail}
-use Rattle.sum_rules.specs.LineSums.{array_of, AreLinesOf}
-use Rattle.sum_rules.specs.NewLines.{lines_behind}
-use Rattle.sum_rules.proofs.MoreLines.{all_lines, stand_grown, last}
+use Rattle.arrays_core.specs.Growth.{one_longer}
+use Rattle.operator_fns.specs.SumTrees.{TreesValue}
+use Rattle.sum_rules.specs.LineSums.{SummedValue, array_of, grown_sums, StandFor}
+use Rattle.sum_rules.specs.NewLines.{NewLinesValue, lines_behind, new_numbers, trees_grown, AreNewLinesOf, FitsSums}
+use Rattle.sum_rules.proofs.Grown.{array_grown, fits_trees, held, numbers_grown, stands}
 use Rattle.sum_rules.proofs.line_sums.LineSums.grow.Goals as goal
 
-pub grow-requires : goal.grow-requires
-grow-requires c =
+pub take_growth-requires : goal.take_growth-requires
+take_growth-requires c =
+    let axis = c.self.inside.axis in
+    let old = c.self.inside.shape.items in
+    let new = c.lines.inside.shape.items in
     let t = c.self.inside.trees in
-    let more = c.lines.inside.trees in
-    let shape = c.lines.inside.shape.items in
-    let fits : FitsTail (array_of c.self.inside.shape.items t.lines) (lines_behind shape more.lines) =
-    subst (λ (a : ArrayValue). FitsTail a (lines_behind shape more.lines)) (sym c.self.view_is) (subst (FitsTail c.args.self.now) (sym c.lines.view_is) c.requires) in
-    let held = c.self.invariant in
-    let made = c.lines.invariant in
-    let all = all_lines c.self.inside.shape.items shape t.lines more held.lines made fits in
-    record {
-      count = made.counted ∙ last c.self.inside.shape.items shape t.lines more held.lines made fits ∙ sym held.trees.counted;
-      step = made.beside ∙ sym held.trees.beside;
-      old_lines = omega (arith, made.behind, all);
-    }
+    let g = c.lines.inside.growth in
+    let told : FitsSums (held axis old t) (lines_behind c.lines.inside.axis new g) =
+    subst (λ (s : SummedValue). FitsSums s (lines_behind c.lines.inside.axis new g)) (sym c.self.view_is) (subst (FitsSums c.args.self.now) (sym c.lines.view_is) c.requires) in
+    fits_trees axis old new t g c.self.invariant (subst (λ k. AreNewLinesOf k new g) told.axis c.lines.invariant) (subst (λ k. FitsSums (held axis old t) (lines_behind k new g)) told.axis told)
 
 pub invariant_of-self : goal.invariant_of-self
 invariant_of-self c =
+    let axis = c.self.inside.axis in
+    let old = c.self.inside.shape.items in
+    let new = c.lines.inside.shape.items in
     let t = c.self.inside.trees in
-    let more = c.lines.inside.trees in
-    let shape = c.lines.inside.shape.items in
-    let fits : FitsTail (array_of c.self.inside.shape.items t.lines) (lines_behind shape more.lines) =
-    subst (λ (a : ArrayValue). FitsTail a (lines_behind shape more.lines)) (sym c.self.view_is) (subst (FitsTail c.args.self.now) (sym c.lines.view_is) c.requires) in
-    let held = c.self.invariant in
-    let made = c.lines.invariant in
-    let longer = last c.self.inside.shape.items shape t.lines more held.lines made fits in
-    let stand = stand_grown c.self.inside.shape.items shape t.lines more held.lines made fits (t.lines ++ more.lines) refl in
-    subst (AreLinesOf shape) (sym c.grow.ensures) (record {
-      lines = stand;
-      trees = record { some = stand.some; counted = held.trees.counted ∙ sym longer; beside = held.trees.beside; each = stand.one_tree_a_line };
-    })
+    let g = c.lines.inside.growth in
+    let told : FitsSums (held axis old t) (lines_behind c.lines.inside.axis new g) =
+    subst (λ (s : SummedValue). FitsSums s (lines_behind c.lines.inside.axis new g)) (sym c.self.view_is) (subst (FitsSums c.args.self.now) (sym c.lines.view_is) c.requires) in
+    let grown = stands axis old new t g c.self.invariant (subst (λ k. AreNewLinesOf k new g) told.axis c.lines.invariant) (subst (λ k. FitsSums (held axis old t) (lines_behind k new g)) told.axis told) in
+    subst (λ (u : TreesValue). StandFor u axis (array_of new u.numbers)) (sym c.take_growth.ensures)
+    (subst (λ (xs : List ℤ). StandFor (trees_grown t g) axis (array_of new xs)) (sym (numbers_grown t g)) grown)
+
+pub returns : goal.returns
+returns c =
+    let axis = c.self.inside.axis in
+    let old = c.self.inside.shape.items in
+    let new = c.lines.inside.shape.items in
+    let t = c.self.inside.trees in
+    let g = c.lines.inside.growth in
+    let shaped : new ≡ one_longer old =
+    ap (λ (l : NewLinesValue). l.tail.shape) c.lines.view_is ∙ c.requires.tail.shaped ∙ ap (λ (s : SummedValue). one_longer s.array.shape) (sym c.self.view_is) in
+    let numbers = ap (λ (u : TreesValue). u.numbers) c.take_growth.ensures ∙ numbers_grown t g in
+    let made = λ (a : ArrayValue). let s : SummedValue = record { axis = axis; array = a } in s in
+    ap (λ (xs : List ℤ). made (array_of new xs)) numbers
+    ∙ ap made (array_grown old new t.numbers (new_numbers g) shaped)
+    ∙ (λ i. grown_sums (c.self.view_is i) (c.lines.view_is i).tail.items)

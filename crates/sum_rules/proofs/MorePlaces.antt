@@ -1,0 +1,77 @@
+-- One more place of each line of an array that grows, where the lines lie along the first axis.
+use Rattle.std.proofs.Common.{◌≡◌, ℕ, ◌+◌, ◌-◌, ◌*◌, ◌<◌, ◌≤◌, ℤ, max, List, [], ◌∷◌, ◌++◌, length, drop, refl, ap, sym, ◌∙◌, arith}
+use Rattle.std.proofs.lemmas.List.{length-append, length-map}
+use Rattle.std.proofs.lemmas.List.Elements.{All-map}
+use Rattle.std.proofs.Math.Nat.{mul-le-mul_right}
+use Rattle.arrays_core.specs.declared.item.Item.TheVariants.{Num}
+use Rattle.arrays_core.specs.declared.item.ItemType.TheVariants.{Nums}
+use Rattle.arrays_core.specs.Growth.{one_longer}
+use Rattle.arrays_core.specs.Items.{type_of}
+use Rattle.arrays_core.specs.Shapes.{size}
+use Rattle.arrays_core.proofs.Growing.{size_longer}
+use Rattle.operator_fns.specs.SumTrees.{TreesValue, NewPlacesValue, FitNext, with_places}
+use Rattle.sum_rules.specs.LineSums.{line_length, line_step, array_of, StandFor}
+use Rattle.sum_rules.specs.NewLines.{lines_behind, AreNewLinesOf, FitsSums}
+use Rattle.sum_rules.specs.declared.new_lines.Growth.TheVariants.{Places}
+use Rattle.sum_rules.proofs.Lines.{some_in_line}
+
+longer : (shape : List ℕ) → 0 < length shape → line_length 0 (one_longer shape) ≡ line_length 0 shape + 1
+longer [] h = absurd (omega arith)
+longer (n ∷ shape) h = refl
+
+same_step : (shape : List ℕ) → line_step 0 (one_longer shape) ≡ line_step 0 shape
+same_step [] = refl
+same_step (n ∷ shape) = refl
+
+-- the lines along the first axis lie between one another
+pub between : (shape : List ℕ) → 0 < length shape → size shape ≡ line_length 0 shape * line_step 0 shape
+between [] h = absurd (omega arith)
+between (n ∷ shape) h = refl
+
+-- one more place of each takes few more items
+pub few_with_place : (shape : List ℕ) (old : ℕ) → 0 < length shape → 0 < size shape → size shape ≤ 1048576 → old ≡ max 1 (line_length 0 shape - 1) → (old + 1) * size (drop 1 shape) ≤ 2097152
+few_with_place shape old there some few is =
+    let n = line_length 0 shape in
+    let s = size (drop 1 shape) in
+    let all = between shape there in
+    let long = some_in_line 0 shape there some in
+    let most : (old + 1) * s ≤ (n + 1) * s = mul-le-mul_right s (omega (arith, is, long)) in
+    let one : 1 * s ≤ n * s = mul-le-mul_right s (omega (arith, long)) in
+    let sum : (n + 1) * s ≡ n * s + s = grind arith in
+    let each : 1 * s ≡ s = omega arith in
+    omega (arith, most, sum, all, few, one, each)
+
+module _ (old new : List ℕ) (t : TreesValue) (more : NewPlacesValue) (stand : StandFor t 0 (array_of old t.numbers)) (made : AreNewLinesOf 0 new (Places more))
+    (fits : FitsSums (record { axis = 0; array = array_of old t.numbers }) (lines_behind 0 new (Places more))) where
+  length_is : line_length 0 new ≡ line_length 0 old + 1
+  length_is = ap (line_length 0) fits.tail.shaped ∙ longer old stand.there
+
+  old_places : length t.numbers ≡ size old
+  old_places = sym (length-map t.numbers (λ (z : ℤ). Num z)) ∙ stand.sound.one_item_a_place
+
+  more_places : length more.numbers ≡ size (drop 1 old)
+  more_places = sym (length-map more.numbers (λ (z : ℤ). Num z)) ∙ fits.tail.one_place
+
+  -- the numbers are those of the next place of each line
+  pub fit_next : FitNext t more
+  fit_next = record {
+    count = made.new.1 ∙ (let some = some_in_line 0 old stand.there stand.some in omega (arith, length_is, some)) ∙ sym stand.counted;
+    step = more_places ∙ sym stand.apart;
+    between = old_places ∙ between old stand.there ∙ (λ i. sym stand.counted i * sym stand.apart i);
+  }
+
+  -- the trees stand for the longer lines
+  pub stand_longer : StandFor (with_places t more.numbers) 0 (array_of new (t.numbers ++ more.numbers))
+  stand_longer = record {
+    sound = record {
+      within = made.within;
+      one_item_a_place = length-map (t.numbers ++ more.numbers) (λ (z : ℤ). Num z) ∙ length-append t.numbers more.numbers ∙ (λ i. old_places i + more_places i)
+          ∙ sym (ap size fits.tail.shaped ∙ size_longer old fits.tail.some_axis);
+      one_type = All-map (λ x. type_of x ≡ Nums) (λ (z : ℤ). Num z) (t.numbers ++ more.numbers) (λ k d h. refl);
+    };
+    some = made.some;
+    there = made.there;
+    counted = ap (λ k. k + 1) stand.counted ∙ sym length_is;
+    apart = stand.apart ∙ sym (ap (line_step 0) fits.tail.shaped ∙ same_step old);
+    is = refl;
+  }
