@@ -9,7 +9,7 @@ use Rattle.arrays_core.specs.Arrays.{ArrayValue}
 use Rattle.arrays_core.specs.declared.fault.Fault.{Fault}
 use Rattle.index_region.specs.Arguments.{is_of_numbers}
 use Rattle.index_region.specs.Axes.{axis_at}
-use Rattle.index_region.specs.declared.along.Along.{Along}
+use Rattle.operator_fns.specs.declared.reduce.Reduce.{Reduce}
 use Rattle.index_region.specs.declared.delta.Delta.{Delta}
 use Rattle.index_region.specs.declared.delta.Delta.TheVariants.{Same, Patch, Grown, Whole}
 use Rattle.index_region.specs.Patches.{PatchValue, patched}
@@ -31,7 +31,7 @@ use Rattle.formula_core.specs.Outcomes.{Outcome}
 use Rattle.formula_core.specs.Plans.{node_change, node_cost_at}
 use Rattle.formula_core.specs.Rules.{right_rule}
 use Rattle.formula_core.specs.Stages.{AreTotalsJoined, IsJoined, IsKeptBy, IsReady, IsStaged}
-use Rattle.formula_core.specs.Sums.{AreSumsKept, summed_in, total_along}
+use Rattle.formula_core.specs.Sums.{AreSumsKept, summed_in, total_of}
 use Rattle.formula_core.specs.Tables.{IsOperand, tree_of_operand}
 use Rattle.formula_core.proofs.Stepping.{array_delta, cost_stepped, whole_all}
 use Rattle.formula_core.proofs.Summed.{at_axis, was_summed}
@@ -39,29 +39,29 @@ use Rattle.formula_core.proofs.Totalled.{total_is}
 
 -- ---- the sums that are kept
 
-some_summed : (along : Along) (a : ArrayValue) → is_some (summed_in along (Ok a)) ≡ keeps_sums along a
-some_summed along a = elim (cases_Bool (keeps_sums along a)) [
-  | inl t ↦ ap is_some (cond-true (keeps_sums along a) (Some (at_axis (axis_at (length a.shape) along) a)) None t) ∙ sym t
-  | inr f ↦ ap is_some (cond-false (keeps_sums along a) (Some (at_axis (axis_at (length a.shape) along) a)) None f) ∙ sym f
+some_summed : (fold : Reduce) (a : ArrayValue) → is_some (summed_in fold (Ok a)) ≡ keeps_sums fold.along a
+some_summed fold a = elim (cases_Bool (keeps_sums fold.along a)) [
+  | inl t ↦ ap is_some (cond-true (keeps_sums fold.along a) (Some (at_axis fold.function (axis_at (length a.shape) fold.along) a)) None t) ∙ sym t
+  | inr f ↦ ap is_some (cond-false (keeps_sums fold.along a) (Some (at_axis fold.function (axis_at (length a.shape) fold.along) a)) None f) ∙ sym f
 ]
 
-kept_beside : (along : Along) (p : PatchValue) (a : ArrayValue) (kept : Option SummedValue) (old : Outcome) → FitsIn (Patch p) old → applied (Patch p) old ≡ Ok a → kept ≡ summed_in along old → is_some kept ≡ keeps_sums along a
-kept_beside along p a kept (Err e) fit is keeps = absurd fit
-kept_beside along p a kept (Ok b) fit is keeps = let same : patched b p ≡ a = cc in ap is_some keeps ∙ (some_summed along b ∙ ap (keeps_sums along) same)
+kept_beside : (fold : Reduce) (p : PatchValue) (a : ArrayValue) (kept : Option SummedValue) (old : Outcome) → FitsIn (Patch p) old → applied (Patch p) old ≡ Ok a → kept ≡ summed_in fold old → is_some kept ≡ keeps_sums fold.along a
+kept_beside fold p a kept (Err e) fit is keeps = absurd fit
+kept_beside fold p a kept (Ok b) fit is keeps = let same : patched b p ≡ a = cc in ap is_some keeps ∙ (some_summed fold b ∙ ap (keeps_sums fold.along) same)
 
 -- where the argument of a total is patched, the sums of its lines are kept if these are long enough
 pub kept_well : (s : Stage) (f : Monadic) (b : Operand) → IsOperand (length s.inputs.now) (length s.changes.now) b → (kept : Option SummedValue) → IsKeptBy s (node.Monad f b) kept → (i : Input)
     → ((c : Change) → (names : List (List ℕ)) → (trees : List Tree) → IsStaged c names trees s → IsReady s.is_new c (tree_of_operand names trees b) i)
-    → (along : Along) → total_along f ≡ Some along → AreSumsKept along (shown i) (delta_of i) kept
-kept_well s f b within kept keeps i ready along total p a patch now =
+    → (fold : Reduce) → total_of f ≡ Some fold → AreSumsKept fold (shown i) (delta_of i) kept
+kept_well s f b within kept keeps i ready fold total p a patch now =
     let c = keeps.0 in
     let names = keeps.1.0 in
     let trees = keeps.1.1.0 in
     let staged = keeps.1.1.1.0 in
     let old = eval (tree_of_operand names trees b) c.old in
-    let held : s.is_new ≡ false → kept ≡ summed_in along old = λ was. keeps.1.1.1.1 was ∙ ap (λ (k : Option Along). option_map_or (λ x. summed_in x old) k None) total in
-    let was = was_summed along c names trees s staged b within i (ready c names trees staged) kept held (ap is_whole patch) in
-    kept_beside along p a kept old (subst (λ (d : Delta). FitsIn d old) patch was.fit) (ap (λ (d : Delta). applied d old) (sym patch) ∙ (was.becomes ∙ now)) was.keeps
+    let held : s.is_new ≡ false → kept ≡ summed_in fold old = λ was. keeps.1.1.1.1 was ∙ ap (λ (k : Option Reduce). option_map_or (λ x. summed_in x old) k None) total in
+    let was = was_summed fold c names trees s staged b within i (ready c names trees staged) kept held (ap is_whole patch) in
+    kept_beside fold p a kept old (subst (λ (d : Delta). FitsIn d old) patch was.fit) (ap (λ (d : Delta). applied d old) (sym patch) ∙ (was.becomes ∙ now)) was.keeps
 
 -- ---- a node that joins none
 
@@ -84,64 +84,64 @@ whole_not_narrow (Grown t) h axis = refl
 whole_not_narrow (Patch p) h axis = absurd (false≢true h)
 
 -- a count of joins: none beside an error, and for lines that are summed up one less for each than it has numbers
-record Counts (along : Along) (count : Outcome → Delta → Outcome → ℕ → ℕ) : Type 0 where
+record Counts (fold : Reduce) (count : Outcome → Delta → Outcome → ℕ → ℕ) : Type 0 where
   pub error : (e : Fault) (d other : Delta) (held gave : Outcome) (n m : ℕ) → count (Err e) d held n ≡ count (Err e) other gave m
-  pub folds : (a : ArrayValue) (d : Delta) (held : Outcome) (n : ℕ) → is_narrow (axis_at (length a.shape) along) d ≡ false → count (Ok a) d held n ≡ n * (length_along along a.shape - 1)
+  pub folds : (a : ArrayValue) (d : Delta) (held : Outcome) (n : ℕ) → is_narrow (axis_at (length a.shape) fold.along) d ≡ false → count (Ok a) d held n ≡ n * (length_along fold.along a.shape - 1)
 
-none_narrow : (along : Along) (a : ArrayValue) (d : Delta) (held : Outcome) → is_narrow (axis_at (length a.shape) along) d ≡ false → has_trees_for along a d held ≡ false
-none_narrow along a d held h = ap (λ (b : Bool). b && (is_ok held && is_of_numbers a.item_type)) h
+none_narrow : (fold : Reduce) (a : ArrayValue) (d : Delta) (held : Outcome) → is_narrow (axis_at (length a.shape) fold.along) d ≡ false → has_trees_for fold a d held ≡ false
+none_narrow fold a d held h = ap (λ (b : Bool). b && (is_ok held && is_of_numbers a.item_type)) h
 
-most_counts : (along : Along) → Counts along (most_joins_of along)
-most_counts along = record { error = λ e d other held gave n m. refl; folds = λ a d held n h. cond-false (has_trees_for along a d held) _ _ (none_narrow along a d held h) }
+most_counts : (fold : Reduce) → Counts fold (most_joins_of fold)
+most_counts fold = record { error = λ e d other held gave n m. refl; folds = λ a d held n h. cond-false (has_trees_for fold a d held) _ _ (none_narrow fold a d held h) }
 
-least_counts : (along : Along) → Counts along (least_joins_of along)
-least_counts along = record { error = λ e d other held gave n m. refl; folds = λ a d held n h. cond-false (has_trees_for along a d held) _ _ (none_narrow along a d held h) }
+least_counts : (fold : Reduce) → Counts fold (least_joins_of fold)
+least_counts fold = record { error = λ e d other held gave n m. refl; folds = λ a d held n h. cond-false (has_trees_for fold a d held) _ _ (none_narrow fold a d held h) }
 
-module _ (along : Along) (count : Outcome → Delta → Outcome → ℕ → ℕ) (counts : Counts along count) where
+module _ (fold : Reduce) (count : Outcome → Delta → Outcome → ℕ → ℕ) (counts : Counts fold count) where
   held_same : (o : Outcome) (d : Delta) (i : Input) → IsInput o d i → (held gave : Outcome) → held ≡ gave → (n m : ℕ) → n ≡ m → count (shown i) (delta_of i) held n ≡ count o d gave m
   held_same (Ok a) d i input held gave h n m e = let is = input.is in let delta = array_delta i a d input in λ k. count (is k) (delta k) (h k) (e k)
   held_same (Err x) d i input held gave h n m e = ap (λ (o : Outcome). count o (delta_of i) held n) input.is ∙ counts.error x (delta_of i) d held gave n m
 
   new_same : (o : Outcome) (d other : Delta) → ((axis : ℕ) → is_narrow axis d ≡ false) → ((axis : ℕ) → is_narrow axis other ≡ false) → (held gave : Outcome) (n m : ℕ) → n ≡ m → count o d held n ≡ count o other gave m
   new_same (Ok a) d other h k held gave n m e =
-      counts.folds a d held n (h (axis_at (length a.shape) along)) ∙ (ap (λ x. x * (length_along along a.shape - 1)) e ∙ sym (counts.folds a other gave m (k (axis_at (length a.shape) along))))
+      counts.folds a d held n (h (axis_at (length a.shape) fold.along)) ∙ (ap (λ x. x * (length_along fold.along a.shape - 1)) e ∙ sym (counts.folds a other gave m (k (axis_at (length a.shape) fold.along))))
   new_same (Err x) d other h k held gave n m e = counts.error x d other held gave n m
 
   -- the count of a total by its argument as it is taken is that of its tree
-  counted_same : (is_new : Bool) (c : Change) (f : Monadic) (b : Tree) (i : Input) (held : Outcome) → IsReady is_new c b i → (is_new ≡ false → held ≡ eval (Monad f b) c.old) → right_rule f ≡ total_rule along
-      → count (shown i) (delta_of i) held (operation_cost (total_rule along) (arguments (shown i ∷ [])) (delta_of i ∷ []) held) ≡ count (eval b c.new) (node_change is_new c b) (eval (Monad f b) c.old) (node_cost_at is_new c (Monad f b))
+  counted_same : (is_new : Bool) (c : Change) (f : Monadic) (b : Tree) (i : Input) (held : Outcome) → IsReady is_new c b i → (is_new ≡ false → held ≡ eval (Monad f b) c.old) → right_rule f ≡ total_rule fold
+      → count (shown i) (delta_of i) held (operation_cost (total_rule fold) (arguments (shown i ∷ [])) (delta_of i ∷ []) held) ≡ count (eval b c.new) (node_change is_new c b) (eval (Monad f b) c.old) (node_cost_at is_new c (Monad f b))
   counted_same true c f b i held ready holds rule =
       let shows = ready.shows refl in
       let whole = whole_all (right_rule f) (eval b c.new ∷ []) (i ∷ []) held (λ k. shows k ∷ []) (ready.anew refl) in
-      let cost : operation_cost (total_rule along) (arguments (shown i ∷ [])) (delta_of i ∷ []) held ≡ operation_size (right_rule f) (arguments (eval b c.new ∷ [])) =
+      let cost : operation_cost (total_rule fold) (arguments (shown i ∷ [])) (delta_of i ∷ []) held ≡ operation_size (right_rule f) (arguments (eval b c.new ∷ [])) =
       ap (λ (p : RuleModel). operation_cost p (arguments (shown i ∷ [])) (delta_of i ∷ []) held) (sym rule) ∙ (whole.cost ∙ ap (λ (o : Outcome). operation_size (right_rule f) (arguments (o ∷ []))) shows) in
-      ap (λ (o : Outcome). count o (delta_of i) held (operation_cost (total_rule along) (arguments (shown i ∷ [])) (delta_of i ∷ []) held)) shows
+      ap (λ (o : Outcome). count o (delta_of i) held (operation_cost (total_rule fold) (arguments (shown i ∷ [])) (delta_of i ∷ []) held)) shows
       ∙ new_same (eval b c.new) (delta_of i) (Whole (eval b c.new)) (whole_not_narrow (delta_of i) (ready.anew refl)) (λ axis. refl) held (eval (Monad f b) c.old) _ _ cost
   counted_same false c f b i held ready holds rule =
       let input = ready.is refl in
-      let cost : operation_cost (total_rule along) (arguments (shown i ∷ [])) (delta_of i ∷ []) held ≡ cost_at c (Monad f b) =
+      let cost : operation_cost (total_rule fold) (arguments (shown i ∷ [])) (delta_of i ∷ []) held ≡ cost_at c (Monad f b) =
       ap (λ (p : RuleModel). operation_cost p (arguments (shown i ∷ [])) (delta_of i ∷ []) held) (sym rule)
       ∙ (cost_stepped (right_rule f) (eval b c.new ∷ []) (change c b ∷ []) (i ∷ []) (input, tt) held
       ∙ ap (operation_cost (right_rule f) (arguments (eval b c.new ∷ [])) (change c b ∷ [])) (holds refl)) in
       held_same (eval b c.new) (change c b) i input held (eval (Monad f b) c.old) (holds refl) _ _ cost
 
 -- a count of joins for the node of a tree, if it sums up lines along an axis
-abbrev counted_for : (Along → Outcome → Delta → Outcome → ℕ → ℕ) → (is_new : Bool) → Change → Monadic → Tree → Option Along → ℕ
-counted_for count is_new c f b o = option_map_or (λ along. count along (eval b c.new) (node_change is_new c b) (eval (Monad f b) c.old) (node_cost_at is_new c (Monad f b))) o 0
+abbrev counted_for : (Reduce → Outcome → Delta → Outcome → ℕ → ℕ) → (is_new : Bool) → Change → Monadic → Tree → Option Reduce → ℕ
+counted_for count is_new c f b o = option_map_or (λ fold. count fold (eval b c.new) (node_change is_new c b) (eval (Monad f b) c.old) (node_cost_at is_new c (Monad f b))) o 0
 
 pub monad_joined : (is_new : Bool) (c : Change) (f : Monadic) (b : Tree) (right : Input) (held : Outcome) (before after : ℕ) (r : Result (Delta × ℕ) AllocError) → IsReady is_new c b right
-    → (is_new ≡ false → held ≡ eval (Monad f b) c.old) → ((along : Along) → total_along f ≡ Some along → AreTotalsJoined along right held before after r) → (total_along f ≡ None → after ≡ before)
+    → (is_new ≡ false → held ≡ eval (Monad f b) c.old) → ((fold : Reduce) → total_of f ≡ Some fold → AreTotalsJoined fold right held before after r) → (total_of f ≡ None → after ≡ before)
     → IsJoined is_new c (Monad f b) before after r
-monad_joined is_new c f b right held before after r ready holds joined none = by (total_along f) refl
+monad_joined is_new c f b right held before after r ready holds joined none = by (total_of f) refl
   where
-    by : (o : Option Along) → total_along f ≡ o → IsJoined is_new c (Monad f b) before after r
-    by (Some along) total =
-        let j = joined along total in
-        let rule = total_is f along total in
+    by : (o : Option Reduce) → total_of f ≡ o → IsJoined is_new c (Monad f b) before after r
+    by (Some fold) total =
+        let j = joined fold total in
+        let rule = total_is f fold total in
         record {
-          most = subst (λ k. after ≤ before + k) (counted_same along (most_joins_of along) (most_counts along) is_new c f b right held ready holds rule ∙ sym (ap (counted_for most_joins_of is_new c f b) total)) j.most;
+          most = subst (λ k. after ≤ before + k) (counted_same fold (most_joins_of fold) (most_counts fold) is_new c f b right held ready holds rule ∙ sym (ap (counted_for most_joins_of is_new c f b) total)) j.most;
           least =
               subst (λ k. IfOk r (λ s. is_error s.0 ≡ false → ticked before k ≤ after))
-              (counted_same along (least_joins_of along) (least_counts along) is_new c f b right held ready holds rule ∙ sym (ap (counted_for least_joins_of is_new c f b) total)) j.least;
+              (counted_same fold (least_joins_of fold) (least_counts fold) is_new c f b right held ready holds rule ∙ sym (ap (counted_for least_joins_of is_new c f b) total)) j.least;
         }
     by None other = unjoined is_new c (Monad f b) before after r (none other) (ap (counted_for most_joins_of is_new c f b) other) (ap (counted_for least_joins_of is_new c f b) other)

@@ -6,7 +6,7 @@ use Rattle.std.proofs.Math.Nat.{mul-le-mul}
 use Rattle.arrays_core.specs.Arrays.{ArrayValue}
 use Rattle.arrays_core.specs.declared.item.Kind.{Kind}
 use Rattle.index_region.specs.Axes.{axis_at}
-use Rattle.index_region.specs.declared.along.Along.{Along}
+use Rattle.operator_fns.specs.declared.reduce.Reduce.{Reduce}
 use Rattle.index_region.specs.declared.delta.Delta.{Delta}
 use Rattle.index_region.specs.declared.delta.Delta.TheVariants.{Same, Patch, Grown, Whole}
 use Rattle.index_region.specs.Boxes.{Interval, box_size, fits, is_empty, join_boxes, met, unless_empty}
@@ -50,9 +50,9 @@ reached_size f region = elim (cases_Bool (is_empty region)) [
 
 -- ---- a patch with one place a line
 
-module _ (along : Along) (a : ArrayValue) (p : PatchValue) (inside : fits p.region a.shape ≡ true) (one : is_one_a_line (axis_at (length a.shape) along) p.region ≡ true) where
+module _ (fold : Reduce) (a : ArrayValue) (p : PatchValue) (inside : fits p.region a.shape ≡ true) (one : is_one_a_line (axis_at (length a.shape) fold.along) p.region ≡ true) where
   abbrev axis : ℕ
-  axis = axis_at (length a.shape) along
+  axis = axis_at (length a.shape) fold.along
 
   abbrev lines : List Interval
   lines = lines_of axis p.region
@@ -64,27 +64,27 @@ module _ (along : Along) (a : ArrayValue) (p : PatchValue) (inside : fits p.regi
       omega (arith, all, there, length-remove p.region axis there, length-remove a.shape axis (omega (arith, all, there)))
 
   abbrev cost : ℕ
-  cost = reached_cost (total_rule along) (a ∷ []) (Some p.region ∷ [])
+  cost = reached_cost (total_rule fold) (a ∷ []) (Some p.region ∷ [])
 
-  cost_by : (r : Result Form Kind) → reduce_form along a ≡ r → cost ≤ box_size p.region
+  cost_by : (r : Result Form Kind) → reduce_form fold.along a ≡ r → cost ≤ box_size p.region
   cost_by (Ok f) form =
       let counted : cost ≡ size_in (Ok f) (as_reach (join_boxes (unless_empty (met f.shape lines)) None)) =
-      ap (λ (x : Result Form Kind). size_in x (reach_by x (total_rule along).uses (a ∷ []) (Some p.region ∷ []))) form in
-      let shaped = (reduce_facts along a f.shape f.item_type form).shaped in
+      ap (λ (x : Result Form Kind). size_in x (reach_by x (total_rule fold).uses (a ∷ []) (Some p.region ∷ []))) form in
+      let shaped = (reduce_facts fold.along a f.shape f.item_type form).shaped in
       let within = met_within f.shape lines (as_many_axes ∙ ap length (sym shaped)) in
       omega (arith, counted, reached_size f (met f.shape lines), within, size_with_one axis p.region (on_axis axis p.region one) (eqb-true _ _ one))
   cost_by (Err kind) form =
-      let none : cost ≡ 0 = ap (λ (x : Result Form Kind). size_in x (reach_of (total_rule along) (a ∷ []) (Some p.region ∷ []))) form in
+      let none : cost ≡ 0 = ap (λ (x : Result Form Kind). size_in x (reach_of (total_rule fold) (a ∷ []) (Some p.region ∷ []))) form in
       omega (arith, none)
 
   reached_within : cost ≤ box_size p.region
-  reached_within = cost_by (reduce_form along a) refl
+  reached_within = cost_by (reduce_form fold.along a) refl
 
-pub narrow_within : (along : Along) (a : ArrayValue) (d : Delta) (held : Outcome) → FitsNow d (Ok a) → is_narrow (axis_at (length a.shape) along) d ≡ true → is_ok held ≡ true
-    → operation_cost (total_rule along) (Ok (a ∷ [])) (d ∷ []) held ≤ new_items d
-narrow_within along a (Patch p) held fit narrow ok =
+pub narrow_within : (fold : Reduce) (a : ArrayValue) (d : Delta) (held : Outcome) → FitsNow d (Ok a) → is_narrow (axis_at (length a.shape) fold.along) d ≡ true → is_ok held ≡ true
+    → operation_cost (total_rule fold) (Ok (a ∷ [])) (d ∷ []) held ≤ new_items d
+narrow_within fold a (Patch p) held fit narrow ok =
     let arg : Argument = (a, record { ref_ptr = (0, 0); now = Patch p }) in
-    omega (arith, cost_reached (total_rule along) (arg ∷ []) held refl ok refl, reached_within along a p fit.inside narrow)
-narrow_within along a Same held fit narrow ok = absurd (false≢true narrow)
-narrow_within along a (Grown t) held fit narrow ok = absurd (false≢true narrow)
-narrow_within along a (Whole r) held fit narrow ok = absurd (false≢true narrow)
+    omega (arith, cost_reached (total_rule fold) (arg ∷ []) held refl ok refl, reached_within fold a p fit.inside narrow)
+narrow_within fold a Same held fit narrow ok = absurd (false≢true narrow)
+narrow_within fold a (Grown t) held fit narrow ok = absurd (false≢true narrow)
+narrow_within fold a (Whole r) held fit narrow ok = absurd (false≢true narrow)

@@ -8,7 +8,8 @@ use Rattle.arrays_core.specs.Arrays.{ArrayValue}
 use Rattle.arrays_core.specs.Growth.{grown_by}
 use Rattle.arrays_core.proofs.Growing.{rank_longer}
 use Rattle.index_region.specs.Axes.{axis_at}
-use Rattle.index_region.specs.declared.along.Along.{Along}
+use Rattle.scalar_fns.specs.declared.function.Scalar2.{Scalar2}
+use Rattle.operator_fns.specs.declared.reduce.Reduce.{Reduce}
 use Rattle.index_region.specs.declared.delta.Delta.{Delta}
 use Rattle.index_region.specs.declared.delta.Delta.TheVariants.{Same, Patch, Grown, Whole}
 use Rattle.index_region.specs.Patches.{PatchValue, patched}
@@ -34,49 +35,51 @@ use Rattle.formula_core.specs.Tables.{tree_of_operand, tree_of_node, IsOperand, 
 use Rattle.formula_core.specs.Changes.{Change, change, FitsIn}
 use Rattle.formula_core.specs.Inputs.{shown, delta_of, IsInput}
 use Rattle.formula_core.specs.Stages.{IsStaged, IsReady, IsKeptBy, IsSumsStep}
-use Rattle.formula_core.specs.Sums.{summed_in, summed_at, total_along, totalled, WasPatched, WasSummed, IsSumsDelta, IsSummedFor}
+use Rattle.formula_core.specs.Sums.{summed_in, summed_at, total_of, totalled, WasPatched, WasSummed, IsSumsDelta, IsSummedFor}
 use Rattle.formula_core.proofs.Steps.{operand_changed}
 
--- an array whose lines along an axis are summed up
-abbrev pub at_axis : ℕ → ArrayValue → SummedValue
-at_axis axis a = record { axis = axis; array = a }
+-- an array whose lines along an axis are folded by a function
+abbrev pub at_axis : Scalar2 → ℕ → ArrayValue → SummedValue
+at_axis function axis a = record { function = function; axis = axis; array = a }
 
 -- an array whose sums are kept is summed up along the axis that is meant
-as_summed : (along : Along) (axis : ℕ) (a : ArrayValue) → axis ≡ axis_at (length a.shape) along → keeps_sums along a ≡ true → Some (at_axis axis a) ≡ summed along a
-as_summed along axis a meant keeps = ap (λ k. Some (at_axis k a)) meant ∙ sym (cond-true (keeps_sums along a) (Some (at_axis (axis_at (length a.shape) along) a)) None keeps)
+as_summed : (fold : Reduce) (axis : ℕ) (a : ArrayValue) → axis ≡ axis_at (length a.shape) fold.along → keeps_sums fold.along a ≡ true → Some (at_axis fold.function axis a) ≡ summed fold a
+as_summed fold axis a meant keeps = ap (λ k. Some (at_axis fold.function k a)) meant ∙ sym (cond-true (keeps_sums fold.along a) (Some (at_axis fold.function (axis_at (length a.shape) fold.along) a)) None keeps)
 
 -- ---- an array that is patched
 
 -- sums that are kept of it
-pub record Kept (along : Along) (o : Outcome) (s : SummedValue) : Type 0 where
+pub record Kept (fold : Reduce) (o : Outcome) (s : SummedValue) : Type 0 where
   pub is : o ≡ Ok s.array
-  pub meant : s.axis ≡ axis_at (length s.array.shape) along
-  pub long : keeps_sums along s.array ≡ true
+  pub folded : s.function ≡ fold.function
+  pub meant : s.axis ≡ axis_at (length s.array.shape) fold.along
+  pub long : keeps_sums fold.along s.array ≡ true
 
-pub kept_of : (along : Along) (o : Outcome) (s : SummedValue) → Some s ≡ summed_in along o → Kept along o s
-kept_of along (Err e) s is = absurd (let no : ⊥ = cc in no)
-kept_of along (Ok b) s is = elim (cases_Bool (keeps_sums along b)) [
+pub kept_of : (fold : Reduce) (o : Outcome) (s : SummedValue) → Some s ≡ summed_in fold o → Kept fold o s
+kept_of fold (Err e) s is = absurd (let no : ⊥ = cc in no)
+kept_of fold (Ok b) s is = elim (cases_Bool (keeps_sums fold.along b)) [
   | inl t ↦
-      let same : Some s ≡ Some (at_axis (axis_at (length b.shape) along) b) = is ∙ cond-true _ _ _ t in
-      let here : s ≡ at_axis (axis_at (length b.shape) along) b = cc in
+      let same : Some s ≡ Some (at_axis fold.function (axis_at (length b.shape) fold.along) b) = is ∙ cond-true _ _ _ t in
+      let here : s ≡ at_axis fold.function (axis_at (length b.shape) fold.along) b = cc in
       let array : s.array ≡ b = ap (λ (x : SummedValue). x.array) here in
       record {
         is = ap (λ (x : ArrayValue). Ok x) (sym array);
-        meant = ap (λ (x : SummedValue). x.axis) here ∙ ap (λ (x : ArrayValue). axis_at (length x.shape) along) (sym array);
-        long = ap (keeps_sums along) array ∙ t;
+        folded = ap (λ (x : SummedValue). x.function) here;
+        meant = ap (λ (x : SummedValue). x.axis) here ∙ ap (λ (x : ArrayValue). axis_at (length x.shape) fold.along) (sym array);
+        long = ap (keeps_sums fold.along) array ∙ t;
       }
   | inr f ↦ let none : Some s ≡ None = is ∙ cond-false _ _ _ f in absurd (let no : ⊥ = cc in no)
 ]
 
 -- where an array is patched, the trees of sums that are kept stand for what it was
-pub stood_for : (along : Along) (a : ArrayValue) (p : PatchValue) (s : SummedValue) (t : TreesValue) → WasPatched along (Ok a) p s → StandFor t s.axis s.array → StoodFor along t p a
-stood_for along a p s t was stand =
-    let kept = kept_of along (Ok s.array) s (sym was.lines) in
+pub stood_for : (fold : Reduce) (a : ArrayValue) (p : PatchValue) (s : SummedValue) (t : TreesValue) → WasPatched fold (Ok a) p s → StandFor t s.axis s.array → StoodFor fold.along t p a
+stood_for fold a p s t was stand =
+    let kept = kept_of fold (Ok s.array) s (sym was.lines) in
     let becomes : Ok a ≡ Ok (patched s.array p) = was.becomes in
     let same : a ≡ patched s.array p = cc in
     record {
       before = s.array;
-      on_axis = (kept_parts along s.array kept.long).on_axis;
+      on_axis = (kept_parts fold.along s.array kept.long).on_axis;
       lines = subst (λ (axis : ℕ). StandFor t axis s.array) kept.meant stand;
       fit = was.fit;
       is = same;
@@ -85,34 +88,35 @@ stood_for along a p s t was stand =
 -- ---- an array that grew
 
 -- by new lines along the axis of the sums that are kept
-pub lines_taken : (along : Along) (now : ArrayValue) (t : TailValue) (q : Box NewLinesValue Global) (kept : Option SummedValue) → is_some kept ≡ true → keeps_sums along now ≡ true
-    → q.value.axis ≡ axis_at (length now.shape) along → q.value.tail ≡ t → IsSumsDelta along (Ok now) (Grown t) kept (sums.Grown q)
-lines_taken along now t q None some keeps on_axis is = absurd (false≢true some)
-lines_taken along now t q (Some s) some keeps on_axis is = record { right = right; fit = fit }
+pub lines_taken : (fold : Reduce) (now : ArrayValue) (t : TailValue) (q : Box NewLinesValue Global) (kept : Option SummedValue) → is_some kept ≡ true → keeps_sums fold.along now ≡ true
+    → q.value.function ≡ fold.function → q.value.axis ≡ axis_at (length now.shape) fold.along → q.value.tail ≡ t → IsSumsDelta fold (Ok now) (Grown t) kept (sums.Grown q)
+lines_taken fold now t q None some keeps by on_axis is = absurd (false≢true some)
+lines_taken fold now t q (Some s) some keeps by on_axis is = record { right = right; fit = fit }
   where
     -- the axis that is meant stays
-    meant_now : (old : Outcome) → WasSummed along (Ok now) (Grown t) (Some s) old → s.axis ≡ axis_at (length now.shape) along
+    meant_now : (old : Outcome) → WasSummed fold (Ok now) (Grown t) (Some s) old → s.axis ≡ axis_at (length now.shape) fold.along
     meant_now old w =
-        let k = kept_of along old s w.keeps in
+        let k = kept_of fold old s w.keeps in
         let becomes : Ok (grown_by s.array t.items) ≡ Ok now = ap (applied (Grown t)) (sym k.is) ∙ w.becomes in
         let grown : grown_by s.array t.items ≡ now = cc in
         let rank : length s.array.shape ≡ length now.shape = sym (rank_longer s.array.shape) ∙ ap (λ (x : ArrayValue). length x.shape) grown in
-        k.meant ∙ ap (λ n. axis_at n along) rank
+        k.meant ∙ ap (λ n. axis_at n fold.along) rank
 
-    right : (old : Outcome) → (is_whole (Grown t) ≡ false → WasSummed along (Ok now) (Grown t) (Some s) old) → Some (grown_sums s q.value.tail.items) ≡ summed_in along (Ok now)
+    right : (old : Outcome) → (is_whole (Grown t) ≡ false → WasSummed fold (Ok now) (Grown t) (Some s) old) → Some (grown_sums s q.value.tail.items) ≡ summed_in fold (Ok now)
     right old was =
         let w = was refl in
-        let k = kept_of along old s w.keeps in
+        let k = kept_of fold old s w.keeps in
         let becomes : Ok (grown_by s.array t.items) ≡ Ok now = ap (applied (Grown t)) (sym k.is) ∙ w.becomes in
         let grown : grown_by s.array t.items ≡ now = cc in
         ap (λ (u : TailValue). Some (grown_sums s u.items)) is
-        ∙ (ap (λ (x : ArrayValue). Some (at_axis s.axis x)) grown ∙ as_summed along s.axis now (meant_now old w) keeps)
+        ∙ (ap (λ (x : ArrayValue). Some (at_axis s.function s.axis x)) grown ∙ ap (λ (f : Scalar2). Some (at_axis f s.axis now)) k.folded ∙ as_summed fold s.axis now (meant_now old w) keeps)
 
-    fit : (old : Outcome) → (is_whole (Grown t) ≡ false → WasSummed along (Ok now) (Grown t) (Some s) old) → FitBehind s q.value
+    fit : (old : Outcome) → (is_whole (Grown t) ≡ false → WasSummed fold (Ok now) (Grown t) (Some s) old) → FitBehind s q.value
     fit old was =
         let w = was refl in
-        let k = kept_of along old s w.keeps in
+        let k = kept_of fold old s w.keeps in
         record {
+          function = by ∙ sym k.folded;
           axis = on_axis ∙ sym (meant_now old w);
           tail = subst (λ (u : TailValue). FitsTail s.array u) (sym is) (subst (λ (o : Outcome). FitsIn (Grown t) o) k.is w.fit);
         }
@@ -141,15 +145,15 @@ follows old now d (Bad f false) input is fit other = record {
   fit = tt;
 }
 
-module _ (along : Along) (c : Change) (names : List (List ℕ)) (trees : List Tree) (s : Stage) (staged : IsStaged c names trees s) (o : Operand) (within : IsOperand (length s.inputs.now) (length s.changes.now) o)
-    (i : Input) (ready : IsReady s.is_new c (tree_of_operand names trees o) i) (kept : Option SummedValue) (holds : s.is_new ≡ false → kept ≡ summed_in along (eval (tree_of_operand names trees o) c.old)) where
-  pub was_summed : is_whole (delta_of i) ≡ false → WasSummed along (shown i) (delta_of i) kept (eval (tree_of_operand names trees o) c.old)
+module _ (fold : Reduce) (c : Change) (names : List (List ℕ)) (trees : List Tree) (s : Stage) (staged : IsStaged c names trees s) (o : Operand) (within : IsOperand (length s.inputs.now) (length s.changes.now) o)
+    (i : Input) (ready : IsReady s.is_new c (tree_of_operand names trees o) i) (kept : Option SummedValue) (holds : s.is_new ≡ false → kept ≡ summed_in fold (eval (tree_of_operand names trees o) c.old)) where
+  pub was_summed : is_whole (delta_of i) ≡ false → WasSummed fold (shown i) (delta_of i) kept (eval (tree_of_operand names trees o) c.old)
   was_summed other = by s.is_new refl
     where
       t : Tree
       t = tree_of_operand names trees o
 
-      by : (b : Bool) → s.is_new ≡ b → WasSummed along (shown i) (delta_of i) kept (eval (tree_of_operand names trees o) c.old)
+      by : (b : Bool) → s.is_new ≡ b → WasSummed fold (shown i) (delta_of i) kept (eval (tree_of_operand names trees o) c.old)
       by true is = absurd (false≢true (sym other ∙ ready.anew is))
       by false is =
           let changed = operand_changed c names trees s staged is o within in
@@ -165,67 +169,67 @@ module _ (along : Along) (c : Change) (names : List (List ℕ)) (trees : List Tr
 
 -- ---- a node
 
-abbrev beside : Operand → Along → Along × Operand
-beside o along = (along, o)
+abbrev beside : Operand → Reduce → Reduce × Operand
+beside o fold = (fold, o)
 
-abbrev pub summed_by : (List ℕ → Outcome) → List (List ℕ) → List Tree → Option (Along × Operand) → Option SummedValue
-summed_by shows names trees total = option_map_or (λ (t : Along × Operand). summed_in t.0 (eval (tree_of_operand names trees t.1) shows)) total None
+abbrev pub summed_by : (List ℕ → Outcome) → List (List ℕ) → List Tree → Option (Reduce × Operand) → Option SummedValue
+summed_by shows names trees total = option_map_or (λ (t : Reduce × Operand). summed_in t.0 (eval (tree_of_operand names trees t.1) shows)) total None
 
-total_summed : (names : List (List ℕ)) (trees : List Tree) (b : Operand) (shows : List ℕ → Outcome) (o : Option Along)
-    → option_map_or (λ along. summed_in along (eval (tree_of_operand names trees b) shows)) o None ≡ summed_by shows names trees (option_map (beside b) o)
+total_summed : (names : List (List ℕ)) (trees : List Tree) (b : Operand) (shows : List ℕ → Outcome) (o : Option Reduce)
+    → option_map_or (λ fold. summed_in fold (eval (tree_of_operand names trees b) shows)) o None ≡ summed_by shows names trees (option_map (beside b) o)
 total_summed names trees b shows None = refl
-total_summed names trees b shows (Some along) = refl
+total_summed names trees b shows (Some fold) = refl
 
 pub totalled_summed : (names : List (List ℕ)) (trees : List Tree) (n : Node) (shows : List ℕ → Outcome) → summed_at shows (tree_of_node names trees n) ≡ summed_by shows names trees (totalled n)
 totalled_summed names trees (node.Constant l) shows = refl
 totalled_summed names trees (node.Name k) shows = refl
-totalled_summed names trees (node.Monad f b) shows = total_summed names trees b shows (total_along f)
+totalled_summed names trees (node.Monad f b) shows = total_summed names trees b shows (total_of f)
 totalled_summed names trees (node.Dyad f a b) shows = refl
 totalled_summed names trees (node.Index a ps) shows = refl
 
-operand_of_total : (b : Operand) (k : Option Along) (along : Along) (o : Operand) → option_map (beside b) k ≡ Some (along, o) → b ≡ o
-operand_of_total b None along o is = absurd (let no : ⊥ = cc in no)
-operand_of_total b (Some k) along o is = let same : (k, b) ≡ (along, o) = cc in ap (λ (t : Along × Operand). t.1) same
+operand_of_total : (b : Operand) (k : Option Reduce) (fold : Reduce) (o : Operand) → option_map (beside b) k ≡ Some (fold, o) → b ≡ o
+operand_of_total b None fold o is = absurd (let no : ⊥ = cc in no)
+operand_of_total b (Some k) fold o is = let same : (k, b) ≡ (fold, o) = cc in ap (λ (t : Reduce × Operand). t.1) same
 
-pub totalled_within : (names place : ℕ) (n : Node) (along : Along) (o : Operand) → IsNode names place n → totalled n ≡ Some (along, o) → IsOperand names place o
-totalled_within names place (node.Constant l) along o h is = absurd (let no : ⊥ = cc in no)
-totalled_within names place (node.Name k) along o h is = absurd (let no : ⊥ = cc in no)
-totalled_within names place (node.Monad f b) along o h is = subst (λ (x : Operand). IsOperand names place x) (operand_of_total b (total_along f) along o is) h
-totalled_within names place (node.Dyad f a b) along o h is = absurd (let no : ⊥ = cc in no)
-totalled_within names place (node.Index a ps) along o h is = absurd (let no : ⊥ = cc in no)
+pub totalled_within : (names place : ℕ) (n : Node) (fold : Reduce) (o : Operand) → IsNode names place n → totalled n ≡ Some (fold, o) → IsOperand names place o
+totalled_within names place (node.Constant l) fold o h is = absurd (let no : ⊥ = cc in no)
+totalled_within names place (node.Name k) fold o h is = absurd (let no : ⊥ = cc in no)
+totalled_within names place (node.Monad f b) fold o h is = subst (λ (x : Operand). IsOperand names place x) (operand_of_total b (total_of f) fold o is) h
+totalled_within names place (node.Dyad f a b) fold o h is = absurd (let no : ⊥ = cc in no)
+totalled_within names place (node.Index a ps) fold o h is = absurd (let no : ⊥ = cc in no)
 
 -- the step of the sums of a total
-pub sums_step : (c : Change) (names : List (List ℕ)) (trees : List Tree) (s : Stage) → IsStaged c names trees s → (n : Node) → IsNode (length s.inputs.now) (length s.changes.now) n → (along : Along) (o : Operand) → totalled n ≡ Some (along, o)
+pub sums_step : (c : Change) (names : List (List ℕ)) (trees : List Tree) (s : Stage) → IsStaged c names trees s → (n : Node) → IsNode (length s.inputs.now) (length s.changes.now) n → (fold : Reduce) (o : Operand) → totalled n ≡ Some (fold, o)
     → (i : Input) → IsReady s.is_new c (tree_of_operand names trees o) i → (kept : Option SummedValue) → (s.is_new ≡ false → kept ≡ summed_at c.old (tree_of_node names trees n))
-    → (d : SumsDelta) → IsSumsDelta along (shown i) (delta_of i) kept d → IsSumsStep c (tree_of_node names trees n) kept d
-sums_step c names trees s staged n within along o is i ready kept holds d delta =
-    let at : (shows : List ℕ → Outcome) → summed_at shows (tree_of_node names trees n) ≡ summed_in along (eval (tree_of_operand names trees o) shows) =
+    → (d : SumsDelta) → IsSumsDelta fold (shown i) (delta_of i) kept d → IsSumsStep c (tree_of_node names trees n) kept d
+sums_step c names trees s staged n within fold o is i ready kept holds d delta =
+    let at : (shows : List ℕ → Outcome) → summed_at shows (tree_of_node names trees n) ≡ summed_in fold (eval (tree_of_operand names trees o) shows) =
     λ shows. totalled_summed names trees n shows ∙ ap (summed_by shows names trees) is in
-    let inside = totalled_within (length s.inputs.now) (length s.changes.now) n along o within is in
-    let held : s.is_new ≡ false → kept ≡ summed_in along (eval (tree_of_operand names trees o) c.old) = λ old. holds old ∙ at c.old in
-    let was = was_summed along c names trees s staged o inside i ready kept held in
+    let inside = totalled_within (length s.inputs.now) (length s.changes.now) n fold o within is in
+    let held : s.is_new ≡ false → kept ≡ summed_in fold (eval (tree_of_operand names trees o) c.old) = λ old. holds old ∙ at c.old in
+    let was = was_summed fold c names trees s staged o inside i ready kept held in
     record {
-      right = delta.right (eval (tree_of_operand names trees o) c.old) was ∙ (ap (summed_in along) (now_shown along c names trees s staged o inside i ready kept held) ∙ sym (at c.new));
+      right = delta.right (eval (tree_of_operand names trees o) c.old) was ∙ (ap (summed_in fold) (now_shown fold c names trees s staged o inside i ready kept held) ∙ sym (at c.new));
       fit = delta.fit (eval (tree_of_operand names trees o) c.old) was;
     }
 
 -- the sums that a total keeps are those of what its argument was
 pub kept_for : (s : Stage) (f : _) (b : Operand) → IsOperand (length s.inputs.now) (length s.changes.now) b → (kept : Option SummedValue) → IsKeptBy s (node.Monad f b) kept → (i : Input)
     → ((c : Change) → (names : List (List ℕ)) → (trees : List Tree) → IsStaged c names trees s → IsReady s.is_new c (tree_of_operand names trees b) i)
-    → (along : Along) → total_along f ≡ Some along → IsSummedFor along (shown i) (delta_of i) kept
-kept_for s f b within kept keeps i ready along total p value patch some =
+    → (fold : Reduce) → total_of f ≡ Some fold → IsSummedFor fold (shown i) (delta_of i) kept
+kept_for s f b within kept keeps i ready fold total p value patch some =
     let c = keeps.0 in
     let names = keeps.1.0 in
     let trees = keeps.1.1.0 in
     let staged = keeps.1.1.1.0 in
     let old = eval (tree_of_operand names trees b) c.old in
-    let held : s.is_new ≡ false → kept ≡ summed_in along old = λ was. keeps.1.1.1.1 was ∙ ap (λ (k : Option Along). option_map_or (λ x. summed_in x old) k None) total in
-    let was = was_summed along c names trees s staged b within i (ready c names trees staged) kept held (ap is_whole patch) in
-    let k = kept_of along old value (sym some ∙ was.keeps) in
+    let held : s.is_new ≡ false → kept ≡ summed_in fold old = λ was. keeps.1.1.1.1 was ∙ ap (λ (k : Option Reduce). option_map_or (λ x. summed_in x old) k None) total in
+    let was = was_summed fold c names trees s staged b within i (ready c names trees staged) kept held (ap is_whole patch) in
+    let k = kept_of fold old value (sym some ∙ was.keeps) in
     record {
       fit = subst (λ (o : Outcome). FitsIn (Patch p) o) k.is (subst (λ (d : Delta). FitsIn d old) patch was.fit);
       becomes = sym (ap (applied (Patch p)) (sym k.is) ∙ (ap (λ (d : Delta). applied d old) (sym patch) ∙ was.becomes));
-      lines = sym (as_summed along value.axis value.array k.meant k.long);
+      lines = sym (ap (λ (f : Scalar2). Some (at_axis f value.axis value.array)) k.folded ∙ as_summed fold value.axis value.array k.meant k.long);
     }
 
 -- what holds of a change, where it could be made

@@ -8,7 +8,7 @@ use Rattle.std.proofs.lemmas.List.Sums.{count_by_more_yes, sum_by-cons, sum_by-t
 use Rattle.apl_expr.specs.Trees.{Tree, Const, Name, Monad, Dyad, Index, Numbers}
 use Rattle.change_core.specs.Meters.{ticked}
 use Rattle.change_rules.specs.Nodes.{is_error}
-use Rattle.index_region.specs.declared.along.Along.{Along}
+use Rattle.operator_fns.specs.declared.reduce.Reduce.{Reduce}
 use Rattle.index_region.specs.declared.delta.Delta.{Delta}
 use Rattle.sum_rules.specs.LineSums.{length_along}
 use Rattle.formula_core.specs.declared.kept.NodeChange.{NodeChange}
@@ -19,7 +19,7 @@ use Rattle.formula_core.specs.Meaning.{eval}
 use Rattle.formula_core.specs.Outcomes.{Outcome}
 use Rattle.formula_core.specs.Plans.{IsComputed, node_change, node_cost_at}
 use Rattle.formula_core.specs.Progress.{IsAtOperation, operations_among}
-use Rattle.formula_core.specs.Sums.{total_along}
+use Rattle.formula_core.specs.Sums.{total_of}
 use Rattle.formula_core.specs.Tables.{subtrees, tree_at}
 use Rattle.formula_core.proofs.Progressed.{front_more, longer}
 
@@ -58,26 +58,26 @@ plain_joins is_new c (Dyad f a b) plain = absurd (false≢true (sym plain))
 plain_joins is_new c (Index a ps) plain = absurd (false≢true (sym plain))
 
 -- nor do no totals
-none_of : (along : Along) (o : Outcome) (d : Delta) (held : Outcome) (n : ℕ) → n ≡ 0 → least_joins_of along o d held n ≡ 0
-none_of along (Err e) d held n none = refl
-none_of along (Ok a) d held n none = by (has_trees_for along a d held) refl
+none_of : (fold : Reduce) (o : Outcome) (d : Delta) (held : Outcome) (n : ℕ) → n ≡ 0 → least_joins_of fold o d held n ≡ 0
+none_of fold (Err e) d held n none = refl
+none_of fold (Ok a) d held n none = by (has_trees_for fold a d held) refl
   where
     two : (b : Bool) → (if b then n else 0) ≡ 0
     two true = none
     two false = refl
 
-    by : (b : Bool) → has_trees_for along a d held ≡ b → least_joins_of along (Ok a) d held n ≡ 0
-    by true t = cond-true (has_trees_for along a d held) _ _ t ∙ two (nat_lt 1 (length_along along a.shape))
-    by false f = let free : n * (length_along along a.shape - 1) ≡ 0 = ap (λ k. k * (length_along along a.shape - 1)) none ∙ omega arith in cond-false (has_trees_for along a d held) _ _ f ∙ free
+    by : (b : Bool) → has_trees_for fold a d held ≡ b → least_joins_of fold (Ok a) d held n ≡ 0
+    by true t = cond-true (has_trees_for fold a d held) _ _ t ∙ two (nat_lt 1 (length_along fold.along a.shape))
+    by false f = let free : n * (length_along fold.along a.shape - 1) ≡ 0 = ap (λ k. k * (length_along fold.along a.shape - 1)) none ∙ omega arith in cond-false (has_trees_for fold a d held) _ _ f ∙ free
 
-none_along : (o : Option Along) (right : Outcome) (d : Delta) (held : Outcome) (n : ℕ) → n ≡ 0 → option_map_or (λ along. least_joins_of along right d held n) o 0 ≡ 0
+none_along : (o : Option Reduce) (right : Outcome) (d : Delta) (held : Outcome) (n : ℕ) → n ≡ 0 → option_map_or (λ fold. least_joins_of fold right d held n) o 0 ≡ 0
 none_along None right d held n none = refl
-none_along (Some along) right d held n none = none_of along right d held n none
+none_along (Some fold) right d held n none = none_of fold right d held n none
 
 costless : (is_new : Bool) (c : Change) (t : Tree) → node_cost_at is_new c t ≡ 0 → least_joins is_new c t ≡ 0
 costless is_new c (Const l) none = refl
 costless is_new c (Name x) none = refl
-costless is_new c (Monad f b) none = none_along (total_along f) (eval b c.new) (node_change is_new c b) (eval (Monad f b) c.old) (node_cost_at is_new c (Monad f b)) none
+costless is_new c (Monad f b) none = none_along (total_of f) (eval b c.new) (node_change is_new c b) (eval (Monad f b) c.old) (node_cost_at is_new c (Monad f b)) none
 costless is_new c (Dyad f a b) none = refl
 costless is_new c (Index a ps) none = refl
 

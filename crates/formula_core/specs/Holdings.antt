@@ -14,7 +14,7 @@ use Rattle.formula_core.specs.Meaning.{eval}
 use Rattle.formula_core.specs.Outcomes.{Outcome, fault}
 use Rattle.formula_core.specs.Sums.{summed_at, resummed, FitsSums}
 
--- what a node holds: its result, and the array of whose lines it keeps the sums, with their axis, if it does
+-- what a node holds: its result, and the array whose lines it keeps as trees, with their fold, if it does
 pub record Holding : Type 0 where
   pub result : Outcome
   pub sums : Option SummedValue

@@ -6,7 +6,7 @@ use Rattle.apl_expr.specs.Trees.{Tree, Const, Name, Monad, Dyad, Index}
 use Rattle.arrays_core.specs.Arrays.{ArrayValue}
 use Rattle.index_region.specs.Arguments.{is_of_numbers}
 use Rattle.index_region.specs.Axes.{axis_at}
-use Rattle.index_region.specs.declared.along.Along.{Along}
+use Rattle.operator_fns.specs.declared.reduce.Reduce.{Reduce}
 use Rattle.index_region.specs.declared.delta.Delta.{Delta}
 use Rattle.sum_rules.specs.LineSums.{length_along}
 use Rattle.sum_rules.specs.Totals.{new_items, is_narrow}
@@ -14,33 +14,33 @@ use Rattle.formula_core.specs.Changes.{Change}
 use Rattle.formula_core.specs.Meaning.{eval}
 use Rattle.formula_core.specs.Outcomes.{Outcome}
 use Rattle.formula_core.specs.Plans.{node_change, node_cost_at}
-use Rattle.formula_core.specs.Sums.{total_along}
+use Rattle.formula_core.specs.Sums.{total_of}
 use Rattle.formula_core.specs.Tables.{subtrees}
 
 -- how many binary digits a number has: how many of the powers 1, 2, 4 and so on are at most the number; 0 has none
 abbrev pub binary_digits : ℕ → ℕ
 binary_digits n = count_by (λ k. nat_le (2 ^ k) n) (range_with_len 0 n)
 
--- trees of sums serve for the totals of an array of numbers along an axis: they were an array, and of each line that changed one place did
-abbrev pub has_trees_for : Along → ArrayValue → Delta → (held : Outcome) → Bool
-has_trees_for along a d held = is_narrow (axis_at (length a.shape) along) d && (is_ok held && is_of_numbers a.item_type)
+-- trees serve for the totals of an array of numbers along an axis: they were an array, and of each line that changed one place did
+abbrev pub has_trees_for : Reduce → ArrayValue → Delta → (held : Outcome) → Bool
+has_trees_for fold a d held = is_narrow (axis_at (length a.shape) fold.along) d && (is_ok held && is_of_numbers a.item_type)
 
 -- how many sums are joined at most for so many totals along an axis of what is this now and changed so, where they were this: by trees as many for each new
 -- number as the length of a line less one has binary digits, else for each total one less than a line has numbers; beside an error none
-abbrev pub most_joins_of : Along → Outcome → Delta → (held : Outcome) → (totals : ℕ) → ℕ
-most_joins_of along (Ok a) d held totals = if has_trees_for along a d held then new_items d * binary_digits (length_along along a.shape - 1) else totals * (length_along along a.shape - 1)
-most_joins_of along (Err e) d held totals = 0
+abbrev pub most_joins_of : Reduce → Outcome → Delta → (held : Outcome) → (totals : ℕ) → ℕ
+most_joins_of fold (Ok a) d held totals = if has_trees_for fold a d held then new_items d * binary_digits (length_along fold.along a.shape - 1) else totals * (length_along fold.along a.shape - 1)
+most_joins_of fold (Err e) d held totals = 0
 
 -- how many at least where no total fails: by trees one for each where a line has two numbers, else as many as at most
-abbrev pub least_joins_of : Along → Outcome → Delta → (held : Outcome) → (totals : ℕ) → ℕ
-least_joins_of along (Ok a) d held totals = if has_trees_for along a d held then (if nat_lt 1 (length_along along a.shape) then totals else 0) else totals * (length_along along a.shape - 1)
-least_joins_of along (Err e) d held totals = 0
+abbrev pub least_joins_of : Reduce → Outcome → Delta → (held : Outcome) → (totals : ℕ) → ℕ
+least_joins_of fold (Ok a) d held totals = if has_trees_for fold a d held then (if nat_lt 1 (length_along fold.along a.shape) then totals else 0) else totals * (length_along fold.along a.shape - 1)
+least_joins_of fold (Err e) d held totals = 0
 
 -- how many are joined at most for the change of the node of a tree: for totals along an axis those, for any other node none
 abbrev pub most_joins : (is_new : Bool) → Change → Tree → ℕ
 most_joins is_new c (Const l) = 0
 most_joins is_new c (Name x) = 0
-most_joins is_new c (Monad f b) = option_map_or (λ along. most_joins_of along (eval b c.new) (node_change is_new c b) (eval (Monad f b) c.old) (node_cost_at is_new c (Monad f b))) (total_along f) 0
+most_joins is_new c (Monad f b) = option_map_or (λ fold. most_joins_of fold (eval b c.new) (node_change is_new c b) (eval (Monad f b) c.old) (node_cost_at is_new c (Monad f b))) (total_of f) 0
 most_joins is_new c (Dyad f a b) = 0
 most_joins is_new c (Index a ps) = 0
 
@@ -48,7 +48,7 @@ most_joins is_new c (Index a ps) = 0
 abbrev pub least_joins : (is_new : Bool) → Change → Tree → ℕ
 least_joins is_new c (Const l) = 0
 least_joins is_new c (Name x) = 0
-least_joins is_new c (Monad f b) = option_map_or (λ along. least_joins_of along (eval b c.new) (node_change is_new c b) (eval (Monad f b) c.old) (node_cost_at is_new c (Monad f b))) (total_along f) 0
+least_joins is_new c (Monad f b) = option_map_or (λ fold. least_joins_of fold (eval b c.new) (node_change is_new c b) (eval (Monad f b) c.old) (node_cost_at is_new c (Monad f b))) (total_of f) 0
 least_joins is_new c (Dyad f a b) = 0
 least_joins is_new c (Index a ps) = 0
 

@@ -5,7 +5,7 @@ use Rattle.std.specs.List.{Contains, sum_by}
 use Rattle.apl_expr.specs.Trees.{Tree}
 use Rattle.arrays_core.specs.Arrays.{IsArray}
 use Rattle.arrays_core.specs.declared.item.Kind.TheVariants.{Value}
-use Rattle.index_region.specs.declared.along.Along.{Along}
+use Rattle.operator_fns.specs.declared.reduce.Reduce.{Reduce}
 use Rattle.index_region.specs.declared.delta.Delta.{Delta}
 use Rattle.change_core.specs.Meters.{ticked}
 use Rattle.change_rules.specs.Currency.{applied}
@@ -98,9 +98,9 @@ pub record IsBegun (f : FormulaValue) (c : Change) (changes : List NodeChange) (
   pub costs : cost ≡ ticked 0 (sum_by (node_cost_at f.is_new c) (take (length changes) (subtrees f.tree)))
 
 -- how many sums are joined for the totals along an axis of what an input gives
-pub record AreTotalsJoined (along : Along) (right : Input) (held : Outcome) (before after : ℕ) (r : Result (Delta × ℕ) AllocError) : Type 0 where
-  pub most : after ≤ before + most_joins_of along (shown right) (delta_of right) held (operation_cost (total_rule along) (arguments (shown right ∷ [])) (delta_of right ∷ []) held)
-  pub least : IfOk r (λ s. is_error s.0 ≡ false → ticked before (least_joins_of along (shown right) (delta_of right) held (operation_cost (total_rule along) (arguments (shown right ∷ [])) (delta_of right ∷ []) held)) ≤ after)
+pub record AreTotalsJoined (fold : Reduce) (right : Input) (held : Outcome) (before after : ℕ) (r : Result (Delta × ℕ) AllocError) : Type 0 where
+  pub most : after ≤ before + most_joins_of fold (shown right) (delta_of right) held (operation_cost (total_rule fold) (arguments (shown right ∷ [])) (delta_of right ∷ []) held)
+  pub least : IfOk r (λ s. is_error s.0 ≡ false → ticked before (least_joins_of fold (shown right) (delta_of right) held (operation_cost (total_rule fold) (arguments (shown right ∷ [])) (delta_of right ∷ []) held)) ≤ after)
 
 -- how many for the change of the node of a tree
 pub record IsJoined (is_new : Bool) (c : Change) (t : Tree) (before after : ℕ) (r : Result (Delta × ℕ) AllocError) : Type 0 where

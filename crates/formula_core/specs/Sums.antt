@@ -1,13 +1,12 @@
--- The sums of lines that the totals of a formula keep.
-use Rattle.std.specs.Prelude.{◌≡◌, ℕ, List, false, Option, Some, None, is_some, Ok, Err}
+-- The trees of lines that the totals of a formula keep.
+use Rattle.std.specs.Prelude.{◌≡◌, ℕ, List, false, Option, Some, None, is_some, Ok, Err, if◌then◌else◌}
 use Rattle.std.specs.Global.{Box}
 use Rattle.std.specs.Option.{option_map, option_map_or}
 use Rattle.apl_expr.specs.Trees.{Tree, Const, Name, Monad, Dyad, Index}
-use Rattle.apl_expr.specs.declared.expr.ScalarDyad.TheVariants as scalar_dyad
 use Rattle.apl_expr.specs.declared.expr.Monadic.{Monadic}
 use Rattle.apl_expr.specs.declared.expr.Monadic.TheVariants as monadic
 use Rattle.arrays_core.specs.Arrays.{ArrayValue}
-use Rattle.index_region.specs.declared.along.Along.{Along}
+use Rattle.operator_fns.specs.declared.reduce.Reduce.{Reduce}
 use Rattle.index_region.specs.declared.delta.Delta.{Delta}
 use Rattle.index_region.specs.declared.delta.Delta.TheVariants.{Patch as PatchDelta}
 use Rattle.index_region.specs.Patches.{PatchValue, FitsPatch, patched}
@@ -21,36 +20,37 @@ use Rattle.formula_core.specs.Changes.{FitsIn}
 use Rattle.formula_core.specs.declared.table.Node.{Node}
 use Rattle.formula_core.specs.declared.table.Node.TheVariants as node
 use Rattle.formula_core.specs.declared.table.Operand.{Operand}
-use Rattle.formula_core.specs.Meaning.{along_of, eval}
+use Rattle.fold_trees.specs.FoldTrees.{has_trees}
+use Rattle.formula_core.specs.Meaning.{along_of, scalar2_of, eval}
 use Rattle.formula_core.specs.Outcomes.{Outcome}
 
--- the axis along which a function sums up lines, if it does, as +/ and +⌿ do
-abbrev pub total_along : Monadic → Option Along
-total_along (monadic.Reduce scalar_dyad.Plus k) = Some (along_of k)
-total_along _ = None
+-- the fold that a function is whose parts are kept as trees, if it is one, as +/ and ⌈⌿ are
+abbrev pub total_of : Monadic → Option Reduce
+total_of (monadic.Reduce f k) = if has_trees (scalar2_of f) then Some (record { function = scalar2_of f; along = along_of k }) else None
+total_of _ = None
 
--- an array whose lines along an axis are summed up, if it is one
-abbrev pub summed_in : Along → Outcome → Option SummedValue
-summed_in along (Ok a) = summed along a
-summed_in along (Err e) = None
+-- an array whose lines are folded by trees, if it is one
+abbrev pub summed_in : Reduce → Outcome → Option SummedValue
+summed_in fold (Ok a) = summed fold a
+summed_in fold (Err e) = None
 
 -- the array of whose lines the node of a tree keeps the sums, if it does, where the names show these
 abbrev pub summed_at : (List ℕ → Outcome) → Tree → Option SummedValue
 summed_at names (Const l) = None
 summed_at names (Name x) = None
-summed_at names (Monad f b) = option_map_or (λ along. summed_in along (eval b names)) (total_along f) None
+summed_at names (Monad f b) = option_map_or (λ fold. summed_in fold (eval b names)) (total_of f) None
 summed_at names (Dyad f a b) = None
 summed_at names (Index a ps) = None
 
--- the argument of a node that sums up its lines, behind the axis of these
-abbrev pub totalled : Node → Option (Along × Operand)
+-- the argument of a node that folds its lines by trees, behind the fold
+abbrev pub totalled : Node → Option (Reduce × Operand)
 totalled (node.Constant literal) = None
 totalled (node.Name place) = None
-totalled (node.Monad f right) = option_map (λ along. (along, right)) (total_along f)
+totalled (node.Monad f right) = option_map (λ fold. (fold, right)) (total_of f)
 totalled (node.Dyad f left right) = None
 totalled (node.Index array positions) = None
 
--- the array whose lines are summed up by what lies in a box
+-- the array whose lines are folded by what lies in a box
 abbrev pub in_box : Option (Box SummedValue) → Option SummedValue
 in_box s = option_map (λ (b : Box SummedValue). b.value) s
 
@@ -63,7 +63,7 @@ resummed (Grown l) (Some s) = Some (grown_sums s l.value.tail.items)
 resummed (Grown l) None = None
 resummed (Whole s) kept = in_box s
 
--- a box that changes lies in the array whose lines are summed up, and new lines are what that grows by
+-- a box that changes lies in the array whose lines are folded, and new lines are what that grows by
 abbrev pub FitsSums : SumsDelta → Option SummedValue → Type 0
 FitsSums (Patch p) (Some s) = FitsPatch s.array p.value
 FitsSums (Patch p) None = ⊥
@@ -72,26 +72,26 @@ FitsSums (Grown l) None = ⊥
 FitsSums _ _ = Unit {0}
 
 -- the argument is what this change makes of what it was, and sums that were kept are those of that
-pub record WasSummed (along : Along) (now : Outcome) (d : Delta) (kept : Option SummedValue) (old : Outcome) : Type 0 where
+pub record WasSummed (fold : Reduce) (now : Outcome) (d : Delta) (kept : Option SummedValue) (old : Outcome) : Type 0 where
   pub becomes : applied d old ≡ now
   pub fit : FitsIn d old
-  pub keeps : kept ≡ summed_in along old
+  pub keeps : kept ≡ summed_in fold old
 
 -- what changes of the sums that are kept of an argument's lines along an axis: whatever it was, they are then those of what it is now
-pub record IsSumsDelta (along : Along) (now : Outcome) (d : Delta) (kept : Option SummedValue) (s : SumsDelta) : Type 0 where
-  pub right : (old : Outcome) → (is_whole d ≡ false → WasSummed along now d kept old) → resummed s kept ≡ summed_in along now
-  pub fit : (old : Outcome) → (is_whole d ≡ false → WasSummed along now d kept old) → FitsSums s kept
+pub record IsSumsDelta (fold : Reduce) (now : Outcome) (d : Delta) (kept : Option SummedValue) (s : SumsDelta) : Type 0 where
+  pub right : (old : Outcome) → (is_whole d ≡ false → WasSummed fold now d kept old) → resummed s kept ≡ summed_in fold now
+  pub fit : (old : Outcome) → (is_whole d ≡ false → WasSummed fold now d kept old) → FitsSums s kept
 
 -- these sums are those of the lines along an axis of what became this by a patch
-pub record WasPatched (along : Along) (now : Outcome) (p : PatchValue) (s : SummedValue) : Type 0 where
+pub record WasPatched (fold : Reduce) (now : Outcome) (p : PatchValue) (s : SummedValue) : Type 0 where
   pub fit : FitsPatch s.array p
   pub becomes : now ≡ Ok (patched s.array p)
-  pub lines : summed along s.array ≡ Some s
+  pub lines : summed fold s.array ≡ Some s
 
 -- where an array is patched, sums that are kept are those of what it was
-abbrev pub IsSummedFor : (along : Along) → (now : Outcome) → Delta → (kept : Option SummedValue) → Type 0
-IsSummedFor along now d kept = (p : PatchValue) (s : SummedValue) → d ≡ PatchDelta p → kept ≡ Some s → WasPatched along now p s
+abbrev pub IsSummedFor : (fold : Reduce) → (now : Outcome) → Delta → (kept : Option SummedValue) → Type 0
+IsSummedFor fold now d kept = (p : PatchValue) (s : SummedValue) → d ≡ PatchDelta p → kept ≡ Some s → WasPatched fold now p s
 
 -- where an array is patched, the sums of its lines are kept if these are long enough
-abbrev pub AreSumsKept : (along : Along) → (now : Outcome) → Delta → (kept : Option SummedValue) → Type 0
-AreSumsKept along now d kept = (p : PatchValue) (a : ArrayValue) → d ≡ PatchDelta p → now ≡ Ok a → is_some kept ≡ keeps_sums along a
+abbrev pub AreSumsKept : (fold : Reduce) → (now : Outcome) → Delta → (kept : Option SummedValue) → Type 0
+AreSumsKept fold now d kept = (p : PatchValue) (a : ArrayValue) → d ≡ PatchDelta p → now ≡ Ok a → is_some kept ≡ keeps_sums fold.along a

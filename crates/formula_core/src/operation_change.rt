@@ -6,15 +6,16 @@ ghost use Rattle.sum_rules.specs.Totals.{total_rule};
 ghost use Rattle.formula_core.specs.Inputs.{shown, delta_of, HasFit, IsOperationChange};
 ghost use Rattle.formula_core.specs.Rules.{right_rule, both_rule};
 ghost use Rattle.formula_core.specs.Stages.{AreTotalsJoined};
-ghost use Rattle.formula_core.specs.Sums.{total_along as axis_of_total, IsSummedFor, AreSumsKept};
+ghost use Rattle.formula_core.specs.Sums.{total_of as fold_of_total, IsSummedFor, AreSumsKept};
 
 use crate::input::Input;
 use crate::refreshing::Operation;
-use crate::sums::total_along;
+use crate::sums::total_of;
 use apl_expr::{Dyadic, Monadic};
 use arrays_core::{Array, Fault};
 use change_core::Meter;
-use index_region::{Along, Delta};
+use index_region::Delta;
+use operator_fns::Reduce;
 use std::alloc::{AllocError, Global};
 use sum_rules::{LineSums, fold_totals_with_cost, refresh_totals_with_cost};
 
@@ -55,41 +56,41 @@ pub(crate) fn change_of_monad(
     meter: &mut Meter,
 ) -> Result<(Delta, u32), AllocError>
     requires fit { HasFit right.now }
-    requires kept { (along : Along) → axis_of_total function ≡ Some along → IsSummedFor along (shown right.now) (delta_of right.now) kept.now }
+    requires kept { (fold : Reduce) → fold_of_total function ≡ Some fold → IsSummedFor fold (shown right.now) (delta_of right.now) kept.now }
     ensures change { IsOperationChange (right_rule function) (right.now ∷ []) held.now meter.old.ticks meter.new.ticks result }
-    ensures joins { (along : Along) → axis_of_total function ≡ Some along → AreSumsKept along (shown right.now) (delta_of right.now) kept.now
-        → AreTotalsJoined along right.now held.now meter.old.joins meter.new.joins result }
-    ensures no_joins { axis_of_total function ≡ None → meter.new.joins ≡ meter.old.joins }
+    ensures joins { (fold : Reduce) → fold_of_total function ≡ Some fold → AreSumsKept fold (shown right.now) (delta_of right.now) kept.now
+        → AreTotalsJoined fold right.now held.now meter.old.joins meter.new.joins result }
+    ensures no_joins { fold_of_total function ≡ None → meter.new.joins ≡ meter.old.joins }
 {
-    match total_along(function) {
-        Some(along) => change_of_total(alloc, along, right, kept, held, meter),
+    match total_of(function) {
+        Some(fold) => change_of_total(alloc, fold, right, kept, held, meter),
         None => change_of_right(alloc, function, right, held, meter),
     }
 }
 
 /// The change of a total along an axis, and what it costs: by the sums of the argument's lines where these are kept, else the lines are
-/// summed up; beside an error it is that error.
+/// folded; beside an error it is that error.
 fn change_of_total(
     alloc: Global,
-    along: Along,
+    fold: Reduce,
     right: &Input,
     kept: &Option<LineSums>,
     held: &Result<Array, Fault>,
     meter: &mut Meter,
 ) -> Result<(Delta, u32), AllocError>
     requires fit { HasFit right.now }
-    requires kept { IsSummedFor along (shown right.now) (delta_of right.now) kept.now }
-    ensures change { IsOperationChange (total_rule along) (right.now ∷ []) held.now meter.old.ticks meter.new.ticks result }
-    ensures joins { AreSumsKept along (shown right.now) (delta_of right.now) kept.now → AreTotalsJoined along right.now held.now meter.old.joins meter.new.joins result }
+    requires kept { IsSummedFor fold (shown right.now) (delta_of right.now) kept.now }
+    ensures change { IsOperationChange (total_rule fold) (right.now ∷ []) held.now meter.old.ticks meter.new.ticks result }
+    ensures joins { AreSumsKept fold (shown right.now) (delta_of right.now) kept.now → AreTotalsJoined fold right.now held.now meter.old.joins meter.new.joins result }
 {
     match right {
         Input::Good(array, delta) => {
             let arg = (array.again(), *delta);
             match kept {
                 Some(sums) => {
-                    refresh_totals_with_cost(alloc, along, arg, held, sums.trees(), meter)
+                    refresh_totals_with_cost(alloc, fold, arg, held, sums.trees(), meter)
                 }
-                None => fold_totals_with_cost(alloc, along, arg, held, meter),
+                None => fold_totals_with_cost(alloc, fold, arg, held, meter),
             }
         }
         Input::Bad { fault, .. } => Ok((beside_error(*fault, right.stays()), 0)),

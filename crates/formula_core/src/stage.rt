@@ -157,7 +157,7 @@ impl<'a> Stage<'a> {
             → (self.now.is_new ≡ false → kept.now ≡ summed_at c.old (tree_of_node names trees node.now)) → IsSumsStep c (tree_of_node names trees node.now) kept.now s) }
     {
         match node.totalled() {
-            Some((along, right)) => sums_delta(self.alloc, along, &self.operand(right), kept),
+            Some((fold, right)) => sums_delta(self.alloc, fold, &self.operand(right), kept),
             None if self.is_new => Ok(SumsDelta::Whole(None)),
             None => Ok(SumsDelta::Same),
         }

@@ -1,17 +1,20 @@
-//! The sums of lines that the totals of a formula keep.
+//! The trees of lines that the totals of a formula keep.
 
-ghost use Rattle.std.specs.Prelude.{◌≡◌, Option, Ok, IfOk};
+ghost use Rattle.std.specs.Prelude.{◌≡◌, true, Option, Ok, IfOk};
+ghost use Rattle.fold_trees.specs.FoldTrees.{has_trees as has_such};
 ghost use Rattle.index_region.specs.declared.delta.Delta.TheVariants.{Patch as PatchDelta, Grown as GrownDelta};
 ghost use Rattle.index_region.specs.Patches.{FitsPatch};
 ghost use Rattle.sum_rules.specs.LineSums.{SummedValue};
 ghost use Rattle.formula_core.specs.Changes.{HasGrown};
 ghost use Rattle.formula_core.specs.Inputs.{shown, delta_of, HasFit};
-ghost use Rattle.formula_core.specs.Sums.{total_along as axis_of_total, in_box, resummed, FitsSums, IsSumsDelta};
+ghost use Rattle.formula_core.specs.Sums.{total_of as fold_of_total, in_box, resummed, FitsSums, IsSumsDelta};
 
 use crate::input::Input;
-use crate::symbols::along_of;
-use apl_expr::{Monadic, ScalarDyad};
-use index_region::{Along, Delta, Patch, Seen, Tail};
+use crate::symbols::{along_of, scalar2_of};
+use apl_expr::Monadic;
+use fold_trees::has_trees;
+use index_region::{Delta, Patch, Seen, Tail};
+use operator_fns::Reduce;
 use std::alloc::{AllocError, Global};
 use sum_rules::{LineSums, NewLines, keeps_sums};
 
@@ -23,7 +26,7 @@ const PLACES_TO_ONE_NEW: usize = 16;
 pub(crate) enum SumsDelta {
     /// Nothing.
     Same,
-    /// New items for a box of the array whose lines are summed up.
+    /// New items for a box of the array whose lines are folded.
     Patch(Box<Patch>),
     /// What the lines get where the array grew.
     Grown(Box<NewLines>),
@@ -31,12 +34,15 @@ pub(crate) enum SumsDelta {
     Whole(Option<Box<LineSums>>),
 }
 
-/// The axis along which a function sums up lines, if it does, as `+/` and `+⌿` do.
-pub(crate) fn total_along(function: Monadic) -> Option<Along>
-    ensures { result ≡ axis_of_total function }
+/// The fold that a function is whose parts are kept as trees, if it is one, as `+/` and `⌈⌿` are.
+pub(crate) fn total_of(function: Monadic) -> Option<Reduce>
+    ensures { result ≡ fold_of_total function }
 {
     match function {
-        Monadic::Reduce(ScalarDyad::Plus, along) => Some(along_of(along)),
+        Monadic::Reduce(scalar, along) if has_trees(scalar2_of(scalar)) => Some(Reduce {
+            function: scalar2_of(scalar),
+            along: along_of(along),
+        }),
         _ => None,
     }
 }
@@ -45,29 +51,31 @@ pub(crate) fn total_along(function: Monadic) -> Option<Along>
 /// the lines get where the array grew goes behind them, and else they are made anew.
 pub(crate) fn sums_delta(
     alloc: Global,
-    along: Along,
+    fold: Reduce,
     input: &Input,
     kept: &Option<LineSums>,
 ) -> Result<SumsDelta, AllocError>
-    requires { HasFit input.now }
-    ensures { IfOk result (IsSumsDelta along (shown input.now) (delta_of input.now) kept.now) }
+    requires function { has_such fold.function ≡ true }
+    requires fit { HasFit input.now }
+    ensures { IfOk result (IsSumsDelta fold (shown input.now) (delta_of input.now) kept.now) }
 {
     match input {
         Input::Bad { .. } => Ok(SumsDelta::Whole(None)),
         Input::Good(array, delta) => match delta {
             Delta::Same => Ok(SumsDelta::Same),
-            Delta::Whole(_) => made_anew(alloc, along, array),
-            Delta::Grown(tail) => grown_delta(alloc, along, array, tail, kept),
-            Delta::Patch(patch) => patch_delta(alloc, along, array, patch, kept),
+            Delta::Whole(_) => made_anew(alloc, fold, array),
+            Delta::Grown(tail) => grown_delta(alloc, fold, array, tail, kept),
+            Delta::Patch(patch) => patch_delta(alloc, fold, array, patch, kept),
         },
     }
 }
 
 /// The sums of the lines of an array, made anew if lines like these have any.
-fn made_anew(alloc: Global, along: Along, array: &Seen) -> Result<SumsDelta, AllocError>
-    ensures { IfOk result (λ s. (d : Delta) → (kept : Option SummedValue) → IsSumsDelta along (Ok array.now) d kept s) }
+fn made_anew(alloc: Global, fold: Reduce, array: &Seen) -> Result<SumsDelta, AllocError>
+    requires { has_such fold.function ≡ true }
+    ensures { IfOk result (λ s. (d : Delta) → (kept : Option SummedValue) → IsSumsDelta fold (Ok array.now) d kept s) }
 {
-    let sums = LineSums::of(alloc, along, array)?;
+    let sums = LineSums::of(alloc, fold, array)?;
     Ok(SumsDelta::Whole(boxed(alloc, sums)?))
 }
 
@@ -75,19 +83,20 @@ fn made_anew(alloc: Global, along: Along, array: &Seen) -> Result<SumsDelta, All
 /// larger, or no sums were kept, they are made anew.
 fn patch_delta(
     alloc: Global,
-    along: Along,
+    fold: Reduce,
     array: &Seen,
     patch: &Patch,
     kept: &Option<LineSums>,
 ) -> Result<SumsDelta, AllocError>
-    requires { FitsPatch array.now patch.now }
-    ensures { IfOk result (IsSumsDelta along (Ok array.now) (PatchDelta patch.now) kept.now) }
+    requires function { has_such fold.function ≡ true }
+    requires fit { FitsPatch array.now patch.now }
+    ensures { IfOk result (IsSumsDelta fold (Ok array.now) (PatchDelta patch.now) kept.now) }
 {
     let places = array.places() as usize;
     if kept.is_some() && patch.region().size() <= places / PLACES_TO_ONE_NEW + 1 {
         return Ok(SumsDelta::Patch(Box::new(alloc, patch.copy()?)?));
     }
-    made_anew(alloc, along, array)
+    made_anew(alloc, fold, array)
 }
 
 /// What changes of the sums where the array grew: what its lines along the axis get goes behind what is kept. Where no sums were kept,
@@ -95,20 +104,21 @@ fn patch_delta(
 #[tactic(auto, using(crate::proofs::Summed::lines_taken))]
 fn grown_delta(
     alloc: Global,
-    along: Along,
+    fold: Reduce,
     array: &Seen,
     tail: &Tail,
     kept: &Option<LineSums>,
 ) -> Result<SumsDelta, AllocError>
-    requires { HasGrown array.now tail.now }
-    ensures { IfOk result (IsSumsDelta along (Ok array.now) (GrownDelta tail.now) kept.now) }
+    requires function { has_such fold.function ≡ true }
+    requires grown { HasGrown array.now tail.now }
+    ensures { IfOk result (IsSumsDelta fold (Ok array.now) (GrownDelta tail.now) kept.now) }
 {
-    if kept.is_some() && keeps_sums(along, array) {
-        let axis = along.axis_at(array.shape().as_slice().len() as u32);
-        let lines = NewLines::of(alloc, axis, tail)?;
+    if kept.is_some() && keeps_sums(fold.along, array) {
+        let axis = fold.along.axis_at(array.shape().as_slice().len() as u32);
+        let lines = NewLines::of(alloc, fold.function, axis, tail)?;
         return Ok(SumsDelta::Grown(Box::new(alloc, lines)?));
     }
-    made_anew(alloc, along, array)
+    made_anew(alloc, fold, array)
 }
 
 /// Sums in a box, so that a change of a node is small.

@@ -6,10 +6,10 @@ ghost use Rattle.formula_core.specs.declared.table.Operand.TheVariants.{Node as 
 ghost use Rattle.formula_core.specs.Sums.{totalled};
 ghost use Rattle.formula_core.specs.Tables.{IsLowered, ArePositionsLowered, applies, is_literal};
 
-use crate::sums::total_along;
+use crate::sums::total_of;
 use apl_expr::{Dyadic, Expr, Literal, Monadic};
 use apl_tokens::Name;
-use index_region::Along;
+use operator_fns::Reduce;
 use std::alloc::{AllocError, Global};
 
 /// What a node takes as an argument: what a name shows, by its place among the references, or the result of a node
@@ -52,12 +52,12 @@ impl Node {
         matches!(self, Node::Constant(_))
     }
 
-    /// The argument whose lines it sums up, where it does that, behind the axis of these.
-    pub(crate) fn totalled(&self) -> Option<(Along, Operand)>
+    /// The argument whose lines it folds, where it keeps trees of these, behind the fold.
+    pub(crate) fn totalled(&self) -> Option<(Reduce, Operand)>
         ensures { result ≡ totalled self.now }
     {
         match self {
-            Node::Monad(function, right) => Some((total_along(*function)?, *right)),
+            Node::Monad(function, right) => Some((total_of(*function)?, *right)),
             _ => None,
         }
     }

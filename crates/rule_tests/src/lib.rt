@@ -4,6 +4,8 @@
 #[cfg(test)]
 mod fixtures;
 #[cfg(test)]
+mod fold_tree_tests;
+#[cfg(test)]
 mod growth_tests;
 #[cfg(test)]
 mod item_tests;

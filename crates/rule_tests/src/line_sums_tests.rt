@@ -4,12 +4,15 @@ ghost use Rattle.std.specs.Prelude.{◌≡◌, length, IfSome};
 ghost use Rattle.index_region.specs.Axes.{axis_at as axis_meant};
 ghost use Rattle.index_region.specs.declared.along.Along.TheVariants.{Last as LastAxis};
 ghost use Rattle.index_region.specs.Patches.{FitsPatch};
+ghost use Rattle.scalar_fns.specs.declared.function.Scalar2.TheVariants.{Plus as Sum};
 
 use crate::fixtures::{patch_of, tail_of};
 use arrays_core::{Array, Fault, Item, ItemType, Kind, is_within_limits, shape_of, size};
 use change_core::Meter;
+use fold_trees::{FoldTrees, has_trees};
 use index_region::{Along, Delta, Patch, Seen};
-use operator_fns::SumTrees;
+use operator_fns::Reduce;
+use scalar_fns::Scalar2;
 use std::alloc::Global;
 use sum_rules::{LineSums, NewLines, refresh_sums, refresh_totals_with_cost};
 
@@ -31,18 +34,28 @@ fn no_value() -> Fault {
     }
 }
 
-/// The sums of the lines of an array along an axis, where these are kept.
-fn sums_of(alloc: Global, along: Along, array: &Array) -> Option<LineSums>
-    ensures { IfSome result (λ sums. sums ≡ record { axis = axis_meant (length array.now.shape) along; array = array.now }) }
+/// The sums along an axis.
+fn sum_along(along: Along) -> Reduce
+    ensures { result ≡ record { function = Sum; along = along } }
 {
-    LineSums::of(alloc, along, &Seen::plain(array)).ok()?
+    Reduce {
+        function: Scalar2::Plus,
+        along,
+    }
 }
 
-/// The change of the totals along an axis of an array over which a patch is laid, by the trees of its lines; none where there are
+/// The sums of the lines of an array along an axis, where these are kept.
+fn sums_of(alloc: Global, along: Along, array: &Array) -> Option<LineSums>
+    ensures { IfSome result (λ sums. sums ≡ record { function = Sum; axis = axis_meant (length array.now.shape) along; array = array.now }) }
+{
+    LineSums::of(alloc, sum_along(along), &Seen::plain(array)).ok()?
+}
+
+/// The change of the totals by a fold of an array over which a patch is laid, by the trees of its lines; none where there are
 /// none. Of the totals before it tells only that they were an array, as this one is.
 fn totals_with(
     alloc: Global,
-    along: Along,
+    fold: Reduce,
     shown: &Result<Array, Fault>,
     moved: &Delta,
     meter: &mut Meter,
@@ -53,15 +66,32 @@ fn totals_with(
     if !patch.region().lies_in(array.shape().as_slice()) || patch.item_type() != array.item_type() {
         return None;
     }
-    let Ok(Some(sums)) = LineSums::of(alloc, along, &Seen::plain(array)) else {
+    if !has_trees(fold.function) {
+        return None;
+    }
+    let Ok(Some(sums)) = LineSums::of(alloc, fold, &Seen::plain(array)) else {
         return None;
     };
     let arg = (Seen::patched(array, patch), moved);
-    let change = refresh_totals_with_cost(alloc, along, arg, shown, sums.trees(), meter);
+    let change = refresh_totals_with_cost(alloc, fold, arg, shown, sums.trees(), meter);
     Some(change.ok()?.0)
 }
 
-/// The change of the totals along an axis of an array, if it is there, of which a box has these numbers now.
+/// The change of the totals by a fold of an array, if it is there, of which a box has these numbers now.
+fn totals_by(
+    alloc: Global,
+    fold: Reduce,
+    array: Option<Array>,
+    changed: &[(u32, u32)],
+    numbers: &[i64],
+    meter: &mut Meter,
+) -> Option<Delta> {
+    let array = array?;
+    let moved = Delta::Patch(patch_of(alloc, &array, changed, numbers)?);
+    totals_with(alloc, fold, &Ok(array), &moved, meter)
+}
+
+/// The change of the sums along an axis.
 fn totals_along(
     alloc: Global,
     along: Along,
@@ -70,9 +100,7 @@ fn totals_along(
     numbers: &[i64],
     meter: &mut Meter,
 ) -> Option<Delta> {
-    let array = array?;
-    let moved = Delta::Patch(patch_of(alloc, &array, changed, numbers)?);
-    totals_with(alloc, along, &Ok(array), &moved, meter)
+    totals_by(alloc, sum_along(along), array, changed, numbers, meter)
 }
 
 /// The change of the totals along the last axis.
@@ -86,10 +114,10 @@ fn totals_where(
     totals_along(alloc, Along::Last, array, changed, numbers, meter)
 }
 
-/// It is LIMIT, with no name in whose formula it arose.
-fn is_limit(delta: Option<Delta>) -> bool {
+/// It is this error, with no name in whose formula it arose.
+fn is_error(delta: Option<Delta>, kind: Kind) -> bool {
     match &delta {
-        Some(Delta::Whole(Err(fault))) => fault.kind == Kind::Limit && fault.origin.is_none(),
+        Some(Delta::Whole(Err(fault))) => fault.kind == kind && fault.origin.is_none(),
         _ => false,
     }
 }
@@ -165,11 +193,66 @@ fn total_with_third(alloc: Global, third: i64) -> Option<Delta> {
 
 #[test]
 fn a_limit_on_the_way_is_the_limit_of_the_whole(rt: HostRuntime) {
-    assert!(rt; is_limit(total_with_third(rt.alloc(), 1)));
+    assert!(rt; is_error(total_with_third(rt.alloc(), 1), Kind::Limit));
     assert_eq!(rt;
         item_in(total_with_third(rt.alloc(), -1), &[]),
         Some(Item::Num(9_223_372_036_854_775_801))
     );
+}
+
+/// The change of the fold by a function of a row that begins with these numbers, a thousand in all, where one of them is another.
+fn fold_of_row(
+    alloc: Global,
+    function: Scalar2,
+    first: &[i64],
+    others: i64,
+    changed: (u32, i64),
+    meter: &mut Meter,
+) -> Option<Delta> {
+    let row = array_of(alloc, &[1, 1000], first, others);
+    let (place, number) = changed;
+    let fold = Reduce {
+        function,
+        along: Along::Last,
+    };
+    let region = [(1, 1), (place, place)];
+    totals_by(alloc, fold, row, &region, &[number], meter)
+}
+
+#[test]
+fn any_fold_that_has_trees_takes_few_joins(rt: HostRuntime) {
+    for (function, others, number, wanted) in [
+        (Scalar2::Maximum, -3, 7, 7),
+        (Scalar2::Maximum, 3, -7, 3),
+        (Scalar2::Minimum, -3, -7, -7),
+        (Scalar2::And, 1, 0, 0),
+        (Scalar2::Or, 0, 1, 1),
+        (Scalar2::Times, -1, 7, -7),
+        (Scalar2::Times, 0, 7, 0),
+    ] {
+        let mut meter = Meter::new();
+        let delta = fold_of_row(rt.alloc(), function, &[], others, (500, number), &mut meter);
+        assert_eq!(rt; item_in(delta, &[1]), Some(Item::Num(wanted)));
+        assert_eq!(rt; meter.ticks(), 1);
+        assert!(rt; 1 <= meter.joins() && meter.joins() <= 10);
+    }
+}
+
+#[test]
+fn an_error_of_a_fold_comes_and_goes(rt: HostRuntime) {
+    let alloc = rt.alloc();
+    let two = [1, 2];
+    let delta = fold_of_row(alloc, Scalar2::And, &[], 1, (3, 2), &mut Meter::new());
+    assert!(rt; is_error(delta, Kind::Domain));
+    let delta = fold_of_row(alloc, Scalar2::And, &two, 1, (2, 0), &mut Meter::new());
+    assert_eq!(rt; item_in(delta, &[1]), Some(Item::Num(0)));
+    let half = [1 << 32, 1 << 31];
+    let delta = fold_of_row(alloc, Scalar2::Times, &half, 1, (9, 1), &mut Meter::new());
+    assert!(rt; is_error(delta, Kind::Limit));
+    let delta = fold_of_row(alloc, Scalar2::Times, &half, 1, (9, -1), &mut Meter::new());
+    assert_eq!(rt; item_in(delta, &[1]), Some(Item::Num(i64::MIN)));
+    let delta = fold_of_row(alloc, Scalar2::Times, &half, 1, (9, 0), &mut Meter::new());
+    assert_eq!(rt; item_in(delta, &[1]), Some(Item::Num(0)));
 }
 
 /// The total of a line of twenty ones of which three have a column changed, and what was counted for it.
@@ -235,7 +318,7 @@ fn several_numbers_of_a_line_are_summed_up_with_it(rt: HostRuntime) {
 /// Of how many lines of an array along an axis the sums are kept, if of any; none at all where the array is not there.
 fn lines_kept(alloc: Global, along: Along, array: Option<Array>) -> Option<Option<usize>> {
     let array = array?;
-    match LineSums::of(alloc, along, &Seen::plain(&array)).ok()? {
+    match LineSums::of(alloc, sum_along(along), &Seen::plain(&array)).ok()? {
         Some(sums) => Some(Some(sums.trees().len())),
         None => Some(None),
     }
@@ -259,7 +342,7 @@ fn sums_are_kept_of_long_lines_of_numbers(rt: HostRuntime) {
 }
 
 /// The total of a line, if there are so many.
-fn total_in(sums: &SumTrees, line: usize) -> Option<i64> {
+fn total_in(sums: &FoldTrees, line: usize) -> Option<i64> {
     if line >= sums.len() {
         return None;
     }
@@ -267,7 +350,7 @@ fn total_in(sums: &SumTrees, line: usize) -> Option<i64> {
 }
 
 /// The totals of two lines.
-fn both_totals(sums: &SumTrees) -> Option<(i64, i64)> {
+fn both_totals(sums: &FoldTrees) -> Option<(i64, i64)> {
     if sums.len() != 2 {
         return None;
     }
@@ -303,8 +386,8 @@ fn grow_both(
     sums: &mut LineSums,
     numbers: &[i64],
 ) -> Option<()>
-    requires { sums.old ≡ record { axis = axis_meant (length array.old.shape) along; array = array.old } }
-    ensures { IfSome result (λ _. sums.new ≡ record { axis = axis_meant (length array.new.shape) along; array = array.new }) }
+    requires { sums.old ≡ record { function = Sum; axis = axis_meant (length array.old.shape) along; array = array.old } }
+    ensures { IfSome result (λ _. sums.new ≡ record { function = Sum; axis = axis_meant (length array.new.shape) along; array = array.new }) }
 {
     let tail = tail_of(alloc, array, numbers)?;
     let rank = array.shape().as_slice().len() as u32;
@@ -315,13 +398,13 @@ fn grow_both(
         return None;
     }
     let axis = along.axis_at(rank);
-    sums.grow(NewLines::of(alloc, axis, &tail).ok()?);
+    sums.grow(NewLines::of(alloc, Scalar2::Plus, axis, &tail).ok()?);
     tail.write_behind(array);
     Some(())
 }
 
 /// The totals of the lines of an array along an axis are those that these trees tell.
-fn tells_totals(alloc: Global, along: Along, array: &Array, sums: &SumTrees) -> Option<bool> {
+fn tells_totals(alloc: Global, along: Along, array: &Array, sums: &FoldTrees) -> Option<bool> {
     let whole = sums_of(alloc, along, array)?;
     let mut same = whole.trees().len() == sums.len();
     for line in 0..sums.len() {
@@ -332,7 +415,7 @@ fn tells_totals(alloc: Global, along: Along, array: &Array, sums: &SumTrees) -> 
 
 /// Four lines of twenty ones with the sums along an axis, which four lines of greater numbers are put behind.
 fn eight_lines(alloc: Global, along: Along) -> Option<(Array, LineSums)>
-    ensures { IfSome result (λ r. r.1 ≡ record { axis = axis_meant (length r.0.shape) along; array = r.0 }) }
+    ensures { IfSome result (λ r. r.1 ≡ record { function = Sum; axis = axis_meant (length r.0.shape) along; array = r.0 }) }
 {
     let mut array = array_of(alloc, &[4, 20], &[], 1)?;
     let mut sums = sums_of(alloc, along, &array)?;
@@ -387,8 +470,8 @@ fn longer_by_four(
     sums: &mut LineSums,
     numbers: [i64; 4],
 ) -> Option<()>
-    requires { sums.old ≡ record { axis = axis_meant (length array.old.shape) LastAxis; array = array.old } }
-    ensures { IfSome result (λ _. sums.new ≡ record { axis = axis_meant (length array.new.shape) LastAxis; array = array.new }) }
+    requires { sums.old ≡ record { function = Sum; axis = axis_meant (length array.old.shape) LastAxis; array = array.old } }
+    ensures { IfSome result (λ _. sums.new ≡ record { function = Sum; axis = axis_meant (length array.new.shape) LastAxis; array = array.new }) }
 {
     let [first, second, third, last] = numbers;
     grow_both(alloc, Along::Last, array, sums, &[first])?;

@@ -14,7 +14,7 @@ use Rattle.formula_core.specs.Tables.{inside, inside_positions, subtrees}
 use Rattle.formula_core.specs.Formulas.{FormulaValue, root_result}
 use Rattle.formula_core.specs.Holdings.{Holding, holding_at}
 use Rattle.formula_core.specs.Plans.{PlanValue}
-use Rattle.formula_core.specs.Sums.{total_along, summed_in, summed_at}
+use Rattle.formula_core.specs.Sums.{total_of, summed_in, summed_at}
 use Rattle.dep_order.specs.Follows.{Follows, IsOnce}
 use Rattle.dep_order.proofs.Following.{contains_none, contains_one, follows_has, follows_front, follows_behind}
 use Rattle.sheet_recalc.specs.Names.{Names, Binding, Data, Formula, binding, Refers}
@@ -70,7 +70,7 @@ module _ (f g : List ℕ → Outcome) (t : Tree) (h : (x : List ℕ) → Contain
   summed_alike : (u : Tree) → ((x : List ℕ) → Contains (names_in u) x → f x ≡ g x) → summed_at f u ≡ summed_at g u
   summed_alike (Const l) k = refl
   summed_alike (Name x) k = refl
-  summed_alike (Monad m b) k = ap (λ o. option_map_or (λ along. summed_in along o) (total_along m) None) (eval_alike b f g k)
+  summed_alike (Monad m b) k = ap (λ o. option_map_or (λ fold. summed_in fold o) (total_of m) None) (eval_alike b f g k)
   summed_alike (Dyad m a b) k = refl
   summed_alike (Index a ps) k = refl
 

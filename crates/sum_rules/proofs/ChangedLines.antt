@@ -12,7 +12,7 @@ use Rattle.arrays_core.specs.Arrays.{ArrayValue, item_of}
 use Rattle.arrays_core.specs.Items.{fill, type_of}
 use Rattle.arrays_core.specs.Shapes.{size, is_index_of, places_before}
 use Rattle.arrays_core.proofs.Shapes.{places_below}
-use Rattle.scalar_fns.specs.declared.function.Scalar2.TheVariants.{Plus}
+use Rattle.scalar_fns.specs.declared.function.Scalar2.{Scalar2}
 use Rattle.scalar_fns.specs.Folds.{strided}
 use Rattle.scalar_fns.proofs.RightFolds.{length-strided, get_or-strided}
 use Rattle.index_region.specs.Arguments.{number_of}
@@ -197,13 +197,14 @@ module _ (axis : ℕ) (t : TreesValue) (a : ArrayValue) (p : PatchValue) (stand 
         ∙ sym (get_or-map (λ (y : ℤ). Num y) numbers k (pos 0) ∙ ap (λ (y : ℤ). Num y) (get_or-strided (pos 0) numbers_now first step n k (pos 0) under)))
 
     -- the total of a line is what its tree says of the new number
-    pub total_there : (at : ℕ) (item : Item) → at ≡ place → item ≡ get_or p.items before (fill p.item_type)
-        → fold_right Plus (line (patched a p) axis index) ≡ fold_right Plus (map (λ (y : ℤ). Num y) (numbers_through (with_number t at (number_of item)) at))
-    total_there at item at_is item_is =
+    pub total_there : (f h : Scalar2) → h ≡ f → (at : ℕ) (item : Item) → at ≡ place → item ≡ get_or p.items before (fill p.item_type)
+        → fold_right f (line (patched a p) axis index) ≡ fold_right h (map (λ (y : ℤ). Num y) (numbers_through (with_number t at (number_of item)) at))
+    total_there f h same at item at_is item_is =
         let told : numbers_through (with_number t at (number_of item)) at ≡ strided (pos 0) numbers_now first step n =
         (λ i. numbers_through (with_number t (at_is i) (number_of (item_is i))) (at_is i))
         ∙ (λ i. strided (pos 0) numbers_now (first_is i) (stand.apart i) (stand.counted i)) in
-        ap (fold_right Plus) (changed_line ∙ ap (map (λ (y : ℤ). Num y)) (sym told))
+        let line_is = changed_line ∙ ap (map (λ (y : ℤ). Num y)) (sym told) in
+        λ i. fold_right (sym same i) (line_is i)
 
 -- what the array is now, by its trees
 pub now_is : (along : Along) (t : TreesValue) (p : PatchValue) (now : ArrayValue) → StoodFor along t p now → patched (array_of now.shape t.numbers) p ≡ now

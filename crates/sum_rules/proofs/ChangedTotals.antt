@@ -5,7 +5,7 @@ use Rattle.std.proofs.lemmas.Bool.{cond-false, false≢true}
 use Rattle.arrays_core.specs.Arrays.{ArrayValue}
 use Rattle.arrays_core.specs.declared.item.Kind.{Kind}
 use Rattle.arrays_core.specs.declared.item.ItemType.{ItemType}
-use Rattle.scalar_fns.specs.declared.function.Scalar2.TheVariants.{Plus}
+use Rattle.operator_fns.specs.declared.reduce.Reduce.{Reduce}
 use Rattle.index_region.specs.Axes.{axis_at}
 use Rattle.index_region.specs.declared.along.Along.{Along}
 use Rattle.index_region.specs.Boxes.{Interval, box_size, met, unless_empty, join_boxes}
@@ -34,74 +34,74 @@ axis_before : (along : Along) (t : TreesValue) (p : PatchValue) (now : ArrayValu
 axis_before along t p now stood = ap (λ (a : ArrayValue). axis_at (length a.shape) along) stood.is
 
 -- the items of the box, by the array as it is now
-pub items_now : (along : Along) (t : TreesValue) (p : PatchValue) (now : ArrayValue) (shape : List ℕ) (region : List Interval) → StoodFor along t p now → shape ≡ now.shape
-    → region ≡ lines_of (axis_at (length now.shape) along) p.region
-    → items_in (reduce_item Plus along (patched (array_of shape t.numbers) p)) (lines_of (axis_at (length shape) along) p.region) ≡ items_in (reduce_item Plus along now) region
-items_now along t p now shape region stood shaped is =
-    let same : patched (array_of shape t.numbers) p ≡ now = ap (λ (axes : List ℕ). patched (array_of axes t.numbers) p) shaped ∙ now_is along t p now stood in
-    let box : lines_of (axis_at (length shape) along) p.region ≡ region = ap (λ (axes : List ℕ). lines_of (axis_at (length axes) along) p.region) shaped ∙ sym is in
-    λ i. items_in (reduce_item Plus along (same i)) (box i)
+pub items_now : (fold : Reduce) (t : TreesValue) (p : PatchValue) (now : ArrayValue) (shape : List ℕ) (region : List Interval) → StoodFor fold.along t p now → shape ≡ now.shape
+    → region ≡ lines_of (axis_at (length now.shape) fold.along) p.region
+    → items_in (reduce_item fold.function fold.along (patched (array_of shape t.numbers) p)) (lines_of (axis_at (length shape) fold.along) p.region) ≡ items_in (reduce_item fold.function fold.along now) region
+items_now fold t p now shape region stood shaped is =
+    let same : patched (array_of shape t.numbers) p ≡ now = ap (λ (axes : List ℕ). patched (array_of axes t.numbers) p) shaped ∙ now_is fold.along t p now stood in
+    let box : lines_of (axis_at (length shape) fold.along) p.region ≡ region = ap (λ (axes : List ℕ). lines_of (axis_at (length axes) fold.along) p.region) shaped ∙ sym is in
+    λ i. items_in (reduce_item fold.function fold.along (same i)) (box i)
 
 -- the box of what may change of the result
-module _ (along : Along) (t : TreesValue) (p : PatchValue) (now : ArrayValue) (stood : StoodFor along t p now) (one : is_one_a_line (axis_at (length now.shape) along) p.region ≡ true)
-    (shape : List ℕ) (type : ItemType) (form : reduce_form along now ≡ Ok (form_of shape type)) where
+module _ (fold : Reduce) (t : TreesValue) (p : PatchValue) (now : ArrayValue) (stood : StoodFor fold.along t p now) (one : is_one_a_line (axis_at (length now.shape) fold.along) p.region ≡ true)
+    (shape : List ℕ) (type : ItemType) (form : reduce_form fold.along now ≡ Ok (form_of shape type)) where
   abbrev axis : ℕ
-  axis = axis_at (length stood.before.shape) along
+  axis = axis_at (length stood.before.shape) fold.along
 
-  axis_is : axis_at (length now.shape) along ≡ axis
-  axis_is = axis_before along t p now stood
+  axis_is : axis_at (length now.shape) fold.along ≡ axis
+  axis_is = axis_before fold.along t p now stood
 
   one_before : is_one_a_line axis p.region ≡ true
   one_before = subst (λ k. is_one_a_line k p.region ≡ true) axis_is one
 
-  as_many : box_size p.region ≡ box_size (lines_of (axis_at (length now.shape) along) p.region)
+  as_many : box_size p.region ≡ box_size (lines_of (axis_at (length now.shape) fold.along) p.region)
   as_many = as_many_lines axis t stood.before p stood.lines stood.fit one_before ∙ ap (λ k. box_size (lines_of k p.region)) (sym axis_is)
 
-  met_is : unless_empty (met shape (remove p.region (axis_at (length now.shape) along))) ≡ Some (lines_of (axis_at (length now.shape) along) p.region)
+  met_is : unless_empty (met shape (remove p.region (axis_at (length now.shape) fold.along))) ≡ Some (lines_of (axis_at (length now.shape) fold.along) p.region)
   met_is =
       let fit = fits_axes axis t stood.before p stood.lines stood.fit one_before in
       let now_shape : now.shape ≡ stood.before.shape = ap (λ (a : ArrayValue). a.shape) stood.is in
-      let others : shape ≡ remove stood.before.shape axis = (reduce_facts along now shape type form).shaped ∙ (λ i. remove (now_shape i) (axis_is i)) in
+      let others : shape ≡ remove stood.before.shape axis = (reduce_facts fold.along now shape type form).shaped ∙ (λ i. remove (now_shape i) (axis_is i)) in
       (λ i. unless_empty (met (others i) (remove p.region (axis_is i))))
       ∙ ap unless_empty (met_fit _ (lines_of axis p.region) fit.rest)
       ∙ cond-false _ _ _ (fit_some (lines_of axis p.region) _ fit.rest)
       ∙ ap (λ k. Some (lines_of k p.region)) (sym axis_is)
 
-  reach_is : reach_of (total_rule along) (now ∷ []) (Some p.region ∷ []) ≡ Inside (lines_of (axis_at (length now.shape) along) p.region)
+  reach_is : reach_of (total_rule fold) (now ∷ []) (Some p.region ∷ []) ≡ Inside (lines_of (axis_at (length now.shape) fold.along) p.region)
   reach_is =
-      ap (λ (x : Result Form Kind). reach_by x (total_rule along).uses (now ∷ []) (Some p.region ∷ [])) form
+      ap (λ (x : Result Form Kind). reach_by x (total_rule fold).uses (now ∷ []) (Some p.region ∷ [])) form
       ∙ ap (λ (m : Option (List Interval)). as_reach (join_boxes m None)) met_is
 
-  pub reached_box : (region : List Interval) → Inside region ≡ reach_of (total_rule along) (now ∷ []) (Some p.region ∷ []) → region ≡ lines_of (axis_at (length now.shape) along) p.region
+  pub reached_box : (region : List Interval) → Inside region ≡ reach_of (total_rule fold) (now ∷ []) (Some p.region ∷ []) → region ≡ lines_of (axis_at (length now.shape) fold.along) p.region
   reached_box region is = let same = is ∙ reach_is in cc
 
-  pub some_reached : Unmoved ≡ reach_of (total_rule along) (now ∷ []) (Some p.region ∷ []) → ⊥
+  pub some_reached : Unmoved ≡ reach_of (total_rule fold) (now ∷ []) (Some p.region ∷ []) → ⊥
   some_reached is = let same = is ∙ reach_is in cc
 
-  pub reached_size : reached_cost (total_rule along) (now ∷ []) (Some p.region ∷ []) ≡ box_size p.region
+  pub reached_size : reached_cost (total_rule fold) (now ∷ []) (Some p.region ∷ []) ≡ box_size p.region
   reached_size = (λ i. size_in (form i) (reach_is i)) ∙ sym as_many
 
-  pub few_lines : (region : List Interval) → Inside region ≡ reach_of (total_rule along) (now ∷ []) (Some p.region ∷ []) → box_size region ≤ 1048576
+  pub few_lines : (region : List Interval) → Inside region ≡ reach_of (total_rule fold) (now ∷ []) (Some p.region ∷ []) → box_size region ≤ 1048576
   few_lines region is =
       let few = few_places p.region stood.before.shape stood.fit.inside stood.lines.sound.within in
       omega (arith, few, ap box_size (reached_box region is), as_many)
 
 -- the change of the totals where they were an array and a box of the argument is new
-pub delta_is : (along : Along) (arg : Argument) (p : PatchValue) (old : Outcome) → arg.1.now ≡ Patch p → is_ok old ≡ true
-    → reached_delta (total_rule along) (arg.0 ∷ []) (Some p.region ∷ []) ≡ node_delta (total_rule along) (arg ∷ []) old
-delta_is along arg p old is ok =
+pub delta_is : (fold : Reduce) (arg : Argument) (p : PatchValue) (old : Outcome) → arg.1.now ≡ Patch p → is_ok old ≡ true
+    → reached_delta (total_rule fold) (arg.0 ∷ []) (Some p.region ∷ []) ≡ node_delta (total_rule fold) (arg ∷ []) old
+delta_is fold arg p old is ok =
     let some : all_same (arg ∷ []) ≡ false = ap (λ (d : Delta). is_same d && true) is in
     let patched : all_patched_at_most (arg ∷ []) ≡ true = ap (λ (d : Delta). is_patched_at_most d && true) is in
-    ap (λ (d : Delta). reached_delta (total_rule along) (arg.0 ∷ []) (moved_by d ∷ [])) (sym is) ∙ delta_reached (total_rule along) (arg ∷ []) old some ok patched
+    ap (λ (d : Delta). reached_delta (total_rule fold) (arg.0 ∷ []) (moved_by d ∷ [])) (sym is) ∙ delta_reached (total_rule fold) (arg ∷ []) old some ok patched
 
 -- totals of lines that are summed up, where the trees do not serve
-pub folded : (along : Along) (arg : Argument) (held : Outcome) (before after : ℕ) (r : Result (Delta × ℕ) AllocError) → is_by_trees along arg held ≡ false
-    → IfOk r (λ s. s.1 ≡ node_cost (total_rule along) (arg ∷ []) held) → IfOk r (λ s. is_error s.0 ≡ false → AreFolds s.1 (length_along along arg.0.shape) before after)
-    → IfOk r (λ s. is_error s.0 ≡ false → HasAllJoins along arg held before after)
-folded along arg held before after (Err e) none cost counted = tt
-folded along arg held before after (Ok s) none cost counted = λ sound. record {
+pub folded : (fold : Reduce) (arg : Argument) (held : Outcome) (before after : ℕ) (r : Result (Delta × ℕ) AllocError) → is_by_trees fold.along arg held ≡ false
+    → IfOk r (λ s. s.1 ≡ node_cost (total_rule fold) (arg ∷ []) held) → IfOk r (λ s. is_error s.0 ≡ false → AreFolds s.1 (length_along fold.along arg.0.shape) before after)
+    → IfOk r (λ s. is_error s.0 ≡ false → HasAllJoins fold arg held before after)
+folded fold arg held before after (Err e) none cost counted = tt
+folded fold arg held before after (Ok s) none cost counted = λ sound. record {
   trees = λ by. absurd (false≢true (sym none ∙ by));
-  folds = λ _. counted sound ∙ ap (λ k. ticked before (k * (length_along along arg.0.shape - 1))) cost;
+  folds = λ _. counted sound ∙ ap (λ k. ticked before (k * (length_along fold.along arg.0.shape - 1))) cost;
 }
 
 -- the trees do not serve where no box changed

@@ -10,6 +10,7 @@ use Rattle.index_region.specs.Axes.{is_axis, axis_at}
 use Rattle.index_region.specs.declared.along.Along.{Along}
 use Rattle.sum_rules.proofs.Lines.{has_axis}
 use Rattle.index_region.specs.Patches.{PatchValue, FitsPatch, patched}
+use Rattle.operator_fns.specs.declared.reduce.Reduce.{Reduce}
 use Rattle.operator_fns.specs.SumTrees.{TreesValue}
 use Rattle.sum_rules.specs.LineSums.{SummedValue, StandFor, keeps_sums, length_along, line_length, most_without_tree, summed}
 use Rattle.sum_rules.specs.Totals.{StoodFor}
@@ -52,19 +53,19 @@ kept_parts along a keeps =
     }
 
 -- of what array they are kept, and along which axis
-pub summed_is : (along : Along) (a : ArrayValue) (s : SummedValue) → summed along a ≡ Some s → (keeps_sums along a ≡ true) × (s ≡ record { axis = axis_at (length a.shape) along; array = a })
-summed_is along a s h = elim (cases_Bool (keeps_sums along a)) [
-  | inl w ↦ (w, (let same = sym (cond-true (keeps_sums along a) (Some (record { axis = axis_at (length a.shape) along; array = a })) None w) ∙ h in cc))
-  | inr f ↦ absurd (let none = sym (cond-false (keeps_sums along a) (Some (record { axis = axis_at (length a.shape) along; array = a })) None f) ∙ h in cc)
+pub summed_is : (fold : Reduce) (a : ArrayValue) (s : SummedValue) → summed fold a ≡ Some s → (keeps_sums fold.along a ≡ true) × (s ≡ record { function = fold.function; axis = axis_at (length a.shape) fold.along; array = a })
+summed_is fold a s h = elim (cases_Bool (keeps_sums fold.along a)) [
+  | inl w ↦ (w, (let same = sym (cond-true (keeps_sums fold.along a) (Some (record { function = fold.function; axis = axis_at (length a.shape) fold.along; array = a })) None w) ∙ h in cc))
+  | inr f ↦ absurd (let none = sym (cond-false (keeps_sums fold.along a) (Some (record { function = fold.function; axis = axis_at (length a.shape) fold.along; array = a })) None f) ∙ h in cc)
 ]
 
 -- trees of an array stand for what it was where a patch is laid over it
-pub stood_for : (along : Along) (a : ArrayValue) (s : SummedValue) (t : TreesValue) (p : PatchValue) → summed along a ≡ Some s → StandFor t s.axis s.array → FitsPatch a p → StoodFor along t p (patched a p)
-stood_for along a s t p h stand fit =
-    let both = summed_is along a s h in
+pub stood_for : (fold : Reduce) (a : ArrayValue) (s : SummedValue) (t : TreesValue) (p : PatchValue) → summed fold a ≡ Some s → StandFor t s.axis s.array → FitsPatch a p → StoodFor fold.along t p (patched a p)
+stood_for fold a s t p h stand fit =
+    let both = summed_is fold a s h in
     record {
       before = a;
-      on_axis = (kept_parts along a both.0).on_axis;
+      on_axis = (kept_parts fold.along a both.0).on_axis;
       lines = subst (λ (v : SummedValue). StandFor t v.axis v.array) both.1 stand;
       fit = fit;
       is = refl;

@@ -10,7 +10,8 @@ use Rattle.arrays_core.specs.Growth.{one_longer}
 use Rattle.arrays_core.specs.Items.{type_of}
 use Rattle.arrays_core.specs.Shapes.{size}
 use Rattle.arrays_core.proofs.Growing.{size_longer}
-use Rattle.operator_fns.specs.SumTrees.{TreesValue, NewTreesValue, with_lines}
+use Rattle.operator_fns.specs.SumTrees.{with_lines}
+use Rattle.fold_trees.specs.FoldTrees.{FoldsValue, NewFoldsValue}
 use Rattle.sum_rules.specs.LineSums.{line_length, line_step, array_of, StandFor}
 use Rattle.sum_rules.specs.NewLines.{lines_behind, AreNewLinesOf, FitsSums}
 use Rattle.sum_rules.specs.declared.new_lines.Growth.TheVariants.{Lines}
@@ -42,8 +43,8 @@ lines_behind_others old more count some whole =
 
 -- ---- an array of lines that grows by more of them
 
-module _ (axis : ℕ) (old new : List ℕ) (t : TreesValue) (more : NewTreesValue) (stand : StandFor t axis (array_of old t.numbers)) (made : AreNewLinesOf axis new (Lines more))
-    (fits : FitsSums (record { axis = axis; array = array_of old t.numbers }) (lines_behind axis new (Lines more))) where
+module _ (axis : ℕ) (old new : List ℕ) (t : FoldsValue) (more : NewFoldsValue) (stand : StandFor t.lines axis (array_of old t.lines.numbers)) (made : AreNewLinesOf axis new (Lines more))
+    (fits : FitsSums (record { function = t.function; axis = axis; array = array_of old t.lines.numbers }) (lines_behind axis new (Lines more))) where
   n : ℕ
   n = line_length axis old
 
@@ -53,33 +54,33 @@ module _ (axis : ℕ) (old new : List ℕ) (t : TreesValue) (more : NewTreesValu
   pub step_stays : line_step axis new ≡ line_step axis old
   step_stays = ap (line_step axis) fits.tail.shaped ∙ later_step axis old
 
-  old_places : length t.numbers ≡ size old
-  old_places = sym (length-map t.numbers (λ (z : ℤ). Num z)) ∙ stand.sound.one_item_a_place
+  old_places : length t.lines.numbers ≡ size old
+  old_places = sym (length-map t.lines.numbers (λ (z : ℤ). Num z)) ∙ stand.sound.one_item_a_place
 
-  more_places : length more.numbers ≡ size (drop 1 old)
-  more_places = sym (length-map more.numbers (λ (z : ℤ). Num z)) ∙ fits.tail.one_place
+  more_places : length more.lines.numbers ≡ size (drop 1 old)
+  more_places = sym (length-map more.lines.numbers (λ (z : ℤ). Num z)) ∙ fits.tail.one_place
 
-  places : size new ≡ length t.numbers + length more.numbers
+  places : size new ≡ length t.lines.numbers + length more.lines.numbers
   places = ap size fits.tail.shaped ∙ size_longer old fits.tail.some_axis ∙ (λ i. sym old_places i + sym more_places i)
 
   -- the lines that come before the new ones are the old ones
-  pub old_lines : more.old_lines ≡ length t.numbers / t.count
+  pub old_lines : more.lines.old_lines ≡ length t.lines.numbers / t.lines.count
   old_lines =
       let some = some_in_line axis old stand.there stand.some in
       let below = whole_below axis old made.new.0 stand.there in
-      let whole : length more.numbers % line_length axis old ≡ 0 = ap (λ k. k % line_length axis old) more_places ∙ factor_divides (size (drop 1 old)) (line_length axis old) (line_step axis old) below in
+      let whole : length more.lines.numbers % line_length axis old ≡ 0 = ap (λ k. k % line_length axis old) more_places ∙ factor_divides (size (drop 1 old)) (line_length axis old) (line_step axis old) below in
       made.new.1.1.1
-      ∙ (λ i. places i / length_stays i - length more.numbers / length_stays i)
-      ∙ lines_behind_others (length t.numbers) (length more.numbers) (line_length axis old) some whole
-      ∙ ap (λ k. length t.numbers / k) (sym stand.counted)
+      ∙ (λ i. places i / length_stays i - length more.lines.numbers / length_stays i)
+      ∙ lines_behind_others (length t.lines.numbers) (length more.lines.numbers) (line_length axis old) some whole
+      ∙ ap (λ k. length t.lines.numbers / k) (sym stand.counted)
 
   -- the trees stand for the lines of the array that grew
-  pub stand_grown : StandFor (with_lines t more.numbers) axis (array_of new (t.numbers ++ more.numbers))
+  pub stand_grown : StandFor (with_lines t.lines more.lines.numbers) axis (array_of new (t.lines.numbers ++ more.lines.numbers))
   stand_grown = record {
     sound = record {
       within = made.within;
-      one_item_a_place = length-map (t.numbers ++ more.numbers) (λ (z : ℤ). Num z) ∙ length-append t.numbers more.numbers ∙ sym places;
-      one_type = All-map (λ x. type_of x ≡ Nums) (λ (z : ℤ). Num z) (t.numbers ++ more.numbers) (λ k d h. refl);
+      one_item_a_place = length-map (t.lines.numbers ++ more.lines.numbers) (λ (z : ℤ). Num z) ∙ length-append t.lines.numbers more.lines.numbers ∙ sym places;
+      one_type = All-map (λ x. type_of x ≡ Nums) (λ (z : ℤ). Num z) (t.lines.numbers ++ more.lines.numbers) (λ k d h. refl);
     };
     some = made.some;
     there = made.there;

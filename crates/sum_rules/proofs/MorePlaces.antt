@@ -9,7 +9,8 @@ use Rattle.arrays_core.specs.Growth.{one_longer}
 use Rattle.arrays_core.specs.Items.{type_of}
 use Rattle.arrays_core.specs.Shapes.{size}
 use Rattle.arrays_core.proofs.Growing.{size_longer}
-use Rattle.operator_fns.specs.SumTrees.{TreesValue, NewPlacesValue, FitNext, with_places}
+use Rattle.operator_fns.specs.SumTrees.{FitNext, with_places}
+use Rattle.fold_trees.specs.FoldTrees.{FoldsValue, NextFoldsValue}
 use Rattle.sum_rules.specs.LineSums.{line_length, line_step, array_of, StandFor}
 use Rattle.sum_rules.specs.NewLines.{lines_behind, AreNewLinesOf, FitsSums}
 use Rattle.sum_rules.specs.declared.new_lines.Growth.TheVariants.{Places}
@@ -41,19 +42,19 @@ few_with_place shape old there some few is =
     let each : 1 * s ≡ s = omega arith in
     omega (arith, most, sum, all, few, one, each)
 
-module _ (old new : List ℕ) (t : TreesValue) (more : NewPlacesValue) (stand : StandFor t 0 (array_of old t.numbers)) (made : AreNewLinesOf 0 new (Places more))
-    (fits : FitsSums (record { axis = 0; array = array_of old t.numbers }) (lines_behind 0 new (Places more))) where
+module _ (old new : List ℕ) (t : FoldsValue) (more : NextFoldsValue) (stand : StandFor t.lines 0 (array_of old t.lines.numbers)) (made : AreNewLinesOf 0 new (Places more))
+    (fits : FitsSums (record { function = t.function; axis = 0; array = array_of old t.lines.numbers }) (lines_behind 0 new (Places more))) where
   length_is : line_length 0 new ≡ line_length 0 old + 1
   length_is = ap (line_length 0) fits.tail.shaped ∙ longer old stand.there
 
-  old_places : length t.numbers ≡ size old
-  old_places = sym (length-map t.numbers (λ (z : ℤ). Num z)) ∙ stand.sound.one_item_a_place
+  old_places : length t.lines.numbers ≡ size old
+  old_places = sym (length-map t.lines.numbers (λ (z : ℤ). Num z)) ∙ stand.sound.one_item_a_place
 
-  more_places : length more.numbers ≡ size (drop 1 old)
-  more_places = sym (length-map more.numbers (λ (z : ℤ). Num z)) ∙ fits.tail.one_place
+  more_places : length more.places.numbers ≡ size (drop 1 old)
+  more_places = sym (length-map more.places.numbers (λ (z : ℤ). Num z)) ∙ fits.tail.one_place
 
   -- the numbers are those of the next place of each line
-  pub fit_next : FitNext t more
+  pub fit_next : FitNext t.lines more.places
   fit_next = record {
     count = made.new.1 ∙ (let some = some_in_line 0 old stand.there stand.some in omega (arith, length_is, some)) ∙ sym stand.counted;
     step = more_places ∙ sym stand.apart;
@@ -61,13 +62,13 @@ module _ (old new : List ℕ) (t : TreesValue) (more : NewPlacesValue) (stand : 
   }
 
   -- the trees stand for the longer lines
-  pub stand_longer : StandFor (with_places t more.numbers) 0 (array_of new (t.numbers ++ more.numbers))
+  pub stand_longer : StandFor (with_places t.lines more.places.numbers) 0 (array_of new (t.lines.numbers ++ more.places.numbers))
   stand_longer = record {
     sound = record {
       within = made.within;
-      one_item_a_place = length-map (t.numbers ++ more.numbers) (λ (z : ℤ). Num z) ∙ length-append t.numbers more.numbers ∙ (λ i. old_places i + more_places i)
+      one_item_a_place = length-map (t.lines.numbers ++ more.places.numbers) (λ (z : ℤ). Num z) ∙ length-append t.lines.numbers more.places.numbers ∙ (λ i. old_places i + more_places i)
           ∙ sym (ap size fits.tail.shaped ∙ size_longer old fits.tail.some_axis);
-      one_type = All-map (λ x. type_of x ≡ Nums) (λ (z : ℤ). Num z) (t.numbers ++ more.numbers) (λ k d h. refl);
+      one_type = All-map (λ x. type_of x ≡ Nums) (λ (z : ℤ). Num z) (t.lines.numbers ++ more.places.numbers) (λ k d h. refl);
     };
     some = made.some;
     there = made.there;

@@ -1,4 +1,4 @@
--- Arrays whose lines along an axis are summed up by trees.
+-- Arrays whose lines along an axis are kept as trees.
 use Rattle.std.specs.Prelude.{◌≡◌, ℕ, suc, ◌<◌, ℤ, nat_lt, List, Bool, ◌&&◌, Option, Some, None, if◌then◌else◌, length, map, get_or, drop}
 use Rattle.arrays_core.specs.declared.item.Item.TheVariants.{Num}
 use Rattle.arrays_core.specs.declared.item.ItemType.TheVariants.{Nums}
@@ -6,10 +6,12 @@ use Rattle.arrays_core.specs.declared.item.Item.{Item}
 use Rattle.arrays_core.specs.Arrays.{ArrayValue, IsArray}
 use Rattle.arrays_core.specs.Growth.{grown_by}
 use Rattle.arrays_core.specs.Shapes.{size}
+use Rattle.scalar_fns.specs.declared.function.Scalar2.{Scalar2}
 use Rattle.index_region.specs.Arguments.{is_of_numbers}
 use Rattle.index_region.specs.Axes.{is_axis, axis_at}
 use Rattle.index_region.specs.declared.along.Along.{Along}
 use Rattle.index_region.specs.Patches.{PatchValue, patched}
+use Rattle.operator_fns.specs.declared.reduce.Reduce.{Reduce}
 use Rattle.operator_fns.specs.SumTrees.{TreesValue}
 
 -- ---- the lines of an array
@@ -28,12 +30,13 @@ length_along along shape = if is_axis (length shape) along then line_length (axi
 
 -- ---- the sums that are kept of them
 
--- an array with the axis along which its lines are summed up, axes counted from 0
+-- an array with the function by which its lines are folded and the axis along which they lie, axes counted from 0
 pub record SummedValue : Type 0 where
+  pub function : Scalar2
   pub axis : ℕ
   pub array : ArrayValue
 
--- a line with no more items is summed up as fast without a tree
+-- a line with no more items is folded as fast without a tree
 abbrev pub most_without_tree : ℕ
 most_without_tree = 3
 
@@ -41,17 +44,17 @@ most_without_tree = 3
 abbrev pub keeps_sums : Along → ArrayValue → Bool
 keeps_sums along a = is_of_numbers a.item_type && (nat_lt 0 (size a.shape) && nat_lt most_without_tree (length_along along a.shape))
 
--- the array whose lines are summed up, if they are
-abbrev pub summed : Along → ArrayValue → Option SummedValue
-summed along a = if keeps_sums along a then Some (record { axis = axis_at (length a.shape) along; array = a }) else None
+-- the array whose lines are folded, if they are
+abbrev pub summed : Reduce → ArrayValue → Option SummedValue
+summed r a = if keeps_sums r.along a then Some (record { function = r.function; axis = axis_at (length a.shape) r.along; array = a }) else None
 
 -- a patch is laid over the array
 abbrev pub patched_sums : SummedValue → PatchValue → SummedValue
-patched_sums s p = record { axis = s.axis; array = patched s.array p }
+patched_sums s p = record { function = s.function; axis = s.axis; array = patched s.array p }
 
 -- the array grows by these items
 abbrev pub grown_sums : SummedValue → List Item → SummedValue
-grown_sums s items = record { axis = s.axis; array = grown_by s.array items }
+grown_sums s items = record { function = s.function; axis = s.axis; array = grown_by s.array items }
 
 -- ---- what tells them
 
@@ -59,7 +62,7 @@ grown_sums s items = record { axis = s.axis; array = grown_by s.array items }
 abbrev pub array_of : List ℕ → List ℤ → ArrayValue
 array_of shape numbers = record { item_type = Nums; shape = shape; items = map (λ z. Num z) numbers }
 
--- trees of sums stand for the lines of an array of some numbers along an axis
+-- trees stand for the lines of an array of some numbers along an axis
 pub record StandFor (t : TreesValue) (axis : ℕ) (a : ArrayValue) : Type 0 where
   pub sound : IsArray a
   pub some : 0 < size a.shape

@@ -3,30 +3,38 @@ use Rattle.std.specs.Prelude.{◌≡◌, ℕ, ◌-◌, ◌/◌, ◌<◌, ℤ, ma
 use Rattle.arrays_core.specs.declared.item.Item.TheVariants.{Num}
 use Rattle.arrays_core.specs.declared.item.ItemType.TheVariants.{Nums}
 use Rattle.arrays_core.specs.Shapes.{size, IsWithinLimits}
+use Rattle.scalar_fns.specs.declared.function.Scalar2.{Scalar2}
 use Rattle.index_region.specs.Tails.{TailValue, FitsTail}
-use Rattle.operator_fns.specs.SumTrees.{TreesValue, FitBehind, FitNext, with_lines, with_places}
+use Rattle.operator_fns.specs.SumTrees.{with_lines, with_places}
+use Rattle.fold_trees.specs.FoldTrees.{FoldsValue, AreFoldedBehind, AreFoldedNext}
 use Rattle.sum_rules.specs.LineSums.{SummedValue, line_length, line_step}
 use Rattle.sum_rules.specs.declared.new_lines.Growth.{Growth}
 use Rattle.sum_rules.specs.declared.new_lines.Growth.TheVariants.{Lines, Places}
 
--- what an array of numbers grows by, with the axis along which its lines are summed up
+-- what an array of numbers grows by, with the function by which its lines are folded and the axis along which they lie
 pub record NewLinesValue : Type 0 where
+  pub function : Scalar2
   pub axis : ℕ
   pub tail : TailValue
 
 -- the numbers of new lines, or of one more place of each line
 abbrev pub new_numbers : Growth → List ℤ
-new_numbers (Lines t) = t.numbers
-new_numbers (Places p) = p.numbers
+new_numbers (Lines t) = t.lines.numbers
+new_numbers (Places p) = p.places.numbers
+
+-- the function by which they are folded
+abbrev pub function_of : Growth → Scalar2
+function_of (Lines t) = t.function
+function_of (Places p) = p.function
 
 -- these numbers, to this shape
 abbrev pub lines_behind : (axis : ℕ) → List ℕ → Growth → NewLinesValue
-lines_behind axis shape g = record { axis = axis; tail = record { item_type = Nums; shape = shape; items = map (λ z. Num z) (new_numbers g) } }
+lines_behind axis shape g = record { function = function_of g; axis = axis; tail = record { item_type = Nums; shape = shape; items = map (λ z. Num z) (new_numbers g) } }
 
 -- new lines lie along another axis than the first, and come behind all others that an array of this shape has; along the first axis each line gets one more place
 abbrev pub AreNew : (axis : ℕ) → List ℕ → Growth → Type 0
-AreNew axis shape (Lines t) = (0 < axis) × ((t.count ≡ line_length axis shape) × ((t.step ≡ line_step axis shape) × (t.old_lines ≡ size shape / line_length axis shape - length t.numbers / line_length axis shape)))
-AreNew axis shape (Places p) = (axis ≡ 0) × (p.count ≡ max 1 (line_length axis shape - 1))
+AreNew axis shape (Lines t) = (0 < axis) × ((t.lines.count ≡ line_length axis shape) × ((t.lines.step ≡ line_step axis shape) × (t.lines.old_lines ≡ size shape / line_length axis shape - length t.lines.numbers / line_length axis shape)))
+AreNew axis shape (Places p) = (axis ≡ 0) × (p.places.count ≡ max 1 (line_length axis shape - 1))
 
 -- what an array grows by to this shape is made of
 pub record AreNewLinesOf (axis : ℕ) (shape : List ℕ) (g : Growth) : Type 0 where
@@ -36,16 +44,17 @@ pub record AreNewLinesOf (axis : ℕ) (shape : List ℕ) (g : Growth) : Type 0 w
   pub new : AreNew axis shape g
 
 -- trees take them
-abbrev pub FitsTrees : TreesValue → Growth → Type 0
-FitsTrees t (Lines m) = FitBehind t m
-FitsTrees t (Places m) = FitNext t m
+abbrev pub FitsTrees : FoldsValue → Growth → Type 0
+FitsTrees t (Lines m) = AreFoldedBehind t m
+FitsTrees t (Places m) = AreFoldedNext t m
 
 -- the trees with them
-abbrev pub trees_grown : TreesValue → Growth → TreesValue
-trees_grown t (Lines m) = with_lines t m.numbers
-trees_grown t (Places m) = with_places t m.numbers
+abbrev pub trees_grown : FoldsValue → Growth → FoldsValue
+trees_grown t (Lines m) = record { function = t.function; lines = with_lines t.lines m.lines.numbers }
+trees_grown t (Places m) = record { function = t.function; lines = with_places t.lines m.places.numbers }
 
--- they are those that an array grows by whose lines are summed up along the same axis
+-- they are those that an array grows by whose lines are folded by the same function along the same axis
 pub record FitsSums (s : SummedValue) (l : NewLinesValue) : Type 0 where
+  pub function : l.function ≡ s.function
   pub axis : l.axis ≡ s.axis
   pub tail : FitsTail s.array l.tail

@@ -1,6 +1,7 @@
 -- The totals of the lines of an array whose sums are kept by trees.
 use Rattle.std.specs.Prelude.{◌≡◌, ℕ, ◌+◌, ◌-◌, ◌*◌, ◌<◌, ◌≤◌, ◌^◌, ℤ, nat_eq, Bool, true, false, ◌&&◌, is_ok, List, [], ◌∷◌, length, get_or, remove, All}
 use Rattle.std.specs.List.{flat_map}
+use Rattle.scalar_fns.specs.declared.function.Scalar2.{Scalar2}
 use Rattle.scalar_fns.specs.declared.function.Scalar2.TheVariants.{Plus}
 use Rattle.arrays_core.specs.Arrays.{ArrayValue}
 use Rattle.index_region.specs.Axes.{is_axis, axis_at}
@@ -14,13 +15,18 @@ use Rattle.change_core.specs.RuleModels.{RuleModel}
 use Rattle.change_rules.specs.Nodes.{Argument, node_cost}
 use Rattle.change_rules.specs.Outcomes.{Outcome}
 use Rattle.change_core.specs.Meters.{ticked}
+use Rattle.operator_fns.specs.declared.reduce.Reduce.{Reduce}
 use Rattle.operator_fns.specs.SumTrees.{TreesValue}
 use Rattle.operator_rules.specs.Reduce.{reduce_rule}
 use Rattle.sum_rules.specs.LineSums.{StandFor, length_along}
 
--- the totals along the axis that is written, as of +/B
-abbrev pub total_rule : Along → RuleModel
-total_rule along = reduce_rule Plus along
+-- the totals that a reduction gives, as those of +/B
+abbrev pub total_rule : Reduce → RuleModel
+total_rule fold = reduce_rule fold.function fold.along
+
+-- the sums along the last axis
+abbrev pub row_sums : Reduce
+row_sums = record { function = Plus; along = Last }
 
 -- trees stand for the lines that this array had along the axis that is written, before the patch was laid over it
 pub record StoodFor (along : Along) (t : TreesValue) (p : PatchValue) (now : ArrayValue) : Type 0 where
@@ -30,9 +36,9 @@ pub record StoodFor (along : Along) (t : TreesValue) (p : PatchValue) (now : Arr
   pub fit : FitsPatch before p
   pub is : now ≡ patched before p
 
--- where a box of the argument changed, the trees stand for what it was
-abbrev pub IsSummedUp : Along → Argument → TreesValue → Type 0
-IsSummedUp along arg t = (p : PatchValue) → arg.1.now ≡ Patch p → StoodFor along t p arg.0
+-- where a box of the argument changed, the trees are of the function that folds its lines, and stand for what it was
+abbrev pub IsSummedUp : Reduce → Argument → Scalar2 → TreesValue → Type 0
+IsSummedUp fold arg function t = (p : PatchValue) → arg.1.now ≡ Patch p → (function ≡ fold.function) × StoodFor fold.along t p arg.0
 
 -- lists of numbers that are each as long
 abbrev pub AreAllAsLong : ℕ → List (List ℤ) → Type 0
@@ -59,7 +65,7 @@ AreJoinsWithin items long old new = (digits : ℕ) → long - 1 < 2 ^ digits →
 abbrev pub AreJoinsFrom : (items long old new : ℕ) → Type 0
 AreJoinsFrom items long old new = 1 < long → ticked old items ≤ new
 
--- at most those of so many lines of this length that are summed up
+-- at most those of so many lines of this length that are folded
 abbrev pub AreFoldsWithin : (lines long old new : ℕ) → Type 0
 AreFoldsWithin lines long old new = new ≤ old + lines * (long - 1)
 
@@ -84,13 +90,13 @@ abbrev pub is_by_trees : Along → Argument → Outcome → Bool
 is_by_trees along arg old = is_ok old && is_narrow (axis_at (length arg.0.shape) along) arg.1.now
 
 -- how many joins of sums the change of the totals takes at most: by trees as many for each new item as the length of a line less one has binary digits, else
--- one less for each line that is summed up than it has numbers
-pub record HasJoins (along : Along) (arg : Argument) (held : Outcome) (old new : ℕ) : Type 0 where
-  pub trees : is_by_trees along arg held ≡ true → AreJoinsWithin (new_items arg.1.now) (length_along along arg.0.shape) old new
-  pub folds : is_by_trees along arg held ≡ false → AreFoldsWithin (node_cost (total_rule along) (arg ∷ []) held) (length_along along arg.0.shape) old new
+-- one less for each line that is folded than it has numbers
+pub record HasJoins (fold : Reduce) (arg : Argument) (held : Outcome) (old new : ℕ) : Type 0 where
+  pub trees : is_by_trees fold.along arg held ≡ true → AreJoinsWithin (new_items arg.1.now) (length_along fold.along arg.0.shape) old new
+  pub folds : is_by_trees fold.along arg held ≡ false → AreFoldsWithin (node_cost (total_rule fold) (arg ∷ []) held) (length_along fold.along arg.0.shape) old new
 
 -- how many it takes where no total fails: by trees at least one for each new item of lines of two numbers and more, else just those of the lines that are
--- summed up
-pub record HasAllJoins (along : Along) (arg : Argument) (held : Outcome) (old new : ℕ) : Type 0 where
-  pub trees : is_by_trees along arg held ≡ true → AreJoinsFrom (new_items arg.1.now) (length_along along arg.0.shape) old new
-  pub folds : is_by_trees along arg held ≡ false → AreFolds (node_cost (total_rule along) (arg ∷ []) held) (length_along along arg.0.shape) old new
+-- folded
+pub record HasAllJoins (fold : Reduce) (arg : Argument) (held : Outcome) (old new : ℕ) : Type 0 where
+  pub trees : is_by_trees fold.along arg held ≡ true → AreJoinsFrom (new_items arg.1.now) (length_along fold.along arg.0.shape) old new
+  pub folds : is_by_trees fold.along arg held ≡ false → AreFolds (node_cost (total_rule fold) (arg ∷ []) held) (length_along fold.along arg.0.shape) old new

@@ -1,4 +1,4 @@
-//! Totals of lines that follow changes by trees of sums.
+//! Totals of lines that follow changes by trees of the lines.
 #![tactic(auto)]
 
 mod line_sums;

@@ -1,4 +1,4 @@
-//! The sums of the lines of an array, by trees.
+//! The folds of the lines of an array, by trees.
 
 ghost use Rattle.std.specs.Prelude.{◌≡◌, ◌+◌, ◌*◌, ◌%◌, ◌^◌, ◌<◌, ◌≤◌, [], ◌++◌, suc, length, map, set, drop, true, vec_len, vec_capacity, IsTrue, IfOk};
 ghost use Rattle.arrays_core.specs.declared.item.Item.TheVariants.{Num};
@@ -9,17 +9,19 @@ ghost use Rattle.arrays_core.specs.Shapes.{size as size_of, IsWithinLimits};
 ghost use Rattle.index_region.specs.Axes.{is_axis as has_axis, axis_at as axis_meant};
 ghost use Rattle.index_region.specs.Patches.{FitsPatch, patched};
 ghost use Rattle.operator_fns.specs.SumTrees.{with_number};
+ghost use Rattle.fold_trees.specs.FoldTrees.{has_trees as has_such};
 ghost use Rattle.sum_rules.specs.LineSums.{length_along as long_along, line_length as length_of_lines, line_step as step_of_lines, keeps_sums as is_kept, summed, array_of, patched_sums, grown_sums, StandFor};
 ghost use Rattle.sum_rules.specs.NewLines.{FitsSums, FitsTrees, trees_grown};
 
 use crate::new_lines::{Growth, NewLines};
 use arrays_core::{Array, Item, ItemType, Shape, position, shape_of, size};
+use fold_trees::FoldTrees;
 use index_region::{Along, Patch, Seen};
-use operator_fns::SumTrees;
+use operator_fns::Reduce;
 use std::alloc::{AllocError, Global};
 use std::marker::Model;
 
-/// A line with no more items is summed up as fast without a tree.
+/// A line with no more items is folded as fast without a tree.
 const MOST_WITHOUT_TREE: u32 = 3;
 
 /// How long the lines along an axis are, axes counted from 0; 0 where there is no such axis.
@@ -54,7 +56,7 @@ pub(crate) fn length_along(along: Along, shape: &[u32]) -> u32
     line_length(along.axis_at(rank), shape)
 }
 
-/// The sums of the lines of an array along this axis are worth keeping: it is of numbers, there are some, and its lines are long
+/// The folds of the lines of an array along this axis are worth keeping: it is of numbers, there are some, and its lines are long
 /// enough.
 pub fn keeps_sums(along: Along, array: &Seen) -> bool
     ensures { result ≡ is_kept along array.now }
@@ -64,19 +66,20 @@ pub fn keeps_sums(along: Along, array: &Seen) -> bool
         && length_along(along, array.shape().as_slice()) > MOST_WITHOUT_TREE
 }
 
-/// The sums of the lines of an array whose lines are summed up.
-fn sums_of(alloc: Global, along: Along, array: &Array) -> Result<Option<LineSums>, AllocError>
-    requires { is_kept along array.now ≡ true }
-    ensures { IfOk result (λ s. s ≡ summed along array.now) }
+/// The folds of the lines of an array whose lines are long enough.
+fn sums_of(alloc: Global, fold: Reduce, array: &Array) -> Result<Option<LineSums>, AllocError>
+    requires function { has_such fold.function ≡ true }
+    requires kept { is_kept fold.along array.now ≡ true }
+    ensures { IfOk result (λ s. s ≡ summed fold array.now) }
 {
     let shape = array.shape();
     let axes = shape.as_slice();
-    let axis = along.axis_at(axes.len() as u32);
+    let axis = fold.along.axis_at(axes.len() as u32);
     let count = line_length(axis, axes) as usize;
     let step = line_step(axis, axes) as usize;
     match array.numbers() {
         Some(numbers) => {
-            let trees = SumTrees::build(alloc, numbers, count, step)?;
+            let trees = FoldTrees::build(alloc, fold.function, numbers, count, step)?;
             let shape = shape_of(alloc, axes);
             Ok(Some(LineSums { axis, shape, trees }))
         }
@@ -85,12 +88,13 @@ fn sums_of(alloc: Global, along: Along, array: &Array) -> Result<Option<LineSums
 }
 
 /// Puts an item that is a number at a place of all lines, places counted from 0.
-fn set_item(trees: &mut SumTrees, place: usize, item: Item)
-    requires place { place < length trees.old.numbers }
+fn set_item(trees: &mut FoldTrees, place: usize, item: Item)
+    requires place { place < length trees.old.lines.numbers }
     requires number { type_of item ≡ Nums }
-    ensures items { map (λ z. Num z) trees.new.numbers ≡ set (map (λ z. Num z) trees.old.numbers) place item }
-    ensures count { trees.new.count ≡ trees.old.count }
-    ensures step { trees.new.step ≡ trees.old.step }
+    ensures items { map (λ z. Num z) trees.new.lines.numbers ≡ set (map (λ z. Num z) trees.old.lines.numbers) place item }
+    ensures function { trees.new.function ≡ trees.old.function }
+    ensures count { trees.new.lines.count ≡ trees.old.lines.count }
+    ensures step { trees.new.lines.step ≡ trees.old.lines.step }
 {
     if let Item::Num(number) = item {
         trees.set(place, number);
@@ -98,13 +102,14 @@ fn set_item(trees: &mut SumTrees, place: usize, item: Item)
 }
 
 /// Puts the new items of a patch into the lines of an array of this shape.
-fn write_into(shape: &Shape, trees: &mut SumTrees, patch: &Patch)
-    requires lines { IsArray (array_of shape.now.items trees.old.numbers) }
-    requires fit { FitsPatch (array_of shape.now.items trees.old.numbers) patch.now }
-    ensures numbers { array_of shape.now.items trees.new.numbers ≡ patched (array_of shape.now.items trees.old.numbers) patch.now }
-    ensures sound { IsArray (array_of shape.now.items trees.new.numbers) }
-    ensures count { trees.new.count ≡ trees.old.count }
-    ensures step { trees.new.step ≡ trees.old.step }
+fn write_into(shape: &Shape, trees: &mut FoldTrees, patch: &Patch)
+    requires lines { IsArray (array_of shape.now.items trees.old.lines.numbers) }
+    requires fit { FitsPatch (array_of shape.now.items trees.old.lines.numbers) patch.now }
+    ensures numbers { array_of shape.now.items trees.new.lines.numbers ≡ patched (array_of shape.now.items trees.old.lines.numbers) patch.now }
+    ensures sound { IsArray (array_of shape.now.items trees.new.lines.numbers) }
+    ensures function { trees.new.function ≡ trees.old.function }
+    ensures count { trees.new.lines.count ≡ trees.old.lines.count }
+    ensures step { trees.new.lines.step ≡ trees.old.lines.step }
 {
     // The type of the items says that the patch has one item for each place.
     let _one_item_a_place = patch.item_type();
@@ -118,7 +123,7 @@ fn write_into(shape: &Shape, trees: &mut SumTrees, patch: &Patch)
 }
 
 /// Trees take new lines behind the others, or one more place of each line. They take no memory.
-fn take_growth(trees: &mut SumTrees, growth: Growth)
+fn take_growth(trees: &mut FoldTrees, growth: Growth)
     requires { FitsTrees trees.old growth }
     ensures { trees.new ≡ trees_grown trees.old growth }
 {
@@ -128,12 +133,12 @@ fn take_growth(trees: &mut SumTrees, growth: Growth)
     }
 }
 
-/// The sums of the lines of an array of numbers along an axis, as trees.
+/// The folds of the lines of an array of numbers along an axis by a function, as trees.
 #[derive(Drop)]
 pub struct LineSums {
     axis: usize,
     shape: Shape,
-    trees: SumTrees,
+    trees: FoldTrees,
 }
 
 impl Model for LineSums {
@@ -141,29 +146,31 @@ impl Model for LineSums {
 
     ghost Value = { SummedValue };
 
-    ghost view = { λ s. record { axis = s.axis; array = array_of s.shape.items s.trees.numbers } };
+    ghost view = { λ s. record { function = s.trees.function; axis = s.axis; array = array_of s.shape.items s.trees.lines.numbers } };
 
-    ghost invariant = { λ s. StandFor s.trees s.axis (array_of s.shape.items s.trees.numbers) };
+    ghost invariant = { λ s. StandFor s.trees.lines s.axis (array_of s.shape.items s.trees.lines.numbers) };
 }
 
 impl LineSums {
-    /// The sums of the lines of an array of numbers along this axis; none for characters, where there are no numbers or no such axis, or
-    /// where a line has no more than 3 items, which are summed up as fast without a tree.
-    pub fn of(alloc: Global, along: Along, array: &Seen) -> Result<Option<LineSums>, AllocError>
-        ensures { IfOk result (λ s. s ≡ summed along array.now) }
+    /// The folds of the lines of an array of numbers along an axis; none for characters, where there are no numbers or no such axis, or
+    /// where a line has no more than 3 items, which are folded as fast without a tree.
+    pub fn of(alloc: Global, fold: Reduce, array: &Seen) -> Result<Option<LineSums>, AllocError>
+        requires { has_such fold.function ≡ true }
+        ensures { IfOk result (λ s. s ≡ summed fold array.now) }
     {
-        if !keeps_sums(along, array) {
+        if !keeps_sums(fold.along, array) {
             return Ok(None);
         }
         match array.array() {
-            Some(array) => sums_of(alloc, along, array),
-            None => sums_of(alloc, along, &array.copy()?),
+            Some(array) => sums_of(alloc, fold, array),
+            None => sums_of(alloc, fold, &array.copy()?),
         }
     }
 
     /// The trees of the lines.
-    pub fn trees(&self) -> &SumTrees
-        ensures { StandFor result.now self.now.axis self.now.array }
+    pub fn trees(&self) -> &FoldTrees
+        ensures function { result.now.function ≡ self.now.function }
+        ensures lines { StandFor result.now.lines self.now.axis self.now.array }
     {
         &self.trees
     }
@@ -176,7 +183,7 @@ impl LineSums {
         write_into(&self.shape, &mut self.trees, patch);
     }
 
-    /// Takes the sums of new lines behind the others, or one more number for each line. It takes no memory.
+    /// Takes the trees of new lines behind the others, or one more number for each line. It takes no memory.
     pub fn grow(&mut self, lines: NewLines)
         requires { FitsSums self.old lines }
         ensures { self.new ≡ grown_sums self.old lines.tail.items }

@@ -1,33 +1,44 @@
-//! Trees of sums that tell the total of a line where one number of it is another.
+//! Trees that tell the total of a line where one number of it is another.
 
 ghost use Rattle.std.specs.Prelude.{◌≡◌, ◌<◌, ◌-◌, ◌/◌, ◌%◌, length};
-ghost use Rattle.operator_fns.specs.SumTree.{IsReductionBySum, IsWithinDigitsOf};
+ghost use Rattle.operator_fns.specs.SumTree.{IsWithinDigitsOf};
 ghost use Rattle.operator_fns.specs.SumTrees.{TreesValue, numbers_through, with_number};
+ghost use Rattle.scalar_fns.specs.declared.function.Scalar2.{Scalar2 as Function};
+ghost use Rattle.scalar_fns.specs.declared.function.Scalar2.TheVariants.{Plus as Sum};
+ghost use Rattle.fold_trees.specs.FoldTrees.{IsReductionBy};
 ghost use Rattle.sum_rules.specs.Totals.{AreAllAsLong, all_trees};
 
 use arrays_core::Kind;
-use operator_fns::{SumTree, SumTrees};
+use fold_trees::FoldTrees;
+use operator_fns::SumTree;
 
-/// Trees of the sums of the lines of an array along one axis.
+/// Trees of the lines of an array along one axis, which are folded by a function.
 pub trait LineTotals {
     ghost use Rattle.std.specs.Prelude.{◌<◌, ◌-◌, length};
-    ghost use Rattle.operator_fns.specs.SumTree.{IsReductionBySum, IsWithinDigitsOf};
+    ghost use Rattle.operator_fns.specs.SumTree.{IsWithinDigitsOf};
     ghost use Rattle.operator_fns.specs.SumTrees.{TreesValue, numbers_through, with_number};
+    ghost use Rattle.scalar_fns.specs.declared.function.Scalar2.{Scalar2 as Function};
+    ghost use Rattle.fold_trees.specs.FoldTrees.{IsReductionBy};
+
+    // The function by which the lines are folded.
+    ghost function: { Self → Function };
 
     // The numbers of all lines.
     ghost trees: { Self → TreesValue };
 
-    /// The total of the line that a place is on with another number there, places counted from 0, and how many sums were joined for
-    /// it. LIMIT where the sum from the right leaves 64 bits.
+    /// The total of the line that a place is on with another number there, places counted from 0, and how many parts were joined for
+    /// it; or the error that the fold from the right meets.
     fn total_with(&self, place: usize, number: i64) -> (Result<i64, Kind>, u32)
         requires { place < length (trees self.now).numbers }
-        ensures total { IsReductionBySum (numbers_through (with_number (trees self.now) place number) place) result.0 }
+        ensures total { IsReductionBy (function self.now) (numbers_through (with_number (trees self.now) place number) place) result.0 }
         ensures joins { IsWithinDigitsOf ((trees self.now).count - 1) result.1 }
         ensures some { 1 < (trees self.now).count → 0 < result.1 };
 }
 
-impl LineTotals for SumTrees {
-    ghost trees = { λ t. t };
+impl LineTotals for FoldTrees {
+    ghost function = { λ t. t.function };
+
+    ghost trees = { λ t. t.lines };
 
     fn total_with(&self, place: usize, number: i64) -> (Result<i64, Kind>, u32) {
         self.result_with(place, number)
@@ -44,6 +55,8 @@ pub(crate) struct TreeALine<'a> {
 }
 
 impl<'a> LineTotals for TreeALine<'a> {
+    ghost function = { λ t. Sum };
+
     ghost trees = { λ t. all_trees t.count t.trees.now };
 
     fn total_with(&self, place: usize, number: i64) -> (Result<i64, Kind>, u32) {

@@ -1,14 +1,16 @@
-//! The sums of the lines that an array grows by.
+//! The lines that an array grows by, for the trees of its lines.
 
-ghost use Rattle.std.specs.Prelude.{◌≡◌, ◌<◌, length, drop, IfOk};
+ghost use Rattle.std.specs.Prelude.{◌≡◌, ◌<◌, true, length, drop, IfOk};
 ghost use Rattle.arrays_core.specs.declared.item.ItemType.TheVariants.{Nums};
 ghost use Rattle.arrays_core.specs.Shapes.{size as size_of, IsWithinLimits};
-ghost use Rattle.sum_rules.specs.NewLines.{new_numbers, AreNew};
+ghost use Rattle.fold_trees.specs.FoldTrees.{has_trees as has_such};
+ghost use Rattle.sum_rules.specs.NewLines.{function_of, new_numbers, AreNew};
 
 use crate::line_sums::{line_length, line_step};
 use arrays_core::{Shape, shape_of, size};
+use fold_trees::{NewFolds, NextFolds};
 use index_region::Tail;
-use operator_fns::{NewPlaces, NewTrees};
+use scalar_fns::Scalar2;
 use std::alloc::{AllocError, Global};
 use std::marker::Model;
 
@@ -16,9 +18,9 @@ use std::marker::Model;
 #[derive(Drop)]
 pub(crate) enum Growth {
     /// New lines behind the others.
-    Lines(NewTrees),
+    Lines(NewFolds),
     /// One more place of each line, where they lie along the first axis.
-    Places(NewPlaces),
+    Places(NextFolds),
 }
 
 /// What the lines of an array of numbers get where it grows, as trees or for the trees that they have, with the shape that the array has
@@ -43,19 +45,25 @@ impl Model for NewLines {
 impl NewLines {
     /// What the lines along an axis get by a tail, which is one place of an array that has numbers then. Axes are counted from 0.
     /// AllocError where memory for it, or for the room, is refused.
-    pub fn of(alloc: Global, axis: usize, tail: &Tail) -> Result<NewLines, AllocError>
+    pub fn of(
+        alloc: Global,
+        function: Scalar2,
+        axis: usize,
+        tail: &Tail,
+    ) -> Result<NewLines, AllocError>
+        requires function { has_such function ≡ true }
         requires numbers { tail.now.item_type ≡ Nums }
         requires some { 0 < size_of tail.now.shape }
         requires there { axis < length tail.now.shape }
         requires one_place { length tail.now.items ≡ size_of (drop 1 tail.now.shape) }
-        ensures { IfOk result (λ l. l ≡ record { axis = axis; tail = tail.now }) }
+        ensures { IfOk result (λ l. l ≡ record { function = function; axis = axis; tail = tail.now }) }
     {
         let shape = shape_of(alloc, tail.shape().as_slice());
         let numbers = match tail.values().numbers() {
             Some(numbers) => numbers,
             None => unreachable!(),
         };
-        let growth = growth_of(alloc, axis, shape.as_slice(), numbers)?;
+        let growth = growth_of(alloc, function, axis, shape.as_slice(), numbers)?;
         Ok(NewLines {
             axis,
             shape,
@@ -67,25 +75,29 @@ impl NewLines {
 /// What the lines along an axis get by these numbers, with which the array has this shape.
 fn growth_of(
     alloc: Global,
+    function: Scalar2,
     axis: usize,
     shape: &[u32],
     numbers: &[i64],
 ) -> Result<Growth, AllocError>
+    requires function { has_such function ≡ true }
     requires within { IsWithinLimits shape.now }
     requires some { 0 < size_of shape.now }
     requires there { axis < length shape.now }
     requires one_place { length numbers.now ≡ size_of (drop 1 shape.now) }
+    ensures function { IfOk result (λ g. function_of g ≡ function) }
     ensures numbers { IfOk result (λ g. new_numbers g ≡ numbers.now) }
     ensures new { IfOk result (AreNew axis shape.now) }
 {
     let count = line_length(axis, shape) as usize;
     if axis == 0 {
         let old = count.saturating_sub(1).max(1);
-        return Ok(Growth::Places(NewPlaces::build(alloc, numbers, old)?));
+        let places = NextFolds::build(alloc, function, numbers, old)?;
+        return Ok(Growth::Places(places));
     }
     let step = line_step(axis, shape) as usize;
     let lines = size(shape) as usize / count;
     let old_lines = lines.saturating_sub(numbers.len() / count);
-    let trees = NewTrees::build(alloc, numbers, count, step, old_lines)?;
-    Ok(Growth::Lines(trees))
+    let lines = NewFolds::build(alloc, function, numbers, count, step, old_lines)?;
+    Ok(Growth::Lines(lines))
 }

@@ -4,12 +4,10 @@ ghost use Rattle.std.specs.Prelude.{◌≡◌, ◌-◌, ◌+◌, ◌≤◌, ◌<
 ghost use Rattle.arrays_core.specs.declared.item.Item.TheVariants.{Num};
 ghost use Rattle.arrays_core.specs.Items.{type_of};
 ghost use Rattle.arrays_core.specs.declared.item.ItemType.TheVariants.{Nums};
-ghost use Rattle.scalar_fns.specs.declared.function.Scalar2.TheVariants.{Plus as Sum};
 ghost use Rattle.index_region.specs.Arguments.{number_of};
 ghost use Rattle.index_region.specs.Axes.{is_axis as has_axis, axis_at as axis_meant};
 ghost use Rattle.index_region.specs.Boxes.{box_size};
 ghost use Rattle.index_region.specs.Patches.{FitsPatch, patched};
-ghost use Rattle.index_region.specs.declared.along.Along.TheVariants.{Last as LastAxis};
 ghost use Rattle.operator_fns.specs.Reduce.{reduce_item};
 ghost use Rattle.operator_fns.specs.RightFold.{fold_right};
 ghost use Rattle.operator_fns.specs.SumTree.{IsWithinDigitsOf};
@@ -20,7 +18,7 @@ ghost use Rattle.change_core.specs.Reaches.{AllFit};
 ghost use Rattle.change_rules.specs.Nodes.{views, moved, is_error, node_delta, node_cost, reached_delta, reached_cost, patch_delta};
 ghost use Rattle.change_rules.specs.Currency.{BringsUpToDate, HasAxis, IsRight};
 ghost use Rattle.sum_rules.specs.LineSums.{StandFor, array_of, length_along as long_along};
-ghost use Rattle.sum_rules.specs.Totals.{total_rule, StoodFor, IsSummedUp, IsSummedByLines, AreJoinsWithin, AreJoinsFrom, AreFoldsWithin, AreFolds, HasJoins, HasAllJoins, is_one_a_line as has_one_a_line, lines_of};
+ghost use Rattle.sum_rules.specs.Totals.{total_rule, StoodFor, IsSummedUp, IsSummedByLines, AreJoinsWithin, AreJoinsFrom, AreFoldsWithin, AreFolds, HasJoins, HasAllJoins, is_one_a_line as has_one_a_line, lines_of, row_sums};
 
 use crate::line_sums::length_along;
 use crate::line_totals::{LineTotals, TreeALine};
@@ -43,10 +41,10 @@ fn is_one_a_line(axis: usize, region: &IndexBox) -> bool
     }
 }
 
-/// The total of the line that a place is on with a new item there, and how many sums were joined for it.
+/// The total of the line that a place is on with a new item there, and how many parts were joined for it.
 fn total_with<S: LineTotals>(sums: &S, place: usize, item: Item) -> (Result<Item, Kind>, u32)
     requires { place < length (S.trees sums.now).numbers }
-    ensures total { result.0 ≡ fold_right Sum (map (λ z. Num z) (numbers_through (with_number (S.trees sums.now) place (number_of item)) place)) }
+    ensures total { result.0 ≡ fold_right (S.function sums.now) (map (λ z. Num z) (numbers_through (with_number (S.trees sums.now) place (number_of item)) place)) }
     ensures typed { IfOk result.0 (λ total. type_of total ≡ Nums) }
     ensures joins { IsWithinDigitsOf ((S.trees sums.now).count - 1) result.1 }
     ensures some { 1 < (S.trees sums.now).count → 0 < result.1 }
@@ -65,22 +63,23 @@ fn total_with<S: LineTotals>(sums: &S, place: usize, item: Item) -> (Result<Item
 /// The totals of the lines of an array of this shape that have a new number each, or the first error among them.
 fn new_totals<S: LineTotals>(
     alloc: Global,
-    along: Along,
+    fold: Reduce,
     shape: &Shape,
     sums: &S,
     patch: &Patch,
     meter: &mut Meter,
 ) -> Result<Array, ApplyFault>
-    requires on_axis { has_axis (length shape.now.items) along ≡ true }
-    requires lines { StandFor (S.trees sums.now) (axis_meant (length shape.now.items) along) (array_of shape.now.items (S.trees sums.now).numbers) }
+    requires function { S.function sums.now ≡ fold.function }
+    requires on_axis { has_axis (length shape.now.items) fold.along ≡ true }
+    requires lines { StandFor (S.trees sums.now) (axis_meant (length shape.now.items) fold.along) (array_of shape.now.items (S.trees sums.now).numbers) }
     requires fit { FitsPatch (array_of shape.now.items (S.trees sums.now).numbers) patch.now }
-    requires one { has_one_a_line (axis_meant (length shape.now.items) along) patch.now.region ≡ true }
-    ensures totals { HoldsItems Nums (items_in (reduce_item Sum along (patched (array_of shape.now.items (S.trees sums.now).numbers) patch.now)) (lines_of (axis_meant (length shape.now.items) along) patch.now.region)) result }
+    requires one { has_one_a_line (axis_meant (length shape.now.items) fold.along) patch.now.region ≡ true }
+    ensures totals { HoldsItems Nums (items_in (reduce_item fold.function fold.along (patched (array_of shape.now.items (S.trees sums.now).numbers) patch.now)) (lines_of (axis_meant (length shape.now.items) fold.along) patch.now.region)) result }
     ensures ticks { meter.new.ticks ≤ meter.old.ticks + box_size patch.now.region }
     ensures exact { IfOk result (λ _. meter.new.ticks ≡ ticked meter.old.ticks (box_size patch.now.region)) }
     ensures rises { meter.old.ticks ≤ meter.new.ticks }
-    ensures joins { AreJoinsWithin (box_size patch.now.region) (long_along along shape.now.items) meter.old.joins meter.new.joins }
-    ensures least { IfOk result (λ _. AreJoinsFrom (box_size patch.now.region) (long_along along shape.now.items) meter.old.joins meter.new.joins) }
+    ensures joins { AreJoinsWithin (box_size patch.now.region) (long_along fold.along shape.now.items) meter.old.joins meter.new.joins }
+    ensures least { IfOk result (λ _. AreJoinsFrom (box_size patch.now.region) (long_along fold.along shape.now.items) meter.old.joins meter.new.joins) }
 {
     // The type of the items says that the patch has one item for each place.
     let _one_item_a_place = patch.item_type();
@@ -107,29 +106,25 @@ fn new_totals<S: LineTotals>(
 /// array, and what it costs.
 fn change_by_trees<S: LineTotals>(
     alloc: Global,
-    along: Along,
+    fold: Reduce,
     array: &Seen,
     patch: &Patch,
     sums: &S,
     meter: &mut Meter,
 ) -> Result<(Delta, u32), AllocError>
-    requires lines { StoodFor along (S.trees sums.now) patch.now array.now }
-    requires one { has_one_a_line (axis_meant (length array.now.shape) along) patch.now.region ≡ true }
+    requires function { S.function sums.now ≡ fold.function }
+    requires lines { StoodFor fold.along (S.trees sums.now) patch.now array.now }
+    requires one { has_one_a_line (axis_meant (length array.now.shape) fold.along) patch.now.region ≡ true }
     requires small { meter.old.ticks ≤ most_ticks }
-    ensures delta { IfOk result (λ r. r.0 ≡ reached_delta (total_rule along) (array.now ∷ []) (Some patch.now.region ∷ [])) }
-    ensures cost { IfOk result (λ r. r.1 ≡ reached_cost (total_rule along) (array.now ∷ []) (Some patch.now.region ∷ [])) }
-    ensures ticks { meter.new.ticks ≤ meter.old.ticks + reached_cost (total_rule along) (array.now ∷ []) (Some patch.now.region ∷ []) }
+    ensures delta { IfOk result (λ r. r.0 ≡ reached_delta (total_rule fold) (array.now ∷ []) (Some patch.now.region ∷ [])) }
+    ensures cost { IfOk result (λ r. r.1 ≡ reached_cost (total_rule fold) (array.now ∷ []) (Some patch.now.region ∷ [])) }
+    ensures ticks { meter.new.ticks ≤ meter.old.ticks + reached_cost (total_rule fold) (array.now ∷ []) (Some patch.now.region ∷ []) }
     ensures exact { IfOk result (λ r. is_error r.0 ≡ false → meter.new.ticks ≡ ticked meter.old.ticks r.1) }
     ensures rises { meter.old.ticks ≤ meter.new.ticks }
-    ensures joins { AreJoinsWithin (box_size patch.now.region) (long_along along array.now.shape) meter.old.joins meter.new.joins }
-    ensures least { IfOk result (λ r. is_error r.0 ≡ false → AreJoinsFrom (box_size patch.now.region) (long_along along array.now.shape) meter.old.joins meter.new.joins) }
+    ensures joins { AreJoinsWithin (box_size patch.now.region) (long_along fold.along array.now.shape) meter.old.joins meter.new.joins }
+    ensures least { IfOk result (λ r. is_error r.0 ≡ false → AreJoinsFrom (box_size patch.now.region) (long_along fold.along array.now.shape) meter.old.joins meter.new.joins) }
 {
-    let rule = Ruled {
-        function: Reduce {
-            function: Scalar2::Plus,
-            along,
-        },
-    };
+    let rule = Ruled { function: fold };
     let args = [array.again()];
     let form = match rule.shape(&args) {
         Ok(form) => form,
@@ -140,7 +135,7 @@ fn change_by_trees<S: LineTotals>(
         Reach::Unmoved => Ok((Delta::Same, 0)),
         Reach::Inside(region) => {
             let cost = region.size() as u32;
-            let delta = patch_of(alloc, along, region, array, sums, patch, meter)?;
+            let delta = patch_of(alloc, fold, region, array, sums, patch, meter)?;
             Ok((delta, cost))
         }
         Reach::Anew => unreachable!(),
@@ -150,73 +145,69 @@ fn change_by_trees<S: LineTotals>(
 /// The patch of the totals of the lines of a box, or the first error among them.
 fn patch_of<S: LineTotals>(
     alloc: Global,
-    along: Along,
+    fold: Reduce,
     region: IndexBox,
     array: &Seen,
     sums: &S,
     patch: &Patch,
     meter: &mut Meter,
 ) -> Result<Delta, AllocError>
-    requires lines { StoodFor along (S.trees sums.now) patch.now array.now }
-    requires one { has_one_a_line (axis_meant (length array.now.shape) along) patch.now.region ≡ true }
-    requires region { region ≡ lines_of (axis_meant (length array.now.shape) along) patch.now.region }
-    ensures delta { IfOk result (λ d. d ≡ patch_delta Nums region (items_in (reduce_item Sum along array.now) region)) }
+    requires function { S.function sums.now ≡ fold.function }
+    requires lines { StoodFor fold.along (S.trees sums.now) patch.now array.now }
+    requires one { has_one_a_line (axis_meant (length array.now.shape) fold.along) patch.now.region ≡ true }
+    requires region { region ≡ lines_of (axis_meant (length array.now.shape) fold.along) patch.now.region }
+    ensures delta { IfOk result (λ d. d ≡ patch_delta Nums region (items_in (reduce_item fold.function fold.along array.now) region)) }
     ensures ticks { meter.new.ticks ≤ meter.old.ticks + box_size patch.now.region }
     ensures exact { IfOk result (λ d. is_error d ≡ false → meter.new.ticks ≡ ticked meter.old.ticks (box_size patch.now.region)) }
     ensures rises { meter.old.ticks ≤ meter.new.ticks }
-    ensures joins { AreJoinsWithin (box_size patch.now.region) (long_along along array.now.shape) meter.old.joins meter.new.joins }
-    ensures least { IfOk result (λ d. is_error d ≡ false → AreJoinsFrom (box_size patch.now.region) (long_along along array.now.shape) meter.old.joins meter.new.joins) }
+    ensures joins { AreJoinsWithin (box_size patch.now.region) (long_along fold.along array.now.shape) meter.old.joins meter.new.joins }
+    ensures least { IfOk result (λ d. is_error d ≡ false → AreJoinsFrom (box_size patch.now.region) (long_along fold.along array.now.shape) meter.old.joins meter.new.joins) }
 {
-    match new_totals(alloc, along, array.shape(), sums, patch, meter) {
+    match new_totals(alloc, fold, array.shape(), sums, patch, meter) {
         Ok(values) => Ok(Delta::Patch(Patch::of(region, values))),
         Err(ApplyFault::Kind(kind)) => Ok(Delta::Whole(Err(Fault { kind, origin: None }))),
         Err(ApplyFault::NoMemory) => Err(AllocError),
     }
 }
 
-/// The change of the totals of B along an axis, as `refresh_with_cost` answers it, and what it costs: how many totals it works out at
-/// most. Each of these lines is summed up, which joins as many numbers as the line has, less one.
+/// The change of the totals of B by a fold, as `refresh_with_cost` answers it, and what it costs: how many totals it works out at
+/// most. Each of these lines is folded, which joins as many numbers as the line has, less one.
 pub fn fold_totals_with_cost(
     alloc: Global,
-    along: Along,
+    fold: Reduce,
     arg: (Seen, &Delta),
     old: &Result<Array, Fault>,
     meter: &mut Meter,
 ) -> Result<(Delta, u32), AllocError>
     requires fit { AllFit (views (arg ∷ [])) (moved (arg ∷ [])) }
     requires axes { HasAxis (arg ∷ []) }
-    ensures delta { IfOk result (λ r. r.0 ≡ node_delta (total_rule along) (arg.entry ∷ []) old.now) }
-    ensures cost { IfOk result (λ r. r.1 ≡ node_cost (total_rule along) (arg.entry ∷ []) old.now) }
-    ensures ticks { meter.new.ticks ≤ meter.old.ticks + node_cost (total_rule along) (arg.entry ∷ []) old.now }
+    ensures delta { IfOk result (λ r. r.0 ≡ node_delta (total_rule fold) (arg.entry ∷ []) old.now) }
+    ensures cost { IfOk result (λ r. r.1 ≡ node_cost (total_rule fold) (arg.entry ∷ []) old.now) }
+    ensures ticks { meter.new.ticks ≤ meter.old.ticks + node_cost (total_rule fold) (arg.entry ∷ []) old.now }
     ensures exact { IfOk result (λ r. is_error r.0 ≡ false → meter.new.ticks ≡ ticked meter.old.ticks r.1) }
     ensures rises { meter.old.ticks ≤ meter.new.ticks }
-    ensures joins { AreFoldsWithin (node_cost (total_rule along) (arg.entry ∷ []) old.now) (long_along along arg.entry.0.shape) meter.old.joins meter.new.joins }
-    ensures folds { IfOk result (λ r. is_error r.0 ≡ false → AreFolds r.1 (long_along along arg.entry.0.shape) meter.old.joins meter.new.joins) }
-    ensures right { IfOk result (λ r. IsRight (total_rule along) (views (arg.entry ∷ [])) r.0) }
-    ensures whole { IfOk result (λ r. BringsUpToDate (total_rule along) (arg.entry ∷ []) old.now r.0) }
+    ensures joins { AreFoldsWithin (node_cost (total_rule fold) (arg.entry ∷ []) old.now) (long_along fold.along arg.entry.0.shape) meter.old.joins meter.new.joins }
+    ensures folds { IfOk result (λ r. is_error r.0 ≡ false → AreFolds r.1 (long_along fold.along arg.entry.0.shape) meter.old.joins meter.new.joins) }
+    ensures right { IfOk result (λ r. IsRight (total_rule fold) (views (arg.entry ∷ [])) r.0) }
+    ensures whole { IfOk result (λ r. BringsUpToDate (total_rule fold) (arg.entry ∷ []) old.now r.0) }
 {
     let (array, delta) = arg;
-    let long = length_along(along, array.shape().as_slice());
+    let long = length_along(fold.along, array.shape().as_slice());
     let mut own = Meter::new();
-    let rule = Ruled {
-        function: Reduce {
-            function: Scalar2::Plus,
-            along,
-        },
-    };
+    let rule = Ruled { function: fold };
     let change = refresh_with_cost(alloc, &rule, &[(array, delta)], old, &mut own)?;
     own.count_joins(own.ticks() * u64::from(long.saturating_sub(1)));
     meter.include(&own);
     Ok(change)
 }
 
-/// The change of the totals of B along an axis, as `refresh_with_cost` answers it, and what it costs: how many totals it works out at
+/// The change of the totals of B by a fold, as `refresh_with_cost` answers it, and what it costs: how many totals it works out at
 /// most. Where the totals were an array and the box of B that changed has one place on their axis, each total comes from
-/// the tree of its line, in as many joins of sums as the length of the line less one has binary digits. In every other
-/// case the lines are summed up.
+/// the tree of its line, in as many joins of parts as the length of the line less one has binary digits. In every other
+/// case the lines are folded.
 pub fn refresh_totals_with_cost<S: LineTotals>(
     alloc: Global,
-    along: Along,
+    fold: Reduce,
     arg: (Seen, &Delta),
     old: &Result<Array, Fault>,
     sums: &S,
@@ -224,28 +215,28 @@ pub fn refresh_totals_with_cost<S: LineTotals>(
 ) -> Result<(Delta, u32), AllocError>
     requires fit { AllFit (views (arg ∷ [])) (moved (arg ∷ [])) }
     requires axes { HasAxis (arg ∷ []) }
-    requires sums { IsSummedUp along arg (S.trees sums.now) }
-    ensures delta { IfOk result (λ r. r.0 ≡ node_delta (total_rule along) (arg.entry ∷ []) old.now) }
-    ensures cost { IfOk result (λ r. r.1 ≡ node_cost (total_rule along) (arg.entry ∷ []) old.now) }
-    ensures ticks { meter.new.ticks ≤ meter.old.ticks + node_cost (total_rule along) (arg.entry ∷ []) old.now }
+    requires sums { IsSummedUp fold arg (S.function sums.now) (S.trees sums.now) }
+    ensures delta { IfOk result (λ r. r.0 ≡ node_delta (total_rule fold) (arg.entry ∷ []) old.now) }
+    ensures cost { IfOk result (λ r. r.1 ≡ node_cost (total_rule fold) (arg.entry ∷ []) old.now) }
+    ensures ticks { meter.new.ticks ≤ meter.old.ticks + node_cost (total_rule fold) (arg.entry ∷ []) old.now }
     ensures exact { IfOk result (λ r. is_error r.0 ≡ false → meter.new.ticks ≡ ticked meter.old.ticks r.1) }
     ensures rises { meter.old.ticks ≤ meter.new.ticks }
-    ensures joins { HasJoins along arg.entry old.now meter.old.joins meter.new.joins }
-    ensures least { IfOk result (λ r. is_error r.0 ≡ false → HasAllJoins along arg.entry old.now meter.old.joins meter.new.joins) }
-    ensures right { IfOk result (λ r. IsRight (total_rule along) (views (arg.entry ∷ [])) r.0) }
-    ensures whole { IfOk result (λ r. BringsUpToDate (total_rule along) (arg.entry ∷ []) old.now r.0) }
+    ensures joins { HasJoins fold arg.entry old.now meter.old.joins meter.new.joins }
+    ensures least { IfOk result (λ r. is_error r.0 ≡ false → HasAllJoins fold arg.entry old.now meter.old.joins meter.new.joins) }
+    ensures right { IfOk result (λ r. IsRight (total_rule fold) (views (arg.entry ∷ [])) r.0) }
+    ensures whole { IfOk result (λ r. BringsUpToDate (total_rule fold) (arg.entry ∷ []) old.now r.0) }
 {
     let (array, delta) = arg;
     // The shape says that it is an array.
     let rank = array.shape().as_slice().len() as u32;
     if let Delta::Patch(patch) = delta {
-        if old.is_ok() && is_one_a_line(along.axis_at(rank), patch.region()) {
+        if old.is_ok() && is_one_a_line(fold.along.axis_at(rank), patch.region()) {
             // The count says that it is a number of 64 bits.
             let _counted = meter.ticks();
-            return change_by_trees(alloc, along, &array, patch, sums, meter);
+            return change_by_trees(alloc, fold, &array, patch, sums, meter);
         }
     }
-    fold_totals_with_cost(alloc, along, (array, delta), old, meter)
+    fold_totals_with_cost(alloc, fold, (array, delta), old, meter)
 }
 
 /// The change of `+/B` that `refresh_totals_with_cost` answers by a tree for each line, without its cost.
@@ -259,22 +250,24 @@ pub fn refresh_sums(
     requires fit { AllFit (views (arg ∷ [])) (moved (arg ∷ [])) }
     requires axes { HasAxis (arg ∷ []) }
     requires sums { IsSummedByLines arg sums.now }
-    ensures delta { IfOk result (λ d. d ≡ node_delta (total_rule LastAxis) (arg.entry ∷ []) old.now) }
-    ensures ticks { meter.new.ticks ≤ meter.old.ticks + node_cost (total_rule LastAxis) (arg.entry ∷ []) old.now }
-    ensures exact { IfOk result (λ d. is_error d ≡ false → meter.new.ticks ≡ ticked meter.old.ticks (node_cost (total_rule LastAxis) (arg.entry ∷ []) old.now)) }
+    ensures delta { IfOk result (λ d. d ≡ node_delta (total_rule row_sums) (arg.entry ∷ []) old.now) }
+    ensures ticks { meter.new.ticks ≤ meter.old.ticks + node_cost (total_rule row_sums) (arg.entry ∷ []) old.now }
+    ensures exact { IfOk result (λ d. is_error d ≡ false → meter.new.ticks ≡ ticked meter.old.ticks (node_cost (total_rule row_sums) (arg.entry ∷ []) old.now)) }
     ensures rises { meter.old.ticks ≤ meter.new.ticks }
-    ensures joins { HasJoins LastAxis arg.entry old.now meter.old.joins meter.new.joins }
-    ensures least { IfOk result (λ d. is_error d ≡ false → HasAllJoins LastAxis arg.entry old.now meter.old.joins meter.new.joins) }
-    ensures right { IfOk result (λ d. IsRight (total_rule LastAxis) (views (arg.entry ∷ [])) d) }
-    ensures whole { IfOk result (λ d. BringsUpToDate (total_rule LastAxis) (arg.entry ∷ []) old.now d) }
+    ensures joins { HasJoins row_sums arg.entry old.now meter.old.joins meter.new.joins }
+    ensures least { IfOk result (λ d. is_error d ≡ false → HasAllJoins row_sums arg.entry old.now meter.old.joins meter.new.joins) }
+    ensures right { IfOk result (λ d. IsRight (total_rule row_sums) (views (arg.entry ∷ [])) d) }
+    ensures whole { IfOk result (λ d. BringsUpToDate (total_rule row_sums) (arg.entry ∷ []) old.now d) }
 {
     let (array, delta) = arg;
+    let fold = Reduce {
+        function: Scalar2::Plus,
+        along: Along::Last,
+    };
     if let Delta::Patch(_) = delta {
         let count = length_along(Along::Last, array.shape().as_slice()) as usize;
         let trees = TreeALine { count, trees: sums };
-        return Ok(
-            refresh_totals_with_cost(alloc, Along::Last, (array, delta), old, &trees, meter)?.0,
-        );
+        return Ok(refresh_totals_with_cost(alloc, fold, (array, delta), old, &trees, meter)?.0);
     }
-    Ok(fold_totals_with_cost(alloc, Along::Last, (array, delta), old, meter)?.0)
+    Ok(fold_totals_with_cost(alloc, fold, (array, delta), old, meter)?.0)
 }

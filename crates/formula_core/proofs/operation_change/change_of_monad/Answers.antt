@@ -1,5 +1,5 @@
 use Rattle.std.proofs.Common.{◌≡◌, ◌∙◌, [], ◌∷◌, Some, sym, subst}
-use Rattle.index_region.specs.declared.along.Along.{Along}
+use Rattle.operator_fns.specs.declared.reduce.Reduce.{Reduce}
 use Rattle.change_core.specs.RuleModels.{RuleModel}
 use Rattle.formula_core.specs.Inputs.{shown, delta_of, IsOperationChange}
 use Rattle.formula_core.specs.Stages.{AreTotalsJoined}
@@ -8,17 +8,17 @@ use Rattle.formula_core.proofs.Totalled.{total_is}
 use Rattle.formula_core.proofs.operation_change.change_of_monad.Goals as goal
 
 pub change_of_total-requires-clause-kept : goal.change_of_total-requires-clause-kept
-change_of_total-requires-clause-kept c = c.requires.kept c.in-Some.along (sym c.in-Some.ensures)
+change_of_total-requires-clause-kept c = c.requires.kept c.in-Some.fold (sym c.in-Some.ensures)
 
 pub returns-in-Some-clause-change : goal.returns-in-Some-clause-change
 returns-in-Some-clause-change c =
     subst (λ (rule : RuleModel). IsOperationChange rule (c.args.right.now ∷ []) c.args.held.now c.args.meter.now.ticks c.change_of_total.new.meter.ticks c.change_of_total.result)
-    (sym (total_is c.args.function c.in-Some.along (sym c.in-Some.ensures))) c.change_of_total.ensures.change
+    (sym (total_is c.args.function c.in-Some.fold (sym c.in-Some.ensures))) c.change_of_total.ensures.change
 
 pub returns-in-Some-clause-joins : goal.returns-in-Some-clause-joins
-returns-in-Some-clause-joins c = λ along total well.
+returns-in-Some-clause-joins c = λ fold total well.
     let right = c.args.right.now in
-    let both : Some c.in-Some.along ≡ Some along = c.in-Some.ensures ∙ total in
-    let same : c.in-Some.along ≡ along = cc in
-    subst (λ (k : Along). AreTotalsJoined k right c.args.held.now c.args.meter.now.joins c.change_of_total.new.meter.joins c.change_of_total.result) same
-    (c.change_of_total.ensures.joins (subst (λ (k : Along). AreSumsKept k (shown right) (delta_of right) c.args.kept.now) (sym same) well))
+    let both : Some c.in-Some.fold ≡ Some fold = c.in-Some.ensures ∙ total in
+    let same : c.in-Some.fold ≡ fold = cc in
+    subst (λ (k : Reduce). AreTotalsJoined k right c.args.held.now c.args.meter.now.joins c.change_of_total.new.meter.joins c.change_of_total.result) same
+    (c.change_of_total.ensures.joins (subst (λ (k : Reduce). AreSumsKept k (shown right) (delta_of right) c.args.kept.now) (sym same) well))

@@ -11,20 +11,23 @@ use Rattle.formula_core.specs.Inputs.{shown, delta_of, HasFit}
 use Rattle.formula_core.specs.Outcomes.{Outcome}
 use Rattle.formula_core.specs.Stages.{AreTotalsJoined}
 use Rattle.formula_core.specs.Sums.{AreSumsKept, WasPatched}
-use Rattle.formula_core.proofs.Summed.{stood_for}
+use Rattle.formula_core.proofs.Summed.{kept_of, stood_for}
 use Rattle.formula_core.proofs.Totalled.{narrow_patch, totalled_by_folds, totalled_by_trees}
 use Rattle.formula_core.proofs.operation_change.change_of_total.Goals as goal
 
 pub refresh_totals_with_cost-requires-clause-sums : goal.refresh_totals_with_cost-requires-clause-sums
 refresh_totals_with_cost-requires-clause-sums c p is =
-    let along = c.args.along in
+    let fold = c.args.fold in
     let was = c.requires.kept p c.in-Some.sums (ap delta_of c.in-Good.is ∙ is) c.in-Some.is in
-    let here : WasPatched along (Ok c.in-Good.array) p c.in-Some.sums = subst (λ (o : Outcome). WasPatched along o p c.in-Some.sums) (ap shown c.in-Good.is) was in
-    subst (λ (a : ArrayValue). StoodFor along c.trees.result.now p a) (sym c.again.ensures) (stood_for along c.in-Good.array p c.in-Some.sums c.trees.result.now here c.trees.ensures)
+    let here : WasPatched fold (Ok c.in-Good.array) p c.in-Some.sums = subst (λ (o : Outcome). WasPatched fold o p c.in-Some.sums) (ap shown c.in-Good.is) was in
+    let folded = (kept_of fold (Ok c.in-Some.sums.array) c.in-Some.sums (sym here.lines)).folded in (
+      c.trees.ensures.function ∙ folded,
+      subst (λ (a : ArrayValue). StoodFor fold.along c.trees.result.now.lines p a) (sym c.again.ensures) (stood_for fold c.in-Good.array p c.in-Some.sums c.trees.result.now.lines here c.trees.ensures.lines),
+    )
 
 pub returns-in-Some-clause-joins : goal.returns-in-Some-clause-joins
 returns-in-Some-clause-joins c = λ well.
-    let along = c.args.along in
+    let fold = c.args.fold in
     let a = c.in-Good.array in
     let delta = c.in-Good.delta in
     let sums = c.in-Some.sums in
@@ -33,22 +36,22 @@ returns-in-Some-clause-joins c = λ well.
     let after = c.refresh_totals_with_cost.new.meter.joins in
     let r = c.refresh_totals_with_cost.result in
     let fit : FitsNow delta.now (Ok a) = subst HasFit c.in-Good.is c.requires.fit in
-    let seen : AreSumsKept along (Ok a) delta.now c.args.kept.now = subst (λ (i : Input). AreSumsKept along (shown i) (delta_of i) c.args.kept.now) c.in-Good.is well in
-    let some : AreSumsKept along (Ok a) delta.now (Some sums) = subst (λ (k : Option SummedValue). AreSumsKept along (Ok a) delta.now k) c.in-Some.is seen in
-    let numbers : is_narrow (axis_at (length a.shape) along) delta.now ≡ true → a.item_type ≡ Nums = λ narrow.
-    let p = narrow_patch (axis_at (length a.shape) along) delta.now narrow in
+    let seen : AreSumsKept fold (Ok a) delta.now c.args.kept.now = subst (λ (i : Input). AreSumsKept fold (shown i) (delta_of i) c.args.kept.now) c.in-Good.is well in
+    let some : AreSumsKept fold (Ok a) delta.now (Some sums) = subst (λ (k : Option SummedValue). AreSumsKept fold (Ok a) delta.now k) c.in-Some.is seen in
+    let numbers : is_narrow (axis_at (length a.shape) fold.along) delta.now ≡ true → a.item_type ≡ Nums = λ narrow.
+    let p = narrow_patch (axis_at (length a.shape) fold.along) delta.now narrow in
     let was = c.requires.kept p.0 sums (ap delta_of c.in-Good.is ∙ p.1) c.in-Some.is in
-    let here : WasPatched along (Ok a) p.0 sums = subst (λ (o : Outcome). WasPatched along o p.0 sums) (ap shown c.in-Good.is) was in
-    let stood = stood_for along a p.0 sums c.trees.result.now here c.trees.ensures in
+    let here : WasPatched fold (Ok a) p.0 sums = subst (λ (o : Outcome). WasPatched fold o p.0 sums) (ap shown c.in-Good.is) was in
+    let stood = stood_for fold a p.0 sums c.trees.result.now.lines here c.trees.ensures.lines in
     ap (λ (x : ArrayValue). x.item_type) stood.is ∙ ap (λ (x : ArrayValue). x.item_type) stood.lines.is in
-    let joins : HasJoins along (a, delta) held before after = subst (λ (x : ArrayValue). HasJoins along (x, delta) held before after) c.again.ensures c.refresh_totals_with_cost.ensures.joins in
-    let all : IfOk r (λ s. is_error s.0 ≡ false → HasAllJoins along (a, delta) held before after) =
-    subst (λ (x : ArrayValue). IfOk r (λ s. is_error s.0 ≡ false → HasAllJoins along (x, delta) held before after)) c.again.ensures c.refresh_totals_with_cost.ensures.least in
-    subst (λ (i : Input). AreTotalsJoined along i held before after r) (sym c.in-Good.is) (totalled_by_trees along a delta held before after r fit sums some numbers joins all)
+    let joins : HasJoins fold (a, delta) held before after = subst (λ (x : ArrayValue). HasJoins fold (x, delta) held before after) c.again.ensures c.refresh_totals_with_cost.ensures.joins in
+    let all : IfOk r (λ s. is_error s.0 ≡ false → HasAllJoins fold (a, delta) held before after) =
+    subst (λ (x : ArrayValue). IfOk r (λ s. is_error s.0 ≡ false → HasAllJoins fold (x, delta) held before after)) c.again.ensures c.refresh_totals_with_cost.ensures.least in
+    subst (λ (i : Input). AreTotalsJoined fold i held before after r) (sym c.in-Good.is) (totalled_by_trees fold a delta held before after r fit sums some numbers joins all)
 
 pub returns-in-None-clause-joins : goal.returns-in-None-clause-joins
 returns-in-None-clause-joins c = λ well.
-    let along = c.args.along in
+    let fold = c.args.fold in
     let a = c.in-Good.array in
     let delta = c.in-Good.delta in
     let held = c.args.held.now in
@@ -56,10 +59,10 @@ returns-in-None-clause-joins c = λ well.
     let after = c.fold_totals_with_cost.new.meter.joins in
     let r = c.fold_totals_with_cost.result in
     let fit : FitsNow delta.now (Ok a) = subst HasFit c.in-Good.is c.requires.fit in
-    let seen : AreSumsKept along (Ok a) delta.now c.args.kept.now = subst (λ (i : Input). AreSumsKept along (shown i) (delta_of i) c.args.kept.now) c.in-Good.is well in
-    let none : AreSumsKept along (Ok a) delta.now None = subst (λ (k : Option SummedValue). AreSumsKept along (Ok a) delta.now k) c.in-None.is seen in
+    let seen : AreSumsKept fold (Ok a) delta.now c.args.kept.now = subst (λ (i : Input). AreSumsKept fold (shown i) (delta_of i) c.args.kept.now) c.in-Good.is well in
+    let none : AreSumsKept fold (Ok a) delta.now None = subst (λ (k : Option SummedValue). AreSumsKept fold (Ok a) delta.now k) c.in-None.is seen in
     let folds =
-    subst (λ (x : ArrayValue). AreFoldsWithin (operation_cost (total_rule along) (Ok (x ∷ [])) (delta.now ∷ []) held) (length_along along x.shape) before after) c.again.ensures c.fold_totals_with_cost.ensures.joins in
-    let cost = subst (λ (x : ArrayValue). IfOk r (λ s. s.1 ≡ operation_cost (total_rule along) (Ok (x ∷ [])) (delta.now ∷ []) held)) c.again.ensures c.fold_totals_with_cost.ensures.cost in
-    let all = subst (λ (x : ArrayValue). IfOk r (λ s. is_error s.0 ≡ false → AreFolds s.1 (length_along along x.shape) before after)) c.again.ensures c.fold_totals_with_cost.ensures.folds in
-    subst (λ (i : Input). AreTotalsJoined along i held before after r) (sym c.in-Good.is) (totalled_by_folds along a delta held before after r fit none folds cost all)
+    subst (λ (x : ArrayValue). AreFoldsWithin (operation_cost (total_rule fold) (Ok (x ∷ [])) (delta.now ∷ []) held) (length_along fold.along x.shape) before after) c.again.ensures c.fold_totals_with_cost.ensures.joins in
+    let cost = subst (λ (x : ArrayValue). IfOk r (λ s. s.1 ≡ operation_cost (total_rule fold) (Ok (x ∷ [])) (delta.now ∷ []) held)) c.again.ensures c.fold_totals_with_cost.ensures.cost in
+    let all = subst (λ (x : ArrayValue). IfOk r (λ s. is_error s.0 ≡ false → AreFolds s.1 (length_along fold.along x.shape) before after)) c.again.ensures c.fold_totals_with_cost.ensures.folds in
+    subst (λ (i : Input). AreTotalsJoined fold i held before after r) (sym c.in-Good.is) (totalled_by_folds fold a delta held before after r fit none folds cost all)

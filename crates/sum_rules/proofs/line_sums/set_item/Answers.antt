@@ -2,18 +2,18 @@ use Rattle.std.proofs.Common.{◌≡◌, ◌∙◌, ℤ, map, ap, rules, of_z, t
 use Rattle.std.proofs.lemmas.Int.{to_z-of_z}
 use Rattle.std.proofs.lemmas.List.{map-set}
 use Rattle.arrays_core.specs.declared.item.Item.TheVariants.{Num}
-use Rattle.operator_fns.specs.SumTrees.{TreesValue}
+use Rattle.fold_trees.specs.FoldTrees.{FoldsValue}
 use Rattle.sum_rules.proofs.line_sums.set_item.Goals as goal
 
 pub returns-in-Num-clause-items : goal.returns-in-Num-clause-items
 returns-in-Num-clause-items c =
     let fits : SFits w64 c.in-Num.number = search rules in
     let same : to_z w64 (of_z w64 c.in-Num.number) ≡ c.in-Num.number = to_z-of_z w64 c.in-Num.number fits in
-    ap (λ (t : TreesValue). map (λ (z : ℤ). Num z) t.numbers) c.set.ensures
-    ∙ (rw (same, c.in-Num.is) (map-set (λ z. Num z) c.args.trees.now.numbers c.args.place c.in-Num.number))
+    ap (λ (t : FoldsValue). map (λ (z : ℤ). Num z) t.lines.numbers) c.set.ensures
+    ∙ (rw (same, c.in-Num.is) (map-set (λ z. Num z) c.args.trees.now.lines.numbers c.args.place c.in-Num.number))
 
 pub returns-in-Num-clause-count : goal.returns-in-Num-clause-count
-returns-in-Num-clause-count c = ap (λ (t : TreesValue). t.count) c.set.ensures
+returns-in-Num-clause-count c = ap (λ (t : FoldsValue). t.lines.count) c.set.ensures
 
 pub returns-in-Num-clause-step : goal.returns-in-Num-clause-step
-returns-in-Num-clause-step c = ap (λ (t : TreesValue). t.step) c.set.ensures
+returns-in-Num-clause-step c = ap (λ (t : FoldsValue). t.lines.step) c.set.ensures

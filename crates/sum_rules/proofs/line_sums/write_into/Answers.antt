@@ -32,7 +32,8 @@ index_at-index-requires-clause-below c =
 
 pub loop-before-init : goal.loop-before-init
 loop-before-init c = record {
-  written = written_none (array_of c.args.shape.now.items c.args.trees.now.numbers) c.args.patch.now c.requires.lines;
+  written = written_none (array_of c.args.shape.now.items c.args.trees.now.lines.numbers) c.args.patch.now c.requires.lines;
+  function = refl;
   count = refl;
   step = refl;
   at = λ _. c.index_at-index.ensures ∙ ap (λ (r : List Interval). walk_at r 0) c.region-region.ensures;
@@ -60,7 +61,7 @@ loop-before-preserved c =
     let before = c.loop-before.before in
     let below : before < box_size p.region =
     subst (λ (r : List Interval). before < box_size r) c.region-region.ensures (omega (arith, c.loop-before-test.true, c.size-before-end.ensures)) in
-    let more = written_more (array_of shape c.args.trees.now.numbers) p before (array_of shape c.loop-before.trees.numbers) c.requires.fit c.loop-before.invariant.written below in
+    let more = written_more (array_of shape c.args.trees.now.lines.numbers) p before (array_of shape c.loop-before.trees.lines.numbers) c.requires.fit c.loop-before.invariant.written below in
     let here = c.loop-before.invariant.at below in
     let index : c.as_slice.result.now ≡ walk_at p.region before = c.as_slice.ensures.is ∙ here in
     let counted : places_before shape c.as_slice.result.now ≡ places_before shape (walk_at p.region before) = ap (places_before shape) index in
@@ -69,11 +70,12 @@ loop-before-preserved c =
     c.item.ensures.is
     ∙ ap (λ (i : List ℕ). get_or p.items (box_offset p.region i) (fill p.item_type)) (c.as_slice-in-loop-before.ensures.is ∙ here)
     ∙ ap (λ (n : ℕ). get_or p.items n (fill p.item_type)) (offset_of_walk p.region before below) in
-    let now : map (λ (z : ℤ). Num z) c.set_item.new.trees.numbers
-    ≡ set (map (λ (z : ℤ). Num z) c.loop-before.trees.numbers) (places_before shape (walk_at p.region before)) (get_or p.items before (fill p.item_type)) =
-    c.set_item.ensures.items ∙ (λ i. set (map (λ (z : ℤ). Num z) c.loop-before.trees.numbers) (place i) (item i)) in
+    let now : map (λ (z : ℤ). Num z) c.set_item.new.trees.lines.numbers
+    ≡ set (map (λ (z : ℤ). Num z) c.loop-before.trees.lines.numbers) (places_before shape (walk_at p.region before)) (get_or p.items before (fill p.item_type)) =
+    c.set_item.ensures.items ∙ (λ i. set (map (λ (z : ℤ). Num z) c.loop-before.trees.lines.numbers) (place i) (item i)) in
     record {
-      written = subst (λ (xs : List Item). IsWritten (array_of shape c.args.trees.now.numbers) p (before + 1) (record { item_type = Nums; shape = shape; items = xs })) (sym now) more;
+      written = subst (λ (xs : List Item). IsWritten (array_of shape c.args.trees.now.lines.numbers) p (before + 1) (record { item_type = Nums; shape = shape; items = xs })) (sym now) more;
+      function = c.set_item.ensures.function ∙ c.loop-before.invariant.function;
       count = c.set_item.ensures.count ∙ c.loop-before.invariant.count;
       step = c.set_item.ensures.step ∙ c.loop-before.invariant.step;
       at = subst (λ (r : List Interval). before + 1 < box_size r → c.advance.new.index ≡ walk_at r (before + 1)) c.region-region.ensures
@@ -83,17 +85,17 @@ loop-before-preserved c =
 pub returns-clause-numbers : goal.returns-clause-numbers
 returns-clause-numbers c =
     let p = c.args.patch.now in
-    let a = array_of c.args.shape.now.items c.args.trees.now.numbers in
+    let a = array_of c.args.shape.now.items c.args.trees.now.lines.numbers in
     let all : c.loop-before.before ≡ box_size p.region =
     subst (λ (r : List Interval). c.loop-before.before ≡ box_size r) c.region-region.ensures (omega (arith, c.loop-before-test.false, c.loop-before.auto.before-end, c.size-before-end.ensures)) in
-    written_all a p (array_of c.args.shape.now.items c.loop-before.trees.numbers)
-    (subst (λ (n : ℕ). IsWritten a p n (array_of c.args.shape.now.items c.loop-before.trees.numbers)) all c.loop-before.invariant.written)
+    written_all a p (array_of c.args.shape.now.items c.loop-before.trees.lines.numbers)
+    (subst (λ (n : ℕ). IsWritten a p n (array_of c.args.shape.now.items c.loop-before.trees.lines.numbers)) all c.loop-before.invariant.written)
 
 pub returns-clause-sound : goal.returns-clause-sound
 returns-clause-sound c =
     let p = c.args.patch.now in
-    let a = array_of c.args.shape.now.items c.args.trees.now.numbers in
-    let now = array_of c.args.shape.now.items c.loop-before.trees.numbers in
+    let a = array_of c.args.shape.now.items c.args.trees.now.lines.numbers in
+    let now = array_of c.args.shape.now.items c.loop-before.trees.lines.numbers in
     let all : c.loop-before.before ≡ box_size p.region =
     subst (λ (r : List Interval). c.loop-before.before ≡ box_size r) c.region-region.ensures (omega (arith, c.loop-before-test.false, c.loop-before.auto.before-end, c.size-before-end.ensures)) in
     let same : now ≡ patched a p = written_all a p now (subst (λ (n : ℕ). IsWritten a p n now) all c.loop-before.invariant.written) in
@@ -101,6 +103,6 @@ returns-clause-sound c =
 
 pub set_item-requires-clause-place : goal.set_item-requires-clause-place
 set_item-requires-clause-place c =
-    let numbers = c.loop-before.trees.numbers in
+    let numbers = c.loop-before.trees.lines.numbers in
     let long = sym (length-map numbers (λ (z : ℤ). Num z)) ∙ c.loop-before.invariant.written.long in
     omega (arith, long, c.position-place.ensures.low, c.position-place.ensures.high)

@@ -6,8 +6,9 @@ use Rattle.sum_rules.proofs.line_sums.write_into.Given as goal
 
 abbrev pub invariant-loop-before : goal.invariant-loop-before
 invariant-loop-before l = record {
-  written : IsWritten (array_of l.fn.shape.items l.fn.trees.numbers) l.fn.patch l.before (array_of l.fn.shape.items l.trees.numbers);
-  count : l.trees.count ≡ l.fn.trees.count;
-  step : l.trees.step ≡ l.fn.trees.step;
+  written : IsWritten (array_of l.fn.shape.items l.fn.trees.lines.numbers) l.fn.patch l.before (array_of l.fn.shape.items l.trees.lines.numbers);
+  function : l.trees.function ≡ l.fn.trees.function;
+  count : l.trees.lines.count ≡ l.fn.trees.lines.count;
+  step : l.trees.lines.step ≡ l.fn.trees.lines.step;
   at : l.before < box_size l.fn.patch.region → l.index ≡ walk_at l.fn.patch.region l.before;
 }

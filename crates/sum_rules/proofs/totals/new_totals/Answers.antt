@@ -3,7 +3,6 @@ use Rattle.std.proofs.Math.Nat.{mul-le-mul_right}
 use Rattle.arrays_core.specs.Arrays.{ArrayValue}
 use Rattle.arrays_core.specs.Items.{fill}
 use Rattle.arrays_core.specs.Shapes.{is_index_of, places_before}
-use Rattle.scalar_fns.specs.declared.function.Scalar2.TheVariants.{Plus}
 use Rattle.index_region.specs.Axes.{axis_at}
 use Rattle.index_region.specs.Boxes.{Interval, box_size, box_offset, is_within, walk_at}
 use Rattle.index_region.specs.Patches.{patched}
@@ -42,7 +41,7 @@ pub loop-line-init : goal.loop-line-init
 loop-line-init g c =
     let p = c.args.patch.now in
     let t = g.S.LineTotals.trees c.args.sums.now in
-    let axis = axis_at (length c.args.shape.now.items) c.args.along in
+    let axis = axis_at (length c.args.shape.now.items) c.args.fold.along in
     let a = array_of c.args.shape.now.items t.numbers in
     let region = lines_of axis p.region in
     let as_many = as_many_lines axis t a p c.requires.lines c.requires.fit c.requires.one in
@@ -56,7 +55,7 @@ loop-line-init g c =
       at = λ _. c.index_at-index.ensures ∙ ap (λ (r : List Interval). walk_at r 0) c.region-region.ensures;
       many = filled_many c.in_ok-totals.totals _ c.shape_of.result.items c.size-lines.result (box_size region) c.in_ok-totals.ensures c.shape_of.ensures.items (c.size-lines.ensures ∙ ap box_size c.region-region.ensures ∙ as_many);
       typed = ap (λ (b : ArrayValue). b.item_type) c.in_ok-totals.ensures;
-      rest = nothing_filled (λ before. reduce_item Plus c.args.along (patched a p) (walk_at region before)) (box_size region) c.in_ok-totals.totals.items;
+      rest = nothing_filled (λ before. reduce_item c.args.fold.function c.args.fold.along (patched a p) (walk_at region before)) (box_size region) c.in_ok-totals.totals.items;
     }
 
 pub position-place-requires-clause-in_range : goal.position-place-requires-clause-in_range
@@ -79,7 +78,7 @@ total_with-total-requires g c =
     let p = c.args.patch.now in
     let shape = c.args.shape.now.items in
     let t = g.S.LineTotals.trees c.args.sums.now in
-    let axis = axis_at (length shape) c.args.along in
+    let axis = axis_at (length shape) c.args.fold.along in
     let a = array_of shape t.numbers in
     let before = c.loop-line.line in
     let below : before < box_size p.region = omega (arith, c.loop-line-test.true, c.size-lines.ensures, ap box_size c.region-region.ensures) in
@@ -93,7 +92,7 @@ pub write_at-requires-clause-high : goal.write_at-requires-clause-high
 write_at-requires-clause-high g c =
     let p = c.args.patch.now in
     let t = g.S.LineTotals.trees c.args.sums.now in
-    let axis = axis_at (length c.args.shape.now.items) c.args.along in
+    let axis = axis_at (length c.args.shape.now.items) c.args.fold.along in
     let as_many = as_many_lines axis t (array_of c.args.shape.now.items t.numbers) p c.requires.lines c.requires.fit c.requires.one in
     omega (arith, c.loop-line.invariant.many, c.loop-line-test.true, c.size-lines.ensures, ap box_size c.region-region.ensures)
 
@@ -102,10 +101,10 @@ returns-in-Err-clause-totals g c =
     let p = c.args.patch.now in
     let shape = c.args.shape.now.items in
     let t = g.S.LineTotals.trees c.args.sums.now in
-    let axis = axis_at (length c.args.shape.now.items) c.args.along in
+    let axis = axis_at (length c.args.shape.now.items) c.args.fold.along in
     let a = array_of shape t.numbers in
     let region = lines_of axis p.region in
-    let item = reduce_item Plus c.args.along (patched a p) in
+    let item = reduce_item c.args.fold.function c.args.fold.along (patched a p) in
     let before = c.loop-line.line in
     let below : before < box_size p.region = omega (arith, c.loop-line-test.true, c.size-lines.ensures, ap box_size c.region-region.ensures) in
     let as_many = as_many_lines axis t a p c.requires.lines c.requires.fit c.requires.one in
@@ -117,7 +116,7 @@ returns-in-Err-clause-totals g c =
     c.item-item.ensures.is
     ∙ ap (λ (i : List ℕ). get_or p.items (box_offset p.region i) (fill p.item_type)) (c.as_slice-in-loop-line.ensures.is ∙ here)
     ∙ ap (λ (m : ℕ). get_or p.items m (fill p.item_type)) (offset_of_walk p.region before below) in
-    let total = total_there axis t a p c.requires.lines c.requires.fit c.requires.one c.item_type-one_item_a_place.ensures.sound before under (c.position-place.result - 1) c.item-item.result place given_item in
+    let total = total_there axis t a p c.requires.lines c.requires.fit c.requires.one c.item_type-one_item_a_place.ensures.sound before under c.args.fold.function (g.S.LineTotals.function c.args.sums.now) c.requires.function (c.position-place.result - 1) c.item-item.result place given_item in
     let failed = total ∙ sym c.total_with-total.ensures.total ∙ c.in-Err.is in
     sym (items_are item region) ∙ sym c.loop-line.invariant.rest ∙ rest_err (λ q. item (walk_at region q)) (box_size region) before (take before c.loop-line.totals.items) _ under failed
 
@@ -126,10 +125,10 @@ loop-line-preserved g c =
     let p = c.args.patch.now in
     let shape = c.args.shape.now.items in
     let t = g.S.LineTotals.trees c.args.sums.now in
-    let axis = axis_at (length c.args.shape.now.items) c.args.along in
+    let axis = axis_at (length c.args.shape.now.items) c.args.fold.along in
     let a = array_of shape t.numbers in
     let region = lines_of axis p.region in
-    let item = reduce_item Plus c.args.along (patched a p) in
+    let item = reduce_item c.args.fold.function c.args.fold.along (patched a p) in
     let before = c.loop-line.line in
     let below : before < box_size p.region = omega (arith, c.loop-line-test.true, c.size-lines.ensures, ap box_size c.region-region.ensures) in
     let as_many = as_many_lines axis t a p c.requires.lines c.requires.fit c.requires.one in
@@ -141,8 +140,8 @@ loop-line-preserved g c =
     c.item-item.ensures.is
     ∙ ap (λ (i : List ℕ). get_or p.items (box_offset p.region i) (fill p.item_type)) (c.as_slice-in-loop-line.ensures.is ∙ here)
     ∙ ap (λ (m : ℕ). get_or p.items m (fill p.item_type)) (offset_of_walk p.region before below) in
-    let total = total_there axis t a p c.requires.lines c.requires.fit c.requires.one c.item_type-one_item_a_place.ensures.sound before under (c.position-place.result - 1) c.item-item.result place given_item in
-    let count : t.count ≡ length_along c.args.along shape = c.requires.lines.counted ∙ sym (along_axis c.args.along shape c.requires.on_axis) in
+    let total = total_there axis t a p c.requires.lines c.requires.fit c.requires.one c.item_type-one_item_a_place.ensures.sound before under c.args.fold.function (g.S.LineTotals.function c.args.sums.now) c.requires.function (c.position-place.result - 1) c.item-item.result place given_item in
+    let count : t.count ≡ length_along c.args.fold.along shape = c.requires.lines.counted ∙ sym (along_axis c.args.fold.along shape c.requires.on_axis) in
     let given = total ∙ sym c.total_with-total.ensures.total ∙ c.in-Ok.is in
     record {
       ticks = omega (arith, c.tick.ensures.by_one, ap (λ (m : MeterValue). m.ticks) c.count_joins.ensures, c.loop-line.invariant.ticks);
@@ -172,10 +171,10 @@ pub returns-clause-totals : goal.returns-clause-totals
 returns-clause-totals g c =
     let p = c.args.patch.now in
     let t = g.S.LineTotals.trees c.args.sums.now in
-    let axis = axis_at (length c.args.shape.now.items) c.args.along in
+    let axis = axis_at (length c.args.shape.now.items) c.args.fold.along in
     let a = array_of c.args.shape.now.items t.numbers in
     let region = lines_of axis p.region in
-    let item = reduce_item Plus c.args.along (patched a p) in
+    let item = reduce_item c.args.fold.function c.args.fold.along (patched a p) in
     let as_many = as_many_lines axis t a p c.requires.lines c.requires.fit c.requires.one in
     let ended : box_size region ≤ c.loop-line.line = omega (arith, c.loop-line-test.false, c.size-lines.ensures, ap box_size c.region-region.ensures) in (
       sym (items_are item region) ∙ all_filled c.loop-line.totals (λ q. item (walk_at region q)) (box_size region) c.loop-line.line _ c.loop-line.invariant.many ended c.loop-line.invariant.rest,
@@ -193,7 +192,7 @@ pub returns-in-Err-clause-joins : goal.returns-in-Err-clause-joins
 returns-in-Err-clause-joins g c = λ digits h.
     let shape = c.args.shape.now.items in
     let t = g.S.LineTotals.trees c.args.sums.now in
-    let count : t.count ≡ length_along c.args.along shape = c.requires.lines.counted ∙ sym (along_axis c.args.along shape c.requires.on_axis) in
+    let count : t.count ≡ length_along c.args.fold.along shape = c.requires.lines.counted ∙ sym (along_axis c.args.fold.along shape c.requires.on_axis) in
     let below : c.loop-line.line < box_size c.args.patch.now.region = omega (arith, c.loop-line-test.true, c.size-lines.ensures, ap box_size c.region-region.ensures) in
     let most : (c.loop-line.line + 1) * digits ≤ box_size c.args.patch.now.region * digits = mul-le-mul_right digits (omega (arith, below)) in
     let so_far = c.loop-line.invariant.joins digits h in

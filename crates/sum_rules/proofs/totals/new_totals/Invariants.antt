@@ -1,6 +1,5 @@
 use Rattle.std.proofs.Common.{◌≡◌, ◌≤◌, ◌<◌, ◌+◌, take, length}
 use Rattle.arrays_core.specs.declared.item.ItemType.TheVariants.{Nums}
-use Rattle.scalar_fns.specs.declared.function.Scalar2.TheVariants.{Plus}
 use Rattle.index_region.specs.Axes.{axis_at}
 use Rattle.index_region.specs.Boxes.{box_size, walk_at}
 use Rattle.index_region.specs.Patches.{patched}
@@ -14,15 +13,15 @@ use Rattle.sum_rules.proofs.totals.new_totals.Given as goal
 
 abbrev pub invariant-loop-line : goal.invariant-loop-line
 invariant-loop-line g l =
-    let item = reduce_item Plus l.fn.along (patched (array_of l.fn.shape.items (g.S.LineTotals.trees l.fn.sums).numbers) l.fn.patch) in
-    let region = lines_of (axis_at (length l.fn.shape.items) l.fn.along) l.fn.patch.region in
+    let item = reduce_item l.fn.fold.function l.fn.fold.along (patched (array_of l.fn.shape.items (g.S.LineTotals.trees l.fn.sums).numbers) l.fn.patch) in
+    let region = lines_of (axis_at (length l.fn.shape.items) l.fn.fold.along) l.fn.patch.region in
     record {
       ticks : l.meter.ticks ≤ l.fn.meter.ticks + l.line;
       none : l.line ≡ 0 → l.meter.ticks ≡ l.fn.meter.ticks;
       some : 0 < l.line → l.meter.ticks ≡ ticked l.fn.meter.ticks l.line;
       rises : l.fn.meter.ticks ≤ l.meter.ticks;
-      joins : AreJoinsWithin l.line (length_along l.fn.along l.fn.shape.items) l.fn.meter.joins l.meter.joins;
-      least : AreJoinsFrom l.line (length_along l.fn.along l.fn.shape.items) l.fn.meter.joins l.meter.joins;
+      joins : AreJoinsWithin l.line (length_along l.fn.fold.along l.fn.shape.items) l.fn.meter.joins l.meter.joins;
+      least : AreJoinsFrom l.line (length_along l.fn.fold.along l.fn.shape.items) l.fn.meter.joins l.meter.joins;
       at : l.line < box_size l.fn.patch.region → l.index ≡ walk_at l.fn.patch.region l.line;
       many : length l.totals.items ≡ box_size region;
       typed : l.totals.item_type ≡ Nums;

@@ -1,5 +1,4 @@
 use Rattle.std.proofs.Common.{◌≡◌, ℕ, List, [], ◌∷◌, length, Bool, false, ◌&&◌, is_ok, ◌∙◌, refl, ap, sym, subst}
-use Rattle.scalar_fns.specs.declared.function.Scalar2.TheVariants.{Plus}
 use Rattle.change_core.proofs.Covers.{covers, reaches_inside}
 use Rattle.change_rules.specs.Currency.{BringsUpToDate, IsRight}
 use Rattle.change_rules.specs.Nodes.{views, moved}
@@ -18,26 +17,29 @@ pub returns-then-is_one_a_line-clause-right : goal.returns-then-is_one_a_line-cl
 returns-then-is_one_a_line-clause-right g c =
     let args = c.args.arg ∷ [] in
     let old = c.args.old.now in
-    let same = delta_is c.args.along c.args.arg c.in-Patch.patch old c.in-Patch.is (sym c.is_ok.ensures.value ∙ c.if-is_ok.true) in
-    answered (IsRight (total_rule c.args.along) (views args)) c.change_by_trees.result _ c.change_by_trees.ensures.delta (subst (IsRight (total_rule c.args.along) (views args)) (sym same) (node_is_right (total_rule c.args.along) args old))
+    let same = delta_is c.args.fold c.args.arg c.in-Patch.patch old c.in-Patch.is (sym c.is_ok.ensures.value ∙ c.if-is_ok.true) in
+    answered (IsRight (total_rule c.args.fold) (views args)) c.change_by_trees.result _ c.change_by_trees.ensures.delta (subst (IsRight (total_rule c.args.fold) (views args)) (sym same) (node_is_right (total_rule c.args.fold) args old))
 
 pub returns-then-is_one_a_line-clause-whole : goal.returns-then-is_one_a_line-clause-whole
 returns-then-is_one_a_line-clause-whole g c =
     let args = c.args.arg ∷ [] in
     let old = c.args.old.now in
-    let same = delta_is c.args.along c.args.arg c.in-Patch.patch old c.in-Patch.is (sym c.is_ok.ensures.value ∙ c.if-is_ok.true) in
-    answered (BringsUpToDate (total_rule c.args.along) args old) c.change_by_trees.result _ c.change_by_trees.ensures.delta
-    (subst (BringsUpToDate (total_rule c.args.along) args old) (sym same)
-    (brings_up_to_date (total_rule c.args.along) (covers (total_rule c.args.along) (reduce_tight Plus c.args.along)) (reduce_growing Plus c.args.along) args old refl (reaches_inside (total_rule c.args.along) (views args) (moved args)) c.requires.fit c.requires.axes (c.shape.ensures.sound, tt)))
+    let same = delta_is c.args.fold c.args.arg c.in-Patch.patch old c.in-Patch.is (sym c.is_ok.ensures.value ∙ c.if-is_ok.true) in
+    answered (BringsUpToDate (total_rule c.args.fold) args old) c.change_by_trees.result _ c.change_by_trees.ensures.delta
+    (subst (BringsUpToDate (total_rule c.args.fold) args old) (sym same)
+    (brings_up_to_date (total_rule c.args.fold) (covers (total_rule c.args.fold) (reduce_tight c.args.fold.function c.args.fold.along)) (reduce_growing c.args.fold.function c.args.fold.along) args old refl (reaches_inside (total_rule c.args.fold) (views args) (moved args)) c.requires.fit c.requires.axes (c.shape.ensures.sound, tt)))
+
+pub change_by_trees-requires-clause-function : goal.change_by_trees-requires-clause-function
+change_by_trees-requires-clause-function g c = (c.requires.sums c.in-Patch.patch c.in-Patch.is).0
 
 pub axis_at-requires : goal.axis_at-requires
 axis_at-requires g c =
-    let stood = c.requires.sums c.in-Patch.patch c.in-Patch.is in
-    ap (λ (s : List ℕ). is_axis (length s) c.args.along) (c.as_slice.ensures ∙ c.shape.ensures.is ∙ ap (λ (a : ArrayValue). a.shape) stood.is) ∙ stood.on_axis
+    let stood = (c.requires.sums c.in-Patch.patch c.in-Patch.is).1 in
+    ap (λ (s : List ℕ). is_axis (length s) c.args.fold.along) (c.as_slice.ensures ∙ c.shape.ensures.is ∙ ap (λ (a : ArrayValue). a.shape) stood.is) ∙ stood.on_axis
 
 pub returns-clause-least : goal.returns-clause-least
 returns-clause-least g c =
-    let along = c.args.along in
+    let along = c.args.fold.along in
     let arg = c.args.arg in
     let held = c.args.old.now in
     let axis = axis_at (length arg.0.shape) along in
@@ -52,4 +54,4 @@ returns-clause-least g c =
       ]
       | in_default w ↦ not_both (is_ok held) (is_narrow axis arg.1.now) (not_patched axis arg.1.now w.in_default.not-Patch)
     ] in
-    folded along arg held c.args.meter.now.joins c.fold_totals_with_cost.new.meter.joins c.fold_totals_with_cost.result none c.fold_totals_with_cost.ensures.cost c.fold_totals_with_cost.ensures.folds
+    folded c.args.fold arg held c.args.meter.now.joins c.fold_totals_with_cost.new.meter.joins c.fold_totals_with_cost.result none c.fold_totals_with_cost.ensures.cost c.fold_totals_with_cost.ensures.folds

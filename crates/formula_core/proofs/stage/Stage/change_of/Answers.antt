@@ -61,7 +61,7 @@ returns-in-Monad-clause-joins c = λ change names trees staged holds.
     let well = kept_well c.args.self.now function c.in-Monad.right (rw c.in-Monad.is at c.requires.node) c.args.kept.now (subst (λ (n : Node). IsKeptBy c.args.self.now n c.args.kept.now) c.in-Monad.is c.requires.kept) c.operand-right.result c.operand-right.ensures.ready in
     subst (λ (n : Node). IsJoined c.args.self.now.is_new change (tree_of_node names trees n) c.args.meter.now.joins c.change_of_monad.new.meter.joins c.change_of_monad.result) (sym c.in-Monad.is)
     (monad_joined c.args.self.now.is_new change function (tree_of_operand names trees c.in-Monad.right) c.operand-right.result c.args.held.now _ _ c.change_of_monad.result
-    (c.operand-right.ensures.ready change names trees staged) (rw c.in-Monad.is at holds) (λ along total. c.change_of_monad.ensures.joins along total (well along total)) c.change_of_monad.ensures.no_joins)
+    (c.operand-right.ensures.ready change names trees staged) (rw c.in-Monad.is at holds) (λ fold total. c.change_of_monad.ensures.joins fold total (well fold total)) c.change_of_monad.ensures.no_joins)
 
 pub returns-in-Dyad-clause-joins : goal.returns-in-Dyad-clause-joins
 returns-in-Dyad-clause-joins c = λ change names trees staged holds.

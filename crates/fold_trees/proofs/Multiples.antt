@@ -1,0 +1,95 @@
+-- Multiples of numbers, and their order.
+use borrow.Author.Differences.{up, down, product_is}
+use Rattle.std.proofs.Common.{◌≡◌, refl, ◌∙◌, ℕ, zero, suc, ◌+◌, ◌*◌, ◌≤◌, ap, arith, inl, inr, ◌⊎◌, ℤ, pos, negsuc, neg_ℤ, ◌*ℤ◌, ◌≤ℤ◌}
+use Rattle.std.specs.Int.{int_min, int_max}
+use Rattle.std.proofs.Math.Nat.{mul-le-mul_right}
+use Rattle.std.proofs.lemmas.Int.{ints, clamps, by_lt_z}
+
+pub times_assoc : (a b c : ℤ) → (a *ℤ b) *ℤ c ≡ a *ℤ (b *ℤ c)
+times_assoc a b c =
+    let ab = product_is a b in
+    let bc = product_is b c in
+    let left1 = ap (λ n. n * up c) ab.0 in
+    let left2 = ap (λ n. n * down c) ab.0 in
+    let left3 = ap (λ n. n * up c) ab.1 in
+    let left4 = ap (λ n. n * down c) ab.1 in
+    let right1 = ap (λ n. up a * n) bc.0 in
+    let right2 = ap (λ n. down a * n) bc.0 in
+    let right3 = ap (λ n. up a * n) bc.1 in
+    let right4 = ap (λ n. down a * n) bc.1 in
+    omega (arith, ints)
+
+-- as many times as the difference from 0
+up_by : (a b : ℤ) (n : ℕ) → a ≤ℤ b → (a *ℤ pos n) ≤ℤ (b *ℤ pos n)
+up_by a b n h =
+    let sides : up a + down b ≤ up b + down a = omega (arith, ints) in
+    let more = mul-le-mul_right n sides in
+    omega (arith, ints)
+
+down_by : (a b : ℤ) (n : ℕ) → a ≤ℤ b → (b *ℤ negsuc n) ≤ℤ (a *ℤ negsuc n)
+down_by a b n h =
+    let sides : up a + down b ≤ up b + down a = omega (arith, ints) in
+    let more = mul-le-mul_right (suc n) sides in
+    omega (arith, ints)
+
+-- a number between two, many times
+pub between : (a z b t : ℤ) → a ≤ℤ z → z ≤ℤ b → (int_min (a *ℤ t) (b *ℤ t) ≤ℤ (z *ℤ t)) × ((z *ℤ t) ≤ℤ int_max (a *ℤ t) (b *ℤ t))
+between a z b (pos n) h k =
+    let low = up_by a z n h in
+    let high = up_by z b n k in
+    (omega (arith, ints, clamps), omega (arith, ints, clamps))
+between a z b (negsuc n) h k =
+    let low = down_by a z n h in
+    let high = down_by z b n k in
+    (omega (arith, ints, clamps), omega (arith, ints, clamps))
+
+-- the least and the greatest of two bounds and a third number, many times
+pub record AreBoundsTimes (low high a b z t : ℤ) : Type 0 where
+  pub least : int_min (low *ℤ t) (high *ℤ t) ≡ int_min (int_min (a *ℤ t) (b *ℤ t)) (z *ℤ t)
+  pub greatest : int_max (low *ℤ t) (high *ℤ t) ≡ int_max (int_max (a *ℤ t) (b *ℤ t)) (z *ℤ t)
+
+either_way : (a b : ℤ) → (a ≤ℤ b) ⊎ (b ≤ℤ a)
+either_way a b = by_lt_z a b (λ h. inl (omega (arith, ints))) (λ h. inr (omega (arith, ints)))
+
+pub bounds_times : (a b z t : ℤ) → a ≤ℤ b → AreBoundsTimes (int_min a z) (int_max b z) a b z t
+bounds_times a b z t h = elim (either_way a z) [
+  | inl above ↦ elim (either_way z b) [
+    | inl below ↦
+        let k = between a z b t above below in
+        at a b (omega (arith, ints, clamps)) (omega (arith, ints, clamps)) (omega (arith, ints, clamps)) (omega (arith, ints, clamps))
+    | inr beyond ↦
+        let k = between a b z t h beyond in
+        at a z (omega (arith, ints, clamps)) (omega (arith, ints, clamps)) (omega (arith, ints, clamps)) (omega (arith, ints, clamps))
+  ]
+  | inr under ↦ elim (either_way z b) [
+    | inl below ↦
+        let k = between z a b t under h in
+        at z b (omega (arith, ints, clamps)) (omega (arith, ints, clamps)) (omega (arith, ints, clamps)) (omega (arith, ints, clamps))
+    | inr beyond ↦
+        let k = between z a z t under (omega (arith, ints)) in
+        let m = between z b z t (omega (arith, ints)) beyond in
+        at z z (omega (arith, ints, clamps)) (omega (arith, ints, clamps)) (omega (arith, ints, clamps)) (omega (arith, ints, clamps))
+  ]
+]
+  where
+    at : (low high : ℤ) → int_min a z ≡ low → int_max b z ≡ high
+        → int_min (low *ℤ t) (high *ℤ t) ≡ int_min (int_min (a *ℤ t) (b *ℤ t)) (z *ℤ t)
+        → int_max (low *ℤ t) (high *ℤ t) ≡ int_max (int_max (a *ℤ t) (b *ℤ t)) (z *ℤ t)
+        → AreBoundsTimes (int_min a z) (int_max b z) a b z t
+    at low high e f l g = record {
+      least = (λ i. int_min (e i *ℤ t) (f i *ℤ t)) ∙ l;
+      greatest = (λ i. int_max (e i *ℤ t) (f i *ℤ t)) ∙ g;
+    }
+
+-- a number that is not 0 brings none nearer to 0: two numbers around 0 go further out, or so with the other sign
+pub stretched : (a b t : ℤ) → (t ≡ pos 0 → ⊥) → a ≤ℤ pos 0 → pos 0 ≤ℤ b
+    → ((a *ℤ t) ≤ℤ a × b ≤ℤ (b *ℤ t)) ⊎ ((b *ℤ t) ≤ℤ neg_ℤ b × neg_ℤ a ≤ℤ (a *ℤ t))
+stretched a b (pos zero) some h k = absurd (some refl)
+stretched a b (pos (suc n)) some h k =
+    let low = up_by a (pos 0) n h in
+    let high = up_by (pos 0) b n k in
+    inl (omega (arith, ints), omega (arith, ints))
+stretched a b (negsuc n) some h k =
+    let low = up_by a (pos 0) n h in
+    let high = up_by (pos 0) b n k in
+    inr (omega (arith, ints), omega (arith, ints))

@@ -1,0 +1,38 @@
+-- What is kept of products is near 0, so that 128 bits hold what two of them are together.
+use Rattle.std.proofs.Common.{◌^◌, ◌≤◌, arith, ℤ, pos, neg_ℤ, ◌*ℤ◌, ◌≤ℤ◌, SFits, unsigned_abs}
+use Rattle.std.specs.Int.{w128}
+use Rattle.std.proofs.Math.Nat.{mul-le-mul}
+use Rattle.std.proofs.lemmas.Int.{ints, clamps, unsigned_abs-mul, fits_signed_from_abs}
+use Rattle.fold_trees.specs.declared.product.Product.{Product}
+use Rattle.fold_trees.specs.Products.{Products, join, told, Tells}
+
+pub record AreNear (s : Products) : Type 0 where
+  pub total : unsigned_abs s.total ≤ 2 ^ 63
+  pub least : unsigned_abs s.least ≤ 2 ^ 63
+  pub greatest : unsigned_abs s.greatest ≤ 2 ^ 63
+
+pub are_near : (s : Product) (m : Products) → Tells s m → AreNear (told s)
+are_near s m h =
+    let below = h.below in
+    let above = h.above in
+    let low = h.sound.least_total in
+    let high = h.sound.total_greatest in
+    record { total = omega (arith, ints); least = omega (arith, ints); greatest = omega (arith, ints) }
+
+pub near_times : (x y : ℤ) → unsigned_abs x ≤ 2 ^ 63 → unsigned_abs y ≤ 2 ^ 63 → unsigned_abs (x *ℤ y) ≤ 2 ^ 126
+near_times x y h k = let size = unsigned_abs-mul x y in let most = mul-le-mul h k in omega arith
+
+pub times_fits : (x y : ℤ) → unsigned_abs x ≤ 2 ^ 63 → unsigned_abs y ≤ 2 ^ 63 → SFits w128 (x *ℤ y)
+times_fits x y h k = let most = near_times x y h k in fits_signed_from_abs w128 (x *ℤ y) (omega arith)
+
+pub record IsWithin126 (s : Products) : Type 0 where
+  pub low : neg_ℤ (pos (2 ^ 126)) ≤ℤ s.least
+  pub high : s.greatest ≤ℤ pos (2 ^ 126)
+
+pub join_within : (a b : Products) → AreNear a → AreNear b → IsWithin126 (join a b)
+join_within a b h k =
+    let one = near_times a.least b.total h.least k.total in
+    let other = near_times a.greatest b.total h.greatest k.total in
+    let low = k.least in
+    let high = k.greatest in
+    record { low = omega (arith, ints, clamps); high = omega (arith, ints, clamps) }

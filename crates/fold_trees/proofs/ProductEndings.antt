@@ -1,0 +1,105 @@
+-- The products of the endings of a list tell its product from the right.
+use Rattle.std.proofs.Common.{◌≡◌, ◌^◌, ◌-◌, ◌<◌, length, List, [], ◌∷◌, refl, ap, sym, ◌∙◌, arith, inl, inr, Bool, true, false, ◌&&◌, if◌then◌else◌, ℤ, pos, negsuc, neg_ℤ, ◌-ℤ◌, ◌*ℤ◌, ◌≤ℤ◌, Ok, Err}
+use Rattle.std.specs.Int.{int_max, int_min}
+use Rattle.std.specs.List.{All}
+use Rattle.std.proofs.lemmas.Int.{ints, clamps}
+use Rattle.std.proofs.lemmas.List.Elements.{All-head, All-tail}
+use Rattle.std.proofs.lemmas.Bool.{lt-ltb, ltb-true, and_from, and_parts, cases_Bool, cond-true, cond-false}
+use Rattle.arrays_core.specs.declared.item.Kind.TheVariants.{Limit}
+use Rattle.arrays_core.specs.Items.{and_then}
+use Rattle.scalar_fns.specs.declared.function.Scalar2.TheVariants.{Times}
+use Rattle.scalar_fns.specs.Numbers.{dyadic_on_numbers, number_or_limit, is_number}
+use Rattle.scalar_fns.specs.Folds.{folded}
+use Rattle.fold_trees.specs.Products.{Products, none, before, products_of, product_told}
+use Rattle.fold_trees.proofs.JoinedProducts.{ordered_of}
+
+pub record Within (z : ℤ) : Type 0 where
+  pub low : negsuc (2 ^ 63 - 1) ≤ℤ z
+  pub high : z ≤ℤ pos (2 ^ 63 - 1)
+
+pub in_64_bits : (z : ℤ) → is_number z ≡ true → Within z
+in_64_bits (pos n) e = let below = ltb-true n (2 ^ 63) e in record { low = omega (arith, ints); high = omega (arith, ints) }
+in_64_bits (negsuc n) e = let below = ltb-true n (2 ^ 63) e in record { low = omega (arith, ints); high = omega (arith, ints) }
+
+pub is_in_64_bits : (z : ℤ) → Within z → is_number z ≡ true
+is_in_64_bits (pos n) h = lt-ltb n (2 ^ 63) (omega (arith, ints, h.high))
+is_in_64_bits (negsuc n) h = lt-ltb n (2 ^ 63) (omega (arith, ints, h.low))
+
+same_test : (p q : Bool) → (p ≡ true → q ≡ true) → (q ≡ true → p ≡ true) → p ≡ q
+same_test true true f g = refl
+same_test true false f g = sym (f refl)
+same_test false true f g = g refl
+same_test false false f g = refl
+
+-- with one more product all are within 64 bits where those before are, and it is
+one_more : (low high z : ℤ) → low ≤ℤ high → (is_number (int_min low z) && is_number (int_max high z)) ≡ ((is_number low && is_number high) && is_number z)
+one_more low high z h = same_test _ _ there back
+  where
+    there : (is_number (int_min low z) && is_number (int_max high z)) ≡ true → ((is_number low && is_number high) && is_number z) ≡ true
+    there e =
+        let both = and_parts (is_number (int_min low z)) (is_number (int_max high z)) e in
+        let down = (in_64_bits (int_min low z) both.0).low in
+        let up = (in_64_bits (int_max high z) both.1).high in
+        and_from _ _
+        (and_from _ _
+        (is_in_64_bits low (record { low = omega (arith, ints, clamps); high = omega (arith, ints, clamps) }))
+        (is_in_64_bits high (record { low = omega (arith, ints, clamps); high = omega (arith, ints, clamps) })))
+        (is_in_64_bits z (record { low = omega (arith, ints, clamps); high = omega (arith, ints, clamps) }))
+
+    back : ((is_number low && is_number high) && is_number z) ≡ true → (is_number (int_min low z) && is_number (int_max high z)) ≡ true
+    back e =
+        let all = and_parts (is_number low && is_number high) (is_number z) e in
+        let both = and_parts (is_number low) (is_number high) all.0 in
+        let first = in_64_bits low both.0 in
+        let second = in_64_bits high both.1 in
+        let third = in_64_bits z all.1 in
+        and_from _ _
+        (is_in_64_bits (int_min low z) (record { low = omega (arith, ints, clamps); high = omega (arith, ints, clamps) }))
+        (is_in_64_bits (int_max high z) (record { low = omega (arith, ints, clamps); high = omega (arith, ints, clamps) }))
+
+-- ---- what is told
+
+pub told_within : (s : Products) → Within s.least → Within s.greatest → product_told s ≡ Ok s.total
+told_within s h k = cond-true _ (Ok s.total) (Err Limit) (and_from _ _ (is_in_64_bits s.least h) (is_in_64_bits s.greatest k))
+
+pub told_beyond : (s : Products) → pos (2 ^ 63) ≤ℤ int_max s.greatest (neg_ℤ s.least -ℤ pos 1) → product_told s ≡ Err Limit
+told_beyond s h = elim (cases_Bool (is_number s.least && is_number s.greatest)) [
+  | inl good ↦
+      let both = and_parts (is_number s.least) (is_number s.greatest) good in
+      let low = (in_64_bits s.least both.0).low in
+      let high = (in_64_bits s.greatest both.1).high in
+      absurd (omega (arith, ints, clamps))
+  | inr bad ↦ cond-false _ (Ok s.total) (Err Limit) bad
+]
+
+-- ---- the product from the right
+
+then_times : (p : Bool) (z t : ℤ) → and_then (if p then Ok t else Err Limit) (λ v. number_or_limit (z *ℤ v))
+    ≡ (if (p && is_number (z *ℤ t)) then Ok (z *ℤ t) else Err Limit)
+then_times true z t = refl
+then_times false z t = refl
+
+one_number : (z : ℤ) → is_number z ≡ true → product_told (before z none) ≡ Ok z
+one_number z e =
+    let h = in_64_bits z e in
+    let once : z *ℤ pos 1 ≡ z = omega (arith, ints) in
+    told_within (before z none)
+    (record { low = omega (arith, ints, clamps, h.low); high = omega (arith, ints, clamps, h.high) })
+    (record { low = omega (arith, ints, clamps, h.low); high = omega (arith, ints, clamps, h.high) })
+    ∙ ap Ok once
+
+pub told_folded : (z : ℤ) (rest : List ℤ) → All (λ x. is_number x ≡ true) (z ∷ rest)
+    → product_told (products_of (z ∷ rest)) ≡ folded (dyadic_on_numbers Times) (z ∷ rest)
+told_folded z [] h = one_number z (All-head (λ x. is_number x ≡ true) z [] h)
+told_folded z (y ∷ rest) h =
+    let s = products_of (y ∷ rest) in
+    let order = ordered_of (y ∷ rest) in
+    let low = order.least_zero in
+    let high = order.zero_greatest in
+    ap (λ p. if p then Ok (z *ℤ s.total) else Err Limit) (one_more s.least s.greatest (z *ℤ s.total) (omega (arith, ints)))
+    ∙ sym (then_times (is_number s.least && is_number s.greatest) z s.total)
+    ∙ ap (λ r. and_then r (dyadic_on_numbers Times z)) (told_folded y rest (All-tail (λ x. is_number x ≡ true) z (y ∷ rest) h))
+
+pub some_folded : (xs : List ℤ) → 1 < length xs → All (λ x. is_number x ≡ true) xs → product_told (products_of xs) ≡ folded (dyadic_on_numbers Times) xs
+some_folded [] more h = absurd (omega arith)
+some_folded (z ∷ rest) more h = told_folded z rest h

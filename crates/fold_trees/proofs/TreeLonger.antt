@@ -1,0 +1,91 @@
+-- All lines lie between one another, and each takes one more number.
+use Rattle.std.proofs.Common.{◌≡◌, ◌∙◌, ℕ, ◌+◌, ◌-◌, ◌*◌, ◌/◌, ◌%◌, ◌^◌, ◌<◌, ℤ, pos, List, ◌++◌, length, get_or, sym, ap, subst, arith}
+use Rattle.std.proofs.lemmas.List.{length-append, get_or_append_left}
+use Rattle.operator_fns.specs.SumTrees.{AreLines}
+use Rattle.operator_fns.proofs.LineSpots.{spot, slot_within}
+use Rattle.operator_fns.proofs.LongerTrees.{in_first, one_block as one_sum_block, lines_in_block}
+use Rattle.fold_trees.specs.LineTrees.{slot_at, node_at, number_of, node_of, shorter, IsIn, AreKept}
+use Rattle.fold_trees.specs.PartTrees.{line_at, nodes_in_line, AreLineTrees}
+use Rattle.fold_trees.proofs.TreePlaces.{node_within, in_both}
+use Rattle.fold_trees.proofs.TreeTables.{kept_alike}
+
+-- places of lines of the first block do not lie elsewhere where the lines are longer
+first_spot : (unit other step line place : ℕ) → 0 < step → line < step → spot unit step line place ≡ spot other step line place
+first_spot unit other step line place apart h =
+    let first = in_first step line apart h in
+    let same : 0 * (unit * step) + line % step + place * step ≡ 0 * (other * step) + line % step + place * step = grind arith in
+    (λ i. first i * (unit * step) + line % step + place * step) ∙ same ∙ sym (λ i. first i * (other * step) + line % step + place * step)
+
+-- all numbers of one block of lines
+one_block : (count step numbers : ℕ) → 0 < count → 0 < step → numbers ≡ count * step → AreLines count step numbers
+one_block count step numbers some apart is =
+    let there : AreLines count step numbers = one_sum_block count step numbers some apart is in
+    record { some = there.some; apart = there.apart; whole = there.whole }
+
+-- both lists are long enough for each of them
+pub in_block : (count step numbers nodes line : ℕ) → 0 < count → 0 < step → numbers ≡ count * step → nodes ≡ nodes_in_line count * step → line < step → numbers < 2 ^ 62
+    → IsIn (line_at count step line) numbers nodes
+in_block count step numbers nodes line some apart is sized h few =
+    let lines = lines_in_block count step numbers some is in
+    let whole = sized ∙ grind arith ∙ ap (λ n. n * nodes_in_line count) (sym lines) in
+    in_both count step numbers (one_block count step numbers some apart is) line (omega (arith, h, lines)) nodes whole few
+
+module _ {P : Type 0} (blank : P) (tells : P → List ℤ → Type 0) (count step : ℕ) (numbers : List ℤ) (nodes : List P) where
+  -- as many nodes as such lines have
+  pub held_nodes : AreLineTrees blank tells count step numbers nodes → length numbers ≡ count * step → length nodes ≡ nodes_in_line count * step
+  held_nodes trees is = trees.sized ∙ ap (λ n. n * nodes_in_line count) (lines_in_block count step (length numbers) trees.lines.some is) ∙ grind arith
+
+  -- the trees of one block of lines
+  pub longer_trees : 0 < count → 0 < step → length numbers ≡ count * step → length nodes ≡ nodes_in_line count * step
+      → ((line : ℕ) → line < step → AreKept tells count (number_of (line_at count step line) numbers) (node_of blank (line_at count step line) nodes))
+      → AreLineTrees blank tells count step numbers nodes
+  longer_trees some apart slot_count node_count kept =
+      let lines = lines_in_block count step (length numbers) some slot_count in
+      record {
+        lines = one_block count step (length numbers) some apart slot_count;
+        sized = node_count ∙ grind arith ∙ ap (λ n. n * nodes_in_line count) (sym lines);
+        kept = λ line h. kept line (omega (arith, h, lines));
+      }
+
+module _ {P : Type 0} (blank : P) (tells : P → List ℤ → Type 0) (count step : ℕ) (numbers new : List ℤ) (nodes more : List P)
+    (old : AreLineTrees blank tells count step numbers nodes) (between : length numbers ≡ count * step) (wide : length new ≡ step) where
+  abbrev long : ℕ
+  long = count + 1
+
+  abbrev all : List ℤ
+  all = numbers ++ new
+
+  one_more : long - 1 ≡ count
+  one_more = omega arith
+
+  old_line : (line : ℕ) → line < step → line < length numbers / count
+  old_line line h = omega (arith, h, lines_in_block count step (length numbers) old.lines.some between)
+
+  pub all_long : length all ≡ long * step
+  all_long = let sum : count * step + step ≡ long * step = grind arith in omega (arith, length-append numbers new, between, wide, sum)
+
+  -- as many nodes as the longer lines have
+  pub nodes_long : length more ≡ length new → length (nodes ++ more) ≡ nodes_in_line long * step
+  nodes_long is =
+      let some = old.lines.some in
+      let sum : (nodes_in_line count + 1) * step ≡ nodes_in_line count * step + step = grind arith in
+      let whole : nodes_in_line count + 1 ≡ nodes_in_line long = omega (arith, some) in
+      omega (arith, length-append nodes more, held_nodes blank tells count step numbers nodes old between, is, wide, sum) ∙ ap (λ n. n * step) whole
+
+  -- before the new numbers are taken, what is kept is that of the lines without them
+  pub kept_without : (line : ℕ) → line < step
+      → AreKept tells (long - 1) (number_of (shorter (line_at long step line)) all) (node_of blank (shorter (line_at long step line)) (nodes ++ more))
+  kept_without line h =
+      let l = line_at count step line in
+      let m = shorter (line_at long step line) in
+      let there = old_line line h in
+      let lines = old.lines in
+      subst (λ n. AreKept tells n (number_of m all) (node_of blank m (nodes ++ more))) (sym one_more)
+      (kept_alike tells count (number_of l numbers) (number_of m all) (node_of blank l nodes) (node_of blank m (nodes ++ more))
+      (λ i p.
+      ap (λ k. get_or all k (pos 0)) (first_spot long count step line i lines.apart h)
+      ∙ get_or_append_left numbers new (pos 0) (slot_at l i) (slot_within count step (length numbers) lines line there i p))
+      (λ meeting low high.
+      ap (λ k. get_or (nodes ++ more) k blank) (first_spot (nodes_in_line long) (nodes_in_line count) step line (meeting - 1) lines.apart h)
+      ∙ get_or_append_left nodes more blank (node_at l meeting) (node_within count step (length numbers) lines line there (length nodes) old.sized meeting low high))
+      (old.kept line there))

@@ -1,0 +1,14 @@
+use Rattle.std.proofs.Common.{◌≡◌, ap, sym, ◌∙◌, to_z, of_z, w64, rules, Ok}
+use Rattle.std.specs.Int.{int_min}
+use Rattle.std.proofs.lemmas.Int.{to_z-of_z}
+use Rattle.operator_fns.proofs.Associates.{minimum}
+use Rattle.fold_trees.proofs.JoinedFolds.{joined_values}
+use Rattle.fold_trees.proofs.extremes.LeastPart.join.Goals as goal
+
+pub returns : goal.returns
+returns c xs ys h k =
+    let here : to_z w64 (of_z w64 c.args.self.now.number) ≡ c.args.self.now.number = to_z-of_z w64 _ (search rules) in
+    let later : to_z w64 (of_z w64 c.args.later.now.number) ≡ c.args.later.now.number = to_z-of_z w64 _ (search rules) in
+    let result : to_z w64 (of_z w64 c.min.result) ≡ int_min c.args.self.now.number c.args.later.now.number =
+    to_z-of_z w64 _ (search rules) ∙ c.min.ensures.value ∙ (λ i. int_min (here i) (later i)) in
+    joined_values _ minimum xs ys _ _ h k ∙ ap Ok (sym result)

@@ -1,0 +1,67 @@
+use Rattle.std.proofs.Common.{◌≡◌, ◌∙◌, ◌+◌, ◌-◌, ◌*◌, ◌/◌, ◌%◌, ◌<◌, min, ap, subst, arith}
+use Rattle.fold_trees.specs.LineTrees.{number_of, segment, numbers_at}
+use Rattle.fold_trees.proofs.LineParts.{segment_same, odd_block, even_block, widen_odd, widen_even, widen_alone}
+use Rattle.fold_trees.proofs.line_tree.LineTree.widened.Goals as goal
+
+pub part-requires-clause-part : goal.part-requires-clause-part
+part-requires-clause-part g c =
+    let block = c.args.block in
+    let width = c.args.width in
+    let at = odd_block block width c.if-block-eq1.true in
+    let level = c.requires.level in
+    record {
+      level = level.0;
+      place = 2 * (block / 2);
+      width_is = level.1;
+      from_is = let before : block * width - width ≡ 2 * (block / 2 * width) = omega (arith, at.0) in
+          before ∙ grind arith ∙ ap (λ w. 2 * (block / 2) * w) level.1;
+    }
+
+pub part-requires-clause-kept : goal.part-requires-clause-kept
+part-requires-clause-kept g c level place low high =
+    let at = odd_block c.args.block c.args.width c.if-block-eq1.true in
+    c.requires.kept level place (omega (arith, at.0, at.1, low)) (omega (arith, at.0, at.1, high))
+
+pub returns-then-block-eq1-clause-is : goal.returns-then-block-eq1-clause-is
+returns-then-block-eq1-clause-is g c x same told =
+    let block = c.args.block in
+    let width = c.args.width in
+    let line = c.args.self.now.line in
+    let numbers = number_of line c.args.self.now.numbers.now in
+    let odd = c.if-block-eq1.true in
+    let at = odd_block block width odd in
+    let from = block * width - width in
+    let long = min width (line.count - from) in
+    let alike = segment_same numbers x from long (λ i low high. same i (omega (arith, at.0, at.1, low)) (omega (arith, at.0, at.1, high, c.requires.from))) in
+    subst (g.P.Part.tells c.join.result) (widen_odd line.count x block width odd c.requires.from)
+    (c.join.ensures (segment x from long) (numbers_at line.count x block width) (subst (g.P.Part.tells c.part.result) alike c.part.ensures) told)
+
+pub returns-then-self-from-clause-is : goal.returns-then-self-from-clause-is
+returns-then-self-from-clause-is g c x same told =
+    let some = c.if-block-eq1.false in
+    let even : c.args.block % 2 ≡ 0 = omega (arith, some) in
+    subst (g.P.Part.tells c.args.kept.now) (widen_alone c.args.self.now.line.count x c.args.block c.args.width even c.requires.from c.if-self-from.true) told
+
+pub part-requires-2-clause-kept : goal.part-requires-2-clause-kept
+part-requires-2-clause-kept g c level place low high =
+    let some = c.if-block-eq1.false in
+    let even : c.args.block % 2 ≡ 0 = omega (arith, some) in
+    let at = even_block c.args.block c.args.width even in
+    c.requires.kept level place (omega (arith, at.0, at.1, low)) (omega (arith, at.0, at.1, high))
+
+pub returns-clause-is : goal.returns-clause-is
+returns-clause-is g c x same told =
+    let block = c.args.block in
+    let width = c.args.width in
+    let line = c.args.self.now.line in
+    let numbers = number_of line c.args.self.now.numbers.now in
+    let some = c.if-block-eq1.false in
+    let even : c.args.block % 2 ≡ 0 = omega (arith, some) in
+    let at = even_block block width even in
+    let more = c.if-self-from.false in
+    let below : block * width + width < line.count = omega (arith, more) in
+    let from = block * width + width in
+    let long = min width (line.count - from) in
+    let alike = segment_same numbers x from long (λ i low high. same i (omega (arith, at.0, at.1, low)) (omega (arith, at.0, at.1, high, below))) in
+    subst (g.P.Part.tells c.join-2.result) (widen_even line.count x block width even below)
+    (c.join-2.ensures (numbers_at line.count x block width) (segment x from long) told (subst (g.P.Part.tells c.part-2.result) alike c.part-2.ensures))

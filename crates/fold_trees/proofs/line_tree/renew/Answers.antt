@@ -1,0 +1,77 @@
+use Rattle.std.proofs.Common.{◌≡◌, ◌∙◌, ◌+◌, ◌-◌, ◌*◌, ◌/◌, ◌<◌, ◌≤◌, ◌⊎◌, ◌∷◌, [], set, min, sym, ap, subst, arith, inl, inr, refl, w64, get_or, pos, FitsSigned, rules}
+use Rattle.std.proofs.lemmas.Int.{to_z-of_z}
+use Rattle.std.proofs.lemmas.Nat.{pow_pos}
+use Rattle.fold_trees.specs.LineTrees.{number_of, node_of, segment}
+use Rattle.fold_trees.proofs.LineParts.{climb_start, climb_up}
+use Rattle.fold_trees.proofs.LineNodes.{IsStepUp, others_stay, step_up, kept_first, all_kept, kept_beside}
+use Rattle.fold_trees.proofs.line_tree.renew.Goals as goal
+use Rattle.fold_trees.proofs.line_tree.renew.Goals.{then-joined-eq1, else-joined-eq1}
+
+pub loop-width-init : goal.loop-width-init
+loop-width-init g c =
+    let line = c.args.line in
+    let place = c.args.place in
+    let numbers = c.args.numbers.now in
+    let x = number_of line numbers in
+    let start : place * 1 ≡ place = omega arith in
+    let one : min 1 (line.count - place * 1) ≡ 1 = omega (arith, c.requires.place) in
+    let f : FitsSigned w64 (get_or numbers c.slot_at.result (pos 0)) = search rules in
+    let number = to_z-of_z w64 _ f ∙ ap (λ k. get_or numbers k (pos 0)) c.slot_at.ensures in
+    record {
+      climb = climb_start place;
+      told = subst (g.P.Part.tells c.of-kept.result) (ap (λ y. y ∷ []) number ∙ sym (λ i. segment x (start i) (one i))) c.of-kept.ensures;
+      kept = kept_first g.P.Part.tells place line.count x (node_of g.P.Part.blank line c.args.nodes.now) c.requires.kept;
+      others = λ p h. refl;
+      sized = refl;
+    }
+
+pub widened-wider-requires-clause-kept : goal.widened-wider-requires-clause-kept
+widened-wider-requires-clause-kept g c =
+    let inv = c.loop-width.invariant in
+    kept_beside g.P.Part.tells c.loop-width.width c.args.place c.loop-width.block c.args.line.count (number_of c.args.line c.args.numbers.now)
+    (node_of g.P.Part.blank c.args.line c.loop-width.nodes) inv.climb inv.kept
+
+pub loop-width-preserved : goal.loop-width-preserved
+loop-width-preserved g c =
+    let line = c.args.line in
+    let x = number_of line c.args.numbers.now in
+    let block = c.loop-width.block in
+    let width = c.loop-width.width in
+    let nodes = c.loop-width.nodes in
+    let after = c.if-joined-eq1.nodes in
+    let inv = c.loop-width.invariant in
+    let joined = c.widened-wider.ensures in
+    let told = joined.is x (λ i low high. refl) inv.told in
+    let meeting = (block / 2 * 2 + 1) * width in
+    let some : 1 ≤ meeting =
+    let is : meeting ≡ 2 * (block / 2 * width) + width = grind arith in
+    let p = pow_pos inv.climb.level in
+    let width_is = inv.climb.width_is in
+    omega (arith, is, p, width_is) in
+    let new : IsStepUp g.P.Part.blank line nodes after block width c.widened-wider.result.0 = elim c.if-joined-eq1.branch [
+      | then-joined-eq1 w ↦
+          let inside = c.requires.inside.nodes.node meeting some (joined.one w.if-joined-eq1.true) in
+          inl (w.nodes-is ∙ ap (λ p. set nodes p c.widened-wider.result.0) w.node_at.ensures, omega (arith, inside, inv.sized))
+      | else-joined-eq1 w ↦
+          let other = w.if-joined-eq1.false in
+          let none = joined.none (omega (arith, other, joined.joins)) in
+          inr (w.nodes-is, none.0, none.1)
+    ] in
+    let within : after ≡ nodes ⊎ meeting < line.count = elim c.if-joined-eq1.branch [
+      | then-joined-eq1 w ↦ inr (joined.one w.if-joined-eq1.true)
+      | else-joined-eq1 w ↦ inl w.nodes-is
+    ] in
+    record {
+      climb = climb_up c.args.place block width inv.climb;
+      told = told;
+      kept = step_up g.P.Part.blank g.P.Part.tells line nodes after x c.args.place block width c.widened-wider.result.0 inv.climb
+          c.requires.inside.slots.apart inv.kept told new;
+      others = others_stay g.P.Part.blank line nodes after c.args.nodes.now block width c.widened-wider.result.0 new some within inv.others;
+      sized = c.if-joined-eq1.auto.nodes ∙ inv.sized;
+    }
+
+pub returns-clause-kept : goal.returns-clause-kept
+returns-clause-kept g c =
+    let inv = c.loop-width.invariant in
+    all_kept g.P.Part.tells c.loop-width.width c.args.place c.args.line.count (number_of c.args.line c.args.numbers.now) (node_of g.P.Part.blank c.args.line c.loop-width.nodes)
+    inv.climb.level inv.climb.width_is c.loop-width-test.false inv.kept

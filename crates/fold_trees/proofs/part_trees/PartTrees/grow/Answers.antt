@@ -1,0 +1,121 @@
+use Rattle.std.proofs.Common.{◌≡◌, ◌∙◌, ℕ, ◌+◌, ◌*◌, ◌/◌, ◌<◌, ◌^◌, ◌++◌, ℤ, List, length, sym, ap, subst, arith, vec_capacity}
+use Rattle.arrays_core.specs.Growth.{HasRoom}
+use Rattle.operator_fns.specs.SumTrees.{TreesValue, NewTreesValue, line_count}
+use Rattle.operator_fns.proofs.LineSpots.{all_slots}
+use Rattle.operator_fns.proofs.MoreLines.{in_all}
+use Rattle.fold_trees.specs.PartTrees.{nodes_in_line, AreLineTrees}
+use Rattle.fold_trees.proofs.TreeMore.{more_trees}
+use Rattle.fold_trees.proofs.TreePlaces.{fewer_nodes}
+use Rattle.fold_trees.proofs.part_trees.PartTrees.grow.Given.{Over}
+use Rattle.fold_trees.proofs.part_trees.PartTrees.grow.Goals.{After-trees}
+use Rattle.fold_trees.proofs.part_trees.PartTrees.grow.Goals as goal
+
+-- ---- the new lines are as long as the old ones, their neighbours as far apart, and the room is for them
+
+seen_count : (g : Over) (c : After-trees g) → c.more.inside.trees.count ≡ c.self.inside.count
+seen_count g c = ap (λ (n : NewTreesValue). n.count) c.more.view_is ∙ c.requires.count ∙ sym (ap (λ (t : TreesValue). t.count) c.self.view_is)
+
+same_count : (g : Over) (c : After-trees g) → c.trees.inside.count ≡ c.self.inside.count
+same_count g c = ap (λ (t : TreesValue). t.count) c.trees.view_is ∙ seen_count g c
+
+same_step : (g : Over) (c : After-trees g) → c.trees.inside.step ≡ c.self.inside.step
+same_step g c =
+    ap (λ (t : TreesValue). t.step) c.trees.view_is ∙ ap (λ (n : NewTreesValue). n.step) c.more.view_is ∙ c.requires.step
+    ∙ sym (ap (λ (t : TreesValue). t.step) c.self.view_is)
+
+new_trees : (g : Over) (c : After-trees g)
+    → AreLineTrees g.P.Part.blank g.P.Part.tells c.self.inside.count c.self.inside.step c.trees.inside.numbers.items c.trees.inside.nodes.items
+new_trees g c =
+    let blank = g.P.Part.blank in
+    let tells = g.P.Part.tells in
+    let numbers = c.trees.inside.numbers.items in
+    let nodes = c.trees.inside.nodes.items in
+    subst (λ (step : ℕ). AreLineTrees blank tells c.self.inside.count step numbers nodes) (same_step g c)
+    (subst (λ (count : ℕ). AreLineTrees blank tells count c.trees.inside.step numbers nodes) (same_count g c) c.trees.invariant.trees)
+
+old_count : (g : Over) (c : After-trees g) → c.more.inside.old_lines ≡ length c.self.inside.numbers.items / c.self.inside.count
+old_count g c = ap (λ (n : NewTreesValue). n.old_lines) c.more.view_is ∙ c.requires.old_lines ∙ sym (ap (λ (t : TreesValue). line_count t) c.self.view_is)
+
+new_count : (g : Over) (c : After-trees g) → line_count c.more.inside.trees ≡ length c.trees.inside.numbers.items / c.self.inside.count
+new_count g c = sym (ap (λ (t : TreesValue). line_count t) c.trees.view_is) ∙ ap (λ (n : ℕ). length c.trees.inside.numbers.items / n) (same_count g c)
+
+-- how many numbers there are, in lines
+held_numbers : (g : Over) (c : After-trees g) → length c.self.inside.numbers.items ≡ c.more.inside.old_lines * c.self.inside.count
+held_numbers g c =
+    let long = length c.self.inside.numbers.items in
+    all_slots c.self.inside.count c.self.inside.step long c.self.invariant.trees.lines
+    ∙ ap (λ n. n * c.self.inside.count) (sym (old_count g c))
+
+more_numbers : (g : Over) (c : After-trees g) → length c.trees.inside.numbers.items ≡ line_count c.more.inside.trees * c.self.inside.count
+more_numbers g c =
+    let long = length c.trees.inside.numbers.items in
+    let trees = new_trees g c in
+    all_slots c.self.inside.count c.self.inside.step long trees.lines
+    ∙ ap (λ n. n * c.self.inside.count) (sym (new_count g c))
+
+numbers_in_all : (g : Over) (c : After-trees g)
+    → (c.more.inside.old_lines + line_count c.more.inside.trees) * c.self.inside.count ≡ length c.self.inside.numbers.items + length c.trees.inside.numbers.items
+numbers_in_all g c =
+    in_all c.more.inside.old_lines (line_count c.more.inside.trees) (length c.self.inside.numbers.items) (length c.trees.inside.numbers.items)
+    c.self.inside.count (held_numbers g c) (more_numbers g c)
+
+few_numbers : (g : Over) (c : After-trees g) → length c.self.inside.numbers.items + length c.trees.inside.numbers.items < 2 ^ 63
+few_numbers g c =
+    let few = subst (λ n. (c.more.inside.old_lines + line_count c.more.inside.trees) * n < 2 ^ 63) (seen_count g c) c.more.invariant.few in
+    omega (arith, few, numbers_in_all g c)
+
+pub put_behind-requires-2-clause-few : goal.put_behind-requires-2-clause-few
+put_behind-requires-2-clause-few g c =
+    let before = (goal.at.put_behind-requires-2-clause-few g c).After-trees in
+    let count = c.self.inside.count in
+    let step = c.self.inside.step in
+    let trees = new_trees g before in
+    let old = fewer_nodes count step (length c.self.inside.numbers.items) c.self.invariant.trees.lines (length c.self.inside.nodes.items) c.self.invariant.trees.sized in
+    let new = fewer_nodes count step (length c.trees.inside.numbers.items) trees.lines (length c.trees.inside.nodes.items) trees.sized in
+    omega (arith, old, new, few_numbers g before)
+
+pub put_behind-requires-clause-room : goal.put_behind-requires-clause-room
+put_behind-requires-clause-room g c =
+    let count = c.self.inside.count in
+    let old = c.more.inside.old_lines in
+    let new = line_count c.more.inside.trees in
+    let capacity = vec_capacity c.more.inside.slots in
+    subst (λ n. HasRoom n (length c.self.inside.numbers.items + length c.trees.inside.numbers.items) capacity) (sym (held_numbers g c))
+    (subst (λ n. HasRoom (old * count) n capacity) (numbers_in_all g c)
+    (subst (λ n. HasRoom (old * n) ((old + new) * n) capacity) (seen_count g c) c.more.invariant.slot_room))
+
+pub put_behind-requires-2-clause-room : goal.put_behind-requires-2-clause-room
+put_behind-requires-2-clause-room g c =
+    let before = (goal.at.put_behind-requires-2-clause-room g c).After-trees in
+    let count = c.self.inside.count in
+    let old = c.more.inside.old_lines in
+    let new = line_count c.more.inside.trees in
+    let capacity = vec_capacity c.more.inside.nodes in
+    let trees = new_trees g before in
+    let nodes = length c.self.inside.nodes.items in
+    let more = length c.trees.inside.nodes.items in
+    let old_nodes = c.self.invariant.trees.sized ∙ ap (λ n. n * nodes_in_line count) (sym (old_count g before)) in
+    let new_nodes = trees.sized ∙ ap (λ n. n * nodes_in_line count) (sym (new_count g before)) in
+    subst (λ n. HasRoom n (nodes + more) capacity) (sym old_nodes)
+    (subst (λ n. HasRoom (old * nodes_in_line count) n capacity) (in_all old new nodes more (nodes_in_line count) old_nodes new_nodes)
+    (subst (λ n. HasRoom (old * nodes_in_line n) ((old + new) * nodes_in_line n) capacity) (seen_count g before) c.more.invariant.node_room))
+
+-- ---- the lists of both
+
+pub invariant_of-self : goal.invariant_of-self
+invariant_of-self g c =
+    let blank = g.P.Part.blank in
+    let tells = g.P.Part.tells in
+    let count = c.self.inside.count in
+    let step = c.self.inside.step in
+    let numbers = c.self.inside.numbers.items in
+    let nodes = c.self.inside.nodes.items in
+    let more = c.trees.inside.numbers.items in
+    let more_nodes = c.trees.inside.nodes.items in
+    let all = more_trees blank tells count step numbers more nodes more_nodes c.self.invariant.trees (new_trees g (goal.at.invariant_of-self g c).After-trees) in
+    record {
+      trees = subst (λ (l : List ℤ). AreLineTrees blank tells count step l c.put_behind-2.new.items.items) (sym c.put_behind.ensures.items)
+          (subst (λ (l : List g.row.P.Denot). AreLineTrees blank tells count step (numbers ++ more) l) (sym c.put_behind-2.ensures.items) all);
+      slot_room = c.put_behind.ensures.room;
+      node_room = c.put_behind-2.ensures.room;
+    }

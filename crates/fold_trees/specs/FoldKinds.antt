@@ -1,0 +1,34 @@
+-- The trees of the lines of an array, a kind for each function.
+use Rattle.scalar_fns.specs.declared.function.Scalar2.TheVariants.{Plus, Times, Maximum, Minimum, And, Or}
+use Rattle.fold_trees.specs.FoldTrees.{FoldsValue, NewFoldsValue, NextFoldsValue}
+use Rattle.fold_trees.specs.declared.fold_trees.Trees.{Trees}
+use Rattle.fold_trees.specs.declared.fold_trees.Trees.TheVariants as trees
+use Rattle.fold_trees.specs.declared.fold_trees.Lines.{Lines}
+use Rattle.fold_trees.specs.declared.fold_trees.Lines.TheVariants as lines
+use Rattle.fold_trees.specs.declared.fold_trees.Places.{Places}
+use Rattle.fold_trees.specs.declared.fold_trees.Places.TheVariants as places
+
+-- what they are trees of
+abbrev pub folds_of : Trees → FoldsValue
+folds_of (trees.Sum t) = record { function = Plus; lines = t }
+folds_of (trees.Product t) = record { function = Times; lines = t }
+folds_of (trees.Greatest t) = record { function = Maximum; lines = t }
+folds_of (trees.Least t) = record { function = Minimum; lines = t }
+folds_of (trees.AllTrue t) = record { function = And; lines = t }
+folds_of (trees.AnyTrue t) = record { function = Or; lines = t }
+
+abbrev pub new_folds_of : Lines → NewFoldsValue
+new_folds_of (lines.Sum t) = record { function = Plus; lines = t }
+new_folds_of (lines.Product t) = record { function = Times; lines = t }
+new_folds_of (lines.Greatest t) = record { function = Maximum; lines = t }
+new_folds_of (lines.Least t) = record { function = Minimum; lines = t }
+new_folds_of (lines.AllTrue t) = record { function = And; lines = t }
+new_folds_of (lines.AnyTrue t) = record { function = Or; lines = t }
+
+abbrev pub next_folds_of : Places → NextFoldsValue
+next_folds_of (places.Sum t) = record { function = Plus; places = t }
+next_folds_of (places.Product t) = record { function = Times; places = t }
+next_folds_of (places.Greatest t) = record { function = Maximum; places = t }
+next_folds_of (places.Least t) = record { function = Minimum; places = t }
+next_folds_of (places.AllTrue t) = record { function = And; places = t }
+next_folds_of (places.AnyTrue t) = record { function = Or; places = t }

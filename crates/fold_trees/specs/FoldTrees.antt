@@ -1,0 +1,48 @@
+-- The trees of the lines of an array that are folded by one of several functions.
+use Rattle.std.specs.Prelude.{◌≡◌, Bool, true, false, ℤ, List, map, Result}
+use Rattle.arrays_core.specs.declared.item.Item.TheVariants.{Num}
+use Rattle.arrays_core.specs.declared.item.Kind.{Kind}
+use Rattle.scalar_fns.specs.Items.{number_item}
+use Rattle.operator_fns.specs.RightFold.{fold_right}
+use Rattle.scalar_fns.specs.declared.function.Scalar2.{Scalar2}
+use Rattle.scalar_fns.specs.declared.function.Scalar2.TheVariants.{Plus, Times, Maximum, Minimum, And, Or}
+use Rattle.operator_fns.specs.SumTrees.{TreesValue, NewTreesValue, NewPlacesValue, FitBehind, FitNext}
+
+-- what the reduction of these numbers by a function gives
+abbrev pub IsReductionBy : Scalar2 → List ℤ → Result ℤ Kind → Type 0
+IsReductionBy f numbers result = number_item result ≡ fold_right f (map (λ z. Num z) numbers)
+
+-- the functions whose folds are kept as trees
+abbrev pub has_trees : Scalar2 → Bool
+has_trees Plus = true
+has_trees Times = true
+has_trees Maximum = true
+has_trees Minimum = true
+has_trees And = true
+has_trees Or = true
+has_trees _ = false
+
+-- the lines of an array, and the function by which they are folded
+pub record FoldsValue : Type 0 where
+  pub function : Scalar2
+  pub lines : TreesValue
+
+-- those that an array grows by
+pub record NewFoldsValue : Type 0 where
+  pub function : Scalar2
+  pub lines : NewTreesValue
+
+-- or one more place of each
+pub record NextFoldsValue : Type 0 where
+  pub function : Scalar2
+  pub places : NewPlacesValue
+
+-- lines come behind others that are folded by the same function
+pub record AreFoldedBehind (t : FoldsValue) (more : NewFoldsValue) : Type 0 where
+  pub function : more.function ≡ t.function
+  pub lines : FitBehind t.lines more.lines
+
+-- and places behind those of others
+pub record AreFoldedNext (t : FoldsValue) (more : NextFoldsValue) : Type 0 where
+  pub function : more.function ≡ t.function
+  pub places : FitNext t.lines more.places

@@ -1,0 +1,9 @@
+-- What public contracts mean.
+pub mod FoldTrees
+-- What proofs and bodies use.
+pub mod FoldKinds
+pub mod Parts
+pub mod Products
+pub mod LineTrees
+pub mod LineBlocks
+pub mod PartTrees

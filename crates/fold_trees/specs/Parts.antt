@@ -1,0 +1,19 @@
+-- What is kept of lists of numbers that are folded.
+use Rattle.std.specs.Prelude.{◌≡◌, ◌<◌, ℤ, List, [], ◌∷◌, length, Result, Ok, ◌⊎◌}
+use Rattle.arrays_core.specs.declared.item.Kind.{Kind}
+use Rattle.arrays_core.specs.Items.{and_then}
+use Rattle.scalar_fns.specs.declared.function.Scalar2.{Scalar2}
+use Rattle.scalar_fns.specs.Numbers.{dyadic_on_numbers, as_truth, truth}
+use Rattle.scalar_fns.specs.Folds.{folded}
+
+-- it is the fold of a list
+abbrev pub IsFold : Scalar2 → ℤ → List ℤ → Type 0
+IsFold f z xs = folded (dyadic_on_numbers f) xs ≡ Ok z
+
+-- a truth value, or a domain error
+abbrev pub truth_value : ℤ → Result ℤ Kind
+truth_value z = and_then (as_truth z) (λ p. Ok (truth p))
+
+-- it is the one number of a list, or the fold of more numbers, where a number that is no truth value stands for the error
+abbrev pub IsTruthFold : Scalar2 → ℤ → List ℤ → Type 0
+IsTruthFold f z xs = (xs ≡ z ∷ []) ⊎ ((1 < length xs) × (folded (dyadic_on_numbers f) xs ≡ truth_value z))

@@ -1,0 +1,320 @@
+//! The trees of the lines of an array that are folded by one of several functions.
+
+ghost use Rattle.std.specs.Prelude.{◌≡◌, ◌+◌, ◌-◌, ◌*◌, ◌%◌, ◌^◌, ◌<◌, ◌==◌, true, length, IfOk};
+ghost use Rattle.operator_fns.specs.SumTree.{IsWithinDigitsOf};
+ghost use Rattle.operator_fns.specs.SumTrees.{line_count as lines_in, numbers_of_line, with_lines, with_number, with_places, numbers_through};
+ghost use Rattle.fold_trees.specs.FoldTrees.{has_trees as has_such, AreFoldedBehind, AreFoldedNext, IsReductionBy};
+
+use crate::extremes::{Greatest, Least};
+use crate::part_trees::{NewParts, NextParts, PartTrees};
+use crate::product::Product;
+use crate::truths::{AllTrue, AnyTrue};
+use arrays_core::Kind;
+use operator_fns::{NewPlaces, NewTrees, SumTrees};
+use scalar_fns::Scalar2;
+use std::alloc::{AllocError, Global};
+use std::marker::Model;
+
+/// Whether folds by a function can be kept as trees: what is kept of two parts tells what is to be kept of both together.
+pub fn has_trees(function: Scalar2) -> bool
+    ensures { result ≡ has_such function }
+{
+    match function {
+        Scalar2::Plus
+        | Scalar2::Times
+        | Scalar2::Maximum
+        | Scalar2::Minimum
+        | Scalar2::And
+        | Scalar2::Or => true,
+        _ => false,
+    }
+}
+
+/// The trees of each function.
+#[derive(Drop)]
+enum Trees {
+    Sum(SumTrees),
+    Product(PartTrees<Product>),
+    Greatest(PartTrees<Greatest>),
+    Least(PartTrees<Least>),
+    AllTrue(PartTrees<AllTrue>),
+    AnyTrue(PartTrees<AnyTrue>),
+}
+
+/// Those of further lines.
+#[derive(Drop)]
+enum Lines {
+    Sum(NewTrees),
+    Product(NewParts<Product>),
+    Greatest(NewParts<Greatest>),
+    Least(NewParts<Least>),
+    AllTrue(NewParts<AllTrue>),
+    AnyTrue(NewParts<AnyTrue>),
+}
+
+/// One more place of each line.
+#[derive(Drop)]
+enum Places {
+    Sum(NewPlaces),
+    Product(NextParts<Product>),
+    Greatest(NextParts<Greatest>),
+    Least(NextParts<Least>),
+    AllTrue(NextParts<AllTrue>),
+    AnyTrue(NextParts<AnyTrue>),
+}
+
+/// The lines of an array along one axis that are folded by a function, as trees, so that the fold of a line of which one number is
+/// another is found in as many steps as the length of the line has binary digits.
+#[derive(Drop)]
+pub struct FoldTrees {
+    trees: Trees,
+}
+
+impl Model for FoldTrees {
+    ghost use Rattle.fold_trees.specs.FoldTrees.{FoldsValue};
+
+    ghost Value = { FoldsValue };
+
+    ghost use Rattle.fold_trees.specs.FoldKinds.{folds_of};
+
+    ghost view = { λ t. folds_of t.trees };
+}
+
+impl FoldTrees {
+    /// The trees of lines of so many numbers, whose neighbours lie so far apart. AllocError where memory for them is refused.
+    pub fn build(
+        alloc: Global,
+        function: Scalar2,
+        numbers: &[i64],
+        count: usize,
+        step: usize,
+    ) -> Result<FoldTrees, AllocError>
+        requires function { has_such function ≡ true }
+        requires some { 0 < count }
+        requires apart { 0 < step }
+        requires whole { length numbers.now % (count * step) ≡ 0 }
+        ensures { IfOk result (λ t. t ≡ record { function = function; lines = record { count = count; step = step; numbers = numbers.now } }) }
+    {
+        let trees = match function {
+            Scalar2::Plus => Trees::Sum(SumTrees::build(alloc, numbers, count, step)?),
+            Scalar2::Times => Trees::Product(PartTrees::build(alloc, numbers, count, step)?),
+            Scalar2::Maximum => Trees::Greatest(PartTrees::build(alloc, numbers, count, step)?),
+            Scalar2::Minimum => Trees::Least(PartTrees::build(alloc, numbers, count, step)?),
+            Scalar2::And => Trees::AllTrue(PartTrees::build(alloc, numbers, count, step)?),
+            Scalar2::Or => Trees::AnyTrue(PartTrees::build(alloc, numbers, count, step)?),
+            _ => unreachable!(),
+        };
+        Ok(FoldTrees { trees })
+    }
+
+    /// The function by which the lines are folded.
+    pub fn function(&self) -> Scalar2
+        ensures is { result ≡ self.now.function }
+        ensures one { has_such result ≡ true }
+    {
+        match &self.trees {
+            Trees::Sum(_) => Scalar2::Plus,
+            Trees::Product(_) => Scalar2::Times,
+            Trees::Greatest(_) => Scalar2::Maximum,
+            Trees::Least(_) => Scalar2::Minimum,
+            Trees::AllTrue(_) => Scalar2::And,
+            Trees::AnyTrue(_) => Scalar2::Or,
+        }
+    }
+
+    /// How many lines there are.
+    pub fn len(&self) -> usize
+        ensures { result ≡ lines_in self.now.lines }
+    {
+        match &self.trees {
+            Trees::Sum(trees) => trees.len(),
+            Trees::Product(trees) => trees.len(),
+            Trees::Greatest(trees) => trees.len(),
+            Trees::Least(trees) => trees.len(),
+            Trees::AllTrue(trees) => trees.len(),
+            Trees::AnyTrue(trees) => trees.len(),
+        }
+    }
+
+    /// Whether there are no lines.
+    pub fn is_empty(&self) -> bool
+        ensures { result ≡ (lines_in self.now.lines == 0) }
+    {
+        self.len() == 0
+    }
+
+    /// The fold of the numbers of a line, lines counted from 0, from the last to the first, or the error that it meets.
+    pub fn result(&self, line: usize) -> Result<i64, Kind>
+        requires { line < lines_in self.now.lines }
+        ensures { IsReductionBy self.now.function (numbers_of_line self.now.lines line) result }
+    {
+        match &self.trees {
+            Trees::Sum(trees) => trees.result(line),
+            Trees::Product(trees) => trees.result(line),
+            Trees::Greatest(trees) => trees.result(line),
+            Trees::Least(trees) => trees.result(line),
+            Trees::AllTrue(trees) => trees.result(line),
+            Trees::AnyTrue(trees) => trees.result(line),
+        }
+    }
+
+    /// The fold of the line that a place is on, from its last number to its first, where the number at this place is another, or the
+    /// error that it meets, and how many parts were joined for it: at most as many as the length of a line less one has binary digits.
+    /// Places are counted from 0.
+    pub fn result_with(&self, place: usize, number: i64) -> (Result<i64, Kind>, u32)
+        requires { place < length self.now.lines.numbers }
+        ensures result { IsReductionBy self.now.function (numbers_through (with_number self.now.lines place number) place) result.0 }
+        ensures most { IsWithinDigitsOf (self.now.lines.count - 1) result.1 }
+        ensures least { 1 < self.now.lines.count → 0 < result.1 }
+    {
+        match &self.trees {
+            Trees::Sum(trees) => trees.result_with(place, number),
+            Trees::Product(trees) => trees.result_with(place, number),
+            Trees::Greatest(trees) => trees.result_with(place, number),
+            Trees::Least(trees) => trees.result_with(place, number),
+            Trees::AllTrue(trees) => trees.result_with(place, number),
+            Trees::AnyTrue(trees) => trees.result_with(place, number),
+        }
+    }
+
+    /// Puts another number at a place of all lines, places counted from 0. It takes no memory.
+    pub fn set(&mut self, place: usize, number: i64)
+        requires { place < length self.old.lines.numbers }
+        ensures { self.new ≡ record { function = self.old.function; lines = with_number self.old.lines place number } }
+    {
+        match &mut self.trees {
+            Trees::Sum(trees) => trees.set(place, number),
+            Trees::Product(trees) => trees.set(place, number),
+            Trees::Greatest(trees) => trees.set(place, number),
+            Trees::Least(trees) => trees.set(place, number),
+            Trees::AllTrue(trees) => trees.set(place, number),
+            Trees::AnyTrue(trees) => trees.set(place, number),
+        }
+    }
+
+    /// Takes one more number for each line, behind its last one. It takes no memory.
+    pub fn lengthen(&mut self, more: NextFolds)
+        requires { AreFoldedNext self.old more }
+        ensures { self.new ≡ record { function = self.old.function; lines = with_places self.old.lines more.places.numbers } }
+    {
+        match (&mut self.trees, more.places) {
+            (Trees::Sum(trees), Places::Sum(more)) => trees.lengthen(more),
+            (Trees::Product(trees), Places::Product(more)) => trees.lengthen(more),
+            (Trees::Greatest(trees), Places::Greatest(more)) => trees.lengthen(more),
+            (Trees::Least(trees), Places::Least(more)) => trees.lengthen(more),
+            (Trees::AllTrue(trees), Places::AllTrue(more)) => trees.lengthen(more),
+            (Trees::AnyTrue(trees), Places::AnyTrue(more)) => trees.lengthen(more),
+            _ => unreachable!(),
+        }
+    }
+
+    /// Takes the trees of further lines behind the others. It takes no memory.
+    pub fn grow(&mut self, more: NewFolds)
+        requires { AreFoldedBehind self.old more }
+        ensures { self.new ≡ record { function = self.old.function; lines = with_lines self.old.lines more.lines.numbers } }
+    {
+        match (&mut self.trees, more.lines) {
+            (Trees::Sum(trees), Lines::Sum(more)) => trees.grow(more),
+            (Trees::Product(trees), Lines::Product(more)) => trees.grow(more),
+            (Trees::Greatest(trees), Lines::Greatest(more)) => trees.grow(more),
+            (Trees::Least(trees), Lines::Least(more)) => trees.grow(more),
+            (Trees::AllTrue(trees), Lines::AllTrue(more)) => trees.grow(more),
+            (Trees::AnyTrue(trees), Lines::AnyTrue(more)) => trees.grow(more),
+            _ => unreachable!(),
+        }
+    }
+}
+
+/// The trees of the lines that an array grows by. They bring the room that those of all lines may need, so that `FoldTrees::grow` takes
+/// no memory.
+#[derive(Drop)]
+pub struct NewFolds {
+    lines: Lines,
+}
+
+impl Model for NewFolds {
+    ghost use Rattle.fold_trees.specs.FoldTrees.{NewFoldsValue};
+
+    ghost Value = { NewFoldsValue };
+
+    ghost use Rattle.fold_trees.specs.FoldKinds.{new_folds_of};
+
+    ghost view = { λ n. new_folds_of n.lines };
+}
+
+impl NewFolds {
+    /// The trees of lines of so many numbers, whose neighbours lie so far apart, which come behind so many old ones.
+    /// AllocError where memory for them, or for the room, is refused.
+    pub fn build(
+        alloc: Global,
+        function: Scalar2,
+        numbers: &[i64],
+        count: usize,
+        step: usize,
+        old: usize,
+    ) -> Result<NewFolds, AllocError>
+        requires function { has_such function ≡ true }
+        requires some { 0 < count }
+        requires apart { 0 < step }
+        requires whole { length numbers.now % (count * step) ≡ 0 }
+        requires few { old * count + length numbers.now < 2 ^ 63 }
+        ensures { IfOk result (λ n. n ≡ record { function = function; lines = record { count = count; step = step; old_lines = old; numbers = numbers.now } }) }
+    {
+        let lines = match function {
+            Scalar2::Plus => Lines::Sum(NewTrees::build(alloc, numbers, count, step, old)?),
+            Scalar2::Times => Lines::Product(NewParts::build(alloc, numbers, count, step, old)?),
+            Scalar2::Maximum => {
+                Lines::Greatest(NewParts::build(alloc, numbers, count, step, old)?)
+            }
+            Scalar2::Minimum => Lines::Least(NewParts::build(alloc, numbers, count, step, old)?),
+            Scalar2::And => Lines::AllTrue(NewParts::build(alloc, numbers, count, step, old)?),
+            Scalar2::Or => Lines::AnyTrue(NewParts::build(alloc, numbers, count, step, old)?),
+            _ => unreachable!(),
+        };
+        Ok(NewFolds { lines })
+    }
+}
+
+/// The numbers of one more place of each line, where all lines lie between one another. They bring the room that the longer
+/// lines may need, so that `FoldTrees::lengthen` takes no memory.
+#[derive(Drop)]
+pub struct NextFolds {
+    places: Places,
+}
+
+impl Model for NextFolds {
+    ghost use Rattle.fold_trees.specs.FoldTrees.{NextFoldsValue};
+
+    ghost Value = { NextFoldsValue };
+
+    ghost use Rattle.fold_trees.specs.FoldKinds.{next_folds_of};
+
+    ghost view = { λ n. next_folds_of n.places };
+}
+
+impl NextFolds {
+    /// The numbers of one more place of each of as many lines as there are numbers, which have so many numbers each until then. AllocError
+    /// where memory for them, or for the room, is refused.
+    pub fn build(
+        alloc: Global,
+        function: Scalar2,
+        numbers: &[i64],
+        count: usize,
+    ) -> Result<NextFolds, AllocError>
+        requires function { has_such function ≡ true }
+        requires some { 0 < count }
+        requires few { (count + 1) * length numbers.now < 2 ^ 63 }
+        ensures { IfOk result (λ n. n ≡ record { function = function; places = record { count = count; numbers = numbers.now } }) }
+    {
+        let places = match function {
+            Scalar2::Plus => Places::Sum(NewPlaces::build(alloc, numbers, count)?),
+            Scalar2::Times => Places::Product(NextParts::build(alloc, numbers, count)?),
+            Scalar2::Maximum => Places::Greatest(NextParts::build(alloc, numbers, count)?),
+            Scalar2::Minimum => Places::Least(NextParts::build(alloc, numbers, count)?),
+            Scalar2::And => Places::AllTrue(NextParts::build(alloc, numbers, count)?),
+            Scalar2::Or => Places::AnyTrue(NextParts::build(alloc, numbers, count)?),
+            _ => unreachable!(),
+        };
+        Ok(NextFolds { places })
+    }
+}

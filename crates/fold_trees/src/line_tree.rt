@@ -1,0 +1,320 @@
+//! What is kept of the parts of one line of numbers, among lists that hold those of several.
+
+ghost use Rattle.std.specs.Prelude.{◌≡◌, ◌≢◌, pos, get_or, ℕ, ◌+◌, ◌-◌, ◌*◌, ◌/◌, ◌%◌, ◌^◌, ◌<◌, ◌≤◌, ◌++◌, min, ℤ, List, length, ◌⊎◌};
+ghost use Rattle.operator_fns.specs.SumTree.{IsWithinDigitsOf};
+ghost use Rattle.fold_trees.specs.LineTrees.{slot_at as slot_place, node_at as node_place, number_of, node_of, segment, HasSlots, IsIn, AreKept, AreKeptIn, AreKeptBeside, IsPart, AreSameIn, other_half, numbers_at, replaced, shorter};
+ghost use Rattle.fold_trees.specs.LineBlocks.{line_of, slots_end, nodes_end, HaveSlots, HaveNodes, AreKeptBehind, AreKeptFrom};
+
+use crate::part::Part;
+
+/// Where a line of numbers lies in a list, and what is kept of its parts in a list of nodes.
+#[derive(Clone, Copy)]
+pub(crate) struct Line {
+    /// How many numbers there are.
+    pub(crate) count: usize,
+    /// From one of them to the next in their list, and likewise from node to node.
+    pub(crate) step: usize,
+    /// Where the first one lies.
+    pub(crate) slot: usize,
+    /// The first node.
+    pub(crate) node: usize,
+}
+
+impl Line {
+    /// Where the number at a place lies.
+    pub(crate) fn slot_at(&self, place: usize) -> usize
+        requires { slot_place self.now place < 2 ^ 64 }
+        ensures { result ≡ slot_place self.now place }
+    {
+        self.slot + place * self.step
+    }
+
+    /// The node of two parts that meet at a place.
+    fn node_at(&self, meeting: usize) -> usize
+        requires some { 1 ≤ meeting }
+        requires fit { node_place self.now meeting < 2 ^ 64 }
+        ensures { result ≡ node_place self.now meeting }
+    {
+        self.node + (meeting - 1) * self.step
+    }
+
+    /// The line so many behind the first one of a block.
+    fn nth(&self, column: usize) -> Line
+        requires slot { self.now.slot + column < 2 ^ 64 }
+        requires node { self.now.node + column < 2 ^ 64 }
+        ensures { result ≡ line_of self.now column }
+    {
+        Line {
+            count: self.count,
+            step: self.step,
+            slot: self.slot + column,
+            node: self.node + column,
+        }
+    }
+}
+
+/// A line with the lists that it lies in.
+#[derive(Clone, Copy)]
+pub(crate) struct LineTree<'a, P> {
+    pub(crate) line: Line,
+    pub(crate) numbers: &'a [i64],
+    pub(crate) nodes: &'a [P],
+}
+
+impl<'a, P: Part> LineTree<'a, P> {
+    /// What is kept of the part that begins at a place and has this width, or ends with the line.
+    fn part(&self, from: usize, width: usize) -> P
+        requires inside { IsIn self.now.line (length self.now.numbers.now) (length self.now.nodes.now) }
+        requires from { from < self.now.line.count }
+        requires part { IsPart from width }
+        requires kept { AreKeptIn P.tells from width self.now.line.count (number_of self.now.line self.now.numbers.now) (node_of P.blank self.now.line self.now.nodes.now) }
+        ensures { P.tells result (segment (number_of self.now.line self.now.numbers.now) from (min width (self.now.line.count - from))) }
+    {
+        let long = width.min(self.line.count - from);
+        if long == 1 {
+            return P::of(self.numbers[self.line.slot_at(from)]);
+        }
+        let half = long.next_power_of_two() / 2;
+        self.nodes[self.line.node_at(from + half)]
+    }
+
+    /// What is kept of all numbers.
+    pub(crate) fn whole(&self) -> P
+        requires inside { IsIn self.now.line (length self.now.numbers.now) (length self.now.nodes.now) }
+        requires some { 0 < self.now.line.count }
+        requires kept { AreKept P.tells self.now.line.count (number_of self.now.line self.now.numbers.now) (node_of P.blank self.now.line self.now.nodes.now) }
+        ensures { P.tells result (segment (number_of self.now.line self.now.numbers.now) 0 self.now.line.count) }
+    {
+        self.part(0, self.line.count.next_power_of_two())
+    }
+
+    /// What is to be kept of the part twice as wide as a block of which this is, and how many parts were joined for it: none where
+    /// the line ends with that block, else one more.
+    fn widened(&self, block: usize, width: usize, kept: &P) -> (P, u32)
+        requires inside { IsIn self.now.line (length self.now.numbers.now) (length self.now.nodes.now) }
+        requires from { block * width < self.now.line.count }
+        requires short { width < self.now.line.count }
+        requires level { (level : ℕ) × (width ≡ 2 ^ level) }
+        requires kept { AreKeptIn P.tells (other_half block * width) width self.now.line.count (number_of self.now.line self.now.numbers.now) (node_of P.blank self.now.line self.now.nodes.now) }
+        requires told { (xs : List ℤ) × P.tells kept.now xs }
+        ensures is { (x : ℕ → ℤ) → AreSameIn (other_half block * width) width (number_of self.now.line self.now.numbers.now) x
+            → P.tells kept.now (numbers_at self.now.line.count x block width) → P.tells result.0 (numbers_at self.now.line.count x (block / 2) (2 * width)) }
+        ensures joins { result.1 ≤ 1 }
+        ensures none { result.1 ≡ 0 → (block % 2 ≡ 0) × (self.now.line.count ≤ block * width + width) }
+        ensures one { result.1 ≡ 1 → (block / 2 * 2 + 1) * width < self.now.line.count }
+    {
+        let from = block * width;
+        if block % 2 == 1 {
+            return (self.part(from - width, width).join(kept), 1);
+        }
+        if self.line.count <= from + width {
+            return (*kept, 0);
+        }
+        (kept.join(&self.part(from + width, width)), 1)
+    }
+
+    /// What is to be kept of all numbers where the one at a place is another, and how many parts were joined for it: at most as many
+    /// as the count less one has binary digits.
+    pub(crate) fn with(&self, place: usize, number: i64) -> (P, u32)
+        requires inside { IsIn self.now.line (length self.now.numbers.now) (length self.now.nodes.now) }
+        requires place { place < self.now.line.count }
+        requires kept { AreKept P.tells self.now.line.count (number_of self.now.line self.now.numbers.now) (node_of P.blank self.now.line self.now.nodes.now) }
+        ensures is { P.tells result.0 (segment (replaced (number_of self.now.line self.now.numbers.now) place number) 0 self.now.line.count) }
+        ensures most { IsWithinDigitsOf (self.now.line.count - 1) result.1 }
+        ensures least { 1 < self.now.line.count → 0 < result.1 }
+    {
+        let mut kept = P::of(number);
+        let mut block = place;
+        let mut width = 1;
+        let mut joins = 0;
+        while width < self.line.count {
+            let (wider, joined) = self.widened(block, width, &kept);
+            kept = wider;
+            joins += joined;
+            block /= 2;
+            width = 2 * width;
+        }
+        (kept, joins)
+    }
+}
+
+/// Joins anew what is kept of the parts that a place is in.
+pub(crate) fn renew<P: Part>(numbers: &[i64], nodes: &mut [P], line: Line, place: usize)
+    requires inside { IsIn line (length numbers.now) (length nodes.old) }
+    requires place { place < line.count }
+    requires kept { AreKeptBeside P.tells place line.count (number_of line numbers.now) (node_of P.blank line nodes.old) }
+    ensures kept { AreKept P.tells line.count (number_of line numbers.now) (node_of P.blank line nodes.new) }
+    ensures others { (p : ℕ) → ((meeting : ℕ) → 1 ≤ meeting → meeting < line.count → p ≢ node_place line meeting) → get_or nodes.new p P.blank ≡ get_or nodes.old p P.blank }
+    ensures length { length nodes.new ≡ length nodes.old }
+{
+    let mut block = place;
+    let mut width = 1;
+    let mut kept = P::of(numbers[line.slot_at(place)]);
+    while width < line.count {
+        let (wider, joined) = LineTree {
+            line,
+            numbers: &*numbers,
+            nodes: &*nodes,
+        }
+        .widened(block, width, &kept);
+        kept = wider;
+        if joined == 1 {
+            nodes[line.node_at((block / 2 * 2 + 1) * width)] = kept;
+        }
+        block /= 2;
+        width = 2 * width;
+    }
+}
+
+/// Puts another number at a place of a line, and joins anew what is kept of the parts that the place is in.
+pub(crate) fn write<P: Part>(
+    numbers: &mut [i64],
+    nodes: &mut [P],
+    line: Line,
+    place: usize,
+    number: i64,
+)
+    requires inside { IsIn line (length numbers.old) (length nodes.old) }
+    requires place { place < line.count }
+    requires kept { AreKept P.tells line.count (number_of line numbers.old) (node_of P.blank line nodes.old) }
+    ensures numbers { (i : ℕ) → i < line.count → number_of line numbers.new i ≡ replaced (number_of line numbers.old) place number i }
+    ensures kept { AreKept P.tells line.count (number_of line numbers.new) (node_of P.blank line nodes.new) }
+    ensures other_slots { (p : ℕ) → p ≢ slot_place line place → get_or numbers.new p (pos 0) ≡ get_or numbers.old p (pos 0) }
+    ensures other_nodes { (p : ℕ) → ((meeting : ℕ) → 1 ≤ meeting → meeting < line.count → p ≢ node_place line meeting) → get_or nodes.new p P.blank ≡ get_or nodes.old p P.blank }
+    ensures slot_count { length numbers.new ≡ length numbers.old }
+    ensures node_count { length nodes.new ≡ length nodes.old }
+{
+    numbers[line.slot_at(place)] = number;
+    renew(numbers, nodes, line, place);
+}
+
+/// Takes one more number for a line, the one that lies behind its others, and joins anew what is kept of the parts that it is in. The
+/// line is told with that number; what is kept until then is that of the line without it.
+pub(crate) fn take_last<P: Part>(numbers: &[i64], nodes: &mut [P], line: Line)
+    requires inside { IsIn line (length numbers.now) (length nodes.old) }
+    requires more { 1 < line.count }
+    requires kept { AreKept P.tells (line.count - 1) (number_of (shorter line) numbers.now) (node_of P.blank (shorter line) nodes.old) }
+    ensures kept { AreKept P.tells line.count (number_of line numbers.now) (node_of P.blank line nodes.new) }
+    ensures other_nodes { (p : ℕ) → ((meeting : ℕ) → 1 ≤ meeting → meeting < line.count → p ≢ node_place line meeting) → get_or nodes.new p P.blank ≡ get_or nodes.old p P.blank }
+    ensures node_count { length nodes.new ≡ length nodes.old }
+{
+    renew(numbers, nodes, line, line.count - 1);
+}
+
+/// Joins two numbers that are neighbours, for each line of a block.
+fn pairs_row<P: Part>(numbers: &[i64], nodes: &mut [P], first: Line, from: usize)
+    requires slots { HaveSlots first (length numbers.now) }
+    requires nodes { HaveNodes first (length nodes.old) }
+    requires full { from + 2 ≤ first.count }
+    ensures told { (column : ℕ) → column < first.step → P.tells (node_of P.blank (line_of first column) nodes.new (from + 1)) (segment (number_of (line_of first column) numbers.now) from 2) }
+    ensures others { (p : ℕ) → (p < node_place first (from + 1) ⊎ node_place first (from + 1) + first.step ≤ p) → get_or nodes.new p P.blank ≡ get_or nodes.old p P.blank }
+    ensures length { length nodes.new ≡ length nodes.old }
+{
+    let row = first.slot_at(from);
+    let node = first.node_at(from + 1);
+    for column in 0..first.step {
+        let at = row + column;
+        nodes[node + column] = P::of(numbers[at]).join(&P::of(numbers[at + first.step]));
+    }
+}
+
+/// Joins the nodes of the two halves of the part that begins at a place, where both are of two numbers and more, for each line of a block.
+fn halves_row<P: Part>(nodes: &mut [P], first: Line, from: usize, half: usize)
+    requires nodes { HaveNodes first (length nodes.old) }
+    requires wide { 2 ≤ half }
+    requires full { from + 2 * half ≤ first.count }
+    requires told { (column : ℕ) → column < first.step → (xs : List ℤ) × P.tells (node_of P.blank (line_of first column) nodes.old (from + half / 2)) xs }
+    requires later { (column : ℕ) → column < first.step → (xs : List ℤ) × P.tells (node_of P.blank (line_of first column) nodes.old (from + half + half / 2)) xs }
+    ensures told { (column : ℕ) → column < first.step → (earlier rest : List ℤ) → P.tells (node_of P.blank (line_of first column) nodes.old (from + half / 2)) earlier
+        → P.tells (node_of P.blank (line_of first column) nodes.old (from + half + half / 2)) rest → P.tells (node_of P.blank (line_of first column) nodes.new (from + half)) (earlier ++ rest) }
+    ensures others { (p : ℕ) → (p < node_place first (from + half) ⊎ node_place first (from + half) + first.step ≤ p) → get_or nodes.new p P.blank ≡ get_or nodes.old p P.blank }
+    ensures length { length nodes.new ≡ length nodes.old }
+{
+    let earlier = first.node_at(from + half / 2);
+    let later = first.node_at(from + half + half / 2);
+    let node = first.node_at(from + half);
+    for column in 0..first.step {
+        nodes[node + column] = nodes[earlier + column].join(&nodes[later + column]);
+    }
+}
+
+/// Joins what is kept of the part that begins at a place and has halves so wide, or ends with the line, for each line of a block.
+#[inline(never)]
+fn last_row<P: Part>(numbers: &[i64], nodes: &mut [P], first: Line, from: usize, half: usize)
+    requires slots { HaveSlots first (length numbers.now) }
+    requires nodes { HaveNodes first (length nodes.old) }
+    requires half { (level : ℕ) × (half ≡ 2 ^ level) }
+    requires from { (place : ℕ) × (from ≡ place * (2 * half)) }
+    requires short { from + half < first.count }
+    requires kept { AreKeptBehind P.blank P.tells from half first numbers.now nodes.old }
+    ensures told { (column : ℕ) → column < first.step
+        → P.tells (node_of P.blank (line_of first column) nodes.new (from + half)) (segment (number_of (line_of first column) numbers.now) from (min (2 * half) (first.count - from))) }
+    ensures others { (p : ℕ) → (p < node_place first (from + half) ⊎ node_place first (from + half) + first.step ≤ p) → get_or nodes.new p P.blank ≡ get_or nodes.old p P.blank }
+    ensures length { length nodes.new ≡ length nodes.old }
+{
+    for column in 0..first.step {
+        let line = first.nth(column);
+        let tree = LineTree {
+            line,
+            numbers,
+            nodes: &*nodes,
+        };
+        let both = tree.part(from, half).join(&tree.part(from + half, half));
+        nodes[line.node_at(from + half)] = both;
+    }
+}
+
+/// Joins what is kept of the part that begins at a place and has halves so wide, for each line of a block, where that of the parts behind it and of the
+/// narrower ones that begin there is.
+fn join_row<P: Part>(numbers: &[i64], nodes: &mut [P], first: Line, from: usize, half: usize)
+    requires slots { HaveSlots first (length numbers.now) }
+    requires nodes { HaveNodes first (length nodes.old) }
+    requires half { (level : ℕ) × (half ≡ 2 ^ level) }
+    requires from { (place : ℕ) × (from ≡ place * (2 * half)) }
+    requires short { from + half < first.count }
+    requires kept { AreKeptBehind P.blank P.tells from half first numbers.now nodes.old }
+    ensures kept { AreKeptBehind P.blank P.tells from (2 * half) first numbers.now nodes.new }
+    ensures others { (p : ℕ) → (p < first.node ⊎ nodes_end first ≤ p) → get_or nodes.new p P.blank ≡ get_or nodes.old p P.blank }
+    ensures length { length nodes.new ≡ length nodes.old }
+{
+    if first.count - from < 2 * half {
+        last_row(numbers, nodes, first, from, half);
+    } else if half == 1 {
+        pairs_row(numbers, nodes, first, from);
+    } else {
+        halves_row(nodes, first, from, half);
+    }
+}
+
+/// Joins what is kept of all parts that begin at a place, for each line of a block, where that of the parts behind it is.
+fn fill_from<P: Part>(numbers: &[i64], nodes: &mut [P], first: Line, from: usize)
+    requires slots { HaveSlots first (length numbers.now) }
+    requires nodes { HaveNodes first (length nodes.old) }
+    requires two { from % 2 ≡ 0 }
+    requires below { from < first.count }
+    requires kept { AreKeptFrom P.blank P.tells (from + 2) first numbers.now nodes.old }
+    ensures kept { AreKeptFrom P.blank P.tells from first numbers.now nodes.new }
+    ensures others { (p : ℕ) → (p < first.node ⊎ nodes_end first ≤ p) → get_or nodes.new p P.blank ≡ get_or nodes.old p P.blank }
+    ensures length { length nodes.new ≡ length nodes.old }
+{
+    let mut half = 1;
+    while half < first.count - from && from % (2 * half) == 0 {
+        join_row(numbers, nodes, first, from, half);
+        half = 2 * half;
+    }
+}
+
+/// Joins what is kept of all parts of each line of a block, from the last ones to the first.
+pub(crate) fn fill_block<P: Part>(numbers: &[i64], nodes: &mut [P], first: Line)
+    requires slots { HaveSlots first (length numbers.now) }
+    requires nodes { HaveNodes first (length nodes.old) }
+    ensures kept { (column : ℕ) → column < first.step → AreKept P.tells first.count (number_of (line_of first column) numbers.now) (node_of P.blank (line_of first column) nodes.new) }
+    ensures others { (p : ℕ) → (p < first.node ⊎ nodes_end first ≤ p) → get_or nodes.new p P.blank ≡ get_or nodes.old p P.blank }
+    ensures length { length nodes.new ≡ length nodes.old }
+{
+    let mut pairs = first.count.div_ceil(2);
+    while pairs > 0 {
+        pairs -= 1;
+        fill_from(numbers, nodes, first, 2 * pairs);
+    }
+}

@@ -1,0 +1,359 @@
+//! The trees of all lines of an array along one axis, in a list of numbers and a list of nodes.
+
+ghost use Rattle.std.specs.Prelude.{◌≡◌, ℕ, ◌+◌, ◌-◌, ◌*◌, ◌/◌, ◌%◌, ◌^◌, ◌<◌, ◌≤◌, ◌==◌, ◌++◌, [], length, vec_len, vec_capacity, IfOk};
+ghost use Rattle.arrays_core.specs.Growth.{IsRoomy, HasRoom};
+ghost use Rattle.operator_fns.specs.SumTree.{IsWithinDigitsOf};
+ghost use Rattle.operator_fns.specs.SumTrees.{FitBehind, FitNext, with_lines, with_places, line_through as line_of_place, line_count as lines_in, numbers_of_line, numbers_through, with_number, AreLines};
+ghost use Rattle.fold_trees.specs.LineTrees.{number_of, node_of, IsIn, AreKept, shorter};
+ghost use Rattle.fold_trees.specs.LineBlocks.{block_at};
+ghost use Rattle.fold_trees.specs.FoldTrees.{IsReductionBy};
+ghost use Rattle.fold_trees.specs.PartTrees.{line_at, nodes_in_line, AreAllKept, AreLineTrees};
+
+use crate::line_tree::{Line, LineTree, fill_block, take_last, write};
+use crate::part::Part;
+use arrays_core::{Kind, copied, repeated, room_between, room_of, roomy};
+use std::alloc::{AllocError, Global};
+use std::marker::Model;
+use std::mem;
+
+/// Where a line lies among those of so many numbers, lines counted from 0.
+fn nth_line(count: usize, step: usize, line: usize) -> Line
+    requires some { 0 < count }
+    requires apart { 0 < step }
+    requires fit { line / step * (count * step) + count * step < 2 ^ 64 }
+    ensures { result ≡ line_at count step line }
+{
+    let block = line / step;
+    let first = line % step;
+    Line {
+        count,
+        step,
+        slot: block * (count * step) + first,
+        node: block * ((count - 1) * step) + first,
+    }
+}
+
+/// The line that a place of all numbers is on, lines and places counted from 0.
+fn line_through(count: usize, step: usize, place: usize) -> usize
+    requires some { 0 < count }
+    requires apart { 0 < step }
+    ensures { result ≡ line_of_place count step place }
+{
+    place / step / count * step + place % step
+}
+
+/// The tree of a line, lines counted from 0.
+fn nth_tree<'a, P: Part>(
+    numbers: &'a [i64],
+    nodes: &'a [P],
+    count: usize,
+    step: usize,
+    line: usize,
+) -> LineTree<'a, P>
+    requires trees { AreLineTrees P.blank P.tells count step numbers.now nodes.now }
+    requires line { line < length numbers.now / count }
+    ensures line { result.line ≡ line_at count step line }
+    ensures numbers { result.numbers.now ≡ numbers.now }
+    ensures nodes { result.nodes.now ≡ nodes.now }
+    ensures inside { IsIn result.line (length result.numbers.now) (length result.nodes.now) }
+    ensures kept { AreKept P.tells result.line.count (number_of result.line result.numbers.now) (node_of P.blank result.line result.nodes.now) }
+{
+    let line = nth_line(count, step, line);
+    LineTree {
+        line,
+        numbers,
+        nodes,
+    }
+}
+
+/// Where the first line of a block of as many lines as the step lies among all numbers, blocks counted from 0.
+fn nth_block(count: usize, step: usize, block: usize) -> Line
+    requires some { 0 < count }
+    requires fit { block * (count * step) + count * step < 2 ^ 64 }
+    ensures { result ≡ block_at count step block }
+{
+    Line {
+        count,
+        step,
+        slot: block * (count * step),
+        node: block * ((count - 1) * step),
+    }
+}
+
+/// Joins what is kept of all parts of all lines.
+fn fill_all<P: Part>(numbers: &[i64], nodes: &mut [P], count: usize, step: usize)
+    requires lines { AreLines count step (length numbers.now) }
+    requires sized { length nodes.old ≡ length numbers.now / count * nodes_in_line count }
+    ensures kept { AreAllKept P.blank P.tells count step numbers.now nodes.new }
+    ensures length { length nodes.new ≡ length nodes.old }
+{
+    for block in 0..numbers.len() / count / step {
+        fill_block(numbers, nodes, nth_block(count, step, block));
+    }
+}
+
+/// Takes one more number for each line, where all lines lie between one another and these numbers behind the others. The count is that with
+/// these numbers; what is kept until then is that of the lines without them.
+fn take_places<P: Part>(numbers: &[i64], nodes: &mut [P], count: usize, step: usize)
+    requires more { 1 < count }
+    requires apart { 0 < step }
+    requires slot_count { length numbers.now ≡ count * step }
+    requires node_count { length nodes.old ≡ nodes_in_line count * step }
+    requires kept { (line : ℕ) → line < step → AreKept P.tells (count - 1) (number_of (shorter (line_at count step line)) numbers.now) (node_of P.blank (shorter (line_at count step line)) nodes.old) }
+    ensures kept { (line : ℕ) → line < step → AreKept P.tells count (number_of (line_at count step line) numbers.now) (node_of P.blank (line_at count step line) nodes.new) }
+    ensures node_length { length nodes.new ≡ length nodes.old }
+{
+    for line in 0..step {
+        take_last(numbers, nodes, nth_line(count, step, line));
+    }
+}
+
+/// Puts items behind others, for which there is room. It takes no memory.
+fn append<T: Drop>(items: &mut Vec<T>, mut more: Vec<T>)
+    requires { vec_len items.old + vec_len more ≤ vec_capacity items.old }
+    ensures items { items.new.items ≡ items.old.items ++ more.items }
+    ensures room { vec_capacity items.old ≤ vec_capacity items.new }
+{
+    match items.append(&mut more) {
+        Ok(()) => (),
+        Err(_) => unreachable!(),
+    }
+}
+
+/// Puts items behind others: where these lie if there is room for the next power of two as many, else all go into the
+/// room that is handed in. It takes no memory.
+fn put_behind<T: Drop>(items: &mut Vec<T>, more: Vec<T>, room: Vec<T>)
+    requires few { length items.old.items + length more.items ≤ 2 ^ 63 }
+    requires held { IsRoomy (length items.old.items) (vec_capacity items.old) }
+    requires empty { room.items ≡ [] }
+    requires room { HasRoom (length items.old.items) (length items.old.items + length more.items) (vec_capacity room) }
+    ensures items { items.new.items ≡ items.old.items ++ more.items }
+    ensures room { IsRoomy (length items.new.items) (vec_capacity items.new) }
+{
+    let all = items.len() + more.len();
+    if items.capacity() < room_of(all) {
+        let held = mem::replace(items, room);
+        append(items, held);
+    }
+    append(items, more);
+}
+
+/// All lines of an array along one axis, with what is kept of the parts of each as a tree, so that one number can be replaced in as many
+/// steps as the length of its line has binary digits. The numbers and the nodes of all lines lie in two lists, each in a piece of memory
+/// for the next power of two of its length.
+#[derive(Drop)]
+pub(crate) struct PartTrees<P: Part> {
+    count: usize,
+    step: usize,
+    numbers: Vec<i64>,
+    nodes: Vec<P>,
+}
+
+impl<P: Part> Model for PartTrees<P> {
+    ghost use Rattle.std.specs.Prelude.{vec_capacity};
+    ghost use Rattle.operator_fns.specs.SumTrees.{TreesValue};
+    ghost use Rattle.fold_trees.specs.PartTrees.{AreTrees};
+
+    ghost Value = { TreesValue };
+
+    ghost view = { λ t. record { count = t.count; step = t.step; numbers = t.numbers.items } };
+
+    ghost invariant = { λ t. AreTrees P.blank P.tells t.count t.step t.numbers.items t.nodes.items (vec_capacity t.numbers) (vec_capacity t.nodes) };
+}
+
+impl<P: Part> PartTrees<P> {
+    /// The trees of lines of so many numbers, whose neighbours lie so far apart. AllocError where memory for them is refused.
+    pub(crate) fn build(
+        alloc: Global,
+        numbers: &[i64],
+        count: usize,
+        step: usize,
+    ) -> Result<PartTrees<P>, AllocError>
+        requires some { 0 < count }
+        requires apart { 0 < step }
+        requires whole { length numbers.now % (count * step) ≡ 0 }
+        ensures { IfOk result (λ t. t ≡ record { count = count; step = step; numbers = numbers.now }) }
+    {
+        let node_count = numbers.len() / count * (count - 1);
+        let mut nodes = roomy(repeated(alloc, P::of(0), node_count)?)?;
+        fill_all(numbers, &mut nodes, count, step);
+        let numbers = roomy(copied(alloc, numbers)?)?;
+        Ok(PartTrees {
+            count,
+            step,
+            numbers,
+            nodes,
+        })
+    }
+
+    /// How many lines there are.
+    pub(crate) fn len(&self) -> usize
+        ensures { result ≡ lines_in self.now }
+    {
+        self.numbers.len() / self.count
+    }
+
+    /// The fold of the numbers of a line, lines counted from 0, from the last to the first, or the error that it meets.
+    pub(crate) fn result(&self, line: usize) -> Result<i64, Kind>
+        requires { line < lines_in self.now }
+        ensures { IsReductionBy P.function (numbers_of_line self.now line) result }
+    {
+        let tree = nth_tree(&self.numbers, &self.nodes, self.count, self.step, line);
+        if self.count == 1 {
+            return Ok(self.numbers[line]);
+        }
+        tree.whole().fold()
+    }
+
+    /// The fold of the line that a place is on, from its last number to its first, where the number at this place is another, or the
+    /// error that it meets, and how many parts were joined for it: at most as many as the length of a line less one has binary digits.
+    /// Places are counted from 0.
+    pub(crate) fn result_with(&self, place: usize, number: i64) -> (Result<i64, Kind>, u32)
+        requires { place < length self.now.numbers }
+        ensures result { IsReductionBy P.function (numbers_through (with_number self.now place number) place) result.0 }
+        ensures most { IsWithinDigitsOf (self.now.count - 1) result.1 }
+        ensures least { 1 < self.now.count → 0 < result.1 }
+    {
+        if self.count == 1 {
+            return (Ok(number), 0);
+        }
+        let line = line_through(self.count, self.step, place);
+        let tree = nth_tree(&self.numbers, &self.nodes, self.count, self.step, line);
+        let (all, joins) = tree.with(place / self.step % self.count, number);
+        (all.fold(), joins)
+    }
+
+    /// Puts another number at a place of all lines, places counted from 0. It takes no memory.
+    pub(crate) fn set(&mut self, place: usize, number: i64)
+        requires { place < length self.old.numbers }
+        ensures { self.new ≡ with_number self.old place number }
+    {
+        let line = line_through(self.count, self.step, place);
+        let line = nth_line(self.count, self.step, line);
+        let place = place / self.step % self.count;
+        write(&mut self.numbers, &mut self.nodes, line, place, number);
+    }
+
+    /// Takes one more number for each line, behind its last one. It takes no memory.
+    pub(crate) fn lengthen(&mut self, more: NextParts<P>)
+        requires { FitNext self.old more }
+        ensures { self.new ≡ with_places self.old more.numbers }
+    {
+        put_behind(&mut self.numbers, more.numbers, more.slots);
+        put_behind(&mut self.nodes, more.more_nodes, more.nodes);
+        self.count += 1;
+        take_places(&self.numbers, &mut self.nodes, self.count, self.step);
+    }
+
+    /// Takes the trees of further lines behind the others. It takes no memory.
+    pub(crate) fn grow(&mut self, more: NewParts<P>)
+        requires { FitBehind self.old more }
+        ensures { self.new ≡ with_lines self.old more.numbers }
+    {
+        let trees = more.trees;
+        put_behind(&mut self.numbers, trees.numbers, more.slots);
+        put_behind(&mut self.nodes, trees.nodes, more.nodes);
+    }
+}
+
+/// The trees of the lines that an array grows by. They bring the room that those of all lines may need, so that `PartTrees::grow` takes no
+/// memory.
+#[derive(Drop)]
+pub(crate) struct NewParts<P: Part> {
+    trees: PartTrees<P>,
+    old_lines: usize,
+    slots: Vec<i64>,
+    nodes: Vec<P>,
+}
+
+impl<P: Part> Model for NewParts<P> {
+    ghost use Rattle.std.specs.Prelude.{vec_capacity};
+    ghost use Rattle.operator_fns.specs.SumTrees.{NewTreesValue};
+    ghost use Rattle.fold_trees.specs.PartTrees.{AreRooms};
+
+    ghost Value = { NewTreesValue };
+
+    ghost view = { λ n. record { count = n.trees.count; step = n.trees.step; old_lines = n.old_lines; numbers = n.trees.numbers } };
+
+    ghost invariant = { λ n. AreRooms n.old_lines n.trees n.slots.items n.nodes.items (vec_capacity n.slots) (vec_capacity n.nodes) };
+}
+
+impl<P: Part> NewParts<P> {
+    /// The trees of lines of so many numbers, whose neighbours lie so far apart, which come behind so many old ones.
+    /// AllocError where memory for them, or for the room, is refused.
+    pub(crate) fn build(
+        alloc: Global,
+        numbers: &[i64],
+        count: usize,
+        step: usize,
+        old_lines: usize,
+    ) -> Result<NewParts<P>, AllocError>
+        requires some { 0 < count }
+        requires apart { 0 < step }
+        requires whole { length numbers.now % (count * step) ≡ 0 }
+        requires few { old_lines * count + length numbers.now < 2 ^ 63 }
+        ensures { IfOk result (λ t. t ≡ record { count = count; step = step; old_lines = old_lines; numbers = numbers.now }) }
+    {
+        let trees: PartTrees<P> = PartTrees::build(alloc, numbers, count, step)?;
+        let lines = old_lines + numbers.len() / count;
+        let slots = room_between(alloc, old_lines * count, lines * count)?;
+        let most = count - 1;
+        let nodes = room_between(alloc, old_lines * most, lines * most)?;
+        Ok(NewParts {
+            trees,
+            old_lines,
+            slots,
+            nodes,
+        })
+    }
+}
+
+/// The numbers of one more place of each line, where all lines lie between one another. They bring the room that the longer
+/// lines may need, so that `PartTrees::lengthen` takes no memory.
+#[derive(Drop)]
+pub(crate) struct NextParts<P: Part> {
+    count: usize,
+    numbers: Vec<i64>,
+    more_nodes: Vec<P>,
+    slots: Vec<i64>,
+    nodes: Vec<P>,
+}
+
+impl<P: Part> Model for NextParts<P> {
+    ghost use Rattle.std.specs.Prelude.{vec_capacity};
+    ghost use Rattle.operator_fns.specs.SumTrees.{NewPlacesValue};
+    ghost use Rattle.fold_trees.specs.PartTrees.{AreNextRooms};
+
+    ghost Value = { NewPlacesValue };
+
+    ghost view = { λ n. record { count = n.count; numbers = n.numbers.items } };
+
+    ghost invariant = { λ n. AreNextRooms n.count n.numbers.items n.slots.items n.more_nodes.items n.nodes.items (vec_capacity n.slots) (vec_capacity n.nodes) };
+}
+
+impl<P: Part> NextParts<P> {
+    /// The numbers of one more place of each of as many lines as there are numbers, which have so many numbers each until then. AllocError
+    /// where memory for them, or for the room, is refused.
+    pub(crate) fn build(
+        alloc: Global,
+        numbers: &[i64],
+        count: usize,
+    ) -> Result<NextParts<P>, AllocError>
+        requires some { 0 < count }
+        requires few { (count + 1) * length numbers.now < 2 ^ 63 }
+        ensures { IfOk result (λ n. n ≡ record { count = count; numbers = numbers.now }) }
+    {
+        let step = numbers.len();
+        let slots = room_between(alloc, count * step, count * step + step)?;
+        let nodes = room_between(alloc, (count - 1) * step, count * step)?;
+        let more_nodes = repeated(alloc, P::of(0), step)?;
+        let numbers = copied(alloc, numbers)?;
+        Ok(NextParts {
+            count,
+            numbers,
+            more_nodes,
+            slots,
+            nodes,
+        })
+    }
+}

@@ -1,0 +1,132 @@
+//! What is kept of lists of numbers of which the product is asked for.
+
+ghost use Rattle.std.specs.Prelude.{◌≡◌, ◌^◌, pos, ◌≤ℤ◌, neg_ℤ};
+ghost use Rattle.scalar_fns.specs.declared.function.Scalar2.TheVariants.{Times};
+ghost use Rattle.fold_trees.specs.Products.{Products, IsOrdered, IsKeptOf, Tells, told, join as join_of, none as none_of, before as before_of, product_told};
+
+use crate::part::Part;
+use arrays_core::Kind;
+
+/// How far from 0 a number of 64 bits is at most.
+const FARTHEST: i128 = 1 << 63;
+
+/// How far 0 and the products of the endings of a list of numbers go below 0 and above it, and how far its total is above the least
+/// of them. The ending of no numbers is one of them, and its product is 1. Where they are not all within 64 bits, and would not be
+/// with the other sign either, the product of no longer list is within 64 bits all along, unless later numbers make 0 of all these:
+/// then the first two fields are both 2 to the power 63, and tell no more.
+#[derive(Clone, Copy)]
+pub(crate) struct Product {
+    below: u64,
+    above: u64,
+    total: u64,
+}
+
+impl Product {
+    /// That of a list with this total, and with this least and greatest of 0 and the products of its endings.
+    fn of_products(total: i128, least: i128, greatest: i128) -> Product
+        requires ordered { IsOrdered (record { total = total; least = least; greatest = greatest }) }
+        requires low { neg_ℤ (pos (2 ^ 126)) ≤ℤ least }
+        requires high { greatest ≤ℤ pos (2 ^ 126) }
+        ensures { Tells result (record { total = total; least = least; greatest = greatest }) }
+    {
+        if least < -FARTHEST || greatest > FARTHEST || greatest - least == 2 * FARTHEST {
+            return Product {
+                below: 1 << 63,
+                above: 1 << 63,
+                total: 1 << 63,
+            };
+        }
+        Product {
+            below: (-least) as u64,
+            above: greatest as u64,
+            total: (total - least) as u64,
+        }
+    }
+
+    /// The total that it tells.
+    fn total(&self) -> i128
+        ensures { result ≡ (told self.now).total }
+    {
+        i128::from(self.total) - i128::from(self.below)
+    }
+
+    /// The least product that it tells.
+    fn least(&self) -> i128
+        ensures { result ≡ (told self.now).least }
+    {
+        -i128::from(self.below)
+    }
+
+    /// The greatest product that it tells.
+    fn greatest(&self) -> i128
+        ensures { result ≡ (told self.now).greatest }
+    {
+        i128::from(self.above)
+    }
+
+    /// That of one number.
+    fn single(number: i64) -> Product
+        ensures { Tells result (before_of number none_of) }
+    {
+        let size = number.unsigned_abs();
+        if number < 0 {
+            Product {
+                below: size,
+                above: 1,
+                total: 0,
+            }
+        } else {
+            Product {
+                below: 0,
+                above: size.max(1),
+                total: size,
+            }
+        }
+    }
+
+    /// That of a list and of a later one after it.
+    fn followed_by(&self, later: &Product) -> Product
+        requires here { (products : Products) × Tells self.now products }
+        requires later { (products : Products) × Tells later.now products }
+        ensures { (earlier : Products) → (rest : Products) → Tells self.now earlier → Tells later.now rest → Tells result (join_of earlier rest) }
+    {
+        let factor = later.total();
+        let one = self.least() * factor;
+        let other = self.greatest() * factor;
+        let least = later.least().min(one.min(other));
+        let greatest = later.greatest().max(one.max(other));
+        Product::of_products(self.total() * factor, least, greatest)
+    }
+
+    /// The product of the list from its last number to its first, or LIMIT where that leaves 64 bits on its way: where the product of an
+    /// ending does.
+    fn product(&self) -> Result<i64, Kind>
+        requires { (products : Products) × Tells self.now products }
+        ensures { (products : Products) → Tells self.now products → result ≡ product_told products }
+    {
+        if self.above >= 1 << 63 {
+            return Err(Kind::Limit);
+        }
+        Ok(self.total() as i64)
+    }
+}
+
+impl Part for Product {
+    ghost function = { Times };
+
+    ghost tells = { λ s xs. IsKeptOf xs s };
+
+    ghost blank = { record { below = 0; above = 0; total = 0 } };
+
+    fn of(number: i64) -> Product {
+        Product::single(number)
+    }
+
+    fn join(&self, later: &Product) -> Product {
+        self.followed_by(later)
+    }
+
+    fn fold(&self) -> Result<i64, Kind> {
+        self.product()
+    }
+}
