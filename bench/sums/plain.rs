@@ -1,5 +1,5 @@
 //! A list of its own of the same numbers, added up from the right, each step checked: all of them, each of 1024 rows, and each of 1024
-//! columns, which go over the rows from the last one up.
+//! columns, which go over the rows from the last one up; and the greatest of all, and their product.
 use std::hint::black_box;
 use std::time::Instant;
 
@@ -16,6 +16,15 @@ fn numbers(places: usize) -> Vec<i64> {
 
 fn sum(numbers: &[i64]) -> i64 {
     numbers.iter().rev().try_fold(0i64, |sum, number| number.checked_add(sum)).unwrap()
+}
+
+fn greatest(numbers: &[i64]) -> i64 {
+    numbers.iter().rev().copied().max().unwrap()
+}
+
+/// 0 where it leaves 64 bits.
+fn product(numbers: &[i64]) -> i64 {
+    numbers.iter().rev().try_fold(1i64, |product, number| number.checked_mul(product)).unwrap_or(0)
 }
 
 fn total_of_rows(numbers: &[i64]) -> i64 {
@@ -46,6 +55,8 @@ fn time(name: &str, numbers: &[i64], total: fn(&[i64]) -> i64) {
 fn main() {
     let row = numbers(1048576);
     time("building", &row, sum);
+    time("greatest", &row, greatest);
+    time("product", &row, product);
     time("rows", &row, total_of_rows);
     time("columns", &row, total_of_columns);
 }

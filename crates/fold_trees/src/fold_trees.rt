@@ -1,6 +1,6 @@
 //! The trees of the lines of an array that are folded by one of several functions.
 
-ghost use Rattle.std.specs.Prelude.{◌≡◌, ◌+◌, ◌-◌, ◌*◌, ◌%◌, ◌^◌, ◌<◌, ◌==◌, true, length, IfOk};
+ghost use Rattle.std.specs.Prelude.{◌≡◌, ◌+◌, ◌-◌, ◌*◌, ◌%◌, ◌^◌, ◌<◌, ◌==◌, ◌++◌, ◌∷◌, [], true, length, IfOk};
 ghost use Rattle.operator_fns.specs.SumTree.{IsWithinDigitsOf};
 ghost use Rattle.operator_fns.specs.SumTrees.{line_count as lines_in, numbers_of_line, with_lines, with_number, with_places, numbers_through};
 ghost use Rattle.fold_trees.specs.FoldTrees.{has_trees as has_such, AreFoldedBehind, AreFoldedNext, IsReductionBy};
@@ -155,6 +155,22 @@ impl FoldTrees {
             Trees::Least(trees) => trees.result(line),
             Trees::AllTrue(trees) => trees.result(line),
             Trees::AnyTrue(trees) => trees.result(line),
+        }
+    }
+
+    /// The fold of the numbers of a line and of one more behind them, from the last to the first, or the error that it meets. It takes one
+    /// join of parts. Lines are counted from 0.
+    pub fn result_behind(&self, line: usize, number: i64) -> Result<i64, Kind>
+        requires { line < lines_in self.now.lines }
+        ensures { IsReductionBy self.now.function (numbers_of_line self.now.lines line ++ number ∷ []) result }
+    {
+        match &self.trees {
+            Trees::Sum(trees) => trees.result_behind(line, number),
+            Trees::Product(trees) => trees.result_behind(line, number),
+            Trees::Greatest(trees) => trees.result_behind(line, number),
+            Trees::Least(trees) => trees.result_behind(line, number),
+            Trees::AllTrue(trees) => trees.result_behind(line, number),
+            Trees::AnyTrue(trees) => trees.result_behind(line, number),
         }
     }
 

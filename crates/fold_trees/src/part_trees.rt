@@ -1,6 +1,6 @@
 //! The trees of all lines of an array along one axis, in a list of numbers and a list of nodes.
 
-ghost use Rattle.std.specs.Prelude.{◌≡◌, ℕ, ◌+◌, ◌-◌, ◌*◌, ◌/◌, ◌%◌, ◌^◌, ◌<◌, ◌≤◌, ◌==◌, ◌++◌, [], length, vec_len, vec_capacity, IfOk};
+ghost use Rattle.std.specs.Prelude.{◌≡◌, ℕ, ◌+◌, ◌-◌, ◌*◌, ◌/◌, ◌%◌, ◌^◌, ◌<◌, ◌≤◌, ◌==◌, ◌++◌, ◌∷◌, [], length, vec_len, vec_capacity, IfOk};
 ghost use Rattle.arrays_core.specs.Growth.{IsRoomy, HasRoom};
 ghost use Rattle.operator_fns.specs.SumTree.{IsWithinDigitsOf};
 ghost use Rattle.operator_fns.specs.SumTrees.{FitBehind, FitNext, with_lines, with_places, line_through as line_of_place, line_count as lines_in, numbers_of_line, numbers_through, with_number, AreLines};
@@ -203,6 +203,16 @@ impl<P: Part> PartTrees<P> {
             return Ok(self.numbers[line]);
         }
         tree.whole().fold()
+    }
+
+    /// The fold of the numbers of a line and of one more behind them, from the last to the first, or the error that it meets. It takes one
+    /// join of parts.
+    pub(crate) fn result_behind(&self, line: usize, number: i64) -> Result<i64, Kind>
+        requires { line < lines_in self.now }
+        ensures { IsReductionBy P.function (numbers_of_line self.now line ++ number ∷ []) result }
+    {
+        let tree = nth_tree(&self.numbers, &self.nodes, self.count, self.step, line);
+        tree.whole().join(&P::of(number)).fold()
     }
 
     /// The fold of the line that a place is on, from its last number to its first, where the number at this place is another, or the

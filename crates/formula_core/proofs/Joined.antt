@@ -6,6 +6,7 @@ use Rattle.std.proofs.lemmas.Bool.{cases_Bool, cond-false, cond-true, false≢tr
 use Rattle.apl_expr.specs.Trees.{Tree, Monad}
 use Rattle.apl_expr.specs.declared.expr.Monadic.{Monadic}
 use Rattle.arrays_core.specs.Arrays.{ArrayValue}
+use Rattle.arrays_core.specs.Growth.{grown_by}
 use Rattle.arrays_core.specs.declared.fault.Fault.{Fault}
 use Rattle.index_region.specs.Arguments.{is_of_numbers}
 use Rattle.index_region.specs.Axes.{axis_at}
@@ -13,6 +14,7 @@ use Rattle.operator_fns.specs.declared.reduce.Reduce.{Reduce}
 use Rattle.index_region.specs.declared.delta.Delta.{Delta}
 use Rattle.index_region.specs.declared.delta.Delta.TheVariants.{Same, Patch, Grown, Whole}
 use Rattle.index_region.specs.Patches.{PatchValue, patched}
+use Rattle.index_region.specs.Tails.{TailValue}
 use Rattle.change_core.specs.Meters.{ticked}
 use Rattle.change_core.specs.RuleModels.{RuleModel}
 use Rattle.change_rules.specs.Currency.{applied}
@@ -25,13 +27,13 @@ use Rattle.formula_core.specs.declared.table.Node.TheVariants as node
 use Rattle.formula_core.specs.declared.table.Operand.{Operand}
 use Rattle.formula_core.specs.Changes.{Change, FitsIn, arguments, change, cost_at, operation_cost, operation_size}
 use Rattle.formula_core.specs.Inputs.{IsInput, delta_of, shown}
-use Rattle.formula_core.specs.Joins.{has_trees_for, least_joins, least_joins_of, most_joins, most_joins_of}
+use Rattle.formula_core.specs.Joins.{had_trees, has_trees_for, least_joins, least_joins_of, most_joins, most_joins_of}
 use Rattle.formula_core.specs.Meaning.{eval}
 use Rattle.formula_core.specs.Outcomes.{Outcome}
 use Rattle.formula_core.specs.Plans.{node_change, node_cost_at}
 use Rattle.formula_core.specs.Rules.{right_rule}
 use Rattle.formula_core.specs.Stages.{AreTotalsJoined, IsJoined, IsKeptBy, IsReady, IsStaged}
-use Rattle.formula_core.specs.Sums.{AreSumsKept, summed_in, total_of}
+use Rattle.formula_core.specs.Sums.{AreSumsKept, WereSumsKept, summed_in, total_of}
 use Rattle.formula_core.specs.Tables.{IsOperand, tree_of_operand}
 use Rattle.formula_core.proofs.Stepping.{array_delta, cost_stepped, whole_all}
 use Rattle.formula_core.proofs.Summed.{at_axis, was_summed}
@@ -49,19 +51,40 @@ kept_beside : (fold : Reduce) (p : PatchValue) (a : ArrayValue) (kept : Option S
 kept_beside fold p a kept (Err e) fit is keeps = absurd fit
 kept_beside fold p a kept (Ok b) fit is keeps = let same : patched b p ≡ a = cc in ap is_some keeps ∙ (some_summed fold b ∙ ap (keeps_sums fold.along) same)
 
--- where the argument of a total is patched, the sums of its lines are kept if these are long enough
+grown_beside : (fold : Reduce) (t : TailValue) (a : ArrayValue) (kept : Option SummedValue) (old : Outcome) → FitsIn (Grown t) old → applied (Grown t) old ≡ Ok a → kept ≡ summed_in fold old → WereSumsKept fold a t kept
+grown_beside fold t a kept (Err e) fit is keeps = absurd fit
+grown_beside fold t a kept (Ok b) fit is keeps = let same : grown_by b t.items ≡ a = cc in record { before = b; fit = fit; becomes = sym same; keeps = ap is_some keeps ∙ some_summed fold b }
+
+-- where the argument of a total is patched or grew, the sums of its lines are kept if these are long enough, or were
 pub kept_well : (s : Stage) (f : Monadic) (b : Operand) → IsOperand (length s.inputs.now) (length s.changes.now) b → (kept : Option SummedValue) → IsKeptBy s (node.Monad f b) kept → (i : Input)
     → ((c : Change) → (names : List (List ℕ)) → (trees : List Tree) → IsStaged c names trees s → IsReady s.is_new c (tree_of_operand names trees b) i)
     → (fold : Reduce) → total_of f ≡ Some fold → AreSumsKept fold (shown i) (delta_of i) kept
-kept_well s f b within kept keeps i ready fold total p a patch now =
-    let c = keeps.0 in
-    let names = keeps.1.0 in
-    let trees = keeps.1.1.0 in
-    let staged = keeps.1.1.1.0 in
-    let old = eval (tree_of_operand names trees b) c.old in
-    let held : s.is_new ≡ false → kept ≡ summed_in fold old = λ was. keeps.1.1.1.1 was ∙ ap (λ (k : Option Reduce). option_map_or (λ x. summed_in x old) k None) total in
-    let was = was_summed fold c names trees s staged b within i (ready c names trees staged) kept held (ap is_whole patch) in
-    kept_beside fold p a kept old (subst (λ (d : Delta). FitsIn d old) patch was.fit) (ap (λ (d : Delta). applied d old) (sym patch) ∙ (was.becomes ∙ now)) was.keeps
+kept_well s f b within kept keeps i ready fold total = record {
+  changed = λ p a patch now.
+      let was = was_summed fold c names trees s staged b within i (ready c names trees staged) kept held (ap is_whole patch) in
+      kept_beside fold p a kept old (subst (λ (d : Delta). FitsIn d old) patch was.fit) (ap (λ (d : Delta). applied d old) (sym patch) ∙ (was.becomes ∙ now)) was.keeps;
+  grew = λ t a grown now.
+      let was = was_summed fold c names trees s staged b within i (ready c names trees staged) kept held (ap is_whole grown) in
+      grown_beside fold t a kept old (subst (λ (d : Delta). FitsIn d old) grown was.fit) (ap (λ (d : Delta). applied d old) (sym grown) ∙ (was.becomes ∙ now)) was.keeps;
+}
+  where
+    c : Change
+    c = keeps.0
+
+    names : List (List ℕ)
+    names = keeps.1.0
+
+    trees : List Tree
+    trees = keeps.1.1.0
+
+    staged : IsStaged c names trees s
+    staged = keeps.1.1.1.0
+
+    old : Outcome
+    old = eval (tree_of_operand names trees b) c.old
+
+    held : s.is_new ≡ false → kept ≡ summed_in fold old
+    held was = keeps.1.1.1.1 was ∙ ap (λ (k : Option Reduce). option_map_or (λ x. summed_in x old) k None) total
 
 -- ---- a node that joins none
 
@@ -80,7 +103,7 @@ unjoined is_new c t before after r same most least = record {
 whole_not_narrow : (d : Delta) → is_whole d ≡ true → (axis : ℕ) → is_narrow axis d ≡ false
 whole_not_narrow (Whole r) h axis = refl
 whole_not_narrow Same h axis = refl
-whole_not_narrow (Grown t) h axis = refl
+whole_not_narrow (Grown t) h axis = absurd (false≢true h)
 whole_not_narrow (Patch p) h axis = absurd (false≢true h)
 
 -- a count of joins: none beside an error, and for lines that are summed up one less for each than it has numbers
@@ -89,7 +112,7 @@ record Counts (fold : Reduce) (count : Outcome → Delta → Outcome → ℕ →
   pub folds : (a : ArrayValue) (d : Delta) (held : Outcome) (n : ℕ) → is_narrow (axis_at (length a.shape) fold.along) d ≡ false → count (Ok a) d held n ≡ n * (length_along fold.along a.shape - 1)
 
 none_narrow : (fold : Reduce) (a : ArrayValue) (d : Delta) (held : Outcome) → is_narrow (axis_at (length a.shape) fold.along) d ≡ false → has_trees_for fold a d held ≡ false
-none_narrow fold a d held h = ap (λ (b : Bool). b && (is_ok held && is_of_numbers a.item_type)) h
+none_narrow fold a d held h = ap (λ (b : Bool). b && (is_ok held && (is_of_numbers a.item_type && had_trees d (length_along fold.along a.shape)))) h
 
 most_counts : (fold : Reduce) → Counts fold (most_joins_of fold)
 most_counts fold = record { error = λ e d other held gave n m. refl; folds = λ a d held n h. cond-false (has_trees_for fold a d held) _ _ (none_narrow fold a d held h) }

@@ -11,7 +11,7 @@ pub mod Digits
 pub mod Narrow
 pub mod Totalled
 pub mod Gathered
-pub mod Given
+pub mod Counted
 pub mod Steps
 pub mod Summed
 pub mod Joined

@@ -1,9 +1,10 @@
 -- The totals of lines of which one place each changed: no more are worked out than places changed.
-use Rattle.std.proofs.Common.{◌≡◌, ℕ, zero, suc, ◌+◌, ◌-◌, ◌<◌, ◌≤◌, true, is_ok, List, [], ◌∷◌, length, remove, min, max, Some, None, Result, Ok, Err, ap, ◌∙◌, subst, sym, refl, arith, inl, inr}
+use Rattle.std.proofs.Common.{◌≡◌, ℕ, zero, suc, ◌+◌, ◌-◌, ◌<◌, ◌≤◌, true, is_ok, List, [], ◌∷◌, length, drop, remove, min, max, Some, None, Result, Ok, Err, ap, ◌∙◌, subst, sym, refl, arith, inl, inr}
 use Rattle.std.proofs.lemmas.Bool.{cases_Bool, cond-false, cond-true, eqb-true, false≢true}
 use Rattle.std.proofs.lemmas.List.Edits.{length-remove}
 use Rattle.std.proofs.Math.Nat.{mul-le-mul}
 use Rattle.arrays_core.specs.Arrays.{ArrayValue}
+use Rattle.arrays_core.specs.Shapes.{size}
 use Rattle.arrays_core.specs.declared.item.Kind.{Kind}
 use Rattle.index_region.specs.Axes.{axis_at}
 use Rattle.operator_fns.specs.declared.reduce.Reduce.{Reduce}
@@ -15,10 +16,12 @@ use Rattle.index_region.specs.Patches.{PatchValue}
 use Rattle.index_region.proofs.Boxes.{fits_length}
 use Rattle.operator_fns.specs.Reduce.{reduce_form}
 use Rattle.operator_fns.proofs.Reduced.{reduce_facts}
+use Rattle.change_core.specs.RuleModels.{form_size}
 use Rattle.change_core.specs.Reaches.{as_reach, reach_by, reach_of}
 use Rattle.change_rules.specs.Nodes.{Argument, reached_cost, size_in}
 use Rattle.change_rules.proofs.Nodes.{cost_reached}
 use Rattle.sum_rules.specs.Totals.{is_narrow, is_one_a_line, lines_of, new_items, total_rule}
+use Rattle.sum_rules.proofs.ChangedTotals.{cost_grown}
 use Rattle.sum_rules.proofs.OneAxis.{size_with_one}
 use Rattle.formula_core.specs.Outcomes.{Outcome}
 use Rattle.formula_core.specs.Changes.{FitsNow, operation_cost}
@@ -80,11 +83,31 @@ module _ (fold : Reduce) (a : ArrayValue) (p : PatchValue) (inside : fits p.regi
   reached_within : cost ≤ box_size p.region
   reached_within = cost_by (reduce_form fold.along a) refl
 
+-- ---- an array that grew along the axis of its lines
+
+module _ (fold : Reduce) (a : ArrayValue) (first : axis_at (length a.shape) fold.along ≡ 0) (some : 0 < length a.shape) where
+  without_first : (shape : List ℕ) → 0 < length shape → size (remove shape 0) ≡ size (drop 1 shape)
+  without_first [] h = absurd (omega (arith, h))
+  without_first (n ∷ shape) h = refl
+
+  places_by : (r : Result Form Kind) → reduce_form fold.along a ≡ r → form_size r ≤ size (drop 1 a.shape)
+  places_by (Ok f) form =
+      let shaped = (reduce_facts fold.along a f.shape f.item_type form).shaped in
+      omega (arith, ap size shaped, ap (λ k. size (remove a.shape k)) first, without_first a.shape some)
+  places_by (Err kind) form = omega arith
+
+  -- there is a total for each item of a place of that axis
+  places_without_first : form_size (reduce_form fold.along a) ≤ size (drop 1 a.shape)
+  places_without_first = places_by (reduce_form fold.along a) refl
+
 pub narrow_within : (fold : Reduce) (a : ArrayValue) (d : Delta) (held : Outcome) → FitsNow d (Ok a) → is_narrow (axis_at (length a.shape) fold.along) d ≡ true → is_ok held ≡ true
     → operation_cost (total_rule fold) (Ok (a ∷ [])) (d ∷ []) held ≤ new_items d
 narrow_within fold a (Patch p) held fit narrow ok =
     let arg : Argument = (a, record { ref_ptr = (0, 0); now = Patch p }) in
     omega (arith, cost_reached (total_rule fold) (arg ∷ []) held refl ok refl, reached_within fold a p fit.inside narrow)
 narrow_within fold a Same held fit narrow ok = absurd (false≢true narrow)
-narrow_within fold a (Grown t) held fit narrow ok = absurd (false≢true narrow)
+narrow_within fold a (Grown t) held fit narrow ok =
+    let arg : Argument = (a, record { ref_ptr = (0, 0); now = Grown t }) in
+    let first : axis_at (length a.shape) fold.along ≡ 0 = eqb-true _ _ narrow in
+    omega (arith, cost_grown fold arg t held refl ok first, places_without_first fold a first fit.some_axis, fit.one_place)
 narrow_within fold a (Whole r) held fit narrow ok = absurd (false≢true narrow)

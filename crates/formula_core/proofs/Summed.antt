@@ -19,7 +19,7 @@ use Rattle.change_rules.specs.Nodes.{is_same, is_whole}
 use Rattle.operator_fns.specs.SumTrees.{TreesValue}
 use Rattle.sum_rules.specs.LineSums.{StandFor, SummedValue, keeps_sums, grown_sums, summed}
 use Rattle.sum_rules.specs.NewLines.{NewLinesValue, FitsSums as FitBehind}
-use Rattle.sum_rules.specs.Totals.{StoodFor}
+use Rattle.sum_rules.specs.Totals.{StoodBefore, StoodFor}
 use Rattle.sum_rules.proofs.KeptSums.{kept_parts}
 use Rattle.formula_core.specs.declared.input.Input.{Input}
 use Rattle.formula_core.specs.declared.input.Input.TheVariants.{Good, Bad}
@@ -35,7 +35,7 @@ use Rattle.formula_core.specs.Tables.{tree_of_operand, tree_of_node, IsOperand, 
 use Rattle.formula_core.specs.Changes.{Change, change, FitsIn}
 use Rattle.formula_core.specs.Inputs.{shown, delta_of, IsInput}
 use Rattle.formula_core.specs.Stages.{IsStaged, IsReady, IsKeptBy, IsSumsStep}
-use Rattle.formula_core.specs.Sums.{summed_in, summed_at, total_of, totalled, WasPatched, WasSummed, IsSumsDelta, IsSummedFor}
+use Rattle.formula_core.specs.Sums.{summed_in, summed_at, total_of, totalled, WasGrown, WasPatched, WasSummed, IsSumsDelta, IsSummedFor}
 use Rattle.formula_core.proofs.Steps.{operand_changed}
 
 -- an array whose lines along an axis are folded by a function
@@ -86,6 +86,20 @@ stood_for fold a p s t was stand =
     }
 
 -- ---- an array that grew
+
+-- the trees of sums that are kept stand for what it was
+pub stood_before : (fold : Reduce) (a : ArrayValue) (t : TailValue) (s : SummedValue) (trees : TreesValue) → WasGrown fold (Ok a) t s → StandFor trees s.axis s.array → StoodBefore fold.along trees t a
+stood_before fold a t s trees was stand =
+    let kept = kept_of fold (Ok s.array) s (sym was.lines) in
+    let becomes : Ok a ≡ Ok (grown_by s.array t.items) = was.becomes in
+    let same : a ≡ grown_by s.array t.items = cc in
+    record {
+      before = s.array;
+      on_axis = (kept_parts fold.along s.array kept.long).on_axis;
+      lines = subst (λ (axis : ℕ). StandFor trees axis s.array) kept.meant stand;
+      fit = was.fit;
+      is = same;
+    }
 
 -- by new lines along the axis of the sums that are kept
 pub lines_taken : (fold : Reduce) (now : ArrayValue) (t : TailValue) (q : Box NewLinesValue Global) (kept : Option SummedValue) → is_some kept ≡ true → keeps_sums fold.along now ≡ true
@@ -217,20 +231,42 @@ sums_step c names trees s staged n within fold o is i ready kept holds d delta =
 pub kept_for : (s : Stage) (f : _) (b : Operand) → IsOperand (length s.inputs.now) (length s.changes.now) b → (kept : Option SummedValue) → IsKeptBy s (node.Monad f b) kept → (i : Input)
     → ((c : Change) → (names : List (List ℕ)) → (trees : List Tree) → IsStaged c names trees s → IsReady s.is_new c (tree_of_operand names trees b) i)
     → (fold : Reduce) → total_of f ≡ Some fold → IsSummedFor fold (shown i) (delta_of i) kept
-kept_for s f b within kept keeps i ready fold total p value patch some =
-    let c = keeps.0 in
-    let names = keeps.1.0 in
-    let trees = keeps.1.1.0 in
-    let staged = keeps.1.1.1.0 in
-    let old = eval (tree_of_operand names trees b) c.old in
-    let held : s.is_new ≡ false → kept ≡ summed_in fold old = λ was. keeps.1.1.1.1 was ∙ ap (λ (k : Option Reduce). option_map_or (λ x. summed_in x old) k None) total in
-    let was = was_summed fold c names trees s staged b within i (ready c names trees staged) kept held (ap is_whole patch) in
-    let k = kept_of fold old value (sym some ∙ was.keeps) in
-    record {
-      fit = subst (λ (o : Outcome). FitsIn (Patch p) o) k.is (subst (λ (d : Delta). FitsIn d old) patch was.fit);
-      becomes = sym (ap (applied (Patch p)) (sym k.is) ∙ (ap (λ (d : Delta). applied d old) (sym patch) ∙ was.becomes));
-      lines = sym (ap (λ (f : Scalar2). Some (at_axis f value.axis value.array)) k.folded ∙ as_summed fold value.axis value.array k.meant k.long);
-    }
+kept_for s f b within kept keeps i ready fold total = record {
+  changed = λ p value patch some.
+      let was = was_summed fold c names trees s staged b within i (ready c names trees staged) kept held (ap is_whole patch) in
+      let k = kept_of fold old value (sym some ∙ was.keeps) in
+      record {
+        fit = subst (λ (o : Outcome). FitsIn (Patch p) o) k.is (subst (λ (d : Delta). FitsIn d old) patch was.fit);
+        becomes = sym (ap (applied (Patch p)) (sym k.is) ∙ (ap (λ (d : Delta). applied d old) (sym patch) ∙ was.becomes));
+        lines = sym (ap (λ (f : Scalar2). Some (at_axis f value.axis value.array)) k.folded ∙ as_summed fold value.axis value.array k.meant k.long);
+      };
+  grew = λ t value grown some.
+      let was = was_summed fold c names trees s staged b within i (ready c names trees staged) kept held (ap is_whole grown) in
+      let k = kept_of fold old value (sym some ∙ was.keeps) in
+      record {
+        fit = subst (λ (o : Outcome). FitsIn (Grown t) o) k.is (subst (λ (d : Delta). FitsIn d old) grown was.fit);
+        becomes = sym (ap (applied (Grown t)) (sym k.is) ∙ (ap (λ (d : Delta). applied d old) (sym grown) ∙ was.becomes));
+        lines = sym (ap (λ (f : Scalar2). Some (at_axis f value.axis value.array)) k.folded ∙ as_summed fold value.axis value.array k.meant k.long);
+      };
+}
+  where
+    c : Change
+    c = keeps.0
+
+    names : List (List ℕ)
+    names = keeps.1.0
+
+    trees : List Tree
+    trees = keeps.1.1.0
+
+    staged : IsStaged c names trees s
+    staged = keeps.1.1.1.0
+
+    old : Outcome
+    old = eval (tree_of_operand names trees b) c.old
+
+    held : s.is_new ≡ false → kept ≡ summed_in fold old
+    held was = keeps.1.1.1.1 was ∙ ap (λ (k : Option Reduce). option_map_or (λ x. summed_in x old) k None) total
 
 -- what holds of a change, where it could be made
 pub change_or : (P Q : SumsDelta → Type 0) (r : Result SumsDelta AllocError) → ((d : SumsDelta) → P d → Q d) → IfOk r P → IfOk r Q

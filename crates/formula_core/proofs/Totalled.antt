@@ -1,39 +1,44 @@
 -- How many sums are joined for totals.
-use Rattle.std.proofs.Common.{◌≡◌, ℕ, ◌+◌, ◌-◌, ◌*◌, ◌≤◌, ◌<◌, nat_lt, Bool, true, false, ◌&&◌, is_ok, is_some, [], ◌∷◌, Some, None, Result, Ok, Err, IfOk, refl, sym, ap, ◌∙◌, subst, arith, inl, inr, length, if◌then◌else◌}
+use Rattle.std.proofs.Common.{◌≡◌, ℕ, ◌+◌, ◌-◌, ◌*◌, ◌≤◌, ◌<◌, nat_lt, Bool, true, false, ◌&&◌, is_ok, is_some, List, [], ◌∷◌, Some, None, Result, Ok, Err, IfOk, refl, sym, ap, ◌∙◌, subst, arith, inl, inr, length, if◌then◌else◌}
 use Rattle.std.specs.Borrow.{Bor}
 use Rattle.std.specs.declared.alloc.AllocError.{AllocError}
-use Rattle.std.proofs.lemmas.Bool.{and_from, and_parts, cases_Bool, cond-false, cond-true, false≢true, lt-ltb, ltb-false, ltb-true}
+use Rattle.std.proofs.lemmas.Bool.{and_from, and_parts, cases_Bool, cond-false, cond-true, eqb-true, false≢true, lt-ltb, ltb-false, ltb-true}
 use Rattle.std.proofs.lemmas.Result.{IfOk-weaker}
-use Rattle.std.proofs.Math.Nat.{mul-le-mul, mul-le-mul_left}
+use Rattle.std.proofs.Math.Nat.{mul-le-mul, mul-le-mul_left, mul-le-mul_right}
 use Rattle.apl_expr.specs.declared.expr.Monadic.{Monadic}
 use Rattle.apl_expr.specs.declared.expr.Monadic.TheVariants as monadic
 use Rattle.arrays_core.specs.Arrays.{ArrayValue}
+use Rattle.arrays_core.specs.Growth.{grown_by, one_longer}
 use Rattle.arrays_core.specs.Shapes.{size}
-use Rattle.arrays_core.specs.declared.item.ItemType.TheVariants.{Nums}
+use Rattle.arrays_core.proofs.Growing.{rank_longer}
 use Rattle.index_region.specs.Arguments.{is_of_numbers}
-use Rattle.index_region.specs.Axes.{axis_at}
+use Rattle.index_region.specs.Axes.{axis_at, is_axis}
+use Rattle.index_region.specs.declared.along.Along.{Along}
+use Rattle.index_region.specs.Tails.{TailValue}
 use Rattle.operator_fns.specs.declared.reduce.Reduce.{Reduce}
 use Rattle.index_region.specs.declared.delta.Delta.{Delta}
 use Rattle.index_region.specs.declared.delta.Delta.TheVariants.{Same, Patch, Grown, Whole}
-use Rattle.index_region.specs.Patches.{FitsPatch, PatchValue}
+use Rattle.index_region.specs.Patches.{FitsPatch, PatchValue, patched}
 use Rattle.index_region.proofs.Patched.{box_within_size}
 use Rattle.index_region.proofs.Walks.{some_place}
 use Rattle.fold_trees.specs.FoldTrees.{has_trees}
 use Rattle.change_core.specs.Meters.{ticked}
 use Rattle.change_rules.specs.Nodes.{is_error}
-use Rattle.sum_rules.specs.LineSums.{SummedValue, keeps_sums, length_along, most_without_tree}
+use Rattle.sum_rules.specs.LineSums.{SummedValue, keeps_sums, length_along, line_length, line_step, most_without_tree}
 use Rattle.sum_rules.specs.Totals.{AreFolds, AreFoldsWithin, HasAllJoins, HasJoins, is_narrow, new_items, total_rule}
 use Rattle.sum_rules.proofs.KeptSums.{along_axis, kept_parts}
+use Rattle.sum_rules.proofs.MorePlaces.{between, longer}
 use Rattle.formula_core.specs.declared.input.Input.TheVariants.{Good}
 use Rattle.formula_core.specs.Changes.{FitsNow, operation_cost}
-use Rattle.formula_core.specs.Joins.{binary_digits, has_trees_for, least_joins_of}
+use Rattle.formula_core.specs.Joins.{binary_digits, had_trees, has_trees_for, least_joins_of}
 use Rattle.formula_core.specs.Meaning.{along_of, scalar2_of}
 use Rattle.formula_core.specs.Outcomes.{Outcome}
 use Rattle.formula_core.specs.Rules.{right_rule}
 use Rattle.formula_core.specs.Stages.{AreTotalsJoined}
-use Rattle.formula_core.specs.Sums.{AreSumsKept, total_of}
+use Rattle.formula_core.specs.Sums.{AreSumsKept, IsSummedFor, total_of}
 use Rattle.formula_core.proofs.Digits.{few_within_digits, within_digits}
 use Rattle.formula_core.proofs.Narrow.{narrow_within}
+use Rattle.formula_core.proofs.Summed.{kept_of}
 
 -- a total follows the rule of its fold
 pub total_is : (f : Monadic) (fold : Reduce) → total_of f ≡ Some fold → right_rule f ≡ total_rule fold
@@ -66,12 +71,50 @@ not_by_trees true false numbers given h = refl
 not_by_trees false true numbers given h = refl
 not_by_trees false false numbers given h = refl
 
--- a box that has one place a line is that of a patch
-pub narrow_patch : (axis : ℕ) (d : Delta) → is_narrow axis d ≡ true → (p : PatchValue) × (d ≡ Patch p)
-narrow_patch axis (Patch p) narrow = (p, refl)
-narrow_patch axis Same narrow = absurd (false≢true narrow)
-narrow_patch axis (Grown t) narrow = absurd (false≢true narrow)
-narrow_patch axis (Whole r) narrow = absurd (false≢true narrow)
+-- lines that have places lie along an axis that there is
+has_axis_along : (along : Along) (shape : List ℕ) → 0 < length_along along shape → is_axis (length shape) along ≡ true
+has_axis_along along shape long = elim (cases_Bool (is_axis (length shape) along)) [
+  | inl w ↦ w
+  | inr f ↦ absurd (let none = cond-false (is_axis (length shape) along) (line_length (axis_at (length shape) along) shape) 0 f in omega (arith, long, none))
+]
+
+-- lines along the first axis of an array that grew have one more place
+one_more_place : (along : Along) (a b : ArrayValue) (t : TailValue) → axis_at (length a.shape) along ≡ 0 → 0 < length b.shape → a ≡ grown_by b t.items → is_axis (length b.shape) along ≡ true
+    → length_along along a.shape ≡ length_along along b.shape + 1
+one_more_place along a b t first some same on =
+    let shaped : a.shape ≡ one_longer b.shape = ap (λ (x : ArrayValue). x.shape) same in
+    let rank : length a.shape ≡ length b.shape = ap (λ (x : List ℕ). length x) shaped ∙ rank_longer b.shape in
+    let before : axis_at (length b.shape) along ≡ 0 = ap (λ n. axis_at n along) (sym rank) ∙ first in
+    along_axis along a.shape (ap (λ n. is_axis n along) rank ∙ on)
+    ∙ (λ i. line_length (first i) (shaped i))
+    ∙ longer b.shape some
+    ∙ ap (λ k. k + 1) (sym (along_axis along b.shape on ∙ ap (λ k. line_length k b.shape) before))
+
+-- an array whose sums are kept has long lines of numbers, and had them before it grew
+pub kept_serve : (fold : Reduce) (a : ArrayValue) (d : Delta) (s : SummedValue) → IsSummedFor fold (Ok a) d (Some s) → is_narrow (axis_at (length a.shape) fold.along) d ≡ true
+    → ((is_of_numbers a.item_type && had_trees d (length_along fold.along a.shape)) ≡ true) × (1 < length_along fold.along a.shape)
+kept_serve fold a (Patch p) s summed narrow =
+    let was = summed.changed p s refl refl in
+    let kept = kept_parts fold.along s.array (kept_of fold (Ok s.array) s (sym was.lines)).long in
+    let becomes : Ok a ≡ Ok (patched s.array p) = was.becomes in
+    let same : a ≡ patched s.array p = cc in
+    let long : length_along fold.along a.shape ≡ line_length (axis_at (length s.array.shape) fold.along) s.array.shape =
+    ap (λ (x : ArrayValue). length_along fold.along x.shape) same ∙ along_axis fold.along s.array.shape kept.on_axis in (
+      and_from _ _ (ap (λ (x : ArrayValue). is_of_numbers x.item_type) same ∙ ap is_of_numbers kept.numbers) refl,
+      omega (arith, long, kept.long),
+    )
+kept_serve fold a (Grown t) s summed narrow =
+    let was = summed.grew t s refl refl in
+    let kept = kept_parts fold.along s.array (kept_of fold (Ok s.array) s (sym was.lines)).long in
+    let becomes : Ok a ≡ Ok (grown_by s.array t.items) = was.becomes in
+    let same : a ≡ grown_by s.array t.items = cc in
+    let long = one_more_place fold.along a s.array t (eqb-true _ _ narrow) was.fit.some_axis same kept.on_axis in
+    let before = along_axis fold.along s.array.shape kept.on_axis in (
+      and_from _ _ (ap (λ (x : ArrayValue). is_of_numbers x.item_type) same ∙ ap is_of_numbers kept.numbers) (lt-ltb most_without_tree (length_along fold.along a.shape - 1) (omega (arith, long, before, kept.long))),
+      omega (arith, long, before, kept.long),
+    )
+kept_serve fold a Same s summed narrow = absurd (false≢true narrow)
+kept_serve fold a (Whole r) s summed narrow = absurd (false≢true narrow)
 
 -- what holds of an answer, by two facts of it
 both_ok : (r : Result (Delta × ℕ) AllocError) (P Q R : Delta × ℕ → Type 0) → ((s : Delta × ℕ) → P s → Q s → R s) → IfOk r P → IfOk r Q → IfOk r R
@@ -87,6 +130,55 @@ at_least before after totals long is = elim (cases_Bool (nat_lt 1 long)) [
       subst (λ k. ticked before k ≤ after) (sym (cond-true (nat_lt 1 long) _ _ t)) (omega (arith, is, more))
   | inr f ↦ subst (λ k. ticked before k ≤ after) (sym (cond-false (nat_lt 1 long) _ _ f)) (omega (arith, is))
 ]
+
+-- an array in which a box lies has items
+some_items : (a : ArrayValue) (p : PatchValue) → FitsPatch a p → 0 < size a.shape
+some_items a p lies = omega (arith, some_place p.region a.shape lies.inside, box_within_size p.region a.shape lies.inside)
+
+-- where no sums are kept of lines that trees would serve, the lines are short, or there are none
+none_kept : (fold : Reduce) (a : ArrayValue) (d : Delta) (held : Outcome) → FitsNow d (Ok a) → AreSumsKept fold (Ok a) d None → has_trees_for fold a d held ≡ true
+    → operation_cost (total_rule fold) (Ok (a ∷ [])) (d ∷ []) held * (length_along fold.along a.shape - 1) ≤ new_items d * binary_digits (length_along fold.along a.shape - 1)
+none_kept fold a (Patch p) held fit well has =
+    let one = and_parts _ _ has in
+    let two = and_parts _ _ one.1 in
+    let long = length_along fold.along a.shape in
+    let none : keeps_sums fold.along a ≡ false = sym (well.changed p a refl refl) in
+    let some : nat_lt 0 (size a.shape) ≡ true = lt-ltb 0 (size a.shape) (some_items a p fit) in
+    let numbers = (and_parts (is_of_numbers a.item_type) (had_trees (Patch p) long) two.1).0 in
+    let short : long ≤ 3 = elim (cases_Bool (nat_lt most_without_tree long)) [
+      | inl t ↦ absurd (false≢true (sym none ∙ and_from _ _ numbers (and_from _ _ some t)))
+      | inr f ↦ let few : long ≤ 3 = ltb-false most_without_tree long f in few
+    ] in
+    let digits : long - 1 ≤ binary_digits (long - 1) = few_within_digits (long - 1) (omega (arith, short)) in
+    mul-le-mul (narrow_within fold a (Patch p) held fit one.0 two.0) digits
+none_kept fold a (Grown t) held fit well has =
+    let one = and_parts _ _ has in
+    let two = and_parts _ _ one.1 in
+    let three = and_parts (is_of_numbers a.item_type) (had_trees (Grown t) (length_along fold.along a.shape)) two.1 in
+    let long = length_along fold.along a.shape in
+    let before : most_without_tree < long - 1 = ltb-true most_without_tree (long - 1) three.1 in
+    let was = well.grew t a refl refl in
+    let b = was.before in
+    let rank : length a.shape ≡ length b.shape = ap (λ (x : ArrayValue). length x.shape) was.becomes ∙ rank_longer b.shape in
+    let first : axis_at (length a.shape) fold.along ≡ 0 = eqb-true _ _ one.0 in
+    let on : is_axis (length b.shape) fold.along ≡ true = ap (λ n. is_axis n fold.along) (sym rank) ∙ has_axis_along fold.along a.shape (omega (arith, before)) in
+    let more = one_more_place fold.along a b t first was.fit.some_axis was.becomes on in
+    let numbers : is_of_numbers b.item_type ≡ true = ap (λ (x : ArrayValue). is_of_numbers x.item_type) (sym was.becomes) ∙ three.0 in
+    let enough : nat_lt most_without_tree (length_along fold.along b.shape) ≡ true = lt-ltb most_without_tree (length_along fold.along b.shape) (omega (arith, more, before)) in
+    let none : size b.shape ≤ 0 = elim (cases_Bool (nat_lt 0 (size b.shape))) [
+      | inl some ↦ absurd (false≢true (was.keeps ∙ and_from _ _ numbers (and_from _ _ some enough)))
+      | inr f ↦ ltb-false 0 (size b.shape) f
+    ] in
+    let here : axis_at (length b.shape) fold.along ≡ 0 = ap (λ n. axis_at n fold.along) (sym rank) ∙ first in
+    let long_before = along_axis fold.along b.shape on ∙ ap (λ k. line_length k b.shape) here in
+    let each : 1 * line_step 0 b.shape ≤ line_length 0 b.shape * line_step 0 b.shape = mul-le-mul_right (line_step 0 b.shape) (omega (arith, long_before, more, before)) in
+    let no_lines : line_step 0 b.shape ≡ 0 = omega (arith, each, between b.shape was.fit.some_axis, none) in
+    let totals = operation_cost (total_rule fold) (Ok (a ∷ [])) (Grown t ∷ []) held in
+    let few : totals ≤ 0 = omega (arith, narrow_within fold a (Grown t) held fit one.0 two.0, was.fit.one_place, no_lines) in
+    let product : totals * (long - 1) ≤ 0 * (long - 1) = mul-le-mul_right (long - 1) few in
+    omega (arith, product)
+none_kept fold a Same held fit well has = absurd (false≢true has)
+none_kept fold a (Whole r) held fit well has = absurd (false≢true has)
 
 module _ (fold : Reduce) (a : ArrayValue) (delta : Bor Delta) (held : Outcome) (before after : ℕ) (r : Result (Delta × ℕ) AllocError) (fit : FitsNow delta.now (Ok a)) where
   abbrev d : Delta
@@ -104,43 +196,29 @@ module _ (fold : Reduce) (a : ArrayValue) (delta : Bor Delta) (held : Outcome) (
   abbrev has : Bool
   has = has_trees_for fold a d held
 
-  above : most_without_tree < long → 1 < long
-  above more = omega (arith, more)
-
-  -- an array in which a box lies has items
-  some_items : (p : PatchValue) → FitsPatch a p → 0 < size a.shape
-  some_items p lies = omega (arith, some_place p.region a.shape lies.inside, box_within_size p.region a.shape lies.inside)
-
   -- by the sums that are kept
-  module _ (sums : SummedValue) (well : AreSumsKept fold (Ok a) d (Some sums)) (numbers : is_narrow axis d ≡ true → a.item_type ≡ Nums) where
-    parts : has ≡ true → (is_narrow axis d ≡ true) × ((is_ok held ≡ true) × (is_of_numbers a.item_type ≡ true))
-    parts h = let one = and_parts _ _ h in (one.0, and_parts _ _ one.1)
-
-    two_at_least : has ≡ true → 1 < long
-    two_at_least h =
-        let p = narrow_patch axis d (parts h).0 in
-        let keeps : keeps_sums fold.along a ≡ true = sym (well p.0 a p.1 refl) in
-        let kept = kept_parts fold.along a keeps in
-        above (subst (λ n. most_without_tree < n) (sym (along_axis fold.along a.shape kept.on_axis)) kept.long)
+  module _ (sums : SummedValue) (summed : IsSummedFor fold (Ok a) d (Some sums)) where
+    parts : has ≡ true → (is_narrow axis d ≡ true) × (is_ok held ≡ true)
+    parts h = let one = and_parts _ _ h in (one.0, (and_parts _ _ one.1).0)
 
     otherwise : has ≡ false → (is_ok held && is_narrow axis d) ≡ false
-    otherwise h = not_by_trees (is_narrow axis d) (is_ok held) (is_of_numbers a.item_type) (λ narrow. ap is_of_numbers (numbers narrow)) h
+    otherwise h = not_by_trees (is_narrow axis d) (is_ok held) (is_of_numbers a.item_type && had_trees d long) (λ narrow. (kept_serve fold a d sums summed narrow).0) h
 
     pub totalled_by_trees : HasJoins fold (a, delta) held before after → IfOk r (λ s. is_error s.0 ≡ false → HasAllJoins fold (a, delta) held before after) → AreTotalsJoined fold (Good a delta) held before after r
     totalled_by_trees joins all = record {
       most = elim (cases_Bool has) [
         | inl t ↦
             let by = parts t in
-            subst (λ k. after ≤ before + k) (sym (cond-true has _ _ t)) (joins.trees (and_from _ _ by.1.0 by.0) (binary_digits (long - 1)) (within_digits (long - 1)))
+            subst (λ k. after ≤ before + k) (sym (cond-true has _ _ t)) (joins.trees (and_from _ _ by.1 by.0) (binary_digits (long - 1)) (within_digits (long - 1)))
         | inr f ↦ subst (λ k. after ≤ before + k) (sym (cond-false has _ _ f)) (joins.folds (otherwise f))
       ];
       least = IfOk-weaker r _ _
           (λ s least sound. elim (cases_Bool has) [
             | inl t ↦
                 let by = parts t in
-                let two = two_at_least t in
-                let some = (least sound).trees (and_from _ _ by.1.0 by.0) two in
-                let all_new = narrow_within fold a d held fit by.0 by.1.0 in
+                let two = (kept_serve fold a d sums summed by.0).1 in
+                let some = (least sound).trees (and_from _ _ by.1 by.0) two in
+                let all_new = narrow_within fold a d held fit by.0 by.1 in
                 let is : least_joins_of fold (Ok a) d held totals ≡ totals = cond-true has _ _ t ∙ cond-true _ _ _ (lt-ltb 1 long two) in
                 subst (λ k. ticked before k ≤ after) (sym is) (omega (arith, some, all_new))
             | inr f ↦
@@ -152,28 +230,11 @@ module _ (fold : Reduce) (a : ArrayValue) (delta : Bor Delta) (held : Outcome) (
 
   -- lines that are short, or have no trees for another reason, are summed up
   module _ (well : AreSumsKept fold (Ok a) d None) where
-    short : has ≡ true → long ≤ 3
-    short h =
-        let one = and_parts _ _ h in
-        let two = and_parts _ _ one.1 in
-        let p = narrow_patch axis d one.0 in
-        let none : keeps_sums fold.along a ≡ false = sym (well p.0 a p.1 refl) in
-        let some : nat_lt 0 (size a.shape) ≡ true = lt-ltb 0 (size a.shape) (some_items p.0 (subst (λ (e : Delta). FitsNow e (Ok a)) p.1 fit)) in
-        elim (cases_Bool (nat_lt most_without_tree long)) [
-          | inl t ↦ absurd (false≢true (sym none ∙ and_from _ _ two.1 (and_from _ _ some t)))
-          | inr f ↦ let few : long ≤ 3 = ltb-false most_without_tree long f in few
-        ]
-
     pub totalled_by_folds : AreFoldsWithin totals long before after → IfOk r (λ s. s.1 ≡ totals) → IfOk r (λ s. is_error s.0 ≡ false → AreFolds s.1 long before after) → AreTotalsJoined fold (Good a delta) held before after r
     totalled_by_folds folds cost all = record {
       most = elim (cases_Bool has) [
         | inl t ↦
-            let one = and_parts _ _ t in
-            let two = and_parts _ _ one.1 in
-            let l = short t in
-            let few = narrow_within fold a d held fit one.0 two.0 in
-            let digits : long - 1 ≤ binary_digits (long - 1) = few_within_digits (long - 1) (omega (arith, l)) in
-            let within : totals * (long - 1) ≤ new_items d * binary_digits (long - 1) = mul-le-mul few digits in
+            let within : totals * (long - 1) ≤ new_items d * binary_digits (long - 1) = none_kept fold a d held fit well t in
             subst (λ k. after ≤ before + k) (sym (cond-true has _ _ t)) (omega (arith, folds, within))
         | inr f ↦ subst (λ k. after ≤ before + k) (sym (cond-false has _ _ f)) folds
       ];

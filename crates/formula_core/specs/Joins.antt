@@ -1,5 +1,5 @@
 -- How many sums of parts a change of the names joins, to sum up lines of numbers.
-use Rattle.std.specs.Prelude.{ℕ, ◌-◌, ◌*◌, ◌^◌, nat_le, nat_lt, Bool, ◌&&◌, is_ok, Ok, Err, length, if◌then◌else◌}
+use Rattle.std.specs.Prelude.{ℕ, ◌-◌, ◌*◌, ◌^◌, nat_le, nat_lt, Bool, true, ◌&&◌, is_ok, Ok, Err, length, if◌then◌else◌}
 use Rattle.std.specs.List.{count_by, range_with_len, sum_by}
 use Rattle.std.specs.Option.{option_map_or}
 use Rattle.apl_expr.specs.Trees.{Tree, Const, Name, Monad, Dyad, Index}
@@ -8,7 +8,8 @@ use Rattle.index_region.specs.Arguments.{is_of_numbers}
 use Rattle.index_region.specs.Axes.{axis_at}
 use Rattle.operator_fns.specs.declared.reduce.Reduce.{Reduce}
 use Rattle.index_region.specs.declared.delta.Delta.{Delta}
-use Rattle.sum_rules.specs.LineSums.{length_along}
+use Rattle.index_region.specs.declared.delta.Delta.TheVariants.{Grown}
+use Rattle.sum_rules.specs.LineSums.{length_along, most_without_tree}
 use Rattle.sum_rules.specs.Totals.{new_items, is_narrow}
 use Rattle.formula_core.specs.Changes.{Change}
 use Rattle.formula_core.specs.Meaning.{eval}
@@ -21,9 +22,15 @@ use Rattle.formula_core.specs.Tables.{subtrees}
 abbrev pub binary_digits : ℕ → ℕ
 binary_digits n = count_by (λ k. nat_le (2 ^ k) n) (range_with_len 0 n)
 
--- trees serve for the totals of an array of numbers along an axis: they were an array, and of each line that changed one place did
+-- the lines of this length had trees before this change: where they got longer by it, they were long enough
+abbrev pub had_trees : Delta → (long : ℕ) → Bool
+had_trees (Grown t) long = nat_lt most_without_tree (long - 1)
+had_trees _ long = true
+
+-- trees serve for the totals of an array of numbers along an axis: they were an array, and of each line that changed one place did, or each got one more
+-- place and had a tree before
 abbrev pub has_trees_for : Reduce → ArrayValue → Delta → (held : Outcome) → Bool
-has_trees_for fold a d held = is_narrow (axis_at (length a.shape) fold.along) d && (is_ok held && is_of_numbers a.item_type)
+has_trees_for fold a d held = is_narrow (axis_at (length a.shape) fold.along) d && (is_ok held && (is_of_numbers a.item_type && had_trees d (length_along fold.along a.shape)))
 
 -- how many sums are joined at most for so many totals along an axis of what is this now and changed so, where they were this: by trees as many for each new
 -- number as the length of a line less one has binary digits, else for each total one less than a line has numbers; beside an error none

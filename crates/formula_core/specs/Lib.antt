@@ -12,5 +12,6 @@ pub mod Plans
 pub mod Joins
 -- What proofs and bodies use.
 pub mod Operands
+pub mod Counts
 pub mod Stages
 pub mod Progress

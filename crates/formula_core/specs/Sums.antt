@@ -6,10 +6,12 @@ use Rattle.apl_expr.specs.Trees.{Tree, Const, Name, Monad, Dyad, Index}
 use Rattle.apl_expr.specs.declared.expr.Monadic.{Monadic}
 use Rattle.apl_expr.specs.declared.expr.Monadic.TheVariants as monadic
 use Rattle.arrays_core.specs.Arrays.{ArrayValue}
+use Rattle.arrays_core.specs.Growth.{grown_by}
 use Rattle.operator_fns.specs.declared.reduce.Reduce.{Reduce}
 use Rattle.index_region.specs.declared.delta.Delta.{Delta}
-use Rattle.index_region.specs.declared.delta.Delta.TheVariants.{Patch as PatchDelta}
+use Rattle.index_region.specs.declared.delta.Delta.TheVariants.{Patch as PatchDelta, Grown as GrownDelta}
 use Rattle.index_region.specs.Patches.{PatchValue, FitsPatch, patched}
+use Rattle.index_region.specs.Tails.{TailValue, FitsTail}
 use Rattle.change_rules.specs.Currency.{applied}
 use Rattle.change_rules.specs.Nodes.{is_whole}
 use Rattle.sum_rules.specs.LineSums.{SummedValue, keeps_sums, summed, patched_sums, grown_sums}
@@ -88,10 +90,25 @@ pub record WasPatched (fold : Reduce) (now : Outcome) (p : PatchValue) (s : Summ
   pub becomes : now ≡ Ok (patched s.array p)
   pub lines : summed fold s.array ≡ Some s
 
--- where an array is patched, sums that are kept are those of what it was
-abbrev pub IsSummedFor : (fold : Reduce) → (now : Outcome) → Delta → (kept : Option SummedValue) → Type 0
-IsSummedFor fold now d kept = (p : PatchValue) (s : SummedValue) → d ≡ PatchDelta p → kept ≡ Some s → WasPatched fold now p s
+-- or by growing
+pub record WasGrown (fold : Reduce) (now : Outcome) (t : TailValue) (s : SummedValue) : Type 0 where
+  pub fit : FitsTail s.array t
+  pub becomes : now ≡ Ok (grown_by s.array t.items)
+  pub lines : summed fold s.array ≡ Some s
 
--- where an array is patched, the sums of its lines are kept if these are long enough
-abbrev pub AreSumsKept : (fold : Reduce) → (now : Outcome) → Delta → (kept : Option SummedValue) → Type 0
-AreSumsKept fold now d kept = (p : PatchValue) (a : ArrayValue) → d ≡ PatchDelta p → now ≡ Ok a → is_some kept ≡ keeps_sums fold.along a
+-- where an array is patched or grew, sums that are kept are those of what it was
+pub record IsSummedFor (fold : Reduce) (now : Outcome) (d : Delta) (kept : Option SummedValue) : Type 0 where
+  pub changed : (p : PatchValue) (s : SummedValue) → d ≡ PatchDelta p → kept ≡ Some s → WasPatched fold now p s
+  pub grew : (t : TailValue) (s : SummedValue) → d ≡ GrownDelta t → kept ≡ Some s → WasGrown fold now t s
+
+-- the sums of the lines of what became this by growing are kept if these were long enough
+pub record WereSumsKept (fold : Reduce) (now : ArrayValue) (t : TailValue) (kept : Option SummedValue) : Type 0 where
+  pub before : ArrayValue
+  pub fit : FitsTail before t
+  pub becomes : now ≡ grown_by before t.items
+  pub keeps : is_some kept ≡ keeps_sums fold.along before
+
+-- where an array is patched, the sums of its lines are kept if these are long enough; where it grew, if they were so before
+pub record AreSumsKept (fold : Reduce) (now : Outcome) (d : Delta) (kept : Option SummedValue) : Type 0 where
+  pub changed : (p : PatchValue) (a : ArrayValue) → d ≡ PatchDelta p → now ≡ Ok a → is_some kept ≡ keeps_sums fold.along a
+  pub grew : (t : TailValue) (a : ArrayValue) → d ≡ GrownDelta t → now ≡ Ok a → WereSumsKept fold a t kept

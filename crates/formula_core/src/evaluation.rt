@@ -1,15 +1,17 @@
 //! The value of an expression.
 
-ghost use Rattle.std.specs.Prelude.{◌≡◌, ◌∷◌, ℕ, List, IfOk, Result, Ok, Err, map};
+ghost use Rattle.std.specs.Prelude.{◌≡◌, ◌+◌, ◌≤◌, ◌∷◌, ℕ, List, IfOk, IsOk, Result, Ok, Err, map, true};
 ghost use Rattle.std.specs.List.{Contains};
 ghost use Rattle.apl_expr.specs.Trees.{tree_of, position_of, positions_of};
 ghost use Rattle.arrays_core.specs.Arrays.{ArrayValue, IsAnswerTo};
 ghost use Rattle.arrays_core.specs.declared.item.Kind.{Kind as AKind};
+ghost use Rattle.change_core.specs.Meters.{ticked};
 ghost use Rattle.selection_fns.specs.Index.{index_whole};
 ghost use Rattle.index_region.specs.declared.delta.Delta.TheVariants.{Same};
 ghost use Rattle.formula_core.specs.Changes.{at_rest};
 ghost use Rattle.formula_core.specs.Outcomes.{read, given};
-ghost use Rattle.formula_core.specs.Plans.{AreInputs, IsNameSound};
+ghost use Rattle.formula_core.specs.Counts.{AreItemsCounted, ArePositionsCounted, IsTreeCounted};
+ghost use Rattle.formula_core.specs.Plans.{tree_cost, AreInputs, IsNameSound};
 ghost use Rattle.formula_core.specs.Operands.{outcome_of, array_in, position_in, positions_in, written_arrays};
 ghost use Rattle.formula_core.specs.Meaning.{eval, eval_positions, applied1, applied2, indexed};
 
@@ -19,7 +21,8 @@ use crate::literals::array_of;
 use crate::positions::written_of;
 use apl_expr::{Dyadic, Expr, Monadic};
 use apl_tokens::Name;
-use arrays_core::{ApplyFault, Array, Fault};
+use arrays_core::{ApplyFault, Array, Fault, size};
+use change_core::Meter;
 use index_region::{Delta, Seen};
 use selection_fns::Index;
 use std::alloc::{AllocError, Global};
@@ -77,20 +80,41 @@ pub fn evaluate<S: Shows>(
 ) -> Result<Result<Array, Fault>, AllocError>
     ensures { IfOk result (λ outcome. outcome ≡ eval (tree_of tree.now) (S.shows names.now)) }
 {
-    match argument(alloc, tree, names)? {
-        Ok(operand) => Ok(Ok(operand.into_array()?)),
+    evaluate_counted(alloc, tree, names, &mut Meter::new())
+}
+
+/// The same value. The meter counts the items that each function gives, and none for a literal or a name: as many as working out
+/// a new formula of the expression costs where the value is an array, and at most as many where it is an error.
+pub fn evaluate_counted<S: Shows>(
+    alloc: Global,
+    tree: &Expr,
+    names: &S,
+    meter: &mut Meter,
+) -> Result<Result<Array, Fault>, AllocError>
+    ensures value { IfOk result (λ outcome. outcome ≡ eval (tree_of tree.now) (S.shows names.now)) }
+    ensures ticks { meter.new.ticks ≤ meter.old.ticks + tree_cost true (at_rest (S.shows names.now)) (tree_of tree.now) }
+    ensures exact { IfOk result (λ outcome. IsOk outcome → meter.new.ticks ≡ ticked meter.old.ticks (tree_cost true (at_rest (S.shows names.now)) (tree_of tree.now))) }
+{
+    match argument(alloc, tree, names, meter)? {
+        Ok(operand) => {
+            // The count says that it is a number of 64 bits.
+            let _counted = meter.ticks();
+            Ok(Ok(operand.into_array()?))
+        }
         Err(fault) => Ok(Err(fault)),
     }
 }
 
-/// The value of an expression as an argument. A name's array is lent, and not copied.
+/// The value of an expression as an argument, and its cost. A name's array is lent, and not copied.
 #[cycle(value)]
 fn argument<'a, S: Shows>(
     alloc: Global,
     tree: &Expr,
     names: &'a S,
+    meter: &mut Meter,
 ) -> Result<Result<Operand<'a>, Fault>, AllocError>
-    ensures { IfOk result (λ operand. outcome_of operand ≡ eval (tree_of tree.now) (S.shows names.entry.now)) }
+    ensures value { IfOk result (λ operand. outcome_of operand ≡ eval (tree_of tree.now) (S.shows names.entry.now)) }
+    ensures counted { IsTreeCounted (S.shows names.entry.now) (tree_of tree.now) meter.old.ticks meter.new.ticks result }
 {
     match tree {
         Expr::Const(literal) => made(array_of(alloc, literal)),
@@ -99,35 +123,40 @@ fn argument<'a, S: Shows>(
             Err(fault) => Ok(Err(fault)),
         },
         Expr::Monad(function, right) => {
-            let right = argument(alloc, right, names)?;
-            apply_monad(alloc, *function, right)
+            let right = argument(alloc, right, names, meter)?;
+            let given = apply_monad(alloc, *function, right)?;
+            Ok(counted(given, meter))
         }
         Expr::Dyad(function, left, right) => {
-            let right = argument(alloc, right, names)?;
-            let left = argument(alloc, left, names)?;
-            apply_dyad(alloc, *function, left, right)
+            let right = argument(alloc, right, names, meter)?;
+            let left = argument(alloc, left, names, meter)?;
+            let given = apply_dyad(alloc, *function, left, right)?;
+            Ok(counted(given, meter))
         }
         Expr::Index(operand, positions) => {
-            let positions = position_operands(alloc, positions, names)?;
-            let operand = argument(alloc, operand, names)?;
-            apply_index(alloc, operand, positions)
+            let positions = position_operands(alloc, positions, names, meter)?;
+            let operand = argument(alloc, operand, names, meter)?;
+            let given = apply_index(alloc, operand, positions)?;
+            Ok(counted(given, meter))
         }
     }
 }
 
-/// The values of the positions of an index, from the last to the first; the first error that is met is the result.
+/// The values of the positions of an index, from the last to the first, and their cost; the first error that is met is the result.
 #[cycle(value)]
 fn position_operands<'a, S: Shows>(
     alloc: Global,
     positions: &[Option<Expr>],
     names: &'a S,
+    meter: &mut Meter,
 ) -> Result<Result<Vec<Option<Operand<'a>>>, Fault>, AllocError>
-    ensures { IfOk result (λ operands. positions_in operands ≡ eval_positions (positions_of (map position_of positions.now)) (S.shows names.entry.now)) }
+    ensures values { IfOk result (λ operands. positions_in operands ≡ eval_positions (positions_of (map position_of positions.now)) (S.shows names.entry.now)) }
+    ensures counted { ArePositionsCounted (S.shows names.entry.now) (positions_of (map position_of positions.now)) meter.old.ticks meter.new.ticks result }
 {
     let mut operands = Vec::new(alloc);
     for k in (0..positions.len()).rev() {
         let operand = match &positions[k] {
-            Some(tree) => match argument(alloc, tree, names)? {
+            Some(tree) => match argument(alloc, tree, names, meter)? {
                 Ok(operand) => Some(operand),
                 Err(fault) => return Ok(Err(fault)),
             },
@@ -136,6 +165,17 @@ fn position_operands<'a, S: Shows>(
         operands.insert(0, operand)?;
     }
     Ok(Ok(operands))
+}
+
+/// What a function gave, whose items are counted; an error has none.
+fn counted<'a>(given: Result<Operand<'a>, Fault>, meter: &mut Meter) -> Result<Operand<'a>, Fault>
+    ensures same { result ≡ given.entry }
+    ensures items { AreItemsCounted given.entry meter.old.ticks meter.new.ticks }
+{
+    if let Ok(operand) = &given {
+        meter.add(size(operand.array().shape()));
+    }
+    given
 }
 
 /// A function of its right argument, or the argument's error.

@@ -17,7 +17,7 @@ mod sums;
 mod symbols;
 mod table;
 
-pub use evaluation::{Shows, evaluate};
+pub use evaluation::{Shows, evaluate, evaluate_counted};
 pub use formula::Formula;
 pub use input::Input;
 pub use literals::array_of;

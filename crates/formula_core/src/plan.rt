@@ -33,17 +33,6 @@ impl Plan {
         &self.changes[self.changes.len() - 1].delta
     }
 
-    /// Takes the change of the formula's result out of a whole plan, which is needed no longer.
-    pub fn into_delta(mut self) -> Delta
-        requires { 0 < length self.changes }
-        ensures { result ≡ root_change self.changes }
-    {
-        match self.changes.pop() {
-            Some(change) => change.delta,
-            None => Delta::Same,
-        }
-    }
-
     /// How many items of results change at most: for each node that has its change the places of the box that changes, or of the
     /// whole result; the greatest number of 64 bits where there are more.
     pub fn cost(&self) -> u64

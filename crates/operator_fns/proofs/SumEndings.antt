@@ -1,5 +1,5 @@
 -- The sums of the endings of a list tell its sum from the right.
-use Rattle.std.proofs.Common.{◌≡◌, ◌^◌, List, [], ◌∷◌, map, refl, ap, sym, ◌∙◌, arith, inl, inr, true, ◌&&◌, ℤ, pos, negsuc, FitsSigned, Result, Ok, Err}
+use Rattle.std.proofs.Common.{◌≡◌, ◌^◌, List, [], ◌∷◌, ◌++◌, map, refl, ap, sym, ◌∙◌, arith, inl, inr, true, ◌&&◌, ℤ, pos, negsuc, FitsSigned, Result, Ok, Err}
 use Rattle.std.specs.Int.{int_max, int_min, w64}
 use Rattle.std.specs.List.{All}
 use Rattle.std.proofs.lemmas.Int.{ints, clamps}
@@ -12,9 +12,10 @@ use Rattle.scalar_fns.specs.Numbers.{dyadic_on_numbers, is_number}
 use Rattle.scalar_fns.specs.Items.{number_item}
 use Rattle.scalar_fns.specs.Folds.{folded}
 use Rattle.operator_fns.specs.SumTree.{IsReductionBySum}
-use Rattle.operator_fns.specs.SumNodes.{Sums, sums_of, sum_told}
+use Rattle.operator_fns.specs.SumNodes.{Sums, single, join, sums_of, sum_told}
 use Rattle.operator_fns.proofs.Endings.{Within, within_of, total, most, fewest, total_most, total_fewest, Fits, folded_sum, folded_fits, folded_error}
 use Rattle.operator_fns.proofs.Folds.{some_folded}
+use Rattle.operator_fns.proofs.JoinedSums.{join_assoc, join_none, none_join, ordered_single}
 use Rattle.operator_fns.proofs.Reduced.{folded_numbers}
 
 -- it has the sum, and the least and the greatest sum of an ending
@@ -86,3 +87,8 @@ told_reduction (x ∷ rest) fit =
     ap number_item (told_folded x rest (λ k d below. within_of _ (fit k d below)))
     ∙ sym (folded_numbers Plus (x ∷ rest) (omega arith))
     ∙ sym (some_folded Plus (map (λ z. Num z) (x ∷ rest)) (omega arith))
+
+-- the sums of a list and of one more number behind it
+pub sums_behind : (xs : List ℤ) (z : ℤ) → join (sums_of xs) (single z) ≡ sums_of (xs ++ z ∷ [])
+sums_behind [] z = none_join (single z) (ordered_single z) ∙ sym (join_none (single z) (ordered_single z))
+sums_behind (x ∷ rest) z = join_assoc (single x) (sums_of rest) (single z) ∙ ap (join (single x)) (sums_behind rest z)

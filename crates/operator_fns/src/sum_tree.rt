@@ -1,6 +1,6 @@
 //! Sums of lists of which one number at a time is replaced.
 
-ghost use Rattle.std.specs.Prelude.{◌≡◌, ◌<◌, ◌≤◌, ◌-◌, ◌==◌, ℕ, ℤ, List, All, FitsSigned, length, IfOk, slice_set};
+ghost use Rattle.std.specs.Prelude.{◌≡◌, ◌<◌, ◌≤◌, ◌-◌, ◌==◌, ◌++◌, ◌∷◌, [], ℕ, ℤ, List, All, FitsSigned, length, IfOk, slice_set};
 ghost use Rattle.std.specs.Int.{w64};
 ghost use Rattle.operator_fns.specs.SumTree.{IsReductionBySum, IsWithinDigitsOf};
 ghost use Rattle.operator_fns.specs.LineTrees.{one_line as line_of_all};
@@ -104,6 +104,24 @@ impl SumTree {
             nodes: &self.nodes,
         }
         .whole()
+        .sum()
+    }
+
+    /// What the reduction by + gives of the numbers and one more behind them. It takes one join of summaries at most.
+    pub fn result_behind(&self, number: i64) -> Result<i64, Kind>
+        ensures { IsReductionBySum (self.now ++ number ∷ []) result }
+    {
+        if self.slots.is_empty() {
+            return Ok(number);
+        }
+        let line = one_line(self.slots.len());
+        LineTree {
+            line,
+            slots: &self.slots,
+            nodes: &self.nodes,
+        }
+        .whole()
+        .join(&Summary::of(number))
         .sum()
     }
 

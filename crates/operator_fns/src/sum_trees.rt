@@ -1,6 +1,6 @@
 //! The trees of sums of all lines of an array along one axis, in two lists.
 
-ghost use Rattle.std.specs.Prelude.{◌≡◌, ℕ, ◌+◌, ◌-◌, ◌*◌, ◌/◌, ◌%◌, ◌^◌, ◌<◌, ◌≤◌, ◌==◌, ◌++◌, [], length, vec_len, vec_capacity, All, FitsSigned, IfOk};
+ghost use Rattle.std.specs.Prelude.{◌≡◌, ℕ, ◌+◌, ◌-◌, ◌*◌, ◌/◌, ◌%◌, ◌^◌, ◌<◌, ◌≤◌, ◌==◌, ◌++◌, ◌∷◌, [], length, vec_len, vec_capacity, All, FitsSigned, IfOk};
 ghost use Rattle.std.specs.Int.{w64};
 ghost use Rattle.arrays_core.specs.Growth.{IsRoomy, HasRoom};
 ghost use Rattle.operator_fns.specs.LineTrees.{slot_of, number_of, node_of, IsIn, AreKept, shorter};
@@ -222,6 +222,16 @@ impl SumTrees {
     {
         let tree = nth_tree(&self.slots, &self.nodes, self.count, self.step, line);
         tree.whole().sum()
+    }
+
+    /// The sum of the numbers of a line and of one more behind them, from the last to the first, or LIMIT where it leaves 64 bits on its
+    /// way. It takes one join of summaries.
+    pub fn result_behind(&self, line: usize, number: i64) -> Result<i64, Kind>
+        requires { line < lines_in self.now }
+        ensures { IsReductionBySum (numbers_of_line self.now line ++ number ∷ []) result }
+    {
+        let tree = nth_tree(&self.slots, &self.nodes, self.count, self.step, line);
+        tree.whole().join(&Summary::of(number)).sum()
     }
 
     /// The sum of the numbers of the line that a place is on, from the last to the first, where the one at this place is another,

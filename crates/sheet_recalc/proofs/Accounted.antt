@@ -32,9 +32,6 @@ few_ticks spent cost ticks total made fits sum = omega (arith, made, fits, sum)
 pub expression_more : (spent expression cost total : ℕ) → spent ≡ ticked 0 expression → total ≡ ticked spent cost → total ≡ ticked 0 (expression + cost)
 expression_more spent expression cost total is sum = omega (arith, is, sum)
 
-pub expression_even : (spent expression before meter : ℕ) → spent ≡ ticked 0 expression → meter ≡ ticked before expression → before ≡ 0 → meter ≡ spent
-expression_even spent expression before meter is made none = omega (arith, is, made, none)
-
 -- a change that works out no expression costs what the formulas do
 pub formulas_alone : (cost total : ℕ) → total ≡ ticked 0 cost → total ≡ ticked 0 (0 + cost)
 formulas_alone cost total is = omega (arith, is)

@@ -1,6 +1,5 @@
 mod Asked
 pub mod Accounted
-pub mod AtRest
 pub mod Binding
 pub mod CellPatches
 pub mod Cycles

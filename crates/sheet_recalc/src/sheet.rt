@@ -1,11 +1,9 @@
 //! The sheet.
 
-ghost use Rattle.std.specs.Prelude.{◌≡◌, ◌+◌, ◌-◌, ◌<◌, ◌≤◌, ℕ, min, true, [], IfOk, IfErr, OnOk, OnErr, MatchOption, Some, None, Err, is_some, if◌then◌else◌};
+ghost use Rattle.std.specs.Prelude.{◌≡◌, ◌+◌, ◌-◌, ◌<◌, ◌≤◌, ℕ, min, true, [], IfOk, IfErr, OnOk, OnErr, Some, None, is_some, if◌then◌else◌};
 ghost use Rattle.std.specs.Map.{keys_of};
 ghost use Rattle.std.specs.Option.{option_map};
 ghost use Rattle.apl_expr.specs.Trees.{tree_of, literal_of};
-ghost use Rattle.arrays_core.specs.declared.fault.Fault.{Fault as FaultValue};
-ghost use Rattle.index_region.specs.declared.delta.Delta.TheVariants.{Whole};
 ghost use Rattle.formula_core.specs.Outcomes.{read};
 ghost use Rattle.formula_core.specs.Meaning.{eval};
 ghost use Rattle.sheet_recalc.specs.Names.{Names, binding, IsSheet};
@@ -19,7 +17,7 @@ ghost use Rattle.sheet_recalc.specs.Costs.{HasCost, HasTicks, changed_name, expr
 use crate::cell::cell_patch;
 use crate::commit::make;
 use crate::entry::Entry;
-use crate::evaluation::{absent, plan_at_rest};
+use crate::evaluation::absent;
 use crate::growth::growth_for;
 use crate::pending::Pending;
 use crate::planning::{apply_next, begun, functions_in, plan_all, settle};
@@ -32,7 +30,7 @@ use apl_tokens::Name;
 use arrays_core::{Array, Fault};
 use change_core::Meter;
 use dep_order::Users;
-use formula_core::{Formula, Shows, evaluate};
+use formula_core::{Formula, Shows, evaluate, evaluate_counted};
 use index_region::Delta;
 use indexmap::IndexMap;
 use indexmap::map::Keys;
@@ -328,12 +326,12 @@ impl Sheet {
         ensures refused { IfErr result (Refuses self.now.names (Store name (tree_of tree.now))) }
     {
         let mut meter = Meter::new();
-        let plan = plan_at_rest(self.alloc, &self.entries, tree, &mut meter)?;
-        let spent = plan.cost();
-        let change = plan.into_delta();
-        if let Some(fault) = error_in(&change) {
-            return Err(Refusal::Fault(fault));
-        }
+        let array = match evaluate_counted(self.alloc, tree, self, &mut meter)? {
+            Ok(array) => array,
+            Err(fault) => return Err(Refusal::Fault(fault)),
+        };
+        let spent = meter.ticks();
+        let change = Delta::Whole(Ok(array));
         self.propose(name, Proposal::Data(change), spent, meter)
     }
 
@@ -483,15 +481,5 @@ impl Sheet {
 
     pub(crate) fn alloc(&self) -> Global {
         self.alloc
-    }
-}
-
-/// The error that a change puts in the place of all.
-fn error_in(change: &Delta) -> Option<Fault>
-    ensures { MatchOption result ((e : FaultValue) → change.now ≡ Whole (Err e) → ⊥) (λ e. change.now ≡ Whole (Err e)) }
-{
-    match change {
-        Delta::Whole(Err(fault)) => Some(*fault),
-        Delta::Whole(Ok(_)) | Delta::Same | Delta::Patch(_) | Delta::Grown(_) => None,
     }
 }

@@ -1,16 +1,18 @@
 -- The totals of which one number of the line is new.
-use Rattle.std.proofs.Common.{◌≡◌, ℕ, ◌-◌, ◌*◌, ◌≤◌, Bool, true, false, ◌&&◌, is_ok, List, [], ◌∷◌, length, remove, Option, Some, None, Result, Ok, Err, IfOk, refl, ap, sym, subst, ◌∙◌, arith}
+use Rattle.std.proofs.Common.{◌≡◌, ℕ, ◌-◌, ◌*◌, ◌≤◌, Bool, true, false, ◌&&◌, not, is_ok, List, [], ◌∷◌, length, remove, Option, Some, None, Result, Ok, Err, IfOk, refl, ap, sym, subst, ◌∙◌, arith}
+use Rattle.std.specs.Prelude.{◌==◌}
 use Rattle.std.specs.declared.alloc.AllocError.{AllocError}
 use Rattle.std.proofs.lemmas.Bool.{cond-false, false≢true}
 use Rattle.arrays_core.specs.Arrays.{ArrayValue}
 use Rattle.arrays_core.specs.declared.item.Kind.{Kind}
 use Rattle.arrays_core.specs.declared.item.ItemType.{ItemType}
 use Rattle.operator_fns.specs.declared.reduce.Reduce.{Reduce}
-use Rattle.index_region.specs.Axes.{axis_at}
+use Rattle.index_region.specs.Axes.{axis_at, is_axis}
 use Rattle.index_region.specs.declared.along.Along.{Along}
 use Rattle.index_region.specs.Boxes.{Interval, box_size, met, unless_empty, join_boxes}
 use Rattle.index_region.specs.Checks.{Form, form_of}
 use Rattle.index_region.specs.Patches.{PatchValue, patched}
+use Rattle.index_region.specs.Tails.{TailValue}
 use Rattle.operator_fns.specs.Reduce.{reduce_form, reduce_item}
 use Rattle.operator_fns.specs.SumTrees.{TreesValue}
 use Rattle.operator_fns.proofs.Reduced.{reduce_facts}
@@ -20,8 +22,10 @@ use Rattle.change_core.specs.Reaches.{as_reach, reach_by, reach_of}
 use Rattle.change_core.proofs.Filling.{few_places}
 use Rattle.index_region.specs.declared.delta.Delta.{Delta}
 use Rattle.index_region.specs.declared.delta.Delta.TheVariants.{Same, Patch, Grown, Whole}
-use Rattle.change_rules.specs.Nodes.{Argument, all_patched_at_most, all_same, is_patched_at_most, is_same, is_error, moved_by, node_cost, node_delta, reached_cost, reached_delta, size_in}
-use Rattle.change_rules.specs.Outcomes.{Outcome}
+use Rattle.change_rules.specs.Nodes.{Argument, all_patched_at_most, all_same, is_patched_at_most, is_same, is_error, moved_by, node_cost, node_delta, node_grows, reached_cost, reached_delta, size_in}
+use Rattle.change_rules.specs.Outcomes.{Outcome, evaluation}
+use Rattle.change_core.specs.RuleModels.{form_size}
+use Rattle.operator_rules.specs.Growth.{is_along_a_later_axis}
 use Rattle.change_rules.proofs.Nodes.{delta_reached}
 use Rattle.change_core.specs.Meters.{ticked}
 use Rattle.sum_rules.specs.LineSums.{array_of, length_along}
@@ -104,14 +108,38 @@ folded fold arg held before after (Ok s) none cost counted = λ sound. record {
   folds = λ _. counted sound ∙ ap (λ k. ticked before (k * (length_along fold.along arg.0.shape - 1))) cost;
 }
 
--- the trees do not serve where no box changed
-pub not_patched : (axis : ℕ) (d : Delta) → ((p : PatchValue) → d ≡ Patch p → ⊥) → is_narrow axis d ≡ false
-not_patched _ (Patch p) none = absurd (none p refl)
-not_patched _ Same none = refl
-not_patched _ (Grown t) none = refl
-not_patched _ (Whole r) none = refl
+-- the trees do not serve where no box changed and the array did not grow
+pub not_patched : (axis : ℕ) (d : Delta) → ((p : PatchValue) → d ≡ Patch p → ⊥) → ((t : TailValue) → d ≡ Grown t → ⊥) → is_narrow axis d ≡ false
+not_patched _ (Patch p) none still = absurd (none p refl)
+not_patched _ Same none still = refl
+not_patched _ (Grown t) none still = absurd (still t refl)
+not_patched _ (Whole r) none still = refl
 
 -- nor where one of both is not so
 pub not_both : (a b : Bool) → b ≡ false → (a && b) ≡ false
 not_both true b none = none
 not_both false b none = refl
+
+-- ---- an argument that grew along the axis of its lines
+
+-- the totals do not grow by new lines then
+stay_as_many : (along : Along) (a : ArrayValue) → axis_at (length a.shape) along ≡ 0 → is_along_a_later_axis along a ≡ false
+stay_as_many along a first = not_both (is_axis (length a.shape) along) (not (axis_at (length a.shape) along == 0)) (ap (λ k. not (k == 0)) first)
+
+abbrev grown_to : Argument → TailValue → Argument
+grown_to arg tail = (arg.0, record { ref_ptr = arg.1.ref_ptr; now = Grown tail })
+
+-- so they are worked out as a whole
+pub delta_grown : (fold : Reduce) (arg : Argument) (tail : TailValue) (old : Outcome) → arg.1.now ≡ Grown tail → is_ok old ≡ true → axis_at (length arg.0.shape) fold.along ≡ 0
+    → node_delta (total_rule fold) (arg ∷ []) old ≡ Whole (evaluation (total_rule fold) (arg.0 ∷ []))
+delta_grown fold arg tail (Err e) is ok first = absurd (false≢true ok)
+delta_grown fold arg tail (Ok v) is ok first =
+    ap (λ (d : Delta). node_delta (total_rule fold) ((arg.0, record { ref_ptr = arg.1.ref_ptr; now = d }) ∷ []) (Ok v)) is
+    ∙ cond-false (node_grows (total_rule fold) (grown_to arg tail ∷ [])) _ _ (stay_as_many fold.along arg.0 first)
+
+pub cost_grown : (fold : Reduce) (arg : Argument) (tail : TailValue) (old : Outcome) → arg.1.now ≡ Grown tail → is_ok old ≡ true → axis_at (length arg.0.shape) fold.along ≡ 0
+    → node_cost (total_rule fold) (arg ∷ []) old ≡ form_size ((total_rule fold).form (arg.0 ∷ []))
+cost_grown fold arg tail (Err e) is ok first = absurd (false≢true ok)
+cost_grown fold arg tail (Ok v) is ok first =
+    ap (λ (d : Delta). node_cost (total_rule fold) ((arg.0, record { ref_ptr = arg.1.ref_ptr; now = d }) ∷ []) (Ok v)) is
+    ∙ cond-false (node_grows (total_rule fold) (grown_to arg tail ∷ [])) _ _ (stay_as_many fold.along arg.0 first)

@@ -16,11 +16,11 @@ use Rattle.sum_rules.specs.NewLines.{lines_behind, AreNewLinesOf, FitsSums}
 use Rattle.sum_rules.specs.declared.new_lines.Growth.TheVariants.{Places}
 use Rattle.sum_rules.proofs.Lines.{some_in_line}
 
-longer : (shape : List ℕ) → 0 < length shape → line_length 0 (one_longer shape) ≡ line_length 0 shape + 1
+pub longer : (shape : List ℕ) → 0 < length shape → line_length 0 (one_longer shape) ≡ line_length 0 shape + 1
 longer [] h = absurd (omega arith)
 longer (n ∷ shape) h = refl
 
-same_step : (shape : List ℕ) → line_step 0 (one_longer shape) ≡ line_step 0 shape
+pub same_step : (shape : List ℕ) → line_step 0 (one_longer shape) ≡ line_step 0 shape
 same_step [] = refl
 same_step (n ∷ shape) = refl
 

@@ -2,12 +2,13 @@
 use Rattle.std.proofs.Common.{◌≡◌, ℕ, zero, suc, ◌+◌, ◌-◌, ◌*◌, ◌/◌, ◌%◌, ◌<◌, ℤ, pos, List, [], ◌∷◌, ◌++◌, length, get_or, set, ap, sym, ◌∙◌, arith}
 use Rattle.std.proofs.lemmas.List.{length-append, length-set, set-append_left, set-append_right, get_or_append_left, get_or-append_right, get_or-set_same, ext_get_or}
 use Rattle.std.proofs.lemmas.List.Elements.{All-head, All-tail, All-get_or, All-set}
+use Rattle.std.proofs.Math.Nat.{mul-div_cancel}
 use Rattle.std.specs.List.{flat_map}
 use Rattle.std.proofs.lemmas.Nat.{div-add-mod', mod_below, div_below}
 use Rattle.scalar_fns.specs.Folds.{strided}
 use Rattle.scalar_fns.proofs.RightFolds.{length-strided, get_or-strided}
 use Rattle.operator_fns.specs.Strides.{line_start}
-use Rattle.operator_fns.specs.SumTrees.{line_through, numbers_through, with_number}
+use Rattle.operator_fns.specs.SumTrees.{line_through, numbers_of_line, numbers_through, with_number}
 use Rattle.sum_rules.specs.Totals.{AreAllAsLong, all_trees}
 
 abbrev pub all_numbers : List (List ℤ) → List ℤ
@@ -57,6 +58,32 @@ set_at count (line ∷ lines) (suc which) place none z h there below =
     ∙ sym (ap (λ k. set (line ++ all_numbers lines) k z) at
     ∙ set-append_right line (all_numbers lines) count (count + (which * count + place)) z here (omega arith)
     ∙ ap (λ k. line ++ set (all_numbers lines) k z) past)
+
+module _ (count : ℕ) (lines : List (List ℤ)) (line : ℕ) (each : AreAllAsLong count lines) (some : 0 < count) (below : line < length (all_numbers lines) / count) where
+  -- a line is there
+  pub line_below : line < length lines
+  line_below =
+      let all = length-all_numbers count lines each in
+      let many : length (all_numbers lines) / count ≡ length lines = ap (λ k. k / count) all ∙ mul-div_cancel (length lines) some in
+      omega (arith, below, many)
+
+  -- as all numbers tell it
+  pub line_told : numbers_of_line (all_trees count lines) line ≡ get_or lines line []
+  line_told =
+      let long : length (get_or lines line []) ≡ count = All-get_or (λ (l : List ℤ). length l ≡ count) lines line [] line_below each in
+      let block : line / 1 ≡ line = omega arith in
+      let none : line % 1 ≡ 0 = omega arith in
+      let one : count * 1 ≡ count = omega arith in
+      let sum : line * count + 0 ≡ line * count = omega arith in
+      let first : line_start 1 count line ≡ line * count = (λ i. block i * one i + none i) ∙ sum in
+      let size = length-strided (pos 0) (all_numbers lines) (line * count) 1 count in
+      ap (λ k. strided (pos 0) (all_numbers lines) k 1 count) first
+      ∙ ext_get_or (pos 0) (strided (pos 0) (all_numbers lines) (line * count) 1 count) (get_or lines line []) (size ∙ sym long) (λ k h.
+      let under : k < count = omega (arith, h, size) in
+      let at : line * count + k * 1 ≡ line * count + k = omega arith in
+      get_or-strided (pos 0) (all_numbers lines) (line * count) 1 count k (pos 0) under
+      ∙ ap (λ m. get_or (all_numbers lines) m (pos 0)) at
+      ∙ number_of_line count lines line k [] (pos 0) each line_below under)
 
 module _ (count : ℕ) (lines : List (List ℤ)) (place : ℕ) (z : ℤ) (each : AreAllAsLong count lines) (some : 0 < count) (below : place < length (all_numbers lines)) where
   -- the line in which the place lies

@@ -1,22 +1,28 @@
 -- The totals of the lines of an array whose sums are kept by trees.
-use Rattle.std.specs.Prelude.{◌≡◌, ℕ, ◌+◌, ◌-◌, ◌*◌, ◌<◌, ◌≤◌, ◌^◌, ℤ, nat_eq, Bool, true, false, ◌&&◌, is_ok, List, [], ◌∷◌, length, get_or, remove, All}
-use Rattle.std.specs.List.{flat_map}
+use Rattle.std.specs.Prelude.{◌≡◌, ℕ, ◌+◌, ◌-◌, ◌*◌, ◌<◌, ◌≤◌, ◌^◌, ℤ, pos, nat_eq, Bool, true, false, ◌&&◌, is_ok, List, [], ◌∷◌, ◌++◌, length, get_or, map, remove, All, Result}
+use Rattle.std.specs.List.{flat_map, range_with_len}
 use Rattle.scalar_fns.specs.declared.function.Scalar2.{Scalar2}
 use Rattle.scalar_fns.specs.declared.function.Scalar2.TheVariants.{Plus}
 use Rattle.arrays_core.specs.Arrays.{ArrayValue}
+use Rattle.arrays_core.specs.Growth.{grown_by}
+use Rattle.arrays_core.specs.declared.item.Item.{Item}
+use Rattle.arrays_core.specs.declared.item.Item.TheVariants.{Num}
+use Rattle.arrays_core.specs.declared.item.Kind.{Kind}
 use Rattle.index_region.specs.Axes.{is_axis, axis_at}
 use Rattle.index_region.specs.declared.along.Along.{Along}
 use Rattle.index_region.specs.declared.along.Along.TheVariants.{Last}
 use Rattle.index_region.specs.declared.delta.Delta.{Delta}
-use Rattle.index_region.specs.declared.delta.Delta.TheVariants.{Patch}
+use Rattle.index_region.specs.declared.delta.Delta.TheVariants.{Patch, Grown}
 use Rattle.index_region.specs.Boxes.{Interval, box_size}
 use Rattle.index_region.specs.Patches.{PatchValue, FitsPatch, patched}
+use Rattle.index_region.specs.Tails.{TailValue, FitsTail}
 use Rattle.change_core.specs.RuleModels.{RuleModel}
 use Rattle.change_rules.specs.Nodes.{Argument, node_cost}
 use Rattle.change_rules.specs.Outcomes.{Outcome}
 use Rattle.change_core.specs.Meters.{ticked}
 use Rattle.operator_fns.specs.declared.reduce.Reduce.{Reduce}
-use Rattle.operator_fns.specs.SumTrees.{TreesValue}
+use Rattle.operator_fns.specs.RightFold.{fold_right}
+use Rattle.operator_fns.specs.SumTrees.{TreesValue, numbers_of_line}
 use Rattle.operator_rules.specs.Reduce.{reduce_rule}
 use Rattle.sum_rules.specs.LineSums.{StandFor, length_along}
 
@@ -36,9 +42,18 @@ pub record StoodFor (along : Along) (t : TreesValue) (p : PatchValue) (now : Arr
   pub fit : FitsPatch before p
   pub is : now ≡ patched before p
 
--- where a box of the argument changed, the trees are of the function that folds its lines, and stand for what it was
-abbrev pub IsSummedUp : Reduce → Argument → Scalar2 → TreesValue → Type 0
-IsSummedUp fold arg function t = (p : PatchValue) → arg.1.now ≡ Patch p → (function ≡ fold.function) × StoodFor fold.along t p arg.0
+-- or before it grew by these items
+pub record StoodBefore (along : Along) (t : TreesValue) (tail : TailValue) (now : ArrayValue) : Type 0 where
+  pub before : ArrayValue
+  pub on_axis : is_axis (length before.shape) along ≡ true
+  pub lines : StandFor t (axis_at (length before.shape) along) before
+  pub fit : FitsTail before tail
+  pub is : now ≡ grown_by before tail.items
+
+-- where a box of the argument changed, or it grew, the trees are of the function that folds its lines, and stand for what it was
+pub record IsSummedUp (fold : Reduce) (arg : Argument) (function : Scalar2) (t : TreesValue) : Type 0 where
+  pub changed : (p : PatchValue) → arg.1.now ≡ Patch p → (function ≡ fold.function) × StoodFor fold.along t p arg.0
+  pub grew : (tail : TailValue) → arg.1.now ≡ Grown tail → (function ≡ fold.function) × StoodBefore fold.along t tail arg.0
 
 -- lists of numbers that are each as long
 abbrev pub AreAllAsLong : ℕ → List (List ℤ) → Type 0
@@ -48,13 +63,20 @@ AreAllAsLong count lines = All (λ line. length line ≡ count) lines
 abbrev pub all_trees : ℕ → List (List ℤ) → TreesValue
 all_trees count lines = record { count = count; step = 1; numbers = flat_map (λ line. line) lines }
 
--- where a box of the argument changed, these are the lines along the last axis of what it was
-abbrev pub IsSummedByLines : Argument → List (List ℤ) → Type 0
-IsSummedByLines arg lines = (p : PatchValue) → arg.1.now ≡ Patch p → AreAllAsLong (length_along Last arg.0.shape) lines × StoodFor Last (all_trees (length_along Last arg.0.shape) lines) p arg.0
+-- where a box of the argument changed, or it is a vector that grew, these are the lines along the last axis of what it was
+pub record IsSummedByLines (arg : Argument) (lines : List (List ℤ)) : Type 0 where
+  pub changed : (p : PatchValue) → arg.1.now ≡ Patch p → AreAllAsLong (length_along Last arg.0.shape) lines × StoodFor Last (all_trees (length_along Last arg.0.shape) lines) p arg.0
+  pub grew : (tail : TailValue) → arg.1.now ≡ Grown tail → length arg.0.shape ≡ 1
+      → AreAllAsLong (length_along Last arg.0.shape - 1) lines × StoodBefore Last (all_trees (length_along Last arg.0.shape - 1) lines) tail arg.0
 
--- how many items a patch makes new
+-- the totals of lines that get one of these numbers each behind their last one
+abbrev pub longer_totals : Scalar2 → TreesValue → (numbers : List ℤ) → List (Result Item Kind)
+longer_totals function t numbers = map (λ line. fold_right function (map (λ z. Num z) (numbers_of_line t line ++ get_or numbers line (pos 0) ∷ []))) (range_with_len 0 (length numbers))
+
+-- how many items a patch makes new, or are new where an array grew
 abbrev pub new_items : Delta → ℕ
 new_items (Patch p) = box_size p.region
+new_items (Grown t) = length t.items
 new_items _ = 0
 
 -- for each of so many new items of lines of this length, at most as many joins as the length less one has binary digits
@@ -81,9 +103,10 @@ is_one_a_line axis region = let s = get_or region axis (1, 0) in nat_eq s.0 s.1
 abbrev pub lines_of : ℕ → List Interval → List Interval
 lines_of axis region = remove region axis
 
--- the trees serve: the totals were an array, and the box that changed has one place a line
+-- the trees serve: the totals were an array, and the box that changed has one place a line, or each line got one more place
 abbrev pub is_narrow : ℕ → Delta → Bool
 is_narrow axis (Patch p) = is_one_a_line axis p.region
+is_narrow axis (Grown t) = nat_eq axis 0
 is_narrow axis _ = false
 
 abbrev pub is_by_trees : Along → Argument → Outcome → Bool

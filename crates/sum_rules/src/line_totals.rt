@@ -1,8 +1,8 @@
-//! Trees that tell the total of a line where one number of it is another.
+//! Trees that tell the total of a line where one number of it is another, or one more comes behind it.
 
-ghost use Rattle.std.specs.Prelude.{◌≡◌, ◌<◌, ◌-◌, ◌/◌, ◌%◌, length};
+ghost use Rattle.std.specs.Prelude.{◌≡◌, ◌<◌, ◌-◌, ◌/◌, ◌%◌, ◌++◌, ◌∷◌, [], length};
 ghost use Rattle.operator_fns.specs.SumTree.{IsWithinDigitsOf};
-ghost use Rattle.operator_fns.specs.SumTrees.{TreesValue, numbers_through, with_number};
+ghost use Rattle.operator_fns.specs.SumTrees.{TreesValue, line_count, numbers_of_line, numbers_through, with_number};
 ghost use Rattle.scalar_fns.specs.declared.function.Scalar2.{Scalar2 as Function};
 ghost use Rattle.scalar_fns.specs.declared.function.Scalar2.TheVariants.{Plus as Sum};
 ghost use Rattle.fold_trees.specs.FoldTrees.{IsReductionBy};
@@ -14,9 +14,9 @@ use operator_fns::SumTree;
 
 /// Trees of the lines of an array along one axis, which are folded by a function.
 pub trait LineTotals {
-    ghost use Rattle.std.specs.Prelude.{◌<◌, ◌-◌, length};
+    ghost use Rattle.std.specs.Prelude.{◌<◌, ◌-◌, ◌++◌, ◌∷◌, [], length};
     ghost use Rattle.operator_fns.specs.SumTree.{IsWithinDigitsOf};
-    ghost use Rattle.operator_fns.specs.SumTrees.{TreesValue, numbers_through, with_number};
+    ghost use Rattle.operator_fns.specs.SumTrees.{TreesValue, line_count, numbers_of_line, numbers_through, with_number};
     ghost use Rattle.scalar_fns.specs.declared.function.Scalar2.{Scalar2 as Function};
     ghost use Rattle.fold_trees.specs.FoldTrees.{IsReductionBy};
 
@@ -33,6 +33,12 @@ pub trait LineTotals {
         ensures total { IsReductionBy (function self.now) (numbers_through (with_number (trees self.now) place number) place) result.0 }
         ensures joins { IsWithinDigitsOf ((trees self.now).count - 1) result.1 }
         ensures some { 1 < (trees self.now).count → 0 < result.1 };
+
+    /// The total of a line and of one more number behind its last one, lines counted from 0, which takes one join of parts; or the error that
+    /// the fold from the right meets.
+    fn total_behind(&self, line: usize, number: i64) -> Result<i64, Kind>
+        requires { line < line_count (trees self.now) }
+        ensures { IsReductionBy (function self.now) (numbers_of_line (trees self.now) line ++ number ∷ []) result };
 }
 
 impl LineTotals for FoldTrees {
@@ -42,6 +48,10 @@ impl LineTotals for FoldTrees {
 
     fn total_with(&self, place: usize, number: i64) -> (Result<i64, Kind>, u32) {
         self.result_with(place, number)
+    }
+
+    fn total_behind(&self, line: usize, number: i64) -> Result<i64, Kind> {
+        self.result_behind(line, number)
     }
 }
 
@@ -61,5 +71,9 @@ impl<'a> LineTotals for TreeALine<'a> {
 
     fn total_with(&self, place: usize, number: i64) -> (Result<i64, Kind>, u32) {
         self.trees[place / self.count].result_with(place % self.count, number)
+    }
+
+    fn total_behind(&self, line: usize, number: i64) -> Result<i64, Kind> {
+        self.trees[line].result_behind(number)
     }
 }

@@ -2,8 +2,11 @@
 
 ghost use Rattle.std.specs.Prelude.{◌≡◌, ◌-◌, ◌+◌, ◌≤◌, ◌<◌, ◌∷◌, [], true, false, Some, length, map, IfOk, IsTrue};
 ghost use Rattle.arrays_core.specs.declared.item.Item.TheVariants.{Num};
-ghost use Rattle.arrays_core.specs.Items.{type_of};
+ghost use Rattle.arrays_core.specs.Arrays.{with_items, IsAnswerTo};
+ghost use Rattle.arrays_core.specs.Items.{all_or_first_error, type_of};
+ghost use Rattle.arrays_core.specs.Shapes.{size as size_of, IsWithinLimits};
 ghost use Rattle.arrays_core.specs.declared.item.ItemType.TheVariants.{Nums};
+ghost use Rattle.index_region.specs.declared.delta.Delta.TheVariants.{Whole};
 ghost use Rattle.index_region.specs.Arguments.{number_of};
 ghost use Rattle.index_region.specs.Axes.{is_axis as has_axis, axis_at as axis_meant};
 ghost use Rattle.index_region.specs.Boxes.{box_size};
@@ -11,21 +14,23 @@ ghost use Rattle.index_region.specs.Patches.{FitsPatch, patched};
 ghost use Rattle.operator_fns.specs.Reduce.{reduce_item};
 ghost use Rattle.operator_fns.specs.RightFold.{fold_right};
 ghost use Rattle.operator_fns.specs.SumTree.{IsWithinDigitsOf};
-ghost use Rattle.operator_fns.specs.SumTrees.{numbers_through, with_number};
+ghost use Rattle.operator_fns.specs.SumTrees.{line_count, numbers_through, with_number};
 ghost use Rattle.change_core.specs.Meters.{ticked, most_ticks};
 ghost use Rattle.change_core.specs.Parts.{HoldsItems, items_in};
 ghost use Rattle.change_core.specs.Reaches.{AllFit};
+ghost use Rattle.change_core.specs.RuleModels.{form_size};
+ghost use Rattle.change_rules.specs.Outcomes.{evaluation};
 ghost use Rattle.change_rules.specs.Nodes.{views, moved, is_error, node_delta, node_cost, reached_delta, reached_cost, patch_delta};
 ghost use Rattle.change_rules.specs.Currency.{BringsUpToDate, HasAxis, IsRight};
 ghost use Rattle.sum_rules.specs.LineSums.{StandFor, array_of, length_along as long_along};
-ghost use Rattle.sum_rules.specs.Totals.{total_rule, StoodFor, IsSummedUp, IsSummedByLines, AreJoinsWithin, AreJoinsFrom, AreFoldsWithin, AreFolds, HasJoins, HasAllJoins, is_one_a_line as has_one_a_line, lines_of, row_sums};
+ghost use Rattle.sum_rules.specs.Totals.{total_rule, longer_totals, StoodFor, StoodBefore, IsSummedUp, IsSummedByLines, AreJoinsWithin, AreJoinsFrom, AreFoldsWithin, AreFolds, HasJoins, HasAllJoins, is_one_a_line as has_one_a_line, lines_of, row_sums};
 
 use crate::line_sums::length_along;
 use crate::line_totals::{LineTotals, TreeALine};
 use arrays_core::{ApplyFault, Array, Fault, Item, ItemType, Kind, Shape, position, shape_of};
 use change_core::{Meter, Reach, Rule};
 use change_rules::refresh_with_cost;
-use index_region::{Along, Delta, IndexBox, Patch, Seen};
+use index_region::{Along, Delta, IndexBox, Patch, Seen, Tail};
 use operator_fns::{Reduce, SumTree};
 use operator_rules::Ruled;
 use scalar_fns::Scalar2;
@@ -170,6 +175,78 @@ fn patch_of<S: LineTotals>(
     }
 }
 
+/// The totals of lines that get one of these numbers each behind their last one, as an array of this shape, or the first error among
+/// them.
+fn totals_behind<S: LineTotals>(
+    alloc: Global,
+    shape: &Shape,
+    sums: &S,
+    numbers: &[i64],
+    meter: &mut Meter,
+) -> Result<Array, ApplyFault>
+    requires within { IsWithinLimits shape.now.items }
+    requires places { size_of shape.now.items ≡ length numbers.now }
+    requires some { 0 < length numbers.now }
+    requires lines { line_count (S.trees sums.now) ≡ length numbers.now }
+    ensures totals { IsAnswerTo (with_items Nums shape.now.items (all_or_first_error (longer_totals (S.function sums.now) (S.trees sums.now) numbers.now))) result }
+    ensures ticks { meter.new.ticks ≤ meter.old.ticks + length numbers.now }
+    ensures exact { IfOk result (λ _. meter.new.ticks ≡ ticked meter.old.ticks (length numbers.now)) }
+    ensures rises { meter.old.ticks ≤ meter.new.ticks }
+    ensures joins { meter.new.joins ≤ meter.old.joins + length numbers.now }
+    ensures least { IfOk result (λ _. ticked meter.old.joins (length numbers.now) ≤ meter.new.joins) }
+{
+    let mut totals = Array::filled(alloc, ItemType::Nums, shape)?;
+    for line in 0..numbers.len() {
+        let total = sums.total_behind(line, numbers[line]);
+        meter.tick();
+        meter.count_joins(1);
+        match total {
+            Ok(total) => totals.write_at(line as u32 + 1, Item::Num(total)),
+            Err(kind) => return Err(ApplyFault::Kind(kind)),
+        }
+    }
+    Ok(totals)
+}
+
+/// The change of the totals of an array that grew by one place of each line, where they were an array, and what it costs. It takes one
+/// join of parts a total.
+fn change_by_growth<S: LineTotals>(
+    alloc: Global,
+    fold: Reduce,
+    array: &Seen,
+    tail: &Tail,
+    sums: &S,
+    meter: &mut Meter,
+) -> Result<(Delta, u32), AllocError>
+    requires function { S.function sums.now ≡ fold.function }
+    requires lines { StoodBefore fold.along (S.trees sums.now) tail.now array.now }
+    requires first { axis_meant (length array.now.shape) fold.along ≡ 0 }
+    ensures delta { IfOk result (λ r. r.0 ≡ Whole (evaluation (total_rule fold) (array.now ∷ []))) }
+    ensures cost { IfOk result (λ r. r.1 ≡ form_size ((total_rule fold).form (array.now ∷ []))) }
+    ensures ticks { meter.new.ticks ≤ meter.old.ticks + form_size ((total_rule fold).form (array.now ∷ [])) }
+    ensures exact { IfOk result (λ r. is_error r.0 ≡ false → meter.new.ticks ≡ ticked meter.old.ticks r.1) }
+    ensures rises { meter.old.ticks ≤ meter.new.ticks }
+    ensures joins { AreJoinsWithin (length tail.now.items) (long_along fold.along array.now.shape) meter.old.joins meter.new.joins }
+    ensures least { IfOk result (λ r. is_error r.0 ≡ false → AreJoinsFrom (length tail.now.items) (long_along fold.along array.now.shape) meter.old.joins meter.new.joins) }
+{
+    let rule = Ruled { function: fold };
+    let form = match rule.shape(&[array.again()]) {
+        Ok(form) => form,
+        Err(kind) => return Ok((Delta::Whole(Err(Fault { kind, origin: None })), 0)),
+    };
+    let Some(numbers) = tail.values().numbers() else {
+        unreachable!()
+    };
+    let cost = numbers.len() as u32;
+    match totals_behind(alloc, &form.0, sums, numbers, meter) {
+        Ok(totals) => Ok((Delta::Whole(Ok(totals)), cost)),
+        Err(ApplyFault::Kind(kind)) => {
+            Ok((Delta::Whole(Err(Fault { kind, origin: None })), cost))
+        }
+        Err(ApplyFault::NoMemory) => Err(AllocError),
+    }
+}
+
 /// The change of the totals of B by a fold, as `refresh_with_cost` answers it, and what it costs: how many totals it works out at
 /// most. Each of these lines is folded, which joins as many numbers as the line has, less one.
 pub fn fold_totals_with_cost(
@@ -203,8 +280,8 @@ pub fn fold_totals_with_cost(
 
 /// The change of the totals of B by a fold, as `refresh_with_cost` answers it, and what it costs: how many totals it works out at
 /// most. Where the totals were an array and the box of B that changed has one place on their axis, each total comes from
-/// the tree of its line, in as many joins of parts as the length of the line less one has binary digits. In every other
-/// case the lines are folded.
+/// the tree of its line, in as many joins of parts as the length of the line less one has binary digits. So it does, in one join,
+/// where B grew along their axis. In every other case the lines are folded.
 pub fn refresh_totals_with_cost<S: LineTotals>(
     alloc: Global,
     fold: Reduce,
@@ -234,6 +311,11 @@ pub fn refresh_totals_with_cost<S: LineTotals>(
             // The count says that it is a number of 64 bits.
             let _counted = meter.ticks();
             return change_by_trees(alloc, fold, &array, patch, sums, meter);
+        }
+    }
+    if let Delta::Grown(tail) = delta {
+        if old.is_ok() && fold.along.axis_at(rank) == 0 {
+            return change_by_growth(alloc, fold, &array, tail, sums, meter);
         }
     }
     fold_totals_with_cost(alloc, fold, (array, delta), old, meter)
@@ -268,6 +350,13 @@ pub fn refresh_sums(
         let count = length_along(Along::Last, array.shape().as_slice()) as usize;
         let trees = TreeALine { count, trees: sums };
         return Ok(refresh_totals_with_cost(alloc, fold, (array, delta), old, &trees, meter)?.0);
+    }
+    if let Delta::Grown(_) = delta {
+        if array.shape().len() == 1 {
+            let count = length_along(Along::Last, array.shape().as_slice()) as usize - 1;
+            let trees = TreeALine { count, trees: sums };
+            return Ok(refresh_totals_with_cost(alloc, fold, (array, delta), old, &trees, meter)?.0);
+        }
     }
     Ok(fold_totals_with_cost(alloc, fold, (array, delta), old, meter)?.0)
 }

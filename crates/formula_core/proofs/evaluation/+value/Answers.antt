@@ -1,26 +1,147 @@
-use Rattle.std.proofs.Common.{◌≡◌, ◌+◌, ◌-◌, ◌<◌, length, get_or, drop, List, Some, None, Result, Ok, Err, IfOk, ◌∙◌, ap, sym, subst, map, rules}
-use Rattle.apl_expr.specs.Trees.{Tree, tree_of, position_of, positions_of}
+use Rattle.std.proofs.Common.{◌≡◌, ◌+◌, ◌-◌, ◌<◌, ◌≤◌, length, get_or, drop, List, Option, Some, None, Result, Ok, Err, is_ok, ◌∙◌, ap, sym, subst, map, arith, rules}
+use Rattle.std.proofs.lemmas.Bool.{false≢true}
+use Rattle.apl_expr.specs.declared.expr.Expr.{Expr}
+use Rattle.apl_expr.specs.Trees.{Tree, Monad, Dyad, Index, tree_of, position_of, positions_of}
 use Rattle.apl_expr.proofs.Rows.{tree_index}
 use Rattle.selection_fns.specs.Index.{Position}
 use Rattle.arrays_core.specs.declared.fault.Fault.{Fault}
+use Rattle.formula_core.specs.Counts.{cost_in, cost_in_positions, ArePositionsCounted, IsTreeCounted}
 use Rattle.formula_core.specs.Operands.{outcome_of, position_in, positions_in}
 use Rattle.formula_core.specs.Outcomes.{Outcome}
-use Rattle.formula_core.specs.Meaning.{eval, eval_positions, in_front, indexed}
-use Rattle.formula_core.proofs.Indexing.{value_written, error_stands, there}
+use Rattle.formula_core.specs.Meaning.{eval, eval_positions, applied1, applied2, indexed}
+use Rattle.formula_core.proofs.Counted.{monad_counted, dyad_counted, index_counted, index_cost, cost_from, cost_written, cost_empty, cost_left, failed_at}
+use Rattle.formula_core.proofs.Indexing.{there}
+use Rattle.formula_core.proofs.evaluation.+value.Goals.{position_operands-in-Some+in_ok-operand-in-Some+in-Ok, position_operands-in-None}
 use Rattle.formula_core.proofs.evaluation.+value.Goals as goal
 
-pub argument-returns-in_ok-operand-in-Index : goal.argument-returns-in_ok-operand-in-Index
-argument-returns-in_ok-operand-in-Index g t c =
-    let made = ap tree_of c.in-Index.is ∙ tree_index c.in-Index.operand c.in-Index.positions in
+pub argument-returns-in_ok-given-in-Monad-clause-counted : goal.argument-returns-in_ok-given-in-Monad-clause-counted
+argument-returns-in_ok-given-in-Monad-clause-counted g t c =
     let names = g.S.Shows.shows c.args.names.now in
-    let positions : positions_in c.in_ok-positions-in-Index.positions ≡ eval_positions (positions_of (map position_of c.in-Index.positions.items)) names = search rules in
-    let operand : outcome_of c.in_ok-operand-in-Index.operand ≡ eval (tree_of c.in-Index.operand.value) names = search rules in
-    subst (λ (x : Tree). IfOk c.apply_index.result (λ o. outcome_of o ≡ eval x names)) (sym made)
-    (subst (λ (ps : Result (List Position) Fault). IfOk c.apply_index.result (λ o. outcome_of o ≡ indexed ps (eval (tree_of c.in-Index.operand.value) names))) positions
-    (subst (λ (a : Outcome). IfOk c.apply_index.result (λ o. outcome_of o ≡ indexed (positions_in c.in_ok-positions-in-Index.positions) a)) operand c.apply_index.ensures))
+    let f = c.in-Monad.function in
+    let b = tree_of c.in-Monad.right.value in
+    let before = c.args.meter.now.ticks in
+    let now = c.argument.new.meter.ticks in
+    let after = c.counted.new.meter.ticks in
+    let made : tree_of c.args.tree.now ≡ Monad f b = ap tree_of c.in-Monad.is in
+    let first : IsTreeCounted names b before now (Ok c.in_ok-right-in-Monad.right) =
+    subst (λ (e : Expr). IsTreeCounted names (tree_of e) before now (Ok c.in_ok-right-in-Monad.right)) c.deref.ensures c.in_ok-right-in-Monad.ensures.counted in
+    let right : outcome_of c.in_ok-right-in-Monad.right ≡ eval b names = search rules in
+    let given : outcome_of c.in_ok-given-in-Monad.given ≡ applied1 f (outcome_of c.in_ok-right-in-Monad.right) = c.in_ok-given-in-Monad.ensures in
+    let is : outcome_of c.in_ok-given-in-Monad.given ≡ eval (Monad f b) names = given ∙ ap (applied1 f) right in
+    subst (λ (x : Tree). IsTreeCounted names x before after (Ok c.counted.result)) (sym made)
+    (monad_counted names f b before now after c.in_ok-right-in-Monad.right c.in_ok-given-in-Monad.given c.counted.result first is c.counted.ensures.items)
 
-pub position_operands-returns-in-Err : goal.position_operands-returns-in-Err
-position_operands-returns-in-Err g t c =
+pub argument-returns-in_ok-given-in-Dyad-clause-counted : goal.argument-returns-in_ok-given-in-Dyad-clause-counted
+argument-returns-in_ok-given-in-Dyad-clause-counted g t c =
+    let names = g.S.Shows.shows c.args.names.now in
+    let f = c.in-Dyad.function in
+    let a = tree_of c.in-Dyad.left.value in
+    let b = tree_of c.in-Dyad.right.value in
+    let before = c.args.meter.now.ticks in
+    let now = c.argument-in-Dyad.new.meter.ticks in
+    let then_now = c.argument-in-Dyad-2.new.meter.ticks in
+    let after = c.counted-in-Dyad.new.meter.ticks in
+    let made : tree_of c.args.tree.now ≡ Dyad f a b = ap tree_of c.in-Dyad.is in
+    let first : IsTreeCounted names b before now (Ok c.in_ok-right-in-Dyad.right) =
+    subst (λ (e : Expr). IsTreeCounted names (tree_of e) before now (Ok c.in_ok-right-in-Dyad.right)) c.deref-in-Dyad.ensures c.in_ok-right-in-Dyad.ensures.counted in
+    let second : IsTreeCounted names a now then_now (Ok c.in_ok-left-in-Dyad.left) =
+    subst (λ (e : Expr). IsTreeCounted names (tree_of e) now then_now (Ok c.in_ok-left-in-Dyad.left)) c.deref-in-Dyad-2.ensures c.in_ok-left-in-Dyad.ensures.counted in
+    let right : outcome_of c.in_ok-right-in-Dyad.right ≡ eval b names = search rules in
+    let left : outcome_of c.in_ok-left-in-Dyad.left ≡ eval a names = search rules in
+    let given : outcome_of c.in_ok-given-in-Dyad.given ≡ applied2 f (outcome_of c.in_ok-right-in-Dyad.right) (outcome_of c.in_ok-left-in-Dyad.left) = c.in_ok-given-in-Dyad.ensures in
+    let is : outcome_of c.in_ok-given-in-Dyad.given ≡ eval (Dyad f a b) names =
+    given ∙ ap (λ (o : Outcome). applied2 f o (outcome_of c.in_ok-left-in-Dyad.left)) right ∙ ap (applied2 f (eval b names)) left in
+    subst (λ (x : Tree). IsTreeCounted names x before after (Ok c.counted-in-Dyad.result)) (sym made)
+    (dyad_counted names f a b before now then_now after c.in_ok-right-in-Dyad.right c.in_ok-left-in-Dyad.left c.in_ok-given-in-Dyad.given c.counted-in-Dyad.result first second is c.counted-in-Dyad.ensures.items)
+
+pub argument-returns-in_err-positions-in-Index-clause-counted : goal.argument-returns-in_err-positions-in-Index-clause-counted
+argument-returns-in_err-positions-in-Index-clause-counted g t c =
+    let names = g.S.Shows.shows c.args.names.now in
+    let a = tree_of c.in-Index.operand.value in
+    let ps = positions_of (map position_of c.in-Index.positions.items) in
+    let made : tree_of c.args.tree.now ≡ Index a ps = ap tree_of c.in-Index.is ∙ tree_index c.in-Index.operand c.in-Index.positions in
+    let cost = ap (cost_in names) made ∙ index_cost names a ps in
+    let first : c.position_operands.new.meter.ticks ≤ c.args.meter.now.ticks + cost_in_positions names ps =
+    subst (λ (xs : List (Option Expr)). c.position_operands.new.meter.ticks ≤ c.args.meter.now.ticks + cost_in_positions names (positions_of (map position_of xs))) c.deref-in-Index.ensures.value c.position_operands.ensures.counted.most in
+    record { most = omega (arith, first, cost); least = search rules }
+
+pub argument-returns-in_err-operand-in-Index-clause-counted : goal.argument-returns-in_err-operand-in-Index-clause-counted
+argument-returns-in_err-operand-in-Index-clause-counted g t c =
+    let names = g.S.Shows.shows c.args.names.now in
+    let a = tree_of c.in-Index.operand.value in
+    let ps = positions_of (map position_of c.in-Index.positions.items) in
+    let made : tree_of c.args.tree.now ≡ Index a ps = ap tree_of c.in-Index.is ∙ tree_index c.in-Index.operand c.in-Index.positions in
+    let cost = ap (cost_in names) made ∙ index_cost names a ps in
+    let first : c.position_operands.new.meter.ticks ≤ c.args.meter.now.ticks + cost_in_positions names ps =
+    subst (λ (xs : List (Option Expr)). c.position_operands.new.meter.ticks ≤ c.args.meter.now.ticks + cost_in_positions names (positions_of (map position_of xs))) c.deref-in-Index.ensures.value c.position_operands.ensures.counted.most in
+    let second : c.argument-in-Index.new.meter.ticks ≤ c.position_operands.new.meter.ticks + cost_in names a =
+    subst (λ (e : Expr). c.argument-in-Index.new.meter.ticks ≤ c.position_operands.new.meter.ticks + cost_in names (tree_of e)) c.deref-in-Index-2.ensures c.argument-in-Index.ensures.counted.most in
+    record { most = omega (arith, first, second, cost); least = search rules }
+
+pub argument-returns-in_err-given-in-Index-clause-counted : goal.argument-returns-in_err-given-in-Index-clause-counted
+argument-returns-in_err-given-in-Index-clause-counted g t c =
+    let names = g.S.Shows.shows c.args.names.now in
+    let a = tree_of c.in-Index.operand.value in
+    let ps = positions_of (map position_of c.in-Index.positions.items) in
+    let made : tree_of c.args.tree.now ≡ Index a ps = ap tree_of c.in-Index.is ∙ tree_index c.in-Index.operand c.in-Index.positions in
+    let cost = ap (cost_in names) made ∙ index_cost names a ps in
+    let first : c.position_operands.new.meter.ticks ≤ c.args.meter.now.ticks + cost_in_positions names ps =
+    subst (λ (xs : List (Option Expr)). c.position_operands.new.meter.ticks ≤ c.args.meter.now.ticks + cost_in_positions names (positions_of (map position_of xs))) c.deref-in-Index.ensures.value c.position_operands.ensures.counted.most in
+    let second : c.argument-in-Index.new.meter.ticks ≤ c.position_operands.new.meter.ticks + cost_in names a =
+    subst (λ (e : Expr). c.argument-in-Index.new.meter.ticks ≤ c.position_operands.new.meter.ticks + cost_in names (tree_of e)) c.deref-in-Index-2.ensures c.argument-in-Index.ensures.counted.most in
+    record { most = omega (arith, first, second, cost); least = search rules }
+
+pub argument-returns-in_ok-given-in-Index-clause-value : goal.argument-returns-in_ok-given-in-Index-clause-value
+argument-returns-in_ok-given-in-Index-clause-value g t c =
+    let names = g.S.Shows.shows c.args.names.now in
+    let a = tree_of c.in-Index.operand.value in
+    let ps = positions_of (map position_of c.in-Index.positions.items) in
+    let made : tree_of c.args.tree.now ≡ Index a ps = ap tree_of c.in-Index.is ∙ tree_index c.in-Index.operand c.in-Index.positions in
+    let positions : positions_in c.in_ok-positions-in-Index.positions ≡ eval_positions ps names = search rules in
+    let operand : outcome_of c.in_ok-operand-in-Index.operand ≡ eval a names = search rules in
+    let given : outcome_of c.in_ok-given-in-Index.given ≡ indexed (positions_in c.in_ok-positions-in-Index.positions) (outcome_of c.in_ok-operand-in-Index.operand) = c.in_ok-given-in-Index.ensures in
+    ap outcome_of c.counted-in-Index.ensures.same ∙ given
+    ∙ ap (λ (r : Result (List Position) Fault). indexed r (outcome_of c.in_ok-operand-in-Index.operand)) positions ∙ ap (indexed (eval_positions ps names)) operand
+    ∙ ap (λ (x : Tree). eval x names) (sym made)
+
+pub argument-returns-in_ok-given-in-Index-clause-counted : goal.argument-returns-in_ok-given-in-Index-clause-counted
+argument-returns-in_ok-given-in-Index-clause-counted g t c =
+    let names = g.S.Shows.shows c.args.names.now in
+    let a = tree_of c.in-Index.operand.value in
+    let ps = positions_of (map position_of c.in-Index.positions.items) in
+    let before = c.args.meter.now.ticks in
+    let now = c.position_operands.new.meter.ticks in
+    let then_now = c.argument-in-Index.new.meter.ticks in
+    let after = c.counted-in-Index.new.meter.ticks in
+    let made : tree_of c.args.tree.now ≡ Index a ps = ap tree_of c.in-Index.is ∙ tree_index c.in-Index.operand c.in-Index.positions in
+    let first : ArePositionsCounted names ps before now (Ok c.in_ok-positions-in-Index.positions) =
+    subst (λ (xs : List (Option Expr)). ArePositionsCounted names (positions_of (map position_of xs)) before now (Ok c.in_ok-positions-in-Index.positions))
+    c.deref-in-Index.ensures.value c.in_ok-positions-in-Index.ensures.counted in
+    let second : IsTreeCounted names a now then_now (Ok c.in_ok-operand-in-Index.operand) =
+    subst (λ (e : Expr). IsTreeCounted names (tree_of e) now then_now (Ok c.in_ok-operand-in-Index.operand)) c.deref-in-Index-2.ensures c.in_ok-operand-in-Index.ensures.counted in
+    let positions : positions_in c.in_ok-positions-in-Index.positions ≡ eval_positions ps names = search rules in
+    let operand : outcome_of c.in_ok-operand-in-Index.operand ≡ eval a names = search rules in
+    let given : outcome_of c.in_ok-given-in-Index.given ≡ indexed (positions_in c.in_ok-positions-in-Index.positions) (outcome_of c.in_ok-operand-in-Index.operand) = c.in_ok-given-in-Index.ensures in
+    let is : outcome_of c.in_ok-given-in-Index.given ≡ eval (Index a ps) names =
+    given ∙ ap (λ (r : Result (List Position) Fault). indexed r (outcome_of c.in_ok-operand-in-Index.operand)) positions ∙ ap (indexed (eval_positions ps names)) operand in
+    subst (λ (x : Tree). IsTreeCounted names x before after (Ok c.counted-in-Index.result)) (sym made)
+    (index_counted names a ps before now then_now after c.in_ok-positions-in-Index.positions c.in_ok-operand-in-Index.operand c.in_ok-given-in-Index.given c.counted-in-Index.result first second is c.counted-in-Index.ensures.items)
+
+pub position_operands-returns-in_err-operand-in-Some-clause-counted : goal.position_operands-returns-in_err-operand-in-Some-clause-counted
+position_operands-returns-in_err-operand-in-Some-clause-counted g t c =
+    let names = g.S.Shows.shows c.args.names.now in
+    let ps = c.args.positions.now in
+    let k = c.loop-k.k - 1 in
+    let below : k < length ps = search rules in
+    let next : k + 1 ≡ c.loop-k.k = search rules in
+    let is : get_or ps k None ≡ Some c.in-Some.tree = there ps k c.index-positions-k.result below c.index-positions-k.is ∙ c.in-Some.is in
+    record {
+      most = omega (arith, c.loop-k.invariant.most, c.argument.ensures.counted.most, cost_written names ps k c.in-Some.tree below is, ap (cost_from names ps) next, cost_left names ps k);
+      least = search rules;
+    }
+
+pub position_operands-returns-in-Err-clause-values : goal.position_operands-returns-in-Err-clause-values
+position_operands-returns-in-Err-clause-values g t c =
     let names = g.S.Shows.shows c.args.names.now in
     let ps = c.args.positions.now in
     let k = c.loop-k.k - 1 in
@@ -28,5 +149,36 @@ position_operands-returns-in-Err g t c =
     let next : k + 1 ≡ c.loop-k.k = search rules in
     let is : get_or ps k None ≡ Some c.in-Some.tree = there ps k c.index-positions-k.result below c.index-positions-k.is ∙ c.in-Some.is in
     let failed : eval (tree_of c.in-Some.tree) names ≡ Err c.in-Err.fault = search rules in
-    let later : eval_positions (positions_of (map position_of (drop (k + 1) ps))) names ≡ Ok (map position_in c.loop-k.operands.items) = rw next (sym c.loop-k.invariant.so_far) in
-    sym (error_stands names ps k c.in-Err.fault (value_written names ps k c.in-Some.tree below is ∙ ap (λ (a : Outcome). in_front a (eval_positions (positions_of (map position_of (drop (k + 1) ps))) names)) failed ∙ ap (λ (rest : Result (List Position) Fault). in_front (Err c.in-Err.fault) rest) later))
+    let later : Ok (map position_in c.loop-k.operands.items) ≡ eval_positions (positions_of (map position_of (drop (k + 1) ps))) names = rw next c.loop-k.invariant.so_far in
+    sym (failed_at names ps k c.in-Some.tree c.in-Err.fault (map position_in c.loop-k.operands.items) below is failed later)
+
+pub position_operands-returns-in-Err-clause-counted : goal.position_operands-returns-in-Err-clause-counted
+position_operands-returns-in-Err-clause-counted g t c =
+    let names = g.S.Shows.shows c.args.names.now in
+    let ps = c.args.positions.now in
+    let k = c.loop-k.k - 1 in
+    let below : k < length ps = search rules in
+    let next : k + 1 ≡ c.loop-k.k = search rules in
+    let is : get_or ps k None ≡ Some c.in-Some.tree = there ps k c.index-positions-k.result below c.index-positions-k.is ∙ c.in-Some.is in
+    let failed : eval (tree_of c.in-Some.tree) names ≡ Err c.in-Err.fault = search rules in
+    let later : Ok (map position_in c.loop-k.operands.items) ≡ eval_positions (positions_of (map position_of (drop (k + 1) ps))) names = rw next c.loop-k.invariant.so_far in
+    let all = failed_at names ps k c.in-Some.tree c.in-Err.fault (map position_in c.loop-k.operands.items) below is failed later in
+    record {
+      most = omega (arith, c.loop-k.invariant.most, c.argument.ensures.counted.most, cost_written names ps k c.in-Some.tree below is, ap (cost_from names ps) next, cost_left names ps k);
+      least = λ h. absurd (false≢true (ap is_ok (sym all) ∙ h));
+    }
+
+pub position_operands-returns-in_err-insert-clause-counted : goal.position_operands-returns-in_err-insert-clause-counted
+position_operands-returns-in_err-insert-clause-counted g t c =
+    let names = g.S.Shows.shows c.args.names.now in
+    let ps = c.args.positions.now in
+    let k = c.loop-k.k - 1 in
+    let below : k < length ps = search rules in
+    let next : k + 1 ≡ c.loop-k.k = search rules in
+    let at = there ps k c.index-positions-k.result below c.index-positions-k.is in
+    let now : c.match-positions-k.meter.ticks ≤ c.args.meter.now.ticks + cost_from names ps k =
+    elim c.match-positions-k.branch [
+      | position_operands-in-Some+in_ok-operand-in-Some+in-Ok w ↦ omega (arith, c.loop-k.invariant.most, w.argument.ensures.counted.most, cost_written names ps k w.in-Some.tree below (at ∙ w.in-Some.is), ap (cost_from names ps) next, ap (λ m. m.ticks) w.meter-is)
+      | position_operands-in-None w ↦ omega (arith, c.loop-k.invariant.most, cost_empty names ps k below (at ∙ w.in-None.is), ap (cost_from names ps) next, ap (λ m. m.ticks) w.meter-is)
+    ] in
+    record { most = omega (arith, now, cost_left names ps k); least = search rules }

@@ -1,29 +1,39 @@
-use Rattle.std.proofs.Common.{◌≡◌, ◌∙◌, length, true, false, Ok, Some, None, Option, IfOk, [], ◌∷◌, sym, ap, subst}
+use Rattle.std.proofs.Common.{◌≡◌, ◌∙◌, false, Ok, Some, None, Option, IfOk, [], ◌∷◌, sym, ap, subst}
 use Rattle.arrays_core.specs.Arrays.{ArrayValue}
-use Rattle.arrays_core.specs.declared.item.ItemType.TheVariants.{Nums}
 use Rattle.change_rules.specs.Nodes.{is_error}
-use Rattle.index_region.specs.Axes.{axis_at}
 use Rattle.sum_rules.specs.LineSums.{SummedValue, length_along}
-use Rattle.sum_rules.specs.Totals.{AreFolds, AreFoldsWithin, HasAllJoins, HasJoins, StoodFor, is_narrow, total_rule}
+use Rattle.sum_rules.specs.Totals.{AreFolds, AreFoldsWithin, HasAllJoins, HasJoins, StoodBefore, StoodFor, total_rule}
 use Rattle.formula_core.specs.declared.input.Input.{Input}
 use Rattle.formula_core.specs.Changes.{FitsNow, operation_cost}
 use Rattle.formula_core.specs.Inputs.{shown, delta_of, HasFit}
 use Rattle.formula_core.specs.Outcomes.{Outcome}
 use Rattle.formula_core.specs.Stages.{AreTotalsJoined}
-use Rattle.formula_core.specs.Sums.{AreSumsKept, WasPatched}
-use Rattle.formula_core.proofs.Summed.{kept_of, stood_for}
-use Rattle.formula_core.proofs.Totalled.{narrow_patch, totalled_by_folds, totalled_by_trees}
+use Rattle.formula_core.specs.Sums.{AreSumsKept, IsSummedFor, WasGrown, WasPatched}
+use Rattle.formula_core.proofs.Summed.{kept_of, stood_before, stood_for}
+use Rattle.formula_core.proofs.Totalled.{totalled_by_folds, totalled_by_trees}
 use Rattle.formula_core.proofs.operation_change.change_of_total.Goals as goal
 
 pub refresh_totals_with_cost-requires-clause-sums : goal.refresh_totals_with_cost-requires-clause-sums
-refresh_totals_with_cost-requires-clause-sums c p is =
+refresh_totals_with_cost-requires-clause-sums c =
     let fold = c.args.fold in
-    let was = c.requires.kept p c.in-Some.sums (ap delta_of c.in-Good.is ∙ is) c.in-Some.is in
-    let here : WasPatched fold (Ok c.in-Good.array) p c.in-Some.sums = subst (λ (o : Outcome). WasPatched fold o p c.in-Some.sums) (ap shown c.in-Good.is) was in
-    let folded = (kept_of fold (Ok c.in-Some.sums.array) c.in-Some.sums (sym here.lines)).folded in (
-      c.trees.ensures.function ∙ folded,
-      subst (λ (a : ArrayValue). StoodFor fold.along c.trees.result.now.lines p a) (sym c.again.ensures) (stood_for fold c.in-Good.array p c.in-Some.sums c.trees.result.now.lines here c.trees.ensures.lines),
-    )
+    let sums = c.in-Some.sums in
+    let trees = c.trees.result.now.lines in
+    record {
+      changed = λ p is.
+          let was = c.requires.kept.changed p sums (ap delta_of c.in-Good.is ∙ is) c.in-Some.is in
+          let here : WasPatched fold (Ok c.in-Good.array) p sums = subst (λ (o : Outcome). WasPatched fold o p sums) (ap shown c.in-Good.is) was in
+          let folded = (kept_of fold (Ok sums.array) sums (sym here.lines)).folded in (
+            c.trees.ensures.function ∙ folded,
+            subst (λ (a : ArrayValue). StoodFor fold.along trees p a) (sym c.again.ensures) (stood_for fold c.in-Good.array p sums trees here c.trees.ensures.lines),
+          );
+      grew = λ t is.
+          let was = c.requires.kept.grew t sums (ap delta_of c.in-Good.is ∙ is) c.in-Some.is in
+          let here : WasGrown fold (Ok c.in-Good.array) t sums = subst (λ (o : Outcome). WasGrown fold o t sums) (ap shown c.in-Good.is) was in
+          let folded = (kept_of fold (Ok sums.array) sums (sym here.lines)).folded in (
+            c.trees.ensures.function ∙ folded,
+            subst (λ (a : ArrayValue). StoodBefore fold.along trees t a) (sym c.again.ensures) (stood_before fold c.in-Good.array t sums trees here c.trees.ensures.lines),
+          );
+    }
 
 pub returns-in-Some-clause-joins : goal.returns-in-Some-clause-joins
 returns-in-Some-clause-joins c = λ well.
@@ -36,18 +46,12 @@ returns-in-Some-clause-joins c = λ well.
     let after = c.refresh_totals_with_cost.new.meter.joins in
     let r = c.refresh_totals_with_cost.result in
     let fit : FitsNow delta.now (Ok a) = subst HasFit c.in-Good.is c.requires.fit in
-    let seen : AreSumsKept fold (Ok a) delta.now c.args.kept.now = subst (λ (i : Input). AreSumsKept fold (shown i) (delta_of i) c.args.kept.now) c.in-Good.is well in
-    let some : AreSumsKept fold (Ok a) delta.now (Some sums) = subst (λ (k : Option SummedValue). AreSumsKept fold (Ok a) delta.now k) c.in-Some.is seen in
-    let numbers : is_narrow (axis_at (length a.shape) fold.along) delta.now ≡ true → a.item_type ≡ Nums = λ narrow.
-    let p = narrow_patch (axis_at (length a.shape) fold.along) delta.now narrow in
-    let was = c.requires.kept p.0 sums (ap delta_of c.in-Good.is ∙ p.1) c.in-Some.is in
-    let here : WasPatched fold (Ok a) p.0 sums = subst (λ (o : Outcome). WasPatched fold o p.0 sums) (ap shown c.in-Good.is) was in
-    let stood = stood_for fold a p.0 sums c.trees.result.now.lines here c.trees.ensures.lines in
-    ap (λ (x : ArrayValue). x.item_type) stood.is ∙ ap (λ (x : ArrayValue). x.item_type) stood.lines.is in
+    let seen : IsSummedFor fold (Ok a) delta.now c.args.kept.now = subst (λ (i : Input). IsSummedFor fold (shown i) (delta_of i) c.args.kept.now) c.in-Good.is c.requires.kept in
+    let some : IsSummedFor fold (Ok a) delta.now (Some sums) = subst (λ (k : Option SummedValue). IsSummedFor fold (Ok a) delta.now k) c.in-Some.is seen in
     let joins : HasJoins fold (a, delta) held before after = subst (λ (x : ArrayValue). HasJoins fold (x, delta) held before after) c.again.ensures c.refresh_totals_with_cost.ensures.joins in
     let all : IfOk r (λ s. is_error s.0 ≡ false → HasAllJoins fold (a, delta) held before after) =
     subst (λ (x : ArrayValue). IfOk r (λ s. is_error s.0 ≡ false → HasAllJoins fold (x, delta) held before after)) c.again.ensures c.refresh_totals_with_cost.ensures.least in
-    subst (λ (i : Input). AreTotalsJoined fold i held before after r) (sym c.in-Good.is) (totalled_by_trees fold a delta held before after r fit sums some numbers joins all)
+    subst (λ (i : Input). AreTotalsJoined fold i held before after r) (sym c.in-Good.is) (totalled_by_trees fold a delta held before after r fit sums some joins all)
 
 pub returns-in-None-clause-joins : goal.returns-in-None-clause-joins
 returns-in-None-clause-joins c = λ well.

@@ -1,0 +1,39 @@
+-- How far a meter rises where an expression is worked out once.
+use Rattle.std.specs.Prelude.{◌≡◌, ℕ, ◌+◌, ◌≤◌, List, Result, OnOk, IsOk, MatchResult}
+use Rattle.std.specs.List.{sum_by}
+use Rattle.std.specs.declared.alloc.AllocError.{AllocError}
+use Rattle.apl_expr.specs.Trees.{Tree, Positions}
+use Rattle.arrays_core.specs.Shapes.{size}
+use Rattle.arrays_core.specs.declared.fault.Fault.{Fault}
+use Rattle.change_core.specs.Meters.{ticked}
+use Rattle.formula_core.specs.declared.evaluation.Operand.{Operand}
+use Rattle.formula_core.specs.Changes.{size_at}
+use Rattle.formula_core.specs.Meaning.{eval, eval_positions}
+use Rattle.formula_core.specs.Operands.{array_in}
+use Rattle.formula_core.specs.Outcomes.{Outcome}
+use Rattle.formula_core.specs.Tables.{inside, inside_positions}
+
+-- what the functions in a tree cost, where the names show these: for each the size of its result
+abbrev pub cost_in : (List ℕ → Outcome) → Tree → ℕ
+cost_in names t = sum_by (size_at names) (inside t)
+
+-- and those in positions
+abbrev pub cost_in_positions : (List ℕ → Outcome) → Positions → ℕ
+cost_in_positions names ps = sum_by (size_at names) (inside_positions ps)
+
+-- at most so much is counted, also where memory is refused, and no less where nothing has failed
+pub record IsCounted {A : Type 0} (cost : ℕ) (Given : Type 0) (before after : ℕ) (r : Result A AllocError) : Type 0 where
+  pub most : after ≤ before + cost
+  pub least : OnOk r (Given → ticked before cost ≤ after)
+
+-- what a tree costs is counted, and nothing has failed in it where it gives an array
+abbrev pub IsTreeCounted : {A : Type 0} → (List ℕ → Outcome) → Tree → (before after : ℕ) → Result A AllocError → Type 0
+IsTreeCounted names t before after r = IsCounted (cost_in names t) (IsOk (eval t names)) before after r
+
+-- so it is with what positions cost
+abbrev pub ArePositionsCounted : {A : Type 0} → (List ℕ → Outcome) → Positions → (before after : ℕ) → Result A AllocError → Type 0
+ArePositionsCounted names ps before after r = IsCounted (cost_in_positions names ps) (IsOk (eval_positions ps names)) before after r
+
+-- the items of what a function gave are counted, and nothing is where it failed
+abbrev pub AreItemsCounted : Result Operand Fault → (before after : ℕ) → Type 0
+AreItemsCounted gives before after = MatchResult gives (λ operand. after ≡ ticked before (size (array_in operand).shape)) (λ fault. after ≡ before)

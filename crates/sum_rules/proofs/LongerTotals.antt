@@ -1,0 +1,212 @@
+-- The totals of lines that got one more number each.
+use Rattle.std.proofs.Common.{◌≡◌, ◌∙◌, ℕ, zero, suc, ◌+◌, ◌-◌, ◌*◌, ◌/◌, ◌<◌, ◌≤◌, ℤ, pos, List, [], ◌∷◌, ◌++◌, length, drop, get_or, map, remove, refl, ap, sym, subst, arith, inl, inr, Result, Ok}
+use Rattle.std.specs.List.{range_with_len}
+use Rattle.std.proofs.lemmas.Bool.{cases_lt}
+use Rattle.std.proofs.lemmas.List.{ext_get_or, length-append, length-map, map-append, get_or_append_left, get_or-append_right}
+use Rattle.std.proofs.lemmas.List.FromFn.{length-map-range_with_len, get_or-map-range_with_len}
+use Rattle.std.proofs.Math.ListN.{get_or-map}
+use Rattle.std.proofs.Math.Nat.{div-eq_of_lt, mod-eq_of_lt, mul-div_cancel, mul-le-mul_left}
+use Rattle.std.proofs.lemmas.Nat.{mul-add-lt}
+use Rattle.arrays_core.specs.declared.item.Item.{Item}
+use Rattle.arrays_core.specs.declared.item.Item.TheVariants.{Num}
+use Rattle.arrays_core.specs.declared.item.ItemType.{ItemType}
+use Rattle.arrays_core.specs.declared.item.ItemType.TheVariants.{Nums}
+use Rattle.arrays_core.specs.declared.item.Kind.{Kind}
+use Rattle.arrays_core.specs.Arrays.{ArrayValue, with_items}
+use Rattle.arrays_core.specs.Growth.{one_longer}
+use Rattle.arrays_core.specs.Items.{all_or_first_error}
+use Rattle.arrays_core.specs.Shapes.{size, indices, places_before}
+use Rattle.arrays_core.proofs.Growing.{rank_longer, size_longer}
+use Rattle.arrays_core.proofs.Order.{length-indices, get_or-indices, places_before-index_after}
+use Rattle.arrays_core.proofs.Shapes.{places_below}
+use Rattle.scalar_fns.specs.declared.function.Scalar2.{Scalar2}
+use Rattle.scalar_fns.specs.Folds.{strided, folded}
+use Rattle.scalar_fns.specs.Items.{number_item}
+use Rattle.scalar_fns.specs.Numbers.{dyadic_on_numbers}
+use Rattle.scalar_fns.proofs.RightFolds.{length-strided, get_or-strided}
+use Rattle.index_region.specs.Axes.{axis_at, is_axis}
+use Rattle.index_region.specs.Checks.{form_of}
+use Rattle.index_region.specs.Tails.{TailValue}
+use Rattle.operator_fns.specs.Reduce.{reduce_form, reduce_whole}
+use Rattle.operator_fns.specs.RightFold.{fold_right}
+use Rattle.operator_fns.specs.Strides.{line_start}
+use Rattle.operator_fns.specs.SumTrees.{TreesValue, line_count, numbers_of_line}
+use Rattle.operator_fns.specs.declared.reduce.Reduce.{Reduce}
+use Rattle.operator_fns.proofs.Placewise.{collected_same}
+use Rattle.operator_fns.proofs.Reduced.{reduce_facts, reduced_whole}
+use Rattle.fold_trees.proofs.TreeFolds.{fold_of_numbers}
+use Rattle.sum_rules.specs.LineSums.{StandFor, length_along, line_length, line_step}
+use Rattle.sum_rules.specs.Totals.{StoodBefore, AreJoinsWithin, longer_totals}
+use Rattle.sum_rules.proofs.KeptSums.{along_axis}
+use Rattle.sum_rules.proofs.Lines.{some_in_line, some_step}
+use Rattle.sum_rules.proofs.MorePlaces.{between, longer, same_step}
+
+-- the total of one of them
+abbrev pub longer_total : Scalar2 → TreesValue → List ℤ → ℕ → Result Item Kind
+longer_total f t numbers line = fold_right f (map (λ (z : ℤ). Num z) (numbers_of_line t line ++ get_or numbers line (pos 0) ∷ []))
+
+-- items that are given by places lie in their order
+items_by_place : (shape : List ℕ) (f : ℕ → Result Item Kind) → map (λ index. f (places_before shape index)) (indices shape) ≡ map f (range_with_len 0 (size shape))
+items_by_place shape f =
+    let rule = λ (index : List ℕ). f (places_before shape index) in
+    let n = length-map (indices shape) rule ∙ length-indices shape in
+    let m = length-map-range_with_len f 0 (size shape) in
+    ext_get_or (rule []) (map rule (indices shape)) (map f (range_with_len 0 (size shape))) (n ∙ sym m) (λ i h.
+    let below : i < size shape = omega (arith, h, n) in
+    get_or-map rule (indices shape) i []
+    ∙ ap rule (get_or-indices shape i below)
+    ∙ ap f (places_before-index_after shape i below)
+    ∙ sym (get_or-map-range_with_len f 0 (size shape) i i (rule []) below (omega arith)))
+
+-- where all lines lie between one another, one begins at its own place
+first_of_line : (step count line : ℕ) → line < step → line_start step count line ≡ line
+first_of_line step count line below =
+    let block = div-eq_of_lt below in
+    let rest = mod-eq_of_lt below in
+    (λ i. block i * (count * step) + rest i) ∙ omega arith
+
+-- its numbers with the one behind them
+line_longer : (t : TreesValue) (numbers : List ℤ) (line : ℕ) → 0 < t.step → length t.numbers ≡ t.count * t.step → line < t.step
+    → numbers_of_line t line ++ get_or numbers line (pos 0) ∷ [] ≡ strided (pos 0) (t.numbers ++ numbers) (line_start t.step (t.count + 1) line) t.step (t.count + 1)
+line_longer t numbers line apart all below =
+    ext_get_or (pos 0) (old ++ z ∷ []) new (length-append old (z ∷ []) ∙ ap (λ k. k + 1) old_long ∙ sym new_long) at
+  where
+    z : ℤ
+    z = get_or numbers line (pos 0)
+
+    old : List ℤ
+    old = numbers_of_line t line
+
+    new : List ℤ
+    new = strided (pos 0) (t.numbers ++ numbers) (line_start t.step (t.count + 1) line) t.step (t.count + 1)
+
+    old_long : length old ≡ t.count
+    old_long = length-strided (pos 0) t.numbers (line_start t.step t.count line) t.step t.count
+
+    new_long : length new ≡ t.count + 1
+    new_long = length-strided (pos 0) (t.numbers ++ numbers) (line_start t.step (t.count + 1) line) t.step (t.count + 1)
+
+    there : (i : ℕ) → i < t.count + 1 → get_or new i (pos 0) ≡ get_or (t.numbers ++ numbers) (line + i * t.step) (pos 0)
+    there i h =
+        get_or-strided (pos 0) (t.numbers ++ numbers) (line_start t.step (t.count + 1) line) t.step (t.count + 1) i (pos 0) h
+        ∙ ap (λ k. get_or (t.numbers ++ numbers) (k + i * t.step) (pos 0)) (first_of_line t.step (t.count + 1) line below)
+
+    at : (i : ℕ) → i < length (old ++ z ∷ []) → get_or (old ++ z ∷ []) i (pos 0) ≡ get_or new i (pos 0)
+    at i h = elim (cases_lt i t.count) [
+      | inl p ↦
+          let product = mul-add-lt i t.step line t.count p below in
+          let inside : line + i * t.step < length t.numbers = omega (arith, product, all) in
+          get_or_append_left old (z ∷ []) (pos 0) i (omega (arith, p, old_long))
+          ∙ get_or-strided (pos 0) t.numbers (line_start t.step t.count line) t.step t.count i (pos 0) p
+          ∙ ap (λ k. get_or t.numbers (k + i * t.step) (pos 0)) (first_of_line t.step t.count line below)
+          ∙ sym (there i (omega (arith, p)) ∙ get_or_append_left t.numbers numbers (pos 0) (line + i * t.step) inside)
+      | inr p ↦
+          let last : i ≡ t.count = omega (arith, p, h, length-append old (z ∷ []), old_long) in
+          let one : t.count - t.count ≡ 0 = omega arith in
+          let past : line + t.count * t.step - t.count * t.step ≡ line = omega arith in
+          ap (λ k. get_or (old ++ z ∷ []) k (pos 0)) last
+          ∙ get_or-append_right old (z ∷ []) t.count t.count (pos 0) old_long (omega arith)
+          ∙ ap (λ k. get_or (z ∷ []) k (pos 0)) one
+          ∙ sym (ap (λ k. get_or new k (pos 0)) last
+          ∙ there t.count (omega arith)
+          ∙ get_or-append_right t.numbers numbers (t.count * t.step) (line + t.count * t.step) (pos 0) all (omega arith)
+          ∙ ap (λ k. get_or numbers k (pos 0)) past)
+    ]
+
+module _ (fold : Reduce) (t : TreesValue) (tail : TailValue) (now : ArrayValue) (stood : StoodBefore fold.along t tail now) (first : axis_at (length now.shape) fold.along ≡ 0) where
+  abbrev b : ArrayValue
+  b = stood.before
+
+  shape_now : now.shape ≡ one_longer b.shape
+  shape_now = ap (λ (a : ArrayValue). a.shape) stood.is
+
+  rank : length now.shape ≡ length b.shape
+  rank = ap (λ (s : List ℕ). length s) shape_now ∙ rank_longer b.shape
+
+  axis_before : axis_at (length b.shape) fold.along ≡ 0
+  axis_before = ap (λ n. axis_at n fold.along) (sym rank) ∙ first
+
+  stand : StandFor t 0 b
+  stand = subst (λ k. StandFor t k b) axis_before stood.lines
+
+  counted : t.count ≡ line_length 0 b.shape
+  counted = stand.counted
+
+  apart : t.step ≡ size (drop 1 b.shape)
+  apart = stand.apart
+
+  some_count : 0 < t.count
+  some_count = let h = some_in_line 0 b.shape stand.there stand.some in omega (arith, h, counted)
+
+  some_apart : 0 < t.step
+  some_apart = let h = some_step 0 b.shape stand.some in omega (arith, h, stand.apart)
+
+  old_places : length t.numbers ≡ t.count * t.step
+  old_places =
+      sym (length-map t.numbers (λ (z : ℤ). Num z)) ∙ sym (ap (λ (a : ArrayValue). length a.items) stand.is) ∙ stand.sound.one_item_a_place
+      ∙ between b.shape stand.there ∙ (λ i. sym stand.counted i * sym stand.apart i)
+
+  -- there are as many lines as items of the tail
+  items_are : length tail.items ≡ t.step
+  items_are = stood.fit.one_place ∙ sym apart
+
+  pub lines_are : line_count t ≡ length tail.items
+  lines_are =
+      let turned : t.count * t.step ≡ t.step * t.count = grind arith in
+      ap (λ k. k / t.count) (old_places ∙ turned) ∙ mul-div_cancel t.step some_count ∙ sym items_are
+
+  -- and as many numbers
+  pub as_many_numbers : (numbers : List ℤ) → tail.items ≡ map (λ (z : ℤ). Num z) numbers → length numbers ≡ length tail.items
+  as_many_numbers numbers are = sym (ap (λ (l : List Item). length l) are ∙ length-map numbers (λ (z : ℤ). Num z))
+
+  now_longer : line_length 0 now.shape ≡ t.count + 1
+  now_longer = ap (line_length 0) shape_now ∙ longer b.shape stand.there ∙ ap (λ k. k + 1) (sym counted)
+
+  -- the lines have two numbers and more
+  pub long_now : 1 < length_along fold.along now.shape
+  long_now =
+      let on : length_along fold.along now.shape ≡ line_length (axis_at (length now.shape) fold.along) now.shape = along_axis fold.along now.shape (ap (λ n. is_axis n fold.along) rank ∙ stood.on_axis) in
+      omega (arith, on, ap (λ k. line_length k now.shape) first, now_longer, some_count)
+
+  -- so one join a total is no more than their length has binary digits
+  pub joins_within : (old new : ℕ) → new ≤ old + length tail.items → AreJoinsWithin (length tail.items) (length_along fold.along now.shape) old new
+  joins_within old new h zero few = let no : ⊥ = omega (arith, few, long_now) in absurd no
+  joins_within old new h (suc digits) few = let more : length tail.items * 1 ≤ length tail.items * suc digits = mul-le-mul_left (length tail.items) (omega arith) in omega (arith, h, more)
+
+  module _ (shape : List ℕ) (type : ItemType) (form : reduce_form fold.along now ≡ Ok (form_of shape type)) where
+    without_first : (s : List ℕ) → 0 < length s → remove (one_longer s) 0 ≡ drop 1 s
+    without_first [] h = absurd (omega arith)
+    without_first (n ∷ s) h = refl
+
+    shaped : shape ≡ drop 1 b.shape
+    shaped = (reduce_facts fold.along now shape type form).shaped ∙ (λ i. remove (shape_now i) (first i)) ∙ without_first b.shape stand.there
+
+    -- the result has a place for each of them
+    pub places_are : size shape ≡ length tail.items
+    places_are = ap size shaped ∙ sym apart ∙ sym items_are
+
+    -- and these are its totals
+    pub whole_is : (f : Scalar2) → (numbers : List ℤ) → tail.items ≡ map (λ (z : ℤ). Num z) numbers
+        → reduce_whole f fold.along now ≡ with_items Nums shape (all_or_first_error (longer_totals f t numbers))
+    whole_is f numbers are =
+        let xs = t.numbers ++ numbers in
+        let n = t.count + 1 in
+        let s = t.step in
+        let given = λ (place : ℕ). number_item (folded (dyadic_on_numbers f) (strided (pos 0) xs (line_start s n place) s n)) in
+        let many = as_many_numbers numbers are in
+        let items : now.items ≡ map (λ (z : ℤ). Num z) xs =
+        ap (λ (a : ArrayValue). a.items) stood.is ∙ (λ i. (stand.is i).items ++ are i) ∙ sym (map-append (λ (z : ℤ). Num z) t.numbers numbers) in
+        let typed : now.item_type ≡ Nums = ap (λ (a : ArrayValue). a.item_type) stood.is ∙ ap (λ (a : ArrayValue). a.item_type) stand.is in
+        let there : 0 < length now.shape = omega (arith, rank, stand.there) in
+        let step_is : s ≡ size (drop 1 now.shape) = stand.apart ∙ sym (ap (line_step 0) shape_now ∙ same_step b.shape) in
+        let some : 0 < size now.shape = omega (arith, ap size shape_now, size_longer b.shape stand.there, stand.some) in
+        let alike = λ (place : ℕ) (below : place < size shape).
+        let zs = strided (pos 0) xs (line_start s n place) s n in
+        let long : length zs ≡ n = length-strided (pos 0) xs (line_start s n place) s n in
+        let line = line_longer t numbers place some_apart old_places (omega (arith, below, places_are, items_are)) in
+        sym (ap (λ (l : List ℤ). fold_right f (map (λ (z : ℤ). Num z) l)) line ∙ fold_of_numbers f zs (omega (arith, long))) in
+        reduced_whole f now xs items typed fold.along shape type 0 n s form (sym first) there (sym now_longer) step_is some
+        ∙ collected_same Nums shape (λ index. given (places_before shape index)) (λ index. longer_total f t numbers (places_before shape index)) (λ index inside.
+        alike (places_before shape index) (places_below shape index inside))
+        ∙ ap (λ (rs : List (Result Item Kind)). with_items Nums shape (all_or_first_error rs)) (items_by_place shape (longer_total f t numbers))
+        ∙ ap (λ (k : ℕ). with_items Nums shape (all_or_first_error (map (longer_total f t numbers) (range_with_len 0 k)))) (places_are ∙ sym many)

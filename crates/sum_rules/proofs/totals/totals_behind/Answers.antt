@@ -1,0 +1,67 @@
+use Rattle.std.proofs.Common.{◌≡◌, ◌∙◌, ◌<◌, ◌≤◌, ◌++◌, ◌∷◌, [], ℤ, pos, get_or, map, length, take, rules, sym, ap, arith, Ok, Err, FitsSigned, w64}
+use Rattle.std.proofs.lemmas.Int.{to_z-of_z}
+use Rattle.arrays_core.specs.declared.item.Item.TheVariants.{Num}
+use Rattle.arrays_core.specs.declared.item.ItemType.TheVariants.{Nums}
+use Rattle.arrays_core.specs.Arrays.{ArrayValue, with_items}
+use Rattle.scalar_fns.specs.Items.{number_item}
+use Rattle.operator_fns.specs.RightFold.{fold_right}
+use Rattle.operator_fns.specs.SumTrees.{numbers_of_line}
+use Rattle.change_core.specs.Meters.{MeterValue}
+use Rattle.change_core.proofs.Collected.{collected_is}
+use Rattle.change_core.proofs.Filling.{all_filled, as_many_written, one_filled, one_more_tick}
+use Rattle.change_core.proofs.Walking.{rest_err}
+use Rattle.sum_rules.specs.Totals.{longer_totals}
+use Rattle.sum_rules.proofs.LongerTotals.{longer_total}
+use Rattle.sum_rules.proofs.totals.totals_behind.Goals as goal
+
+pub returns-in-Err-clause-totals : goal.returns-in-Err-clause-totals
+returns-in-Err-clause-totals g c =
+    let f = g.S.LineTotals.function c.args.sums.now in
+    let t = g.S.LineTotals.trees c.args.sums.now in
+    let numbers = c.args.numbers.now in
+    let line = c.loop-line.line in
+    let below : line < length numbers = c.loop-line-test.true in
+    let fits : FitsSigned w64 (get_or numbers line (pos 0)) = search rules in
+    let number = to_z-of_z w64 (get_or numbers line (pos 0)) fits in
+    let failed : longer_total f t numbers line ≡ Err c.in-Err.kind =
+    sym (c.total_behind-total.ensures ∙ ap (λ (z : ℤ). fold_right f (map (λ (y : ℤ). Num y) (numbers_of_line t line ++ z ∷ []))) number) ∙ ap number_item c.in-Err.is in
+    ap (with_items Nums c.args.shape.now.items)
+    (sym (collected_is (longer_totals f t numbers)) ∙ sym c.loop-line.invariant.rest ∙ rest_err (longer_total f t numbers) (length numbers) line (take line c.loop-line.totals.items) _ below failed)
+
+pub loop-line-preserved : goal.loop-line-preserved
+loop-line-preserved g c =
+    let f = g.S.LineTotals.function c.args.sums.now in
+    let t = g.S.LineTotals.trees c.args.sums.now in
+    let numbers = c.args.numbers.now in
+    let line = c.loop-line.line in
+    let below : line < length numbers = c.loop-line-test.true in
+    let fits : FitsSigned w64 (get_or numbers line (pos 0)) = search rules in
+    let number = to_z-of_z w64 (get_or numbers line (pos 0)) fits in
+    let given : longer_total f t numbers line ≡ Ok (Num c.in-Ok.total) =
+    sym (c.total_behind-total.ensures ∙ ap (λ (z : ℤ). fold_right f (map (λ (y : ℤ). Num y) (numbers_of_line t line ++ z ∷ []))) number) ∙ ap number_item c.in-Ok.is in
+    let sound : FitsSigned w64 c.in-Ok.total = search rules in
+    let written = given ∙ ap (λ (z : ℤ). Ok (Num z)) (sym (to_z-of_z w64 c.in-Ok.total sound)) in
+    let kept = ap (λ (m : MeterValue). m.joins) c.tick.ensures.exact in
+    let now = ap (λ (m : MeterValue). m.joins) c.count_joins.ensures in
+    record {
+      ticks = omega (arith, c.tick.ensures.by_one, ap (λ (m : MeterValue). m.ticks) c.count_joins.ensures, c.loop-line.invariant.ticks);
+      none = λ h. absurd (omega arith);
+      some = λ _. one_more_tick c.args.meter.now.ticks line c.loop-line.meter.ticks _ c.loop-line.invariant.none c.loop-line.invariant.some (ap (λ (m : MeterValue). m.ticks) c.count_joins.ensures ∙ ap (λ (m : MeterValue). m.ticks) c.tick.ensures.exact);
+      rises = omega (arith, c.tick.ensures.rises, ap (λ (m : MeterValue). m.ticks) c.count_joins.ensures, c.loop-line.invariant.rises);
+      joins = omega (arith, c.loop-line.invariant.joins, kept, now);
+      least = omega (arith, c.loop-line.invariant.least, kept, now);
+      many = as_many_written c.loop-line.totals c.write_at.new.self (length numbers) line _ c.loop-line.invariant.many c.write_at.ensures;
+      typed = ap (λ (b : ArrayValue). b.item_type) c.write_at.ensures ∙ c.loop-line.invariant.typed;
+      shaped = ap (λ (b : ArrayValue). b.shape) c.write_at.ensures ∙ c.loop-line.invariant.shaped;
+      rest = one_filled c.loop-line.totals c.write_at.new.self (longer_total f t numbers) (length numbers) line _ _ c.loop-line.invariant.many below written c.write_at.ensures c.loop-line.invariant.rest;
+    }
+
+pub returns-clause-totals : goal.returns-clause-totals
+returns-clause-totals g c =
+    let f = g.S.LineTotals.function c.args.sums.now in
+    let t = g.S.LineTotals.trees c.args.sums.now in
+    let numbers = c.args.numbers.now in
+    let ended : length numbers ≤ c.loop-line.line = omega (arith, c.loop-line-test.false) in
+    let all = sym (collected_is (longer_totals f t numbers)) ∙ all_filled c.loop-line.totals (longer_total f t numbers) (length numbers) c.loop-line.line _ c.loop-line.invariant.many ended c.loop-line.invariant.rest in
+    ap (with_items Nums c.args.shape.now.items) all
+    ∙ (λ i. Ok (record { item_type = sym c.loop-line.invariant.typed i; shape = sym c.loop-line.invariant.shaped i; items = c.loop-line.totals.items }))
