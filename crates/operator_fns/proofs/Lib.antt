@@ -51,3 +51,7 @@ pub mod MoreLines
 pub mod ListTrees
 pub mod VectorSums
 pub mod FlaggedSums
+pub mod Prefixes
+pub mod NextDifferences
+pub mod NextProducts
+pub mod NextOutcomes

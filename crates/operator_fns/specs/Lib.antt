@@ -11,6 +11,7 @@ pub mod Strides
 pub mod Columns
 pub mod SmallProducts
 pub mod LinearScan
+pub mod Prefixes
 pub mod RowByColumn
 pub mod ResultTable
 pub mod Sum

@@ -2,13 +2,17 @@
 #![tactic(auto)]
 
 mod columns;
+mod differences;
 mod grid;
 mod inner_product;
 mod limits;
 mod line_tree;
 mod linear_scan;
 mod number_rule;
+mod outcomes;
 mod outer_product;
+mod prefix;
+mod products;
 mod reduce;
 mod right_fold;
 mod row_by_column;

@@ -59,7 +59,7 @@ fn next_result<S: TwoNumbers>(
 }
 
 /// The place after one of a block, or the first of the next block.
-fn place_after(block_place: usize, block: usize) -> usize
+pub(crate) fn place_after(block_place: usize, block: usize) -> usize
     requires { block_place < block }
     ensures { result ≡ (block_place + 1) % block }
 {

@@ -12,16 +12,24 @@ ghost use Rattle.scalar_fns.specs.Folds.{folded};
 ghost use Rattle.index_region.specs.ArgumentLists.{of_one_argument};
 ghost use Rattle.index_region.specs.Answers.{IsFormAnswerTo, IsPlaceOf, HasTypeOf};
 ghost use Rattle.operator_fns.specs.LinearScan.{run_to, IsAssociative};
+ghost use Rattle.operator_fns.specs.Prefixes.{IsFresh, IsClosed, GivesTruths};
 ghost use Rattle.operator_fns.specs.Scan.{scan_form, scan_item, scan_whole};
 
+use crate::differences::Differences;
 use crate::linear_scan::{running_folds, running_sums};
 use crate::number_rule::{NumberRule, collect_numbers};
+use crate::outcomes::Outcomes;
+use crate::prefix::{Prefix, prefix_folds};
+use crate::products::Products;
 use crate::right_fold::{fold_line, stride};
 use arrays_core::{ApplyFault, Array, Item, ItemType, Kind, Shape, shape_of, without_axis};
 use index_region::{Along, Primitive, Seen, apply, limited};
 use scalar_fns::Scalar2;
 use scalar_fns::folds::fold_numbers;
-use scalar_fns::kernels::{And, Maximum, Minimum, Minus, Or, Times, TwoNumbers};
+use scalar_fns::kernels::{
+    And, Divide, Equal, Greater, GreaterOrEqual, Less, LessOrEqual, Maximum, Minimum, Nand, Nor,
+    NotEqual, Or, Power, Residue, TwoNumbers,
+};
 use std::alloc::Global;
 
 /// The numbers of a list, each folded with those before it on its line.
@@ -92,6 +100,49 @@ fn scans_on<S: TwoNumbers>(
     Ok(Array::from_numbers(shape, numbers)?)
 }
 
+/// The array of the folds of the numbers up to each place of its line, from a prefix of no numbers: one step for each number.
+fn scans_from<P: Prefix + Copy>(
+    alloc: Global,
+    none: &P,
+    numbers: &[i64],
+    stride: usize,
+    count: usize,
+    shape: &Shape,
+) -> Result<Array, ApplyFault>
+    requires fresh { IsFresh (P.gives none.now) }
+    requires closed { IsClosed (P.step none.now) }
+    requires within { IsWithinLimits shape.now.items }
+    requires some { 1 ≤ count }
+    requires apart { 0 < stride }
+    requires high { count * stride ≤ length numbers.now }
+    requires long { size_of shape.now.items ≡ length numbers.now }
+    ensures { IsAnswerTo (collected Nums shape.now.items (λ index. number_item (folded (P.step none.now) (run_to (pos 0) numbers.now stride count (places_before shape.now.items index))))) result }
+{
+    let numbers = prefix_folds(alloc, none, numbers, stride, count)?;
+    Ok(Array::from_numbers(shape, numbers)?)
+}
+
+/// The array of the folds of the numbers up to each place of its line, by a function that gives truth values.
+fn scans_of_truths<S: TwoNumbers + Copy>(
+    alloc: Global,
+    step: S,
+    numbers: &[i64],
+    stride: usize,
+    count: usize,
+    shape: &Shape,
+) -> Result<Array, ApplyFault>
+    requires truths { GivesTruths (S.gives step) }
+    requires within { IsWithinLimits shape.now.items }
+    requires some { 1 ≤ count }
+    requires apart { 0 < stride }
+    requires high { count * stride ≤ length numbers.now }
+    requires long { size_of shape.now.items ≡ length numbers.now }
+    ensures { IsAnswerTo (collected Nums shape.now.items (λ index. number_item (folded (S.gives step) (run_to (pos 0) numbers.now stride count (places_before shape.now.items index))))) result }
+{
+    let none = Outcomes::none(step);
+    scans_from(alloc, &none, numbers, stride, count, shape)
+}
+
 /// The array of the sums of the numbers up to each place of its line: one step for each number.
 fn sums(
     alloc: Global,
@@ -129,13 +180,30 @@ fn scans(
 {
     match function {
         Scalar2::Plus => sums(alloc, numbers, stride, count, shape),
+        Scalar2::Minus => scans_from(alloc, &Differences::none(), numbers, stride, count, shape),
+        Scalar2::Times => scans_from(alloc, &Products::none(), numbers, stride, count, shape),
         Scalar2::Maximum => scans_on(alloc, &Maximum, numbers, stride, count, shape),
         Scalar2::Minimum => scans_on(alloc, &Minimum, numbers, stride, count, shape),
         Scalar2::And => scans_on(alloc, &And, numbers, stride, count, shape),
         Scalar2::Or => scans_on(alloc, &Or, numbers, stride, count, shape),
-        Scalar2::Minus => scans_by(alloc, &Minus, numbers, stride, count, shape),
-        Scalar2::Times => scans_by(alloc, &Times, numbers, stride, count, shape),
-        _ => scans_by(alloc, &function, numbers, stride, count, shape),
+        Scalar2::Less => scans_of_truths(alloc, Less, numbers, stride, count, shape),
+        Scalar2::LessOrEqual => scans_of_truths(alloc, LessOrEqual, numbers, stride, count, shape),
+        Scalar2::Equal => scans_of_truths(alloc, Equal, numbers, stride, count, shape),
+        Scalar2::GreaterOrEqual => scans_of_truths(
+            alloc,
+            GreaterOrEqual,
+            numbers,
+            stride,
+            count,
+            shape,
+        ),
+        Scalar2::Greater => scans_of_truths(alloc, Greater, numbers, stride, count, shape),
+        Scalar2::NotEqual => scans_of_truths(alloc, NotEqual, numbers, stride, count, shape),
+        Scalar2::Nand => scans_of_truths(alloc, Nand, numbers, stride, count, shape),
+        Scalar2::Nor => scans_of_truths(alloc, Nor, numbers, stride, count, shape),
+        Scalar2::Divide => scans_by(alloc, &Divide, numbers, stride, count, shape),
+        Scalar2::Power => scans_by(alloc, &Power, numbers, stride, count, shape),
+        Scalar2::Residue => scans_by(alloc, &Residue, numbers, stride, count, shape),
     }
 }
 
@@ -145,7 +213,7 @@ fn scans(
 /// the axis is below 2. AXIS where the axis is not one of the array's, DOMAIN where it is 2 or more and B
 /// is of characters and has items, LIMIT beyond the limits of arrays.
 ///
-/// By `+ ⌈ ⌊ ∧ ∨` it takes time in proportion to the axis, by any other function to its square.
+/// By `÷ * |` it takes time in proportion to the square of the axis, by any other function to the axis.
 #[derive(Clone, Copy, PartialEq, Eq, Debug)]
 pub struct Scan {
     /// The function that puts the items of a line together.

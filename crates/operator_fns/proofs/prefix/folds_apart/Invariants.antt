@@ -1,0 +1,14 @@
+use Rattle.std.proofs.Common.{◌≡◌, ◌*◌, ◌%◌, length}
+use Rattle.operator_fns.specs.LinearScan.{AreResultsTo}
+use Rattle.operator_fns.specs.Prefixes.{right_rule}
+use Rattle.operator_fns.proofs.Prefixes.{AreKept}
+use Rattle.operator_fns.proofs.prefix.folds_apart.Given as goal
+
+abbrev pub invariant-loop-place : goal.invariant-loop-place
+invariant-loop-place g l = record {
+  so_far : AreResultsTo l.place (right_rule (g.P.Prefix.step l.none) l.numbers l.stride l.count) l.numbers l.results;
+  here : l.block_place ≡ l.place % (l.count * l.stride);
+  column : l.column ≡ l.place % l.stride;
+  long : length l.lines.items ≡ l.stride;
+  kept : AreKept g.P.Prefix.step g.P.Prefix.gives l.none l.numbers l.stride l.count l.place l.lines.items;
+}
