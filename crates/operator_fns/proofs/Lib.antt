@@ -10,6 +10,7 @@ pub mod Reduced
 pub mod Runs
 pub mod Firsts
 pub mod LeftScans
+pub mod RecalledFolds
 pub mod Associates
 pub mod Endings
 pub mod RunningSums

@@ -12,6 +12,7 @@ pub mod Columns
 pub mod SmallProducts
 pub mod LinearScan
 pub mod Prefixes
+pub mod RecalledScan
 pub mod RowByColumn
 pub mod ResultTable
 pub mod Sum

@@ -13,6 +13,7 @@ mod outcomes;
 mod outer_product;
 mod prefix;
 mod products;
+mod recalled_scan;
 mod reduce;
 mod right_fold;
 mod row_by_column;
