@@ -11,6 +11,8 @@ pub mod Runs
 pub mod Firsts
 pub mod LeftScans
 pub mod RecalledFolds
+pub mod OneSided
+pub mod Divisors
 pub mod Associates
 pub mod Endings
 pub mod RunningSums

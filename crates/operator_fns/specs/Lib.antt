@@ -13,6 +13,7 @@ pub mod SmallProducts
 pub mod LinearScan
 pub mod Prefixes
 pub mod RecalledScan
+pub mod ResidueScan
 pub mod RowByColumn
 pub mod ResultTable
 pub mod Sum

@@ -15,6 +15,7 @@ mod prefix;
 mod products;
 mod recalled_scan;
 mod reduce;
+mod residue_scan;
 mod right_fold;
 mod row_by_column;
 mod scan;
