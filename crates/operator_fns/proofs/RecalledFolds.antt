@@ -11,7 +11,8 @@ use Rattle.scalar_fns.specs.Folds.{strided, folded}
 use Rattle.scalar_fns.proofs.RightFolds.{length-strided, get_or-strided, take-strided}
 use Rattle.operator_fns.specs.LinearScan.{depth, run_to, AreResultsTo}
 use Rattle.operator_fns.specs.declared.recalled_scan.Recalled.{Recalled}
-use Rattle.operator_fns.specs.RecalledScan.{right_rule, run_before, given_at, nothing, IsRecalled, AreRecalled}
+use Rattle.operator_fns.specs.Prefixes.{right_rule}
+use Rattle.operator_fns.specs.RecalledScan.{run_before, given_at, nothing, IsRecalled, AreRecalled}
 use Rattle.operator_fns.proofs.Firsts.{entry_of}
 use Rattle.operator_fns.proofs.Runs.{through, as_it_is, one_deeper, depth_high}
 
@@ -61,8 +62,8 @@ module _ (f : ℤ → ℤ → Result ℤ Kind) (zs : List ℤ) (stride count : �
       let total : depth stride count place * stride ≡ depth stride count before * stride + stride = ap (λ n. n * stride) deeper ∙ (omega arith) in
       let same : place - depth stride count place * stride ≡ before - depth stride count before * stride = omega arith in
       let run : run_before zs stride count place ≡ run_to (pos 0) zs stride count before =
-          ap (λ m. strided (pos 0) zs (place - depth stride count place * stride) stride m) deeper
-          ∙ ap (λ m. strided (pos 0) zs m stride (depth stride count before + 1)) same in
+      ap (λ m. strided (pos 0) zs (place - depth stride count place * stride) stride m) deeper
+      ∙ ap (λ m. strided (pos 0) zs m stride (depth stride count before + 1)) same in
       let whole = run ∙ run_is before in
       ap (λ ws. folded f (ws ++ z ∷ [])) whole
       ∙ ap (folded f) (two_more (run_before zs stride count before) (get_or zs before (pos 0)) z)

@@ -3,11 +3,8 @@ use Rattle.std.specs.Prelude.{◌≡◌, ℕ, ◌-◌, ◌*◌, ◌<◌, ℤ, po
 use Rattle.arrays_core.specs.declared.item.Kind.{Kind}
 use Rattle.scalar_fns.specs.Folds.{strided, folded}
 use Rattle.operator_fns.specs.declared.recalled_scan.Recalled.{Recalled}
-use Rattle.operator_fns.specs.LinearScan.{depth, run_to}
-
--- the right fold of the numbers up to a place
-abbrev pub right_rule : (ℤ → ℤ → Result ℤ Kind) → List ℤ → (stride count place : ℕ) → Result ℤ Kind
-right_rule f zs stride count place = folded f (run_to (pos 0) zs stride count place)
+use Rattle.operator_fns.specs.LinearScan.{depth}
+use Rattle.operator_fns.specs.Prefixes.{right_rule}
 
 -- the entries of the line of a place before the one there
 abbrev pub run_before : List ℤ → (stride count place : ℕ) → List ℤ

@@ -4,7 +4,8 @@ ghost use Rattle.std.specs.Prelude.{◌≡◌, ℕ, ◌<◌, ◌≤◌, pos, len
 ghost use Rattle.scalar_fns.specs.NumberLists.{IsListAnswerTo};
 ghost use Rattle.scalar_fns.specs.Folds.{folded};
 ghost use Rattle.operator_fns.specs.LinearScan.{run_to, scanned};
-ghost use Rattle.operator_fns.specs.RecalledScan.{right_rule, AreRecalled};
+ghost use Rattle.operator_fns.specs.Prefixes.{right_rule};
+ghost use Rattle.operator_fns.specs.RecalledScan.{AreRecalled};
 
 use arrays_core::{ApplyFault, Kind, room_of};
 use scalar_fns::kernels::TwoNumbers;

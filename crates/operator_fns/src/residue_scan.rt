@@ -147,7 +147,10 @@ impl<'a> SidedLines<'a> {
         };
         let further = divisors[far];
         if further.steps == divisor.steps && further.far.is_some() {
-            (further.far, divisor.steps.saturating_mul(2).saturating_add(1))
+            (
+                further.far,
+                divisor.steps.saturating_mul(2).saturating_add(1),
+            )
         } else {
             (below, 1)
         }

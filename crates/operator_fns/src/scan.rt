@@ -5,7 +5,7 @@ ghost use Rattle.arrays_core.specs.declared.item.Item.TheVariants.{Num};
 ghost use Rattle.arrays_core.specs.declared.item.ItemType.TheVariants.{Nums};
 ghost use Rattle.arrays_core.specs.Arrays.{collect as collected, IsAnswerTo};
 ghost use Rattle.arrays_core.specs.Shapes.{size as size_of, places_before, IsWithinLimits};
-ghost use Rattle.scalar_fns.specs.declared.function.Scalar2.TheVariants.{Plus};
+ghost use Rattle.scalar_fns.specs.declared.function.Scalar2.TheVariants.{Plus, Residue as ByResidue};
 ghost use Rattle.scalar_fns.specs.Numbers.{dyadic_on_numbers};
 ghost use Rattle.scalar_fns.specs.Items.{number_item};
 ghost use Rattle.scalar_fns.specs.Folds.{folded};
@@ -17,45 +17,23 @@ ghost use Rattle.operator_fns.specs.Scan.{scan_form, scan_item, scan_whole};
 
 use crate::differences::Differences;
 use crate::linear_scan::{running_folds, running_sums};
-use crate::number_rule::{NumberRule, collect_numbers};
 use crate::outcomes::Outcomes;
 use crate::prefix::{Prefix, prefix_folds};
 use crate::products::Products;
+use crate::recalled_scan::recalled_folds;
+use crate::residue_scan::{are_one_sided, running_residues};
 use crate::right_fold::{fold_line, stride};
 use arrays_core::{ApplyFault, Array, Item, ItemType, Kind, Shape, shape_of, without_axis};
 use index_region::{Along, Primitive, Seen, apply, limited};
 use scalar_fns::Scalar2;
-use scalar_fns::folds::fold_numbers;
 use scalar_fns::kernels::{
     And, Divide, Equal, Greater, GreaterOrEqual, Less, LessOrEqual, Maximum, Minimum, Nand, Nor,
     NotEqual, Or, Power, Residue, TwoNumbers,
 };
 use std::alloc::Global;
 
-/// The numbers of a list, each folded with those before it on its line.
-#[derive(Drop)]
-struct Runs<'a, S> {
-    step: &'a S,
-    numbers: &'a [i64],
-    stride: usize,
-    count: usize,
-    ghost some: { 1 ≤ count },
-    ghost apart: { 0 < stride },
-}
-
-impl<'a, S: TwoNumbers> NumberRule for Runs<'a, S> {
-    ghost places = { λ r. length r.numbers.now };
-
-    ghost number = { λ r place. folded (S.gives r.step.now) (run_to (pos 0) r.numbers.now r.stride r.count place) };
-
-    fn number_at(&self, place: usize) -> Result<i64, Kind> {
-        let before = place / self.stride % self.count;
-        let first = place - before * self.stride;
-        fold_numbers(self.step, self.numbers, first, self.stride, before + 1)
-    }
-}
-
-/// The array of the folds of the numbers up to each place of its line.
+/// The array of the folds of the numbers up to each place of its line, by a function of which no law is used: what a number gave
+/// that came to a place before is recalled.
 fn scans_by<S: TwoNumbers>(
     alloc: Global,
     step: &S,
@@ -70,13 +48,30 @@ fn scans_by<S: TwoNumbers>(
     requires long { size_of shape.now.items ≡ length numbers.now }
     ensures { IsAnswerTo (collected Nums shape.now.items (λ index. number_item (folded (S.gives step.now) (run_to (pos 0) numbers.now stride count (places_before shape.now.items index))))) result }
 {
-    let runs = Runs {
-        step,
-        numbers,
-        stride,
-        count,
-    };
-    collect_numbers(alloc, &runs, shape)
+    let numbers = recalled_folds(alloc, step, numbers, stride, count)?;
+    Ok(Array::from_numbers(shape, numbers)?)
+}
+
+/// The array of the residues of the numbers up to each place of its line. Where none is below 0, or none above, few divisors
+/// are looked at for each.
+fn residues(
+    alloc: Global,
+    numbers: &[i64],
+    stride: usize,
+    count: usize,
+    shape: &Shape,
+) -> Result<Array, ApplyFault>
+    requires within { IsWithinLimits shape.now.items }
+    requires some { 1 ≤ count }
+    requires apart { 0 < stride }
+    requires long { size_of shape.now.items ≡ length numbers.now }
+    ensures { IsAnswerTo (collected Nums shape.now.items (λ index. number_item (folded (dyadic_on_numbers ByResidue) (run_to (pos 0) numbers.now stride count (places_before shape.now.items index))))) result }
+{
+    if !are_one_sided(numbers) {
+        return scans_by(alloc, &Residue, numbers, stride, count, shape);
+    }
+    let residues = running_residues(alloc, numbers, stride, count)?;
+    Ok(Array::from_numbers(shape, residues)?)
 }
 
 /// The array of the folds of the numbers up to each place of its line, by an associative function: one step for each number.
@@ -203,7 +198,7 @@ fn scans(
         Scalar2::Nor => scans_of_truths(alloc, Nor, numbers, stride, count, shape),
         Scalar2::Divide => scans_by(alloc, &Divide, numbers, stride, count, shape),
         Scalar2::Power => scans_by(alloc, &Power, numbers, stride, count, shape),
-        Scalar2::Residue => scans_by(alloc, &Residue, numbers, stride, count, shape),
+        Scalar2::Residue => residues(alloc, numbers, stride, count, shape),
     }
 }
 
@@ -213,7 +208,9 @@ fn scans(
 /// the axis is below 2. AXIS where the axis is not one of the array's, DOMAIN where it is 2 or more and B
 /// is of characters and has items, LIMIT beyond the limits of arrays.
 ///
-/// By `÷ * |` it takes time in proportion to the square of the axis, by any other function to the axis.
+/// By any function but `÷ * |` it takes time in proportion to the axis, and so it does by `|` of numbers of which none is below 0, or none
+/// above, but for a logarithm. By `÷ *`, and by `|` of others, a place is folded back to one to which the same number came before, so
+/// the time is as a rule in proportion to the axis, and at most to its square.
 #[derive(Clone, Copy, PartialEq, Eq, Debug)]
 pub struct Scan {
     /// The function that puts the items of a line together.

@@ -1,6 +1,7 @@
 use Rattle.std.proofs.Common.{◌≡◌, ◌+◌, ◌*◌, length}
 use Rattle.operator_fns.specs.LinearScan.{depth}
-use Rattle.operator_fns.specs.RecalledScan.{right_rule, given_at, AreRecalled}
+use Rattle.operator_fns.specs.Prefixes.{right_rule}
+use Rattle.operator_fns.specs.RecalledScan.{given_at, AreRecalled}
 use Rattle.operator_fns.proofs.recalled_scan.recalled_fold.Given as goal
 
 abbrev pub invariant-loop : goal.invariant-loop

@@ -5,7 +5,8 @@ use Rattle.std.proofs.Math.Seq.{take-append_seam}
 use Rattle.arrays_core.specs.Items.{all_or_first_error}
 use Rattle.operator_fns.specs.declared.recalled_scan.Recalled.{Recalled}
 use Rattle.scalar_fns.proofs.Errors.{list_error}
-use Rattle.operator_fns.specs.RecalledScan.{right_rule, AreRecalled}
+use Rattle.operator_fns.specs.Prefixes.{right_rule}
+use Rattle.operator_fns.specs.RecalledScan.{AreRecalled}
 use Rattle.operator_fns.proofs.LeftScans.{none_yet, one_more, first_error, results_end}
 use Rattle.operator_fns.proofs.RecalledFolds.{next_recalled, result_before}
 use Rattle.operator_fns.proofs.recalled_scan.recalled_folds.Goals as goal
@@ -65,7 +66,7 @@ loop-place-preserved g c =
     let held : c.loop-place.recalled.len ≡ length kept = omega (arith, long, before.long) in
     let entry : Recalled = record { number = to_z w64 (of_z w64 (get_or zs k (pos 0))); later = k } in
     let front : take c.loop-place.recalled.len (kept ++ drop (length kept) c.loop-place.recalled.items) ≡ kept =
-        ap (λ m. take m (kept ++ drop (length kept) c.loop-place.recalled.items)) held ∙ take-append_seam kept _ in
+    ap (λ m. take m (kept ++ drop (length kept) c.loop-place.recalled.items)) held ∙ take-append_seam kept _ in
     let more : c.push_reserved-in-loop-place.new.self.items ≡ kept ++ entry ∷ [] = c.push_reserved-in-loop-place.ensures.items ∙ ap (λ ws. ws ++ entry ∷ []) front in
     record {
       so_far = one_more rule zs k c.loop-place.results so_far (omega arith) fit z c.push_reserved.new.self given items c.push_reserved.ensures.len

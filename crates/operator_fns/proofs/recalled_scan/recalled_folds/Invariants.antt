@@ -1,6 +1,7 @@
 use Rattle.std.proofs.Common.{◌≡◌, ◌≤◌, length, vec_len, vec_capacity}
 use Rattle.operator_fns.specs.LinearScan.{AreResultsTo}
-use Rattle.operator_fns.specs.RecalledScan.{right_rule, AreRecalled}
+use Rattle.operator_fns.specs.Prefixes.{right_rule}
+use Rattle.operator_fns.specs.RecalledScan.{AreRecalled}
 use Rattle.operator_fns.proofs.recalled_scan.recalled_folds.Given as goal
 
 abbrev pub invariant-loop-place : goal.invariant-loop-place

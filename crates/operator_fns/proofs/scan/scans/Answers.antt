@@ -90,4 +90,4 @@ pub returns-in-Power : goal.returns-in-Power
 returns-in-Power c = rw c.in-Power.is c.scans_by-in-Power.ensures
 
 pub returns-in-Residue : goal.returns-in-Residue
-returns-in-Residue c = rw c.in-Residue.is c.scans_by-in-Residue.ensures
+returns-in-Residue c = rw c.in-Residue.is c.residues.ensures

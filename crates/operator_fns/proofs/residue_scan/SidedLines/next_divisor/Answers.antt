@@ -18,8 +18,8 @@ returns c =
     let nearest = c.nearest-below.ensures in
     let ahead = c.place_before.ensures in
     let below : AreTheSame zs s n (reach_at zs place) (Some place) c.nearest-below.result = λ w beside near.
-        passes zs s n lines.apart lines.some place c.nearest-below.result w c.requires.more beside near
-        (ap (λ q. from zs s n q w) (sym ahead.is) ∙ nearest.same w beside (omega (arith, near, reach, some))) in
+    passes zs s n lines.apart lines.some place c.nearest-below.result w c.requires.more beside near
+    (ap (λ q. from zs s n q w) (sym ahead.is) ∙ nearest.same w beside (omega (arith, near, reach, some))) in
     let near : IfSome c.nearest-below.result (λ b. reach_at zs b < reach_at zs place) = nearer _ _ _ c.nearest-below.result (omega (arith, reach, some)) nearest.within in
     record {
       reach = reach;

@@ -2,7 +2,7 @@ use Rattle.std.proofs.Common.{◌≡◌, ◌∙◌, ◌+◌, ◌++◌, ◌∷◌
 use Rattle.std.proofs.lemmas.Int.{to_z-of_z}
 use Rattle.scalar_fns.specs.declared.function.Scalar2.TheVariants.{Residue as ByResidue}
 use Rattle.scalar_fns.specs.Numbers.{dyadic_on_numbers}
-use Rattle.operator_fns.specs.RecalledScan.{right_rule}
+use Rattle.operator_fns.specs.Prefixes.{right_rule}
 use Rattle.operator_fns.specs.ResidueScan.{from, IsDivisor}
 use Rattle.operator_fns.proofs.LeftScans.{one_more, results_end}
 use Rattle.operator_fns.proofs.RecalledFolds.{own_number}
@@ -24,8 +24,8 @@ loop-place-preserved c =
     let z = c.residue_from-result.result in
     let gave : from zs s n c.place_before-start.result (get_or zs k (pos 0)) ≡ Ok z = rw read at c.residue_from-result.ensures in
     let given : rule k ≡ Ok z =
-        sym (own_number f zs s n lines.apart lines.some k) ∙ at_place zs s n lines.apart lines.some k (get_or zs k (pos 0))
-        ∙ ap (λ q. from zs s n q (get_or zs k (pos 0))) (sym c.place_before-start.ensures.is) ∙ gave in
+    sym (own_number f zs s n lines.apart lines.some k) ∙ at_place zs s n lines.apart lines.some k (get_or zs k (pos 0))
+    ∙ ap (λ q. from zs s n q (get_or zs k (pos 0))) (sym c.place_before-start.ensures.is) ∙ gave in
     let fits : SFits w64 z = search rules in
     let same : to_z w64 (of_z w64 z) ≡ z = to_z-of_z w64 _ fits in
     let items : c.push_reserved.new.self.items ≡ c.loop-place.results.items ++ z ∷ [] = rw same at c.push_reserved.ensures.items in

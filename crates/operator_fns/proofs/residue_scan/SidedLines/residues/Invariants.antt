@@ -2,7 +2,7 @@ use Rattle.std.proofs.Common.{◌≡◌, ◌≤◌, length, vec_len, vec_capacit
 use Rattle.scalar_fns.specs.declared.function.Scalar2.TheVariants.{Residue as ByResidue}
 use Rattle.scalar_fns.specs.Numbers.{dyadic_on_numbers}
 use Rattle.operator_fns.specs.LinearScan.{AreResultsTo}
-use Rattle.operator_fns.specs.RecalledScan.{right_rule}
+use Rattle.operator_fns.specs.Prefixes.{right_rule}
 use Rattle.operator_fns.specs.ResidueScan.{AreDivisors}
 use Rattle.operator_fns.proofs.residue_scan.SidedLines.residues.Given as goal
 
