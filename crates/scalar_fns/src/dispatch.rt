@@ -8,6 +8,7 @@ ghost use Rattle.scalar_fns.specs.NumberLists.{monadic_results, dyadic_results, 
 use crate::function::{Scalar1, Scalar2};
 use crate::kernels::*;
 use crate::loops::{on_each, on_lists};
+use crate::power_loops::on_powers;
 use arrays_core::{ApplyFault, Kind};
 use std::alloc::Global;
 
@@ -102,7 +103,7 @@ pub(crate) fn on_number_lists(
         Scalar2::Minus => on_lists(alloc, Minus, left, right),
         Scalar2::Times => on_lists(alloc, Times, left, right),
         Scalar2::Divide => on_lists(alloc, Divide, left, right),
-        Scalar2::Power => on_lists(alloc, Power, left, right),
+        Scalar2::Power => on_powers(alloc, left, right),
         Scalar2::Residue => on_lists(alloc, Residue, left, right),
         Scalar2::Maximum => on_lists(alloc, Maximum, left, right),
         Scalar2::Minimum => on_lists(alloc, Minimum, left, right),

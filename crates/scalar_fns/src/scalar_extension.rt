@@ -1,19 +1,22 @@
 //! Scalar functions of arrays.
 
-ghost use Rattle.std.specs.Prelude.{◌≡◌, ◌≤◌, ◌≢◌, IsTrue, List, ℕ, length};
+ghost use Rattle.std.specs.Prelude.{◌≡◌, ◌≤◌, ◌≢◌, IsTrue, List, ℕ, Ok, false, length, replicate};
 ghost use Rattle.arrays_core.specs.Shapes.{size as size_of, is_index_of, IsWithinLimits, IsShapeAnswerTo};
-ghost use Rattle.arrays_core.specs.Arrays.{IsAnswerTo, item_of, with_items};
+ghost use Rattle.arrays_core.specs.Arrays.{IsAnswerTo, IsArray, item_of, with_items};
 ghost use Rattle.arrays_core.specs.declared.item.ItemType.TheVariants.{Nums};
 ghost use Rattle.scalar_fns.specs.ScalarExtension.{common, extended, monadic_on_array, dyadic_on_arrays};
 ghost use Rattle.scalar_fns.specs.Items.{monadic_on_item, dyadic_on_items};
+ghost use Rattle.scalar_fns.specs.Characters.{equality, told, answers_of};
 ghost use Rattle.scalar_fns.specs.NumberLists.{monadic_results, dyadic_results, paired_length, number_items};
 ghost use Rattle.arrays_core.specs.Items.{all_or_first_error};
 
+use crate::characters::{equalities, tell};
 use crate::dispatch::{on_number_lists, on_numbers};
 use crate::function::{Scalar1, Scalar2};
 use crate::items::{one, two};
 use arrays_core::{
-    ApplyFault, Array, Item, ItemRule, ItemType, Kind, Shape, collect, position, shape_of, size,
+    ApplyFault, Array, Item, ItemRule, ItemType, Kind, Shape, collect, position, repeated,
+    shape_of, size,
 };
 use std::alloc::Global;
 
@@ -141,6 +144,42 @@ fn apply_to_number_lists(
     Ok(Array::from_numbers(shape, results)?)
 }
 
+/// The answer for items that are all different: a character never equals a number.
+fn unequal_items(alloc: Global, equal: bool, shape: &Shape) -> Result<Array, ApplyFault>
+    requires { IsWithinLimits shape.now.items }
+    ensures { IsAnswerTo (answers_of shape.now.items (replicate (size_of shape.now.items) (told equal false))) result }
+{
+    let places = size(shape.as_slice()) as usize;
+    let answers = repeated(alloc, tell(equal, false), places)?;
+    Ok(Array::from_numbers(shape, answers)?)
+}
+
+/// Whether the items of two arrays that are not both of numbers are equal, or differ, place by place.
+fn equal_items(
+    alloc: Global,
+    equal: bool,
+    left: &Array,
+    right: &Array,
+    shape: &Shape,
+) -> Result<Array, ApplyFault>
+    requires within { IsWithinLimits shape.now.items }
+    requires shaped { common left.now.shape right.now.shape ≡ Ok shape.now.items }
+    requires left_sound { IsArray left.now }
+    requires right_sound { IsArray right.now }
+    requires others { left.now.item_type ≡ Nums → right.now.item_type ≡ Nums → ⊥ }
+    ensures { IsAnswerTo (dyadic_on_arrays (equality equal) left.now right.now) result }
+{
+    let places = size(shape.as_slice()) as usize;
+    let Some(characters) = left.characters() else {
+        return unequal_items(alloc, equal, shape);
+    };
+    let Some(others) = right.characters() else {
+        return unequal_items(alloc, equal, shape);
+    };
+    let answers = equalities(alloc, equal, characters, others, places)?;
+    Ok(Array::from_numbers(shape, answers)?)
+}
+
 /// A scalar function of an array, item by item (ISO/IEC 13751, "Monadic scalar functions"). The result is of numbers and has
 /// the array's shape; where several items fail, the error is that of the first in row-major order.
 pub fn apply_one(alloc: Global, function: Scalar1, array: &Array) -> Result<Array, ApplyFault>
@@ -171,11 +210,17 @@ pub fn apply_two(
             return apply_to_number_lists(alloc, function, &shape, numbers, others);
         }
     }
-    let pairs = Pairs {
-        function,
-        left,
-        right,
-        shape: &shape,
-    };
-    collect(alloc, &pairs, ItemType::Nums, &shape)
+    match function {
+        Scalar2::Equal => equal_items(alloc, true, left, right, &shape),
+        Scalar2::NotEqual => equal_items(alloc, false, left, right, &shape),
+        _ => {
+            let pairs = Pairs {
+                function,
+                left,
+                right,
+                shape: &shape,
+            };
+            collect(alloc, &pairs, ItemType::Nums, &shape)
+        }
+    }
 }

@@ -1,0 +1,71 @@
+-- Equality of arrays of characters, and of numbers beside characters.
+use Rattle.std.proofs.Common.{◌≡◌, ℕ, ◌<◌, ◌==◌, Bool, true, false, List, [], ◌∷◌, length, get_or, map, refl, ap, sym, ◌∙◌, arith, ℤ, pos, Result, Ok, replicate}
+use Rattle.std.proofs.lemmas.List.{length-map, get_or-map, get_or-replicate, length-replicate}
+use Rattle.std.proofs.lemmas.List.Elements.{All-get_or}
+use Rattle.arrays_core.specs.declared.item.Item.{Item}
+use Rattle.arrays_core.specs.declared.item.Item.TheVariants.{Num, Char}
+use Rattle.arrays_core.specs.declared.item.ItemType.TheVariants.{Nums}
+use Rattle.arrays_core.specs.declared.item.Kind.{Kind}
+use Rattle.arrays_core.specs.Items.{all_or_first_error, after, fill, type_of}
+use Rattle.arrays_core.specs.Shapes.{size, index_after}
+use Rattle.arrays_core.specs.Arrays.{ArrayValue, IsArray, collect, with_items}
+use Rattle.scalar_fns.specs.Items.{dyadic_on_items, number_item}
+use Rattle.scalar_fns.specs.ScalarExtension.{common, extended, dyadic_on_arrays, for_shape}
+use Rattle.scalar_fns.specs.NumberLists.{number_items}
+use Rattle.scalar_fns.specs.Characters.{equality, told, answers_of, character_at, AreTold}
+use Rattle.scalar_fns.proofs.Joint.{collected, IsOf, Extends, common_extends, extended_is, extended_place, place_in}
+
+all_ok : (zs : List ℤ) → all_or_first_error {E = Kind} (map (λ z. Ok z) zs) ≡ Ok zs
+all_ok [] = refl
+all_ok (z ∷ zs) = ap (after z) (all_ok zs)
+
+-- a rule that gives these answers
+answers_collected : (shape : List ℕ) (rule : List ℕ → Result Item Kind) (zs : List ℤ) → length zs ≡ size shape
+    → ((i : ℕ) → i < size shape → rule (index_after shape i) ≡ Ok (Num (get_or zs i (pos 0))))
+    → collect Nums shape rule ≡ Ok (record { item_type = Nums; shape = shape; items = map (λ z. Num z) zs })
+answers_collected shape rule zs long each =
+    let rs : List (Result ℤ Kind) = map (λ z. Ok z) zs in
+    collected shape rule rs (length-map zs (λ z. Ok z) ∙ long) (λ i h.
+    each i h ∙ sym (ap number_item (get_or-map (λ z. Ok z) zs i (pos 0) (Ok (pos 0)) (omega arith))))
+    ∙ ap (λ r. with_items Nums shape (number_items r)) (all_ok zs)
+
+asked_of_characters : (equal : Bool) (x y : ℕ) → dyadic_on_items (equality equal) (Char x) (Char y) ≡ Ok (Num (told equal (x == y)))
+asked_of_characters true x y = refl
+asked_of_characters false x y = refl
+
+asked_of_others : (equal : Bool) (x y : Item) → (type_of x ≡ type_of y → ⊥) → dyadic_on_items (equality equal) x y ≡ Ok (Num (told equal false))
+asked_of_others equal (Num x) (Num y) differ = absurd (differ refl)
+asked_of_others true (Num x) (Char y) differ = refl
+asked_of_others false (Num x) (Char y) differ = refl
+asked_of_others true (Char x) (Num y) differ = refl
+asked_of_others false (Char x) (Num y) differ = refl
+asked_of_others equal (Char x) (Char y) differ = absurd (differ refl)
+
+pub of_characters : (equal : Bool) (a b : ArrayValue) (cs ds : List ℕ) (shape : List ℕ) (zs : List ℤ) → IsOf (λ c. Char c) a cs → IsOf (λ c. Char c) b ds
+    → common a.shape b.shape ≡ Ok shape → AreTold equal cs ds (size shape) zs → dyadic_on_arrays (equality equal) a b ≡ answers_of shape zs
+of_characters equal a b cs ds shape zs is_a is_b common_is answers =
+    let fits = common_extends a.shape b.shape shape common_is in
+    ap (λ r. for_shape r (λ s. collect Nums s (λ index. dyadic_on_items (equality equal) (extended a index) (extended b index)))) common_is
+    ∙ answers_collected shape (λ index. dyadic_on_items (equality equal) (extended a index) (extended b index)) zs answers.long (λ i h.
+    (rw (extended_is (λ c. Char c) 0 a cs shape i is_a fits.0 h, extended_is (λ c. Char c) 0 b ds shape i is_b fits.1 h)
+    (asked_of_characters equal (character_at cs i) (character_at ds i)))
+    ∙ ap (λ z. Ok (Num z)) (sym (answers.each i h)))
+
+-- the items of an array are of its type, wherever it extends to
+type_there : (a : ArrayValue) (shape : List ℕ) (i : ℕ) → IsArray a → Extends a.shape shape → i < size shape → type_of (extended a (index_after shape i)) ≡ a.item_type
+type_there a shape i is fits h =
+    let place = extended_place a shape i fits h in
+    let long : length a.items ≡ size a.shape = is.one_item_a_place in
+    let below : place_in a i < length a.items = let b = place.1 in omega arith in
+    ap type_of place.0 ∙ All-get_or (λ item. type_of item ≡ a.item_type) a.items (place_in a i) (fill a.item_type) below is.one_type
+
+pub of_other_types : (equal : Bool) (a b : ArrayValue) (shape : List ℕ) → IsArray a → IsArray b → (a.item_type ≡ b.item_type → ⊥)
+    → common a.shape b.shape ≡ Ok shape → dyadic_on_arrays (equality equal) a b ≡ answers_of shape (replicate (size shape) (told equal false))
+of_other_types equal a b shape is_a is_b differ common_is =
+    let fits = common_extends a.shape b.shape shape common_is in
+    ap (λ r. for_shape r (λ s. collect Nums s (λ index. dyadic_on_items (equality equal) (extended a index) (extended b index)))) common_is
+    ∙ answers_collected shape (λ index. dyadic_on_items (equality equal) (extended a index) (extended b index)) (replicate (size shape) (told equal false))
+    (length-replicate (size shape) (told equal false)) (λ i h.
+    asked_of_others equal (extended a (index_after shape i)) (extended b (index_after shape i))
+    (λ e. differ (sym (type_there a shape i is_a fits.0 h) ∙ e ∙ type_there b shape i is_b fits.1 h))
+    ∙ ap (λ z. Ok (Num z)) (sym (get_or-replicate (size shape) i (told equal false) (pos 0) h)))
