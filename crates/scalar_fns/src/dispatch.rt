@@ -1,9 +1,10 @@
 //! The choice of a function: of numbers, and of lists of numbers.
 
-ghost use Rattle.std.specs.Prelude.{◌≡◌, ◌≢◌, length, IfOk, vec_len};
+ghost use Rattle.std.specs.Prelude.{◌≡◌, ◌≢◌, ℤ, Result, length, IfOk, vec_len};
+ghost use Rattle.arrays_core.specs.declared.item.Kind.{Kind};
 ghost use Rattle.arrays_core.specs.Items.{all_or_first_error};
 ghost use Rattle.scalar_fns.specs.Numbers.{monadic_on_number, dyadic_on_numbers};
-ghost use Rattle.scalar_fns.specs.NumberLists.{monadic_results, dyadic_results, paired_length, IsListAnswerTo};
+ghost use Rattle.scalar_fns.specs.NumberLists.{monadic_results, dyadic_results, results_by, paired_length, IsListAnswerTo};
 
 use crate::function::{Scalar1, Scalar2};
 use crate::kernels::*;
@@ -86,6 +87,64 @@ pub(crate) fn on_numbers(
     }
 }
 
+/// What is made with a function of two numbers, of whatever type it is, so that each has a loop of its
+/// own.
+pub trait WithFunction {
+    /// What is made.
+    type Output;
+
+    ghost makes: { Self → (ℤ → ℤ → Result ℤ Kind) → Self.Output → Type 0 };
+
+    /// Makes it with a function.
+    fn with<S: TwoNumbers + Copy>(self, step: S) -> Self::Output
+        ensures { makes self (S.gives step) result };
+}
+
+/// Makes something with the function of two numbers that is named.
+pub fn with_function<W: WithFunction>(function: Scalar2, made: W) -> W::Output
+    ensures { W.makes made (dyadic_on_numbers function) result }
+{
+    match function {
+        Scalar2::Plus => made.with(Plus),
+        Scalar2::Minus => made.with(Minus),
+        Scalar2::Times => made.with(Times),
+        Scalar2::Divide => made.with(Divide),
+        Scalar2::Power => made.with(Power),
+        Scalar2::Residue => made.with(Residue),
+        Scalar2::Maximum => made.with(Maximum),
+        Scalar2::Minimum => made.with(Minimum),
+        Scalar2::Less => made.with(Less),
+        Scalar2::LessOrEqual => made.with(LessOrEqual),
+        Scalar2::Equal => made.with(Equal),
+        Scalar2::GreaterOrEqual => made.with(GreaterOrEqual),
+        Scalar2::Greater => made.with(Greater),
+        Scalar2::NotEqual => made.with(NotEqual),
+        Scalar2::And => made.with(And),
+        Scalar2::Or => made.with(Or),
+        Scalar2::Nand => made.with(Nand),
+        Scalar2::Nor => made.with(Nor),
+    }
+}
+
+/// The results at each place of two lists of numbers.
+#[derive(Drop)]
+struct Results<'a> {
+    alloc: Global,
+    left: &'a [i64],
+    right: &'a [i64],
+    ghost fit: { length left.now ≢ 1 → length right.now ≢ 1 → length left.now ≡ length right.now },
+}
+
+impl<'a> WithFunction for Results<'a> {
+    type Output = Result<Vec<i64>, ApplyFault>;
+
+    ghost makes = { λ r gives result. IsListAnswerTo (all_or_first_error (results_by gives r.left.now r.right.now)) result × IfOk result (λ v. vec_len v ≡ paired_length r.left.now r.right.now) };
+
+    fn with<S: TwoNumbers + Copy>(self, step: S) -> Result<Vec<i64>, ApplyFault> {
+        on_lists(self.alloc, step, self.left, self.right)
+    }
+}
+
 /// A scalar function of two lists of numbers, place by place. A list of one number stands for as many
 /// as the other has.
 pub(crate) fn on_number_lists(
@@ -98,24 +157,8 @@ pub(crate) fn on_number_lists(
     ensures is { IsListAnswerTo (all_or_first_error (dyadic_results function left.now right.now)) result }
     ensures long { IfOk result (λ v. vec_len v ≡ paired_length left.now right.now) }
 {
-    match function {
-        Scalar2::Plus => on_lists(alloc, Plus, left, right),
-        Scalar2::Minus => on_lists(alloc, Minus, left, right),
-        Scalar2::Times => on_lists(alloc, Times, left, right),
-        Scalar2::Divide => on_lists(alloc, Divide, left, right),
-        Scalar2::Power => on_powers(alloc, left, right),
-        Scalar2::Residue => on_lists(alloc, Residue, left, right),
-        Scalar2::Maximum => on_lists(alloc, Maximum, left, right),
-        Scalar2::Minimum => on_lists(alloc, Minimum, left, right),
-        Scalar2::Less => on_lists(alloc, Less, left, right),
-        Scalar2::LessOrEqual => on_lists(alloc, LessOrEqual, left, right),
-        Scalar2::Equal => on_lists(alloc, Equal, left, right),
-        Scalar2::GreaterOrEqual => on_lists(alloc, GreaterOrEqual, left, right),
-        Scalar2::Greater => on_lists(alloc, Greater, left, right),
-        Scalar2::NotEqual => on_lists(alloc, NotEqual, left, right),
-        Scalar2::And => on_lists(alloc, And, left, right),
-        Scalar2::Or => on_lists(alloc, Or, left, right),
-        Scalar2::Nand => on_lists(alloc, Nand, left, right),
-        Scalar2::Nor => on_lists(alloc, Nor, left, right),
+    if function == Scalar2::Power {
+        return on_powers(alloc, left, right);
     }
+    with_function(function, Results { alloc, left, right })
 }
