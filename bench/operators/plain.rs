@@ -70,6 +70,48 @@ fn matrix_product(left: &[i64], right: &[i64], axis: usize) -> Option<Vec<i64>> 
     Some(product)
 }
 
+/// Each row and each column: what a function gives for their numbers, folded from the last to the first.
+fn product_by(left: &[i64], right: &[i64], axis: usize, each: impl Fn(i64, i64) -> i64, fold: impl Fn(i64, i64) -> i64) -> Option<Vec<i64>> {
+    let mut product = Vec::with_capacity(axis * axis);
+    for row in left.chunks_exact(axis) {
+        for column in 0..axis {
+            let mut result = each(row[axis - 1], right[(axis - 1) * axis + column]);
+            for k in (0..axis - 1).rev() {
+                result = fold(each(row[k], right[k * axis + column]), result);
+            }
+            product.push(result);
+        }
+    }
+    Some(product)
+}
+
+fn matrix_by_vector(matrix: &[i64], vector: &[i64]) -> Option<Vec<i64>> {
+    let mut product = Vec::with_capacity(vector.len());
+    for row in matrix.chunks_exact(vector.len()) {
+        let mut sum = 0i64;
+        for (number, factor) in row.iter().zip(vector).rev() {
+            sum = number.checked_mul(*factor)?.checked_add(sum)?;
+        }
+        product.push(sum);
+    }
+    Some(product)
+}
+
+fn fold(numbers: &[i64], step: impl Fn(i64, i64) -> i64) -> Option<Vec<i64>> {
+    let (last, front) = numbers.split_last()?;
+    Some(vec![front.iter().rev().fold(*last, |result, number| step(*number, result))])
+}
+
+fn fold_columns(numbers: &[i64], columns: usize, step: impl Fn(i64, i64) -> i64) -> Option<Vec<i64>> {
+    let mut folds = numbers[numbers.len() - columns..].to_vec();
+    for row in numbers[..numbers.len() - columns].chunks_exact(columns).rev() {
+        for (result, number) in folds.iter_mut().zip(row) {
+            *result = step(*number, *result);
+        }
+    }
+    Some(folds)
+}
+
 fn table(left: &[i64], right: &[i64]) -> Option<Vec<i64>> {
     let mut table = Vec::with_capacity(left.len() * right.len());
     for a in left {
@@ -104,4 +146,13 @@ fn main() {
     time("running-maximum", || running_maximum(&vector));
     time("matrix-product", || matrix_product(&factor, &factor, 256));
     time("table", || table(&side, &side));
+    let truths: Vec<i64> = vector.iter().map(|number| number & 1).collect();
+    time("equal-fold", || fold(&truths, |a, b| (a == b) as i64));
+    time("unequal-fold", || fold(&truths, |a, b| (a != b) as i64));
+    time("unequal-columns", || fold_columns(&matrix, 1000, |a, b| (a != b) as i64));
+    let equal = |a, b| (a == b) as i64;
+    time("any-equal", || product_by(&factor, &factor, 256, equal, |a, b| a | b));
+    time("all-equal", || product_by(&factor, &factor, 256, equal, |a, b| a & b));
+    time("least-greatest", || product_by(&factor, &factor, 256, i64::max, i64::min));
+    time("matrix-by-vector", || matrix_by_vector(&matrix, &side));
 }

@@ -58,3 +58,4 @@ pub mod Prefixes
 pub mod NextDifferences
 pub mod NextProducts
 pub mod NextOutcomes
+pub mod MetLists

@@ -8,8 +8,7 @@ ghost use Rattle.operator_fns.specs.Strides.{line_start};
 ghost use Rattle.operator_fns.specs.Columns.{ArePutOver, AreColumnFolds, EndsInFolds};
 
 use arrays_core::{ApplyFault, Kind, room_of};
-use scalar_fns::Scalar2;
-use scalar_fns::kernels::{And, Maximum, Minimum, Minus, Or, Plus, Times, TwoNumbers};
+use scalar_fns::kernels::{Plus, TwoNumbers};
 use std::alloc::Global;
 
 /// A function of two numbers that puts a whole row together with the folds of the columns below it.
@@ -27,19 +26,22 @@ pub(crate) trait RowFold: TwoNumbers {
     }
 }
 
-impl RowFold for Minus {}
+/// A function of two numbers that is put over rows number by number.
+#[derive(Clone, Copy)]
+pub(crate) struct Numberwise<S> {
+    /// The function.
+    pub(crate) step: S,
+}
 
-impl RowFold for Times {}
+impl<S: TwoNumbers> TwoNumbers for Numberwise<S> {
+    ghost gives = { λ n. S.gives n.step };
 
-impl RowFold for Maximum {}
+    fn at(&self, a: i64, b: i64) -> Result<i64, Kind> {
+        self.step.at(a, b)
+    }
+}
 
-impl RowFold for Minimum {}
-
-impl RowFold for And {}
-
-impl RowFold for Or {}
-
-impl RowFold for Scalar2 {}
+impl<S: TwoNumbers> RowFold for Numberwise<S> {}
 
 impl RowFold for Plus {
     /// A sum that leaves 64 bits is seen when the row has been added, so no number waits for the one before it.

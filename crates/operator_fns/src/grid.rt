@@ -9,12 +9,13 @@ ghost use Rattle.scalar_fns.specs.Numbers.{dyadic_on_numbers};
 ghost use Rattle.scalar_fns.specs.Items.{number_item};
 ghost use Rattle.operator_fns.specs.RowByColumn.{cell, IsGridOf, IsPlain};
 
+use crate::met_numbers::MetNumbers;
 use crate::number_rule::{NumberRule, collect_numbers};
 use crate::row_by_column::{NumberLines, StridedLine, fold_row};
 use crate::small_products::{add_up, small_products};
 use arrays_core::{ApplyFault, Array, Kind, Shape, size};
-use scalar_fns::Scalar2;
 use scalar_fns::kernels::{And, Equal, Maximum, Minimum, Or, Plus, Times, TwoNumbers};
+use scalar_fns::{Scalar2, WithFunction, with_function};
 use std::alloc::Global;
 
 /// How the rows of one list of numbers and the columns of another lie.
@@ -108,6 +109,37 @@ fn products_by<F: TwoNumbers, G: TwoNumbers>(
     collect_numbers(alloc, &rule, shape)
 }
 
+/// Rows and columns that are to be folded by the function that is named, and the shape of the result.
+#[derive(Drop)]
+struct Pairs<'a> {
+    alloc: Global,
+    fold: Scalar2,
+    left: &'a [i64],
+    right: &'a [i64],
+    grid: Grid,
+    shape: &'a Shape,
+    ghost within: { IsWithinLimits shape.now.items },
+    ghost fits: { IsGridOf grid (size_of shape.now.items) (length left.now) (length right.now) },
+}
+
+impl<'a> WithFunction for Pairs<'a> {
+    type Output = Result<Array, ApplyFault>;
+
+    ghost makes = { λ p gives result. IsAnswerTo (collected Nums p.shape.now.items (λ index. number_item (cell (dyadic_on_numbers p.fold) gives p.left.now p.right.now p.grid (places_before p.shape.now.items index)))) result };
+
+    fn with<G: TwoNumbers + Copy>(self, each: G) -> Result<Array, ApplyFault> {
+        let met = MetNumbers {
+            fold: self.fold,
+            each,
+            left: self.left,
+            right: self.right,
+            grid: self.grid,
+            places: size(self.shape.as_slice()) as usize,
+        };
+        met.array(self.alloc, self.shape)
+    }
+}
+
 /// The array of the sums of the products of rows and columns, a row of the result at a time where the numbers are small
 /// enough.
 fn sums_of_products(
@@ -156,6 +188,16 @@ pub(crate) fn grid_products(
         (Scalar2::Plus, Scalar2::Equal) => {
             products_by(alloc, &Plus, &Equal, left, right, grid, shape)
         }
-        _ => products_by(alloc, &fold, &each, left, right, grid, shape),
+        _ => {
+            let pairs = Pairs {
+                alloc,
+                fold,
+                left,
+                right,
+                grid,
+                shape,
+            };
+            with_function(each, pairs)
+        }
     }
 }

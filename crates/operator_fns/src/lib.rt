@@ -8,6 +8,7 @@ mod inner_product;
 mod limits;
 mod line_tree;
 mod linear_scan;
+mod met_numbers;
 mod number_rule;
 mod outcomes;
 mod outer_product;

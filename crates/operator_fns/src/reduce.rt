@@ -14,15 +14,15 @@ ghost use Rattle.index_region.specs.Answers.{IsFormAnswerTo, IsPlaceOf, HasTypeO
 ghost use Rattle.operator_fns.specs.Strides.{line_start};
 ghost use Rattle.operator_fns.specs.Reduce.{reduce_form, reduce_item, reduce_whole};
 
-use crate::columns::{RowFold, column_folds};
+use crate::columns::{Numberwise, RowFold, column_folds};
 use crate::number_rule::{NumberRule, collect_numbers};
 use crate::right_fold::{fold_line, identity_item, stride};
 use crate::sum::sum_list;
 use arrays_core::{ApplyFault, Array, Item, ItemType, Kind, Shape, shape_of, size, without_axis};
 use index_region::{Along, Primitive, Seen, apply, limited};
-use scalar_fns::Scalar2;
 use scalar_fns::folds::fold_numbers;
-use scalar_fns::kernels::{And, Maximum, Minimum, Minus, Or, Plus, Times, TwoNumbers};
+use scalar_fns::kernels::{Plus, TwoNumbers};
+use scalar_fns::{Scalar2, WithFunction, with_function};
 use std::alloc::Global;
 
 /// The lines of a list of numbers, each folded.
@@ -151,7 +151,40 @@ fn folds_by<S: RowFold>(
     }
 }
 
-/// The array of the folds of the lines by the scalar function that is named; the most usual ones have a loop of their own.
+/// Lines of some numbers that are to be folded, and the shape of their folds.
+#[derive(Drop)]
+struct Foldable<'a> {
+    alloc: Global,
+    numbers: &'a [i64],
+    stride: usize,
+    count: usize,
+    shape: &'a Shape,
+    ghost within: { IsWithinLimits shape.now.items },
+    ghost some: { 1 ≤ count },
+    ghost apart: { 0 < stride },
+    ghost whole: { size_of shape.now.items * count ≡ length numbers.now },
+    ghost even: { size_of shape.now.items % stride ≡ 0 },
+}
+
+impl<'a> WithFunction for Foldable<'a> {
+    type Output = Result<Array, ApplyFault>;
+
+    ghost makes = { λ l gives result. IsAnswerTo (collected Nums l.shape.now.items (λ index. number_item (folded gives (strided (pos 0) l.numbers.now (line_start l.stride l.count (places_before l.shape.now.items index)) l.stride l.count)))) result };
+
+    fn with<S: TwoNumbers + Copy>(self, step: S) -> Result<Array, ApplyFault> {
+        let step = Numberwise { step };
+        folds_by(
+            self.alloc,
+            &step,
+            self.numbers,
+            self.stride,
+            self.count,
+            self.shape,
+        )
+    }
+}
+
+/// The array of the folds of the lines by the scalar function that is named; each has a loop of its own.
 fn folds(
     alloc: Global,
     function: Scalar2,
@@ -167,16 +200,17 @@ fn folds(
     requires even { size_of shape.now.items % stride ≡ 0 }
     ensures { IsAnswerTo (collected Nums shape.now.items (λ index. number_item (folded (dyadic_on_numbers function) (strided (pos 0) numbers.now (line_start stride count (places_before shape.now.items index)) stride count)))) result }
 {
-    match function {
-        Scalar2::Plus => sums(alloc, numbers, stride, count, shape),
-        Scalar2::Minus => folds_by(alloc, &Minus, numbers, stride, count, shape),
-        Scalar2::Times => folds_by(alloc, &Times, numbers, stride, count, shape),
-        Scalar2::Maximum => folds_by(alloc, &Maximum, numbers, stride, count, shape),
-        Scalar2::Minimum => folds_by(alloc, &Minimum, numbers, stride, count, shape),
-        Scalar2::And => folds_by(alloc, &And, numbers, stride, count, shape),
-        Scalar2::Or => folds_by(alloc, &Or, numbers, stride, count, shape),
-        _ => folds_by(alloc, &function, numbers, stride, count, shape),
+    if function == Scalar2::Plus {
+        return sums(alloc, numbers, stride, count, shape);
     }
+    let lines = Foldable {
+        alloc,
+        numbers,
+        stride,
+        count,
+        shape,
+    };
+    with_function(function, lines)
 }
 
 /// Reduction, `f/B` and `f⌿B` (ISO/IEC 13751, "Reduction"): the lines along an axis, each put together by

@@ -1,0 +1,20 @@
+use Rattle.std.proofs.Common.{◌∙◌, ℕ, ap, subst, map}
+use Rattle.std.specs.List.{range_with_len}
+use Rattle.arrays_core.specs.Items.{all_or_first_error}
+use Rattle.arrays_core.specs.Shapes.{size}
+use Rattle.arrays_core.specs.Arrays.{with_items, IsAnswerTo}
+use Rattle.arrays_core.specs.declared.item.ItemType.TheVariants.{Nums}
+use Rattle.scalar_fns.specs.Numbers.{dyadic_on_numbers}
+use Rattle.scalar_fns.specs.NumberLists.{number_items}
+use Rattle.operator_fns.specs.RowByColumn.{cell}
+use Rattle.operator_fns.proofs.Placewise.{numbers_collected}
+use Rattle.operator_fns.proofs.grid.PairsWithFunction.with.Goals as goal
+
+pub returns : goal.returns
+returns g c =
+    let self = c.args.self in
+    let shape = self.shape.now.items in
+    let rule = cell (dyadic_on_numbers self.fold) (g.G.TwoNumbers.gives c.args.each) self.left.now self.right.now self.grid in
+    rw (numbers_collected shape rule)
+    (subst (λ (n : ℕ). IsAnswerTo (with_items Nums shape (number_items (all_or_first_error (map rule (range_with_len 0 n))))) c.array.result)
+    (c.size.ensures ∙ ap size c.as_slice.ensures) c.array.ensures)
