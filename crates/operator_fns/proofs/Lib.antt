@@ -59,3 +59,4 @@ pub mod NextDifferences
 pub mod NextProducts
 pub mod NextOutcomes
 pub mod MetLists
+pub mod NearBits
