@@ -71,7 +71,13 @@ fn matrix_product(left: &[i64], right: &[i64], axis: usize) -> Option<Vec<i64>> 
 }
 
 /// Each row and each column: what a function gives for their numbers, folded from the last to the first.
-fn product_by(left: &[i64], right: &[i64], axis: usize, each: impl Fn(i64, i64) -> i64, fold: impl Fn(i64, i64) -> i64) -> Option<Vec<i64>> {
+fn product_by(
+    left: &[i64],
+    right: &[i64],
+    axis: usize,
+    each: impl Fn(i64, i64) -> i64,
+    fold: impl Fn(i64, i64) -> i64,
+) -> Option<Vec<i64>> {
     let mut product = Vec::with_capacity(axis * axis);
     for row in left.chunks_exact(axis) {
         for column in 0..axis {
