@@ -7,7 +7,7 @@ use Rattle.operator_fns.specs.declared.summary.Summary.{Summary}
 use Rattle.operator_fns.specs.declared.line_tree.Line.{Line}
 use Rattle.operator_fns.specs.SumNodes.{Tells, sums_from}
 use Rattle.operator_fns.specs.LineTrees.{slot_at, node_at, slot_of, number_of, node_of, empty, AreKept}
-use Rattle.operator_fns.specs.LineBlocks.{line_of, block_at, HaveSlots, HaveNodes}
+use Rattle.operator_fns.specs.LineBlocks.{line_of, nodes_end, block_at, HaveSlots, HaveNodes}
 use Rattle.operator_fns.specs.SumTrees.{line_at, number_kept, nodes_in_line, AreLines}
 use Rattle.operator_fns.proofs.LineParts.{number_before, number_odd, number_last}
 use Rattle.operator_fns.proofs.LineSpots.{blocks, slots_are, lines_are}
@@ -29,7 +29,7 @@ numbers_stay l before after same i h = elim (cases_lt (i + 1) l.count) [
 ]
 
 -- where its nodes stay, what is kept of its parts does
-kept_stays : (count : ℕ) (x : ℕ → ℤ) (m n : ℕ → Summary) → ((meeting : ℕ) → 2 ≤ meeting → meeting < count → n meeting ≡ m meeting) → AreKept count x m → AreKept count x n
+pub kept_stays : (count : ℕ) (x : ℕ → ℤ) (m n : ℕ → Summary) → ((meeting : ℕ) → 2 ≤ meeting → meeting < count → n meeting ≡ m meeting) → AreKept count x m → AreKept count x n
 kept_stays count x m n nodes kept level place inside =
     let from = place * (4 * 2 ^ level) in
     let half = 2 * 2 ^ level in
@@ -49,7 +49,7 @@ line_is count step line apart =
     ap (line_at count step) (sym (div-add-mod' line step)) ∙ line_in_block count step (line / step) (line % step) (mod_below line step apart)
 
 -- a block before another one ends where that begins, or before
-units_before : (unit a b : ℕ) → a < b → a * unit + unit ≤ b * unit
+pub units_before : (unit a b : ℕ) → a < b → a * unit + unit ≤ b * unit
 units_before unit a b less =
     let most = mul-le (a + 1) unit b unit (omega (arith, less)) (omega arith) in
     let sum : (a + 1) * unit ≡ a * unit + unit = grind arith in
@@ -206,4 +206,31 @@ block_kept count step slots now after block apart here others kept line high = e
       let below : column < step = omega (arith, enough, high, sum) in
       let is : line ≡ block * step + column = omega (arith, enough) in
       subst (λ l. AreKept count (number_of l slots) (node_of l after)) (sym (ap (line_at count step) is ∙ line_in_block count step block column below)) (here column below)
+]
+
+-- ---- lines whose numbers are neighbours
+
+-- where their nodes begin
+pub line_node_first : (count line : ℕ) → (line_at count 1 line).node ≡ line * nodes_in_line count
+line_node_first count line =
+    let whole : line / 1 ≡ line = omega arith in
+    let none : line % 1 ≡ 0 = omega arith in
+    (λ i. whole i * (nodes_in_line count * 1) + none i) ∙ grind arith
+
+-- and end
+pub line_nodes_end : (count line : ℕ) → nodes_end (line_at count 1 line) ≡ (line + 1) * nodes_in_line count
+line_nodes_end count line = ap (λ n. n + (count - 1) / 2 * 1) (line_node_first count line) ∙ grind arith
+
+-- what is kept of one more line
+pub line_kept : (count : ℕ) (slots : List ℤ) (now after : List Summary) (line : ℕ) → AreKept count (number_of (line_at count 1 line) slots) (node_of (line_at count 1 line) after)
+    → ((p : ℕ) → p < line * nodes_in_line count → get_or after p empty ≡ get_or now p empty)
+    → ((other : ℕ) → other < line → AreKept count (number_of (line_at count 1 other) slots) (node_of (line_at count 1 other) now))
+    → (other : ℕ) → other < line + 1 → AreKept count (number_of (line_at count 1 other) slots) (node_of (line_at count 1 other) after)
+line_kept count slots now after line here others kept other below = elim (cases_lt other line) [
+  | inl less ↦
+      let ends = units_before (nodes_in_line count) other line less in
+      kept_stays count (number_of (line_at count 1 other) slots) (node_of (line_at count 1 other) now) (node_of (line_at count 1 other) after)
+      (λ m two high. others (node_at (line_at count 1 other) m) (omega (arith, line_node_first count other, ends, two, high)))
+      (kept other less)
+  | inr enough ↦ let is : line ≡ other = omega (arith, below, enough) in subst (λ k. AreKept count (number_of (line_at count 1 k) slots) (node_of (line_at count 1 k) after)) is here
 ]

@@ -40,6 +40,7 @@ pub mod BlockRows
 pub mod BlockParts
 pub mod BlockPairs
 pub mod LineNodes
+pub mod LineEnds
 pub mod LineSpots
 pub mod LinePlaces
 pub mod BlockLines

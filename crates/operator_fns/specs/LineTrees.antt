@@ -73,6 +73,12 @@ AreKeptIn from width count x node = (level place : ℕ) → from ≤ place * (4 
 abbrev pub AreKeptBeside : (at count : ℕ) → (ℕ → ℤ) → (ℕ → Summary) → Type 0
 AreKeptBeside at count x node = (level place : ℕ) → (at < place * (4 * 2 ^ level) ⊎ place * (4 * 2 ^ level) + 4 * 2 ^ level ≤ at) → IsKept count x node (place * (4 * 2 ^ level)) (2 * 2 ^ level)
 
+-- for those that end before a place, and for those that end there and are no wider than this
+abbrev pub AreKeptUpTo : (end width count : ℕ) → (ℕ → ℤ) → (ℕ → Summary) → Type 0
+AreKeptUpTo end width count x node = (level place : ℕ)
+    → (place * (4 * 2 ^ level) + 4 * 2 ^ level < end ⊎ place * (4 * 2 ^ level) + 4 * 2 ^ level ≡ end × 4 * 2 ^ level ≤ width)
+    → IsKept count x node (place * (4 * 2 ^ level)) (2 * 2 ^ level)
+
 -- the other half of the part twice as wide, parts of one width counted from 0
 abbrev pub other_half : ℕ → ℕ
 other_half block = if nat_eq (block % 2) 0 then block + 1 else block - 1

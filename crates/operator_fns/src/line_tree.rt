@@ -1,9 +1,9 @@
 //! The tree of sums of one line of numbers, among lists that hold those of several.
 
-ghost use Rattle.std.specs.Prelude.{◌≡◌, ◌≢◌, pos, get_or, ℕ, ◌+◌, ◌-◌, ◌*◌, ◌/◌, ◌%◌, ◌^◌, ◌<◌, ◌≤◌, min, ℤ, length, FitsSigned, All, ◌⊎◌};
+ghost use Rattle.std.specs.Prelude.{◌≡◌, ◌≢◌, pos, get_or, ℕ, ◌+◌, ◌-◌, ◌*◌, ◌/◌, ◌%◌, ◌^◌, ◌<◌, ◌≤◌, ◌++◌, ◌∷◌, [], min, ℤ, length, vec_len, vec_capacity, FitsSigned, All, ◌⊎◌};
 ghost use Rattle.std.specs.Int.{w64};
 ghost use Rattle.operator_fns.specs.SumNodes.{Sums, Tells, sums_from, join as join_of};
-ghost use Rattle.operator_fns.specs.LineTrees.{slot_at as slot_place, node_at as node_place, slot_of, number_of, node_of, HasSlots, IsIn, AreKept, AreKeptIn, AreKeptBeside, IsPart, empty, AreSameIn, other_half, sums_at, replaced, shorter};
+ghost use Rattle.operator_fns.specs.LineTrees.{slot_at as slot_place, node_at as node_place, slot_of, number_of, node_of, HasSlots, IsIn, AreKept, AreKeptIn, AreKeptBeside, AreKeptUpTo, IsPart, empty, AreSameIn, other_half, sums_at, replaced, shorter};
 ghost use Rattle.operator_fns.specs.SumTree.{IsWithinDigitsOf};
 ghost use Rattle.operator_fns.specs.LineBlocks.{line_of, slots_end, nodes_end, HaveSlots, HaveNodes, AreKeptBehind, AreKeptFrom};
 
@@ -223,6 +223,83 @@ fn renew(slots: &[i64], nodes: &mut [Summary], line: Line, place: usize)
     }
 }
 
+/// Joins what is kept of all parts that end at a place of a line whose numbers are neighbours, from the narrowest to the widest, where that of the four
+/// numbers before the place is, and that of all parts that end before it.
+fn close_parts(nodes: &mut [Summary], line: Line, end: usize)
+    requires few { line.count < 2 ^ 62 }
+    requires near { line.step ≡ 1 }
+    requires some { 0 < end }
+    requires below { end < line.count }
+    requires nodes { node_place line end < length nodes.old }
+    requires kept { (x : ℕ → ℤ) × AreKeptUpTo end 4 line.count x (node_of line nodes.old) }
+    ensures kept { (x : ℕ → ℤ) → AreKeptUpTo end 4 line.count x (node_of line nodes.old) → AreKeptIn 0 end line.count x (node_of line nodes.new) }
+    ensures others { (p : ℕ) → p < line.node → get_or nodes.new p empty ≡ get_or nodes.old p empty }
+    ensures length { length nodes.new ≡ length nodes.old }
+{
+    let mut half = 4;
+    while end % (2 * half) == 0 {
+        let node = line.node + (end - half) / 2 - 1;
+        nodes[node] = nodes[node - half / 4].join(&nodes[node + half / 4]);
+        half = 2 * half;
+    }
+}
+
+/// Puts a node behind the others, for which there is room. It takes no memory.
+fn push_node(nodes: &mut Vec<Summary>, node: Summary)
+    requires { vec_len nodes.old < vec_capacity nodes.old }
+    ensures items { nodes.new.items ≡ nodes.old.items ++ node ∷ [] }
+    ensures room { vec_capacity nodes.old ≤ vec_capacity nodes.new }
+{
+    match nodes.push(node) {
+        Ok(()) => (),
+        Err(_) => unreachable!(),
+    }
+}
+
+/// Puts the nodes of the four numbers from a place on behind the others, of a line whose numbers are neighbours: that of the part of these four, and one
+/// in whose place that of a wider part comes; and joins what is kept of all wider parts that end with the four. It takes no memory.
+fn push_four(slots: &[i64], nodes: &mut Vec<Summary>, line: Line, from: usize)
+    requires slots { HasSlots line (length slots.now) }
+    requires near { line.step ≡ 1 }
+    requires four { from % 4 ≡ 0 }
+    requires full { from + 4 < line.count }
+    requires here { vec_len nodes.old ≡ line.node + from / 2 }
+    requires room { line.node + from / 2 + 2 ≤ vec_capacity nodes.old }
+    requires kept { AreKeptIn 0 from line.count (number_of line slots.now) (node_of line nodes.old.items) }
+    ensures kept { AreKeptIn 0 (from + 4) line.count (number_of line slots.now) (node_of line nodes.new.items) }
+    ensures others { (p : ℕ) → p < line.node → get_or nodes.new.items p empty ≡ get_or nodes.old.items p empty }
+    ensures length { vec_len nodes.new ≡ line.node + from / 2 + 2 }
+    ensures room { vec_capacity nodes.old ≤ vec_capacity nodes.new }
+{
+    let at = line.slot + from;
+    let four = Summary::of_four(slots[at], slots[at + 1], slots[at + 2], slots[at + 3]);
+    push_node(nodes, four);
+    push_node(nodes, four);
+    close_parts(nodes, line, from + 4);
+}
+
+/// Puts the nodes of a line whose numbers are neighbours behind the others, from the first parts to the last. It takes no memory.
+pub(crate) fn push_line(slots: &[i64], nodes: &mut Vec<Summary>, line: Line)
+    requires slots { HasSlots line (length slots.now) }
+    requires near { line.step ≡ 1 }
+    requires some { 0 < line.count }
+    requires here { vec_len nodes.old ≡ line.node }
+    requires room { nodes_end line ≤ vec_capacity nodes.old }
+    ensures kept { AreKept line.count (number_of line slots.now) (node_of line nodes.new.items) }
+    ensures others { (p : ℕ) → p < line.node → get_or nodes.new.items p empty ≡ get_or nodes.old.items p empty }
+    ensures length { vec_len nodes.new ≡ nodes_end line }
+    ensures room { vec_capacity nodes.old ≤ vec_capacity nodes.new }
+{
+    let last = line.count - 1;
+    for four in 0..last / 4 {
+        push_four(slots, nodes, line, 4 * four);
+    }
+    if last % 4 > 1 {
+        push_node(nodes, Summary::none());
+    }
+    renew(slots, nodes, line, last);
+}
+
 /// Joins what is kept of the part of four numbers that begins at a place, for each line of a block.
 fn fours_row(slots: &[i64], nodes: &mut [Summary], first: Line, from: usize)
     requires slots { HaveSlots first (length slots.now) }
@@ -341,8 +418,24 @@ pub(crate) fn fill_block(slots: &[i64], nodes: &mut [Summary], first: Line)
     }
 }
 
-/// Puts the sum of two numbers in the place of the first one, for each two that lie in the slots of each line of a block.
-pub(crate) fn pair_block(slots: &mut [i64], first: Line)
+/// Puts the sum of two neighbours in the place of the first one, for each two that lie in the slots of a line whose numbers are neighbours.
+fn pair_neighbours(slots: &mut [i64], line: Line)
+    requires slots { HasSlots line (length slots.old) }
+    requires near { line.step ≡ 1 }
+    requires fit { All (FitsSigned w64) slots.old }
+    ensures numbers { (i : ℕ) → i < line.count → number_of line slots.new i ≡ slot_of line slots.old i }
+    ensures fit { All (FitsSigned w64) slots.new }
+    ensures others { (p : ℕ) → (p < line.slot ⊎ slots_end line ≤ p) → get_or slots.new p (pos 0) ≡ get_or slots.old p (pos 0) }
+    ensures length { length slots.new ≡ length slots.old }
+{
+    for pair in 0..line.count / 2 {
+        let here = line.slot + 2 * pair;
+        slots[here] = slots[here].wrapping_add(slots[here + 1]);
+    }
+}
+
+/// Puts the sum of two numbers in the place of the first one, for each two that lie in the slots of each line of a block, row by row.
+fn pair_rows(slots: &mut [i64], first: Line)
     requires slots { HaveSlots first (length slots.old) }
     requires fit { All (FitsSigned w64) slots.old }
     ensures numbers { (column : ℕ) → column < first.step → (i : ℕ) → i < first.count → number_of (line_of first column) slots.new i ≡ slot_of (line_of first column) slots.old i }
@@ -360,6 +453,22 @@ pub(crate) fn pair_block(slots: &mut [i64], first: Line)
             column = 0;
             place += 2;
         }
+    }
+}
+
+/// Puts the sum of two numbers in the place of the first one, for each two that lie in the slots of each line of a block.
+pub(crate) fn pair_block(slots: &mut [i64], first: Line)
+    requires slots { HaveSlots first (length slots.old) }
+    requires fit { All (FitsSigned w64) slots.old }
+    ensures numbers { (column : ℕ) → column < first.step → (i : ℕ) → i < first.count → number_of (line_of first column) slots.new i ≡ slot_of (line_of first column) slots.old i }
+    ensures fit { All (FitsSigned w64) slots.new }
+    ensures others { (p : ℕ) → (p < first.slot ⊎ slots_end first ≤ p) → get_or slots.new p (pos 0) ≡ get_or slots.old p (pos 0) }
+    ensures length { length slots.new ≡ length slots.old }
+{
+    if first.step == 1 {
+        pair_neighbours(slots, first);
+    } else {
+        pair_rows(slots, first);
     }
 }
 

@@ -1,11 +1,11 @@
 //! Sums of lists of which one number at a time is replaced.
 
-ghost use Rattle.std.specs.Prelude.{◌≡◌, ◌<◌, ◌≤◌, ◌-◌, ◌==◌, ◌++◌, ◌∷◌, [], ℕ, ℤ, List, All, FitsSigned, length, IfOk, slice_set};
+ghost use Rattle.std.specs.Prelude.{◌≡◌, ◌<◌, ◌≤◌, ◌-◌, ◌/◌, ◌^◌, ◌==◌, ◌++◌, ◌∷◌, [], ℕ, ℤ, List, All, FitsSigned, length, IfOk, slice_set};
 ghost use Rattle.std.specs.Int.{w64};
 ghost use Rattle.operator_fns.specs.SumTree.{IsReductionBySum, IsWithinDigitsOf};
-ghost use Rattle.operator_fns.specs.LineTrees.{one_line as line_of_all};
+ghost use Rattle.operator_fns.specs.LineTrees.{one_line as line_of_all, number_of, node_of, AreKept};
 
-use crate::line_tree::{Line, LineTree, fill_block, pair_block, write};
+use crate::line_tree::{Line, LineTree, pair_block, push_line, write};
 use crate::summary::Summary;
 use arrays_core::Kind;
 use std::alloc::{AllocError, Global};
@@ -42,6 +42,19 @@ fn copied(alloc: Global, numbers: &[i64]) -> Result<Vec<i64>, AllocError>
     numbers.to_vec(alloc)
 }
 
+/// What is kept of the parts of a list that is by itself. AllocError where memory for it is refused.
+fn nodes_of(alloc: Global, slots: &[i64]) -> Result<Vec<Summary>, AllocError>
+    requires { length slots.now < 2 ^ 62 }
+    ensures kept { IfOk result (λ v. AreKept (length slots.now) (number_of (line_of_all (length slots.now)) slots.now) (node_of (line_of_all (length slots.now)) v.items)) }
+    ensures sized { IfOk result (λ v. length v.items ≡ (length slots.now - 1) / 2) }
+{
+    let mut nodes = Vec::with_capacity(alloc, slots.len().saturating_sub(1) / 2)?;
+    if !slots.is_empty() {
+        push_line(slots, &mut nodes, one_line(slots.len()));
+    }
+    Ok(nodes)
+}
+
 /// Sums of a list of numbers, kept so that one number can be replaced by joining as many of them as the length has
 /// binary digits. Two neighbours are kept as the sum of both and the second; of four numbers, eight and so on the total is
 /// kept with the least and the greatest sum of an ending: 20 bytes a number in all.
@@ -70,8 +83,7 @@ impl SumTree {
         let mut slots = copied(alloc, numbers)?;
         let line = one_line(slots.len());
         pair_block(&mut slots, line);
-        let mut nodes = vec![in alloc; Summary::none(); slots.len().saturating_sub(1) / 2]?;
-        fill_block(&slots, &mut nodes, line);
+        let nodes = nodes_of(alloc, &slots)?;
         Ok(SumTree { slots, nodes })
     }
 

@@ -8,7 +8,7 @@ ghost use Rattle.operator_fns.specs.LineBlocks.{block_at};
 ghost use Rattle.operator_fns.specs.SumTree.{IsReductionBySum, IsWithinDigitsOf};
 ghost use Rattle.operator_fns.specs.SumTrees.{FitBehind, FitNext, with_lines, with_places, line_at, line_through as line_of_place, nodes_in_line, numbers_kept, line_count as lines_in, numbers_of_line, numbers_through, with_number, AreLines, AreAllKept, AreLineTrees};
 
-use crate::line_tree::{Line, LineTree, fill_block, pair_block, take_last, write};
+use crate::line_tree::{Line, LineTree, fill_block, pair_block, push_line, take_last, write};
 use crate::sum_tree::read_all;
 use crate::summary::Summary;
 use arrays_core::{Kind, copied, repeated, room_between, room_of, roomy};
@@ -101,6 +101,39 @@ fn fill_all(slots: &[i64], nodes: &mut [Summary], count: usize, step: usize)
     }
 }
 
+/// What is kept of the parts of lines whose numbers are neighbours. AllocError where memory for it is refused.
+fn nodes_of_lines(alloc: Global, slots: &[i64], count: usize) -> Result<Vec<Summary>, AllocError>
+    requires lines { AreLines count 1 (length slots.now) }
+    ensures kept { IfOk result (λ v. AreAllKept count 1 slots.now v.items) }
+    ensures sized { IfOk result (λ v. length v.items ≡ length slots.now / count * nodes_in_line count) }
+    ensures roomy { IfOk result (λ v. IsRoomy (length v.items) (vec_capacity v)) }
+{
+    let lines = slots.len() / count;
+    let mut nodes = Vec::with_capacity(alloc, room_of(lines * ((count - 1) / 2)))?;
+    for line in 0..lines {
+        push_line(slots, &mut nodes, nth_line(count, 1, line));
+    }
+    Ok(nodes)
+}
+
+/// What is kept of the parts of lines that lie between one another. AllocError where memory for it is refused.
+fn nodes_of_blocks(
+    alloc: Global,
+    slots: &[i64],
+    count: usize,
+    step: usize,
+) -> Result<Vec<Summary>, AllocError>
+    requires lines { AreLines count step (length slots.now) }
+    ensures kept { IfOk result (λ v. AreAllKept count step slots.now v.items) }
+    ensures sized { IfOk result (λ v. length v.items ≡ length slots.now / count * nodes_in_line count) }
+    ensures roomy { IfOk result (λ v. IsRoomy (length v.items) (vec_capacity v)) }
+{
+    let node_count = slots.len() / count * ((count - 1) / 2);
+    let mut nodes = roomy(repeated(alloc, Summary::of(0), node_count)?)?;
+    fill_all(slots, &mut nodes, count, step);
+    Ok(nodes)
+}
+
 /// Takes one more number for each line, where all lines lie between one another and these numbers in the slots behind the others. The count is that
 /// with these numbers; what is kept until then is that of the lines without them.
 fn take_places(slots: &mut [i64], nodes: &mut [Summary], count: usize, step: usize)
@@ -188,11 +221,13 @@ impl SumTrees {
         ensures { IfOk result (λ t. t ≡ record { count = count; step = step; numbers = numbers.now }) }
     {
         read_all(numbers);
-        let node_count = numbers.len() / count * ((count - 1) / 2);
         let mut slots = roomy(copied(alloc, numbers)?)?;
-        let mut nodes = roomy(repeated(alloc, Summary::of(0), node_count)?)?;
         pair_all(&mut slots, count, step);
-        fill_all(&slots, &mut nodes, count, step);
+        let nodes = if step == 1 {
+            nodes_of_lines(alloc, &slots, count)?
+        } else {
+            nodes_of_blocks(alloc, &slots, count, step)?
+        };
         Ok(SumTrees {
             count,
             step,

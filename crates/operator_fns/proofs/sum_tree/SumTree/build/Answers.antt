@@ -6,26 +6,6 @@ use Rattle.operator_fns.specs.LineBlocks.{line_of}
 use Rattle.operator_fns.proofs.ListTrees.{numbers_are, tree_from}
 use Rattle.operator_fns.proofs.sum_tree.SumTree.build.Goals as goal
 
-pub invariant_of-result : goal.invariant_of-result
-invariant_of-result c =
-    let slots = c.pair_block.new.slots in
-    let nodes = c.fill_block.new.nodes in
-    let slot_count : length slots ≡ c.in_ok-slots.slots.len = c.pair_block.ensures.length ∙ c.deref_mut.ensures.len in
-    let node_count : length nodes ≡ c.in_ok-nodes.nodes.len = c.fill_block.ensures.length ∙ c.deref_mut-2.ensures.len in
-    let slots_are = take_at slots (drop (length slots) c.in_ok-slots.slots.items) c.in_ok-slots.slots.len slot_count in
-    let nodes_are = take_at nodes (drop (length nodes) c.in_ok-nodes.nodes.items) c.in_ok-nodes.nodes.len node_count in
-    let lined : c.one_line-line.result ≡ one_line (length slots) = c.one_line-line.ensures ∙ ap one_line (c.len.ensures ∙ sym slot_count) in
-    let seen : c.deref.result.now ≡ slots = c.deref.ensures.value ∙ slots_are in
-    tree_from slots _ nodes _ (sym slots_are) (sym nodes_are) (record {
-      few = omega (arith, c.deref_mut.type_inv.1, c.pair_block.ensures.length);
-      fit = c.pair_block.ensures.fit;
-      sized = omega (arith, node_count, slot_count, c.in_ok-nodes.ensures.len, c.saturating_sub.ensures, c.len-2.ensures);
-      kept = subst (λ (l : Line). (column : ℕ) → column < l.step → AreKept l.count (number_of (line_of l column) slots) (node_of (line_of l column) nodes)) lined
-          (subst (λ (l : List ℤ). (column : ℕ) → column < c.one_line-line.result.step
-          → AreKept c.one_line-line.result.count (number_of (line_of c.one_line-line.result column) l) (node_of (line_of c.one_line-line.result column) nodes)) seen c.fill_block.ensures.kept)
-          0 (omega arith);
-    })
-
 pub returns : goal.returns
 returns c =
     let slots = c.pair_block.new.slots in

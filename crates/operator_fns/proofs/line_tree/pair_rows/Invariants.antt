@@ -2,7 +2,7 @@ use Rattle.std.proofs.Common.{◌≡◌, ℕ, ◌+◌, ◌-◌, ◌*◌, ◌%◌
 use Rattle.std.specs.List.{All}
 use Rattle.operator_fns.specs.LineBlocks.{line_of, slots_end}
 use Rattle.operator_fns.proofs.LineWrites.{ArePaired}
-use Rattle.operator_fns.proofs.line_tree.pair_block.Given as goal
+use Rattle.operator_fns.proofs.line_tree.pair_rows.Given as goal
 
 abbrev pub invariant-loop-place : goal.invariant-loop-place
 invariant-loop-place l = record {

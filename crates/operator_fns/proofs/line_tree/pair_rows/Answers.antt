@@ -8,7 +8,7 @@ use Rattle.operator_fns.specs.LineBlocks.{line_of, HaveSlots}
 use Rattle.operator_fns.proofs.Wrapping.{sum_left}
 use Rattle.operator_fns.proofs.LineWrites.{pair_end}
 use Rattle.operator_fns.proofs.BlockPairs.{done_next, rest_next, outside}
-use Rattle.operator_fns.proofs.line_tree.pair_block.Goals as goal
+use Rattle.operator_fns.proofs.line_tree.pair_rows.Goals as goal
 
 pub loop-place-preserved : goal.loop-place-preserved
 loop-place-preserved c =

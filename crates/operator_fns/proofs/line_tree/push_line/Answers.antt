@@ -1,0 +1,48 @@
+use Rattle.std.proofs.Common.{◌≡◌, ◌∙◌, ℕ, ◌+◌, ◌-◌, ◌*◌, ◌/◌, ◌<◌, ◌≤◌, ◌++◌, ◌∷◌, [], List, length, drop, get_or, ap, sym, subst, arith, rules}
+use Rattle.std.proofs.lemmas.List.{take_at, get_or_append_left}
+use Rattle.operator_fns.specs.declared.summary.Summary.{Summary}
+use Rattle.operator_fns.specs.LineTrees.{node_at, number_of, node_of, empty, AreKept, AreKeptBeside}
+use Rattle.operator_fns.proofs.LineEnds.{near_node, kept_beside_last}
+use Rattle.operator_fns.proofs.line_tree.push_line.Goals as goal
+use Rattle.operator_fns.proofs.line_tree.push_line.Goals.{After-deref_mut, then-last-gt1, else-last-gt1}
+
+-- what was there before the last one
+before : (c : After-deref_mut) (p : ℕ) → p < c.args.line.node + 2 * c.loop-four.four → get_or c.deref_mut.result.now p empty ≡ get_or c.loop-four.nodes.items p empty
+before c p below =
+    let nodes = c.loop-four.nodes.items in
+    let long : length nodes ≡ c.args.line.node + 2 * c.loop-four.four = search rules in
+    ap (λ (ns : List Summary). get_or ns p empty) c.deref_mut.ensures.value
+    ∙ elim c.if-last-gt1.branch [
+      | then-last-gt1 w ↦
+          ap (λ v. get_or v.items p empty) w.nodes-is ∙ ap (λ (ns : List Summary). get_or ns p empty) w.push_node.ensures.items
+          ∙ get_or_append_left nodes (w.none.result ∷ []) empty p (omega (arith, long, below))
+      | else-last-gt1 w ↦ ap (λ v. get_or v.items p empty) w.nodes-is
+    ]
+
+-- as many fours as end before the last number
+fours : (c : After-deref_mut) → c.loop-four.four ≡ (c.args.line.count - 1) / 4
+fours c = omega (arith, c.loop-four-test.false, c.loop-four.auto.four-end)
+
+pub renew-requires-clause-kept : goal.renew-requires-clause-kept
+renew-requires-clause-kept c =
+    let line = c.args.line in
+    kept_beside_last c.loop-four.four line.count (number_of line c.args.slots.now) (node_of line c.loop-four.nodes.items) (node_of line c.deref_mut.result.now) c.requires.some (fours c)
+    (λ meeting some below. before c (node_at line meeting) (omega (arith, near_node line meeting c.requires.near, some, below)))
+    c.loop-four.invariant.kept
+
+pub returns-clause-kept : goal.returns-clause-kept
+returns-clause-kept c =
+    let line = c.args.line in
+    let nodes = c.renew.new.nodes in
+    let long : length nodes ≡ c.if-last-gt1.nodes.len = c.renew.ensures.length ∙ c.deref_mut.ensures.len in
+    subst (λ (ns : List Summary). AreKept line.count (number_of line c.args.slots.now) (node_of line ns)) (sym (take_at nodes (drop (length nodes) c.if-last-gt1.nodes.items) c.if-last-gt1.nodes.len long))
+    c.renew.ensures.kept
+
+pub returns-clause-others : goal.returns-clause-others
+returns-clause-others c p below =
+    let line = c.args.line in
+    let nodes = c.renew.new.nodes in
+    let long : length nodes ≡ c.if-last-gt1.nodes.len = c.renew.ensures.length ∙ c.deref_mut.ensures.len in
+    ap (λ (ns : List Summary). get_or ns p empty) (take_at nodes (drop (length nodes) c.if-last-gt1.nodes.items) c.if-last-gt1.nodes.len long)
+    ∙ c.renew.ensures.others p (λ meeting some high e. let no : ⊥ = omega (arith, e, near_node line meeting c.requires.near, below) in no)
+    ∙ before (goal.at.returns-clause-others c).After-deref_mut p (omega (arith, below)) ∙ c.loop-four.invariant.others p below
