@@ -10,7 +10,7 @@ use Rattle.fold_trees.proofs.LineNodes.{meetings_apart}
 use Rattle.fold_trees.proofs.BlockRows.{row_away, nodes_within}
 
 -- powers of two
-half_or_same : (level at : ℕ) → 2 ^ level ≤ 2 ^ at → 2 * 2 ^ level ≤ 2 ^ at ⊎ 2 ^ level ≡ 2 ^ at
+pub half_or_same : (level at : ℕ) → 2 ^ level ≤ 2 ^ at → 2 * 2 ^ level ≤ 2 ^ at ⊎ 2 ^ level ≡ 2 ^ at
 half_or_same level at few = elim (cases_lt level at) [
   | inl less ↦
       let two : 0 < 2 = omega arith in
@@ -23,13 +23,13 @@ half_or_same level at few = elim (cases_lt level at) [
       inr (omega (arith, more, few))
 ]
 
-double_or_less : (level at : ℕ) → 2 ^ at < 2 ^ level → 2 * 2 ^ at ≤ 2 ^ level
+pub double_or_less : (level at : ℕ) → 2 ^ at < 2 ^ level → 2 * 2 ^ at ≤ 2 ^ level
 double_or_less level at more = elim (half_or_same at level (omega (arith, more))) [
   | inl double ↦ double
   | inr same ↦ let no : ⊥ = omega (arith, same, more) in absurd no
 ]
 
-some_of : (place level : ℕ) → 1 ≤ place * (2 * 2 ^ level) + 2 ^ level
+pub some_of : (place level : ℕ) → 1 ≤ place * (2 * 2 ^ level) + 2 ^ level
 some_of place level = let p = pow_pos level in omega (arith, p)
 
 -- ---- one more part that begins at a place

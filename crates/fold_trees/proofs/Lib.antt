@@ -6,6 +6,7 @@ pub mod ProductEndings
 pub mod NearProducts
 pub mod LineParts
 pub mod LineNodes
+pub mod LineEnds
 pub mod BlockRows
 pub mod BlockParts
 pub mod TreeSegments

@@ -1,11 +1,11 @@
 -- The blocks of lines among all lines.
-use Rattle.std.proofs.Common.{◌≡◌, ◌∙◌, ℕ, ◌+◌, ◌-◌, ◌*◌, ◌/◌, ◌^◌, ◌<◌, ◌≤◌, ◌⊎◌, ℤ, List, get_or, ap, sym, subst, arith, refl, inl, inr}
+use Rattle.std.proofs.Common.{◌≡◌, ◌∙◌, ℕ, ◌+◌, ◌-◌, ◌*◌, ◌/◌, ◌%◌, ◌^◌, ◌<◌, ◌≤◌, ◌⊎◌, ℤ, List, get_or, ap, sym, subst, arith, refl, inl, inr}
 use Rattle.std.proofs.lemmas.Bool.{cases_lt}
 use Rattle.std.proofs.lemmas.Nat.{div-mul-add, mod-mul-add, div_below, mod_below, mul-le}
 use Rattle.operator_fns.proofs.BlockLines.{block_count, block_ends}
 use Rattle.operator_fns.proofs.LineSpots.{blocks}
 use Rattle.fold_trees.specs.LineTrees.{node_at, number_of, node_of, AreKept}
-use Rattle.fold_trees.specs.LineBlocks.{line_of, block_at, HaveSlots, HaveNodes}
+use Rattle.fold_trees.specs.LineBlocks.{line_of, nodes_end, block_at, HaveSlots, HaveNodes}
 use Rattle.operator_fns.specs.SumTrees.{AreLines}
 use Rattle.fold_trees.specs.PartTrees.{line_at, nodes_in_line}
 use Rattle.fold_trees.proofs.TreePlaces.{nodes_are, fewer_nodes}
@@ -74,4 +74,34 @@ block_kept blank tells count step numbers now after block apart here others kept
       let is : line ≡ block * step + column = omega (arith, enough) in
       let lies = ap (line_at count step) is ∙ line_in_block count step block column below in
       subst (λ l. AreKept tells count (number_of l numbers) (node_of blank l after)) (sym lies) (here column below)
+]
+
+-- ---- lines whose numbers are neighbours
+
+-- where their nodes begin
+pub line_node_first : (count line : ℕ) → (line_at count 1 line).node ≡ line * nodes_in_line count
+line_node_first count line =
+    let whole : line / 1 ≡ line = omega arith in
+    let none : line % 1 ≡ 0 = omega arith in
+    (λ i. whole i * (nodes_in_line count * 1) + none i) ∙ grind arith
+
+-- and end
+pub line_nodes_end : (count line : ℕ) → nodes_end (line_at count 1 line) ≡ (line + 1) * nodes_in_line count
+line_nodes_end count line = ap (λ n. n + (count - 1) * 1) (line_node_first count line) ∙ grind arith
+
+-- what is kept of one more line
+pub line_kept : {P : Type 0} (blank : P) (tells : P → List ℤ → Type 0) (count : ℕ) (numbers : List ℤ) (now after : List P) (line : ℕ)
+    → AreKept tells count (number_of (line_at count 1 line) numbers) (node_of blank (line_at count 1 line) after)
+    → ((p : ℕ) → p < line * nodes_in_line count → get_or after p blank ≡ get_or now p blank)
+    → ((other : ℕ) → other < line → AreKept tells count (number_of (line_at count 1 other) numbers) (node_of blank (line_at count 1 other) now))
+    → (other : ℕ) → other < line + 1 → AreKept tells count (number_of (line_at count 1 other) numbers) (node_of blank (line_at count 1 other) after)
+line_kept blank tells count numbers now after line here others kept other below = elim (cases_lt other line) [
+  | inl less ↦
+      let l = line_at count 1 other in
+      let ends = units_before (nodes_in_line count) other line less in
+      kept_alike tells count (number_of l numbers) (number_of l numbers) (node_of blank l now) (node_of blank l after) (λ i h. refl)
+      (λ m one high. others (node_at l m) (omega (arith, line_node_first count other, ends, one, high))) (kept other less)
+  | inr enough ↦
+      let is : line ≡ other = omega (arith, below, enough) in
+      subst (λ k. AreKept tells count (number_of (line_at count 1 k) numbers) (node_of blank (line_at count 1 k) after)) is here
 ]

@@ -86,3 +86,9 @@ AreKeptIn tells from width count x node = (level place : ℕ) → from ≤ place
 abbrev pub AreKeptBeside : {P : Type 0} → (P → List ℤ → Type 0) → (at count : ℕ) → (ℕ → ℤ) → (ℕ → P) → Type 0
 AreKeptBeside tells at count x node = (level place : ℕ) → (at < place * (2 * 2 ^ level) ⊎ place * (2 * 2 ^ level) + 2 * 2 ^ level ≤ at)
     → IsKept tells count x node (place * (2 * 2 ^ level)) (2 ^ level)
+
+-- for those that end before a place, and for those that end there and are no wider than this
+abbrev pub AreKeptUpTo : {P : Type 0} → (P → List ℤ → Type 0) → (end width count : ℕ) → (ℕ → ℤ) → (ℕ → P) → Type 0
+AreKeptUpTo tells end width count x node = (level place : ℕ)
+    → (place * (2 * 2 ^ level) + 2 * 2 ^ level < end ⊎ place * (2 * 2 ^ level) + 2 * 2 ^ level ≡ end × 2 * 2 ^ level ≤ width)
+    → IsKept tells count x node (place * (2 * 2 ^ level)) (2 ^ level)

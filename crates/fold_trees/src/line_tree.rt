@@ -1,8 +1,8 @@
 //! What is kept of the parts of one line of numbers, among lists that hold those of several.
 
-ghost use Rattle.std.specs.Prelude.{◌≡◌, ◌≢◌, pos, get_or, ℕ, ◌+◌, ◌-◌, ◌*◌, ◌/◌, ◌%◌, ◌^◌, ◌<◌, ◌≤◌, ◌++◌, min, ℤ, List, length, ◌⊎◌};
+ghost use Rattle.std.specs.Prelude.{◌≡◌, ◌≢◌, pos, get_or, ℕ, ◌+◌, ◌-◌, ◌*◌, ◌/◌, ◌%◌, ◌^◌, ◌<◌, ◌≤◌, ◌++◌, ◌∷◌, [], min, ℤ, List, length, vec_len, vec_capacity, ◌⊎◌};
 ghost use Rattle.operator_fns.specs.SumTree.{IsWithinDigitsOf};
-ghost use Rattle.fold_trees.specs.LineTrees.{slot_at as slot_place, node_at as node_place, number_of, node_of, segment, HasSlots, IsIn, AreKept, AreKeptIn, AreKeptBeside, IsPart, AreSameIn, other_half, numbers_at, replaced, shorter};
+ghost use Rattle.fold_trees.specs.LineTrees.{slot_at as slot_place, node_at as node_place, number_of, node_of, segment, HasSlots, IsIn, AreKept, AreKeptIn, AreKeptBeside, AreKeptUpTo, IsPart, AreSameIn, other_half, numbers_at, replaced, shorter};
 ghost use Rattle.fold_trees.specs.LineBlocks.{line_of, slots_end, nodes_end, HaveSlots, HaveNodes, AreKeptBehind, AreKeptFrom};
 
 use crate::part::Part;
@@ -199,6 +199,83 @@ pub(crate) fn take_last<P: Part>(numbers: &[i64], nodes: &mut [P], line: Line)
     ensures node_count { length nodes.new ≡ length nodes.old }
 {
     renew(numbers, nodes, line, line.count - 1);
+}
+
+/// Joins what is kept of all parts that end at a place of a line whose numbers are neighbours, from the narrowest to the widest, where that of the two
+/// numbers before the place is, and that of all parts that end before it.
+fn close_parts<P: Part>(nodes: &mut [P], line: Line, end: usize)
+    requires few { line.count < 2 ^ 62 }
+    requires near { line.step ≡ 1 }
+    requires some { 0 < end }
+    requires below { end < line.count }
+    requires nodes { node_place line end < length nodes.old }
+    requires kept { (x : ℕ → ℤ) × AreKeptUpTo P.tells end 2 line.count x (node_of P.blank line nodes.old) }
+    ensures kept { (x : ℕ → ℤ) → AreKeptUpTo P.tells end 2 line.count x (node_of P.blank line nodes.old) → AreKeptIn P.tells 0 end line.count x (node_of P.blank line nodes.new) }
+    ensures others { (p : ℕ) → p < line.node → get_or nodes.new p P.blank ≡ get_or nodes.old p P.blank }
+    ensures length { length nodes.new ≡ length nodes.old }
+{
+    let mut half = 2;
+    while end % (2 * half) == 0 {
+        let node = line.node + (end - half) - 1;
+        nodes[node] = nodes[node - half / 2].join(&nodes[node + half / 2]);
+        half = 2 * half;
+    }
+}
+
+/// Puts a node behind the others, for which there is room. It takes no memory.
+fn push_node<P: Part>(nodes: &mut Vec<P>, node: P)
+    requires { vec_len nodes.old < vec_capacity nodes.old }
+    ensures items { nodes.new.items ≡ nodes.old.items ++ node ∷ [] }
+    ensures room { vec_capacity nodes.old ≤ vec_capacity nodes.new }
+{
+    match nodes.push(node) {
+        Ok(()) => (),
+        Err(_) => unreachable!(),
+    }
+}
+
+/// Puts the nodes of the two numbers from a place on behind the others, of a line whose numbers are neighbours: that of the part of these two, and one in
+/// whose place that of a wider part comes; and joins what is kept of all wider parts that end with the two. It takes no memory.
+fn push_pair<P: Part>(numbers: &[i64], nodes: &mut Vec<P>, line: Line, from: usize)
+    requires slots { HasSlots line (length numbers.now) }
+    requires near { line.step ≡ 1 }
+    requires two { from % 2 ≡ 0 }
+    requires full { from + 2 < line.count }
+    requires here { vec_len nodes.old ≡ line.node + from }
+    requires room { line.node + from + 2 ≤ vec_capacity nodes.old }
+    requires kept { AreKeptIn P.tells 0 from line.count (number_of line numbers.now) (node_of P.blank line nodes.old.items) }
+    ensures kept { AreKeptIn P.tells 0 (from + 2) line.count (number_of line numbers.now) (node_of P.blank line nodes.new.items) }
+    ensures others { (p : ℕ) → p < line.node → get_or nodes.new.items p P.blank ≡ get_or nodes.old.items p P.blank }
+    ensures length { vec_len nodes.new ≡ line.node + from + 2 }
+    ensures room { vec_capacity nodes.old ≤ vec_capacity nodes.new }
+{
+    let at = line.slot + from;
+    let pair = P::of(numbers[at]).join(&P::of(numbers[at + 1]));
+    push_node(nodes, pair);
+    push_node(nodes, pair);
+    close_parts(nodes, line, from + 2);
+}
+
+/// Puts the nodes of a line whose numbers are neighbours behind the others, from the first parts to the last. It takes no memory.
+pub(crate) fn push_line<P: Part>(numbers: &[i64], nodes: &mut Vec<P>, line: Line)
+    requires slots { HasSlots line (length numbers.now) }
+    requires near { line.step ≡ 1 }
+    requires some { 0 < line.count }
+    requires here { vec_len nodes.old ≡ line.node }
+    requires room { nodes_end line ≤ vec_capacity nodes.old }
+    ensures kept { AreKept P.tells line.count (number_of line numbers.now) (node_of P.blank line nodes.new.items) }
+    ensures others { (p : ℕ) → p < line.node → get_or nodes.new.items p P.blank ≡ get_or nodes.old.items p P.blank }
+    ensures length { vec_len nodes.new ≡ nodes_end line }
+    ensures room { vec_capacity nodes.old ≤ vec_capacity nodes.new }
+{
+    let last = line.count - 1;
+    for pair in 0..last / 2 {
+        push_pair(numbers, nodes, line, 2 * pair);
+    }
+    if last % 2 == 1 {
+        push_node(nodes, P::of(numbers[line.slot + last]));
+    }
+    renew(numbers, nodes, line, last);
 }
 
 /// Joins two numbers that are neighbours, for each line of a block.

@@ -9,7 +9,7 @@ ghost use Rattle.fold_trees.specs.LineBlocks.{block_at};
 ghost use Rattle.fold_trees.specs.FoldTrees.{IsReductionBy};
 ghost use Rattle.fold_trees.specs.PartTrees.{line_at, nodes_in_line, AreAllKept, AreLineTrees};
 
-use crate::line_tree::{Line, LineTree, fill_block, take_last, write};
+use crate::line_tree::{Line, LineTree, fill_block, push_line, take_last, write};
 use crate::part::Part;
 use arrays_core::{Kind, copied, repeated, room_between, room_of, roomy};
 use std::alloc::{AllocError, Global};
@@ -90,6 +90,43 @@ fn fill_all<P: Part>(numbers: &[i64], nodes: &mut [P], count: usize, step: usize
     for block in 0..numbers.len() / count / step {
         fill_block(numbers, nodes, nth_block(count, step, block));
     }
+}
+
+/// What is kept of the parts of lines whose numbers are neighbours. AllocError where memory for it is refused.
+fn nodes_of_lines<P: Part>(
+    alloc: Global,
+    numbers: &[i64],
+    count: usize,
+) -> Result<Vec<P>, AllocError>
+    requires lines { AreLines count 1 (length numbers.now) }
+    ensures kept { IfOk result (λ v. AreAllKept P.blank P.tells count 1 numbers.now v.items) }
+    ensures sized { IfOk result (λ v. length v.items ≡ length numbers.now / count * nodes_in_line count) }
+    ensures roomy { IfOk result (λ v. IsRoomy (length v.items) (vec_capacity v)) }
+{
+    let lines = numbers.len() / count;
+    let mut nodes = Vec::with_capacity(alloc, room_of(lines * (count - 1)))?;
+    for line in 0..lines {
+        push_line(numbers, &mut nodes, nth_line(count, 1, line));
+    }
+    Ok(nodes)
+}
+
+/// What is kept of the parts of lines that lie between one another. AllocError where memory for it is refused.
+fn nodes_of_blocks<P: Part>(
+    alloc: Global,
+    numbers: &[i64],
+    count: usize,
+    step: usize,
+) -> Result<Vec<P>, AllocError>
+    requires lines { AreLines count step (length numbers.now) }
+    ensures kept { IfOk result (λ v. AreAllKept P.blank P.tells count step numbers.now v.items) }
+    ensures sized { IfOk result (λ v. length v.items ≡ length numbers.now / count * nodes_in_line count) }
+    ensures roomy { IfOk result (λ v. IsRoomy (length v.items) (vec_capacity v)) }
+{
+    let node_count = numbers.len() / count * (count - 1);
+    let mut nodes = roomy(repeated(alloc, P::of(0), node_count)?)?;
+    fill_all(numbers, &mut nodes, count, step);
+    Ok(nodes)
 }
 
 /// Takes one more number for each line, where all lines lie between one another and these numbers behind the others. The count is that with
@@ -174,9 +211,11 @@ impl<P: Part> PartTrees<P> {
         requires whole { length numbers.now % (count * step) ≡ 0 }
         ensures { IfOk result (λ t. t ≡ record { count = count; step = step; numbers = numbers.now }) }
     {
-        let node_count = numbers.len() / count * (count - 1);
-        let mut nodes = roomy(repeated(alloc, P::of(0), node_count)?)?;
-        fill_all(numbers, &mut nodes, count, step);
+        let nodes = if step == 1 {
+            nodes_of_lines(alloc, numbers, count)?
+        } else {
+            nodes_of_blocks(alloc, numbers, count, step)?
+        };
         let numbers = roomy(copied(alloc, numbers)?)?;
         Ok(PartTrees {
             count,

@@ -1,0 +1,84 @@
+use Rattle.std.proofs.Common.{◌≡◌, ◌∙◌, ℕ, ◌+◌, ◌-◌, ◌%◌, ◌<◌, ◌≤◌, ◌++◌, ◌∷◌, [], List, length, drop, get_or, pos, ap, sym, subst, arith, rules, to_z, of_z, w64, FitsSigned}
+use Rattle.std.proofs.lemmas.Int.{to_z-of_z}
+use Rattle.std.proofs.lemmas.List.{take_at, length-append, get_or_append_left, get_or_push}
+use Rattle.fold_trees.specs.LineTrees.{slot_at, node_at, number_of, node_of, segment, AreKeptIn, AreKeptUpTo}
+use Rattle.fold_trees.proofs.LineEnds.{near_node, near_slot, pair_more}
+use Rattle.fold_trees.proofs.line_tree.push_pair.Goals as goal
+use Rattle.fold_trees.proofs.line_tree.push_pair.Goals.{After-deref_mut}
+use Rattle.fold_trees.proofs.line_tree.push_pair.Given.{Over}
+
+-- the nodes that are pushed
+pushed : (g : Over) (c : After-deref_mut g) → c.deref_mut.result.now ≡ (c.args.nodes.now.items ++ c.join-pair.result ∷ []) ++ c.join-pair.result ∷ []
+pushed g c = c.deref_mut.ensures.value ∙ c.push_node-2.ensures.items ∙ ap (λ ns. ns ++ c.join-pair.result ∷ []) c.push_node.ensures.items
+
+-- what was there before
+before : (g : Over) (c : After-deref_mut g) (p : ℕ) → p < c.args.line.node + c.args.from → get_or c.deref_mut.result.now p g.P.Part.blank ≡ get_or c.args.nodes.now.items p g.P.Part.blank
+before g c p below =
+    let blank = g.P.Part.blank in
+    let s = c.join-pair.result in
+    let nodes = c.args.nodes.now.items in
+    let long : length nodes ≡ c.args.line.node + c.args.from = search rules in
+    let inside : p < length nodes = omega (arith, long, below) in
+    let longer : length (nodes ++ s ∷ []) ≡ length nodes + 1 = length-append nodes (s ∷ []) in
+    ap (λ ns. get_or ns p blank) (pushed g c)
+    ∙ get_or_append_left (nodes ++ s ∷ []) (s ∷ []) blank p (omega (arith, inside, longer))
+    ∙ get_or_append_left nodes (s ∷ []) blank p inside
+
+-- the part of the two
+made : (g : Over) (c : After-deref_mut g) → g.P.Part.tells c.join-pair.result (segment (number_of c.args.line c.args.numbers.now) c.args.from 2)
+made g c =
+    let line = c.args.line in
+    let numbers = c.args.numbers.now in
+    let from = c.args.from in
+    let at = line.slot + from in
+    let near = c.requires.near in
+    let f0 : FitsSigned w64 (get_or numbers at (pos 0)) = search rules in
+    let f1 : FitsSigned w64 (get_or numbers (at + 1) (pos 0)) = search rules in
+    let a0 : at ≡ slot_at line from = omega (arith, near_slot line from near) in
+    let a1 : at + 1 ≡ slot_at line (from + 1) = omega (arith, near_slot line (from + 1) near) in
+    let x0 : to_z w64 (of_z w64 (get_or numbers at (pos 0))) ≡ number_of line numbers from = to_z-of_z w64 _ f0 ∙ ap (λ p. get_or numbers p (pos 0)) a0 in
+    let x1 : to_z w64 (of_z w64 (get_or numbers (at + 1) (pos 0))) ≡ number_of line numbers (from + 1) = to_z-of_z w64 _ f1 ∙ ap (λ p. get_or numbers p (pos 0)) a1 in
+    subst (g.P.Part.tells c.join-pair.result) (λ i. x0 i ∷ x1 i ∷ [])
+    (c.join-pair.ensures (to_z w64 (of_z w64 (get_or numbers at (pos 0))) ∷ []) (to_z w64 (of_z w64 (get_or numbers (at + 1) (pos 0))) ∷ []) c.of.ensures c.of-2.ensures)
+
+kept : (g : Over) (c : After-deref_mut g)
+    → AreKeptUpTo g.P.Part.tells (c.args.from + 2) 2 c.args.line.count (number_of c.args.line c.args.numbers.now) (node_of g.P.Part.blank c.args.line c.deref_mut.result.now)
+kept g c =
+    let blank = g.P.Part.blank in
+    let tells = g.P.Part.tells in
+    let line = c.args.line in
+    let from = c.args.from in
+    let s = c.join-pair.result in
+    let nodes = c.args.nodes.now.items in
+    let now = c.deref_mut.result.now in
+    let x = number_of line c.args.numbers.now in
+    let long : length nodes ≡ line.node + from = search rules in
+    let longer : length (nodes ++ s ∷ []) ≡ length nodes + 1 = length-append nodes (s ∷ []) in
+    let at : node_at line (from + 1) ≡ line.node + from = omega (arith, near_node line (from + 1) c.requires.near) in
+    let here : node_of blank line now (from + 1) ≡ s =
+    ap (λ k. get_or now k blank) at ∙ ap (λ ns. get_or ns (line.node + from) blank) (pushed g c)
+    ∙ get_or_append_left (nodes ++ s ∷ []) (s ∷ []) blank (line.node + from) (omega (arith, long, longer))
+    ∙ get_or_push nodes s blank (line.node + from) long in
+    pair_more tells from line.count x (node_of blank line nodes) (node_of blank line now) c.requires.two (omega (arith, c.requires.full))
+    (λ meeting some below. before g c (node_at line meeting) (omega (arith, near_node line meeting c.requires.near, some, below)))
+    (subst (λ t. tells t (segment x from 2)) (sym here) (made g c)) c.requires.kept
+
+pub close_parts-requires-clause-kept : goal.close_parts-requires-clause-kept
+close_parts-requires-clause-kept g c = (number_of c.args.line c.args.numbers.now, kept g c)
+
+pub returns-clause-kept : goal.returns-clause-kept
+returns-clause-kept g c =
+    let line = c.args.line in
+    let x = number_of line c.args.numbers.now in
+    let nodes = c.close_parts.new.nodes in
+    let long : length nodes ≡ c.push_node-2.new.nodes.len = c.close_parts.ensures.length ∙ c.deref_mut.ensures.len in
+    subst (λ ns. AreKeptIn g.P.Part.tells 0 (c.args.from + 2) line.count x (node_of g.P.Part.blank line ns))
+    (sym (take_at nodes (drop (length nodes) c.push_node-2.new.nodes.items) c.push_node-2.new.nodes.len long))
+    (c.close_parts.ensures.kept x (kept g (goal.at.returns-clause-kept g c).After-deref_mut))
+
+pub returns-clause-others : goal.returns-clause-others
+returns-clause-others g c p below =
+    let nodes = c.close_parts.new.nodes in
+    let long : length nodes ≡ c.push_node-2.new.nodes.len = c.close_parts.ensures.length ∙ c.deref_mut.ensures.len in
+    ap (λ ns. get_or ns p g.P.Part.blank) (take_at nodes (drop (length nodes) c.push_node-2.new.nodes.items) c.push_node-2.new.nodes.len long)
+    ∙ c.close_parts.ensures.others p below ∙ before g (goal.at.returns-clause-others g c).After-deref_mut p (omega (arith, below))

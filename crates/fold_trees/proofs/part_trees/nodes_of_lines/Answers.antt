@@ -1,0 +1,27 @@
+use Rattle.std.proofs.Common.{◌≡◌, ◌∙◌, ℕ, ◌+◌, ◌*◌, ◌<◌, ◌≤◌, get_or, ap, sym, subst, arith}
+use Rattle.fold_trees.specs.declared.line_tree.Line.{Line}
+use Rattle.fold_trees.specs.LineTrees.{number_of, node_of, AreKept}
+use Rattle.fold_trees.specs.LineBlocks.{nodes_end}
+use Rattle.fold_trees.specs.PartTrees.{nodes_in_line}
+use Rattle.fold_trees.proofs.TreeBlocks.{line_node_first, line_nodes_end, line_kept}
+use Rattle.fold_trees.proofs.part_trees.nodes_of_lines.Goals as goal
+
+pub loop-line-preserved : goal.loop-line-preserved
+loop-line-preserved g c =
+    let blank = g.P.Part.blank in
+    let tells = g.P.Part.tells in
+    let count = c.args.count in
+    let numbers = c.args.numbers.now in
+    let line = c.loop-line.line in
+    let now = c.loop-line.nodes.items in
+    let after = c.push_line.new.nodes.items in
+    let inv = c.loop-line.invariant in
+    let told = c.push_line.ensures in
+    let is = c.nth_line.ensures in
+    let here = subst (λ (l : Line). AreKept tells l.count (number_of l numbers) (node_of blank l after)) is told.kept in
+    let others = subst (λ (l : Line). (p : ℕ) → p < l.node → get_or after p blank ≡ get_or now p blank) is told.others in
+    record {
+      kept = line_kept blank tells count numbers now after line here (λ p below. others p (omega (arith, below, line_node_first count line))) inv.kept;
+      sized = told.length ∙ ap nodes_end is ∙ line_nodes_end count line;
+      room = omega (arith, inv.room, told.room);
+    }
