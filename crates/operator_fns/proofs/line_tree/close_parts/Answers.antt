@@ -1,4 +1,4 @@
-use Rattle.std.proofs.Common.{◌≡◌, ◌∙◌, ℕ, suc, ◌+◌, ◌-◌, ◌*◌, ◌/◌, ◌<◌, List, length, get_or, set, ap, sym, subst, arith, inl}
+use Rattle.std.proofs.Common.{◌≡◌, ◌∙◌, ℕ, suc, ◌+◌, ◌-◌, ◌*◌, ◌/◌, ◌<◌, List, length, get_or, set, ap, sym, subst, arith}
 use Rattle.std.proofs.lemmas.List.{length-set, get_or-set_other}
 use Rattle.std.proofs.lemmas.Nat.{pow_pos}
 use Rattle.operator_fns.specs.declared.summary.Summary.{Summary}
@@ -57,7 +57,7 @@ loop-half-preserved c =
     let inside : node < length nodes = omega (arith, c.requires.nodes, inv.sized, near_node line end c.requires.near, ends, inv.half.1, p) in
     record {
       half = (suc low, ap (λ k. 2 * k) inv.half.1 ∙ grind arith);
-      within = inl (omega (arith, ends));
+      within = omega (arith, ends);
       kept = λ x h.
           let kept = inv.kept x h in
           let first = subst (λ k. Tells (get_or nodes k empty) (sums_from x (part * (2 * half)) half)) (first_is line nodes x end half low inv.half.1 whole c.requires.some c.requires.below kept c.requires.near)

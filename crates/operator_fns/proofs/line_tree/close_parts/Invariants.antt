@@ -1,12 +1,12 @@
-use Rattle.std.proofs.Common.{◌≡◌, ℕ, ℤ, ◌-◌, ◌*◌, ◌^◌, ◌<◌, ◌≤◌, ◌⊎◌, length, get_or}
+use Rattle.std.proofs.Common.{◌≡◌, ℕ, ℤ, ◌-◌, ◌*◌, ◌^◌, ◌<◌, ◌≤◌, length, get_or}
 use Rattle.operator_fns.specs.LineTrees.{node_of, empty, AreKeptUpTo}
 use Rattle.operator_fns.proofs.line_tree.close_parts.Given as goal
 
 abbrev pub invariant-loop-half : goal.invariant-loop-half
 invariant-loop-half l = record {
   half : (low : ℕ) × (l.half ≡ 4 * 2 ^ low);
-  within : l.half ≤ l.end ⊎ l.half ≡ 4;
-  kept : (x : ℕ → ℤ) → AreKeptUpTo l.end 4 l.line.count x (node_of l.line l.initial.nodes) → AreKeptUpTo l.end l.half l.line.count x (node_of l.line l.nodes);
+  within : l.half ≤ l.end;
+  kept : (x : ℕ → ℤ) → AreKeptUpTo l.end l.width l.line.count x (node_of l.line l.initial.nodes) → AreKeptUpTo l.end l.half l.line.count x (node_of l.line l.nodes);
   others : (p : ℕ) → p < l.line.node → get_or l.nodes p empty ≡ get_or l.initial.nodes p empty;
   sized : length l.nodes ≡ length l.initial.nodes;
 }

@@ -11,13 +11,13 @@ use Rattle.operator_fns.proofs.line_tree.push_four.Goals as goal
 use Rattle.operator_fns.proofs.line_tree.push_four.Goals.{After-deref_mut}
 
 -- the nodes that are pushed
-pushed : (c : After-deref_mut) → c.deref_mut.result.now ≡ (c.args.nodes.now.items ++ c.of_four-four.result ∷ []) ++ c.of_four-four.result ∷ []
-pushed c = c.deref_mut.ensures.value ∙ c.push_node-2.ensures.items ∙ ap (λ (ns : List Summary). ns ++ c.of_four-four.result ∷ []) c.push_node.ensures.items
+pushed : (c : After-deref_mut) → c.deref_mut.result.now ≡ (c.args.nodes.now.items ++ c.four_from-four.result ∷ []) ++ c.four_from-four.result ∷ []
+pushed c = c.deref_mut.ensures.value ∙ c.push_node-2.ensures.items ∙ ap (λ (ns : List Summary). ns ++ c.four_from-four.result ∷ []) c.push_node.ensures.items
 
 -- what was there before
 before : (c : After-deref_mut) (p : ℕ) → p < c.args.line.node + c.args.from / 2 → get_or c.deref_mut.result.now p empty ≡ get_or c.args.nodes.now.items p empty
 before c p below =
-    let s = c.of_four-four.result in
+    let s = c.four_from-four.result in
     let nodes = c.args.nodes.now.items in
     let long : length nodes ≡ c.args.line.node + c.args.from / 2 = search rules in
     let inside : p < length nodes = omega (arith, long, below) in
@@ -26,38 +26,11 @@ before c p below =
     ∙ get_or_append_left (nodes ++ s ∷ []) (s ∷ []) empty p (omega (arith, inside, longer))
     ∙ get_or_append_left nodes (s ∷ []) empty p inside
 
--- the part of the four
-made : (c : After-deref_mut) → Tells c.of_four-four.result (sums_from (number_of c.args.line c.args.slots.now) c.args.from 4)
-made c =
-    let line = c.args.line in
-    let slots = c.args.slots.now in
-    let from = c.args.from in
-    let at = line.slot + from in
-    let near = c.requires.near in
-    let even : from % 2 ≡ 0 = omega (arith, c.requires.four) in
-    let full : from + 4 ≤ line.count = omega (arith, c.requires.full) in
-    let f0 : FitsSigned w64 (get_or slots at (pos 0)) = search rules in
-    let f1 : FitsSigned w64 (get_or slots (at + 1) (pos 0)) = search rules in
-    let f2 : FitsSigned w64 (get_or slots (at + 2) (pos 0)) = search rules in
-    let f3 : FitsSigned w64 (get_or slots (at + 3) (pos 0)) = search rules in
-    let a0 : at ≡ slot_at line from = omega (arith, near_slot line from near) in
-    let a1 : at + 1 ≡ slot_at line (from + 1) = omega (arith, near_slot line (from + 1) near) in
-    let a2 : at + 2 ≡ slot_at line (from + 2) = omega (arith, near_slot line (from + 2) near) in
-    let a3 : at + 3 ≡ slot_at line (from + 3) = omega (arith, near_slot line (from + 3) near) in
-    let x0 : to_z w64 (of_z w64 (get_or slots at (pos 0))) ≡ slot_of line slots from = to_z-of_z w64 _ f0 ∙ ap (λ p. get_or slots p (pos 0)) a0 in
-    let x1 : to_z w64 (of_z w64 (get_or slots (at + 1) (pos 0))) ≡ slot_of line slots (from + 1) = to_z-of_z w64 _ f1 ∙ ap (λ p. get_or slots p (pos 0)) a1 in
-    let x2 : to_z w64 (of_z w64 (get_or slots (at + 2) (pos 0))) ≡ slot_of line slots (from + 2) = to_z-of_z w64 _ f2 ∙ ap (λ p. get_or slots p (pos 0)) a2 in
-    let x3 : to_z w64 (of_z w64 (get_or slots (at + 3) (pos 0))) ≡ slot_of line slots (from + 3) = to_z-of_z w64 _ f3 ∙ ap (λ p. get_or slots p (pos 0)) a3 in
-    subst (Tells c.of_four-four.result)
-    ((λ i. join (join (single (int_wrap w64 (x0 i -ℤ x1 i))) (single (x1 i))) (join (single (int_wrap w64 (x2 i -ℤ x3 i))) (single (x3 i))))
-    ∙ sums_four line slots from even full)
-    c.of_four-four.ensures
-
 kept : (c : After-deref_mut) → AreKeptUpTo (c.args.from + 4) 4 c.args.line.count (number_of c.args.line c.args.slots.now) (node_of c.args.line c.deref_mut.result.now)
 kept c =
     let line = c.args.line in
     let from = c.args.from in
-    let s = c.of_four-four.result in
+    let s = c.four_from-four.result in
     let nodes = c.args.nodes.now.items in
     let now = c.deref_mut.result.now in
     let long : length nodes ≡ line.node + from / 2 = search rules in
@@ -69,7 +42,7 @@ kept c =
     ∙ get_or_push nodes s empty (line.node + from / 2) long in
     four_more from line.count (number_of line c.args.slots.now) (node_of line nodes) (node_of line now) c.requires.four (omega (arith, c.requires.full))
     (λ meeting some below. before c (node_at line meeting) (omega (arith, near_node line meeting c.requires.near, some, below, c.requires.four)))
-    (subst (λ (t : Summary). Tells t (sums_from (number_of line c.args.slots.now) from 4)) (sym here) (made c)) c.requires.kept
+    (subst (λ (t : Summary). Tells t (sums_from (number_of line c.args.slots.now) from 4)) (sym here) c.four_from-four.ensures) c.requires.kept
 
 pub close_parts-requires-clause-kept : goal.close_parts-requires-clause-kept
 close_parts-requires-clause-kept c = (number_of c.args.line c.args.slots.now, kept c)

@@ -1,4 +1,4 @@
-use Rattle.std.proofs.Common.{◌≡◌, ◌∙◌, ℕ, ◌+◌, ◌-◌, ◌*◌, ◌/◌, ◌<◌, ◌≤◌, ◌++◌, ◌∷◌, [], List, length, drop, get_or, ap, sym, subst, arith, rules}
+use Rattle.std.proofs.Common.{◌≡◌, ◌∙◌, ℕ, ◌+◌, ◌-◌, ◌*◌, ◌/◌, ◌<◌, ◌≤◌, ◌++◌, ◌∷◌, [], List, length, drop, get_or, refl, ap, sym, subst, arith, rules}
 use Rattle.std.proofs.lemmas.List.{take_at, get_or_append_left}
 use Rattle.operator_fns.specs.declared.summary.Summary.{Summary}
 use Rattle.operator_fns.specs.LineTrees.{node_at, number_of, node_of, empty, AreKept, AreKeptBeside}
@@ -7,10 +7,10 @@ use Rattle.operator_fns.proofs.line_tree.push_line.Goals as goal
 use Rattle.operator_fns.proofs.line_tree.push_line.Goals.{After-deref_mut, then-last-gt1, else-last-gt1}
 
 -- what was there before the last one
-before : (c : After-deref_mut) (p : ℕ) → p < c.args.line.node + 2 * c.loop-four.four → get_or c.deref_mut.result.now p empty ≡ get_or c.loop-four.nodes.items p empty
+before : (c : After-deref_mut) (p : ℕ) → p < c.args.line.node + 2 * ((c.args.line.count - 1) / 4) → get_or c.deref_mut.result.now p empty ≡ get_or c.push_fours.new.nodes.items p empty
 before c p below =
-    let nodes = c.loop-four.nodes.items in
-    let long : length nodes ≡ c.args.line.node + 2 * c.loop-four.four = search rules in
+    let nodes = c.push_fours.new.nodes.items in
+    let long : length nodes ≡ c.args.line.node + 2 * ((c.args.line.count - 1) / 4) = search rules in
     ap (λ (ns : List Summary). get_or ns p empty) c.deref_mut.ensures.value
     ∙ elim c.if-last-gt1.branch [
       | then-last-gt1 w ↦
@@ -19,16 +19,12 @@ before c p below =
       | else-last-gt1 w ↦ ap (λ v. get_or v.items p empty) w.nodes-is
     ]
 
--- as many fours as end before the last number
-fours : (c : After-deref_mut) → c.loop-four.four ≡ (c.args.line.count - 1) / 4
-fours c = omega (arith, c.loop-four-test.false, c.loop-four.auto.four-end)
-
 pub renew-requires-clause-kept : goal.renew-requires-clause-kept
 renew-requires-clause-kept c =
     let line = c.args.line in
-    kept_beside_last c.loop-four.four line.count (number_of line c.args.slots.now) (node_of line c.loop-four.nodes.items) (node_of line c.deref_mut.result.now) c.requires.some (fours c)
+    kept_beside_last ((line.count - 1) / 4) line.count (number_of line c.args.slots.now) (node_of line c.push_fours.new.nodes.items) (node_of line c.deref_mut.result.now) c.requires.some refl
     (λ meeting some below. before c (node_at line meeting) (omega (arith, near_node line meeting c.requires.near, some, below)))
-    c.loop-four.invariant.kept
+    c.push_fours.ensures.kept
 
 pub returns-clause-kept : goal.returns-clause-kept
 returns-clause-kept c =
@@ -45,4 +41,4 @@ returns-clause-others c p below =
     let long : length nodes ≡ c.if-last-gt1.nodes.len = c.renew.ensures.length ∙ c.deref_mut.ensures.len in
     ap (λ (ns : List Summary). get_or ns p empty) (take_at nodes (drop (length nodes) c.if-last-gt1.nodes.items) c.if-last-gt1.nodes.len long)
     ∙ c.renew.ensures.others p (λ meeting some high e. let no : ⊥ = omega (arith, e, near_node line meeting c.requires.near, below) in no)
-    ∙ before (goal.at.returns-clause-others c).After-deref_mut p (omega (arith, below)) ∙ c.loop-four.invariant.others p below
+    ∙ before (goal.at.returns-clause-others c).After-deref_mut p (omega (arith, below)) ∙ c.push_fours.ensures.others p below
