@@ -22,3 +22,5 @@ pub mod Picked
 pub mod CopiedRows
 pub mod SourcePlaces
 pub mod Leftovers
+pub mod PlaceSums
+pub mod IndexPlaces

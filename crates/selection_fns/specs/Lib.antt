@@ -10,3 +10,4 @@ pub mod Encode
 pub mod EncodedRows
 pub mod Decode
 pub mod DecodedRows
+pub mod IndexPlaces

@@ -10,16 +10,20 @@ ghost use Rattle.arrays_core.specs.Building.{with_row};
 ghost use Rattle.arrays_core.specs.Shapes.{is_index_of, places_before};
 ghost use Rattle.index_region.specs.Checks.{Form};
 ghost use Rattle.index_region.specs.Arguments.{number_of, numbers};
-ghost use Rattle.index_region.specs.Answers.{IsPlaceOf, IsRowIn, IsSourceIn, source_value};
+ghost use Rattle.index_region.specs.Answers.{IsFormAnswerTo, IsPlaceOf, IsRowIn, IsSourceIn, source_value};
 ghost use Rattle.selection_fns.specs.Index.{written_positions, count_written, of_array_and_positions, is_on_axis, is_on as is_position_on, are_on as are_positions_on, are_numbers as are_positions_numbers, indexed_shape, source_index, positions_checked, index_form, index_source, index_item, index_whole};
 
+use crate::index_places::places_of;
 use arrays_core::{
     ApplyFault, Array, ArrayBuilder, Item, ItemType, Kind, MOST_AXES, Shape, append_axes,
-    index_in_row, position,
+    index_in_row, position, size,
 };
 use index_region::{Primitive, RowPrimitive, Seen, Source, apply_rows, item_from, limited};
 use smallvec::SmallVec;
 use std::alloc::{AllocError, Global};
+
+/// A row of so many items is made at once.
+const LONG_ROW: u32 = 256;
 
 /// The positions are of numbers, where they have items.
 fn are_numbers(written: &[bool], positions: &[Seen]) -> bool
@@ -311,12 +315,59 @@ impl<'w> Index<'w> {
         Ok(())
     }
 
-    /// The array of the items at the indices.
+    /// The last position gives the result a long last axis.
+    fn has_long_rows(&self, array: &Seen, positions: &[Seen]) -> bool {
+        let axes = match (self.written.last(), positions.last()) {
+            (Some(true), Some(position)) => position.shape(),
+            _ => array.shape(),
+        };
+        axes.last().is_some_and(|axis| *axis >= LONG_ROW)
+    }
+
+    /// The array of the items at the indices. Long rows are made one after another; of others the places are found first.
     pub fn apply(&self, alloc: Global, args: &[Seen]) -> Result<Array, ApplyFault>
         requires { length args.now ≡ suc (count_written self.now.written.now) }
         ensures { IsAnswerTo (of_array_and_positions self.now.written.now index_whole args.now) result }
     {
-        apply_rows(alloc, self, args)
+        let (array, positions) = (&args[0], &args[1..]);
+        if self.has_long_rows(array, positions) {
+            return apply_rows(alloc, self, args);
+        }
+        self.at_places(alloc, array, positions)
+    }
+
+    /// The checks of the positions, and the shape and the type of the result.
+    fn form(&self, array: &Seen, positions: &[Seen]) -> Result<(Shape, ItemType), Kind>
+        requires { length positions.now ≡ count_written self.now.written.now }
+        ensures { IsFormAnswerTo (index_form array.now (written_positions self.now.written.now positions.now)) result }
+    {
+        check_positions(array, self.written, positions)?;
+        let axes = array.shape();
+        let mut shape = SmallVec::new(*axes.allocator());
+        append_positions(&mut shape, axes.as_slice(), self.written, positions)?;
+        limited(shape, array.item_type())
+    }
+
+    /// The array of the items at the indices, whose places are found first.
+    fn at_places(
+        &self,
+        alloc: Global,
+        array: &Seen,
+        positions: &[Seen],
+    ) -> Result<Array, ApplyFault>
+        requires { length positions.now ≡ count_written self.now.written.now }
+        ensures { IsAnswerTo (index_whole array.now (written_positions self.now.written.now positions.now)) result }
+    {
+        let (shape, item_type) = self.form(array, positions)?;
+        let count = size(shape.as_slice());
+        let mut items = ArrayBuilder::with_capacity(alloc, item_type, count as usize)?;
+        if count == 0 {
+            return Ok(items.into_array(&shape)?);
+        }
+        let axes = array.shape();
+        let places = places_of(alloc, axes.as_slice(), self.written, positions)?;
+        places.extend(array, &mut items)?;
+        Ok(items.into_array(&shape)?)
     }
 }
 
@@ -328,13 +379,7 @@ impl<'w> Primitive for Index<'w> {
     ghost item = { λ r args index. of_array_and_positions r.written.now (λ a positions. index_item a positions index) args };
 
     fn shape_of(&self, args: &[Seen]) -> Result<(Shape, ItemType), Kind> {
-        let array = &args[0];
-        let positions = &args[1..];
-        check_positions(array, self.written, positions)?;
-        let axes = array.shape();
-        let mut shape = SmallVec::new(*axes.allocator());
-        append_positions(&mut shape, axes.as_slice(), self.written, positions)?;
-        limited(shape, array.item_type())
+        self.form(&args[0], &args[1..])
     }
 
     fn item_at(&self, args: &[Seen], index: &[u32]) -> Result<Item, Kind> {

@@ -8,6 +8,7 @@ mod encoded_rows;
 mod index;
 mod index_generator;
 mod index_of;
+mod index_places;
 mod lookup;
 mod member;
 mod more_digits;

@@ -1,0 +1,20 @@
+use Rattle.std.proofs.Common.{◌≡◌, ℕ, ◌+◌, ◌<◌, ◌++◌, ◌∙◌, ap, sym, subst, length, map, get_or}
+use Rattle.std.specs.Prelude.{OnOk}
+use Rattle.arrays_core.specs.Items.{fill}
+use Rattle.selection_fns.specs.IndexPlaces.{row_places}
+use Rattle.selection_fns.proofs.PlaceSums.{run_inside, listed_map}
+use Rattle.selection_fns.proofs.index_places.Row.extend.Goals as goal
+
+pub extend_run-requires-clause-inside : goal.extend_run-requires-clause-inside
+extend_run-requires-clause-inside c =
+    let long = length c.args.array.now.items in
+    run_inside c.args.head c.in-Run.count long c.requires.begins
+    (subst (λ r. (k : ℕ) → k < length (row_places r) → c.args.head + get_or (row_places r) k 0 < long) c.in-Run.is c.requires.inside)
+
+pub returns-in-Listed-clause-items : goal.returns-in-Listed-clause-items
+returns-in-Listed-clause-items c =
+    let a = c.args.array.now in
+    let item = λ (k : ℕ). get_or a.items (c.args.head + k) (fill a.item_type) in
+    subst (λ xs. OnOk c.extend_places.result (c.extend_places.new.items.items ≡ c.args.items.now.items ++ xs))
+    (listed_map item c.deref.result.now ∙ ap (map item) (c.deref.ensures.value ∙ sym (ap row_places c.in-Listed.is)))
+    c.extend_places.ensures.items

@@ -1,0 +1,222 @@
+//! Places of the items of an indexed reference, each given by how many come before it in the indexed array.
+
+ghost use Rattle.std.specs.Prelude.{◌≡◌, ◌<◌, ◌≤◌, ◌+◌, ◌-◌, ◌*◌, ◌^◌, ◌++◌, ◌∷◌, [], ℕ, IsTrue, IfOk, OnOk, map, length, get_or, unsigned_abs};
+ghost use Rattle.std.specs.List.{list_all, range_with_len};
+ghost use Rattle.arrays_core.specs.Building.{listed};
+ghost use Rattle.arrays_core.specs.Items.{fill};
+ghost use Rattle.arrays_core.specs.Limits.{most_places};
+ghost use Rattle.arrays_core.specs.Shapes.{size as size_of, IsWithinLimits};
+ghost use Rattle.index_region.specs.Arguments.{numbers};
+ghost use Rattle.selection_fns.specs.Index.{written_positions, count_written, is_on_axis, are_on as are_positions_on, indexed_shape};
+ghost use Rattle.selection_fns.specs.IndexPlaces.{sums as all_sums, row_places, all_places, ArePlacesOf};
+
+use crate::numbers_of::numbers_of;
+use arrays_core::{ArrayBuilder, size};
+use index_region::Seen;
+use std::alloc::{AllocError, Global};
+
+/// A row of fewer places is put together with those beside it.
+const LEAST_ROW: usize = 16;
+
+/// Puts places behind others, each so many further.
+fn append_moved(list: &mut Vec<u32>, by: u32, places: &[u32]) -> Result<(), AllocError>
+    requires { (k : ℕ) → k < length places.now → by + get_or places.now k 0 < 2 ^ 32 }
+    ensures { OnOk result (list.new.items ≡ list.old.items ++ map (λ place. by + place) places.now) }
+{
+    list.reserve(places.len())?;
+    for k in 0..places.len() {
+        list.push_reserved(by + places[k]);
+    }
+    Ok(())
+}
+
+/// Each number of one list and each of another, added.
+fn sums(alloc: Global, first: &[u32], second: &[u32]) -> Result<Vec<u32>, AllocError>
+    requires few { length first.now * length second.now ≤ most_places }
+    requires fit { (i j : ℕ) → i < length first.now → j < length second.now → get_or first.now i 0 + get_or second.now j 0 < 2 ^ 32 }
+    ensures { IfOk result (λ list. list.items ≡ all_sums first.now second.now) }
+{
+    let mut list = Vec::with_capacity(alloc, first.len() * second.len())?;
+    if second.len() == 1 {
+        append_moved(&mut list, second[0], first)?;
+        return Ok(list);
+    }
+    for k in 0..first.len() {
+        append_moved(&mut list, first[k], second)?;
+    }
+    Ok(list)
+}
+
+/// How far the places of a whole axis lie from its first, where they are `step` places apart.
+fn axis_offsets(alloc: Global, axis: u32, step: u32) -> Result<Vec<u32>, AllocError>
+    requires { axis * step ≤ most_places }
+    ensures { IfOk result (λ list. list.items ≡ listed axis (λ k. k * step)) }
+{
+    let mut list = Vec::with_capacity(alloc, axis as usize)?;
+    for before in 0..axis {
+        list.push_reserved(before * step);
+    }
+    Ok(list)
+}
+
+/// How far the places of indices on an axis lie from its first, where they are `step` places apart.
+fn index_offsets(
+    alloc: Global,
+    indices: &[i64],
+    axis: u32,
+    step: u32,
+) -> Result<Vec<u32>, AllocError>
+    requires on { IsTrue (list_all (is_on_axis axis) indices.now) }
+    requires fit { axis * step ≤ most_places }
+    ensures { IfOk result (λ list. list.items ≡ map (λ index. (unsigned_abs index - 1) * step) indices.now) }
+{
+    let mut list = Vec::with_capacity(alloc, indices.len())?;
+    for k in 0..indices.len() {
+        list.push_reserved((indices[k].unsigned_abs() as u32 - 1) * step);
+    }
+    Ok(list)
+}
+
+/// How far the places of a row lie from its first.
+#[derive(Drop)]
+pub(crate) enum Row {
+    /// So many, one after another.
+    Run(u32),
+    /// These.
+    Listed(Vec<u32>),
+}
+
+impl Row {
+    /// Puts the items of an array that stand there behind others, where the row begins at `head`.
+    fn extend(&self, array: &Seen, head: u32, items: &mut ArrayBuilder) -> Result<(), AllocError>
+        requires typed { array.now.item_type ≡ items.old.item_type }
+        requires begins { head < length array.now.items }
+        requires inside { (k : ℕ) → k < length (row_places self.now) → head + get_or (row_places self.now) k 0 < length array.now.items }
+        ensures items { OnOk result (items.new.items ≡ items.old.items ++ map (λ k. get_or array.now.items (head + k) (fill array.now.item_type)) (row_places self.now)) }
+        ensures typed { items.new.item_type ≡ items.old.item_type }
+    {
+        match self {
+            Row::Run(count) => array.extend_run(items, head, *count),
+            Row::Listed(places) => array.extend_places(items, head, places),
+        }
+    }
+}
+
+/// Rows of places, each as far from its head as the others.
+#[derive(Drop)]
+pub(crate) struct Places {
+    heads: Vec<u32>,
+    row: Row,
+}
+
+impl Places {
+    /// The first place alone.
+    fn first(alloc: Global) -> Result<Places, AllocError>
+        ensures { IfOk result (λ p. all_places p ≡ 0 ∷ []) }
+    {
+        let heads = vec![in alloc; 0; 1]?;
+        let places = vec![in alloc; 0; 1]?;
+        let row = Row::Listed(places);
+        Ok(Places { heads, row })
+    }
+
+    /// So many places from the first on.
+    fn run(alloc: Global, count: u32) -> Result<Places, AllocError>
+        ensures { IfOk result (λ p. all_places p ≡ range_with_len 0 count) }
+    {
+        let heads = vec![in alloc; 0; 1]?;
+        let row = Row::Run(count);
+        Ok(Places { heads, row })
+    }
+
+    /// These places, each so far as the offsets say, one offset after another.
+    fn moved(self, alloc: Global, offsets: &[u32]) -> Result<Places, AllocError>
+        requires some { 0 < length (all_places self) }
+        requires few { length offsets.now * length (all_places self) ≤ most_places }
+        requires fit { (i j : ℕ) → i < length offsets.now → j < length (all_places self) → get_or offsets.now i 0 + get_or (all_places self) j 0 < 2 ^ 32 }
+        ensures { IfOk result (λ p. all_places p ≡ all_sums offsets.now (all_places self)) }
+    {
+        let Places { heads, row } = self;
+        match row {
+            Row::Listed(places) => {
+                if heads.len() == 1 && heads[0] == 0 && places.len() < LEAST_ROW {
+                    let row = Row::Listed(sums(alloc, offsets, &places)?);
+                    return Ok(Places { heads, row });
+                }
+                let heads = sums(alloc, offsets, &heads)?;
+                let row = Row::Listed(places);
+                Ok(Places { heads, row })
+            }
+            Row::Run(count) => {
+                let heads = sums(alloc, offsets, &heads)?;
+                let row = Row::Run(count);
+                Ok(Places { heads, row })
+            }
+        }
+    }
+
+    /// Puts the items of an array at the places behind others.
+    pub(crate) fn extend(&self, array: &Seen, items: &mut ArrayBuilder) -> Result<(), AllocError>
+        requires typed { array.now.item_type ≡ items.old.item_type }
+        requires some { 0 < length (all_places self.now) }
+        requires inside { (k : ℕ) → k < length (all_places self.now) → get_or (all_places self.now) k 0 < length array.now.items }
+        ensures items { OnOk result (items.new.items ≡ items.old.items ++ map (λ k. get_or array.now.items k (fill array.now.item_type)) (all_places self.now)) }
+        ensures typed { items.new.item_type ≡ items.old.item_type }
+    {
+        for head in &self.heads {
+            self.row.extend(array, *head, items)?;
+        }
+        Ok(())
+    }
+}
+
+/// How far the places of the indices of a position lie from that of index 1, where they are `step` places apart.
+fn position_offsets(
+    alloc: Global,
+    position: &Seen,
+    axis: u32,
+    step: u32,
+) -> Result<Vec<u32>, AllocError>
+    requires on { IsTrue (list_all (is_on_axis axis) (numbers position.now)) }
+    requires fit { axis * step ≤ most_places }
+    ensures { IfOk result (λ list. list.items ≡ map (λ index. (unsigned_abs index - 1) * step) (numbers position.now)) }
+{
+    match position.numbers() {
+        Some(indices) => index_offsets(alloc, indices, axis, step),
+        None => index_offsets(alloc, &numbers_of(alloc, position)?, axis, step),
+    }
+}
+
+/// The places of the axes' items at the indices of each position, of which there are some.
+pub(crate) fn places_of(
+    alloc: Global,
+    axes: &[u32],
+    written: &[bool],
+    positions: &[Seen],
+) -> Result<Places, AllocError>
+    requires within { IsWithinLimits axes.now }
+    requires one_an_axis { length written.now ≡ length axes.now }
+    requires long { length positions.now ≡ count_written written.now }
+    requires on { IsTrue (are_positions_on axes.now (written_positions written.now positions.now)) }
+    requires some { 0 < size_of (indexed_shape axes.now (written_positions written.now positions.now)) }
+    requires few { size_of (indexed_shape axes.now (written_positions written.now positions.now)) ≤ most_places }
+    ensures { IfOk result (λ p. ArePlacesOf axes.now (written_positions written.now positions.now) (all_places p)) }
+{
+    if written.is_empty() {
+        return Places::first(alloc);
+    }
+    let others = &axes[1..];
+    if !written[0] {
+        if others.is_empty() && axes[0] as usize >= LEAST_ROW {
+            return Places::run(alloc, axes[0]);
+        }
+        let rest = places_of(alloc, others, &written[1..], positions)?;
+        let offsets = axis_offsets(alloc, axes[0], size(others))?;
+        return rest.moved(alloc, &offsets);
+    }
+    let position = &positions[0];
+    prove!(0 < position.places());
+    let rest = places_of(alloc, others, &written[1..], &positions[1..])?;
+    let offsets = position_offsets(alloc, position, axes[0], size(others))?;
+    rest.moved(alloc, &offsets)
+}
