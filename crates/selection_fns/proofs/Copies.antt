@@ -1,9 +1,12 @@
 -- Copies of the places of an axis.
-use Rattle.std.proofs.Common.{◌≡◌, ℕ, zero, suc, ◌+◌, ◌-◌, ◌*◌, ◌/◌, ◌<◌, ◌≤◌, Bool, true, false, nat_le, if◌then◌else◌, ◌&&◌, ◌||◌, nat_eq, All, Result, Ok, Err, List, [], ◌∷◌, length, ◌++◌, map, take, drop, pos, negsuc, int_le, unsigned_abs, get_or, set, replicate, insert, remove, refl, ap, sym, subst, ◌∙◌, arith}
-use Rattle.std.specs.Prelude.{max, sum}
+use Rattle.std.proofs.Common.{◌≡◌, ℕ, zero, suc, ◌+◌, ◌-◌, ◌*◌, ◌/◌, ◌<◌, ◌≤◌, Bool, true, false, nat_le, if◌then◌else◌, ◌&&◌, ◌||◌, nat_eq, All, Result, Ok, Err, List, [], ◌∷◌, length, ◌++◌, map, take, drop, pos, negsuc, int_le, unsigned_abs, get_or, set, replicate, insert, remove, refl, ap, sym, subst, ◌∙◌, append-nil, ℤ, arith}
+use Rattle.std.specs.Option.{is_some}
+use Rattle.std.specs.Prelude.{max, sum, Option, Some, None, IfSome}
 use Rattle.std.specs.List.{list_all}
+use Rattle.std.proofs.lemmas.Bool.{and_parts, and_from, leb-true}
+use Rattle.std.proofs.lemmas.List.Folds.{list_all_more}
 use Rattle.std.proofs.lemmas.Bool.Decides.{nat_tests}
-use Rattle.std.proofs.lemmas.List.{drop_more, get_or-map, get_or_default, length-append, length-map, length-replicate, get_or-replicate, take_all}
+use Rattle.std.proofs.lemmas.List.{drop_more, take-map, get_or-map, get_or_default, length-append, length-map, length-replicate, get_or-replicate, take_all, take-set, take_more_set}
 use Rattle.std.proofs.Math.Nat.{div-eq-sub-div, div-eq_of_lt}
 use Rattle.arrays_core.specs.declared.item.Item.{Item}
 use Rattle.arrays_core.specs.declared.item.ItemType.{ItemType}
@@ -22,7 +25,7 @@ use Rattle.index_region.specs.Arguments.{is_list, has_one_item, counts_as_number
 use Rattle.index_region.specs.Answers.{IsPlaceOf, HasTypeOf}
 use Rattle.index_region.proofs.Passing.{passed, place_inside, typed_check, typed_limited, gives, limited_gives}
 use Rattle.selection_fns.proofs.Repeated.{sum_front, sum_same, sum_within, walk, maker_is_walk, maker_most}
-use Rattle.selection_fns.specs.Replicate.{times, maker, counts_checked, copied_place, replicated_shape, replicate_form, replicate_source}
+use Rattle.selection_fns.specs.Replicate.{is_bit, IsMask, times, maker, counts_checked, copied_place, replicated_shape, replicate_form, replicate_source}
 
 -- the place that makes a copy where each is copied as often
 each_walk : (n count i : ℕ) → 1 ≤ i → i ≤ n * count → (i - 1) / count + 1 ≡ walk (replicate n count) i
@@ -263,6 +266,69 @@ one_count_fits n count total k before all within below made =
 
 pub one_count_ends : (n count total k : ℕ) (before : List ℕ) → total ≡ n * count → n ≤ k → AreBefore (replicate n count) k before → length before ≡ total
 one_count_ends n count total k before all past made = all_copies (replicate n count) k before (rw (length-replicate n count) past) made ∙ (sum_same n count ∙ sym all)
+
+-- ---- counts of 0 and 1
+
+bit_small : (z : ℤ) → is_bit z ≡ true → unsigned_abs z ≤ 1
+bit_small (pos k) h = leb-true k 1 (and_parts _ _ h).1
+bit_small (negsuc k) h = let no : ⊥ = cc in absurd no
+
+pub mask_count : (zs : List ℤ) (k : ℕ) → list_all is_bit zs ≡ true → k < length zs → unsigned_abs (get_or zs k (pos 0)) ≤ 1
+mask_count [] k h below = absurd (omega arith)
+mask_count (z ∷ zs) zero h below = bit_small z (and_parts _ _ h).0
+mask_count (z ∷ zs) (suc k) h below = mask_count zs k (and_parts _ _ h).1 (omega arith)
+
+pub mask_bits : (m : Option ℕ) (zs : List ℤ) → IfSome m (IsMask zs) → is_some m ≡ true → list_all is_bit zs ≡ true
+mask_bits None zs h e = let no : ⊥ = cc in absurd no
+mask_bits (Some total) zs h e = h.bits
+
+pub mask_from_0 : (zs : List ℤ) → list_all is_bit zs ≡ true → none_negative zs ≡ true
+mask_from_0 [] h = refl
+mask_from_0 (z ∷ zs) h = let parts = and_parts (is_bit z) _ h in and_from _ _ (and_parts _ _ parts.0).0 (mask_from_0 zs parts.1)
+
+-- how many of the first counts are 1, while each is 0 or 1
+pub record IsMaskSoFar (zs : List ℤ) (k : ℕ) (are_bits : Bool) (ones : ℕ) : Type 0 where
+  pub bits : are_bits ≡ list_all is_bit (take k zs)
+  pub few : ones ≤ k
+  pub copies : are_bits ≡ true → ones ≡ sum (map unsigned_abs (take k zs))
+
+pub mask_more : (zs : List ℤ) (k ones one : ℕ) (are_bits still : Bool) → k < length zs → still ≡ (are_bits && is_bit (get_or zs k (pos 0)))
+    → (is_bit (get_or zs k (pos 0)) ≡ true → one ≡ unsigned_abs (get_or zs k (pos 0))) → one ≤ 1 → IsMaskSoFar zs k are_bits ones → IsMaskSoFar zs (k + 1) still (ones + one)
+mask_more zs k ones one are_bits still below is counted low made =
+    let few = made.few in
+    record {
+      bits = is ∙ ap (λ (b : Bool). b && is_bit (get_or zs k (pos 0))) made.bits ∙ sym (list_all_more is_bit zs k (pos 0) below);
+      few = omega arith;
+      copies = λ h.
+          let parts = and_parts are_bits (is_bit (get_or zs k (pos 0))) (sym is ∙ h) in
+          let front = made.copies parts.0 in
+          let here = counted parts.1 in
+          let long = length-map zs unsigned_abs in
+          let more = sum_taken (map unsigned_abs zs) k (omega arith) in
+          let at = get_or-map unsigned_abs zs k (pos 0) 0 below in
+          let next : k + 1 ≡ suc k = omega arith in
+          let whole : sum (take (k + 1) (map unsigned_abs zs)) ≡ sum (take k (map unsigned_abs zs)) + get_or (map unsigned_abs zs) k 0 = rw next more in
+          let front_taken = ap sum (take-map unsigned_abs k zs) in
+          let whole_taken = ap sum (take-map unsigned_abs (k + 1) zs) in
+          omega (arith, front, here, whole, at, front_taken, whole_taken);
+    }
+
+-- a place more, which stands behind the copies before it, and stays there where its count is 1
+pub record IsMaskStep (counts : List ℕ) (k copies : ℕ) (new : List ℕ) : Type 0 where
+  pub counted : length (take copies new) ≡ copies
+  pub made : AreBefore counts k (take copies new)
+
+pub mask_step : (counts : List ℕ) (k copies count : ℕ) (before : List ℕ) → k < length counts → count ≡ get_or counts k 0 → count ≤ 1 → copies < length before
+    → length (take copies before) ≡ copies → AreBefore counts k (take copies before) → IsMaskStep counts (k + 1) (copies + count) (set before copies k)
+mask_step counts k copies count before below same low room counted made =
+    let put = stays count low in
+    let long : length (take (copies + count) (set before copies k)) ≡ copies + count = ap length put ∙ simp (length-append, length-replicate) (omega arith) in
+    record { counted = long; made = one_place_more counts k count (take copies before) (take (copies + count) (set before copies k)) below same put made }
+  where
+    stays : (n : ℕ) → n ≤ 1 → take (copies + n) (set before copies k) ≡ take copies before ++ replicate n k
+    stays zero h = ap (λ m. take m (set before copies k)) (let none : copies + zero ≡ copies = omega arith in none) ∙ take-set before copies k ∙ sym (append-nil (take copies before))
+    stays (suc zero) h = ap (λ m. take m (set before copies k)) (let one : copies + suc zero ≡ copies + 1 = omega arith in one) ∙ take_more_set before copies k room
+    stays (suc (suc n)) h = absurd (omega arith)
 
 -- where replicate gives a form, the array has that axis, and the form is the shape of the copies
 pub record ReplicateGives (along : Along) (a b : ArrayValue) (shape : List ℕ) (item_type : ItemType) : Type 0 where

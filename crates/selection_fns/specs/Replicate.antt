@@ -1,5 +1,6 @@
 -- Replicate: each place of an axis as often as its count. A scalar is a vector of one item.
-use Rattle.std.specs.Prelude.{ℕ, suc, ◌-◌, nat_eq, max, unsigned_abs, ◌&&◌, ◌||◌, if◌then◌else◌, List, [], ◌∷◌, ◌++◌, map, length, get_or, set, replicate, insert, remove, sum, Result}
+use Rattle.std.specs.Prelude.{◌≡◌, ℕ, suc, ◌-◌, nat_eq, ℤ, pos, int_le, Bool, IsTrue, max, unsigned_abs, ◌&&◌, ◌||◌, if◌then◌else◌, List, [], ◌∷◌, ◌++◌, map, length, get_or, set, replicate, insert, remove, sum, Result}
+use Rattle.std.specs.List.{list_all}
 use Rattle.arrays_core.specs.declared.item.Item.{Item}
 use Rattle.arrays_core.specs.declared.item.Kind.{Kind}
 use Rattle.arrays_core.specs.declared.item.Kind.TheVariants.{Axis, Rank, Length, Domain}
@@ -9,6 +10,15 @@ use Rattle.index_region.specs.Checks.{Form, check, limited, whole}
 use Rattle.index_region.specs.Sources.{Place, Source, item_from}
 use Rattle.index_region.specs.Arguments.{is_scalar, is_list, has_one_item, counts_as_numbers, number_of, numbers, none_negative}
 use Rattle.index_region.specs.Axes.{is_axis, axis_at, places_along}
+
+-- no copy, or one
+abbrev pub is_bit : ℤ → Bool
+is_bit z = int_le (pos 0) z && int_le z (pos 1)
+
+-- counts that are each 0 or 1, and how many copies they make
+pub record IsMask (counts : List ℤ) (total : ℕ) : Type 0 where
+  pub bits : IsTrue (list_all is_bit counts)
+  pub copies : total ≡ sum (map unsigned_abs counts)
 
 -- how many copies each place of an axis of n places has; a single count is that of every place
 abbrev pub times : ArrayValue → ℕ → List ℕ

@@ -1,18 +1,19 @@
 //! Replicate: the places of an axis, each as often as its count.
 
-ghost use Rattle.std.specs.Prelude.{◌≡◌, ◌<◌, ◌≤◌, ◌+◌, ◌-◌, ◌*◌, ◌++◌, ℕ, All, Ok, Some, IsTrue, OnOk, IfOk, IfErr, Result, Err, unsigned_abs, length, map, max, sum, insert, remove, replicate, set, get_or, ◌∷◌, []};
-ghost use Rattle.arrays_core.specs.Limits.{most_axes, longest_axis};
+ghost use Rattle.std.specs.Prelude.{◌≡◌, ◌<◌, ◌≤◌, ◌+◌, ◌-◌, ◌*◌, ◌++◌, ℕ, All, Ok, Some, IsTrue, OnOk, IfOk, IfErr, Result, Err, unsigned_abs, not, IfSome, length, map, max, sum, insert, remove, replicate, set, get_or, ◌∷◌, []};
+ghost use Rattle.std.specs.List.{list_all};
+ghost use Rattle.arrays_core.specs.Limits.{most_axes, longest_axis, most_places};
 ghost use Rattle.arrays_core.specs.declared.item.Kind.{Kind as AKind};
 ghost use Rattle.arrays_core.specs.declared.item.Kind.TheVariants.{Limit};
 ghost use Rattle.arrays_core.specs.Arrays.{ArrayValue, IsAnswerTo};
 ghost use Rattle.arrays_core.specs.Shapes.{is_index_of};
 ghost use Rattle.index_region.specs.Checks.{form_of, Form};
 ghost use Rattle.index_region.specs.ArgumentLists.{of_two_arguments};
-ghost use Rattle.index_region.specs.Arguments.{numbers};
+ghost use Rattle.index_region.specs.Arguments.{numbers, none_negative};
 ghost use Rattle.index_region.specs.Axes.{axis_at as axis_meant, places_along as places_on};
 ghost use Rattle.index_region.specs.Sources.{Place};
 ghost use Rattle.index_region.specs.Answers.{IsFormAnswerTo, IsPlaceOf, IsSourceIn, source_value};
-ghost use Rattle.selection_fns.specs.Replicate.{times, counts_checked, maker as maker_of, copied_place as place_copied, replicate_form, replicate_source, replicate_item, replicate_whole};
+ghost use Rattle.selection_fns.specs.Replicate.{is_bit as is_bit_of, IsMask, times, counts_checked, maker as maker_of, copied_place as place_copied, replicate_form, replicate_source, replicate_item, replicate_whole};
 
 use crate::axes::{LONGEST_AXIS, places_along};
 use crate::numbers_of::numbers_of;
@@ -23,10 +24,51 @@ use arrays_core::{
 use index_region::{Along, Primitive, Seen, Source, item_from, limited};
 use std::alloc::{AllocError, Global};
 
+/// No copy, or one.
+#[inline]
+fn is_bit(count: i64) -> bool
+    ensures { result ≡ is_bit_of count }
+{
+    0 <= count && count <= 1
+}
+
+/// How many counts are 1, where each is 0 or 1.
+fn mask_total(counts: &[i64]) -> Option<u32>
+    requires { length counts.now ≤ most_places }
+    ensures { IfSome result (IsMask counts.now) }
+{
+    let mut are_bits = true;
+    let mut ones: u64 = 0;
+    for count in counts {
+        are_bits &= is_bit(*count);
+        ones += u64::from(*count == 1);
+    }
+    are_bits.then_some(ones as u32)
+}
+
+/// The copies of counts that lie in one piece, where each is 0 or 1.
+fn mask_of(counts: &Seen) -> Option<u32>
+    ensures { IfSome result (IsMask (numbers counts.now)) }
+{
+    let places = counts.places();
+    let list = counts.numbers()?;
+    prove!(list.len() == places as usize);
+    mask_total(list)
+}
+
+/// A count is negative: none is where each is 0 or 1.
+fn has_negative(counts: &Seen, mask: Option<u32>) -> bool
+    requires { IfSome mask (IsMask (numbers counts.now)) }
+    ensures { result ≡ not (none_negative (numbers counts.now)) }
+{
+    mask.is_none() && counts.has_negative()
+}
+
 /// The checks of the counts for an axis: RANK where they are neither a scalar nor a vector, LENGTH where
 /// they are not as many as the places and neither is one, DOMAIN where they are not numbers, or one is
 /// negative.
-fn check_counts(counts: &Seen, places: u32) -> Result<(), Kind>
+fn check_counts(counts: &Seen, places: u32, mask: Option<u32>) -> Result<(), Kind>
+    requires { IfSome mask (IsMask (numbers counts.now)) }
     ensures passed { IfOk result (λ _. (rest : Result Form AKind) → counts_checked counts.now places rest ≡ rest) }
     ensures failed { IfErr result (λ kind. (rest : Result Form AKind) → counts_checked counts.now places rest ≡ Err kind) }
 {
@@ -39,7 +81,7 @@ fn check_counts(counts: &Seen, places: u32) -> Result<(), Kind>
     if !counts.counts_as_numbers() {
         return Err(Kind::Domain);
     }
-    if counts.has_negative() {
+    if has_negative(counts, mask) {
         return Err(Kind::Domain);
     }
     Ok(())
@@ -107,15 +149,18 @@ fn summed(counts: &Seen) -> Result<u32, Kind>
 }
 
 /// How many copies there are; LIMIT where they are more than an axis may have.
-fn copies(counts: &Seen, places: u32) -> Result<u32, Kind>
-    requires { places ≤ longest_axis }
+fn copies(counts: &Seen, places: u32, mask: Option<u32>) -> Result<u32, Kind>
+    requires few { places ≤ longest_axis }
+    requires mask { IfSome mask (IsMask (numbers counts.now)) }
     ensures total { IfOk result (λ total. total ≡ sum (times counts.now places)) }
     ensures beyond { IfErr result (λ kind. (kind ≡ Limit) × (longest_axis < sum (times counts.now places))) }
 {
     if counts.places() == 1 {
-        repeated(counts.number(1).unsigned_abs(), places)
-    } else {
-        summed(counts)
+        return repeated(counts.number(1).unsigned_abs(), places);
+    }
+    match mask {
+        Some(total) => Ok(total),
+        None => summed(counts),
     }
 }
 
@@ -208,7 +253,7 @@ fn before_copies_of_one_count(
     Ok(before)
 }
 
-/// How many places come before that of each copy, where each place has a count of its own.
+/// How many places come before that of each copy, where places have counts of any size.
 fn before_copies_of_counts(
     alloc: Global,
     counts: &[i64],
@@ -231,13 +276,56 @@ fn before_copies_of_counts(
     Ok(before)
 }
 
+/// How many places come before that of each copy, where each place has one copy or none. Each place is written where the
+/// next copy stands, and its count says whether it stays there.
+fn before_copies_of_mask(alloc: Global, counts: &[i64], total: u32) -> Result<Vec<u32>, AllocError>
+    requires mask { IsTrue (list_all is_bit_of counts.now) }
+    requires total { total ≡ sum (map unsigned_abs counts.now) }
+    requires within { total ≤ longest_axis }
+    requires few { length counts.now ≤ longest_axis }
+    ensures long { IfOk result (λ before. length before.items ≡ total) }
+    ensures is { IfOk result (λ before. (i : ℕ) → i < total → get_or before.items i 0 + 1 ≡ maker_of (map unsigned_abs counts.now) (i + 1)) }
+{
+    let mut before = vec![in alloc; 0; total as usize + 1]?;
+    let mut copies = 0;
+    for place in 0..counts.len() {
+        before[copies] = place as u32;
+        copies += counts[place].unsigned_abs() as usize;
+    }
+    before.truncate(total as usize);
+    Ok(before)
+}
+
+/// How many places come before that of each copy, where each place has a count of its own.
+fn before_copies_of_list(
+    alloc: Global,
+    counts: &[i64],
+    total: u32,
+    is_mask: bool,
+) -> Result<Vec<u32>, AllocError>
+    requires mask { IsTrue is_mask → IsTrue (list_all is_bit_of counts.now) }
+    requires total { total ≡ sum (map unsigned_abs counts.now) }
+    requires within { total ≤ longest_axis }
+    requires few { length counts.now ≤ longest_axis }
+    ensures long { IfOk result (λ before. length before.items ≡ total) }
+    ensures is { IfOk result (λ before. (i : ℕ) → i < total → get_or before.items i 0 + 1 ≡ maker_of (map unsigned_abs counts.now) (i + 1)) }
+{
+    if is_mask {
+        before_copies_of_mask(alloc, counts, total)
+    } else {
+        before_copies_of_counts(alloc, counts, total)
+    }
+}
+
 /// How many places come before that of each copy.
 fn before_each_copy(
     alloc: Global,
     counts: &Seen,
     places: u32,
     total: u32,
+    mask: Option<u32>,
 ) -> Result<Vec<u32>, AllocError>
+    requires mask { IfSome mask (IsMask (numbers counts.now)) }
     requires total { total ≡ sum (times counts.now places) }
     requires within { total ≤ longest_axis }
     ensures long { IfOk result (λ before. length before.items ≡ total) }
@@ -253,8 +341,8 @@ fn before_each_copy(
         return before_copies_of_one_count(alloc, counts.number(1).unsigned_abs(), places, total);
     }
     match counts.numbers() {
-        Some(list) => before_copies_of_counts(alloc, list, total),
-        None => before_copies_of_counts(alloc, &numbers_of(alloc, counts)?, total),
+        Some(list) => before_copies_of_list(alloc, list, total, mask.is_some()),
+        None => before_copies_of_list(alloc, &numbers_of(alloc, counts)?, total, mask.is_some()),
     }
 }
 
@@ -330,6 +418,19 @@ impl Replicate {
     fn form(self, counts: &Seen, array: &Seen) -> Result<(Shape, ItemType), Kind>
         ensures { IsFormAnswerTo (replicate_form self.along counts.now array.now) result }
     {
+        self.checked(counts, array, mask_of(counts))
+    }
+
+    /// The checks, and the shape and the type of the result, where it is known how many counts are 1, if each is 0 or 1.
+    fn checked(
+        self,
+        counts: &Seen,
+        array: &Seen,
+        mask: Option<u32>,
+    ) -> Result<(Shape, ItemType), Kind>
+        requires { IfSome mask (IsMask (numbers counts.now)) }
+        ensures { IsFormAnswerTo (replicate_form self.along counts.now array.now) result }
+    {
         let axes = array.shape();
         let rank = axes.len().max(1) as u32;
         if !self.along.is_axis(rank) {
@@ -337,8 +438,8 @@ impl Replicate {
         }
         let axis = self.along.axis_at(rank);
         let places = places_along(axes.as_slice(), axis);
-        check_counts(counts, places)?;
-        let copied = copies(counts, places)?;
+        check_counts(counts, places, mask)?;
+        let copied = copies(counts, places, mask)?;
         let shape = replicated_shape(*axes.allocator(), axes.as_slice(), axis, copied);
         limited(shape, array.item_type())
     }
@@ -356,11 +457,12 @@ impl Replicate {
     fn copied(self, alloc: Global, counts: &Seen, array: &Seen) -> Result<Array, ApplyFault>
         ensures { IsAnswerTo (replicate_whole self.along counts.now array.now) result }
     {
-        let (shape, item_type) = self.form(counts, array)?;
+        let mask = mask_of(counts);
+        let (shape, item_type) = self.checked(counts, array, mask)?;
         let axes = array.shape();
         let axis = self.along.axis_at(axes.len().max(1) as u32);
         let places = places_along(axes.as_slice(), axis);
-        let before = before_each_copy(alloc, counts, places, shape[axis])?;
+        let before = before_each_copy(alloc, counts, places, shape[axis], mask)?;
         if axes.len() <= 1 {
             let picked = array.picked(before.as_slice(), &shape)?;
             return Ok(picked);

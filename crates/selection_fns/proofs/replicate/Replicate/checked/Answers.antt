@@ -6,7 +6,7 @@ use Rattle.index_region.specs.Axes.{is_axis, axis_at, places_along}
 use Rattle.index_region.specs.Answers.{IsFormAnswerTo}
 use Rattle.selection_fns.specs.Replicate.{times, counts_checked, replicated_shape}
 use Rattle.selection_fns.proofs.Copies.{replicate_limited, replicate_beyond}
-use Rattle.selection_fns.proofs.replicate.Replicate.form.Goals as goal
+use Rattle.selection_fns.proofs.replicate.Replicate.checked.Goals as goal
 
 pub returns-in_err-copied : goal.returns-in_err-copied
 returns-in_err-copied c =
