@@ -54,6 +54,20 @@ fn product(left: &[i64], right: &[i64], side: usize) -> Vec<i64> {
     made
 }
 
+fn columns(source: &[i64], width: usize, indices: &[usize]) -> Vec<i64> {
+    let mut made = Vec::with_capacity(source.len() / width * indices.len());
+    source.chunks(width).for_each(|row| made.extend(indices.iter().map(|index| row[index - 1])));
+    made
+}
+
+fn copied(source: &[i64], counts: &[i64]) -> Vec<i64> {
+    let mut made = Vec::new();
+    for (number, count) in source.iter().zip(counts) {
+        (0..*count).for_each(|_| made.push(*number));
+    }
+    made
+}
+
 struct Given {
     matrix: Vec<i64>,
     half: Vec<i64>,
@@ -114,6 +128,26 @@ fn made(name: &str, given: &Given) -> Vec<i64> {
             made
         }
         "index_vector" => matrix.iter().map(|index| matrix[*index as usize - 1]).collect(),
+        "index_column" => matrix.chunks(SIDE).map(|row| row[black_box(2)]).collect(),
+        "index_columns" => columns(matrix, SIDE, black_box(&[1, 2])),
+        "index_last_of_four" => matrix.chunks(side).map(|row| row[black_box(2)]).collect(),
+        "index_third_of_four" => {
+            let mut made = Vec::with_capacity(side * side * side);
+            matrix.chunks(side * side).for_each(|row| made.extend_from_slice(&row[black_box(2) * side..][..side]));
+            made
+        }
+        "index_two_of_four" => {
+            let (indices, mut made) = (black_box([1usize, 2]), Vec::with_capacity(4 * side * side));
+            for cube in matrix.chunks(side * side * side) {
+                for index in indices {
+                    let square = &cube[(index - 1) * side * side..][..side * side];
+                    square.chunks(side).for_each(|row| made.extend(indices.iter().map(|last| row[last - 1])));
+                }
+            }
+            made
+        }
+        "replicate_mask" => copied(matrix, &given.bits),
+        "replicate_compared" => copied(matrix, &matrix.iter().map(|number| (*number > 5) as i64).collect::<Vec<_>>()),
         "replicate" => rows(&given.half, 512, |row, made| made.extend(row.iter().flat_map(|item| [*item, *item]))),
         "replicate_first" => rows(&given.half, 512, |row, made| {
             made.extend_from_slice(row);
