@@ -1,7 +1,6 @@
-use Rattle.std.proofs.Common.{◌≡◌, ◌∙◌, ℕ, suc, ◌+◌, ◌-◌, ◌*◌, ◌/◌, ◌<◌, List, length, get_or, set, ap, sym, subst, arith}
+use Rattle.std.proofs.Common.{◌∙◌, suc, ◌+◌, ◌-◌, ◌*◌, ◌/◌, ◌<◌, length, get_or, set, ap, sym, subst, arith}
 use Rattle.std.proofs.lemmas.List.{length-set, get_or-set_other}
 use Rattle.std.proofs.lemmas.Nat.{pow_pos}
-use Rattle.operator_fns.specs.declared.summary.Summary.{Summary}
 use Rattle.operator_fns.specs.SumNodes.{Tells, sums_from}
 use Rattle.operator_fns.specs.LineTrees.{node_of, empty, AreKeptUpTo}
 use Rattle.operator_fns.proofs.LineEnds.{near_node, end_is, first_told, second_told, node_is, first_is, second_is, kept_up, kept_within}

@@ -1,4 +1,4 @@
-use Rattle.std.proofs.Common.{◌≡◌, ◌∙◌, ◌+◌, ◌%◌, ◌≤◌, get_or, pos, ap, subst, arith, rules, to_z, of_z, ◌-ℤ◌, w64, FitsSigned}
+use Rattle.std.proofs.Common.{◌≡◌, ◌∙◌, ◌+◌, get_or, pos, ap, subst, arith, rules, to_z, of_z, ◌-ℤ◌, w64, FitsSigned}
 use Rattle.std.specs.Int.{int_wrap}
 use Rattle.std.proofs.lemmas.Int.{to_z-of_z}
 use Rattle.operator_fns.specs.SumNodes.{Tells, single, join}

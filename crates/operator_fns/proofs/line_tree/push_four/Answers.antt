@@ -1,12 +1,9 @@
-use Rattle.std.proofs.Common.{◌≡◌, ◌∙◌, ℕ, ◌+◌, ◌-◌, ◌*◌, ◌/◌, ◌%◌, ◌<◌, ◌≤◌, ◌++◌, ◌∷◌, [], List, length, drop, get_or, pos, ap, sym, subst, arith, rules, to_z, of_z, ◌-ℤ◌, w64, FitsSigned}
-use Rattle.std.specs.Int.{int_wrap}
-use Rattle.std.proofs.lemmas.Int.{to_z-of_z}
+use Rattle.std.proofs.Common.{◌≡◌, ◌∙◌, ℕ, ◌+◌, ◌/◌, ◌<◌, ◌++◌, ◌∷◌, [], List, length, drop, get_or, ap, sym, subst, arith, rules}
 use Rattle.std.proofs.lemmas.List.{take_at, length-append, get_or_append_left, get_or_push}
 use Rattle.operator_fns.specs.declared.summary.Summary.{Summary}
-use Rattle.operator_fns.specs.SumNodes.{Tells, sums_from, single, join}
-use Rattle.operator_fns.specs.LineTrees.{slot_at, node_at, slot_of, number_of, node_of, empty, AreKeptIn, AreKeptUpTo}
-use Rattle.operator_fns.proofs.BlockRows.{sums_four}
-use Rattle.operator_fns.proofs.LineEnds.{near_node, near_slot, four_more}
+use Rattle.operator_fns.specs.SumNodes.{Tells, sums_from}
+use Rattle.operator_fns.specs.LineTrees.{node_at, number_of, node_of, empty, AreKeptIn, AreKeptUpTo}
+use Rattle.operator_fns.proofs.LineEnds.{near_node, four_more}
 use Rattle.operator_fns.proofs.line_tree.push_four.Goals as goal
 use Rattle.operator_fns.proofs.line_tree.push_four.Goals.{After-deref_mut}
 

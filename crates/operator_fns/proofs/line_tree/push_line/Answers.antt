@@ -1,7 +1,7 @@
-use Rattle.std.proofs.Common.{◌≡◌, ◌∙◌, ℕ, ◌+◌, ◌-◌, ◌*◌, ◌/◌, ◌<◌, ◌≤◌, ◌++◌, ◌∷◌, [], List, length, drop, get_or, refl, ap, sym, subst, arith, rules}
+use Rattle.std.proofs.Common.{◌≡◌, ◌∙◌, ℕ, ◌+◌, ◌-◌, ◌*◌, ◌/◌, ◌<◌, ◌∷◌, [], List, length, drop, get_or, refl, ap, sym, subst, arith, rules}
 use Rattle.std.proofs.lemmas.List.{take_at, get_or_append_left}
 use Rattle.operator_fns.specs.declared.summary.Summary.{Summary}
-use Rattle.operator_fns.specs.LineTrees.{node_at, number_of, node_of, empty, AreKept, AreKeptBeside}
+use Rattle.operator_fns.specs.LineTrees.{node_at, number_of, node_of, empty, AreKept}
 use Rattle.operator_fns.proofs.LineEnds.{near_node, kept_beside_last}
 use Rattle.operator_fns.proofs.line_tree.push_line.Goals as goal
 use Rattle.operator_fns.proofs.line_tree.push_line.Goals.{After-deref_mut, then-last-gt1, else-last-gt1}

@@ -1,8 +1,7 @@
-use Rattle.std.proofs.Common.{◌≡◌, ◌∙◌, ℕ, ◌+◌, ◌*◌, ◌<◌, ◌≤◌, get_or, ap, sym, subst, arith}
+use Rattle.std.proofs.Common.{◌≡◌, ◌∙◌, ℕ, ◌<◌, get_or, ap, subst, arith}
 use Rattle.operator_fns.specs.declared.line_tree.Line.{Line}
 use Rattle.operator_fns.specs.LineTrees.{number_of, node_of, empty, AreKept}
 use Rattle.operator_fns.specs.LineBlocks.{nodes_end}
-use Rattle.operator_fns.specs.SumTrees.{nodes_in_line}
 use Rattle.operator_fns.proofs.BlockLines.{line_node_first, line_nodes_end, line_kept}
 use Rattle.operator_fns.proofs.sum_trees.nodes_of_lines.Goals as goal
 
