@@ -1,4 +1,4 @@
-use Rattle.std.proofs.Common.{◌≡◌, ◌∙◌, ℕ, ℤ, suc, ◌+◌, ◌-◌, ◌*◌, ◌/◌, ◌<◌, length, get_or, set, ap, sym, subst, arith, inl}
+use Rattle.std.proofs.Common.{◌∙◌, ℕ, ℤ, suc, ◌+◌, ◌-◌, ◌*◌, ◌/◌, ◌<◌, length, get_or, set, ap, sym, subst, arith, inl}
 use Rattle.std.proofs.lemmas.List.{length-set, get_or-set_other, get_or_read}
 use Rattle.std.proofs.lemmas.Nat.{pow_pos}
 use Rattle.fold_trees.specs.LineTrees.{node_of, segment, AreKeptUpTo}

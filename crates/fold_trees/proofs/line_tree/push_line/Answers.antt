@@ -1,4 +1,4 @@
-use Rattle.std.proofs.Common.{◌≡◌, ◌∙◌, ℕ, ◌+◌, ◌-◌, ◌*◌, ◌/◌, ◌<◌, ◌≤◌, ◌∷◌, [], length, drop, get_or, ap, sym, subst, arith, rules}
+use Rattle.std.proofs.Common.{◌≡◌, ◌∙◌, ℕ, ◌+◌, ◌-◌, ◌*◌, ◌/◌, ◌<◌, ◌∷◌, [], length, drop, get_or, ap, sym, subst, arith, rules}
 use Rattle.std.proofs.lemmas.List.{take_at, get_or_append_left}
 use Rattle.fold_trees.specs.LineTrees.{node_at, number_of, node_of, AreKept}
 use Rattle.fold_trees.proofs.LineEnds.{near_node, kept_beside_last}

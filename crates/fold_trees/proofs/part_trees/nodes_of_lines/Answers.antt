@@ -1,8 +1,7 @@
-use Rattle.std.proofs.Common.{◌≡◌, ◌∙◌, ℕ, ◌+◌, ◌*◌, ◌<◌, ◌≤◌, get_or, ap, sym, subst, arith}
+use Rattle.std.proofs.Common.{◌≡◌, ◌∙◌, ℕ, ◌<◌, get_or, ap, subst, arith}
 use Rattle.fold_trees.specs.declared.line_tree.Line.{Line}
 use Rattle.fold_trees.specs.LineTrees.{number_of, node_of, AreKept}
 use Rattle.fold_trees.specs.LineBlocks.{nodes_end}
-use Rattle.fold_trees.specs.PartTrees.{nodes_in_line}
 use Rattle.fold_trees.proofs.TreeBlocks.{line_node_first, line_nodes_end, line_kept}
 use Rattle.fold_trees.proofs.part_trees.nodes_of_lines.Goals as goal
 

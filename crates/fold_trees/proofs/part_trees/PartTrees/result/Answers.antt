@@ -1,4 +1,4 @@
-use Rattle.std.proofs.Common.{◌≡◌, ◌∙◌, ◌<◌, ℕ, ℤ, List, length, sym, subst, arith}
+use Rattle.std.proofs.Common.{◌≡◌, ◌∙◌, ◌<◌, ℕ, ℤ, List, length, subst, arith}
 use Rattle.operator_fns.specs.SumTrees.{TreesValue, numbers_of_line}
 use Rattle.fold_trees.specs.declared.line_tree.Line.{Line}
 use Rattle.fold_trees.specs.LineTrees.{number_of, segment}
