@@ -68,12 +68,45 @@ fn copied(source: &[i64], counts: &[i64]) -> Vec<i64> {
     made
 }
 
+/// The fold of the row and the column at each place, of what `each` gives for the pairs from the last to the first.
+fn inner(square: &[i64], side: usize, fold: impl Fn(i64, i64) -> i64, each: impl Fn(i64, i64) -> i64) -> Vec<i64> {
+    let mut made = Vec::with_capacity(side * side);
+    for row in square.chunks(side) {
+        for column in 0..side {
+            let pairs = row.iter().zip(square[column..].iter().step_by(side)).rev().map(|(a, b)| each(*a, *b));
+            made.push(pairs.reduce(|total, item| fold(item, total)).unwrap());
+        }
+    }
+    made
+}
+
+fn folded(numbers: &[i64], step: impl Fn(i64, i64) -> i64) -> Vec<i64> {
+    vec![numbers.iter().rev().copied().reduce(|total, number| step(number, total)).unwrap()]
+}
+
+/// The alternating sums of the numbers of each line, added from the left and taken off in turn: the numbers are small.
+fn differences(source: &[i64], width: usize) -> Vec<i64> {
+    rows(source, width, |row, made| {
+        let (mut total, mut sign) = (0i64, 1);
+        for number in row {
+            total = number.checked_mul(sign).and_then(|it| total.checked_add(it)).unwrap();
+            sign = -sign;
+            made.push(total);
+        }
+    })
+}
+
 struct Given {
     matrix: Vec<i64>,
     half: Vec<i64>,
     order: Vec<usize>,
     bits: Vec<i64>,
     small: Vec<i64>,
+    text: Vec<char>,
+    other_text: Vec<char>,
+    exponents: Vec<i64>,
+    signs: Vec<i64>,
+    square: Vec<i64>,
 }
 
 fn made(name: &str, given: &Given) -> Vec<i64> {
@@ -187,6 +220,51 @@ fn made(name: &str, given: &Given) -> Vec<i64> {
             let vector = &matrix[..SIDE];
             matrix.chunks(SIDE).map(|row| row.iter().zip(vector).map(|(a, b)| a * b).sum()).collect()
         }
+        "equal_to_a_character" => given.text.iter().map(|it| (*it == black_box('a')) as i64).collect(),
+        "unequal_texts" => given.text.iter().zip(&given.other_text).map(|(a, b)| (a != b) as i64).collect(),
+        "numbers_and_a_character" => vec![black_box(0); PLACES],
+        "quotients" => {
+            let whole = |(a, b): (&i64, &i64)| if a % b == 0 { a.checked_div(*b) } else { None };
+            matrix.iter().zip(black_box(matrix)).map(|pair| whole(pair).unwrap()).collect()
+        }
+        "powers_of_two" => given.exponents.iter().map(|it| black_box(2i64).checked_pow(*it as u32).unwrap()).collect(),
+        "squares" => matrix.iter().map(|it| it.checked_pow(black_box(2)).unwrap()).collect(),
+        "equal_fold" => folded(&given.bits, |a, b| (a == b) as i64),
+        "unequal_fold" => folded(&given.bits, |a, b| (a != b) as i64),
+        "less_fold" => folded(&given.bits, |a, b| (a < b) as i64),
+        "unequal_scan" => scanned(&given.bits, PLACES, |total, bit| Some(total ^ bit)),
+        "less_scan" => {
+            let mut seen = 0;
+            let first = |bit: &i64| {
+                let only = bit & !seen;
+                seen |= bit;
+                only
+            };
+            given.bits.iter().map(first).collect()
+        }
+        "nand_scan" => {
+            let (mut of_0, mut of_1) = (0, 1);
+            let next = |bit: &i64| {
+                let result = if *bit == 0 { of_0 } else { of_1 };
+                (of_0, of_1) = (of_1, if *bit == 0 { of_1 } else { of_0 });
+                result
+            };
+            given.bits.iter().map(next).collect()
+        }
+        "difference_scan" => differences(matrix, PLACES),
+        "difference_scan_first" => {
+            let mut made = Vec::with_capacity(PLACES);
+            made.extend_from_slice(&matrix[..SIDE]);
+            for place in SIDE..PLACES {
+                let number = if place / SIDE % 2 == 0 { matrix[place] } else { -matrix[place] };
+                made.push(number.checked_add(made[place - SIDE]).unwrap());
+            }
+            made
+        }
+        "product_scan" => scanned(&given.signs, PLACES, i64::checked_mul),
+        "any_equal" => inner(&given.square, 256, |a, b| a | b, |a, b| (a == b) as i64),
+        "all_equal" => inner(&given.square, 256, |a, b| a & b, |a, b| (a == b) as i64),
+        "least_difference" => inner(&given.square, 256, i64::min, |a, b| a.checked_sub(b).unwrap()),
         _ => panic!("no such expression"),
     }
 }
@@ -199,6 +277,11 @@ fn main() {
         order: (0..SIDE).map(|k| k * 5 % SIDE).collect(),
         bits: (0..PLACES).map(|k| (k % 2) as i64).collect(),
         small: numbers(512 * 512),
+        text: "abc".chars().cycle().take(PLACES).collect(),
+        other_text: "abd".chars().cycle().take(PLACES).collect(),
+        exponents: (0..PLACES).map(|k| (k % 63) as i64).collect(),
+        signs: (0..PLACES).map(|k| 1 - 2 * (k % 2) as i64).collect(),
+        square: numbers(256 * 256),
     };
     let mut kept = Vec::new();
     for _ in 0..words[2].parse::<usize>().unwrap() {

@@ -3,7 +3,7 @@
 //!
 //!     )DATA N←E     N←E     N[i]←k     N[i;j]←k     )ROW N k     )ROW N k k k     E
 //!
-//! where E is a list of numbers, a name, N[k], A+B, A-B, A×B, A⍴B, ⍳B, +/B or +⌿B, and A is one of the first three. Each node of a
+//! where E is a list of numbers, a name, N[k], A+B, A-B, A×B, A⍴B, ⍳B, f/B or f⌿B, where f is one of + × ⌈ ⌊, and A is one of the first three. Each node of a
 //! formula keeps its result, and an edit of a cell goes through the formulas above it, of which each writes the one item that changes.
 //! A line of a total is added up anew, from its right, with a check a step. A row is put behind the data where it lies. So are the items
 //! that it brings to A+B, A-B and A×B, where the other argument has one item or has grown too, and the one total that it brings to +/B of
@@ -67,6 +67,36 @@ impl Array {
     }
 }
 
+/// A function that puts the items of a line together.
+#[derive(Clone, Copy)]
+enum Fold {
+    Plus,
+    Times,
+    Greatest,
+    Least,
+}
+
+impl Fold {
+    fn identity(self) -> i64 {
+        match self {
+            Fold::Plus => 0,
+            Fold::Times => 1,
+            Fold::Greatest => i64::MIN,
+            Fold::Least => i64::MAX,
+        }
+    }
+
+    /// None where it leaves 64 bits.
+    fn item(self, item: i64, total: i64) -> Option<i64> {
+        match self {
+            Fold::Plus => item.checked_add(total),
+            Fold::Times => item.checked_mul(total),
+            Fold::Greatest => Some(item.max(total)),
+            Fold::Least => Some(item.min(total)),
+        }
+    }
+}
+
 #[derive(Clone, Copy, PartialEq)]
 enum Along {
     Last,
@@ -89,7 +119,7 @@ impl Along {
     }
 
     /// The total of a line.
-    fn total(self, argument: &Array, line: usize) -> Result<i64, Fault> {
+    fn total(self, fold: Fold, argument: &Array, line: usize) -> Result<i64, Fault> {
         let (stride, length, _) = self.strides(&argument.shape);
         let begin = if self == Along::Last {
             line * length
@@ -99,7 +129,7 @@ impl Along {
         let items = argument.items.get(begin..).unwrap_or_default().iter();
         let line = items.step_by(stride).take(length);
         line.rev()
-            .try_fold(0i64, |total, item| item.checked_add(total))
+            .try_fold(fold.identity(), |total, item| fold.item(*item, total))
             .ok_or(fault("LIMIT ERROR"))
     }
 
@@ -112,7 +142,7 @@ impl Along {
         }
     }
 
-    fn apply(self, argument: &Value) -> Value {
+    fn apply(self, fold: Fold, argument: &Value) -> Value {
         let argument = argument.as_ref().map_err(|fault| *fault)?;
         if argument.shape.is_empty() {
             return Ok(argument.clone());
@@ -125,7 +155,7 @@ impl Along {
         });
         let (_, _, lines) = self.strides(&argument.shape);
         let items = (0..lines)
-            .map(|line| self.total(argument, line))
+            .map(|line| self.total(fold, argument, line))
             .collect::<Result<_, _>>()?;
         Ok(Array { shape, items })
     }
@@ -236,7 +266,7 @@ enum Node {
     Literal(Value),
     Name(usize),
     Index(Box<Node>, i64, Value),
-    Total(Along, Box<Node>, Value),
+    Total(Fold, Along, Box<Node>, Value),
     Pair(Pairwise, Box<Node>, Box<Node>, Value),
     Reshape(Box<Node>, Box<Node>, Value),
     Iota(Box<Node>, Value),
@@ -281,7 +311,7 @@ impl Node {
     fn value<'a>(&'a self, entries: &'a [Entry]) -> &'a Value {
         match self {
             Node::Name(at) => entries[*at].value(entries),
-            Node::Literal(value) | Node::Index(_, _, value) | Node::Total(_, _, value) => value,
+            Node::Literal(value) | Node::Index(_, _, value) | Node::Total(_, _, _, value) => value,
             Node::Pair(_, _, _, value) | Node::Reshape(_, _, value) | Node::Iota(_, value) => value,
         }
     }
@@ -294,9 +324,9 @@ impl Node {
                 argument.evaluate(entries);
                 *value = index(argument.value(entries), *position);
             }
-            Node::Total(along, argument, value) => {
+            Node::Total(fold, along, argument, value) => {
                 argument.evaluate(entries);
-                *value = along.apply(argument.value(entries));
+                *value = along.apply(*fold, argument.value(entries));
             }
             Node::Iota(argument, value) => {
                 argument.evaluate(entries);
@@ -334,22 +364,22 @@ impl Node {
                     (_, argument) => put_all(value, index(argument, *position)),
                 }
             }
-            Node::Total(along, argument, value) => {
+            Node::Total(fold, along, argument, value) => {
                 match (argument.refresh(entries), argument.value(entries)) {
                     (Change::Same, _) => Change::Same,
                     (Change::Cell(place), Ok(argument))
                         if value.is_ok() && !argument.shape.is_empty() =>
                     {
                         let line = along.line_of(argument, place);
-                        put(value, line, along.total(argument, line))
+                        put(value, line, along.total(*fold, argument, line))
                     }
                     (Change::Row, Ok(argument))
                         if value.is_ok() && *along == Along::Last && argument.shape.len() == 2 =>
                     {
                         let line = argument.shape[0] - 1;
-                        grow(value, std::iter::once(along.total(argument, line)))
+                        grow(value, std::iter::once(along.total(*fold, argument, line)))
                     }
-                    (_, argument) => put_all(value, along.apply(argument)),
+                    (_, argument) => put_all(value, along.apply(*fold, argument)),
                 }
             }
             Node::Pair(function, left, right, value) => {
@@ -598,7 +628,7 @@ impl Sheet {
 /// An error that arose in the formula of a name carries that name.
 fn named(mut node: Node, at: usize) -> Node {
     match &mut node {
-        Node::Literal(value) | Node::Index(_, _, value) | Node::Total(_, _, value) => {
+        Node::Literal(value) | Node::Index(_, _, value) | Node::Total(_, _, _, value) => {
             name_fault(value, at)
         }
         Node::Pair(_, _, _, value) | Node::Reshape(_, _, value) | Node::Iota(_, value) => {
@@ -725,9 +755,19 @@ impl<'a> Parser<'a> {
     }
 
     fn expression(&mut self, sheet: &mut Sheet) -> Result<Node, Text> {
-        for (sign, along) in [("+/", Along::Last), ("+⌿", Along::First)] {
+        for (sign, fold, along) in [
+            ("+/", Fold::Plus, Along::Last),
+            ("+⌿", Fold::Plus, Along::First),
+            ("×/", Fold::Times, Along::Last),
+            ("×⌿", Fold::Times, Along::First),
+            ("⌈/", Fold::Greatest, Along::Last),
+            ("⌈⌿", Fold::Greatest, Along::First),
+            ("⌊/", Fold::Least, Along::Last),
+            ("⌊⌿", Fold::Least, Along::First),
+        ] {
             if self.takes(sign) {
                 return Ok(Node::Total(
+                    fold,
                     along,
                     Box::new(self.expression(sheet)?),
                     ABSENT.clone(),
