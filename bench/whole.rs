@@ -287,5 +287,5 @@ fn main() {
     for _ in 0..words[2].parse::<usize>().unwrap() {
         kept = black_box(made(&words[1], black_box(&given)));
     }
-    println!("{}", kept.last().unwrap_or(&0));
+    println!("{}", kept.last().unwrap_or(&0).to_string().replace('-', "¯"));
 }
