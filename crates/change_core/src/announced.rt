@@ -1,11 +1,14 @@
 //! Functions of arrays that say what a change of their arguments changes of their result.
 
-ghost use Rattle.std.specs.Prelude.{◌≡◌, ◌<◌, ℕ, List, Bool, length, get_or, false};
+ghost use Rattle.std.specs.Prelude.{◌≡◌, ◌<◌, ℕ, List, Bool, length, get_or, false, IfSome, IsTrue, Ok};
 ghost use Rattle.arrays_core.specs.Arrays.{ArrayValue, IsAnswerTo};
-ghost use Rattle.index_region.specs.Checks.{whole};
+ghost use Rattle.arrays_core.specs.Shapes.{IsWithinLimits};
+ghost use Rattle.index_region.specs.Boxes.{fits};
+ghost use Rattle.index_region.specs.Checks.{whole, form_of};
 ghost use Rattle.change_core.specs.RuleModels.{Use, FitsAt, HasShape, box_at, form_size};
 ghost use Rattle.change_core.specs.Laws.{IsTight};
 ghost use Rattle.change_core.specs.Growth.{IsGrowing, never};
+ghost use Rattle.change_core.specs.Parts.{HoldsItems, items_in};
 
 use crate::meter::Meter;
 use crate::rule::{Rule, Tight};
@@ -57,6 +60,25 @@ pub trait Announced: Primitive {
         apply(alloc, self, args)
     }
 
+    /// The items of a box of the result in row-major order, as an array of any shape, or the first error among them; None where no
+    /// way is known that is shorter than one item after another.
+    fn items_at_once(
+        &self,
+        _alloc: Global,
+        _args: &[Seen],
+        _shape: &[u32],
+        _item_type: ItemType,
+        _region: &IndexBox,
+    ) -> Option<Result<Array, ApplyFault>>
+        requires count { length _args.now ≡ Self.arity self.now }
+        requires checked { Self.form self.now _args.now ≡ Ok (form_of _shape.now _item_type) }
+        requires within { IsWithinLimits _shape.now }
+        requires fit { IsTrue (fits _region.now _shape.now) }
+        ensures { IfSome result (HoldsItems _item_type (items_in (Self.item self.now _args.now) _region.now)) }
+    {
+        None
+    }
+
     ghost counted: { (rule : Self) → length (selectors rule) ≡ Self.arity rule };
 }
 
@@ -99,6 +121,25 @@ impl<P: Announced> Rule for P {
             Err(_) => places(self, args),
         });
         whole
+    }
+
+    fn part(
+        &self,
+        alloc: Global,
+        args: &[Seen],
+        shape: &[u32],
+        item_type: ItemType,
+        region: &IndexBox,
+        meter: &mut Meter,
+    ) -> Result<Array, ApplyFault> {
+        let Some(items) = self.items_at_once(alloc, args, shape, item_type, region) else {
+            return self.item_by_item(alloc, args, shape, item_type, region, meter);
+        };
+        meter.add(match &items {
+            Ok(_) => region.size() as u32,
+            Err(_) => 0,
+        });
+        items
     }
 
     fn grows(&self, args: &[Seen], grown: &[bool]) -> bool {

@@ -48,9 +48,8 @@ pub trait Rule {
         ensures rises { meter.old.ticks ≤ meter.new.ticks }
         ensures joins { meter.new.joins ≡ meter.old.joins };
 
-    /// The items of a box of the result in row-major order, as an array of any shape, or the first error among them. It
-    /// ticks at most as often as the box has places, and as often where it answers Ok.
-    fn part(
+    /// As `part` says: one place after another.
+    fn item_by_item(
         &self,
         alloc: Global,
         args: &[Seen],
@@ -80,6 +79,30 @@ pub trait Rule {
             region.advance(&mut index);
         }
         Ok(values)
+    }
+
+    /// The items of a box of the result in row-major order, as an array of any shape, or the first error among them. It
+    /// ticks at most as often as the box has places, and as often where it answers Ok.
+    fn part(
+        &self,
+        alloc: Global,
+        args: &[Seen],
+        shape: &[u32],
+        item_type: ItemType,
+        region: &IndexBox,
+        meter: &mut Meter,
+    ) -> Result<Array, ApplyFault>
+        requires count { length args.now ≡ length (model self.now).selectors }
+        requires checked { (model self.now).form args.now ≡ Ok (form_of shape.now item_type) }
+        requires within { IsWithinLimits shape.now }
+        requires fit { IsTrue (fits region.now shape.now) }
+        ensures items { HoldsItems item_type (items_in ((model self.now).item args.now) region.now) result }
+        ensures ticks { meter.new.ticks ≤ meter.old.ticks + box_size region.now }
+        ensures exact { IfOk result (λ _. meter.new.ticks ≡ ticked meter.old.ticks (box_size region.now)) }
+        ensures rises { meter.old.ticks ≤ meter.new.ticks }
+        ensures joins { meter.new.joins ≡ meter.old.joins }
+    {
+        self.item_by_item(alloc, args, shape, item_type, region, meter)
     }
 
     /// Where the marked arguments grew by one place of their first axis, and the others are as they were, the result

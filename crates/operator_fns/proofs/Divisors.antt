@@ -8,7 +8,7 @@ use Rattle.scalar_fns.specs.Numbers.{residue, dyadic_on_numbers}
 use Rattle.operator_fns.specs.declared.residue_scan.Divisor.{Divisor}
 use Rattle.operator_fns.specs.LinearScan.{depth}
 use Rattle.operator_fns.specs.RecalledScan.{given_at}
-use Rattle.operator_fns.specs.ResidueScan.{reach_at, place_before, no_divisor, AreDivisors, rank, IsBeside, AreTheSame, IsDivisor, Leads, LeadsTo, from}
+use Rattle.operator_fns.specs.ResidueScan.{reach_at, place_before, no_divisor, AreDivisors, IsBeside, AreTheSame, IsDivisor, Leads, LeadsTo, from}
 use Rattle.operator_fns.proofs.RecalledFolds.{at_first, at_later}
 use Rattle.operator_fns.proofs.OneSided.{stays, comes_near, beside_at, rest_stays_beside}
 

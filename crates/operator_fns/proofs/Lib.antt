@@ -9,6 +9,8 @@ pub mod Errors
 pub mod Reduced
 pub mod Runs
 pub mod Firsts
+pub mod LaterFolds
+pub mod LineNumbers
 pub mod LeftScans
 pub mod RecalledFolds
 pub mod OneSided
@@ -20,6 +22,7 @@ pub mod SmallSums
 pub mod SmallBits
 pub mod Tables
 pub mod Scanned
+pub mod ScannedLine
 pub mod Joined
 pub mod Outers
 pub mod Meetings

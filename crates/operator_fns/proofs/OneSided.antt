@@ -1,5 +1,5 @@
 -- Residues of numbers on one side of 0.
-use Rattle.std.proofs.Common.{◌≡◌, ℕ, zero, suc, ◌<◌, ◌≤◌, ◌%◌, List, length, get_or, refl, ap, ◌∙◌, inl, inr, ◌⊎◌, ◌||◌, arith, pos, negsuc, neg_ℤ, ℤ, unsigned_abs, FitsSigned, w64, IsTrue, Bool, true, false}
+use Rattle.std.proofs.Common.{◌≡◌, ℕ, zero, suc, ◌<◌, ◌≤◌, ◌%◌, List, length, get_or, refl, ap, ◌∙◌, inl, inr, ◌⊎◌, arith, pos, negsuc, neg_ℤ, ℤ, unsigned_abs, FitsSigned, w64, IsTrue, Bool, true, false}
 use Rattle.std.specs.List.{list_all}
 use Rattle.std.specs.Ordering.{int_eq}
 use Rattle.std.proofs.lemmas.Bool.{false_from_ne_true, leb-true, le-leb}

@@ -1,5 +1,5 @@
 -- The right fold up to a place, from the numbers that come to the places before it.
-use Rattle.std.proofs.Common.{◌≡◌, ℕ, zero, suc, ◌+◌, ◌-◌, ◌*◌, ◌<◌, ◌≤◌, List, [], ◌∷◌, ◌++◌, length, get_or, set, map, take, Vec, refl, inl, inr, ap, sym, ◌∙◌, arith, pos, ℤ, Result, Ok, Err}
+use Rattle.std.proofs.Common.{◌≡◌, ℕ, ◌+◌, ◌-◌, ◌*◌, ◌<◌, ◌≤◌, List, [], ◌∷◌, ◌++◌, length, get_or, set, map, take, Vec, refl, inl, inr, ap, sym, ◌∙◌, arith, pos, ℤ, Result, Ok, Err}
 use Rattle.std.proofs.lemmas.Bool.{cases_eq, cases_lt}
 use Rattle.std.proofs.lemmas.List.{take_more, take_all, length-take, get_or-take, length-set, get_or-set_same, get_or-set_other, get_or_append_left, length-append}
 use Rattle.std.proofs.Math.Seq.{get_or-append_right}
@@ -14,7 +14,7 @@ use Rattle.operator_fns.specs.declared.recalled_scan.Recalled.{Recalled}
 use Rattle.operator_fns.specs.Prefixes.{right_rule}
 use Rattle.operator_fns.specs.RecalledScan.{run_before, given_at, nothing, IsRecalled, AreRecalled}
 use Rattle.operator_fns.proofs.Firsts.{entry_of}
-use Rattle.operator_fns.proofs.Runs.{through, as_it_is, one_deeper, depth_high}
+use Rattle.operator_fns.proofs.Runs.{as_it_is, one_deeper, depth_high}
 
 regroup : {A B C : Type 0} (r : Result A Kind) (g : A → Result B Kind) (h : B → Result C Kind) → and_then (and_then r g) h ≡ and_then r (λ z. and_then (g z) h)
 regroup (Ok z) g h = refl

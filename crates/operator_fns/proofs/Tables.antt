@@ -20,7 +20,7 @@ again : (r : Result (List ℤ) Kind) → r ≡ and_then r (λ zs. Ok ([] ++ zs))
 again (Ok zs) = refl
 again (Err e) = refl
 
-after_parts : (x : ℤ) (r : Result (List ℤ) Kind) (all : List ℤ) (B : Type 0) → after x r ≡ Ok all → ((rest : List ℤ) → r ≡ Ok rest → all ≡ x ∷ rest → B) → B
+pub after_parts : (x : ℤ) (r : Result (List ℤ) Kind) (all : List ℤ) (B : Type 0) → after x r ≡ Ok all → ((rest : List ℤ) → r ≡ Ok rest → all ≡ x ∷ rest → B) → B
 after_parts x (Ok rest) all B h then = then rest refl (let e : x ∷ rest ≡ all = cc in sym e)
 after_parts x (Err e) all B h then = let none : ⊥ = cc in absurd none
 

@@ -7,7 +7,7 @@ use Rattle.arrays_core.specs.declared.item.Kind.{Kind}
 use Rattle.arrays_core.specs.declared.item.Kind.TheVariants.{Domain}
 use Rattle.arrays_core.specs.declared.fault.ApplyFault.{ApplyFault}
 use Rattle.arrays_core.specs.declared.fault.ApplyFault.TheVariants.{Kind as KindFault, NoMemory}
-use Rattle.scalar_fns.specs.Folds.{strided}
+use Rattle.scalar_fns.specs.Folds.{strided, folded}
 
 -- how many entries of its line come before the entry at a place
 abbrev pub depth : (stride count place : ℕ) → ℕ
@@ -32,6 +32,10 @@ folded_left f (x ∷ rest) = fold_on f x rest
 abbrev pub scanned : (List ℤ → Result ℤ Kind) → List ℤ → (stride count : ℕ) → Result (List ℤ) Kind
 scanned fold zs stride count =
     all_or_first_error (map (λ place. fold (run_to (pos 0) zs stride count place)) (range_with_len 0 (length zs)))
+
+-- the folds of the first numbers of a list, up to each place from the one that is told on, counted from 1
+abbrev pub folds_from : (ℤ → ℤ → Result ℤ Kind) → List ℤ → (first : ℕ) → Result (List ℤ) Kind
+folds_from f zs first = all_or_first_error (map (λ before. folded f (take (first + before) zs)) (range_with_len 0 (length zs + 1 - first)))
 
 -- the left fold of the numbers up to each place
 abbrev pub left_rule : (ℤ → ℤ → Result ℤ Kind) → List ℤ → (stride count place : ℕ) → Result ℤ Kind

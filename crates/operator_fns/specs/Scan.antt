@@ -1,11 +1,13 @@
 -- Scan, f\B and f⍀B.
-use Rattle.std.specs.Prelude.{ℕ, nat_lt, ◌||◌, List, length, get_or, take, remove, if◌then◌else◌, Result}
+use Rattle.std.specs.Prelude.{ℕ, ◌+◌, ◌-◌, nat_lt, ◌||◌, List, [], ◌∷◌, length, map, get_or, set, take, remove, if◌then◌else◌, Result}
+use Rattle.std.specs.List.{range_with_len}
 use Rattle.arrays_core.specs.declared.item.Item.{Item}
 use Rattle.arrays_core.specs.declared.item.ItemType.{ItemType}
 use Rattle.arrays_core.specs.declared.item.ItemType.TheVariants.{Nums}
 use Rattle.arrays_core.specs.declared.item.Kind.{Kind}
 use Rattle.arrays_core.specs.declared.item.Kind.TheVariants.{Axis, Domain}
-use Rattle.arrays_core.specs.Arrays.{ArrayValue}
+use Rattle.arrays_core.specs.Items.{all_or_first_error}
+use Rattle.arrays_core.specs.Arrays.{ArrayValue, with_items}
 use Rattle.scalar_fns.specs.declared.function.Scalar2.{Scalar2}
 use Rattle.index_region.specs.declared.along.Along.{Along}
 use Rattle.index_region.specs.Checks.{Form, check, limited, whole}
@@ -30,6 +32,13 @@ abbrev pub scan_item : Scalar2 → Along → ArrayValue → List ℕ → Result 
 scan_item f along b index =
     let axis = axis_at (length b.shape) along in
     fold_right f (take (get_or index axis 1) (line b axis (remove index axis)))
+
+-- the items on the line of an index list, from the place there on up to a later one
+abbrev pub scan_along : Scalar2 → Along → ArrayValue → List ℕ → ℕ → Result ArrayValue Kind
+scan_along f along b index last =
+    let axis = axis_at (length b.shape) along in
+    let first = get_or index axis 1 in
+    with_items Nums ((last + 1 - first) ∷ []) (all_or_first_error (map (λ before. scan_item f along b (set index axis (first + before))) (range_with_len 0 (last + 1 - first))))
 
 -- the whole result
 abbrev pub scan_whole : Scalar2 → Along → ArrayValue → Result ArrayValue Kind

@@ -10,6 +10,7 @@ mod line_tree;
 mod linear_scan;
 mod met_numbers;
 mod number_rule;
+mod number_scan;
 mod outcomes;
 mod outer_product;
 mod prefix;

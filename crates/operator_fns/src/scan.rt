@@ -1,161 +1,27 @@
 //! Scan: the right folds of the first items of each line of an array.
 
-ghost use Rattle.std.specs.Prelude.{◌≡◌, ◌<◌, ◌≤◌, ◌*◌, pos, length, map, IfOk};
+ghost use Rattle.std.specs.Prelude.{◌≡◌, ◌<◌, ◌≤◌, ◌+◌, ◌-◌, ◌*◌, ◌∷◌, [], pos, length, map, get_or, IfOk, IfSome};
 ghost use Rattle.arrays_core.specs.declared.item.Item.TheVariants.{Num};
 ghost use Rattle.arrays_core.specs.declared.item.ItemType.TheVariants.{Nums};
-ghost use Rattle.arrays_core.specs.Arrays.{collect as collected, IsAnswerTo};
+ghost use Rattle.arrays_core.specs.Arrays.{collect as collected, with_items, IsAnswerTo};
+ghost use Rattle.arrays_core.specs.Limits.{longest_axis};
 ghost use Rattle.arrays_core.specs.Shapes.{size as size_of, places_before, IsWithinLimits};
-ghost use Rattle.scalar_fns.specs.declared.function.Scalar2.TheVariants.{Plus, Residue as ByResidue};
 ghost use Rattle.scalar_fns.specs.Numbers.{dyadic_on_numbers};
+ghost use Rattle.scalar_fns.specs.NumberLists.{number_items};
 ghost use Rattle.scalar_fns.specs.Items.{number_item};
 ghost use Rattle.scalar_fns.specs.Folds.{folded};
 ghost use Rattle.index_region.specs.ArgumentLists.{of_one_argument};
 ghost use Rattle.index_region.specs.Answers.{IsFormAnswerTo, IsPlaceOf, HasTypeOf};
-ghost use Rattle.operator_fns.specs.LinearScan.{run_to, IsAssociative};
-ghost use Rattle.operator_fns.specs.Prefixes.{IsFresh, IsClosed, GivesTruths};
-ghost use Rattle.operator_fns.specs.Scan.{scan_form, scan_item, scan_whole};
+ghost use Rattle.index_region.specs.Axes.{axis_at};
+ghost use Rattle.operator_fns.specs.LinearScan.{run_to, folds_from};
+ghost use Rattle.operator_fns.specs.Scan.{scan_form, scan_item, scan_along, scan_whole};
 
-use crate::differences::Differences;
-use crate::linear_scan::{running_folds, running_sums};
-use crate::outcomes::Outcomes;
-use crate::prefix::{Prefix, prefix_folds};
-use crate::products::Products;
-use crate::recalled_scan::recalled_folds;
-use crate::residue_scan::{are_one_sided, running_residues};
-use crate::right_fold::{fold_line, stride};
+use crate::number_scan::{later_folds, number_folds};
+use crate::right_fold::{fold_line, line_numbers, stride};
 use arrays_core::{ApplyFault, Array, Item, ItemType, Kind, Shape, shape_of, without_axis};
 use index_region::{Along, Primitive, Seen, apply, limited};
 use scalar_fns::Scalar2;
-use scalar_fns::kernels::{
-    And, Divide, Equal, Greater, GreaterOrEqual, Less, LessOrEqual, Maximum, Minimum, Nand, Nor,
-    NotEqual, Or, Power, Residue, TwoNumbers,
-};
 use std::alloc::Global;
-
-/// The array of the folds of the numbers up to each place of its line, by a function of which no law is used: what a number gave
-/// that came to a place before is recalled.
-fn scans_by<S: TwoNumbers>(
-    alloc: Global,
-    step: &S,
-    numbers: &[i64],
-    stride: usize,
-    count: usize,
-    shape: &Shape,
-) -> Result<Array, ApplyFault>
-    requires within { IsWithinLimits shape.now.items }
-    requires some { 1 ≤ count }
-    requires apart { 0 < stride }
-    requires long { size_of shape.now.items ≡ length numbers.now }
-    ensures { IsAnswerTo (collected Nums shape.now.items (λ index. number_item (folded (S.gives step.now) (run_to (pos 0) numbers.now stride count (places_before shape.now.items index))))) result }
-{
-    let numbers = recalled_folds(alloc, step, numbers, stride, count)?;
-    Ok(Array::from_numbers(shape, numbers)?)
-}
-
-/// The array of the residues of the numbers up to each place of its line. Where none is below 0, or none above, few divisors
-/// are looked at for each.
-fn residues(
-    alloc: Global,
-    numbers: &[i64],
-    stride: usize,
-    count: usize,
-    shape: &Shape,
-) -> Result<Array, ApplyFault>
-    requires within { IsWithinLimits shape.now.items }
-    requires some { 1 ≤ count }
-    requires apart { 0 < stride }
-    requires long { size_of shape.now.items ≡ length numbers.now }
-    ensures { IsAnswerTo (collected Nums shape.now.items (λ index. number_item (folded (dyadic_on_numbers ByResidue) (run_to (pos 0) numbers.now stride count (places_before shape.now.items index))))) result }
-{
-    if !are_one_sided(numbers) {
-        return scans_by(alloc, &Residue, numbers, stride, count, shape);
-    }
-    let residues = running_residues(alloc, numbers, stride, count)?;
-    Ok(Array::from_numbers(shape, residues)?)
-}
-
-/// The array of the folds of the numbers up to each place of its line, by an associative function: one step for each number.
-fn scans_on<S: TwoNumbers>(
-    alloc: Global,
-    step: &S,
-    numbers: &[i64],
-    stride: usize,
-    count: usize,
-    shape: &Shape,
-) -> Result<Array, ApplyFault>
-    requires associative { IsAssociative (S.gives step.now) }
-    requires within { IsWithinLimits shape.now.items }
-    requires some { 1 ≤ count }
-    requires apart { 0 < stride }
-    requires high { count * stride ≤ length numbers.now }
-    requires long { size_of shape.now.items ≡ length numbers.now }
-    ensures { IsAnswerTo (collected Nums shape.now.items (λ index. number_item (folded (S.gives step.now) (run_to (pos 0) numbers.now stride count (places_before shape.now.items index))))) result }
-{
-    let numbers = running_folds(alloc, step, numbers, stride, count)?;
-    Ok(Array::from_numbers(shape, numbers)?)
-}
-
-/// The array of the folds of the numbers up to each place of its line, from a prefix of no numbers: one step for each number.
-fn scans_from<P: Prefix + Copy>(
-    alloc: Global,
-    none: &P,
-    numbers: &[i64],
-    stride: usize,
-    count: usize,
-    shape: &Shape,
-) -> Result<Array, ApplyFault>
-    requires fresh { IsFresh (P.gives none.now) }
-    requires closed { IsClosed (P.step none.now) }
-    requires within { IsWithinLimits shape.now.items }
-    requires some { 1 ≤ count }
-    requires apart { 0 < stride }
-    requires high { count * stride ≤ length numbers.now }
-    requires long { size_of shape.now.items ≡ length numbers.now }
-    ensures { IsAnswerTo (collected Nums shape.now.items (λ index. number_item (folded (P.step none.now) (run_to (pos 0) numbers.now stride count (places_before shape.now.items index))))) result }
-{
-    let numbers = prefix_folds(alloc, none, numbers, stride, count)?;
-    Ok(Array::from_numbers(shape, numbers)?)
-}
-
-/// The array of the folds of the numbers up to each place of its line, by a function that gives truth values.
-fn scans_of_truths<S: TwoNumbers + Copy>(
-    alloc: Global,
-    step: S,
-    numbers: &[i64],
-    stride: usize,
-    count: usize,
-    shape: &Shape,
-) -> Result<Array, ApplyFault>
-    requires truths { GivesTruths (S.gives step) }
-    requires within { IsWithinLimits shape.now.items }
-    requires some { 1 ≤ count }
-    requires apart { 0 < stride }
-    requires high { count * stride ≤ length numbers.now }
-    requires long { size_of shape.now.items ≡ length numbers.now }
-    ensures { IsAnswerTo (collected Nums shape.now.items (λ index. number_item (folded (S.gives step) (run_to (pos 0) numbers.now stride count (places_before shape.now.items index))))) result }
-{
-    let none = Outcomes::none(step);
-    scans_from(alloc, &none, numbers, stride, count, shape)
-}
-
-/// The array of the sums of the numbers up to each place of its line: one step for each number.
-fn sums(
-    alloc: Global,
-    numbers: &[i64],
-    stride: usize,
-    count: usize,
-    shape: &Shape,
-) -> Result<Array, ApplyFault>
-    requires within { IsWithinLimits shape.now.items }
-    requires some { 1 ≤ count }
-    requires apart { 0 < stride }
-    requires high { count * stride ≤ length numbers.now }
-    requires long { size_of shape.now.items ≡ length numbers.now }
-    ensures { IsAnswerTo (collected Nums shape.now.items (λ index. number_item (folded (dyadic_on_numbers Plus) (run_to (pos 0) numbers.now stride count (places_before shape.now.items index))))) result }
-{
-    let numbers = running_sums(alloc, numbers, stride, count)?;
-    Ok(Array::from_numbers(shape, numbers)?)
-}
 
 /// The array of the folds of the numbers up to each place of its line, by the scalar function that is named.
 fn scans(
@@ -173,32 +39,27 @@ fn scans(
     requires long { size_of shape.now.items ≡ length numbers.now }
     ensures { IsAnswerTo (collected Nums shape.now.items (λ index. number_item (folded (dyadic_on_numbers function) (run_to (pos 0) numbers.now stride count (places_before shape.now.items index))))) result }
 {
-    match function {
-        Scalar2::Plus => sums(alloc, numbers, stride, count, shape),
-        Scalar2::Minus => scans_from(alloc, &Differences::none(), numbers, stride, count, shape),
-        Scalar2::Times => scans_from(alloc, &Products::none(), numbers, stride, count, shape),
-        Scalar2::Maximum => scans_on(alloc, &Maximum, numbers, stride, count, shape),
-        Scalar2::Minimum => scans_on(alloc, &Minimum, numbers, stride, count, shape),
-        Scalar2::And => scans_on(alloc, &And, numbers, stride, count, shape),
-        Scalar2::Or => scans_on(alloc, &Or, numbers, stride, count, shape),
-        Scalar2::Less => scans_of_truths(alloc, Less, numbers, stride, count, shape),
-        Scalar2::LessOrEqual => scans_of_truths(alloc, LessOrEqual, numbers, stride, count, shape),
-        Scalar2::Equal => scans_of_truths(alloc, Equal, numbers, stride, count, shape),
-        Scalar2::GreaterOrEqual => scans_of_truths(
-            alloc,
-            GreaterOrEqual,
-            numbers,
-            stride,
-            count,
-            shape,
-        ),
-        Scalar2::Greater => scans_of_truths(alloc, Greater, numbers, stride, count, shape),
-        Scalar2::NotEqual => scans_of_truths(alloc, NotEqual, numbers, stride, count, shape),
-        Scalar2::Nand => scans_of_truths(alloc, Nand, numbers, stride, count, shape),
-        Scalar2::Nor => scans_of_truths(alloc, Nor, numbers, stride, count, shape),
-        Scalar2::Divide => scans_by(alloc, &Divide, numbers, stride, count, shape),
-        Scalar2::Power => scans_by(alloc, &Power, numbers, stride, count, shape),
-        Scalar2::Residue => residues(alloc, numbers, stride, count, shape),
+    let folds = number_folds(alloc, function, numbers, stride, count)?;
+    Ok(Array::from_numbers(shape, folds)?)
+}
+
+/// The vector of the folds of the first numbers of a list, up to each place from the one that is told on; None where an earlier
+/// place may have an error.
+fn later_vector(
+    alloc: Global,
+    function: Scalar2,
+    numbers: &[i64],
+    first: usize,
+) -> Option<Result<Array, ApplyFault>>
+    requires low { 1 ≤ first }
+    requires high { first ≤ length numbers.now }
+    requires few { length numbers.now ≤ longest_axis }
+    ensures { IfSome result (IsAnswerTo (with_items Nums ((length numbers.now + 1 - first) ∷ []) (number_items (folds_from (dyadic_on_numbers function) numbers.now first)))) }
+{
+    let later = later_folds(alloc, function, numbers, first)?;
+    match later {
+        Ok(folds) => Some(Array::vector(alloc, folds)),
+        Err(fault) => Some(Err(fault)),
     }
 }
 
@@ -262,6 +123,34 @@ impl Scan {
         match args[0].numbers() {
             Some(numbers) if !numbers.is_empty() => self.of_numbers(alloc, &args[0], numbers),
             _ => apply(alloc, self, args),
+        }
+    }
+
+    /// The items of the result on one line, from the place at an index list on up to a later one, counted from 1, as a vector: the line
+    /// is gone over once from its beginning, which is quicker than one of these items after another. None where the array is of
+    /// characters, or where an item of the result before these may be an error.
+    pub fn along_line(
+        &self,
+        alloc: Global,
+        array: &Seen,
+        index: &[u32],
+        last: u32,
+    ) -> Option<Result<Array, ApplyFault>>
+        requires place { IsPlaceOf (scan_form self.now.along array.now) index.now }
+        requires there { axis_at (length array.now.shape) self.now.along < length array.now.shape }
+        requires order { get_or index.now (axis_at (length array.now.shape) self.now.along) 1 ≤ last }
+        requires high { last ≤ get_or array.now.shape (axis_at (length array.now.shape) self.now.along) 0 }
+        ensures { IfSome result (IsAnswerTo (scan_along self.now.function self.now.along array.now index.now last)) }
+    {
+        if array.item_type() != ItemType::Nums {
+            return None;
+        }
+        let axes = array.shape();
+        let axis = self.along.axis_at(axes.len() as u32);
+        let others = without_axis(*axes.allocator(), index, axis);
+        match line_numbers(alloc, array, axis, others.as_slice(), last) {
+            Ok(numbers) => later_vector(alloc, self.function, &numbers, index[axis] as usize),
+            Err(_) => Some(Err(ApplyFault::NoMemory)),
         }
     }
 

@@ -1,2 +1,3 @@
 pub mod Ranks
 pub mod Boxes
+pub mod OneLine

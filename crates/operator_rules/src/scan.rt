@@ -12,7 +12,7 @@ ghost use Rattle.operator_rules.specs.Growth.{lines_grow};
 
 use crate::lines::is_along_a_later_axis;
 use crate::ruled::Ruled;
-use arrays_core::{ApplyFault, Array};
+use arrays_core::{ApplyFault, Array, ItemType};
 use change_core::{Announced, Lawful};
 use index_region::{IndexBox, Intervals, Seen};
 use operator_fns::Scan;
@@ -60,6 +60,30 @@ impl Announced for Ruled<Scan> {
 
     fn whole(&self, alloc: Global, args: &[Seen]) -> Result<Array, ApplyFault> {
         self.function.apply(alloc, args)
+    }
+
+    fn items_at_once(
+        &self,
+        alloc: Global,
+        args: &[Seen],
+        _shape: &[u32],
+        item_type: ItemType,
+        region: &IndexBox,
+    ) -> Option<Result<Array, ApplyFault>> {
+        let array = &args[0];
+        let rank = array.shape().len();
+        let axis = self.function.along.axis_at(rank as u32);
+        if item_type != ItemType::Nums || axis >= rank {
+            return None;
+        }
+        let (first, last) = region.as_slice()[axis];
+        // one line of the box
+        if region.size() as u32 != last - first + 1 {
+            return None;
+        }
+        let index = region.index_at(0);
+        self.function
+            .along_line(alloc, array, index.as_slice(), last)
     }
 
     ghost counted = { λ _. Prim.search rules };

@@ -1,13 +1,13 @@
-use Rattle.std.proofs.Common.{rules, ◌≡◌, ◌∙◌, ◌<◌, ◌-◌, ◌+◌, ap, sym, subst, pos, length, get_or, Ok, Err, arith, to_z, of_z, w64, SFits}
+use Rattle.std.proofs.Common.{rules, ◌≡◌, ◌∙◌, ◌<◌, ◌-◌, ap, sym, pos, length, get_or, Ok, Err, arith, to_z, of_z, w64, SFits}
 use Rattle.std.proofs.lemmas.Int.{to_z-of_z}
 use Rattle.std.proofs.lemmas.List.{length-set}
 use Rattle.arrays_core.specs.Items.{and_then}
 use Rattle.scalar_fns.proofs.Errors.{passed_on}
 use Rattle.operator_fns.specs.LinearScan.{depth}
 use Rattle.operator_fns.specs.Prefixes.{right_rule}
-use Rattle.operator_fns.specs.RecalledScan.{given_at, IsRecalled, nothing}
+use Rattle.operator_fns.specs.RecalledScan.{given_at, nothing}
 use Rattle.operator_fns.proofs.Runs.{one_deeper, past_stride}
-use Rattle.operator_fns.proofs.RecalledFolds.{own_number, at_first, at_later, one_recalled}
+use Rattle.operator_fns.proofs.RecalledFolds.{own_number, at_later, one_recalled}
 use Rattle.operator_fns.proofs.recalled_scan.recalled_fold.Goals as goal
 
 pub loop-init : goal.loop-init

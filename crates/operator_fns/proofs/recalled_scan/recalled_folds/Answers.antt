@@ -1,4 +1,4 @@
-use Rattle.std.proofs.Common.{◌≡◌, ◌∙◌, ◌+◌, ◌<◌, ◌++◌, ◌∷◌, [], ap, sym, subst, length, get_or, map, take, drop, arith, Ok, Err, pos, to_z, of_z, w64, SFits, rules, vec_len}
+use Rattle.std.proofs.Common.{◌≡◌, ◌∙◌, ◌<◌, ◌++◌, ◌∷◌, [], ap, sym, length, get_or, map, take, drop, arith, Ok, Err, pos, to_z, of_z, w64, SFits, rules}
 use Rattle.std.specs.List.{range_with_len}
 use Rattle.std.proofs.lemmas.Int.{to_z-of_z}
 use Rattle.std.proofs.Math.Seq.{take-append_seam}
@@ -6,7 +6,6 @@ use Rattle.arrays_core.specs.Items.{all_or_first_error}
 use Rattle.operator_fns.specs.declared.recalled_scan.Recalled.{Recalled}
 use Rattle.scalar_fns.proofs.Errors.{list_error}
 use Rattle.operator_fns.specs.Prefixes.{right_rule}
-use Rattle.operator_fns.specs.RecalledScan.{AreRecalled}
 use Rattle.operator_fns.proofs.LeftScans.{none_yet, one_more, first_error, results_end}
 use Rattle.operator_fns.proofs.RecalledFolds.{next_recalled, result_before}
 use Rattle.operator_fns.proofs.recalled_scan.recalled_folds.Goals as goal

@@ -1,6 +1,6 @@
-use Rattle.std.proofs.Common.{◌≡◌, ◌∙◌, ◌+◌, ◌<◌, ap, sym, get_or, length, arith, pos, to_z, of_z, w64, SFits, rules, Some, IfSome}
+use Rattle.std.proofs.Common.{◌≡◌, ◌∙◌, ◌<◌, ap, sym, get_or, length, arith, pos, to_z, of_z, w64, SFits, rules, Some, IfSome}
 use Rattle.std.proofs.lemmas.Int.{to_z-of_z}
-use Rattle.operator_fns.specs.ResidueScan.{reach_at, place_before, from, AreTheSame}
+use Rattle.operator_fns.specs.ResidueScan.{reach_at, from, AreTheSame}
 use Rattle.operator_fns.proofs.Divisors.{passes, leads_on, nearer}
 use Rattle.operator_fns.proofs.residue_scan.SidedLines.next_divisor.Goals as goal
 

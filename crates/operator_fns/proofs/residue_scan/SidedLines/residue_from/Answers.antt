@@ -1,4 +1,4 @@
-use Rattle.std.proofs.Common.{◌≡◌, ◌∙◌, ◌<◌, ◌≤◌, ap, sym, get_or, length, arith, pos, unsigned_abs, to_z, of_z, w64, SFits, rules, Some}
+use Rattle.std.proofs.Common.{◌≡◌, ◌∙◌, ◌<◌, ◌≤◌, ap, sym, get_or, length, arith, pos, unsigned_abs, to_z, of_z, w64, SFits, rules}
 use Rattle.std.proofs.lemmas.Int.{to_z-of_z}
 use Rattle.scalar_fns.specs.Numbers.{residue}
 use Rattle.operator_fns.specs.ResidueScan.{IsBeside, reach_at, from, no_divisor}

@@ -6,7 +6,7 @@ use Rattle.change_core.proofs.Filling.{filled_many, nothing_filled, one_filled, 
 use Rattle.index_region.proofs.Walks.{some_place}
 use Rattle.change_core.specs.Meters.{ticked}
 use Rattle.change_core.proofs.Collected.{items_are}
-use Rattle.change_core.proofs.rule.Rule.part.Goals as goal
+use Rattle.change_core.proofs.rule.Rule.item_by_item.Goals as goal
 
 pub loop-place-init : goal.loop-place-init
 loop-place-init g c =
