@@ -1,6 +1,6 @@
 //! The number that a field of a table spells.
 
-ghost use Rattle.std.specs.Prelude.{◌≡◌, ◌≤◌, length, true, false, MatchOption};
+ghost use Rattle.std.specs.Prelude.{◌≡◌, ◌<◌, ◌≤◌, ◌^◌, length, true, false, IfSome, MatchOption};
 ghost use Rattle.std.specs.List.{list_all, prefix_len};
 ghost use Rattle.std.specs.Char.{is_ascii_digit};
 ghost use Rattle.apl_tokens.specs.Characters.{is_blank as blank_at, decimal_from, signed, fits_number};
@@ -8,6 +8,9 @@ ghost use Rattle.array_text.specs.Tables.{sign_and_rest, digits_number as number
 
 /// The number that is one more than the greatest.
 const TOP: u64 = 9_223_372_036_854_775_808;
+
+/// So many digits spell a number in range, whatever they are.
+const FEW_DIGITS: usize = 18;
 
 /// Whether a byte is a blank: a space or a tab.
 fn is_blank(byte: u8) -> bool
@@ -107,11 +110,35 @@ fn digits_number(is_negative: bool, digits: &[u8]) -> Option<i64>
     number_in_range(is_negative, digits)
 }
 
-/// The number that digits with blanks after them spell, if it is in range.
+/// The number that bytes spell, where they are a few, and digits alone.
+fn few_digits(bytes: &[u8]) -> Option<u64>
+    ensures some { IfSome result (λ n. 0 < length bytes.now) }
+    ensures digits { IfSome result (λ n. prefix_len is_ascii_digit bytes.now ≡ length bytes.now) }
+    ensures is { IfSome result (λ n. n ≡ decimal_from 0 bytes.now) }
+    ensures small { IfSome result (λ n. n < 10 ^ 18) }
+{
+    if bytes.is_empty() || bytes.len() > FEW_DIGITS {
+        return None;
+    }
+    let mut magnitude: u64 = 0;
+    for byte in bytes {
+        if !byte.is_ascii_digit() {
+            return None;
+        }
+        magnitude = magnitude * 10 + u64::from(*byte - b'0');
+    }
+    Some(magnitude)
+}
+
+/// The number that digits with blanks after them spell, if it is in range. A few digits with nothing after them, as most
+/// fields have, are gone over once.
 #[tactic(auto, unfolding(crate::specs::Tables::unsigned_number))]
 fn unsigned_number(is_negative: bool, bytes: &[u8]) -> Option<i64>
     ensures { result ≡ number_without_sign is_negative bytes.now }
 {
+    if let Some(magnitude) = few_digits(bytes) {
+        return with_sign(is_negative, magnitude);
+    }
     let size = digits_at(bytes);
     if !are_blanks(&bytes[size..]) {
         return None;
