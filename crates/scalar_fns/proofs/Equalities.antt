@@ -1,7 +1,12 @@
 -- Equality of arrays of characters, and of numbers beside characters.
-use Rattle.std.proofs.Common.{◌≡◌, ℕ, ◌<◌, ◌==◌, Bool, true, false, List, [], ◌∷◌, length, get_or, map, refl, ap, sym, ◌∙◌, arith, ℤ, pos, Result, Ok, replicate}
+use Rattle.std.proofs.Common.{◌≡◌, ℕ, ◌+◌, ◌<◌, ◌==◌, Bool, true, false, if◌then◌else◌, List, [], ◌∷◌, length, get_or, map, refl, ap, sym, ◌∙◌, arith, ℤ, pos, Result, Ok, Err, IfOk, replicate}
+use Rattle.std.specs.Prelude.{Vec}
 use Rattle.std.proofs.lemmas.List.{length-map, get_or-map, get_or-replicate, length-replicate}
 use Rattle.std.proofs.lemmas.List.Elements.{All-get_or}
+use Rattle.std.proofs.lemmas.List.FromFn.{get_or-map-range_with_len, length-map-range_with_len}
+use Rattle.std.proofs.lemmas.Bool.{eqb-true}
+use Rattle.std.proofs.lemmas.Bool.Decides.{nat_tests}
+use Rattle.arrays_core.specs.Building.{listed}
 use Rattle.arrays_core.specs.declared.item.Item.{Item}
 use Rattle.arrays_core.specs.declared.item.Item.TheVariants.{Num, Char}
 use Rattle.arrays_core.specs.declared.item.ItemType.TheVariants.{Nums}
@@ -69,3 +74,50 @@ of_other_types equal a b shape is_a is_b differ common_is =
     asked_of_others equal (extended a (index_after shape i)) (extended b (index_after shape i))
     (λ e. differ (sym (type_there a shape i is_a fits.0 h) ∙ e ∙ type_there b shape i is_b fits.1 h))
     ∙ ap (λ z. Ok (Num z)) (sym (get_or-replicate (size shape) i (told equal false) (pos 0) h)))
+
+-- one character stands at every place
+one_at : (cs : List ℕ) (k : ℕ) → length cs ≡ 1 → character_at cs k ≡ get_or cs 0 0
+one_at cs k one = ap (λ n. get_or cs (if n == 1 then 0 else k) 0) one
+
+own_at : (cs : List ℕ) (k : ℕ) → k < length cs → character_at cs k ≡ get_or cs k 0
+own_at cs k there = by (length cs == 1) refl
+  where
+    by : (b : Bool) → (length cs == 1) ≡ b → get_or cs (if b then 0 else k) 0 ≡ get_or cs k 0
+    by true e = let one : length cs ≡ 1 = eqb-true (length cs) 1 e in let first : 0 ≡ k = omega arith in ap (λ j. get_or cs j 0) first
+    by false e = refl
+
+turned : (x y : ℕ) → (x == y) ≡ (y == x)
+turned x y = grind (arith, nat_tests)
+
+-- answers that are listed place by place
+told_at : (equal : Bool) (xs ys : List ℕ) (places : ℕ) (same : ℕ → Bool) (zs : List ℤ) → zs ≡ listed places (λ k. told equal (same k))
+    → ((k : ℕ) → k < places → same k ≡ (character_at xs k == character_at ys k)) → AreTold equal xs ys places zs
+told_at equal xs ys places same zs made is = record {
+  long = ap length made ∙ length-map-range_with_len (λ k. told equal (same k)) 0 places;
+  each = λ k h.
+      ap (λ t. get_or t k (pos 0)) made ∙ get_or-map-range_with_len (λ j. told equal (same j)) 0 places k k (pos 0) h (let here : 0 + k ≡ k = omega arith in here)
+      ∙ ap (told equal) (is k h);
+}
+
+pub told_beside_one : (equal : Bool) (xs ys : List ℕ) (places : ℕ) (zs : List ℤ) (x : ℕ) → x ≡ get_or xs 0 0 → length xs ≡ 1 → length ys ≡ places
+    → zs ≡ listed (length ys) (λ k. told equal (get_or ys k 0 == x)) → AreTold equal xs ys places zs
+told_beside_one equal xs ys places zs x first one long made =
+    told_at equal xs ys places (λ k. get_or ys k 0 == x) zs (made ∙ ap (λ n. listed n (λ k. told equal (get_or ys k 0 == x))) long) (λ k h.
+    turned (get_or ys k 0) x ∙ sym (ap (λ y. y == character_at ys k) (one_at xs k one ∙ sym first) ∙ ap (λ y. x == y) (own_at ys k (omega arith))))
+
+pub told_before_one : (equal : Bool) (xs ys : List ℕ) (places : ℕ) (zs : List ℤ) (y : ℕ) → y ≡ get_or ys 0 0 → length ys ≡ 1 → length xs ≡ places
+    → zs ≡ listed (length xs) (λ k. told equal (get_or xs k 0 == y)) → AreTold equal xs ys places zs
+told_before_one equal xs ys places zs y first one long made =
+    told_at equal xs ys places (λ k. get_or xs k 0 == y) zs (made ∙ ap (λ n. listed n (λ k. told equal (get_or xs k 0 == y))) long) (λ k h.
+    sym (ap (λ z. character_at xs k == z) (one_at ys k one ∙ sym first) ∙ ap (λ x. x == y) (own_at xs k (omega arith))))
+
+pub told_in_pairs : (equal : Bool) (xs ys : List ℕ) (places : ℕ) (zs : List ℤ) → length xs ≡ length ys → length xs ≡ places
+    → zs ≡ listed (length xs) (λ k. told equal (get_or xs k 0 == get_or ys k 0)) → AreTold equal xs ys places zs
+told_in_pairs equal xs ys places zs even long made =
+    told_at equal xs ys places (λ k. get_or xs k 0 == get_or ys k 0) zs (made ∙ ap (λ n. listed n (λ k. told equal (get_or xs k 0 == get_or ys k 0))) long) (λ k h.
+    sym (ap (λ y. character_at xs k == y) (own_at ys k (omega arith)) ∙ ap (λ x. x == get_or ys k 0) (own_at xs k (omega arith))))
+
+-- what is known of the items of a list that was made
+pub of_items : {G E : Type 0} (r : Result (Vec ℤ G) E) (P Q : List ℤ → Type 0) → ((zs : List ℤ) → P zs → Q zs) → IfOk r (λ v. P v.items) → IfOk r (λ v. Q v.items)
+of_items (Ok v) P Q goes is = goes v.items is
+of_items (Err e) P Q goes is = tt

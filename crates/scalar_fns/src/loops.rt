@@ -20,7 +20,7 @@ pub(crate) fn on_each<S: OneNumber>(
     let mut results = Vec::with_capacity(alloc, room_of(numbers.len()))?;
     for number in numbers {
         let result = step.at(*number)?;
-        results.push(result)?;
+        results.push_reserved(result);
     }
     Ok(results)
 }
@@ -49,7 +49,7 @@ fn on_pairs<S: TwoNumbers>(
     let mut results = Vec::with_capacity(alloc, room_of(left.len()))?;
     for place in 0..left.len() {
         let result = at_place(step, left, right, place)?;
-        results.push(result)?;
+        results.push_reserved(result);
     }
     Ok(results)
 }

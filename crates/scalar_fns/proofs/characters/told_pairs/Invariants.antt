@@ -1,9 +1,11 @@
-use Rattle.std.proofs.Common.{◌≡◌, ◌<◌, ◌==◌, ℕ, pos, length, get_or}
+use Rattle.std.proofs.Common.{◌≡◌, ◌≤◌, ◌==◌, length, get_or, vec_len, vec_capacity}
+use Rattle.arrays_core.specs.Building.{listed}
 use Rattle.scalar_fns.specs.Characters.{told}
-use Rattle.scalar_fns.proofs.characters.tell_pairs.Given as goal
+use Rattle.scalar_fns.proofs.characters.told_pairs.Given as goal
 
 abbrev pub invariant-loop-place : goal.invariant-loop-place
 invariant-loop-place l = record {
-  long : length l.answers ≡ length l.left;
-  each : (k : ℕ) → k < l.place → get_or l.answers k (pos 0) ≡ told l.equal (get_or l.left k 0 == get_or l.right k 0);
+  long : vec_len l.answers ≡ l.place;
+  room : length l.left ≤ vec_capacity l.answers;
+  made : l.answers.items ≡ listed l.place (λ k. told l.equal (get_or l.left k 0 == get_or l.right k 0));
 }

@@ -18,10 +18,11 @@ loop-number-preserved g c =
     let z_same : to_z w64 (of_z w64 c.in_ok-result.result) ≡ c.in_ok-result.result = to_z-of_z w64 _ z_fits in
     let gave : f (get_or xs k (pos 0)) ≡ Ok c.in_ok-result.result = rw same at (sym c.in_ok-result.ensures) in
     let here = get_or-map f xs k (pos 0) (Ok c.in_ok-result.result) c.loop-number-test.true ∙ gave in
-    let items : c.push.new.self.items ≡ c.loop-number.results.items ++ c.in_ok-result.result ∷ [] = rw z_same at c.in_ok-push.ensures.items in
+    let items : c.push_reserved.new.self.items ≡ c.loop-number.results.items ++ c.in_ok-result.result ∷ [] = rw z_same at c.push_reserved.ensures.items in
     record {
       made = rw items (front_more rs k c.loop-number.results.items c.in_ok-result.result (omega arith) here c.loop-number.invariant.made);
-      long = c.in_ok-push.ensures.len ∙ ap (λ n. n + 1) c.loop-number.invariant.long;
+      long = c.push_reserved.ensures.len ∙ ap (λ n. n + 1) c.loop-number.invariant.long;
+      room = omega (arith, c.push_reserved.ensures.capacity, c.loop-number.invariant.room);
     }
 
 pub returns-in_err-result-clause-is : goal.returns-in_err-result-clause-is

@@ -19,10 +19,11 @@ loop-place-preserved g c =
     let z_fits : SFits w64 z = search rules in
     let z_same : to_z w64 (of_z w64 z) ≡ z = to_z-of_z w64 _ z_fits in
     let here = own_result f xs ys k (Ok z) c.requires (omega arith) ∙ sym c.in_ok-result.ensures in
-    let items : c.push.new.self.items ≡ c.loop-place.results.items ++ z ∷ [] = rw z_same at c.in_ok-push.ensures.items in
+    let items : c.push_reserved.new.self.items ≡ c.loop-place.results.items ++ z ∷ [] = rw z_same at c.push_reserved.ensures.items in
     record {
       made = rw items (front_more (results_by f xs ys) k c.loop-place.results.items z (omega arith) here c.loop-place.invariant.made);
-      long = c.in_ok-push.ensures.len ∙ ap (λ n. n + 1) c.loop-place.invariant.long;
+      long = c.push_reserved.ensures.len ∙ ap (λ n. n + 1) c.loop-place.invariant.long;
+      room = omega (arith, c.push_reserved.ensures.capacity, c.loop-place.invariant.room);
     }
 
 pub returns-in_err-result-clause-is : goal.returns-in_err-result-clause-is
