@@ -24,3 +24,4 @@ pub mod SourcePlaces
 pub mod Leftovers
 pub mod PlaceSums
 pub mod IndexPlaces
+pub mod KeptNumbers

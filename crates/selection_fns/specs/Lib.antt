@@ -11,3 +11,4 @@ pub mod EncodedRows
 pub mod Decode
 pub mod DecodedRows
 pub mod IndexPlaces
+pub mod Kept

@@ -1,6 +1,6 @@
 //! Places of the items of an indexed reference, each given by how many come before it in the indexed array.
 
-ghost use Rattle.std.specs.Prelude.{◌≡◌, ◌<◌, ◌≤◌, ◌+◌, ◌-◌, ◌*◌, ◌^◌, ◌++◌, ◌∷◌, [], ℕ, IsTrue, IfOk, OnOk, map, length, get_or, unsigned_abs};
+ghost use Rattle.std.specs.Prelude.{◌≡◌, ◌<◌, ◌≤◌, ◌+◌, ◌-◌, ◌*◌, ◌^◌, ◌++◌, ◌∷◌, [], ℕ, IsTrue, IfOk, OnOk, map, length, get_or, unsigned_abs, vec_len, vec_capacity};
 ghost use Rattle.std.specs.List.{list_all, range_with_len};
 ghost use Rattle.arrays_core.specs.Building.{listed};
 ghost use Rattle.arrays_core.specs.Items.{fill};
@@ -18,16 +18,20 @@ use std::alloc::{AllocError, Global};
 /// A row of fewer places is put together with those beside it.
 const LEAST_ROW: usize = 16;
 
-/// Puts places behind others, each so many further.
-fn append_moved(list: &mut Vec<u32>, by: u32, places: &[u32]) -> Result<(), AllocError>
-    requires { (k : ℕ) → k < length places.now → by + get_or places.now k 0 < 2 ^ 32 }
-    ensures { OnOk result (list.new.items ≡ list.old.items ++ map (λ place. by + place) places.now) }
+/// Puts places behind others, each so many further, in a list that has room for them. The list is handed in and back, so that
+/// no place waits until it is written how long the list is.
+fn with_moved(list: Vec<u32>, by: u32, places: &[u32]) -> Vec<u32>
+    requires fit { (k : ℕ) → k < length places.now → by + get_or places.now k 0 < 2 ^ 32 }
+    requires room { vec_len list + length places.now ≤ vec_capacity list }
+    ensures items { result.items ≡ list.items ++ map (λ place. by + place) places.now }
+    ensures long { vec_len result ≡ vec_len list + length places.now }
+    ensures room { vec_capacity result ≡ vec_capacity list }
 {
-    list.reserve(places.len())?;
+    let mut list = list;
     for k in 0..places.len() {
         list.push_reserved(by + places[k]);
     }
-    Ok(())
+    list
 }
 
 /// Each number of one list and each of another, added.
@@ -38,11 +42,10 @@ fn sums(alloc: Global, first: &[u32], second: &[u32]) -> Result<Vec<u32>, AllocE
 {
     let mut list = Vec::with_capacity(alloc, first.len() * second.len())?;
     if second.len() == 1 {
-        append_moved(&mut list, second[0], first)?;
-        return Ok(list);
+        return Ok(with_moved(list, second[0], first));
     }
     for k in 0..first.len() {
-        append_moved(&mut list, first[k], second)?;
+        list = with_moved(list, first[k], second);
     }
     Ok(list)
 }

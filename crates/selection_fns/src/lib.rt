@@ -9,6 +9,7 @@ mod index;
 mod index_generator;
 mod index_of;
 mod index_places;
+mod kept;
 mod lookup;
 mod member;
 mod more_digits;

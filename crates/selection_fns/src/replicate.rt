@@ -6,7 +6,7 @@ ghost use Rattle.arrays_core.specs.Limits.{most_axes, longest_axis, most_places}
 ghost use Rattle.arrays_core.specs.declared.item.Kind.{Kind as AKind};
 ghost use Rattle.arrays_core.specs.declared.item.Kind.TheVariants.{Limit};
 ghost use Rattle.arrays_core.specs.Arrays.{ArrayValue, IsAnswerTo};
-ghost use Rattle.arrays_core.specs.Shapes.{is_index_of};
+ghost use Rattle.arrays_core.specs.Shapes.{is_index_of, IsWithinLimits};
 ghost use Rattle.index_region.specs.Checks.{form_of, Form};
 ghost use Rattle.index_region.specs.ArgumentLists.{of_two_arguments};
 ghost use Rattle.index_region.specs.Arguments.{numbers, none_negative};
@@ -16,6 +16,7 @@ ghost use Rattle.index_region.specs.Answers.{IsFormAnswerTo, IsPlaceOf, IsSource
 ghost use Rattle.selection_fns.specs.Replicate.{is_bit as is_bit_of, IsMask, times, counts_checked, maker as maker_of, copied_place as place_copied, replicate_form, replicate_source, replicate_item, replicate_whole};
 
 use crate::axes::{LONGEST_AXIS, places_along};
+use crate::kept::kept_numbers;
 use crate::numbers_of::numbers_of;
 use arrays_core::{
     ApplyFault, Array, ArrayBuilder, Item, ItemRule, ItemType, Kind, RowRule, Shape, collect_rows,
@@ -444,13 +445,43 @@ impl Replicate {
         limited(shape, array.item_type())
     }
 
-    /// The array of the copies. The place of each copy is found once; those of a vector are picked one after another,
-    /// and those of other arrays row by row.
+    /// The array of the copies. What a mask keeps of a vector of numbers is written as it is found. Else the place of each copy
+    /// is found once; those of a vector are picked one after another, and those of other arrays row by row.
     pub fn apply(&self, alloc: Global, args: &[Seen]) -> Result<Array, ApplyFault>
         requires { length args.now ≡ 2 }
         ensures { IsAnswerTo (of_two_arguments (replicate_whole self.now.along) args.now) result }
     {
         self.copied(alloc, &args[0], &args[1])
+    }
+
+    /// The array of the numbers of a vector that a mask keeps, where these and the mask lie in one piece.
+    fn kept(
+        self,
+        counts: &Seen,
+        array: &Seen,
+        mask: Option<u32>,
+        shape: &Shape,
+    ) -> Result<Option<Array>, AllocError>
+        requires mask { IfSome mask (IsMask (numbers counts.now)) }
+        requires form { replicate_form self.along counts.now array.now ≡ Ok (form_of shape.now.items array.now.item_type) }
+        requires within { IsWithinLimits shape.now.items }
+        ensures { IfOk result (λ o. IfSome o (λ a. replicate_whole self.along counts.now array.now ≡ Ok a)) }
+    {
+        let axes = array.shape();
+        if axes.len() != 1 || counts.places() == 1 || counts.places() != array.places() {
+            return Ok(None);
+        }
+        let Some(total) = mask else {
+            return Ok(None);
+        };
+        let Some(list) = counts.numbers() else {
+            return Ok(None);
+        };
+        let Some(numbers) = array.numbers() else {
+            return Ok(None);
+        };
+        let kept = kept_numbers(*axes.allocator(), list, numbers, total)?;
+        Ok(Some(Array::from_numbers(shape, kept)?))
     }
 
     /// The array of the copies of an array's places.
@@ -459,6 +490,9 @@ impl Replicate {
     {
         let mask = mask_of(counts);
         let (shape, item_type) = self.checked(counts, array, mask)?;
+        if let Some(kept) = self.kept(counts, array, mask, &shape)? {
+            return Ok(kept);
+        }
         let axes = array.shape();
         let axis = self.along.axis_at(axes.len().max(1) as u32);
         let places = places_along(axes.as_slice(), axis);

@@ -99,3 +99,8 @@ returns-then-len-le1 c =
     picked_copies along a b c.in_ok-shape.shape.items c.in_ok-before.before.items c.in_ok-shape.item_type few as_many c.in_ok-shape.ensures.0 long told
     ∙ sym (ap (λ (r : ArrayValue). Ok r) c.in_ok-picked.ensures
     ∙ ap (λ (xs : List ℕ). Ok (record { item_type = b.item_type; shape = c.in_ok-shape.shape.items; items = map (λ k. get_or b.items k (fill b.item_type)) xs })) before)
+
+pub kept-requires-clause-form : goal.kept-requires-clause-form
+kept-requires-clause-form c =
+    let known = replicate_gives c.args.self.along c.args.counts.now c.args.array.now c.in_ok-shape.shape.items c.in_ok-shape.item_type c.in_ok-shape.ensures.0 in
+    c.in_ok-shape.ensures.0 ∙ ap (λ (t : ItemType). Ok (form_of c.in_ok-shape.shape.items t)) known.typed
