@@ -1,3 +1,4 @@
 pub mod Ranks
 pub mod Boxes
 pub mod OneLine
+pub mod BoxTables

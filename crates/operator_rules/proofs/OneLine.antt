@@ -17,7 +17,6 @@ use Rattle.index_region.specs.Axes.{axis_at}
 use Rattle.index_region.specs.Boxes.{Interval, interval_length, box_size, walk_at, fits}
 use Rattle.index_region.proofs.Walks.{some_place}
 use Rattle.change_core.specs.Parts.{HoldsItems, items_in}
-use Rattle.change_core.proofs.Growing.{range_same}
 use Rattle.operator_fns.specs.Scan.{scan_item, scan_along}
 
 -- ---- the walk of such a box

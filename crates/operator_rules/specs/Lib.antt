@@ -11,5 +11,6 @@ pub mod ScanLaw
 pub mod OuterProductLaw
 pub mod InnerProductReads
 pub mod InnerProductLaw
+pub mod BoxLines
 pub mod LinesGrowth
 pub mod OuterProductGrowth

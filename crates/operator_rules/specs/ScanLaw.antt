@@ -23,7 +23,7 @@ use Rattle.operator_rules.specs.ReadLines.{axis_below, item_same, items_same, no
 use Rattle.operator_rules.specs.Scan.{run_use, scan_rule, scan_use}
 
 -- an index that is taken out and put in again
-put_again : (axis j : ℕ) (index : List ℕ) → axis < length index → insert (remove index axis) axis j ≡ set index axis j
+pub put_again : (axis j : ℕ) (index : List ℕ) → axis < length index → insert (remove index axis) axis j ≡ set index axis j
 put_again axis j [] l = absurd (omega arith)
 put_again zero j (i ∷ index) l = refl
 put_again (suc axis) j (i ∷ index) l = ap (λ (rest : List ℕ). i ∷ rest) (put_again axis j index (omega arith))

@@ -10,6 +10,7 @@ ghost use Rattle.operator_rules.specs.ScanLaw.{scan_tight};
 ghost use Rattle.operator_rules.specs.LinesGrowth.{scan_growing};
 ghost use Rattle.operator_rules.specs.Growth.{lines_grow};
 
+use crate::box_lines::items_by_lines;
 use crate::lines::is_along_a_later_axis;
 use crate::ruled::Ruled;
 use arrays_core::{ApplyFault, Array, ItemType};
@@ -77,9 +78,9 @@ impl Announced for Ruled<Scan> {
             return None;
         }
         let (first, last) = region.as_slice()[axis];
-        // one line of the box
         if region.size() as u32 != last - first + 1 {
-            return None;
+            let items = items_by_lines(&self.function, alloc, array, axis, region)?;
+            return Some(Ok(items));
         }
         let index = region.index_at(0);
         self.function

@@ -1,5 +1,4 @@
-use Rattle.std.proofs.Common.{rules, refl, ℕ, List, ◌≡◌, ◌∙◌, ◌+◌, ◌-◌, ◌<◌, ◌≤◌, ◌∷◌, [], ap, sym, subst, get_or, length, arith, IfSome, Option, Result}
-use Rattle.arrays_core.specs.Arrays.{ArrayValue}
+use Rattle.std.proofs.Common.{rules, refl, ℕ, List, ◌≡◌, ◌∙◌, ◌<◌, ◌≤◌, ◌∷◌, [], ap, sym, subst, get_or, length, arith, IfSome, Result}
 use Rattle.arrays_core.specs.declared.item.ItemType.TheVariants.{Nums}
 use Rattle.arrays_core.specs.declared.item.ItemType.{ItemType}
 use Rattle.arrays_core.specs.declared.item.Item.{Item}
