@@ -79,8 +79,7 @@ impl Announced for Ruled<Scan> {
         }
         let (first, last) = region.as_slice()[axis];
         if region.size() as u32 != last - first + 1 {
-            let items = items_by_lines(&self.function, alloc, array, axis, region)?;
-            return Some(Ok(items));
+            return items_by_lines(&self.function, alloc, array, axis, region);
         }
         let index = region.index_at(0);
         self.function

@@ -1,8 +1,9 @@
 use Rattle.std.proofs.Common.{◌≡◌, ◌<◌, ℕ}
 use Rattle.index_region.specs.Boxes.{box_size, walk_at}
 use Rattle.operator_fns.specs.Scan.{scan_item}
-use Rattle.operator_rules.specs.BoxLines.{Holds, IsTableOf}
+use Rattle.operator_rules.specs.BoxLines.{IsTableOf}
 use Rattle.operator_rules.proofs.BoxTables.{line_begins}
+use Rattle.operator_rules.proofs.BoxErrors.{IsDone, IsMet}
 use Rattle.operator_rules.proofs.box_lines.items_by_lines.Given as goal
 
 abbrev pub invariant-loop-place : goal.invariant-loop-place
@@ -11,5 +12,6 @@ invariant-loop-place l =
     record {
       at : l._place < box_size l.region → l.index ≡ walk_at l.region l._place;
       table : IsTableOf l.region l.table;
-      made : (place : ℕ) → place < box_size l.region → line_begins l.region l.axis place < l._place → Holds item l.region l.table place;
+      met : IsMet item l.region l.axis l.failed;
+      made : (place : ℕ) → place < box_size l.region → line_begins l.region l.axis place < l._place → IsDone item l.region l.axis l.table l.failed place;
     }

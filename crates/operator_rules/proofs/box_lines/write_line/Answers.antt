@@ -1,4 +1,4 @@
-use Rattle.std.proofs.Common.{ℕ, ◌≡◌, ◌∙◌, ◌+◌, ◌-◌, ◌<◌, ◌≤◌, true, ap, sym, subst, get_or, length, set, insert, remove, inl, inr, arith, Ok}
+use Rattle.std.proofs.Common.{ℕ, ◌≡◌, ◌∙◌, ◌+◌, ◌-◌, ◌<◌, ◌≤◌, true, ap, sym, subst, get_or, length, set, insert, remove, inl, inr, arith, Ok, Err}
 use Rattle.std.proofs.lemmas.Bool.{cases_lt}
 use Rattle.arrays_core.specs.Items.{fill}
 use Rattle.index_region.specs.Boxes.{box_offset, walk_at, is_within}
@@ -9,6 +9,7 @@ use Rattle.operator_fns.specs.Scan.{scan_item, scan_along}
 use Rattle.operator_fns.proofs.Scanned.{restored}
 use Rattle.operator_rules.specs.BoxLines.{Holds}
 use Rattle.operator_rules.proofs.OneLine.{on_axis}
+use Rattle.operator_rules.proofs.BoxErrors.{line_fails}
 use Rattle.operator_rules.proofs.BoxTables.{as_long_as, long_removed, within_line, between, holds_there, holds_still, table_still, line_item}
 use Rattle.operator_rules.proofs.box_lines.write_line.Goals as goal
 
@@ -290,3 +291,24 @@ returns-clause-line c =
     λ place below_size on_line.
     let within = between axis region (walk_at region place) there (walk_within region place below_size) in
     c.loop-before.invariant.made place below_size on_line (omega (arith, within.high, c.loop-before-test.false, first, last, fit.order))
+
+pub returns-in-Err-clause-line : goal.returns-in-Err-clause-line
+returns-in-Err-clause-line c =
+    let b = c.args.array.now in
+    let scan = c.args.scan.now in
+    let axis = c.args.axis in
+    let region = c.args.region.now in
+    let index = c.args.index.now in
+    let item = scan_item scan.function scan.along b in
+    let long : length region ≡ length b.shape = fits_length region b.shape c.requires.fit in
+    let there : axis < length region = omega (arith, long, c.requires.there) in
+    let fit = on_axis axis region b.shape there c.requires.fit in
+    let interval : get_or c.as_slice.result.now axis (0, 0) ≡ get_or region axis (0, 0) = ap (λ r. get_or r axis (0, 0)) c.as_slice.ensures.is in
+    let first = ap (λ (s : ℕ × ℕ). s.0) interval in
+    let last = ap (λ (s : ℕ × ℕ). s.1) interval in
+    let most : get_or b.shape axis 0 ≤ 1048576 = c.requires.sound.within.axes axis 0 c.requires.there in
+    let few = few_places region b.shape c.requires.fit c.requires.sound.within in
+    let index_long : length index ≡ length region = as_long_as region index c.requires.inside in
+    let fails : scan_along scan.function scan.along b index (get_or c.as_slice.result.now axis (0, 0)).1 ≡ Err c.in_ok-kind-in-Err.kind = rw (c.in-Err.is ∙ ap (λ f. Err f) c.in_ok-kind-in-Err.ensures) at c.in_ok-answer.ensures in
+    let in_index : axis < length index = omega (arith, index_long, there) in
+    line_fails scan.function scan.along b region axis index _ c.in_ok-kind-in-Err.kind c.requires.meant in_index c.requires.begins last fails

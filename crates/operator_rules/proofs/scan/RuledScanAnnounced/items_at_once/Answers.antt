@@ -3,6 +3,7 @@ use Rattle.arrays_core.specs.declared.item.ItemType.TheVariants.{Nums}
 use Rattle.arrays_core.specs.declared.item.ItemType.{ItemType}
 use Rattle.arrays_core.specs.declared.item.Item.{Item}
 use Rattle.arrays_core.specs.declared.item.Kind.{Kind}
+use Rattle.arrays_core.specs.Arrays.{ArrayValue}
 use Rattle.index_region.specs.ArgumentLists.{of_one_argument}
 use Rattle.index_region.specs.Axes.{axis_at}
 use Rattle.index_region.specs.Boxes.{box_size, interval_length, walk_at}
@@ -202,3 +203,24 @@ returns c =
     ∙ ap (scan_along f along b (walk_at region 0)) (last ∙ ap (λ k. (get_or region k (0, 0)).1) meant) in
     let holds = holds_line (items_in item region) (box_size region ∷ []) _ c.along_line.result (wanted ∙ sym made) c.along_line.ensures in
     subst (λ (t : ItemType). IfSome c.along_line.result (HoldsItems t (items_in item region))) (sym typed) holds
+
+pub returns-then-size-last : goal.returns-then-size-last
+returns-then-size-last c =
+    let args = c.args.args.now in
+    let b = c.index-args-0.result in
+    let along = c.args.self.now.function.along in
+    let region = c.args.region.now in
+    let shape = c.args._shape.now in
+    let axis = c.axis_at-axis.result in
+    let only : args ≡ b ∷ [] = only_argument args b _ c.requires.count c.index-args-0.is in
+    let facts = scan_facts along b shape c.args.item_type (sym (as_one (scan_form along) args b only) ∙ c.requires.checked) in
+    let shaped : shape ≡ b.shape = facts.shaped in
+    let long : length region ≡ length shape = fits_length region shape c.requires.fit in
+    let rank : c.len-rank.result ≡ length b.shape = c.len-rank.ensures.value ∙ ap length c.shape.ensures.is in
+    let there : axis < length region = omega (arith, long, ap length shaped, rank, c.if-axis-rank.false) in
+    let fit = on_axis axis region shape there c.requires.fit in
+    let f = c.args.self.now.function.function in
+    let typed : c.args.item_type ≡ Nums = search rules in
+    let r = c.items_by_lines.result in
+    subst (λ (xs : List ArrayValue). IfSome r (HoldsItems c.args.item_type (items_in (λ i. of_one_argument (λ a. scan_item f along a i) xs) region))) (sym only)
+    (subst (λ (t : ItemType). IfSome r (HoldsItems t (items_in (scan_item f along b) region))) (sym typed) c.items_by_lines.ensures)
