@@ -1,5 +1,5 @@
-use Rattle.std.proofs.Common.{◌≡◌, ◌∙◌, Some, None, cond, sym, ap}
-use Rattle.apl_tokens.specs.Characters.{decimal_from, fits_number, signed}
+use Rattle.std.proofs.Common.{◌∙◌, Some, None, cond, sym, ap}
+use Rattle.apl_tokens.specs.Characters.{fits_number, signed}
 use Rattle.array_text.proofs.Decimals.{digits_alone, told_by_range}
 use Rattle.array_text.proofs.fields.unsigned_number.Goals as goal
 
