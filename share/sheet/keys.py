@@ -1,0 +1,15 @@
+"""The keys of the symbols, as the file of share/ has them that readline reads."""
+
+import re
+from pathlib import Path
+
+FILE = Path(__file__).resolve().parent.parent / "aplsheet.inputrc"
+KEY = re.compile(r'"`(.)": "([^\\"])"')
+ROW = 10  # symbols on a line
+
+
+def table():
+    """Lines with the symbols, each behind its key."""
+    pairs = KEY.findall(FILE.read_text("utf-8"))
+    rows = [pairs[at : at + ROW] for at in range(0, len(pairs), ROW)]
+    return ["A backquote, then:", *["  ".join(f"{key} {symbol}" for key, symbol in row) for row in rows], "` `"]

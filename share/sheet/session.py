@@ -1,0 +1,148 @@
+"""A sheet in use: lines go in, and answers come out."""
+
+import contextlib
+import signal
+
+from . import commands, notes, storing
+from .answers import answer
+from .errors import Mistake, Stopped
+from .journal import Change, Journal, Place
+from .lines import Line
+from .program import ProgramFailed
+
+
+class Session:
+    """A sheet in use.
+
+    program   the program that answers
+    journal   the lines that it has accepted
+    show      called with each line that is an answer
+    tell      called with each line that tells of something else: errors, refusals, notes
+    is_check  whether only what is wrong is wanted, and no file is written
+    faults    how many lines were refused or were errors
+    """
+
+    def __init__(self, program, show, tell, is_check=False):
+        self.program, self.show, self.tell, self.is_check = program, show, tell, is_check
+        self.journal, self.faults, self.depth = Journal(), 0, 0
+
+    def take(self, text, place=None):
+        """Answers a line, whatever it is. Where the program dies over it or is stopped, the sheet is as it was before the line.
+
+        A line of a script that is stopped by Ctrl-C stops the script too.
+        """
+        try:
+            if not self.program.is_in_step:
+                self.begin_again()
+            if Line(text).kind == "user":
+                self.command(text, place)
+            else:
+                self.answer(Line(text), place)
+        except ProgramFailed as why:
+            self.complain(place, text, f"PROGRAM FAILED: {why}")
+            self.begin_again()
+        except KeyboardInterrupt:
+            self.complain(place, text, "STOPPED")
+            self.begin_again()
+            if place:
+                raise Stopped from None
+        except Stopped:
+            if place:
+                raise
+
+    def answer(self, line, place):
+        """Answers a line of the language."""
+        found = answer(self.program, line)
+        if found.fault:
+            self.complain(place, line.text, found.lines[0], notes.of_fault(self, found))
+            return
+        if not self.is_check:
+            for it in found.lines:
+                self.show(it)
+        self.journal.accept(line, place)
+        for it in notes.of_slip(line):
+            self.tell(f"{place}: note: {it}" if place else f"  {it}")
+
+    def command(self, text, place):
+        """Does what a line says that begins with ]."""
+        try:
+            commands.run(self, text)
+        except Mistake as mistake:
+            self.complain(place, text, str(mistake))
+
+    def complain(self, place, text, what, said=()):
+        """Tells of a line that was refused or is an error: where it stands, if in a script, and what is said of it besides."""
+        self.faults += 1
+        self.tell(f"{place}: {what}" if place else what)
+        for it in [text.strip()] * bool(place) + [*said]:
+            self.tell(f"  {it}")
+
+    def binding(self, name):
+        """What the name is bound to; a Mistake where it is not there."""
+        if name not in self.journal.bindings:
+            raise Mistake(notes.absent(name, self.journal.bindings))
+        return self.journal.bindings[name]
+
+    def change(self, title, lines, bound):
+        """Gives the program lines that make one change, all or none of them; a Mistake where one of them is refused."""
+        printed = self.program.ask_all(lines)
+        refused = next((it[0] for it in printed if it), None)
+        if refused:
+            self.begin_again()
+            raise Mistake(refused)
+        self.journal.add(Change(title, lines, bound))
+
+    def begin_again(self):
+        """Starts the program anew, and gives it the changes of the journal; they were accepted before, so they are again."""
+        lost = ", ".join(sorted(self.journal.slots))
+        self.journal.slots = {}
+        with without_interrupts():
+            self.program.stop()
+            try:
+                self.program.start()
+                printed = self.program.ask_all(self.journal.lines)
+                if refused := next((it[0] for it in printed if it), None):
+                    raise ProgramFailed(f"{self.program.words[0]} refuses what it took before: {refused}")
+            except ProgramFailed as why:
+                kept = storing.keep_unsaved(self.journal)
+                self.journal.mark_saved()
+                raise SystemExit(f"sheet: {why}; " + (f"the sheet is kept in {kept}" if kept else "the sheet was empty")) from None
+        if lost:
+            self.tell(f"  the changes that were open are given up: {lost}")
+
+    def undo(self):
+        """Takes back the last change, and returns its title."""
+        if not self.journal.changes:
+            raise Mistake("there is no change to take back")
+        change = self.journal.take_back()
+        self.begin_again()
+        return change.title
+
+    def run(self, file, source):
+        """Answers the lines of a script, which is read from a binary file; its name is None where that is standard input."""
+        for number, text in enumerate(lines_of(source), 1):
+            self.take(text, Place(file, number))
+
+    def check_names(self):
+        """Tells of each name that shows an error which arose in its own formula, as if the line that binds it were one."""
+        for name, binding in self.journal.bindings.items():
+            found = answer(self.program, Line(name))
+            if found.fault and found.origin == name:
+                self.complain(binding.place, binding.text, found.lines[0], notes.of_fault(self, found))
+
+
+@contextlib.contextmanager
+def without_interrupts():
+    """Ctrl-C does nothing meanwhile."""
+    kept = signal.signal(signal.SIGINT, signal.SIG_IGN)
+    try:
+        yield
+    finally:
+        signal.signal(signal.SIGINT, kept)
+
+
+def lines_of(source):
+    """The lines of a script: they end with LF, and one byte order mark at the start is skipped."""
+    for number, line in enumerate(source):
+        line = line[:-1] if line.endswith(b"\n") else line
+        yield line[3 if number == 0 and line.startswith(b"\xef\xbb\xbf") else 0 :].decode("utf-8", "surrogateescape")
