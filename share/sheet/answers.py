@@ -6,7 +6,7 @@ ERRORS = "SYNTAX|VALUE|AXIS|RANK|LENGTH|DOMAIN|INDEX|LIMIT"
 REFUSALS = "CYCLE|NOT FOUND|NOT DATA|SHEET FULL|NO MEMORY|NOT TEXT|LINE TOO LONG|STALE|NOT READY|NO SLOT|SLOT IN USE"
 FAULT = re.compile(f"(?P<kind>(?:{ERRORS}) ERROR)(?: IN (?P<origin>[^ ]+))?|(?P<refusal>{REFUSALS})")
 
-# What the answer is made of where it is no fault; of a change that is accepted there is none. Names have no blanks, and faults of )NAMES do.
+# What the answer is made of where it is no fault; a change that is accepted has none. Names have no blanks, and faults of )NAMES do.
 WELL = {"names": "[^ ]*", "cost": "[0-9]+", "open": "[0-9]+", "step": "[0-9]+", "csv": "[-0-9,]*", "show": ".*"}
 
 

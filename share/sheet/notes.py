@@ -12,6 +12,7 @@ SIGNS = frozenset("+-×÷*⋆|∣⌈⌊~∼<≤=≥>≠∧^∨⍲⍱⍴,⍪↑�
 MISTAKEN = {"Δ": "∆", "ι": "⍳", "ρ": "⍴", "ε": "∊", "−": "- or ¯", "‾": "¯", "∙": ".", "‘": "'", "’": "'", "\u00a0": "a blank"}
 OUTSIDE = {"OFF": "off", "QUIT": "off", "EXIT": "off", "BYE": "off", "HELP": "help", "SAVE": "save", "LOAD": "load", "COPY": "load"}
 OUTSIDE.update({"VARS": "names", "FNS": "names", "CLEAR": "clear", "UNDO": "undo", "TABLE": "table", "SHOW": "show"})
+PLACES = r"\s*¯?[0-9]+(?:\s*;\s*¯?[0-9]+)*\s*"
 LITERAL = r"(?:''|¯?[0-9]+(?:[ \t]+¯?[0-9]+)*)"
 
 # Slips of a line that is refused: what its code looks like, and the hint. A key is told of as `2, a backquote and then 2.
@@ -24,7 +25,7 @@ SLIPS = [
     (rf"^(\)\s*DATA\s*)?{NAME}(\s*\[.*\])?\s*=", "= compares; a name is bound and an item is edited by ←, by the keys `["),
     (r"<=|>=|!=|<>|==", "one sign each: ≤ by the keys `4, ≥ by `6, ≠ by `8; equal is ="),
     (r"[0-9)\]]\s*[xX](?![a-z])", "times is ×, by the keys `-"),
-    (rf"^{NAME}\s*\[(?!\s*¯?[0-9]+(\s*;\s*¯?[0-9]+)*\s*\]\s*←\s*{LITERAL}$).*←", "an edit puts a literal into one item, D[2]←10 or D[1;2]←10; )DATA does the rest"),
+    (rf"^{NAME}\s*\[(?!{PLACES}\]\s*←\s*{LITERAL}$).*←", "an edit puts a literal into one item, D[2]←10 or D[1;2]←10; )DATA does the rest"),
     (rf"^\)\s*ROW\s*{NAME}(?!\s*{LITERAL}$)", "a row is a literal: )ROW D 1 2 3"),
     (r"[0-9]E[0-9]", "numbers are whole, and written out in digits"),
 ]

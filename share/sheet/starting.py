@@ -14,9 +14,9 @@ from .terminal import Terminal
 
 WORDS = """A sheet of APL formulas at the terminal. docs/SHEET.md tells of it, docs/LANGUAGE.md of the language.
 
-Without SCRIPT, lines are read from the terminal or from standard input. The lines of each SCRIPT are answered in their order, and - stands for
-standard input: so `sheet plan.apl -` loads plan.apl and goes on with what is typed. Values go to standard output. Errors and refusals go to
-standard error, each with the line of the script where it stands; then the status is 1.
+Without SCRIPT, lines are read from the terminal or from standard input. The lines of each SCRIPT are answered in their order, and - stands
+for standard input: so `sheet plan.apl -` loads plan.apl and goes on with what is typed. Values go to standard output. Errors and refusals
+go to standard error, each with the line of the script where it stands; then the status is 1.
 """
 
 
@@ -24,7 +24,8 @@ def words():
     """The words that the front end takes."""
     found = argparse.ArgumentParser(prog="sheet", description=WORDS, formatter_class=argparse.RawDescriptionHelpFormatter)
     found.add_argument("scripts", nargs="*", metavar="SCRIPT", help="a file of lines, or - for standard input")
-    found.add_argument("--check", action="store_true", help="tell of errors and refusals alone, also of names that show an error, and write no file")
+    check = "tell of errors and refusals alone, also of names that show an error, and write no file"
+    found.add_argument("--check", action="store_true", help=check)
     found.add_argument("--program", metavar="PROGRAM", help="the program that answers; as a rule the one beside this one")
     return found
 

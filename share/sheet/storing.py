@@ -91,7 +91,7 @@ def state_folder():
 
 
 def keep_unsaved(journal):
-    """Writes the lines of a sheet that was not saved where nothing is lost by it; returns the file, or None where there is nothing to keep."""
+    """Writes the lines of a sheet that was not saved into a new file, and returns that; None where there is nothing to keep."""
     if journal.is_saved or not journal.bindings:
         return None
     begin = time.strftime("unsaved-%Y%m%d-%H%M%S")

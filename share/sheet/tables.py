@@ -88,7 +88,7 @@ def advice(field, record, column):
 
 
 def read_table(file, separator):
-    """The table in a file; a Mistake where it cannot be read, or a record has not as many fields as the first. Empty lines are no records."""
+    """The table in a file. A Mistake where it cannot be read, or a record has not as many fields as the first; empty lines are none."""
     try:
         raw = Path(file).read_bytes()
         text = raw.decode("utf-8-sig")
