@@ -125,7 +125,8 @@ def load(session, file):
 def put_table(session, name, file, header, columns, separator):
     table = table_of(file, header, separator)
     wanted = columns_of(columns, table.width) if columns else [*range(1, table.width + 1)]
-    put_array(session, f"]table {name} {file}", name, [table.height, len(wanted)], table.numbers(wanted))
+    numbers, each = table.numbers(wanted)
+    put_array(session, f"]table {name} {file}", name, [table.height, len(wanted)], numbers, each)
 
 
 @command(
@@ -177,12 +178,9 @@ def named(number, what):
 def table_of(file, header, separator):
     """The table in a file, without its titles."""
     separator = {None: ",", "tab": "\t"}.get(separator, separator)
-    if len(separator) != 1 or separator in '"\n\r':
-        raise Mistake("--separator is followed by one sign, or by the word tab")
-    table = read_table(file, separator)
-    if header:
-        table.skip_titles()
-    return table
+    if len(separator) != 1 or separator in '"-+¯0123456789\n\r':
+        raise Mistake("--separator is followed by one sign that is in no number, or by the word tab")
+    return read_table(file, separator, header)
 
 
 def columns_of(text, width):
@@ -198,11 +196,11 @@ def columns_of(text, width):
     return columns
 
 
-def put_array(session, title, name, shape, items):
+def put_array(session, title, name, shape, items, each=1):
     """Binds a name to data that comes from a file."""
     if not re.fullmatch(NAME, name):
         raise Mistake(f"{name} is no name")
     bindings = session.journal.bindings
     taken = {*bindings, *(it for binding in bindings.values() for it in binding.references)}
     spare = next(it for it in map("∆{}".format, count(1)) if it not in taken)
-    session.change(title, lines_of_array(name, shape, items, spare), [(name, Binding(True))])
+    session.change(title, lines_of_array(name, shape, items, spare, each), [(name, Binding(True))])

@@ -13,37 +13,46 @@ NUMBER = re.compile("[ \t]*[-+¯]?([0-9]+)[ \t]*")
 LEAST, GREATEST = -(1 << 63), (1 << 63) - 1
 ROOM = LONGEST - 200  # bytes of a line for items: what stands before them in a line of lines_of_array has less than 200
 
+DIGITS = bytes.maketrans(b"123456789", b"0" * 9)
+NOT_PLAIN = [b"--", b"0-", b"-,", b"-\n", b",,", b",\n", b"\n,", b"0" * 19]  # what plain records have not, each digit being 0
+
 
 class Table:
-    """The records of a file: `fields`, one record after the other, `width` of them in each; `first` is the number of the first record."""
+    """The records of a file; of plain ones each is a text of numbers with blanks between, and of others there are the fields in turn.
 
-    def __init__(self, file, fields, width):
-        self.file, self.fields, self.width, self.first = file, fields, width, 1
+    width  how many fields each record has
+    first  the number of the first record: 2 where titles stand before it
+    """
+
+    def __init__(self, file, width, first, records=None, fields=()):
+        self.file, self.width, self.first, self.records, self.found = file, width, first, records, fields
 
     @property
     def height(self):
-        return len(self.fields) // self.width if self.width else 0
+        return len(self.records) if self.records else len(self.found) // self.width if self.width else 0
 
-    def skip_titles(self):
-        self.fields, self.first = self.fields[self.width :], 2
+    @property
+    def fields(self):
+        return " ".join(self.records).split(" ") if self.records else self.found
 
     def columns(self, wanted):
         """The fields of these columns, counted from 1, one record after the other."""
-        if wanted == [*range(1, self.width + 1)]:
-            return self.fields
-        kept = [None] * (self.height * len(wanted))
+        fields, kept = self.fields, [None] * (self.height * len(wanted))
         for place, column in enumerate(wanted):
-            kept[place :: len(wanted)] = self.fields[column - 1 :: self.width]
+            kept[place :: len(wanted)] = fields[column - 1 :: self.width]
         return kept
 
     def numbers(self, wanted):
-        """The fields of these columns, as whole numbers with - or ¯ for a sign; a Mistake names the first field that is none."""
+        """The numbers of these columns, as a list of texts, and how many stand in each; a Mistake names the first field that is none."""
+        if self.records and wanted == [*range(1, self.width + 1)]:
+            return self.records, self.width
         fields = self.columns(wanted)
-        if not are_plain(fields):
+        text = "\n".join(fields)
+        if not self.records and ("" in fields or "," in text or not is_plain(text)):
             for place, field in enumerate(fields):
                 self.check(field, place // len(wanted) + self.first, wanted[place % len(wanted)])
             fields = [it.strip(" \t").lstrip("+") for it in fields]
-        return fields
+        return fields, 1
 
     def check(self, field, record, column):
         """Raises a Mistake where the field is no whole number of 64 bits."""
@@ -63,15 +72,10 @@ class Table:
         return "".join(it.ljust(width) for it in fields), width
 
 
-def are_plain(fields):
-    """Whether all are digits with - or nothing before them, and within 64 bits. It looks at a million of them in a tenth of a second."""
-    if "\n".join(fields).encode().translate(None, b"0123456789-\n"):
-        return False
-    try:
-        values = [*map(int, fields)]
-    except ValueError:
-        return False
-    return not values or LEAST <= min(values) and max(values) <= GREATEST
+def is_plain(text, separator=","):
+    """Whether all fields are up to 18 digits with - or nothing before them, as in most tables. It is quick: a million in some milliseconds."""
+    signs = b"\n" + text.encode().replace(separator.encode(), b",").translate(DIGITS) + b"\n"
+    return not signs.translate(None, b"0-,\n") and not any(it in signs for it in NOT_PLAIN)
 
 
 def advice(field, record, column):
@@ -87,7 +91,7 @@ def advice(field, record, column):
     return "; --columns takes the columns of numbers alone, and ]labels one of names" if column == 1 else ""
 
 
-def read_table(file, separator):
+def read_table(file, separator, has_titles):
     """The table in a file. A Mistake where it cannot be read, or a record has not as many fields as the first; empty lines are none."""
     try:
         raw = Path(file).read_bytes()
@@ -97,36 +101,47 @@ def read_table(file, separator):
     except UnicodeDecodeError as error:
         line = raw.count(b"\n", 0, error.start) + 1
         raise Mistake(f"{file}: line {line} is not UTF-8; save the table again as CSV in UTF-8") from None
-    if '"' in text:
-        return read_quoted(file, text, separator)
-    records = [it for it in text.replace("\r\n", "\n").replace("\r", "\n").split("\n") if it]
-    width = records[0].count(separator) + 1 if records else 0
-    check_widths(file, width, (it.count(separator) + 1 for it in records))
-    return Table(file, separator.join(records).split(separator) if records else [], width)
-
-
-def read_quoted(file, text, separator):
-    """The same, where some fields stand in double quotes."""
+    titles, rest = cut_titles(text, separator) if has_titles else ([], text)
+    if rest is not None and is_plain(rest.replace("\r\n", "\n"), separator):
+        return plain_table(file, titles, rest.replace("\r\n", "\n"), separator)
     csv.field_size_limit(sys.maxsize)
     records = [it for it in csv.reader(io.StringIO(text, newline=""), delimiter=separator) if it]
-    width = len(records[0]) if records else 0
-    check_widths(file, width, map(len, records))
-    return Table(file, [field for record in records for field in record], width)
+    check_widths(file, [*map(len, records)])
+    first = 2 if has_titles and records else 1
+    return Table(file, len(records[0]) if records else 0, first, fields=[field for record in records[first - 1 :] for field in record])
 
 
-def check_widths(file, width, widths):
-    for record, found in enumerate(widths, 1):
-        if found != width:
-            raise Mistake(f"{file}: record {record} has {found} field{'s' * (found != 1)}, and the first has {width}")
+def cut_titles(text, separator):
+    """The fields of the first record, and what follows it; None for both where that record does not end with its line."""
+    line, _, rest = text.lstrip("\r\n").partition("\n")
+    if line.count('"') % 2 or "\r" in line.rstrip("\r"):
+        return None, None
+    return next(csv.reader([line.rstrip("\r")], delimiter=separator), []), rest
+
+
+def plain_table(file, titles, text, separator):
+    """The table of plain records, which stand one on each line."""
+    records = [it for it in text.replace(separator, " ").replace("-", "¯").split("\n") if it]
+    widths = [len(titles)] * bool(titles) + [it.count(" ") + 1 for it in records]
+    check_widths(file, widths)
+    return Table(file, widths[0] if widths else 0, 2 if titles else 1, records)
+
+
+def check_widths(file, widths):
+    """Raises a Mistake where a record has not as many fields as the first."""
+    if len({*widths}) > 1:
+        record = next(at for at, it in enumerate(widths) if it != widths[0])
+        found = f"{widths[record]} field{'s' * (widths[record] != 1)}"
+        raise Mistake(f"{file}: record {record + 1} has {found}, and the first has {widths[0]}")
 
 
 def literal(items):
-    """The items of an array as a literal: a text, or a list of numbers."""
+    """The items of an array as a literal: a text, or a list of texts of numbers."""
     return "'" + items.replace("'", "''") + "'" if isinstance(items, str) else " ".join(items).replace("-", "¯")
 
 
-def lines_of_array(name, shape, items, spare):
-    """The lines that bind a name to an array of that shape, a list of numbers, whose items are a text or a list of numbers.
+def lines_of_array(name, shape, items, spare, each=1):
+    """The lines that bind a name to an array of that shape, a list of numbers: its items are a text, or texts of numbers, `each` of them in each.
 
     Where a line has no room for them, they are gathered as the rows of a matrix, under the name `spare`: each item is moved a few times,
     however many there are. `spare` may be the name itself; if it is another one, it is erased at the end.
@@ -134,13 +149,15 @@ def lines_of_array(name, shape, items, spare):
     if isinstance(items, str):
         room, none = ROOM // (2 if items.isascii() else 4), "''"
     else:
-        room, none = ROOM // (max(map(len, items), default=0) + 2), "0"
+        room, none = ROOM // (max(map(len, items), default=0) + each + 1), "0"  # each ¯ has two bytes
+    if room == 0:
+        return lines_of_array(name, shape, " ".join(items).split(" "), spare)
     begin = f")DATA {name}←" + " ".join(map(str, shape)) + "⍴" * bool(shape)
     if len(items) <= room:
         is_literal = not shape or len(shape) == 1 and (len(items) > 1 or items == "")
         return [(f")DATA {name}←" if is_literal else begin) + (literal(items) if items else none)]
     parts = [literal(items[at : at + room]) for at in range(0, len(items), room)]
     rows, rest = len(items) // room, len(items) % room
-    lines = [f")DATA {spare}←1 {room}⍴{parts[0]}", *[f")ROW {spare} {it}" for it in parts[1:rows]]]
+    lines = [f")DATA {spare}←1 {room * each}⍴{parts[0]}", *[f")ROW {spare} {it}" for it in parts[1:rows]]]
     lines.append(f"{begin}(,{spare}),{parts[-1]}" if rest else f"{begin}{spare}")
     return lines + [f")ERASE {spare}"] * (spare != name)
