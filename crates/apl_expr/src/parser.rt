@@ -1,19 +1,20 @@
 //! The parser: it reads the tokens from left to right, once, a function at a time, and keeps what waits for its right argument or
 //! for a bracket that closes.
 
-ghost use Rattle.std.specs.Prelude.{◌≡◌, Some, [], ◌∷◌, ◌++◌, IfOk, map, true};
+ghost use Rattle.std.specs.Prelude.{◌≡◌, Some, List, [], ◌∷◌, ◌++◌, IfOk, map, true};
 ghost use Rattle.apl_tokens.specs.Lexemes.{lexeme, lexemes};
-ghost use Rattle.apl_expr.specs.Machine.{first, settle, position_ended, closed, skipped, ends_position, begin, next, after_reference, step, finish, run, state, Index, Inside, Nothing, Position};
+ghost use Rattle.apl_expr.specs.Machine.{first, settle, position_ended, closed, skipped, ends_position, begin, next, after_reference, step, finish, run, state, Index, Inside, Nothing, Position, Strand};
 ghost use Rattle.apl_expr.specs.Parsing.{stack, reading_of, Settles, Steps, Gives, IsParsed};
 ghost use Rattle.apl_expr.specs.Symbols.{indexed_of};
 ghost use Rattle.apl_expr.specs.Trees.{is_plain_position, tree_of, position_of};
 
-use crate::expr::{Dyadic, Expr, Monadic};
+use crate::expr::{Dyadic, Expr, Literal, Monadic};
 use crate::fault::ParseFault;
 use crate::functions::{Function, function_from};
 use crate::limits::{MOST_HEIGHT, MOST_NODES, MOST_TOKENS};
 use crate::plain::{OpenIndex, Plain, literal, text_literal};
 use apl_tokens::{Spanned, Token};
+use smallvec::SmallVec;
 use std::alloc::{AllocError, Global};
 
 /// An open bracket: a parenthesis, or that of an index.
@@ -38,15 +39,29 @@ struct Settled {
     bracket: Option<Bracket>,
 }
 
-/// What was read last: a function, `(` or nothing; `[` or `;` of an index; numbers; an operand that no index may follow; or one
-/// that an index may follow.
+/// What was read last: a function, `(` or nothing; `[` or `;` of an index; a number, or several; an operand that no index may
+/// follow; or one that an index may follow.
 #[derive(Drop)]
 enum Reading {
     Nothing,
     Position,
+    Number(i64),
     Strand(Vec<i64>),
     Whole(Plain),
     Reference(Plain),
+}
+
+/// So much waits without memory of its own: most expressions have no more.
+const FEW_WAITING: usize = 4;
+
+/// All that waits, the last first to be given a value.
+type Waitings = SmallVec<Waiting, FEW_WAITING>;
+
+impl Default for Waiting {
+    /// An open parenthesis, in a place where nothing waits.
+    fn default() -> Waiting {
+        Waiting::Inside(Bracket::Parenthesis)
+    }
 }
 
 /// Reads a token, or the function that it begins, where an expression is to begin.
@@ -54,16 +69,12 @@ fn first(
     alloc: Global,
     token: &Token,
     function: Function,
-    waiting: &mut Vec<Waiting>,
+    waiting: &mut Waitings,
 ) -> Result<Reading, ParseFault>
     ensures { Steps result waiting.new.items (first (lexeme token.now) function (stack waiting.old.items)) }
 {
     match token {
-        Token::Num(n) => {
-            let mut numbers = Vec::new(alloc);
-            numbers.push(*n)?;
-            Ok(Reading::Strand(numbers))
-        }
+        Token::Num(n) => Ok(Reading::Number(*n)),
         Token::Text(characters) => {
             let characters = characters.to_vec(alloc)?;
             let literal = text_literal(characters);
@@ -85,7 +96,7 @@ fn first(
 }
 
 /// Gives a value to all that waits for it, up to the innermost open bracket, which is taken off.
-fn settle(alloc: Global, value: Plain, waiting: &mut Vec<Waiting>) -> Result<Settled, AllocError>
+fn settle(alloc: Global, value: Plain, waiting: &mut Waitings) -> Result<Settled, AllocError>
     ensures { IfOk result (λ s. Settles s waiting.new.items (settle (stack waiting.old.items) (tree_of value.expr))) }
 {
     let mut value = value;
@@ -113,7 +124,7 @@ fn settle(alloc: Global, value: Plain, waiting: &mut Vec<Waiting>) -> Result<Set
 fn next_position(
     index: OpenIndex,
     position: Option<Expr>,
-    waiting: &mut Vec<Waiting>,
+    waiting: &mut Waitings,
 ) -> Result<Reading, ParseFault>
     requires { is_plain_position position ≡ true }
     ensures { Steps result waiting.new.items (Some (state (Inside (Index (tree_of index.operand) (map position_of index.positions.items ++ position_of position ∷ [])) ∷ stack waiting.old.items) Position)) }
@@ -145,7 +156,7 @@ fn position_ended(
     sign: char,
     index: OpenIndex,
     position: Option<Expr>,
-    waiting: &mut Vec<Waiting>,
+    waiting: &mut Waitings,
 ) -> Result<Reading, ParseFault>
     requires { is_plain_position position ≡ true }
     ensures { Steps result waiting.new.items (position_ended sign (tree_of index.operand) (map position_of index.positions.items) (position_of position) (stack waiting.old.items)) }
@@ -165,7 +176,7 @@ fn closed(
     alloc: Global,
     sign: char,
     operand: Plain,
-    waiting: &mut Vec<Waiting>,
+    waiting: &mut Waitings,
 ) -> Result<Reading, ParseFault>
     ensures { Steps result waiting.new.items (closed sign (settle (stack waiting.old.items) (tree_of operand.expr))) }
 {
@@ -180,7 +191,7 @@ fn closed(
 }
 
 /// Ends a position that has no expression.
-fn skipped(alloc: Global, sign: char, waiting: &mut Vec<Waiting>) -> Result<Reading, ParseFault>
+fn skipped(alloc: Global, sign: char, waiting: &mut Waitings) -> Result<Reading, ParseFault>
     ensures { Steps result waiting.new.items (skipped sign (stack waiting.old.items)) }
 {
     match waiting.pop() {
@@ -203,7 +214,7 @@ fn begin(
     alloc: Global,
     token: &Token,
     function: Function,
-    waiting: &mut Vec<Waiting>,
+    waiting: &mut Waitings,
 ) -> Result<Reading, ParseFault>
     ensures { Steps result waiting.new.items (begin (lexeme token.now) function (stack waiting.old.items)) }
 {
@@ -219,7 +230,7 @@ fn next(
     token: &Token,
     function: Function,
     operand: Plain,
-    waiting: &mut Vec<Waiting>,
+    waiting: &mut Waitings,
 ) -> Result<Reading, ParseFault>
     ensures { Steps result waiting.new.items (next (lexeme token.now) function (stack waiting.old.items) (tree_of operand.expr)) }
 {
@@ -241,7 +252,7 @@ fn after_reference(
     token: &Token,
     function: Function,
     operand: Plain,
-    waiting: &mut Vec<Waiting>,
+    waiting: &mut Waitings,
 ) -> Result<Reading, ParseFault>
     ensures { Steps result waiting.new.items (after_reference (lexeme token.now) function (stack waiting.old.items) (tree_of operand.expr)) }
 {
@@ -258,19 +269,36 @@ fn after_reference(
     }
 }
 
+/// The numbers that stand side by side, of which two are read.
+fn strand(alloc: Global, first: i64, second: i64) -> Result<Reading, ParseFault>
+    ensures { (ws : List Waiting) → Steps result ws (Some (state (stack ws) (Strand (first ∷ second ∷ [])))) }
+{
+    let mut numbers = Vec::new(alloc);
+    numbers.push(first)?;
+    numbers.push(second)?;
+    Ok(Reading::Strand(numbers))
+}
+
 /// Reads a token, or the function that it begins.
 fn step(
     alloc: Global,
     token: &Token,
     function: Function,
     reading: Reading,
-    waiting: &mut Vec<Waiting>,
+    waiting: &mut Waitings,
 ) -> Result<Reading, ParseFault>
     ensures { Steps result waiting.new.items (step (lexeme token.now) function (stack waiting.old.items) (reading_of reading)) }
 {
     match reading {
         Reading::Nothing => first(alloc, token, function, waiting),
         Reading::Position => begin(alloc, token, function, waiting),
+        Reading::Number(number) => match token {
+            Token::Num(n) => strand(alloc, number, *n),
+            _ => {
+                let literal = Plain::constant(Literal::Num(number));
+                next(alloc, token, function, literal, waiting)
+            }
+        },
         Reading::Strand(mut numbers) => match token {
             Token::Num(n) => {
                 numbers.push(*n)?;
@@ -287,11 +315,12 @@ fn step(
 }
 
 /// The tree where the tokens end.
-fn finish(alloc: Global, reading: Reading, waiting: &mut Vec<Waiting>) -> Result<Plain, ParseFault>
+fn finish(alloc: Global, reading: Reading, waiting: &mut Waitings) -> Result<Plain, ParseFault>
     ensures { Gives result (finish (stack waiting.old.items) (reading_of reading)) }
 {
     let operand = match reading {
         Reading::Nothing | Reading::Position => return Err(ParseFault::Syntax),
+        Reading::Number(number) => Plain::constant(Literal::Num(number)),
         Reading::Strand(numbers) => Plain::constant(literal(numbers)),
         Reading::Whole(operand) | Reading::Reference(operand) => operand,
     };
@@ -306,7 +335,7 @@ fn finish(alloc: Global, reading: Reading, waiting: &mut Vec<Waiting>) -> Result
 fn tree(alloc: Global, tokens: &[Spanned]) -> Result<Plain, ParseFault>
     ensures { Gives result (run 0 (lexemes tokens.now) (Some (state [] Nothing))) }
 {
-    let mut waiting = Vec::new(alloc);
+    let mut waiting: Waitings = SmallVec::new(alloc);
     let mut reading = Reading::Nothing;
     let mut rest = tokens;
     while let Some((first, after)) = rest.split_first() {

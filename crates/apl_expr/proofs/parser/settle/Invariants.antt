@@ -1,4 +1,4 @@
-use Rattle.std.proofs.Common.{◌≡◌}
+use Rattle.std.proofs.Common.{◌≡◌, length}
 use Rattle.apl_expr.specs.Machine.{settle}
 use Rattle.apl_expr.specs.Parsing.{stack}
 use Rattle.apl_expr.specs.Trees.{tree_of}
@@ -8,4 +8,4 @@ abbrev pub invariant-loop-frame : goal.invariant-loop-frame
 invariant-loop-frame l = settle (stack l.waiting.items) (tree_of l.value.expr) ≡ settle (stack l.fn.waiting.items) (tree_of l.fn.value.expr)
 
 abbrev pub decreases-loop-frame : goal.decreases-loop-frame
-decreases-loop-frame l = goal.left-loop-frame l
+decreases-loop-frame l = length l.waiting.items
