@@ -10,7 +10,7 @@ from itertools import count
 from . import keys, storing
 from .errors import End, Mistake
 from .journal import Binding
-from .lines import BLANKS, NAME
+from .lines import BLANKS, NAME, without_comment
 from .tables import lines_of_array, read_table
 
 COMMANDS = {}  # by the word behind the ]
@@ -56,8 +56,8 @@ def run(session, text):
     """Does what the line says; a Mistake where it cannot be done."""
     word, rest = re.match(rf"[{BLANKS}]*\][{BLANKS}]*(\w*)(.*)", re.sub(r"(^|\s)⍝.*", "", text), re.DOTALL).groups()
     if word not in COMMANDS:
-        near = get_close_matches(word, COMMANDS, 1)
-        raise Mistake(f"there is no ]{word}; " + (f"is ]{near[0]} meant?" if near else "]help lists what there is"))
+        near = get_close_matches(word, COMMANDS, 1) or ["help"]
+        raise Mistake(f"there is no ]{word}; is ]{near[0]} meant?")
     found = COMMANDS[word]
     try:
         words = [os.path.expanduser(it) for it in shlex.split(rest.strip(BLANKS))]
@@ -72,7 +72,8 @@ def show_names(session):
     for name in session.program.ask(")NAMES"):
         array, binding = storing.Array(session.program, name), session.journal.bindings[name]
         kind = array.error or ("characters" if array.is_text else "numbers") + "".join(f" {it}" for it in array.shape or ["scalar"])
-        rows.append((name, "data" if binding.is_data else "formula", kind, "" if binding.is_data else binding.text.split("←", 1)[1]))
+        formula = "" if binding.is_data else without_comment(binding.text).split("←", 1)[1].strip()
+        rows.append((name, "data" if binding.is_data else "formula", kind, formula))
     widths = [max(len(row[column]) for row in rows) for column in range(3)] if rows else []
     for row in rows:
         session.show("  ".join([*map(str.ljust, row, widths), row[3]]).rstrip())
@@ -106,7 +107,7 @@ def save(session, file, replace):
 def load(session, file):
     if session.depth == DEEPEST:
         raise Mistake(f"{file} is not loaded: {DEEPEST} files are being loaded already")
-    first = len(session.journal.changes)
+    first, is_saved = len(session.journal.changes), session.journal.is_saved
     session.depth += 1
     try:
         with open(file, "rb") as source:
@@ -116,6 +117,8 @@ def load(session, file):
     finally:
         session.depth -= 1
         session.journal.join(first, f"]load {file}")
+        if is_saved:
+            session.journal.mark_saved()
 
 
 @command(

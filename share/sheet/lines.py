@@ -23,6 +23,11 @@ def code_of(text):
     return "".join("''" if it[0] == "'" else it for it in PIECE.findall(text) if it[0] != "⍝").strip(BLANKS)
 
 
+def without_comment(text):
+    """Returns the line without its comment, and without blanks at its ends."""
+    return "".join(it for it in PIECE.findall(text) if it[0] != "⍝").strip(BLANKS)
+
+
 class Line:
     """A line as it was typed.
 

@@ -6,7 +6,7 @@ Nothing here changes an answer. What is said is found in the text of the lines, 
 import re
 from difflib import get_close_matches
 
-from .lines import LONGEST, NAME, Line
+from .lines import LONGEST, NAME, Line, without_comment
 
 SIGNS = frozenset("+-×÷*⋆|∣⌈⌊~∼<≤=≥>≠∧^∨⍲⍱⍴,⍪↑↓⌽⊖⍉/⌿\\⍀⍳∊∈⊤⊥∘.←¯⍝'()[];∆⍙_ \t")
 MISTAKEN = {"Δ": "∆", "ι": "⍳", "ρ": "⍴", "ε": "∊", "−": "- or ¯", "‾": "¯", "∙": ".", "‘": "'", "’": "'", "\u00a0": "a blank"}
@@ -14,6 +14,8 @@ OUTSIDE = {"OFF": "off", "QUIT": "off", "EXIT": "off", "BYE": "off", "HELP": "he
 OUTSIDE.update({"VARS": "names", "FNS": "names", "CLEAR": "clear", "UNDO": "undo", "TABLE": "table", "SHOW": "show"})
 PLACES = r"\s*¯?[0-9]+(?:\s*;\s*¯?[0-9]+)*\s*"
 LITERAL = r"(?:''|¯?[0-9]+(?:[ \t]+¯?[0-9]+)*)"
+
+SIDE_BY_SIDE = re.compile(rf"{NAME}[ \t]+(?:{NAME}|[0-9¯'(])|[0-9)'][ \t]+(?:{NAME}|['(])")
 
 # Slips of a line that is refused: what its code looks like, and the hint. A key is told of as `2, a backquote and then 2.
 SLIPS = [
@@ -38,6 +40,7 @@ DOUBTS = [
 ]
 
 REFUSED = {
+    "LIMIT ERROR": "a number is beyond 64 bits, or an array or a line beyond the limits of docs/LANGUAGE.md",
     "SHEET FULL": "a sheet has at most 1,024 names",
     "NOT TEXT": "the line is not UTF-8",
     "STALE": "another change was made since this one was opened: )DROP it, and open it again",
@@ -70,7 +73,7 @@ def culprit(session, answer):
 
 def absent(name, names):
     """That a name is not there, and one that may be meant."""
-    near = get_close_matches(name, names, 1) or [it for it in names if it.upper() == name.upper()]
+    near = get_close_matches(name, names, 1, 0.75) or [it for it in names if it.upper() == name.upper()]
     return f"{name} is not there" + (f"; is {near[0]} meant?" if near else "")
 
 
@@ -102,7 +105,7 @@ def of_cycle(session, answer):
 def of_formula(session, answer):
     """The formula that cannot be edited."""
     name = (answer.line.opened if answer.line.kind == "open" else answer.line).name
-    text = session.journal.bindings[name].text
+    text = without_comment(session.journal.bindings[name].text)
     return [f"{name} is a formula, {text}; )DATA {name}←{name} makes data of it, which can be edited"]
 
 
@@ -156,6 +159,8 @@ def of_signs(line):
     code = line.text.split("⍝")[0]
     if code.count("'") % 2:
         return ["a text is not closed: a ' is missing"]
-    pairs = [("(", ")"), ("[", "]")]
-    body = line.code[1:] if line.code.startswith(")") else line.code
-    return [f"{opening} and {closing} do not pair" for opening, closing in pairs if body.count(opening) != body.count(closing)][:1]
+    body = re.sub(r"^\)\s*\w*\s*", "", line.code)
+    for opening, closing in ("()", "[]"):
+        if body.count(opening) != body.count(closing):
+            return [f"{opening} and {closing} do not pair"]
+    return ["what stands side by side is no list, but for numbers: A,B joins"] if SIDE_BY_SIDE.search(body) else []

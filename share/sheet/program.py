@@ -28,12 +28,12 @@ class Program:
     """
 
     def __init__(self, words):
-        self.words, self.process, self.printed = words, None, None
+        self.words, self.process, self.printed, self.environment = words, None, None, {**os.environ}
         self.fence, self.number, self.given, self.is_in_step = "", 0, set(), False
 
     def start(self):
         """Starts it, and waits until it answers."""
-        pipes = {"stdin": subprocess.PIPE, "stdout": subprocess.PIPE, "start_new_session": True}
+        pipes = {"stdin": subprocess.PIPE, "stdout": subprocess.PIPE, "start_new_session": True, "env": self.environment}
         try:
             self.process = subprocess.Popen(self.words, **pipes)
         except OSError as error:
@@ -45,6 +45,7 @@ class Program:
             self.stop()
             raise ProgramFailed(f"{self.words[0]} does not answer as aplsheet does")
         self.is_in_step = True
+        self.environment["APLSHEET_TOLD"] = "1"  # bin/aplsheet tells once what build it is
 
     def stop(self):
         """Ends it, whatever it is doing, and all that it has started."""

@@ -62,6 +62,7 @@ def answer(session, scripts):
             if script != "-":
                 with open(script, "rb") as source:
                     session.run(script, source)
+                session.journal.mark_saved()
             elif sys.stdin.isatty() and sys.stdout.isatty():
                 is_typed = True
                 Terminal(session).run()
