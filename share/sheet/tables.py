@@ -91,24 +91,35 @@ def advice(field, record, column):
     return "; --columns takes the columns of numbers alone, and ]labels one of names" if column == 1 else ""
 
 
-def read_table(file, separator, has_titles):
-    """The table in a file. A Mistake where it cannot be read, or a record has not as many fields as the first; empty lines are none."""
+def text_of(file):
+    """The text of a table file."""
     try:
         raw = Path(file).read_bytes()
-        text = raw.decode("utf-8-sig")
+        return raw.decode("utf-8-sig")
     except OSError as error:
         raise Mistake(f"{file} cannot be read: {error.strerror}") from None
     except UnicodeDecodeError as error:
         line = raw.count(b"\n", 0, error.start) + 1
         raise Mistake(f"{file}: line {line} is not UTF-8; save the table again as CSV in UTF-8") from None
+
+
+def read_table(file, separator, has_titles):
+    """The table in a file. A Mistake where it cannot be read, or a record has not as many fields as the first; empty lines are none."""
+    text = text_of(file)
     titles, rest = cut_titles(text, separator) if has_titles else ([], text)
     if rest is not None and is_plain(rest.replace("\r\n", "\n"), separator):
         return plain_table(file, titles, rest.replace("\r\n", "\n"), separator)
     csv.field_size_limit(sys.maxsize)
-    records = [it for it in csv.reader(io.StringIO(text, newline=""), delimiter=separator) if it]
-    check_widths(file, [*map(len, records)])
-    first = 2 if has_titles and records else 1
-    return Table(file, len(records[0]) if records else 0, first, fields=[field for record in records[first - 1 :] for field in record])
+    widths, fields = [], []
+    try:
+        for record in filter(None, csv.reader(io.StringIO(text, newline=""), delimiter=separator)):
+            widths.append(len(record))
+            fields += record
+    except csv.Error as error:
+        raise Mistake(f"{file}: record {len(widths) + 1} cannot be read: {error}") from None
+    check_widths(file, widths)
+    width = widths[0] if widths else 0
+    return Table(file, width, 2, fields=fields[width:]) if has_titles else Table(file, width, 1, fields=fields)
 
 
 def cut_titles(text, separator):
