@@ -52,7 +52,7 @@ enum Reading {
 }
 
 /// So much waits without memory of its own: most expressions have no more.
-const FEW_WAITING: usize = 4;
+const FEW_WAITING: usize = 2;
 
 /// All that waits, the last first to be given a value.
 type Waitings = SmallVec<Waiting, FEW_WAITING>;
@@ -359,6 +359,10 @@ pub fn parse(alloc: Global, tokens: &[Spanned]) -> Result<Expr, ParseFault>
         return Err(ParseFault::Limit);
     }
     let plain = tree(alloc, tokens)?;
+    // No tree has more nodes than tokens.
+    if tokens.len() <= MOST_HEIGHT as usize {
+        return Ok(plain.expr);
+    }
     if !plain.expr.is_within_height(MOST_HEIGHT) {
         return Err(ParseFault::Limit);
     }

@@ -5,6 +5,7 @@ use Rattle.apl_tokens.specs.Lexemes.{lexemes}
 use Rattle.apl_expr.specs.Limits.{most_height, most_nodes}
 use Rattle.apl_expr.specs.Trees.{tree_of, height, nodes}
 use Rattle.apl_expr.proofs.Sizes.{above_limit}
+use Rattle.apl_expr.proofs.FewTokens.{few_tokens}
 use Rattle.apl_expr.proofs.Parsed.{refused, too_large, read_tree}
 use Rattle.apl_expr.proofs.parser.parse.Goals as goal
 
@@ -12,6 +13,12 @@ pub returns-in_err-plain : goal.returns-in_err-plain
 returns-in_err-plain c =
     let p = err_from_is_err_and c.from_residual.result c.from_residual.ensures.1 in
     refused c.in_err-plain.field-0.0 (lexemes c.args.tokens.now) c.from_residual.result (simp length-map (omega arith)) p.0 p.1 p.2 c.in_err-plain.ensures
+
+pub returns-then-tokens : goal.returns-then-tokens
+returns-then-tokens c =
+    let is = read_tree (lexemes c.args.tokens.now) (tree_of c.in_ok-plain.plain.expr) c.in_ok-plain.ensures in
+    let sizes = few_tokens (lexemes c.args.tokens.now) (tree_of c.in_ok-plain.plain.expr) is (simp length-map (omega arith)) in
+    (simp length-map (omega arith), is, sizes.0, sizes.1, c.in_ok-plain.plain.plain)
 
 pub returns-then-not-is_within_height : goal.returns-then-not-is_within_height
 returns-then-not-is_within_height c =

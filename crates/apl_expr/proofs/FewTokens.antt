@@ -1,0 +1,77 @@
+-- A tree has no more nodes than tokens, and is no higher than it has nodes.
+use Rattle.std.proofs.Common.{◌≡◌, ℕ, ◌+◌, ◌≤◌, List, [], ◌∷◌, length, Option, Some, None, subst, arith}
+use Rattle.std.specs.Prelude.{ℤ}
+use Rattle.apl_tokens.specs.Lexemes.{Lexeme}
+use Rattle.apl_expr.specs.declared.expr.Monadic.{Monadic}
+use Rattle.apl_expr.specs.declared.expr.Dyadic.{Dyadic}
+use Rattle.apl_expr.specs.Limits.{most_height, most_nodes}
+use Rattle.apl_expr.specs.Trees.{Tree, Const, Name, Monad, Dyad, Index, Positions, NoPositions, Empty, Filled, positions_of, height, height_in, nodes, nodes_in}
+use Rattle.apl_expr.specs.Grammar.{IsNums, one, more, IsMonadicFunction, plain1, along1, folded, folded_along, IsDyadicFunction, plain2, along2, outer, inner, IsExpr, operand, mono, duo, IsOperand, nums, text, ref, IsRef, name, parens, index, IsPositions, last_position, more_positions, IsPosition, empty, filled, IsTreeOf}
+
+nums_tokens : {ts us : List Lexeme} {ns : List ℤ} → IsNums ts ns us → 1 + length us ≤ length ts
+nums_tokens one = omega arith
+nums_tokens (more is) = let rest = nums_tokens is in omega arith
+
+monadic_tokens : {ts us : List Lexeme} {f : Monadic} → IsMonadicFunction ts f us → 1 + length us ≤ length ts
+monadic_tokens (plain1 is) = omega arith
+monadic_tokens (along1 is) = omega arith
+monadic_tokens (folded is) = omega arith
+monadic_tokens (folded_along is) = omega arith
+
+dyadic_tokens : {ts us : List Lexeme} {f : Dyadic} → IsDyadicFunction ts f us → 1 + length us ≤ length ts
+dyadic_tokens (plain2 is) = omega arith
+dyadic_tokens (along2 is) = omega arith
+dyadic_tokens (outer is) = omega arith
+dyadic_tokens (inner is) = omega arith
+
+-- the nodes of a position, if it is written
+abbrev nodes_at : Option Tree → ℕ
+nodes_at None = 0
+nodes_at (Some e) = nodes e
+
+nodes_more : (p : Option Tree) (ps : List (Option Tree)) → nodes_in (positions_of (p ∷ ps)) ≡ nodes_at p + nodes_in (positions_of ps)
+nodes_more None ps = omega arith
+nodes_more (Some e) ps = omega arith
+
+index_nodes : (a e : Tree) (ps : List (Option Tree)) → Some (Index a (positions_of ps)) ≡ Some e → nodes e ≡ 1 + nodes a + nodes_in (positions_of ps)
+index_nodes a e ps is = let same : Index a (positions_of ps) ≡ e = cc in subst (λ (d : Tree). nodes d ≡ 1 + nodes a + nodes_in (positions_of ps)) same (omega arith)
+
+mutual
+  expr_tokens : {ts us : List Lexeme} {e : Tree} → IsExpr ts e us → nodes e + length us ≤ length ts
+  expr_tokens (operand is) = operand_tokens is
+  expr_tokens (mono f is) = let first = monadic_tokens f in let rest = expr_tokens is in omega arith
+  expr_tokens (duo a f is) = let left = operand_tokens a in let first = dyadic_tokens f in let rest = expr_tokens is in omega arith
+
+  operand_tokens : {ts us : List Lexeme} {a : Tree} → IsOperand ts a us → nodes a + length us ≤ length ts
+  operand_tokens (nums is) = let rest = nums_tokens is in omega arith
+  operand_tokens text = omega arith
+  operand_tokens (ref is) = ref_tokens is
+
+  ref_tokens : {ts us : List Lexeme} {a : Tree} → IsRef ts a us → nodes a + length us ≤ length ts
+  ref_tokens name = omega arith
+  ref_tokens (parens is) = let rest = expr_tokens is in omega arith
+  ref_tokens (index {a = a} {e = e} {positions = ps} is at made) = let left = ref_tokens is in let rest = positions_tokens at in let size = index_nodes a e ps made in omega arith
+
+  positions_tokens : {ts us : List Lexeme} {ps : List (Option Tree)} → IsPositions ts ps us → nodes_in (positions_of ps) + length us ≤ length ts
+  positions_tokens (last_position {s = s} is) = let first = position_tokens is in let size = nodes_more s [] in omega arith
+  positions_tokens (more_positions {s = s} {positions = ps} is at) = let first = position_tokens is in let rest = positions_tokens at in let size = nodes_more s ps in omega arith
+
+  position_tokens : {ts us : List Lexeme} {p : Option Tree} → IsPosition ts p us → nodes_at p + length us ≤ length ts
+  position_tokens empty = omega arith
+  position_tokens (filled is) = expr_tokens is
+
+mutual
+  height_nodes : (e : Tree) → height e ≤ nodes e
+  height_nodes (Const l) = omega arith
+  height_nodes (Name n) = omega arith
+  height_nodes (Monad f e) = let rest = height_nodes e in omega arith
+  height_nodes (Dyad f a e) = let left = height_nodes a in let rest = height_nodes e in omega arith
+  height_nodes (Index a ps) = let left = height_nodes a in let rest = height_nodes_in ps in omega arith
+
+  height_nodes_in : (ps : Positions) → height_in ps ≤ nodes_in ps
+  height_nodes_in NoPositions = omega arith
+  height_nodes_in (Empty ps) = height_nodes_in ps
+  height_nodes_in (Filled e ps) = let first = height_nodes e in let rest = height_nodes_in ps in omega arith
+
+pub few_tokens : (ts : List Lexeme) (e : Tree) → IsTreeOf ts e → length ts ≤ most_height → (height e ≤ most_height) × (nodes e ≤ most_nodes)
+few_tokens ts e is few = let size = expr_tokens is in let low = height_nodes e in (omega arith, omega arith)
