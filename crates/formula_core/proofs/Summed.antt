@@ -34,8 +34,8 @@ use Rattle.formula_core.specs.Meaning.{eval}
 use Rattle.formula_core.specs.Tables.{tree_of_operand, tree_of_node, IsOperand, IsNode}
 use Rattle.formula_core.specs.Changes.{Change, change, FitsIn}
 use Rattle.formula_core.specs.Inputs.{shown, delta_of, IsInput}
-use Rattle.formula_core.specs.Stages.{IsStaged, IsReady, IsKeptBy, IsSumsStep}
-use Rattle.formula_core.specs.Sums.{summed_in, summed_at, total_of, totalled, WasGrown, WasPatched, WasSummed, IsSumsDelta, IsSummedFor}
+use Rattle.formula_core.specs.Stages.{IsStaged, IsReady, IsKeptBy, IsMadeBy, IsSumsStep}
+use Rattle.formula_core.specs.Sums.{summed_in, summed_at, total_of, totalled, WasGrown, WasPatched, WasSummed, AreNewSums, IsSumsDelta, IsSummedFor}
 use Rattle.formula_core.proofs.Steps.{operand_changed}
 
 -- an array whose lines along an axis are folded by a function
@@ -267,6 +267,24 @@ kept_for s f b within kept keeps i ready fold total = record {
 
     held : s.is_new ≡ false → kept ≡ summed_in fold old
     held was = keeps.1.1.1.1 was ∙ ap (λ (k : Option Reduce). option_map_or (λ x. summed_in x old) k None) total
+
+-- an operand shows what its tree gives
+shows_tree : (is_new : Bool) (c : Change) (t : Tree) (i : Input) → IsReady is_new c t i → shown i ≡ eval t c.new
+shows_tree true c t i ready = ready.shows refl
+shows_tree false c t i ready = (ready.is refl).is
+
+-- the sums that are made anew for a total are those of what its argument is
+pub made_for : (s : Stage) (f : _) (b : Operand) (made : SumsDelta) → IsMadeBy s (node.Monad f b) made → (i : Input)
+    → ((c : Change) → (names : List (List ℕ)) → (trees : List Tree) → IsStaged c names trees s → IsReady s.is_new c (tree_of_operand names trees b) i)
+    → (fold : Reduce) → total_of f ≡ Some fold → AreNewSums fold (shown i) made
+made_for s f b made by i ready fold total = λ sums is.
+    let c = by.0 in
+    let names = by.1.0 in
+    let trees = by.1.1.0 in
+    let t = tree_of_operand names trees b in
+    by.1.1.1.1 sums is
+    ∙ (ap (λ (k : Option Reduce). option_map_or (λ x. summed_in x (eval t c.new)) k None) total
+    ∙ ap (summed_in fold) (sym (shows_tree s.is_new c t i (ready c names trees by.1.1.1.0))))
 
 -- what holds of a change, where it could be made
 pub change_or : (P Q : SumsDelta → Type 0) (r : Result SumsDelta AllocError) → ((d : SumsDelta) → P d → Q d) → IfOk r P → IfOk r Q

@@ -84,6 +84,10 @@ pub record IsSumsDelta (fold : Reduce) (now : Outcome) (d : Delta) (kept : Optio
   pub right : (old : Outcome) → (is_whole d ≡ false → WasSummed fold now d kept old) → resummed s kept ≡ summed_in fold now
   pub fit : (old : Outcome) → (is_whole d ≡ false → WasSummed fold now d kept old) → FitsSums s kept
 
+-- sums that are made anew for an argument are those of its lines as it is now
+abbrev pub AreNewSums : Reduce → (now : Outcome) → SumsDelta → Type 0
+AreNewSums fold now s = (sums : Option (Box SummedValue)) → s ≡ Whole sums → in_box sums ≡ summed_in fold now
+
 -- these sums are those of the lines along an axis of what became this by a patch
 pub record WasPatched (fold : Reduce) (now : Outcome) (p : PatchValue) (s : SummedValue) : Type 0 where
   pub fit : FitsPatch s.array p

@@ -6,18 +6,18 @@ ghost use Rattle.sum_rules.specs.Totals.{total_rule};
 ghost use Rattle.formula_core.specs.Inputs.{shown, delta_of, HasFit, IsOperationChange};
 ghost use Rattle.formula_core.specs.Rules.{right_rule, both_rule};
 ghost use Rattle.formula_core.specs.Stages.{AreTotalsJoined};
-ghost use Rattle.formula_core.specs.Sums.{total_of as fold_of_total, IsSummedFor, AreSumsKept};
+ghost use Rattle.formula_core.specs.Sums.{total_of as fold_of_total, IsSummedFor, AreNewSums, AreSumsKept};
 
 use crate::input::Input;
 use crate::refreshing::Operation;
-use crate::sums::total_of;
+use crate::sums::{SumsDelta, total_of};
 use apl_expr::{Dyadic, Monadic};
 use arrays_core::{Array, Fault};
 use change_core::Meter;
 use index_region::Delta;
 use operator_fns::Reduce;
 use std::alloc::{AllocError, Global};
-use sum_rules::{LineSums, fold_totals_with_cost, refresh_totals_with_cost};
+use sum_rules::{LineSums, fold_totals_with_cost, read_totals_with_cost, refresh_totals_with_cost};
 
 /// The change of a function of its right argument, and what it costs; beside an error it is that error.
 fn change_of_right(
@@ -45,46 +45,57 @@ fn change_of_right(
     }
 }
 
-/// The change of a function of one argument, and what it costs. Of a total whose argument has sums of its lines kept, it is
-/// found by these. Only totals join sums.
+/// The change of a function of one argument, and what it costs. Of a total whose argument has sums of its lines kept, or made anew, it
+/// is found by these. Only totals join sums.
 pub(crate) fn change_of_monad(
     alloc: Global,
     function: Monadic,
     right: &Input,
     kept: &Option<LineSums>,
+    made: &SumsDelta,
     held: &Result<Array, Fault>,
     meter: &mut Meter,
 ) -> Result<(Delta, u32), AllocError>
     requires fit { HasFit right.now }
     requires kept { (fold : Reduce) → fold_of_total function ≡ Some fold → IsSummedFor fold (shown right.now) (delta_of right.now) kept.now }
+    requires made { (fold : Reduce) → fold_of_total function ≡ Some fold → AreNewSums fold (shown right.now) made.now }
     ensures change { IsOperationChange (right_rule function) (right.now ∷ []) held.now meter.old.ticks meter.new.ticks result }
     ensures joins { (fold : Reduce) → fold_of_total function ≡ Some fold → AreSumsKept fold (shown right.now) (delta_of right.now) kept.now
         → AreTotalsJoined fold right.now held.now meter.old.joins meter.new.joins result }
     ensures no_joins { fold_of_total function ≡ None → meter.new.joins ≡ meter.old.joins }
 {
     match total_of(function) {
-        Some(fold) => change_of_total(alloc, fold, right, kept, held, meter),
+        Some(fold) => change_of_total(alloc, fold, right, kept, made, held, meter),
         None => change_of_right(alloc, function, right, held, meter),
     }
 }
 
-/// The change of a total along an axis, and what it costs: by the sums of the argument's lines where these are kept, else the lines are
-/// folded; beside an error it is that error.
+/// The change of a total along an axis, and what it costs: of another array it is read from the new sums of its lines where these are made,
+/// else it is found by those that are kept, and where there are none the lines are folded; beside an error it is that error.
 fn change_of_total(
     alloc: Global,
     fold: Reduce,
     right: &Input,
     kept: &Option<LineSums>,
+    made: &SumsDelta,
     held: &Result<Array, Fault>,
     meter: &mut Meter,
 ) -> Result<(Delta, u32), AllocError>
     requires fit { HasFit right.now }
     requires kept { IsSummedFor fold (shown right.now) (delta_of right.now) kept.now }
+    requires made { AreNewSums fold (shown right.now) made.now }
     ensures change { IsOperationChange (total_rule fold) (right.now ∷ []) held.now meter.old.ticks meter.new.ticks result }
     ensures joins { AreSumsKept fold (shown right.now) (delta_of right.now) kept.now → AreTotalsJoined fold right.now held.now meter.old.joins meter.new.joins result }
 {
     match right {
         Input::Good(array, delta) => {
+            if let Delta::Whole(_) = delta {
+                if let SumsDelta::Whole(new) = made {
+                    if let Some(new) = new {
+                        return read_totals_with_cost(alloc, fold, array, new, meter);
+                    }
+                }
+            }
             let arg = (array.again(), *delta);
             match kept {
                 Some(sums) => {

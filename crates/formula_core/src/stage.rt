@@ -11,7 +11,7 @@ ghost use Rattle.formula_core.specs.Inputs.{HasFit, AllHaveFit, IsInput};
 ghost use Rattle.formula_core.specs.Holdings.{holdings_of, not_worked_out, AllFit};
 ghost use Rattle.formula_core.specs.Joins.{most_joins, least_joins};
 ghost use Rattle.formula_core.specs.Plans.{node_change, node_cost_at};
-ghost use Rattle.formula_core.specs.Stages.{IsStaged, StagedBy, IsKeptBy, IsTaken, IsReady, AreReady, IsStep, IsJoined, IsDone, IsSumsStep};
+ghost use Rattle.formula_core.specs.Stages.{IsStaged, StagedBy, IsKeptBy, IsMadeBy, IsTaken, IsReady, AreReady, IsStep, IsJoined, IsDone, IsSumsStep};
 ghost use Rattle.formula_core.specs.Sums.{summed_at};
 ghost use Rattle.formula_core.specs.Tables.{IsOperand, AreOperands, IsNode, tree_at, tree_of_operand, tree_of_node};
 
@@ -99,23 +99,26 @@ impl<'a> Stage<'a> {
     {
         let kept = &self.nodes[self.changes.len()];
         outcome_is_array(&kept.result);
-        let (delta, items) = self.change_of(&kept.node, &kept.result, &kept.sums, meter)?;
         let sums = self.sums_of(&kept.node, &kept.sums)?;
+        let (delta, items) = self.change_of(&kept.node, &kept.result, &kept.sums, &sums, meter)?;
         outcomes_are_arrays(&kept.result, &delta);
         Ok((NodeChange { delta, sums }, items))
     }
 
-    /// The change of the result of the next node, which held this and keeps these sums, and what it costs.
+    /// The change of the result of the next node, which held this and keeps these sums, and what it costs. What changes of the sums is
+    /// made before, so that the items of an argument that is another array are gone over once.
     fn change_of(
         &self,
         node: &Node,
         held: &Result<Array, Fault>,
         kept: &Option<LineSums>,
+        made: &SumsDelta,
         meter: &mut Meter,
     ) -> Result<(Delta, u32), AllocError>
         requires node { IsNode (length self.now.inputs.now) (length self.now.changes.now) node.now }
         requires staged { StagedBy self.now }
         requires kept { IsKeptBy self.now node.now kept.now }
+        requires made { IsMadeBy self.now node.now made.now }
         requires anew { is_whole self.now.anew.now ≡ true }
         ensures step { (c : Change) → (names : List (List ℕ)) → (trees : List Tree) → IsStaged c names trees self.now
             → (self.now.is_new ≡ false → held.now ≡ eval (tree_of_node names trees node.now) c.old)
@@ -133,7 +136,7 @@ impl<'a> Stage<'a> {
             }
             Node::Monad(function, right) => {
                 let right = self.operand(*right);
-                change_of_monad(self.alloc, *function, &right, kept, held, meter)
+                change_of_monad(self.alloc, *function, &right, kept, made, held, meter)
             }
             Node::Dyad(function, left, right) => {
                 let left = self.operand(*left);

@@ -46,7 +46,7 @@ abbrev pub longer_total : Scalar2 → TreesValue → List ℤ → ℕ → Result
 longer_total f t numbers line = fold_right f (map (λ (z : ℤ). Num z) (numbers_of_line t line ++ get_or numbers line (pos 0) ∷ []))
 
 -- items that are given by places lie in their order
-items_by_place : (shape : List ℕ) (f : ℕ → Result Item Kind) → map (λ index. f (places_before shape index)) (indices shape) ≡ map f (range_with_len 0 (size shape))
+pub items_by_place : (shape : List ℕ) (f : ℕ → Result Item Kind) → map (λ index. f (places_before shape index)) (indices shape) ≡ map f (range_with_len 0 (size shape))
 items_by_place shape f =
     let rule = λ (index : List ℕ). f (places_before shape index) in
     let n = length-map (indices shape) rule ∙ length-indices shape in

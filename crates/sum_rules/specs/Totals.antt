@@ -22,7 +22,7 @@ use Rattle.change_rules.specs.Outcomes.{Outcome}
 use Rattle.change_core.specs.Meters.{ticked}
 use Rattle.operator_fns.specs.declared.reduce.Reduce.{Reduce}
 use Rattle.operator_fns.specs.RightFold.{fold_right}
-use Rattle.operator_fns.specs.SumTrees.{TreesValue, numbers_of_line}
+use Rattle.operator_fns.specs.SumTrees.{TreesValue, line_count, numbers_of_line}
 use Rattle.operator_rules.specs.Reduce.{reduce_rule}
 use Rattle.sum_rules.specs.LineSums.{StandFor, length_along}
 
@@ -72,6 +72,10 @@ pub record IsSummedByLines (arg : Argument) (lines : List (List ℤ)) : Type 0 w
 -- the totals of lines that get one of these numbers each behind their last one
 abbrev pub longer_totals : Scalar2 → TreesValue → (numbers : List ℤ) → List (Result Item Kind)
 longer_totals function t numbers = map (λ line. fold_right function (map (λ z. Num z) (numbers_of_line t line ++ get_or numbers line (pos 0) ∷ []))) (range_with_len 0 (length numbers))
+
+-- the totals of all lines
+abbrev pub all_totals : Scalar2 → TreesValue → List (Result Item Kind)
+all_totals function t = map (λ line. fold_right function (map (λ z. Num z) (numbers_of_line t line))) (range_with_len 0 (line_count t))
 
 -- how many items a patch makes new, or are new where an array grew
 abbrev pub new_items : Delta → ℕ

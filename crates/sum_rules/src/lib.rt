@@ -5,8 +5,10 @@ mod line_sums;
 mod line_totals;
 mod new_lines;
 mod totals;
+mod whole_totals;
 
 pub use line_sums::{LineSums, keeps_sums};
 pub use line_totals::LineTotals;
 pub use new_lines::NewLines;
 pub use totals::{fold_totals_with_cost, refresh_sums, refresh_totals_with_cost};
+pub use whole_totals::read_totals_with_cost;

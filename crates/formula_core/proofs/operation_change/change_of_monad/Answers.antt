@@ -10,6 +10,9 @@ use Rattle.formula_core.proofs.operation_change.change_of_monad.Goals as goal
 pub change_of_total-requires-clause-kept : goal.change_of_total-requires-clause-kept
 change_of_total-requires-clause-kept c = c.requires.kept c.in-Some.fold (sym c.in-Some.ensures)
 
+pub change_of_total-requires-clause-made : goal.change_of_total-requires-clause-made
+change_of_total-requires-clause-made c = c.requires.made c.in-Some.fold (sym c.in-Some.ensures)
+
 pub returns-in-Some-clause-change : goal.returns-in-Some-clause-change
 returns-in-Some-clause-change c =
     subst (λ (rule : RuleModel). IsOperationChange rule (c.args.right.now ∷ []) c.args.held.now c.args.meter.now.ticks c.change_of_total.new.meter.ticks c.change_of_total.result)

@@ -2,10 +2,10 @@ use Rattle.std.proofs.Common.{Ok, map, refl, sym, subst}
 use Rattle.std.specs.Option.{option_map}
 use Rattle.formula_core.specs.declared.table.Node.{Node}
 use Rattle.formula_core.specs.Tables.{tree_of_node, tree_of_operand}
-use Rattle.formula_core.specs.Stages.{IsStep, IsJoined, IsKeptBy}
+use Rattle.formula_core.specs.Stages.{IsStep, IsJoined, IsKeptBy, IsMadeBy}
 use Rattle.formula_core.proofs.Steps.{free_step, name_input, name_told}
 use Rattle.formula_core.proofs.Joined.{kept_well, monad_joined, unjoined}
-use Rattle.formula_core.proofs.Summed.{kept_for}
+use Rattle.formula_core.proofs.Summed.{kept_for, made_for}
 use Rattle.formula_core.proofs.Stepping.{monad_step, dyad_step, index_step}
 use Rattle.formula_core.proofs.stage.Stage.change_of.Goals as goal
 
@@ -24,6 +24,10 @@ returns-in_ok-change_of_name-in-Name-clause-step c = λ change names trees stage
 pub change_of_monad-requires-clause-kept : goal.change_of_monad-requires-clause-kept
 change_of_monad-requires-clause-kept c =
     kept_for c.args.self.now c.in-Monad.function c.in-Monad.right (rw c.in-Monad.is at c.requires.node) c.args.kept.now (subst (λ (n : Node). IsKeptBy c.args.self.now n c.args.kept.now) c.in-Monad.is c.requires.kept) c.operand-right.result c.operand-right.ensures.ready
+
+pub change_of_monad-requires-clause-made : goal.change_of_monad-requires-clause-made
+change_of_monad-requires-clause-made c =
+    made_for c.args.self.now c.in-Monad.function c.in-Monad.right c.args.made.now (subst (λ (n : Node). IsMadeBy c.args.self.now n c.args.made.now) c.in-Monad.is c.requires.made) c.operand-right.result c.operand-right.ensures.ready
 
 pub returns-in-Monad-clause-step : goal.returns-in-Monad-clause-step
 returns-in-Monad-clause-step c = λ change names trees staged holds.

@@ -1,0 +1,83 @@
+-- The totals of all lines of an array, as the trees of the lines tell them.
+use Rattle.std.proofs.Common.{◌≡◌, ◌∙◌, ℕ, zero, suc, ◌*◌, ◌/◌, ◌%◌, ◌<◌, ◌≤◌, ℤ, pos, List, length, map, refl, ap, sym, subst, arith, Result, Ok, Some}
+use Rattle.std.specs.List.{range_with_len}
+use Rattle.std.proofs.lemmas.List.{length-map}
+use Rattle.std.proofs.Math.Nat.{mul-div_cancel}
+use Rattle.arrays_core.specs.declared.item.Item.{Item}
+use Rattle.arrays_core.specs.declared.item.Item.TheVariants.{Num}
+use Rattle.arrays_core.specs.declared.item.ItemType.{ItemType}
+use Rattle.arrays_core.specs.declared.item.ItemType.TheVariants.{Nums}
+use Rattle.arrays_core.specs.declared.item.Kind.{Kind}
+use Rattle.arrays_core.specs.Arrays.{ArrayValue, with_items}
+use Rattle.arrays_core.specs.Items.{all_or_first_error}
+use Rattle.arrays_core.specs.Shapes.{size, places_before}
+use Rattle.scalar_fns.specs.declared.function.Scalar2.{Scalar2}
+use Rattle.scalar_fns.specs.Folds.{strided, folded}
+use Rattle.scalar_fns.specs.Items.{number_item}
+use Rattle.scalar_fns.specs.Numbers.{dyadic_on_numbers}
+use Rattle.scalar_fns.proofs.RightFolds.{length-strided}
+use Rattle.index_region.specs.Axes.{axis_at}
+use Rattle.index_region.specs.Checks.{form_of}
+use Rattle.operator_fns.specs.Reduce.{reduce_form, reduce_whole}
+use Rattle.operator_fns.specs.RightFold.{fold_right}
+use Rattle.operator_fns.specs.Strides.{line_start}
+use Rattle.operator_fns.specs.SumTrees.{TreesValue, line_count, numbers_of_line}
+use Rattle.operator_fns.specs.declared.reduce.Reduce.{Reduce}
+use Rattle.operator_fns.proofs.Placewise.{collected_same}
+use Rattle.operator_fns.proofs.Reduced.{lines_whole, reduce_facts, reduced_whole}
+use Rattle.fold_trees.proofs.TreeFolds.{fold_of_numbers}
+use Rattle.sum_rules.specs.LineSums.{StandFor, SummedValue, summed}
+use Rattle.sum_rules.specs.Totals.{all_totals}
+use Rattle.sum_rules.proofs.KeptSums.{kept_parts, summed_is}
+use Rattle.sum_rules.proofs.LongerTotals.{items_by_place}
+
+-- the total of one of them
+abbrev pub total_of_line : Scalar2 → TreesValue → ℕ → Result Item Kind
+total_of_line f t line = fold_right f (map (λ (z : ℤ). Num z) (numbers_of_line t line))
+
+module _ (fold : Reduce) (a : ArrayValue) (s : SummedValue) (t : TreesValue) (is : Some s ≡ summed fold a) (stands : StandFor t s.axis s.array)
+    (shape : List ℕ) (type : ItemType) (form : reduce_form fold.along a ≡ Ok (form_of shape type)) where
+  abbrev axis : ℕ
+  axis = axis_at (length a.shape) fold.along
+
+  kept : s ≡ record { function = fold.function; axis = axis; array = a }
+  kept = (summed_is fold a s (sym is)).1
+
+  stand : StandFor t axis a
+  stand = subst (λ (v : SummedValue). StandFor t v.axis v.array) kept stands
+
+  -- the trees are of the function that folds the lines
+  pub function_is : s.function ≡ fold.function
+  function_is = ap (λ (v : SummedValue). v.function) kept
+
+  parts : (1 ≤ t.count) × (size shape * t.count ≡ size a.shape) × (size shape % t.step ≡ 0)
+  parts = lines_whole axis a.shape shape t.count t.step stand.there (reduce_facts fold.along a shape type form).shaped stand.counted stand.apart stand.some
+
+  places : length t.numbers ≡ size shape * t.count
+  places = sym (length-map t.numbers (λ (z : ℤ). Num z)) ∙ sym (ap (λ (b : ArrayValue). length b.items) stand.is) ∙ stand.sound.one_item_a_place ∙ sym parts.1
+
+  -- the result has a place for each line
+  pub places_are : size shape ≡ line_count t
+  places_are = sym (ap (λ k. k / t.count) places ∙ mul-div_cancel (size shape) parts.0)
+
+  -- and there are some
+  pub some_lines : 0 < line_count t
+  some_lines = subst (λ k. 0 < k) places_are (some_factor (size shape) t.count (size a.shape) parts.1 stand.some)
+    where
+      some_factor : (n m k : ℕ) → n * m ≡ k → 0 < k → 0 < n
+      some_factor zero m k e h = absurd (omega (arith, e, h))
+      some_factor (suc n) m k e h = omega arith
+
+  -- and these are its totals
+  pub whole_is : reduce_whole fold.function fold.along a ≡ with_items Nums shape (all_or_first_error (all_totals fold.function t))
+  whole_is =
+      let f = fold.function in
+      let given = λ (place : ℕ). number_item (folded (dyadic_on_numbers f) (strided (pos 0) t.numbers (line_start t.step t.count place) t.step t.count)) in
+      let alike = λ (place : ℕ).
+      let zs = numbers_of_line t place in
+      let long : length zs ≡ t.count = length-strided (pos 0) t.numbers (line_start t.step t.count place) t.step t.count in
+      sym (fold_of_numbers f zs (omega (arith, long, parts.0))) in
+      reduced_whole f a t.numbers (ap (λ (b : ArrayValue). b.items) stand.is) (ap (λ (b : ArrayValue). b.item_type) stand.is) fold.along shape type axis t.count t.step form refl stand.there stand.counted stand.apart stand.some
+      ∙ collected_same Nums shape (λ index. given (places_before shape index)) (λ index. total_of_line f t (places_before shape index)) (λ index inside. alike (places_before shape index))
+      ∙ ap (λ (rs : List (Result Item Kind)). with_items Nums shape (all_or_first_error rs)) (items_by_place shape (total_of_line f t))
+      ∙ ap (λ (k : ℕ). with_items Nums shape (all_or_first_error (map (total_of_line f t) (range_with_len 0 k)))) places_are

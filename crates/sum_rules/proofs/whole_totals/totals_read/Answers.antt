@@ -1,0 +1,54 @@
+use Rattle.std.proofs.Common.{◌≡◌, ◌∙◌, sym, ap, subst, Ok, Err}
+use Rattle.arrays_core.specs.declared.item.ItemType.TheVariants.{Nums}
+use Rattle.arrays_core.specs.Arrays.{ArrayValue, with_items}
+use Rattle.arrays_core.specs.Items.{all_or_first_error}
+use Rattle.scalar_fns.specs.declared.function.Scalar2.{Scalar2}
+use Rattle.index_region.specs.declared.delta.Delta.TheVariants.{Whole}
+use Rattle.index_region.specs.Checks.{form_of}
+use Rattle.operator_fns.specs.Reduce.{reduce_form, reduce_whole}
+use Rattle.change_rules.specs.Outcomes.{given}
+use Rattle.sum_rules.specs.Totals.{all_totals}
+use Rattle.sum_rules.proofs.WholeTotals.{function_is, places_are, some_lines, whole_is}
+use Rattle.sum_rules.proofs.whole_totals.totals_read.Goals as goal
+
+pub totals_of_all-requires-clause-places : goal.totals_of_all-requires-clause-places
+totals_of_all-requires-clause-places c =
+    let fold = c.args.fold in
+    let a = c.args.array.now in
+    let t = c.trees-trees.result.now.lines in
+    let form = subst (λ (b : ArrayValue). reduce_form fold.along b ≡ Ok (form_of c.in-Ok.form.0.items c.in-Ok.form.1)) c.again.ensures c.in-Ok.ensures.0 in
+    places_are fold a c.args.sums.now t c.requires c.trees-trees.ensures.lines c.in-Ok.form.0.items c.in-Ok.form.1 form
+
+pub totals_of_all-requires-clause-some : goal.totals_of_all-requires-clause-some
+totals_of_all-requires-clause-some c =
+    let fold = c.args.fold in
+    let a = c.args.array.now in
+    let t = c.trees-trees.result.now.lines in
+    let form = subst (λ (b : ArrayValue). reduce_form fold.along b ≡ Ok (form_of c.in-Ok.form.0.items c.in-Ok.form.1)) c.again.ensures c.in-Ok.ensures.0 in
+    some_lines fold a c.args.sums.now t c.requires c.trees-trees.ensures.lines c.in-Ok.form.0.items c.in-Ok.form.1 form
+
+pub returns-in-Ok-totals_of_all-clause-delta : goal.returns-in-Ok-totals_of_all-clause-delta
+returns-in-Ok-totals_of_all-clause-delta c =
+    let fold = c.args.fold in
+    let a = c.args.array.now in
+    let t = c.trees-trees.result.now.lines in
+    let form = subst (λ (b : ArrayValue). reduce_form fold.along b ≡ Ok (form_of c.in-Ok.form.0.items c.in-Ok.form.1)) c.again.ensures c.in-Ok.ensures.0 in
+    let same = c.trees-trees.ensures.function ∙ function_is fold a c.args.sums.now t c.requires c.trees-trees.ensures.lines c.in-Ok.form.0.items c.in-Ok.form.1 form in
+    let whole : reduce_whole fold.function fold.along a ≡ with_items Nums c.in-Ok.form.0.items (all_or_first_error (all_totals c.trees-trees.result.now.function t)) =
+    whole_is fold a c.args.sums.now t c.requires c.trees-trees.ensures.lines c.in-Ok.form.0.items c.in-Ok.form.1 form
+    ∙ ap (λ (f : Scalar2). with_items Nums c.in-Ok.form.0.items (all_or_first_error (all_totals f t))) (sym same) in
+    sym (ap (λ r. Whole (given r)) (whole ∙ c.in-Ok-totals_of_all.ensures.totals))
+
+pub returns-in-Err-Kind-clause-delta : goal.returns-in-Err-Kind-clause-delta
+returns-in-Err-Kind-clause-delta c =
+    let fold = c.args.fold in
+    let a = c.args.array.now in
+    let t = c.trees-trees.result.now.lines in
+    let form = subst (λ (b : ArrayValue). reduce_form fold.along b ≡ Ok (form_of c.in-Ok.form.0.items c.in-Ok.form.1)) c.again.ensures c.in-Ok.ensures.0 in
+    let same = c.trees-trees.ensures.function ∙ function_is fold a c.args.sums.now t c.requires c.trees-trees.ensures.lines c.in-Ok.form.0.items c.in-Ok.form.1 form in
+    let whole : reduce_whole fold.function fold.along a ≡ with_items Nums c.in-Ok.form.0.items (all_or_first_error (all_totals c.trees-trees.result.now.function t)) =
+    whole_is fold a c.args.sums.now t c.requires c.trees-trees.ensures.lines c.in-Ok.form.0.items c.in-Ok.form.1 form
+    ∙ ap (λ (f : Scalar2). with_items Nums c.in-Ok.form.0.items (all_or_first_error (all_totals f t))) (sym same) in
+    let told = rw c.in-Err-Kind.field-0-is at c.in-Err-Kind.ensures.totals in
+    let failed : reduce_whole fold.function fold.along a ≡ Err c.in-Err-Kind.kind = rw c.in-Err-Kind.kind-is (whole ∙ told) in
+    sym (ap (λ r. Whole (given r)) failed)

@@ -1,0 +1,112 @@
+//! The totals of all lines of an array, read from the trees of these lines.
+
+ghost use Rattle.std.specs.Prelude.{◌≡◌, ◌+◌, ◌≤◌, ◌<◌, ◌∷◌, [], false, Some, IfOk};
+ghost use Rattle.arrays_core.specs.declared.item.ItemType.TheVariants.{Nums};
+ghost use Rattle.arrays_core.specs.Arrays.{with_items, IsAnswerTo};
+ghost use Rattle.arrays_core.specs.Items.{all_or_first_error};
+ghost use Rattle.arrays_core.specs.Shapes.{size as size_of, IsWithinLimits};
+ghost use Rattle.index_region.specs.declared.delta.Delta.TheVariants.{Whole};
+ghost use Rattle.operator_fns.specs.SumTrees.{line_count};
+ghost use Rattle.change_core.specs.Meters.{ticked};
+ghost use Rattle.change_core.specs.RuleModels.{form_size};
+ghost use Rattle.change_rules.specs.Outcomes.{evaluation};
+ghost use Rattle.change_rules.specs.Nodes.{is_error};
+ghost use Rattle.sum_rules.specs.LineSums.{summed, length_along as long_along};
+ghost use Rattle.sum_rules.specs.Totals.{total_rule, all_totals, AreFoldsWithin, AreFolds};
+
+use crate::line_sums::{LineSums, length_along};
+use arrays_core::{ApplyFault, Array, Fault, Item, ItemType, Shape, size};
+use change_core::{Meter, Rule};
+use fold_trees::FoldTrees;
+use index_region::{Delta, Seen};
+use operator_fns::Reduce;
+use operator_rules::Ruled;
+use std::alloc::{AllocError, Global};
+
+/// The totals of all lines of these trees, as an array of this shape, or the first error among them.
+fn totals_of_all(
+    alloc: Global,
+    shape: &Shape,
+    trees: &FoldTrees,
+    meter: &mut Meter,
+) -> Result<Array, ApplyFault>
+    requires within { IsWithinLimits shape.now.items }
+    requires places { size_of shape.now.items ≡ line_count trees.now.lines }
+    requires some { 0 < line_count trees.now.lines }
+    ensures totals { IsAnswerTo (with_items Nums shape.now.items (all_or_first_error (all_totals trees.now.function trees.now.lines))) result }
+    ensures ticks { meter.new.ticks ≤ meter.old.ticks + size_of shape.now.items }
+    ensures exact { IfOk result (λ _. meter.new.ticks ≡ ticked meter.old.ticks (size_of shape.now.items)) }
+    ensures rises { meter.old.ticks ≤ meter.new.ticks }
+    ensures joins { meter.new.joins ≡ meter.old.joins }
+{
+    let mut totals = Array::filled(alloc, ItemType::Nums, shape)?;
+    for line in 0..trees.len() {
+        let total = trees.result(line);
+        meter.tick();
+        match total {
+            Ok(total) => totals.write_at(line as u32 + 1, Item::Num(total)),
+            Err(kind) => return Err(ApplyFault::Kind(kind)),
+        }
+    }
+    Ok(totals)
+}
+
+/// The totals of an array as a whole, of whose lines these are the folds, and what they cost. They are read from the trees; no join is
+/// counted.
+fn totals_read(
+    alloc: Global,
+    fold: Reduce,
+    array: &Seen,
+    sums: &LineSums,
+    meter: &mut Meter,
+) -> Result<(Delta, u32), AllocError>
+    requires { Some sums.now ≡ summed fold array.now }
+    ensures delta { IfOk result (λ r. r.0 ≡ Whole (evaluation (total_rule fold) (array.now ∷ []))) }
+    ensures cost { IfOk result (λ r. r.1 ≡ form_size ((total_rule fold).form (array.now ∷ []))) }
+    ensures ticks { meter.new.ticks ≤ meter.old.ticks + form_size ((total_rule fold).form (array.now ∷ [])) }
+    ensures exact { IfOk result (λ r. is_error r.0 ≡ false → meter.new.ticks ≡ ticked meter.old.ticks r.1) }
+    ensures rises { meter.old.ticks ≤ meter.new.ticks }
+    ensures joins { meter.new.joins ≡ meter.old.joins }
+{
+    let rule = Ruled { function: fold };
+    let form = match rule.shape(&[array.again()]) {
+        Ok(form) => form,
+        Err(kind) => return Ok((Delta::Whole(Err(Fault { kind, origin: None })), 0)),
+    };
+    let trees = sums.trees();
+    let cost = size(form.0.as_slice());
+    match totals_of_all(alloc, &form.0, trees, meter) {
+        Ok(totals) => Ok((Delta::Whole(Ok(totals)), cost)),
+        Err(ApplyFault::Kind(kind)) => {
+            Ok((Delta::Whole(Err(Fault { kind, origin: None })), cost))
+        }
+        Err(ApplyFault::NoMemory) => Err(AllocError),
+    }
+}
+
+/// The totals of an array as a whole, as their evaluation answers them, and what they cost: how many totals there are. They are read from
+/// the folds of its lines, which were made before: its items are not gone over again. A tree of a line was made in as many joins as the
+/// line has numbers, less one; these are counted here.
+pub fn read_totals_with_cost(
+    alloc: Global,
+    fold: Reduce,
+    array: &Seen,
+    sums: &LineSums,
+    meter: &mut Meter,
+) -> Result<(Delta, u32), AllocError>
+    requires { Some sums.now ≡ summed fold array.now }
+    ensures delta { IfOk result (λ r. r.0 ≡ Whole (evaluation (total_rule fold) (array.now ∷ []))) }
+    ensures cost { IfOk result (λ r. r.1 ≡ form_size ((total_rule fold).form (array.now ∷ []))) }
+    ensures ticks { meter.new.ticks ≤ meter.old.ticks + form_size ((total_rule fold).form (array.now ∷ [])) }
+    ensures exact { IfOk result (λ r. is_error r.0 ≡ false → meter.new.ticks ≡ ticked meter.old.ticks r.1) }
+    ensures rises { meter.old.ticks ≤ meter.new.ticks }
+    ensures joins { AreFoldsWithin (form_size ((total_rule fold).form (array.now ∷ []))) (long_along fold.along array.now.shape) meter.old.joins meter.new.joins }
+    ensures folds { IfOk result (λ r. is_error r.0 ≡ false → AreFolds r.1 (long_along fold.along array.now.shape) meter.old.joins meter.new.joins) }
+{
+    let long = length_along(fold.along, array.shape().as_slice());
+    let mut own = Meter::new();
+    let change = totals_read(alloc, fold, array, sums, &mut own)?;
+    own.count_joins(own.ticks() * u64::from(long.saturating_sub(1)));
+    meter.include(&own);
+    Ok(change)
+}
