@@ -206,4 +206,7 @@ def put_array(session, title, name, shape, items, each=1):
     bindings = session.journal.bindings
     taken = {*bindings, *(it for binding in bindings.values() for it in binding.references)}
     spare = next(it for it in map("∆{}".format, count(1)) if it not in taken)
-    session.change(title, lines_of_array(name, shape, items, spare, each), [(name, Binding(True))])
+    try:
+        session.change(title, lines_of_array(name, shape, items, spare, each), [(name, Binding(True))])
+    except Mistake as refused:
+        raise Mistake(f"{refused}: {named(shape[0], 'record')} of {shape[1]} are not taken in") from None

@@ -67,8 +67,9 @@ class Line:
 
     @property
     def opened(self):
-        """The line that )OPEN begins."""
-        return Line(OPENING.match(self.text)[2])
+        """The line that )OPEN begins, or the whole line where there is none."""
+        opening = OPENING.match(self.text)
+        return Line(opening[2] if opening else self.text)
 
     @property
     def references(self):

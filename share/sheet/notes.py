@@ -65,10 +65,15 @@ def of_slip(line):
     return [hint for looks, hint in DOUBTS if re.search(looks, line.code)][:1]
 
 
+def subject(answer):
+    """The line that was refused, or is an error: of )OPEN the one that it would have begun."""
+    return answer.line.opened if answer.line.kind == "open" else answer.line
+
+
 def culprit(session, answer):
     """The line in which the error arose: the formula of its origin, or the line itself."""
     binding = session.journal.bindings.get(answer.origin)
-    return Line(binding.text) if binding and binding.text else answer.line
+    return Line(binding.text) if binding and binding.text else subject(answer)
 
 
 def absent(name, names):
@@ -90,7 +95,7 @@ def of_value(session, answer):
 
 def of_cycle(session, answer):
     """The way from the name through formulas back to it."""
-    line = answer.line.opened if answer.line.kind == "open" else answer.line
+    line = subject(answer)
     ways, seen = [[line.name, it] for it in line.references], set()
     while ways:
         way = ways.pop(0)
@@ -104,14 +109,13 @@ def of_cycle(session, answer):
 
 def of_formula(session, answer):
     """The formula that cannot be edited."""
-    name = (answer.line.opened if answer.line.kind == "open" else answer.line).name
+    name = subject(answer).name
     text = without_comment(session.journal.bindings[name].text)
     return [f"{name} is a formula, {text}; )DATA {name}←{name} makes data of it, which can be edited"]
 
 
 def of_absent(session, answer):
-    name = (answer.line.opened if answer.line.kind == "open" else answer.line).name
-    return [absent(name, session.journal.bindings)]
+    return [absent(subject(answer).name, session.journal.bindings)]
 
 
 def of_shapes(session, answer):

@@ -34,10 +34,11 @@ class Session:
         try:
             if not self.program.is_in_step:
                 self.begin_again()
-            if Line(text).kind == "user":
-                self.command(text, place)
+            line = Line(text)
+            if line.kind == "user":
+                self.command(line, place)
             else:
-                self.answer(Line(text), place)
+                self.answer(line, place)
         except ProgramFailed as why:
             self.complain(place, text, f"PROGRAM FAILED: {why}")
             self.begin_again()
@@ -63,12 +64,12 @@ class Session:
         for it in notes.of_slip(line):
             self.tell(f"{place}: note: {it}" if place else f"  {it}")
 
-    def command(self, text, place):
+    def command(self, line, place):
         """Does what a line says that begins with ]."""
         try:
-            commands.run(self, text)
+            commands.run(self, line.text)
         except Mistake as mistake:
-            self.complain(place, text, str(mistake))
+            self.complain(place, line.text, str(mistake))
 
     def complain(self, place, text, what, said=()):
         """Tells of a line that was refused or is an error: where it stands, if in a script, and what is said of it besides."""
@@ -106,7 +107,7 @@ class Session:
             except ProgramFailed as why:
                 kept = storing.keep_unsaved(self.journal)
                 self.journal.mark_saved()
-                raise SystemExit(f"sheet: {why}; " + (f"the sheet is kept in {kept}" if kept else "the sheet was empty")) from None
+                raise SystemExit(f"sheet: {why}; " + (f"the sheet is kept in {kept}" if kept else "nothing was unsaved")) from None
         if lost:
             self.tell(f"  the changes that were open are given up: {lost}")
 

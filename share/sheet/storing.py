@@ -3,6 +3,7 @@
 import os
 import tempfile
 import time
+from itertools import product
 from pathlib import Path
 
 from .answers import FAULT
@@ -94,13 +95,12 @@ def keep_unsaved(journal):
     """Writes the lines of a sheet that was not saved into a new file, and returns that; None where there is nothing to keep."""
     if journal.is_saved or not journal.bindings:
         return None
-    begin = time.strftime("unsaved-%Y%m%d-%H%M%S")
-    for number in range(1, 1000):
-        file = state_folder() / f"{begin}-{number}.apl"
+    name = time.strftime("unsaved-%Y%m%d-%H%M%S")
+    for place, number in product((state_folder, Path.cwd, lambda: Path(tempfile.gettempdir())), range(1, 100)):
         try:
+            file = place() / f"{name}-{number}.apl"
             write(file, journal.lines, False)
-            return file
-        except Mistake:
-            if not file.exists():
-                raise
-    return None
+        except (Mistake, OSError):
+            continue
+        return file
+    raise SystemExit("sheet: the sheet was not saved, and there is no place where a file can be written")
