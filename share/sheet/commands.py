@@ -108,12 +108,14 @@ def load(session, file):
     if session.depth == DEEPEST:
         raise Mistake(f"{file} is not loaded: {DEEPEST} files are being loaded already")
     first, is_saved = len(session.journal.changes), session.journal.is_saved
-    session.depth += 1
     try:
-        with open(file, "rb") as source:
-            session.run(file, source)
+        source = open(file, "rb")
     except OSError as error:
         raise Mistake(f"{file} cannot be read: {error.strerror}") from None
+    session.depth += 1
+    try:
+        with source:
+            session.run(file, source)
     finally:
         session.depth -= 1
         session.journal.join(first, f"]load {file}")
