@@ -43,7 +43,7 @@ class Session:
             self.complain(place, text, f"PROGRAM FAILED: {why}")
             self.begin_again()
         except KeyboardInterrupt:
-            self.complain(place, text, "STOPPED")
+            self.complain(place, text, "STOPPED" if place else "\nSTOPPED")  # the terminal has shown ^C
             self.begin_again()
             if place:
                 raise Stopped from None
