@@ -106,17 +106,18 @@ class Program:
     def write(self, lines):
         """Writes each line, and a fence behind each; a fence alone where there is no line."""
         self.is_in_step = False
-        given = "\n".join(lines).encode("utf-8", "surrogateescape")
-        if b"\xf4" in given:
-            self.given |= {it.decode("utf-8", "replace") for it in OF_PLANE.findall(given)}
+        given = [f"{it}\n".encode("utf-8", "surrogateescape") for it in lines] or [b""]
+        for line in given:
+            if b"\xf4" in line:
+                self.given |= {it.decode("utf-8", "replace") for it in OF_PLANE.findall(line)}
         sign = next(it for it in map(chr, range(HIGHEST, 0x100000, -1)) if it not in self.given)
         fenced = []
-        for line in lines or [None]:
+        for line in given:
             self.number += 1
             self.fence = f"{sign}{self.number}"
-            fenced += [f"'{self.fence}'\n"] if line is None else [f"{line}\n'{self.fence}'\n"]
+            fenced += [line, f"'{self.fence}'\n".encode()]
         try:
-            self.process.stdin.write("".join(fenced).encode("utf-8", "surrogateescape"))
+            self.process.stdin.write(b"".join(fenced))
             self.process.stdin.flush()
         except OSError:
             self.fail()

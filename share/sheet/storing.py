@@ -1,7 +1,7 @@
 """Sheets in files: the lines that make a sheet, and how they are written without losing what is there."""
 
+import contextlib
 import os
-import tempfile
 import time
 from itertools import product
 from pathlib import Path
@@ -49,38 +49,36 @@ def lines_of_sheet(program, bindings):
 def write(file, lines, may_replace):
     """Writes the lines beside the file, and gives them its name once they are all there. A Mistake where a file of that name may not go."""
     target = Path(os.path.realpath(file))
+    there = f"{file} is there already; ]save {file} --replace puts the sheet in its place"
     if target.exists() and not may_replace:
-        raise Mistake(f"{file} is there already; ]save {file} --replace puts the sheet in its place")
+        raise Mistake(there)
+    beside = target.with_name(f".{target.name}-{os.getpid()}")
     try:
-        with tempfile.NamedTemporaryFile("wb", dir=target.parent, prefix=f".{target.name}-", delete=False) as beside:
-            try:
-                beside.write("".join(f"{it}\n" for it in lines).encode("utf-8", "surrogateescape"))
-                beside.flush()
-                os.fsync(beside.fileno())
-                put_in_place(beside.name, target, may_replace)
-            except BaseException:
-                os.unlink(beside.name)
-                raise
+        with open(beside, "xb") as written:
+            written.write("".join(f"{it}\n" for it in lines).encode("utf-8", "surrogateescape"))
+            written.flush()
+            os.fsync(written.fileno())
+        put_in_place(beside, target, may_replace)
     except FileExistsError:
-        raise Mistake(f"{file} is there already; ]save {file} --replace puts the sheet in its place") from None
+        raise Mistake(there) from None
     except OSError as error:
         raise Mistake(f"{file} cannot be written: {error.strerror}") from None
+    finally:
+        with contextlib.suppress(OSError):  # it has its name by now, or was never there
+            beside.unlink()
 
 
 def put_in_place(beside, target, may_replace):
-    """Gives a file that is written its name and the rights that a new file has, or those of the file whose place it takes."""
-    mask = os.umask(0)
-    os.umask(mask)
-    os.chmod(beside, target.stat().st_mode & 0o777 if target.exists() else 0o666 & ~mask)
+    """Gives a file that is written its name; where it takes the place of another one, that one's rights too."""
     if may_replace:
+        if target.exists():
+            os.chmod(beside, target.stat().st_mode & 0o777)
         os.replace(beside, target)
         return
     try:
         os.link(beside, target)
     except PermissionError:  # a file system that knows no second names
         os.rename(beside, target)
-    else:
-        os.unlink(beside)
 
 
 def state_folder():
@@ -96,7 +94,7 @@ def keep_unsaved(journal):
     if journal.is_saved or not journal.bindings:
         return None
     name = time.strftime("unsaved-%Y%m%d-%H%M%S")
-    for place, number in product((state_folder, Path.cwd, lambda: Path(tempfile.gettempdir())), range(1, 100)):
+    for place, number in product((state_folder, Path.cwd, lambda: Path(os.environ.get("TMPDIR", "/tmp"))), range(1, 100)):
         try:
             file = place() / f"{name}-{number}.apl"
             write(file, journal.lines, False)
