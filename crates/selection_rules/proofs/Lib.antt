@@ -2,3 +2,4 @@ pub mod Intervals
 pub mod Copied
 pub mod Positions
 pub mod BoxCases
+pub mod BoxDigits

@@ -24,15 +24,16 @@ use Rattle.selection_rules.specs.Encode.{encode_rule, radices_box, radices_read}
 use Rattle.selection_rules.specs.Reads.{all_same, item_same, one_read, place_read, with_axes}
 
 -- what the checks have shown
-record EncodeFacts (a b : ArrayValue) (f : Form) : Type 0 where
-  list : length a.shape ≤ 1
-  shaped : f.shape ≡ a.shape ++ b.shape
+pub record EncodeFacts (a b : ArrayValue) (f : Form) : Type 0 where
+  pub list : length a.shape ≤ 1
+  pub shaped : f.shape ≡ a.shape ++ b.shape
+  pub typed : f.item_type ≡ Nums
 
-encode_facts : (a b : ArrayValue) (f : Form) → encode_form a b ≡ Ok f → EncodeFacts a b f
+pub encode_facts : (a b : ArrayValue) (f : Form) → encode_form a b ≡ Ok f → EncodeFacts a b f
 encode_facts a b f e =
     let ranks = gives (is_list a) _ _ f e in
     let typed = gives (counts_as_numbers a && counts_as_numbers b) _ _ f ranks.is in
-    record { list = leb-true (length a.shape) 1 ranks.test; shaped = ap (λ (g : Form). g.shape) (limited_gives (a.shape ++ b.shape) Nums f typed.is) }
+    record { list = leb-true (length a.shape) 1 ranks.test; shaped = ap (λ (g : Form). g.shape) (limited_gives (a.shape ++ b.shape) Nums f typed.is); typed = ap (λ (g : Form). g.item_type) (limited_gives (a.shape ++ b.shape) Nums f typed.is) }
 
 -- a digit hangs on its own radix and those after it
 digit_same : (xs ys : List Item) (d : Item) (k : ℕ) (z : ℤ) → length xs ≡ length ys → 1 ≤ k → k ≤ length ys → ((j : ℕ) → k ≤ j + 1 → j < length ys → get_or xs j d ≡ get_or ys j d)

@@ -21,3 +21,4 @@ pub mod ReplicateLaw
 pub mod LeastBoxes
 pub mod IndexLaw
 pub mod IndexGrowth
+pub mod Digits

@@ -6,8 +6,9 @@ ghost use Rattle.change_core.proofs.Growing.{never_grows};
 ghost use Rattle.selection_rules.specs.Encode.{encode_rule};
 ghost use Rattle.selection_rules.specs.EncodeLaw.{encode_tight};
 
+use crate::digits::digits_at_once;
 use crate::ruled::Ruled;
-use arrays_core::{ApplyFault, Array};
+use arrays_core::{ApplyFault, Array, ItemType};
 use change_core::{Announced, Lawful};
 use index_region::{IndexBox, Intervals, Seen};
 use selection_fns::Encode;
@@ -46,6 +47,22 @@ impl Announced for Ruled<Encode> {
 
     fn whole(&self, alloc: Global, args: &[Seen]) -> Result<Array, ApplyFault> {
         self.function.apply(alloc, args)
+    }
+
+    fn items_at_once(
+        &self,
+        alloc: Global,
+        args: &[Seen],
+        _shape: &[u32],
+        _item_type: ItemType,
+        region: &IndexBox,
+    ) -> Option<Result<Array, ApplyFault>> {
+        let (radices, array) = (&args[0], &args[1]);
+        if radices.shape().len() != 1 {
+            return None;
+        }
+        let digits = digits_at_once(alloc, radices, array, region)?;
+        Some(Ok(digits))
     }
 
     ghost counted = { λ _. Prim.search rules };

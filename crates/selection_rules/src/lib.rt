@@ -2,6 +2,7 @@
 #![tactic(auto)]
 
 mod decode;
+mod digits;
 mod encode;
 mod index;
 mod index_generator;
