@@ -1,5 +1,5 @@
 -- The digits in a box, taken from those of its numbers by the radices from its first one on.
-use Rattle.std.proofs.Common.{◌≡◌, ℕ, zero, suc, ◌+◌, ◌-◌, ◌*◌, ◌/◌, ◌%◌, ◌<◌, ◌≤◌, IsTrue, ℤ, pos, List, [], ◌∷◌, ◌++◌, length, get_or, map, take, drop, Result, Ok, Err, refl, ap, sym, ◌∙◌, arith}
+use Rattle.std.proofs.Common.{◌≡◌, ℕ, ◌+◌, ◌-◌, ◌*◌, ◌/◌, ◌%◌, ◌<◌, ◌≤◌, IsTrue, ℤ, pos, List, [], ◌∷◌, ◌++◌, length, get_or, map, take, drop, Result, Ok, Err, refl, ap, sym, ◌∙◌, arith}
 use Rattle.std.specs.List.{range_with_len}
 use Rattle.std.proofs.lemmas.Bool.{and_parts, leb-true, false≢true}
 use Rattle.std.proofs.lemmas.List.{length-map, length-take, length-drop, get_or-take, get_or-drop, drop-drop, drop-map, get_or-map as get_or-map_inside, take_all}
@@ -11,7 +11,7 @@ use Rattle.arrays_core.specs.declared.item.Item.TheVariants.{Num}
 use Rattle.arrays_core.specs.declared.item.ItemType.TheVariants.{Nums}
 use Rattle.arrays_core.specs.declared.item.Kind.{Kind}
 use Rattle.arrays_core.specs.declared.item.Kind.TheVariants.{Domain}
-use Rattle.arrays_core.specs.Items.{all_or_first_error, after, and_then, fill}
+use Rattle.arrays_core.specs.Items.{all_or_first_error, and_then, fill}
 use Rattle.arrays_core.specs.Shapes.{size, indices, index_after, places_before}
 use Rattle.arrays_core.specs.Arrays.{ArrayValue, collect, with_items, item_of}
 use Rattle.arrays_core.proofs.Order.{length-indices, get_or-indices}
@@ -25,6 +25,7 @@ use Rattle.change_core.specs.Parts.{items_in}
 use Rattle.selection_fns.specs.Encode.{carried_through, digit, encode_form, encode_item, encode_whole}
 use Rattle.selection_rules.specs.Digits.{AreColumns}
 use Rattle.selection_rules.specs.EncodeLaw.{encode_facts}
+use Rattle.selection_rules.proofs.Entries.{entry_of, from_entries, long_entries}
 
 -- ---- the box
 
@@ -65,39 +66,6 @@ pub columns_in : (s : Interval) (region : List Interval) → s.0 ≤ s.1 → 0 <
 columns_in s region order some =
     let e : box_size (s ∷ region) ≡ box_size region * (s.1 + 1 - s.0) + 0 = omega arith in
     ap (λ n. n / (s.1 + 1 - s.0)) e ∙ div-mul-add (box_size region) (s.1 + 1 - s.0) 0 (omega arith)
-
--- ---- lists of results
-
--- a list of results without errors, entry by entry
-entry_of : {A E : Type 0} (rs : List (Result A E)) (xs : List A) (k : ℕ) (r : Result A E) (d : A) → all_or_first_error rs ≡ Ok xs → k < length rs → get_or rs k r ≡ Ok (get_or xs k d)
-entry_of [] xs k r d h below = absurd (omega arith)
-entry_of (Err e ∷ rs) xs k r d h below = cc
-entry_of {A} {E} (Ok x ∷ rs) xs k r d h below = decide (all_or_first_error rs) refl h k below (λ rest made j inside. entry_of rs rest j r d made inside)
-  where
-    decide : (all : Result (List A) E) → all_or_first_error rs ≡ all → after x all ≡ Ok xs → (k : ℕ) → k < length (Ok x ∷ rs)
-        → ((rest : List A) → all_or_first_error rs ≡ Ok rest → (j : ℕ) → j < length rs → get_or rs j r ≡ Ok (get_or rest j d)) → get_or (Ok x ∷ rs) k r ≡ Ok (get_or xs k d)
-    decide (Err e) made h k below later = cc
-    decide (Ok rest) made h zero below later = let is : x ∷ rest ≡ xs = cc in ap (λ ys. Ok (get_or ys 0 d)) is
-    decide (Ok rest) made h (suc k) below later = let is : x ∷ rest ≡ xs = cc in later rest made k (omega arith) ∙ ap (λ ys. Ok (get_or ys (suc k) d)) is
-
--- entries without errors are such a list
-from_entries : {A E : Type 0} (rs : List (Result A E)) (xs : List A) (r : Result A E) (d : A) → length rs ≡ length xs → ((k : ℕ) → k < length xs → get_or rs k r ≡ Ok (get_or xs k d)) → all_or_first_error rs ≡ Ok xs
-from_entries [] [] r d long each = refl
-from_entries [] (x ∷ xs) r d long each = absurd (omega arith)
-from_entries (e ∷ rs) [] r d long each = absurd (omega arith)
-from_entries (e ∷ rs) (x ∷ xs) r d long each =
-    let here : e ≡ Ok x = each 0 (omega arith) in
-    let rest = from_entries rs xs r d (omega arith) (λ k below. each (suc k) (omega arith)) in
-    rw (here, rest) refl
-
-long_entries : {A E : Type 0} (rs : List (Result A E)) (xs : List A) → all_or_first_error rs ≡ Ok xs → length xs ≡ length rs
-long_entries [] xs h = let none : xs ≡ [] = cc in rw none refl
-long_entries (Err e ∷ rs) xs h = cc
-long_entries {A} {E} (Ok x ∷ rs) xs h = decide (all_or_first_error rs) refl h (λ rest made. long_entries rs rest made)
-  where
-    decide : (all : Result (List A) E) → all_or_first_error rs ≡ all → after x all ≡ Ok xs → ((rest : List A) → all_or_first_error rs ≡ Ok rest → length rest ≡ length rs) → length xs ≡ suc (length rs)
-    decide (Err e) made h later = cc
-    decide (Ok rest) made h later = let is : x ∷ rest ≡ xs = cc in ap length (sym is) ∙ ap suc (later rest made)
 
 -- ---- the digits
 

@@ -22,3 +22,4 @@ pub mod LeastBoxes
 pub mod IndexLaw
 pub mod IndexGrowth
 pub mod Digits
+pub mod WholeBox

@@ -7,7 +7,8 @@ ghost use Rattle.selection_rules.specs.IndexOf.{index_of_rule};
 ghost use Rattle.selection_rules.specs.IndexOfLaw.{index_of_tight};
 
 use crate::ruled::Ruled;
-use arrays_core::{ApplyFault, Array};
+use crate::whole_box::{is_small, items_of_whole};
+use arrays_core::{ApplyFault, Array, ItemType};
 use change_core::{Announced, Lawful};
 use index_region::{IndexBox, Intervals, Seen};
 use selection_fns::IndexOf;
@@ -41,6 +42,21 @@ impl Announced for Ruled<IndexOf> {
 
     fn whole(&self, alloc: Global, args: &[Seen]) -> Result<Array, ApplyFault> {
         self.function.apply(alloc, args)
+    }
+
+    fn items_at_once(
+        &self,
+        alloc: Global,
+        args: &[Seen],
+        shape: &[u32],
+        item_type: ItemType,
+        region: &IndexBox,
+    ) -> Option<Result<Array, ApplyFault>> {
+        if is_small(region) {
+            return None;
+        }
+        let answer = self.whole(alloc, args);
+        items_of_whole(self, alloc, args, answer, shape, item_type, region)
     }
 
     ghost counted = { λ _. Prim.search rules };

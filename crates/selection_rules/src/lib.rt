@@ -11,5 +11,6 @@ mod member;
 mod replicate;
 mod ruled;
 mod shape;
+mod whole_box;
 
 pub use ruled::Ruled;

@@ -12,7 +12,8 @@ ghost use Rattle.selection_rules.specs.Replicate.{replicate_rule, replicate_box,
 ghost use Rattle.selection_rules.specs.ReplicateLaw.{replicate_tight};
 
 use crate::ruled::Ruled;
-use arrays_core::{ApplyFault, Array};
+use crate::whole_box::{is_small, items_of_whole};
+use arrays_core::{ApplyFault, Array, ItemType};
 use change_core::{Announced, Lawful};
 use index_region::{Along, IndexBox, Intervals, Seen};
 use selection_fns::Replicate;
@@ -122,6 +123,21 @@ impl Announced for Ruled<Replicate> {
 
     fn whole(&self, alloc: Global, args: &[Seen]) -> Result<Array, ApplyFault> {
         self.function.apply(alloc, args)
+    }
+
+    fn items_at_once(
+        &self,
+        alloc: Global,
+        args: &[Seen],
+        shape: &[u32],
+        item_type: ItemType,
+        region: &IndexBox,
+    ) -> Option<Result<Array, ApplyFault>> {
+        if is_small(region) {
+            return None;
+        }
+        let answer = self.whole(alloc, args);
+        items_of_whole(self, alloc, args, answer, shape, item_type, region)
     }
 
     ghost counted = { λ _. Prim.search rules };
