@@ -21,6 +21,7 @@ SIDE_BY_SIDE = re.compile(rf"{NAME}[ \t]+(?:{NAME}|[0-9¯'(])|[0-9)'][ \t]+(?:{N
 SLIPS = [
     (r"^⇒", "⇒ marks what a line of the manual prints: leave such lines out"),
     (r'"', "a text stands in single quotes: 'abc'"),
+    (r"`", "a backquote and a key are a symbol where ]keys shows one; here the backquote itself was typed"),
     (r"<-|:=", "the arrow is one sign, ←, by the keys `["),
     (r"[0-9]\.[0-9]", "numbers are whole: there is no decimal point; keep cents for euros, for instance"),
     (rf"^{NAME}\s*\[.*←\s*-\s*[0-9]|^\)\s*ROW\b.*-\s*[0-9]", "a negative number begins with the high minus: ¯5, by the keys `2"),
