@@ -1,4 +1,4 @@
-//! Plain Rust for bench/whole: what each expression gives, again and again. Called with the name of an expression and a count.
+//! Plain Rust for bench/program/whole: what each expression gives, again and again. Called with the name of an expression and a count.
 use std::hint::black_box;
 
 const SIDE: usize = 1024;

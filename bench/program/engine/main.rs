@@ -1,4 +1,4 @@
-//! A live sheet as someone would write it by hand in plain Rust for a few forms of lines: what bench/cells compares edits of one cell
+//! A live sheet as someone would write it by hand in plain Rust for a few forms of lines: what bench/program/cells compares edits of one cell
 //! and added rows with. It reads lines from standard input and answers them as aplsheet does:
 //!
 //!     )DATA N←E     N←E     N[i]←k     N[i;j]←k     )ROW N k     )ROW N k k k     E

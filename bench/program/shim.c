@@ -1,5 +1,5 @@
 /* Counts how often the program that it is loaded into asks for memory, and writes the count to the file that ALLOCATIONS names when the
-   program ends. bench/cells builds it and loads it by LD_PRELOAD. */
+   program ends. bench/program/cells builds it and loads it by LD_PRELOAD. */
 #include <stdio.h>
 #include <stdlib.h>
 
