@@ -1,7 +1,7 @@
 -- A change from its front and what comes after it.
 use Rattle.std.proofs.Common.{◌≡◌, ℕ, false, ◌≤◌, Some, None, Result, Ok, Err, List, [], ◌∷◌, length, refl, sym, ap, ◌∙◌, subst, arith, inl, inr}
 use Rattle.std.specs.Prelude.{ℤ}
-use Rattle.std.specs.Global.{Vec}
+use Rattle.smallvec.specs.SmallVec.{SmallVec}
 use Rattle.apl_tokens.specs.Lexemes.{Lexeme, Named, Sign}
 use Rattle.apl_tokens.specs.declared.name.Name.{Name}
 use Rattle.apl_expr.specs.Limits.{most_tokens, most_height, most_nodes}
@@ -104,7 +104,7 @@ module _ (name : Name) (us : List Lexeme) (short : length us ≤ most_tokens) wh
 
 -- the edit of a cell
 module _ (name : Name) (us : List Lexeme) where
-  pub cell_ok : (ps : Vec ℤ) (l : code.Literal) → EditGives (Ok (ps, l)) (edits us (Some (Open []))) → IsChangeOf (Named name ∷ Sign 0x5b ∷ us) (Ok (changed.Cell name ps l))
+  pub cell_ok : (ps : SmallVec ℤ) (l : code.Literal) → EditGives (Ok (ps, l)) (edits us (Some (Open []))) → IsChangeOf (Named name ∷ Sign 0x5b ∷ us) (Ok (changed.Cell name ps l))
   cell_ok ps l given = let x = edit_correct us ps.items (literal_of l) given.0 in (cell x.1 x.2, λ no. no, given.1)
 
   pub cell_err : (f : ParseFault) → EditGives (Err f) (edits us (Some (Open []))) → IsChangeOf (Named name ∷ Sign 0x5b ∷ us) (Err f)

@@ -1,7 +1,7 @@
 -- One lexeme more of an edit.
 use Rattle.std.proofs.Common.{◌≡◌, ℕ, ◌+◌, ◌<◌, ◌≤◌, subst, Option, Some, None, Result, Err, List, [], ◌∷◌, length, drop, get_or, sym, ap, ◌∙◌, refl, drop-cons, add-one, arith, Bool, true, false}
 use Rattle.std.specs.Prelude.{ℤ, ◌==◌}
-use Rattle.std.specs.Global.{Vec}
+use Rattle.smallvec.specs.SmallVec.{SmallVec}
 use Rattle.apl_expr.specs.declared.expr.Literal as code
 use Rattle.std.proofs.Math.ListN.{drop_of_length-le}
 use Rattle.apl_tokens.specs.declared.token.Spanned.{Spanned}
@@ -31,7 +31,7 @@ failed Limit ts i x s w h is so_far fault = fault
 failed NoMemory ts i x s w h is so_far fault = tt
 
 -- the tokens are read
-pub finished : (result : Result (Vec ℤ × code.Literal) ParseFault) (ts : List Spanned) (i : ℕ) (s : Edit) (w : Option Written) → length ts ≤ i → edits (lexemes (drop i ts)) (Some s) ≡ w → EditGives result (edit_end s) → EditGives result w
+pub finished : (result : Result (SmallVec ℤ × code.Literal) ParseFault) (ts : List Spanned) (i : ℕ) (s : Edit) (w : Option Written) → length ts ≤ i → edits (lexemes (drop i ts)) (Some s) ≡ w → EditGives result (edit_end s) → EditGives result w
 unfolding edits
 finished result ts i s w h so_far given = subst (λ (o : Option Written). EditGives result o) (sym (ap (λ (xs : List Spanned). edits (lexemes xs) (Some s)) (drop_of_length-le ts h)) ∙ so_far) given
 

@@ -1,7 +1,7 @@
 -- The reader of a cell's edit as a machine: it reads the lexemes after `NAME [`, one at a time. A literal alone is read
 -- as what comes after `←`.
 use Rattle.std.specs.Prelude.{◌≡◌, IsTrue, ℕ, ℤ, Option, Some, None, Result, Ok, Err, List, [], ◌∷◌, ◌++◌, if◌then◌else◌, ◌==◌}
-use Rattle.std.specs.Global.{Vec}
+use Rattle.smallvec.specs.SmallVec.{SmallVec}
 use Rattle.apl_expr.specs.declared.expr.Literal as literal
 use Rattle.apl_expr.specs.Trees.{Literal, Numbers, Text, literal_of, is_plain}
 use Rattle.apl_tokens.specs.Lexemes.{Lexeme, Number, Characters, Named, Sign}
@@ -95,7 +95,7 @@ EditSteps (Err Limit) o = ⊥
 EditSteps (Err NoMemory) o = Unit {0}
 
 -- the same for the whole
-abbrev pub EditGives : Result (Vec ℤ × literal.Literal) ParseFault → Option Written → Type 0
+abbrev pub EditGives : Result (SmallVec ℤ × literal.Literal) ParseFault → Option Written → Type 0
 EditGives (Ok w) o = (o ≡ Some (Write w.0.items (literal_of w.1))) × IsTrue (is_plain w.1)
 EditGives (Err Syntax) o = o ≡ None
 EditGives (Err Limit) o = ⊥

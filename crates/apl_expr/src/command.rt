@@ -1,8 +1,9 @@
 //! Lines: what each asks for.
 
-ghost use Rattle.std.specs.Prelude.{◌≡◌, ◌+◌, ◌<◌, ◌≤◌, ◌∷◌, length, None, Some, MatchOption};
+ghost use Rattle.std.specs.Prelude.{◌≡◌, ◌+◌, ◌<◌, ◌≤◌, ◌∷◌, ℕ, List, length, None, Some, Ok, MatchOption};
 ghost use Rattle.std.specs.Str.{chars};
 ghost use Rattle.apl_tokens.specs.Lexemes.{lexemes, Named, Sign};
+ghost use Rattle.apl_tokens.specs.NumberEdits.{IsNumberEdit};
 ghost use Rattle.apl_tokens.specs.Signs.{left_arrow, right_parenthesis, left_bracket};
 ghost use Rattle.apl_expr.specs.Limits.{most_tokens};
 ghost use Rattle.apl_expr.specs.Lines.{data_word, row_word, erase_word, names_word, cost_word, csv_word, open_word, step_word, commit_word, drop_word, IsCommand};
@@ -15,7 +16,9 @@ use crate::expr::{Expr, Literal};
 use crate::fault::{LineFault, ParseFault};
 use crate::limits::MOST_TOKENS;
 use crate::parser::parse;
-use apl_tokens::{Name, Spanned, Token, TokenFault, tokens};
+use apl_tokens::{
+    CellPositions, Name, NumberEdit, Spanned, Token, TokenFault, number_edit, tokens,
+};
 use std::alloc::Global;
 
 /// A change of the sheet that a line asks for.
@@ -26,7 +29,7 @@ pub enum Change {
     /// `) DATA NAME ← expr`: the name is given the value that the expression has now.
     Data(Name, Expr),
     /// `NAME [ positions ] ← literal`: the item at the positions becomes the literal's.
-    Cell(Name, Vec<i64>, Literal),
+    Cell(Name, CellPositions, Literal),
     /// `) ROW NAME literal`: the name's array gains the literal's items at its end, as one place more along its first axis.
     Row(Name, Literal),
     /// `) ERASE NAME`: the name is taken out.
@@ -363,13 +366,8 @@ fn command_of(alloc: Global, tokens: &[Spanned]) -> Result<Command, ParseFault>
     }
 }
 
-/// What a line of text asks for.
-///
-/// The first token fault from the left comes before all else. Then more than 4,096 tokens are `Limit`, whatever they are;
-/// then tokens that are no line of the grammar are `Syntax`; then an expression whose tree is more than 256 high or has
-/// more than 512 nodes is `Limit`. `DATA`, `ROW`, `ERASE`, `NAMES`, `COST`, `CSV`, `OPEN`, `STEP`, `COMMIT` and `DROP` are
-/// words only after `)`, and ordinary names elsewhere.
-pub fn line(alloc: Global, text: &str) -> Result<Command, LineFault>
+/// What the tokens of a text ask for.
+fn line_of_tokens(alloc: Global, text: &str) -> Result<Command, LineFault>
     ensures { IsAnswered (chars text.now) result }
 {
     match tokens(alloc, text) {
@@ -382,5 +380,29 @@ pub fn line(alloc: Global, text: &str) -> Result<Command, LineFault>
         Err(TokenFault::Syntax(_)) => Err(LineFault::Syntax),
         Err(TokenFault::Limit(_)) => Err(LineFault::Limit),
         Err(TokenFault::NoMemory) => Err(LineFault::NoMemory),
+    }
+}
+
+/// The command of an edit that was read from the bytes of a text.
+fn cell_of(edit: NumberEdit) -> Command
+    ensures { (cs : List ℕ) → IsNumberEdit cs edit → IsAnswered cs (Ok result) }
+{
+    Command::Change(Change::Cell(edit.name, edit.positions, Literal::Num(edit.number)))
+}
+
+/// What a line of text asks for.
+///
+/// The first token fault from the left comes before all else. Then more than 4,096 tokens are `Limit`, whatever they are;
+/// then tokens that are no line of the grammar are `Syntax`; then an expression whose tree is more than 256 high or has
+/// more than 512 nodes is `Limit`. `DATA`, `ROW`, `ERASE`, `NAMES`, `COST`, `CSV`, `OPEN`, `STEP`, `COMMIT` and `DROP` are
+/// words only after `)`, and ordinary names elsewhere.
+///
+/// The most usual edit, of an item by a number and without blanks, is read from the bytes of the text, and takes no memory.
+pub fn line(alloc: Global, text: &str) -> Result<Command, LineFault>
+    ensures { IsAnswered (chars text.now) result }
+{
+    match number_edit(alloc, text) {
+        Some(edit) => Ok(cell_of(edit)),
+        None => line_of_tokens(alloc, text),
     }
 }

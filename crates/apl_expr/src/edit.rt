@@ -8,17 +8,18 @@ ghost use Rattle.apl_expr.specs.Trees.{Numbers};
 use crate::expr::Literal;
 use crate::fault::ParseFault;
 use crate::plain::{literal, text_literal};
-use apl_tokens::{Spanned, Token};
+use apl_tokens::{CellPositions, Spanned, Token};
+use smallvec::SmallVec;
 use std::alloc::Global;
 
 /// What was read last, with the positions so far: `[` or `;`, a position, `]`, `←` and the numbers so far, or a text.
 #[derive(Drop)]
 enum Edit {
-    Open(Vec<i64>),
-    Position(Vec<i64>),
-    Closed(Vec<i64>),
-    Items(Vec<i64>, Vec<i64>),
-    Quoted(Vec<i64>, Vec<char>),
+    Open(CellPositions),
+    Position(CellPositions),
+    Closed(CellPositions),
+    Items(CellPositions, Vec<i64>),
+    Quoted(CellPositions, Vec<char>),
 }
 
 /// Reads a text.
@@ -67,7 +68,7 @@ fn edit_step(alloc: Global, token: &Token, edit: Edit) -> Result<Edit, ParseFaul
 }
 
 /// The positions and the literal where the tokens end.
-fn edit_end(edit: Edit) -> Result<(Vec<i64>, Literal), ParseFault>
+fn edit_end(edit: Edit) -> Result<(CellPositions, Literal), ParseFault>
     ensures { EditGives result (edit_end (edit_of edit)) }
 {
     match edit {
@@ -87,7 +88,7 @@ fn read_on(
     alloc: Global,
     before: Edit,
     tokens: &[Spanned],
-) -> Result<(Vec<i64>, Literal), ParseFault>
+) -> Result<(CellPositions, Literal), ParseFault>
     ensures { EditGives result (edits (lexemes tokens.now) (Some (edit_of before))) }
 {
     let mut edit = before;
@@ -113,12 +114,14 @@ fn one_number(tokens: &[Spanned]) -> Option<(i64, i64)>
     }
 }
 
-/// The positions and the literal of the edit that the tokens are. The most usual one is read by itself: it takes memory for its position
-/// alone.
-pub(crate) fn edited(alloc: Global, tokens: &[Spanned]) -> Result<(Vec<i64>, Literal), ParseFault>
+/// The positions and the literal of the edit that the tokens are. The most usual one is read by itself: it takes no memory.
+pub(crate) fn edited(
+    alloc: Global,
+    tokens: &[Spanned],
+) -> Result<(CellPositions, Literal), ParseFault>
     ensures { EditGives result (edits (lexemes tokens.now) (Some (Open []))) }
 {
-    let mut positions = Vec::new(alloc);
+    let mut positions = SmallVec::new(alloc);
     if let Some((position, number)) = one_number(tokens) {
         positions.push(position)?;
         return Ok((positions, Literal::Num(number)));
@@ -130,7 +133,7 @@ pub(crate) fn edited(alloc: Global, tokens: &[Spanned]) -> Result<(Vec<i64>, Lit
 pub(crate) fn whole_literal(alloc: Global, tokens: &[Spanned]) -> Result<Literal, ParseFault>
     ensures { LiteralGives result (edits (lexemes tokens.now) (Some (Items [] []))) }
 {
-    let nothing_yet = Edit::Items(Vec::new(alloc), Vec::new(alloc));
+    let nothing_yet = Edit::Items(SmallVec::new(alloc), Vec::new(alloc));
     let (_, found) = read_on(alloc, nothing_yet, tokens)?;
     Ok(found)
 }

@@ -5,3 +5,4 @@ pub mod Sound
 pub mod Complete
 pub mod Names
 pub mod Order
+pub mod EditBytes

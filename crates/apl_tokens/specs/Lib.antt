@@ -10,3 +10,5 @@ pub mod Spans
 -- What proofs and bodies use.
 pub mod Scanner
 pub mod Order
+pub mod NumberEdits
+pub mod Reading

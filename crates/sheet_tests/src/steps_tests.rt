@@ -5,7 +5,7 @@ ghost use Rattle.sheet_recalc.specs.Pending.{IsPendingOn};
 
 use crate::fixtures::{are_numbers, tree_of};
 use apl_expr::{Change, Literal};
-use apl_tokens::Name;
+use apl_tokens::{CellPositions, Name};
 use arrays_core::Array;
 use sheet_recalc::{Pending, Sheet};
 use std::alloc::Global;
@@ -97,7 +97,7 @@ fn defined_in_steps(alloc: Global, sheet: &mut Sheet, name: &str, text: &str) ->
 
 /// The edit that makes the second item of `D` 10.
 fn cell_edit(alloc: Global) -> Option<Change> {
-    let positions = vec![in alloc; 2].ok()?;
+    let positions = CellPositions::from_slice(alloc, &[2]).ok()?;
     Some(Change::Cell(Name::read("D")?, positions, Literal::Num(10)))
 }
 

@@ -7,7 +7,7 @@ pub returns-in-Data-clause-cost : goal.returns-in-Data-clause-cost
 returns-in-Data-clause-cost c = rw c.in-Data.is c.data.ensures.cost
 
 pub returns-in-Cell-clause-cost : goal.returns-in-Cell-clause-cost
-returns-in-Cell-clause-cost c = rw (c.in-Cell.is, ← c.deref.ensures.value) c.set_cell.ensures.cost
+returns-in-Cell-clause-cost c = rw (c.in-Cell.is, ← c.deref.ensures) c.set_cell.ensures.cost
 
 pub returns-in-Row-clause-cost : goal.returns-in-Row-clause-cost
 returns-in-Row-clause-cost c = rw c.in-Row.is c.add_row.ensures.cost

@@ -5,7 +5,7 @@ use Rattle.apl_tokens.specs.Lexemes.{lexemes}
 use Rattle.apl_expr.specs.declared.fault.ParseFault.{ParseFault}
 use Rattle.apl_expr.specs.Lines.{IsCommand}
 use Rattle.apl_expr.proofs.Lined.{tokens_answer}
-use Rattle.apl_expr.proofs.command.line.Goals as goal
+use Rattle.apl_expr.proofs.command.line_of_tokens.Goals as goal
 
 pub returns-in-Ok-command_of : goal.returns-in-Ok-command_of
 returns-in-Ok-command_of c = tokens_answer (chars c.args.text.now) c.in-Ok.found.items c.deref.result.now (Ok c.in-Ok-command_of.command) c.in-Ok.ensures c.deref.ensures.value c.in-Ok-command_of.ensures

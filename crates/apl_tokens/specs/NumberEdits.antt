@@ -1,0 +1,24 @@
+-- The edit of a cell by a number, `NAME[positions]←number`, as the tokens of a line.
+use Rattle.std.specs.Prelude.{◌≡◌, ℕ, ◌<◌, ◌≤◌, ℤ, Ok, List, [], ◌∷◌, ◌++◌, length, map}
+use Rattle.apl_tokens.specs.Signs.{left_bracket, right_bracket, semicolon, left_arrow}
+use Rattle.apl_tokens.specs.Lexemes.{Lexeme, Number, Named, Sign}
+use Rattle.apl_tokens.specs.Scans.{Scans, SpannedLexeme}
+use Rattle.apl_tokens.specs.declared.cell_edit.NumberEdit.{NumberEdit}
+
+-- the positions, with `;` between them
+abbrev pub position_lexemes : List ℤ → List Lexeme
+position_lexemes [] = []
+position_lexemes (p ∷ []) = Number p ∷ []
+position_lexemes (p ∷ q ∷ ps) = Number p ∷ Sign semicolon ∷ position_lexemes (q ∷ ps)
+
+-- the name, its positions in brackets, `←` and the number
+abbrev pub edit_lexemes : List ℕ → List ℤ → ℤ → List Lexeme
+edit_lexemes name ps n = Named name ∷ Sign left_bracket ∷ (position_lexemes ps ++ Sign right_bracket ∷ Sign left_arrow ∷ Number n ∷ [])
+
+-- the characters, the first of which stands at byte n, have tokens that say this
+abbrev pub Says : ℕ → List ℕ → List Lexeme → Type 0
+Says n cs ls = (ts : List SpannedLexeme) × Scans n cs (Ok ts) × (map (λ (t : SpannedLexeme). t.lexeme) ts ≡ ls)
+
+-- the tokens of the characters are this edit, which has some positions, and few
+abbrev pub IsNumberEdit : List ℕ → NumberEdit → Type 0
+IsNumberEdit cs e = Says 0 cs (edit_lexemes e.name e.positions.items e.number) × (0 < length e.positions.items) × (length e.positions.items ≤ 4)

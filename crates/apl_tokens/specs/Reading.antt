@@ -1,0 +1,35 @@
+-- How the bytes of an edit are read from the front: what stands there says some lexemes, whatever comes after it.
+use Rattle.std.specs.Prelude.{ℕ, ℤ, Bool, true, false, List, [], ◌∷◌, ◌++◌}
+use Rattle.std.specs.Char.{is_ascii_digit}
+use Rattle.std.specs.Str.{chars}
+use Rattle.apl_tokens.specs.Signs.{semicolon}
+use Rattle.apl_tokens.specs.Lexemes.{Lexeme, Number, Sign}
+use Rattle.apl_tokens.specs.Characters.{is_name_part, joins_number}
+use Rattle.apl_tokens.specs.Scans.{Ends}
+use Rattle.apl_tokens.specs.NumberEdits.{Says}
+
+-- where the characters of the bytes us meet C, those of the bytes bs say these lexemes and then what those of us say
+pub record ReadsBefore (C : List ℕ → Type 0) (bs us : List ℕ) (ls : List Lexeme) : Type 0 where
+  pub reads : (n : ℕ) → (m : ℕ) × ((ts : List Lexeme) → C (chars us) → Says m (chars us) ts → Says n (chars bs) (ls ++ ts))
+
+-- whatever comes after them
+abbrev pub Reads : List ℕ → List ℕ → List Lexeme → Type 0
+Reads bs us ls = ReadsBefore (λ cs. Unit {0}) bs us ls
+
+-- the characters do not go on with a name
+abbrev pub EndsName : List ℕ → Type 0
+EndsName cs = Ends is_name_part cs
+
+-- the characters do not go on with a number
+abbrev pub EndsNumber : List ℕ → Type 0
+EndsNumber cs = Ends is_ascii_digit cs × Ends joins_number cs
+
+-- the positions, each with `;` after it
+abbrev pub open_positions : List ℤ → List Lexeme
+open_positions [] = []
+open_positions (p ∷ ps) = Number p ∷ Sign semicolon ∷ open_positions ps
+
+-- the bytes of a high minus, where there is one
+abbrev pub minus_bytes : Bool → List ℕ
+minus_bytes false = []
+minus_bytes true = 0xc2 ∷ 0xaf ∷ []
