@@ -1,18 +1,16 @@
--- The edit of a cell by a number, read from the bytes of a line, is a line of the grammar.
-use Rattle.std.proofs.Common.{◌≡◌, ℕ, ◌+◌, ◌*◌, ◌<◌, ◌≤◌, List, [], ◌∷◌, ◌++◌, length, Ok, refl, sym, ap, subst, arith, length-append, lit<}
+-- The edit of a cell by a number and a row of one number, read from the bytes of a line, are lines of the grammar.
+use Rattle.std.proofs.Common.{ℕ, ◌*◌, ◌<◌, ◌≤◌, List, [], ◌∷◌, ◌++◌, length, Ok, refl, sym, subst, arith, length-append, lit≤}
 use Rattle.std.specs.Prelude.{ℤ}
 use Rattle.smallvec.specs.SmallVec.{SmallVec}
 use Rattle.apl_tokens.specs.declared.name.Name.{Name}
-use Rattle.apl_tokens.specs.Lexemes.{Lexeme, Number, Named, Sign}
-use Rattle.apl_tokens.specs.Signs.{left_bracket, right_bracket, left_arrow}
-use Rattle.apl_tokens.specs.NumberEdits.{position_lexemes, edit_lexemes, Says}
+use Rattle.apl_tokens.specs.Lexemes.{Lexeme, Number, Sign}
+use Rattle.apl_tokens.specs.Signs.{right_bracket, left_arrow}
+use Rattle.apl_tokens.specs.NumberEdits.{position_lexemes, edit_lexemes, row_lexemes, Says}
 use Rattle.apl_expr.specs.declared.command.Change.TheVariants as changed
 use Rattle.apl_expr.specs.declared.command.Command.TheVariants as command
 use Rattle.apl_expr.specs.declared.expr.Literal.TheVariants.{Num}
-use Rattle.apl_expr.specs.Limits.{most_tokens}
-use Rattle.apl_expr.specs.Trees.{Numbers}
 use Rattle.apl_expr.specs.Grammar.{one}
-use Rattle.apl_expr.specs.Lines.{IsCellPositions, last, further, IsLit, nums_lit, cell, IsLine, change, Cell, IsCommand}
+use Rattle.apl_expr.specs.Lines.{IsCellPositions, last, further, nums_lit, cell, row, change, IsCommand}
 use Rattle.apl_expr.specs.Answers.{TokensAnswer}
 
 positions_are : (ps : List ℤ) (ts : List Lexeme) → 0 < length ps → IsCellPositions (position_lexemes ps ++ ts) ps ts
@@ -34,3 +32,10 @@ module _ (name : Name) (ps : SmallVec ℤ) (k : ℤ) (some : 0 < length ps.items
 
   pub edit_answers : (cs : List ℕ) → Says 0 cs (edit_lexemes name ps.items k) → TokensAnswer cs (Ok (command.Change (changed.Cell name ps (Num k))))
   edit_answers cs says = (says.0, says.1, subst (λ (ts : List Lexeme). IsCommand ts (Ok (command.Change (changed.Cell name ps (Num k))))) (sym says.2) edit_is)
+
+-- a row of one number
+row_is : (name : Name) (k : ℤ) → IsCommand (row_lexemes name k) (Ok (command.Change (changed.Row name (Num k))))
+row_is name k = (lit≤ tt, change (row (nums_lit one) refl), λ no. no, refl)
+
+pub row_answers : (name : Name) (k : ℤ) (cs : List ℕ) → Says 0 cs (row_lexemes name k) → TokensAnswer cs (Ok (command.Change (changed.Row name (Num k))))
+row_answers name k cs says = (says.0, says.1, subst (λ (ts : List Lexeme). IsCommand ts (Ok (command.Change (changed.Row name (Num k))))) (sym says.2) (row_is name k))

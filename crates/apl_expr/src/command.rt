@@ -3,7 +3,7 @@
 ghost use Rattle.std.specs.Prelude.{◌≡◌, ◌+◌, ◌<◌, ◌≤◌, ◌∷◌, ℕ, List, length, None, Some, Ok, MatchOption};
 ghost use Rattle.std.specs.Str.{chars};
 ghost use Rattle.apl_tokens.specs.Lexemes.{lexemes, Named, Sign};
-ghost use Rattle.apl_tokens.specs.NumberEdits.{IsNumberEdit};
+ghost use Rattle.apl_tokens.specs.NumberEdits.{IsNumberEdit, IsNumberRow};
 ghost use Rattle.apl_tokens.specs.Signs.{left_arrow, right_parenthesis, left_bracket};
 ghost use Rattle.apl_expr.specs.Limits.{most_tokens};
 ghost use Rattle.apl_expr.specs.Lines.{data_word, row_word, erase_word, names_word, cost_word, csv_word, open_word, step_word, commit_word, drop_word, IsCommand};
@@ -17,7 +17,8 @@ use crate::fault::{LineFault, ParseFault};
 use crate::limits::MOST_TOKENS;
 use crate::parser::parse;
 use apl_tokens::{
-    CellPositions, Name, NumberEdit, Spanned, Token, TokenFault, number_edit, tokens,
+    CellPositions, Name, NumberEdit, NumberRow, Spanned, Token, TokenFault, number_edit,
+    number_row, tokens,
 };
 use std::alloc::Global;
 
@@ -390,6 +391,23 @@ fn cell_of(edit: NumberEdit) -> Command
     Command::Change(Change::Cell(edit.name, edit.positions, Literal::Num(edit.number)))
 }
 
+/// The command of a row that was read from the bytes of a text.
+fn row_of(row: NumberRow) -> Command
+    ensures { (cs : List ℕ) → IsNumberRow cs row → IsAnswered cs (Ok result) }
+{
+    Command::Change(Change::Row(row.name, Literal::Num(row.number)))
+}
+
+/// What a line of text asks for that is no edit of a cell by a number, or was not read as one.
+fn row_or_tokens(alloc: Global, text: &str) -> Result<Command, LineFault>
+    ensures { IsAnswered (chars text.now) result }
+{
+    match number_row(text) {
+        Some(row) => Ok(row_of(row)),
+        None => line_of_tokens(alloc, text),
+    }
+}
+
 /// What a line of text asks for.
 ///
 /// The first token fault from the left comes before all else. Then more than 4,096 tokens are `Limit`, whatever they are;
@@ -397,12 +415,13 @@ fn cell_of(edit: NumberEdit) -> Command
 /// more than 512 nodes is `Limit`. `DATA`, `ROW`, `ERASE`, `NAMES`, `COST`, `CSV`, `OPEN`, `STEP`, `COMMIT` and `DROP` are
 /// words only after `)`, and ordinary names elsewhere.
 ///
-/// The most usual edit, of an item by a number and without blanks, is read from the bytes of the text, and takes no memory.
+/// The most usual edit, of an item by a number and without blanks, is read from the bytes of the text, and takes no memory; so is a row of one
+/// number, with one blank at each place.
 pub fn line(alloc: Global, text: &str) -> Result<Command, LineFault>
     ensures { IsAnswered (chars text.now) result }
 {
     match number_edit(alloc, text) {
         Some(edit) => Ok(cell_of(edit)),
-        None => line_of_tokens(alloc, text),
+        None => row_or_tokens(alloc, text),
     }
 }

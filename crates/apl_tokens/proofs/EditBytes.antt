@@ -1,6 +1,6 @@
 -- What stands at the front of the bytes of an edit.
-use Rattle.std.proofs.Common.{◌≡◌, ℕ, ◌+◌, ◌<◌, ◌≤◌, List, [], ◌∷◌, ◌++◌, length, refl, sym, ap, ◌∙◌, subst, append_assoc, arith, Bool, true, false, lit<}
-use Rattle.std.specs.Prelude.{ℤ, Some, slice_get, ◌==◌, ◌||◌, ◌&&◌, encode_utf8_all, Ok}
+use Rattle.std.proofs.Common.{◌≡◌, ℕ, ◌+◌, ◌<◌, ◌≤◌, List, [], ◌∷◌, ◌++◌, length, refl, sym, ap, ◌∙◌, subst, append_assoc, arith, Bool, true, false, lit<, lit≤}
+use Rattle.std.specs.Prelude.{ℤ, codes, Some, slice_get, ◌==◌, ◌||◌, ◌&&◌, encode_utf8_all, Ok}
 use Rattle.std.specs.Char.{is_ascii_digit, is_ascii_alphabetic, len_utf8}
 use Rattle.std.specs.List.{list_all}
 use Rattle.std.specs.Str.{chars, IsAscii, IsUtf8}
@@ -8,11 +8,11 @@ use Rattle.std.proofs.lemmas.Str.{chars-append, chars_from_encodes, chars-nil, I
 use Rattle.std.proofs.lemmas.Str.Ascii.{encodes-IsAscii, IsAscii-nil, IsAscii-cons}
 use Rattle.std.proofs.lemmas.List.{append-nil}
 use Rattle.apl_tokens.specs.Limits.{longest_name}
-use Rattle.apl_tokens.specs.Signs.{high_minus, delta, delta_underbar, left_arrow, left_bracket, right_bracket, semicolon}
+use Rattle.apl_tokens.specs.Signs.{space, right_parenthesis, high_minus, delta, delta_underbar, left_arrow, left_bracket, right_bracket, semicolon}
 use Rattle.apl_tokens.specs.Lexemes.{Lexeme, Number, Named, Sign}
 use Rattle.apl_tokens.specs.Characters.{is_letter, is_name_part, joins_number, sign_of, decimal_from, signed, fits_number}
-use Rattle.apl_tokens.specs.Scans.{spanned, Ends, IsRun, stop, more, IsNumber, plain, minus, Scans, done, sign, number, word}
-use Rattle.apl_tokens.specs.NumberEdits.{Says, position_lexemes, edit_lexemes}
+use Rattle.apl_tokens.specs.Scans.{spanned, Ends, IsRun, stop, more, IsNumber, plain, minus, Scans, done, blank, sign, number, word}
+use Rattle.apl_tokens.specs.NumberEdits.{Says, position_lexemes, edit_lexemes, row_lexemes}
 use Rattle.apl_tokens.specs.Reading.{ReadsBefore, Reads, EndsNumber, EndsName, minus_bytes, open_positions}
 
 -- bytes of ASCII are characters
@@ -126,14 +126,15 @@ name_and_bracket name bs us vs reads is =
     (byte_sign us vs left_bracket is (lit< tt) refl)
 
 -- the name that a function finds: the letters, the first of which is one that a name begins with
-pub letters_read : (name letters rest text vs : List ℕ) (first : ℕ) → text ≡ letters ++ rest → rest ≡ left_bracket ∷ vs → Some first ≡ slice_get letters 0 → is_ascii_alphabetic first ≡ true → list_all is_name_part letters ≡ true → IsAscii letters → name ≡ letters → length letters ≤ longest_name → Reads text vs (Named name ∷ Sign left_bracket ∷ [])
-letters_read name [] rest text vs first whole bracket is letter parts ascii same short = cc
-letters_read name (c ∷ xs) rest text vs first whole bracket is letter parts ascii same short =
+pub letters_read : (name letters rest text vs : List ℕ) (first end : ℕ) → text ≡ letters ++ rest → rest ≡ end ∷ vs → Some first ≡ slice_get letters 0 → is_ascii_alphabetic first ≡ true → list_all is_name_part letters ≡ true → IsAscii letters → name ≡ letters → length letters ≤ longest_name → ReadsBefore EndsName text (end ∷ vs) (Named name ∷ [])
+letters_read name [] rest text vs first end whole bracket is letter parts ascii same short = cc
+letters_read name (c ∷ xs) rest text vs first end whole bracket is letter parts ascii same short =
     let begins : first ≡ c = cc in
     let starts : is_letter c ≡ true = ap (λ (b : Bool). b || (c == delta) || (c == delta_underbar)) (ap is_ascii_alphabetic (sym begins) ∙ letter) in
-    subst (λ (bs : List ℕ). Reads bs vs (Named name ∷ Sign left_bracket ∷ [])) (sym whole)
-    (subst (λ (n : List ℕ). Reads ((c ∷ xs) ++ rest) vs (Named n ∷ Sign left_bracket ∷ [])) (sym same)
-    (name_and_bracket (c ∷ xs) ((c ∷ xs) ++ rest) rest vs (reads_name c xs rest starts (others_pass (is_name_part c) (list_all is_name_part xs) parts) ascii short) bracket))
+    subst (λ (bs : List ℕ). ReadsBefore EndsName bs (end ∷ vs) (Named name ∷ [])) (sym whole)
+    (subst (λ (us : List ℕ). ReadsBefore EndsName ((c ∷ xs) ++ rest) us (Named name ∷ [])) bracket
+    (subst (λ (n : List ℕ). ReadsBefore EndsName ((c ∷ xs) ++ rest) rest (Named n ∷ [])) (sym same)
+    (reads_name c xs rest starts (others_pass (is_name_part c) (list_all is_name_part xs) parts) ascii short)))
 
 -- the number that a function finds
 pub digits_read : (is_negative : Bool) (k : ℤ) (digits rest text : List ℕ) → text ≡ digits ++ rest → (length digits ≡ 0 → ⊥) → list_all is_ascii_digit digits ≡ true → IsAscii digits → fits_number is_negative (decimal_from 0 digits) ≡ true → k ≡ signed is_negative (decimal_from 0 digits) → ReadsBefore EndsNumber (minus_bytes is_negative ++ text) rest (Number k ∷ [])
@@ -177,9 +178,10 @@ nothing_left [] none = refl
 nothing_left (u ∷ us) none = absurd (omega (arith, none))
 
 module _ (name : List ℕ) (ps : List ℤ) (k : ℤ) (text after_bracket after_positions after_arrow rest : List ℕ) where
-  pub edit_read : Reads text after_bracket (Named name ∷ Sign left_bracket ∷ []) → Reads after_bracket after_positions (position_lexemes ps ++ Sign right_bracket ∷ []) → Reads after_positions after_arrow (Sign left_arrow ∷ []) → ReadsBefore EndsNumber after_arrow rest (Number k ∷ []) → length rest ≡ 0 → Says 0 (chars text) (edit_lexemes name ps k)
-  edit_read named placed arrow numbered none =
+  pub edit_read : ReadsBefore EndsName text (left_bracket ∷ after_bracket) (Named name ∷ []) → Reads after_bracket after_positions (position_lexemes ps ++ Sign right_bracket ∷ []) → Reads after_positions after_arrow (Sign left_arrow ∷ []) → ReadsBefore EndsNumber after_arrow rest (Number k ∷ []) → length rest ≡ 0 → Says 0 (chars text) (edit_lexemes name ps k)
+  edit_read begun placed arrow numbered none =
       let no_more : chars rest ≡ [] = ap chars (nothing_left rest none) ∙ chars-nil in
+      let named : Reads text after_bracket (Named name ∷ Sign left_bracket ∷ []) = name_and_bracket name text (left_bracket ∷ after_bracket) after_bracket begun refl in
       let tail : ReadsBefore EndsNumber after_positions rest (Sign left_arrow ∷ Number k ∷ []) = both_read (λ cs. Unit {0}) EndsNumber after_positions after_arrow rest (Sign left_arrow ∷ []) (Number k ∷ []) arrow tt numbered in
       let behind : ReadsBefore EndsNumber after_bracket rest ((position_lexemes ps ++ Sign right_bracket ∷ []) ++ Sign left_arrow ∷ Number k ∷ []) = both_read (λ cs. Unit {0}) EndsNumber after_bracket after_positions rest (position_lexemes ps ++ Sign right_bracket ∷ []) (Sign left_arrow ∷ Number k ∷ []) placed tt tail in
       let whole : ReadsBefore EndsNumber text rest (Named name ∷ Sign left_bracket ∷ ((position_lexemes ps ++ Sign right_bracket ∷ []) ++ Sign left_arrow ∷ Number k ∷ [])) = both_read (λ cs. Unit {0}) EndsNumber text after_bracket rest (Named name ∷ Sign left_bracket ∷ []) ((position_lexemes ps ++ Sign right_bracket ∷ []) ++ Sign left_arrow ∷ Number k ∷ []) named tt behind in
@@ -187,3 +189,29 @@ module _ (name : List ℕ) (ps : List ℤ) (k : ℤ) (text after_bracket after_p
       let ends : EndsNumber (chars rest) = subst (λ (cs : List ℕ). EndsNumber cs) (sym no_more) (tt, tt) in
       let over : Says ((whole.reads 0).0) (chars rest) [] = subst (λ (cs : List ℕ). Says ((whole.reads 0).0) cs []) (sym no_more) ([], done, refl) in
       subst (λ (ls : List Lexeme). Says 0 (chars text) ls) same ((whole.reads 0).1 [] ends over)
+
+-- a row
+reads_blank : (us : List ℕ) → Reads (space ∷ us) us []
+reads_blank us = record { reads = λ n. (n + len_utf8 space, λ ts ends says. (says.0, subst (λ (cs : List ℕ). Scans n cs (Ok says.0)) (sym (ascii_next space us (lit< tt))) (blank refl says.1), says.2)) }
+
+-- a name that a blank follows
+name_and_blank : (name bs vs : List ℕ) → ReadsBefore EndsName bs (space ∷ vs) (Named name ∷ []) → Reads bs vs (Named name ∷ [])
+name_and_blank name bs vs reads =
+    both_read EndsName (λ cs. Unit {0}) bs (space ∷ vs) vs (Named name ∷ []) [] reads (subst (λ (cs : List ℕ). EndsName cs) (sym (ascii_next space vs (lit< tt))) refl) (reads_blank vs)
+
+word_read : (vs : List ℕ) → Reads (codes "ROW " ++ vs) vs (Named (codes "ROW") ∷ [])
+word_read vs = name_and_blank (codes "ROW") (codes "ROW " ++ vs) vs (reads_name 0x52 (0x4f ∷ 0x57 ∷ []) (space ∷ vs) refl refl (IsAscii-cons 0x52 (0x4f ∷ 0x57 ∷ []) (lit< tt) (IsAscii-cons 0x4f (0x57 ∷ []) (lit< tt) (IsAscii-cons 0x57 [] (lit< tt) IsAscii-nil))) (lit≤ tt))
+
+front_read : (vs : List ℕ) → Reads (codes ")ROW " ++ vs) vs (Sign right_parenthesis ∷ Named (codes "ROW") ∷ [])
+unfolding sign_of
+front_read vs = both_read (λ cs. Unit {0}) (λ cs. Unit {0}) (codes ")ROW " ++ vs) (codes "ROW " ++ vs) vs (Sign right_parenthesis ∷ []) (Named (codes "ROW") ∷ []) (byte_sign (codes ")ROW " ++ vs) (codes "ROW " ++ vs) right_parenthesis refl (lit< tt) refl) tt (word_read vs)
+
+module _ (name : List ℕ) (k : ℤ) (text after_word after_name rest : List ℕ) where
+  pub row_read : text ≡ codes ")ROW " ++ after_word → ReadsBefore EndsName after_word (space ∷ after_name) (Named name ∷ []) → ReadsBefore EndsNumber after_name rest (Number k ∷ []) → length rest ≡ 0 → Says 0 (chars text) (row_lexemes name k)
+  row_read begun named numbered none =
+      let no_more : chars rest ≡ [] = ap chars (nothing_left rest none) ∙ chars-nil in
+      let tail : ReadsBefore EndsNumber after_word rest (Named name ∷ Number k ∷ []) = both_read (λ cs. Unit {0}) EndsNumber after_word after_name rest (Named name ∷ []) (Number k ∷ []) (name_and_blank name after_word after_name named) tt numbered in
+      let whole : ReadsBefore EndsNumber text rest (row_lexemes name k) = both_read (λ cs. Unit {0}) EndsNumber text after_word rest (Sign right_parenthesis ∷ Named (codes "ROW") ∷ []) (Named name ∷ Number k ∷ []) (subst (λ (bs : List ℕ). Reads bs after_word (Sign right_parenthesis ∷ Named (codes "ROW") ∷ [])) (sym begun) (front_read after_word)) tt tail in
+      let ends : EndsNumber (chars rest) = subst (λ (cs : List ℕ). EndsNumber cs) (sym no_more) (tt, tt) in
+      let over : Says ((whole.reads 0).0) (chars rest) [] = subst (λ (cs : List ℕ). Says ((whole.reads 0).0) cs []) (sym no_more) ([], done, refl) in
+      (whole.reads 0).1 [] ends over

@@ -1,9 +1,10 @@
--- The edit of a cell by a number, `NAME[positions]←number`, as the tokens of a line.
-use Rattle.std.specs.Prelude.{◌≡◌, ℕ, ◌<◌, ◌≤◌, ℤ, Ok, List, [], ◌∷◌, ◌++◌, length, map}
-use Rattle.apl_tokens.specs.Signs.{left_bracket, right_bracket, semicolon, left_arrow}
+-- The edit of a cell by a number, `NAME[positions]←number`, and a row of one number, `)ROW NAME number`, as the tokens of a line.
+use Rattle.std.specs.Prelude.{◌≡◌, ℕ, ◌<◌, ◌≤◌, ℤ, Ok, List, [], ◌∷◌, ◌++◌, length, map, codes}
+use Rattle.apl_tokens.specs.Signs.{left_bracket, right_bracket, semicolon, left_arrow, right_parenthesis}
 use Rattle.apl_tokens.specs.Lexemes.{Lexeme, Number, Named, Sign}
 use Rattle.apl_tokens.specs.Scans.{Scans, SpannedLexeme}
 use Rattle.apl_tokens.specs.declared.cell_edit.NumberEdit.{NumberEdit}
+use Rattle.apl_tokens.specs.declared.row_edit.NumberRow.{NumberRow}
 
 -- the positions, with `;` between them
 abbrev pub position_lexemes : List ℤ → List Lexeme
@@ -22,3 +23,11 @@ Says n cs ls = (ts : List SpannedLexeme) × Scans n cs (Ok ts) × (map (λ (t : 
 -- the tokens of the characters are this edit, which has some positions, and few
 abbrev pub IsNumberEdit : List ℕ → NumberEdit → Type 0
 IsNumberEdit cs e = Says 0 cs (edit_lexemes e.name e.positions.items e.number) × (0 < length e.positions.items) × (length e.positions.items ≤ 4)
+
+-- `)`, the word, the name and the number
+abbrev pub row_lexemes : List ℕ → ℤ → List Lexeme
+row_lexemes name n = Sign right_parenthesis ∷ Named (codes "ROW") ∷ Named name ∷ Number n ∷ []
+
+-- the tokens of the characters are this row
+abbrev pub IsNumberRow : List ℕ → NumberRow → Type 0
+IsNumberRow cs r = Says 0 cs (row_lexemes r.name r.number)

@@ -1,6 +1,6 @@
 //! Tokens of each kind, and what faults say.
 
-use apl_tokens::{Token, TokenFault, tokens};
+use apl_tokens::{NumberEdit, Token, TokenFault, number_edit, number_row, tokens};
 use std::alloc::Global;
 
 /// The tokens of a line, written out.
@@ -50,6 +50,60 @@ fn reads_each_kind_of_token(rt: HostRuntime) {
         );
     }
     assert!(rt; begins_with_name(rt.alloc(), "∆x2←7", "∆x2"));
+}
+
+/// The edit of an item by a number that a line is read as, but for its name.
+fn edit_of(alloc: Global, line: &str, name: &str) -> Option<([i64; 2], usize, i64)> {
+    let NumberEdit {
+        name: edited,
+        positions,
+        number,
+    } = number_edit(alloc, line)?;
+    if edited.text() != name {
+        return None;
+    }
+    let first = *positions.first()?;
+    let last = *positions.last()?;
+    Some(([first, last], positions.len(), number))
+}
+
+#[test]
+fn reads_the_edit_of_an_item(rt: HostRuntime) {
+    for (line, name, wanted) in [
+        ("D[2]←10", "D", ([2, 2], 1, 10)),
+        ("D_2[¯3;1;4]←¯7", "D_2", ([-3, 4], 3, -7)),
+        ("A[1;2;3;4]←0", "A", ([1, 4], 4, 0)),
+    ] {
+        assert!(rt; edit_of(rt.alloc(), line, name) == Some(wanted), "{line}");
+    }
+    for line in ["D[2] ← 10", "D[2]←1 2", "∆[2]←1", "D[1;2;3;4;5]←1", "D←2"] {
+        assert!(rt; number_edit(rt.alloc(), line).is_none(), "{line}");
+    }
+}
+
+/// The row of one number that a line is read as, but for its name.
+fn row_of(line: &str, name: &str) -> Option<i64> {
+    let row = number_row(line)?;
+    if row.name.text() == name {
+        Some(row.number)
+    } else {
+        None
+    }
+}
+
+#[test]
+fn reads_a_row_of_one_number(rt: HostRuntime) {
+    assert!(rt; row_of(")ROW D 7", "D") == Some(7));
+    assert!(rt; row_of(")ROW D_2 ¯12", "D_2") == Some(-12));
+    for line in [
+        ")ROW D  7",
+        ") ROW D 7",
+        ")ROW D 7 8",
+        ")ROW D 'a'",
+        ")ROW 7 7",
+    ] {
+        assert!(rt; row_of(line, "D").is_none(), "{line}");
+    }
 }
 
 #[test]

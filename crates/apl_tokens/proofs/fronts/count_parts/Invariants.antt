@@ -2,7 +2,7 @@ use Rattle.std.proofs.Common.{◌≡◌, true, take}
 use Rattle.std.specs.List.{list_all}
 use Rattle.std.specs.Str.{IsAscii}
 use Rattle.apl_tokens.specs.Characters.{is_name_part}
-use Rattle.apl_tokens.proofs.cell_edit.count_parts.Given as goal
+use Rattle.apl_tokens.proofs.fronts.count_parts.Given as goal
 
 abbrev pub invariant-loop-index : goal.invariant-loop-index
 invariant-loop-index l = (list_all is_name_part (take l.index l.text) ≡ true) × IsAscii (take l.index l.text)

@@ -4,7 +4,7 @@ use Rattle.apl_tokens.specs.Lexemes.{Sign}
 use Rattle.apl_tokens.specs.Signs.{left_arrow}
 use Rattle.apl_tokens.specs.Reading.{Reads}
 use Rattle.apl_tokens.proofs.EditBytes.{reads_arrow}
-use Rattle.apl_tokens.proofs.cell_edit.after_arrow.Goals as goal
+use Rattle.apl_tokens.proofs.fronts.after_arrow.Goals as goal
 
 pub returns : goal.returns
 returns c = IfSome_then c.after_byte-3.result c.after_byte-3.ensures (λ rest is.

@@ -4,7 +4,7 @@ use Rattle.std.specs.List.{list_all}
 use Rattle.std.specs.Str.{IsAscii}
 use Rattle.std.proofs.lemmas.Int.{to_z-of_z}
 use Rattle.apl_tokens.proofs.EditBytes.{digits_read}
-use Rattle.apl_tokens.proofs.cell_edit.digits_front.Goals as goal
+use Rattle.apl_tokens.proofs.fronts.digits_front.Goals as goal
 
 pub returns : goal.returns
 returns c =

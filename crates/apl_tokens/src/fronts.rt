@@ -1,0 +1,107 @@
+//! What stands at the front of the bytes of a line: a name, a number, an arrow.
+
+ghost use Rattle.std.specs.Prelude.{◌≡◌, ◌≤◌, true, [], ◌∷◌, ◌++◌, length, take, IfSome};
+ghost use Rattle.std.specs.Char.{is_ascii_digit};
+ghost use Rattle.std.specs.List.{list_all};
+ghost use Rattle.std.specs.Str.{IsAscii};
+ghost use Rattle.apl_tokens.specs.Characters.{is_name_part};
+ghost use Rattle.apl_tokens.specs.Lexemes.{Named, Number, Sign};
+ghost use Rattle.apl_tokens.specs.Signs.{left_arrow};
+ghost use Rattle.apl_tokens.specs.Reading.{ReadsBefore, Reads, EndsName, EndsNumber, minus_bytes};
+
+use crate::name::Name;
+use crate::numbers::number;
+
+/// The name at the front of a line, and the bytes after what ends it.
+#[derive(Clone, Copy)]
+pub(crate) struct Front<'a> {
+    pub(crate) name: Name,
+    pub(crate) rest: &'a [u8],
+}
+
+/// How many letters and digits of ASCII and `_` stand at the front.
+fn count_parts(text: &[u8]) -> usize
+    ensures within { result ≤ length text.now }
+    ensures parts { list_all is_name_part (take result text.now) ≡ true }
+    ensures ascii { IsAscii (take result text.now) }
+{
+    for (index, byte) in text.iter().enumerate() {
+        if !byte.is_ascii_alphanumeric() && *byte != b'_' {
+            return index;
+        }
+    }
+    text.len()
+}
+
+/// How many digits stand at the front.
+fn count_digits(text: &[u8]) -> usize
+    ensures within { result ≤ length text.now }
+    ensures digits { list_all is_ascii_digit (take result text.now) ≡ true }
+    ensures ascii { IsAscii (take result text.now) }
+{
+    for (index, byte) in text.iter().enumerate() {
+        if !byte.is_ascii_digit() {
+            return index;
+        }
+    }
+    text.len()
+}
+
+/// What comes after this byte, where it stands at the front.
+fn after_byte(text: &[u8], byte: u8) -> Option<&[u8]>
+    ensures { IfSome result (λ rest. text.now ≡ byte ∷ rest.now) }
+{
+    let (first, rest) = text.split_first()?;
+    if *first == byte { Some(rest) } else { None }
+}
+
+/// What comes after a high minus, where it stands at the front.
+fn after_minus(text: &[u8]) -> Option<&[u8]>
+    ensures { IfSome result (λ rest. text.now ≡ minus_bytes true ++ rest.now) }
+{
+    after_byte(after_byte(text, 0xC2)?, 0xAF)
+}
+
+/// What comes after an arrow, where it stands at the front.
+pub(crate) fn after_arrow(text: &[u8]) -> Option<&[u8]>
+    ensures { IfSome result (λ rest. Reads text.now rest.now (Sign left_arrow ∷ [])) }
+{
+    after_byte(after_byte(after_byte(text, 0xE2)?, 0x86)?, 0x90)
+}
+
+/// The name at the front, in letters of ASCII, that this byte follows, and what comes after them.
+pub(crate) fn name_front(text: &[u8], end: u8) -> Option<Front<'_>>
+    ensures { IfSome result (λ front. ReadsBefore EndsName text.now (end ∷ front.rest.now) (Named front.name ∷ [])) }
+{
+    let count = count_parts(text);
+    let (letters, rest) = text.split_at(count);
+    let rest = after_byte(rest, end)?;
+    if !letters.first()?.is_ascii_alphabetic() {
+        return None;
+    }
+    let name = Name::of_letters(letters)?;
+    Some(Front { name, rest })
+}
+
+/// The number of the digits at the front, with the sign that stands before them, and what comes after it.
+fn digits_front(text: &[u8], is_negative: bool) -> Option<(i64, &[u8])>
+    ensures { IfSome result (λ front. ReadsBefore EndsNumber (minus_bytes is_negative ++ text.now) front.1.now (Number front.0 ∷ [])) }
+{
+    let count = count_digits(text);
+    if count == 0 {
+        return None;
+    }
+    let (digits, rest) = text.split_at(count);
+    let number = number(is_negative, digits)?;
+    Some((number, rest))
+}
+
+/// The number at the front, and what comes after it.
+pub(crate) fn number_front(text: &[u8]) -> Option<(i64, &[u8])>
+    ensures { IfSome result (λ front. ReadsBefore EndsNumber text.now front.1.now (Number front.0 ∷ [])) }
+{
+    match after_minus(text) {
+        Some(digits) => digits_front(digits, true),
+        None => digits_front(text, false),
+    }
+}
