@@ -60,7 +60,9 @@ pub mod VectorSums
 pub mod FlaggedSums
 pub mod Prefixes
 pub mod NextDifferences
+pub mod SmallDifferences
 pub mod NextProducts
+pub mod UnitProducts
 pub mod NextOutcomes
 pub mod MetLists
 pub mod NearBits

@@ -159,7 +159,7 @@ module _ {A : Type 0} (step : A → ℤ → ℤ → Result ℤ Kind) (gives : A 
 
 -- ---- a line of neighbours
 
-beside_depth : (count place first : ℕ) → 1 ≤ count → first % count ≡ 0 → first ≤ place → place < first + count → depth 1 count place ≡ place - first
+pub beside_depth : (count place first : ℕ) → 1 ≤ count → first % count ≡ 0 → first ≤ place → place < first + count → depth 1 count place ≡ place - first
 beside_depth count place first some begins low near =
     let whole : first + (place - first) ≡ place = omega arith in
     let from : first % count + (place - first) ≡ place - first = omega (arith, begins) in

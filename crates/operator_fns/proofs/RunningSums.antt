@@ -23,7 +23,7 @@ module _ (zs : List ℤ) (stride count : ℕ) (apart : 0 < stride) (some : 1 ≤
   run place = run_to (pos 0) zs stride count place
 
   -- what holds of the numbers before a place
-  run_each : (P : ℤ → Type 0) (end : ℕ) → ((k : ℕ) → k < end → P (get_or zs k (pos 0))) → (place : ℕ) → place < end → All P (run place)
+  pub run_each : (P : ℤ → Type 0) (end : ℕ) → ((k : ℕ) → k < end → P (get_or zs k (pos 0))) → (place : ℕ) → place < end → All P (run place)
   run_each P end numbers place inside k d below =
       let deep = depth stride count place in
       let first = place - deep * stride in

@@ -1,5 +1,5 @@
 -- The numbers of a line so far, as a function of the number that comes next.
-use Rattle.std.specs.Prelude.{◌≡◌, ℕ, nat_le, nat_lt, ℤ, pos, negsuc, ◌+ℤ◌, ◌-ℤ◌, ◌*ℤ◌, int_le, ◌&&◌, FitsSigned, List, [], ◌∷◌, ◌++◌, Bool, true, ◌||◌, if◌then◌else◌, Option, Some, None, Result, Ok, Err}
+use Rattle.std.specs.Prelude.{◌≡◌, ◌≤◌, ℕ, unsigned_abs, nat_le, nat_lt, ℤ, pos, negsuc, ◌+ℤ◌, ◌-ℤ◌, ◌*ℤ◌, int_le, ◌&&◌, FitsSigned, List, [], ◌∷◌, ◌++◌, Bool, true, ◌||◌, if◌then◌else◌, Option, Some, None, Result, Ok, Err}
 use Rattle.std.specs.Int.{w64}
 use Rattle.std.specs.Ordering.{int_eq}
 use Rattle.arrays_core.specs.Items.{and_then}
@@ -42,6 +42,10 @@ reaches below above (negsuc n) = nat_lt n below
 -- a product of some total and of a number within reach; that of any other is beyond the limits on its way
 abbrev pub product : (total : ℤ) (below above : ℕ) → ℤ → Result ℤ Kind
 product total below above v = if reaches below above v then number_or_limit (total *ℤ v) else Err Limit
+
+-- 0, 1 or ¯1
+pub record IsUnit (z : ℤ) : Type 0 where
+  pub near : unsigned_abs z ≤ 1
 
 -- every number that it gives is 0 or 1
 pub record GivesTruths (f : ℤ → ℤ → Result ℤ Kind) : Type 0 where

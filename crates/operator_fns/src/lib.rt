@@ -21,11 +21,13 @@ mod residue_scan;
 mod right_fold;
 mod row_by_column;
 mod scan;
+mod small_differences;
 mod small_products;
 mod sum;
 mod sum_tree;
 mod sum_trees;
 mod summary;
+mod unit_products;
 
 pub use inner_product::Inner;
 pub use outer_product::Outer;

@@ -160,7 +160,7 @@ fn running_apart<S: TwoNumbers>(
 }
 
 /// The left folds of the first numbers of each line, where a line has `count` numbers, a stride of 1 or more apart.
-fn running<S: TwoNumbers>(
+pub(crate) fn running<S: TwoNumbers>(
     alloc: Global,
     step: &S,
     numbers: &[i64],

@@ -8,13 +8,13 @@ ghost use Rattle.scalar_fns.specs.Folds.{folded};
 ghost use Rattle.operator_fns.specs.LinearScan.{scanned, folds_from};
 ghost use Rattle.operator_fns.specs.Prefixes.{GivesTruths};
 
-use crate::differences::Differences;
 use crate::linear_scan::{running_folds, running_sums};
 use crate::outcomes::Outcomes;
 use crate::prefix::prefix_folds;
-use crate::products::Products;
 use crate::recalled_scan::recalled_folds;
 use crate::residue_scan::{are_one_sided, running_residues};
+use crate::small_differences::running_differences;
+use crate::unit_products::running_products;
 use arrays_core::ApplyFault;
 use scalar_fns::Scalar2;
 use scalar_fns::kernels::{
@@ -78,8 +78,8 @@ pub(crate) fn number_folds(
 {
     match function {
         Scalar2::Plus => running_sums(alloc, numbers, stride, count),
-        Scalar2::Minus => prefix_folds(alloc, &Differences::none(), numbers, stride, count),
-        Scalar2::Times => prefix_folds(alloc, &Products::none(), numbers, stride, count),
+        Scalar2::Minus => running_differences(alloc, numbers, stride, count),
+        Scalar2::Times => running_products(alloc, numbers, stride, count),
         Scalar2::Maximum => running_folds(alloc, &Maximum, numbers, stride, count),
         Scalar2::Minimum => running_folds(alloc, &Minimum, numbers, stride, count),
         Scalar2::And => running_folds(alloc, &And, numbers, stride, count),

@@ -6,10 +6,10 @@ pub returns-in-Plus-clause-is : goal.returns-in-Plus-clause-is
 returns-in-Plus-clause-is c = rw c.in-Plus.is c.running_sums.ensures.is
 
 pub returns-in-Minus-clause-is : goal.returns-in-Minus-clause-is
-returns-in-Minus-clause-is c = rw c.in-Minus.is c.prefix_folds.ensures.is
+returns-in-Minus-clause-is c = rw c.in-Minus.is c.running_differences.ensures.is
 
 pub returns-in-Times-clause-is : goal.returns-in-Times-clause-is
-returns-in-Times-clause-is c = rw c.in-Times.is c.prefix_folds-in-Times.ensures.is
+returns-in-Times-clause-is c = rw c.in-Times.is c.running_products.ensures.is
 
 pub running_folds-requires-clause-associative : goal.running_folds-requires-clause-associative
 running_folds-requires-clause-associative c = maximum

@@ -1,0 +1,34 @@
+use Rattle.std.proofs.Common.{◌≡◌, ◌∙◌, ◌+◌, ◌<◌, ◌%◌, ap, length, vec_len, arith, subst, sym}
+use Rattle.std.proofs.Math.Nat.{add-mod_right}
+use Rattle.scalar_fns.specs.declared.function.Scalar2.TheVariants.{Minus}
+use Rattle.scalar_fns.specs.Numbers.{dyadic_on_numbers}
+use Rattle.operator_fns.specs.LinearScan.{depth, AreResultsTo}
+use Rattle.operator_fns.specs.Prefixes.{right_rule}
+use Rattle.operator_fns.proofs.LeftScans.{results_end}
+use Rattle.operator_fns.proofs.SmallDifferences.{next_row}
+use Rattle.operator_fns.proofs.small_differences.differences_apart.Goals as goal
+
+pub loop-results-preserved : goal.loop-results-preserved
+loop-results-preserved c =
+    let rule = right_rule (dyadic_on_numbers Minus) c.args.numbers.now c.args.stride c.args.count in
+    let is = c.push_row-row.ensures.is in
+    let n = vec_len c.loop-results.results in
+    let more : n < length c.args.numbers.now = omega (arith, c.loop-results-test.true, c.len.ensures) in
+    record {
+      so_far = subst (λ p. AreResultsTo p rule c.args.numbers.now c.push_row-row.new.results) (sym is.long) is;
+      within = omega (arith, is.long);
+      begins = λ h.
+          let whole : vec_len c.push_row-row.new.results ≡ n + c.args.stride = omega (arith, is.long, h) in
+          ap (λ m. m % c.args.stride) whole ∙ add-mod_right n c.args.stride ∙ c.loop-results.invariant.begins more;
+      row = λ h.
+          let whole : vec_len c.push_row-row.new.results ≡ n + c.args.stride = omega (arith, is.long, h) in
+          c.push_row-row.ensures.next
+          ∙ ap (λ r. (r + 1) % c.args.count) (c.loop-results.invariant.row more)
+          ∙ next_row c.args.stride c.args.count n c.requires.apart
+          ∙ ap (depth c.args.stride c.args.count) (sym whole);
+    }
+
+pub returns-clause-is : goal.returns-clause-is
+returns-clause-is c =
+    results_end (right_rule (dyadic_on_numbers Minus) c.args.numbers.now c.args.stride c.args.count) c.args.numbers.now (vec_len c.loop-results.results) c.loop-results.results
+    c.loop-results.invariant.so_far (omega (arith, c.loop-results-test.false, c.len.ensures))

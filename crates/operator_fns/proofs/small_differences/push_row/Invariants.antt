@@ -1,0 +1,8 @@
+use Rattle.scalar_fns.specs.declared.function.Scalar2.TheVariants.{Minus}
+use Rattle.scalar_fns.specs.Numbers.{dyadic_on_numbers}
+use Rattle.operator_fns.specs.LinearScan.{AreResultsTo}
+use Rattle.operator_fns.specs.Prefixes.{right_rule}
+use Rattle.operator_fns.proofs.small_differences.push_row.Given as goal
+
+abbrev pub invariant-loop-place : goal.invariant-loop-place
+invariant-loop-place l = AreResultsTo l.place (right_rule (dyadic_on_numbers Minus) l.numbers l.stride l.count) l.numbers l.results
