@@ -56,6 +56,40 @@ fn running_maximum(numbers: &[i64]) -> Option<Vec<i64>> {
     Some(maxima)
 }
 
+/// `x1 - (x2 - (.. xk))` for each k: added and taken off in turn.
+fn running_difference(numbers: &[i64]) -> Option<Vec<i64>> {
+    let (mut total, mut sign) = (0i64, 1i64);
+    let mut totals = Vec::with_capacity(numbers.len());
+    for number in numbers {
+        total = number.checked_mul(sign).and_then(|it| total.checked_add(it))?;
+        sign = -sign;
+        totals.push(total);
+    }
+    Some(totals)
+}
+
+/// The same of each column, a row at a time.
+fn running_differences_of_columns(numbers: &[i64], columns: usize) -> Option<Vec<i64>> {
+    let mut totals = Vec::with_capacity(numbers.len());
+    for (row, line) in numbers.chunks_exact(columns).enumerate() {
+        for (column, number) in line.iter().enumerate() {
+            let before = if row == 0 { 0 } else { totals[(row - 1) * columns + column] };
+            totals.push(if row % 2 == 0 { number.checked_add(before)? } else { i64::checked_sub(before, *number)? });
+        }
+    }
+    Some(totals)
+}
+
+fn running_product(numbers: &[i64]) -> Option<Vec<i64>> {
+    let mut product = 1i64;
+    let mut products = Vec::with_capacity(numbers.len());
+    for number in numbers {
+        product = product.checked_mul(*number)?;
+        products.push(product);
+    }
+    Some(products)
+}
+
 fn matrix_product(left: &[i64], right: &[i64], axis: usize) -> Option<Vec<i64>> {
     let mut product = Vec::with_capacity(axis * axis);
     for row in left.chunks_exact(axis) {
@@ -150,12 +184,16 @@ fn main() {
     time("sums-of-columns", || sums_of_columns(&matrix, 1000));
     time("running-sum", || running_sum(&vector));
     time("running-maximum", || running_maximum(&vector));
+    time("running-difference", || running_difference(&vector));
+    time("running-differences-of-columns", || running_differences_of_columns(&matrix, 1000));
     time("matrix-product", || matrix_product(&factor, &factor, 256));
     time("table", || table(&side, &side));
     let truths: Vec<i64> = vector.iter().map(|number| number & 1).collect();
     time("equal-fold", || fold(&truths, |a, b| (a == b) as i64));
     time("unequal-fold", || fold(&truths, |a, b| (a != b) as i64));
     time("unequal-columns", || fold_columns(&matrix, 1000, |a, b| (a != b) as i64));
+    let signs: Vec<i64> = vector.iter().map(|number| if number & 1 == 0 { 1 } else { -1 }).collect();
+    time("running-product", || running_product(&signs));
     let equal = |a, b| (a == b) as i64;
     time("any-equal", || product_by(&factor, &factor, 256, equal, |a, b| a | b));
     time("all-equal", || product_by(&factor, &factor, 256, equal, |a, b| a & b));

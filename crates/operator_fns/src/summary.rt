@@ -93,7 +93,17 @@ impl Summary {
         if first_near && later_near {
             return Summary::of_near(sum, right, later, last);
         }
-        Summary::of_far(sum, right, later, last)
+        // Taken apart, so that a near one, which is made far oftener, need not lie in memory as this one does.
+        let Summary {
+            below,
+            above,
+            total,
+        } = Summary::of_far(sum, right, later, last);
+        Summary {
+            below,
+            above,
+            total,
+        }
     }
 
     /// The same, worked out two by two.
@@ -189,7 +199,17 @@ impl Summary {
         if self.is_near() && later.is_near() {
             return self.join_near(later);
         }
-        self.join_far(later)
+        // Taken apart, so that a near one, which is made far oftener, need not lie in memory as this one does.
+        let Summary {
+            below,
+            above,
+            total,
+        } = self.join_far(later);
+        Summary {
+            below,
+            above,
+            total,
+        }
     }
 
     /// The same, worked out in 128 bits.

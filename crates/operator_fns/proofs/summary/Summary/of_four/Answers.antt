@@ -20,6 +20,6 @@ returns c =
     let r : to_z w64 (of_z w64 c.args.right) ≡ c.args.right = to_z-of_z w64 c.args.right c.ranges.right in
     let l : to_z w64 (of_z w64 c.args.later) ≡ c.args.later = to_z-of_z w64 c.args.later c.ranges.later in
     let t : to_z w64 (of_z w64 c.args.last) ≡ c.args.last = to_z-of_z w64 c.args.last c.ranges.last in
-    subst (Tells c.of_far.result)
+    subst (Tells c.of_far-below.result)
     (λ i. join (join (single (int_wrap w64 (s i -ℤ r i))) (single (r i))) (join (single (int_wrap w64 (l i -ℤ t i))) (single (t i))))
-    c.of_far.ensures
+    c.of_far-below.ensures
