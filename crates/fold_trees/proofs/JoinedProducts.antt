@@ -1,5 +1,5 @@
 -- The products of endings join as their lists do, and so does what is kept of them.
-use Rattle.std.proofs.Common.{◌≡◌, ap, sym, subst, ◌∙◌, arith, inl, inr, List, [], ◌∷◌, ◌++◌, ℤ, pos, ◌*ℤ◌, ◌⊎◌}
+use Rattle.std.proofs.Common.{◌≡◌, ap, sym, subst, ◌∙◌, arith, inl, inr, List, [], ◌∷◌, ◌++◌, ◌^◌, ℤ, pos, ◌*ℤ◌, ◌⊎◌}
 use Rattle.std.specs.Int.{int_min, int_max}
 use Rattle.std.proofs.lemmas.Int.{ints, clamps, by_lt_z}
 use Rattle.fold_trees.specs.declared.product.Product.{Product}
@@ -124,3 +124,21 @@ tells_join a b s m n h k j = record {
       | inl told_so ↦ subst IsFar (sym told_so) far
       | inr both ↦ both.1
     ]
+
+-- what is far behind a list is kept as it is
+told_far : (b : Product) → (b.below ≡ 2 ^ 63) × (b.above ≡ 2 ^ 63) → IsFar (told b)
+told_far b h =
+    let below = h.0 in
+    let above = h.1 in
+    record { as_they_are = omega (arith, ints, clamps); negated = omega (arith, ints, clamps) }
+
+pub far_joined : (a b : Product) (m n : Products) → (b.below ≡ 2 ^ 63) × (b.above ≡ 2 ^ 63) → Tells a m → Tells b n → Tells b (join m n)
+far_joined a b m n far h k =
+    let both = told_far b far in
+    tells_join a b b m n h k (record {
+      ordered = ordered_join (told a) (told b) h.sound k.sound;
+      sound = k.sound;
+      below = k.below;
+      above = k.above;
+      is = inr (far_behind (told a) (told b) both, both);
+    })

@@ -1,6 +1,6 @@
 -- What is kept of products is near 0, so that 128 bits hold what two of them are together.
 use Rattle.std.proofs.Common.{◌^◌, ◌≤◌, arith, ℤ, pos, neg_ℤ, ◌*ℤ◌, ◌≤ℤ◌, SFits, unsigned_abs}
-use Rattle.std.specs.Int.{w128}
+use Rattle.std.specs.Int.{w64, w128}
 use Rattle.std.proofs.Math.Nat.{mul-le-mul}
 use Rattle.std.proofs.lemmas.Int.{ints, clamps, unsigned_abs-mul, fits_signed_from_abs}
 use Rattle.fold_trees.specs.declared.product.Product.{Product}
@@ -36,3 +36,24 @@ join_within a b h k =
     let low = k.least in
     let high = k.greatest in
     record { low = omega (arith, ints, clamps); high = omega (arith, ints, clamps) }
+
+-- what is nearer keeps their join within 62 bits
+narrow_times : (x y : ℤ) → unsigned_abs x ≤ 2147483647 → unsigned_abs y ≤ 2147483647 → unsigned_abs (x *ℤ y) ≤ 4611686014132420609
+narrow_times x y h k = let size = unsigned_abs-mul x y in let most = mul-le-mul h k in omega arith
+
+pub narrow_fits : (x y : ℤ) → unsigned_abs x ≤ 2147483647 → unsigned_abs y ≤ 2147483647 → SFits w64 (x *ℤ y)
+narrow_fits x y h k = let most = narrow_times x y h k in fits_signed_from_abs w64 (x *ℤ y) (omega arith)
+
+pub narrow_least : (a b : Products) → unsigned_abs a.least ≤ 2147483647 → unsigned_abs a.greatest ≤ 2147483647 → unsigned_abs b.total ≤ 2147483647 → unsigned_abs b.least ≤ 2147483647
+    → neg_ℤ (pos 4611686014132420609) ≤ℤ (join a b).least
+narrow_least a b h k t l =
+    let one = narrow_times a.least b.total h t in
+    let other = narrow_times a.greatest b.total k t in
+    omega (arith, ints, clamps)
+
+pub narrow_greatest : (a b : Products) → unsigned_abs a.least ≤ 2147483647 → unsigned_abs a.greatest ≤ 2147483647 → unsigned_abs b.total ≤ 2147483647 → unsigned_abs b.greatest ≤ 2147483647
+    → (join a b).greatest ≤ℤ pos 4611686014132420609
+narrow_greatest a b h k t g =
+    let one = narrow_times a.least b.total h t in
+    let other = narrow_times a.greatest b.total k t in
+    omega (arith, ints, clamps)

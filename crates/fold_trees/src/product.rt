@@ -1,6 +1,6 @@
 //! What is kept of lists of numbers of which the product is asked for.
 
-ghost use Rattle.std.specs.Prelude.{◌≡◌, ◌^◌, pos, ◌≤ℤ◌, neg_ℤ};
+ghost use Rattle.std.specs.Prelude.{◌≡◌, ◌^◌, ◌<◌, ◌≤◌, true, unsigned_abs, pos, ◌≤ℤ◌, neg_ℤ};
 ghost use Rattle.scalar_fns.specs.declared.function.Scalar2.TheVariants.{Times};
 ghost use Rattle.fold_trees.specs.Products.{Products, IsOrdered, IsKeptOf, Tells, told, join as join_of, none as none_of, before as before_of, product_told};
 
@@ -9,6 +9,9 @@ use arrays_core::Kind;
 
 /// How far from 0 a number of 64 bits is at most.
 const FARTHEST: i128 = 1 << 63;
+
+/// Numbers that are nearer to 0 than this have a product within 64 bits, with room to spare.
+const NEAR: u64 = 1 << 31;
 
 /// How far 0 and the products of the endings of a list of numbers go below 0 and above it, and how far its total is above the least
 /// of them. The ending of no numbers is one of them, and its product is 1. Where they are not all within 64 bits, and would not be
@@ -84,8 +87,81 @@ impl Product {
         }
     }
 
-    /// That of a list and of a later one after it.
-    fn followed_by(&self, later: &Product) -> Product
+    /// Whether all that it tells is near 0.
+    fn is_near(&self) -> bool
+        ensures { result ≡ true → (self.now.below < 2 ^ 31) × (self.now.above < 2 ^ 31) }
+    {
+        self.below < NEAR && self.above < NEAR
+    }
+
+    /// Whether it tells no more than that the product of no longer list is within 64 bits, unless it is 0.
+    fn is_far(&self) -> bool
+        ensures { result ≡ true → (self.now.below ≡ 2 ^ 63) × (self.now.above ≡ 2 ^ 63) }
+    {
+        self.below == 1 << 63 && self.above == 1 << 63
+    }
+
+    /// The total that it tells, which is near 0.
+    fn near_total(&self) -> i64
+        requires sound { IsOrdered (told self.now) }
+        requires near { (self.now.below < 2 ^ 31) × (self.now.above < 2 ^ 31) }
+        ensures is { result ≡ (told self.now).total }
+        ensures near { unsigned_abs result ≤ 2147483647 }
+    {
+        self.total as i64 - self.below as i64
+    }
+
+    /// The least product that it tells, which is near 0.
+    fn near_least(&self) -> i64
+        requires { (self.now.below < 2 ^ 31) × (self.now.above < 2 ^ 31) }
+        ensures is { result ≡ (told self.now).least }
+        ensures near { unsigned_abs result ≤ 2147483647 }
+    {
+        -(self.below as i64)
+    }
+
+    /// The greatest product that it tells, which is near 0.
+    fn near_greatest(&self) -> i64
+        requires { (self.now.below < 2 ^ 31) × (self.now.above < 2 ^ 31) }
+        ensures is { result ≡ (told self.now).greatest }
+        ensures near { unsigned_abs result ≤ 2147483647 }
+    {
+        self.above as i64
+    }
+
+    /// That of a list with this total, and with this least and greatest of 0 and the products of its endings, all of 62 bits.
+    fn of_narrow(total: i64, least: i64, greatest: i64) -> Product
+        requires ordered { IsOrdered (record { total = total; least = least; greatest = greatest }) }
+        requires low { neg_ℤ (pos 4611686014132420609) ≤ℤ least }
+        requires high { greatest ≤ℤ pos 4611686014132420609 }
+        ensures { Tells result (record { total = total; least = least; greatest = greatest }) }
+    {
+        Product {
+            below: (-least) as u64,
+            above: greatest as u64,
+            total: (total - least) as u64,
+        }
+    }
+
+    /// That of a list and of a later one after it, which tell what is near 0, worked out in 64 bits.
+    fn join_near(&self, later: &Product) -> Product
+        requires here { (products : Products) × Tells self.now products }
+        requires near { (self.now.below < 2 ^ 31) × (self.now.above < 2 ^ 31) }
+        requires later { (products : Products) × Tells later.now products }
+        requires later_near { (later.now.below < 2 ^ 31) × (later.now.above < 2 ^ 31) }
+        ensures { (earlier : Products) → (rest : Products) → Tells self.now earlier → Tells later.now rest → Tells result (join_of earlier rest) }
+    {
+        let factor = later.near_total();
+        let one = self.near_least() * factor;
+        let other = self.near_greatest() * factor;
+        let least = later.near_least().min(one.min(other));
+        let greatest = later.near_greatest().max(one.max(other));
+        Product::of_narrow(self.near_total() * factor, least, greatest)
+    }
+
+    /// The same of any, worked out in 128 bits.
+    #[inline(never)]
+    fn join_wide(&self, later: &Product) -> Product
         requires here { (products : Products) × Tells self.now products }
         requires later { (products : Products) × Tells later.now products }
         ensures { (earlier : Products) → (rest : Products) → Tells self.now earlier → Tells later.now rest → Tells result (join_of earlier rest) }
@@ -96,6 +172,31 @@ impl Product {
         let least = later.least().min(one.min(other));
         let greatest = later.greatest().max(one.max(other));
         Product::of_products(self.total() * factor, least, greatest)
+    }
+
+    /// That of a list and of a later one after it. Where the later one is far, so are both.
+    fn followed_by(&self, later: &Product) -> Product
+        requires here { (products : Products) × Tells self.now products }
+        requires later { (products : Products) × Tells later.now products }
+        ensures { (earlier : Products) → (rest : Products) → Tells self.now earlier → Tells later.now rest → Tells result (join_of earlier rest) }
+    {
+        if later.is_far() {
+            return *later;
+        }
+        if self.is_near() && later.is_near() {
+            return self.join_near(later);
+        }
+        // Taken apart, so that a near one need not lie in memory as this one does.
+        let Product {
+            below,
+            above,
+            total,
+        } = self.join_wide(later);
+        Product {
+            below,
+            above,
+            total,
+        }
     }
 
     /// The product of the list from its last number to its first, or LIMIT where that leaves 64 bits on its way: where the product of an
