@@ -5,9 +5,9 @@ use Rattle.std.proofs.lemmas.Nat.{same_from_place}
 use Rattle.std.proofs.lemmas.Bool.{cases_eq}
 use Rattle.std.proofs.lemmas.List.{get_or-set_other}
 use Rattle.operator_fns.specs.declared.line_tree.Line.{Line}
-use Rattle.operator_fns.specs.LineTrees.{slot_at, slot_of, HasSlots}
+use Rattle.operator_fns.specs.LineTrees.{slot_at, slot_of, HasSlots, ArePaired}
 use Rattle.operator_fns.specs.LineBlocks.{line_of, slots_end, HaveSlots}
-use Rattle.operator_fns.proofs.LineWrites.{ArePaired, pair_on}
+use Rattle.operator_fns.proofs.LineWrites.{pair_on}
 use Rattle.operator_fns.proofs.BlockRows.{slot_row, slots_within, line_slot, next_slot}
 
 -- the slots of one line of a block are none of another
@@ -66,11 +66,12 @@ module _ (first : Line) (before slots : List ℤ) (place k here : ℕ) (sum : �
       paired_still (line_of first column) before slots (set slots here sum) place
       (stays column under (λ e. let no : ⊥ = omega (arith, e, high) in no)) (rest column (omega (arith, high)) under)
 
-  -- what is outside the block stays
-  pub outside : (p : ℕ) → (p < first.slot ⊎ slots_end first ≤ p) → get_or (set slots here sum) p (pos 0) ≡ get_or slots p (pos 0)
-  outside p away =
-      let row = slots_within first place (omega (arith, more)) in
-      get_or-set_other slots here p sum (pos 0) (λ e. elim away [
-        | inl low ↦ let no : ⊥ = omega (arith, low, e, here_is) in no
-        | inr high ↦ let no : ⊥ = omega (arith, high, e, here_is, row, below) in no
-      ])
+-- what is outside the block stays
+pub outside : (first : Line) (slots : List ℤ) (place k here : ℕ) (sum : ℤ) → here ≡ slot_at first place + k → k < first.step → place + 1 < first.count
+    → (p : ℕ) → (p < first.slot ⊎ slots_end first ≤ p) → get_or (set slots here sum) p (pos 0) ≡ get_or slots p (pos 0)
+outside first slots place k here sum here_is below more p away =
+    let row = slots_within first place (omega (arith, more)) in
+    get_or-set_other slots here p sum (pos 0) (λ e. elim away [
+      | inl low ↦ let no : ⊥ = omega (arith, low, e, here_is) in no
+      | inr high ↦ let no : ⊥ = omega (arith, high, e, here_is, row, below) in no
+    ])

@@ -5,7 +5,7 @@ use Rattle.std.proofs.lemmas.Bool.{cases_lt, cases_eq}
 use Rattle.std.proofs.lemmas.Int.{SFits-int_wrap}
 use Rattle.std.proofs.lemmas.List.{length-set, get_or-set_same, get_or-set_other}
 use Rattle.operator_fns.specs.declared.line_tree.Line.{Line}
-use Rattle.operator_fns.specs.LineTrees.{slot_at, slot_of, number_of, replaced, HasSlots}
+use Rattle.operator_fns.specs.LineTrees.{slot_at, slot_of, number_of, replaced, HasSlots, ArePaired}
 use Rattle.operator_fns.proofs.LineParts.{number_before, number_odd, number_last, replaced_here, replaced_other}
 use Rattle.operator_fns.proofs.Wrapping.{other_of_two}
 
@@ -143,13 +143,6 @@ module _ (l : Line) (slots : List ℤ) (has : HasSlots l (length slots)) (place 
           ∙ other_of_two left z (SFits-int_wrap w64 (slot_of l slots before -ℤ slot_of l slots place))
 
 -- ---- two by two
-
--- before this place each first of two is the sum of both
-pub record ArePaired (l : Line) (before after : List ℤ) (place : ℕ) : Type 0 where
-  pub first : (i : ℕ) → i % 2 ≡ 0 → i < place → slot_of l after i ≡ int_wrap w64 (slot_of l before i +ℤ slot_of l before (i + 1))
-  pub fits : (i : ℕ) → i % 2 ≡ 0 → i < place → FitsSigned w64 (slot_of l before i)
-  pub second : (i : ℕ) → i % 2 ≡ 1 → slot_of l after i ≡ slot_of l before i
-  pub rest : (i : ℕ) → place ≤ i → slot_of l after i ≡ slot_of l before i
 
 pub pair_on : (l : Line) (before after : List ℤ) (place : ℕ) (sum : ℤ) → HasSlots l (length after) → place % 2 ≡ 0 → place + 1 < l.count → ArePaired l before after place
     → FitsSigned w64 (slot_of l after place) → sum ≡ int_wrap w64 (slot_of l after place +ℤ slot_of l after (place + 1)) → ArePaired l before (set after (slot_at l place) sum) (place + 2)

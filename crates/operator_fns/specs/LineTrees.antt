@@ -1,5 +1,5 @@
 -- Where a line of numbers lies, and what is kept of its parts.
-use Rattle.std.specs.Prelude.{◌≡◌, ℕ, ◌+◌, ◌-◌, ◌*◌, ◌/◌, ◌%◌, ◌^◌, ◌<◌, ◌≤◌, min, nat_eq, nat_lt, ℤ, pos, ◌-ℤ◌, List, length, map, FitsSigned, All, get_or, ◌&&◌, if◌then◌else◌, ◌⊎◌}
+use Rattle.std.specs.Prelude.{◌≡◌, ℕ, ◌+◌, ◌-◌, ◌*◌, ◌/◌, ◌%◌, ◌^◌, ◌<◌, ◌≤◌, min, nat_eq, nat_lt, ℤ, pos, ◌+ℤ◌, ◌-ℤ◌, List, length, map, FitsSigned, All, get_or, ◌&&◌, if◌then◌else◌, ◌⊎◌}
 use Rattle.std.specs.Int.{int_wrap, w64}
 use Rattle.std.specs.List.{range_with_len}
 use Rattle.operator_fns.specs.declared.summary.Summary.{Summary}
@@ -23,6 +23,13 @@ abbrev pub number_of : Line → List ℤ → ℕ → ℤ
 number_of l slots place =
     if nat_eq (place % 2) 0 && nat_lt (place + 1) l.count then int_wrap w64 (slot_of l slots place -ℤ slot_of l slots (place + 1))
     else slot_of l slots place
+
+-- before this place of a list of slots each first of two is the sum of both
+pub record ArePaired (l : Line) (before after : List ℤ) (place : ℕ) : Type 0 where
+  pub first : (i : ℕ) → i % 2 ≡ 0 → i < place → slot_of l after i ≡ int_wrap w64 (slot_of l before i +ℤ slot_of l before (i + 1))
+  pub fits : (i : ℕ) → i % 2 ≡ 0 → i < place → FitsSigned w64 (slot_of l before i)
+  pub second : (i : ℕ) → i % 2 ≡ 1 → slot_of l after i ≡ slot_of l before i
+  pub rest : (i : ℕ) → place ≤ i → slot_of l after i ≡ slot_of l before i
 
 -- of no numbers
 abbrev pub empty : Summary

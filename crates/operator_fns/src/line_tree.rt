@@ -1,9 +1,9 @@
 //! The tree of sums of one line of numbers, among lists that hold those of several.
 
-ghost use Rattle.std.specs.Prelude.{◌≡◌, ◌≢◌, pos, get_or, ℕ, ◌+◌, ◌-◌, ◌*◌, ◌/◌, ◌%◌, ◌^◌, ◌<◌, ◌≤◌, ◌++◌, ◌∷◌, [], min, ℤ, length, vec_len, vec_capacity, FitsSigned, All, ◌⊎◌};
+ghost use Rattle.std.specs.Prelude.{◌≡◌, ◌≢◌, pos, get_or, ℕ, ◌+◌, ◌-◌, ◌*◌, ◌/◌, ◌%◌, ◌^◌, ◌<◌, ◌≤◌, ◌++◌, ◌∷◌, [], min, ℤ, List, length, vec_len, vec_capacity, FitsSigned, All, ◌⊎◌};
 ghost use Rattle.std.specs.Int.{w64};
 ghost use Rattle.operator_fns.specs.SumNodes.{Sums, Tells, sums_from, join as join_of};
-ghost use Rattle.operator_fns.specs.LineTrees.{slot_at as slot_place, node_at as node_place, slot_of, number_of, node_of, HasSlots, IsIn, AreKept, AreKeptIn, AreKeptBeside, AreKeptUpTo, IsPart, empty, AreSameIn, other_half, sums_at, replaced, shorter};
+ghost use Rattle.operator_fns.specs.LineTrees.{slot_at as slot_place, node_at as node_place, slot_of, number_of, node_of, HasSlots, IsIn, AreKept, AreKeptIn, AreKeptBeside, AreKeptUpTo, ArePaired, IsPart, empty, AreSameIn, other_half, sums_at, replaced, shorter};
 ghost use Rattle.operator_fns.specs.SumTree.{IsWithinDigitsOf};
 ghost use Rattle.operator_fns.specs.LineBlocks.{line_of, slots_end, nodes_end, HaveSlots, HaveNodes, AreKeptBehind, AreKeptFrom};
 
@@ -492,6 +492,25 @@ fn pair_neighbours(slots: &mut [i64], line: Line)
     }
 }
 
+/// Puts the sum of two numbers in the place of the first one, for the two that lie from a place on in the slots of each line of a block.
+fn pair_row(slots: &mut [i64], first: Line, place: usize)
+    requires slots { HaveSlots first (length slots.old) }
+    requires fit { All (FitsSigned w64) slots.old }
+    requires even { place % 2 ≡ 0 }
+    requires more { place + 1 < first.count }
+    ensures paired { (before : List ℤ) → ((column : ℕ) → column < first.step → ArePaired (line_of first column) before slots.old place)
+        → (column : ℕ) → column < first.step → ArePaired (line_of first column) before slots.new (place + 2) }
+    ensures fit { All (FitsSigned w64) slots.new }
+    ensures others { (p : ℕ) → (p < first.slot ⊎ slots_end first ≤ p) → get_or slots.new p (pos 0) ≡ get_or slots.old p (pos 0) }
+    ensures length { length slots.new ≡ length slots.old }
+{
+    let row = first.slot_at(place);
+    for column in 0..first.step {
+        let here = row + column;
+        slots[here] = slots[here].wrapping_add(slots[here + first.step]);
+    }
+}
+
 /// Puts the sum of two numbers in the place of the first one, for each two that lie in the slots of each line of a block, row by row.
 fn pair_rows(slots: &mut [i64], first: Line)
     requires slots { HaveSlots first (length slots.old) }
@@ -502,15 +521,9 @@ fn pair_rows(slots: &mut [i64], first: Line)
     ensures length { length slots.new ≡ length slots.old }
 {
     let mut place = 0;
-    let mut column = 0;
     while place + 1 < first.count {
-        let here = first.slot_at(place) + column;
-        slots[here] = slots[here].wrapping_add(slots[here + first.step]);
-        column += 1;
-        if column == first.step {
-            column = 0;
-            place += 2;
-        }
+        pair_row(slots, first, place);
+        place += 2;
     }
 }
 

@@ -3,9 +3,9 @@ use Rattle.std.specs.Int.{int_wrap}
 use Rattle.std.proofs.lemmas.Int.{SFits-int_wrap}
 use Rattle.std.proofs.lemmas.List.Elements.{All-set}
 use Rattle.std.proofs.lemmas.List.{length-set, get_or-set_other}
-use Rattle.operator_fns.specs.LineTrees.{slot_at, slot_of, HasSlots}
+use Rattle.operator_fns.specs.LineTrees.{slot_at, slot_of, HasSlots, ArePaired}
 use Rattle.operator_fns.proofs.Wrapping.{sum_left}
-use Rattle.operator_fns.proofs.LineWrites.{ArePaired, pair_on, pair_end}
+use Rattle.operator_fns.proofs.LineWrites.{pair_on, pair_end}
 use Rattle.operator_fns.proofs.LineEnds.{near_slot}
 use Rattle.operator_fns.proofs.line_tree.pair_neighbours.Goals as goal
 

@@ -1,7 +1,7 @@
 use Rattle.std.proofs.Common.{◌≡◌, ℕ, ◌*◌, ◌<◌, ◌≤◌, ◌⊎◌, length, get_or, pos, FitsSigned, w64}
 use Rattle.std.specs.List.{All}
 use Rattle.operator_fns.specs.LineBlocks.{slots_end}
-use Rattle.operator_fns.proofs.LineWrites.{ArePaired}
+use Rattle.operator_fns.specs.LineTrees.{ArePaired}
 use Rattle.operator_fns.proofs.line_tree.pair_neighbours.Given as goal
 
 abbrev pub invariant-loop-pair : goal.invariant-loop-pair
