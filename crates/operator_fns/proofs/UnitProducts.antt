@@ -1,5 +1,5 @@
 -- The products of numbers that are 0, 1 or ¯1, from the left and from the right.
-use Rattle.std.proofs.Common.{◌≡◌, ℕ, zero, suc, ◌+◌, ◌*◌, ◌<◌, ◌≤◌, List, [], ◌∷◌, length, refl, ap, sym, ◌∙◌, arith, pos, negsuc, ℤ, ◌*ℤ◌, unsigned_abs, Result, Ok}
+use Rattle.std.proofs.Common.{◌≡◌, ℕ, zero, suc, ◌+◌, ◌*◌, ◌<◌, ◌≤◌, List, [], ◌∷◌, length, refl, ap, sym, ◌∙◌, arith, pos, negsuc, ℤ, ◌*ℤ◌, Ok}
 use borrow.Author.Differences.{up, down, product_is, same_in}
 use Rattle.std.specs.List.{All}
 use Rattle.arrays_core.specs.Items.{all_or_first_error, and_then}

@@ -1,4 +1,4 @@
-use Rattle.std.proofs.Common.{◌≡◌, ◌∙◌, ◌+◌, ◌%◌, length, get_or, sym, ap, subst, arith, rules, to_z, of_z, w64, FitsSigned, pos, ◌+ℤ◌}
+use Rattle.std.proofs.Common.{◌≡◌, ◌∙◌, ◌+◌, ◌%◌, length, get_or, sym, ap, subst, rules, to_z, of_z, w64, FitsSigned, pos, ◌+ℤ◌}
 use Rattle.std.specs.Int.{int_wrap}
 use Rattle.std.proofs.lemmas.Int.{SFits-int_wrap}
 use Rattle.std.proofs.lemmas.List.Elements.{All-set}

@@ -1,8 +1,7 @@
-use Rattle.std.proofs.Common.{◌≡◌, ◌∙◌, ◌+◌, ◌-◌, ◌%◌, ◌<◌, ◌++◌, ◌∷◌, [], ap, sym, subst, length, get_or, min, arith, Ok, pos, to_z, of_z, w64, SFits, rules}
+use Rattle.std.proofs.Common.{◌≡◌, ◌∙◌, ◌+◌, ◌-◌, ◌%◌, ◌<◌, ◌++◌, ◌∷◌, [], ap, sym, subst, length, get_or, arith, Ok, pos, to_z, of_z, w64, SFits, rules}
 use Rattle.std.proofs.lemmas.Int.{to_z-of_z}
 use Rattle.scalar_fns.specs.declared.function.Scalar2.TheVariants.{Minus}
 use Rattle.scalar_fns.specs.Numbers.{dyadic_on_numbers}
-use Rattle.operator_fns.specs.LinearScan.{AreResultsTo}
 use Rattle.operator_fns.specs.Prefixes.{right_rule}
 use Rattle.operator_fns.proofs.LeftScans.{one_more}
 use Rattle.operator_fns.proofs.SmallDifferences.{sum_to, next_total, next_beside, sum_is, sum_fits}

@@ -1,9 +1,8 @@
-use Rattle.std.proofs.Common.{◌≡◌, ◌∙◌, ◌+◌, ◌-◌, ◌%◌, ◌<◌, ◌≤◌, ◌++◌, ◌∷◌, [], ap, sym, subst, length, get_or, min, arith, Ok, pos, to_z, of_z, w64, SFits, rules}
+use Rattle.std.proofs.Common.{◌≡◌, ◌∙◌, ◌+◌, ◌-◌, ◌%◌, ◌<◌, ◌++◌, ◌∷◌, [], ap, sym, subst, length, get_or, arith, Ok, pos, to_z, of_z, w64, SFits, rules}
 use Rattle.std.proofs.lemmas.Int.{to_z-of_z}
-use Rattle.std.proofs.lemmas.Nat.{mod_below}
 use Rattle.scalar_fns.specs.declared.function.Scalar2.TheVariants.{Minus}
 use Rattle.scalar_fns.specs.Numbers.{dyadic_on_numbers}
-use Rattle.operator_fns.specs.LinearScan.{depth, AreResultsTo}
+use Rattle.operator_fns.specs.LinearScan.{depth}
 use Rattle.operator_fns.specs.Prefixes.{right_rule}
 use Rattle.operator_fns.proofs.LeftScans.{one_more}
 use Rattle.operator_fns.proofs.Runs.{past_stride}
