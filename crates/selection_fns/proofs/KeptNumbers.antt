@@ -1,8 +1,7 @@
 -- The numbers that a mask keeps, one place after another.
-use Rattle.std.proofs.Common.{◌≡◌, ℕ, zero, suc, ◌+◌, ◌-◌, ◌<◌, ◌≤◌, Bool, false, nat_eq, cond, List, [], ◌∷◌, ◌++◌, length, map, take, get_or, set, ℤ, pos, unsigned_abs, Ok, refl, ap, sym, subst, ◌∙◌, append-nil, arith}
+use Rattle.std.proofs.Common.{◌≡◌, ℕ, zero, suc, ◌+◌, ◌<◌, ◌≤◌, Bool, false, nat_eq, cond, List, [], ◌∷◌, ◌++◌, length, map, get_or, ℤ, pos, negsuc, unsigned_abs, w64, of_z, Ok, refl, ap, sym, ◌∙◌, append-nil, arith}
 use Rattle.std.specs.Prelude.{max, sum}
-use Rattle.std.proofs.lemmas.Bool.Decides.{nat_tests}
-use Rattle.std.proofs.lemmas.List.{length-append, length-map, get_or-map, map-append, take-set, take_more_set, take_all}
+use Rattle.std.proofs.lemmas.List.{length-map, get_or-map, map-append, take_all}
 use Rattle.arrays_core.specs.declared.item.Item.{Item}
 use Rattle.arrays_core.specs.declared.item.Item.TheVariants.{Num}
 use Rattle.arrays_core.specs.declared.item.ItemType.{ItemType}
@@ -13,66 +12,73 @@ use Rattle.arrays_core.specs.Shapes.{size}
 use Rattle.index_region.specs.declared.along.Along.{Along}
 use Rattle.index_region.specs.Checks.{form_of}
 use Rattle.index_region.specs.Axes.{axis_at, places_along}
-use Rattle.index_region.specs.Arguments.{numbers, has_one_item, number_of}
+use Rattle.index_region.specs.Arguments.{numbers}
 use Rattle.selection_fns.specs.Replicate.{maker, times, copied_place, replicate_form, replicate_whole}
 use Rattle.selection_fns.specs.Kept.{AreKept}
 use Rattle.selection_fns.proofs.Copies.{AreBefore, axis_below, copies_fit, one_place_more, replicate_gives}
+use Rattle.selection_fns.proofs.NumbersAt.{items_at}
 use Rattle.selection_fns.proofs.Picked.{picked_long, picked_copies}
 
--- the numbers that the first k places keep, at the front of a list
-pub record AreKeptSoFar (counts ns : List ℤ) (k copies : ℕ) (kept : List ℤ) : Type 0 where
+-- the numbers that the first k places keep
+pub record AreKeptSoFar (counts ns : List ℤ) (k : ℕ) (kept : List ℤ) : Type 0 where
   pub before : List ℕ
   pub made : AreBefore (map unsigned_abs counts) k before
-  pub counted : length before ≡ copies
-  pub are : take copies kept ≡ map (λ j. get_or ns j (pos 0)) before
+  pub are : kept ≡ map (λ j. get_or ns j (pos 0)) before
 
-pub none_kept : (counts ns kept : List ℤ) → AreKeptSoFar counts ns 0 0 kept
-none_kept counts ns kept = record { before = []; made = record { first = refl; is = λ i h. absurd (omega arith) }; counted = refl; are = refl }
+pub none_kept : (counts ns : List ℤ) → AreKeptSoFar counts ns 0 []
+none_kept counts ns = record { before = []; made = record { first = refl; is = λ i h. absurd (omega arith) }; are = refl }
 
-pub kept_step : (counts ns : List ℤ) (k copies count : ℕ) (kept : List ℤ) → k < length (map unsigned_abs counts) → count ≡ get_or (map unsigned_abs counts) k 0 → count ≤ 1
-    → copies < length kept → AreKeptSoFar counts ns k copies kept → AreKeptSoFar counts ns (k + 1) (copies + count) (set kept copies (get_or ns k (pos 0)))
-kept_step counts ns k copies count kept below same low room so_far = by count same low
-  where
-    each : ℕ → ℤ
-    each j = get_or ns j (pos 0)
+-- a count of 0 or 1 that is not 0 for the machine
+pub one_of_bit : (z : ℤ) → unsigned_abs z ≤ 1 → (of_z w64 z ≡ 0 → ⊥) → unsigned_abs z ≡ 1
+one_of_bit (pos zero) few some = absurd (some refl)
+one_of_bit (pos (suc k)) few some = omega arith
+one_of_bit (negsuc k) few some = omega arith
 
-    by : (n : ℕ) → n ≡ get_or (map unsigned_abs counts) k 0 → n ≤ 1 → AreKeptSoFar counts ns (k + 1) (copies + n) (set kept copies (get_or ns k (pos 0)))
-    by zero is few = record {
-      before = so_far.before;
-      made = one_place_more (map unsigned_abs counts) k 0 so_far.before so_far.before below is (sym (append-nil so_far.before)) so_far.made;
-      counted = let counted = so_far.counted in omega arith;
-      are = ap (λ m. take m (set kept copies (get_or ns k (pos 0)))) (let none : copies + zero ≡ copies = omega arith in none) ∙ take-set kept copies (get_or ns k (pos 0)) ∙ so_far.are;
-    }
-    by (suc zero) is few = record {
+-- the next number is kept where its count is 1
+pub one_kept : (counts ns : List ℤ) (k : ℕ) (kept new : List ℤ) → k < length counts → unsigned_abs (get_or counts k (pos 0)) ≡ 1
+    → new ≡ kept ++ get_or ns k (pos 0) ∷ [] → AreKeptSoFar counts ns k kept → AreKeptSoFar counts ns (k + 1) new
+one_kept counts ns k kept new below one put so_far =
+    let long = length-map counts unsigned_abs in
+    let count : 1 ≡ get_or (map unsigned_abs counts) k 0 = sym (get_or-map unsigned_abs counts k (pos 0) 0 below ∙ one) in
+    record {
       before = so_far.before ++ k ∷ [];
-      made = one_place_more (map unsigned_abs counts) k 1 so_far.before (so_far.before ++ k ∷ []) below is refl so_far.made;
-      counted = let counted = so_far.counted in simp length-append (omega arith);
-      are = ap (λ m. take m (set kept copies (get_or ns k (pos 0)))) (let one : copies + suc zero ≡ copies + 1 = omega arith in one) ∙ take_more_set kept copies (get_or ns k (pos 0)) room
-          ∙ ap (λ t. t ++ get_or ns k (pos 0) ∷ []) so_far.are ∙ sym (map-append (λ j. get_or ns j (pos 0)) so_far.before (k ∷ []));
+      made = one_place_more (map unsigned_abs counts) k 1 so_far.before (so_far.before ++ k ∷ []) (omega arith) count refl so_far.made;
+      are = put ∙ ap (λ t. t ++ get_or ns k (pos 0) ∷ []) so_far.are ∙ sym (map-append (λ j. get_or ns j (pos 0)) so_far.before (k ∷ []));
     }
-    by (suc (suc n)) is few = absurd (omega arith)
 
--- the copies so far and those of the next place are no more than all
-pub kept_fit : (counts ns : List ℤ) (k copies : ℕ) (kept : List ℤ) → k < length (map unsigned_abs counts) → AreKeptSoFar counts ns k copies kept
-    → copies + get_or (map unsigned_abs counts) k 0 ≤ sum (map unsigned_abs counts)
-kept_fit counts ns k copies kept below so_far =
-    let fit = copies_fit (map unsigned_abs counts) k so_far.before so_far.made below in
-    let counted = so_far.counted in
+-- and is not where its count is 0
+pub not_kept : (counts ns : List ℤ) (k : ℕ) (kept : List ℤ) → k < length counts → unsigned_abs (get_or counts k (pos 0)) ≡ 0
+    → AreKeptSoFar counts ns k kept → AreKeptSoFar counts ns (k + 1) kept
+not_kept counts ns k kept below none so_far =
+    let long = length-map counts unsigned_abs in
+    let count : 0 ≡ get_or (map unsigned_abs counts) k 0 = sym (get_or-map unsigned_abs counts k (pos 0) 0 below ∙ none) in
+    record {
+      before = so_far.before;
+      made = one_place_more (map unsigned_abs counts) k 0 so_far.before so_far.before (omega arith) count (sym (append-nil so_far.before)) so_far.made;
+      are = so_far.are;
+    }
+
+counted : (counts ns : List ℤ) (k : ℕ) (kept : List ℤ) (so_far : AreKeptSoFar counts ns k kept) → length so_far.before ≡ length kept
+counted counts ns k kept so_far = sym (ap length so_far.are ∙ length-map so_far.before (λ j. get_or ns j (pos 0)))
+
+-- those that are kept and the next one, if it is, are no more than all
+pub kept_fit : (counts ns : List ℤ) (k : ℕ) (kept : List ℤ) → k < length counts → AreKeptSoFar counts ns k kept
+    → length kept + unsigned_abs (get_or counts k (pos 0)) ≤ sum (map unsigned_abs counts)
+kept_fit counts ns k kept below so_far =
+    let long = length-map counts unsigned_abs in
+    let fit = copies_fit (map unsigned_abs counts) k so_far.before so_far.made (omega arith) in
+    let same = counted counts ns k kept so_far in
+    let count = get_or-map unsigned_abs counts k (pos 0) 0 below in
     omega arith
 
 -- all are kept where there are as many as copies
-pub all_kept : (counts ns : List ℤ) (k copies : ℕ) (kept : List ℤ) → AreKeptSoFar counts ns k copies kept → copies ≡ sum (map unsigned_abs counts) → length kept ≡ copies → AreKept counts ns kept
-all_kept counts ns k copies kept so_far full long = record {
-  before = so_far.before;
-  are = sym (take_all copies kept (omega arith)) ∙ so_far.are;
-  long = so_far.counted ∙ full;
-  is = so_far.made.is;
-}
+pub all_kept : (counts ns : List ℤ) (k : ℕ) (kept : List ℤ) → AreKeptSoFar counts ns k kept → length kept ≡ sum (map unsigned_abs counts) → AreKept counts ns kept
+all_kept counts ns k kept so_far full = record { before = so_far.before; are = so_far.are; long = counted counts ns k kept so_far ∙ full; is = so_far.made.is }
 
-pub kept_of_all : (counts ns : List ℤ) (k copies : ℕ) (kept : List ℤ) → AreKeptSoFar counts ns k copies kept → length counts ≤ k → copies ≡ sum (map unsigned_abs counts)
-kept_of_all counts ns k copies kept so_far past =
+pub kept_of_all : (counts ns : List ℤ) (k : ℕ) (kept : List ℤ) → AreKeptSoFar counts ns k kept → length counts ≤ k → length kept ≡ sum (map unsigned_abs counts)
+kept_of_all counts ns k kept so_far past =
     let long = length-map counts unsigned_abs in
-    sym so_far.counted ∙ so_far.made.first ∙ ap sum (take_all k (map unsigned_abs counts) (omega arith))
+    sym (counted counts ns k kept so_far) ∙ so_far.made.first ∙ ap sum (take_all k (map unsigned_abs counts) (omega arith))
 
 -- the numbers of a vector that are kept are the copies of its places
 module _ (along : Along) (a b : ArrayValue) (shape : List ℕ) (ns kept : List ℤ)
@@ -113,20 +119,8 @@ module _ (along : Along) (a b : ArrayValue) (shape : List ℕ) (ns kept : List �
   pub kept_long : length kept ≡ size shape
   kept_long = ap length are.are ∙ length-map are.before (λ k. get_or ns k (pos 0)) ∙ picked_long along a b shape are.before b.item_type few as_many form long is
 
-  same_items : (xs : List ℕ) → map (λ k. get_or b.items k (fill b.item_type)) xs ≡ map (λ z. Num z) (map (λ k. get_or ns k (pos 0)) xs)
-  same_items [] = refl
-  same_items (k ∷ xs) = ap (λ (x : Item). x ∷ map (λ j. get_or b.items j (fill b.item_type)) xs) here ∙ ap (λ (t : List Item). Num (get_or ns k (pos 0)) ∷ t) (same_items xs)
-    where
-      here : get_or b.items k (fill b.item_type) ≡ Num (get_or ns k (pos 0))
-      here = ap (λ (t : List Item). get_or t k (fill b.item_type)) items ∙ ap (λ (t : ItemType). get_or (map (λ z. Num z) ns) k (fill t)) typed ∙ read ns k
-        where
-          read : (zs : List ℤ) (j : ℕ) → get_or (map (λ z. Num z) zs) j (Num (pos 0)) ≡ Num (get_or zs j (pos 0))
-          read [] j = refl
-          read (z ∷ zs) zero = refl
-          read (z ∷ zs) (suc j) = read zs j
-
   pub kept_copies : replicate_whole along a b ≡ Ok (record { item_type = Nums; shape = shape; items = map (λ z. Num z) kept })
   kept_copies =
       picked_copies along a b shape are.before b.item_type few as_many form long is
       ∙ ap (λ (t : ItemType). Ok (record { item_type = t; shape = shape; items = map (λ k. get_or b.items k (fill b.item_type)) are.before })) typed
-      ∙ ap (λ (xs : List Item). Ok (record { item_type = Nums; shape = shape; items = xs })) (same_items are.before ∙ ap (map (λ z. Num z)) (sym are.are))
+      ∙ ap (λ (xs : List Item). Ok (record { item_type = Nums; shape = shape; items = xs })) (items_at b.item_type b.items ns typed items are.before ∙ ap (map (λ z. Num z)) (sym are.are))

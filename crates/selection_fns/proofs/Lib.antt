@@ -14,6 +14,7 @@ pub mod Worths
 pub mod DecodedRows
 pub mod DecodeErrors
 pub mod NearNumbers
+pub mod NumbersAt
 pub mod PickCases
 pub mod SearchCases
 pub mod DigitCases

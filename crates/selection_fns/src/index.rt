@@ -359,15 +359,12 @@ impl<'w> Index<'w> {
         ensures { IsAnswerTo (index_whole array.now (written_positions self.now.written.now positions.now)) result }
     {
         let (shape, item_type) = self.form(array, positions)?;
-        let count = size(shape.as_slice());
-        let mut items = ArrayBuilder::with_capacity(alloc, item_type, count as usize)?;
-        if count == 0 {
-            return Ok(items.into_array(&shape)?);
+        if size(shape.as_slice()) == 0 {
+            return Ok(Array::filled(alloc, item_type, &shape)?);
         }
         let axes = array.shape();
         let places = places_of(alloc, axes.as_slice(), self.written, positions)?;
-        places.extend(array, &mut items)?;
-        Ok(items.into_array(&shape)?)
+        Ok(places.items(alloc, array, &shape)?)
     }
 }
 

@@ -1,9 +1,11 @@
 //! Places of the items of an indexed reference, each given by how many come before it in the indexed array.
 
-ghost use Rattle.std.specs.Prelude.{◌≡◌, ◌<◌, ◌≤◌, ◌+◌, ◌-◌, ◌*◌, ◌^◌, ◌++◌, ◌∷◌, [], ℕ, IsTrue, IfOk, OnOk, map, length, get_or, unsigned_abs, vec_len, vec_capacity};
+ghost use Rattle.std.specs.Prelude.{◌≡◌, ◌<◌, ◌≤◌, ◌+◌, ◌-◌, ◌*◌, ◌^◌, ◌++◌, ◌∷◌, [], ℕ, IsTrue, IfOk, IfSome, OnOk, map, length, get_or, pos, unsigned_abs, vec_len, vec_capacity};
 ghost use Rattle.std.specs.List.{list_all, range_with_len};
 ghost use Rattle.arrays_core.specs.Building.{listed};
 ghost use Rattle.arrays_core.specs.Items.{fill};
+ghost use Rattle.arrays_core.specs.declared.item.Item.TheVariants.{Num};
+ghost use Rattle.arrays_core.specs.declared.item.ItemType.TheVariants.{Nums};
 ghost use Rattle.arrays_core.specs.Limits.{most_places};
 ghost use Rattle.arrays_core.specs.Shapes.{size as size_of, IsWithinLimits};
 ghost use Rattle.index_region.specs.Arguments.{numbers};
@@ -11,7 +13,7 @@ ghost use Rattle.selection_fns.specs.Index.{written_positions, count_written, is
 ghost use Rattle.selection_fns.specs.IndexPlaces.{sums as all_sums, row_places, all_places, ArePlacesOf};
 
 use crate::numbers_of::numbers_of;
-use arrays_core::{ArrayBuilder, size};
+use arrays_core::{Array, ArrayBuilder, Shape, room_of, size};
 use index_region::Seen;
 use std::alloc::{AllocError, Global};
 
@@ -76,6 +78,41 @@ fn index_offsets(
     let mut list = Vec::with_capacity(alloc, indices.len())?;
     for k in 0..indices.len() {
         list.push_reserved((indices[k].unsigned_abs() as u32 - 1) * step);
+    }
+    Ok(list)
+}
+
+/// Puts numbers behind others, in a list that has room for them: those at places, where place 0 stands behind `head` numbers. The
+/// list is handed in and back, so that no number waits until it is written how long the list is.
+fn with_numbers_at(list: Vec<i64>, numbers: &[i64], head: u32, places: &[u32]) -> Vec<i64>
+    requires inside { (k : ℕ) → k < length places.now → head + get_or places.now k 0 < length numbers.now }
+    requires room { vec_len list + length places.now ≤ vec_capacity list }
+    ensures items { result.items ≡ list.items ++ map (λ place. get_or numbers.now (head + place) (pos 0)) places.now }
+    ensures long { vec_len result ≡ vec_len list + length places.now }
+    ensures room { vec_capacity result ≡ vec_capacity list }
+{
+    let mut list = list;
+    let head = head as usize;
+    for k in 0..places.len() {
+        list.push_reserved(numbers[head + places[k] as usize]);
+    }
+    list
+}
+
+/// The numbers at rows of places, each row as far from its head as the others.
+fn numbers_at(
+    alloc: Global,
+    numbers: &[i64],
+    heads: &[u32],
+    row: &[u32],
+) -> Result<Vec<i64>, AllocError>
+    requires few { length heads.now * length row.now ≤ most_places }
+    requires inside { (i j : ℕ) → i < length heads.now → j < length row.now → get_or heads.now i 0 + get_or row.now j 0 < length numbers.now }
+    ensures { IfOk result (λ list. list.items ≡ map (λ k. get_or numbers.now k (pos 0)) (all_sums heads.now row.now)) }
+{
+    let mut list = Vec::with_capacity(alloc, room_of(heads.len() * row.len()))?;
+    for k in 0..heads.len() {
+        list = with_numbers_at(list, numbers, heads[k], row);
     }
     Ok(list)
 }
@@ -158,8 +195,51 @@ impl Places {
         }
     }
 
+    /// The numbers at the places, where rows are listed and the numbers of the array lie in one piece.
+    fn numbers(&self, alloc: Global, array: &Seen) -> Result<Option<Vec<i64>>, AllocError>
+        requires few { length (all_places self.now) ≤ most_places }
+        requires inside { (k : ℕ) → k < length (all_places self.now) → get_or (all_places self.now) k 0 < length array.now.items }
+        ensures typed { IfOk result (λ o. IfSome o (λ list. array.now.item_type ≡ Nums)) }
+        ensures items { IfOk result (λ o. IfSome o (λ list. map (λ z. Num z) list.items
+            ≡ map (λ k. get_or array.now.items k (fill array.now.item_type)) (all_places self.now))) }
+    {
+        let Row::Listed(row) = &self.row else {
+            return Ok(None);
+        };
+        let Some(numbers) = array.numbers() else {
+            return Ok(None);
+        };
+        Ok(Some(numbers_at(alloc, numbers, &self.heads, row)?))
+    }
+
+    /// The items of an array at the places, as an array of a shape that has as many.
+    pub(crate) fn items(
+        &self,
+        alloc: Global,
+        array: &Seen,
+        shape: &Shape,
+    ) -> Result<Array, AllocError>
+        requires within { IsWithinLimits shape.now.items }
+        requires one_item_a_place { length (all_places self.now) ≡ size_of shape.now.items }
+        requires some { 0 < length (all_places self.now) }
+        requires inside { (k : ℕ) → k < length (all_places self.now) → get_or (all_places self.now) k 0 < length array.now.items }
+        ensures { IfOk result (λ a. a ≡ record {
+          item_type = array.now.item_type;
+          shape = shape.now.items;
+          items = map (λ k. get_or array.now.items k (fill array.now.item_type)) (all_places self.now);
+        }) }
+    {
+        if let Some(numbers) = self.numbers(alloc, array)? {
+            return Array::from_numbers(shape, numbers);
+        }
+        let count = size(shape.as_slice()) as usize;
+        let mut items = ArrayBuilder::with_capacity(alloc, array.item_type(), count)?;
+        self.extend(array, &mut items)?;
+        items.into_array(shape)
+    }
+
     /// Puts the items of an array at the places behind others.
-    pub(crate) fn extend(&self, array: &Seen, items: &mut ArrayBuilder) -> Result<(), AllocError>
+    fn extend(&self, array: &Seen, items: &mut ArrayBuilder) -> Result<(), AllocError>
         requires typed { array.now.item_type ≡ items.old.item_type }
         requires some { 0 < length (all_places self.now) }
         requires inside { (k : ℕ) → k < length (all_places self.now) → get_or (all_places self.now) k 0 < length array.now.items }

@@ -4,11 +4,11 @@ ghost use Rattle.std.specs.Prelude.{◌≡◌, IfOk, length};
 ghost use Rattle.selection_fns.specs.Replicate.{IsMask};
 ghost use Rattle.selection_fns.specs.Kept.{AreKept};
 
-use arrays_core::repeated;
+use arrays_core::room_of;
 use std::alloc::{AllocError, Global};
 
-/// The numbers whose counts are 1, where each count is 0 or 1, and so many are 1. Each number is written where the next one
-/// that is kept stands, and its count says whether it stays there.
+/// The numbers whose counts are 1, where each count is 0 or 1, and so many are 1. Each number is put behind those that are kept
+/// before it is known whether it stays, so that the machine need not guess; one whose count is 0 is taken away again.
 pub(crate) fn kept_numbers(
     alloc: Global,
     counts: &[i64],
@@ -20,14 +20,15 @@ pub(crate) fn kept_numbers(
     ensures { IfOk result (λ v. AreKept counts.now numbers.now v.items) }
 {
     let total = total as usize;
-    let mut kept = repeated(alloc, 0, total)?;
-    let mut copies = 0;
+    let mut kept = Vec::with_capacity(alloc, room_of(total))?;
     for place in 0..counts.len() {
-        if copies == total {
+        if kept.len() == total {
             return Ok(kept);
         }
-        kept[copies] = numbers[place];
-        copies += counts[place].unsigned_abs() as usize;
+        kept.push_reserved(numbers[place]);
+        if counts[place] == 0 {
+            kept.take_last();
+        }
     }
     Ok(kept)
 }

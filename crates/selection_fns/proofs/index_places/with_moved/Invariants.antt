@@ -1,4 +1,4 @@
-use Rattle.std.proofs.Common.{◌≡◌, ◌≤◌, ◌+◌, ◌++◌, length, map, take, vec_len, vec_capacity}
+use Rattle.std.proofs.Common.{◌≡◌, ◌+◌, ◌++◌, map, take, vec_len, vec_capacity}
 use Rattle.selection_fns.proofs.index_places.with_moved.Given as goal
 
 abbrev pub invariant-loop-k : goal.invariant-loop-k
