@@ -15,8 +15,8 @@ use index_region::{IndexBox, Seen};
 use selection_fns::Encode;
 use std::alloc::Global;
 
-/// The numbers of an array in a box, of which the intervals of a box behind its first one are told, as a vector. None where the array
-/// is of characters, or there is no memory.
+/// The numbers of an array that lie in a box, as a vector. The intervals of that box are those of `region` without its first one. None where
+/// the array is of characters, or where there is no memory.
 fn column_numbers(alloc: Global, array: &Seen, region: &IndexBox, columns: u32) -> Option<Array>
     requires axes { 0 < length region.now }
     requires row { columns ≡ box_size (drop 1 region.now) }
