@@ -48,6 +48,33 @@ fn replicate(counts: &[i64], list: &[i64]) -> Vec<i64> {
     copies
 }
 
+fn mask() -> Vec<i64> {
+    let mut number: i64 = 5;
+    (0..1000000)
+        .map(|_| {
+            number = number.wrapping_mul(6364136223846793005).wrapping_add(1442695040888963407);
+            i64::from((number >> 33) % 11 < 4)
+        })
+        .collect()
+}
+
+fn columns(matrix: &[i64], width: usize, indices: &[usize]) -> Vec<i64> {
+    let mut made = Vec::with_capacity(matrix.len() / width * indices.len());
+    matrix.chunks(width).for_each(|row| made.extend(indices.iter().map(|index| row[index - 1])));
+    made
+}
+
+fn index_of_four(four: &[i64], indices: &[usize]) -> Vec<i64> {
+    let mut made = Vec::with_capacity(32 * 32 * indices.len() * indices.len());
+    for cube in four.chunks(32 * 32 * 30) {
+        for index in indices {
+            let square = &cube[(index - 1) * 32 * 30..][..32 * 30];
+            square.chunks(30).for_each(|row| made.extend(indices.iter().map(|last| row[last - 1])));
+        }
+    }
+    made
+}
+
 fn time(name: &str, run: impl Fn() -> Vec<i64>) {
     let mut least = u128::MAX;
     let mut end = 0;
@@ -69,4 +96,10 @@ fn main() {
     let counts = black_box((0..1000000).map(|k| k % 3).collect::<Vec<i64>>());
     time("index", || index(&list, &places));
     time("replicate", || replicate(&counts, &list));
+    let bits = black_box(mask());
+    time("mask", || replicate(&bits, &list));
+    let indices = black_box([1, 2]);
+    time("column", || list.chunks(1000).map(|row| row[black_box(2)]).collect());
+    time("columns", || columns(&list, 1000, &indices));
+    time("index-of-four", || index_of_four(&list[..32 * 32 * 32 * 30], &indices));
 }
