@@ -11,6 +11,7 @@ use crate::room::room_of;
 use crate::shape::Shape;
 use std::alloc::{AllocError, Global};
 use std::marker::Model;
+use std::mem;
 
 /// Puts an item behind the others, so many times.
 fn extend_with<T: Copy + Drop>(items: &mut Vec<T>, item: T, count: u32) -> Result<(), AllocError>
@@ -32,7 +33,8 @@ fn extend_run<T: Copy + Drop>(
     items.extend_from_slice(&from[first..first + count])
 }
 
-/// Puts a run of items behind the others, the last of it first.
+/// Puts a run of items behind the others, the last of it first. Here and below the list is taken out while items are put behind
+/// it, so that none waits until it is written how long the list is.
 fn extend_back<T: Copy + Drop>(
     items: &mut Vec<T>,
     from: &[T],
@@ -44,9 +46,11 @@ fn extend_back<T: Copy + Drop>(
     ensures { OnOk result ((d : T) → items.new.items ≡ items.old.items ++ listed count (λ k. get_or from.now (last - k) d)) }
 {
     items.reserve(count)?;
+    let mut list = mem::replace(items, Vec::new(*items.allocator()));
     for k in 0..count {
-        items.push_reserved(from[last - k]);
+        list.push_reserved(from[last - k]);
     }
+    *items = list;
     Ok(())
 }
 
@@ -62,9 +66,11 @@ fn extend_steps<T: Copy + Drop>(
     ensures { OnOk result ((d : T) → items.new.items ≡ items.old.items ++ listed count (λ k. get_or from.now (first + k * step) d)) }
 {
     items.reserve(count)?;
+    let mut list = mem::replace(items, Vec::new(*items.allocator()));
     for k in 0..count {
-        items.push_reserved(from[first + k * step]);
+        list.push_reserved(from[first + k * step]);
     }
+    *items = list;
     Ok(())
 }
 
@@ -80,9 +86,11 @@ fn extend_at<T: Copy + Drop>(
     ensures { OnOk result ((d : T) → items.new.items ≡ items.old.items ++ listed (length indices.now) (λ k. get_or from.now (before + unsigned_abs (get_or indices.now k (pos 0)) - 1) d)) }
 {
     items.reserve(indices.len())?;
+    let mut list = mem::replace(items, Vec::new(*items.allocator()));
     for k in 0..indices.len() {
-        items.push_reserved(from[before + indices[k].unsigned_abs() as usize - 1]);
+        list.push_reserved(from[before + indices[k].unsigned_abs() as usize - 1]);
     }
+    *items = list;
     Ok(())
 }
 
@@ -97,9 +105,11 @@ fn extend_places<T: Copy + Drop>(
     ensures { OnOk result ((d : T) → items.new.items ≡ items.old.items ++ listed (length places.now) (λ k. get_or from.now (first + get_or places.now k 0) d)) }
 {
     items.reserve(places.len())?;
+    let mut list = mem::replace(items, Vec::new(*items.allocator()));
     for k in 0..places.len() {
-        items.push_reserved(from[first + places[k] as usize]);
+        list.push_reserved(from[first + places[k] as usize]);
     }
+    *items = list;
     Ok(())
 }
 

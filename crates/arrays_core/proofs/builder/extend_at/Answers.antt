@@ -18,7 +18,7 @@ loop-k-preserved g c =
     let value : c.unsigned_abs.result ≡ unsigned_abs (get_or indices k (pos 0)) = c.unsigned_abs.ensures.value ∙ ap unsigned_abs same in
     record {
       room = omega arith;
-      made = λ d. listed_more (λ j. get_or from (c.args.before + unsigned_abs (get_or indices j (pos 0)) - 1) d) c.args.items.now.items c.loop-k.items.items c.push_reserved.new.self.items k c.index-from-before.result
+      made = λ d. listed_more (λ j. get_or from (c.args.before + unsigned_abs (get_or indices j (pos 0)) - 1) d) c.args.items.now.items c.loop-k.list.items c.push_reserved.new.self.items k c.index-from-before.result
           (c.loop-k.invariant.made d) c.push_reserved.ensures.items
           (c.index-from-before.is ∙ get_or_default from (c.args.before + c.unsigned_abs.result - 1) _ d (omega (arith, low, high, value)) ∙ ap (λ m. get_or from (c.args.before + m - 1) d) value);
     }

@@ -4,6 +4,6 @@ use Rattle.arrays_core.proofs.builder.extend_at.Given as goal
 
 abbrev pub invariant-loop-k : goal.invariant-loop-k
 invariant-loop-k g l = record {
-  room : vec_len l.items + length l.indices ≤ vec_capacity l.items + l.k;
-  made : (d : g.row.T.Denot) → l.items.items ≡ l.fn.items.items ++ listed l.k (λ j. get_or l.from (l.before + unsigned_abs (get_or l.indices j (pos 0)) - 1) d);
+  room : vec_len l.list + length l.indices ≤ vec_capacity l.list + l.k;
+  made : (d : g.row.T.Denot) → l.list.items ≡ l.fn.items.items ++ listed l.k (λ j. get_or l.from (l.before + unsigned_abs (get_or l.indices j (pos 0)) - 1) d);
 }

@@ -11,7 +11,7 @@ loop-k-preserved g c =
     let below : k < c.args.count = c.loop-k-test.true in
     record {
       room = omega arith;
-      made = λ d. listed_more (λ j. get_or from (c.args.last - j) d) c.args.items.now.items c.loop-k.items.items c.push_reserved.new.self.items k c.index-from-last.result
+      made = λ d. listed_more (λ j. get_or from (c.args.last - j) d) c.args.items.now.items c.loop-k.list.items c.push_reserved.new.self.items k c.index-from-last.result
           (c.loop-k.invariant.made d) c.push_reserved.ensures.items (c.index-from-last.is ∙ get_or_default from (c.args.last - k) _ d (omega arith));
     }
 

@@ -13,7 +13,7 @@ loop-k-preserved g c =
     let there : c.args.first + get_or places k 0 < length from = c.requires k below in
     record {
       room = omega arith;
-      made = λ d. listed_more (λ j. get_or from (c.args.first + get_or places j 0) d) c.args.items.now.items c.loop-k.items.items c.push_reserved.new.self.items k c.index-from-first.result
+      made = λ d. listed_more (λ j. get_or from (c.args.first + get_or places j 0) d) c.args.items.now.items c.loop-k.list.items c.push_reserved.new.self.items k c.index-from-first.result
           (c.loop-k.invariant.made d) c.push_reserved.ensures.items
           (c.index-from-first.is ∙ get_or_default from (c.args.first + get_or places k 0) _ d there);
     }

@@ -12,7 +12,7 @@ loop-k-preserved g c =
     let inside = c.requires k below in
     record {
       room = omega arith;
-      made = λ d. listed_more (λ j. get_or from (c.args.first + j * c.args.step) d) c.args.items.now.items c.loop-k.items.items c.push_reserved.new.self.items k c.index-from-first.result
+      made = λ d. listed_more (λ j. get_or from (c.args.first + j * c.args.step) d) c.args.items.now.items c.loop-k.list.items c.push_reserved.new.self.items k c.index-from-first.result
           (c.loop-k.invariant.made d) c.push_reserved.ensures.items (c.index-from-first.is ∙ get_or_default from (c.args.first + k * c.args.step) _ d inside);
     }
 

@@ -4,6 +4,6 @@ use Rattle.arrays_core.proofs.builder.extend_steps.Given as goal
 
 abbrev pub invariant-loop-k : goal.invariant-loop-k
 invariant-loop-k g l = record {
-  room : vec_len l.items + l.count ≤ vec_capacity l.items + l.k;
-  made : (d : g.row.T.Denot) → l.items.items ≡ l.fn.items.items ++ listed l.k (λ j. get_or l.from (l.first + j * l.step) d);
+  room : vec_len l.list + l.count ≤ vec_capacity l.list + l.k;
+  made : (d : g.row.T.Denot) → l.list.items ≡ l.fn.items.items ++ listed l.k (λ j. get_or l.from (l.first + j * l.step) d);
 }
