@@ -29,6 +29,7 @@ use arrays_core::{Array, Fault};
 use change_core::{Count, Meter};
 use index_region::Delta;
 use std::alloc::{AllocError, Global};
+use std::cell::Cell;
 use std::marker::Model;
 
 /// An expression as a table of nodes, each after those whose results it takes, with the result that each node was last
@@ -40,6 +41,8 @@ pub struct Formula {
     names: Vec<Name>,
     nodes: Vec<Kept>,
     is_new: bool,
+    /// Room for the changes of the next plan, kept from the last one that was adopted.
+    room: Cell<Vec<NodeChange>>,
 }
 
 impl Model for Formula {
@@ -79,6 +82,7 @@ impl Formula {
             names,
             nodes,
             is_new: true,
+            room: Cell::new(Vec::new(alloc)),
         })
     }
 
@@ -163,7 +167,7 @@ impl Formula {
         ensures planned { IfOk result (λ p. (c : Change) → IsTold self.now c inputs.now → IsPlannedTo self.now c p) }
     {
         let mut plan = Plan {
-            changes: Vec::with_capacity(self.alloc, self.nodes.len())?,
+            changes: room_for_changes(self.alloc, &self.room, self.nodes.len())?,
             cost: Count::new(),
         };
         self.go_on(&mut plan.changes, inputs)?;
@@ -281,12 +285,14 @@ impl Formula {
     }
 
     /// Takes the results of a plan that was made of it as it is. No memory is asked for: patches are written where the
-    /// results lie.
+    /// results lie. The memory of the plan is kept for the next.
     pub fn adopt(&mut self, plan: Plan)
         requires { IsPlanOf self.old plan }
         ensures { self.new ≡ record { tree = self.old.tree; is_new = false; nodes = adopted plan.changes self.old.nodes } }
     {
-        adopt_all(&mut self.nodes, plan.changes);
+        let mut changes = plan.changes;
+        adopt_all(&mut self.nodes, &mut changes);
+        self.room.set(changes);
         self.is_new = false;
     }
 
@@ -361,6 +367,20 @@ fn lower_whole(
             Ok(())
         }
     }
+}
+
+/// An empty list with room for so many changes: in the memory that was kept, where it is enough.
+fn room_for_changes(
+    alloc: Global,
+    room: &Cell<Vec<NodeChange>>,
+    count: usize,
+) -> Result<Vec<NodeChange>, AllocError>
+    ensures { IfOk result (λ changes. changes.items ≡ []) }
+{
+    let mut changes = room.replace(Vec::new(alloc));
+    changes.clear();
+    changes.reserve_exact(count)?;
+    Ok(changes)
 }
 
 /// How many of the nodes apply a function.

@@ -102,11 +102,11 @@ fn adopt_change(held: &mut Result<Array, Fault>, change: Delta)
     }
 }
 
-/// Each node takes its change.
-pub(crate) fn adopt_all(nodes: &mut Vec<Kept>, mut changes: Vec<NodeChange>)
-    requires each { length changes.items ≡ length nodes.old.items }
-    requires fit { AllFit changes.items (holdings_of nodes.old.items) }
-    ensures { nodes.new.items ≡ each_with taken changes.items nodes.old.items }
+/// Each node takes its change out of the list.
+pub(crate) fn adopt_all(nodes: &mut Vec<Kept>, changes: &mut Vec<NodeChange>)
+    requires each { length changes.old.items ≡ length nodes.old.items }
+    requires fit { AllFit changes.old.items (holdings_of nodes.old.items) }
+    ensures { nodes.new.items ≡ each_with taken changes.old.items nodes.old.items }
 {
     while let Some(change) = changes.pop() {
         nodes[changes.len()].adopt(change);
