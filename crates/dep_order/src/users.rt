@@ -6,19 +6,20 @@ ghost use Rattle.dep_order.specs.Reachability.{Reaches};
 ghost use Rattle.dep_order.specs.Users.{Uses, users_of, IsExact, IsWithin, IsClosed, HasRoomFor, IsReadyFor, HasNoEmptyBut, HasNothing};
 
 use indexmap::{IndexMap, IndexSet};
-use std::alloc::{AllocError, Global};
+use std::alloc::AllocError;
 use std::hash::Hash;
 
 /// For each node that others refer to, those others.
 pub type Users<N> = IndexMap<N, IndexSet<N>>;
 
 /// A node and all that reach it, by one reference or by a chain of them: each once, after all that refer to it, with a place for
-/// what is to be found out of it. No chain of references to the node is to be longer than the height.
+/// what is to be found out of it. No chain of references to the node is to be longer than the height. They are put into a map that is
+/// given for its memory, in place of what it holds: where its memory is enough, none is asked for.
 pub fn affected<N: Eq + Hash + Copy, V: Drop>(
-    alloc: Global,
     users: &Users<N>,
     node: N,
     height: usize,
+    room: IndexMap<N, Option<V>>,
 ) -> Result<IndexMap<N, Option<V>>, AllocError>
     requires exact { IsExact N.eq }
     requires within { IsWithin N.eq users.now.entries height node }
@@ -28,7 +29,8 @@ pub fn affected<N: Eq + Hash + Copy, V: Drop>(
     ensures sound { IfOk result (λ found. (a : N) → Contains (keys_of found.entries) a → (a ≡ node) ⊎ Reaches (Uses N.eq users.now.entries) a node) }
     ensures none { IfOk result (λ found. HasNothing N.eq found.entries) }
 {
-    let mut found = IndexMap::new(alloc);
+    let mut found = room;
+    found.truncate(0);
     climb(users, node, height, &mut found)?;
     // The length says that no key stands in it twice.
     let _distinct = found.len();

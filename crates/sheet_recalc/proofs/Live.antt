@@ -1,5 +1,5 @@
 -- Entries, the names that they stand for, and what they show.
-use Rattle.std.proofs.Common.{◌≡◌, ℕ, ◌<◌, Bool, true, false, cond, List, [], ◌∷◌, length, Option, Some, None, Ok, Err, IsSome, is_some, refl, sym, ap, ◌∙◌, subst, arith, if◌then◌else◌}
+use Rattle.std.proofs.Common.{◌≡◌, ℕ, ◌<◌, Bool, true, false, cond, List, [], ◌∷◌, ◌++◌, length, Option, Some, None, Ok, Err, IsSome, is_some, refl, sym, ap, ◌∙◌, subst, arith, if◌then◌else◌}
 use Rattle.std.specs.Str.{bytes_eq}
 use Rattle.std.specs.Map.{lookup, keys_of, set_value, remove_entry}
 use Rattle.std.proofs.lemmas.Map.{lookup-remove_entry}
@@ -25,6 +25,7 @@ use Rattle.sheet_recalc.proofs.Scratch.{val_absent}
 use Rattle.sheet_recalc.proofs.Putting.{lookup_put}
 use Rattle.sheet_recalc.proofs.Removing.{others, lookup_others, names_of_others}
 use Rattle.dep_order.proofs.Following.{contains_none}
+use Rattle.dep_order.proofs.Roomed.{found_last}
 
 pub binding_of_name : (es : List (List ℕ × Entry)) (q : List ℕ) → binding (names_of es) q ≡ option_map binding_of (lookup (bytes_eq q) es)
 binding_of_name [] q = refl
@@ -139,26 +140,18 @@ holding_val es current q = by (lookup (bytes_eq q) es) refl
 
 -- ---- plans are taken one after another
 
--- the first of what a change reached is taken
-module _ (found found' : List (List ℕ × Option PlanValue)) (name : List ℕ) (p : Option PlanValue) (all : found ≡ (name, p) ∷ found') (once : IsDistinct bytes_eq (keys_of found)) where
-  distinct : IsDistinct bytes_eq (keys_of ((name, p) ∷ found'))
-  distinct = subst (λ (ps : List (List ℕ × Option PlanValue)). IsDistinct bytes_eq (keys_of ps)) all once
+-- the last of what a change reached is taken
+module _ (found left : List (List ℕ × Option PlanValue)) (name : List ℕ) (p : Option PlanValue) (all : found ≡ left ++ (name, p) ∷ [])
+    (taken : (q : List ℕ) → lookup (bytes_eq q) left ≡ cond (bytes_eq name q) None (lookup (bytes_eq q) found)) where
+  pub reached_last : plan_in found name ≡ p
+  reached_last =
+      let gone : lookup (bytes_eq name) left ≡ None = taken name ∙ rw (equal-same name name refl) refl in
+      ap (λ ps. plan_in ps name) all ∙ ap (λ o. unwrap_or o None) (found_last bytes_eq names_equal left name p gone)
 
-  pub once_after : IsDistinct bytes_eq (keys_of found')
-  once_after = IsDistinct-tail bytes_eq name (keys_of found') distinct
-
-  pub reached_first : plan_in found name ≡ p
-  reached_first = ap (λ ps. plan_in ps name) all ∙ rw (equal-same name name refl) refl
-
-  taken : (q : List ℕ) → lookup (bytes_eq q) found' ≡ cond (bytes_eq name q) None (lookup (bytes_eq q) found)
-  taken q =
-      let rest : remove_entry (bytes_eq name) ((name, p) ∷ found') ≡ found' = rw (equal-same name name refl) refl in
-      ap (lookup (bytes_eq q)) (sym rest) ∙ lookup-remove_entry names_equal (bytes_eq name) (λ x y h. ap (λ z. bytes_eq z y) (equal-true name x h)) q ((name, p) ∷ found') distinct ∙ ap (λ ps. cond (bytes_eq name q) None (lookup (bytes_eq q) ps)) (sym all)
-
-  pub reached_others : (q : List ℕ) → plan_in found' q ≡ cond (bytes_eq name q) None (plan_in found q)
+  pub reached_others : (q : List ℕ) → plan_in left q ≡ cond (bytes_eq name q) None (plan_in found q)
   reached_others q = by (bytes_eq name q) refl
     where
-      by : (t : Bool) → bytes_eq name q ≡ t → plan_in found' q ≡ cond t None (plan_in found q)
+      by : (t : Bool) → bytes_eq name q ≡ t → plan_in left q ≡ cond t None (plan_in found q)
       by true is = ap (λ o. unwrap_or o None) (taken q ∙ ap (λ t. cond t None (lookup (bytes_eq q) found)) is)
       by false is = ap (λ o. unwrap_or o None) (taken q ∙ ap (λ t. cond t None (lookup (bytes_eq q) found)) is)
 

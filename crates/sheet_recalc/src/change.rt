@@ -32,15 +32,15 @@ impl Sheet {
         ensures ticks { IfOk result (λ pending. pending.ticks ≤ expression_cost self.now.names (change_of change.now)) }
         ensures refused { IfErr result (Refuses self.now.names (change_of change.now)) }
     {
-        let mut pending = Box::into_inner(self.laid_out(change)?);
+        let mut pending = self.laid_out(change)?;
         self.count(&mut pending)?;
         Ok(pending)
     }
 
     /// Lays a change out, or says why not.
-    fn laid_out(&self, change: &Change) -> Result<Box<Pending>, Refusal>
-        ensures ok { IfOk result (λ pending. IsLaidOutOn self.now (change_of change.now) pending.value) }
-        ensures ticks { IfOk result (λ pending. pending.value.ticks ≤ expression_cost self.now.names (change_of change.now)) }
+    fn laid_out(&self, change: &Change) -> Result<Pending, Refusal>
+        ensures ok { IfOk result (IsLaidOutOn self.now (change_of change.now)) }
+        ensures ticks { IfOk result (λ pending. pending.ticks ≤ expression_cost self.now.names (change_of change.now)) }
         ensures refused { IfErr result (Refuses self.now.names (change_of change.now)) }
     {
         match change {

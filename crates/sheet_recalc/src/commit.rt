@@ -27,9 +27,13 @@ use formula_core::Plan;
 use index_region::{Delta, Patch, Tail};
 use indexmap::IndexMap;
 
-/// Makes a change that is worked out. No memory is asked for.
+/// Makes a change that is worked out, and hands back the map of what it reached, for its memory. No memory is asked for.
 #[inline(always)]
-pub(crate) fn make(entries: &mut IndexMap<Name, Entry>, users: &mut Users<Name>, pending: Pending)
+pub(crate) fn make(
+    entries: &mut IndexMap<Name, Entry>,
+    users: &mut Users<Name>,
+    pending: Pending,
+) -> Found
     requires ready { IsReady (record { entries = entries.old; users = users.old }) pending }
     requires tells { IsTable (names_of entries.old.entries) users.old.entries }
     requires used { HasNoEmptyBut bytes_eq users.old.entries [] }
@@ -45,21 +49,32 @@ pub(crate) fn make(entries: &mut IndexMap<Name, Entry>, users: &mut Users<Name>,
         growth,
         ..
     } = pending;
-    let found = plans.found;
+    let mut found = plans.found;
     match proposal {
         Proposal::Formula(formula) => {
             let entry = Entry::Formula(formula);
-            commit_with(entries, users, name, entry, found, growth);
+            commit_with(entries, users, name, entry, &mut found, growth);
+            found
         }
         Proposal::Data(Delta::Whole(Ok(array))) => {
             let entry = Entry::Data(array);
-            commit_with(entries, users, name, entry, found, growth);
+            commit_with(entries, users, name, entry, &mut found, growth);
+            found
         }
-        Proposal::Data(Delta::Patch(patch)) => commit_patch(entries, name, &patch, found),
-        Proposal::Data(Delta::Grown(tail)) => commit_row(entries, name, tail, found),
-        Proposal::Data(Delta::Same) => {}
-        Proposal::Data(Delta::Whole(Err(_))) => {}
-        Proposal::Removed => commit_removal(entries, users, name, found),
+        Proposal::Data(Delta::Patch(patch)) => {
+            commit_patch(entries, name, &patch, &mut found);
+            found
+        }
+        Proposal::Data(Delta::Grown(tail)) => {
+            commit_row(entries, name, tail, &mut found);
+            found
+        }
+        Proposal::Data(Delta::Same) => found,
+        Proposal::Data(Delta::Whole(Err(_))) => found,
+        Proposal::Removed => {
+            commit_removal(entries, users, name, &mut found);
+            found
+        }
     }
 }
 
@@ -69,10 +84,10 @@ fn commit_with(
     users: &mut Users<Name>,
     name: Name,
     entry: Entry,
-    found: Found,
+    found: &mut Found,
     growth: Option<Box<Growth>>,
 )
-    requires planned { IsPlanned entries.old.entries name (Some entry) (put (names_of entries.old.entries) name (binding_of entry)) (plan_in found.entries) }
+    requires planned { IsPlanned entries.old.entries name (Some entry) (put (names_of entries.old.entries) name (binding_of entry)) (plan_in found.old.entries) }
     requires brings { IsBrought (record { entries = entries.old; users = users.old }) (referred (binding_of entry)) growth }
     requires tells { IsTable (names_of entries.old.entries) users.old.entries }
     requires used { HasNoEmptyBut bytes_eq users.old.entries [] }
@@ -97,10 +112,10 @@ fn commit(
     users: &mut Users<Name>,
     name: Name,
     entry: Entry,
-    found: Found,
+    found: &mut Found,
 )
     requires room { 0 < spare entries.old }
-    requires planned { IsPlanned entries.old.entries name (Some entry) (put (names_of entries.old.entries) name (binding_of entry)) (plan_in found.entries) }
+    requires planned { IsPlanned entries.old.entries name (Some entry) (put (names_of entries.old.entries) name (binding_of entry)) (plan_in found.old.entries) }
     requires tells { IsTable (names_of entries.old.entries) users.old.entries }
     requires sets { HasRoomFor bytes_eq users.old.entries (referred (binding_of entry)) }
     requires used { HasNoEmptyBut bytes_eq users.old.entries (referred (binding_of entry)) }
@@ -124,9 +139,9 @@ fn commit_removal(
     entries: &mut IndexMap<Name, Entry>,
     users: &mut Users<Name>,
     name: Name,
-    found: Found,
+    found: &mut Found,
 )
-    requires planned { IsPlanned entries.old.entries name None (without (names_of entries.old.entries) name) (plan_in found.entries) }
+    requires planned { IsPlanned entries.old.entries name None (without (names_of entries.old.entries) name) (plan_in found.old.entries) }
     requires tells { IsTable (names_of entries.old.entries) users.old.entries }
     requires used { HasNoEmptyBut bytes_eq users.old.entries [] }
     ensures names { names_of entries.new.entries ≡ without (names_of entries.old.entries) name }
@@ -142,10 +157,10 @@ fn commit_removal(
 }
 
 /// Writes new items into the data of a name, where it lies, and gives each formula its new results.
-fn commit_patch(entries: &mut IndexMap<Name, Entry>, name: Name, patch: &Patch, found: Found)
+fn commit_patch(entries: &mut IndexMap<Name, Entry>, name: Name, patch: &Patch, found: &mut Found)
     requires data { (a : ArrayValue) × HasData entries.old.entries name a × FitsPatch a patch.now }
     requires planned { (a : ArrayValue) → HasData entries.old.entries name a
-        → IsPlanned entries.old.entries name (Some (DataEntry (patched a patch.now))) (put (names_of entries.old.entries) name (Data (patched a patch.now))) (plan_in found.entries) }
+        → IsPlanned entries.old.entries name (Some (DataEntry (patched a patch.now))) (put (names_of entries.old.entries) name (Data (patched a patch.now))) (plan_in found.old.entries) }
     ensures names { (a : ArrayValue) → HasData entries.old.entries name a → names_of entries.new.entries ≡ put (names_of entries.old.entries) name (Data (patched a patch.now)) }
     ensures current { IsCurrent entries.new.entries }
 {
@@ -164,10 +179,10 @@ fn write_patch(entries: &mut IndexMap<Name, Entry>, name: Name, patch: &Patch)
 }
 
 /// Puts a row behind the data of a name, where it lies, and gives each formula its new results.
-fn commit_row(entries: &mut IndexMap<Name, Entry>, name: Name, tail: Tail, found: Found)
+fn commit_row(entries: &mut IndexMap<Name, Entry>, name: Name, tail: Tail, found: &mut Found)
     requires data { (a : ArrayValue) × HasData entries.old.entries name a × FitsTail a tail }
     requires planned { (a : ArrayValue) → HasData entries.old.entries name a
-        → IsPlanned entries.old.entries name (Some (DataEntry (grown_by a tail.items))) (put (names_of entries.old.entries) name (Data (grown_by a tail.items))) (plan_in found.entries) }
+        → IsPlanned entries.old.entries name (Some (DataEntry (grown_by a tail.items))) (put (names_of entries.old.entries) name (Data (grown_by a tail.items))) (plan_in found.old.entries) }
     ensures names { (a : ArrayValue) → HasData entries.old.entries name a → names_of entries.new.entries ≡ put (names_of entries.old.entries) name (Data (grown_by a tail.items)) }
     ensures current { IsCurrent entries.new.entries }
 {
@@ -196,13 +211,13 @@ fn references_of(entries: &IndexMap<Name, Entry>, name: Name) -> &[Name]
     }
 }
 
-/// Gives each formula that has a plan its new results.
-fn adopt_all(entries: &mut IndexMap<Name, Entry>, found: Found)
-    requires { IsAdopting (names_of entries.old.entries) entries.old.entries (plan_in found.entries) }
+/// Gives each formula that has a plan its new results, and takes the plans out of the map.
+fn adopt_all(entries: &mut IndexMap<Name, Entry>, found: &mut Found)
+    requires { IsAdopting (names_of entries.old.entries) entries.old.entries (plan_in found.old.entries) }
     ensures names { names_of entries.new.entries ≡ names_of entries.old.entries }
     ensures current { IsCurrent entries.new.entries }
 {
-    for reached in found {
+    while let Some(reached) = found.pop() {
         let (name, plan) = reached;
         if let Some(plan) = plan {
             adopt_one(entries, name, plan);

@@ -36,11 +36,12 @@ use indexmap::IndexMap;
 use std::alloc::{AllocError, Global};
 
 /// What a change reaches, of which no plan is made yet and no function counted, where this was spent before, or why it is refused: the
-/// name would reach itself, or there is no room for it.
+/// name would reach itself, or there is no room for it. It is put into a map that is given for its memory.
 pub(crate) fn begun(
     alloc: Global,
     proposed: &ProposedSheet<'_>,
     users: &Users<Name>,
+    room: Found,
     spent: u64,
 ) -> Result<Plans, Refusal>
     requires live { IsLive proposed.now.entries.now.entries users.now.entries }
@@ -53,7 +54,7 @@ pub(crate) fn begun(
     ensures refused { IfErr result (CannotBecome (names_of proposed.now.entries.now.entries) (proposed_names (outline_of proposed.now)) proposed.now.name) }
 {
     shown_is_sound(proposed);
-    let found = affected(alloc, users, proposed.name, proposed.entries.len())?;
+    let found = affected(users, proposed.name, proposed.entries.len(), room)?;
     if let Some(reference) = first_found(&found, proposed.proposal.references()) {
         return Err(Refusal::Cycle(cycle_through(alloc, proposed, &found, reference)?));
     }

@@ -21,6 +21,7 @@ use crate::evaluation::absent;
 use crate::growth::growth_for;
 use crate::pending::Pending;
 use crate::planning::{apply_next, begun, functions_in, plan_all, settle};
+use crate::plans::Found;
 use crate::proposal::Proposal;
 use crate::proposed_sheet::ProposedSheet;
 use crate::refusal::Refusal;
@@ -35,6 +36,7 @@ use index_region::Delta;
 use indexmap::IndexMap;
 use indexmap::map::Keys;
 use std::alloc::{AllocError, Global};
+use std::cell::Cell;
 use std::marker::Model;
 
 /// The most names of a sheet: a new name is refused where this many are present.
@@ -51,6 +53,8 @@ pub struct Sheet {
     cost: u64,
     /// How many items of results were computed in it.
     ticks: u64,
+    /// Room for what the next change reaches, kept from the last one that was made.
+    room: Cell<Found>,
 }
 
 impl Model for Sheet {
@@ -100,6 +104,7 @@ impl Sheet {
             users: IndexMap::new(alloc),
             cost: 0,
             ticks: 0,
+            room: Cell::new(IndexMap::new(alloc)),
         }
     }
 
@@ -161,9 +166,9 @@ impl Sheet {
     }
 
     /// Lays a definition out: it is refused here, or worked out and then made.
-    pub(crate) fn begin_define(&self, name: Name, tree: &Expr) -> Result<Box<Pending>, Refusal>
-        ensures ok { IfOk result (λ pending. IsLaidOutOn self.now (Define name (tree_of tree.now)) pending.value) }
-        ensures ticks { IfOk result (λ pending. pending.value.ticks ≤ expression_cost self.now.names (Define name (tree_of tree.now))) }
+    pub(crate) fn begin_define(&self, name: Name, tree: &Expr) -> Result<Pending, Refusal>
+        ensures ok { IfOk result (IsLaidOutOn self.now (Define name (tree_of tree.now))) }
+        ensures ticks { IfOk result (λ pending. pending.ticks ≤ expression_cost self.now.names (Define name (tree_of tree.now))) }
         ensures refused { IfErr result (Refuses self.now.names (Define name (tree_of tree.now))) }
     {
         let formula = Formula::of(self.alloc, tree)?;
@@ -288,21 +293,22 @@ impl Sheet {
         ensures computed { (change : Change) → IsPendingOn self.old change pending → HasTicks self.old.names change self.new.names self.new.ticks }
     {
         let (cost, ticks) = (pending.plans.cost, pending.ticks);
-        make(&mut self.entries, &mut self.users, pending);
+        let found = make(&mut self.entries, &mut self.users, pending);
+        self.room.set(found);
         self.cost = cost;
         self.ticks = ticks;
     }
 
     /// Works out a change that is laid out on the sheet as it is, and makes it.
-    fn complete(&mut self, mut pending: Box<Pending>) -> Result<(), AllocError>
-        requires { (change : Change) × IsLaidOutOn self.old change pending.value }
-        ensures made { OnOk result ((change : Change) → IsLaidOutOn self.old change pending.value → Accepts self.old.names change self.new.names) }
-        ensures cost { OnOk result ((change : Change) → IsLaidOutOn self.old change pending.value → HasCost self.old.names change self.new.names self.new.cost) }
-        ensures ticks { OnOk result ((change : Change) → IsLaidOutOn self.old change pending.value → HasTicks self.old.names change self.new.names self.new.ticks) }
+    fn complete(&mut self, mut pending: Pending) -> Result<(), AllocError>
+        requires { (change : Change) × IsLaidOutOn self.old change pending }
+        ensures made { OnOk result ((change : Change) → IsLaidOutOn self.old change pending → Accepts self.old.names change self.new.names) }
+        ensures cost { OnOk result ((change : Change) → IsLaidOutOn self.old change pending → HasCost self.old.names change self.new.names self.new.cost) }
+        ensures ticks { OnOk result ((change : Change) → IsLaidOutOn self.old change pending → HasTicks self.old.names change self.new.names self.new.ticks) }
         ensures err { OnErr result (self.new ≡ self.old) }
     {
         self.plan_change(&mut pending)?;
-        self.adopt(Box::into_inner(pending));
+        self.adopt(pending);
         Ok(())
     }
 
@@ -320,9 +326,9 @@ impl Sheet {
     }
 
     /// Lays out to store what an expression has now; the expression itself is worked out here.
-    pub(crate) fn begin_data(&self, name: Name, tree: &Expr) -> Result<Box<Pending>, Refusal>
-        ensures ok { IfOk result (λ pending. IsLaidOutOn self.now (Store name (tree_of tree.now)) pending.value) }
-        ensures ticks { IfOk result (λ pending. pending.value.ticks ≤ expression_cost self.now.names (Store name (tree_of tree.now))) }
+    pub(crate) fn begin_data(&self, name: Name, tree: &Expr) -> Result<Pending, Refusal>
+        ensures ok { IfOk result (IsLaidOutOn self.now (Store name (tree_of tree.now))) }
+        ensures ticks { IfOk result (λ pending. pending.ticks ≤ expression_cost self.now.names (Store name (tree_of tree.now))) }
         ensures refused { IfErr result (Refuses self.now.names (Store name (tree_of tree.now))) }
     {
         let mut meter = Meter::new();
@@ -360,9 +366,9 @@ impl Sheet {
         name: Name,
         positions: &[i64],
         literal: &Literal,
-    ) -> Result<Box<Pending>, Refusal>
-        ensures ok { IfOk result (λ pending. IsLaidOutOn self.now (SetCell name positions.now (literal_of literal.now)) pending.value) }
-        ensures ticks { IfOk result (λ pending. pending.value.ticks ≤ expression_cost self.now.names (SetCell name positions.now (literal_of literal.now))) }
+    ) -> Result<Pending, Refusal>
+        ensures ok { IfOk result (IsLaidOutOn self.now (SetCell name positions.now (literal_of literal.now))) }
+        ensures ticks { IfOk result (λ pending. pending.ticks ≤ expression_cost self.now.names (SetCell name positions.now (literal_of literal.now))) }
         ensures refused { IfErr result (Refuses self.now.names (SetCell name positions.now (literal_of literal.now))) }
     {
         let patch = cell_patch(&self.entries, name, positions, literal)?;
@@ -387,9 +393,9 @@ impl Sheet {
 
     /// Lays out to put a row at the end of data.
     #[inline(always)]
-    pub(crate) fn begin_row(&self, name: Name, literal: &Literal) -> Result<Box<Pending>, Refusal>
-        ensures ok { IfOk result (λ pending. IsLaidOutOn self.now (AddRow name (literal_of literal.now)) pending.value) }
-        ensures ticks { IfOk result (λ pending. pending.value.ticks ≤ expression_cost self.now.names (AddRow name (literal_of literal.now))) }
+    pub(crate) fn begin_row(&self, name: Name, literal: &Literal) -> Result<Pending, Refusal>
+        ensures ok { IfOk result (IsLaidOutOn self.now (AddRow name (literal_of literal.now))) }
+        ensures ticks { IfOk result (λ pending. pending.ticks ≤ expression_cost self.now.names (AddRow name (literal_of literal.now))) }
         ensures refused { IfErr result (Refuses self.now.names (AddRow name (literal_of literal.now))) }
     {
         let tail = row_behind(self.alloc, &self.entries, name, literal)?;
@@ -411,9 +417,9 @@ impl Sheet {
     }
 
     /// Lays out to remove a name.
-    pub(crate) fn begin_erase(&self, name: Name) -> Result<Box<Pending>, Refusal>
-        ensures ok { IfOk result (λ pending. IsLaidOutOn self.now (Erase name) pending.value) }
-        ensures ticks { IfOk result (λ pending. pending.value.ticks ≤ expression_cost self.now.names (Erase name)) }
+    pub(crate) fn begin_erase(&self, name: Name) -> Result<Pending, Refusal>
+        ensures ok { IfOk result (IsLaidOutOn self.now (Erase name)) }
+        ensures ticks { IfOk result (λ pending. pending.ticks ≤ expression_cost self.now.names (Erase name)) }
         ensures refused { IfErr result (Refuses self.now.names (Erase name)) }
     {
         if !self.entries.contains_key(&name) {
@@ -436,27 +442,26 @@ impl Sheet {
     }
 
     /// Lays out to bind a name to an array.
-    pub(crate) fn begin_put(&self, name: Name, array: Array) -> Result<Box<Pending>, Refusal>
-        ensures ok { IfOk result (λ pending. IsLaidOutOn self.now (Put name array) pending.value) }
-        ensures ticks { IfOk result (λ pending. pending.value.ticks ≤ expression_cost self.now.names (Put name array)) }
+    pub(crate) fn begin_put(&self, name: Name, array: Array) -> Result<Pending, Refusal>
+        ensures ok { IfOk result (IsLaidOutOn self.now (Put name array)) }
+        ensures ticks { IfOk result (λ pending. pending.ticks ≤ expression_cost self.now.names (Put name array)) }
         ensures refused { IfErr result (Refuses self.now.names (Put name array)) }
     {
         let change = Delta::Whole(Ok(array));
         self.propose(name, Proposal::Data(change), 0, Meter::new())
     }
 
-    /// Lays out to bind a name as a proposal says, where finding that has cost so much and the meter shows so many items. The change lies in a
-    /// box, so that it is handed on without a copy.
+    /// Lays out to bind a name as a proposal says, where finding that has cost so much and the meter shows so many items.
     fn propose(
         &self,
         name: Name,
         proposal: Proposal,
         spent: u64,
         meter: Meter,
-    ) -> Result<Box<Pending>, Refusal>
+    ) -> Result<Pending, Refusal>
         requires proposal { IsProposalAt self.now.tables.entries.entries name proposal }
         requires even { meter.ticks ≡ spent }
-        ensures ok { IfOk result (λ pending. IsProposedOn self.now name proposal spent pending.value) }
+        ensures ok { IfOk result (IsProposedOn self.now name proposal spent) }
         ensures refused { IfErr result (CannotBecome self.now.names (names_with self.now.names name proposal) name) }
         ensures sound { IsSheet self.now.names }
     {
@@ -465,9 +470,10 @@ impl Sheet {
             name,
             proposal: &proposal,
         };
-        let plans = begun(self.alloc, &proposed, &self.users, spent)?;
+        let room = self.room.replace(IndexMap::new(self.alloc));
+        let plans = begun(self.alloc, &proposed, &self.users, room, spent)?;
         let growth = growth_for(self.alloc, &self.entries, &self.users, &proposal)?;
-        let pending = Pending {
+        Ok(Pending {
             name,
             proposal,
             plans,
@@ -475,8 +481,7 @@ impl Sheet {
             is_cut: false,
             ticks: meter.ticks(),
             meter,
-        };
-        Ok(Box::new(self.alloc, pending)?)
+        })
     }
 
     pub(crate) fn alloc(&self) -> Global {

@@ -18,8 +18,8 @@ adopt_all-requires c =
     let es = c.args.entries.now.entries in
     let put_in : c.insert.new.self.entries ≡ insert_entry bytes_eq es c.args.name c.args.entry = rw c.unwrap-before.ensures at c.insert.ensures.entries in
     let names = ap names_of put_in ∙ names_of_insert c.args.name c.args.entry es in
-    subst (λ ns. IsAdopting ns c.insert.new.self.entries (plan_in c.args.found.entries)) (sym names)
-    (subst (λ fs. IsAdopting (put (names_of es) c.args.name (binding_of c.args.entry)) fs (plan_in c.args.found.entries)) (sym put_in) (adopting_planned es c.args.name c.args.entry (plan_in c.args.found.entries) c.requires.planned))
+    subst (λ ns. IsAdopting ns c.insert.new.self.entries (plan_in c.args.found.now.entries)) (sym names)
+    (subst (λ fs. IsAdopting (put (names_of es) c.args.name (binding_of c.args.entry)) fs (plan_in c.args.found.now.entries)) (sym put_in) (adopting_planned es c.args.name c.args.entry (plan_in c.args.found.now.entries) c.requires.planned))
 
 pub returns-clause-names : goal.returns-clause-names
 returns-clause-names c =

@@ -15,9 +15,9 @@ adopt_all-requires c =
     let own = entry.Data (patched a c.args.patch.now) in
     let put_in = c.write_patch.ensures a c.requires.data.1 in
     let names = ap names_of put_in ∙ names_of_insert c.args.name own es in
-    subst (λ (ns : Names). IsAdopting ns c.write_patch.new.entries.entries (plan_in c.args.found.entries)) (sym names)
-    (subst (λ (fs : List (List ℕ × Entry)). IsAdopting (put (names_of es) c.args.name (Data (patched a c.args.patch.now))) fs (plan_in c.args.found.entries)) (sym put_in)
-    (adopting_planned es c.args.name own (plan_in c.args.found.entries) (c.requires.planned a c.requires.data.1)))
+    subst (λ (ns : Names). IsAdopting ns c.write_patch.new.entries.entries (plan_in c.args.found.now.entries)) (sym names)
+    (subst (λ (fs : List (List ℕ × Entry)). IsAdopting (put (names_of es) c.args.name (Data (patched a c.args.patch.now))) fs (plan_in c.args.found.now.entries)) (sym put_in)
+    (adopting_planned es c.args.name own (plan_in c.args.found.now.entries) (c.requires.planned a c.requires.data.1)))
 
 pub returns-clause-names : goal.returns-clause-names
 returns-clause-names c = λ a is.

@@ -13,8 +13,8 @@ adopt_all-requires c =
     let es = c.args.entries.now.entries in
     let left : c.shift_remove-removed.new.self.entries ≡ others c.args.name es = c.shift_remove-removed.ensures.entries ∙ removed_others c.args.name es c.len-unique.ensures.unique in
     let names = ap names_of left ∙ names_of_others c.args.name es in
-    subst (λ ns. IsAdopting ns c.shift_remove-removed.new.self.entries (plan_in c.args.found.entries)) (sym names)
-    (subst (λ fs. IsAdopting (without (names_of es) c.args.name) fs (plan_in c.args.found.entries)) (sym left) (adopting_removed es c.args.name (plan_in c.args.found.entries) c.requires.planned))
+    subst (λ ns. IsAdopting ns c.shift_remove-removed.new.self.entries (plan_in c.args.found.now.entries)) (sym names)
+    (subst (λ fs. IsAdopting (without (names_of es) c.args.name) fs (plan_in c.args.found.now.entries)) (sym left) (adopting_removed es c.args.name (plan_in c.args.found.now.entries) c.requires.planned))
 
 pub returns-clause-names : goal.returns-clause-names
 returns-clause-names c =

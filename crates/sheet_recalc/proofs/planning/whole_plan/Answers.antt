@@ -10,3 +10,8 @@ pub returns-in-len2-clause-all : goal.returns-in-len2-clause-all
 returns-in-len2-clause-all c =
     let change = proposed_change (outline_of c.args.proposed.now) in
     on_ok c.plan-in-len2.result _ _ (λ exact. exact change c.inputs_of_two.ensures) c.plan-in-len2.ensures.exact
+
+pub returns-in-len1-clause-all : goal.returns-in-len1-clause-all
+returns-in-len1-clause-all c =
+    let change = proposed_change (outline_of c.args.proposed.now) in
+    on_ok c.plan.result _ _ (λ exact. exact change c.input_of_one-input.ensures) c.plan.ensures.exact

@@ -22,7 +22,7 @@ returns-clause-ok c =
     let literal = literal_of c.args.literal.now in
     let p = c.in_ok-patch.patch in
     let h = subst (λ (s : SheetValue). (a : ArrayValue) × HasData s.tables.entries.entries c.args.name a × FitsPatch a p × (cell_put (binding s.names c.args.name) c.args.positions.now literal ≡ Ok (patched a p))) c.self.view_is c.in_ok-patch.ensures.put in
-    if_ok_map c.propose.result _ _ (λ pending told. cell_pending c.args.self.now c.args.name c.args.positions.now literal p h.0 h.1 h.3 c.in_ok-patch.ensures.delta pending.value told) c.propose.ensures.ok
+    if_ok_map c.propose.result _ _ (λ pending told. cell_pending c.args.self.now c.args.name c.args.positions.now literal p h.0 h.1 h.3 c.in_ok-patch.ensures.delta pending told) c.propose.ensures.ok
 
 pub returns-clause-refused : goal.returns-clause-refused
 returns-clause-refused c =
@@ -36,4 +36,4 @@ returns-clause-refused c =
     (λ cause h. refused_patch c.args.self.now.names c.args.name c.args.positions.now literal a p held is c.propose.ensures.sound.acyclic cause h) c.propose.ensures.refused
 
 pub returns-clause-ticks : goal.returns-clause-ticks
-returns-clause-ticks c = if_ok_map c.propose.result _ _ (λ p h. few_at_first c.args.self.now c.args.name _ 0 p.value h 0 free) c.propose.ensures.ok
+returns-clause-ticks c = if_ok_map c.propose.result _ _ (λ p h. few_at_first c.args.self.now c.args.name _ 0 p h 0 free) c.propose.ensures.ok

@@ -18,7 +18,7 @@ returns-clause-ok c =
     let is : eval t (val s.names) ≡ Ok c.in-Ok.array = sym c.in_ok-array.ensures.value ∙ c.in-Ok.is in
     let spent : c.ticks-spent.result ≡ ticked 0 cost =
     c.ticks-spent.ensures ∙ c.in_ok-array.ensures.exact (ap is_ok c.in-Ok.is) ∙ ap (λ (m : MeterValue). ticked m.ticks cost) c.new-meter.ensures in
-    if_ok_map c.propose.result _ _ (λ p h. data_pending s c.args.name c.in-Ok.array c.ticks-spent.result p.value h t is spent) c.propose.ensures.ok
+    if_ok_map c.propose.result _ _ (λ p h. data_pending s c.args.name c.in-Ok.array c.ticks-spent.result p h t is spent) c.propose.ensures.ok
 
 pub returns-clause-refused : goal.returns-clause-refused
 returns-clause-refused c =

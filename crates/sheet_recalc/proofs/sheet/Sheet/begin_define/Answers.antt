@@ -10,7 +10,7 @@ use Rattle.sheet_recalc.proofs.sheet.Sheet.begin_define.Goals as goal
 
 pub returns-clause-ok : goal.returns-clause-ok
 returns-clause-ok c =
-    if_ok_map c.propose.result _ _ (λ p h. define_pending c.args.self.now c.args.name c.in_ok-formula.formula (tree_of c.args.tree.now) (ap (λ (f : FormulaValue). f.tree) c.in_ok-formula.ensures) p.value h) c.propose.ensures.ok
+    if_ok_map c.propose.result _ _ (λ p h. define_pending c.args.self.now c.args.name c.in_ok-formula.formula (tree_of c.args.tree.now) (ap (λ (f : FormulaValue). f.tree) c.in_ok-formula.ensures) p h) c.propose.ensures.ok
 
 pub returns-clause-refused : goal.returns-clause-refused
 returns-clause-refused c =
@@ -20,4 +20,4 @@ returns-clause-refused c =
     c.propose.ensures.refused
 
 pub returns-clause-ticks : goal.returns-clause-ticks
-returns-clause-ticks c = if_ok_map c.propose.result _ _ (λ p h. few_at_first c.args.self.now c.args.name _ 0 p.value h 0 free) c.propose.ensures.ok
+returns-clause-ticks c = if_ok_map c.propose.result _ _ (λ p h. few_at_first c.args.self.now c.args.name _ 0 p h 0 free) c.propose.ensures.ok

@@ -16,7 +16,7 @@ pub returns-clause-ok : goal.returns-clause-ok
 returns-clause-ok c =
     let there = subst (λ (s : SheetValue). IsSome (binding s.names c.args.name)) c.self.view_is
     (present_name c.self.inside.entries.entries c.args.name (sym c.contains_key.ensures ∙ c.if-not-contains_key.false)) in
-    if_ok_map c.propose.result _ _ (λ p h. erase_pending c.args.self.now c.args.name there p.value h) c.propose.ensures.ok
+    if_ok_map c.propose.result _ _ (λ p h. erase_pending c.args.self.now c.args.name there p h) c.propose.ensures.ok
 
 pub returns-clause-refused : goal.returns-clause-refused
 returns-clause-refused c =
@@ -25,4 +25,4 @@ returns-clause-refused c =
     IfErr-weaker c.propose.result _ _ (λ cause h. refused_erase c.args.self.now.names c.args.name c.propose.ensures.sound.acyclic there cause h) c.propose.ensures.refused
 
 pub returns-clause-ticks : goal.returns-clause-ticks
-returns-clause-ticks c = if_ok_map c.propose.result _ _ (λ p h. few_at_first c.args.self.now c.args.name _ 0 p.value h 0 free) c.propose.ensures.ok
+returns-clause-ticks c = if_ok_map c.propose.result _ _ (λ p h. few_at_first c.args.self.now c.args.name _ 0 p h 0 free) c.propose.ensures.ok

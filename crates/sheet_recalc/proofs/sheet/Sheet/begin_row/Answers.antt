@@ -23,7 +23,7 @@ returns-clause-ok c =
     let literal = literal_of c.args.literal.now in
     let t = c.in_ok-tail.tail in
     let h = subst (λ (s : SheetValue). (a : ArrayValue) × HasData s.tables.entries.entries c.args.name a × FitsTail a t × (row_put (binding s.names c.args.name) literal ≡ Ok (grown_by a t.items))) c.self.view_is c.in_ok-tail.ensures.put in
-    if_ok_map c.propose.result _ _ (λ pending told. row_pending c.args.self.now c.args.name literal t h.0 h.1 h.2 h.3 c.in_ok-tail.ensures.items pending.value told) c.propose.ensures.ok
+    if_ok_map c.propose.result _ _ (λ pending told. row_pending c.args.self.now c.args.name literal t h.0 h.1 h.2 h.3 c.in_ok-tail.ensures.items pending told) c.propose.ensures.ok
 
 pub returns-clause-refused : goal.returns-clause-refused
 returns-clause-refused c =
@@ -36,4 +36,4 @@ returns-clause-refused c =
     IfErr-weaker c.propose.result _ _ (λ cause h. refused_tail c.args.self.now.names c.args.name literal a t held is c.propose.ensures.sound.acyclic cause h) c.propose.ensures.refused
 
 pub returns-clause-ticks : goal.returns-clause-ticks
-returns-clause-ticks c = if_ok_map c.propose.result _ _ (λ p h. few_at_first c.args.self.now c.args.name _ 0 p.value h 0 free) c.propose.ensures.ok
+returns-clause-ticks c = if_ok_map c.propose.result _ _ (λ p h. few_at_first c.args.self.now c.args.name _ 0 p h 0 free) c.propose.ensures.ok

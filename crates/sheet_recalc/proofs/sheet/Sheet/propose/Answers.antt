@@ -25,8 +25,7 @@ returns-clause-ok c =
     let begun = c.in_ok-plans.ensures in
     let pending : Pending =
     record { name = c.args.name; proposal = c.args.proposal; plans = c.in_ok-plans.plans; growth = c.in_ok-growth.growth; is_cut = false; ticks = c.ticks.result; meter = c.args.meter } in
-    subst (λ (q : Pending). IsProposedOn c.args.self.now c.args.name c.args.proposal c.args.spent q) (sym c.in_ok-new.ensures.ok)
-    (subst (λ (s : SheetValue). IsProposedOn s c.args.name c.args.proposal c.args.spent pending) c.self.view_is
+    subst (λ (s : SheetValue). IsProposedOn s c.args.name c.args.proposal c.args.spent pending) c.self.view_is
     (record {
       names_are = refl;
       name_is = refl;
@@ -45,4 +44,4 @@ returns-clause-ok c =
       };
       even = c.ticks.ensures ∙ c.requires.even;
       room = begun.can.room;
-    }))
+    })
