@@ -159,7 +159,7 @@ impl Product {
         Product::of_narrow(self.near_total() * factor, least, greatest)
     }
 
-    /// The same of any, worked out in 128 bits.
+    /// That of a list and of a later one after it, whatever they tell, worked out in 128 bits.
     #[inline(never)]
     fn join_wide(&self, later: &Product) -> Product
         requires here { (products : Products) × Tells self.now products }
