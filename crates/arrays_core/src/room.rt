@@ -1,6 +1,6 @@
 //! The memory that the items of an array lie in, and the room for more behind them.
 
-ghost use Rattle.std.specs.Prelude.{◌≡◌, ◌≤◌, ◌<◌, ◌^◌, [], IfOk, IsOk, length, replicate, vec_capacity};
+ghost use Rattle.std.specs.Prelude.{◌≡◌, ◌≤◌, ◌<◌, ◌^◌, ◌↔◌, [], IfOk, IsOk, IsTrue, length, replicate, vec_capacity};
 ghost use Rattle.std.specs.Int.{IsNextPowerOfTwo};
 ghost use Rattle.arrays_core.specs.Growth.{IsRoomy, IsSameRoom, HasRoom};
 
@@ -57,6 +57,14 @@ pub fn repeated<T: Copy + Drop>(alloc: Global, item: T, places: usize) -> Result
     Ok(items)
 }
 
+/// Where so many items lie there is room for so many as well: the next power of two is the same.
+pub fn is_same_room(held: usize, places: usize) -> bool
+    requires { places ≤ 2 ^ 63 }
+    ensures { IsTrue result ↔ IsSameRoom held places }
+{
+    room_of(places) / 2 < held
+}
+
 /// An empty list, with room for so many items, of which so many are held elsewhere. Where those lie in a piece of memory that is as large, no
 /// room is made, and no memory asked for.
 pub fn room_between<T: Drop>(
@@ -70,11 +78,10 @@ pub fn room_between<T: Drop>(
     ensures taken { IsSameRoom held places → IsOk result }
     ensures same { IsSameRoom held places → IfOk result (λ v. vec_capacity v ≡ 0) }
 {
-    let room = room_of(places);
-    if room / 2 < held {
+    if is_same_room(held, places) {
         return Ok(Vec::new(alloc));
     }
-    Vec::with_capacity(alloc, room)
+    Vec::with_capacity(alloc, room_of(places))
 }
 
 /// Memory for the items of an array and more behind them, of which `Array::grow` makes use; none where there is room
@@ -97,6 +104,17 @@ impl Model for Room {
 }
 
 impl Room {
+    /// No room. It takes no memory.
+    pub fn none(alloc: Global, item_type: ItemType) -> Room
+        ensures { result ≡ record { item_type = item_type; places = 0 } }
+    {
+        let ravel = match item_type {
+            ItemType::Nums => Ravel::Nums(Vec::new(alloc)),
+            ItemType::Chars => Ravel::Chars(Vec::new(alloc)),
+        };
+        Room { ravel }
+    }
+
     /// Room for so many items of a type, of which an array holds so many: none where these lie in a piece of memory that is as large, and then
     /// no memory is asked for; AllocError where the memory for it is refused.
     pub fn between(

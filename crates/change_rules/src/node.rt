@@ -1,6 +1,11 @@
 //! The change of a node, from the changes of its arguments.
 
-ghost use Rattle.std.specs.Prelude.{◌≡◌, ◌+◌, ◌≤◌, length, IfOk, true, false};
+ghost use Rattle.std.specs.Prelude.{◌≡◌, ◌+◌, ◌≤◌, length, IfOk, Ok, Some, true, false};
+ghost use Rattle.arrays_core.specs.Shapes.{IsWithinLimits};
+ghost use Rattle.arrays_core.specs.declared.item.ItemType.{ItemType as TypeOfItems};
+ghost use Rattle.index_region.specs.Boxes.{box_size};
+ghost use Rattle.index_region.specs.Checks.{form_of};
+ghost use Rattle.change_core.specs.Growth.{last_place as place_behind};
 ghost use Rattle.change_core.specs.Reaches.{AllFit};
 ghost use Rattle.change_core.specs.Meters.{ticked, most_ticks};
 ghost use Rattle.change_core.specs.RuleModels.{form_size};
@@ -15,7 +20,7 @@ use crate::arguments::{
 };
 use crate::evaluation::{evaluate, places};
 use crate::patch::patch_of;
-use arrays_core::{ApplyFault, Array, Fault, shape_of, size};
+use arrays_core::{ApplyFault, Array, Fault, Shape, shape_of, size};
 use change_core::{Meter, Reach, Rule, Tight, last_place};
 use index_region::{Delta, IndexBox, Seen, Tail};
 use std::alloc::{AllocError, Global};
@@ -190,10 +195,41 @@ fn tail_of<R: Rule>(
         return Ok((Delta::Grown(Tail::of(shape, none)?), 0));
     };
     let cost = region.size() as u32;
+    if cost == 1 {
+        return Ok((tail_of_one(rule, seen, shape, &region, meter)?, 1));
+    }
     match rule.part(alloc, seen, shape.as_slice(), item_type, &region, meter) {
         Ok(values) => Ok((Delta::Grown(Tail::of(shape, values)?), cost)),
         Err(ApplyFault::Kind(kind)) => Ok((Delta::Whole(Err(Fault { kind, origin: None })), cost)),
         Err(ApplyFault::NoMemory) => Err(AllocError),
+    }
+}
+
+/// What a node grows by to this shape, where that is one item, or the error there. Memory is asked for only where the result needs another piece for
+/// its items.
+fn tail_of_one<R: Rule>(
+    rule: &R,
+    seen: &[Seen],
+    shape: Shape,
+    region: &IndexBox,
+    meter: &mut Meter,
+) -> Result<Delta, AllocError>
+    requires count { length seen.now ≡ length (R.model rule.now).selectors }
+    requires one { box_size region.now ≡ 1 }
+    requires inline { shape.capacity ≡ 4 }
+    requires within { IsWithinLimits shape.items }
+    requires checked { (t : TypeOfItems) × ((R.model rule.now).form seen.now ≡ Ok (form_of shape.items t)) }
+    requires last { place_behind shape.items ≡ Some region.now }
+    ensures delta { IfOk result (λ d. d ≡ grown_in ((R.model rule.now).form seen.now) ((R.model rule.now).item seen.now)) }
+    ensures ticks { meter.new.ticks ≤ meter.old.ticks + 1 }
+    ensures exact { IfOk result (λ d. is_error d ≡ false → meter.new.ticks ≡ ticked meter.old.ticks 1) }
+    ensures rises { meter.old.ticks ≤ meter.new.ticks }
+    ensures joins { meter.new.joins ≡ meter.old.joins }
+{
+    let index = region.index_at(0);
+    match rule.item(seen, index.as_slice(), meter) {
+        Ok(item) => Ok(Delta::Grown(Tail::one(shape, item)?)),
+        Err(kind) => Ok(Delta::Whole(Err(Fault { kind, origin: None }))),
     }
 }
 

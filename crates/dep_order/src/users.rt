@@ -1,5 +1,5 @@
 //! Who refers to whom, kept from change to change: what a change of a node reaches is found by this table, and no other node is looked at.
-ghost use Rattle.std.specs.Prelude.{◌≡◌, ◌⊎◌, ◌↔◌, List, [], ◌∷◌, IfOk, OnOk, OnErr, MatchOption};
+ghost use Rattle.std.specs.Prelude.{◌≡◌, ◌⊎◌, ◌↔◌, List, [], ◌∷◌, IfOk, OnOk, OnErr, MatchBool, MatchOption};
 ghost use Rattle.std.specs.List.{Contains, IsDistinct};
 ghost use Rattle.std.specs.Map.{keys_of};
 ghost use Rattle.dep_order.specs.Reachability.{Reaches};
@@ -53,7 +53,7 @@ fn climb<N: Eq + Hash + Copy, V: Drop>(
     ensures sound { OnOk result ((a : N) → Contains (keys_of found.new.entries) a → Contains (keys_of found.old.entries) a ⊎ ((a ≡ node) ⊎ Reaches (Uses N.eq users.now.entries) a node)) }
     ensures none { OnOk result (HasNothing N.eq found.old.entries → HasNothing N.eq found.new.entries) }
 {
-    if found.contains_key(&node) {
+    if is_found(found, node) {
         return Ok(());
     }
     for user in users_of(users, node) {
@@ -61,6 +61,17 @@ fn climb<N: Eq + Hash + Copy, V: Drop>(
     }
     found.insert(node, None)?;
     Ok(())
+}
+
+// The node is among those that are found. Where there are none it is not looked for.
+fn is_found<N: Eq + Hash + Copy, V>(found: &IndexMap<N, V>, node: N) -> bool
+    requires { IsExact N.eq }
+    ensures { MatchBool result (Contains (keys_of found.now.entries) node) (Contains (keys_of found.now.entries) node → ⊥) }
+{
+    if found.is_empty() {
+        return false;
+    }
+    found.contains_key(&node)
 }
 
 // The nodes that refer to a node.

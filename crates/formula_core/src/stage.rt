@@ -20,12 +20,14 @@ use crate::input::{Input, outcome_is_array, outcomes_are_arrays};
 use crate::kept::{Kept, NodeChange};
 use crate::literals::array_of;
 use crate::operation_change::{change_of_both, change_of_monad};
+use crate::positions::Positions;
 use crate::sums::{SumsDelta, sums_delta};
 use crate::table::{Node, Operand};
 use apl_expr::Literal;
 use arrays_core::{ApplyFault, Array, Fault};
 use change_core::Meter;
 use index_region::Delta;
+use smallvec::SmallVec;
 use std::alloc::{AllocError, Global};
 use sum_rules::LineSums;
 
@@ -59,8 +61,8 @@ impl<'a> Stage<'a> {
         input
     }
 
-    /// The positions of an index that are written.
-    fn positions(&self, operands: &[Option<Operand>]) -> Result<Vec<Option<Input<'a>>>, AllocError>
+    /// The positions of an index that are written. Up to four positions take no memory.
+    fn positions(&self, operands: &[Option<Operand>]) -> Result<Positions<'a>, AllocError>
         requires within { AreOperands (length self.now.inputs.now) (length self.now.changes.now) operands.now }
         requires staged { StagedBy self.now }
         requires anew { is_whole self.now.anew.now ≡ true }
@@ -68,7 +70,7 @@ impl<'a> Stage<'a> {
         ensures ready { IfOk result (λ positions. (c : Change) → (names : List (List ℕ)) → (trees : List Tree) → IsStaged c names trees self.now
             → AreReady self.now.is_new c (map (option_map (tree_of_operand names trees)) operands.now) positions.items) }
     {
-        let mut positions = Vec::with_capacity(self.alloc, operands.len())?;
+        let mut positions = SmallVec::new(self.alloc);
         for operand in operands {
             positions.push(match operand {
                 Some(operand) => Some(self.operand(*operand)),

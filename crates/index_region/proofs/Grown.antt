@@ -1,14 +1,14 @@
 -- Arrays with a tail behind them.
-use Rattle.std.proofs.Common.{◌≡◌, ℕ, ◌+◌, ◌-◌, ◌<◌, ◌≤◌, List, ◌++◌, length, get_or, All, refl, ap, ◌∙◌, sym, subst, arith}
+use Rattle.std.proofs.Common.{◌≡◌, ℕ, ◌+◌, ◌-◌, ◌<◌, ◌≤◌, List, ◌++◌, length, get_or, All, Option, Box, refl, ap, ◌∙◌, sym, subst, arith}
 use Rattle.std.proofs.lemmas.List.{get_or_append_left, get_or-append_right, get_or_default, length-append}
 use Rattle.arrays_core.specs.declared.item.Item.{Item}
 use Rattle.arrays_core.specs.Arrays.{ArrayValue, IsArray}
 use Rattle.arrays_core.specs.declared.item.ItemType.{ItemType}
-use Rattle.arrays_core.specs.Growth.{grown_by, FitsGrowth}
+use Rattle.arrays_core.specs.Growth.{grown_by, FitsGrowth, HasRoom, IsRoomFor, RoomValue}
 use Rattle.arrays_core.specs.Items.{fill, type_of}
 use Rattle.arrays_core.specs.Shapes.{size, IsWithinLimits}
 use Rattle.arrays_core.proofs.Growing.{fits_growth, grown_sound, size_longer}
-use Rattle.index_region.specs.Tails.{FitsTail, IsTail, TailValue}
+use Rattle.index_region.specs.Tails.{FitsTail, IsRoomBehind, IsTail, TailValue}
 
 -- what fits are the items of one more place within the limits
 pub grows_by : (a : ArrayValue) (t : TailValue) → FitsTail a t → IsTail t → FitsGrowth a t.items
@@ -18,6 +18,22 @@ grows_by a t fits tail = record {
   one_place = fits.one_place;
   typed = subst (λ (item_type : ItemType). All (λ x. type_of x ≡ item_type) t.items) fits.typed tail.one_type;
 }
+
+-- the room that a tail brings is room for the array that it fits and its items
+pub room_for : {A : Type 0} (a : ArrayValue) (t : TailValue) (room : Option (Box RoomValue A)) (r : RoomValue) → IsArray a → FitsTail a t
+    → IsRoomBehind t.item_type (size t.shape - length t.items) (size t.shape) room
+    → ((held items : ℕ) → IsRoomBehind t.item_type held items room → (r.item_type ≡ t.item_type) × HasRoom held items r.places)
+    → IsRoomFor r a (length t.items)
+room_for a t room r h fits behind brought =
+    let longer = size_longer a.shape fits.some_axis in
+    let shape = ap size fits.shaped in
+    let places : size t.shape ≡ length a.items + length t.items = omega (arith, longer, shape, h.one_item_a_place, fits.one_place) in
+    let held : size t.shape - length t.items ≡ length a.items = omega (arith, places) in
+    let is = brought (size t.shape - length t.items) (size t.shape) behind in
+    record {
+      typed = is.0 ∙ fits.typed;
+      room = subst (λ (n : ℕ). HasRoom (length a.items) n r.places) places (subst (λ (n : ℕ). HasRoom n (size t.shape) r.places) held is.1);
+    }
 
 -- there are as many items as the tail's shape has places
 pub tail_long : (a : ArrayValue) (t : TailValue) → IsArray a → FitsTail a t → length a.items + length t.items ≡ size t.shape

@@ -1,6 +1,7 @@
 pub mod Arguments
 pub mod Passing
 pub mod Boxes
+pub mod OnePlace
 pub mod Patched
 pub mod Walks
 pub mod Written

@@ -11,5 +11,5 @@ pub mod Patches
 pub mod Tails
 -- What bodies use.
 pub mod Advancing
-pub mod PatchItems
+pub mod NewItems
 pub mod Laid

@@ -1,9 +1,9 @@
 -- What an array grows by at the end of its first axis.
-use Rattle.std.specs.Prelude.{◌≡◌, ◌<◌, ◌-◌, ℕ, List, length, drop, All}
+use Rattle.std.specs.Prelude.{◌≡◌, ◌<◌, ◌-◌, ℕ, List, Option, Some, None, Box, length, drop, All}
 use Rattle.arrays_core.specs.declared.item.Item.{Item}
 use Rattle.arrays_core.specs.declared.item.ItemType.{ItemType}
 use Rattle.arrays_core.specs.Arrays.{ArrayValue}
-use Rattle.arrays_core.specs.Growth.{one_longer, HasRoom, RoomValue}
+use Rattle.arrays_core.specs.Growth.{one_longer, HasRoom, IsSameRoom, RoomValue}
 use Rattle.arrays_core.specs.Items.{type_of}
 use Rattle.arrays_core.specs.Shapes.{size, IsWithinLimits}
 
@@ -25,13 +25,14 @@ pub record FitsTail (a : ArrayValue) (t : TailValue) : Type 0 where
   pub one_place : length t.items ≡ size (drop 1 a.shape)
   pub typed : t.item_type ≡ a.item_type
 
--- the tail of an array that grows to this shape by the items of another
-abbrev pub tail_of : List ℕ → ArrayValue → TailValue
-tail_of shape values = record { item_type = values.item_type; shape = shape; items = values.items }
+-- room for items of a type, of which so many are held elsewhere: none is brought where these lie in a piece of memory that is as large
+abbrev pub IsRoomBehind : {A : Type 0} → ItemType → (held items : ℕ) → Option (Box RoomValue A) → Type 0
+IsRoomBehind t held items None = IsSameRoom held items
+IsRoomBehind t held items (Some b) = (b.value.item_type ≡ t) × HasRoom held items b.value.places
 
--- what a tail is made of: the shape lies inline and within the limits, and there is room for as many items as it has, of which the array holds the others
-pub record IsTailOf (capacity : ℕ) (shape : List ℕ) (values : ArrayValue) (room : RoomValue) : Type 0 where
+-- what a tail is made of: the shape lies inline and within the limits, and there is room for as many items as it has, of which the array holds all
+-- but so many
+pub record IsTailOf {A : Type 0} (capacity : ℕ) (shape : List ℕ) (item_type : ItemType) (more : ℕ) (room : Option (Box RoomValue A)) : Type 0 where
   pub inline : capacity ≡ 4
   pub within : IsWithinLimits shape
-  pub typed : room.item_type ≡ values.item_type
-  pub places : HasRoom (size shape - length values.items) (size shape) room.places
+  pub behind : IsRoomBehind item_type (size shape - more) (size shape) room

@@ -1,9 +1,9 @@
 //! Boxes of places.
 
-ghost use Rattle.std.specs.Prelude.{◌≡◌, ◌+◌, ◌-◌, ◌≤◌, ◌<◌, ◌^◌, ℕ, List, length, IsTrue, IfSome, Some, None, if◌then◌else◌, true, ◌&&◌, nat_le};
+ghost use Rattle.std.specs.Prelude.{◌≡◌, ◌+◌, ◌-◌, ◌≤◌, ◌<◌, ◌^◌, ℕ, List, length, IsTrue, IfSome, Some, None, if◌then◌else◌, true, map, ◌&&◌, nat_le};
 ghost use Rattle.std.specs.List.{list_all};
 ghost use Rattle.arrays_core.specs.Limits.{most_axes};
-ghost use Rattle.arrays_core.specs.Shapes.{IsWithinLimits, size as size_of};
+ghost use Rattle.arrays_core.specs.Shapes.{IsWithinLimits, is_index_of, size as size_of};
 ghost use Rattle.index_region.specs.Boxes.{fits, is_box, box_size, box_offset, is_within, hull_of as hull, meet_of as meet, met, unless_empty, walk_at, cover as covering, cover_between};
 ghost use Rattle.index_region.specs.BoxLaws.{AllWalksAreInOrder, HullsAreLeast, CoversAreLeast};
 
@@ -25,6 +25,18 @@ impl Model for IndexBox {
     ghost view = { λ b. b.intervals };
 
     ghost invariant = { λ b. IsTrue (is_box b.intervals) };
+}
+
+/// The index list of the first place of a box.
+fn first_of(intervals: &[(u32, u32)]) -> IndexList
+    requires { length intervals.now ≤ most_axes }
+    ensures { result ≡ walk_at intervals.now 0 }
+{
+    let mut index = IndexList::none();
+    for (first, _) in intervals {
+        index.push(*first);
+    }
+    index
 }
 
 impl IndexBox {
@@ -69,6 +81,19 @@ impl IndexBox {
         IndexBox {
             intervals: covered(shape.as_slice(), from.as_slice(), to.as_slice()),
         }
+    }
+
+    /// The box of one place of a shape, which is that at an index list.
+    pub fn at(shape: &[u32], index: &[u32]) -> IndexBox
+        requires rank { length shape.now ≤ most_axes }
+        requires inside { is_index_of shape.now index.now ≡ true }
+        ensures { result ≡ map (λ i. (i, i)) index.now }
+    {
+        let mut intervals = Intervals::none();
+        for place in index {
+            intervals.push(*place, *place);
+        }
+        IndexBox { intervals }
     }
 
     /// A copy of the box.
@@ -135,6 +160,9 @@ impl IndexBox {
         ensures { result ≡ walk_at self.now before }
     {
         let intervals = self.as_slice();
+        if before == 0 {
+            return first_of(intervals);
+        }
         let mut index = IndexList::none();
         let mut left = before;
         for axis in 0..intervals.len() {

@@ -4,11 +4,11 @@ ghost use Rattle.std.specs.Prelude.{◌≡◌, ◌-◌, ◌≤◌, ◌<◌, ◌�
 ghost use Rattle.arrays_core.specs.Arrays.{IsArray};
 ghost use Rattle.arrays_core.specs.Items.{fill, type_of};
 ghost use Rattle.index_region.specs.Boxes.{box_size, box_offset, is_within};
-ghost use Rattle.index_region.specs.PatchItems.{items_of, type_of_items};
+ghost use Rattle.index_region.specs.NewItems.{items_of, type_of_items};
 ghost use Rattle.index_region.specs.Patches.{PatchValue, IsPatch, FitsPatch, patched};
 
 use crate::index_box::IndexBox;
-use crate::patch_items::PatchItems;
+use crate::new_items::NewItems;
 use arrays_core::{Array, Item, ItemType, position};
 use std::alloc::AllocError;
 use std::marker::Model;
@@ -17,7 +17,7 @@ use std::marker::Model;
 #[derive(Drop)]
 pub struct Patch {
     region: IndexBox,
-    items: PatchItems,
+    items: NewItems,
 }
 
 impl Model for Patch {
@@ -36,7 +36,7 @@ impl Patch {
     {
         Patch {
             region,
-            items: PatchItems::Many(values),
+            items: NewItems::Many(values),
         }
     }
 
@@ -47,7 +47,7 @@ impl Patch {
     {
         Patch {
             region,
-            items: PatchItems::One(item),
+            items: NewItems::One(item),
         }
     }
 

@@ -89,7 +89,7 @@ fn item_grown(array: &Array, tail: &Tail, position: u32) -> Item
     if position <= places {
         return array.item(position);
     }
-    tail.values().item(position - places)
+    tail.item(position - places - 1)
 }
 
 /// The item at an index list of an array with a tail behind it.

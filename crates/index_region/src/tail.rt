@@ -1,38 +1,66 @@
 //! Tails: what an array grows by at the end of its first axis.
 
-ghost use Rattle.std.specs.Prelude.{◌≡◌, ◌≤◌, IfOk};
-ghost use Rattle.arrays_core.specs.Growth.{grown_by};
-ghost use Rattle.arrays_core.specs.Shapes.{IsWithinLimits};
-ghost use Rattle.index_region.specs.Tails.{FitsTail, IsTail};
+ghost use Rattle.std.specs.Prelude.{◌≡◌, ◌-◌, ◌<◌, ◌≤◌, ◌↔◌, ◌∷◌, [], ℕ, length, map, get_or, IfOk, IfSome, IsNone};
+ghost use Rattle.arrays_core.specs.Growth.{grown_by, HasRoom};
+ghost use Rattle.arrays_core.specs.Items.{fill, type_of};
+ghost use Rattle.arrays_core.specs.Limits.{most_places};
+ghost use Rattle.arrays_core.specs.Shapes.{IsWithinLimits, size as size_of};
+ghost use Rattle.arrays_core.specs.declared.item.Item.TheVariants.{Num};
+ghost use Rattle.arrays_core.specs.declared.item.ItemType.TheVariants.{Nums, Chars};
+ghost use Rattle.index_region.specs.Tails.{FitsTail, IsTail, IsRoomBehind};
 
-use arrays_core::{Array, Room, Shape, shape_of, size};
-use std::alloc::AllocError;
+use crate::new_items::NewItems;
+use arrays_core::{Array, Item, ItemType, Room, Shape, is_same_room, shape_of, size};
+use std::alloc::{AllocError, Global};
 use std::marker::Model;
 
-/// The items of one more place of the first axis of an array in row-major order, the shape that the array has with them, and room for all
-/// its items if it needs that.
-#[derive(Drop)]
-struct Parts {
-    shape: Shape,
-    values: Array,
-    room: Room,
-}
-
 /// What an array grows by: one more place of its first axis, with the items of that place in row-major order, and the shape that it has then. A tail
-/// brings the room that the array may need, so that growing by it takes no memory. It lies in a box, so that a change which is none is small.
+/// brings the room that the array may need, so that growing by it takes no memory.
 #[derive(Drop)]
 pub struct Tail {
-    parts: Box<Parts>,
+    shape: Shape,
+    items: NewItems,
+    /// A piece of memory for all items of the array; none where they go where its items lie.
+    room: Option<Box<Room>>,
 }
 
 impl Model for Tail {
-    ghost use Rattle.index_region.specs.Tails.{TailValue, tail_of, IsTailOf};
+    ghost use Rattle.std.specs.Prelude.{length};
+    ghost use Rattle.index_region.specs.NewItems.{items_of, type_of_items};
+    ghost use Rattle.index_region.specs.Tails.{TailValue, IsTailOf};
 
     ghost Value = { TailValue };
 
-    ghost view = { λ t. tail_of t.parts.value.shape.items t.parts.value.values };
+    ghost view = { λ t. record { item_type = type_of_items t.items; shape = t.shape.items; items = items_of t.items } };
 
-    ghost invariant = { λ t. IsTailOf t.parts.value.shape.capacity t.parts.value.shape.items t.parts.value.values t.parts.value.room };
+    ghost invariant = { λ t. IsTailOf t.shape.capacity t.shape.items (type_of_items t.items) (length (items_of t.items)) t.room };
+}
+
+/// Room behind so many items for others of their type, to so many in all; none where these go where those lie, and then no memory is asked for.
+fn room_behind(
+    alloc: Global,
+    item_type: ItemType,
+    held: usize,
+    places: usize,
+) -> Result<Option<Box<Room>>, AllocError>
+    requires { places ≤ most_places }
+    ensures { IfOk result (IsRoomBehind item_type held places) }
+{
+    if is_same_room(held, places) {
+        return Ok(None);
+    }
+    let room = Room::between(alloc, item_type, held, places)?;
+    Ok(Some(Box::new(alloc, room)?))
+}
+
+/// The room that is brought, or none. It takes no memory.
+fn brought(alloc: Global, item_type: ItemType, room: Option<Box<Room>>) -> Room
+    ensures { (held items : ℕ) → IsRoomBehind item_type held items room → (result.item_type ≡ item_type) × HasRoom held items result.places }
+{
+    match room {
+        Some(room) => Box::into_inner(room),
+        None => Room::none(alloc, item_type),
+    }
 }
 
 impl Tail {
@@ -43,17 +71,31 @@ impl Tail {
         requires within { IsWithinLimits shape.items }
         ensures { IfOk result (λ t. t ≡ record { item_type = values.item_type; shape = shape.items; items = values.items }) }
     {
-        let alloc = *shape.allocator();
+        let more = size(values.shape().as_slice());
         let places = size(shape.as_slice()) as usize;
-        let held = places.saturating_sub(size(values.shape().as_slice()) as usize);
-        let room = Room::between(alloc, values.item_type(), held, places)?;
-        let parts = Parts {
-            shape,
-            values,
-            room,
-        };
+        let held = places.saturating_sub(more as usize);
+        let room = room_behind(*shape.allocator(), values.item_type(), held, places)?;
         Ok(Tail {
-            parts: Box::new(alloc, parts)?,
+            shape,
+            items: NewItems::Many(values),
+            room,
+        })
+    }
+
+    /// What an array grows by to this shape, which lies inline and within the limits: by one item. Memory is asked for only where the array needs
+    /// another piece for its items.
+    pub fn one(shape: Shape, item: Item) -> Result<Tail, AllocError>
+        requires inline { shape.capacity ≡ 4 }
+        requires within { IsWithinLimits shape.items }
+        ensures { IfOk result (λ t. t ≡ record { item_type = type_of item; shape = shape.items; items = item ∷ [] }) }
+    {
+        let places = size(shape.as_slice()) as usize;
+        let held = places.saturating_sub(1);
+        let room = room_behind(*shape.allocator(), item.item_type(), held, places)?;
+        Ok(Tail {
+            shape,
+            items: NewItems::One(item),
+            room,
         })
     }
 
@@ -61,8 +103,11 @@ impl Tail {
     pub fn copy(&self) -> Result<Tail, AllocError>
         ensures { IfOk result (λ t. t ≡ self.now) }
     {
-        let shape = shape_of(*self.parts.shape.allocator(), self.shape().as_slice());
-        Tail::of(shape, self.parts.values.copy()?)
+        let shape = shape_of(*self.shape.allocator(), self.shape().as_slice());
+        match &self.items {
+            NewItems::One(item) => Tail::one(shape, *item),
+            NewItems::Many(values) => Tail::of(shape, values.copy()?),
+        }
     }
 
     /// The shape that the array has then.
@@ -71,28 +116,43 @@ impl Tail {
         ensures inline { result.now.capacity ≡ 4 }
         ensures sound { IsTail self.now }
     {
-        // The shape of the items says that they are an array.
-        let _is_array = self.parts.values.shape();
-        &self.parts.shape
+        // The items say that they are of one type.
+        let _one_type = self.items.item_type();
+        &self.shape
     }
 
-    /// The items of the new place, as an array of some shape.
-    pub fn values(&self) -> &Array
-        ensures items { result.now.items ≡ self.now.items }
-        ensures typed { result.now.item_type ≡ self.now.item_type }
+    /// The type of the items of the new place.
+    pub fn item_type(&self) -> ItemType
+        ensures { result ≡ self.now.item_type }
     {
-        &self.parts.values
+        self.items.item_type()
+    }
+
+    /// The numbers of the new place in row-major order, where its items are numbers.
+    pub fn numbers(&self) -> Option<&[i64]>
+        ensures none { IsNone result ↔ (self.now.item_type ≡ Chars) }
+        ensures is { IfSome result (λ s. (self.now.item_type ≡ Nums) × (self.now.items ≡ map (λ z. Num z) s.now)) }
+    {
+        self.items.numbers()
+    }
+
+    /// The item of the new place after so many others.
+    pub(crate) fn item(&self, before: u32) -> Item
+        requires { before < length self.now.items }
+        ensures is { result ≡ get_or self.now.items before (fill self.now.item_type) }
+        ensures typed { type_of result ≡ self.now.item_type }
+    {
+        self.items.item(before)
     }
 
     /// A copy of an array that grew by it.
-    #[tactic(auto, using(crate::proofs::Grown::tail_long))]
     pub(crate) fn grown(&self, array: &Array) -> Result<Array, AllocError>
         requires { FitsTail array.now self.now }
         ensures { IfOk result (λ a. a ≡ grown_by array.now self.now.items) }
     {
-        // The shapes say that it is an array, and that this is a tail.
-        let _is_array = array.shape();
-        array.joined(self.values(), self.shape())
+        let mut grown = array.copy()?;
+        self.copy()?.write_behind(&mut grown);
+        Ok(grown)
     }
 
     /// An array grows by it. It takes no memory.
@@ -104,7 +164,11 @@ impl Tail {
         // The shapes say that it is an array, and that this is a tail.
         let _is_array = array.shape();
         let _is_tail = self.shape();
-        let parts = Box::into_inner(self.parts);
-        array.grow(parts.room, &parts.values);
+        let Tail { shape, items, room } = self;
+        let room = brought(*shape.allocator(), items.item_type(), room);
+        match items {
+            NewItems::One(item) => array.grow_by_one(room, item),
+            NewItems::Many(values) => array.grow(room, &values),
+        }
     }
 }

@@ -144,9 +144,7 @@ fn with_numbers_twice<R: Tight>(
 fn is_grown(change: Option<(Delta, u32)>, axes: &[u32], numbers: &[i64], cost: u32) -> bool {
     match &change {
         Some((Delta::Grown(tail), counted)) => {
-            *counted == cost
-                && tail.shape().as_slice() == axes
-                && tail.values().numbers() == Some(numbers)
+            *counted == cost && tail.shape().as_slice() == axes && tail.numbers() == Some(numbers)
         }
         _ => false,
     }

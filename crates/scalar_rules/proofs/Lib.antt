@@ -1,3 +1,4 @@
+mod Extended
 pub mod ScalarAnswers
 mod ScalarCases
 mod GrowthExamples

@@ -10,7 +10,7 @@ ghost use Rattle.scalar_rules.specs.EachDyadicLaw.{each_dyadic_tight};
 ghost use Rattle.scalar_rules.specs.EachDyadicGrowth.{each_dyadic_growing};
 ghost use Rattle.scalar_rules.specs.Growth.{is_extended_to};
 
-use arrays_core::{ApplyFault, Array, Item, ItemType, Kind, Shape, position};
+use arrays_core::{ApplyFault, Array, Item, ItemType, Kind, Shape};
 use change_core::{Announced, Lawful};
 use index_region::{IndexBox, Intervals, Primitive, Seen, apply};
 use scalar_fns::{Scalar2, apply_two, common_shape, two};
@@ -28,10 +28,12 @@ fn extended_item(array: &Seen, index: &[u32]) -> Item
     requires { size_of array.now.shape ≢ 1 → IsTrue (is_index_of array.now.shape index.now) }
     ensures { result ≡ extended array.now index.now }
 {
-    if array.places() == 1 {
-        return array.item(1);
+    // The shape says that there is one item a place.
+    let _one_item_a_place = array.shape();
+    match array.at(index) {
+        Some(item) => item,
+        None => array.item(1),
     }
-    array.item(position(array.shape(), index))
 }
 
 /// The other array has one item and no greater rank.

@@ -16,7 +16,7 @@ use crate::entry::Entry;
 use crate::refusal::Refusal;
 use apl_expr::Literal;
 use apl_tokens::Name;
-use arrays_core::{Array, Item, Shape, position};
+use arrays_core::{Array, Item, Shape};
 use index_region::{IndexBox, Patch};
 use indexmap::IndexMap;
 use smallvec::SmallVec;
@@ -80,8 +80,7 @@ fn patch_at(shape: &Shape, index: &Shape, item: Item) -> Patch
     requires inside { is_index_of shape.now.items index.now.items ≡ true }
     ensures { result ≡ patch_of_cell index.now.items item }
 {
-    let place = position(shape, index.as_slice());
-    Patch::one(IndexBox::cover(shape, place, place), item)
+    Patch::one(IndexBox::at(shape.as_slice(), index.as_slice()), item)
 }
 
 /// The item of a literal that has one item.

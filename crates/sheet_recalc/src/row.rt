@@ -16,7 +16,7 @@ use crate::entry::Entry;
 use crate::refusal::Refusal;
 use apl_expr::Literal;
 use apl_tokens::Name;
-use arrays_core::{ApplyFault, Array, ItemType, Shape, is_within_limits, shape_of};
+use arrays_core::{ApplyFault, Array, Item, ItemType, Shape, is_within_limits, shape_of};
 use formula_core::array_of;
 use index_region::Tail;
 use indexmap::IndexMap;
@@ -61,8 +61,30 @@ fn tail_of(alloc: Global, array: &Array, literal: &Literal) -> Result<Tail, Refu
     if !is_within_limits(shape.as_slice()) {
         return Err(Refusal::Limit);
     }
-    let row = row_of(alloc, literal, array.item_type())?;
-    Ok(Tail::of(shape, row)?)
+    Ok(tail_to(alloc, shape, literal, array.item_type())?)
+}
+
+/// What an array grows by to a shape, which lies inline and within the limits: by the items of a literal, which has no more than an array may have, and
+/// only of this type. One item takes no memory but where the array needs another piece for its items.
+fn tail_to(
+    alloc: Global,
+    shape: Shape,
+    literal: &Literal,
+    item_type: ItemType,
+) -> Result<Tail, AllocError>
+    requires inline { shape.capacity ≡ 4 }
+    requires within { IsWithinLimits shape.items }
+    requires few { length (literal_items (literal_of literal.now)) ≤ most_places }
+    requires typed { are_of_type item_type (literal_items (literal_of literal.now)) ≡ true }
+    ensures { IfOk result (λ t. t ≡ record { item_type = item_type; shape = shape.items; items = literal_items (literal_of literal.now) }) }
+{
+    match literal {
+        Literal::Num(number) => Tail::one(shape, Item::Num(*number)),
+        Literal::Char(character) => Tail::one(shape, Item::Char(*character)),
+        Literal::Nums(_) | Literal::Text(_) => {
+            Tail::of(shape, row_of(alloc, literal, item_type)?)
+        }
+    }
 }
 
 /// How many items a row of an array of this shape has, if it has rows.

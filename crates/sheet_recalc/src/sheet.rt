@@ -355,8 +355,11 @@ impl Sheet {
         ensures refused { IfErr result (Refuses self.old.names (SetCell name positions.now (literal_of literal.now))) }
         ensures err { OnErr result (self.new ≡ self.old) }
     {
-        let pending = self.begin_cell(name, positions, literal)?;
-        Ok(self.complete(pending)?)
+        // matched, as `?` would move the change once more
+        match self.begin_cell(name, positions, literal) {
+            Ok(pending) => Ok(self.complete(pending)?),
+            Err(refusal) => Err(refusal),
+        }
     }
 
     /// Lays out to replace one item of data.
@@ -387,8 +390,11 @@ impl Sheet {
         ensures refused { IfErr result (Refuses self.old.names (AddRow name (literal_of literal.now))) }
         ensures err { OnErr result (self.new ≡ self.old) }
     {
-        let pending = self.begin_row(name, literal)?;
-        Ok(self.complete(pending)?)
+        // matched, as `?` would move the change once more
+        match self.begin_row(name, literal) {
+            Ok(pending) => Ok(self.complete(pending)?),
+            Err(refusal) => Err(refusal),
+        }
     }
 
     /// Lays out to put a row at the end of data.

@@ -59,7 +59,7 @@ impl NewLines {
         ensures { IfOk result (λ l. l ≡ record { function = function; axis = axis; tail = tail.now }) }
     {
         let shape = shape_of(alloc, tail.shape().as_slice());
-        let numbers = match tail.values().numbers() {
+        let numbers = match tail.numbers() {
             Some(numbers) => numbers,
             None => unreachable!(),
         };

@@ -234,7 +234,7 @@ fn change_by_growth<S: LineTotals>(
         Ok(form) => form,
         Err(kind) => return Ok((Delta::Whole(Err(Fault { kind, origin: None })), 0)),
     };
-    let Some(numbers) = tail.values().numbers() else {
+    let Some(numbers) = tail.numbers() else {
         unreachable!()
     };
     let cost = numbers.len() as u32;

@@ -1,16 +1,11 @@
 use Rattle.std.proofs.Common.{◌≡◌, ◌∙◌, inl, inr, List, None, get_or, sym, ap, subst, arith, below_more, ⊎_elim}
 use Rattle.std.specs.List.{Contains}
 use Rattle.std.specs.Map.{keys_of}
-use Rattle.std.proofs.lemmas.Map.Views.{Contains-from_any}
 use Rattle.std.proofs.lemmas.List.{get_or_default}
 use Rattle.dep_order.specs.Users.{Uses, IsClosed}
 use Rattle.dep_order.proofs.Climbing.{within_first, within_user, reaches_on}
-use Rattle.dep_order.proofs.Found.{found_closed, found_has, found_kept, found_only, key_found, keys_inserted, nothing_more}
+use Rattle.dep_order.proofs.Found.{found_closed, found_has, found_kept, found_only, keys_inserted, nothing_more}
 use Rattle.dep_order.proofs.users.+climb.Goals as goal
-
-pub returns-then-contains_key-clause-named : goal.returns-then-contains_key-clause-named
-returns-then-contains_key-clause-named g t c =
-    Contains-from_any c.requires.exact c.args.node (keys_of c.args.found.now.entries) (sym (key_found g.N.PartialEq.eq c.args.found.now.entries c.args.node) ∙ (sym c.contains_key.ensures ∙ c.if-contains_key.true))
 
 pub overflow_sub-height : goal.overflow_sub-height
 overflow_sub-height g t c =

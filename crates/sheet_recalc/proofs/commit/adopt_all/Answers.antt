@@ -1,5 +1,4 @@
-use Rattle.std.proofs.Common.{ℕ, List, ◌∙◌}
-use Rattle.dep_order.proofs.Roomed.{nothing_in}
+use Rattle.std.proofs.Common.{◌∙◌}
 use Rattle.std.proofs.lemmas.Bool.{false≢true}
 use Rattle.sheet_recalc.specs.Entries.{names_of}
 use Rattle.sheet_recalc.specs.Live.{plan_in}

@@ -18,5 +18,5 @@ returns-clause-put c =
     let typed : are_of_type a.item_type row ≡ true = cc in
     let same : c.one_longer-shape.result.items ≡ one_longer a.shape = cc in
     let limits = subst (λ (shape : List ℕ). IsWithinLimits shape) (c.as_slice-2.ensures ∙ same) (c.if-not-is_within_limits.ensures.0 refl) in
-    let items = ap (λ (t : TailValue). t.items) c.in_ok-of.ensures ∙ c.in_ok-row.ensures.items in
+    let items = ap (λ (t : TailValue). t.items) c.in_ok-tail_to.ensures in
     row_is_put a c.in-Some.count row has long typed limits ∙ ap (λ (xs : List Item). Ok (grown_by a xs)) (sym items)

@@ -20,7 +20,7 @@ totals_behind-requires-clause-lines g c =
     let tail = c.args.tail.now in
     let t = g.S.LineTotals.trees c.args.sums.now in
     let numbers = c.in-Some.numbers.now in
-    let are : tail.items ≡ map (λ (z : ℤ). Num z) numbers = sym c.values.ensures.items ∙ c.in-Some.ensures.is.1 in
+    let are : tail.items ≡ map (λ (z : ℤ). Num z) numbers = c.in-Some.ensures.is.1 in
     lines_are fold t tail now c.requires.lines c.requires.first ∙ sym (as_many_numbers fold t tail now c.requires.lines c.requires.first numbers are)
 
 pub returns-in-Ok-totals_behind-clause-delta : goal.returns-in-Ok-totals_behind-clause-delta
@@ -30,7 +30,7 @@ returns-in-Ok-totals_behind-clause-delta g c =
     let tail = c.args.tail.now in
     let t = g.S.LineTotals.trees c.args.sums.now in
     let numbers = c.in-Some.numbers.now in
-    let are : tail.items ≡ map (λ (z : ℤ). Num z) numbers = sym c.values.ensures.items ∙ c.in-Some.ensures.is.1 in
+    let are : tail.items ≡ map (λ (z : ℤ). Num z) numbers = c.in-Some.ensures.is.1 in
     let form = subst (λ (a : ArrayValue). reduce_form fold.along a ≡ Ok (form_of c.in-Ok.form.0.items c.in-Ok.form.1)) c.again.ensures c.in-Ok.ensures.0 in
     let whole : reduce_whole fold.function fold.along now ≡ with_items Nums c.in-Ok.form.0.items (all_or_first_error (longer_totals (g.S.LineTotals.function c.args.sums.now) t numbers)) =
     ap (λ (f : Scalar2). reduce_whole f fold.along now) (sym c.requires.function)
@@ -44,7 +44,7 @@ returns-in-Ok-totals_behind-clause-cost g c =
     let tail = c.args.tail.now in
     let t = g.S.LineTotals.trees c.args.sums.now in
     let numbers = c.in-Some.numbers.now in
-    let are : tail.items ≡ map (λ (z : ℤ). Num z) numbers = sym c.values.ensures.items ∙ c.in-Some.ensures.is.1 in
+    let are : tail.items ≡ map (λ (z : ℤ). Num z) numbers = c.in-Some.ensures.is.1 in
     let form = subst (λ (a : ArrayValue). reduce_form fold.along a ≡ Ok (form_of c.in-Ok.form.0.items c.in-Ok.form.1)) c.again.ensures c.in-Ok.ensures.0 in
     as_many_numbers fold t tail now c.requires.lines c.requires.first numbers are
     ∙ sym (ap form_size form ∙ places_are fold t tail now c.requires.lines c.requires.first c.in-Ok.form.0.items c.in-Ok.form.1 form)
@@ -56,7 +56,7 @@ returns-in-Ok-totals_behind-clause-joins g c =
     let tail = c.args.tail.now in
     let t = g.S.LineTotals.trees c.args.sums.now in
     let numbers = c.in-Some.numbers.now in
-    let are : tail.items ≡ map (λ (z : ℤ). Num z) numbers = sym c.values.ensures.items ∙ c.in-Some.ensures.is.1 in
+    let are : tail.items ≡ map (λ (z : ℤ). Num z) numbers = c.in-Some.ensures.is.1 in
     joins_within fold t tail now c.requires.lines c.requires.first c.args.meter.now.joins c.totals_behind.new.meter.joins
     (omega (arith, c.totals_behind.ensures.joins, as_many_numbers fold t tail now c.requires.lines c.requires.first numbers are))
 
@@ -67,7 +67,7 @@ returns-in-Err-Kind-clause-delta g c =
     let tail = c.args.tail.now in
     let t = g.S.LineTotals.trees c.args.sums.now in
     let numbers = c.in-Some.numbers.now in
-    let are : tail.items ≡ map (λ (z : ℤ). Num z) numbers = sym c.values.ensures.items ∙ c.in-Some.ensures.is.1 in
+    let are : tail.items ≡ map (λ (z : ℤ). Num z) numbers = c.in-Some.ensures.is.1 in
     let form = subst (λ (a : ArrayValue). reduce_form fold.along a ≡ Ok (form_of c.in-Ok.form.0.items c.in-Ok.form.1)) c.again.ensures c.in-Ok.ensures.0 in
     let whole : reduce_whole fold.function fold.along now ≡ with_items Nums c.in-Ok.form.0.items (all_or_first_error (longer_totals (g.S.LineTotals.function c.args.sums.now) t numbers)) =
     ap (λ (f : Scalar2). reduce_whole f fold.along now) (sym c.requires.function)
@@ -83,7 +83,7 @@ returns-in-Err-Kind-clause-joins g c =
     let tail = c.args.tail.now in
     let t = g.S.LineTotals.trees c.args.sums.now in
     let numbers = c.in-Some.numbers.now in
-    let are : tail.items ≡ map (λ (z : ℤ). Num z) numbers = sym c.values.ensures.items ∙ c.in-Some.ensures.is.1 in
+    let are : tail.items ≡ map (λ (z : ℤ). Num z) numbers = c.in-Some.ensures.is.1 in
     joins_within fold t tail now c.requires.lines c.requires.first c.args.meter.now.joins c.totals_behind.new.meter.joins
     (omega (arith, c.totals_behind.ensures.joins, as_many_numbers fold t tail now c.requires.lines c.requires.first numbers are))
 
@@ -94,6 +94,6 @@ returns-clause-joins g c =
     let tail = c.args.tail.now in
     let t = g.S.LineTotals.trees c.args.sums.now in
     let numbers = c.in-Some.numbers.now in
-    let are : tail.items ≡ map (λ (z : ℤ). Num z) numbers = sym c.values.ensures.items ∙ c.in-Some.ensures.is.1 in
+    let are : tail.items ≡ map (λ (z : ℤ). Num z) numbers = c.in-Some.ensures.is.1 in
     joins_within fold t tail now c.requires.lines c.requires.first c.args.meter.now.joins c.totals_behind.new.meter.joins
     (omega (arith, c.totals_behind.ensures.joins, as_many_numbers fold t tail now c.requires.lines c.requires.first numbers are))

@@ -47,7 +47,7 @@ returns-in_ok-positions-in-Index-clause-step c = λ change names trees staged ho
     subst (λ (n : Node). IsStep c.args.self.now.is_new change (tree_of_node names trees n) c.args.meter.now.ticks c.change_of_index.new.meter.ticks c.change_of_index.result) (sym c.in-Index.is)
     (index_step c.args.self.now.is_new change (tree_of_operand names trees c.in-Index.array) (map f c.in-Index.positions.items) c.operand-array.result c.in_ok-positions-in-Index.positions.items c.args.held.now _ _ c.change_of_index.result
     (c.operand-array.ensures.ready change names trees staged) (rw c.deref.ensures.value at (c.in_ok-positions-in-Index.ensures.ready change names trees staged)) (rw c.in-Index.is at holds)
-    (rw c.deref-in-Index.ensures.value at c.change_of_index.ensures.change))
+    (rw c.deref-in-Index.ensures at c.change_of_index.ensures.change))
 
 pub returns-in_ok-change_of_literal-in-Constant-clause-joins : goal.returns-in_ok-change_of_literal-in-Constant-clause-joins
 returns-in_ok-change_of_literal-in-Constant-clause-joins c = λ change names trees staged holds.

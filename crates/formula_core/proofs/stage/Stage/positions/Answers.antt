@@ -19,7 +19,7 @@ loop-operand-preserved c =
     let os = c.args.operands.now in
     let k = c.loop-operand.operand-index in
     let before = c.loop-operand.positions.items in
-    let pushed = c.in_ok-push.ensures.items in
+    let pushed = c.in_ok-push.ensures.ok in
     elim c.match-operand.branch [
       | in-Some w ↦
           let more = rw w.push-is at pushed in

@@ -1,25 +1,26 @@
-use Rattle.std.proofs.Common.{◌≡◌, ◌+◌, ◌-◌, ℕ, length, sym, ap, ◌∙◌, subst, arith}
-use Rattle.arrays_core.specs.Shapes.{size}
+use Rattle.std.proofs.Common.{◌≡◌, ℕ, length, sym, subst}
 use Rattle.arrays_core.specs.Growth.{HasRoom, IsRoomFor}
-use Rattle.arrays_core.proofs.Growing.{size_longer}
-use Rattle.index_region.specs.Tails.{TailValue}
-use Rattle.index_region.specs.declared.tail.Parts.{Parts}
+use Rattle.arrays_core.specs.declared.item.ItemType.{ItemType}
+use Rattle.index_region.specs.NewItems.{items_of}
+use Rattle.index_region.specs.Tails.{TailValue, FitsTail, IsRoomBehind}
+use Rattle.index_region.specs.declared.new_items.NewItems.{NewItems}
+use Rattle.index_region.proofs.Grown.{room_for}
 use Rattle.index_region.proofs.tail.Tail.write_behind.Goals as goal
+
+pub grow_by_one-requires-clause-room : goal.grow_by_one-requires-clause-room
+grow_by_one-requires-clause-room c =
+    let t = c.self.inside in
+    let r = c.brought-room.result in
+    let fits = subst (λ (v : TailValue). FitsTail c.args.array.now v) (sym c.self.view_is) c.requires in
+    let brought = subst (λ (type : ItemType). (held items : ℕ) → IsRoomBehind type held items t.room → (r.item_type ≡ type) × HasRoom held items r.places) c.item_type.ensures.is c.brought-room.ensures in
+    subst (λ (items : NewItems). IsRoomFor r c.args.array.now (length (items_of items))) c.in-One.is
+    (room_for c.args.array.now _ t.room r c.shape-is_array.ensures.sound fits c.self.invariant.behind brought)
 
 pub grow-requires-clause-room : goal.grow-requires-clause-room
 grow-requires-clause-room c =
-    let a = c.args.array.now in
-    let parts = c.self.inside.parts.value in
-    let tail = c.self.invariant in
-    let view = c.self.view_is in
-    let shaped = ap size (ap (λ (t : TailValue). t.shape) view ∙ c.requires.shaped) in
-    let longer = size_longer a.shape c.requires.some_axis in
-    let old = c.shape-is_array.ensures.sound.one_item_a_place in
-    let more = ap (λ (t : TailValue). length t.items) view ∙ c.requires.one_place in
-    let held : size parts.shape.items - length parts.values.items ≡ length a.items = omega (arith, shaped, longer, old, more) in
-    let all : size parts.shape.items ≡ length a.items + length parts.values.items = omega (arith, shaped, longer, old, more) in
-    subst (λ (q : Parts). IsRoomFor q.room a (length q.values.items)) (sym c.into_inner-parts.ensures)
-    (record {
-      typed = tail.typed ∙ (ap (λ (t : TailValue). t.item_type) view ∙ c.requires.typed);
-      room = subst (λ (n : ℕ). HasRoom (length a.items) n parts.room.places) all (subst (λ (n : ℕ). HasRoom n (size parts.shape.items) parts.room.places) held tail.places);
-    })
+    let t = c.self.inside in
+    let r = c.brought-room.result in
+    let fits = subst (λ (v : TailValue). FitsTail c.args.array.now v) (sym c.self.view_is) c.requires in
+    let brought = subst (λ (type : ItemType). (held items : ℕ) → IsRoomBehind type held items t.room → (r.item_type ≡ type) × HasRoom held items r.places) c.item_type.ensures.is c.brought-room.ensures in
+    subst (λ (items : NewItems). IsRoomFor r c.args.array.now (length (items_of items))) c.in-Many.is
+    (room_for c.args.array.now _ t.room r c.shape-is_array.ensures.sound fits c.self.invariant.behind brought)

@@ -1,17 +1,17 @@
--- The items of a patch: one by itself, or those of an array.
+-- New items: one by itself, or those of an array.
 use Rattle.std.specs.Prelude.{List, [], ◌∷◌}
 use Rattle.arrays_core.specs.declared.item.Item.{Item}
 use Rattle.arrays_core.specs.declared.item.ItemType.{ItemType}
 use Rattle.arrays_core.specs.Items.{type_of}
-use Rattle.index_region.specs.declared.patch_items.PatchItems.{PatchItems}
-use Rattle.index_region.specs.declared.patch_items.PatchItems.TheVariants.{One, Many}
+use Rattle.index_region.specs.declared.new_items.NewItems.{NewItems}
+use Rattle.index_region.specs.declared.new_items.NewItems.TheVariants.{One, Many}
 
 -- the items, in row-major order
-abbrev pub items_of : PatchItems → List Item
+abbrev pub items_of : NewItems → List Item
 items_of (One item) = item ∷ []
 items_of (Many array) = array.items
 
 -- their type
-abbrev pub type_of_items : PatchItems → ItemType
+abbrev pub type_of_items : NewItems → ItemType
 type_of_items (One item) = type_of item
 type_of_items (Many array) = array.item_type

@@ -1,0 +1,20 @@
+use Rattle.std.proofs.Common.{◌≡◌, ◌∙◌, List, ap, arith, length, subst, sym, take, true}
+use Rattle.std.proofs.lemmas.List.{length-map, length-take-le, take_all}
+use Rattle.index_region.specs.Boxes.{Interval, is_box}
+use Rattle.index_region.proofs.OnePlace.{one_place, one_place_box, as_long}
+use Rattle.index_region.proofs.index_box.IndexBox.at.Goals as goal
+
+pub push-requires : goal.push-requires
+push-requires c =
+    let index = c.args.index.now in
+    let k = c.loop-place.place-index in
+    let long = as_long c.args.shape.now index c.requires.inside in
+    let pushed : length c.loop-place.intervals ≡ k = ap (λ (r : List Interval). length r) c.loop-place.invariant ∙ length-map (take k index) (λ i. (i, i)) ∙ length-take-le k index (omega arith) in
+    omega (arith, long, pushed, c.requires.rank, c.loop-place-test.true)
+
+pub invariant_of-result : goal.invariant_of-result
+invariant_of-result c =
+    let index = c.args.index.now in
+    let whole = take_all c.loop-place.place-index index (omega (arith, c.loop-place-test.false)) in
+    let all : c.loop-place.intervals ≡ one_place index = c.loop-place.invariant ∙ ap one_place whole in
+    subst (λ (r : List Interval). is_box r ≡ true) (sym all) (one_place_box c.args.shape.now index c.requires.rank c.requires.inside)

@@ -1,0 +1,28 @@
+-- Items of arrays that are extended to a common shape.
+use Rattle.std.proofs.Common.{◌≡◌, ◌∙◌, ℕ, List, Some, true, get_or, nat_eq, inl, inr, ap, refl, arith}
+use Rattle.std.proofs.lemmas.Bool.{cases_Bool, eqb-true}
+use Rattle.arrays_core.specs.Arrays.{ArrayValue, item_of, item_if_there}
+use Rattle.arrays_core.specs.declared.item.Item.{Item}
+use Rattle.arrays_core.specs.Items.{fill}
+use Rattle.arrays_core.specs.Shapes.{size, is_index_of, places_before}
+use Rattle.arrays_core.proofs.Shapes.{places_below}
+use Rattle.scalar_fns.specs.ScalarExtension.{extended}
+
+-- at an index list of its own an array has its item there, also where it has one alone
+pub there : (a : ArrayValue) (index : List ℕ) → is_index_of a.shape index ≡ true → item_of a index ≡ extended a index
+there a index h = elim (cases_Bool (nat_eq (size a.shape) 1)) [
+  | inl one ↦
+      let only : size a.shape ≡ 1 = eqb-true _ _ one in
+      let first : places_before a.shape index ≡ 0 = (let below = places_below a.shape index h in omega (arith, below, only)) in
+      rw one (ap (λ (k : ℕ). get_or a.items k (fill a.item_type)) first)
+  | inr more ↦ rw more refl
+]
+
+-- so what it has at an index list is the item of the extended array
+pub found : (a : ArrayValue) (index : List ℕ) (item : Item) → Some item ≡ item_if_there a index → item ≡ extended a index
+found a index item is = elim (cases_Bool (is_index_of a.shape index)) [
+  | inl inside ↦
+      let same : item ≡ item_of a index = (let h = rw inside at is in cc) in
+      same ∙ there a index inside
+  | inr outside ↦ absurd (let h = rw outside at is in cc)
+]
