@@ -1,5 +1,6 @@
 //! Plain Rust for bench/program/whole: what each expression gives, again and again. Called with the name of an expression and a count.
 use std::hint::black_box;
+use std::io::Write;
 
 const SIDE: usize = 1024;
 const PLACES: usize = SIDE * SIDE;
@@ -228,6 +229,10 @@ fn made(name: &str, given: &Given) -> Vec<i64> {
             matrix.iter().zip(black_box(matrix)).map(|pair| whole(pair).unwrap()).collect()
         }
         "powers_of_two" => given.exponents.iter().map(|it| black_box(2i64).checked_pow(*it as u32).unwrap()).collect(),
+        "printed" => {
+            std::io::stdout().write_all(&text_of(matrix)).unwrap();
+            matrix[PLACES - 1..].to_vec()
+        }
         "squares" => matrix.iter().map(|it| it.checked_pow(black_box(2)).unwrap()).collect(),
         "equal_fold" => folded(&given.bits, |a, b| (a == b) as i64),
         "unequal_fold" => folded(&given.bits, |a, b| (a != b) as i64),
@@ -267,6 +272,31 @@ fn made(name: &str, given: &Given) -> Vec<i64> {
         "least_difference" => inner(&given.square, 256, i64::min, |a, b| a.checked_sub(b).unwrap()),
         _ => panic!("no such expression"),
     }
+}
+
+/// The line that a vector prints, its digits by hand.
+fn text_of(numbers: &[i64]) -> Vec<u8> {
+    let mut text = Vec::new();
+    for (place, number) in numbers.iter().enumerate() {
+        if place > 0 {
+            text.push(b' ');
+        }
+        if *number < 0 {
+            text.extend_from_slice("¯".as_bytes());
+        }
+        let (mut left, mut digits, mut first) = (number.unsigned_abs(), [0; 20], 20);
+        loop {
+            first -= 1;
+            digits[first] = b'0' + (left % 10) as u8;
+            left /= 10;
+            if left == 0 {
+                break;
+            }
+        }
+        text.extend_from_slice(&digits[first..]);
+    }
+    text.push(b'\n');
+    text
 }
 
 fn main() {
