@@ -4,11 +4,15 @@
 ghost use Rattle.std.specs.Prelude.{None};
 
 use sheet_cli::{Device, Failed, Host, NoWords, NotRead, Teller, program};
+use std::alloc::{AllocError, Global};
 use std::fmt::Display;
 use std::fs::File;
 use std::io;
 use std::io::Read;
 use std::process::ExitCode;
+
+/// The largest piece that glibc looks at when it is given back: 32 MB, less two pages for what it notes beside it.
+const LARGEST_PIECE: usize = 33_546_240;
 
 /// The machine that the program is started on. What its words and files are nobody knows ahead.
 #[derive(Drop)]
@@ -62,7 +66,15 @@ impl Teller for StandardError {
     }
 }
 
+/// Asks for the largest piece and gives it back untouched. From then on glibc keeps what arrays give back, up to twice as much, where it would
+/// hand large pieces to the system, which clears each page of them for the next array: for a selection by a mask that took longer than the
+/// selection. If the piece is refused, memory goes to and fro as before.
+fn keep_what_arrays_give_back(alloc: Global) {
+    let _piece: Result<Vec<u8>, AllocError> = Vec::with_capacity(alloc, LARGEST_PIECE);
+}
+
 fn main(rt: HostRuntime) -> ExitCode {
+    keep_what_arrays_give_back(rt.alloc());
     let mut input = Device::new(rt.reader());
     let mut output = Device::new(io::writer(&rt));
     let mut errors = StandardError { rt, failed: false };

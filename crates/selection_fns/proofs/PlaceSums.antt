@@ -112,6 +112,12 @@ sums_one (x ∷ xs) (y ∷ []) e =
     ap (λ n. n ∷ map (λ z. y + z) xs) (let turned : y + x ≡ x + y = omega arith in turned) ∙ ap (λ rest. (x + y) ∷ rest) (sums_one xs (y ∷ []) refl)
 sums_one xs (y ∷ z ∷ ys) e = absurd (omega arith)
 
+-- one number alone, and each of a list, added
+pub sums_turned : (xs ys : List ℕ) → length ys ≡ 1 → sums ys xs ≡ sums xs ys
+sums_turned xs [] e = absurd (omega arith)
+sums_turned xs (y ∷ []) e = append-nil (map (λ x. y + x) xs) ∙ sums_one xs (y ∷ []) refl
+sums_turned xs (y ∷ z ∷ ys) e = absurd (omega arith)
+
 -- ---- heads and rows
 
 pub heads_few : (offsets xs ys : List ℕ) (m : ℕ) → 0 < length (sums xs ys) → length offsets * length (sums xs ys) ≤ m → length offsets * length xs ≤ m

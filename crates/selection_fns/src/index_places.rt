@@ -169,26 +169,31 @@ impl Places {
         Ok(Places { heads, row })
     }
 
-    /// These places, each so far as the offsets say, one offset after another.
-    fn moved(self, alloc: Global, offsets: &[u32]) -> Result<Places, AllocError>
+    /// These places, each so far as the offsets say, one offset after another. Of one place the offsets are the row themselves, where they
+    /// are many enough for one.
+    fn moved(self, alloc: Global, offsets: Vec<u32>) -> Result<Places, AllocError>
         requires some { 0 < length (all_places self) }
-        requires few { length offsets.now * length (all_places self) ≤ most_places }
-        requires fit { (i j : ℕ) → i < length offsets.now → j < length (all_places self) → get_or offsets.now i 0 + get_or (all_places self) j 0 < 2 ^ 32 }
-        ensures { IfOk result (λ p. all_places p ≡ all_sums offsets.now (all_places self)) }
+        requires few { length offsets.items * length (all_places self) ≤ most_places }
+        requires fit { (i j : ℕ) → i < length offsets.items → j < length (all_places self) → get_or offsets.items i 0 + get_or (all_places self) j 0 < 2 ^ 32 }
+        ensures { IfOk result (λ p. all_places p ≡ all_sums offsets.items (all_places self)) }
     {
         let Places { heads, row } = self;
         match row {
             Row::Listed(places) => {
                 if heads.len() == 1 && heads[0] == 0 && places.len() < LEAST_ROW {
-                    let row = Row::Listed(sums(alloc, offsets, &places)?);
+                    if places.len() == 1 && offsets.len() >= LEAST_ROW {
+                        let row = Row::Listed(offsets);
+                        return Ok(Places { heads: places, row });
+                    }
+                    let row = Row::Listed(sums(alloc, &offsets, &places)?);
                     return Ok(Places { heads, row });
                 }
-                let heads = sums(alloc, offsets, &heads)?;
+                let heads = sums(alloc, &offsets, &heads)?;
                 let row = Row::Listed(places);
                 Ok(Places { heads, row })
             }
             Row::Run(count) => {
-                let heads = sums(alloc, offsets, &heads)?;
+                let heads = sums(alloc, &offsets, &heads)?;
                 let row = Row::Run(count);
                 Ok(Places { heads, row })
             }
@@ -295,11 +300,11 @@ pub(crate) fn places_of(
         }
         let rest = places_of(alloc, others, &written[1..], positions)?;
         let offsets = axis_offsets(alloc, axes[0], size(others))?;
-        return rest.moved(alloc, &offsets);
+        return rest.moved(alloc, offsets);
     }
     let position = &positions[0];
     prove!(0 < position.places());
     let rest = places_of(alloc, others, &written[1..], &positions[1..])?;
     let offsets = position_offsets(alloc, position, axes[0], size(others))?;
-    rest.moved(alloc, &offsets)
+    rest.moved(alloc, offsets)
 }

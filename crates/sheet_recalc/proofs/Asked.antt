@@ -1,5 +1,5 @@
 -- What is worked out for a name is what the change asks for.
-use Rattle.std.proofs.Common.{◌≡◌, ◌≤◌, ◌∙◌, ℕ, ℤ, List, Option, Some, None, IsSome, Result, Ok, Err, IfOk, true, refl, sym, ap, arith}
+use Rattle.std.proofs.Common.{◌≡◌, ◌≤◌, ◌∙◌, ℕ, ℤ, List, Option, Some, None, IsSome, Result, Ok, Err, IfOk, OnOk, true, refl, sym, ap, arith}
 use Rattle.std.specs.Option.{option_map}
 use Rattle.apl_expr.specs.Trees.{Tree, Literal}
 use Rattle.arrays_core.specs.Arrays.{ArrayValue}
@@ -37,6 +37,10 @@ if_ok_both (Err e) P Q R f p q = p
 pub if_ok_map : {T E : Type 0} (r : Result T E) (P Q : T → Type 0) → ((t : T) → P t → Q t) → IfOk r P → IfOk r Q
 if_ok_map (Ok t) P Q f h = f t h
 if_ok_map (Err e) P Q f h = h
+
+pub on_ok_map : {T E : Type 0} (r : Result T E) (P Q : Type 0) → (P → Q) → OnOk r P → OnOk r Q
+on_ok_map (Ok t) P Q f h = f h
+on_ok_map (Err e) P Q f h = h
 
 module _ (s : SheetValue) (name : List ℕ) (proposal : Proposal) (spent : ℕ) (p : Pending) (h : IsProposedOn s name proposal spent p) where
   -- the names, by the entry that the proposal makes

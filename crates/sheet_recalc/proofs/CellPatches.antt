@@ -1,12 +1,10 @@
 -- The patch of one place.
-use Rattle.std.proofs.Common.{◌≡◌, ℕ, nat_eq, Ok, ◌+◌, ◌-◌, List, [], ◌∷◌, map, set, true, refl, sym, ap, ◌∙◌, subst, arith}
-use Rattle.std.proofs.lemmas.Bool.{and_parts, and_from, le-leb, eq-eqb, false≢true}
+use Rattle.std.proofs.Common.{◌≡◌, ℕ, Ok, ◌+◌, List, [], ◌∷◌, set, true, refl, sym, ap, subst, arith}
 use Rattle.arrays_core.specs.declared.item.Item.{Item}
 use Rattle.arrays_core.specs.Arrays.{ArrayValue, IsArray}
 use Rattle.arrays_core.specs.Items.{type_of}
 use Rattle.arrays_core.specs.Shapes.{is_index_of, places_before}
-use Rattle.arrays_core.proofs.Order.{index_after-places_before}
-use Rattle.index_region.specs.Boxes.{Interval, box_size, walk_at, fits, cover, cover_between}
+use Rattle.index_region.specs.Boxes.{box_size, walk_at}
 use Rattle.index_region.specs.Patches.{PatchValue, FitsPatch, patched}
 use Rattle.index_region.proofs.OnePlace.{one_place_size, one_place_fits, one_place_walk}
 use Rattle.index_region.proofs.Written.{IsWritten, written_none, written_more, written_all}

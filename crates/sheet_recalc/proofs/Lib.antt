@@ -10,6 +10,7 @@ pub mod Forward
 pub mod Indices
 pub mod Keeping
 pub mod Live
+pub mod Making
 pub mod NameEquality
 pub mod PlannedNames
 pub mod Proposed

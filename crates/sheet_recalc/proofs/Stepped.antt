@@ -9,7 +9,7 @@ use Rattle.sheet_recalc.specs.Costs.{HasCost, HasTicks, NoItemFails, expression_
 use Rattle.formula_core.specs.Changes as formula
 use Rattle.sheet_recalc.specs.ProposedSheet.{proposed_change}
 use Rattle.sheet_recalc.specs.Planning.{IsOnTheWay}
-use Rattle.sheet_recalc.specs.Pending.{outline_for, names_after, steps_left, IsReady, IsBegunOn, IsLaidOutOn, IsPendingOn}
+use Rattle.sheet_recalc.specs.Pending.{outline_for, names_after, steps_left, IsAllReady, IsBegunOn, IsLaidOut, IsLaidOutOn, IsPendingOn}
 use Rattle.sheet_recalc.specs.declared.pending.Pending.{Pending}
 use Rattle.sheet_recalc.specs.declared.plans.Plans.{Plans}
 use Rattle.sheet_recalc.proofs.Accounted.{expression_more}
@@ -30,15 +30,17 @@ module _ (t : Tables) (p : Pending) (base : ℕ) (h : IsBegunOn t p base) (none 
   nothing_left : p.plans.left ≡ 0
   nothing_left = omega (arith, none)
 
-  pub is_ready : IsReady t p
+  pub is_ready : IsAllReady t p
   is_ready =
       let told = h.told (none_cut p none) in
       record {
-        planned = all_planned (outline_for t p) h.proposed base p.meter.ticks p.plans rests nothing_left;
-        kept = h.kept;
-        sheet = h.sheet;
-        proposal = h.proposed.proposal;
-        place = h.place;
+        ready = record {
+          planned = all_planned (outline_for t p) h.proposed base p.meter.ticks p.plans rests nothing_left;
+          kept = h.kept;
+          sheet = h.sheet;
+          proposal_at = h.proposed.proposal;
+          place = h.place;
+        };
         few = subst (λ n. n ≤ p.plans.cost) (sym told) (all_few (outline_for t p) h.proposed base p.meter.ticks p.plans rests nothing_left (subst (λ n. n < 18446744073709551616) told h.small));
         whole = λ good. told ∙ all_whole (outline_for t p) h.proposed base p.meter.ticks p.plans rests nothing_left good;
       }
@@ -78,20 +80,24 @@ module _ (p : Pending) (w : Plans) (cut : Bool) (ticks : ℕ) (m : MeterValue) w
   pending_on s change h way told untold small = record { base = h.base; begun = begun_on s.tables h.base h.begun way told untold small; base_is = h.base_is; accepts = h.accepts; name_is = h.name_is; makes = h.makes }
 
 -- a change that was laid out, where its plans have come to a rest
+pub begun_of_laid_out : (t : Tables) (p : Pending) (base : ℕ) → IsLaidOut t p base → (w : Plans) (ticks : ℕ) (m : MeterValue) → IsOnTheWay (outline_for t p) base w true m.ticks → ticks ≡ m.ticks
+    → ticks < 18446744073709551616 → IsBegunOn t (record p { plans = w; ticks = ticks; meter = m }) base
+begun_of_laid_out t p base h w ticks m way told small = record {
+  proposed = h.proposed;
+  kept = h.kept;
+  sheet = h.sheet;
+  place = h.place;
+  way = subst (λ b. IsOnTheWay (outline_for t p) base w (not b) m.ticks) (sym h.whole) way;
+  told = λ e. told;
+  untold = λ cut. absurd (false≢true (sym h.whole ∙ cut));
+  small = small;
+}
+
 pub of_laid_out : (s : SheetValue) (change : Change) (p : Pending) (h : IsLaidOutOn s change p) (w : Plans) (ticks : ℕ) (m : MeterValue) → IsOnTheWay (outline_for s.tables p) h.base w true m.ticks → ticks ≡ m.ticks
     → ticks < 18446744073709551616 → IsPendingOn s change (record p { plans = w; ticks = ticks; meter = m })
 of_laid_out s change p h w ticks m way told small = record {
   base = h.base;
-  begun = record {
-    proposed = h.begun.proposed;
-    kept = h.begun.kept;
-    sheet = h.begun.sheet;
-    place = h.begun.place;
-    way = subst (λ b. IsOnTheWay (outline_for s.tables p) h.base w (not b) m.ticks) (sym h.begun.whole) way;
-    told = λ e. told;
-    untold = λ cut. absurd (false≢true (sym h.begun.whole ∙ cut));
-    small = small;
-  };
+  begun = begun_of_laid_out s.tables p h.base h.begun w ticks m way told small;
   base_is = h.base_is;
   accepts = h.accepts;
   name_is = h.name_is;

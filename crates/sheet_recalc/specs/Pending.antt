@@ -7,6 +7,7 @@ use Rattle.dep_order.specs.Room.{FindRoom, AreSetsFor}
 use Rattle.change_core.specs.Meters.{ticked}
 use Rattle.index_region.specs.declared.delta.Delta.TheVariants.{Whole}
 use Rattle.formula_core.specs.Meaning.{names_in}
+use Rattle.formula_core.specs.Plans.{PlanValue}
 use Rattle.sheet_recalc.specs.Names.{Names, SheetValue, IsSheet}
 use Rattle.sheet_recalc.specs.NameOrder.{HasOrder}
 use Rattle.sheet_recalc.specs.Changes.{Change, Accepts, HasRoom}
@@ -51,13 +52,17 @@ HasPlace t g (proposed.Data (Whole r)) = IsBrought t [] g
 HasPlace t g (proposed.Data delta) = Unit {0}
 HasPlace t g proposed.Removed = Unit {0}
 
--- all is worked out: the plans, the room, the cost
-pub record IsReady (t : Tables) (p : Pending) : Type 0 where
-  pub planned : IsPlanned t.entries.entries p.name (own_entry (outline_for t p)) (names_after t p) (plan_in p.plans.found.entries)
-  pub kept : HasOrder (names_after t p)
-  pub sheet : IsSheet (names_after t p)
-  pub proposal : IsProposalAt t.entries.entries p.name p.proposal
-  pub place : HasPlace t p.growth p.proposal
+-- all is worked out that a name is to be bound to: what that reaches, with the plans, and the room
+pub record IsReady {A : Type 0} (t : Tables) (name : List ℕ) (proposal : Proposal) (found : List (List ℕ × Option PlanValue)) (growth : Option (Box Growth A)) : Type 0 where
+  pub planned : IsPlanned t.entries.entries name (own_entry (outline_at t name proposal)) (proposed_names (outline_at t name proposal)) (plan_in found)
+  pub kept : HasOrder (proposed_names (outline_at t name proposal))
+  pub sheet : IsSheet (proposed_names (outline_at t name proposal))
+  pub proposal_at : IsProposalAt t.entries.entries name proposal
+  pub place : HasPlace t growth proposal
+
+-- the pending change is worked out, and its cost
+pub record IsAllReady (t : Tables) (p : Pending) : Type 0 where
+  pub ready : IsReady t p.name p.proposal p.plans.found.entries p.growth
   pub few : p.ticks ≤ p.plans.cost
   pub whole : NoneFails (outline_for t p) → p.ticks ≡ p.plans.cost
 
@@ -115,3 +120,7 @@ pub record IsProposedOn (s : SheetValue) (name : List ℕ) (proposal : Proposal)
   pub begun : IsLaidOut s.tables p spent
   pub even : p.ticks ≡ spent
   pub room : HasRoom s.names name
+
+-- whatever is laid out for a name by this proposal is this change
+abbrev pub LaysOut : SheetValue → List ℕ → Proposal → ℕ → Change → Type 0
+LaysOut s name proposal spent change = (p : Pending) → IsProposedOn s name proposal spent p → IsLaidOutOn s change p

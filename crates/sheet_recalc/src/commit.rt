@@ -14,11 +14,11 @@ ghost use Rattle.sheet_recalc.specs.declared.entry.Entry.{Entry as EntryValue};
 ghost use Rattle.sheet_recalc.specs.declared.entry.Entry.TheVariants.{Data as DataEntry};
 ghost use Rattle.dep_order.specs.Users.{HasRoomFor, HasNoEmptyBut};
 ghost use Rattle.sheet_recalc.specs.Live.{IsTable, IsCurrent, IsPlanned, IsAdopting, CanAdopt, plan_in};
-ghost use Rattle.sheet_recalc.specs.Pending.{names_after, IsBrought, IsReady};
+ghost use Rattle.sheet_recalc.specs.Pending.{outline_at, IsBrought, IsReady};
+ghost use Rattle.sheet_recalc.specs.ProposedSheet.{proposed_names};
 
 use crate::entry::Entry;
 use crate::growth::Growth;
-use crate::pending::Pending;
 use crate::plans::Found;
 use crate::proposal::Proposal;
 use apl_tokens::Name;
@@ -27,29 +27,26 @@ use formula_core::Plan;
 use index_region::{Delta, Patch, Tail};
 use indexmap::IndexMap;
 
-/// Makes a change that is worked out, and hands back the map of what it reached, for its memory. No memory is asked for.
+/// Makes a change that is worked out for what a name is to be bound to, and hands back the map of what it reached, for its memory. No memory
+/// is asked for.
 #[inline(always)]
 pub(crate) fn make(
     entries: &mut IndexMap<Name, Entry>,
     users: &mut Users<Name>,
-    pending: Pending,
+    name: Name,
+    proposal: Proposal,
+    found: Found,
+    growth: Option<Box<Growth>>,
 ) -> Found
-    requires ready { IsReady (record { entries = entries.old; users = users.old }) pending }
+    requires ready { IsReady (record { entries = entries.old; users = users.old }) name proposal found.entries growth }
     requires tells { IsTable (names_of entries.old.entries) users.old.entries }
     requires used { HasNoEmptyBut bytes_eq users.old.entries [] }
-    ensures names { names_of entries.new.entries ≡ names_after (record { entries = entries.old; users = users.old }) pending }
+    ensures names { names_of entries.new.entries ≡ proposed_names (outline_at (record { entries = entries.old; users = users.old }) name proposal) }
     ensures current { IsCurrent entries.new.entries }
-    ensures tells { IsTable (names_after (record { entries = entries.old; users = users.old }) pending) users.new.entries }
+    ensures tells { IsTable (proposed_names (outline_at (record { entries = entries.old; users = users.old }) name proposal)) users.new.entries }
     ensures used { HasNoEmptyBut bytes_eq users.new.entries [] }
 {
-    let Pending {
-        name,
-        proposal,
-        plans,
-        growth,
-        ..
-    } = pending;
-    let mut found = plans.found;
+    let mut found = found;
     match proposal {
         Proposal::Formula(formula) => {
             let entry = Entry::Formula(formula);

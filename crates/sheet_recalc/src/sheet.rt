@@ -1,18 +1,23 @@
 //! The sheet.
 
-ghost use Rattle.std.specs.Prelude.{◌≡◌, ◌+◌, ◌-◌, ◌<◌, ◌≤◌, ℕ, min, true, [], IfOk, IfErr, OnOk, OnErr, Some, None, is_some, if◌then◌else◌};
+ghost use Rattle.std.specs.Prelude.{◌≡◌, ◌+◌, ◌-◌, ◌<◌, ◌≤◌, ℕ, List, min, true, [], IfOk, IfErr, OnOk, OnErr, Ok, Some, None, IsSome, is_some, if◌then◌else◌};
 ghost use Rattle.std.specs.Map.{keys_of};
 ghost use Rattle.std.specs.Option.{option_map};
 ghost use Rattle.apl_expr.specs.Trees.{tree_of, literal_of};
+ghost use Rattle.arrays_core.specs.Arrays.{ArrayValue};
+ghost use Rattle.change_core.specs.Meters.{ticked};
+ghost use Rattle.index_region.specs.declared.delta.Delta.TheVariants.{Whole};
 ghost use Rattle.formula_core.specs.Outcomes.{read};
 ghost use Rattle.formula_core.specs.Meaning.{eval};
+ghost use Rattle.formula_core.specs.Plans.{tree_cost};
 ghost use Rattle.sheet_recalc.specs.Names.{Names, binding, IsSheet};
 ghost use Rattle.sheet_recalc.specs.Meaning.{val};
 ghost use Rattle.sheet_recalc.specs.ProposedSheet.{names_with};
 ghost use Rattle.sheet_recalc.specs.Planning.{IsProposalAt};
-ghost use Rattle.sheet_recalc.specs.Pending.{IsLaidOutOn, IsPendingOn, IsProposedOn, steps_left};
+ghost use Rattle.sheet_recalc.specs.declared.proposal.Proposal.TheVariants.{Removed};
+ghost use Rattle.sheet_recalc.specs.Pending.{IsLaidOutOn, IsPendingOn, IsProposedOn, LaysOut, steps_left};
 ghost use Rattle.sheet_recalc.specs.Changes.{Change, Accepts, Refuses, Define, Store, Put, SetCell, AddRow, Erase, CannotBecome};
-ghost use Rattle.sheet_recalc.specs.Costs.{HasCost, HasTicks, changed_name, expression_cost, IsStepCost, IsStepCount};
+ghost use Rattle.sheet_recalc.specs.Costs.{HasCost, HasTicks, at_rest, changed_name, expression_cost, IsStepCost, IsStepCount};
 
 use crate::cell::cell_patch;
 use crate::commit::make;
@@ -161,8 +166,8 @@ impl Sheet {
         ensures refused { IfErr result (Refuses self.old.names (Define name (tree_of tree))) }
         ensures err { OnErr result (self.new ≡ self.old) }
     {
-        let pending = self.begin_define(name, &tree)?;
-        Ok(self.complete(pending)?)
+        let formula = Formula::build(self.alloc, tree)?;
+        self.make_change(name, Proposal::Formula(formula), 0, Meter::new())
     }
 
     /// Lays a definition out: it is refused here, or worked out and then made.
@@ -261,27 +266,6 @@ impl Sheet {
         Ok(())
     }
 
-    /// Plans all that a change reaches, formula by formula; no function is counted.
-    fn plan_change(&self, pending: &mut Pending) -> Result<(), AllocError>
-        requires { (change : Change) × IsLaidOutOn self.now change pending.old }
-        ensures made { OnOk result ((change : Change) → IsLaidOutOn self.now change pending.old → IsPendingOn self.now change pending.new) }
-        ensures none { OnOk result (steps_left pending.new ≡ 0) }
-    {
-        let proposed = ProposedSheet {
-            entries: &self.entries,
-            name: pending.name,
-            proposal: &pending.proposal,
-        };
-        plan_all(
-            self.alloc,
-            &proposed,
-            &mut pending.plans,
-            &mut pending.meter,
-        )?;
-        pending.ticks = pending.meter.ticks();
-        Ok(())
-    }
-
     /// Makes a change that was begun on the sheet as it is, and of which no step is left. No memory is asked for.
     #[inline(always)]
     pub fn adopt(&mut self, pending: Pending)
@@ -292,23 +276,65 @@ impl Sheet {
         ensures ticks { self.new.ticks ≡ pending.ticks }
         ensures computed { (change : Change) → IsPendingOn self.old change pending → HasTicks self.old.names change self.new.names self.new.ticks }
     {
-        let (cost, ticks) = (pending.plans.cost, pending.ticks);
-        let found = make(&mut self.entries, &mut self.users, pending);
-        self.room.set(found);
-        self.cost = cost;
+        let Pending {
+            name,
+            proposal,
+            plans,
+            growth,
+            ticks,
+            ..
+        } = pending;
+        self.cost = plans.cost;
         self.ticks = ticks;
+        let found = make(
+            &mut self.entries,
+            &mut self.users,
+            name,
+            proposal,
+            plans.found,
+            growth,
+        );
+        self.room.set(found);
     }
 
-    /// Works out a change that is laid out on the sheet as it is, and makes it.
-    fn complete(&mut self, mut pending: Pending) -> Result<(), AllocError>
-        requires { (change : Change) × IsLaidOutOn self.old change pending }
-        ensures made { OnOk result ((change : Change) → IsLaidOutOn self.old change pending → Accepts self.old.names change self.new.names) }
-        ensures cost { OnOk result ((change : Change) → IsLaidOutOn self.old change pending → HasCost self.old.names change self.new.names self.new.cost) }
-        ensures ticks { OnOk result ((change : Change) → IsLaidOutOn self.old change pending → HasTicks self.old.names change self.new.names self.new.ticks) }
+    /// Works out what a name is to be bound to as a proposal says, formula by formula, where finding that has cost so much and the meter shows so
+    /// many items, and makes the change. No function is counted.
+    fn make_change(
+        &mut self,
+        name: Name,
+        proposal: Proposal,
+        spent: u64,
+        meter: Meter,
+    ) -> Result<(), Refusal>
+        requires proposal { IsProposalAt self.old.tables.entries.entries name proposal }
+        requires even { meter.ticks ≡ spent }
+        ensures made { OnOk result ((change : Change) → LaysOut self.old name proposal spent change
+            → Accepts self.old.names change self.new.names × HasCost self.old.names change self.new.names self.new.cost × HasTicks self.old.names change self.new.names self.new.ticks) }
+        ensures refused { IfErr result (CannotBecome self.old.names (names_with self.old.names name proposal) name) }
+        ensures sound { IsSheet self.old.names }
         ensures err { OnErr result (self.new ≡ self.old) }
     {
-        self.plan_change(&mut pending)?;
-        self.adopt(pending);
+        let proposed = ProposedSheet {
+            entries: &self.entries,
+            name,
+            proposal: &proposal,
+        };
+        let room = self.room.replace(IndexMap::new(self.alloc));
+        let mut plans = begun(self.alloc, &proposed, &self.users, room, spent)?;
+        let growth = growth_for(self.alloc, &self.entries, &self.users, &proposal)?;
+        let mut meter = meter;
+        plan_all(self.alloc, &proposed, &mut plans, &mut meter)?;
+        self.cost = plans.cost;
+        self.ticks = meter.ticks();
+        let found = make(
+            &mut self.entries,
+            &mut self.users,
+            name,
+            proposal,
+            plans.found,
+            growth,
+        );
+        self.room.set(found);
         Ok(())
     }
 
@@ -321,8 +347,10 @@ impl Sheet {
         ensures refused { IfErr result (Refuses self.old.names (Store name (tree_of tree))) }
         ensures err { OnErr result (self.new ≡ self.old) }
     {
-        let pending = self.begin_data(name, &tree)?;
-        Ok(self.complete(pending)?)
+        let mut meter = Meter::new();
+        let change = self.evaluated(&tree, &mut meter)?;
+        let spent = meter.ticks();
+        self.make_change(name, Proposal::Data(change), spent, meter)
     }
 
     /// Lays out to store what an expression has now; the expression itself is worked out here.
@@ -332,13 +360,21 @@ impl Sheet {
         ensures refused { IfErr result (Refuses self.now.names (Store name (tree_of tree.now))) }
     {
         let mut meter = Meter::new();
-        let array = match evaluate_counted(self.alloc, tree, self, &mut meter)? {
-            Ok(array) => array,
-            Err(fault) => return Err(Refusal::Fault(fault)),
-        };
+        let change = self.evaluated(tree, &mut meter)?;
         let spent = meter.ticks();
-        let change = Delta::Whole(Ok(array));
         self.propose(name, Proposal::Data(change), spent, meter)
+    }
+
+    /// What an expression has now, as another array for a name; an error in its place is a refusal.
+    fn evaluated(&self, tree: &Expr, meter: &mut Meter) -> Result<Delta, Refusal>
+        ensures is { IfOk result (λ change. (a : ArrayValue) × (eval (tree_of tree.now) (val self.now.names) ≡ Ok a) × (change ≡ Whole (Ok a))) }
+        ensures ticks { OnOk result (meter.new.ticks ≡ ticked meter.old.ticks (tree_cost true (at_rest self.now.names) (tree_of tree.now))) }
+        ensures refused { IfErr result (λ cause. (name : List ℕ) → Refuses self.now.names (Store name (tree_of tree.now)) cause) }
+    {
+        match evaluate_counted(self.alloc, tree, self, meter)? {
+            Ok(array) => Ok(Delta::Whole(Ok(array))),
+            Err(fault) => Err(Refusal::Fault(fault)),
+        }
     }
 
     /// Replaces one item of data, the indexed assignment of one item (ISO/IEC 13751, "Indexed Assignment"). The data is
@@ -355,11 +391,8 @@ impl Sheet {
         ensures refused { IfErr result (Refuses self.old.names (SetCell name positions.now (literal_of literal.now))) }
         ensures err { OnErr result (self.new ≡ self.old) }
     {
-        // matched, as `?` would move the change once more
-        match self.begin_cell(name, positions, literal) {
-            Ok(pending) => Ok(self.complete(pending)?),
-            Err(refusal) => Err(refusal),
-        }
+        let patch = cell_patch(&self.entries, name, positions, literal)?;
+        self.make_change(name, Proposal::Data(Delta::Patch(patch)), 0, Meter::new())
     }
 
     /// Lays out to replace one item of data.
@@ -390,11 +423,8 @@ impl Sheet {
         ensures refused { IfErr result (Refuses self.old.names (AddRow name (literal_of literal.now))) }
         ensures err { OnErr result (self.new ≡ self.old) }
     {
-        // matched, as `?` would move the change once more
-        match self.begin_row(name, literal) {
-            Ok(pending) => Ok(self.complete(pending)?),
-            Err(refusal) => Err(refusal),
-        }
+        let tail = row_behind(self.alloc, &self.entries, name, literal)?;
+        self.make_change(name, Proposal::Data(Delta::Grown(tail)), 0, Meter::new())
     }
 
     /// Lays out to put a row at the end of data.
@@ -418,8 +448,8 @@ impl Sheet {
         ensures refused { IfErr result (Refuses self.old.names (Erase name)) }
         ensures err { OnErr result (self.new ≡ self.old) }
     {
-        let pending = self.begin_erase(name)?;
-        Ok(self.complete(pending)?)
+        let proposal = self.removal_of(name)?;
+        self.make_change(name, proposal, 0, Meter::new())
     }
 
     /// Lays out to remove a name.
@@ -428,10 +458,19 @@ impl Sheet {
         ensures ticks { IfOk result (λ pending. pending.ticks ≤ expression_cost self.now.names (Erase name)) }
         ensures refused { IfErr result (Refuses self.now.names (Erase name)) }
     {
+        let proposal = self.removal_of(name)?;
+        self.propose(name, proposal, 0, Meter::new())
+    }
+
+    /// What removes a name that is present.
+    fn removal_of(&self, name: Name) -> Result<Proposal, Refusal>
+        ensures there { IfOk result (λ proposal. (proposal ≡ Removed) × IsSome (binding self.now.names name)) }
+        ensures refused { IfErr result (Refuses self.now.names (Erase name)) }
+    {
         if !self.entries.contains_key(&name) {
             return Err(Refusal::NotFound);
         }
-        self.propose(name, Proposal::Removed, 0, Meter::new())
+        Ok(Proposal::Removed)
     }
 
     /// Binds a name to an array. It is refused where the name is new and `MOST_NAMES` names are present, or for want of memory, and
@@ -443,18 +482,8 @@ impl Sheet {
         ensures refused { IfErr result (Refuses self.old.names (Put name array)) }
         ensures err { OnErr result (self.new ≡ self.old) }
     {
-        let pending = self.begin_put(name, array)?;
-        Ok(self.complete(pending)?)
-    }
-
-    /// Lays out to bind a name to an array.
-    pub(crate) fn begin_put(&self, name: Name, array: Array) -> Result<Pending, Refusal>
-        ensures ok { IfOk result (IsLaidOutOn self.now (Put name array)) }
-        ensures ticks { IfOk result (λ pending. pending.ticks ≤ expression_cost self.now.names (Put name array)) }
-        ensures refused { IfErr result (Refuses self.now.names (Put name array)) }
-    {
         let change = Delta::Whole(Ok(array));
-        self.propose(name, Proposal::Data(change), 0, Meter::new())
+        self.make_change(name, Proposal::Data(change), 0, Meter::new())
     }
 
     /// Lays out to bind a name as a proposal says, where finding that has cost so much and the meter shows so many items.

@@ -47,7 +47,7 @@ moved-requires-clause-few t c =
     let told : ArePlacesOf (take (length axes - 1) (drop 1 axes)) (written_positions (take (length written - 1) (drop 1 written)) args) places = c.in_ok-rest.ensures in
     let stepped : c.size.result ≡ size (drop 1 axes) = c.size.ensures ∙ ap size (tail_of axes) in
     let more = empty_more axes written args c.size.result offsets places c.requires.one_an_axis some c.if-not-written.true stepped c.in_ok-offsets.ensures (rw (tail_of axes, tail_of written) at told) in
-    rw c.deref.ensures.value (sum_within axes positions offsets places more c.requires.within c.requires.few).few
+    (sum_within axes positions offsets places more c.requires.within c.requires.few).few
 
 pub moved-requires-clause-fit : goal.moved-requires-clause-fit
 moved-requires-clause-fit t c =
@@ -61,7 +61,7 @@ moved-requires-clause-fit t c =
     let told : ArePlacesOf (take (length axes - 1) (drop 1 axes)) (written_positions (take (length written - 1) (drop 1 written)) args) places = c.in_ok-rest.ensures in
     let stepped : c.size.result ≡ size (drop 1 axes) = c.size.ensures ∙ ap size (tail_of axes) in
     let more = empty_more axes written args c.size.result offsets places c.requires.one_an_axis some c.if-not-written.true stepped c.in_ok-offsets.ensures (rw (tail_of axes, tail_of written) at told) in
-    rw c.deref.ensures.value (sum_within axes positions offsets places more c.requires.within c.requires.few).fit
+    (sum_within axes positions offsets places more c.requires.within c.requires.few).fit
 
 pub returns-then-not-written : goal.returns-then-not-written
 returns-then-not-written t c =
@@ -75,8 +75,8 @@ returns-then-not-written t c =
     let told : ArePlacesOf (take (length axes - 1) (drop 1 axes)) (written_positions (take (length written - 1) (drop 1 written)) args) places = c.in_ok-rest.ensures in
     let stepped : c.size.result ≡ size (drop 1 axes) = c.size.ensures ∙ ap size (tail_of axes) in
     let more = empty_more axes written args c.size.result offsets places c.requires.one_an_axis some c.if-not-written.true stepped c.in_ok-offsets.ensures (rw (tail_of axes, tail_of written) at told) in
-    IfOk-weaker c.moved.result (λ p. all_places p ≡ sums c.deref.result.now places) (λ p. ArePlacesOf axes positions (all_places p))
-    (λ p e. subst (ArePlacesOf axes positions) (sym (e ∙ ap (λ xs. sums xs places) c.deref.ensures.value)) more) c.moved.ensures
+    IfOk-weaker c.moved.result (λ p. all_places p ≡ sums offsets places) (λ p. ArePlacesOf axes positions (all_places p))
+    (λ p e. subst (ArePlacesOf axes positions) (sym e) more) c.moved.ensures
 
 pub prove-unreachable-requires : goal.prove-unreachable-requires
 prove-unreachable-requires t c =
@@ -133,7 +133,7 @@ moved-requires-2-clause-few t c =
     let found = rw (tail_of axes, tail_of written, tail_of args) at told in
     let more = written_more axes written args p c.size-2.result offsets places c.requires.one_an_axis c.requires.long c.requires.on c.if-not-written.false c.index-positions-0.is c.places.ensures.sound
     stepped c.in_ok-offsets-2.ensures found in
-    rw c.deref-2.ensures.value (sum_within axes positions offsets places more c.requires.within c.requires.few).few
+    (sum_within axes positions offsets places more c.requires.within c.requires.few).few
 
 pub moved-requires-2-clause-fit : goal.moved-requires-2-clause-fit
 moved-requires-2-clause-fit t c =
@@ -149,7 +149,7 @@ moved-requires-2-clause-fit t c =
     let found = rw (tail_of axes, tail_of written, tail_of args) at told in
     let more = written_more axes written args p c.size-2.result offsets places c.requires.one_an_axis c.requires.long c.requires.on c.if-not-written.false c.index-positions-0.is c.places.ensures.sound
     stepped c.in_ok-offsets-2.ensures found in
-    rw c.deref-2.ensures.value (sum_within axes positions offsets places more c.requires.within c.requires.few).fit
+    (sum_within axes positions offsets places more c.requires.within c.requires.few).fit
 
 pub returns : goal.returns
 returns t c =
@@ -165,5 +165,5 @@ returns t c =
     let found = rw (tail_of axes, tail_of written, tail_of args) at told in
     let more = written_more axes written args p c.size-2.result offsets places c.requires.one_an_axis c.requires.long c.requires.on c.if-not-written.false c.index-positions-0.is c.places.ensures.sound
     stepped c.in_ok-offsets-2.ensures found in
-    IfOk-weaker c.moved-2.result (λ p. all_places p ≡ sums c.deref-2.result.now places) (λ p. ArePlacesOf axes positions (all_places p))
-    (λ p e. subst (ArePlacesOf axes positions) (sym (e ∙ ap (λ xs. sums xs places) c.deref-2.ensures.value)) more) c.moved-2.ensures
+    IfOk-weaker c.moved-2.result (λ p. all_places p ≡ sums offsets places) (λ p. ArePlacesOf axes positions (all_places p))
+    (λ p e. subst (ArePlacesOf axes positions) (sym e) more) c.moved-2.ensures

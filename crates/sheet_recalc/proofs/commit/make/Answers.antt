@@ -1,4 +1,5 @@
 use Rattle.std.proofs.Common.{◌≡◌, ◌∙◌, ℕ, List, refl, sym, ap, subst, Some, Option, Ok, Err}
+use Rattle.std.specs.Prelude.{Box}
 use Rattle.std.specs.Option.{option_map}
 use Rattle.indexmap.specs.IndexSet.{IndexSet}
 use Rattle.change_rules.specs.Currency.{applied}
@@ -14,12 +15,13 @@ use Rattle.sheet_recalc.specs.Entries.{names_of, binding_of, HasData}
 use Rattle.formula_core.specs.Changes.{FitsIn}
 use Rattle.sheet_recalc.specs.Planning.{IsProposalAt}
 use Rattle.sheet_recalc.specs.Tables.{Tables}
-use Rattle.sheet_recalc.specs.Pending.{IsReady, names_after}
+use Rattle.sheet_recalc.specs.Pending.{IsReady, outline_at}
+use Rattle.formula_core.specs.Plans.{PlanValue}
 use Rattle.sheet_recalc.specs.Live.{IsTable, IsPlanned, plan_in}
-use Rattle.sheet_recalc.specs.ProposedSheet.{data_entry, proposed_entry, names_with}
+use Rattle.sheet_recalc.specs.ProposedSheet.{data_entry, proposed_entry, proposed_names, names_with}
 use Rattle.sheet_recalc.specs.declared.entry.Entry.{Entry}
 use Rattle.sheet_recalc.specs.declared.entry.Entry.TheVariants as entry
-use Rattle.sheet_recalc.specs.declared.pending.Pending.{Pending}
+use Rattle.sheet_recalc.specs.declared.growth.Growth.{Growth}
 use Rattle.sheet_recalc.specs.declared.proposal.Proposal.{Proposal}
 use Rattle.sheet_recalc.specs.declared.proposal.Proposal.TheVariants as proposed
 use Rattle.sheet_recalc.proofs.Live.{val_data, binding_of_name}
@@ -53,45 +55,46 @@ own_changed es name d h other a held = ap (λ r. data_entry (applied d r)) (val_
 
 pub returns-in-Formula-clause-tells : goal.returns-in-Formula-clause-tells
 returns-in-Formula-clause-tells c =
-    subst (λ (p : Proposal). IsTable (names_with (names_of c.args.entries.now.entries) c.args.pending.name p) c.commit_with.new.users.entries) (sym c.in-Formula.is) c.commit_with.ensures.tells
+    subst (λ (p : Proposal). IsTable (names_with (names_of c.args.entries.now.entries) c.args.name p) c.commit_with.new.users.entries) (sym c.in-Formula.is) c.commit_with.ensures.tells
 
-pub returns-clause-tells : goal.returns-clause-tells
-returns-clause-tells c =
-    subst (λ (p : Proposal). IsTable (names_with (names_of c.args.entries.now.entries) c.args.pending.name p) c.commit_removal.new.users.entries) (sym c.in-Removed.is) c.commit_removal.ensures.tells
+pub returns-in-Removed-clause-tells : goal.returns-in-Removed-clause-tells
+returns-in-Removed-clause-tells c =
+    subst (λ (p : Proposal). IsTable (names_with (names_of c.args.entries.now.entries) c.args.name p) c.commit_removal.new.users.entries) (sym c.in-Removed.is) c.commit_removal.ensures.tells
 
 pub returns-in-Data-Whole-Ok-clause-tells : goal.returns-in-Data-Whole-Ok-clause-tells
 returns-in-Data-Whole-Ok-clause-tells c =
     let whole = c.in-Data-Whole-Ok in
     let is = whole.is ∙ (ap (λ (d : Delta). proposed.Data d) (whole.field-0-is ∙ ap Whole whole.field-0-0-is)) in
-    subst (λ (p : Proposal). IsTable (names_with (names_of c.args.entries.now.entries) c.args.pending.name p) c.commit_with-in-Data-Whole-Ok.new.users.entries) (sym is) c.commit_with-in-Data-Whole-Ok.ensures.tells
+    subst (λ (p : Proposal). IsTable (names_with (names_of c.args.entries.now.entries) c.args.name p) c.commit_with-in-Data-Whole-Ok.new.users.entries) (sym is) c.commit_with-in-Data-Whole-Ok.ensures.tells
 
 -- where the data is changed in place
-module _ (t : Tables) (p : Pending) (d : Delta) (is : p.proposal ≡ proposed.Data d) (other : (b : ArrayValue) → d ≡ Whole (Ok b) → ⊥) (ready : IsReady t p) where
+module _ {A : Type 0} (t : Tables) (name : List ℕ) (p : Proposal) (found : List (List ℕ × Option PlanValue)) (growth : Option (Box Growth A)) (d : Delta) (is : p ≡ proposed.Data d)
+    (other : (b : ArrayValue) → d ≡ Whole (Ok b) → ⊥) (ready : IsReady t name p found growth) where
   abbrev es : List (List ℕ × Entry)
   es = t.entries.entries
 
-  stands : IsProposalAt es p.name (proposed.Data d)
-  stands = subst (IsProposalAt es p.name) is ready.proposal
+  stands : IsProposalAt es name (proposed.Data d)
+  stands = subst (IsProposalAt es name) is ready.proposal_at
 
-  held : (a : ArrayValue) × HasData es p.name a × FitsIn d (Ok a)
-  held = in_place es p.name d stands other
+  held : (a : ArrayValue) × HasData es name a × FitsIn d (Ok a)
+  held = in_place es name d stands other
 
-  own : (a : ArrayValue) → HasData es p.name a → proposed_entry (val (names_of es) p.name) p.proposal ≡ Some (entry.Data (changed_data a d))
-  own a there = ap (proposed_entry (val (names_of es) p.name)) is ∙ own_changed es p.name d stands other a there
+  own : (a : ArrayValue) → HasData es name a → proposed_entry (val (names_of es) name) p ≡ Some (entry.Data (changed_data a d))
+  own a there = ap (proposed_entry (val (names_of es) name)) is ∙ own_changed es name d stands other a there
 
-  fits_planned : (a : ArrayValue) → HasData es p.name a → IsPlanned es p.name (Some (entry.Data (changed_data a d))) (put (names_of es) p.name (Data (changed_data a d))) (plan_in p.plans.found.entries)
+  fits_planned : (a : ArrayValue) → HasData es name a → IsPlanned es name (Some (entry.Data (changed_data a d))) (put (names_of es) name (Data (changed_data a d))) (plan_in found)
   fits_planned a there =
-      subst (λ (e : Option Entry). IsPlanned es p.name e (rebound (names_of es) p.name (option_map binding_of e)) (plan_in p.plans.found.entries)) (own a there) ready.planned
+      subst (λ (e : Option Entry). IsPlanned es name e (rebound (names_of es) name (option_map binding_of e)) (plan_in found)) (own a there) ready.planned
 
-  makes_names : (new : Names) → ((a : ArrayValue) → HasData es p.name a → new ≡ put (names_of es) p.name (Data (changed_data a d))) → new ≡ names_after t p
+  makes_names : (new : Names) → ((a : ArrayValue) → HasData es name a → new ≡ put (names_of es) name (Data (changed_data a d))) → new ≡ proposed_names (outline_at t name p)
   makes_names new made =
-      made held.0 held.1 ∙ sym (ap (λ (e : Option Entry). rebound (names_of es) p.name (option_map binding_of e)) (own held.0 held.1))
+      made held.0 held.1 ∙ sym (ap (λ (e : Option Entry). rebound (names_of es) name (option_map binding_of e)) (own held.0 held.1))
 
-  makes_table : {S : Type 0} (users : List (List ℕ × IndexSet (List ℕ) S)) → IsTable (names_of es) users → IsTable (names_after t p) users
+  makes_table : {S : Type 0} (users : List (List ℕ × IndexSet (List ℕ) S)) → IsTable (names_of es) users → IsTable (proposed_names (outline_at t name p)) users
   makes_table users tells =
-      let there : binding (names_of es) p.name ≡ Some (Data held.0) = binding_of_name es p.name ∙ ap (option_map binding_of) held.1 in
-      subst (λ (e : Option Entry). IsTable (rebound (names_of es) p.name (option_map binding_of e)) users) (sym (own held.0 held.1))
-      (table_kept (names_of es) p.name held.0 (changed_data held.0 d) users there tells)
+      let there : binding (names_of es) name ≡ Some (Data held.0) = binding_of_name es name ∙ ap (option_map binding_of) held.1 in
+      subst (λ (e : Option Entry). IsTable (rebound (names_of es) name (option_map binding_of e)) users) (sym (own held.0 held.1))
+      (table_kept (names_of es) name held.0 (changed_data held.0 d) users there tells)
 
 no_array : (p : PatchValue) (b : ArrayValue) → Patch p ≡ Whole (Ok b) → ⊥
 no_array p b h = cc
@@ -103,42 +106,42 @@ pub commit_patch-requires-clause-planned : goal.commit_patch-requires-clause-pla
 commit_patch-requires-clause-planned c =
     let p = c.in-Data-Patch.patch in
     let is = c.in-Data-Patch.is ∙ ap (λ (d : Delta). proposed.Data d) c.in-Data-Patch.field-0-is in
-    fits_planned (record { entries = c.args.entries.now; users = c.args.users.now }) c.args.pending (Patch p) is (no_array p) c.requires.ready
+    fits_planned (record { entries = c.args.entries.now; users = c.args.users.now }) c.args.name c.args.proposal c.args.found.entries c.args.growth (Patch p) is (no_array p) c.requires.ready
 
 pub returns-in-Data-Patch-clause-names : goal.returns-in-Data-Patch-clause-names
 returns-in-Data-Patch-clause-names c =
     let p = c.in-Data-Patch.patch in
     let is = c.in-Data-Patch.is ∙ ap (λ (d : Delta). proposed.Data d) c.in-Data-Patch.field-0-is in
-    makes_names (record { entries = c.args.entries.now; users = c.args.users.now }) c.args.pending (Patch p) is (no_array p) c.requires.ready (names_of c.commit_patch.new.entries.entries) c.commit_patch.ensures.names
+    makes_names (record { entries = c.args.entries.now; users = c.args.users.now }) c.args.name c.args.proposal c.args.found.entries c.args.growth (Patch p) is (no_array p) c.requires.ready (names_of c.commit_patch.new.entries.entries) c.commit_patch.ensures.names
 
 pub returns-in-Data-Patch-clause-tells : goal.returns-in-Data-Patch-clause-tells
 returns-in-Data-Patch-clause-tells c =
     let p = c.in-Data-Patch.patch in
     let is = c.in-Data-Patch.is ∙ ap (λ (d : Delta). proposed.Data d) c.in-Data-Patch.field-0-is in
-    makes_table (record { entries = c.args.entries.now; users = c.args.users.now }) c.args.pending (Patch p) is (no_array p) c.requires.ready c.args.users.now.entries c.requires.tells
+    makes_table (record { entries = c.args.entries.now; users = c.args.users.now }) c.args.name c.args.proposal c.args.found.entries c.args.growth (Patch p) is (no_array p) c.requires.ready c.args.users.now.entries c.requires.tells
 
 pub commit_row-requires-clause-planned : goal.commit_row-requires-clause-planned
 commit_row-requires-clause-planned c =
     let t = c.in-Data-Grown.tail in
     let is = c.in-Data-Grown.is ∙ ap (λ (d : Delta). proposed.Data d) c.in-Data-Grown.field-0-is in
-    fits_planned (record { entries = c.args.entries.now; users = c.args.users.now }) c.args.pending (Grown t) is (tail_no_array t) c.requires.ready
+    fits_planned (record { entries = c.args.entries.now; users = c.args.users.now }) c.args.name c.args.proposal c.args.found.entries c.args.growth (Grown t) is (tail_no_array t) c.requires.ready
 
 pub returns-in-Data-Grown-clause-names : goal.returns-in-Data-Grown-clause-names
 returns-in-Data-Grown-clause-names c =
     let t = c.in-Data-Grown.tail in
     let is = c.in-Data-Grown.is ∙ ap (λ (d : Delta). proposed.Data d) c.in-Data-Grown.field-0-is in
-    makes_names (record { entries = c.args.entries.now; users = c.args.users.now }) c.args.pending (Grown t) is (tail_no_array t) c.requires.ready (names_of c.commit_row.new.entries.entries) c.commit_row.ensures.names
+    makes_names (record { entries = c.args.entries.now; users = c.args.users.now }) c.args.name c.args.proposal c.args.found.entries c.args.growth (Grown t) is (tail_no_array t) c.requires.ready (names_of c.commit_row.new.entries.entries) c.commit_row.ensures.names
 
 pub returns-in-Data-Grown-clause-tells : goal.returns-in-Data-Grown-clause-tells
 returns-in-Data-Grown-clause-tells c =
     let t = c.in-Data-Grown.tail in
     let is = c.in-Data-Grown.is ∙ ap (λ (d : Delta). proposed.Data d) c.in-Data-Grown.field-0-is in
-    makes_table (record { entries = c.args.entries.now; users = c.args.users.now }) c.args.pending (Grown t) is (tail_no_array t) c.requires.ready c.args.users.now.entries c.requires.tells
+    makes_table (record { entries = c.args.entries.now; users = c.args.users.now }) c.args.name c.args.proposal c.args.found.entries c.args.growth (Grown t) is (tail_no_array t) c.requires.ready c.args.users.now.entries c.requires.tells
 
 pub returns-in-Data-Same-clause-tells : goal.returns-in-Data-Same-clause-tells
-returns-in-Data-Same-clause-tells c = absurd (rw (c.in-Data-Same.is ∙ ap (λ (d : Delta). proposed.Data d) c.in-Data-Same.field-0-is) at c.requires.ready.proposal)
+returns-in-Data-Same-clause-tells c = absurd (rw (c.in-Data-Same.is ∙ ap (λ (d : Delta). proposed.Data d) c.in-Data-Same.field-0-is) at c.requires.ready.proposal_at)
 
 pub returns-in-Data-Whole-Err-clause-tells : goal.returns-in-Data-Whole-Err-clause-tells
 returns-in-Data-Whole-Err-clause-tells c =
     let whole = c.in-Data-Whole-Err in
-    absurd (rw (whole.is ∙ (ap (λ (d : Delta). proposed.Data d) (whole.field-0-is ∙ ap Whole whole.field-0-0-is))) at c.requires.ready.proposal)
+    absurd (rw (whole.is ∙ (ap (λ (d : Delta). proposed.Data d) (whole.field-0-is ∙ ap Whole whole.field-0-0-is))) at c.requires.ready.proposal_at)

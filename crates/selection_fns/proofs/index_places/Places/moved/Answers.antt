@@ -1,58 +1,70 @@
 use Rattle.std.proofs.Common.{◌≡◌, ℕ, ◌+◌, ◌<◌, ◌∙◌, ap, sym, subst, length, get_or, rules}
 use Rattle.std.specs.List.{range_with_len}
 use Rattle.selection_fns.specs.IndexPlaces.{sums, row_places, all_places}
-use Rattle.selection_fns.proofs.PlaceSums.{sums_first, sums_sums, heads_few, heads_fit, first_alone}
+use Rattle.selection_fns.proofs.PlaceSums.{sums_first, sums_sums, sums_turned, heads_few, heads_fit, first_alone}
 use Rattle.selection_fns.proofs.index_places.Places.moved.Goals as goal
 
 pub sums-requires-clause-fit : goal.sums-requires-clause-fit
 sums-requires-clause-fit c =
     let heads = c.args.self.heads.items in
-    let offsets = c.args.offsets.now in
+    let offsets = c.args.offsets.items in
     let one : length heads ≡ 1 = search rules in
     let zero : 0 ≡ get_or heads 0 0 = subst (λ z. z ≡ get_or heads 0 z) c.if-index-eq0.true c.index.ensures in
-    let same : all_places c.args.self ≡ c.deref.result.now =
-    ap (λ hs. sums hs (row_places c.args.self.row)) (first_alone heads one zero) ∙ sums_first (row_places c.args.self.row) ∙ ap row_places c.in-Listed.is ∙ sym c.deref.ensures.value in
-    subst (λ ps. (i j : ℕ) → i < length offsets → j < length ps → get_or offsets i 0 + get_or ps j 0 < 4294967296) same c.requires.fit
+    let same : all_places c.args.self ≡ c.deref-then-len-lt-LEAST_ROW.result.now =
+    ap (λ hs. sums hs (row_places c.args.self.row)) (first_alone heads one zero) ∙ sums_first (row_places c.args.self.row) ∙ ap row_places c.in-Listed.is ∙ sym c.deref-then-len-lt-LEAST_ROW.ensures.value in
+    rw c.deref.ensures.value (subst (λ ps. (i j : ℕ) → i < length offsets → j < length ps → get_or offsets i 0 + get_or ps j 0 < 4294967296) same c.requires.fit)
+
+pub returns-then-len-ge-LEAST_ROW : goal.returns-then-len-ge-LEAST_ROW
+returns-then-len-ge-LEAST_ROW c =
+    let heads = c.args.self.heads.items in
+    let offsets = c.args.offsets.items in
+    let places = c.in-Listed.places.items in
+    let one : length heads ≡ 1 = search rules in
+    let zero : 0 ≡ get_or heads 0 0 = subst (λ z. z ≡ get_or heads 0 z) c.if-index-eq0.true c.index.ensures in
+    let alone : length places ≡ 1 = search rules in
+    let same : all_places c.args.self ≡ places =
+    ap (λ hs. sums hs (row_places c.args.self.row)) (first_alone heads one zero) ∙ sums_first (row_places c.args.self.row) ∙ ap row_places c.in-Listed.is in
+    sums_turned offsets places alone ∙ ap (sums offsets) (sym same)
 
 pub returns-then-len-lt-LEAST_ROW : goal.returns-then-len-lt-LEAST_ROW
 returns-then-len-lt-LEAST_ROW c =
     let heads = c.args.self.heads.items in
-    let offsets = c.args.offsets.now in
+    let offsets = c.args.offsets.items in
     let made = c.in_ok-sums-in-Listed.field-0.items in
     let one : length heads ≡ 1 = search rules in
     let zero : 0 ≡ get_or heads 0 0 = subst (λ z. z ≡ get_or heads 0 z) c.if-index-eq0.true c.index.ensures in
     let alone = first_alone heads one zero in
-    let same : all_places c.args.self ≡ c.deref.result.now =
-    ap (λ hs. sums hs (row_places c.args.self.row)) alone ∙ sums_first (row_places c.args.self.row) ∙ ap row_places c.in-Listed.is ∙ sym c.deref.ensures.value in
-    ap (λ hs. sums hs made) alone ∙ sums_first made ∙ c.in_ok-sums-in-Listed.ensures ∙ ap (sums offsets) (sym same)
+    let same : all_places c.args.self ≡ c.deref-then-len-lt-LEAST_ROW.result.now =
+    ap (λ hs. sums hs (row_places c.args.self.row)) alone ∙ sums_first (row_places c.args.self.row) ∙ ap row_places c.in-Listed.is ∙ sym c.deref-then-len-lt-LEAST_ROW.ensures.value in
+    ap (λ hs. sums hs made) alone ∙ sums_first made ∙ c.in_ok-sums-in-Listed.ensures ∙ ap (λ os. sums os c.deref-then-len-lt-LEAST_ROW.result.now) c.deref.ensures.value ∙ ap (sums offsets) (sym same)
 
 pub sums-requires-in-Listed-clause-few : goal.sums-requires-in-Listed-clause-few
 sums-requires-in-Listed-clause-few c =
-    rw c.deref-in-Listed.ensures.value (heads_few c.args.offsets.now c.args.self.heads.items (row_places c.args.self.row) 1048576 c.requires.some c.requires.few)
+    rw (c.deref-in-Listed.ensures.value, c.deref-in-Listed-2.ensures.value) (heads_few c.args.offsets.items c.args.self.heads.items (row_places c.args.self.row) 1048576 c.requires.some c.requires.few)
 
 pub sums-requires-in-Listed-clause-fit : goal.sums-requires-in-Listed-clause-fit
 sums-requires-in-Listed-clause-fit c =
-    rw c.deref-in-Listed.ensures.value (heads_fit c.args.offsets.now c.args.self.heads.items (row_places c.args.self.row) 4294967296 c.requires.some c.requires.fit)
+    rw (c.deref-in-Listed.ensures.value, c.deref-in-Listed-2.ensures.value) (heads_fit c.args.offsets.items c.args.self.heads.items (row_places c.args.self.row) 4294967296 c.requires.some c.requires.fit)
 
 pub returns-in-Listed : goal.returns-in-Listed
 returns-in-Listed c =
     let heads = c.args.self.heads.items in
-    let offsets = c.args.offsets.now in
+    let offsets = c.args.offsets.items in
     let places = c.in-Listed.places.items in
-    ap (λ hs. sums hs places) (c.in_ok-heads-in-Listed.ensures ∙ ap (sums offsets) c.deref-in-Listed.ensures.value)
+    ap (λ hs. sums hs places) (c.in_ok-heads-in-Listed.ensures ∙ ap (λ os. sums os c.deref-in-Listed-2.result.now) c.deref-in-Listed.ensures.value ∙ ap (sums offsets) c.deref-in-Listed-2.ensures.value)
     ∙ sums_sums offsets heads places ∙ ap (λ r. sums offsets (sums heads (row_places r))) (sym c.in-Listed.is)
 
 pub sums-requires-in-Run-clause-few : goal.sums-requires-in-Run-clause-few
 sums-requires-in-Run-clause-few c =
-    rw c.deref-in-Run.ensures.value (heads_few c.args.offsets.now c.args.self.heads.items (row_places c.args.self.row) 1048576 c.requires.some c.requires.few)
+    rw (c.deref-in-Run.ensures.value, c.deref-in-Run-2.ensures.value) (heads_few c.args.offsets.items c.args.self.heads.items (row_places c.args.self.row) 1048576 c.requires.some c.requires.few)
 
 pub sums-requires-in-Run-clause-fit : goal.sums-requires-in-Run-clause-fit
 sums-requires-in-Run-clause-fit c =
-    rw c.deref-in-Run.ensures.value (heads_fit c.args.offsets.now c.args.self.heads.items (row_places c.args.self.row) 4294967296 c.requires.some c.requires.fit)
+    rw (c.deref-in-Run.ensures.value, c.deref-in-Run-2.ensures.value) (heads_fit c.args.offsets.items c.args.self.heads.items (row_places c.args.self.row) 4294967296 c.requires.some c.requires.fit)
 
 pub returns : goal.returns
 returns c =
     let heads = c.args.self.heads.items in
-    let offsets = c.args.offsets.now in
-    ap (λ hs. sums hs (range_with_len 0 c.in-Run.count)) (c.in_ok-heads-in-Run.ensures ∙ ap (sums offsets) c.deref-in-Run.ensures.value)
+    let offsets = c.args.offsets.items in
+    ap (λ hs. sums hs (range_with_len 0 c.in-Run.count)) (c.in_ok-heads-in-Run.ensures ∙ ap (λ os. sums os c.deref-in-Run-2.result.now) c.deref-in-Run.ensures.value ∙ ap (sums offsets) c.deref-in-Run-2.ensures.value)
     ∙ sums_sums offsets heads (range_with_len 0 c.in-Run.count) ∙ ap (λ r. sums offsets (sums heads (row_places r))) (sym c.in-Run.is)

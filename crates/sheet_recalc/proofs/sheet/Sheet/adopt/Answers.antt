@@ -2,7 +2,7 @@ use Rattle.std.proofs.Common.{◌≡◌, ◌∙◌, sym, ap, subst}
 use Rattle.sheet_recalc.specs.Names.{Names, SheetValue}
 use Rattle.sheet_recalc.specs.Entries.{names_of}
 use Rattle.sheet_recalc.specs.Tables.{Tables}
-use Rattle.sheet_recalc.specs.Pending.{IsReady, names_after}
+use Rattle.sheet_recalc.specs.Pending.{IsAllReady, names_after}
 use Rattle.sheet_recalc.specs.Changes.{Accepts}
 use Rattle.sheet_recalc.specs.Costs.{HasCost, HasTicks}
 use Rattle.sheet_recalc.proofs.Rebound.{live_after}
@@ -12,16 +12,16 @@ use Rattle.sheet_recalc.proofs.sheet.Sheet.adopt.Goals as goal
 pub make-found-requires-clause-ready : goal.make-found-requires-clause-ready
 make-found-requires-clause-ready c =
     let h = c.requires.begun.1 in
-    subst (λ (t : Tables). IsReady t c.args.pending) (sym (ap (λ (s : SheetValue). s.tables) c.self.view_is)) (is_ready c.args.self.now.tables c.args.pending h.base h.begun c.requires.left)
+    (subst (λ (t : Tables). IsAllReady t c.args.pending) (sym (ap (λ (s : SheetValue). s.tables) c.self.view_is)) (is_ready c.args.self.now.tables c.args.pending h.base h.begun c.requires.left)).ready
 
 pub invariant_of-self : goal.invariant_of-self
 invariant_of-self c =
     let h = c.requires.begun.1 in
     let before : Tables = record { entries = c.self.inside.entries; users = c.self.inside.users } in
-    let ready = subst (λ (t : Tables). IsReady t c.args.pending) (sym (ap (λ (s : SheetValue). s.tables) c.self.view_is)) (is_ready c.args.self.now.tables c.args.pending h.base h.begun c.requires.left) in
+    let all = subst (λ (t : Tables). IsAllReady t c.args.pending) (sym (ap (λ (s : SheetValue). s.tables) c.self.view_is)) (is_ready c.args.self.now.tables c.args.pending h.base h.begun c.requires.left) in
     record {
-      live = live_after c.make-found.new.entries.entries c.make-found.new.users.entries (names_after before c.args.pending) c.make-found.ensures.names ready.sheet ready.kept c.make-found.ensures.tells c.make-found.ensures.used c.make-found.ensures.current;
-      few = ready.few;
+      live = live_after c.make-found.new.entries.entries c.make-found.new.users.entries (names_after before c.args.pending) c.make-found.ensures.names all.ready.sheet all.ready.kept c.make-found.ensures.tells c.make-found.ensures.used c.make-found.ensures.current;
+      few = all.few;
     }
 
 pub returns-clause-made : goal.returns-clause-made

@@ -1,11 +1,14 @@
-use Rattle.std.proofs.Common.{◌≡◌, ◌∙◌, ap, sym, true, Ok, is_ok}
-use Rattle.std.proofs.lemmas.Result.{IfErr-weaker}
+use Rattle.std.proofs.Common.{◌≡◌, ◌∙◌, ap, subst, true}
+use Rattle.std.proofs.lemmas.Result.{IfErr-weaker, err_from_is_err_and}
 use Rattle.apl_expr.specs.Trees.{tree_of}
 use Rattle.change_core.specs.Meters.{ticked, MeterValue}
-use Rattle.formula_core.specs.Meaning.{eval}
+use Rattle.index_region.specs.declared.delta.Delta.{Delta}
 use Rattle.formula_core.specs.Plans.{tree_cost}
-use Rattle.sheet_recalc.specs.Meaning.{val}
 use Rattle.sheet_recalc.specs.Costs.{at_rest}
+use Rattle.sheet_recalc.specs.ProposedSheet.{names_with}
+use Rattle.sheet_recalc.specs.Changes.{CannotBecome}
+use Rattle.sheet_recalc.specs.Pending.{IsProposedOn}
+use Rattle.sheet_recalc.specs.declared.proposal.Proposal.TheVariants.{Data}
 use Rattle.sheet_recalc.proofs.Asked.{if_ok_map, data_pending}
 use Rattle.sheet_recalc.proofs.Refused.{refused_put, refused_data}
 use Rattle.sheet_recalc.proofs.sheet.Sheet.begin_data.Goals as goal
@@ -14,16 +17,20 @@ pub returns-clause-ok : goal.returns-clause-ok
 returns-clause-ok c =
     let s = c.args.self.now in
     let t = tree_of c.args.tree.now in
-    let cost = tree_cost true (at_rest s.names) t in
-    let is : eval t (val s.names) ≡ Ok c.in-Ok.array = sym c.in_ok-array.ensures.value ∙ c.in-Ok.is in
-    let spent : c.ticks-spent.result ≡ ticked 0 cost =
-    c.ticks-spent.ensures ∙ c.in_ok-array.ensures.exact (ap is_ok c.in-Ok.is) ∙ ap (λ (m : MeterValue). ticked m.ticks cost) c.new-meter.ensures in
-    if_ok_map c.propose.result _ _ (λ p h. data_pending s c.args.name c.in-Ok.array c.ticks-spent.result p h t is spent) c.propose.ensures.ok
+    let is = c.in_ok-change.ensures.is in
+    let spent : c.ticks-spent.result ≡ ticked 0 (tree_cost true (at_rest s.names) t) =
+    c.ticks-spent.ensures ∙ c.in_ok-change.ensures.ticks ∙ ap (λ (m : MeterValue). ticked m.ticks (tree_cost true (at_rest s.names) t)) c.new-meter.ensures in
+    if_ok_map c.propose.result _ _ (λ p h. data_pending s c.args.name is.0 c.ticks-spent.result p (subst (λ (d : Delta). IsProposedOn s c.args.name (Data d) c.ticks-spent.result p) is.2 h) t is.1 spent) c.propose.ensures.ok
 
 pub returns-clause-refused : goal.returns-clause-refused
 returns-clause-refused c =
     let names = c.args.self.now.names in
-    let t = tree_of c.args.tree.now in
-    let is : eval t (val names) ≡ Ok c.in-Ok.array = sym c.in_ok-array.ensures.value ∙ c.in-Ok.is in
+    let is = c.in_ok-change.ensures.is in
     IfErr-weaker c.propose.result _ _
-    (λ cause h. refused_data names c.args.name t c.in-Ok.array is cause (refused_put names c.args.name c.in-Ok.array c.propose.ensures.sound.acyclic cause h)) c.propose.ensures.refused
+    (λ cause h. refused_data names c.args.name (tree_of c.args.tree.now) is.0 is.1 cause
+    (refused_put names c.args.name is.0 c.propose.ensures.sound.acyclic cause (subst (λ (d : Delta). CannotBecome names (names_with names c.args.name (Data d)) c.args.name cause) is.2 h))) c.propose.ensures.refused
+
+pub returns-in_err-change-clause-refused : goal.returns-in_err-change-clause-refused
+returns-in_err-change-clause-refused c =
+    let p = err_from_is_err_and c.from_residual.result c.from_residual.ensures.1 in
+    rw (p.1, p.2) (c.in_err-change.ensures.refused c.args.name)

@@ -1,0 +1,117 @@
+use Rattle.std.proofs.Common.{◌≡◌, ◌∙◌, ◌<◌, refl, sym, ap, subst, false, arith}
+use Rattle.std.proofs.lemmas.Result.{err_from_is_err_and}
+use Rattle.sheet_recalc.specs.Names.{Names, SheetValue}
+use Rattle.sheet_recalc.specs.Tables.{Tables}
+use Rattle.sheet_recalc.specs.Entries.{names_of}
+use Rattle.sheet_recalc.specs.Changes.{Accepts, CannotBecome}
+use Rattle.sheet_recalc.specs.Costs.{HasCost, HasTicks}
+use Rattle.sheet_recalc.specs.Planning.{IsProposalAt}
+use Rattle.sheet_recalc.specs.ProposedSheet.{names_with}
+use Rattle.sheet_recalc.specs.Pending.{IsLaidOut, IsProposedOn, names_after}
+use Rattle.sheet_recalc.specs.declared.pending.Pending.{Pending}
+use Rattle.sheet_recalc.proofs.Making.{none_left, all_ready, still_pending}
+use Rattle.sheet_recalc.proofs.Rebound.{live_after}
+use Rattle.sheet_recalc.proofs.Stepped.{whole_cost, whole_ticks}
+use Rattle.sheet_recalc.proofs.sheet.Sheet.make_change.Goals as goal
+
+pub begun-requires-clause-proposal : goal.begun-requires-clause-proposal
+begun-requires-clause-proposal c =
+    subst (λ (t : Tables). IsProposalAt t.entries.entries c.args.name c.args.proposal) (sym (ap (λ (s : SheetValue). s.tables) c.self.view_is)) c.requires.proposal
+
+pub returns-in_err-plans-clause-refused : goal.returns-in_err-plans-clause-refused
+returns-in_err-plans-clause-refused c =
+    let cause = c.in_err-plans.field-0.0 in
+    let p = err_from_is_err_and c.from_residual.result c.from_residual.ensures.1 in
+    let why = subst (λ (s : SheetValue). CannotBecome s.names (names_with s.names c.args.name c.args.proposal) c.args.name cause) c.self.view_is c.in_err-plans.ensures.refused in
+    rw (p.1, p.2) why
+
+pub plan_all-requires-clause-way : goal.plan_all-requires-clause-way
+plan_all-requires-clause-way c = (c.args.spent, c.in_ok-plans.ensures.way c.args.meter.ticks c.requires.even)
+
+pub make-found-requires-clause-ready : goal.make-found-requires-clause-ready
+make-found-requires-clause-ready c =
+    let begun = c.in_ok-plans.ensures in
+    let done = c.in_ok-plan_all.ensures in
+    let t : Tables = record { entries = c.self.inside.entries; users = c.self.inside.users } in
+    let small : c.args.meter.ticks < 18446744073709551616 = omega (arith, c.requires.even, c.ranges.spent.fits) in
+    let p : Pending =
+    record { name = c.args.name; proposal = c.args.proposal; plans = c.in_ok-plans.plans; growth = c.in_ok-growth.growth; is_cut = false; ticks = c.args.meter.ticks; meter = c.args.meter } in
+    let laid : IsLaidOut t p c.args.spent = record {
+      proposed = begun.proposed;
+      kept = begun.can.kept;
+      sheet = begun.can.sheet;
+      place = c.in_ok-growth.ensures;
+      way = begun.way c.args.meter.ticks c.requires.even;
+      first = begun.first;
+      all = begun.all;
+      whole = refl;
+      told = refl;
+      small = small;
+    } in
+    (all_ready t p c.plan_all.new.plans c.ticks-self-inside.result c.plan_all.new.meter c.ticks-self-inside.ensures c.ticks-self-inside.type_inv done.way done.all done.left done.current c.args.spent laid).ready
+
+pub invariant_of-self : goal.invariant_of-self
+invariant_of-self c =
+    let begun = c.in_ok-plans.ensures in
+    let done = c.in_ok-plan_all.ensures in
+    let t : Tables = record { entries = c.self.inside.entries; users = c.self.inside.users } in
+    let small : c.args.meter.ticks < 18446744073709551616 = omega (arith, c.requires.even, c.ranges.spent.fits) in
+    let p : Pending =
+    record { name = c.args.name; proposal = c.args.proposal; plans = c.in_ok-plans.plans; growth = c.in_ok-growth.growth; is_cut = false; ticks = c.args.meter.ticks; meter = c.args.meter } in
+    let laid : IsLaidOut t p c.args.spent = record {
+      proposed = begun.proposed;
+      kept = begun.can.kept;
+      sheet = begun.can.sheet;
+      place = c.in_ok-growth.ensures;
+      way = begun.way c.args.meter.ticks c.requires.even;
+      first = begun.first;
+      all = begun.all;
+      whole = refl;
+      told = refl;
+      small = small;
+    } in
+    let all = all_ready t p c.plan_all.new.plans c.ticks-self-inside.result c.plan_all.new.meter c.ticks-self-inside.ensures c.ticks-self-inside.type_inv done.way done.all done.left done.current c.args.spent laid in
+    record {
+      live = live_after c.make-found.new.entries.entries c.make-found.new.users.entries (names_after t p) c.make-found.ensures.names all.ready.sheet all.ready.kept c.make-found.ensures.tells c.make-found.ensures.used c.make-found.ensures.current;
+      few = all.few;
+    }
+
+pub returns-clause-made : goal.returns-clause-made
+returns-clause-made c = λ change lays.
+    let begun = c.in_ok-plans.ensures in
+    let done = c.in_ok-plan_all.ensures in
+    let s = c.args.self.now in
+    let t : Tables = record { entries = c.self.inside.entries; users = c.self.inside.users } in
+    let same : t ≡ s.tables = ap (λ (s : SheetValue). s.tables) c.self.view_is in
+    let small : c.args.meter.ticks < 18446744073709551616 = omega (arith, c.requires.even, c.ranges.spent.fits) in
+    let p : Pending =
+    record { name = c.args.name; proposal = c.args.proposal; plans = c.in_ok-plans.plans; growth = c.in_ok-growth.growth; is_cut = false; ticks = c.args.meter.ticks; meter = c.args.meter } in
+    let proposed = subst (λ (s : SheetValue). IsProposedOn s c.args.name c.args.proposal c.args.spent p) c.self.view_is
+    (record {
+      names_are = refl;
+      name_is = refl;
+      proposal_is = refl;
+      begun = record {
+        proposed = begun.proposed;
+        kept = begun.can.kept;
+        sheet = begun.can.sheet;
+        place = c.in_ok-growth.ensures;
+        way = begun.way c.args.meter.ticks c.requires.even;
+        first = begun.first;
+        all = begun.all;
+        whole = refl;
+        told = refl;
+        small = small;
+      };
+      even = c.requires.even;
+      room = begun.can.room;
+    }) in
+    let pending = still_pending t p c.plan_all.new.plans c.ticks-self-inside.result c.plan_all.new.meter c.ticks-self-inside.ensures c.ticks-self-inside.type_inv done.way done.all done.left done.current s same change (lays p proposed) in
+    let left = none_left t p c.plan_all.new.plans c.ticks-self-inside.result c.plan_all.new.meter c.ticks-self-inside.ensures c.ticks-self-inside.type_inv done.way done.all done.left done.current c.args.spent
+    (subst (λ (t : Tables). IsLaidOut t p c.args.spent) (sym same) proposed.begun) in
+    let after : Pending = record p { plans = c.plan_all.new.plans; ticks = c.ticks-self-inside.result; meter = c.plan_all.new.meter } in
+    let is : names_after s.tables after ≡ names_of c.make-found.new.entries.entries = ap (λ (s : SheetValue). names_after s.tables after) (sym c.self.view_is) ∙ sym c.make-found.ensures.names in (
+      subst (λ (ns : Names). Accepts s.names change ns) is pending.accepts,
+      subst (λ (ns : Names). HasCost s.names change ns after.plans.cost) is (whole_cost s change after pending left),
+      subst (λ (ns : Names). HasTicks s.names change ns after.ticks) is (whole_ticks s change after pending left),
+    )

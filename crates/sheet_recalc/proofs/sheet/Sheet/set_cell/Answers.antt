@@ -1,0 +1,51 @@
+use Rattle.std.proofs.Common.{◌≡◌, ◌∙◌, ap, subst, Ok, Some}
+use Rattle.std.specs.Option.{option_map}
+use Rattle.std.proofs.lemmas.Result.{IfErr-weaker}
+use Rattle.apl_expr.specs.Trees.{literal_of}
+use Rattle.arrays_core.specs.Arrays.{ArrayValue}
+use Rattle.index_region.specs.Patches.{FitsPatch, patched}
+use Rattle.sheet_recalc.specs.Names.{SheetValue, Data, binding}
+use Rattle.sheet_recalc.specs.Cells.{cell_put}
+use Rattle.sheet_recalc.specs.Changes.{SetCell}
+use Rattle.sheet_recalc.specs.Entries.{binding_of, HasData}
+use Rattle.sheet_recalc.proofs.Live.{binding_of_name}
+use Rattle.sheet_recalc.proofs.Refused.{refused_patch}
+use Rattle.sheet_recalc.proofs.Asked.{on_ok_map, cell_pending}
+use Rattle.sheet_recalc.proofs.sheet.Sheet.set_cell.Goals as goal
+
+pub make_change-requires-clause-proposal : goal.make_change-requires-clause-proposal
+make_change-requires-clause-proposal c =
+    let h = c.in_ok-patch.ensures.put in
+    subst (λ (s : SheetValue). (a : ArrayValue) × HasData s.tables.entries.entries c.args.name a × FitsPatch a c.in_ok-patch.patch) c.self.view_is (h.0, h.1, h.2)
+
+pub returns-clause-ok : goal.returns-clause-ok
+returns-clause-ok c =
+    let literal = literal_of c.args.literal.now in
+    let p = c.in_ok-patch.patch in
+    let h = subst (λ (s : SheetValue). (a : ArrayValue) × HasData s.tables.entries.entries c.args.name a × FitsPatch a p × (cell_put (binding s.names c.args.name) c.args.positions.now literal ≡ Ok (patched a p))) c.self.view_is c.in_ok-patch.ensures.put in
+    on_ok_map c.make_change.result _ _ (λ all. (all (SetCell c.args.name c.args.positions.now literal) (λ pending told. cell_pending c.args.self.now c.args.name c.args.positions.now literal p h.0 h.1 h.3 c.in_ok-patch.ensures.delta pending told)).0) c.make_change.ensures.made
+
+pub returns-clause-cost : goal.returns-clause-cost
+returns-clause-cost c =
+    let literal = literal_of c.args.literal.now in
+    let p = c.in_ok-patch.patch in
+    let h = subst (λ (s : SheetValue). (a : ArrayValue) × HasData s.tables.entries.entries c.args.name a × FitsPatch a p × (cell_put (binding s.names c.args.name) c.args.positions.now literal ≡ Ok (patched a p))) c.self.view_is c.in_ok-patch.ensures.put in
+    on_ok_map c.make_change.result _ _ (λ all. (all (SetCell c.args.name c.args.positions.now literal) (λ pending told. cell_pending c.args.self.now c.args.name c.args.positions.now literal p h.0 h.1 h.3 c.in_ok-patch.ensures.delta pending told)).1) c.make_change.ensures.made
+
+pub returns-clause-ticks : goal.returns-clause-ticks
+returns-clause-ticks c =
+    let literal = literal_of c.args.literal.now in
+    let p = c.in_ok-patch.patch in
+    let h = subst (λ (s : SheetValue). (a : ArrayValue) × HasData s.tables.entries.entries c.args.name a × FitsPatch a p × (cell_put (binding s.names c.args.name) c.args.positions.now literal ≡ Ok (patched a p))) c.self.view_is c.in_ok-patch.ensures.put in
+    on_ok_map c.make_change.result _ _ (λ all. (all (SetCell c.args.name c.args.positions.now literal) (λ pending told. cell_pending c.args.self.now c.args.name c.args.positions.now literal p h.0 h.1 h.3 c.in_ok-patch.ensures.delta pending told)).2) c.make_change.ensures.made
+
+pub returns-clause-refused : goal.returns-clause-refused
+returns-clause-refused c =
+    let literal = literal_of c.args.literal.now in
+    let p = c.in_ok-patch.patch in
+    let a = c.in_ok-patch.ensures.put.0 in
+    let es = c.self.inside.entries.entries in
+    let held = subst (λ (s : SheetValue). binding s.names c.args.name ≡ Some (Data a)) c.self.view_is (binding_of_name es c.args.name ∙ ap (option_map binding_of) c.in_ok-patch.ensures.put.1) in
+    let is = subst (λ (s : SheetValue). cell_put (binding s.names c.args.name) c.args.positions.now literal ≡ Ok (patched a p)) c.self.view_is c.in_ok-patch.ensures.put.3 in
+    IfErr-weaker c.make_change.result _ _
+    (λ cause h. refused_patch c.args.self.now.names c.args.name c.args.positions.now literal a p held is c.make_change.ensures.sound.acyclic cause h) c.make_change.ensures.refused
