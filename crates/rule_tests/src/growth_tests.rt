@@ -1,14 +1,14 @@
 //! The change of a node of which an argument grew by one place of its first axis, and what it costs.
 
-ghost use Rattle.std.specs.Prelude.{◌≡◌, length};
-ghost use Rattle.index_region.specs.Tails.{FitsTail};
+ghost use Rattle.std.specs.Prelude.{◌≡◌, length, IfSome};
+ghost use Rattle.index_region.specs.Tails.{TailValue, FitsTail};
 ghost use Rattle.index_region.specs.declared.delta.Delta.TheVariants.{Same, Grown};
 
 use crate::fixtures::{array_of, tail_of, vector, zeros};
 use arrays_core::{Array, Fault, Kind};
 use change_core::{Meter, Tight};
 use change_rules::refresh_with_cost;
-use index_region::{Along, Delta, Seen, Tail};
+use index_region::{Along, Delta, Seen};
 use operator_fns::{Outer, Reduce};
 use operator_rules::Ruled as Operator;
 use scalar_fns::Scalar2;
@@ -17,70 +17,72 @@ use selection_fns::Index;
 use selection_rules::Ruled as Selection;
 use std::alloc::Global;
 
-/// The change of a node of one argument, which grew.
+/// What an array grows by with these numbers behind its own.
+fn growth_of(alloc: Global, array: &Array, numbers: &[i64]) -> Option<Delta>
+    ensures { IfSome result (λ d. (t : TailValue) → d ≡ Grown t → FitsTail array.now t) }
+{
+    Some(Delta::Grown(tail_of(alloc, array, numbers)?))
+}
+
+/// The change of a node of one argument, which grew so.
 fn change_of_one<R: Tight>(
     alloc: Global,
     rule: &R,
     array: &Array,
-    tail: Tail,
+    moved: &Delta,
     old: &Result<Array, Fault>,
 ) -> Option<(Delta, u32)>
     requires count { length (R.model rule.now).selectors ≡ 1 }
-    requires fits { FitsTail array.now tail }
+    requires fits { (t : TailValue) → moved.now ≡ Grown t → FitsTail array.now t }
 {
-    let moved = Delta::Grown(tail);
-    match &moved {
-        Delta::Grown(tail) => {
-            let args = [(Seen::grown(array, tail), &moved)];
-            refresh_with_cost(alloc, rule, &args, old, &mut Meter::new()).ok()
-        }
-        _ => None,
-    }
+    let Delta::Grown(tail) = moved else {
+        return None;
+    };
+    let args = [(Seen::grown(array, tail), moved)];
+    refresh_with_cost(alloc, rule, &args, old, &mut Meter::new()).ok()
 }
 
-/// The change of a node of two arguments, of which the left one grew and the right one is as it was.
+/// The change of a node of two arguments, of which the left one grew so and the right one is as it was.
 fn change_beside<'a, R: Tight>(
     alloc: Global,
     rule: &R,
-    left: (&'a Array, &'a Tail, &'a Delta),
+    left: (&'a Array, &'a Delta),
     right: (&'a Array, &'a Delta),
     old: &Result<Array, Fault>,
 ) -> Option<(Delta, u32)>
     requires count { length (R.model rule.now).selectors ≡ 2 }
-    requires fits { FitsTail left.0.now left.1.now }
-    requires grown { left.2.now ≡ Grown left.1.now }
+    requires fits { (t : TailValue) → left.1.now ≡ Grown t → FitsTail left.0.now t }
     requires same { right.1.now ≡ Same }
 {
-    let (array, tail, moved) = left;
+    let Delta::Grown(tail) = left.1 else {
+        return None;
+    };
     let args = [
-        (Seen::grown(array, tail), moved),
+        (Seen::grown(left.0, tail), left.1),
         (Seen::plain(right.0), right.1),
     ];
     refresh_with_cost(alloc, rule, &args, old, &mut Meter::new()).ok()
 }
 
-/// The change of a node whose two arguments are one array, which grew.
+/// The change of a node whose two arguments are one array, which grew so.
 fn change_of_both<R: Tight>(
     alloc: Global,
     rule: &R,
     array: &Array,
-    tail: Tail,
+    moved: &Delta,
     old: &Result<Array, Fault>,
 ) -> Option<(Delta, u32)>
     requires count { length (R.model rule.now).selectors ≡ 2 }
-    requires fits { FitsTail array.now tail }
+    requires fits { (t : TailValue) → moved.now ≡ Grown t → FitsTail array.now t }
 {
-    let moved = Delta::Grown(tail);
-    match &moved {
-        Delta::Grown(tail) => {
-            let args = [
-                (Seen::grown(array, tail), &moved),
-                (Seen::grown(array, tail), &moved),
-            ];
-            refresh_with_cost(alloc, rule, &args, old, &mut Meter::new()).ok()
-        }
-        _ => None,
-    }
+    let Delta::Grown(tail) = moved else {
+        return None;
+    };
+    let args = [
+        (Seen::grown(array, tail), moved),
+        (Seen::grown(array, tail), moved),
+    ];
+    refresh_with_cost(alloc, rule, &args, old, &mut Meter::new()).ok()
 }
 
 /// The change of a node of one argument, which grew by these numbers. Of what the node held it tells only that it was an
@@ -96,8 +98,8 @@ fn with_numbers<R: Tight>(
     let Ok(array) = shown else {
         return None;
     };
-    let tail = tail_of(alloc, array, numbers)?;
-    change_of_one(alloc, rule, array, tail, shown)
+    let moved = growth_of(alloc, array, numbers)?;
+    change_of_one(alloc, rule, array, &moved, shown)
 }
 
 /// The change of a node of two arguments, of which the left one grew by these numbers.
@@ -113,15 +115,8 @@ fn with_numbers_beside<R: Tight>(
     let Ok(array) = shown else {
         return None;
     };
-    let tail = tail_of(alloc, array, numbers)?;
-    let moved = Delta::Grown(tail.copy().ok()?);
-    change_beside(
-        alloc,
-        rule,
-        (array, &tail, &moved),
-        (right, &Delta::Same),
-        shown,
-    )
+    let moved = growth_of(alloc, array, numbers)?;
+    change_beside(alloc, rule, (array, &moved), (right, &Delta::Same), shown)
 }
 
 /// The change of a node whose two arguments are one array, which grew by these numbers.
@@ -136,8 +131,8 @@ fn with_numbers_twice<R: Tight>(
     let Ok(array) = shown else {
         return None;
     };
-    let tail = tail_of(alloc, array, numbers)?;
-    change_of_both(alloc, rule, array, tail, shown)
+    let moved = growth_of(alloc, array, numbers)?;
+    change_of_both(alloc, rule, array, &moved, shown)
 }
 
 /// The result grew to this shape by these numbers, at this cost.

@@ -389,11 +389,11 @@ fn grow_both(
     requires { sums.old ≡ record { function = Sum; axis = axis_meant (length array.old.shape) along; array = array.old } }
     ensures { IfSome result (λ _. sums.new ≡ record { function = Sum; axis = axis_meant (length array.new.shape) along; array = array.new }) }
 {
-    let tail = tail_of(alloc, array, numbers)?;
     let rank = array.shape().as_slice().len() as u32;
     if rank == 0 || !along.is_axis(rank) || array.item_type() != ItemType::Nums {
         return None;
     }
+    let tail = tail_of(alloc, array, numbers)?;
     if size(tail.shape().as_slice()) == 0 {
         return None;
     }

@@ -112,6 +112,22 @@ sums_one (x ∷ xs) (y ∷ []) e =
     ap (λ n. n ∷ map (λ z. y + z) xs) (let turned : y + x ≡ x + y = omega arith in turned) ∙ ap (λ rest. (x + y) ∷ rest) (sums_one xs (y ∷ []) refl)
 sums_one xs (y ∷ z ∷ ys) e = absurd (omega arith)
 
+-- the sums of one number more with two
+pub pairs_more : (before now new xs ys : List ℕ) (k : ℕ) → k < length xs → length ys ≡ 2 → now ≡ before ++ sums (take k xs) ys
+    → new ≡ (now ++ (get_or xs k 0 + get_or ys 0 0) ∷ []) ++ (get_or xs k 0 + get_or ys 1 0) ∷ [] → new ≡ before ++ sums (take (k + 1) xs) ys
+pairs_more before now new xs ys k h two made pushed =
+    let pair = (get_or xs k 0 + get_or ys 0 0) ∷ (get_or xs k 0 + get_or ys 1 0) ∷ [] in
+    pushed ∙ append_assoc now ((get_or xs k 0 + get_or ys 0 0) ∷ []) ((get_or xs k 0 + get_or ys 1 0) ∷ [])
+    ∙ ap (λ n. n ++ pair) made ∙ append_assoc before (sums (take k xs) ys) pair
+    ∙ ap (λ l. before ++ (sums (take k xs) ys ++ l)) (sym (ap (map (λ y. get_or xs k 0 + y)) (both ys two)))
+    ∙ ap (λ l. before ++ l) (sym (sums_more xs ys k h))
+  where
+    both : (ys : List ℕ) → length ys ≡ 2 → ys ≡ get_or ys 0 0 ∷ get_or ys 1 0 ∷ []
+    both [] e = absurd (omega arith)
+    both (y ∷ []) e = absurd (omega arith)
+    both (y ∷ z ∷ []) e = refl
+    both (y ∷ z ∷ w ∷ ys) e = absurd (omega arith)
+
 -- one number alone, and each of a list, added
 pub sums_turned : (xs ys : List ℕ) → length ys ≡ 1 → sums ys xs ≡ sums xs ys
 sums_turned xs [] e = absurd (omega arith)

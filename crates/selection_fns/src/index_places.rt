@@ -36,6 +36,22 @@ fn with_moved(list: Vec<u32>, by: u32, places: &[u32]) -> Vec<u32>
     list
 }
 
+/// Puts each number of one list and each of two others, added, behind others, in a list that has room for them: a pair at a time.
+fn with_pairs(list: Vec<u32>, first: &[u32], second: &[u32]) -> Vec<u32>
+    requires two { length second.now ≡ 2 }
+    requires fit { (i j : ℕ) → i < length first.now → j < length second.now → get_or first.now i 0 + get_or second.now j 0 < 2 ^ 32 }
+    requires room { vec_len list + length first.now * 2 ≤ vec_capacity list }
+    ensures { result.items ≡ list.items ++ all_sums first.now second.now }
+{
+    let mut list = list;
+    let (one, other) = (second[0], second[1]);
+    for k in 0..first.len() {
+        list.push_reserved(first[k] + one);
+        list.push_reserved(first[k] + other);
+    }
+    list
+}
+
 /// Each number of one list and each of another, added.
 fn sums(alloc: Global, first: &[u32], second: &[u32]) -> Result<Vec<u32>, AllocError>
     requires few { length first.now * length second.now ≤ most_places }
@@ -45,6 +61,9 @@ fn sums(alloc: Global, first: &[u32], second: &[u32]) -> Result<Vec<u32>, AllocE
     let mut list = Vec::with_capacity(alloc, first.len() * second.len())?;
     if second.len() == 1 {
         return Ok(with_moved(list, second[0], first));
+    }
+    if second.len() == 2 {
+        return Ok(with_pairs(list, first, second));
     }
     for k in 0..first.len() {
         list = with_moved(list, first[k], second);
