@@ -97,6 +97,20 @@ fn differences(source: &[i64], width: usize) -> Vec<i64> {
     })
 }
 
+/// The same of any numbers: each must lie between two others, or a difference on the way from the last number to the first would leave 64 bits.
+fn far_differences(source: &[i64]) -> Vec<i64> {
+    let (mut total, mut is_added, mut low, mut high) = (0i64, true, i64::MIN, i64::MAX);
+    let mut made = Vec::with_capacity(source.len());
+    for number in source {
+        assert!(low <= *number && *number <= high);
+        total = if is_added { total.checked_add(*number) } else { total.checked_sub(*number) }.unwrap();
+        (low, high) = (number.saturating_sub(high), number.saturating_sub(low));
+        is_added = !is_added;
+        made.push(total);
+    }
+    made
+}
+
 struct Given {
     matrix: Vec<i64>,
     half: Vec<i64>,
@@ -107,6 +121,7 @@ struct Given {
     other_text: Vec<char>,
     exponents: Vec<i64>,
     signs: Vec<i64>,
+    greatest: Vec<i64>,
     square: Vec<i64>,
 }
 
@@ -257,6 +272,7 @@ fn made(name: &str, given: &Given) -> Vec<i64> {
             given.bits.iter().map(next).collect()
         }
         "difference_scan" => differences(matrix, PLACES),
+        "far_difference_scan" => far_differences(&given.greatest),
         "difference_scan_first" => {
             let mut made = Vec::with_capacity(PLACES);
             made.extend_from_slice(&matrix[..SIDE]);
@@ -311,6 +327,7 @@ fn main() {
         other_text: "abd".chars().cycle().take(PLACES).collect(),
         exponents: (0..PLACES).map(|k| (k % 63) as i64).collect(),
         signs: (0..PLACES).map(|k| 1 - 2 * (k % 2) as i64).collect(),
+        greatest: vec![i64::MAX; PLACES],
         square: numbers(256 * 256),
     };
     let mut kept = Vec::new();

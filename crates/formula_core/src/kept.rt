@@ -1,6 +1,6 @@
 //! A node with what it keeps, and what changes of that.
 
-ghost use Rattle.std.specs.Prelude.{◌≡◌, length, None, Err, IfOk};
+ghost use Rattle.std.specs.Prelude.{◌≡◌, ◌++◌, ◌∷◌, [], length, None, Err, IfOk, OnOk, OnErr};
 ghost use Rattle.arrays_core.specs.Arrays.{IsArray};
 ghost use Rattle.arrays_core.specs.declared.item.Kind.TheVariants.{Value};
 ghost use Rattle.change_rules.specs.Currency.{applied};
@@ -12,6 +12,7 @@ use crate::sums::{SumsDelta, take_sums_delta};
 use crate::table::Node;
 use arrays_core::{Array, Fault, Kind};
 use index_region::Delta;
+use std::alloc::AllocError;
 use sum_rules::LineSums;
 
 /// A node of a formula with what it keeps.
@@ -100,6 +101,23 @@ fn adopt_change(held: &mut Result<Array, Fault>, change: Delta)
             }
         }
     }
+}
+
+/// Puts a change behind others. In room that the list has it is written once, and not handed on.
+#[inline(always)]
+pub(crate) fn push_change(
+    changes: &mut Vec<NodeChange>,
+    change: NodeChange,
+) -> Result<(), AllocError>
+    ensures items { OnOk result (changes.new.items ≡ changes.old.items ++ change ∷ []) }
+    ensures err { OnErr result (changes.new.items ≡ changes.old.items) }
+{
+    if changes.len() < changes.capacity() {
+        changes.push_reserved(change);
+        return Ok(());
+    }
+    changes.push(change)?;
+    Ok(())
 }
 
 /// Each node takes its change out of the list.
