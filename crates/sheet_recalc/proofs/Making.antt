@@ -1,15 +1,23 @@
 -- A change that is worked out at once.
-use Rattle.std.proofs.Common.{◌≡◌, ◌<◌, ◌∙◌, ℕ, sym, subst, arith}
+use Rattle.std.proofs.Common.{◌≡◌, ◌<◌, ◌∙◌, ℕ, false, sym, subst, arith}
 use Rattle.change_core.specs.Meters.{MeterValue}
 use Rattle.sheet_recalc.specs.Names.{SheetValue}
 use Rattle.sheet_recalc.specs.Tables.{Tables}
 use Rattle.sheet_recalc.specs.Changes.{Change}
-use Rattle.sheet_recalc.specs.Planning.{IsPlanning}
-use Rattle.sheet_recalc.specs.Pending.{IsAllReady, IsLaidOut, IsLaidOutOn, IsPendingOn, outline_for, steps_left}
+use Rattle.std.specs.Map.{keys_of}
+use Rattle.sheet_recalc.specs.Costs.{AreAllThatReach}
+use Rattle.sheet_recalc.specs.Planning.{AllWait, CanBe, IsPlanning, IsProposed}
+use Rattle.sheet_recalc.specs.Pending.{HasPlace, IsAllReady, IsLaidOut, IsLaidOutOn, IsPendingOn, names_after, outline_for, steps_left}
 use Rattle.sheet_recalc.specs.declared.pending.Pending.{Pending}
 use Rattle.sheet_recalc.specs.declared.plans.Plans.{Plans}
 use Rattle.sheet_recalc.proofs.Forward.{all_made}
 use Rattle.sheet_recalc.proofs.Stepped.{begun_of_laid_out, of_laid_out, is_ready}
+
+-- what was found for a proposal is laid out
+pub laid_out : (t : Tables) (p : Pending) (spent : ℕ) → IsProposed (outline_for t p) → CanBe (outline_for t p) → HasPlace t p.growth p.proposal → IsPlanning (outline_for t p) spent p.plans p.meter.ticks → AllWait p.plans
+    → AreAllThatReach (names_after t p) p.name (keys_of p.plans.found.entries) → p.is_cut ≡ false → p.ticks ≡ p.meter.ticks → p.ticks < 18446744073709551616 → IsLaidOut t p spent
+laid_out t p spent proposed can place way first all whole told small =
+    record { proposed = proposed; kept = can.kept; sheet = can.sheet; place = place; way = way; first = first; all = all; whole = whole; told = told; small = small }
 
 -- what was laid out, with the plans of all that it reaches
 module _ (t : Tables) (p : Pending) (w : Plans) (ticks : ℕ) (m : MeterValue) (told : ticks ≡ m.ticks) (small : ticks < 18446744073709551616)

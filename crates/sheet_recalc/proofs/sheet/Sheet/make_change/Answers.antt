@@ -9,7 +9,7 @@ use Rattle.sheet_recalc.specs.Planning.{IsProposalAt}
 use Rattle.sheet_recalc.specs.ProposedSheet.{names_with}
 use Rattle.sheet_recalc.specs.Pending.{IsLaidOut, IsProposedOn, names_after}
 use Rattle.sheet_recalc.specs.declared.pending.Pending.{Pending}
-use Rattle.sheet_recalc.proofs.Making.{none_left, all_ready, still_pending}
+use Rattle.sheet_recalc.proofs.Making.{laid_out, none_left, all_ready, still_pending}
 use Rattle.sheet_recalc.proofs.Rebound.{live_after}
 use Rattle.sheet_recalc.proofs.Stepped.{whole_cost, whole_ticks}
 use Rattle.sheet_recalc.proofs.sheet.Sheet.make_change.Goals as goal
@@ -36,18 +36,7 @@ make-found-requires-clause-ready c =
     let small : c.args.meter.ticks < 18446744073709551616 = omega (arith, c.requires.even, c.ranges.spent.fits) in
     let p : Pending =
     record { name = c.args.name; proposal = c.args.proposal; plans = c.in_ok-plans.plans; growth = c.in_ok-growth.growth; is_cut = false; ticks = c.args.meter.ticks; meter = c.args.meter } in
-    let laid : IsLaidOut t p c.args.spent = record {
-      proposed = begun.proposed;
-      kept = begun.can.kept;
-      sheet = begun.can.sheet;
-      place = c.in_ok-growth.ensures;
-      way = begun.way c.args.meter.ticks c.requires.even;
-      first = begun.first;
-      all = begun.all;
-      whole = refl;
-      told = refl;
-      small = small;
-    } in
+    let laid : IsLaidOut t p c.args.spent = laid_out t p c.args.spent begun.proposed begun.can c.in_ok-growth.ensures (begun.way c.args.meter.ticks c.requires.even) begun.first begun.all refl refl small in
     (all_ready t p c.plan_all.new.plans c.ticks-self-inside.result c.plan_all.new.meter c.ticks-self-inside.ensures c.ticks-self-inside.type_inv done.way done.all done.left done.current c.args.spent laid).ready
 
 pub invariant_of-self : goal.invariant_of-self
@@ -58,18 +47,7 @@ invariant_of-self c =
     let small : c.args.meter.ticks < 18446744073709551616 = omega (arith, c.requires.even, c.ranges.spent.fits) in
     let p : Pending =
     record { name = c.args.name; proposal = c.args.proposal; plans = c.in_ok-plans.plans; growth = c.in_ok-growth.growth; is_cut = false; ticks = c.args.meter.ticks; meter = c.args.meter } in
-    let laid : IsLaidOut t p c.args.spent = record {
-      proposed = begun.proposed;
-      kept = begun.can.kept;
-      sheet = begun.can.sheet;
-      place = c.in_ok-growth.ensures;
-      way = begun.way c.args.meter.ticks c.requires.even;
-      first = begun.first;
-      all = begun.all;
-      whole = refl;
-      told = refl;
-      small = small;
-    } in
+    let laid : IsLaidOut t p c.args.spent = laid_out t p c.args.spent begun.proposed begun.can c.in_ok-growth.ensures (begun.way c.args.meter.ticks c.requires.even) begun.first begun.all refl refl small in
     let all = all_ready t p c.plan_all.new.plans c.ticks-self-inside.result c.plan_all.new.meter c.ticks-self-inside.ensures c.ticks-self-inside.type_inv done.way done.all done.left done.current c.args.spent laid in
     record {
       live = live_after c.make-found.new.entries.entries c.make-found.new.users.entries (names_after t p) c.make-found.ensures.names all.ready.sheet all.ready.kept c.make-found.ensures.tells c.make-found.ensures.used c.make-found.ensures.current;
@@ -86,29 +64,18 @@ returns-clause-made c = λ change lays.
     let small : c.args.meter.ticks < 18446744073709551616 = omega (arith, c.requires.even, c.ranges.spent.fits) in
     let p : Pending =
     record { name = c.args.name; proposal = c.args.proposal; plans = c.in_ok-plans.plans; growth = c.in_ok-growth.growth; is_cut = false; ticks = c.args.meter.ticks; meter = c.args.meter } in
+    let laid : IsLaidOut t p c.args.spent = laid_out t p c.args.spent begun.proposed begun.can c.in_ok-growth.ensures (begun.way c.args.meter.ticks c.requires.even) begun.first begun.all refl refl small in
     let proposed = subst (λ (s : SheetValue). IsProposedOn s c.args.name c.args.proposal c.args.spent p) c.self.view_is
     (record {
       names_are = refl;
       name_is = refl;
       proposal_is = refl;
-      begun = record {
-        proposed = begun.proposed;
-        kept = begun.can.kept;
-        sheet = begun.can.sheet;
-        place = c.in_ok-growth.ensures;
-        way = begun.way c.args.meter.ticks c.requires.even;
-        first = begun.first;
-        all = begun.all;
-        whole = refl;
-        told = refl;
-        small = small;
-      };
+      begun = laid;
       even = c.requires.even;
       room = begun.can.room;
     }) in
     let pending = still_pending t p c.plan_all.new.plans c.ticks-self-inside.result c.plan_all.new.meter c.ticks-self-inside.ensures c.ticks-self-inside.type_inv done.way done.all done.left done.current s same change (lays p proposed) in
-    let left = none_left t p c.plan_all.new.plans c.ticks-self-inside.result c.plan_all.new.meter c.ticks-self-inside.ensures c.ticks-self-inside.type_inv done.way done.all done.left done.current c.args.spent
-    (subst (λ (t : Tables). IsLaidOut t p c.args.spent) (sym same) proposed.begun) in
+    let left = none_left t p c.plan_all.new.plans c.ticks-self-inside.result c.plan_all.new.meter c.ticks-self-inside.ensures c.ticks-self-inside.type_inv done.way done.all done.left done.current c.args.spent laid in
     let after : Pending = record p { plans = c.plan_all.new.plans; ticks = c.ticks-self-inside.result; meter = c.plan_all.new.meter } in
     let is : names_after s.tables after ≡ names_of c.make-found.new.entries.entries = ap (λ (s : SheetValue). names_after s.tables after) (sym c.self.view_is) ∙ sym c.make-found.ensures.names in (
       subst (λ (ns : Names). Accepts s.names change ns) is pending.accepts,

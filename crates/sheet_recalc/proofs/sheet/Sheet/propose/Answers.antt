@@ -7,6 +7,7 @@ use Rattle.sheet_recalc.specs.Planning.{IsProposalAt}
 use Rattle.sheet_recalc.specs.ProposedSheet.{names_with}
 use Rattle.sheet_recalc.specs.Pending.{IsProposedOn}
 use Rattle.sheet_recalc.specs.declared.pending.Pending.{Pending}
+use Rattle.sheet_recalc.proofs.Making.{laid_out}
 use Rattle.sheet_recalc.proofs.sheet.Sheet.propose.Goals as goal
 
 pub begun-requires-clause-proposal : goal.begun-requires-clause-proposal
@@ -23,6 +24,7 @@ returns-in_err-plans-clause-refused c =
 pub returns-clause-ok : goal.returns-clause-ok
 returns-clause-ok c =
     let begun = c.in_ok-plans.ensures in
+    let t : Tables = record { entries = c.self.inside.entries; users = c.self.inside.users } in
     let pending : Pending =
     record { name = c.args.name; proposal = c.args.proposal; plans = c.in_ok-plans.plans; growth = c.in_ok-growth.growth; is_cut = false; ticks = c.ticks.result; meter = c.args.meter } in
     subst (λ (s : SheetValue). IsProposedOn s c.args.name c.args.proposal c.args.spent pending) c.self.view_is
@@ -30,18 +32,7 @@ returns-clause-ok c =
       names_are = refl;
       name_is = refl;
       proposal_is = refl;
-      begun = record {
-        proposed = begun.proposed;
-        kept = begun.can.kept;
-        sheet = begun.can.sheet;
-        place = c.in_ok-growth.ensures;
-        way = begun.way c.args.meter.ticks c.requires.even;
-        first = begun.first;
-        all = begun.all;
-        whole = refl;
-        told = c.ticks.ensures;
-        small = c.ticks.type_inv;
-      };
+      begun = laid_out t pending c.args.spent begun.proposed begun.can c.in_ok-growth.ensures (begun.way c.args.meter.ticks c.requires.even) begun.first begun.all refl c.ticks.ensures c.ticks.type_inv;
       even = c.ticks.ensures ∙ c.requires.even;
       room = begun.can.room;
     })
