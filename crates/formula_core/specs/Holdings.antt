@@ -1,12 +1,14 @@
 -- What the nodes of a formula keep, and what changes of it.
-use Rattle.std.specs.Prelude.{ℕ, ◌<◌, List, Option, None, Err, length, get_or, map}
+use Rattle.std.specs.Prelude.{ℕ, ◌<◌, Bool, true, false, ◌&&◌, List, Option, None, Err, length, get_or, map}
 use Rattle.arrays_core.specs.declared.item.Kind.TheVariants.{Value}
-use Rattle.index_region.specs.declared.delta.Delta.TheVariants.{Same}
+use Rattle.index_region.specs.declared.delta.Delta.{Delta}
+use Rattle.index_region.specs.declared.delta.Delta.TheVariants.{Same, Patch, Grown, Whole}
 use Rattle.change_rules.specs.Currency.{applied}
 use Rattle.sum_rules.specs.LineSums.{SummedValue}
 use Rattle.apl_expr.specs.Trees.{Tree}
 use Rattle.formula_core.specs.declared.kept.Kept.{Kept}
 use Rattle.formula_core.specs.declared.kept.NodeChange.{NodeChange}
+use Rattle.formula_core.specs.declared.sums.SumsDelta.{SumsDelta}
 use Rattle.formula_core.specs.declared.sums.SumsDelta.TheVariants as sums
 use Rattle.formula_core.specs.declared.table.Node.{Node}
 use Rattle.formula_core.specs.Changes.{FitsIn, each_with}
@@ -40,6 +42,24 @@ nodes_of nodes = map (λ k. k.node) nodes
 -- nothing changes of a node
 abbrev pub no_change : NodeChange
 no_change = record { delta = Same; sums = sums.Same }
+
+-- nothing changes, or items of what is held
+abbrev pub lent_delta : Delta → Bool
+lent_delta Same = true
+lent_delta (Patch p) = true
+lent_delta (Grown t) = false
+lent_delta (Whole r) = false
+
+-- nothing changes of the sums
+abbrev pub lent_sums : SumsDelta → Bool
+lent_sums sums.Same = true
+lent_sums (sums.Patch p) = false
+lent_sums (sums.Grown l) = false
+lent_sums (sums.Whole s) = false
+
+-- a change that leaves nothing with the node that takes it
+abbrev pub can_be_lent : NodeChange → Bool
+can_be_lent d = lent_delta d.delta && lent_sums d.sums
 
 -- what a node holds, with its change
 abbrev pub taking : NodeChange → Holding → Holding

@@ -19,7 +19,7 @@ ghost use Rattle.formula_core.specs.Tables.{applies, subtrees, tree_at};
 
 use crate::evaluation::{Shows, inputs_at_rest};
 use crate::input::Input;
-use crate::kept::{Kept, NodeChange, adopt_all, push_change, unknown};
+use crate::kept::{Kept, NodeChange, adopt_all, unknown};
 use crate::plan::Plan;
 use crate::stage::Stage;
 use crate::table::{Node, Operand, lower};
@@ -204,7 +204,7 @@ impl Formula {
         let done = plan.changes.len();
         let mut own = Meter::new();
         let (change, items) = self.next(plan.changes.as_slice(), inputs, &mut own)?;
-        push_change(&mut plan.changes, change)?;
+        plan.changes.push(change)?;
         match self.go_on(&mut plan.changes, inputs) {
             Ok(()) => {}
             Err(refused) => {
@@ -228,7 +228,7 @@ impl Formula {
     {
         while changes.len() < self.nodes.len() && !self.nodes[changes.len()].node.applies() {
             let change = self.next_leaf(changes.as_slice(), inputs)?;
-            push_change(changes, change)?;
+            changes.push(change)?;
         }
         Ok(())
     }
@@ -272,11 +272,7 @@ impl Formula {
         ensures joined { IfOk result (λ r. (c : Change) → IsTold self.now c inputs.now → (cost : ℕ) → IsBegun self.now c changes.now cost → is_error r.0.delta ≡ false
             → ticked meter.old.joins (least_joins self.now.is_new c (tree_at (subtrees self.now.tree) (length changes.now))) ≤ meter.new.joins) }
     {
-        let anew = if self.is_new {
-            Delta::Whole(Err(unknown()))
-        } else {
-            Delta::Same
-        };
+        let anew = Delta::Whole(Err(unknown()));
         let stage = Stage {
             alloc: self.alloc,
             is_new: self.is_new,

@@ -1,18 +1,17 @@
 //! A node with what it keeps, and what changes of that.
 
-ghost use Rattle.std.specs.Prelude.{◌≡◌, ◌++◌, ◌∷◌, [], length, None, Err, IfOk, OnOk, OnErr};
+ghost use Rattle.std.specs.Prelude.{◌≡◌, true, length, None, Err, IfOk};
 ghost use Rattle.arrays_core.specs.Arrays.{IsArray};
 ghost use Rattle.arrays_core.specs.declared.item.Kind.TheVariants.{Value};
 ghost use Rattle.change_rules.specs.Currency.{applied};
 ghost use Rattle.formula_core.specs.Changes.{FitsIn, each_with};
 ghost use Rattle.formula_core.specs.Outcomes.{fault};
-ghost use Rattle.formula_core.specs.Holdings.{holding, holdings_of, no_change, taken, IsFit, AllFit};
+ghost use Rattle.formula_core.specs.Holdings.{holding, holdings_of, can_be_lent, no_change, taken, IsFit, AllFit};
 
 use crate::sums::{SumsDelta, take_sums_delta};
 use crate::table::Node;
 use arrays_core::{Array, Fault, Kind};
 use index_region::Delta;
-use std::alloc::AllocError;
 use sum_rules::LineSums;
 
 /// A node of a formula with what it keeps.
@@ -61,6 +60,19 @@ impl Kept {
         }
     }
 
+    /// Takes a change that can be lent. No memory is asked for.
+    fn adopt_lent(&mut self, change: &NodeChange)
+        requires fit { IsFit change.now (holding self.old) }
+        requires lent { can_be_lent change.now ≡ true }
+        ensures { self.new ≡ taken change.now self.old }
+    {
+        if let Delta::Patch(patch) = &change.delta {
+            if let Ok(array) = &mut self.result {
+                patch.write_into(array);
+            }
+        }
+    }
+
     /// Takes its change. No memory is asked for.
     fn adopt(&mut self, change: NodeChange)
         requires { IsFit change (holding self.old) }
@@ -68,6 +80,18 @@ impl Kept {
     {
         adopt_change(&mut self.result, change.delta);
         take_sums_delta(&mut self.sums, change.sums);
+    }
+}
+
+impl NodeChange {
+    /// It leaves nothing with the node that takes it: nothing changes, or items of the result that the node holds.
+    fn can_be_lent(&self) -> bool
+        ensures { result ≡ can_be_lent self.now }
+    {
+        matches!(
+            (&self.delta, &self.sums),
+            (Delta::Same | Delta::Patch(_), SumsDelta::Same)
+        )
     }
 }
 
@@ -103,30 +127,19 @@ fn adopt_change(held: &mut Result<Array, Fault>, change: Delta)
     }
 }
 
-/// Puts a change behind others. In room that the list has it is written once, and not handed on.
-#[inline(always)]
-pub(crate) fn push_change(
-    changes: &mut Vec<NodeChange>,
-    change: NodeChange,
-) -> Result<(), AllocError>
-    ensures items { OnOk result (changes.new.items ≡ changes.old.items ++ change ∷ []) }
-    ensures err { OnErr result (changes.new.items ≡ changes.old.items) }
-{
-    if changes.len() < changes.capacity() {
-        changes.push_reserved(change);
-        return Ok(());
-    }
-    changes.push(change)?;
-    Ok(())
-}
-
-/// Each node takes its change out of the list.
+/// Each node takes its change out of the list. What can be lent is not moved.
 pub(crate) fn adopt_all(nodes: &mut Vec<Kept>, changes: &mut Vec<NodeChange>)
     requires each { length changes.old.items ≡ length nodes.old.items }
     requires fit { AllFit changes.old.items (holdings_of nodes.old.items) }
     ensures { nodes.new.items ≡ each_with taken changes.old.items nodes.old.items }
 {
-    while let Some(change) = changes.pop() {
-        nodes[changes.len()].adopt(change);
+    while !changes.is_empty() {
+        let place = changes.len() - 1;
+        if changes[place].can_be_lent() {
+            nodes[place].adopt_lent(&changes[place]);
+            changes.truncate(place);
+        } else if let Some(change) = changes.pop() {
+            nodes[place].adopt(change);
+        }
     }
 }

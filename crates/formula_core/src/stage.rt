@@ -41,7 +41,7 @@ pub(crate) struct Stage<'a> {
     pub(crate) inputs: &'a [Input<'a>],
     pub(crate) nodes: &'a [Kept],
     pub(crate) changes: &'a [NodeChange],
-    /// Of a new formula any change of the whole: all that it takes counts as new.
+    /// Any change of the whole: all that a new formula takes counts as new.
     pub(crate) anew: &'a Delta,
 }
 
@@ -50,7 +50,7 @@ impl<'a> Stage<'a> {
     fn operand(&self, operand: Operand) -> Input<'a>
         requires within { IsOperand (length self.now.inputs.now) (length self.now.changes.now) operand }
         requires staged { StagedBy self.now }
-        requires anew { self.now.is_new ≡ true → is_whole self.now.anew.now ≡ true }
+        requires anew { is_whole self.now.anew.now ≡ true }
         ensures fit { HasFit result }
         ensures ready { (c : Change) → (names : List (List ℕ)) → (trees : List Tree) → IsStaged c names trees self.now → IsReady self.now.is_new c (tree_of_operand names trees operand) result }
     {
@@ -65,7 +65,7 @@ impl<'a> Stage<'a> {
     fn positions(&self, operands: &[Option<Operand>]) -> Result<Positions<'a>, AllocError>
         requires within { AreOperands (length self.now.inputs.now) (length self.now.changes.now) operands.now }
         requires staged { StagedBy self.now }
-        requires anew { self.now.is_new ≡ true → is_whole self.now.anew.now ≡ true }
+        requires anew { is_whole self.now.anew.now ≡ true }
         ensures fit { IfOk result (λ positions. AllHaveFit positions.items) }
         ensures ready { IfOk result (λ positions. (c : Change) → (names : List (List ℕ)) → (trees : List Tree) → IsStaged c names trees self.now
             → AreReady self.now.is_new c (map (option_map (tree_of_operand names trees)) operands.now) positions.items) }
@@ -85,7 +85,7 @@ impl<'a> Stage<'a> {
     pub(crate) fn next(&self, meter: &mut Meter) -> Result<(NodeChange, u32), AllocError>
         requires below { length self.now.changes.now < length self.now.nodes.now }
         requires staged { StagedBy self.now }
-        requires anew { self.now.is_new ≡ true → is_whole self.now.anew.now ≡ true }
+        requires anew { is_whole self.now.anew.now ≡ true }
         ensures done { IfOk result (λ r. (c : Change) → (names : List (List ℕ)) → (trees : List Tree) → IsStaged c names trees self.now
             → IsDone self.now.is_new c (tree_at trees (length self.now.changes.now)) (get_or (holdings_of self.now.nodes.now) (length self.now.changes.now) not_worked_out) r.0) }
         ensures cost { IfOk result (λ r. (c : Change) → (names : List (List ℕ)) → (trees : List Tree) → IsStaged c names trees self.now
@@ -121,7 +121,7 @@ impl<'a> Stage<'a> {
         requires staged { StagedBy self.now }
         requires kept { IsKeptBy self.now node.now kept.now }
         requires made { IsMadeBy self.now node.now made.now }
-        requires anew { self.now.is_new ≡ true → is_whole self.now.anew.now ≡ true }
+        requires anew { is_whole self.now.anew.now ≡ true }
         ensures step { (c : Change) → (names : List (List ℕ)) → (trees : List Tree) → IsStaged c names trees self.now
             → (self.now.is_new ≡ false → held.now ≡ eval (tree_of_node names trees node.now) c.old)
             → IsStep self.now.is_new c (tree_of_node names trees node.now) meter.old.ticks meter.new.ticks result }
@@ -157,7 +157,7 @@ impl<'a> Stage<'a> {
     fn sums_of(&self, node: &Node, kept: &Option<LineSums>) -> Result<SumsDelta, AllocError>
         requires node { IsNode (length self.now.inputs.now) (length self.now.changes.now) node.now }
         requires staged { StagedBy self.now }
-        requires anew { self.now.is_new ≡ true → is_whole self.now.anew.now ≡ true }
+        requires anew { is_whole self.now.anew.now ≡ true }
         ensures { IfOk result (λ s. (c : Change) → (names : List (List ℕ)) → (trees : List Tree) → IsStaged c names trees self.now
             → (self.now.is_new ≡ false → kept.now ≡ summed_at c.old (tree_of_node names trees node.now)) → IsSumsStep c (tree_of_node names trees node.now) kept.now s) }
     {

@@ -320,7 +320,11 @@ impl Sheet {
             proposal: &proposal,
         };
         let room = self.room.replace(IndexMap::new(self.alloc));
-        let mut plans = begun(self.alloc, &proposed, &self.users, room, spent)?;
+        // matched, as `?` would hand the plans on twice more
+        let mut plans = match begun(self.alloc, &proposed, &self.users, room, spent) {
+            Ok(plans) => plans,
+            Err(refusal) => return Err(refusal),
+        };
         let growth = growth_for(self.alloc, &self.entries, &self.users, &proposal)?;
         let mut meter = meter;
         plan_all(self.alloc, &proposed, &mut plans, &mut meter)?;

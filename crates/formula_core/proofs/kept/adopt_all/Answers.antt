@@ -1,20 +1,32 @@
-use Rattle.std.proofs.Common.{◌∙◌}
+use Rattle.std.proofs.Common.{◌≡◌, ◌∙◌, ◌+◌, ◌-◌, ◌<◌, ◌≤◌, ◌∷◌, ◌++◌, [], List, length, take, sym, ap, arith, rules}
+use Rattle.std.proofs.lemmas.List.{length-append, take_more, take_all}
 use Rattle.formula_core.specs.declared.kept.Kept.{Kept}
 use Rattle.formula_core.specs.declared.kept.NodeChange.{NodeChange}
 use Rattle.formula_core.specs.Changes.{each_with}
 use Rattle.formula_core.specs.Holdings.{holding, taken, no_change, IsFit}
-use Rattle.formula_core.proofs.Adopted.{no_node, all_left, left_after, last_fits}
+use Rattle.formula_core.proofs.Adopted.{no_node, left_after}
 use Rattle.formula_core.proofs.kept.adopt_all.Goals as goal
 
-pub loop-change-init : goal.loop-change-init
-loop-change-init c = all_left c.args.changes.now.items c.args.nodes.now.items c.requires.each c.requires.fit
+pub loop-changes-preserved-then-can_be_lent :
+    goal.loop-changes-preserved-then-can_be_lent
+loop-changes-preserved-then-can_be_lent c =
+    let all = c.loop-changes.changes.items in
+    let n = c.len-place.result - 1 in
+    let d = c.index-then-can_be_lent.result.now in
+    let below : n < length all = search rules in
+    let high : length all ≤ n + 1 = omega (arith, c.len-place.ensures, c.loop-changes.changes.ok.0) in
+    let front : c.truncate.new.self.items ≡ take n all = c.truncate.ensures.items in
+    let last : all ≡ c.truncate.new.self.items ++ d ∷ [] =
+    sym (take_all (n + 1) all high) ∙ take_more all n d below ∙ ap (λ e. take n all ++ e ∷ []) (sym c.index-then-can_be_lent.ensures) ∙ ap (λ (ds : List NodeChange). ds ++ d ∷ []) (sym front) in
+    let place : n ≡ length c.truncate.new.self.items = omega (arith, below, high, ap (λ (ds : List NodeChange). length ds) last, length-append c.truncate.new.self.items (d ∷ [])) in
+    left_after NodeChange Kept taken (λ d k. IsFit d (holding k)) no_change no_node all c.truncate.new.self.items d c.loop-changes.nodes.items n c.index_mut.result.now c.adopt_lent.new.self
+    (each_with taken c.args.changes.now.items c.args.nodes.now.items) c.loop-changes.invariant last place c.index_mut.ensures.value c.adopt_lent.ensures
 
-pub adopt-requires : goal.adopt-requires
-adopt-requires c =
-    last_fits NodeChange Kept taken (λ d k. IsFit d (holding k)) no_change no_node c.loop-change.changes.items c.pop.new.self.items c.in-Some.change c.loop-change.nodes.items c.len.result c.index_mut.result.now
-    (each_with taken c.args.changes.now.items c.args.nodes.now.items) c.loop-change.invariant c.in-Some.ensures.items (c.len.ensures ∙ c.pop.new.self.ok.0) c.index_mut.ensures.value
-
-pub loop-change-preserved : goal.loop-change-preserved
-loop-change-preserved c =
-    left_after NodeChange Kept taken (λ d k. IsFit d (holding k)) no_change no_node c.loop-change.changes.items c.pop.new.self.items c.in-Some.change c.loop-change.nodes.items c.len.result c.index_mut.result.now c.adopt.new.self
-    (each_with taken c.args.changes.now.items c.args.nodes.now.items) c.loop-change.invariant c.in-Some.ensures.items (c.len.ensures ∙ c.pop.new.self.ok.0) c.index_mut.ensures.value c.adopt.ensures
+pub loop-changes-preserved-in-Some : goal.loop-changes-preserved-in-Some
+loop-changes-preserved-in-Some c =
+    let all = c.loop-changes.changes.items in
+    let n = c.len-place.result - 1 in
+    let place : n ≡ length c.pop.new.self.items =
+    omega (arith, c.len-place.ensures, c.loop-changes.changes.ok.0, ap (λ (ds : List NodeChange). length ds) c.in-Some.ensures.items, length-append c.pop.new.self.items (c.in-Some.change ∷ [])) in
+    left_after NodeChange Kept taken (λ d k. IsFit d (holding k)) no_change no_node all c.pop.new.self.items c.in-Some.change c.loop-changes.nodes.items n c.index_mut-in-Some.result.now c.adopt.new.self
+    (each_with taken c.args.changes.now.items c.args.nodes.now.items) c.loop-changes.invariant c.in-Some.ensures.items place c.index_mut-in-Some.ensures.value c.adopt.ensures

@@ -31,13 +31,13 @@ go_on-requires c =
     let seen : IsBegun f w.0 c.as_slice.result.now cost = subst (λ (ds : List NodeChange). IsBegun f w.0 ds cost) (sym c.as_slice.ensures.value) begun in
     let items = subst (λ (ds : List NodeChange). c.in_ok-change.items ≡ node_cost_at f.is_new w.0 (tree_at (subtrees f.tree) (length ds))) c.as_slice.ensures.value (c.in_ok-change.ensures.cost w.0 w.1.0 cost seen) in
     let done = subst (λ (ds : List NodeChange). IsDone f.is_new w.0 (tree_at (subtrees f.tree) (length ds)) (get_or f.nodes (length ds) not_worked_out) c.in_ok-change.change) c.as_slice.ensures.value (c.in_ok-change.ensures.done w.0 w.1.0 cost seen) in
-    record { begun = (w.0, (w.1.0, (ticked cost c.in_ok-change.items, begun_one f w.0 inner c.push_change.new.changes.items c.in_ok-change.change cost c.in_ok-change.items begun left c.in_ok-push_change.ensures.items items done))) }
+    record { begun = (w.0, (w.1.0, (ticked cost c.in_ok-change.items, begun_one f w.0 inner c.push.new.self.items c.in_ok-change.change cost c.in_ok-change.items begun left c.in_ok-push.ensures.items items done))) }
 
 pub returns-in-Err-clause-err : goal.returns-in-Err-clause-err
 returns-in-Err-clause-err c =
     let inner = c.plan.inside.changes.items in
     let place : c.len-done.result ≡ length inner = c.len-done.ensures ∙ c.plan.inside.changes.ok.0 in
-    let back = c.truncate.ensures.items ∙ (ap (λ k. take k c.go_on.new.changes.items) place ∙ rolled inner c.push_change.new.changes.items c.go_on.new.changes.items c.in_ok-change.change c.in_ok-push_change.ensures.items c.go_on.ensures.kept) in
+    let back = c.truncate.ensures.items ∙ (ap (λ k. take k c.go_on.new.changes.items) place ∙ rolled inner c.push.new.self.items c.go_on.new.changes.items c.in_ok-change.change c.in_ok-push.ensures.items c.go_on.ensures.kept) in
     ap (λ (ds : List NodeChange). record { changes = ds; cost = c.plan.inside.cost }) back ∙ c.plan.view_is
 
 pub returns-clause-one : goal.returns-clause-one
@@ -51,7 +51,7 @@ returns-clause-one c =
     let w = c.requires.planned in
     let one : is_operation (tree_at (subtrees f.tree) (length inner)) ≡ true =
     subst (λ (ds : List NodeChange). is_operation (tree_at (subtrees f.tree) (length ds)) ≡ true) (sym was) (w.1.1.next (subst (λ (ds : List NodeChange). length ds < length f.nodes) was below)) in
-    c.in-Ok.ensures.same ∙ (among_more f inner c.push_change.new.changes.items c.in_ok-change.change c.in_ok-push_change.ensures.items (omega (arith, below, all)) one ∙ ap (λ (ds : List NodeChange). operations_among f ds + 1) was)
+    c.in-Ok.ensures.same ∙ (among_more f inner c.push.new.self.items c.in_ok-change.change c.in_ok-push.ensures.items (omega (arith, below, all)) one ∙ ap (λ (ds : List NodeChange). operations_among f ds + 1) was)
 
 pub returns-clause-planned : goal.returns-clause-planned
 returns-clause-planned c = λ change told planned.
@@ -64,7 +64,7 @@ returns-clause-planned c = λ change told planned.
     let seen : IsBegun f change c.as_slice.result.now cost = subst (λ (ds : List NodeChange). IsBegun f change ds cost) (sym c.as_slice.ensures.value) begun in
     let items = subst (λ (ds : List NodeChange). c.in_ok-change.items ≡ node_cost_at f.is_new change (tree_at (subtrees f.tree) (length ds))) c.as_slice.ensures.value (c.in_ok-change.ensures.cost change told cost seen) in
     let done = subst (λ (ds : List NodeChange). IsDone f.is_new change (tree_at (subtrees f.tree) (length ds)) (get_or f.nodes (length ds) not_worked_out) c.in_ok-change.change) c.as_slice.ensures.value (c.in_ok-change.ensures.done change told cost seen) in
-    let more = begun_one f change inner c.push_change.new.changes.items c.in_ok-change.change cost c.in_ok-change.items begun left c.in_ok-push_change.ensures.items items done in
+    let more = begun_one f change inner c.push.new.self.items c.in_ok-change.change cost c.in_ok-change.items begun left c.in_ok-push.ensures.items items done in
     let total : c.add.new.self ≡ ticked cost c.in_ok-change.items = c.add.ensures.exact ∙ ap (λ (p : PlanValue). ticked p.cost c.in_ok-change.items) c.plan.view_is in
     record {
       begun = subst (λ k. IsBegun f change c.go_on.new.changes.items k) (sym total) (c.in-Ok.ensures.begun change told _ more);

@@ -31,18 +31,18 @@ loop-changes-preserved c =
     let plain : is_operation (tree_at (subtrees f.tree) (length changes)) ≡ false =
     ap is_operation (tree_there f names nodes c.self.invariant root held (length changes) below n at) ∙ (applied_there names (subtrees f.tree) n.node ∙ (sym c.applies.ensures ∙ c.if-not-applies.true)) in
     let d = c.in_ok-change.change in
-    let is : c.push_change.new.changes.items ≡ changes ++ d ∷ [] = c.in_ok-push_change.ensures.items in
+    let is : c.push.new.self.items ≡ changes ++ d ∷ [] = c.in_ok-push.ensures.items in
     let all : length f.nodes ≡ length (subtrees f.tree) = known f names nodes c.self.invariant root held in
     let under : length changes < length f.nodes = omega (arith, below, counted f names nodes c.self.invariant root held) in
     record {
       kept = ap (λ ds. take (length c.args.changes.now.items) ds) is ∙ (take-append-le (length c.args.changes.now.items) changes (d ∷ []) inv.long ∙ inv.kept);
       long = omega (arith, inv.long, ap (λ (ds : List NodeChange). length ds) is, length-append changes (d ∷ []));
-      same = among_plain f changes c.push_change.new.changes.items d is (omega (arith, under, all)) plain ∙ inv.same;
+      same = among_plain f changes c.push.new.self.items d is (omega (arith, under, all)) plain ∙ inv.same;
       begun = λ change told cost begun.
           let now = inv.begun change told cost begun in
           let seen : IsBegun f change c.as_slice.result.now cost = subst (λ (ds : List NodeChange). IsBegun f change ds cost) (sym c.as_slice.ensures.value) now in
           let done = subst (λ (ds : List NodeChange). IsDone f.is_new change (tree_at (subtrees f.tree) (length ds)) (get_or f.nodes (length ds) not_worked_out) d) c.as_slice.ensures.value (c.in_ok-change.ensures change told cost seen) in
-          begun_more f change changes c.push_change.new.changes.items d cost 0 cost now under is (spent_none cost _ now.costs) (free f.is_new change (tree_at (subtrees f.tree) (length changes)) plain) done;
+          begun_more f change changes c.push.new.self.items d cost 0 cost now under is (spent_none cost _ now.costs) (free f.is_new change (tree_at (subtrees f.tree) (length changes)) plain) done;
     }
 
 pub returns-else-not-applies-clause-next : goal.returns-else-not-applies-clause-next

@@ -1,5 +1,4 @@
 use Rattle.std.proofs.Common.{◌≡◌, ◌∙◌, ◌<◌, refl, sym, ap, subst, false, arith}
-use Rattle.std.proofs.lemmas.Result.{err_from_is_err_and}
 use Rattle.sheet_recalc.specs.Names.{Names, SheetValue}
 use Rattle.sheet_recalc.specs.Tables.{Tables}
 use Rattle.sheet_recalc.specs.Entries.{names_of}
@@ -18,35 +17,32 @@ pub begun-requires-clause-proposal : goal.begun-requires-clause-proposal
 begun-requires-clause-proposal c =
     subst (λ (t : Tables). IsProposalAt t.entries.entries c.args.name c.args.proposal) (sym (ap (λ (s : SheetValue). s.tables) c.self.view_is)) c.requires.proposal
 
-pub returns-in_err-plans-clause-refused : goal.returns-in_err-plans-clause-refused
-returns-in_err-plans-clause-refused c =
-    let cause = c.in_err-plans.field-0.0 in
-    let p = err_from_is_err_and c.from_residual.result c.from_residual.ensures.1 in
-    let why = subst (λ (s : SheetValue). CannotBecome s.names (names_with s.names c.args.name c.args.proposal) c.args.name cause) c.self.view_is c.in_err-plans.ensures.refused in
-    rw (p.1, p.2) why
+pub returns-in-Err-clause-refused : goal.returns-in-Err-clause-refused
+returns-in-Err-clause-refused c =
+    subst (λ (s : SheetValue). CannotBecome s.names (names_with s.names c.args.name c.args.proposal) c.args.name c.in-Err.refusal) c.self.view_is c.in-Err.ensures.refused
 
 pub plan_all-requires-clause-way : goal.plan_all-requires-clause-way
-plan_all-requires-clause-way c = (c.args.spent, c.in_ok-plans.ensures.way c.args.meter.ticks c.requires.even)
+plan_all-requires-clause-way c = (c.args.spent, c.in-Ok.ensures.way c.args.meter.ticks c.requires.even)
 
 pub make-found-requires-clause-ready : goal.make-found-requires-clause-ready
 make-found-requires-clause-ready c =
-    let begun = c.in_ok-plans.ensures in
+    let begun = c.in-Ok.ensures in
     let done = c.in_ok-plan_all.ensures in
     let t : Tables = record { entries = c.self.inside.entries; users = c.self.inside.users } in
     let small : c.args.meter.ticks < 18446744073709551616 = omega (arith, c.requires.even, c.ranges.spent.fits) in
     let p : Pending =
-    record { name = c.args.name; proposal = c.args.proposal; plans = c.in_ok-plans.plans; growth = c.in_ok-growth.growth; is_cut = false; ticks = c.args.meter.ticks; meter = c.args.meter } in
+    record { name = c.args.name; proposal = c.args.proposal; plans = c.in-Ok.plans; growth = c.in_ok-growth.growth; is_cut = false; ticks = c.args.meter.ticks; meter = c.args.meter } in
     let laid : IsLaidOut t p c.args.spent = laid_out t p c.args.spent begun.proposed begun.can c.in_ok-growth.ensures (begun.way c.args.meter.ticks c.requires.even) begun.first begun.all refl refl small in
     (all_ready t p c.plan_all.new.plans c.ticks-self-inside.result c.plan_all.new.meter c.ticks-self-inside.ensures c.ticks-self-inside.type_inv done.way done.all done.left done.current c.args.spent laid).ready
 
 pub invariant_of-self : goal.invariant_of-self
 invariant_of-self c =
-    let begun = c.in_ok-plans.ensures in
+    let begun = c.in-Ok.ensures in
     let done = c.in_ok-plan_all.ensures in
     let t : Tables = record { entries = c.self.inside.entries; users = c.self.inside.users } in
     let small : c.args.meter.ticks < 18446744073709551616 = omega (arith, c.requires.even, c.ranges.spent.fits) in
     let p : Pending =
-    record { name = c.args.name; proposal = c.args.proposal; plans = c.in_ok-plans.plans; growth = c.in_ok-growth.growth; is_cut = false; ticks = c.args.meter.ticks; meter = c.args.meter } in
+    record { name = c.args.name; proposal = c.args.proposal; plans = c.in-Ok.plans; growth = c.in_ok-growth.growth; is_cut = false; ticks = c.args.meter.ticks; meter = c.args.meter } in
     let laid : IsLaidOut t p c.args.spent = laid_out t p c.args.spent begun.proposed begun.can c.in_ok-growth.ensures (begun.way c.args.meter.ticks c.requires.even) begun.first begun.all refl refl small in
     let all = all_ready t p c.plan_all.new.plans c.ticks-self-inside.result c.plan_all.new.meter c.ticks-self-inside.ensures c.ticks-self-inside.type_inv done.way done.all done.left done.current c.args.spent laid in
     record {
@@ -56,14 +52,14 @@ invariant_of-self c =
 
 pub returns-clause-made : goal.returns-clause-made
 returns-clause-made c = λ change lays.
-    let begun = c.in_ok-plans.ensures in
+    let begun = c.in-Ok.ensures in
     let done = c.in_ok-plan_all.ensures in
     let s = c.args.self.now in
     let t : Tables = record { entries = c.self.inside.entries; users = c.self.inside.users } in
     let same : t ≡ s.tables = ap (λ (s : SheetValue). s.tables) c.self.view_is in
     let small : c.args.meter.ticks < 18446744073709551616 = omega (arith, c.requires.even, c.ranges.spent.fits) in
     let p : Pending =
-    record { name = c.args.name; proposal = c.args.proposal; plans = c.in_ok-plans.plans; growth = c.in_ok-growth.growth; is_cut = false; ticks = c.args.meter.ticks; meter = c.args.meter } in
+    record { name = c.args.name; proposal = c.args.proposal; plans = c.in-Ok.plans; growth = c.in_ok-growth.growth; is_cut = false; ticks = c.args.meter.ticks; meter = c.args.meter } in
     let laid : IsLaidOut t p c.args.spent = laid_out t p c.args.spent begun.proposed begun.can c.in_ok-growth.ensures (begun.way c.args.meter.ticks c.requires.even) begun.first begun.all refl refl small in
     let proposed = subst (λ (s : SheetValue). IsProposedOn s c.args.name c.args.proposal c.args.spent p) c.self.view_is
     (record {
