@@ -413,16 +413,24 @@ fn tells_totals(alloc: Global, along: Along, array: &Array, sums: &FoldTrees) ->
     Some(same)
 }
 
+/// Puts four lines of twenty numbers behind those of an array, and what they sum up to behind their sums.
+fn grow_by_four(alloc: Global, along: Along, array: &mut Array, sums: &mut LineSums) -> Option<()>
+    requires { sums.old ≡ record { function = Sum; axis = axis_meant (length array.old.shape) along; array = array.old } }
+    ensures { IfSome result (λ _. sums.new ≡ record { function = Sum; axis = axis_meant (length array.new.shape) along; array = array.new }) }
+{
+    grow_both(alloc, along, array, sums, &[2; 20])?;
+    grow_both(alloc, along, array, sums, &[3; 20])?;
+    grow_both(alloc, along, array, sums, &[4; 20])?;
+    grow_both(alloc, along, array, sums, &[5; 20])
+}
+
 /// Four lines of twenty ones with the sums along an axis, which four lines of greater numbers are put behind.
 fn eight_lines(alloc: Global, along: Along) -> Option<(Array, LineSums)>
     ensures { IfSome result (λ r. r.1 ≡ record { function = Sum; axis = axis_meant (length r.0.shape) along; array = r.0 }) }
 {
     let mut array = array_of(alloc, &[4, 20], &[], 1)?;
     let mut sums = sums_of(alloc, along, &array)?;
-    grow_both(alloc, along, &mut array, &mut sums, &[2; 20])?;
-    grow_both(alloc, along, &mut array, &mut sums, &[3; 20])?;
-    grow_both(alloc, along, &mut array, &mut sums, &[4; 20])?;
-    grow_both(alloc, along, &mut array, &mut sums, &[5; 20])?;
+    grow_by_four(alloc, along, &mut array, &mut sums)?;
     Some((array, sums))
 }
 
@@ -443,13 +451,21 @@ fn sums_of_new_lines_go_behind_the_others(rt: HostRuntime) {
     assert!(rt; totals.is_some_and(|totals| totals.as_slice() == wanted.as_slice()));
 }
 
+/// Puts four numbers in the lines of an array that were put behind, and in its sums.
+fn patch_both(alloc: Global, array: &mut Array, sums: &mut LineSums) -> Option<()>
+    requires { sums.old.array ≡ array.old }
+{
+    let patch = patch_of(alloc, array, &[(5, 6), (3, 4)], &[7, 8, 9, 10])?;
+    sums.write(&patch);
+    patch.write_into(array);
+    Some(())
+}
+
 /// The sums of the eight lines along an axis are those of the array, before and after a patch in lines that were put behind.
 fn eight_lines_follow(alloc: Global, along: Along) -> Option<bool> {
     let (mut array, mut sums) = eight_lines(alloc, along)?;
     let before = tells_totals(alloc, along, &array, sums.trees())?;
-    let patch = patch_of(alloc, &array, &[(5, 6), (3, 4)], &[7, 8, 9, 10])?;
-    sums.write(&patch);
-    patch.write_into(&mut array);
+    patch_both(alloc, &mut array, &mut sums)?;
     Some(before && tells_totals(alloc, along, &array, sums.trees())?)
 }
 
