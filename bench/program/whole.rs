@@ -1,4 +1,5 @@
-//! Plain Rust for bench/program/whole: what each expression gives, again and again. Called with the name of an expression and a count.
+//! Plain Rust for bench/program/whole: what each expression gives, again and again. Called with the name of an expression, a count, and the
+//! path of a table.
 use std::hint::black_box;
 use std::io::Write;
 
@@ -109,6 +110,12 @@ fn far_differences(source: &[i64]) -> Vec<i64> {
         made.push(total);
     }
     made
+}
+
+/// The numbers of a table in a file.
+fn read(path: &str) -> Vec<i64> {
+    let text = std::fs::read_to_string(path).unwrap();
+    text.lines().flat_map(|line| line.split(',')).map(|field| field.parse().unwrap()).collect()
 }
 
 struct Given {
@@ -271,6 +278,7 @@ fn made(name: &str, given: &Given) -> Vec<i64> {
             };
             given.bits.iter().map(next).collect()
         }
+        "table_read" => read(&std::env::args().nth(3).unwrap()),
         "difference_scan" => differences(matrix, PLACES),
         "far_difference_scan" => far_differences(&given.greatest),
         "difference_scan_first" => {
