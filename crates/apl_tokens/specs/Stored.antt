@@ -1,5 +1,5 @@
 -- A name is the bytes of its text.
-use Rattle.std.specs.Prelude.{◌≡◌, ℕ, ◌-◌, ◌≤◌, true, List, ◌++◌, length, take, drop, replicate}
+use Rattle.std.specs.Prelude.{◌≡◌, ℕ, ◌-◌, ◌≤◌, true, List, [], ◌++◌, length, take, drop, replicate}
 use Rattle.std.specs.Str.{is_utf8}
 use Rattle.std.proofs.Common.{sym, ◌∙◌, ap, arith}
 use Rattle.std.proofs.lemmas.List.{length-take-le, take-append-drop}
@@ -8,11 +8,11 @@ use Rattle.apl_tokens.specs.declared.name.Name.TheInside.{Inside}
 
 -- a name as it is stored: its bytes, and then zeros
 abbrev pub stored : List ℕ → Inside
-stored bytes = record { bytes = bytes ++ replicate (longest_name - length bytes) 0; len = length bytes }
+stored bytes = record { bytes = bytes ++ replicate (longest_name - length bytes) 0; len = length bytes; words = [] }
 
--- the room is full, holds UTF-8 up to the length, and zeros after it
+-- the room is full, holds UTF-8 up to the length, and zeros after it; of words there is none
 abbrev pub IsStored : Inside → Type 0
-IsStored a = (a.len ≤ longest_name) × (length a.bytes ≡ longest_name) × (drop a.len a.bytes ≡ replicate (longest_name - a.len) 0) × (is_utf8 (take a.len a.bytes) ≡ true)
+IsStored a = (a.len ≤ longest_name) × (length a.bytes ≡ longest_name) × (drop a.len a.bytes ≡ replicate (longest_name - a.len) 0) × (is_utf8 (take a.len a.bytes) ≡ true) × (a.words ≡ [])
 
 -- a name that is stored again is the same
 pub stored_again : (a : Inside) → IsStored a → stored (take a.len a.bytes) ≡ a
@@ -20,4 +20,4 @@ stored_again a h =
     let n : length (take a.len a.bytes) ≡ a.len = length-take-le a.len a.bytes (omega arith) in
     let b : take a.len a.bytes ++ replicate (longest_name - length (take a.len a.bytes)) 0 ≡ a.bytes =
     ap (λ k. take a.len a.bytes ++ replicate (longest_name - k) 0) n ∙ (ap (λ ys. take a.len a.bytes ++ ys) (sym h.2) ∙ take-append-drop a.len a.bytes) in
-    ap (λ (p : List ℕ × ℕ). record { bytes = p.0; len = p.1 }) (λ j. (b j, n j))
+    ap (λ (p : List ℕ × ℕ × List ℕ). record { bytes = p.0; len = p.1; words = p.2 }) (λ j. (b j, n j, sym h.4 j))

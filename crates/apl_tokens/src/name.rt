@@ -17,6 +17,8 @@ pub const LONGEST_NAME: usize = 63;
 pub struct Name {
     bytes: [u8; LONGEST_NAME],
     len: u8,
+    /// No word at all: with it a name, and what holds one, lies where words lie and is moved by words.
+    words: [u64; 0],
 }
 
 impl Model for Name {
@@ -63,6 +65,7 @@ impl Name {
         Some(Name {
             bytes,
             len: letters.len() as u8,
+            words: [],
         })
     }
 
