@@ -1,6 +1,6 @@
 -- What a change says is so of the result.
 use Rattle.index_region.proofs.Walks.{walk_within, walk_of_offset, offset_below}
-use Rattle.std.proofs.Common.{◌≡◌, ℕ, inl, inr, ◌+◌, List, Option, Some, None, Result, Ok, Err, IfOk, true, refl, ap, ◌∙◌, sym, subst, arith}
+use Rattle.std.proofs.Common.{◌≡◌, ℕ, inl, inr, ◌+◌, List, Option, Some, None, Result, Ok, Err, IfOk, OnOk, true, refl, ap, ◌∙◌, sym, subst, arith}
 use Rattle.std.specs.declared.alloc.AllocError.{AllocError}
 use Rattle.std.proofs.lemmas.Bool.{cases_Bool, cond-true, cond-false}
 use Rattle.arrays_core.specs.declared.item.Item.{Item}
@@ -82,7 +82,7 @@ node_is_right p args old = elim (cases_Bool (all_same args)) [
   ]
 ]
 
--- what holds of the change that was asked for holds of an answer that is that change, with its cost
-pub answered : (P : Delta → Type 0) (r : Result (Delta × ℕ) AllocError) (wanted : Delta) → IfOk r (λ x. x.0 ≡ wanted) → P wanted → IfOk r (λ x. P x.0)
-answered P (Ok x) wanted e h = subst P (sym e) h
-answered P (Err e) wanted is h = tt
+-- what holds of the change that was asked for holds of the one that was put in place, where that is it
+pub answered : (P : Delta → Type 0) (r : Result ℕ AllocError) (change wanted : Delta) → OnOk r (change ≡ wanted) → P wanted → OnOk r (P change)
+answered P (Ok n) change wanted e h = subst P (sym e) h
+answered P (Err e) change wanted is h = tt

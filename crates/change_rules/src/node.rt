@@ -1,6 +1,6 @@
 //! The change of a node, from the changes of its arguments.
 
-ghost use Rattle.std.specs.Prelude.{◌≡◌, ◌+◌, ◌≤◌, length, IfOk, Ok, Some, true, false};
+ghost use Rattle.std.specs.Prelude.{◌≡◌, ◌+◌, ◌≤◌, length, IfOk, OnOk, Ok, Some, true, false};
 ghost use Rattle.arrays_core.specs.Shapes.{IsWithinLimits};
 ghost use Rattle.arrays_core.specs.declared.item.ItemType.{ItemType as TypeOfItems};
 ghost use Rattle.index_region.specs.Boxes.{box_size};
@@ -25,38 +25,46 @@ use change_core::{Meter, Reach, Rule, Tight, last_place};
 use index_region::{Delta, IndexBox, Seen, Tail};
 use std::alloc::{AllocError, Global};
 
-/// The change of a node that held an array, where arguments were patched, and what it costs.
+/// The change of a node that held an array, where arguments were patched, and what it costs. The change is written where it is wanted, here and below: it
+/// is large, and not handed from call to call.
 fn reached<R: Rule>(
     alloc: Global,
     rule: &R,
     args: &[Seen],
     boxes: &[Option<IndexBox>],
+    change: &mut Delta,
     meter: &mut Meter,
-) -> Result<(Delta, u32), AllocError>
+) -> Result<u32, AllocError>
     requires count { length args.now ≡ length (R.model rule.now).selectors }
     requires boxes { length boxes.now ≡ length args.now }
     requires fit { AllFit args.now boxes.now }
     requires small { meter.old.ticks ≤ most_ticks }
-    ensures delta { IfOk result (λ r. r.0 ≡ reached_delta (R.model rule.now) args.now boxes.now) }
-    ensures cost { IfOk result (λ r. r.1 ≡ reached_cost (R.model rule.now) args.now boxes.now) }
+    ensures delta { OnOk result (change.new ≡ reached_delta (R.model rule.now) args.now boxes.now) }
+    ensures cost { IfOk result (λ n. n ≡ reached_cost (R.model rule.now) args.now boxes.now) }
     ensures ticks { meter.new.ticks ≤ meter.old.ticks + reached_cost (R.model rule.now) args.now boxes.now }
-    ensures exact { IfOk result (λ r. is_error r.0 ≡ false → meter.new.ticks ≡ ticked meter.old.ticks r.1) }
+    ensures exact { IfOk result (λ n. is_error change.new ≡ false → meter.new.ticks ≡ ticked meter.old.ticks n) }
     ensures rises { meter.old.ticks ≤ meter.new.ticks }
     ensures joins { meter.new.joins ≡ meter.old.joins }
 {
     match rule.shape(args) {
-        Err(kind) => Ok((Delta::Whole(Err(Fault { kind, origin: None })), 0)),
+        Err(kind) => {
+            *change = Delta::Whole(Err(Fault { kind, origin: None }));
+            Ok(0)
+        }
         Ok(form) => match rule.reach_in(args, form.0.as_slice(), boxes) {
-            Reach::Unmoved => Ok((Delta::Same, 0)),
+            Reach::Unmoved => {
+                *change = Delta::Same;
+                Ok(0)
+            }
             Reach::Inside(region) => {
                 let cost = region.size() as u32;
-                let delta = patch_of(alloc, rule, args, &form, region, meter)?;
-                Ok((delta, cost))
+                patch_of(alloc, rule, args, &form, region, change, meter)?;
+                Ok(cost)
             }
             Reach::Anew => {
                 let cost = size(form.0.as_slice());
-                let whole = evaluate(alloc, rule, args, meter)?;
-                Ok((Delta::Whole(whole), cost))
+                *change = Delta::Whole(evaluate(alloc, rule, args, meter)?);
+                Ok(cost)
             }
         },
     }
@@ -70,28 +78,29 @@ fn change_from<R: Rule>(
     boxes: &[Option<IndexBox>],
     args: &[(Seen, &Delta)],
     old: &Result<Array, Fault>,
+    change: &mut Delta,
     meter: &mut Meter,
-) -> Result<(Delta, u32), AllocError>
+) -> Result<u32, AllocError>
     requires count { length args.now ≡ length (R.model rule.now).selectors }
     requires fit { AllFit (views args.now) (moved args.now) }
     requires seen { seen.now ≡ views args.now }
     requires boxes { boxes.now ≡ moved args.now }
     requires some { all_are_same args.now ≡ false }
     requires small { meter.old.ticks ≤ most_ticks }
-    ensures delta { IfOk result (λ r. r.0 ≡ node_delta (R.model rule.now) args.now old.now) }
-    ensures cost { IfOk result (λ r. r.1 ≡ node_cost (R.model rule.now) args.now old.now) }
+    ensures delta { OnOk result (change.new ≡ node_delta (R.model rule.now) args.now old.now) }
+    ensures cost { IfOk result (λ n. n ≡ node_cost (R.model rule.now) args.now old.now) }
     ensures ticks { meter.new.ticks ≤ meter.old.ticks + node_cost (R.model rule.now) args.now old.now }
-    ensures exact { IfOk result (λ r. is_error r.0 ≡ false → meter.new.ticks ≡ ticked meter.old.ticks r.1) }
+    ensures exact { IfOk result (λ n. is_error change.new ≡ false → meter.new.ticks ≡ ticked meter.old.ticks n) }
     ensures rises { meter.old.ticks ≤ meter.new.ticks }
     ensures joins { meter.new.joins ≡ meter.old.joins }
 {
     if old.is_ok() && patched_at_most(args) {
-        return reached(alloc, rule, seen, boxes, meter);
+        return reached(alloc, rule, seen, boxes, change, meter);
     }
     if starts_anew(args, old) {
-        return change_anew(alloc, rule, seen, meter);
+        return change_anew(alloc, rule, seen, change, meter);
     }
-    change_grown(alloc, rule, seen, args, meter)
+    change_grown(alloc, rule, seen, args, change, meter)
 }
 
 /// The change of a node that is evaluated anew as a whole, and what it costs.
@@ -99,13 +108,14 @@ fn change_anew<R: Rule>(
     alloc: Global,
     rule: &R,
     seen: &[Seen],
+    change: &mut Delta,
     meter: &mut Meter,
-) -> Result<(Delta, u32), AllocError>
+) -> Result<u32, AllocError>
     requires { length seen.now ≡ length (R.model rule.now).selectors }
-    ensures delta { IfOk result (λ r. r.0 ≡ Whole (evaluation (R.model rule.now) seen.now)) }
-    ensures cost { IfOk result (λ r. r.1 ≡ form_size ((R.model rule.now).form seen.now)) }
+    ensures delta { OnOk result (change.new ≡ Whole (evaluation (R.model rule.now) seen.now)) }
+    ensures cost { IfOk result (λ n. n ≡ form_size ((R.model rule.now).form seen.now)) }
     ensures ticks { meter.new.ticks ≤ meter.old.ticks + form_size ((R.model rule.now).form seen.now) }
-    ensures exact { IfOk result (λ r. is_error r.0 ≡ false → meter.new.ticks ≡ ticked meter.old.ticks r.1) }
+    ensures exact { IfOk result (λ n. is_error change.new ≡ false → meter.new.ticks ≡ ticked meter.old.ticks n) }
     ensures rises { meter.old.ticks ≤ meter.new.ticks }
     ensures joins { meter.new.joins ≡ meter.old.joins }
 {
@@ -115,7 +125,8 @@ fn change_anew<R: Rule>(
         Ok(array) => size(array.shape().as_slice()),
         Err(_) => places(rule, seen),
     };
-    Ok((Delta::Whole(whole), cost))
+    *change = Delta::Whole(whole);
+    Ok(cost)
 }
 
 /// The change of a node that held an array, where an argument grew and none is another array, and what it costs.
@@ -124,22 +135,23 @@ fn change_grown<R: Rule>(
     rule: &R,
     seen: &[Seen],
     args: &[(Seen, &Delta)],
+    change: &mut Delta,
     meter: &mut Meter,
-) -> Result<(Delta, u32), AllocError>
+) -> Result<u32, AllocError>
     requires count { length args.now ≡ length (R.model rule.now).selectors }
     requires seen { seen.now ≡ views args.now }
     requires small { meter.old.ticks ≤ most_ticks }
-    ensures delta { IfOk result (λ r. r.0 ≡ grown_delta (R.model rule.now) args.now) }
-    ensures cost { IfOk result (λ r. r.1 ≡ grown_cost (R.model rule.now) args.now) }
+    ensures delta { OnOk result (change.new ≡ grown_delta (R.model rule.now) args.now) }
+    ensures cost { IfOk result (λ n. n ≡ grown_cost (R.model rule.now) args.now) }
     ensures ticks { meter.new.ticks ≤ meter.old.ticks + grown_cost (R.model rule.now) args.now }
-    ensures exact { IfOk result (λ r. is_error r.0 ≡ false → meter.new.ticks ≡ ticked meter.old.ticks r.1) }
+    ensures exact { IfOk result (λ n. is_error change.new ≡ false → meter.new.ticks ≡ ticked meter.old.ticks n) }
     ensures rises { meter.old.ticks ≤ meter.new.ticks }
     ensures joins { meter.new.joins ≡ meter.old.joins }
 {
     if node_grows(alloc, rule, seen, args)? {
-        tail_of(alloc, rule, seen, meter)
+        tail_of(alloc, rule, seen, change, meter)
     } else {
-        change_anew(alloc, rule, seen, meter)
+        change_anew(alloc, rule, seen, change, meter)
     }
 }
 
@@ -175,34 +187,41 @@ fn tail_of<R: Rule>(
     alloc: Global,
     rule: &R,
     seen: &[Seen],
+    change: &mut Delta,
     meter: &mut Meter,
-) -> Result<(Delta, u32), AllocError>
+) -> Result<u32, AllocError>
     requires count { length seen.now ≡ length (R.model rule.now).selectors }
     requires small { meter.old.ticks ≤ most_ticks }
-    ensures delta { IfOk result (λ r. r.0 ≡ grown_in ((R.model rule.now).form seen.now) ((R.model rule.now).item seen.now)) }
-    ensures cost { IfOk result (λ r. r.1 ≡ grown_size ((R.model rule.now).form seen.now)) }
+    ensures delta { OnOk result (change.new ≡ grown_in ((R.model rule.now).form seen.now) ((R.model rule.now).item seen.now)) }
+    ensures cost { IfOk result (λ n. n ≡ grown_size ((R.model rule.now).form seen.now)) }
     ensures ticks { meter.new.ticks ≤ meter.old.ticks + grown_size ((R.model rule.now).form seen.now) }
-    ensures exact { IfOk result (λ r. is_error r.0 ≡ false → meter.new.ticks ≡ ticked meter.old.ticks r.1) }
+    ensures exact { IfOk result (λ n. is_error change.new ≡ false → meter.new.ticks ≡ ticked meter.old.ticks n) }
     ensures rises { meter.old.ticks ≤ meter.new.ticks }
     ensures joins { meter.new.joins ≡ meter.old.joins }
 {
     let (shape, item_type) = match rule.shape(seen) {
         Ok(form) => form,
-        Err(kind) => return Ok((Delta::Whole(Err(Fault { kind, origin: None })), 0)),
+        Err(kind) => {
+            *change = Delta::Whole(Err(Fault { kind, origin: None }));
+            return Ok(0);
+        }
     };
     let Some(region) = last_place(shape.as_slice()) else {
         let none = Array::filled(alloc, item_type, &shape_of(alloc, &[0]))?;
-        return Ok((Delta::Grown(Tail::of(shape, none)?), 0));
+        *change = Delta::Grown(Tail::of(shape, none)?);
+        return Ok(0);
     };
     let cost = region.size() as u32;
     if cost == 1 {
-        return Ok((tail_of_one(rule, seen, shape, &region, meter)?, 1));
+        tail_of_one(rule, seen, shape, &region, change, meter)?;
+        return Ok(1);
     }
     match rule.part(alloc, seen, shape.as_slice(), item_type, &region, meter) {
-        Ok(values) => Ok((Delta::Grown(Tail::of(shape, values)?), cost)),
-        Err(ApplyFault::Kind(kind)) => Ok((Delta::Whole(Err(Fault { kind, origin: None })), cost)),
-        Err(ApplyFault::NoMemory) => Err(AllocError),
+        Ok(values) => *change = Delta::Grown(Tail::of(shape, values)?),
+        Err(ApplyFault::Kind(kind)) => *change = Delta::Whole(Err(Fault { kind, origin: None })),
+        Err(ApplyFault::NoMemory) => return Err(AllocError),
     }
+    Ok(cost)
 }
 
 /// What a node grows by to this shape, where that is one item, or the error there. Memory is asked for only where the result needs another piece for
@@ -212,25 +231,27 @@ fn tail_of_one<R: Rule>(
     seen: &[Seen],
     shape: Shape,
     region: &IndexBox,
+    change: &mut Delta,
     meter: &mut Meter,
-) -> Result<Delta, AllocError>
+) -> Result<(), AllocError>
     requires count { length seen.now ≡ length (R.model rule.now).selectors }
     requires one { box_size region.now ≡ 1 }
     requires inline { shape.capacity ≡ 4 }
     requires within { IsWithinLimits shape.items }
     requires checked { (t : TypeOfItems) × ((R.model rule.now).form seen.now ≡ Ok (form_of shape.items t)) }
     requires last { place_behind shape.items ≡ Some region.now }
-    ensures delta { IfOk result (λ d. d ≡ grown_in ((R.model rule.now).form seen.now) ((R.model rule.now).item seen.now)) }
+    ensures delta { OnOk result (change.new ≡ grown_in ((R.model rule.now).form seen.now) ((R.model rule.now).item seen.now)) }
     ensures ticks { meter.new.ticks ≤ meter.old.ticks + 1 }
-    ensures exact { IfOk result (λ d. is_error d ≡ false → meter.new.ticks ≡ ticked meter.old.ticks 1) }
+    ensures exact { OnOk result (is_error change.new ≡ false → meter.new.ticks ≡ ticked meter.old.ticks 1) }
     ensures rises { meter.old.ticks ≤ meter.new.ticks }
     ensures joins { meter.new.joins ≡ meter.old.joins }
 {
     let index = region.index_at(0);
     match rule.item(seen, index.as_slice(), meter) {
-        Ok(item) => Ok(Delta::Grown(Tail::one(shape, item)?)),
-        Err(kind) => Ok(Delta::Whole(Err(Fault { kind, origin: None }))),
+        Ok(item) => *change = Delta::Grown(Tail::one(shape, item)?),
+        Err(kind) => *change = Delta::Whole(Err(Fault { kind, origin: None })),
     }
+    Ok(())
 }
 
 /// The change of a node, and what it costs. Views and boxes of up to three arguments take no memory.
@@ -239,33 +260,35 @@ fn change_of<R: Rule>(
     rule: &R,
     args: &[(Seen, &Delta)],
     old: &Result<Array, Fault>,
+    change: &mut Delta,
     meter: &mut Meter,
-) -> Result<(Delta, u32), AllocError>
+) -> Result<u32, AllocError>
     requires count { length args.now ≡ length (R.model rule.now).selectors }
     requires fit { AllFit (views args.now) (moved args.now) }
     requires small { meter.old.ticks ≤ most_ticks }
-    ensures delta { IfOk result (λ r. r.0 ≡ node_delta (R.model rule.now) args.now old.now) }
-    ensures cost { IfOk result (λ r. r.1 ≡ node_cost (R.model rule.now) args.now old.now) }
+    ensures delta { OnOk result (change.new ≡ node_delta (R.model rule.now) args.now old.now) }
+    ensures cost { IfOk result (λ n. n ≡ node_cost (R.model rule.now) args.now old.now) }
     ensures ticks { meter.new.ticks ≤ meter.old.ticks + node_cost (R.model rule.now) args.now old.now }
-    ensures exact { IfOk result (λ r. is_error r.0 ≡ false → meter.new.ticks ≡ ticked meter.old.ticks r.1) }
+    ensures exact { IfOk result (λ n. is_error change.new ≡ false → meter.new.ticks ≡ ticked meter.old.ticks n) }
     ensures rises { meter.old.ticks ≤ meter.new.ticks }
     ensures joins { meter.new.joins ≡ meter.old.joins }
 {
     if all_same(args) {
-        return Ok((Delta::Same, 0));
+        *change = Delta::Same;
+        return Ok(0);
     }
     match args {
         [(a, d)] => {
             let seen = [a.again()];
             let boxes = [moved_by(d)];
-            change_from(alloc, rule, &seen, &boxes, args, old, meter)
+            change_from(alloc, rule, &seen, &boxes, args, old, change, meter)
         }
         [(a, d), (b, e)] => {
             let seen = [a.again(), b.again()];
             let boxes = [moved_by(d), moved_by(e)];
-            change_from(alloc, rule, &seen, &boxes, args, old, meter)
+            change_from(alloc, rule, &seen, &boxes, args, old, change, meter)
         }
-        _ => change_of_more(alloc, rule, args, old, meter),
+        _ => change_of_more(alloc, rule, args, old, change, meter),
     }
 }
 
@@ -275,16 +298,17 @@ fn change_of_more<R: Rule>(
     rule: &R,
     args: &[(Seen, &Delta)],
     old: &Result<Array, Fault>,
+    change: &mut Delta,
     meter: &mut Meter,
-) -> Result<(Delta, u32), AllocError>
+) -> Result<u32, AllocError>
     requires count { length args.now ≡ length (R.model rule.now).selectors }
     requires fit { AllFit (views args.now) (moved args.now) }
     requires some { all_are_same args.now ≡ false }
     requires small { meter.old.ticks ≤ most_ticks }
-    ensures delta { IfOk result (λ r. r.0 ≡ node_delta (R.model rule.now) args.now old.now) }
-    ensures cost { IfOk result (λ r. r.1 ≡ node_cost (R.model rule.now) args.now old.now) }
+    ensures delta { OnOk result (change.new ≡ node_delta (R.model rule.now) args.now old.now) }
+    ensures cost { IfOk result (λ n. n ≡ node_cost (R.model rule.now) args.now old.now) }
     ensures ticks { meter.new.ticks ≤ meter.old.ticks + node_cost (R.model rule.now) args.now old.now }
-    ensures exact { IfOk result (λ r. is_error r.0 ≡ false → meter.new.ticks ≡ ticked meter.old.ticks r.1) }
+    ensures exact { IfOk result (λ n. is_error change.new ≡ false → meter.new.ticks ≡ ticked meter.old.ticks n) }
     ensures rises { meter.old.ticks ≤ meter.new.ticks }
     ensures joins { meter.new.joins ≡ meter.old.joins }
 {
@@ -292,12 +316,12 @@ fn change_of_more<R: Rule>(
         [(a, d), (b, e), (c, f)] => {
             let seen = [a.again(), b.again(), c.again()];
             let boxes = [moved_by(d), moved_by(e), moved_by(f)];
-            change_from(alloc, rule, &seen, &boxes, args, old, meter)
+            change_from(alloc, rule, &seen, &boxes, args, old, change, meter)
         }
         _ => {
             let seen = views_of(alloc, args)?;
             let boxes = moves_of(alloc, args)?;
-            change_from(alloc, rule, &seen, &boxes, args, old, meter)
+            change_from(alloc, rule, &seen, &boxes, args, old, change, meter)
         }
     }
 }
@@ -323,31 +347,34 @@ pub fn refresh<R: Tight>(
     ensures right { IfOk result (λ d. IsRight (R.model rule.now) (views args.now) d) }
     ensures whole { IfOk result (λ d. BringsUpToDate (R.model rule.now) args.now old.now d) }
 {
-    Ok(refresh_with_cost(alloc, rule, args, old, meter)?.0)
+    let mut change = Delta::Same;
+    refresh_with_cost(alloc, rule, args, old, &mut change, meter)?;
+    Ok(change)
 }
 
-/// The change of a node, as `refresh` answers it, and what it costs: how many items of the result it computes at most.
+/// The change of a node, as `refresh` answers it, put in place of another one, and what it costs: how many items of the result it computes at most.
 pub fn refresh_with_cost<R: Tight>(
     alloc: Global,
     rule: &R,
     args: &[(Seen, &Delta)],
     old: &Result<Array, Fault>,
+    change: &mut Delta,
     meter: &mut Meter,
-) -> Result<(Delta, u32), AllocError>
+) -> Result<u32, AllocError>
     requires count { length args.now ≡ length (R.model rule.now).selectors }
     requires fit { AllFit (views args.now) (moved args.now) }
     requires axes { HasAxis args.now }
-    ensures delta { IfOk result (λ r. r.0 ≡ node_delta (R.model rule.now) args.now old.now) }
-    ensures cost { IfOk result (λ r. r.1 ≡ node_cost (R.model rule.now) args.now old.now) }
+    ensures delta { OnOk result (change.new ≡ node_delta (R.model rule.now) args.now old.now) }
+    ensures cost { IfOk result (λ n. n ≡ node_cost (R.model rule.now) args.now old.now) }
     ensures ticks { meter.new.ticks ≤ meter.old.ticks + node_cost (R.model rule.now) args.now old.now }
-    ensures exact { IfOk result (λ r. is_error r.0 ≡ false → meter.new.ticks ≡ ticked meter.old.ticks r.1) }
+    ensures exact { IfOk result (λ n. is_error change.new ≡ false → meter.new.ticks ≡ ticked meter.old.ticks n) }
     ensures rises { meter.old.ticks ≤ meter.new.ticks }
     ensures joins { meter.new.joins ≡ meter.old.joins }
-    ensures right { IfOk result (λ r. IsRight (R.model rule.now) (views args.now) r.0) }
-    ensures whole { IfOk result (λ r. BringsUpToDate (R.model rule.now) args.now old.now r.0) }
+    ensures right { OnOk result (IsRight (R.model rule.now) (views args.now) change.new) }
+    ensures whole { OnOk result (BringsUpToDate (R.model rule.now) args.now old.now change.new) }
 {
     views_are_arrays(args);
     // The count says that it is a number of 64 bits.
     let _counted = meter.ticks();
-    change_of(alloc, rule, args, old, meter)
+    change_of(alloc, rule, args, old, change, meter)
 }

@@ -1,6 +1,6 @@
 //! The new items of a box of a result.
 
-ghost use Rattle.std.specs.Prelude.{◌≡◌, ◌+◌, ◌≤◌, length, false, Ok, IsTrue, IfOk};
+ghost use Rattle.std.specs.Prelude.{◌≡◌, ◌+◌, ◌≤◌, length, false, Ok, IsTrue, IfOk, OnOk};
 ghost use Rattle.index_region.specs.Answers.{IsFormAnswerTo};
 ghost use Rattle.index_region.specs.Boxes.{box_size, fits};
 ghost use Rattle.index_region.specs.Checks.{Form};
@@ -41,48 +41,57 @@ fn items_of<R: Rule>(
     }
 }
 
-/// The patch of one place of the result, or the error there. It takes no memory.
-fn patch_of_one<R: Rule>(rule: &R, args: &[Seen], region: IndexBox, meter: &mut Meter) -> Delta
+/// The patch of one place of the result, or the error there, put in place of another change. It takes no memory.
+fn patch_of_one<R: Rule>(
+    rule: &R,
+    args: &[Seen],
+    region: IndexBox,
+    change: &mut Delta,
+    meter: &mut Meter,
+)
     requires count { length args.now ≡ length (R.model rule.now).selectors }
     requires one { box_size region ≡ 1 }
     requires checked { (f : Form) × ((R.model rule.now).form args.now ≡ Ok f) × IsTrue (fits region f.shape) }
-    ensures delta { (f : Form) → (R.model rule.now).form args.now ≡ Ok f → result ≡ patch_delta f.item_type region (items_in ((R.model rule.now).item args.now) region) }
+    ensures delta { (f : Form) → (R.model rule.now).form args.now ≡ Ok f → change.new ≡ patch_delta f.item_type region (items_in ((R.model rule.now).item args.now) region) }
     ensures ticks { meter.new.ticks ≤ meter.old.ticks + 1 }
-    ensures exact { is_error result ≡ false → meter.new.ticks ≡ ticked meter.old.ticks 1 }
+    ensures exact { is_error change.new ≡ false → meter.new.ticks ≡ ticked meter.old.ticks 1 }
     ensures rises { meter.old.ticks ≤ meter.new.ticks }
     ensures joins { meter.new.joins ≡ meter.old.joins }
 {
     let index = region.index_at(0);
     match rule.item(args, index.as_slice(), meter) {
-        Ok(item) => Delta::Patch(Patch::one(region, item)),
-        Err(kind) => Delta::Whole(Err(Fault { kind, origin: None })),
+        Ok(item) => *change = Delta::Patch(Patch::one(region, item)),
+        Err(kind) => *change = Delta::Whole(Err(Fault { kind, origin: None })),
     }
 }
 
-/// The patch of a box of the result, or the first error in it. One place that is not all of the result takes no memory.
+/// The patch of a box of the result, or the first error in it, put in place of another change. One place that is not all of the result takes no memory.
 pub(crate) fn patch_of<R: Rule>(
     alloc: Global,
     rule: &R,
     args: &[Seen],
     form: &(Shape, ItemType),
     region: IndexBox,
+    change: &mut Delta,
     meter: &mut Meter,
-) -> Result<Delta, AllocError>
+) -> Result<(), AllocError>
     requires count { length args.now ≡ length (R.model rule.now).selectors }
     requires checked { IsFormAnswerTo ((R.model rule.now).form args.now) (Ok form.now) }
     requires fit { IsTrue (fits region form.now.0.items) }
-    ensures delta { IfOk result (λ d. d ≡ patch_delta form.now.1 region (items_in ((R.model rule.now).item args.now) region)) }
+    ensures delta { OnOk result (change.new ≡ patch_delta form.now.1 region (items_in ((R.model rule.now).item args.now) region)) }
     ensures ticks { meter.new.ticks ≤ meter.old.ticks + box_size region }
-    ensures exact { IfOk result (λ d. is_error d ≡ false → meter.new.ticks ≡ ticked meter.old.ticks (box_size region)) }
+    ensures exact { OnOk result (is_error change.new ≡ false → meter.new.ticks ≡ ticked meter.old.ticks (box_size region)) }
     ensures rises { meter.old.ticks ≤ meter.new.ticks }
     ensures joins { meter.new.joins ≡ meter.old.joins }
 {
     if region.size() == 1 && size(form.0.as_slice()) > 1 {
-        return Ok(patch_of_one(rule, args, region, meter));
+        patch_of_one(rule, args, region, change, meter);
+        return Ok(());
     }
     match items_of(alloc, rule, args, form, &region, meter) {
-        Ok(values) => Ok(Delta::Patch(Patch::of(region, values))),
-        Err(ApplyFault::Kind(kind)) => Ok(Delta::Whole(Err(Fault { kind, origin: None }))),
-        Err(ApplyFault::NoMemory) => Err(AllocError),
+        Ok(values) => *change = Delta::Patch(Patch::of(region, values)),
+        Err(ApplyFault::Kind(kind)) => *change = Delta::Whole(Err(Fault { kind, origin: None })),
+        Err(ApplyFault::NoMemory) => return Err(AllocError),
     }
+    Ok(())
 }

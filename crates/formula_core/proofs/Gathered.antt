@@ -1,5 +1,5 @@
 -- The operands of an operation, gathered for its rule where none of them is an error.
-use Rattle.std.proofs.Common.{◌≡◌, ℕ, suc, ◌+◌, ◌≤◌, List, [], ◌∷◌, length, map, Bool, ◌&&◌, ◌||◌, not, Option, Some, None, is_some, is_ok, Result, Ok, Err, refl, sym, ap, ◌∙◌, subst, IfOk, if◌then◌else◌, arith}
+use Rattle.std.proofs.Common.{◌≡◌, ℕ, suc, ◌+◌, ◌≤◌, List, [], ◌∷◌, length, map, Bool, ◌&&◌, ◌||◌, not, Option, Some, None, is_some, is_ok, Result, Ok, Err, refl, sym, ap, ◌∙◌, subst, IfOk, OnOk, false, if◌then◌else◌, arith}
 use Rattle.std.specs.Borrow.{Bor}
 use Rattle.std.specs.List.{list_all, list_any}
 use Rattle.std.specs.Result.{result_err}
@@ -10,15 +10,16 @@ use Rattle.index_region.specs.declared.delta.Delta.{Delta}
 use Rattle.index_region.specs.declared.delta.Delta.TheVariants.{Same, Patch, Grown, Whole}
 use Rattle.index_region.specs.Boxes.{Interval}
 use Rattle.change_core.specs.Reaches.{Fits, AllFit}
+use Rattle.change_core.specs.Meters.{ticked}
 use Rattle.change_core.specs.RuleModels.{RuleModel, form_size}
-use Rattle.change_rules.specs.Nodes.{Argument, views, moved, moved_by, marks, is_same, is_whole, is_grown, is_grown_at_most, any_grown, all_same, node_delta, node_cost, grown_in, grown_size, reached_delta, reached_cost}
+use Rattle.change_rules.specs.Nodes.{Argument, is_error as shows_error, views, moved, moved_by, marks, is_same, is_whole, is_grown, is_grown_at_most, any_grown, all_same, node_delta, node_cost, grown_in, grown_size, reached_delta, reached_cost}
 use Rattle.change_rules.specs.Currency.{HasAxis}
 use Rattle.change_rules.specs.Outcomes.{evaluation}
 use Rattle.selection_fns.specs.Index.{count_written}
 use Rattle.formula_core.specs.declared.input.Input.{Input}
 use Rattle.formula_core.specs.declared.input.Input.TheVariants.{Good, Bad}
 use Rattle.formula_core.specs.Outcomes.{Outcome}
-use Rattle.formula_core.specs.Rules.{IsRefreshed}
+use Rattle.formula_core.specs.Rules.{with_change, IsRefreshed}
 use Rattle.formula_core.specs.Changes.{FitsNow, argument_in_front, arguments, paired, operation_delta, operation_cost}
 use Rattle.formula_core.specs.Inputs.{shown, stays, delta_of, HasFit, AllHaveFit, IsOperationChange, written_inputs, arrays_among, last_error}
 use Rattle.formula_core.proofs.Fitting.{axis_lies}
@@ -91,6 +92,19 @@ delta_alike p xs ys held h = λ i. delta_from p (h.same i) (h.whole i) (h.seen i
 
 cost_alike : (p : RuleModel) (xs ys : List Argument) (held : Outcome) → AreAlike xs ys → node_cost p xs held ≡ node_cost p ys held
 cost_alike p xs ys held h = λ i. cost_from p (h.same i) (h.whole i) (h.seen i) (h.grown i) (h.most i) (h.which i) (h.moves i) held
+
+-- what is so of a cost that is answered, beside the change that was put in place
+pub in_place : (P : Delta × ℕ → Type 0) (change : Delta) (r : Result ℕ AllocError) → IfOk r (λ n. P (change, n)) → IfOk (with_change change r) P
+in_place P change (Ok n) h = h
+in_place P change (Err e) h = tt
+
+-- the refresh of an operation that puts its change in place, by what the call that does it says
+pub refreshed_by : (p : RuleModel) (args : List Argument) (held : Outcome) (before after : ℕ) (change : Delta) (r : Result ℕ AllocError)
+    → OnOk r (change ≡ node_delta p args held) → IfOk r (λ n. n ≡ node_cost p args held) → after ≤ before + node_cost p args held
+    → IfOk r (λ n. shows_error change ≡ false → after ≡ ticked before n) → before ≤ after → IsRefreshed p args held before after (with_change change r)
+refreshed_by p args held before after change (Ok n) delta cost most exact rises =
+    record { delta = delta; cost = cost; ticks = most; least = λ sound. omega (arith, exact sound); rises = rises }
+refreshed_by p args held before after change (Err e) delta cost most exact rises = record { delta = tt; cost = tt; ticks = most; least = tt; rises = rises }
 
 -- where all operands are arrays, the rule's change is that of the operation
 pub refreshed_change : (p : RuleModel) (inputs : List Input) (held : Outcome) (before after : ℕ) (r : Result (Delta × ℕ) AllocError) → last_error inputs ≡ None

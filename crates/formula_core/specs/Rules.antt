@@ -1,5 +1,5 @@
 -- The change rule of each function of an expression.
-use Rattle.std.specs.Prelude.{◌≡◌, ◌+◌, ◌≤◌, ℕ, false, List, Result, IfOk}
+use Rattle.std.specs.Prelude.{◌≡◌, ◌+◌, ◌≤◌, ℕ, false, List, Result, Ok, Err, IfOk}
 use Rattle.std.specs.declared.alloc.AllocError.{AllocError}
 use Rattle.apl_expr.specs.declared.expr.Monadic.{Monadic}
 use Rattle.apl_expr.specs.declared.expr.Monadic.TheVariants as monadic
@@ -61,6 +61,11 @@ both_rule dyadic.Encode = encode_rule
 both_rule dyadic.Decode = decode_rule
 both_rule (dyadic.Outer f) = outer_rule (scalar2_of f)
 both_rule (dyadic.Inner f g) = inner_rule (scalar2_of f) (scalar2_of g)
+
+-- what is answered of what a change costs, with the change that was put in place
+abbrev pub with_change : Delta → Result ℕ AllocError → Result (Delta × ℕ) AllocError
+with_change change (Ok cost) = Ok (change, cost)
+with_change change (Err refused) = Err refused
 
 -- what the refresh of an operation answers by its rule, its change and what it costs, and how far the meter rises by it
 pub record IsRefreshed (rule : RuleModel) (args : List Argument) (held : Outcome) (before after : ℕ) (r : Result (Delta × ℕ) AllocError) : Type 0 where

@@ -203,7 +203,8 @@ impl Formula {
     {
         let done = plan.changes.len();
         let mut own = Meter::new();
-        let (change, items) = self.next(plan.changes.as_slice(), inputs, &mut own)?;
+        let mut change = NodeChange::none();
+        let items = self.next(plan.changes.as_slice(), inputs, &mut change, &mut own)?;
         plan.changes.push(change)?;
         match self.go_on(&mut plan.changes, inputs) {
             Ok(()) => {}
@@ -244,32 +245,34 @@ impl Formula {
         if !self.is_new && kept.node.is_literal() {
             return Ok(kept.unchanged());
         }
-        let mut none = Meter::new();
-        let (change, _items) = self.next(changes, inputs, &mut none)?;
+        let mut change = NodeChange::none();
+        let _items = self.next(changes, inputs, &mut change, &mut Meter::new())?;
         Ok(change)
     }
 
-    /// What changes of the node that comes next after those that have these changes, and what it costs.
+    /// What changes of the node that comes next after those that have these changes, put in place of another change, and what it costs: a change is large,
+    /// and so it is not handed from call to call.
     #[inline]
     fn next(
         &self,
         changes: &[NodeChange],
         inputs: &[Input],
+        change: &mut NodeChange,
         meter: &mut Meter,
-    ) -> Result<(NodeChange, u32), AllocError>
+    ) -> Result<u32, AllocError>
         requires below { length changes.now < length self.now.nodes }
         requires begun { (c : Change) × (IsTold self.now c inputs.now × ((cost : ℕ) × IsBegun self.now c changes.now cost)) }
-        ensures done { IfOk result (λ r. (c : Change) → IsTold self.now c inputs.now → (cost : ℕ) → IsBegun self.now c changes.now cost
-            → IsDone self.now.is_new c (tree_at (subtrees self.now.tree) (length changes.now)) (get_or self.now.nodes (length changes.now) not_worked_out) r.0) }
-        ensures cost { IfOk result (λ r. (c : Change) → IsTold self.now c inputs.now → (cost : ℕ) → IsBegun self.now c changes.now cost
-            → r.1 ≡ node_cost_at self.now.is_new c (tree_at (subtrees self.now.tree) (length changes.now))) }
+        ensures done { OnOk result ((c : Change) → IsTold self.now c inputs.now → (cost : ℕ) → IsBegun self.now c changes.now cost
+            → IsDone self.now.is_new c (tree_at (subtrees self.now.tree) (length changes.now)) (get_or self.now.nodes (length changes.now) not_worked_out) change.new) }
+        ensures cost { IfOk result (λ n. (c : Change) → IsTold self.now c inputs.now → (cost : ℕ) → IsBegun self.now c changes.now cost
+            → n ≡ node_cost_at self.now.is_new c (tree_at (subtrees self.now.tree) (length changes.now))) }
         ensures ticks { (c : Change) → IsTold self.now c inputs.now → (cost : ℕ) → IsBegun self.now c changes.now cost
             → meter.new.ticks ≤ meter.old.ticks + node_cost_at self.now.is_new c (tree_at (subtrees self.now.tree) (length changes.now)) }
-        ensures least { IfOk result (λ r. is_error r.0.delta ≡ false → ticked meter.old.ticks r.1 ≤ meter.new.ticks) }
+        ensures least { IfOk result (λ n. is_error change.new.delta ≡ false → ticked meter.old.ticks n ≤ meter.new.ticks) }
         ensures rises { meter.old.ticks ≤ meter.new.ticks }
         ensures joins { (c : Change) → IsTold self.now c inputs.now → (cost : ℕ) → IsBegun self.now c changes.now cost
             → meter.new.joins ≤ meter.old.joins + most_joins self.now.is_new c (tree_at (subtrees self.now.tree) (length changes.now)) }
-        ensures joined { IfOk result (λ r. (c : Change) → IsTold self.now c inputs.now → (cost : ℕ) → IsBegun self.now c changes.now cost → is_error r.0.delta ≡ false
+        ensures joined { OnOk result ((c : Change) → IsTold self.now c inputs.now → (cost : ℕ) → IsBegun self.now c changes.now cost → is_error change.new.delta ≡ false
             → ticked meter.old.joins (least_joins self.now.is_new c (tree_at (subtrees self.now.tree) (length changes.now))) ≤ meter.new.joins) }
     {
         let anew = Delta::Whole(Err(unknown()));
@@ -281,7 +284,7 @@ impl Formula {
             changes,
             anew: &anew,
         };
-        stage.next(meter)
+        stage.next(change, meter)
     }
 
     /// Takes the results of a plan that was made of it as it is. No memory is asked for: patches are written where the

@@ -7,7 +7,7 @@ ghost use Rattle.change_rules.specs.Nodes.{views, moved};
 ghost use Rattle.change_rules.specs.Currency.{HasAxis};
 ghost use Rattle.selection_fns.specs.Index.{count_written};
 ghost use Rattle.selection_rules.specs.Index.{index_rule};
-ghost use Rattle.formula_core.specs.Rules.{IsRefreshed};
+ghost use Rattle.formula_core.specs.Rules.{with_change, IsRefreshed};
 ghost use Rattle.formula_core.specs.Inputs.{stays, HasFit, AllHaveFit, IsOperationChange, arrays_among, last_error, written_inputs};
 
 use crate::input::Input;
@@ -19,28 +19,33 @@ use change_core::Meter;
 use index_region::{Delta, Seen};
 use std::alloc::{AllocError, Global};
 
-/// The change of an index, and what it costs: the array and the positions that are written; beside an error it is that error, that of the
+/// The change of an index, put in place of another one, and what it costs: the array and the positions that are written; beside an error it is that error, that of the
 /// last position first and the array's last.
 pub(crate) fn change_of_index(
     alloc: Global,
     array: &Input,
     positions: &[Option<Input>],
     held: &Result<Array, Fault>,
+    change: &mut Delta,
     meter: &mut Meter,
-) -> Result<(Delta, u32), AllocError>
+) -> Result<u32, AllocError>
     requires array { HasFit array.now }
     requires positions { AllHaveFit positions.now }
-    ensures change { IsOperationChange (index_rule (map is_some positions.now)) (array.now ∷ written_inputs positions.now) held.now meter.old.ticks meter.new.ticks result }
+    ensures change { IsOperationChange (index_rule (map is_some positions.now)) (array.now ∷ written_inputs positions.now) held.now meter.old.ticks meter.new.ticks (with_change change.new result) }
     ensures joins { meter.new.joins ≡ meter.old.joins }
 {
     match (last_fault(positions), array) {
-        (Some(fault), _) => Ok((beside_error(fault, all_stay(array, positions)), 0)),
+        (Some(fault), _) => {
+            *change = beside_error(fault, all_stay(array, positions));
+            Ok(0)
+        }
         (None, Input::Bad { fault, .. }) => {
-            Ok((beside_error(*fault, all_stay(array, positions)), 0))
+            *change = beside_error(*fault, all_stay(array, positions));
+            Ok(0)
         }
         (None, Input::Good(array, delta)) => {
             let indexed = (array.again(), *delta);
-            change_of_arrays(alloc, &indexed, positions, held, meter)
+            change_of_arrays(alloc, &indexed, positions, held, change, meter)
         }
     }
 }
@@ -51,20 +56,21 @@ fn change_of_arrays(
     indexed: &(Seen, &Delta),
     positions: &[Option<Input>],
     held: &Result<Array, Fault>,
+    change: &mut Delta,
     meter: &mut Meter,
-) -> Result<(Delta, u32), AllocError>
+) -> Result<u32, AllocError>
     requires count { length (arrays_among (written_inputs positions.now)) ≡ count_written (map is_some positions.now) }
     requires fit { AllFit (views (indexed.now ∷ arrays_among (written_inputs positions.now))) (moved (indexed.now ∷ arrays_among (written_inputs positions.now))) }
     requires axes { HasAxis (indexed.now ∷ arrays_among (written_inputs positions.now)) }
-    ensures refreshed { IsRefreshed (index_rule (map is_some positions.now)) (indexed.now ∷ arrays_among (written_inputs positions.now)) held.now meter.old.ticks meter.new.ticks result }
+    ensures refreshed { IsRefreshed (index_rule (map is_some positions.now)) (indexed.now ∷ arrays_among (written_inputs positions.now)) held.now meter.old.ticks meter.new.ticks (with_change change.new result) }
     ensures joins { meter.new.joins ≡ meter.old.joins }
 {
     if positions.len() <= FEW_POSITIONS {
         let (args, count) = few_arguments(indexed, positions);
-        return change_by_arguments(alloc, &args[..count], positions, held, meter);
+        return change_by_arguments(alloc, &args[..count], positions, held, change, meter);
     }
     let args = arguments_of(alloc, indexed, positions)?;
-    change_by_arguments(alloc, args.as_slice(), positions, held, meter)
+    change_by_arguments(alloc, args.as_slice(), positions, held, change, meter)
 }
 
 /// The change of an index, by its arguments.
@@ -73,17 +79,18 @@ fn change_by_arguments(
     args: &[(Seen, &Delta)],
     positions: &[Option<Input>],
     held: &Result<Array, Fault>,
+    change: &mut Delta,
     meter: &mut Meter,
-) -> Result<(Delta, u32), AllocError>
+) -> Result<u32, AllocError>
     requires count { length args.now ≡ suc (count_written (map is_some positions.now)) }
     requires fit { AllFit (views args.now) (moved args.now) }
     requires axes { HasAxis args.now }
-    ensures refreshed { IsRefreshed (index_rule (map is_some positions.now)) args.now held.now meter.old.ticks meter.new.ticks result }
+    ensures refreshed { IsRefreshed (index_rule (map is_some positions.now)) args.now held.now meter.old.ticks meter.new.ticks (with_change change.new result) }
     ensures joins { meter.new.joins ≡ meter.old.joins }
 {
     let written = written_of(alloc, positions)?;
     let operation = Operation { alloc, args, held };
-    operation.of_positions(written.as_slice(), meter)
+    operation.of_positions(written.as_slice(), change, meter)
 }
 
 /// The error of the last position that has one.

@@ -54,10 +54,7 @@ impl Kept {
         if let Ok(array) = &self.result {
             let _is_array = array.shape();
         }
-        NodeChange {
-            delta: Delta::Same,
-            sums: SumsDelta::Same,
-        }
+        NodeChange::none()
     }
 
     /// Takes a change that can be lent. No memory is asked for.
@@ -84,6 +81,16 @@ impl Kept {
 }
 
 impl NodeChange {
+    /// No change: of neither.
+    pub(crate) fn none() -> NodeChange
+        ensures { result ≡ no_change }
+    {
+        NodeChange {
+            delta: Delta::Same,
+            sums: SumsDelta::Same,
+        }
+    }
+
     /// It leaves nothing with the node that takes it: nothing changes, or items of the result that the node holds.
     fn can_be_lent(&self) -> bool
         ensures { result ≡ can_be_lent self.now }

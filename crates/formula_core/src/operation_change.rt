@@ -4,7 +4,7 @@ ghost use Rattle.std.specs.Prelude.{◌≡◌, [], ◌∷◌, Some, None, Err, i
 ghost use Rattle.index_region.specs.declared.delta.Delta.TheVariants.{Same, Whole as WholeDelta};
 ghost use Rattle.sum_rules.specs.Totals.{total_rule};
 ghost use Rattle.formula_core.specs.Inputs.{shown, delta_of, HasFit, IsOperationChange};
-ghost use Rattle.formula_core.specs.Rules.{right_rule, both_rule};
+ghost use Rattle.formula_core.specs.Rules.{right_rule, both_rule, with_change};
 ghost use Rattle.formula_core.specs.Stages.{AreTotalsJoined};
 ghost use Rattle.formula_core.specs.Sums.{total_of as fold_of_total, IsSummedFor, AreNewSums, AreSumsKept};
 
@@ -19,16 +19,18 @@ use operator_fns::Reduce;
 use std::alloc::{AllocError, Global};
 use sum_rules::{LineSums, fold_totals_with_cost, read_totals_with_cost, refresh_totals_with_cost};
 
-/// The change of a function of its right argument, and what it costs; beside an error it is that error.
+/// The change of a function of its right argument, put in place of another one, and what it costs; beside an error it is that error. So it is with
+/// the calls below.
 fn change_of_right(
     alloc: Global,
     function: Monadic,
     right: &Input,
     held: &Result<Array, Fault>,
+    change: &mut Delta,
     meter: &mut Meter,
-) -> Result<(Delta, u32), AllocError>
+) -> Result<u32, AllocError>
     requires { HasFit right.now }
-    ensures change { IsOperationChange (right_rule function) (right.now ∷ []) held.now meter.old.ticks meter.new.ticks result }
+    ensures change { IsOperationChange (right_rule function) (right.now ∷ []) held.now meter.old.ticks meter.new.ticks (with_change change.new result) }
     ensures joins { meter.new.joins ≡ meter.old.joins }
 {
     match right {
@@ -39,9 +41,12 @@ fn change_of_right(
                 args: &args,
                 held,
             };
-            operation.of_right(function, meter)
+            operation.of_right(function, change, meter)
         }
-        Input::Bad { fault, .. } => Ok((beside_error(*fault, right.stays()), 0)),
+        Input::Bad { fault, .. } => {
+            *change = beside_error(*fault, right.stays());
+            Ok(0)
+        }
     }
 }
 
@@ -54,19 +59,20 @@ pub(crate) fn change_of_monad(
     kept: &Option<LineSums>,
     made: &SumsDelta,
     held: &Result<Array, Fault>,
+    change: &mut Delta,
     meter: &mut Meter,
-) -> Result<(Delta, u32), AllocError>
+) -> Result<u32, AllocError>
     requires fit { HasFit right.now }
     requires kept { (fold : Reduce) → fold_of_total function ≡ Some fold → IsSummedFor fold (shown right.now) (delta_of right.now) kept.now }
     requires made { (fold : Reduce) → fold_of_total function ≡ Some fold → AreNewSums fold (shown right.now) made.now }
-    ensures change { IsOperationChange (right_rule function) (right.now ∷ []) held.now meter.old.ticks meter.new.ticks result }
+    ensures change { IsOperationChange (right_rule function) (right.now ∷ []) held.now meter.old.ticks meter.new.ticks (with_change change.new result) }
     ensures joins { (fold : Reduce) → fold_of_total function ≡ Some fold → AreSumsKept fold (shown right.now) (delta_of right.now) kept.now
-        → AreTotalsJoined fold right.now held.now meter.old.joins meter.new.joins result }
+        → AreTotalsJoined fold right.now held.now meter.old.joins meter.new.joins (with_change change.new result) }
     ensures no_joins { fold_of_total function ≡ None → meter.new.joins ≡ meter.old.joins }
 {
     match total_of(function) {
-        Some(fold) => change_of_total(alloc, fold, right, kept, made, held, meter),
-        None => change_of_right(alloc, function, right, held, meter),
+        Some(fold) => change_of_total(alloc, fold, right, kept, made, held, change, meter),
+        None => change_of_right(alloc, function, right, held, change, meter),
     }
 }
 
@@ -79,32 +85,36 @@ fn change_of_total(
     kept: &Option<LineSums>,
     made: &SumsDelta,
     held: &Result<Array, Fault>,
+    change: &mut Delta,
     meter: &mut Meter,
-) -> Result<(Delta, u32), AllocError>
+) -> Result<u32, AllocError>
     requires fit { HasFit right.now }
     requires kept { IsSummedFor fold (shown right.now) (delta_of right.now) kept.now }
     requires made { AreNewSums fold (shown right.now) made.now }
-    ensures change { IsOperationChange (total_rule fold) (right.now ∷ []) held.now meter.old.ticks meter.new.ticks result }
-    ensures joins { AreSumsKept fold (shown right.now) (delta_of right.now) kept.now → AreTotalsJoined fold right.now held.now meter.old.joins meter.new.joins result }
+    ensures change { IsOperationChange (total_rule fold) (right.now ∷ []) held.now meter.old.ticks meter.new.ticks (with_change change.new result) }
+    ensures joins { AreSumsKept fold (shown right.now) (delta_of right.now) kept.now → AreTotalsJoined fold right.now held.now meter.old.joins meter.new.joins (with_change change.new result) }
 {
     match right {
         Input::Good(array, delta) => {
             if let Delta::Whole(_) = delta {
                 if let SumsDelta::Whole(new) = made {
                     if let Some(new) = new {
-                        return read_totals_with_cost(alloc, fold, array, new, meter);
+                        return read_totals_with_cost(alloc, fold, array, new, change, meter);
                     }
                 }
             }
             let arg = (array.again(), *delta);
             match kept {
                 Some(sums) => {
-                    refresh_totals_with_cost(alloc, fold, arg, held, sums.trees(), meter)
+                    refresh_totals_with_cost(alloc, fold, arg, held, sums.trees(), change, meter)
                 }
-                None => fold_totals_with_cost(alloc, fold, arg, held, meter),
+                None => fold_totals_with_cost(alloc, fold, arg, held, change, meter),
             }
         }
-        Input::Bad { fault, .. } => Ok((beside_error(*fault, right.stays()), 0)),
+        Input::Bad { fault, .. } => {
+            *change = beside_error(*fault, right.stays());
+            Ok(0)
+        }
     }
 }
 
@@ -115,17 +125,24 @@ pub(crate) fn change_of_both(
     left: &Input,
     right: &Input,
     held: &Result<Array, Fault>,
+    change: &mut Delta,
     meter: &mut Meter,
-) -> Result<(Delta, u32), AllocError>
+) -> Result<u32, AllocError>
     requires left { HasFit left.now }
     requires right { HasFit right.now }
-    ensures change { IsOperationChange (both_rule function) (left.now ∷ right.now ∷ []) held.now meter.old.ticks meter.new.ticks result }
+    ensures change { IsOperationChange (both_rule function) (left.now ∷ right.now ∷ []) held.now meter.old.ticks meter.new.ticks (with_change change.new result) }
     ensures joins { meter.new.joins ≡ meter.old.joins }
 {
     let stay = left.stays() && right.stays();
     match (left, right) {
-        (_, Input::Bad { fault, .. }) => Ok((beside_error(*fault, stay), 0)),
-        (Input::Bad { fault, .. }, _) => Ok((beside_error(*fault, stay), 0)),
+        (_, Input::Bad { fault, .. }) => {
+            *change = beside_error(*fault, stay);
+            Ok(0)
+        }
+        (Input::Bad { fault, .. }, _) => {
+            *change = beside_error(*fault, stay);
+            Ok(0)
+        }
         (Input::Good(left, of_left), Input::Good(right, of_right)) => {
             let args = [(left.again(), *of_left), (right.again(), *of_right)];
             let operation = Operation {
@@ -133,7 +150,7 @@ pub(crate) fn change_of_both(
                 args: &args,
                 held,
             };
-            operation.of_both(function, meter)
+            operation.of_both(function, change, meter)
         }
     }
 }

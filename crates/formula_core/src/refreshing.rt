@@ -7,7 +7,7 @@ ghost use Rattle.change_rules.specs.Currency.{HasAxis};
 ghost use Rattle.selection_fns.specs.Index.{count_written};
 ghost use Rattle.selection_rules.specs.Index.{index_rule};
 ghost use Rattle.formula_core.specs.Meaning.{scalar1_of, scalar2_of, along_of};
-ghost use Rattle.formula_core.specs.Rules.{right_rule, both_rule, IsRefreshed};
+ghost use Rattle.formula_core.specs.Rules.{right_rule, both_rule, with_change, IsRefreshed};
 
 use crate::symbols::{along_of, scalar1_of, scalar2_of};
 use apl_expr::{Along, Dyadic, Monadic, ScalarDyad, ScalarMonad};
@@ -38,48 +38,56 @@ pub(crate) struct Operation<'a> {
 }
 
 impl<'a> Operation<'a> {
-    /// Its change, where it follows this rule.
-    fn by<R: Tight>(&self, rule: &R, meter: &mut Meter) -> Result<(Delta, u32), AllocError>
+    /// Its change, put in place of another one, where it follows this rule; and what it costs. So it is with the calls below.
+    fn by<R: Tight>(
+        &self,
+        rule: &R,
+        change: &mut Delta,
+        meter: &mut Meter,
+    ) -> Result<u32, AllocError>
         requires count { length self.now.args.now ≡ length (R.model rule.now).selectors }
         requires fit { AllFit (views self.now.args.now) (moved self.now.args.now) }
         requires axes { HasAxis self.now.args.now }
-        ensures refreshed { IsRefreshed (R.model rule.now) self.now.args.now self.now.held.now meter.old.ticks meter.new.ticks result }
+        ensures refreshed { IsRefreshed (R.model rule.now) self.now.args.now self.now.held.now meter.old.ticks meter.new.ticks (with_change change.new result) }
         ensures joins { meter.new.joins ≡ meter.old.joins }
     {
-        refresh_with_cost(self.alloc, rule, self.args, self.held, meter)
+        refresh_with_cost(self.alloc, rule, self.args, self.held, change, meter)
     }
 
     /// The change of a function of one argument.
     pub(crate) fn of_right(
         &self,
         function: Monadic,
+        change: &mut Delta,
         meter: &mut Meter,
-    ) -> Result<(Delta, u32), AllocError>
+    ) -> Result<u32, AllocError>
         requires count { length self.now.args.now ≡ 1 }
         requires fit { AllFit (views self.now.args.now) (moved self.now.args.now) }
         requires axes { HasAxis self.now.args.now }
-        ensures refreshed { IsRefreshed (right_rule function) self.now.args.now self.now.held.now meter.old.ticks meter.new.ticks result }
+        ensures refreshed { IsRefreshed (right_rule function) self.now.args.now self.now.held.now meter.old.ticks meter.new.ticks (with_change change.new result) }
         ensures joins { meter.new.joins ≡ meter.old.joins }
     {
         match function {
-            Monadic::Scalar(scalar) => self.by(&each_item(scalar), meter),
-            Monadic::Ravel => self.by(&StructuralRule { function: Ravel }, meter),
-            Monadic::Reverse(along) => self.by(&reverse(along), meter),
+            Monadic::Scalar(scalar) => self.by(&each_item(scalar), change, meter),
+            Monadic::Ravel => self.by(&StructuralRule { function: Ravel }, change, meter),
+            Monadic::Reverse(along) => self.by(&reverse(along), change, meter),
             Monadic::Transpose => self.by(
                 &StructuralRule {
                     function: Transpose,
                 },
+                change,
                 meter,
             ),
-            Monadic::Shape => self.by(&SelectionRule { function: ShapeOf }, meter),
+            Monadic::Shape => self.by(&SelectionRule { function: ShapeOf }, change, meter),
             Monadic::Iota => self.by(
                 &SelectionRule {
                     function: IndexGenerator,
                 },
+                change,
                 meter,
             ),
-            Monadic::Reduce(scalar, along) => self.by(&reduce(scalar, along), meter),
-            Monadic::Scan(scalar, along) => self.by(&scan(scalar, along), meter),
+            Monadic::Reduce(scalar, along) => self.by(&reduce(scalar, along), change, meter),
+            Monadic::Scan(scalar, along) => self.by(&scan(scalar, along), change, meter),
         }
     }
 
@@ -87,39 +95,42 @@ impl<'a> Operation<'a> {
     pub(crate) fn of_both(
         &self,
         function: Dyadic,
+        change: &mut Delta,
         meter: &mut Meter,
-    ) -> Result<(Delta, u32), AllocError>
+    ) -> Result<u32, AllocError>
         requires count { length self.now.args.now ≡ 2 }
         requires fit { AllFit (views self.now.args.now) (moved self.now.args.now) }
         requires axes { HasAxis self.now.args.now }
-        ensures refreshed { IsRefreshed (both_rule function) self.now.args.now self.now.held.now meter.old.ticks meter.new.ticks result }
+        ensures refreshed { IsRefreshed (both_rule function) self.now.args.now self.now.held.now meter.old.ticks meter.new.ticks (with_change change.new result) }
         ensures joins { meter.new.joins ≡ meter.old.joins }
     {
         match function {
-            Dyadic::Scalar(scalar) => self.by(&between_items(scalar), meter),
-            Dyadic::Reshape => self.by(&StructuralRule { function: Reshape }, meter),
-            Dyadic::Catenate(along) => self.by(&catenate(along), meter),
-            Dyadic::Take => self.by(&StructuralRule { function: Take }, meter),
+            Dyadic::Scalar(scalar) => self.by(&between_items(scalar), change, meter),
+            Dyadic::Reshape => self.by(&StructuralRule { function: Reshape }, change, meter),
+            Dyadic::Catenate(along) => self.by(&catenate(along), change, meter),
+            Dyadic::Take => self.by(&StructuralRule { function: Take }, change, meter),
             Dyadic::Drop => self.by(
                 &StructuralRule {
                     function: DropPlaces,
                 },
+                change,
                 meter,
             ),
-            Dyadic::Rotate(along) => self.by(&rotate(along), meter),
+            Dyadic::Rotate(along) => self.by(&rotate(along), change, meter),
             Dyadic::Transpose => self.by(
                 &StructuralRule {
                     function: DyadicTranspose,
                 },
+                change,
                 meter,
             ),
-            Dyadic::Replicate(along) => self.by(&replicate(along), meter),
-            Dyadic::IndexOf => self.by(&SelectionRule { function: IndexOf }, meter),
-            Dyadic::Member => self.by(&SelectionRule { function: Member }, meter),
-            Dyadic::Encode => self.by(&SelectionRule { function: Encode }, meter),
-            Dyadic::Decode => self.by(&SelectionRule { function: Decode }, meter),
-            Dyadic::Outer(scalar) => self.by(&outer(scalar), meter),
-            Dyadic::Inner(fold, each) => self.by(&inner(fold, each), meter),
+            Dyadic::Replicate(along) => self.by(&replicate(along), change, meter),
+            Dyadic::IndexOf => self.by(&SelectionRule { function: IndexOf }, change, meter),
+            Dyadic::Member => self.by(&SelectionRule { function: Member }, change, meter),
+            Dyadic::Encode => self.by(&SelectionRule { function: Encode }, change, meter),
+            Dyadic::Decode => self.by(&SelectionRule { function: Decode }, change, meter),
+            Dyadic::Outer(scalar) => self.by(&outer(scalar), change, meter),
+            Dyadic::Inner(fold, each) => self.by(&inner(fold, each), change, meter),
         }
     }
 
@@ -127,16 +138,17 @@ impl<'a> Operation<'a> {
     pub(crate) fn of_positions(
         &self,
         written: &[bool],
+        change: &mut Delta,
         meter: &mut Meter,
-    ) -> Result<(Delta, u32), AllocError>
+    ) -> Result<u32, AllocError>
         requires count { length self.now.args.now ≡ suc (count_written written.now) }
         requires fit { AllFit (views self.now.args.now) (moved self.now.args.now) }
         requires axes { HasAxis self.now.args.now }
-        ensures refreshed { IsRefreshed (index_rule written.now) self.now.args.now self.now.held.now meter.old.ticks meter.new.ticks result }
+        ensures refreshed { IsRefreshed (index_rule written.now) self.now.args.now self.now.held.now meter.old.ticks meter.new.ticks (with_change change.new result) }
         ensures joins { meter.new.joins ≡ meter.old.joins }
     {
         let function = Index { written };
-        self.by(&SelectionRule { function }, meter)
+        self.by(&SelectionRule { function }, change, meter)
     }
 }
 

@@ -1,6 +1,6 @@
 //! What the next change of a formula is worked out from.
 
-ghost use Rattle.std.specs.Prelude.{◌≡◌, ◌+◌, ◌≤◌, ◌<◌, ℕ, List, true, false, length, map, get_or, IfOk};
+ghost use Rattle.std.specs.Prelude.{◌≡◌, ◌+◌, ◌≤◌, ◌<◌, ℕ, List, true, false, length, map, get_or, IfOk, OnOk};
 ghost use Rattle.std.specs.Option.{option_map};
 ghost use Rattle.apl_expr.specs.Trees.{Tree, Const, Name, literal_of};
 ghost use Rattle.change_core.specs.Meters.{ticked};
@@ -11,6 +11,7 @@ ghost use Rattle.formula_core.specs.Inputs.{HasFit, AllHaveFit, IsInput};
 ghost use Rattle.formula_core.specs.Holdings.{holdings_of, not_worked_out, AllFit};
 ghost use Rattle.formula_core.specs.Joins.{most_joins, least_joins};
 ghost use Rattle.formula_core.specs.Plans.{node_change, node_cost_at};
+ghost use Rattle.formula_core.specs.Rules.{with_change};
 ghost use Rattle.formula_core.specs.Stages.{IsStaged, StagedBy, IsKeptBy, IsMadeBy, IsTaken, IsReady, AreReady, IsStep, IsJoined, IsDone, IsSumsStep};
 ghost use Rattle.formula_core.specs.Sums.{summed_at};
 ghost use Rattle.formula_core.specs.Tables.{IsOperand, AreOperands, IsNode, tree_at, tree_of_operand, tree_of_node};
@@ -80,34 +81,36 @@ impl<'a> Stage<'a> {
         Ok(positions)
     }
 
-    /// What changes of the next node, and what it costs.
+    /// What changes of the next node, put in place of another change, and what it costs.
     #[inline]
-    pub(crate) fn next(&self, meter: &mut Meter) -> Result<(NodeChange, u32), AllocError>
+    pub(crate) fn next(&self, change: &mut NodeChange, meter: &mut Meter) -> Result<u32, AllocError>
         requires below { length self.now.changes.now < length self.now.nodes.now }
         requires staged { StagedBy self.now }
         requires anew { is_whole self.now.anew.now ≡ true }
-        ensures done { IfOk result (λ r. (c : Change) → (names : List (List ℕ)) → (trees : List Tree) → IsStaged c names trees self.now
-            → IsDone self.now.is_new c (tree_at trees (length self.now.changes.now)) (get_or (holdings_of self.now.nodes.now) (length self.now.changes.now) not_worked_out) r.0) }
-        ensures cost { IfOk result (λ r. (c : Change) → (names : List (List ℕ)) → (trees : List Tree) → IsStaged c names trees self.now
-            → r.1 ≡ node_cost_at self.now.is_new c (tree_at trees (length self.now.changes.now))) }
+        ensures done { OnOk result ((c : Change) → (names : List (List ℕ)) → (trees : List Tree) → IsStaged c names trees self.now
+            → IsDone self.now.is_new c (tree_at trees (length self.now.changes.now)) (get_or (holdings_of self.now.nodes.now) (length self.now.changes.now) not_worked_out) change.new) }
+        ensures cost { IfOk result (λ n. (c : Change) → (names : List (List ℕ)) → (trees : List Tree) → IsStaged c names trees self.now
+            → n ≡ node_cost_at self.now.is_new c (tree_at trees (length self.now.changes.now))) }
         ensures ticks { (c : Change) → (names : List (List ℕ)) → (trees : List Tree) → IsStaged c names trees self.now
             → meter.new.ticks ≤ meter.old.ticks + node_cost_at self.now.is_new c (tree_at trees (length self.now.changes.now)) }
-        ensures least { IfOk result (λ r. is_error r.0.delta ≡ false → ticked meter.old.ticks r.1 ≤ meter.new.ticks) }
+        ensures least { IfOk result (λ n. is_error change.new.delta ≡ false → ticked meter.old.ticks n ≤ meter.new.ticks) }
         ensures rises { meter.old.ticks ≤ meter.new.ticks }
         ensures joins { (c : Change) → (names : List (List ℕ)) → (trees : List Tree) → IsStaged c names trees self.now
             → meter.new.joins ≤ meter.old.joins + most_joins self.now.is_new c (tree_at trees (length self.now.changes.now)) }
-        ensures joined { IfOk result (λ r. (c : Change) → (names : List (List ℕ)) → (trees : List Tree) → IsStaged c names trees self.now → is_error r.0.delta ≡ false
+        ensures joined { OnOk result ((c : Change) → (names : List (List ℕ)) → (trees : List Tree) → IsStaged c names trees self.now → is_error change.new.delta ≡ false
             → ticked meter.old.joins (least_joins self.now.is_new c (tree_at trees (length self.now.changes.now))) ≤ meter.new.joins) }
     {
         let kept = &self.nodes[self.changes.len()];
         outcome_is_array(&kept.result);
         let sums = self.sums_of(&kept.node, &kept.sums)?;
-        let (delta, items) = self.change_of(&kept.node, &kept.result, &kept.sums, &sums, meter)?;
-        outcomes_are_arrays(&kept.result, &delta);
-        Ok((NodeChange { delta, sums }, items))
+        let delta = &mut change.delta;
+        let items = self.change_of(&kept.node, &kept.result, &kept.sums, &sums, delta, meter)?;
+        change.sums = sums;
+        outcomes_are_arrays(&kept.result, &change.delta);
+        Ok(items)
     }
 
-    /// The change of the result of the next node, which held this and keeps these sums, and what it costs. What changes of the sums is
+    /// The change of the result of the next node, which held this and keeps these sums, put in place of another one, and what it costs. What changes of the sums is
     /// made before, so that the items of an argument that is another array are gone over once.
     fn change_of(
         &self,
@@ -115,8 +118,9 @@ impl<'a> Stage<'a> {
         held: &Result<Array, Fault>,
         kept: &Option<LineSums>,
         made: &SumsDelta,
+        change: &mut Delta,
         meter: &mut Meter,
-    ) -> Result<(Delta, u32), AllocError>
+    ) -> Result<u32, AllocError>
         requires node { IsNode (length self.now.inputs.now) (length self.now.changes.now) node.now }
         requires staged { StagedBy self.now }
         requires kept { IsKeptBy self.now node.now kept.now }
@@ -124,31 +128,37 @@ impl<'a> Stage<'a> {
         requires anew { is_whole self.now.anew.now ≡ true }
         ensures step { (c : Change) → (names : List (List ℕ)) → (trees : List Tree) → IsStaged c names trees self.now
             → (self.now.is_new ≡ false → held.now ≡ eval (tree_of_node names trees node.now) c.old)
-            → IsStep self.now.is_new c (tree_of_node names trees node.now) meter.old.ticks meter.new.ticks result }
+            → IsStep self.now.is_new c (tree_of_node names trees node.now) meter.old.ticks meter.new.ticks (with_change change.new result) }
         ensures joins { (c : Change) → (names : List (List ℕ)) → (trees : List Tree) → IsStaged c names trees self.now
             → (self.now.is_new ≡ false → held.now ≡ eval (tree_of_node names trees node.now) c.old)
-            → IsJoined self.now.is_new c (tree_of_node names trees node.now) meter.old.joins meter.new.joins result }
+            → IsJoined self.now.is_new c (tree_of_node names trees node.now) meter.old.joins meter.new.joins (with_change change.new result) }
     {
         match node {
-            Node::Constant(literal) => Ok((self.change_of_literal(literal)?, 0)),
+            Node::Constant(literal) => {
+                *change = self.change_of_literal(literal)?;
+                Ok(0)
+            }
             Node::Name(place) => {
                 let name = Operand::Name(*place);
                 let input = taken(name, self.inputs, self.nodes, self.changes);
-                Ok((self.change_of_name(&input)?, 0))
+                *change = self.change_of_name(&input)?;
+                Ok(0)
             }
             Node::Monad(function, right) => {
                 let right = self.operand(*right);
-                change_of_monad(self.alloc, *function, &right, kept, made, held, meter)
+                change_of_monad(
+                    self.alloc, *function, &right, kept, made, held, change, meter,
+                )
             }
             Node::Dyad(function, left, right) => {
                 let left = self.operand(*left);
                 let right = self.operand(*right);
-                change_of_both(self.alloc, *function, &left, &right, held, meter)
+                change_of_both(self.alloc, *function, &left, &right, held, change, meter)
             }
             Node::Index(array, positions) => {
                 let array = self.operand(*array);
                 let positions = self.positions(positions)?;
-                change_of_index(self.alloc, &array, &positions, held, meter)
+                change_of_index(self.alloc, &array, &positions, held, change, meter)
             }
         }
     }

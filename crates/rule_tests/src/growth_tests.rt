@@ -39,7 +39,9 @@ fn change_of_one<R: Tight>(
         return None;
     };
     let args = [(Seen::grown(array, tail), moved)];
-    refresh_with_cost(alloc, rule, &args, old, &mut Meter::new()).ok()
+    let mut change = Delta::Same;
+    let cost = refresh_with_cost(alloc, rule, &args, old, &mut change, &mut Meter::new());
+    Some((change, cost.ok()?))
 }
 
 /// The change of a node of two arguments, of which the left one grew so and the right one is as it was.
@@ -61,7 +63,9 @@ fn change_beside<'a, R: Tight>(
         (Seen::grown(left.0, tail), left.1),
         (Seen::plain(right.0), right.1),
     ];
-    refresh_with_cost(alloc, rule, &args, old, &mut Meter::new()).ok()
+    let mut change = Delta::Same;
+    let cost = refresh_with_cost(alloc, rule, &args, old, &mut change, &mut Meter::new());
+    Some((change, cost.ok()?))
 }
 
 /// The change of a node whose two arguments are one array, which grew so.
@@ -82,7 +86,9 @@ fn change_of_both<R: Tight>(
         (Seen::grown(array, tail), moved),
         (Seen::grown(array, tail), moved),
     ];
-    refresh_with_cost(alloc, rule, &args, old, &mut Meter::new()).ok()
+    let mut change = Delta::Same;
+    let cost = refresh_with_cost(alloc, rule, &args, old, &mut change, &mut Meter::new());
+    Some((change, cost.ok()?))
 }
 
 /// The change of a node of one argument, which grew by these numbers. Of what the node held it tells only that it was an

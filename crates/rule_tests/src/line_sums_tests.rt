@@ -73,8 +73,9 @@ fn totals_with(
         return None;
     };
     let arg = (Seen::patched(array, patch), moved);
-    let change = refresh_totals_with_cost(alloc, fold, arg, shown, sums.trees(), meter);
-    Some(change.ok()?.0)
+    let mut change = Delta::Same;
+    refresh_totals_with_cost(alloc, fold, arg, shown, sums.trees(), &mut change, meter).ok()?;
+    Some(change)
 }
 
 /// The change of the totals by a fold of an array, if it is there, of which a box has these numbers now.

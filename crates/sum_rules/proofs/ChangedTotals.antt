@@ -1,5 +1,5 @@
 -- The totals of which one number of the line is new.
-use Rattle.std.proofs.Common.{◌≡◌, ℕ, ◌-◌, ◌*◌, ◌≤◌, Bool, true, false, ◌&&◌, not, is_ok, List, [], ◌∷◌, length, remove, Option, Some, None, Result, Ok, Err, IfOk, refl, ap, sym, subst, ◌∙◌, arith}
+use Rattle.std.proofs.Common.{◌≡◌, ℕ, ◌-◌, ◌*◌, ◌≤◌, Bool, true, false, ◌&&◌, not, is_ok, List, [], ◌∷◌, length, remove, Option, Some, None, Result, Ok, Err, IfOk, OnOk, refl, ap, sym, subst, ◌∙◌, arith}
 use Rattle.std.specs.Prelude.{◌==◌}
 use Rattle.std.specs.declared.alloc.AllocError.{AllocError}
 use Rattle.std.proofs.lemmas.Bool.{cond-false, false≢true}
@@ -99,11 +99,11 @@ delta_is fold arg p old is ok =
     ap (λ (d : Delta). reached_delta (total_rule fold) (arg.0 ∷ []) (moved_by d ∷ [])) (sym is) ∙ delta_reached (total_rule fold) (arg ∷ []) old some ok patched
 
 -- totals of lines that are summed up, where the trees do not serve
-pub folded : (fold : Reduce) (arg : Argument) (held : Outcome) (before after : ℕ) (r : Result (Delta × ℕ) AllocError) → is_by_trees fold.along arg held ≡ false
-    → IfOk r (λ s. s.1 ≡ node_cost (total_rule fold) (arg ∷ []) held) → IfOk r (λ s. is_error s.0 ≡ false → AreFolds s.1 (length_along fold.along arg.0.shape) before after)
-    → IfOk r (λ s. is_error s.0 ≡ false → HasAllJoins fold arg held before after)
-folded fold arg held before after (Err e) none cost counted = tt
-folded fold arg held before after (Ok s) none cost counted = λ sound. record {
+pub folded : (fold : Reduce) (arg : Argument) (held : Outcome) (before after : ℕ) (change : Delta) (r : Result ℕ AllocError) → is_by_trees fold.along arg held ≡ false
+    → IfOk r (λ n. n ≡ node_cost (total_rule fold) (arg ∷ []) held) → IfOk r (λ n. is_error change ≡ false → AreFolds n (length_along fold.along arg.0.shape) before after)
+    → OnOk r (is_error change ≡ false → HasAllJoins fold arg held before after)
+folded fold arg held before after change (Err e) none cost counted = tt
+folded fold arg held before after change (Ok n) none cost counted = λ sound. record {
   trees = λ by. absurd (false≢true (sym none ∙ by));
   folds = λ _. counted sound ∙ ap (λ k. ticked before (k * (length_along fold.along arg.0.shape - 1))) cost;
 }

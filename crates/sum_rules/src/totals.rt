@@ -1,6 +1,6 @@
 //! The change of the totals of lines, from trees of their sums.
 
-ghost use Rattle.std.specs.Prelude.{◌≡◌, ◌-◌, ◌+◌, ◌≤◌, ◌<◌, ◌∷◌, [], true, false, Some, length, map, IfOk, IsTrue};
+ghost use Rattle.std.specs.Prelude.{◌≡◌, ◌-◌, ◌+◌, ◌≤◌, ◌<◌, ◌∷◌, [], true, false, Some, length, map, IfOk, OnOk, IsTrue};
 ghost use Rattle.arrays_core.specs.declared.item.Item.TheVariants.{Num};
 ghost use Rattle.arrays_core.specs.Arrays.{with_items, IsAnswerTo};
 ghost use Rattle.arrays_core.specs.Items.{all_or_first_error, type_of};
@@ -108,40 +108,47 @@ fn new_totals<S: LineTotals>(
 }
 
 /// The change of the totals of an array of which a box that has one place on their axis is new, where they were an
-/// array, and what it costs.
+/// array, put in place of another one, and what it costs.
 fn change_by_trees<S: LineTotals>(
     alloc: Global,
     fold: Reduce,
     array: &Seen,
     patch: &Patch,
     sums: &S,
+    change: &mut Delta,
     meter: &mut Meter,
-) -> Result<(Delta, u32), AllocError>
+) -> Result<u32, AllocError>
     requires function { S.function sums.now ≡ fold.function }
     requires lines { StoodFor fold.along (S.trees sums.now) patch.now array.now }
     requires one { has_one_a_line (axis_meant (length array.now.shape) fold.along) patch.now.region ≡ true }
     requires small { meter.old.ticks ≤ most_ticks }
-    ensures delta { IfOk result (λ r. r.0 ≡ reached_delta (total_rule fold) (array.now ∷ []) (Some patch.now.region ∷ [])) }
-    ensures cost { IfOk result (λ r. r.1 ≡ reached_cost (total_rule fold) (array.now ∷ []) (Some patch.now.region ∷ [])) }
+    ensures delta { OnOk result (change.new ≡ reached_delta (total_rule fold) (array.now ∷ []) (Some patch.now.region ∷ [])) }
+    ensures cost { IfOk result (λ n. n ≡ reached_cost (total_rule fold) (array.now ∷ []) (Some patch.now.region ∷ [])) }
     ensures ticks { meter.new.ticks ≤ meter.old.ticks + reached_cost (total_rule fold) (array.now ∷ []) (Some patch.now.region ∷ []) }
-    ensures exact { IfOk result (λ r. is_error r.0 ≡ false → meter.new.ticks ≡ ticked meter.old.ticks r.1) }
+    ensures exact { IfOk result (λ n. is_error change.new ≡ false → meter.new.ticks ≡ ticked meter.old.ticks n) }
     ensures rises { meter.old.ticks ≤ meter.new.ticks }
     ensures joins { AreJoinsWithin (box_size patch.now.region) (long_along fold.along array.now.shape) meter.old.joins meter.new.joins }
-    ensures least { IfOk result (λ r. is_error r.0 ≡ false → AreJoinsFrom (box_size patch.now.region) (long_along fold.along array.now.shape) meter.old.joins meter.new.joins) }
+    ensures least { OnOk result (is_error change.new ≡ false → AreJoinsFrom (box_size patch.now.region) (long_along fold.along array.now.shape) meter.old.joins meter.new.joins) }
 {
     let rule = Ruled { function: fold };
     let args = [array.again()];
     let form = match rule.shape(&args) {
         Ok(form) => form,
-        Err(kind) => return Ok((Delta::Whole(Err(Fault { kind, origin: None })), 0)),
+        Err(kind) => {
+            *change = Delta::Whole(Err(Fault { kind, origin: None }));
+            return Ok(0);
+        }
     };
     let moved = [Some(patch.region().copy())];
     match rule.reach_in(&args, form.0.as_slice(), &moved) {
-        Reach::Unmoved => Ok((Delta::Same, 0)),
+        Reach::Unmoved => {
+            *change = Delta::Same;
+            Ok(0)
+        }
         Reach::Inside(region) => {
             let cost = region.size() as u32;
-            let delta = patch_of(alloc, fold, region, array, sums, patch, meter)?;
-            Ok((delta, cost))
+            patch_of(alloc, fold, region, array, sums, patch, change, meter)?;
+            Ok(cost)
         }
         Reach::Anew => unreachable!(),
     }
@@ -155,22 +162,29 @@ fn patch_of<S: LineTotals>(
     array: &Seen,
     sums: &S,
     patch: &Patch,
+    change: &mut Delta,
     meter: &mut Meter,
-) -> Result<Delta, AllocError>
+) -> Result<(), AllocError>
     requires function { S.function sums.now ≡ fold.function }
     requires lines { StoodFor fold.along (S.trees sums.now) patch.now array.now }
     requires one { has_one_a_line (axis_meant (length array.now.shape) fold.along) patch.now.region ≡ true }
     requires region { region ≡ lines_of (axis_meant (length array.now.shape) fold.along) patch.now.region }
-    ensures delta { IfOk result (λ d. d ≡ patch_delta Nums region (items_in (reduce_item fold.function fold.along array.now) region)) }
+    ensures delta { OnOk result (change.new ≡ patch_delta Nums region (items_in (reduce_item fold.function fold.along array.now) region)) }
     ensures ticks { meter.new.ticks ≤ meter.old.ticks + box_size patch.now.region }
-    ensures exact { IfOk result (λ d. is_error d ≡ false → meter.new.ticks ≡ ticked meter.old.ticks (box_size patch.now.region)) }
+    ensures exact { OnOk result (is_error change.new ≡ false → meter.new.ticks ≡ ticked meter.old.ticks (box_size patch.now.region)) }
     ensures rises { meter.old.ticks ≤ meter.new.ticks }
     ensures joins { AreJoinsWithin (box_size patch.now.region) (long_along fold.along array.now.shape) meter.old.joins meter.new.joins }
-    ensures least { IfOk result (λ d. is_error d ≡ false → AreJoinsFrom (box_size patch.now.region) (long_along fold.along array.now.shape) meter.old.joins meter.new.joins) }
+    ensures least { OnOk result (is_error change.new ≡ false → AreJoinsFrom (box_size patch.now.region) (long_along fold.along array.now.shape) meter.old.joins meter.new.joins) }
 {
     match new_totals(alloc, fold, array.shape(), sums, patch, meter) {
-        Ok(values) => Ok(Delta::Patch(Patch::of(region, values))),
-        Err(ApplyFault::Kind(kind)) => Ok(Delta::Whole(Err(Fault { kind, origin: None }))),
+        Ok(values) => {
+            *change = Delta::Patch(Patch::of(region, values));
+            Ok(())
+        }
+        Err(ApplyFault::Kind(kind)) => {
+            *change = Delta::Whole(Err(Fault { kind, origin: None }));
+            Ok(())
+        }
         Err(ApplyFault::NoMemory) => Err(AllocError),
     }
 }
@@ -216,70 +230,80 @@ fn change_by_growth<S: LineTotals>(
     array: &Seen,
     tail: &Tail,
     sums: &S,
+    change: &mut Delta,
     meter: &mut Meter,
-) -> Result<(Delta, u32), AllocError>
+) -> Result<u32, AllocError>
     requires function { S.function sums.now ≡ fold.function }
     requires lines { StoodBefore fold.along (S.trees sums.now) tail.now array.now }
     requires first { axis_meant (length array.now.shape) fold.along ≡ 0 }
-    ensures delta { IfOk result (λ r. r.0 ≡ Whole (evaluation (total_rule fold) (array.now ∷ []))) }
-    ensures cost { IfOk result (λ r. r.1 ≡ form_size ((total_rule fold).form (array.now ∷ []))) }
+    ensures delta { OnOk result (change.new ≡ Whole (evaluation (total_rule fold) (array.now ∷ []))) }
+    ensures cost { IfOk result (λ n. n ≡ form_size ((total_rule fold).form (array.now ∷ []))) }
     ensures ticks { meter.new.ticks ≤ meter.old.ticks + form_size ((total_rule fold).form (array.now ∷ [])) }
-    ensures exact { IfOk result (λ r. is_error r.0 ≡ false → meter.new.ticks ≡ ticked meter.old.ticks r.1) }
+    ensures exact { IfOk result (λ n. is_error change.new ≡ false → meter.new.ticks ≡ ticked meter.old.ticks n) }
     ensures rises { meter.old.ticks ≤ meter.new.ticks }
     ensures joins { AreJoinsWithin (length tail.now.items) (long_along fold.along array.now.shape) meter.old.joins meter.new.joins }
-    ensures least { IfOk result (λ r. is_error r.0 ≡ false → AreJoinsFrom (length tail.now.items) (long_along fold.along array.now.shape) meter.old.joins meter.new.joins) }
+    ensures least { OnOk result (is_error change.new ≡ false → AreJoinsFrom (length tail.now.items) (long_along fold.along array.now.shape) meter.old.joins meter.new.joins) }
 {
     let rule = Ruled { function: fold };
     let form = match rule.shape(&[array.again()]) {
         Ok(form) => form,
-        Err(kind) => return Ok((Delta::Whole(Err(Fault { kind, origin: None })), 0)),
+        Err(kind) => {
+            *change = Delta::Whole(Err(Fault { kind, origin: None }));
+            return Ok(0);
+        }
     };
     let Some(numbers) = tail.numbers() else {
         unreachable!()
     };
     let cost = numbers.len() as u32;
     match totals_behind(alloc, &form.0, sums, numbers, meter) {
-        Ok(totals) => Ok((Delta::Whole(Ok(totals)), cost)),
+        Ok(totals) => {
+            *change = Delta::Whole(Ok(totals));
+            Ok(cost)
+        }
         Err(ApplyFault::Kind(kind)) => {
-            Ok((Delta::Whole(Err(Fault { kind, origin: None })), cost))
+            *change = Delta::Whole(Err(Fault { kind, origin: None }));
+            Ok(cost)
         }
         Err(ApplyFault::NoMemory) => Err(AllocError),
     }
 }
 
-/// The change of the totals of B by a fold, as `refresh_with_cost` answers it, and what it costs: how many totals it works out at
-/// most. Each of these lines is folded, which joins as many numbers as the line has, less one.
+/// The change of the totals of B by a fold, put in place of another one as `refresh_with_cost` does it, and what it costs: how many totals it works
+/// out at most. Each of these lines is folded, which joins as many numbers as the line has, less one.
 pub fn fold_totals_with_cost(
     alloc: Global,
     fold: Reduce,
     arg: (Seen, &Delta),
     old: &Result<Array, Fault>,
+    change: &mut Delta,
     meter: &mut Meter,
-) -> Result<(Delta, u32), AllocError>
+) -> Result<u32, AllocError>
     requires fit { AllFit (views (arg ∷ [])) (moved (arg ∷ [])) }
     requires axes { HasAxis (arg ∷ []) }
-    ensures delta { IfOk result (λ r. r.0 ≡ node_delta (total_rule fold) (arg.entry ∷ []) old.now) }
-    ensures cost { IfOk result (λ r. r.1 ≡ node_cost (total_rule fold) (arg.entry ∷ []) old.now) }
+    ensures delta { OnOk result (change.new ≡ node_delta (total_rule fold) (arg.entry ∷ []) old.now) }
+    ensures cost { IfOk result (λ n. n ≡ node_cost (total_rule fold) (arg.entry ∷ []) old.now) }
     ensures ticks { meter.new.ticks ≤ meter.old.ticks + node_cost (total_rule fold) (arg.entry ∷ []) old.now }
-    ensures exact { IfOk result (λ r. is_error r.0 ≡ false → meter.new.ticks ≡ ticked meter.old.ticks r.1) }
+    ensures exact { IfOk result (λ n. is_error change.new ≡ false → meter.new.ticks ≡ ticked meter.old.ticks n) }
     ensures rises { meter.old.ticks ≤ meter.new.ticks }
     ensures joins { AreFoldsWithin (node_cost (total_rule fold) (arg.entry ∷ []) old.now) (long_along fold.along arg.entry.0.shape) meter.old.joins meter.new.joins }
-    ensures folds { IfOk result (λ r. is_error r.0 ≡ false → AreFolds r.1 (long_along fold.along arg.entry.0.shape) meter.old.joins meter.new.joins) }
-    ensures right { IfOk result (λ r. IsRight (total_rule fold) (views (arg.entry ∷ [])) r.0) }
-    ensures whole { IfOk result (λ r. BringsUpToDate (total_rule fold) (arg.entry ∷ []) old.now r.0) }
+    ensures folds { IfOk result (λ n. is_error change.new ≡ false → AreFolds n (long_along fold.along arg.entry.0.shape) meter.old.joins meter.new.joins) }
+    ensures right { OnOk result (IsRight (total_rule fold) (views (arg.entry ∷ [])) change.new) }
+    ensures whole { OnOk result (BringsUpToDate (total_rule fold) (arg.entry ∷ []) old.now change.new) }
 {
     let (array, delta) = arg;
     let long = length_along(fold.along, array.shape().as_slice());
     let mut own = Meter::new();
     let rule = Ruled { function: fold };
-    let change = refresh_with_cost(alloc, &rule, &[(array, delta)], old, &mut own)?;
+    let args = [(array, delta)];
+    let cost = refresh_with_cost(alloc, &rule, &args, old, change, &mut own)?;
     own.count_joins(own.ticks() * u64::from(long.saturating_sub(1)));
     meter.include(&own);
-    Ok(change)
+    Ok(cost)
 }
 
-/// The change of the totals of B by a fold, as `refresh_with_cost` answers it, and what it costs: how many totals it works out at
-/// most. Where the totals were an array and the box of B that changed has one place on their axis, each total comes from
+/// The change of the totals of B by a fold, put in place of another one as `refresh_with_cost` does it, and what it costs: how many totals it works
+/// out at most. Where the totals were an array and the box of B that changed has one place on their axis, each total comes from
 /// the tree of its line, in as many joins of parts as the length of the line less one has binary digits. So it does, in one join,
 /// where B grew along their axis. In every other case the lines are folded.
 pub fn refresh_totals_with_cost<S: LineTotals>(
@@ -288,20 +312,21 @@ pub fn refresh_totals_with_cost<S: LineTotals>(
     arg: (Seen, &Delta),
     old: &Result<Array, Fault>,
     sums: &S,
+    change: &mut Delta,
     meter: &mut Meter,
-) -> Result<(Delta, u32), AllocError>
+) -> Result<u32, AllocError>
     requires fit { AllFit (views (arg ∷ [])) (moved (arg ∷ [])) }
     requires axes { HasAxis (arg ∷ []) }
     requires sums { IsSummedUp fold arg (S.function sums.now) (S.trees sums.now) }
-    ensures delta { IfOk result (λ r. r.0 ≡ node_delta (total_rule fold) (arg.entry ∷ []) old.now) }
-    ensures cost { IfOk result (λ r. r.1 ≡ node_cost (total_rule fold) (arg.entry ∷ []) old.now) }
+    ensures delta { OnOk result (change.new ≡ node_delta (total_rule fold) (arg.entry ∷ []) old.now) }
+    ensures cost { IfOk result (λ n. n ≡ node_cost (total_rule fold) (arg.entry ∷ []) old.now) }
     ensures ticks { meter.new.ticks ≤ meter.old.ticks + node_cost (total_rule fold) (arg.entry ∷ []) old.now }
-    ensures exact { IfOk result (λ r. is_error r.0 ≡ false → meter.new.ticks ≡ ticked meter.old.ticks r.1) }
+    ensures exact { IfOk result (λ n. is_error change.new ≡ false → meter.new.ticks ≡ ticked meter.old.ticks n) }
     ensures rises { meter.old.ticks ≤ meter.new.ticks }
     ensures joins { HasJoins fold arg.entry old.now meter.old.joins meter.new.joins }
-    ensures least { IfOk result (λ r. is_error r.0 ≡ false → HasAllJoins fold arg.entry old.now meter.old.joins meter.new.joins) }
-    ensures right { IfOk result (λ r. IsRight (total_rule fold) (views (arg.entry ∷ [])) r.0) }
-    ensures whole { IfOk result (λ r. BringsUpToDate (total_rule fold) (arg.entry ∷ []) old.now r.0) }
+    ensures least { OnOk result (is_error change.new ≡ false → HasAllJoins fold arg.entry old.now meter.old.joins meter.new.joins) }
+    ensures right { OnOk result (IsRight (total_rule fold) (views (arg.entry ∷ [])) change.new) }
+    ensures whole { OnOk result (BringsUpToDate (total_rule fold) (arg.entry ∷ []) old.now change.new) }
 {
     let (array, delta) = arg;
     // The shape says that it is an array.
@@ -310,18 +335,18 @@ pub fn refresh_totals_with_cost<S: LineTotals>(
         if old.is_ok() && is_one_a_line(fold.along.axis_at(rank), patch.region()) {
             // The count says that it is a number of 64 bits.
             let _counted = meter.ticks();
-            return change_by_trees(alloc, fold, &array, patch, sums, meter);
+            return change_by_trees(alloc, fold, &array, patch, sums, change, meter);
         }
     }
     if let Delta::Grown(tail) = delta {
         if old.is_ok() && fold.along.axis_at(rank) == 0 {
-            return change_by_growth(alloc, fold, &array, tail, sums, meter);
+            return change_by_growth(alloc, fold, &array, tail, sums, change, meter);
         }
     }
-    fold_totals_with_cost(alloc, fold, (array, delta), old, meter)
+    fold_totals_with_cost(alloc, fold, (array, delta), old, change, meter)
 }
 
-/// The change of `+/B` that `refresh_totals_with_cost` answers by a tree for each line, without its cost.
+/// The change of `+/B` that `refresh_totals_with_cost` puts in place by a tree for each line, without its cost.
 pub fn refresh_sums(
     alloc: Global,
     arg: (Seen, &Delta),
@@ -342,6 +367,7 @@ pub fn refresh_sums(
     ensures whole { IfOk result (λ d. BringsUpToDate (total_rule row_sums) (arg.entry ∷ []) old.now d) }
 {
     let (array, delta) = arg;
+    let mut change = Delta::Same;
     let fold = Reduce {
         function: Scalar2::Plus,
         along: Along::Last,
@@ -349,14 +375,19 @@ pub fn refresh_sums(
     if let Delta::Patch(_) = delta {
         let count = length_along(Along::Last, array.shape().as_slice()) as usize;
         let trees = TreeALine { count, trees: sums };
-        return Ok(refresh_totals_with_cost(alloc, fold, (array, delta), old, &trees, meter)?.0);
+        let arg = (array, delta);
+        refresh_totals_with_cost(alloc, fold, arg, old, &trees, &mut change, meter)?;
+        return Ok(change);
     }
     if let Delta::Grown(_) = delta {
         if array.shape().len() == 1 {
             let count = length_along(Along::Last, array.shape().as_slice()) as usize - 1;
             let trees = TreeALine { count, trees: sums };
-            return Ok(refresh_totals_with_cost(alloc, fold, (array, delta), old, &trees, meter)?.0);
+            let arg = (array, delta);
+            refresh_totals_with_cost(alloc, fold, arg, old, &trees, &mut change, meter)?;
+            return Ok(change);
         }
     }
-    Ok(fold_totals_with_cost(alloc, fold, (array, delta), old, meter)?.0)
+    fold_totals_with_cost(alloc, fold, (array, delta), old, &mut change, meter)?;
+    Ok(change)
 }

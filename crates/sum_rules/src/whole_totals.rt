@@ -1,6 +1,6 @@
 //! The totals of all lines of an array, read from the trees of these lines.
 
-ghost use Rattle.std.specs.Prelude.{◌≡◌, ◌+◌, ◌≤◌, ◌<◌, ◌∷◌, [], false, Some, IfOk};
+ghost use Rattle.std.specs.Prelude.{◌≡◌, ◌+◌, ◌≤◌, ◌<◌, ◌∷◌, [], false, Some, IfOk, OnOk};
 ghost use Rattle.arrays_core.specs.declared.item.ItemType.TheVariants.{Nums};
 ghost use Rattle.arrays_core.specs.Arrays.{with_items, IsAnswerTo};
 ghost use Rattle.arrays_core.specs.Items.{all_or_first_error};
@@ -58,33 +58,42 @@ fn totals_read(
     fold: Reduce,
     array: &Seen,
     sums: &LineSums,
+    change: &mut Delta,
     meter: &mut Meter,
-) -> Result<(Delta, u32), AllocError>
+) -> Result<u32, AllocError>
     requires { Some sums.now ≡ summed fold array.now }
-    ensures delta { IfOk result (λ r. r.0 ≡ Whole (evaluation (total_rule fold) (array.now ∷ []))) }
-    ensures cost { IfOk result (λ r. r.1 ≡ form_size ((total_rule fold).form (array.now ∷ []))) }
+    ensures delta { OnOk result (change.new ≡ Whole (evaluation (total_rule fold) (array.now ∷ []))) }
+    ensures cost { IfOk result (λ n. n ≡ form_size ((total_rule fold).form (array.now ∷ []))) }
     ensures ticks { meter.new.ticks ≤ meter.old.ticks + form_size ((total_rule fold).form (array.now ∷ [])) }
-    ensures exact { IfOk result (λ r. is_error r.0 ≡ false → meter.new.ticks ≡ ticked meter.old.ticks r.1) }
+    ensures exact { IfOk result (λ n. is_error change.new ≡ false → meter.new.ticks ≡ ticked meter.old.ticks n) }
     ensures rises { meter.old.ticks ≤ meter.new.ticks }
     ensures joins { meter.new.joins ≡ meter.old.joins }
 {
     let rule = Ruled { function: fold };
     let form = match rule.shape(&[array.again()]) {
         Ok(form) => form,
-        Err(kind) => return Ok((Delta::Whole(Err(Fault { kind, origin: None })), 0)),
+        Err(kind) => {
+            *change = Delta::Whole(Err(Fault { kind, origin: None }));
+            return Ok(0);
+        }
     };
     let trees = sums.trees();
     let cost = size(form.0.as_slice());
     match totals_of_all(alloc, &form.0, trees, meter) {
-        Ok(totals) => Ok((Delta::Whole(Ok(totals)), cost)),
+        Ok(totals) => {
+            *change = Delta::Whole(Ok(totals));
+            Ok(cost)
+        }
         Err(ApplyFault::Kind(kind)) => {
-            Ok((Delta::Whole(Err(Fault { kind, origin: None })), cost))
+            *change = Delta::Whole(Err(Fault { kind, origin: None }));
+            Ok(cost)
         }
         Err(ApplyFault::NoMemory) => Err(AllocError),
     }
 }
 
-/// The totals of an array as a whole, as their evaluation answers them, and what they cost: how many totals there are. They are read from
+/// The totals of an array as a whole, as their evaluation answers them, put in place of another change, and what they cost: how many totals there are.
+/// They are read from
 /// the folds of its lines, which were made before: its items are not gone over again. A tree of a line was made in as many joins as the
 /// line has numbers, less one; these are counted here.
 pub fn read_totals_with_cost(
@@ -92,21 +101,22 @@ pub fn read_totals_with_cost(
     fold: Reduce,
     array: &Seen,
     sums: &LineSums,
+    change: &mut Delta,
     meter: &mut Meter,
-) -> Result<(Delta, u32), AllocError>
+) -> Result<u32, AllocError>
     requires { Some sums.now ≡ summed fold array.now }
-    ensures delta { IfOk result (λ r. r.0 ≡ Whole (evaluation (total_rule fold) (array.now ∷ []))) }
-    ensures cost { IfOk result (λ r. r.1 ≡ form_size ((total_rule fold).form (array.now ∷ []))) }
+    ensures delta { OnOk result (change.new ≡ Whole (evaluation (total_rule fold) (array.now ∷ []))) }
+    ensures cost { IfOk result (λ n. n ≡ form_size ((total_rule fold).form (array.now ∷ []))) }
     ensures ticks { meter.new.ticks ≤ meter.old.ticks + form_size ((total_rule fold).form (array.now ∷ [])) }
-    ensures exact { IfOk result (λ r. is_error r.0 ≡ false → meter.new.ticks ≡ ticked meter.old.ticks r.1) }
+    ensures exact { IfOk result (λ n. is_error change.new ≡ false → meter.new.ticks ≡ ticked meter.old.ticks n) }
     ensures rises { meter.old.ticks ≤ meter.new.ticks }
     ensures joins { AreFoldsWithin (form_size ((total_rule fold).form (array.now ∷ []))) (long_along fold.along array.now.shape) meter.old.joins meter.new.joins }
-    ensures folds { IfOk result (λ r. is_error r.0 ≡ false → AreFolds r.1 (long_along fold.along array.now.shape) meter.old.joins meter.new.joins) }
+    ensures folds { IfOk result (λ n. is_error change.new ≡ false → AreFolds n (long_along fold.along array.now.shape) meter.old.joins meter.new.joins) }
 {
     let long = length_along(fold.along, array.shape().as_slice());
     let mut own = Meter::new();
-    let change = totals_read(alloc, fold, array, sums, &mut own)?;
+    let cost = totals_read(alloc, fold, array, sums, change, &mut own)?;
     own.count_joins(own.ticks() * u64::from(long.saturating_sub(1)));
     meter.include(&own);
-    Ok(change)
+    Ok(cost)
 }

@@ -6,7 +6,7 @@ use Rattle.change_rules.specs.Nodes.{views, moved}
 use Rattle.selection_rules.specs.Index.{index_rule}
 use Rattle.formula_core.specs.declared.input.Input.{Input}
 use Rattle.formula_core.specs.declared.input.Input.TheVariants.{Good}
-use Rattle.formula_core.specs.Rules.{IsRefreshed}
+use Rattle.formula_core.specs.Rules.{with_change, IsRefreshed}
 use Rattle.formula_core.specs.Inputs.{HasFit, IsOperationChange, arrays_among, last_error, written_inputs}
 use Rattle.formula_core.proofs.Gathered.{none_with_array, refreshed_change, error_behind, error_in_front, error_change, written_fit, arrays_fit, arrays_have_axes, arrays_count}
 use Rattle.formula_core.proofs.index_change.change_of_index.Goals as goal
@@ -52,6 +52,6 @@ returns-in-None-Good-clause-change c =
     let others = written_inputs c.args.positions.now in
     let rule = index_rule (map is_some c.args.positions.now) in
     let none : last_error (Good array delta ∷ others) ≡ None = none_with_array array delta others (sym c.last_fault.ensures ∙ c.in-None-Good.is-0) in
-    subst (λ (i : Input). IsOperationChange rule (i ∷ others) c.args.held.now c.args.meter.now.ticks c.change_of_arrays.new.meter.ticks c.change_of_arrays.result) (sym c.in-None-Good.is-1)
-    (refreshed_change rule (Good array delta ∷ others) c.args.held.now c.args.meter.now.ticks c.change_of_arrays.new.meter.ticks c.change_of_arrays.result none
-    (subst (λ (a : ArrayValue). IsRefreshed rule ((a, delta) ∷ arrays_among others) c.args.held.now c.args.meter.now.ticks c.change_of_arrays.new.meter.ticks c.change_of_arrays.result) c.again.ensures c.change_of_arrays.ensures.refreshed))
+    subst (λ (i : Input). IsOperationChange rule (i ∷ others) c.args.held.now c.args.meter.now.ticks c.change_of_arrays.new.meter.ticks (with_change c.change_of_arrays.new.change c.change_of_arrays.result)) (sym c.in-None-Good.is-1)
+    (refreshed_change rule (Good array delta ∷ others) c.args.held.now c.args.meter.now.ticks c.change_of_arrays.new.meter.ticks (with_change c.change_of_arrays.new.change c.change_of_arrays.result) none
+    (subst (λ (a : ArrayValue). IsRefreshed rule ((a, delta) ∷ arrays_among others) c.args.held.now c.args.meter.now.ticks c.change_of_arrays.new.meter.ticks (with_change c.change_of_arrays.new.change c.change_of_arrays.result)) c.again.ensures c.change_of_arrays.ensures.refreshed))

@@ -7,7 +7,9 @@ use Rattle.formula_core.specs.declared.input.Input.{Input}
 use Rattle.formula_core.specs.Changes.{FitsNow, operation_cost}
 use Rattle.formula_core.specs.Inputs.{shown, delta_of, HasFit}
 use Rattle.formula_core.specs.Outcomes.{Outcome}
+use Rattle.formula_core.specs.Rules.{with_change}
 use Rattle.formula_core.specs.Stages.{AreTotalsJoined}
+use Rattle.formula_core.proofs.Gathered.{in_place}
 use Rattle.formula_core.specs.Sums.{in_box, summed_in, AreSumsKept, IsSummedFor, WasGrown, WasPatched}
 use Rattle.formula_core.proofs.Summed.{kept_of, stood_before, stood_for}
 use Rattle.formula_core.proofs.Totalled.{totalled_by_folds, totalled_by_trees}
@@ -44,13 +46,16 @@ returns-in-Some-kept-clause-joins c = λ well.
     let held = c.args.held.now in
     let before = c.args.meter.now.joins in
     let after = c.refresh_totals_with_cost.new.meter.joins in
-    let r = c.refresh_totals_with_cost.result in
+    let change = c.refresh_totals_with_cost.new.change in
+    let answered = c.refresh_totals_with_cost.result in
+    let r = with_change change answered in
     let fit : FitsNow delta.now (Ok a) = subst HasFit c.in-Good.is c.requires.fit in
     let seen : IsSummedFor fold (Ok a) delta.now c.args.kept.now = subst (λ (i : Input). IsSummedFor fold (shown i) (delta_of i) c.args.kept.now) c.in-Good.is c.requires.kept in
     let some : IsSummedFor fold (Ok a) delta.now (Some sums) = subst (λ (k : Option SummedValue). IsSummedFor fold (Ok a) delta.now k) c.in-Some-kept.is seen in
     let joins : HasJoins fold (a, delta) held before after = subst (λ (x : ArrayValue). HasJoins fold (x, delta) held before after) c.again.ensures c.refresh_totals_with_cost.ensures.joins in
     let all : IfOk r (λ s. is_error s.0 ≡ false → HasAllJoins fold (a, delta) held before after) =
-    subst (λ (x : ArrayValue). IfOk r (λ s. is_error s.0 ≡ false → HasAllJoins fold (x, delta) held before after)) c.again.ensures c.refresh_totals_with_cost.ensures.least in
+    subst (λ (x : ArrayValue). IfOk r (λ s. is_error s.0 ≡ false → HasAllJoins fold (x, delta) held before after)) c.again.ensures
+    (in_place (λ s. is_error s.0 ≡ false → HasAllJoins fold (c.again.result, delta) held before after) change answered c.refresh_totals_with_cost.ensures.least) in
     subst (λ (i : Input). AreTotalsJoined fold i held before after r) (sym c.in-Good.is) (totalled_by_trees fold a delta held before after r fit sums some joins all)
 
 pub returns-in-None-clause-joins : goal.returns-in-None-clause-joins
@@ -61,14 +66,18 @@ returns-in-None-clause-joins c = λ well.
     let held = c.args.held.now in
     let before = c.args.meter.now.joins in
     let after = c.fold_totals_with_cost.new.meter.joins in
-    let r = c.fold_totals_with_cost.result in
+    let change = c.fold_totals_with_cost.new.change in
+    let answered = c.fold_totals_with_cost.result in
+    let r = with_change change answered in
     let fit : FitsNow delta.now (Ok a) = subst HasFit c.in-Good.is c.requires.fit in
     let seen : AreSumsKept fold (Ok a) delta.now c.args.kept.now = subst (λ (i : Input). AreSumsKept fold (shown i) (delta_of i) c.args.kept.now) c.in-Good.is well in
     let none : AreSumsKept fold (Ok a) delta.now None = subst (λ (k : Option SummedValue). AreSumsKept fold (Ok a) delta.now k) c.in-None.is seen in
     let folds =
     subst (λ (x : ArrayValue). AreFoldsWithin (operation_cost (total_rule fold) (Ok (x ∷ [])) (delta.now ∷ []) held) (length_along fold.along x.shape) before after) c.again.ensures c.fold_totals_with_cost.ensures.joins in
-    let cost = subst (λ (x : ArrayValue). IfOk r (λ s. s.1 ≡ operation_cost (total_rule fold) (Ok (x ∷ [])) (delta.now ∷ []) held)) c.again.ensures c.fold_totals_with_cost.ensures.cost in
-    let all = subst (λ (x : ArrayValue). IfOk r (λ s. is_error s.0 ≡ false → AreFolds s.1 (length_along fold.along x.shape) before after)) c.again.ensures c.fold_totals_with_cost.ensures.folds in
+    let cost = subst (λ (x : ArrayValue). IfOk r (λ s. s.1 ≡ operation_cost (total_rule fold) (Ok (x ∷ [])) (delta.now ∷ []) held)) c.again.ensures
+    (in_place (λ s. s.1 ≡ operation_cost (total_rule fold) (Ok (c.again.result ∷ [])) (delta.now ∷ []) held) change answered c.fold_totals_with_cost.ensures.cost) in
+    let all = subst (λ (x : ArrayValue). IfOk r (λ s. is_error s.0 ≡ false → AreFolds s.1 (length_along fold.along x.shape) before after)) c.again.ensures
+    (in_place (λ s. is_error s.0 ≡ false → AreFolds s.1 (length_along fold.along c.again.result.shape) before after) change answered c.fold_totals_with_cost.ensures.folds) in
     subst (λ (i : Input). AreTotalsJoined fold i held before after r) (sym c.in-Good.is) (totalled_by_folds fold a delta held before after r fit none folds cost all)
 
 pub read_totals_with_cost-requires : goal.read_totals_with_cost-requires

@@ -6,8 +6,8 @@ use Rattle.sum_rules.specs.Totals.{StoodFor}
 use Rattle.sum_rules.proofs.KeptSums.{stood_for, summed_is}
 use Rattle.rule_tests.proofs.line_sums_tests.totals_with.Goals as goal
 
-pub refresh_totals_with_cost-change-requires-clause-sums : goal.refresh_totals_with_cost-change-requires-clause-sums
-refresh_totals_with_cost-change-requires-clause-sums c = record {
+pub refresh_totals_with_cost-requires-clause-sums : goal.refresh_totals_with_cost-requires-clause-sums
+refresh_totals_with_cost-requires-clause-sums c = record {
   changed = λ p is.
       let a = c.in-Ok-Patch.array in
       let q = c.in-Ok-Patch.patch in

@@ -38,8 +38,8 @@ patch_of-requires-clause-region g c =
     c.in-Inside.ensures ∙ (λ i. reach_of (total_rule c.args.fold) (seen i ∷ []) (Some (changed i) ∷ [])) in
     reached_box c.args.fold (g.S.LineTotals.trees c.args.sums.now) c.args.patch.now c.args.array.now c.requires.lines c.requires.one c.in-Ok.form.0.items c.in-Ok.form.1 form c.in-Inside.region reach
 
-pub returns-in_err-delta-in-Inside-clause-ticks : goal.returns-in_err-delta-in-Inside-clause-ticks
-returns-in_err-delta-in-Inside-clause-ticks g c =
+pub returns-in_err-patch_of-in-Inside-clause-ticks : goal.returns-in_err-patch_of-in-Inside-clause-ticks
+returns-in_err-patch_of-in-Inside-clause-ticks g c =
     let form = subst (λ (a : ArrayValue). reduce_form c.args.fold.along a ≡ Ok (form_of c.in-Ok.form.0.items c.in-Ok.form.1)) c.again.ensures c.in-Ok.ensures.0 in
     let cost : reached_cost (total_rule c.args.fold) (c.args.array.now ∷ []) (Some c.args.patch.now.region ∷ []) ≡ box_size c.args.patch.now.region =
     reached_size c.args.fold (g.S.LineTotals.trees c.args.sums.now) c.args.patch.now c.args.array.now c.requires.lines c.requires.one c.in-Ok.form.0.items c.in-Ok.form.1 form in
@@ -63,7 +63,7 @@ returns-in-Inside-clause-exact g c = λ sound.
     let size : reached_cost (total_rule c.args.fold) (c.args.array.now ∷ []) (Some c.args.patch.now.region ∷ []) ≡ box_size c.in-Inside.region = λ i. size_in (form i) (back i) in
     let all : reached_cost (total_rule c.args.fold) (c.args.array.now ∷ []) (Some c.args.patch.now.region ∷ []) ≡ box_size c.args.patch.now.region =
     reached_size c.args.fold (g.S.LineTotals.trees c.args.sums.now) c.args.patch.now c.args.array.now c.requires.lines c.requires.one c.in-Ok.form.0.items c.in-Ok.form.1 form in
-    c.in_ok-delta-in-Inside.ensures.exact sound ∙ ap (ticked c.args.meter.now.ticks) (sym all ∙ (size ∙ sym c.size-cost.ensures))
+    c.in_ok-patch_of-in-Inside.ensures.exact sound ∙ ap (ticked c.args.meter.now.ticks) (sym all ∙ (size ∙ sym c.size-cost.ensures))
 
 pub returns-in-Unmoved-clause-least : goal.returns-in-Unmoved-clause-least
 returns-in-Unmoved-clause-least g c =

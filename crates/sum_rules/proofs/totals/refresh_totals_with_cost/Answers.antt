@@ -21,14 +21,14 @@ returns-then-is_one_a_line-clause-right g c =
     let args = c.args.arg ∷ [] in
     let old = c.args.old.now in
     let same = delta_is c.args.fold c.args.arg c.in-Patch.patch old c.in-Patch.is (sym c.is_ok.ensures.value ∙ c.if-is_ok.true) in
-    answered (IsRight (total_rule c.args.fold) (views args)) c.change_by_trees.result _ c.change_by_trees.ensures.delta (subst (IsRight (total_rule c.args.fold) (views args)) (sym same) (node_is_right (total_rule c.args.fold) args old))
+    answered (IsRight (total_rule c.args.fold) (views args)) c.change_by_trees.result _ _ c.change_by_trees.ensures.delta (subst (IsRight (total_rule c.args.fold) (views args)) (sym same) (node_is_right (total_rule c.args.fold) args old))
 
 pub returns-then-is_one_a_line-clause-whole : goal.returns-then-is_one_a_line-clause-whole
 returns-then-is_one_a_line-clause-whole g c =
     let args = c.args.arg ∷ [] in
     let old = c.args.old.now in
     let same = delta_is c.args.fold c.args.arg c.in-Patch.patch old c.in-Patch.is (sym c.is_ok.ensures.value ∙ c.if-is_ok.true) in
-    answered (BringsUpToDate (total_rule c.args.fold) args old) c.change_by_trees.result _ c.change_by_trees.ensures.delta
+    answered (BringsUpToDate (total_rule c.args.fold) args old) c.change_by_trees.result _ _ c.change_by_trees.ensures.delta
     (subst (BringsUpToDate (total_rule c.args.fold) args old) (sym same)
     (brings_up_to_date (total_rule c.args.fold) (covers (total_rule c.args.fold) (reduce_tight c.args.fold.function c.args.fold.along)) (reduce_growing c.args.fold.function c.args.fold.along) args old refl (reaches_inside (total_rule c.args.fold) (views args) (moved args)) c.requires.fit c.requires.axes (c.shape.ensures.sound, tt)))
 
@@ -76,4 +76,4 @@ returns-clause-least g c =
         | in_default-delta v ↦ not_both (is_ok held) (is_narrow axis arg.1.now) (not_patched axis arg.1.now w.in_default.not-Patch v.in_default-delta.not-Grown)
       ]
     ] in
-    folded c.args.fold arg held c.args.meter.now.joins c.fold_totals_with_cost.new.meter.joins c.fold_totals_with_cost.result none c.fold_totals_with_cost.ensures.cost c.fold_totals_with_cost.ensures.folds
+    folded c.args.fold arg held c.args.meter.now.joins c.fold_totals_with_cost.new.meter.joins c.fold_totals_with_cost.new.change c.fold_totals_with_cost.result none c.fold_totals_with_cost.ensures.cost c.fold_totals_with_cost.ensures.folds

@@ -29,15 +29,15 @@ go_on-requires c =
     let begun : IsBegun f w.0 inner cost = subst (λ (ds : List NodeChange). IsBegun f w.0 ds cost) (sym was) w.1.1.begun in
     let left = subst (λ (ds : List NodeChange). operations_among f ds < operations f.tree) (sym was) c.requires.left in
     let seen : IsBegun f w.0 c.as_slice.result.now cost = subst (λ (ds : List NodeChange). IsBegun f w.0 ds cost) (sym c.as_slice.ensures.value) begun in
-    let items = subst (λ (ds : List NodeChange). c.in_ok-change.items ≡ node_cost_at f.is_new w.0 (tree_at (subtrees f.tree) (length ds))) c.as_slice.ensures.value (c.in_ok-change.ensures.cost w.0 w.1.0 cost seen) in
-    let done = subst (λ (ds : List NodeChange). IsDone f.is_new w.0 (tree_at (subtrees f.tree) (length ds)) (get_or f.nodes (length ds) not_worked_out) c.in_ok-change.change) c.as_slice.ensures.value (c.in_ok-change.ensures.done w.0 w.1.0 cost seen) in
-    record { begun = (w.0, (w.1.0, (ticked cost c.in_ok-change.items, begun_one f w.0 inner c.push.new.self.items c.in_ok-change.change cost c.in_ok-change.items begun left c.in_ok-push.ensures.items items done))) }
+    let items = subst (λ (ds : List NodeChange). c.in_ok-items.items ≡ node_cost_at f.is_new w.0 (tree_at (subtrees f.tree) (length ds))) c.as_slice.ensures.value (c.in_ok-items.ensures.cost w.0 w.1.0 cost seen) in
+    let done = subst (λ (ds : List NodeChange). IsDone f.is_new w.0 (tree_at (subtrees f.tree) (length ds)) (get_or f.nodes (length ds) not_worked_out) c.next.new.change) c.as_slice.ensures.value (c.in_ok-items.ensures.done w.0 w.1.0 cost seen) in
+    record { begun = (w.0, (w.1.0, (ticked cost c.in_ok-items.items, begun_one f w.0 inner c.push.new.self.items c.next.new.change cost c.in_ok-items.items begun left c.in_ok-push.ensures.items items done))) }
 
 pub returns-in-Err-clause-err : goal.returns-in-Err-clause-err
 returns-in-Err-clause-err c =
     let inner = c.plan.inside.changes.items in
     let place : c.len-done.result ≡ length inner = c.len-done.ensures ∙ c.plan.inside.changes.ok.0 in
-    let back = c.truncate.ensures.items ∙ (ap (λ k. take k c.go_on.new.changes.items) place ∙ rolled inner c.push.new.self.items c.go_on.new.changes.items c.in_ok-change.change c.in_ok-push.ensures.items c.go_on.ensures.kept) in
+    let back = c.truncate.ensures.items ∙ (ap (λ k. take k c.go_on.new.changes.items) place ∙ rolled inner c.push.new.self.items c.go_on.new.changes.items c.next.new.change c.in_ok-push.ensures.items c.go_on.ensures.kept) in
     ap (λ (ds : List NodeChange). record { changes = ds; cost = c.plan.inside.cost }) back ∙ c.plan.view_is
 
 pub returns-clause-one : goal.returns-clause-one
@@ -51,7 +51,7 @@ returns-clause-one c =
     let w = c.requires.planned in
     let one : is_operation (tree_at (subtrees f.tree) (length inner)) ≡ true =
     subst (λ (ds : List NodeChange). is_operation (tree_at (subtrees f.tree) (length ds)) ≡ true) (sym was) (w.1.1.next (subst (λ (ds : List NodeChange). length ds < length f.nodes) was below)) in
-    c.in-Ok.ensures.same ∙ (among_more f inner c.push.new.self.items c.in_ok-change.change c.in_ok-push.ensures.items (omega (arith, below, all)) one ∙ ap (λ (ds : List NodeChange). operations_among f ds + 1) was)
+    c.in-Ok.ensures.same ∙ (among_more f inner c.push.new.self.items c.next.new.change c.in_ok-push.ensures.items (omega (arith, below, all)) one ∙ ap (λ (ds : List NodeChange). operations_among f ds + 1) was)
 
 pub returns-clause-planned : goal.returns-clause-planned
 returns-clause-planned c = λ change told planned.
@@ -62,10 +62,10 @@ returns-clause-planned c = λ change told planned.
     let begun : IsBegun f change inner cost = subst (λ (ds : List NodeChange). IsBegun f change ds cost) (sym was) planned.begun in
     let left = subst (λ (ds : List NodeChange). operations_among f ds < operations f.tree) (sym was) c.requires.left in
     let seen : IsBegun f change c.as_slice.result.now cost = subst (λ (ds : List NodeChange). IsBegun f change ds cost) (sym c.as_slice.ensures.value) begun in
-    let items = subst (λ (ds : List NodeChange). c.in_ok-change.items ≡ node_cost_at f.is_new change (tree_at (subtrees f.tree) (length ds))) c.as_slice.ensures.value (c.in_ok-change.ensures.cost change told cost seen) in
-    let done = subst (λ (ds : List NodeChange). IsDone f.is_new change (tree_at (subtrees f.tree) (length ds)) (get_or f.nodes (length ds) not_worked_out) c.in_ok-change.change) c.as_slice.ensures.value (c.in_ok-change.ensures.done change told cost seen) in
-    let more = begun_one f change inner c.push.new.self.items c.in_ok-change.change cost c.in_ok-change.items begun left c.in_ok-push.ensures.items items done in
-    let total : c.add.new.self ≡ ticked cost c.in_ok-change.items = c.add.ensures.exact ∙ ap (λ (p : PlanValue). ticked p.cost c.in_ok-change.items) c.plan.view_is in
+    let items = subst (λ (ds : List NodeChange). c.in_ok-items.items ≡ node_cost_at f.is_new change (tree_at (subtrees f.tree) (length ds))) c.as_slice.ensures.value (c.in_ok-items.ensures.cost change told cost seen) in
+    let done = subst (λ (ds : List NodeChange). IsDone f.is_new change (tree_at (subtrees f.tree) (length ds)) (get_or f.nodes (length ds) not_worked_out) c.next.new.change) c.as_slice.ensures.value (c.in_ok-items.ensures.done change told cost seen) in
+    let more = begun_one f change inner c.push.new.self.items c.next.new.change cost c.in_ok-items.items begun left c.in_ok-push.ensures.items items done in
+    let total : c.add.new.self ≡ ticked cost c.in_ok-items.items = c.add.ensures.exact ∙ ap (λ (p : PlanValue). ticked p.cost c.in_ok-items.items) c.plan.view_is in
     record {
       begun = subst (λ k. IsBegun f change c.go_on.new.changes.items k) (sym total) (c.in-Ok.ensures.begun change told _ more);
       next = c.in-Ok.ensures.next;
@@ -86,18 +86,18 @@ returns-clause-exact c = λ change told planned computed.
     let seen = subst (λ (ds : List NodeChange). IsBegun f change ds c.args.plan.now.cost) (sym (c.as_slice.ensures.value ∙ was)) planned.begun in
     let t = tree_at (subtrees f.tree) (length c.args.plan.now.changes) in
     let most = subst (λ (ds : List NodeChange). c.next.new.meter.ticks ≤ c.new-own.result.ticks + node_cost_at f.is_new change (tree_at (subtrees f.tree) (length ds))) (c.as_slice.ensures.value ∙ was) (c.next.ensures.ticks change told c.args.plan.now.cost seen) in
-    let cost : c.in_ok-change.items ≡ node_cost_at f.is_new change t = subst (λ (ds : List NodeChange). c.in_ok-change.items ≡ node_cost_at f.is_new change (tree_at (subtrees f.tree) (length ds))) (c.as_slice.ensures.value ∙ was) (c.in_ok-change.ensures.cost change told c.args.plan.now.cost seen) in
-    let done = subst (λ (ds : List NodeChange). IsDone f.is_new change (tree_at (subtrees f.tree) (length ds)) (get_or f.nodes (length ds) not_worked_out) c.in_ok-change.change) (c.as_slice.ensures.value ∙ was) (c.in_ok-change.ensures.done change told c.args.plan.now.cost seen) in
+    let cost : c.in_ok-items.items ≡ node_cost_at f.is_new change t = subst (λ (ds : List NodeChange). c.in_ok-items.items ≡ node_cost_at f.is_new change (tree_at (subtrees f.tree) (length ds))) (c.as_slice.ensures.value ∙ was) (c.in_ok-items.ensures.cost change told c.args.plan.now.cost seen) in
+    let done = subst (λ (ds : List NodeChange). IsDone f.is_new change (tree_at (subtrees f.tree) (length ds)) (get_or f.nodes (length ds) not_worked_out) c.next.new.change) (c.as_slice.ensures.value ∙ was) (c.in_ok-items.ensures.done change told c.args.plan.now.cost seen) in
     let none : c.new-own.result.ticks ≡ 0 = ap (λ (m : MeterValue). m.ticks) c.new-own.ensures in
-    counted_whole f.is_new change t c.in_ok-change.change.delta c.args.meter.now.ticks c.in_ok-change.items c.new-own.result.ticks c.next.new.meter.ticks _ done.is computed cost most c.in_ok-change.ensures.least none (ap (λ (m : MeterValue). m.ticks) c.include.ensures.exact)
+    counted_whole f.is_new change t c.next.new.change.delta c.args.meter.now.ticks c.in_ok-items.items c.new-own.result.ticks c.next.new.meter.ticks _ done.is computed cost most c.in_ok-items.ensures.least none (ap (λ (m : MeterValue). m.ticks) c.include.ensures.exact)
 
 pub returns-clause-cost : goal.returns-clause-cost
 returns-clause-cost c = λ change told planned.
     let f = c.args.self.now in
     let was : c.plan.inside.changes.items ≡ c.args.plan.now.changes = ap (λ (p : PlanValue). p.changes) c.plan.view_is in
     let seen = subst (λ (ds : List NodeChange). IsBegun f change ds c.args.plan.now.cost) (sym (c.as_slice.ensures.value ∙ was)) planned.begun in
-    let cost = subst (λ (ds : List NodeChange). c.in_ok-change.items ≡ node_cost_at f.is_new change (tree_at (subtrees f.tree) (length ds))) (c.as_slice.ensures.value ∙ was) (c.in_ok-change.ensures.cost change told c.args.plan.now.cost seen) in
-    c.add.ensures.exact ∙ (ap (λ (p : PlanValue). ticked p.cost c.in_ok-change.items) c.plan.view_is ∙ ap (ticked c.args.plan.now.cost) cost)
+    let cost = subst (λ (ds : List NodeChange). c.in_ok-items.items ≡ node_cost_at f.is_new change (tree_at (subtrees f.tree) (length ds))) (c.as_slice.ensures.value ∙ was) (c.in_ok-items.ensures.cost change told c.args.plan.now.cost seen) in
+    c.add.ensures.exact ∙ (ap (λ (p : PlanValue). ticked p.cost c.in_ok-items.items) c.plan.view_is ∙ ap (ticked c.args.plan.now.cost) cost)
 
 pub returns-clause-joins : goal.returns-clause-joins
 returns-clause-joins c = λ change told planned.
@@ -113,8 +113,8 @@ returns-clause-joined c = λ change told planned computed.
     let was : c.plan.inside.changes.items ≡ c.args.plan.now.changes = ap (λ (p : PlanValue). p.changes) c.plan.view_is in
     let seen = subst (λ (ds : List NodeChange). IsBegun f change ds c.args.plan.now.cost) (sym (c.as_slice.ensures.value ∙ was)) planned.begun in
     let t = tree_at (subtrees f.tree) (length c.args.plan.now.changes) in
-    let joined = subst (λ (ds : List NodeChange). is_error c.in_ok-change.change.delta ≡ false → ticked c.new-own.result.joins (least_joins f.is_new change (tree_at (subtrees f.tree) (length ds))) ≤ c.next.new.meter.joins) (c.as_slice.ensures.value ∙ was)
-    (c.in_ok-change.ensures.joined change told c.args.plan.now.cost seen) in
-    let done = subst (λ (ds : List NodeChange). IsDone f.is_new change (tree_at (subtrees f.tree) (length ds)) (get_or f.nodes (length ds) not_worked_out) c.in_ok-change.change) (c.as_slice.ensures.value ∙ was) (c.in_ok-change.ensures.done change told c.args.plan.now.cost seen) in
+    let joined = subst (λ (ds : List NodeChange). is_error c.next.new.change.delta ≡ false → ticked c.new-own.result.joins (least_joins f.is_new change (tree_at (subtrees f.tree) (length ds))) ≤ c.next.new.meter.joins) (c.as_slice.ensures.value ∙ was)
+    (c.in_ok-items.ensures.joined change told c.args.plan.now.cost seen) in
+    let done = subst (λ (ds : List NodeChange). IsDone f.is_new change (tree_at (subtrees f.tree) (length ds)) (get_or f.nodes (length ds) not_worked_out) c.next.new.change) (c.as_slice.ensures.value ∙ was) (c.in_ok-items.ensures.done change told c.args.plan.now.cost seen) in
     let none : c.new-own.result.joins ≡ 0 = ap (λ (m : MeterValue). m.joins) c.new-own.ensures in
-    joined_whole f.is_new change t c.in_ok-change.change.delta c.args.meter.now.joins c.new-own.result.joins c.next.new.meter.joins _ done.is computed joined none (ap (λ (m : MeterValue). m.joins) c.include.ensures.exact)
+    joined_whole f.is_new change t c.next.new.change.delta c.args.meter.now.joins c.new-own.result.joins c.next.new.meter.joins _ done.is computed joined none (ap (λ (m : MeterValue). m.joins) c.include.ensures.exact)

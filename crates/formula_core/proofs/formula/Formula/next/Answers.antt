@@ -45,8 +45,8 @@ returns-clause-done c =
     IfOk-weaker c.next.result _ _
     (λ r done change told cost begun.
     let staged = staged_by f c.self.inside.names.items c.self.inside.nodes.items c.self.invariant (ap (λ (v : FormulaValue). v.tree) c.self.view_is) nodes_are change c.args.inputs.now told c.args.changes.now cost begun _ is_new refl c.as_slice.ensures.value refl in
-    subst (λ (b : Bool). IsDone b change (tree_at (subtrees f.tree) place) (get_or f.nodes place not_worked_out) r.0) is_new
-    (subst (λ (hs : List Holding). IsDone c.self.inside.is_new change (tree_at (subtrees f.tree) place) (get_or hs place not_worked_out) r.0) (ap holdings_of c.as_slice.ensures.value ∙ nodes_are)
+    subst (λ (b : Bool). IsDone b change (tree_at (subtrees f.tree) place) (get_or f.nodes place not_worked_out) c.next.new.change) is_new
+    (subst (λ (hs : List Holding). IsDone c.self.inside.is_new change (tree_at (subtrees f.tree) place) (get_or hs place not_worked_out) c.next.new.change) (ap holdings_of c.as_slice.ensures.value ∙ nodes_are)
     (done change (names_in f.tree) (subtrees f.tree) staged)))
     c.next.ensures.done
 
@@ -59,7 +59,7 @@ returns-clause-cost c =
     IfOk-weaker c.next.result _ _
     (λ r costs change told cost begun.
     let staged = staged_by f c.self.inside.names.items c.self.inside.nodes.items c.self.invariant (ap (λ (v : FormulaValue). v.tree) c.self.view_is) nodes_are change c.args.inputs.now told c.args.changes.now cost begun _ is_new refl c.as_slice.ensures.value refl in
-    subst (λ (b : Bool). r.1 ≡ node_cost_at b change (tree_at (subtrees f.tree) place)) is_new (costs change (names_in f.tree) (subtrees f.tree) staged))
+    subst (λ (b : Bool). r ≡ node_cost_at b change (tree_at (subtrees f.tree) place)) is_new (costs change (names_in f.tree) (subtrees f.tree) staged))
     c.next.ensures.cost
 
 pub returns-clause-ticks : goal.returns-clause-ticks

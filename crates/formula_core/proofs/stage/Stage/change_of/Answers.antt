@@ -7,19 +7,20 @@ use Rattle.formula_core.proofs.Steps.{free_step, name_input, name_told}
 use Rattle.formula_core.proofs.Joined.{kept_well, monad_joined, unjoined}
 use Rattle.formula_core.proofs.Summed.{kept_for, made_for}
 use Rattle.formula_core.proofs.Stepping.{monad_step, dyad_step, index_step}
+use Rattle.formula_core.specs.Rules.{with_change}
 use Rattle.formula_core.proofs.stage.Stage.change_of.Goals as goal
 
-pub returns-in_ok-change_of_literal-in-Constant-clause-step : goal.returns-in_ok-change_of_literal-in-Constant-clause-step
-returns-in_ok-change_of_literal-in-Constant-clause-step c = λ change names trees staged holds.
-    subst (λ (n : Node). IsStep c.args.self.now.is_new change (tree_of_node names trees n) c.args.meter.now.ticks c.args.meter.now.ticks (Ok (c.in_ok-change_of_literal-in-Constant.field-0, 0))) (sym c.in-Constant.is)
-    (free_step c.args.self.now.is_new change _ c.args.meter.now.ticks _ (c.in_ok-change_of_literal-in-Constant.ensures change) refl)
+pub returns-in_ok-change-in-Constant-clause-step : goal.returns-in_ok-change-in-Constant-clause-step
+returns-in_ok-change-in-Constant-clause-step c = λ change names trees staged holds.
+    subst (λ (n : Node). IsStep c.args.self.now.is_new change (tree_of_node names trees n) c.args.meter.now.ticks c.args.meter.now.ticks (Ok (c.in_ok-change-in-Constant.field-0, 0))) (sym c.in-Constant.is)
+    (free_step c.args.self.now.is_new change _ c.args.meter.now.ticks _ (c.in_ok-change-in-Constant.ensures change) refl)
 
-pub returns-in_ok-change_of_name-in-Name-clause-step : goal.returns-in_ok-change_of_name-in-Name-clause-step
-returns-in_ok-change_of_name-in-Name-clause-step c = λ change names trees staged holds.
+pub returns-in_ok-change-in-Name-clause-step : goal.returns-in_ok-change-in-Name-clause-step
+returns-in_ok-change-in-Name-clause-step c = λ change names trees staged holds.
     let within = rw c.in-Name.is at c.requires.node in
-    subst (λ (n : Node). IsStep c.args.self.now.is_new change (tree_of_node names trees n) c.args.meter.now.ticks c.args.meter.now.ticks (Ok (c.in_ok-change_of_name-in-Name.field-0, 0))) (sym c.in-Name.is)
+    subst (λ (n : Node). IsStep c.args.self.now.is_new change (tree_of_node names trees n) c.args.meter.now.ticks c.args.meter.now.ticks (Ok (c.in_ok-change-in-Name.field-0, 0))) (sym c.in-Name.is)
     (free_step c.args.self.now.is_new change _ c.args.meter.now.ticks _
-    (c.in_ok-change_of_name-in-Name.ensures change _ (name_input change names trees c.args.self.now staged c.in-Name.place within c.taken-input.result c.taken-input.ensures) (name_told change names trees c.args.self.now staged c.in-Name.place within)) refl)
+    (c.in_ok-change-in-Name.ensures change _ (name_input change names trees c.args.self.now staged c.in-Name.place within c.taken-input.result c.taken-input.ensures) (name_told change names trees c.args.self.now staged c.in-Name.place within)) refl)
 
 pub change_of_monad-requires-clause-kept : goal.change_of_monad-requires-clause-kept
 change_of_monad-requires-clause-kept c =
@@ -31,48 +32,48 @@ change_of_monad-requires-clause-made c =
 
 pub returns-in-Monad-clause-step : goal.returns-in-Monad-clause-step
 returns-in-Monad-clause-step c = λ change names trees staged holds.
-    subst (λ (n : Node). IsStep c.args.self.now.is_new change (tree_of_node names trees n) c.args.meter.now.ticks c.change_of_monad.new.meter.ticks c.change_of_monad.result) (sym c.in-Monad.is)
-    (monad_step c.args.self.now.is_new change c.in-Monad.function (tree_of_operand names trees c.in-Monad.right) c.operand-right.result c.args.held.now _ _ c.change_of_monad.result
+    subst (λ (n : Node). IsStep c.args.self.now.is_new change (tree_of_node names trees n) c.args.meter.now.ticks c.change_of_monad.new.meter.ticks (with_change c.change_of_monad.new.change c.change_of_monad.result)) (sym c.in-Monad.is)
+    (monad_step c.args.self.now.is_new change c.in-Monad.function (tree_of_operand names trees c.in-Monad.right) c.operand-right.result c.args.held.now _ _ (with_change c.change_of_monad.new.change c.change_of_monad.result)
     (c.operand-right.ensures.ready change names trees staged) (rw c.in-Monad.is at holds) c.change_of_monad.ensures.change)
 
 pub returns-in-Dyad-clause-step : goal.returns-in-Dyad-clause-step
 returns-in-Dyad-clause-step c = λ change names trees staged holds.
-    subst (λ (n : Node). IsStep c.args.self.now.is_new change (tree_of_node names trees n) c.args.meter.now.ticks c.change_of_both.new.meter.ticks c.change_of_both.result) (sym c.in-Dyad.is)
-    (dyad_step c.args.self.now.is_new change c.in-Dyad.function (tree_of_operand names trees c.in-Dyad.left) (tree_of_operand names trees c.in-Dyad.right) c.operand-left.result c.operand-right-in-Dyad.result c.args.held.now _ _ c.change_of_both.result
+    subst (λ (n : Node). IsStep c.args.self.now.is_new change (tree_of_node names trees n) c.args.meter.now.ticks c.change_of_both.new.meter.ticks (with_change c.change_of_both.new.change c.change_of_both.result)) (sym c.in-Dyad.is)
+    (dyad_step c.args.self.now.is_new change c.in-Dyad.function (tree_of_operand names trees c.in-Dyad.left) (tree_of_operand names trees c.in-Dyad.right) c.operand-left.result c.operand-right-in-Dyad.result c.args.held.now _ _ (with_change c.change_of_both.new.change c.change_of_both.result)
     (c.operand-left.ensures.ready change names trees staged) (c.operand-right-in-Dyad.ensures.ready change names trees staged) (rw c.in-Dyad.is at holds) c.change_of_both.ensures.change)
 
 pub returns-in_ok-positions-in-Index-clause-step : goal.returns-in_ok-positions-in-Index-clause-step
 returns-in_ok-positions-in-Index-clause-step c = λ change names trees staged holds.
     let f = option_map (tree_of_operand names trees) in
-    subst (λ (n : Node). IsStep c.args.self.now.is_new change (tree_of_node names trees n) c.args.meter.now.ticks c.change_of_index.new.meter.ticks c.change_of_index.result) (sym c.in-Index.is)
-    (index_step c.args.self.now.is_new change (tree_of_operand names trees c.in-Index.array) (map f c.in-Index.positions.items) c.operand-array.result c.in_ok-positions-in-Index.positions.items c.args.held.now _ _ c.change_of_index.result
+    subst (λ (n : Node). IsStep c.args.self.now.is_new change (tree_of_node names trees n) c.args.meter.now.ticks c.change_of_index.new.meter.ticks (with_change c.change_of_index.new.change c.change_of_index.result)) (sym c.in-Index.is)
+    (index_step c.args.self.now.is_new change (tree_of_operand names trees c.in-Index.array) (map f c.in-Index.positions.items) c.operand-array.result c.in_ok-positions-in-Index.positions.items c.args.held.now _ _ (with_change c.change_of_index.new.change c.change_of_index.result)
     (c.operand-array.ensures.ready change names trees staged) (rw c.deref.ensures.value at (c.in_ok-positions-in-Index.ensures.ready change names trees staged)) (rw c.in-Index.is at holds)
     (rw c.deref-in-Index.ensures at c.change_of_index.ensures.change))
 
-pub returns-in_ok-change_of_literal-in-Constant-clause-joins : goal.returns-in_ok-change_of_literal-in-Constant-clause-joins
-returns-in_ok-change_of_literal-in-Constant-clause-joins c = λ change names trees staged holds.
-    subst (λ (n : Node). IsJoined c.args.self.now.is_new change (tree_of_node names trees n) c.args.meter.now.joins c.args.meter.now.joins (Ok (c.in_ok-change_of_literal-in-Constant.field-0, 0))) (sym c.in-Constant.is)
+pub returns-in_ok-change-in-Constant-clause-joins : goal.returns-in_ok-change-in-Constant-clause-joins
+returns-in_ok-change-in-Constant-clause-joins c = λ change names trees staged holds.
+    subst (λ (n : Node). IsJoined c.args.self.now.is_new change (tree_of_node names trees n) c.args.meter.now.joins c.args.meter.now.joins (Ok (c.in_ok-change-in-Constant.field-0, 0))) (sym c.in-Constant.is)
     (unjoined c.args.self.now.is_new change _ c.args.meter.now.joins c.args.meter.now.joins _ refl refl refl)
 
-pub returns-in_ok-change_of_name-in-Name-clause-joins : goal.returns-in_ok-change_of_name-in-Name-clause-joins
-returns-in_ok-change_of_name-in-Name-clause-joins c = λ change names trees staged holds.
-    subst (λ (n : Node). IsJoined c.args.self.now.is_new change (tree_of_node names trees n) c.args.meter.now.joins c.args.meter.now.joins (Ok (c.in_ok-change_of_name-in-Name.field-0, 0))) (sym c.in-Name.is)
+pub returns-in_ok-change-in-Name-clause-joins : goal.returns-in_ok-change-in-Name-clause-joins
+returns-in_ok-change-in-Name-clause-joins c = λ change names trees staged holds.
+    subst (λ (n : Node). IsJoined c.args.self.now.is_new change (tree_of_node names trees n) c.args.meter.now.joins c.args.meter.now.joins (Ok (c.in_ok-change-in-Name.field-0, 0))) (sym c.in-Name.is)
     (unjoined c.args.self.now.is_new change _ c.args.meter.now.joins c.args.meter.now.joins _ refl refl refl)
 
 pub returns-in-Monad-clause-joins : goal.returns-in-Monad-clause-joins
 returns-in-Monad-clause-joins c = λ change names trees staged holds.
     let function = c.in-Monad.function in
     let well = kept_well c.args.self.now function c.in-Monad.right (rw c.in-Monad.is at c.requires.node) c.args.kept.now (subst (λ (n : Node). IsKeptBy c.args.self.now n c.args.kept.now) c.in-Monad.is c.requires.kept) c.operand-right.result c.operand-right.ensures.ready in
-    subst (λ (n : Node). IsJoined c.args.self.now.is_new change (tree_of_node names trees n) c.args.meter.now.joins c.change_of_monad.new.meter.joins c.change_of_monad.result) (sym c.in-Monad.is)
-    (monad_joined c.args.self.now.is_new change function (tree_of_operand names trees c.in-Monad.right) c.operand-right.result c.args.held.now _ _ c.change_of_monad.result
+    subst (λ (n : Node). IsJoined c.args.self.now.is_new change (tree_of_node names trees n) c.args.meter.now.joins c.change_of_monad.new.meter.joins (with_change c.change_of_monad.new.change c.change_of_monad.result)) (sym c.in-Monad.is)
+    (monad_joined c.args.self.now.is_new change function (tree_of_operand names trees c.in-Monad.right) c.operand-right.result c.args.held.now _ _ (with_change c.change_of_monad.new.change c.change_of_monad.result)
     (c.operand-right.ensures.ready change names trees staged) (rw c.in-Monad.is at holds) (λ fold total. c.change_of_monad.ensures.joins fold total (well fold total)) c.change_of_monad.ensures.no_joins)
 
 pub returns-in-Dyad-clause-joins : goal.returns-in-Dyad-clause-joins
 returns-in-Dyad-clause-joins c = λ change names trees staged holds.
-    subst (λ (n : Node). IsJoined c.args.self.now.is_new change (tree_of_node names trees n) c.args.meter.now.joins c.change_of_both.new.meter.joins c.change_of_both.result) (sym c.in-Dyad.is)
-    (unjoined c.args.self.now.is_new change _ _ _ c.change_of_both.result c.change_of_both.ensures.joins refl refl)
+    subst (λ (n : Node). IsJoined c.args.self.now.is_new change (tree_of_node names trees n) c.args.meter.now.joins c.change_of_both.new.meter.joins (with_change c.change_of_both.new.change c.change_of_both.result)) (sym c.in-Dyad.is)
+    (unjoined c.args.self.now.is_new change _ _ _ (with_change c.change_of_both.new.change c.change_of_both.result) c.change_of_both.ensures.joins refl refl)
 
 pub returns-in_ok-positions-in-Index-clause-joins : goal.returns-in_ok-positions-in-Index-clause-joins
 returns-in_ok-positions-in-Index-clause-joins c = λ change names trees staged holds.
-    subst (λ (n : Node). IsJoined c.args.self.now.is_new change (tree_of_node names trees n) c.args.meter.now.joins c.change_of_index.new.meter.joins c.change_of_index.result) (sym c.in-Index.is)
-    (unjoined c.args.self.now.is_new change _ _ _ c.change_of_index.result c.change_of_index.ensures.joins refl refl)
+    subst (λ (n : Node). IsJoined c.args.self.now.is_new change (tree_of_node names trees n) c.args.meter.now.joins c.change_of_index.new.meter.joins (with_change c.change_of_index.new.change c.change_of_index.result)) (sym c.in-Index.is)
+    (unjoined c.args.self.now.is_new change _ _ _ (with_change c.change_of_index.new.change c.change_of_index.result) c.change_of_index.ensures.joins refl refl)

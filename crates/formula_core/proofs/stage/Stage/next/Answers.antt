@@ -41,8 +41,8 @@ sums_of-requires-clause-node c =
     let k = get_or s.nodes.now (length s.changes.now) c.index-self-self.result in
     next_node w.0 w.1.0 w.1.1.0 s w.1.1.1 c.requires.below k (get_or_default s.nodes.now (length s.changes.now) k c.index-self-self.result c.requires.below)
 
-pub returns-in_err-delta-clause-ticks : goal.returns-in_err-delta-clause-ticks
-returns-in_err-delta-clause-ticks c = λ change names trees staged.
+pub returns-in_err-items-clause-ticks : goal.returns-in_err-items-clause-ticks
+returns-in_err-items-clause-ticks c = λ change names trees staged.
     let s = c.args.self.now in
     let k = get_or s.nodes.now (length s.changes.now) c.index-self-self.result in
     let at = get_or_default s.nodes.now (length s.changes.now) k c.index-self-self.result c.requires.below in
@@ -55,25 +55,25 @@ outcomes_are_arrays-requires c =
     let s = c.args.self.now in
     let k = get_or s.nodes.now (length s.changes.now) c.index-self-self.result in
     let at = get_or_default s.nodes.now (length s.changes.now) k c.index-self-self.result c.requires.below in
-    let step = c.in_ok-delta.ensures.step w.0 w.1.0 w.1.1.0 w.1.1.1 (λ old. ap (λ (h : Holding). h.result) (next_held w.0 w.1.0 w.1.1.0 s w.1.1.1 c.requires.below k at old)) in
-    (next_fits w.0 w.1.0 w.1.1.0 s w.1.1.1 c.requires.below k at c.in_ok-delta.delta step.delta c.outcome_is_array.ensures).1
+    let step = c.in_ok-items.ensures.step w.0 w.1.0 w.1.1.0 w.1.1.1 (λ old. ap (λ (h : Holding). h.result) (next_held w.0 w.1.0 w.1.1.0 s w.1.1.1 c.requires.below k at old)) in
+    (next_fits w.0 w.1.0 w.1.1.0 s w.1.1.1 c.requires.below k at c.change_of.new.change step.delta c.outcome_is_array.ensures).1
 
 pub returns-clause-done : goal.returns-clause-done
 returns-clause-done c = λ change names trees staged.
     let s = c.args.self.now in
     let k = get_or s.nodes.now (length s.changes.now) c.index-self-self.result in
     let at = get_or_default s.nodes.now (length s.changes.now) k c.index-self-self.result c.requires.below in
-    let step = c.in_ok-delta.ensures.step change names trees staged (λ old. ap (λ (h : Holding). h.result) (next_held change names trees s staged c.requires.below k at old)) in
+    let step = c.in_ok-items.ensures.step change names trees staged (λ old. ap (λ (h : Holding). h.result) (next_held change names trees s staged c.requires.below k at old)) in
     let sums = c.in_ok-sums.ensures change names trees staged (λ old. ap (λ (h : Holding). h.sums) (next_held change names trees s staged c.requires.below k at old)) in
-    next_done change names trees s staged c.requires.below k at (record { delta = c.in_ok-delta.delta; sums = c.in_ok-sums.sums }) step.delta sums c.outcomes_are_arrays.ensures.held c.outcomes_are_arrays.ensures.now
+    next_done change names trees s staged c.requires.below k at (record { delta = c.change_of.new.change; sums = c.in_ok-sums.sums }) step.delta sums c.outcomes_are_arrays.ensures.held c.outcomes_are_arrays.ensures.now
 
 pub returns-clause-cost : goal.returns-clause-cost
 returns-clause-cost c = λ change names trees staged.
     let s = c.args.self.now in
     let k = get_or s.nodes.now (length s.changes.now) c.index-self-self.result in
     let at = get_or_default s.nodes.now (length s.changes.now) k c.index-self-self.result c.requires.below in
-    subst (λ (t : Tree). c.in_ok-delta.items ≡ node_cost_at s.is_new change t) (sym (next_tree change names trees s staged c.requires.below k at))
-    (c.in_ok-delta.ensures.step change names trees staged (λ old. ap (λ (h : Holding). h.result) (next_held change names trees s staged c.requires.below k at old))).cost
+    subst (λ (t : Tree). c.in_ok-items.items ≡ node_cost_at s.is_new change t) (sym (next_tree change names trees s staged c.requires.below k at))
+    (c.in_ok-items.ensures.step change names trees staged (λ old. ap (λ (h : Holding). h.result) (next_held change names trees s staged c.requires.below k at old))).cost
 
 pub returns-clause-ticks : goal.returns-clause-ticks
 returns-clause-ticks c = λ change names trees staged.
@@ -83,8 +83,8 @@ returns-clause-ticks c = λ change names trees staged.
     subst (λ (t : Tree). c.change_of.new.meter.ticks ≤ c.args.meter.now.ticks + node_cost_at s.is_new change t) (sym (next_tree change names trees s staged c.requires.below k at))
     (c.change_of.ensures.step change names trees staged (λ old. ap (λ (h : Holding). h.result) (next_held change names trees s staged c.requires.below k at old))).ticks
 
-pub returns-in_err-delta-clause-rises : goal.returns-in_err-delta-clause-rises
-returns-in_err-delta-clause-rises c =
+pub returns-in_err-items-clause-rises : goal.returns-in_err-items-clause-rises
+returns-in_err-items-clause-rises c =
     let w = c.requires.staged in
     let s = c.args.self.now in
     let k = get_or s.nodes.now (length s.changes.now) c.index-self-self.result in
@@ -105,10 +105,10 @@ returns-clause-least c =
     let s = c.args.self.now in
     let k = get_or s.nodes.now (length s.changes.now) c.index-self-self.result in
     let at = get_or_default s.nodes.now (length s.changes.now) k c.index-self-self.result c.requires.below in
-    (c.in_ok-delta.ensures.step w.0 w.1.0 w.1.1.0 w.1.1.1 (λ old. ap (λ (h : Holding). h.result) (next_held w.0 w.1.0 w.1.1.0 s w.1.1.1 c.requires.below k at old))).least
+    (c.in_ok-items.ensures.step w.0 w.1.0 w.1.1.0 w.1.1.1 (λ old. ap (λ (h : Holding). h.result) (next_held w.0 w.1.0 w.1.1.0 s w.1.1.1 c.requires.below k at old))).least
 
-pub returns-in_err-delta-clause-joins : goal.returns-in_err-delta-clause-joins
-returns-in_err-delta-clause-joins c = λ change names trees staged.
+pub returns-in_err-items-clause-joins : goal.returns-in_err-items-clause-joins
+returns-in_err-items-clause-joins c = λ change names trees staged.
     let s = c.args.self.now in
     let k = get_or s.nodes.now (length s.changes.now) c.index-self-self.result in
     let at = get_or_default s.nodes.now (length s.changes.now) k c.index-self-self.result c.requires.below in
@@ -129,4 +129,4 @@ returns-clause-joined c = λ change names trees staged sound.
     let k = get_or s.nodes.now (length s.changes.now) c.index-self-self.result in
     let at = get_or_default s.nodes.now (length s.changes.now) k c.index-self-self.result c.requires.below in
     subst (λ (t : Tree). ticked c.args.meter.now.joins (least_joins s.is_new change t) ≤ c.change_of.new.meter.joins) (sym (next_tree change names trees s staged c.requires.below k at))
-    ((c.in_ok-delta.ensures.joins change names trees staged (λ old. ap (λ (h : Holding). h.result) (next_held change names trees s staged c.requires.below k at old))).least sound)
+    ((c.in_ok-items.ensures.joins change names trees staged (λ old. ap (λ (h : Holding). h.result) (next_held change names trees s staged c.requires.below k at old))).least sound)
