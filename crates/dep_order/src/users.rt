@@ -1,5 +1,5 @@
 //! Who refers to whom, kept from change to change: what a change of a node reaches is found by this table, and no other node is looked at.
-ghost use Rattle.std.specs.Prelude.{◌≡◌, ◌⊎◌, ◌↔◌, List, [], ◌∷◌, IfOk, OnOk, OnErr, MatchBool, MatchOption};
+ghost use Rattle.std.specs.Prelude.{◌≡◌, ◌⊎◌, ◌↔◌, List, [], ◌∷◌, OnOk, OnErr, MatchBool, MatchOption};
 ghost use Rattle.std.specs.List.{Contains, IsDistinct};
 ghost use Rattle.std.specs.Map.{keys_of};
 ghost use Rattle.dep_order.specs.Reachability.{Reaches};
@@ -14,27 +14,26 @@ pub type Users<N> = IndexMap<N, IndexSet<N>>;
 
 /// A node and all that reach it, by one reference or by a chain of them: each once, after all that refer to it, with a place for
 /// what is to be found out of it. No chain of references to the node is to be longer than the height. They are put into a map that is
-/// given for its memory, in place of what it holds: where its memory is enough, none is asked for.
+/// lent for its memory, in place of what it holds: where its memory is enough, none is asked for.
 pub fn affected<N: Eq + Hash + Copy, V: Drop>(
     users: &Users<N>,
     node: N,
     height: usize,
-    room: IndexMap<N, Option<V>>,
-) -> Result<IndexMap<N, Option<V>>, AllocError>
+    found: &mut IndexMap<N, Option<V>>,
+) -> Result<(), AllocError>
     requires exact { IsExact N.eq }
     requires within { IsWithin N.eq users.now.entries height node }
-    ensures distinct { IfOk result (λ found. IsDistinct N.eq (keys_of found.entries)) }
-    ensures closed { IfOk result (λ found. IsClosed N.eq users.now.entries (keys_of found.entries)) }
-    ensures named { IfOk result (λ found. Contains (keys_of found.entries) node) }
-    ensures sound { IfOk result (λ found. (a : N) → Contains (keys_of found.entries) a → (a ≡ node) ⊎ Reaches (Uses N.eq users.now.entries) a node) }
-    ensures none { IfOk result (λ found. HasNothing N.eq found.entries) }
+    ensures distinct { OnOk result (IsDistinct N.eq (keys_of found.new.entries)) }
+    ensures closed { OnOk result (IsClosed N.eq users.now.entries (keys_of found.new.entries)) }
+    ensures named { OnOk result (Contains (keys_of found.new.entries) node) }
+    ensures sound { OnOk result ((a : N) → Contains (keys_of found.new.entries) a → (a ≡ node) ⊎ Reaches (Uses N.eq users.now.entries) a node) }
+    ensures none { OnOk result (HasNothing N.eq found.new.entries) }
 {
-    let mut found = room;
     found.truncate(0);
-    climb(users, node, height, &mut found)?;
+    climb(users, node, height, found)?;
     // The length says that no key stands in it twice.
     let _distinct = found.len();
-    Ok(found)
+    Ok(())
 }
 
 // Adds a node after all that reach it, but for those that have been found before.

@@ -1,11 +1,14 @@
 -- Entries, the names that they stand for, and what they show.
-use Rattle.std.proofs.Common.{◌≡◌, ℕ, ◌<◌, Bool, true, false, cond, List, [], ◌∷◌, ◌++◌, length, Option, Some, None, Ok, Err, IsSome, is_some, refl, sym, ap, ◌∙◌, subst, arith, if◌then◌else◌}
+use Rattle.std.proofs.Common.{◌≡◌, ℕ, ◌+◌, ◌-◌, ◌<◌, ◌≤◌, Bool, true, false, cond, List, [], ◌∷◌, ◌++◌, length, take, get_or, ⊎_elim, Option, Some, None, Ok, Err, IsSome, is_some, refl, sym, ap, ◌∙◌, subst, arith, if◌then◌else◌}
 use Rattle.std.specs.Str.{bytes_eq}
 use Rattle.std.specs.Map.{lookup, keys_of, set_value}
 use Rattle.std.specs.Option.{option_map, unwrap_or}
-use Rattle.std.specs.List.{IsDistinct}
+use Rattle.std.specs.List.{IsDistinct, Contains}
 use Rattle.indexmap.specs.IndexSet.{IndexSet}
 use Rattle.std.proofs.lemmas.Bool.{false≢true}
+use Rattle.std.proofs.lemmas.List.{take_all, take_more, length-map}
+use Rattle.std.proofs.lemmas.List.Elements.{Contains-push_cases}
+use Rattle.std.proofs.lemmas.Map.Views.{Contains-keys_from_lookup}
 use Rattle.indexmap.specs.IndexMap.{insert_entry}
 use Rattle.arrays_core.specs.Arrays.{ArrayValue}
 use Rattle.arrays_core.specs.declared.item.Kind.TheVariants.{Value}
@@ -23,7 +26,6 @@ use Rattle.sheet_recalc.proofs.Scratch.{val_absent}
 use Rattle.sheet_recalc.proofs.Putting.{lookup_put}
 use Rattle.sheet_recalc.proofs.Removing.{others, lookup_others, names_of_others}
 use Rattle.dep_order.proofs.Following.{contains_none}
-use Rattle.dep_order.proofs.Roomed.{found_last}
 
 pub binding_of_name : (es : List (List ℕ × Entry)) (q : List ℕ) → binding (names_of es) q ≡ option_map binding_of (lookup (bytes_eq q) es)
 binding_of_name [] q = refl
@@ -136,22 +138,16 @@ holding_val es current q = by (lookup (bytes_eq q) es) refl
     by None is = sym (val_absent (names_of es) (length (names_of es)) q (binding_of_name es q ∙ ap (option_map binding_of) is))
     by (Some e) is = right_shows (val (names_of es)) q e (current q e is)
 
+-- the plan beside each name, once one is put beside one of them, or taken from there
+pub put_beside : (es new : List (List ℕ × Option PlanValue)) (k : List ℕ) (p : Option PlanValue) → ((q : List ℕ) → lookup (bytes_eq q) new ≡ cond (bytes_eq k q) (Some p) (lookup (bytes_eq q) es))
+    → (q : List ℕ) → plan_in new q ≡ cond (bytes_eq k q) p (plan_in es q)
+put_beside es new k p put q = ap (λ o. unwrap_or o None) (put q) ∙ by (bytes_eq k q)
+  where
+    by : (t : Bool) → unwrap_or (cond t (Some p) (lookup (bytes_eq q) es)) None ≡ cond t p (plan_in es q)
+    by true = refl
+    by false = refl
+
 -- ---- plans are taken one after another
-
--- the last of what a change reached is taken
-module _ (found left : List (List ℕ × Option PlanValue)) (name : List ℕ) (p : Option PlanValue) (all : found ≡ left ++ (name, p) ∷ [])
-    (taken : (q : List ℕ) → lookup (bytes_eq q) left ≡ cond (bytes_eq name q) None (lookup (bytes_eq q) found)) where
-  pub reached_last : plan_in found name ≡ p
-  reached_last =
-      let gone : lookup (bytes_eq name) left ≡ None = taken name ∙ rw (equal-same name name refl) refl in
-      ap (λ ps. plan_in ps name) all ∙ ap (λ o. unwrap_or o None) (found_last bytes_eq names_equal left name p gone)
-
-  pub reached_others : (q : List ℕ) → plan_in left q ≡ cond (bytes_eq name q) None (plan_in found q)
-  reached_others q = by (bytes_eq name q) refl
-    where
-      by : (t : Bool) → bytes_eq name q ≡ t → plan_in left q ≡ cond t None (plan_in found q)
-      by true is = ap (λ o. unwrap_or o None) (taken q ∙ ap (λ t. cond t None (lookup (bytes_eq q) found)) is)
-      by false is = ap (λ o. unwrap_or o None) (taken q ∙ ap (λ t. cond t None (lookup (bytes_eq q) found)) is)
 
 -- where it has no plan, the plans are as they were
 pub adopting_same : (names : Names) (es : List (List ℕ × Entry)) (plans plans' : List ℕ → Option PlanValue) (name : List ℕ) → plans name ≡ None → ((q : List ℕ) → plans' q ≡ cond (bytes_eq name q) None (plans q))
@@ -244,10 +240,55 @@ adopting_either names es es' plans plans' name p this taken now present absent =
     by (Some e) is = adopting_some names es es' plans plans' name p this taken now e is (present e is).0 (present e is).1
     by None is = adopting_none names es es' plans plans' name p this taken now is (absent is)
 
+-- the plans are taken down to a place: what does not stand before it has none
+pub record AreTaken (names : Names) (es : List (List ℕ × Entry)) (found : List (List ℕ × Option PlanValue)) (place : ℕ) : Type 0 where
+  pub within : place ≤ length found
+  pub adopting : IsAdopting names es (plan_in found)
+  pub rest : (q : List ℕ) → (Contains (take place (keys_of found)) q → ⊥) → plan_in found q ≡ None
+
+-- in the beginning none is
+pub taken_first : (names : Names) (es : List (List ℕ × Entry)) (found : List (List ℕ × Option PlanValue)) (n : ℕ) → n ≡ length found → IsAdopting names es (plan_in found) → AreTaken names es found n
+taken_first names es found n is now = record {
+  within = omega (arith, is);
+  adopting = now;
+  rest = λ q apart. by q (λ c. apart (subst (λ ks. Contains ks q) (sym (take_all n (keys_of found) (omega (arith, is, length-map found (λ (e : List ℕ × Option PlanValue). e.0))))) c)) (lookup (bytes_eq q) found) refl;
+}
+  where
+    by : (q : List ℕ) → (Contains (keys_of found) q → ⊥) → (o : Option (Option PlanValue)) → lookup (bytes_eq q) found ≡ o → plan_in found q ≡ None
+    by q apart None is = ap (λ o. unwrap_or o None) is
+    by q apart (Some v) is = absurd (apart (Contains-keys_from_lookup equal-true q found (ap is_some is)))
+
+-- the name at a place
+abbrev name_before : List (List ℕ × Option PlanValue) → ℕ → List ℕ
+name_before found place = get_or (keys_of found) (place - 1) []
+
+-- then one after another
+pub taken_next : (names : Names) (es es' : List (List ℕ × Entry)) (found found' : List (List ℕ × Option PlanValue)) (place : ℕ) → 0 < place → keys_of found' ≡ keys_of found
+    → ((q : List ℕ) → plan_in found' q ≡ cond (bytes_eq (name_before found place) q) None (plan_in found q))
+    → IsAdopting names es' (plan_in found') → AreTaken names es found place → AreTaken names es' found' (place - 1)
+taken_next names es es' found found' place some keys taken now before = record {
+  within = omega (arith, before.within, length-map found (λ (e : List ℕ × Option PlanValue). e.0), length-map found' (λ (e : List ℕ × Option PlanValue). e.0), ap length keys);
+  adopting = now;
+  rest = λ q apart. taken q ∙ by q apart (bytes_eq (name_before found place) q) refl;
+}
+  where
+    more : take place (keys_of found) ≡ take (place - 1) (keys_of found) ++ name_before found place ∷ []
+    more =
+        let next : place ≡ place - 1 + 1 = omega (arith, some) in
+        ap (λ n. take n (keys_of found)) next ∙ take_more (keys_of found) (place - 1) [] (omega (arith, some, before.within, length-map found (λ (e : List ℕ × Option PlanValue). e.0)))
+
+    by : (q : List ℕ) → (Contains (take (place - 1) (keys_of found')) q → ⊥) → (t : Bool) → bytes_eq (name_before found place) q ≡ t → cond t None (plan_in found q) ≡ None
+    by q apart true is = refl
+    by q apart false is =
+        before.rest q (λ c. ⊎_elim
+        (λ front. apart (subst (λ ks. Contains (take (place - 1) ks) q) (sym keys) front))
+        (λ last. false≢true (sym is ∙ equal-same (name_before found place) q last))
+        (Contains-push_cases (take (place - 1) (keys_of found)) (name_before found place) q (subst (λ ks. Contains ks q) more c)))
+
 -- in the end each entry is right
-pub current_at_end : (names : Names) (es : List (List ℕ × Entry)) (found : List (List ℕ × Option PlanValue)) → IsAdopting names es (plan_in found) → (0 < length found → ⊥) → IsCurrent es
-current_at_end names es (r ∷ found) now none = absurd (none (omega arith))
-current_at_end names es [] now none = λ q e h. subst (λ ns. IsRight (val ns) q e) (sym now.names_are) (now.rest q e h refl)
+pub current_at_end : (names : Names) (es : List (List ℕ × Entry)) (found : List (List ℕ × Option PlanValue)) (place : ℕ) → place ≡ 0 → AreTaken names es found place → IsCurrent es
+current_at_end names es found place end now = λ q e h.
+    subst (λ ns. IsRight (val ns) q e) (sym now.adopting.names_are) (now.adopting.rest q e h (now.rest q (subst (λ n. Contains (take n (keys_of found)) q → ⊥) (sym end) (contains_none q))))
 
 -- ---- plans that were made for entries after a change can be taken by these
 

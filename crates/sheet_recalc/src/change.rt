@@ -60,12 +60,23 @@ impl Sheet {
         ensures refused { IfErr result (Refuses self.old.names (change_of change)) }
         ensures err { OnErr result (self.new ≡ self.old) }
     {
+        self.apply_lent(&change)
+    }
+
+    /// Makes one change that is lent, or says why not.
+    pub fn apply_lent(&mut self, change: &Change) -> Result<(), Refusal>
+        ensures ok { OnOk result (Accepts self.old.names (change_of change.now) self.new.names) }
+        ensures cost { OnOk result (HasCost self.old.names (change_of change.now) self.new.names self.new.cost) }
+        ensures ticks { OnOk result (HasTicks self.old.names (change_of change.now) self.new.names self.new.ticks) }
+        ensures refused { IfErr result (Refuses self.old.names (change_of change.now)) }
+        ensures err { OnErr result (self.new ≡ self.old) }
+    {
         match change {
-            Change::Define(name, tree) => self.define(name, tree),
-            Change::Data(name, tree) => self.data(name, tree),
-            Change::Cell(name, positions, literal) => self.set_cell(name, &positions, &literal),
-            Change::Row(name, literal) => self.add_row(name, &literal),
-            Change::Erase(name) => self.erase(name),
+            Change::Define(name, tree) => self.define_lent(*name, tree),
+            Change::Data(name, tree) => self.data_lent(*name, tree),
+            Change::Cell(name, positions, literal) => self.set_cell(*name, positions, literal),
+            Change::Row(name, literal) => self.add_row(*name, literal),
+            Change::Erase(name) => self.erase(*name),
         }
     }
 

@@ -1,14 +1,14 @@
 //! The part of a change that takes no memory.
 
-ghost use Rattle.std.specs.Prelude.{◌≡◌, ◌<◌, ℕ, List, [], Some, None, if◌then◌else◌};
+ghost use Rattle.std.specs.Prelude.{◌≡◌, ◌<◌, ℕ, List, [], Some, None, length, get_or, if◌then◌else◌};
 ghost use Rattle.std.specs.Str.{bytes_eq};
-ghost use Rattle.std.specs.Map.{lookup, set_value};
+ghost use Rattle.std.specs.Map.{lookup, keys_of, set_value};
 ghost use Rattle.indexmap.specs.IndexMap.{spare, insert_entry};
 ghost use Rattle.arrays_core.specs.Arrays.{ArrayValue};
 ghost use Rattle.arrays_core.specs.Growth.{grown_by};
 ghost use Rattle.index_region.specs.Patches.{patched, FitsPatch};
 ghost use Rattle.index_region.specs.Tails.{FitsTail};
-ghost use Rattle.sheet_recalc.specs.Names.{Data, put, without, referred, referred_by};
+ghost use Rattle.sheet_recalc.specs.Names.{Names, Data, put, without, referred, referred_by};
 ghost use Rattle.sheet_recalc.specs.Entries.{names_of, binding_of, adopting, HasData};
 ghost use Rattle.sheet_recalc.specs.declared.entry.Entry.{Entry as EntryValue};
 ghost use Rattle.sheet_recalc.specs.declared.entry.Entry.TheVariants.{Data as DataEntry};
@@ -27,18 +27,18 @@ use formula_core::Plan;
 use index_region::{Delta, Patch, Tail};
 use indexmap::IndexMap;
 
-/// Makes a change that is worked out for what a name is to be bound to, and hands back the map of what it reached, for its memory. No memory
-/// is asked for.
+/// Makes a change that is worked out for what a name is to be bound to. The map of what it reached is lent, and keeps its memory. No memory is
+/// asked for.
 #[inline(always)]
 pub(crate) fn make(
     entries: &mut IndexMap<Name, Entry>,
     users: &mut Users<Name>,
     name: Name,
     proposal: Proposal,
-    found: Found,
+    found: &mut Found,
     growth: Option<Box<Growth>>,
-) -> Found
-    requires ready { IsReady (record { entries = entries.old; users = users.old }) name proposal found.entries growth }
+)
+    requires ready { IsReady (record { entries = entries.old; users = users.old }) name proposal found.old.entries growth }
     requires tells { IsTable (names_of entries.old.entries) users.old.entries }
     requires used { HasNoEmptyBut bytes_eq users.old.entries [] }
     ensures names { names_of entries.new.entries ≡ proposed_names (outline_at (record { entries = entries.old; users = users.old }) name proposal) }
@@ -46,32 +46,20 @@ pub(crate) fn make(
     ensures tells { IsTable (proposed_names (outline_at (record { entries = entries.old; users = users.old }) name proposal)) users.new.entries }
     ensures used { HasNoEmptyBut bytes_eq users.new.entries [] }
 {
-    let mut found = found;
     match proposal {
         Proposal::Formula(formula) => {
             let entry = Entry::Formula(formula);
-            commit_with(entries, users, name, entry, &mut found, growth);
-            found
+            commit_with(entries, users, name, entry, found, growth);
         }
         Proposal::Data(Delta::Whole(Ok(array))) => {
             let entry = Entry::Data(array);
-            commit_with(entries, users, name, entry, &mut found, growth);
-            found
+            commit_with(entries, users, name, entry, found, growth);
         }
-        Proposal::Data(Delta::Patch(patch)) => {
-            commit_patch(entries, name, &patch, &mut found);
-            found
-        }
-        Proposal::Data(Delta::Grown(tail)) => {
-            commit_row(entries, name, tail, &mut found);
-            found
-        }
-        Proposal::Data(Delta::Same) => found,
-        Proposal::Data(Delta::Whole(Err(_))) => found,
-        Proposal::Removed => {
-            commit_removal(entries, users, name, &mut found);
-            found
-        }
+        Proposal::Data(Delta::Patch(patch)) => commit_patch(entries, name, &patch, found),
+        Proposal::Data(Delta::Grown(tail)) => commit_row(entries, name, tail, found),
+        Proposal::Data(Delta::Same) => {}
+        Proposal::Data(Delta::Whole(Err(_))) => {}
+        Proposal::Removed => commit_removal(entries, users, name, found),
     }
 }
 
@@ -214,11 +202,31 @@ fn adopt_all(entries: &mut IndexMap<Name, Entry>, found: &mut Found)
     ensures names { names_of entries.new.entries ≡ names_of entries.old.entries }
     ensures current { IsCurrent entries.new.entries }
 {
-    while let Some(reached) = found.pop() {
-        let (name, plan) = reached;
-        if let Some(plan) = plan {
-            adopt_one(entries, name, plan);
-        }
+    let mut place = found.len();
+    while place > 0 {
+        place -= 1;
+        adopt_at(entries, found, place);
+    }
+    found.truncate(0);
+}
+
+/// Gives the formula of the name at a place its new results, if it has a plan, which is taken out from where it lies.
+fn adopt_at(entries: &mut IndexMap<Name, Entry>, found: &mut Found, place: usize)
+    requires place { place < length found.old.entries }
+    requires adopting { (names : Names) × IsAdopting names entries.old.entries (plan_in found.old.entries) }
+    ensures keys { keys_of found.new.entries ≡ keys_of found.old.entries }
+    ensures taken { (q : List ℕ) → plan_in found.new.entries q ≡ (if bytes_eq (get_or (keys_of found.old.entries) place []) q then None else plan_in found.old.entries q) }
+    ensures adopting { (names : Names) → IsAdopting names entries.old.entries (plan_in found.old.entries) → IsAdopting names entries.new.entries (plan_in found.new.entries) }
+{
+    let Some((name, _)) = found.get_index(place) else {
+        return;
+    };
+    let name = *name;
+    let Some(lies) = found.get_index_mut(place) else {
+        return;
+    };
+    if let Some(plan) = lies.take() {
+        adopt_one(entries, name, plan);
     }
 }
 

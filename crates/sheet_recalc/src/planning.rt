@@ -36,38 +36,42 @@ use indexmap::IndexMap;
 use std::alloc::{AllocError, Global};
 
 /// What a change reaches, of which no plan is made yet and no function counted, where this was spent before, or why it is refused: the
-/// name would reach itself, or there is no room for it. It is put into a map that is given for its memory.
+/// name would reach itself, or there is no room for it. It takes the place of the plans that are lent, in their memory.
 pub(crate) fn begun(
     alloc: Global,
     proposed: &ProposedSheet<'_>,
     users: &Users<Name>,
-    room: Found,
     spent: u64,
-) -> Result<Plans, Refusal>
+    plans: &mut Plans,
+) -> Result<(), Refusal>
     requires live { IsLive proposed.now.entries.now.entries users.now.entries }
     requires proposal { IsProposalAt proposed.now.entries.now.entries proposed.now.name proposed.now.proposal.now }
     ensures proposed { OnOk result (IsProposed (outline_of proposed.now)) }
-    ensures way { IfOk result (λ w. (ticks : ℕ) → ticks ≡ spent → IsPlanning (outline_of proposed.now) spent w ticks) }
-    ensures first { IfOk result AllWait }
-    ensures all { IfOk result (λ w. AreAllThatReach (proposed_names (outline_of proposed.now)) proposed.now.name (keys_of w.found.entries)) }
+    ensures way { OnOk result ((ticks : ℕ) → ticks ≡ spent → IsPlanning (outline_of proposed.now) spent plans.new ticks) }
+    ensures first { OnOk result (AllWait plans.new) }
+    ensures all { OnOk result (AreAllThatReach (proposed_names (outline_of proposed.now)) proposed.now.name (keys_of plans.new.found.entries)) }
     ensures can { OnOk result (CanBe (outline_of proposed.now)) }
     ensures refused { IfErr result (CannotBecome (names_of proposed.now.entries.now.entries) (proposed_names (outline_of proposed.now)) proposed.now.name) }
 {
     shown_is_sound(proposed);
-    let found = affected(users, proposed.name, proposed.entries.len(), room)?;
-    if let Some(reference) = first_found(&found, proposed.proposal.references()) {
-        return Err(Refusal::Cycle(cycle_through(alloc, proposed, &found, reference)?));
+    affected(
+        users,
+        proposed.name,
+        proposed.entries.len(),
+        &mut plans.found,
+    )?;
+    if let Some(reference) = first_found(&plans.found, proposed.proposal.references()) {
+        let cycle = cycle_through(alloc, proposed, &plans.found, reference)?;
+        return Err(Refusal::Cycle(cycle));
     }
     if !has_room(proposed.entries, proposed.name) {
         return Err(Refusal::SheetFull);
     }
-    Ok(Plans {
-        waiting: found.len(),
-        left: 0,
-        found,
-        current: None,
-        cost: spent,
-    })
+    plans.waiting = plans.found.len();
+    plans.left = 0;
+    plans.current = None;
+    plans.cost = spent;
+    Ok(())
 }
 
 /// What the name shows that is to be bound to a formula, or removed, is an array, if it is no error: it says so itself. Where data is put under it,

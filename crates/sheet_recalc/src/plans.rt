@@ -9,6 +9,7 @@ ghost use Rattle.sheet_recalc.specs.Planning.{waiting_names};
 use apl_tokens::Name;
 use formula_core::Plan;
 use indexmap::IndexMap;
+use std::alloc::Global;
 
 /// What a change reaches, each name after all that refer to it, with the plan of its formula, once that is whole.
 pub(crate) type Found = IndexMap<Name, Option<Plan>>;
@@ -29,6 +30,17 @@ pub(crate) struct Plans {
 }
 
 impl Plans {
+    /// No plans: nothing is reached, and no name waits.
+    pub(crate) fn none(alloc: Global) -> Plans {
+        Plans {
+            found: IndexMap::new(alloc),
+            waiting: 0,
+            current: None,
+            left: 0,
+            cost: 0,
+        }
+    }
+
     /// The last name that waits for its plan.
     pub(crate) fn next_name(&self) -> Option<Name>
         requires { self.now.waiting ≤ length self.now.found.entries }

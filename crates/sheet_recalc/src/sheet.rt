@@ -26,7 +26,7 @@ use crate::evaluation::absent;
 use crate::growth::growth_for;
 use crate::pending::Pending;
 use crate::planning::{apply_next, begun, functions_in, plan_all, settle};
-use crate::plans::Found;
+use crate::plans::Plans;
 use crate::proposal::Proposal;
 use crate::proposed_sheet::ProposedSheet;
 use crate::refusal::Refusal;
@@ -58,8 +58,8 @@ pub struct Sheet {
     cost: u64,
     /// How many items of results were computed in it.
     ticks: u64,
-    /// Room for what the next change reaches, kept from the last one that was made.
-    room: Cell<Found>,
+    /// Room for the plans of the next change, kept from the last one that was made. What it holds is of no account.
+    room: Cell<Plans>,
 }
 
 impl Model for Sheet {
@@ -109,7 +109,7 @@ impl Sheet {
             users: IndexMap::new(alloc),
             cost: 0,
             ticks: 0,
-            room: Cell::new(IndexMap::new(alloc)),
+            room: Cell::new(Plans::none(alloc)),
         }
     }
 
@@ -166,7 +166,18 @@ impl Sheet {
         ensures refused { IfErr result (Refuses self.old.names (Define name (tree_of tree))) }
         ensures err { OnErr result (self.new ≡ self.old) }
     {
-        let formula = Formula::build(self.alloc, tree)?;
+        self.define_lent(name, &tree)
+    }
+
+    /// Binds a name to a formula that is lent.
+    pub(crate) fn define_lent(&mut self, name: Name, tree: &Expr) -> Result<(), Refusal>
+        ensures ok { OnOk result (Accepts self.old.names (Define name (tree_of tree.now)) self.new.names) }
+        ensures cost { OnOk result (HasCost self.old.names (Define name (tree_of tree.now)) self.new.names self.new.cost) }
+        ensures ticks { OnOk result (HasTicks self.old.names (Define name (tree_of tree.now)) self.new.names self.new.ticks) }
+        ensures refused { IfErr result (Refuses self.old.names (Define name (tree_of tree.now))) }
+        ensures err { OnErr result (self.new ≡ self.old) }
+    {
+        let formula = Formula::of(self.alloc, tree)?;
         self.make_change(name, Proposal::Formula(formula), 0, Meter::new())
     }
 
@@ -279,22 +290,22 @@ impl Sheet {
         let Pending {
             name,
             proposal,
-            plans,
+            mut plans,
             growth,
             ticks,
             ..
         } = pending;
         self.cost = plans.cost;
         self.ticks = ticks;
-        let found = make(
+        make(
             &mut self.entries,
             &mut self.users,
             name,
             proposal,
-            plans.found,
+            &mut plans.found,
             growth,
         );
-        self.room.set(found);
+        self.room.set(plans);
     }
 
     /// Works out what a name is to be bound to as a proposal says, formula by formula, where finding that has cost so much and the meter shows so
@@ -319,26 +330,22 @@ impl Sheet {
             name,
             proposal: &proposal,
         };
-        let room = self.room.replace(IndexMap::new(self.alloc));
-        // matched, as `?` would hand the plans on twice more
-        let mut plans = match begun(self.alloc, &proposed, &self.users, room, spent) {
-            Ok(plans) => plans,
-            Err(refusal) => return Err(refusal),
-        };
+        // The plans are made where they lie.
+        let plans = self.room.get_mut();
+        begun(self.alloc, &proposed, &self.users, spent, plans)?;
         let growth = growth_for(self.alloc, &self.entries, &self.users, &proposal)?;
         let mut meter = meter;
-        plan_all(self.alloc, &proposed, &mut plans, &mut meter)?;
+        plan_all(self.alloc, &proposed, plans, &mut meter)?;
         self.cost = plans.cost;
         self.ticks = meter.ticks();
-        let found = make(
+        make(
             &mut self.entries,
             &mut self.users,
             name,
             proposal,
-            plans.found,
+            &mut plans.found,
             growth,
         );
-        self.room.set(found);
         Ok(())
     }
 
@@ -351,8 +358,19 @@ impl Sheet {
         ensures refused { IfErr result (Refuses self.old.names (Store name (tree_of tree))) }
         ensures err { OnErr result (self.new ≡ self.old) }
     {
+        self.data_lent(name, &tree)
+    }
+
+    /// Binds a name to the array that an expression that is lent has now.
+    pub(crate) fn data_lent(&mut self, name: Name, tree: &Expr) -> Result<(), Refusal>
+        ensures ok { OnOk result (Accepts self.old.names (Store name (tree_of tree.now)) self.new.names) }
+        ensures cost { OnOk result (HasCost self.old.names (Store name (tree_of tree.now)) self.new.names self.new.cost) }
+        ensures ticks { OnOk result (HasTicks self.old.names (Store name (tree_of tree.now)) self.new.names self.new.ticks) }
+        ensures refused { IfErr result (Refuses self.old.names (Store name (tree_of tree.now))) }
+        ensures err { OnErr result (self.new ≡ self.old) }
+    {
         let mut meter = Meter::new();
-        let change = self.evaluated(&tree, &mut meter)?;
+        let change = self.evaluated(tree, &mut meter)?;
         let spent = meter.ticks();
         self.make_change(name, Proposal::Data(change), spent, meter)
     }
@@ -509,8 +527,8 @@ impl Sheet {
             name,
             proposal: &proposal,
         };
-        let room = self.room.replace(IndexMap::new(self.alloc));
-        let plans = begun(self.alloc, &proposed, &self.users, room, spent)?;
+        let mut plans = self.room.replace(Plans::none(self.alloc));
+        begun(self.alloc, &proposed, &self.users, spent, &mut plans)?;
         let growth = growth_for(self.alloc, &self.entries, &self.users, &proposal)?;
         Ok(Pending {
             name,

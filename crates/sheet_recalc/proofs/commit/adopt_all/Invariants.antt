@@ -1,10 +1,9 @@
-use Rattle.std.proofs.Common.{length}
 use Rattle.sheet_recalc.specs.Entries.{names_of}
-use Rattle.sheet_recalc.specs.Live.{IsAdopting, plan_in}
+use Rattle.sheet_recalc.proofs.Live.{AreTaken}
 use Rattle.sheet_recalc.proofs.commit.adopt_all.Given as goal
 
-abbrev pub invariant-loop-reached : goal.invariant-loop-reached
-invariant-loop-reached l = IsAdopting (names_of l.fn.entries.entries) l.entries.entries (plan_in l.found.entries)
+abbrev pub invariant-loop-place : goal.invariant-loop-place
+invariant-loop-place l = AreTaken (names_of l.fn.entries.entries) l.entries.entries l.found.entries l.place
 
-abbrev pub decreases-loop-reached : goal.decreases-loop-reached
-decreases-loop-reached l = length l.found.entries
+abbrev pub decreases-loop-place : goal.decreases-loop-place
+decreases-loop-place l = l.place

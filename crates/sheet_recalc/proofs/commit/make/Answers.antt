@@ -106,37 +106,37 @@ pub commit_patch-requires-clause-planned : goal.commit_patch-requires-clause-pla
 commit_patch-requires-clause-planned c =
     let p = c.in-Data-Patch.patch in
     let is = c.in-Data-Patch.is ∙ ap (λ (d : Delta). proposed.Data d) c.in-Data-Patch.field-0-is in
-    fits_planned (record { entries = c.args.entries.now; users = c.args.users.now }) c.args.name c.args.proposal c.args.found.entries c.args.growth (Patch p) is (no_array p) c.requires.ready
+    fits_planned (record { entries = c.args.entries.now; users = c.args.users.now }) c.args.name c.args.proposal c.args.found.now.entries c.args.growth (Patch p) is (no_array p) c.requires.ready
 
 pub returns-in-Data-Patch-clause-names : goal.returns-in-Data-Patch-clause-names
 returns-in-Data-Patch-clause-names c =
     let p = c.in-Data-Patch.patch in
     let is = c.in-Data-Patch.is ∙ ap (λ (d : Delta). proposed.Data d) c.in-Data-Patch.field-0-is in
-    makes_names (record { entries = c.args.entries.now; users = c.args.users.now }) c.args.name c.args.proposal c.args.found.entries c.args.growth (Patch p) is (no_array p) c.requires.ready (names_of c.commit_patch.new.entries.entries) c.commit_patch.ensures.names
+    makes_names (record { entries = c.args.entries.now; users = c.args.users.now }) c.args.name c.args.proposal c.args.found.now.entries c.args.growth (Patch p) is (no_array p) c.requires.ready (names_of c.commit_patch.new.entries.entries) c.commit_patch.ensures.names
 
 pub returns-in-Data-Patch-clause-tells : goal.returns-in-Data-Patch-clause-tells
 returns-in-Data-Patch-clause-tells c =
     let p = c.in-Data-Patch.patch in
     let is = c.in-Data-Patch.is ∙ ap (λ (d : Delta). proposed.Data d) c.in-Data-Patch.field-0-is in
-    makes_table (record { entries = c.args.entries.now; users = c.args.users.now }) c.args.name c.args.proposal c.args.found.entries c.args.growth (Patch p) is (no_array p) c.requires.ready c.args.users.now.entries c.requires.tells
+    makes_table (record { entries = c.args.entries.now; users = c.args.users.now }) c.args.name c.args.proposal c.args.found.now.entries c.args.growth (Patch p) is (no_array p) c.requires.ready c.args.users.now.entries c.requires.tells
 
 pub commit_row-requires-clause-planned : goal.commit_row-requires-clause-planned
 commit_row-requires-clause-planned c =
     let t = c.in-Data-Grown.tail in
     let is = c.in-Data-Grown.is ∙ ap (λ (d : Delta). proposed.Data d) c.in-Data-Grown.field-0-is in
-    fits_planned (record { entries = c.args.entries.now; users = c.args.users.now }) c.args.name c.args.proposal c.args.found.entries c.args.growth (Grown t) is (tail_no_array t) c.requires.ready
+    fits_planned (record { entries = c.args.entries.now; users = c.args.users.now }) c.args.name c.args.proposal c.args.found.now.entries c.args.growth (Grown t) is (tail_no_array t) c.requires.ready
 
 pub returns-in-Data-Grown-clause-names : goal.returns-in-Data-Grown-clause-names
 returns-in-Data-Grown-clause-names c =
     let t = c.in-Data-Grown.tail in
     let is = c.in-Data-Grown.is ∙ ap (λ (d : Delta). proposed.Data d) c.in-Data-Grown.field-0-is in
-    makes_names (record { entries = c.args.entries.now; users = c.args.users.now }) c.args.name c.args.proposal c.args.found.entries c.args.growth (Grown t) is (tail_no_array t) c.requires.ready (names_of c.commit_row.new.entries.entries) c.commit_row.ensures.names
+    makes_names (record { entries = c.args.entries.now; users = c.args.users.now }) c.args.name c.args.proposal c.args.found.now.entries c.args.growth (Grown t) is (tail_no_array t) c.requires.ready (names_of c.commit_row.new.entries.entries) c.commit_row.ensures.names
 
 pub returns-in-Data-Grown-clause-tells : goal.returns-in-Data-Grown-clause-tells
 returns-in-Data-Grown-clause-tells c =
     let t = c.in-Data-Grown.tail in
     let is = c.in-Data-Grown.is ∙ ap (λ (d : Delta). proposed.Data d) c.in-Data-Grown.field-0-is in
-    makes_table (record { entries = c.args.entries.now; users = c.args.users.now }) c.args.name c.args.proposal c.args.found.entries c.args.growth (Grown t) is (tail_no_array t) c.requires.ready c.args.users.now.entries c.requires.tells
+    makes_table (record { entries = c.args.entries.now; users = c.args.users.now }) c.args.name c.args.proposal c.args.found.now.entries c.args.growth (Grown t) is (tail_no_array t) c.requires.ready c.args.users.now.entries c.requires.tells
 
 pub returns-in-Data-Same-clause-tells : goal.returns-in-Data-Same-clause-tells
 returns-in-Data-Same-clause-tells c = absurd (rw (c.in-Data-Same.is ∙ ap (λ (d : Delta). proposed.Data d) c.in-Data-Same.field-0-is) at c.requires.ready.proposal_at)

@@ -1,25 +1,14 @@
-use Rattle.std.proofs.Common.{◌≡◌, ◌-◌, ◌∙◌, ℕ, Bool, true, false, cond, List, Option, Some, None, refl, sym, ap, arith}
+use Rattle.std.proofs.Common.{◌-◌, ◌∙◌, cond, Some, sym, ap, arith}
 use Rattle.std.specs.Str.{bytes_eq}
-use Rattle.std.specs.Map.{lookup}
-use Rattle.std.specs.Option.{unwrap_or}
 use Rattle.indexmap.proofs.CallerLemmas.{keys-with_value_at, updates-with_value_at}
 use Rattle.sheet_recalc.specs.Live.{plan_in}
-use Rattle.formula_core.specs.Plans.{PlanValue}
 use Rattle.sheet_recalc.proofs.NameEquality.{names_equal}
+use Rattle.sheet_recalc.proofs.Live.{put_beside}
 use Rattle.sheet_recalc.proofs.Entered.{entry_at, name_at}
 use Rattle.sheet_recalc.proofs.plans.Plans.keep.Goals as goal
 
 pub returns-in-Some-clause-keys : goal.returns-in-Some-clause-keys
 returns-in-Some-clause-keys c = keys-with_value_at c.args.self.now.found (c.args.self.now.waiting - 1) (Some c.args.plan)
-
--- the plan beside each name, once one is put beside one of them
-put_beside : (es new : List (List ℕ × Option PlanValue)) (k : List ℕ) (p : PlanValue) → ((q : List ℕ) → lookup (bytes_eq q) new ≡ cond (bytes_eq k q) (Some (Some p)) (lookup (bytes_eq q) es))
-    → (q : List ℕ) → plan_in new q ≡ cond (bytes_eq k q) (Some p) (plan_in es q)
-put_beside es new k p put q = ap (λ o. unwrap_or o None) (put q) ∙ by (bytes_eq k q)
-  where
-    by : (t : Bool) → unwrap_or (cond t (Some (Some p)) (lookup (bytes_eq q) es)) None ≡ cond t (Some p) (plan_in es q)
-    by true = refl
-    by false = refl
 
 pub returns-in-Some-clause-plans : goal.returns-in-Some-clause-plans
 returns-in-Some-clause-plans c = λ q.
@@ -27,4 +16,4 @@ returns-in-Some-clause-plans c = λ q.
     let i = w.waiting - 1 in
     let e = entry_at w.found.entries i (omega (arith, c.requires.waits, c.requires.few)) in
     let puts = updates-with_value_at w.found i (Some c.args.plan) names_equal c.get_index_mut.ensures.unique e.0.0 e.0.1 e.1 in
-    put_beside w.found.entries _ e.0.0 c.args.plan puts.0 q ∙ ap (λ k. cond (bytes_eq k q) (Some c.args.plan) (plan_in w.found.entries q)) (sym (name_at w.found.entries i e.0 e.1))
+    put_beside w.found.entries _ e.0.0 (Some c.args.plan) puts.0 q ∙ ap (λ k. cond (bytes_eq k q) (Some c.args.plan) (plan_in w.found.entries q)) (sym (name_at w.found.entries i e.0 e.1))

@@ -1,4 +1,5 @@
 use Rattle.std.proofs.Common.{◌≡◌, ◌∙◌, ◌<◌, refl, sym, ap, subst, false, arith}
+use Rattle.std.proofs.lemmas.Result.{err_from_is_err_and}
 use Rattle.sheet_recalc.specs.Names.{Names, SheetValue}
 use Rattle.sheet_recalc.specs.Tables.{Tables}
 use Rattle.sheet_recalc.specs.Entries.{names_of}
@@ -17,49 +18,52 @@ pub begun-requires-clause-proposal : goal.begun-requires-clause-proposal
 begun-requires-clause-proposal c =
     subst (λ (t : Tables). IsProposalAt t.entries.entries c.args.name c.args.proposal) (sym (ap (λ (s : SheetValue). s.tables) c.self.view_is)) c.requires.proposal
 
-pub returns-in-Err-clause-refused : goal.returns-in-Err-clause-refused
-returns-in-Err-clause-refused c =
-    subst (λ (s : SheetValue). CannotBecome s.names (names_with s.names c.args.name c.args.proposal) c.args.name c.in-Err.refusal) c.self.view_is c.in-Err.ensures.refused
+pub returns-in_err-begun-clause-refused : goal.returns-in_err-begun-clause-refused
+returns-in_err-begun-clause-refused c =
+    let cause = c.in_err-begun.field-0.0 in
+    let p = err_from_is_err_and c.from_residual.result c.from_residual.ensures.1 in
+    let why = subst (λ (s : SheetValue). CannotBecome s.names (names_with s.names c.args.name c.args.proposal) c.args.name cause) c.self.view_is c.in_err-begun.ensures.refused in
+    rw (p.1, p.2) why
 
 pub plan_all-requires-clause-way : goal.plan_all-requires-clause-way
-plan_all-requires-clause-way c = (c.args.spent, c.in-Ok.ensures.way c.args.meter.ticks c.requires.even)
+plan_all-requires-clause-way c = (c.args.spent, c.in_ok-begun.ensures.way c.args.meter.ticks c.requires.even)
 
-pub make-found-requires-clause-ready : goal.make-found-requires-clause-ready
-make-found-requires-clause-ready c =
-    let begun = c.in-Ok.ensures in
+pub make-requires-clause-ready : goal.make-requires-clause-ready
+make-requires-clause-ready c =
+    let begun = c.in_ok-begun.ensures in
     let done = c.in_ok-plan_all.ensures in
     let t : Tables = record { entries = c.self.inside.entries; users = c.self.inside.users } in
     let small : c.args.meter.ticks < 18446744073709551616 = omega (arith, c.requires.even, c.ranges.spent.fits) in
     let p : Pending =
-    record { name = c.args.name; proposal = c.args.proposal; plans = c.in-Ok.plans; growth = c.in_ok-growth.growth; is_cut = false; ticks = c.args.meter.ticks; meter = c.args.meter } in
+    record { name = c.args.name; proposal = c.args.proposal; plans = c.begun.new.plans; growth = c.in_ok-growth.growth; is_cut = false; ticks = c.args.meter.ticks; meter = c.args.meter } in
     let laid : IsLaidOut t p c.args.spent = laid_out t p c.args.spent begun.proposed begun.can c.in_ok-growth.ensures (begun.way c.args.meter.ticks c.requires.even) begun.first begun.all refl refl small in
     (all_ready t p c.plan_all.new.plans c.ticks-self-inside.result c.plan_all.new.meter c.ticks-self-inside.ensures c.ticks-self-inside.type_inv done.way done.all done.left done.current c.args.spent laid).ready
 
-pub invariant_of-self : goal.invariant_of-self
-invariant_of-self c =
-    let begun = c.in-Ok.ensures in
+pub invariant_of-self-2 : goal.invariant_of-self-2
+invariant_of-self-2 c =
+    let begun = c.in_ok-begun.ensures in
     let done = c.in_ok-plan_all.ensures in
     let t : Tables = record { entries = c.self.inside.entries; users = c.self.inside.users } in
     let small : c.args.meter.ticks < 18446744073709551616 = omega (arith, c.requires.even, c.ranges.spent.fits) in
     let p : Pending =
-    record { name = c.args.name; proposal = c.args.proposal; plans = c.in-Ok.plans; growth = c.in_ok-growth.growth; is_cut = false; ticks = c.args.meter.ticks; meter = c.args.meter } in
+    record { name = c.args.name; proposal = c.args.proposal; plans = c.begun.new.plans; growth = c.in_ok-growth.growth; is_cut = false; ticks = c.args.meter.ticks; meter = c.args.meter } in
     let laid : IsLaidOut t p c.args.spent = laid_out t p c.args.spent begun.proposed begun.can c.in_ok-growth.ensures (begun.way c.args.meter.ticks c.requires.even) begun.first begun.all refl refl small in
     let all = all_ready t p c.plan_all.new.plans c.ticks-self-inside.result c.plan_all.new.meter c.ticks-self-inside.ensures c.ticks-self-inside.type_inv done.way done.all done.left done.current c.args.spent laid in
     record {
-      live = live_after c.make-found.new.entries.entries c.make-found.new.users.entries (names_after t p) c.make-found.ensures.names all.ready.sheet all.ready.kept c.make-found.ensures.tells c.make-found.ensures.used c.make-found.ensures.current;
+      live = live_after c.make.new.entries.entries c.make.new.users.entries (names_after t p) c.make.ensures.names all.ready.sheet all.ready.kept c.make.ensures.tells c.make.ensures.used c.make.ensures.current;
       few = all.few;
     }
 
 pub returns-clause-made : goal.returns-clause-made
 returns-clause-made c = λ change lays.
-    let begun = c.in-Ok.ensures in
+    let begun = c.in_ok-begun.ensures in
     let done = c.in_ok-plan_all.ensures in
     let s = c.args.self.now in
     let t : Tables = record { entries = c.self.inside.entries; users = c.self.inside.users } in
     let same : t ≡ s.tables = ap (λ (s : SheetValue). s.tables) c.self.view_is in
     let small : c.args.meter.ticks < 18446744073709551616 = omega (arith, c.requires.even, c.ranges.spent.fits) in
     let p : Pending =
-    record { name = c.args.name; proposal = c.args.proposal; plans = c.in-Ok.plans; growth = c.in_ok-growth.growth; is_cut = false; ticks = c.args.meter.ticks; meter = c.args.meter } in
+    record { name = c.args.name; proposal = c.args.proposal; plans = c.begun.new.plans; growth = c.in_ok-growth.growth; is_cut = false; ticks = c.args.meter.ticks; meter = c.args.meter } in
     let laid : IsLaidOut t p c.args.spent = laid_out t p c.args.spent begun.proposed begun.can c.in_ok-growth.ensures (begun.way c.args.meter.ticks c.requires.even) begun.first begun.all refl refl small in
     let proposed = subst (λ (s : SheetValue). IsProposedOn s c.args.name c.args.proposal c.args.spent p) c.self.view_is
     (record {
@@ -73,7 +77,7 @@ returns-clause-made c = λ change lays.
     let pending = still_pending t p c.plan_all.new.plans c.ticks-self-inside.result c.plan_all.new.meter c.ticks-self-inside.ensures c.ticks-self-inside.type_inv done.way done.all done.left done.current s same change (lays p proposed) in
     let left = none_left t p c.plan_all.new.plans c.ticks-self-inside.result c.plan_all.new.meter c.ticks-self-inside.ensures c.ticks-self-inside.type_inv done.way done.all done.left done.current c.args.spent laid in
     let after : Pending = record p { plans = c.plan_all.new.plans; ticks = c.ticks-self-inside.result; meter = c.plan_all.new.meter } in
-    let is : names_after s.tables after ≡ names_of c.make-found.new.entries.entries = ap (λ (s : SheetValue). names_after s.tables after) (sym c.self.view_is) ∙ sym c.make-found.ensures.names in (
+    let is : names_after s.tables after ≡ names_of c.make.new.entries.entries = ap (λ (s : SheetValue). names_after s.tables after) (sym c.self.view_is) ∙ sym c.make.ensures.names in (
       subst (λ (ns : Names). Accepts s.names change ns) is pending.accepts,
       subst (λ (ns : Names). HasCost s.names change ns after.plans.cost) is (whole_cost s change after pending left),
       subst (λ (ns : Names). HasTicks s.names change ns after.ticks) is (whole_ticks s change after pending left),

@@ -14,19 +14,19 @@ pub begun-requires-clause-proposal : goal.begun-requires-clause-proposal
 begun-requires-clause-proposal c =
     subst (λ (t : Tables). IsProposalAt t.entries.entries c.args.name c.args.proposal) (sym (ap (λ (s : SheetValue). s.tables) c.self.view_is)) c.requires.proposal
 
-pub returns-in_err-plans-clause-refused : goal.returns-in_err-plans-clause-refused
-returns-in_err-plans-clause-refused c =
-    let cause = c.in_err-plans.field-0.0 in
+pub returns-in_err-begun-clause-refused : goal.returns-in_err-begun-clause-refused
+returns-in_err-begun-clause-refused c =
+    let cause = c.in_err-begun.field-0.0 in
     let p = err_from_is_err_and c.from_residual.result c.from_residual.ensures.1 in
-    let why = subst (λ (s : SheetValue). CannotBecome s.names (names_with s.names c.args.name c.args.proposal) c.args.name cause) c.self.view_is c.in_err-plans.ensures.refused in
+    let why = subst (λ (s : SheetValue). CannotBecome s.names (names_with s.names c.args.name c.args.proposal) c.args.name cause) c.self.view_is c.in_err-begun.ensures.refused in
     rw (p.1, p.2) why
 
 pub returns-clause-ok : goal.returns-clause-ok
 returns-clause-ok c =
-    let begun = c.in_ok-plans.ensures in
+    let begun = c.in_ok-begun.ensures in
     let t : Tables = record { entries = c.self.inside.entries; users = c.self.inside.users } in
     let pending : Pending =
-    record { name = c.args.name; proposal = c.args.proposal; plans = c.in_ok-plans.plans; growth = c.in_ok-growth.growth; is_cut = false; ticks = c.ticks.result; meter = c.args.meter } in
+    record { name = c.args.name; proposal = c.args.proposal; plans = c.begun.new.plans; growth = c.in_ok-growth.growth; is_cut = false; ticks = c.ticks.result; meter = c.args.meter } in
     subst (λ (s : SheetValue). IsProposedOn s c.args.name c.args.proposal c.args.spent pending) c.self.view_is
     (record {
       names_are = refl;

@@ -11,12 +11,12 @@ use Rattle.sheet_recalc.specs.Pending.{IsProposedOn}
 use Rattle.sheet_recalc.specs.declared.proposal.Proposal.TheVariants.{Data}
 use Rattle.sheet_recalc.proofs.Asked.{on_ok_map, data_pending}
 use Rattle.sheet_recalc.proofs.Refused.{refused_put, refused_data}
-use Rattle.sheet_recalc.proofs.sheet.Sheet.data.Goals as goal
+use Rattle.sheet_recalc.proofs.sheet.Sheet.data_lent.Goals as goal
 
 pub returns-clause-ok : goal.returns-clause-ok
 returns-clause-ok c =
     let s = c.args.self.now in
-    let t = tree_of c.args.tree in
+    let t = tree_of c.args.tree.now in
     let is = c.in_ok-change.ensures.is in
     let spent : c.ticks-spent.result ≡ ticked 0 (tree_cost true (at_rest s.names) t) =
     c.ticks-spent.ensures ∙ c.in_ok-change.ensures.ticks ∙ ap (λ (m : MeterValue). ticked m.ticks (tree_cost true (at_rest s.names) t)) c.new-meter.ensures in
@@ -25,7 +25,7 @@ returns-clause-ok c =
 pub returns-clause-cost : goal.returns-clause-cost
 returns-clause-cost c =
     let s = c.args.self.now in
-    let t = tree_of c.args.tree in
+    let t = tree_of c.args.tree.now in
     let is = c.in_ok-change.ensures.is in
     let spent : c.ticks-spent.result ≡ ticked 0 (tree_cost true (at_rest s.names) t) =
     c.ticks-spent.ensures ∙ c.in_ok-change.ensures.ticks ∙ ap (λ (m : MeterValue). ticked m.ticks (tree_cost true (at_rest s.names) t)) c.new-meter.ensures in
@@ -34,7 +34,7 @@ returns-clause-cost c =
 pub returns-clause-ticks : goal.returns-clause-ticks
 returns-clause-ticks c =
     let s = c.args.self.now in
-    let t = tree_of c.args.tree in
+    let t = tree_of c.args.tree.now in
     let is = c.in_ok-change.ensures.is in
     let spent : c.ticks-spent.result ≡ ticked 0 (tree_cost true (at_rest s.names) t) =
     c.ticks-spent.ensures ∙ c.in_ok-change.ensures.ticks ∙ ap (λ (m : MeterValue). ticked m.ticks (tree_cost true (at_rest s.names) t)) c.new-meter.ensures in
@@ -45,7 +45,7 @@ returns-clause-refused c =
     let names = c.args.self.now.names in
     let is = c.in_ok-change.ensures.is in
     IfErr-weaker c.make_change.result _ _
-    (λ cause h. refused_data names c.args.name (tree_of c.args.tree) is.0 is.1 cause
+    (λ cause h. refused_data names c.args.name (tree_of c.args.tree.now) is.0 is.1 cause
     (refused_put names c.args.name is.0 c.make_change.ensures.sound.acyclic cause (subst (λ (d : Delta). CannotBecome names (names_with names c.args.name (Data d)) c.args.name cause) is.2 h))) c.make_change.ensures.refused
 
 pub returns-in_err-change-clause-refused : goal.returns-in_err-change-clause-refused
