@@ -37,7 +37,12 @@ fn answer_text(alloc: Global, desk: &mut Desk, text: &str) -> Result<Printed, Al
     ensures ok { IfOk result (λ answer. IsTextAnswer (state_of desk.old) (chars text.now) (printed_bytes answer) (state_of desk.new)) }
     ensures err { OnErr result (desk.new ≡ desk.old) }
 {
-    match line(alloc, text) {
+    let read = line(alloc, text);
+    // A change is lent where it was read.
+    if let Ok(Command::Change(change)) = &read {
+        return edit_text(alloc, desk.plain_lent(change));
+    }
+    match read {
         Ok(command) => carry_out(alloc, desk, command),
         Err(LineFault::Syntax) => Ok(Printed::Fixed("SYNTAX ERROR\n")),
         Err(LineFault::Limit) => Ok(Printed::Fixed("LIMIT ERROR\n")),

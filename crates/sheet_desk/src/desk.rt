@@ -148,7 +148,14 @@ impl Desk {
     pub fn plain(&mut self, change: Change) -> Result<(), Refusal>
         ensures { IsEvent self.old (Plain (change_of change)) (done_answer result) self.new }
     {
-        self.sheet.apply(change)?;
+        self.plain_lent(&change)
+    }
+
+    /// Makes a change that is lent at once. All changes that are open are stale then.
+    pub fn plain_lent(&mut self, change: &Change) -> Result<(), Refusal>
+        ensures { IsEvent self.old (Plain (change_of change.now)) (done_answer result) self.new }
+    {
+        self.sheet.apply_lent(change)?;
         mark_stale(&mut self.slots);
         Ok(())
     }
