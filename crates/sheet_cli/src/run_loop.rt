@@ -3,12 +3,12 @@ ghost use Rattle.std.specs.Prelude.{◌≡◌, ◌+◌, ◌≤◌, ◌<◌, ◌^
 ghost use Rattle.std.specs.Io.KnownBytes.{Appends};
 ghost use Rattle.sheet_cli.specs.Answer.{state_of};
 ghost use Rattle.sheet_cli.specs.Lines.{strip_bom, ended_lines};
-ghost use Rattle.sheet_cli.specs.Progress.{line_after, standing, AnswersLine, Feeds, StopsIn, Finishes, StopsAtEnd};
+ghost use Rattle.sheet_cli.specs.Progress.{line_after, most_kept, standing, AnswersLine, Feeds, StopsIn, Finishes, StopsAtEnd};
 ghost use Rattle.sheet_cli.specs.Run.{Completes, BreaksOff, IsCut};
 
 use crate::answer::answer;
 use crate::device::{Failed, Sink, Source};
-use crate::line_buffer::OpenLine;
+use crate::line_buffer::{KEPT, OpenLine};
 use sheet_desk::Desk;
 use std::alloc::{AllocError, Global};
 
@@ -107,15 +107,28 @@ impl Progress {
     }
 }
 
+/// What is kept of a line, without a byte order mark where it is the first.
+fn stripped(kept: &[u8], lines: u64) -> &[u8]
+    ensures { result.now ≡ line_after lines kept.now }
+{
+    if lines == 0 { strip_bom(kept) } else { kept }
+}
+
 /// What is kept of the line that has not ended, without a byte order mark where it is the first.
 fn line_of(open_line: &OpenLine, lines: u64) -> &[u8]
     ensures { result.now ≡ line_after lines open_line.now }
 {
-    if lines == 0 {
-        strip_bom(open_line.as_slice())
-    } else {
-        open_line.as_slice()
+    stripped(open_line.as_slice(), lines)
+}
+
+/// What is kept of a line that has these bytes.
+fn kept_of(bytes: &[u8]) -> &[u8]
+    ensures { result.now ≡ take most_kept bytes.now }
+{
+    if bytes.len() <= KEPT {
+        return bytes;
     }
+    &bytes[..KEPT]
 }
 
 /// How many bytes stand before the first LF.
@@ -156,6 +169,30 @@ fn end_line<W: Sink>(
     Ok(())
 }
 
+/// Answers the line of these bytes, which an LF ends, where nothing of it was kept before: it is read where it lies.
+fn answer_lying<W: Sink>(
+    alloc: Global,
+    desk: &mut Desk,
+    sink: &mut W,
+    progress: &mut Progress,
+    bytes: &[u8],
+) -> Result<(), Failed>
+    requires lines { progress.old.tally.lines < u64.MAX }
+    requires refused { progress.old.tally.refused_for_memory < u64.MAX }
+    requires none { progress.old.open_line ≡ [] }
+    requires one { ended_lines bytes.now ≡ [] }
+    ensures lines { progress.new.tally.lines ≡ progress.old.tally.lines + 1 }
+    ensures refused { progress.new.tally.refused_for_memory ≤ progress.old.tally.refused_for_memory + 1 }
+    ensures ok { OnOk result ((text : List ℕ) × Appends (W.written sink.old) (W.written sink.new) text
+        × Feeds (bytes.now ++ 10 ∷ []) (standing progress.old.open_line progress.old.tally (state_of desk.old)) text (standing progress.new.open_line progress.new.tally (state_of desk.new))) }
+    ensures err { OnErr result ((text : List ℕ) × Appends (W.written sink.old) (W.written sink.new) text
+        × StopsIn (bytes.now ++ 10 ∷ []) (standing progress.old.open_line progress.old.tally (state_of desk.old)) text (state_of desk.new)) }
+    ensures fault { OnErr result (W.has_failed sink.new ≡ true) }
+{
+    let line = stripped(kept_of(bytes), progress.tally.lines);
+    answer_line(alloc, desk, sink, &mut progress.tally, line)
+}
+
 /// Takes the next bytes of the input up to an LF and with it, or all, and says how many it took.
 fn take_piece<W: Sink>(
     alloc: Global,
@@ -179,6 +216,10 @@ fn take_piece<W: Sink>(
         progress.open_line.append(bytes);
         return Ok(bytes.len());
     };
+    if progress.open_line.as_slice().is_empty() {
+        answer_lying(alloc, desk, sink, progress, &bytes[..end])?;
+        return Ok(end + 1);
+    }
     progress.open_line.append(&bytes[..end]);
     end_line(alloc, desk, sink, progress)?;
     Ok(end + 1)

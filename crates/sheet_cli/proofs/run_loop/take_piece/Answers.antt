@@ -25,9 +25,27 @@ returns-in_err-end_line-clause-err g c =
     let later = drop (c.in-Some.end + 1) bytes in
     let all : bytes ≡ (piece ++ 10 ∷ []) ++ later = rw (← take-lf bytes c.in-Some.end found.0 found.2) (sym (take-append-drop (c.in-Some.end + 1) bytes)) in
     let a = c.in_err-end_line.ensures.err in
-    OnErr-from c.from_residual.result (
+    OnErr-from c.from_residual-in_err-end_line.result (
       a.0,
       a.1,
       StopsIn-is ((piece ++ 10 ∷ []) ++ later) bytes a.0 _ _ all
           (StopsIn-later (piece ++ 10 ∷ []) later a.0 _ _ (StopsIn-more piece (10 ∷ []) [] a.0 _ _ _ (Feeds-piece piece _ _ _ _ found.1 c.append-2.ensures) a.2)),
     )
+
+pub returns-then-is_empty-clause-ok : goal.returns-then-is_empty-clause-ok
+returns-then-is_empty-clause-ok g c =
+    let bytes = c.args.bytes.now in
+    let found = c.in-Some.ensures in
+    let piece = take c.in-Some.end bytes in
+    let a = c.in_ok-answer_lying.ensures.ok in
+    (a.0, a.1, Feeds-is (piece ++ 10 ∷ []) _ a.0 _ _ (take-lf bytes c.in-Some.end found.0 found.2) a.2)
+
+pub returns-in_err-answer_lying-clause-err : goal.returns-in_err-answer_lying-clause-err
+returns-in_err-answer_lying-clause-err g c =
+    let bytes = c.args.bytes.now in
+    let found = c.in-Some.ensures in
+    let piece = take c.in-Some.end bytes in
+    let later = drop (c.in-Some.end + 1) bytes in
+    let all : bytes ≡ (piece ++ 10 ∷ []) ++ later = rw (← take-lf bytes c.in-Some.end found.0 found.2) (sym (take-append-drop (c.in-Some.end + 1) bytes)) in
+    let a = c.in_err-answer_lying.ensures.err in
+    OnErr-from c.from_residual.result (a.0, a.1, StopsIn-is ((piece ++ 10 ∷ []) ++ later) bytes a.0 _ _ all (StopsIn-later (piece ++ 10 ∷ []) later a.0 _ _ a.2))
