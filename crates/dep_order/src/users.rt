@@ -30,7 +30,7 @@ pub fn affected<N: Eq + Hash + Copy, V: Drop>(
     ensures none { OnOk result (HasNothing N.eq found.new.entries) }
 {
     found.truncate(0);
-    climb(users, node, height, found)?;
+    climb(users, &node, height, found)?;
     // The length says that no key stands in it twice.
     let _distinct = found.len();
     Ok(())
@@ -39,45 +39,45 @@ pub fn affected<N: Eq + Hash + Copy, V: Drop>(
 // Adds a node after all that reach it, but for those that have been found before.
 fn climb<N: Eq + Hash + Copy, V: Drop>(
     users: &Users<N>,
-    node: N,
+    node: &N,
     height: usize,
     found: &mut IndexMap<N, Option<V>>,
 ) -> Result<(), AllocError>
     requires exact { IsExact N.eq }
-    requires within { IsWithin N.eq users.now.entries height node }
+    requires within { IsWithin N.eq users.now.entries height node.now }
     requires closed { IsClosed N.eq users.now.entries (keys_of found.old.entries) }
     ensures closed { OnOk result (IsClosed N.eq users.now.entries (keys_of found.new.entries)) }
-    ensures named { OnOk result (Contains (keys_of found.new.entries) node) }
+    ensures named { OnOk result (Contains (keys_of found.new.entries) node.now) }
     ensures kept { OnOk result ((a : N) → Contains (keys_of found.old.entries) a → Contains (keys_of found.new.entries) a) }
-    ensures sound { OnOk result ((a : N) → Contains (keys_of found.new.entries) a → Contains (keys_of found.old.entries) a ⊎ ((a ≡ node) ⊎ Reaches (Uses N.eq users.now.entries) a node)) }
+    ensures sound { OnOk result ((a : N) → Contains (keys_of found.new.entries) a → Contains (keys_of found.old.entries) a ⊎ ((a ≡ node.now) ⊎ Reaches (Uses N.eq users.now.entries) a node.now)) }
     ensures none { OnOk result (HasNothing N.eq found.old.entries → HasNothing N.eq found.new.entries) }
 {
     if is_found(found, node) {
         return Ok(());
     }
     for user in users_of(users, node) {
-        climb(users, *user, height - 1, found)?;
+        climb(users, user, height - 1, found)?;
     }
-    found.insert(node, None)?;
+    found.insert(*node, None)?;
     Ok(())
 }
 
 // The node is among those that are found. Where there are none it is not looked for.
-fn is_found<N: Eq + Hash + Copy, V>(found: &IndexMap<N, V>, node: N) -> bool
+fn is_found<N: Eq + Hash + Copy, V>(found: &IndexMap<N, V>, node: &N) -> bool
     requires { IsExact N.eq }
-    ensures { MatchBool result (Contains (keys_of found.now.entries) node) (Contains (keys_of found.now.entries) node → ⊥) }
+    ensures { MatchBool result (Contains (keys_of found.now.entries) node.now) (Contains (keys_of found.now.entries) node.now → ⊥) }
 {
     if found.is_empty() {
         return false;
     }
-    found.contains_key(&node)
+    found.contains_key(node)
 }
 
 // The nodes that refer to a node.
-fn users_of<N: Eq + Hash + Copy>(users: &Users<N>, node: N) -> &[N]
-    ensures { result.now ≡ users_of N.eq users.now.entries node }
+fn users_of<'a, N: Eq + Hash + Copy>(users: &'a Users<N>, node: &N) -> &'a [N]
+    ensures { result.now ≡ users_of N.eq users.now.entries node.now }
 {
-    match users.get(&node) {
+    match users.get(node) {
         Some(those) => those.as_slice(),
         None => &[],
     }
@@ -155,7 +155,7 @@ fn drop_if_unused<N: Eq + Hash + Copy>(users: &mut Users<N>, reference: N)
     ensures same { (a b : N) → Uses N.eq users.new.entries a b ↔ Uses N.eq users.old.entries a b }
     ensures used { (rest : List N) → HasNoEmptyBut N.eq users.old.entries (reference ∷ rest) → HasNoEmptyBut N.eq users.new.entries rest }
 {
-    if !users_of(users, reference).is_empty() {
+    if !users_of(users, &reference).is_empty() {
         return;
     }
     let _empty = users.swap_remove(&reference);

@@ -11,16 +11,16 @@ pub overflow_sub-height : goal.overflow_sub-height
 overflow_sub-height g t c =
     let eq = g.N.PartialEq.eq in
     let table = c.args.users.now.entries in
-    let uses : Uses eq table c.user-item.result c.args.node = subst (λ (us : List _). Contains us c.user-item.result) c.users_of-user-items.ensures (c.loop-user.user-index, c.loop-user-test.true, sym c.user-item.is) in
-    omega (arith, within_first eq table c.args.height c.args.node c.user-item.result c.requires.within uses)
+    let uses : Uses eq table c.user-item.result c.args.node.now = subst (λ (us : List _). Contains us c.user-item.result) c.users_of-user-items.ensures (c.loop-user.user-index, c.loop-user-test.true, sym c.user-item.is) in
+    omega (arith, within_first eq table c.args.height c.args.node.now c.user-item.result c.requires.within uses)
 
 pub climb-requires : goal.climb-requires
 climb-requires g t c =
     let eq = g.N.PartialEq.eq in
     let table = c.args.users.now.entries in
-    let uses : Uses eq table c.user-item.result c.args.node = subst (λ (us : List _). Contains us c.user-item.result) c.users_of-user-items.ensures (c.loop-user.user-index, c.loop-user-test.true, sym c.user-item.is) in
-    let some = within_first eq table c.args.height c.args.node c.user-item.result c.requires.within uses in
-    λ κs outlives. (omega (arith, some, c.decreases), (outlives.0, (outlives.1, (c.requires.exact, (within_user eq table c.args.height c.args.node c.user-item.result c.requires.within uses, c.loop-user.invariant.closed)))))
+    let uses : Uses eq table c.user-item.result c.args.node.now = subst (λ (us : List _). Contains us c.user-item.result) c.users_of-user-items.ensures (c.loop-user.user-index, c.loop-user-test.true, sym c.user-item.is) in
+    let some = within_first eq table c.args.height c.args.node.now c.user-item.result c.requires.within uses in
+    λ κs outlives. (omega (arith, some, c.decreases), (outlives.0, (outlives.1, (c.requires.exact, (within_user eq table c.args.height c.args.node.now c.user-item.result c.requires.within uses, c.loop-user.invariant.closed)))))
 
 pub loop-user-init : goal.loop-user-init
 loop-user-init g t c = record {
@@ -35,7 +35,7 @@ pub loop-user-preserved : goal.loop-user-preserved
 loop-user-preserved g t c =
     let eq = g.N.PartialEq.eq in
     let table = c.args.users.now.entries in
-    let node = c.args.node in
+    let node = c.args.node.now in
     let user = c.user-item.result in
     let items = c.users_of-user-items.result.now in
     let uses : Uses eq table user node = subst (λ (us : List _). Contains us user) c.users_of-user-items.ensures (c.loop-user.user-index, c.loop-user-test.true, sym c.user-item.is) in
@@ -56,22 +56,22 @@ returns-clause-closed g t c =
     let table = c.args.users.now.entries in
     let found = keys_of c.loop-user.found.entries in
     let items = c.users_of-user-items.result.now in
-    subst (λ (ks : List _). IsClosed eq table ks) (sym (ap keys_of c.in_ok-insert.ensures.entries ∙ keys_inserted g.N.PartialEq.eq c.loop-user.found.entries c.args.node None))
-    (found_closed eq c.requires.exact found c.args.node (λ a b. Uses eq table b a) c.loop-user.invariant.closed
+    subst (λ (ks : List _). IsClosed eq table ks) (sym (ap keys_of c.in_ok-insert.ensures.entries ∙ keys_inserted g.N.PartialEq.eq c.loop-user.found.entries c.args.node.now None))
+    (found_closed eq c.requires.exact found c.args.node.now (λ a b. Uses eq table b a) c.loop-user.invariant.closed
     (λ b u.
     let at = subst (λ (us : List _). Contains us b) (sym c.users_of-user-items.ensures) u in
     let there = c.loop-user.invariant.here at.0 (omega (arith, at.1, c.loop-user-test.false)) in
-    subst (λ (y : _). Contains found y) (get_or_default items at.0 c.args.node b at.1 ∙ at.2) there))
+    subst (λ (y : _). Contains found y) (get_or_default items at.0 c.args.node.now b at.1 ∙ at.2) there))
 
 pub returns-clause-named : goal.returns-clause-named
-returns-clause-named g t c = subst (λ (ks : List _). Contains ks c.args.node) (sym (ap keys_of c.in_ok-insert.ensures.entries ∙ keys_inserted g.N.PartialEq.eq c.loop-user.found.entries c.args.node None)) (found_has g.N.PartialEq.eq c.requires.exact (keys_of c.loop-user.found.entries) c.args.node)
+returns-clause-named g t c = subst (λ (ks : List _). Contains ks c.args.node.now) (sym (ap keys_of c.in_ok-insert.ensures.entries ∙ keys_inserted g.N.PartialEq.eq c.loop-user.found.entries c.args.node.now None)) (found_has g.N.PartialEq.eq c.requires.exact (keys_of c.loop-user.found.entries) c.args.node.now)
 
 pub returns-clause-kept : goal.returns-clause-kept
-returns-clause-kept g t c = λ a h. subst (λ (ks : List _). Contains ks a) (sym (ap keys_of c.in_ok-insert.ensures.entries ∙ keys_inserted g.N.PartialEq.eq c.loop-user.found.entries c.args.node None)) (found_kept g.N.PartialEq.eq c.requires.exact (keys_of c.loop-user.found.entries) c.args.node a (c.loop-user.invariant.kept a h))
+returns-clause-kept g t c = λ a h. subst (λ (ks : List _). Contains ks a) (sym (ap keys_of c.in_ok-insert.ensures.entries ∙ keys_inserted g.N.PartialEq.eq c.loop-user.found.entries c.args.node.now None)) (found_kept g.N.PartialEq.eq c.requires.exact (keys_of c.loop-user.found.entries) c.args.node.now a (c.loop-user.invariant.kept a h))
 
 pub returns-clause-sound : goal.returns-clause-sound
 returns-clause-sound g t c = λ a h.
-    ⊎_elim (λ l. c.loop-user.invariant.sound a l) (λ r. inr (inl r)) (found_only g.N.PartialEq.eq c.requires.exact (keys_of c.loop-user.found.entries) c.args.node a (subst (λ (ks : List _). Contains ks a) (ap keys_of c.in_ok-insert.ensures.entries ∙ keys_inserted g.N.PartialEq.eq c.loop-user.found.entries c.args.node None) h))
+    ⊎_elim (λ l. c.loop-user.invariant.sound a l) (λ r. inr (inl r)) (found_only g.N.PartialEq.eq c.requires.exact (keys_of c.loop-user.found.entries) c.args.node.now a (subst (λ (ks : List _). Contains ks a) (ap keys_of c.in_ok-insert.ensures.entries ∙ keys_inserted g.N.PartialEq.eq c.loop-user.found.entries c.args.node.now None) h))
 
 pub returns-clause-none : goal.returns-clause-none
-returns-clause-none g t c = λ h. nothing_more g.N.PartialEq.eq c.loop-user.found.entries _ c.args.node c.in_ok-insert.ensures.updates.0 (c.loop-user.invariant.none h)
+returns-clause-none g t c = λ h. nothing_more g.N.PartialEq.eq c.loop-user.found.entries _ c.args.node.now c.in_ok-insert.ensures.updates.0 (c.loop-user.invariant.none h)

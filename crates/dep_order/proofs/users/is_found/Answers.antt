@@ -7,7 +7,7 @@ use Rattle.dep_order.proofs.users.is_found.Goals as goal
 
 pub returns : goal.returns
 returns g c =
-    let node = c.args.node in
+    let node = c.args.node.now in
     let keys = keys_of c.args.found.now.entries in
     let same = c.contains_key.ensures ∙ key_found g.N.PartialEq.eq c.args.found.now.entries node in
     elim (cases_Bool c.contains_key.result) [
