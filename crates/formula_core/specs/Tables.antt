@@ -35,13 +35,17 @@ abbrev pub tree_of_operand : List (List ℕ) → List Tree → Operand → Tree
 tree_of_operand names trees (operand.Name place) = Name (get_or names place [])
 tree_of_operand names trees (operand.Node place) = tree_at trees place
 
+-- the tree of an index of what these operands stand for
+abbrev pub tree_of_index : List (List ℕ) → List Tree → Operand → List (Option Operand) → Tree
+tree_of_index names trees array positions = Index (tree_of_operand names trees array) (positions_of (map (option_map (tree_of_operand names trees)) positions))
+
 -- the tree of a node, from the names and the trees of the nodes before it
 abbrev pub tree_of_node : List (List ℕ) → List Tree → Node → Tree
 tree_of_node names trees (node.Constant literal) = Const (literal_of literal)
 tree_of_node names trees (node.Name place) = Name (get_or names place [])
 tree_of_node names trees (node.Monad f right) = Monad f (tree_of_operand names trees right)
 tree_of_node names trees (node.Dyad f left right) = Dyad f (tree_of_operand names trees left) (tree_of_operand names trees right)
-tree_of_node names trees (node.Index array positions) = Index (tree_of_operand names trees array) (positions_of (map (option_map (tree_of_operand names trees)) positions.items))
+tree_of_node names trees (node.Index array positions) = tree_of_index names trees array positions.items
 
 -- it applies a function to arguments
 abbrev pub applies : Node → Bool

@@ -14,7 +14,7 @@ ghost use Rattle.formula_core.specs.Plans.{node_change, node_cost_at};
 ghost use Rattle.formula_core.specs.Rules.{with_change};
 ghost use Rattle.formula_core.specs.Stages.{IsStaged, StagedBy, IsKeptBy, IsMadeBy, IsTaken, IsReady, AreReady, IsStep, IsJoined, IsDone, IsSumsStep};
 ghost use Rattle.formula_core.specs.Sums.{summed_at};
-ghost use Rattle.formula_core.specs.Tables.{IsOperand, AreOperands, IsNode, tree_at, tree_of_operand, tree_of_node};
+ghost use Rattle.formula_core.specs.Tables.{IsOperand, AreOperands, IsNode, tree_at, tree_of_index, tree_of_operand, tree_of_node};
 
 use crate::index_change::change_of_index;
 use crate::input::{Input, outcome_is_array, outcomes_are_arrays};
@@ -156,11 +156,33 @@ impl<'a> Stage<'a> {
                 change_of_both(self.alloc, *function, &left, &right, held, change, meter)
             }
             Node::Index(array, positions) => {
-                let array = self.operand(*array);
-                let positions = self.positions(positions)?;
-                change_of_index(self.alloc, &array, &positions, held, change, meter)
+                self.change_of_indexed(*array, positions, held, change, meter)
             }
         }
+    }
+
+    /// The change of an index of what these operands give, as `change_of` tells it. It stands alone, since its positions take room that the other
+    /// nodes need not clear.
+    fn change_of_indexed(
+        &self,
+        array: Operand,
+        positions: &[Option<Operand>],
+        held: &Result<Array, Fault>,
+        change: &mut Delta,
+        meter: &mut Meter,
+    ) -> Result<u32, AllocError>
+        requires array { IsOperand (length self.now.inputs.now) (length self.now.changes.now) array }
+        requires positions { AreOperands (length self.now.inputs.now) (length self.now.changes.now) positions.now }
+        requires staged { StagedBy self.now }
+        requires anew { is_whole self.now.anew.now ≡ true }
+        ensures step { (c : Change) → (names : List (List ℕ)) → (trees : List Tree) → IsStaged c names trees self.now
+            → (self.now.is_new ≡ false → held.now ≡ eval (tree_of_index names trees array positions.now) c.old)
+            → IsStep self.now.is_new c (tree_of_index names trees array positions.now) meter.old.ticks meter.new.ticks (with_change change.new result) }
+        ensures joins { meter.new.joins ≡ meter.old.joins }
+    {
+        let array = self.operand(array);
+        let positions = self.positions(positions)?;
+        change_of_index(self.alloc, &array, &positions, held, change, meter)
     }
 
     /// What changes of the sums that a node keeps: of which there are some if it is a total.

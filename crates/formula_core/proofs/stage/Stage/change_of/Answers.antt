@@ -1,12 +1,13 @@
-use Rattle.std.proofs.Common.{Ok, map, refl, sym, subst}
-use Rattle.std.specs.Option.{option_map}
+use Rattle.std.proofs.Common.{Ok, List, Option, refl, sym, subst, ap, ◌∙◌}
 use Rattle.formula_core.specs.declared.table.Node.{Node}
-use Rattle.formula_core.specs.Tables.{tree_of_node, tree_of_operand}
+use Rattle.formula_core.specs.declared.table.Operand.{Operand}
+use Rattle.formula_core.specs.Meaning.{eval}
+use Rattle.formula_core.specs.Tables.{tree_of_node, tree_of_index, tree_of_operand}
 use Rattle.formula_core.specs.Stages.{IsStep, IsJoined, IsKeptBy, IsMadeBy}
 use Rattle.formula_core.proofs.Steps.{free_step, name_input, name_told}
 use Rattle.formula_core.proofs.Joined.{kept_well, monad_joined, unjoined}
 use Rattle.formula_core.proofs.Summed.{kept_for, made_for}
-use Rattle.formula_core.proofs.Stepping.{monad_step, dyad_step, index_step}
+use Rattle.formula_core.proofs.Stepping.{monad_step, dyad_step}
 use Rattle.formula_core.specs.Rules.{with_change}
 use Rattle.formula_core.proofs.stage.Stage.change_of.Goals as goal
 
@@ -42,13 +43,13 @@ returns-in-Dyad-clause-step c = λ change names trees staged holds.
     (dyad_step c.args.self.now.is_new change c.in-Dyad.function (tree_of_operand names trees c.in-Dyad.left) (tree_of_operand names trees c.in-Dyad.right) c.operand-left.result c.operand-right-in-Dyad.result c.args.held.now _ _ (with_change c.change_of_both.new.change c.change_of_both.result)
     (c.operand-left.ensures.ready change names trees staged) (c.operand-right-in-Dyad.ensures.ready change names trees staged) (rw c.in-Dyad.is at holds) c.change_of_both.ensures.change)
 
-pub returns-in_ok-positions-in-Index-clause-step : goal.returns-in_ok-positions-in-Index-clause-step
-returns-in_ok-positions-in-Index-clause-step c = λ change names trees staged holds.
-    let f = option_map (tree_of_operand names trees) in
-    subst (λ (n : Node). IsStep c.args.self.now.is_new change (tree_of_node names trees n) c.args.meter.now.ticks c.change_of_index.new.meter.ticks (with_change c.change_of_index.new.change c.change_of_index.result)) (sym c.in-Index.is)
-    (index_step c.args.self.now.is_new change (tree_of_operand names trees c.in-Index.array) (map f c.in-Index.positions.items) c.operand-array.result c.in_ok-positions-in-Index.positions.items c.args.held.now _ _ (with_change c.change_of_index.new.change c.change_of_index.result)
-    (c.operand-array.ensures.ready change names trees staged) (rw c.deref.ensures.value at (c.in_ok-positions-in-Index.ensures.ready change names trees staged)) (rw c.in-Index.is at holds)
-    (rw c.deref-in-Index.ensures at c.change_of_index.ensures.change))
+pub returns-in-Index-clause-step : goal.returns-in-Index-clause-step
+returns-in-Index-clause-step c = λ change names trees staged holds.
+    let array = c.in-Index.array in
+    let were : _ = λ (old : _). (rw c.in-Index.is at holds) old ∙ ap (λ (ps : List (Option Operand)). eval (tree_of_index names trees array ps) change.old) (sym c.deref.ensures.value) in
+    subst (λ (n : Node). IsStep c.args.self.now.is_new change (tree_of_node names trees n) c.args.meter.now.ticks c.change_of_indexed.new.meter.ticks (with_change c.change_of_indexed.new.change c.change_of_indexed.result)) (sym c.in-Index.is)
+    (subst (λ (ps : List (Option Operand)). IsStep c.args.self.now.is_new change (tree_of_index names trees array ps) c.args.meter.now.ticks c.change_of_indexed.new.meter.ticks (with_change c.change_of_indexed.new.change c.change_of_indexed.result)) c.deref.ensures.value
+    (c.change_of_indexed.ensures.step change names trees staged were))
 
 pub returns-in_ok-change-in-Constant-clause-joins : goal.returns-in_ok-change-in-Constant-clause-joins
 returns-in_ok-change-in-Constant-clause-joins c = λ change names trees staged holds.
@@ -73,7 +74,7 @@ returns-in-Dyad-clause-joins c = λ change names trees staged holds.
     subst (λ (n : Node). IsJoined c.args.self.now.is_new change (tree_of_node names trees n) c.args.meter.now.joins c.change_of_both.new.meter.joins (with_change c.change_of_both.new.change c.change_of_both.result)) (sym c.in-Dyad.is)
     (unjoined c.args.self.now.is_new change _ _ _ (with_change c.change_of_both.new.change c.change_of_both.result) c.change_of_both.ensures.joins refl refl)
 
-pub returns-in_ok-positions-in-Index-clause-joins : goal.returns-in_ok-positions-in-Index-clause-joins
-returns-in_ok-positions-in-Index-clause-joins c = λ change names trees staged holds.
-    subst (λ (n : Node). IsJoined c.args.self.now.is_new change (tree_of_node names trees n) c.args.meter.now.joins c.change_of_index.new.meter.joins (with_change c.change_of_index.new.change c.change_of_index.result)) (sym c.in-Index.is)
-    (unjoined c.args.self.now.is_new change _ _ _ (with_change c.change_of_index.new.change c.change_of_index.result) c.change_of_index.ensures.joins refl refl)
+pub returns-in-Index-clause-joins : goal.returns-in-Index-clause-joins
+returns-in-Index-clause-joins c = λ change names trees staged holds.
+    subst (λ (n : Node). IsJoined c.args.self.now.is_new change (tree_of_node names trees n) c.args.meter.now.joins c.change_of_indexed.new.meter.joins (with_change c.change_of_indexed.new.change c.change_of_indexed.result)) (sym c.in-Index.is)
+    (unjoined c.args.self.now.is_new change _ _ _ (with_change c.change_of_indexed.new.change c.change_of_indexed.result) c.change_of_indexed.ensures.joins refl refl)

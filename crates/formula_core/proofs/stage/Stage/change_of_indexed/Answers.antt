@@ -1,0 +1,13 @@
+use Rattle.std.proofs.Common.{map}
+use Rattle.std.specs.Option.{option_map}
+use Rattle.formula_core.specs.Rules.{with_change}
+use Rattle.formula_core.specs.Tables.{tree_of_operand}
+use Rattle.formula_core.proofs.Stepping.{index_step}
+use Rattle.formula_core.proofs.stage.Stage.change_of_indexed.Goals as goal
+
+pub returns-clause-step : goal.returns-clause-step
+returns-clause-step c = λ change names trees staged holds.
+    let f = option_map (tree_of_operand names trees) in
+    index_step c.args.self.now.is_new change (tree_of_operand names trees c.args.array) (map f c.args.positions.now) c.operand-array.result c.in_ok-positions.positions.items c.args.held.now _ _
+    (with_change c.change_of_index.new.change c.change_of_index.result) (c.operand-array.ensures.ready change names trees staged) (c.in_ok-positions.ensures.ready change names trees staged) holds
+    (rw c.deref.ensures at c.change_of_index.ensures.change)
