@@ -152,6 +152,7 @@ impl Desk {
     }
 
     /// Makes a change that is lent at once. All changes that are open are stale then.
+    #[inline(always)]
     pub fn plain_lent(&mut self, change: &Change) -> Result<(), Refusal>
         ensures { IsEvent self.old (Plain (change_of change.now)) (done_answer result) self.new }
     {

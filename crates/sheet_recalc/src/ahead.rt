@@ -133,6 +133,7 @@ impl<'a, 'b> Ahead<'a, 'b> {
     }
 
     /// What a name shows, with what changed of it.
+    #[inline(always)]
     fn input_of(&self, name: Name) -> Input<'_>
         requires ahead { IsAhead self.now }
         requires done { IsDone (outline_of self.now.proposed.now) (plan_in self.now.found.now.entries) name }
@@ -191,6 +192,7 @@ impl<'a, 'b> Ahead<'a, 'b> {
     }
 
     /// What the name shows that is bound anew, where that is no formula, or removed.
+    #[inline(always)]
     fn own(&self) -> Input<'_>
         requires ahead { IsAhead self.now }
         requires done { NeedsNoPlan (outline_of self.now.proposed.now) self.now.proposed.now.name }

@@ -64,6 +64,7 @@ impl Sheet {
     }
 
     /// Makes one change that is lent, or says why not.
+    #[inline(always)]
     pub fn apply_lent(&mut self, change: &Change) -> Result<(), Refusal>
         ensures ok { OnOk result (Accepts self.old.names (change_of change.now) self.new.names) }
         ensures cost { OnOk result (HasCost self.old.names (change_of change.now) self.new.names self.new.cost) }

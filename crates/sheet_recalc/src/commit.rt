@@ -211,6 +211,7 @@ fn adopt_all(entries: &mut IndexMap<Name, Entry>, found: &mut Found)
 }
 
 /// Gives the formula of the name at a place its new results, if it has a plan, which is taken out from where it lies.
+#[inline(always)]
 fn adopt_at(entries: &mut IndexMap<Name, Entry>, found: &mut Found, place: usize)
     requires place { place < length found.old.entries }
     requires adopting { (names : Names) × IsAdopting names entries.old.entries (plan_in found.old.entries) }
@@ -231,6 +232,7 @@ fn adopt_at(entries: &mut IndexMap<Name, Entry>, found: &mut Found, place: usize
 }
 
 /// Gives the formula of a name its new results.
+#[inline(always)]
 fn adopt_one(entries: &mut IndexMap<Name, Entry>, name: Name, plan: Plan)
     requires { (e : EntryValue) → lookup (bytes_eq name) entries.old.entries ≡ Some e → CanAdopt e plan }
     ensures present { (e : EntryValue) → lookup (bytes_eq name) entries.old.entries ≡ Some e → (entries.new.entries ≡ set_value (bytes_eq name) entries.old.entries (adopting e plan))

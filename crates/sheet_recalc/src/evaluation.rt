@@ -19,6 +19,7 @@ use smallvec::SmallVec;
 pub(crate) type Inputs<'a> = SmallVec<Input<'a>, 4>;
 
 /// What a name shows; VALUE ERROR where it is absent.
+#[inline(always)]
 pub(crate) fn shown(entries: &IndexMap<Name, Entry>, name: Name) -> Result<&Array, Fault>
     requires { IsCurrent entries.now.entries }
     ensures { read result ≡ val (names_of entries.now.entries) name }

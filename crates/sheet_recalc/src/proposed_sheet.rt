@@ -37,6 +37,7 @@ impl<'a> ProposedSheet<'a> {
     }
 
     /// The formula that a name is bound to.
+    #[inline(always)]
     pub(crate) fn formula_of(&self, name: Name) -> Option<&'a Formula>
         ensures { MatchOption result ((f : FormulaValue) → entry_of (outline_of self.now) name ≡ Some (FormulaEntry f) → ⊥) (λ f. entry_of (outline_of self.now) name ≡ Some (FormulaEntry f.now)) }
     {

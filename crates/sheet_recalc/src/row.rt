@@ -23,6 +23,7 @@ use indexmap::IndexMap;
 use std::alloc::{AllocError, Global};
 
 /// What the data of a name grows by with a literal as its last row, or why not.
+#[inline(always)]
 pub(crate) fn row_behind(
     alloc: Global,
     entries: &IndexMap<Name, Entry>,
@@ -42,6 +43,7 @@ pub(crate) fn row_behind(
 }
 
 /// What an array grows by with a literal as its last row, or why not.
+#[inline(always)]
 fn tail_of(alloc: Global, array: &Array, literal: &Literal) -> Result<Tail, Refusal>
     ensures put { IfOk result (λ tail. row_put (Some (Data array.now)) (literal_of literal.now) ≡ Ok (grown_by array.now tail.items)) }
     ensures fits { IfOk result (FitsTail array.now) }

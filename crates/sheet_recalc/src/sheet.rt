@@ -401,6 +401,7 @@ impl Sheet {
 
     /// Replaces one item of data, the indexed assignment of one item (ISO/IEC 13751, "Indexed Assignment"). The data is
     /// not copied.
+    #[inline(always)]
     pub fn set_cell(
         &mut self,
         name: Name,
@@ -438,6 +439,7 @@ impl Sheet {
     /// the name is absent, or bound to a formula; the data is of another rank; the literal has not as many items as a row, or
     /// items of the other type; the data would go beyond the limits of arrays. The items lie behind those of the data: these are moved only
     /// where no room is left behind them, and then into room for the next power of two as many.
+    #[inline(always)]
     pub fn add_row(&mut self, name: Name, literal: &Literal) -> Result<(), Refusal>
         ensures ok { OnOk result (Accepts self.old.names (AddRow name (literal_of literal.now)) self.new.names) }
         ensures cost { OnOk result (HasCost self.old.names (AddRow name (literal_of literal.now)) self.new.names self.new.cost) }
