@@ -255,6 +255,7 @@ fn tail_of_one<R: Rule>(
 }
 
 /// The change of a node, and what it costs. Views and boxes of up to three arguments take no memory.
+#[inline(always)]
 fn change_of<R: Rule>(
     alloc: Global,
     rule: &R,
@@ -353,6 +354,7 @@ pub fn refresh<R: Tight>(
 }
 
 /// The change of a node, as `refresh` answers it, put in place of another one, and what it costs: how many items of the result it computes at most.
+#[inline(always)]
 pub fn refresh_with_cost<R: Tight>(
     alloc: Global,
     rule: &R,

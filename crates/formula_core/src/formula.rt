@@ -130,6 +130,7 @@ impl Formula {
     /// where no item fails, and at most as many where one does. Where nothing changed of the names none is computed, but by a new formula. It counts each join of sums of numbers, too:
     /// a total, as `+/` and `+⌿` are, whose lines keep trees of sums joins, for each new number, at most as many as the length of a line
     /// has binary digits.
+    #[inline(always)]
     pub fn plan(&self, inputs: &[Input], meter: &mut Meter) -> Result<Plan, AllocError>
         requires { (c : Change) × IsTold self.now c inputs.now }
         ensures of { IfOk result (IsPlanOf self.now) }
@@ -252,7 +253,7 @@ impl Formula {
 
     /// What changes of the node that comes next after those that have these changes, put in place of another change, and what it costs: a change is large,
     /// and so it is not handed from call to call.
-    #[inline]
+    #[inline(always)]
     fn next(
         &self,
         changes: &[NodeChange],

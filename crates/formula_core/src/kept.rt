@@ -71,6 +71,7 @@ impl Kept {
     }
 
     /// Takes its change. No memory is asked for.
+    #[inline(always)]
     fn adopt(&mut self, change: NodeChange)
         requires { IsFit change (holding self.old) }
         ensures { self.new ≡ taken change self.old }

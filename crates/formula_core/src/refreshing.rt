@@ -39,6 +39,7 @@ pub(crate) struct Operation<'a> {
 
 impl<'a> Operation<'a> {
     /// Its change, put in place of another one, where it follows this rule; and what it costs. So it is with the calls below.
+    #[inline(always)]
     fn by<R: Tight>(
         &self,
         rule: &R,

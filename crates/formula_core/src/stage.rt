@@ -48,6 +48,7 @@ pub(crate) struct Stage<'a> {
 
 impl<'a> Stage<'a> {
     /// An argument of the next node; in a new formula it counts as new.
+    #[inline(always)]
     fn operand(&self, operand: Operand) -> Input<'a>
         requires within { IsOperand (length self.now.inputs.now) (length self.now.changes.now) operand }
         requires staged { StagedBy self.now }
@@ -82,7 +83,7 @@ impl<'a> Stage<'a> {
     }
 
     /// What changes of the next node, put in place of another change, and what it costs.
-    #[inline]
+    #[inline(always)]
     pub(crate) fn next(&self, change: &mut NodeChange, meter: &mut Meter) -> Result<u32, AllocError>
         requires below { length self.now.changes.now < length self.now.nodes.now }
         requires staged { StagedBy self.now }
@@ -232,6 +233,7 @@ impl<'a> Stage<'a> {
 }
 
 /// What an argument gives as it stands, where the names show these, and these nodes changed so.
+#[inline(always)]
 fn taken<'a>(
     operand: Operand,
     inputs: &'a [Input<'a>],

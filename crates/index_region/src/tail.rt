@@ -84,6 +84,7 @@ impl Tail {
 
     /// What an array grows by to this shape, which lies inline and within the limits: by one item. Memory is asked for only where the array needs
     /// another piece for its items.
+    #[inline(always)]
     pub fn one(shape: Shape, item: Item) -> Result<Tail, AllocError>
         requires inline { shape.capacity ≡ 4 }
         requires within { IsWithinLimits shape.items }
@@ -156,6 +157,7 @@ impl Tail {
     }
 
     /// An array grows by it. It takes no memory.
+    #[inline(always)]
     #[tactic(auto, using(crate::proofs::Grown::grows_by))]
     pub fn write_behind(self, array: &mut Array)
         requires { FitsTail array.old self }

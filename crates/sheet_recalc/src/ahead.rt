@@ -151,6 +151,7 @@ impl<'a, 'b> Ahead<'a, 'b> {
     }
 
     /// What a name shows by the plan of its formula.
+    #[inline(always)]
     fn planned<'c>(&'c self, name: Name, plan: &'c Plan) -> Input<'c>
         requires ahead { IsAhead self.now }
         requires plan { IsPlanAt (outline_of self.now.proposed.now) name plan.now }
@@ -178,6 +179,7 @@ impl<'a, 'b> Ahead<'a, 'b> {
     }
 
     /// What a name shows that has no plan.
+    #[inline(always)]
     fn standing(&self, name: Name) -> Input<'_>
         requires ahead { IsAhead self.now }
         requires done { NeedsNoPlan (outline_of self.now.proposed.now) name }
