@@ -15,7 +15,7 @@ use csv::{ByteRecord, Reader};
 use std::alloc::{AllocError, Global};
 
 /// The most rows of a table, the most columns, and the most places.
-const MOST_PLACES: u64 = 1_048_576;
+const MOST_PLACES: u64 = arrays_core::MOST_PLACES as u64;
 
 /// The most records that are looked at: a header, the most rows, and one more.
 const MOST_RECORDS: u64 = MOST_PLACES + 2;

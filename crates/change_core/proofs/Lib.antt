@@ -8,3 +8,4 @@ pub mod Collected
 pub mod Walking
 pub mod Filling
 pub mod Growing
+pub mod ReadAlike

@@ -13,7 +13,7 @@ use Rattle.index_region.specs.declared.delta.Delta.{Delta}
 use Rattle.index_region.specs.declared.delta.Delta.TheVariants.{Same, Patch, Grown, Whole}
 use Rattle.change_core.specs.RuleModels.{RuleModel}
 use Rattle.change_rules.specs.Nodes.{is_same, all_same}
-use Rattle.selection_rules.specs.Index.{index_rule}
+use Rattle.selection_fns.specs.Index.{index_rule}
 use Rattle.formula_core.specs.Outcomes.{Outcome}
 use Rattle.formula_core.specs.Meaning.{eval, eval_positions, applied1, applied2, indexed, in_front, empty_in_front, names_in, names_in_positions}
 use Rattle.formula_core.specs.Tables.{inside, inside_positions, subtrees}

@@ -35,8 +35,8 @@ use Rattle.change_rules.specs.Outcomes.{evaluation}
 use Rattle.change_rules.proofs.NodeRight.{brings_up_to_date}
 use Rattle.change_rules.proofs.Right.{node_is_right}
 use Rattle.selection_fns.specs.Index.{Position, count_written, written_positions}
-use Rattle.selection_rules.specs.Index.{index_rule}
-use Rattle.selection_rules.specs.IndexLaw.{length-selectors}
+use Rattle.selection_fns.specs.Index.{index_rule}
+use Rattle.selection_fns.specs.Laws.Index.{length-selectors}
 use Rattle.formula_core.specs.Outcomes.{Outcome, given}
 use Rattle.formula_core.specs.Meaning.{eval, eval_positions, applied1, applied2, in_front, empty_in_front, indexed}
 use Rattle.formula_core.specs.Rules.{right_rule, both_rule}

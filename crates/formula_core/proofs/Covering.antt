@@ -7,35 +7,35 @@ use Rattle.change_core.specs.Growth.{IsGrowing}
 use Rattle.change_core.specs.Laws.{IsTight}
 use Rattle.change_core.proofs.Covers.{covers}
 use Rattle.change_core.proofs.Growing.{never_grows}
-use Rattle.scalar_rules.specs.EachMonadicLaw.{each_monadic_tight}
-use Rattle.scalar_rules.specs.EachMonadicGrowth.{each_monadic_growing}
-use Rattle.scalar_rules.specs.EachDyadicLaw.{each_dyadic_tight}
-use Rattle.scalar_rules.specs.EachDyadicGrowth.{each_dyadic_growing}
-use Rattle.structural_rules.specs.ReshapeLaw.{reshape_tight}
-use Rattle.structural_rules.specs.RavelLaw.{ravel_tight}
-use Rattle.structural_rules.specs.CatenateLaw.{catenate_tight}
-use Rattle.structural_rules.specs.TakeLaw.{take_tight}
-use Rattle.structural_rules.specs.DropLaw.{drop_tight}
-use Rattle.structural_rules.specs.ReverseLaw.{reverse_tight}
-use Rattle.structural_rules.specs.RotateLaw.{rotate_tight}
-use Rattle.structural_rules.specs.TransposeLaw.{transpose_tight}
-use Rattle.structural_rules.specs.DyadicTransposeLaw.{transpose_by_tight}
-use Rattle.selection_rules.specs.ShapeLaw.{shape_tight}
-use Rattle.selection_rules.specs.IndexGeneratorLaw.{generator_tight}
-use Rattle.selection_rules.specs.ReplicateLaw.{replicate_tight}
-use Rattle.selection_rules.specs.Index.{index_rule}
-use Rattle.selection_rules.specs.IndexLaw.{index_tight}
-use Rattle.selection_rules.specs.IndexGrowth.{index_growing}
-use Rattle.selection_rules.specs.IndexOfLaw.{index_of_tight}
-use Rattle.selection_rules.specs.MemberLaw.{member_tight}
-use Rattle.selection_rules.specs.EncodeLaw.{encode_tight}
-use Rattle.selection_rules.specs.DecodeLaw.{decode_tight}
-use Rattle.operator_rules.specs.ReduceLaw.{reduce_tight}
-use Rattle.operator_rules.specs.ScanLaw.{scan_tight}
-use Rattle.operator_rules.specs.LinesGrowth.{reduce_growing, scan_growing}
-use Rattle.operator_rules.specs.OuterProductLaw.{outer_tight}
-use Rattle.operator_rules.specs.OuterProductGrowth.{outer_growing}
-use Rattle.operator_rules.specs.InnerProductLaw.{inner_tight}
+use Rattle.scalar_fns.specs.Laws.EachMonadic.{each_monadic_tight}
+use Rattle.scalar_fns.specs.Laws.EachMonadicGrowth.{each_monadic_growing}
+use Rattle.scalar_fns.specs.Laws.EachDyadic.{each_dyadic_tight}
+use Rattle.scalar_fns.specs.Laws.EachDyadicGrowth.{each_dyadic_growing}
+use Rattle.structural_fns.specs.Laws.Reshape.{reshape_tight}
+use Rattle.structural_fns.specs.Laws.Ravel.{ravel_tight}
+use Rattle.structural_fns.specs.Laws.Catenate.{catenate_tight}
+use Rattle.structural_fns.specs.Laws.Take.{take_tight}
+use Rattle.structural_fns.specs.Laws.Drop.{drop_tight}
+use Rattle.structural_fns.specs.Laws.Reverse.{reverse_tight}
+use Rattle.structural_fns.specs.Laws.Rotate.{rotate_tight}
+use Rattle.structural_fns.specs.Laws.Transpose.{transpose_tight}
+use Rattle.structural_fns.specs.Laws.DyadicTranspose.{transpose_by_tight}
+use Rattle.selection_fns.specs.Laws.Shape.{shape_tight}
+use Rattle.selection_fns.specs.Laws.IndexGenerator.{generator_tight}
+use Rattle.selection_fns.specs.Laws.Replicate.{replicate_tight}
+use Rattle.selection_fns.specs.Index.{index_rule}
+use Rattle.selection_fns.specs.Laws.Index.{index_tight}
+use Rattle.selection_fns.specs.Laws.IndexGrowth.{index_growing}
+use Rattle.selection_fns.specs.Laws.IndexOf.{index_of_tight}
+use Rattle.selection_fns.specs.Laws.Member.{member_tight}
+use Rattle.selection_fns.specs.Laws.Encode.{encode_tight}
+use Rattle.selection_fns.specs.Laws.Decode.{decode_tight}
+use Rattle.operator_fns.specs.Laws.Reduce.{reduce_tight}
+use Rattle.operator_fns.specs.Laws.Scan.{scan_tight}
+use Rattle.operator_fns.specs.Laws.LinesGrowth.{reduce_growing, scan_growing}
+use Rattle.operator_fns.specs.Laws.OuterProduct.{outer_tight}
+use Rattle.operator_fns.specs.Laws.OuterProductGrowth.{outer_growing}
+use Rattle.operator_fns.specs.Laws.InnerProduct.{inner_tight}
 use Rattle.formula_core.specs.Meaning.{scalar1_of, scalar2_of, along_of}
 use Rattle.formula_core.specs.Rules.{right_rule, both_rule}
 use Rattle.formula_core.specs.Changes.{RulesCover, RulesGrow}

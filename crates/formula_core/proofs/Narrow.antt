@@ -15,7 +15,7 @@ use Rattle.index_region.specs.Checks.{Form}
 use Rattle.index_region.specs.Patches.{PatchValue}
 use Rattle.index_region.proofs.Boxes.{fits_length}
 use Rattle.operator_fns.specs.Reduce.{reduce_form}
-use Rattle.operator_fns.proofs.Reduced.{reduce_facts}
+use Rattle.operator_fns.specs.Laws.ReducedShapes.{reduce_facts}
 use Rattle.change_core.specs.RuleModels.{form_size}
 use Rattle.change_core.specs.Reaches.{as_reach, reach_by, reach_of}
 use Rattle.change_rules.specs.Nodes.{Argument, reached_cost, size_in}

@@ -14,7 +14,7 @@ use Rattle.index_region.specs.declared.delta.Delta.TheVariants.{Same, Patch, Gro
 use Rattle.change_core.specs.RuleModels.{RuleModel, form_size}
 use Rattle.change_rules.specs.Nodes.{views, is_same, is_whole, node_delta, node_cost}
 use Rattle.change_rules.specs.Outcomes.{evaluation}
-use Rattle.selection_rules.specs.Index.{index_rule}
+use Rattle.selection_fns.specs.Index.{index_rule}
 use Rattle.formula_core.specs.declared.input.Input.{Input}
 use Rattle.formula_core.specs.declared.input.Input.TheVariants.{Good, Bad}
 use Rattle.formula_core.specs.Outcomes.{Outcome}

@@ -10,28 +10,28 @@ use Rattle.change_core.specs.RuleModels.{RuleModel}
 use Rattle.index_region.specs.declared.delta.Delta.{Delta}
 use Rattle.change_rules.specs.Nodes.{Argument, is_error, node_delta, node_cost}
 use Rattle.change_rules.specs.Outcomes.{Outcome}
-use Rattle.scalar_rules.specs.EachMonadic.{each_monadic_rule}
-use Rattle.scalar_rules.specs.EachDyadic.{each_dyadic_rule}
-use Rattle.structural_rules.specs.Reshape.{reshape_rule}
-use Rattle.structural_rules.specs.Ravel.{ravel_rule}
-use Rattle.structural_rules.specs.Catenate.{catenate_rule}
-use Rattle.structural_rules.specs.Take.{take_rule}
-use Rattle.structural_rules.specs.Drop.{drop_rule}
-use Rattle.structural_rules.specs.Reverse.{reverse_rule}
-use Rattle.structural_rules.specs.Rotate.{rotate_rule}
-use Rattle.structural_rules.specs.Transpose.{transpose_rule}
-use Rattle.structural_rules.specs.DyadicTranspose.{transpose_by_rule}
-use Rattle.selection_rules.specs.Shape.{shape_rule}
-use Rattle.selection_rules.specs.IndexGenerator.{generator_rule}
-use Rattle.selection_rules.specs.Replicate.{replicate_rule}
-use Rattle.selection_rules.specs.IndexOf.{index_of_rule}
-use Rattle.selection_rules.specs.Member.{member_rule}
-use Rattle.selection_rules.specs.Encode.{encode_rule}
-use Rattle.selection_rules.specs.Decode.{decode_rule}
-use Rattle.operator_rules.specs.Reduce.{reduce_rule}
-use Rattle.operator_rules.specs.Scan.{scan_rule}
-use Rattle.operator_rules.specs.OuterProduct.{outer_rule}
-use Rattle.operator_rules.specs.InnerProduct.{inner_rule}
+use Rattle.scalar_fns.specs.EachMonadic.{each_monadic_rule}
+use Rattle.scalar_fns.specs.EachDyadic.{each_dyadic_rule}
+use Rattle.structural_fns.specs.Reshape.{reshape_rule}
+use Rattle.structural_fns.specs.Ravel.{ravel_rule}
+use Rattle.structural_fns.specs.Catenate.{catenate_rule}
+use Rattle.structural_fns.specs.Take.{take_rule}
+use Rattle.structural_fns.specs.Drop.{drop_rule}
+use Rattle.structural_fns.specs.Reverse.{reverse_rule}
+use Rattle.structural_fns.specs.Rotate.{rotate_rule}
+use Rattle.structural_fns.specs.Transpose.{transpose_rule}
+use Rattle.structural_fns.specs.DyadicTranspose.{transpose_by_rule}
+use Rattle.selection_fns.specs.Shape.{shape_rule}
+use Rattle.selection_fns.specs.IndexGenerator.{generator_rule}
+use Rattle.selection_fns.specs.Replicate.{replicate_rule}
+use Rattle.selection_fns.specs.IndexOf.{index_of_rule}
+use Rattle.selection_fns.specs.Member.{member_rule}
+use Rattle.selection_fns.specs.Encode.{encode_rule}
+use Rattle.selection_fns.specs.Decode.{decode_rule}
+use Rattle.operator_fns.specs.Reduce.{reduce_rule}
+use Rattle.operator_fns.specs.Scan.{scan_rule}
+use Rattle.operator_fns.specs.OuterProduct.{outer_rule}
+use Rattle.operator_fns.specs.InnerProduct.{inner_rule}
 use Rattle.formula_core.specs.Meaning.{scalar1_of, scalar2_of, along_of}
 
 -- of a function of one array

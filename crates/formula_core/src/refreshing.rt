@@ -5,7 +5,7 @@ ghost use Rattle.change_core.specs.Reaches.{AllFit};
 ghost use Rattle.change_rules.specs.Nodes.{views, moved};
 ghost use Rattle.change_rules.specs.Currency.{HasAxis};
 ghost use Rattle.selection_fns.specs.Index.{count_written};
-ghost use Rattle.selection_rules.specs.Index.{index_rule};
+ghost use Rattle.selection_fns.specs.Index.{index_rule};
 ghost use Rattle.formula_core.specs.Meaning.{scalar1_of, scalar2_of, along_of};
 ghost use Rattle.formula_core.specs.Rules.{right_rule, both_rule, with_change, IsRefreshed};
 
@@ -16,15 +16,12 @@ use change_core::{Meter, Tight};
 use change_rules::refresh_with_cost;
 use index_region::{Delta, Seen};
 use operator_fns::{Inner, Outer, Reduce, Scan};
-use operator_rules::Ruled as OperatorRule;
-use scalar_rules::{EachDyadic, EachMonadic};
+use scalar_fns::{EachDyadic, EachMonadic};
 use selection_fns::{Decode, Encode, Index, IndexGenerator, IndexOf, Member, Replicate, ShapeOf};
-use selection_rules::Ruled as SelectionRule;
 use std::alloc::{AllocError, Global};
 use structural_fns::{
     Catenate, DropPlaces, DyadicTranspose, Ravel, Reshape, Reverse, Rotate, Take, Transpose,
 };
-use structural_rules::Ruled as StructuralRule;
 
 /// The arguments of an operation as they are now, each with what changed of it, and what the operation gave before.
 #[derive(Drop)]
@@ -70,23 +67,11 @@ impl<'a> Operation<'a> {
     {
         match function {
             Monadic::Scalar(scalar) => self.by(&each_item(scalar), change, meter),
-            Monadic::Ravel => self.by(&StructuralRule { function: Ravel }, change, meter),
+            Monadic::Ravel => self.by(&Ravel, change, meter),
             Monadic::Reverse(along) => self.by(&reverse(along), change, meter),
-            Monadic::Transpose => self.by(
-                &StructuralRule {
-                    function: Transpose,
-                },
-                change,
-                meter,
-            ),
-            Monadic::Shape => self.by(&SelectionRule { function: ShapeOf }, change, meter),
-            Monadic::Iota => self.by(
-                &SelectionRule {
-                    function: IndexGenerator,
-                },
-                change,
-                meter,
-            ),
+            Monadic::Transpose => self.by(&Transpose, change, meter),
+            Monadic::Shape => self.by(&ShapeOf, change, meter),
+            Monadic::Iota => self.by(&IndexGenerator, change, meter),
             Monadic::Reduce(scalar, along) => self.by(&reduce(scalar, along), change, meter),
             Monadic::Scan(scalar, along) => self.by(&scan(scalar, along), change, meter),
         }
@@ -107,29 +92,17 @@ impl<'a> Operation<'a> {
     {
         match function {
             Dyadic::Scalar(scalar) => self.by(&between_items(scalar), change, meter),
-            Dyadic::Reshape => self.by(&StructuralRule { function: Reshape }, change, meter),
+            Dyadic::Reshape => self.by(&Reshape, change, meter),
             Dyadic::Catenate(along) => self.by(&catenate(along), change, meter),
-            Dyadic::Take => self.by(&StructuralRule { function: Take }, change, meter),
-            Dyadic::Drop => self.by(
-                &StructuralRule {
-                    function: DropPlaces,
-                },
-                change,
-                meter,
-            ),
+            Dyadic::Take => self.by(&Take, change, meter),
+            Dyadic::Drop => self.by(&DropPlaces, change, meter),
             Dyadic::Rotate(along) => self.by(&rotate(along), change, meter),
-            Dyadic::Transpose => self.by(
-                &StructuralRule {
-                    function: DyadicTranspose,
-                },
-                change,
-                meter,
-            ),
+            Dyadic::Transpose => self.by(&DyadicTranspose, change, meter),
             Dyadic::Replicate(along) => self.by(&replicate(along), change, meter),
-            Dyadic::IndexOf => self.by(&SelectionRule { function: IndexOf }, change, meter),
-            Dyadic::Member => self.by(&SelectionRule { function: Member }, change, meter),
-            Dyadic::Encode => self.by(&SelectionRule { function: Encode }, change, meter),
-            Dyadic::Decode => self.by(&SelectionRule { function: Decode }, change, meter),
+            Dyadic::IndexOf => self.by(&IndexOf, change, meter),
+            Dyadic::Member => self.by(&Member, change, meter),
+            Dyadic::Encode => self.by(&Encode, change, meter),
+            Dyadic::Decode => self.by(&Decode, change, meter),
             Dyadic::Outer(scalar) => self.by(&outer(scalar), change, meter),
             Dyadic::Inner(fold, each) => self.by(&inner(fold, each), change, meter),
         }
@@ -148,8 +121,7 @@ impl<'a> Operation<'a> {
         ensures refreshed { IsRefreshed (index_rule written.now) self.now.args.now self.now.held.now meter.old.ticks meter.new.ticks (with_change change.new result) }
         ensures joins { meter.new.joins ≡ meter.old.joins }
     {
-        let function = Index { written };
-        self.by(&SelectionRule { function }, change, meter)
+        self.by(&Index { written }, change, meter)
     }
 }
 
@@ -169,77 +141,69 @@ fn between_items(function: ScalarDyad) -> EachDyadic
     }
 }
 
-fn reverse(along: Along) -> StructuralRule<Reverse>
-    ensures { result ≡ record { function = record { along = along_of along } } }
+fn reverse(along: Along) -> Reverse
+    ensures { result ≡ record { along = along_of along } }
 {
-    let function = Reverse {
+    Reverse {
         along: along_of(along),
-    };
-    StructuralRule { function }
+    }
 }
 
-fn catenate(along: Along) -> StructuralRule<Catenate>
-    ensures { result ≡ record { function = record { along = along_of along } } }
+fn catenate(along: Along) -> Catenate
+    ensures { result ≡ record { along = along_of along } }
 {
-    let function = Catenate {
+    Catenate {
         along: along_of(along),
-    };
-    StructuralRule { function }
+    }
 }
 
-fn rotate(along: Along) -> StructuralRule<Rotate>
-    ensures { result ≡ record { function = record { along = along_of along } } }
+fn rotate(along: Along) -> Rotate
+    ensures { result ≡ record { along = along_of along } }
 {
-    let function = Rotate {
+    Rotate {
         along: along_of(along),
-    };
-    StructuralRule { function }
+    }
 }
 
-fn replicate(along: Along) -> SelectionRule<Replicate>
-    ensures { result ≡ record { function = record { along = along_of along } } }
+fn replicate(along: Along) -> Replicate
+    ensures { result ≡ record { along = along_of along } }
 {
-    let function = Replicate {
+    Replicate {
         along: along_of(along),
-    };
-    SelectionRule { function }
+    }
 }
 
-fn reduce(function: ScalarDyad, along: Along) -> OperatorRule<Reduce>
-    ensures { result ≡ record { function = record { function = scalar2_of function; along = along_of along } } }
+fn reduce(function: ScalarDyad, along: Along) -> Reduce
+    ensures { result ≡ record { function = scalar2_of function; along = along_of along } }
 {
-    let function = Reduce {
+    Reduce {
         function: scalar2_of(function),
         along: along_of(along),
-    };
-    OperatorRule { function }
+    }
 }
 
-fn scan(function: ScalarDyad, along: Along) -> OperatorRule<Scan>
-    ensures { result ≡ record { function = record { function = scalar2_of function; along = along_of along } } }
+fn scan(function: ScalarDyad, along: Along) -> Scan
+    ensures { result ≡ record { function = scalar2_of function; along = along_of along } }
 {
-    let function = Scan {
+    Scan {
         function: scalar2_of(function),
         along: along_of(along),
-    };
-    OperatorRule { function }
+    }
 }
 
-fn outer(function: ScalarDyad) -> OperatorRule<Outer>
-    ensures { result ≡ record { function = record { function = scalar2_of function } } }
+fn outer(function: ScalarDyad) -> Outer
+    ensures { result ≡ record { function = scalar2_of function } }
 {
-    let function = Outer {
+    Outer {
         function: scalar2_of(function),
-    };
-    OperatorRule { function }
+    }
 }
 
-fn inner(fold: ScalarDyad, each: ScalarDyad) -> OperatorRule<Inner>
-    ensures { result ≡ record { function = record { fold = scalar2_of fold; each = scalar2_of each } } }
+fn inner(fold: ScalarDyad, each: ScalarDyad) -> Inner
+    ensures { result ≡ record { fold = scalar2_of fold; each = scalar2_of each } }
 {
-    let function = Inner {
+    Inner {
         fold: scalar2_of(fold),
         each: scalar2_of(each),
-    };
-    OperatorRule { function }
+    }
 }

@@ -100,7 +100,9 @@ impl Patch {
         for before in 0..items {
             let place = position(array.shape(), index.as_slice());
             array.write_at(place, self.items.item(before));
-            self.region.advance(&mut index);
+            if before + 1 < items {
+                self.region.advance(&mut index);
+            }
         }
     }
 }

@@ -66,3 +66,9 @@ pub mod UnitProducts
 pub mod NextOutcomes
 pub mod MetLists
 pub mod NearBits
+-- What changes of results.
+pub mod Ranks
+pub mod Boxes
+pub mod OneLine
+pub mod BoxTables
+pub mod BoxErrors

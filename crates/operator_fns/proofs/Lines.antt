@@ -1,17 +1,17 @@
 -- The lines of an array, as entries of its items a stride apart.
 use Rattle.std.proofs.Common.{◌≡◌, ℕ, zero, suc, ◌+◌, ◌-◌, ◌*◌, ◌<◌, ◌≤◌, true, List, [], ◌∷◌, length, get_or, drop, take, ap, sym, ◌∙◌, arith, insert, remove}
-use Rattle.std.proofs.lemmas.Bool.{and_from, le-leb}
 use Rattle.std.proofs.lemmas.List.{length-drop, length-take, length-append, ext_get_or, get_or_default}
 use Rattle.std.proofs.lemmas.List.Elements.{All-drop}
 use Rattle.std.proofs.lemmas.List.FromFn.{length-map-range_with_len, get_or-map-range_with_len}
 use Rattle.arrays_core.specs.Shapes.{size, is_index_of, places_before, IsWithinLimits}
 use Rattle.arrays_core.specs.Arrays.{ArrayValue, item_of}
 use Rattle.arrays_core.specs.Items.{fill}
-use Rattle.arrays_core.proofs.Shapes.{head_of, as_long, places_below}
+use Rattle.arrays_core.proofs.Shapes.{as_long, places_below}
 use Rattle.scalar_fns.specs.Folds.{strided}
 use Rattle.scalar_fns.proofs.RightFolds.{length-strided, get_or-strided}
 use Rattle.index_region.specs.Axes.{places_along}
 use Rattle.operator_fns.specs.RightFold.{line}
+use Rattle.operator_fns.specs.Laws.LineIndices.{inside}
 
 stride_more : (i s x y t : ℕ) → x ≡ y + t → i * s + x ≡ i * s + y + t
 stride_more i s x y t e = omega arith
@@ -24,15 +24,6 @@ stride zero (n ∷ shape) index j h e = omega arith
 stride (suc axis) (n ∷ shape) [] j h e = absurd (omega arith)
 stride (suc axis) (n ∷ shape) (i ∷ index) j h e =
     stride_more (i - 1) (size shape) _ _ _ (stride axis shape index j (omega arith) (omega arith))
-
-pub inside : (axis : ℕ) (shape index : List ℕ) (j : ℕ) → axis < length shape → is_index_of (remove shape axis) index ≡ true
-    → 1 ≤ j → j ≤ get_or shape axis 0 → is_index_of shape (insert index axis j) ≡ true
-inside axis [] index j h e low high = absurd (omega arith)
-inside zero (n ∷ shape) index j h e low high = and_from _ _ (and_from _ _ (le-leb 1 j low) (le-leb j n high)) e
-inside (suc axis) (n ∷ shape) [] j h e low high = cc
-inside (suc axis) (n ∷ shape) (i ∷ index) j h e low high =
-    let head = head_of n i (remove shape axis) index e in
-    and_from _ _ (and_from _ _ (le-leb 1 i head.low) (le-leb i n head.high)) (inside axis shape index j (omega arith) head.rest low high)
 
 size_rest : (n s : ℕ) → 0 < n * s → (0 < s) × (s ≤ n * s)
 size_rest zero s h = absurd (omega arith)

@@ -17,7 +17,8 @@ use Rattle.index_region.proofs.Passing.{limited_gives}
 use Rattle.operator_fns.specs.OuterProduct.{outer_form, outer_item, outer_whole}
 use Rattle.operator_fns.specs.ResultTable.{table}
 use Rattle.operator_fns.proofs.Tables.{places_of_table}
-use Rattle.operator_fns.proofs.Joined.{parts, number_there, size-append}
+use Rattle.operator_fns.specs.Laws.JoinedIndices.{parts, size-append}
+use Rattle.operator_fns.proofs.Joined.{number_there}
 use Rattle.operator_fns.proofs.Placewise.{collected_same, numbers_collected}
 
 -- as many numbers as places

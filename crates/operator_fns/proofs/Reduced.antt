@@ -20,18 +20,17 @@ use Rattle.scalar_fns.specs.Items.{dyadic_on_items, number_item}
 use Rattle.scalar_fns.specs.Folds.{strided, folded}
 use Rattle.scalar_fns.proofs.RightFolds.{length-strided, get_or-strided}
 use Rattle.index_region.specs.declared.along.Along.{Along}
-use Rattle.index_region.specs.Checks.{form_of, Form, limited}
-use Rattle.index_region.specs.Axes.{places_along, is_axis, axis_at}
-use Rattle.index_region.proofs.Passing.{gives, limited_gives}
-use Rattle.operator_fns.specs.Reduce.{reduce_type, reduce_form, reduce_item, reduce_whole}
+use Rattle.index_region.specs.Checks.{form_of}
+use Rattle.index_region.specs.Axes.{places_along, axis_at}
+use Rattle.operator_fns.specs.Reduce.{reduce_form, reduce_item, reduce_whole}
 use Rattle.operator_fns.proofs.Placewise.{collected_same}
 use Rattle.operator_fns.specs.RightFold.{fold_right, line}
 use Rattle.operator_fns.specs.Strides.{line_start}
 use Rattle.operator_fns.proofs.Folds.{some_folded}
 use Rattle.operator_fns.proofs.Lines.{line-strided, size-drop-le}
+use Rattle.operator_fns.specs.Laws.ReducedShapes.{reduce_facts}
 
 -- ---- numbers and their items
-
 pub strided_numbers : (xs : List ℤ) (first stride count : ℕ)
     → strided (Num (pos 0)) (map (λ z. Num z) xs) first stride count ≡ map (λ z. Num z) (strided (pos 0) xs first stride count)
 strided_numbers xs first stride count =
@@ -69,7 +68,6 @@ numbers_folded f xs items first stride count is h =
     ∙ folded_numbers f zs (omega arith)
 
 -- ---- where lines begin
-
 -- the sizes of a shape and of it without an axis
 pub record Sizes (axis : ℕ) (shape : List ℕ) : Type 0 where
   pub lines : ℕ
@@ -154,7 +152,6 @@ some_along zero s l t e h = absurd (omega arith)
 some_along (suc n) s l t e h = omega arith
 
 -- ---- the whole
-
 pub all_of_line : (b : ArrayValue) (axis count : ℕ) (index : List ℕ) → axis < length b.shape → count ≡ get_or b.shape axis 0 → take count (line b axis index) ≡ line b axis index
 all_of_line b axis count index there is =
     let long = length-map-range_with_len (λ j. item_of b (insert index axis j)) 1 (places_along b.shape axis) in
@@ -176,19 +173,6 @@ module _ (f : Scalar2) (b : ArrayValue) (xs : List ℤ) (items : b.items ≡ map
       ∙ ap (λ d. fold_right f (strided d b.items start s n)) t
       ∙ numbers_folded f xs b.items start s n items many
       ∙ ap (λ m. number_item (folded (dyadic_on_numbers f) (strided (pos 0) xs m s n))) (start_is axis b.shape index there inside apart))
-
--- the shape and the type that the checks give
-pub record ReduceFacts (along : Along) (b : ArrayValue) (shape : List ℕ) (t : ItemType) : Type 0 where
-  pub on_axis : is_axis (length b.shape) along ≡ true
-  pub shaped : shape ≡ remove b.shape (axis_at (length b.shape) along)
-  pub typed : t ≡ reduce_type b (axis_at (length b.shape) along)
-
-pub reduce_facts : (along : Along) (b : ArrayValue) (shape : List ℕ) (t : ItemType) → reduce_form along b ≡ Ok (form_of shape t) → ReduceFacts along b shape t
-reduce_facts along b shape t h =
-    let axis = axis_at (length b.shape) along in
-    let checked = gives (is_axis (length b.shape) along) _ (limited (remove b.shape axis) (reduce_type b axis)) (form_of shape t) h in
-    let same = limited_gives (remove b.shape axis) (reduce_type b axis) (form_of shape t) checked.is in
-    record { on_axis = checked.test; shaped = ap (λ (f : Form). f.shape) same; typed = ap (λ (f : Form). f.item_type) same }
 
 same_type : (w : Bool) (t : ItemType) → t ≡ Nums → cond w t Nums ≡ Nums
 same_type true t h = h

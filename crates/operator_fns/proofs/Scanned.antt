@@ -1,6 +1,6 @@
 -- The scan of an array of numbers, taken from the numbers as they lie.
-use Rattle.std.proofs.Common.{◌≡◌, ℕ, zero, suc, ◌+◌, ◌-◌, ◌*◌, ◌/◌, ◌%◌, ◌<◌, ◌≤◌, Bool, true, false, ◌||◌, not, nat_eq, nat_lt, nat_le, inl, inr, IfOk, ◌&&◌, ℤ, pos, List, [], ◌∷◌, length, get_or, drop, take, map, refl, ap, sym, ◌∙◌, arith, insert, remove, if◌then◌else◌, Result, Ok, Err}
-use Rattle.std.proofs.lemmas.Bool.{and_parts, and_from, eqb-true, ltb-true, le-ltb, cases_lt}
+use Rattle.std.proofs.Common.{◌≡◌, ℕ, zero, suc, ◌+◌, ◌-◌, ◌*◌, ◌/◌, ◌%◌, ◌<◌, ◌≤◌, Bool, true, false, ◌||◌, not, nat_eq, nat_lt, inl, inr, IfOk, ℤ, pos, List, [], ◌∷◌, length, get_or, drop, take, map, refl, ap, sym, ◌∙◌, arith, insert, remove, if◌then◌else◌, Result, Ok, Err}
+use Rattle.std.proofs.lemmas.Bool.{eqb-true, ltb-true, le-ltb, cases_lt}
 use Rattle.std.proofs.lemmas.List.{get_or_default}
 use Rattle.std.proofs.lemmas.Nat.{div-mul-add, mod-mul-add, mod_below}
 use Rattle.arrays_core.specs.declared.item.Item.{Item}
@@ -13,7 +13,7 @@ use Rattle.std.specs.List.{range_with_len}
 use Rattle.arrays_core.specs.Items.{fill, type_of, all_or_first_error, and_then}
 use Rattle.arrays_core.specs.Shapes.{size, is_index_of, places_before}
 use Rattle.arrays_core.specs.Arrays.{ArrayValue, IsArray, collect, with_items}
-use Rattle.arrays_core.proofs.Shapes.{head_of, as_long, places_below}
+use Rattle.arrays_core.proofs.Shapes.{as_long, places_below}
 use Rattle.scalar_fns.specs.declared.function.Scalar2.{Scalar2}
 use Rattle.scalar_fns.specs.Numbers.{dyadic_on_numbers}
 use Rattle.scalar_fns.specs.Items.{number_item}
@@ -21,11 +21,11 @@ use Rattle.scalar_fns.specs.NumberLists.{number_items}
 use Rattle.scalar_fns.specs.Folds.{strided, folded}
 use Rattle.scalar_fns.proofs.RightFolds.{take-strided}
 use Rattle.index_region.specs.declared.along.Along.{Along}
-use Rattle.index_region.specs.Checks.{form_of, Form, limited}
+use Rattle.index_region.specs.Checks.{form_of, limited}
 use Rattle.index_region.specs.Arguments.{counts_as_numbers, is_of_numbers}
 use Rattle.index_region.specs.Axes.{places_along, is_axis, axis_at}
 use Rattle.index_region.specs.Answers.{IsPlaceOf, HasTypeOf}
-use Rattle.index_region.proofs.Passing.{gives, limited_gives, passed, place_inside, typed_check, typed_limited}
+use Rattle.index_region.proofs.Passing.{passed, place_inside, typed_check, typed_limited}
 use Rattle.operator_fns.specs.RightFold.{fold_right, line}
 use Rattle.operator_fns.specs.Strides.{line_start}
 use Rattle.operator_fns.specs.LinearScan.{depth, run_to, scanned}
@@ -33,29 +33,13 @@ use Rattle.operator_fns.specs.Scan.{scan_type, scan_form, scan_item, scan_whole}
 use Rattle.operator_fns.proofs.Lines.{stride, line-strided, size-drop-le}
 use Rattle.operator_fns.proofs.Placewise.{collected_same, numbers_collected}
 use Rattle.operator_fns.proofs.Reduced.{numbers_folded, start_is, sizes}
+use Rattle.operator_fns.specs.Laws.ScannedPlaces.{at_axis, scan_facts}
 
 -- ---- an index list and its place
-
 pub restored : (index : List ℕ) (k d : ℕ) → k < length index → insert (remove index k) k (get_or index k d) ≡ index
 restored [] k d h = absurd (omega arith)
 restored (i ∷ index) zero d h = refl
 restored (i ∷ index) (suc k) d h = ap (λ xs. i ∷ xs) (restored index k d (omega arith))
-
--- the index along an axis, and those along the others
-pub record AtAxis (shape index : List ℕ) (k : ℕ) : Type 0 where
-  pub low : 1 ≤ get_or index k 1
-  pub high : get_or index k 1 ≤ get_or shape k 0
-  pub others : is_index_of (remove shape k) (remove index k) ≡ true
-
-pub at_axis : (shape index : List ℕ) (k : ℕ) → k < length shape → is_index_of shape index ≡ true → AtAxis shape index k
-at_axis [] index k h inside = absurd (omega arith)
-at_axis (n ∷ shape) [] k h inside = let no : ⊥ = cc in absurd no
-at_axis (n ∷ shape) (i ∷ index) zero h inside =
-    let head = head_of n i shape index inside in record { low = head.low; high = head.high; others = head.rest }
-at_axis (n ∷ shape) (i ∷ index) (suc k) h inside =
-    let parts = and_parts (nat_le 1 i && nat_le i n) (is_index_of shape index) inside in
-    let rest = at_axis shape index k (omega arith) parts.1 in
-    record { low = rest.low; high = rest.high; others = and_from _ _ parts.0 rest.others }
 
 -- how deep a place lies in its line
 pub depth_at : (s n q i : ℕ) → 0 < s → i < n → depth s n (line_start s n q + i * s) ≡ i
@@ -104,22 +88,6 @@ module _ (f : Scalar2) (b : ArrayValue) (xs : List ℤ) (items : b.items ≡ map
 
       first_is : (p first d i s : ℕ) → p ≡ first + i * s → d ≡ i → first ≡ p - d * s
       first_is p first d i s e g = rw g (omega arith)
-
--- ---- the whole
-
--- the shape and the type that the checks give
-pub record ScanFacts (along : Along) (b : ArrayValue) (shape : List ℕ) (t : ItemType) : Type 0 where
-  pub on_axis : is_axis (length b.shape) along ≡ true
-  pub shaped : shape ≡ b.shape
-  pub typed : t ≡ scan_type b (axis_at (length b.shape) along)
-
-pub scan_facts : (along : Along) (b : ArrayValue) (shape : List ℕ) (t : ItemType) → scan_form along b ≡ Ok (form_of shape t) → ScanFacts along b shape t
-scan_facts along b shape t h =
-    let axis = axis_at (length b.shape) along in
-    let axis_checked = gives (is_axis (length b.shape) along) _ _ (form_of shape t) h in
-    let checked = gives (nat_lt (places_along b.shape axis) 2 || counts_as_numbers b) _ (limited b.shape (scan_type b axis)) (form_of shape t) axis_checked.is in
-    let same = limited_gives b.shape (scan_type b axis) (form_of shape t) checked.is in
-    record { on_axis = axis_checked.test; shaped = ap (λ (f : Form). f.shape) same; typed = ap (λ (f : Form). f.item_type) same }
 
 -- what holds at an index list of a result
 pub record ScanPlace (along : Along) (b : ArrayValue) (index : List ℕ) : Type 0 where

@@ -1,5 +1,5 @@
 -- Inner product, A f.g B: the rows of one array folded with the columns of another.
-use Rattle.std.specs.Prelude.{ℕ, ◌-◌, nat_eq, ◌||◌, List, [], ◌∷◌, ◌++◌, map, length, get_or, take, drop, if◌then◌else◌, Result, Ok}
+use Rattle.std.specs.Prelude.{ℕ, ◌-◌, nat_eq, ◌||◌, List, [], ◌∷◌, ◌++◌, map, length, get_or, take, drop, if◌then◌else◌, Result, Ok, ◌==◌, false, Some}
 use Rattle.std.specs.List.{range_with_len}
 use Rattle.arrays_core.specs.declared.item.Item.{Item}
 use Rattle.arrays_core.specs.declared.item.ItemType.TheVariants.{Nums}
@@ -7,11 +7,15 @@ use Rattle.arrays_core.specs.declared.item.Kind.{Kind}
 use Rattle.arrays_core.specs.declared.item.Kind.TheVariants.{Length}
 use Rattle.arrays_core.specs.Items.{and_then}
 use Rattle.arrays_core.specs.Arrays.{ArrayValue}
+use Rattle.arrays_core.specs.Shapes.{size}
+use Rattle.index_region.specs.Checks.{Form, check, limited, whole}
+use Rattle.index_region.specs.Arguments.{has_one_item}
+use Rattle.index_region.specs.Boxes.{whole_of}
+use Rattle.change_core.specs.RuleModels.{RuleModel, Use}
+use Rattle.change_core.specs.Sourced.{two_rule}
 use Rattle.scalar_fns.specs.declared.function.Scalar2.{Scalar2}
 use Rattle.scalar_fns.specs.Items.{dyadic_on_items}
 use Rattle.scalar_fns.specs.ScalarExtension.{extended}
-use Rattle.index_region.specs.Checks.{Form, check, limited, whole}
-use Rattle.index_region.specs.Arguments.{has_one_item}
 use Rattle.operator_fns.specs.RightFold.{fold_right}
 
 -- how many axes of a are not folded along: all but the last
@@ -53,3 +57,27 @@ inner_item f g a b index =
 -- the whole result
 abbrev pub inner_whole : Scalar2 → Scalar2 → ArrayValue → ArrayValue → Result ArrayValue Kind
 inner_whole f g a b = whole (inner_form a b) (inner_item f g a b)
+
+-- What a change of an argument of an inner product changes of its result.
+-- one item stands for each item of a line; else the line is read
+abbrev pub extended_line : ArrayValue → List (List ℕ) → List (List ℕ)
+extended_line a places = if size a.shape == 1 then map (λ _. 1) a.shape ∷ [] else places
+
+-- each item reads a row of the left argument: a changed box goes to itself without its last axis, and then the axes of
+-- the right argument but the first whole
+abbrev pub row_use : List ℕ → ArrayValue → ArrayValue → Use
+row_use shape a b = record {
+  reads = λ index. extended_line a (map (λ j. take (row_rank a) index ++ j ∷ []) (range_with_len 1 (inner_length a b)));
+  box = λ region. Some (take (row_rank a) region ++ whole_of (drop 1 b.shape));
+}
+
+-- and a column of the right argument: the axes of the left argument but the last whole, and then a changed box without
+-- its first axis
+abbrev pub column_use : List ℕ → ArrayValue → ArrayValue → Use
+column_use shape a b = record {
+  reads = λ index. extended_line b (map (λ j. j ∷ drop (row_rank a) index) (range_with_len 1 (inner_length a b)));
+  box = λ region. Some (whole_of (take (row_rank a) a.shape) ++ drop 1 region);
+}
+
+abbrev pub inner_rule : Scalar2 → Scalar2 → RuleModel
+inner_rule f g = two_rule false inner_form (inner_item f g) row_use column_use

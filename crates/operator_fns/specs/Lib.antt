@@ -20,3 +20,8 @@ pub mod Sum
 pub mod SumNodes
 pub mod LineTrees
 pub mod LineBlocks
+-- What changes of results.
+pub mod Growth
+pub mod BoxLines
+-- Proofs that impls give with their functions: all that changes lies in the boxes, and what grows.
+pub mod Laws

@@ -1,16 +1,20 @@
 //! Inner product: the rows of one array folded with the columns of another.
 
-ghost use Rattle.std.specs.Prelude.{◌≡◌, ◌≢◌, ℕ, ◌+◌, ◌<◌, ◌≤◌, ◌++◌, ◌∷◌, [], IsTrue, IfOk, length, map, take, drop};
+ghost use Rattle.std.specs.Prelude.{◌≡◌, ◌≢◌, ℕ, ◌+◌, ◌<◌, ◌≤◌, ◌++◌, ◌∷◌, [], IsTrue, IfOk, length, map, take, drop, ◌-◌, false, List};
+ghost use Rattle.std.proofs.Common.{rules};
 ghost use Rattle.arrays_core.specs.Limits.{most_places};
 ghost use Rattle.arrays_core.specs.declared.item.Item.TheVariants.{Num};
 ghost use Rattle.arrays_core.specs.Arrays.{IsAnswerTo, IsArray};
 ghost use Rattle.arrays_core.specs.Items.{fill};
 ghost use Rattle.arrays_core.specs.Shapes.{is_index_of as is_below};
-ghost use Rattle.scalar_fns.specs.ScalarExtension.{extended};
 ghost use Rattle.index_region.specs.ArgumentLists.{of_two_arguments};
 ghost use Rattle.index_region.specs.Answers.{IsFormAnswerTo, IsPlaceOf, HasTypeOf};
-ghost use Rattle.operator_fns.specs.InnerProduct.{row_rank as rank_of_rows, row_length as length_of_row, column_length as length_of_column, inner_length as length_of_inner, inner_form, inner_item, inner_whole};
+ghost use Rattle.change_core.specs.Sourced.{uses_of_two};
+ghost use Rattle.change_core.proofs.Growing.{never_grows};
+ghost use Rattle.scalar_fns.specs.ScalarExtension.{extended};
+ghost use Rattle.operator_fns.specs.InnerProduct.{row_rank as rank_of_rows, row_length as length_of_row, column_length as length_of_column, inner_length as length_of_inner, inner_form, inner_item, inner_whole, row_use, column_use};
 ghost use Rattle.operator_fns.specs.RowByColumn.{entry, IsInside, grid_of};
+ghost use Rattle.operator_fns.specs.Laws.InnerProduct.{inner_tight};
 
 use crate::grid::{Grid, grid_products};
 use crate::right_fold::{identity_item, stride};
@@ -19,7 +23,8 @@ use arrays_core::{
     ApplyFault, Array, Item, ItemType, Kind, MOST_AXES, Shape, append_axes, position, shape_of,
     size, with_axis,
 };
-use index_region::{Primitive, Seen, apply, limited};
+use change_core::{Announced, Lawful};
+use index_region::{IndexBox, Intervals, Primitive, Seen, apply, limited};
 use scalar_fns::Scalar2;
 use std::alloc::Global;
 
@@ -242,4 +247,64 @@ impl Primitive for Inner {
     fn item_at(&self, args: &[Seen], index: &[u32]) -> Result<Item, Kind> {
         self.folded_at(&args[0], &args[1], index)
     }
+}
+
+/// All but the last of a list.
+fn but_last<T>(list: &[T]) -> &[T]
+    ensures { result.now ≡ take (length list.now - 1) list.now }
+{
+    &list[..list.len().saturating_sub(1)]
+}
+
+/// All but the first of a list.
+fn but_first<T>(list: &[T]) -> &[T]
+    ensures { result.now ≡ drop 1 list.now }
+{
+    match list {
+        [_, rest @ ..] => rest,
+        [] => &[],
+    }
+}
+
+impl Announced for Inner {
+    ghost selectors = { λ _. false ∷ false ∷ [] };
+
+    ghost uses = { λ _ shape args. uses_of_two row_use column_use shape args };
+
+    fn grows(&self, _args: &[Seen], _grown: &[bool]) -> bool {
+        false
+    }
+
+    fn selects(&self, _which: usize) -> bool {
+        false
+    }
+
+    fn box_of(
+        &self,
+        args: &[Seen],
+        _shape: &[u32],
+        which: usize,
+        region: &IndexBox,
+    ) -> Option<Intervals> {
+        let intervals = if which == 0 {
+            let columns = but_first(args[1].shape().as_slice());
+            Intervals::of(but_last(region.as_slice())).and_whole(columns)
+        } else {
+            let rows = but_last(args[0].shape().as_slice());
+            Intervals::whole(rows).and_all(but_first(region.as_slice()))
+        };
+        Some(intervals)
+    }
+
+    fn whole(&self, alloc: Global, args: &[Seen]) -> Result<Array, ApplyFault> {
+        self.apply(alloc, args)
+    }
+
+    ghost counted = { λ _. Prim.search rules };
+}
+
+impl Lawful for Inner {
+    ghost tight = { λ i. inner_tight i.fold i.each };
+
+    ghost growing = { λ _. never_grows _ };
 }

@@ -1,10 +1,12 @@
 //! Operators on scalar functions: reduction, scan, outer and inner product.
 #![tactic(auto)]
 
+mod box_lines;
 mod columns;
 mod differences;
 mod grid;
 mod inner_product;
+mod later_axis;
 mod limits;
 mod line_tree;
 mod linear_scan;

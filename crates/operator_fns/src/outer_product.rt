@@ -1,24 +1,30 @@
 //! Outer product: a function of each item of one array with each item of another.
 
-ghost use Rattle.std.specs.Prelude.{◌≡◌, ◌<◌, ◌≤◌, ◌*◌, ◌++◌, length, map, vec_len, IfOk};
+ghost use Rattle.std.specs.Prelude.{◌≡◌, ◌<◌, ◌≤◌, ◌*◌, ◌++◌, length, map, vec_len, IfOk, ◌∷◌, [], false};
+ghost use Rattle.std.proofs.Common.{rules};
 ghost use Rattle.arrays_core.specs.Limits.{most_places};
 ghost use Rattle.arrays_core.specs.declared.item.Item.TheVariants.{Num};
 ghost use Rattle.arrays_core.specs.declared.item.ItemType.TheVariants.{Nums};
 ghost use Rattle.arrays_core.specs.Items.{all_or_first_error};
 ghost use Rattle.arrays_core.specs.Arrays.{with_items, IsAnswerTo, IsArray};
 ghost use Rattle.arrays_core.specs.Shapes.{size as size_of, IsWithinLimits};
-ghost use Rattle.scalar_fns.specs.Numbers.{dyadic_on_numbers};
-ghost use Rattle.scalar_fns.specs.NumberLists.{number_items, IsListAnswerTo};
 ghost use Rattle.index_region.specs.ArgumentLists.{of_two_arguments};
 ghost use Rattle.index_region.specs.Answers.{IsFormAnswerTo, IsPlaceOf, HasTypeOf};
+ghost use Rattle.change_core.specs.Sourced.{uses_of_two};
+ghost use Rattle.scalar_fns.specs.Numbers.{dyadic_on_numbers};
+ghost use Rattle.scalar_fns.specs.NumberLists.{number_items, IsListAnswerTo};
 ghost use Rattle.operator_fns.specs.ResultTable.{table as table_of, with_results, LeavesOrFails};
-ghost use Rattle.operator_fns.specs.OuterProduct.{outer_form, outer_item, outer_whole};
+ghost use Rattle.operator_fns.specs.OuterProduct.{outer_form, outer_item, outer_whole, front_use, back_use};
+ghost use Rattle.operator_fns.specs.Laws.OuterProduct.{outer_tight};
+ghost use Rattle.operator_fns.specs.Laws.OuterProductGrowth.{outer_growing};
+ghost use Rattle.operator_fns.specs.Growth.{outer_grows};
 
 use arrays_core::{
     ApplyFault, Array, Item, ItemType, Kind, MOST_AXES, Shape, append_axes, position, room_of,
     shape_of,
 };
-use index_region::{Primitive, Seen, apply, limited};
+use change_core::{Announced, Lawful};
+use index_region::{IndexBox, Intervals, Primitive, Seen, apply, limited};
 use scalar_fns::kernels::{Equal, LessOrEqual, Maximum, Minimum, Minus, Plus, Times, TwoNumbers};
 use scalar_fns::{Scalar2, two};
 use std::alloc::Global;
@@ -180,4 +186,47 @@ impl Primitive for Outer {
     fn item_at(&self, args: &[Seen], index: &[u32]) -> Result<Item, Kind> {
         self.paired_at(&args[0], &args[1], index)
     }
+}
+
+impl Announced for Outer {
+    ghost selectors = { λ _. false ∷ false ∷ [] };
+
+    ghost uses = { λ _ shape args. uses_of_two front_use back_use shape args };
+
+    ghost growth = { λ _. outer_grows };
+
+    fn grows(&self, _args: &[Seen], grown: &[bool]) -> bool {
+        grown[0] && !grown[1]
+    }
+
+    fn selects(&self, _which: usize) -> bool {
+        false
+    }
+
+    fn box_of(
+        &self,
+        args: &[Seen],
+        _shape: &[u32],
+        which: usize,
+        region: &IndexBox,
+    ) -> Option<Intervals> {
+        let intervals = if which == 0 {
+            Intervals::of(region.as_slice()).and_whole(args[1].shape().as_slice())
+        } else {
+            Intervals::whole(args[0].shape().as_slice()).and_all(region.as_slice())
+        };
+        Some(intervals)
+    }
+
+    fn whole(&self, alloc: Global, args: &[Seen]) -> Result<Array, ApplyFault> {
+        self.apply(alloc, args)
+    }
+
+    ghost counted = { λ _. Prim.search rules };
+}
+
+impl Lawful for Outer {
+    ghost tight = { λ o. outer_tight o.function };
+
+    ghost growing = { λ o. outer_growing o.function };
 }

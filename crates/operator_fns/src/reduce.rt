@@ -1,25 +1,32 @@
 //! Reduction: the right fold of each line of an array.
 
-ghost use Rattle.std.specs.Prelude.{◌≡◌, ◌<◌, ◌≤◌, ◌*◌, ◌%◌, pos, length, map, IfOk};
+ghost use Rattle.std.specs.Prelude.{◌≡◌, ◌<◌, ◌≤◌, ◌*◌, ◌%◌, pos, length, map, IfOk, ◌∷◌, [], false};
+ghost use Rattle.std.proofs.Common.{rules};
 ghost use Rattle.arrays_core.specs.declared.item.Item.TheVariants.{Num};
 ghost use Rattle.arrays_core.specs.declared.item.ItemType.TheVariants.{Nums};
 ghost use Rattle.arrays_core.specs.Arrays.{collect as collected, IsAnswerTo};
 ghost use Rattle.arrays_core.specs.Shapes.{size as size_of, places_before, IsWithinLimits};
+ghost use Rattle.index_region.specs.ArgumentLists.{of_one_argument};
+ghost use Rattle.index_region.specs.Answers.{IsFormAnswerTo, IsPlaceOf, HasTypeOf};
+ghost use Rattle.change_core.specs.Sourced.{uses_of_one};
 ghost use Rattle.scalar_fns.specs.declared.function.Scalar2.TheVariants.{Plus as Sum};
 ghost use Rattle.scalar_fns.specs.Numbers.{dyadic_on_numbers};
 ghost use Rattle.scalar_fns.specs.Items.{number_item};
 ghost use Rattle.scalar_fns.specs.Folds.{strided, folded};
-ghost use Rattle.index_region.specs.ArgumentLists.{of_one_argument};
-ghost use Rattle.index_region.specs.Answers.{IsFormAnswerTo, IsPlaceOf, HasTypeOf};
 ghost use Rattle.operator_fns.specs.Strides.{line_start};
-ghost use Rattle.operator_fns.specs.Reduce.{reduce_form, reduce_item, reduce_whole};
+ghost use Rattle.operator_fns.specs.Reduce.{reduce_form, reduce_item, reduce_whole, reduce_use};
+ghost use Rattle.operator_fns.specs.Laws.Reduce.{reduce_tight};
+ghost use Rattle.operator_fns.specs.Laws.LinesGrowth.{reduce_growing};
+ghost use Rattle.operator_fns.specs.Growth.{lines_grow};
 
 use crate::columns::{Numberwise, RowFold, column_folds};
+use crate::later_axis::is_along_a_later_axis;
 use crate::number_rule::{NumberRule, collect_numbers};
 use crate::right_fold::{fold_line, identity_item, stride};
 use crate::sum::sum_list;
 use arrays_core::{ApplyFault, Array, Item, ItemType, Kind, Shape, shape_of, size, without_axis};
-use index_region::{Along, Primitive, Seen, apply, limited};
+use change_core::{Announced, Lawful};
+use index_region::{Along, IndexBox, Intervals, Primitive, Seen, apply, limited};
 use scalar_fns::folds::fold_numbers;
 use scalar_fns::kernels::{Plus, TwoNumbers};
 use scalar_fns::{Scalar2, WithFunction, with_function};
@@ -319,4 +326,43 @@ impl Primitive for Reduce {
     fn item_at(&self, args: &[Seen], index: &[u32]) -> Result<Item, Kind> {
         self.folded_at(&args[0], index)
     }
+}
+
+impl Announced for Reduce {
+    ghost selectors = { λ _. false ∷ [] };
+
+    ghost uses = { λ r shape args. uses_of_one (reduce_use r.along) shape args };
+
+    ghost growth = { λ r. lines_grow r.along };
+
+    fn grows(&self, args: &[Seen], grown: &[bool]) -> bool {
+        grown[0] && is_along_a_later_axis(&args[0], self.along)
+    }
+
+    fn selects(&self, _which: usize) -> bool {
+        false
+    }
+
+    fn box_of(
+        &self,
+        args: &[Seen],
+        _shape: &[u32],
+        _which: usize,
+        region: &IndexBox,
+    ) -> Option<Intervals> {
+        let axis = self.along.axis_at(args[0].shape().len() as u32);
+        Some(region.intervals().copy().without_axis(axis))
+    }
+
+    fn whole(&self, alloc: Global, args: &[Seen]) -> Result<Array, ApplyFault> {
+        self.apply(alloc, args)
+    }
+
+    ghost counted = { λ _. Prim.search rules };
+}
+
+impl Lawful for Reduce {
+    ghost tight = { λ r. reduce_tight r.function r.along };
+
+    ghost growing = { λ r. reduce_growing r.function r.along };
 }

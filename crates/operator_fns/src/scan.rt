@@ -1,25 +1,33 @@
 //! Scan: the right folds of the first items of each line of an array.
 
-ghost use Rattle.std.specs.Prelude.{◌≡◌, ◌<◌, ◌≤◌, ◌+◌, ◌-◌, ◌*◌, ◌∷◌, [], pos, length, map, get_or, IfOk, IfSome};
+ghost use Rattle.std.specs.Prelude.{◌≡◌, ◌<◌, ◌≤◌, ◌+◌, ◌-◌, ◌*◌, ◌∷◌, [], pos, length, map, get_or, IfOk, IfSome, false, set};
+ghost use Rattle.std.proofs.Common.{rules};
 ghost use Rattle.arrays_core.specs.declared.item.Item.TheVariants.{Num};
 ghost use Rattle.arrays_core.specs.declared.item.ItemType.TheVariants.{Nums};
 ghost use Rattle.arrays_core.specs.Arrays.{collect as collected, with_items, IsAnswerTo};
-ghost use Rattle.arrays_core.specs.Limits.{longest_axis};
+ghost use Rattle.arrays_core.specs.Limits.{longest_axis, most_axes};
 ghost use Rattle.arrays_core.specs.Shapes.{size as size_of, places_before, IsWithinLimits};
+ghost use Rattle.index_region.specs.ArgumentLists.{of_one_argument};
+ghost use Rattle.index_region.specs.Answers.{IsFormAnswerTo, IsPlaceOf, HasTypeOf};
+ghost use Rattle.index_region.specs.Axes.{axis_at, places_along};
+ghost use Rattle.change_core.specs.Sourced.{uses_of_one};
 ghost use Rattle.scalar_fns.specs.Numbers.{dyadic_on_numbers};
 ghost use Rattle.scalar_fns.specs.NumberLists.{number_items};
 ghost use Rattle.scalar_fns.specs.Items.{number_item};
 ghost use Rattle.scalar_fns.specs.Folds.{folded};
-ghost use Rattle.index_region.specs.ArgumentLists.{of_one_argument};
-ghost use Rattle.index_region.specs.Answers.{IsFormAnswerTo, IsPlaceOf, HasTypeOf};
-ghost use Rattle.index_region.specs.Axes.{axis_at};
 ghost use Rattle.operator_fns.specs.LinearScan.{run_to, folds_from};
-ghost use Rattle.operator_fns.specs.Scan.{scan_form, scan_item, scan_along, scan_whole};
+ghost use Rattle.operator_fns.specs.Scan.{scan_form, scan_item, scan_along, scan_whole, scan_use};
+ghost use Rattle.operator_fns.specs.Laws.Scan.{scan_tight};
+ghost use Rattle.operator_fns.specs.Laws.LinesGrowth.{scan_growing};
+ghost use Rattle.operator_fns.specs.Growth.{lines_grow};
 
+use crate::box_lines::items_by_lines;
+use crate::later_axis::is_along_a_later_axis;
 use crate::number_scan::{later_folds, number_folds};
 use crate::right_fold::{fold_line, line_numbers, stride};
 use arrays_core::{ApplyFault, Array, Item, ItemType, Kind, Shape, shape_of, without_axis};
-use index_region::{Along, Primitive, Seen, apply, limited};
+use change_core::{Announced, Lawful};
+use index_region::{Along, IndexBox, Intervals, Primitive, Seen, apply, limited};
 use scalar_fns::Scalar2;
 use std::alloc::Global;
 
@@ -193,4 +201,79 @@ impl Primitive for Scan {
     fn item_at(&self, args: &[Seen], index: &[u32]) -> Result<Item, Kind> {
         self.scanned_at(&args[0], index)
     }
+}
+
+/// The intervals of a box, of which that on an axis goes on to the end of the axis; those of a scalar are none.
+fn to_the_end(axes: &[u32], axis: usize, region: &IndexBox) -> Intervals
+    requires { length region.now ≡ length axes.now }
+    ensures { result ≡ set region.now axis ((get_or region.now axis (0, 0)).0, places_along axes.now axis) }
+{
+    let intervals = region.intervals().copy();
+    if axis >= axes.len() {
+        return intervals;
+    }
+    let (first, _) = region.as_slice()[axis];
+    intervals.with(axis, first, axes[axis])
+}
+
+impl Announced for Scan {
+    ghost selectors = { λ _. false ∷ [] };
+
+    ghost uses = { λ r shape args. uses_of_one (scan_use r.along) shape args };
+
+    ghost growth = { λ r. lines_grow r.along };
+
+    fn grows(&self, args: &[Seen], grown: &[bool]) -> bool {
+        grown[0] && is_along_a_later_axis(&args[0], self.along)
+    }
+
+    fn selects(&self, _which: usize) -> bool {
+        false
+    }
+
+    fn box_of(
+        &self,
+        args: &[Seen],
+        _shape: &[u32],
+        _which: usize,
+        region: &IndexBox,
+    ) -> Option<Intervals> {
+        let axes = args[0].shape().as_slice();
+        let axis = self.along.axis_at(axes.len() as u32);
+        Some(to_the_end(axes, axis, region))
+    }
+
+    fn whole(&self, alloc: Global, args: &[Seen]) -> Result<Array, ApplyFault> {
+        self.apply(alloc, args)
+    }
+
+    fn items_at_once(
+        &self,
+        alloc: Global,
+        args: &[Seen],
+        _shape: &[u32],
+        item_type: ItemType,
+        region: &IndexBox,
+    ) -> Option<Result<Array, ApplyFault>> {
+        let array = &args[0];
+        let rank = array.shape().len();
+        let axis = self.along.axis_at(rank as u32);
+        if item_type != ItemType::Nums || axis >= rank {
+            return None;
+        }
+        let (first, last) = region.as_slice()[axis];
+        if region.size() as u32 != last - first + 1 {
+            return items_by_lines(self, alloc, array, axis, region);
+        }
+        let index = region.index_at(0);
+        self.along_line(alloc, array, index.as_slice(), last)
+    }
+
+    ghost counted = { λ _. Prim.search rules };
+}
+
+impl Lawful for Scan {
+    ghost tight = { λ s. scan_tight s.function s.along };
+
+    ghost growing = { λ s. scan_growing s.function s.along };
 }

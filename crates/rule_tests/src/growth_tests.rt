@@ -10,11 +10,8 @@ use change_core::{Meter, Tight};
 use change_rules::refresh_with_cost;
 use index_region::{Along, Delta, Seen};
 use operator_fns::{Outer, Reduce};
-use operator_rules::Ruled as Operator;
-use scalar_fns::Scalar2;
-use scalar_rules::EachDyadic;
+use scalar_fns::{EachDyadic, Scalar2};
 use selection_fns::Index;
-use selection_rules::Ruled as Selection;
 use std::alloc::Global;
 
 /// What an array grows by with these numbers behind its own.
@@ -175,12 +172,10 @@ fn each(function: Scalar2) -> EachDyadic {
 }
 
 /// The sums of lines.
-fn sums(along: Along) -> Operator<Reduce> {
-    Operator {
-        function: Reduce {
-            function: Scalar2::Plus,
-            along,
-        },
+fn sums(along: Along) -> Reduce {
+    Reduce {
+        function: Scalar2::Plus,
+        along,
     }
 }
 
@@ -215,10 +210,8 @@ fn the_sums_of_columns_are_made_anew(rt: HostRuntime) {
 fn chosen_columns_have_one_more_row(rt: HostRuntime) {
     let rows = Ok(two_rows(rt.alloc()).expect(&rt, "rows"));
     let columns = vector(rt.alloc(), &[1, 3]).expect(&rt, "columns");
-    let rule = Selection {
-        function: Index {
-            written: &[false, true],
-        },
+    let rule = Index {
+        written: &[false, true],
     };
     let chosen = with_numbers_beside(rt.alloc(), &rule, &rows, &[7, 8, 9], &columns);
     assert!(rt; is_grown(chosen, &[3, 2], &[7, 9], 2));
@@ -234,10 +227,8 @@ fn the_sum_of_a_vector_with_itself_has_one_more_item(rt: HostRuntime) {
 #[test]
 fn the_table_of_a_vector_with_itself_is_made_anew(rt: HostRuntime) {
     let numbers = Ok(vector(rt.alloc(), &[1, 2]).expect(&rt, "numbers"));
-    let rule = Operator {
-        function: Outer {
-            function: Scalar2::Plus,
-        },
+    let rule = Outer {
+        function: Scalar2::Plus,
     };
     let table = with_numbers_twice(rt.alloc(), &rule, &numbers, &[3]);
     assert!(rt; is_whole(table, &[3, 3], &[2, 3, 4, 3, 4, 5, 4, 5, 6], 9));

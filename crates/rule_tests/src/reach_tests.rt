@@ -2,8 +2,7 @@
 
 use crate::fixtures::{reach_of_left, zeros};
 use change_rules::Reach;
-use scalar_fns::Scalar2;
-use scalar_rules::EachDyadic;
+use scalar_fns::{EachDyadic, Scalar2};
 use std::alloc::Global;
 
 /// What the sum of a vector of five items and another reaches where the second and the third of the five changed.

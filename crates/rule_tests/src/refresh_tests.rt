@@ -6,8 +6,7 @@ ghost use Rattle.index_region.specs.declared.delta.Delta.TheVariants.{Same};
 use crate::fixtures::{patch_of, vector};
 use arrays_core::{Array, Fault, Item};
 use change_rules::{Delta, Meter, Seen, refresh};
-use scalar_fns::Scalar2;
-use scalar_rules::EachDyadic;
+use scalar_fns::{EachDyadic, Scalar2};
 use std::alloc::Global;
 
 /// The change of a product where the left argument changed and the right one is as it was.

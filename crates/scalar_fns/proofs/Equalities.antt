@@ -18,7 +18,8 @@ use Rattle.scalar_fns.specs.Items.{dyadic_on_items, number_item}
 use Rattle.scalar_fns.specs.ScalarExtension.{common, extended, dyadic_on_arrays, for_shape}
 use Rattle.scalar_fns.specs.NumberLists.{number_items}
 use Rattle.scalar_fns.specs.Characters.{equality, told, answers_of, character_at, AreTold}
-use Rattle.scalar_fns.proofs.Joint.{collected, IsOf, Extends, common_extends, extended_is, extended_place, place_in}
+use Rattle.scalar_fns.specs.Laws.Extension.{Extends, common_extends}
+use Rattle.scalar_fns.proofs.Joint.{collected, IsOf, extended_is, extended_place, place_in}
 
 all_ok : (zs : List ℤ) → all_or_first_error {E = Kind} (map (λ z. Ok z) zs) ≡ Ok zs
 all_ok [] = refl

@@ -16,7 +16,8 @@ use Rattle.index_region.specs.Sources.{Place, item_from}
 use Rattle.index_region.proofs.Placed.{right_placed}
 use Rattle.index_region.proofs.RowIndices.{set_before, get_before, set_last, get_last}
 use Rattle.selection_fns.specs.Replicate.{times, copied_place, replicate_form, replicate_source, replicate_item}
-use Rattle.selection_fns.proofs.Copies.{CopyFacts, copy_facts, copy_source, replicate_gives, exchanged_there}
+use Rattle.selection_fns.specs.Laws.CopiedPlaces.{replicate_gives, exchanged_there}
+use Rattle.selection_fns.proofs.Copies.{CopyFacts, copy_facts, copy_source}
 use Rattle.selection_fns.proofs.SourcePlaces.{replicate_inside}
 
 -- a row of the copies of an array with axes, along its axis k

@@ -1,5 +1,5 @@
 -- Copies of the places of an axis.
-use Rattle.std.proofs.Common.{◌≡◌, ℕ, zero, suc, ◌+◌, ◌-◌, ◌*◌, ◌/◌, ◌<◌, ◌≤◌, Bool, true, false, nat_le, if◌then◌else◌, ◌&&◌, ◌||◌, nat_eq, All, Result, Ok, Err, List, [], ◌∷◌, length, ◌++◌, map, take, drop, pos, negsuc, int_le, unsigned_abs, get_or, set, replicate, insert, remove, refl, ap, sym, subst, ◌∙◌, append-nil, ℤ, arith}
+use Rattle.std.proofs.Common.{◌≡◌, ℕ, zero, suc, ◌+◌, ◌-◌, ◌*◌, ◌/◌, ◌<◌, ◌≤◌, Bool, true, false, nat_le, if◌then◌else◌, ◌&&◌, ◌||◌, nat_eq, All, Result, Ok, Err, List, [], ◌∷◌, length, ◌++◌, map, take, drop, pos, negsuc, unsigned_abs, get_or, set, replicate, insert, remove, refl, ap, sym, subst, ◌∙◌, append-nil, ℤ, arith}
 use Rattle.std.specs.Option.{is_some}
 use Rattle.std.specs.Prelude.{max, sum, Option, Some, None, IfSome}
 use Rattle.std.specs.List.{list_all}
@@ -15,17 +15,18 @@ use Rattle.arrays_core.specs.declared.item.Kind.TheVariants.{Axis, Length, Domai
 use Rattle.arrays_core.specs.Items.{type_of}
 use Rattle.arrays_core.specs.Arrays.{ArrayValue, item_of}
 use Rattle.arrays_core.specs.Shapes.{size, is_index_of}
-use Rattle.arrays_core.proofs.Shapes.{as_long, head_of}
 use Rattle.index_region.specs.declared.along.Along.{Along}
-use Rattle.index_region.specs.declared.along.Along.TheVariants as along
 use Rattle.index_region.specs.Checks.{form_of, Form, check, limited}
 use Rattle.index_region.specs.Sources.{Place, Source}
 use Rattle.index_region.specs.Axes.{is_axis, axis_at, places_along}
 use Rattle.index_region.specs.Arguments.{is_list, has_one_item, counts_as_numbers, none_negative, numbers, number_of}
 use Rattle.index_region.specs.Answers.{IsPlaceOf, HasTypeOf}
-use Rattle.index_region.proofs.Passing.{passed, place_inside, typed_check, typed_limited, gives, limited_gives}
-use Rattle.selection_fns.proofs.Repeated.{sum_front, sum_same, sum_within, walk, maker_is_walk, maker_most}
+use Rattle.index_region.proofs.Passing.{passed, place_inside, typed_check, typed_limited}
+use Rattle.selection_fns.specs.Laws.RepeatedPlaces.{sum_front, walk, maker_is_walk}
+use Rattle.selection_fns.proofs.Repeated.{sum_same, sum_within, maker_most}
 use Rattle.selection_fns.specs.Replicate.{is_bit, IsMask, times, maker, counts_checked, copied_place, replicated_shape, replicate_form, replicate_source}
+use Rattle.index_region.proofs.RowIndices.{axis_below}
+use Rattle.selection_fns.specs.Laws.CopiedPlaces.{IsCopied, is_copied, replicate_gives}
 
 -- the place that makes a copy where each is copied as often
 each_walk : (n count i : ℕ) → 1 ≤ i → i ≤ n * count → (i - 1) / count + 1 ≡ walk (replicate n count) i
@@ -61,32 +62,6 @@ pub each_maker : (n count i : ℕ) → 1 ≤ i → i ≤ n * count → (i - 1) /
 each_maker n count i low high =
     let all = sum_same n count in
     each_walk n count i low high ∙ sym (maker_is_walk (replicate n count) i low (omega arith))
-
--- an index list of a shape with one axis exchanged
-pub record IsCopied (axes : List ℕ) (k places : ℕ) (index : List ℕ) : Type 0 where
-  pub long : length index ≡ length axes
-  pub low : 1 ≤ get_or index k 0
-  pub high : get_or index k 0 ≤ places
-
-pub is_copied : (axes : List ℕ) (k places : ℕ) (index : List ℕ) → k < length axes → is_index_of (insert (remove axes k) k places) index ≡ true
-    → IsCopied axes k places index
-is_copied [] k places index h inside = absurd (omega arith)
-is_copied (n ∷ axes) zero places [] h inside = let no : ⊥ = cc in absurd no
-is_copied (n ∷ axes) (suc k) places [] h inside = let no : ⊥ = cc in absurd no
-is_copied (n ∷ axes) zero places (i ∷ index) h inside =
-    let head = head_of places i axes index inside in
-    let long = as_long axes index head.rest in
-    record { long = omega arith; low = head.low; high = head.high }
-is_copied (n ∷ axes) (suc k) places (i ∷ index) h inside =
-    let head = head_of n i (insert (remove axes k) k places) index inside in
-    let rest = is_copied axes k places index (omega arith) head.rest in
-    record { long = let long = rest.long in omega arith; low = rest.low; high = rest.high }
-
--- a shape with one axis exchanged is that of the exchange
-pub exchanged : (axes : List ℕ) (k places : ℕ) → k < length axes → set axes k places ≡ insert (remove axes k) k places
-exchanged [] k places h = absurd (omega arith)
-exchanged (n ∷ axes) zero places h = refl
-exchanged (n ∷ axes) (suc k) places h = ap (λ rest. n ∷ rest) (exchanged axes k places (omega arith))
 
 -- a shape with an axis that is too long
 pub beyond_limits : (axes : List ℕ) (k places : ℕ) (item_type : ItemType) → 1048576 < places → k ≤ length axes
@@ -268,7 +243,6 @@ pub one_count_ends : (n count total k : ℕ) (before : List ℕ) → total ≡ n
 one_count_ends n count total k before all past made = all_copies (replicate n count) k before (rw (length-replicate n count) past) made ∙ (sum_same n count ∙ sym all)
 
 -- ---- counts of 0 and 1
-
 bit_small : (z : ℤ) → is_bit z ≡ true → unsigned_abs z ≤ 1
 bit_small (pos k) h = leb-true k 1 (and_parts _ _ h).1
 bit_small (negsuc k) h = let no : ⊥ = cc in absurd no
@@ -330,45 +304,6 @@ mask_step counts k copies count before below same low room counted made =
     stays (suc zero) h = ap (λ m. take m (set before copies k)) (let one : copies + suc zero ≡ copies + 1 = omega arith in one) ∙ take_more_set before copies k room
     stays (suc (suc n)) h = absurd (omega arith)
 
--- where replicate gives a form, the array has that axis, and the form is the shape of the copies
-pub record ReplicateGives (along : Along) (a b : ArrayValue) (shape : List ℕ) (item_type : ItemType) : Type 0 where
-  pub axis : is_axis (max 1 (length b.shape)) along ≡ true
-  pub shaped : shape ≡ replicated_shape a b.shape (axis_at (max 1 (length b.shape)) along)
-  pub typed : item_type ≡ b.item_type
-
-pub replicate_gives : (along : Along) (a b : ArrayValue) (shape : List ℕ) (item_type : ItemType) → replicate_form along a b ≡ Ok (form_of shape item_type)
-    → ReplicateGives along a b shape item_type
-replicate_gives along a b shape item_type form =
-    let rank = max 1 (length b.shape) in
-    let axis = axis_at rank along in
-    let n = places_along b.shape axis in
-    let axes = gives (is_axis rank along) _ _ (form_of shape item_type) form in
-    let ranks = gives (is_list a) _ _ (form_of shape item_type) axes.is in
-    let lengths = gives (has_one_item a || (nat_eq n 1 || nat_eq (length a.items) n)) _ _ (form_of shape item_type) ranks.is in
-    let counted = gives (counts_as_numbers a && none_negative (numbers a)) _ _ (form_of shape item_type) lengths.is in
-    let asked = limited_gives (replicated_shape a b.shape axis) b.item_type (form_of shape item_type) counted.is in
-    record { axis = axes.test; shaped = ap (λ (f : Form). f.shape) asked; typed = ap (λ (f : Form). f.item_type) asked }
-
--- an axis below the rank, where the array has one
-pub axis_below : (along : Along) (rank : ℕ) → 0 < rank → is_axis rank along ≡ true → axis_at rank along < rank
-axis_below along.First rank some h = omega arith
-axis_below along.Last rank some h = omega arith
-axis_below (along.Axis (pos k)) rank some h = let parts = and_both (int_le (pos 1) (pos k)) (nat_le k rank) h in below k (nat_of parts.0) (nat_low parts.1)
-  where
-    and_both : (v w : Bool) → (v && w) ≡ true → (v ≡ true) × (w ≡ true)
-    and_both true w h = (refl, h)
-    and_both false w h = let no : ⊥ = cc in absurd no
-
-    nat_of : nat_le 1 k ≡ true → 1 ≤ k
-    nat_of h = grind (arith, nat_tests)
-
-    nat_low : nat_le k rank ≡ true → k ≤ rank
-    nat_low h = grind (arith, nat_tests)
-
-    below : (k : ℕ) → 1 ≤ k → k ≤ rank → k - 1 < rank
-    below k low high = omega arith
-axis_below (along.Axis (negsuc k)) rank some h = let no : ⊥ = cc in absurd no
-
 -- what is known of an index list of the copies, where the array has axes
 pub record CopyFacts (along : Along) (a b : ArrayValue) (index : List ℕ) (k : ℕ) : Type 0 where
   pub axis : k ≡ axis_at (max 1 (length b.shape)) along
@@ -381,7 +316,7 @@ copy_facts along a b shape item_type index k some form inside is =
     let known = replicate_gives along a b shape item_type form in
     let rank : max 1 (length b.shape) ≡ length b.shape = greatest (length b.shape) some in
     let axis : k ≡ axis_at (max 1 (length b.shape)) along = is ∙ ap (λ n. axis_at n along) (sym rank) in
-    let below : k < length b.shape = subst (λ m. m < length b.shape) (sym is) (axis_below along (length b.shape) some (subst (λ n. is_axis n along ≡ true) rank known.axis)) in
+    let below : k < length b.shape = subst (λ m. m < length b.shape) (sym is) (axis_below (length b.shape) along (subst (λ n. is_axis n along ≡ true) rank known.axis) some) in
     record {
       axis = axis;
       below = below;
@@ -436,22 +371,3 @@ copies_within a n total before places counts long is =
         let most = maker_most (map unsigned_abs (numbers a)) i in
         let long : length (map unsigned_abs (numbers a)) ≡ length a.items = length-map (numbers a) unsigned_abs ∙ length-map a.items number_of in
         omega arith
-
--- the axis of the copies has as many places as there are
-pub record IsExchanged (shape : List ℕ) (k places : ℕ) : Type 0 where
-  pub there : k < length (insert (remove shape k) k places)
-  pub is : get_or (insert (remove shape k) k places) k 0 ≡ places
-
-pub exchanged_there : (along : Along) (shape : List ℕ) (places : ℕ) → is_axis (max 1 (length shape)) along ≡ true
-    → IsExchanged shape (axis_at (max 1 (length shape)) along) places
-exchanged_there along shape places h = at shape (axis_at (max 1 (length shape)) along) (axis_below along (max 1 (length shape)) (omega arith) h)
-  where
-    at : (shape : List ℕ) (k : ℕ) → k < max 1 (length shape) → IsExchanged shape k places
-    at [] zero h = record { there = omega arith; is = refl }
-    at [] (suc k) h = absurd (omega arith)
-    at (n ∷ shape) zero h = record { there = omega arith; is = refl }
-    at (n ∷ []) (suc k) h = absurd (omega arith)
-    at (n ∷ m ∷ shape) (suc k) h =
-        let rest = at (m ∷ shape) k (omega arith) in
-        let there = rest.there in
-        record { there = omega arith; is = rest.is }

@@ -15,7 +15,9 @@ use Rattle.index_region.specs.Axes.{axis_at, places_along}
 use Rattle.index_region.specs.Arguments.{numbers}
 use Rattle.selection_fns.specs.Replicate.{maker, times, copied_place, replicate_form, replicate_whole}
 use Rattle.selection_fns.specs.Kept.{AreKept}
-use Rattle.selection_fns.proofs.Copies.{AreBefore, axis_below, copies_fit, one_place_more, replicate_gives}
+use Rattle.index_region.proofs.RowIndices.{axis_below}
+use Rattle.selection_fns.specs.Laws.CopiedPlaces.{replicate_gives}
+use Rattle.selection_fns.proofs.Copies.{AreBefore, copies_fit, one_place_more}
 use Rattle.selection_fns.proofs.NumbersAt.{items_at}
 use Rattle.selection_fns.proofs.Picked.{picked_long, picked_copies}
 
@@ -92,7 +94,7 @@ module _ (along : Along) (a b : ArrayValue) (shape : List ℕ) (ns kept : List �
   as_long =
       let known = replicate_gives along a b shape b.item_type form in
       let one : max 1 (length b.shape) ≡ 1 = omega arith in
-      let below = axis_below along (max 1 (length b.shape)) (omega arith) known.axis in
+      let below = axis_below (max 1 (length b.shape)) along known.axis (omega arith) in
       let first : axis_at (max 1 (length b.shape)) along ≡ 0 = omega arith in
       ap (places_along b.shape) first ∙ alone b.shape vector ∙ sym as_many
     where

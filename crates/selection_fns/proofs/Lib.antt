@@ -26,3 +26,11 @@ pub mod Leftovers
 pub mod PlaceSums
 pub mod IndexPlaces
 pub mod KeptNumbers
+-- What changes of results.
+pub mod Intervals
+pub mod Copied
+pub mod ResultAxes
+pub mod BoxCases
+pub mod Entries
+pub mod BoxDigits
+pub mod WholeItems

@@ -16,7 +16,8 @@ use Rattle.index_region.specs.Checks.{form_of}
 use Rattle.index_region.specs.Axes.{axis_at, places_along}
 use Rattle.index_region.specs.Sources.{Place, item_from}
 use Rattle.selection_fns.specs.Replicate.{times, copied_place, replicate_form, replicate_item, replicate_whole}
-use Rattle.selection_fns.proofs.Copies.{axis_below, replicate_gives}
+use Rattle.index_region.proofs.RowIndices.{axis_below}
+use Rattle.selection_fns.specs.Laws.CopiedPlaces.{replicate_gives}
 
 -- the item of a vector after k places, or fill
 read_vector : (b : ArrayValue) (n place : ℕ) → b.shape ≡ n ∷ [] → length b.items ≡ n → 1 ≤ place
@@ -55,7 +56,7 @@ module _ (along : Along) (a b : ArrayValue) (shape before : List ℕ) (item_type
   first_axis =
       let known = replicate_gives along a b shape item_type form in
       let one : max 1 (length b.shape) ≡ 1 = omega arith in
-      let below = axis_below along (max 1 (length b.shape)) (omega arith) known.axis in
+      let below = axis_below (max 1 (length b.shape)) along known.axis (omega arith) in
       omega arith
 
   one_axis : shape ≡ length before ∷ []

@@ -20,8 +20,11 @@ use Rattle.index_region.proofs.OnAxes.{OnAxis, scalar_inside, one_more_inside}
 use Rattle.selection_fns.specs.Index.{is_on_axis, are_on, written_positions, count_written, indexed_shape, source_index}
 use Rattle.selection_fns.specs.Replicate.{times, maker, copied_place, replicate_form, replicate_source}
 use Rattle.selection_fns.proofs.Positions.{place_in, split_inside}
-use Rattle.selection_fns.proofs.Repeated.{sum_front, walk, maker_is_walk, maker_positive}
-use Rattle.selection_fns.proofs.Copies.{is_copied, replicated_inside, on_axis, axis_below}
+use Rattle.selection_fns.specs.Laws.RepeatedPlaces.{sum_front, walk, maker_is_walk}
+use Rattle.selection_fns.proofs.Repeated.{maker_positive}
+use Rattle.index_region.proofs.RowIndices.{axis_below}
+use Rattle.selection_fns.specs.Laws.CopiedPlaces.{is_copied}
+use Rattle.selection_fns.proofs.Copies.{replicated_inside, on_axis}
 
 -- ---- indexes
 
@@ -145,6 +148,6 @@ replicate_inside along a b index at e h = by_test (is_scalar b) refl e
         let there = eqb-false (length b.shape) 0 t in
         let rank : max 1 (length b.shape) ≡ length b.shape = omega arith in
         let axis = on_axis along a b index h in
-        let below : k < length b.shape = omega (arith, rank, axis_below along (max 1 (length b.shape)) (omega arith) axis) in
+        let below : k < length b.shape = omega (arith, rank, axis_below (max 1 (length b.shape)) along axis (omega arith)) in
         let is : at ≡ set index k (copied_place a (places_along b.shape k) (get_or index k 1)) = cc in
         rw is (copied_inside a b.shape index k below (counts_fit along a b index k refl h) (replicated_inside along a b index h))

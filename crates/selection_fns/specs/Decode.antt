@@ -1,5 +1,5 @@
 -- Decode, A⊥B: the numbers of digits by radices.
-use Rattle.std.specs.Prelude.{ℕ, nat_eq, ℤ, pos, ◌+ℤ◌, ◌*ℤ◌, ◌&&◌, ◌||◌, if◌then◌else◌, List, [], ◌∷◌, map, length, drop, Result, Ok}
+use Rattle.std.specs.Prelude.{ℕ, nat_eq, ℤ, pos, ◌+ℤ◌, ◌*ℤ◌, ◌&&◌, ◌||◌, if◌then◌else◌, List, [], ◌∷◌, map, length, drop, Result, Ok, false, Some}
 use Rattle.std.specs.List.{range_with_len}
 use Rattle.arrays_core.specs.declared.item.Item.{Item}
 use Rattle.arrays_core.specs.declared.item.ItemType.TheVariants.{Nums}
@@ -7,12 +7,16 @@ use Rattle.arrays_core.specs.declared.item.Kind.{Kind}
 use Rattle.arrays_core.specs.declared.item.Kind.TheVariants.{Rank, Length, Domain}
 use Rattle.arrays_core.specs.Items.{and_then}
 use Rattle.arrays_core.specs.Arrays.{ArrayValue, item_of}
-use Rattle.scalar_fns.specs.Numbers.{number_or_limit}
-use Rattle.scalar_fns.specs.Items.{number_item}
-use Rattle.scalar_fns.specs.ScalarExtension.{extended}
+use Rattle.arrays_core.specs.Shapes.{indices}
 use Rattle.index_region.specs.Checks.{Form, check, limited, whole}
 use Rattle.index_region.specs.Arguments.{is_scalar, is_list, has_one_item, counts_as_numbers, number_of}
 use Rattle.index_region.specs.Axes.{places_along}
+use Rattle.change_core.specs.RuleModels.{Use, RuleModel}
+use Rattle.change_core.specs.Sourced.{two_rule}
+use Rattle.change_core.specs.Ways.{everywhere}
+use Rattle.scalar_fns.specs.Numbers.{number_or_limit}
+use Rattle.scalar_fns.specs.Items.{number_item}
+use Rattle.scalar_fns.specs.ScalarExtension.{extended}
 
 -- RANK, LENGTH and DOMAIN in this order; then numbers along the axes of b but the first
 abbrev pub decode_form : ArrayValue → ArrayValue → Result Form Kind
@@ -52,3 +56,15 @@ decode_item a b index = number_item (decoded (map (λ k. (radix_at a k, digit_at
 -- the checks, and then the items
 abbrev pub decode_whole : ArrayValue → ArrayValue → Result ArrayValue Kind
 decode_whole a b = whole (decode_form a b) (decode_item a b)
+
+-- What a change of an argument of decode, A⊥B, changes of the result.
+-- a number reads its digits along the first axis, and changes with them
+abbrev pub digits_use : ArrayValue → Use
+digits_use b = record {
+  reads = λ index. if is_scalar b then [] ∷ [] else map (λ k. k ∷ index) (range_with_len 1 (places_along b.shape 0));
+  box = λ region. Some (drop 1 region);
+}
+
+-- each number reads all radices
+abbrev pub decode_rule : RuleModel
+decode_rule = two_rule false decode_form decode_item (λ shape a b. everywhere shape (λ _. indices a.shape)) (λ shape a b. digits_use b)

@@ -1,16 +1,21 @@
 -- Encode, A⊤B: numbers as digits by radices.
-use Rattle.std.specs.Prelude.{ℕ, ◌-◌, ℤ, pos, ◌&&◌, if◌then◌else◌, List, [], ◌∷◌, ◌++◌, length, get_or, drop, Result, Ok}
+use Rattle.std.specs.Prelude.{ℕ, ◌-◌, ℤ, pos, ◌&&◌, if◌then◌else◌, List, [], ◌∷◌, ◌++◌, length, get_or, drop, Result, Ok, ◌+◌, false, map, Some}
 use Rattle.std.specs.Ordering.{int_eq}
+use Rattle.std.specs.List.{range_with_len}
 use Rattle.arrays_core.specs.declared.item.Item.{Item}
 use Rattle.arrays_core.specs.declared.item.ItemType.TheVariants.{Nums}
 use Rattle.arrays_core.specs.declared.item.Kind.{Kind}
 use Rattle.arrays_core.specs.declared.item.Kind.TheVariants.{Rank, Domain}
 use Rattle.arrays_core.specs.Items.{and_then}
 use Rattle.arrays_core.specs.Arrays.{ArrayValue, item_of}
-use Rattle.scalar_fns.specs.Numbers.{residue, floor_div, number_or_limit}
-use Rattle.scalar_fns.specs.Items.{number_item}
 use Rattle.index_region.specs.Checks.{Form, check, limited, whole}
 use Rattle.index_region.specs.Arguments.{is_scalar, is_list, counts_as_numbers, number_of, numbers}
+use Rattle.index_region.specs.Boxes.{whole_of}
+use Rattle.change_core.specs.RuleModels.{RuleModel}
+use Rattle.change_core.specs.Sourced.{Spread, two_rule}
+use Rattle.change_core.specs.Ways.{back}
+use Rattle.scalar_fns.specs.Numbers.{residue, floor_div, number_or_limit}
+use Rattle.scalar_fns.specs.Items.{number_item}
 
 -- RANK and DOMAIN in this order; then numbers along the axes of a, and then those of b
 abbrev pub encode_form : ArrayValue → ArrayValue → Result Form Kind
@@ -44,3 +49,17 @@ encode_item a b index =
 -- the checks, and then the items
 abbrev pub encode_whole : ArrayValue → ArrayValue → Result ArrayValue Kind
 encode_whole a b = whole (encode_form a b) (encode_item a b)
+
+-- What a change of an argument of encode, A⊤B, changes of the result.
+-- the places of the radices that a digit goes by: its own radix and those after it; a scalar is the one radix
+abbrev pub radices_read : ArrayValue → List ℕ → List (List ℕ)
+radices_read a index = if is_scalar a then [] ∷ [] else map (λ k. k ∷ []) (range_with_len (get_or index 0 1) (get_or a.shape 0 0 + 1 - get_or index 0 1))
+
+-- the digits up to the last changed radix, of each number of b; all of a scalar
+abbrev pub radices_box : List ℕ → ArrayValue → ArrayValue → Spread
+radices_box shape a b region = Some (if is_scalar a then whole_of shape else ((1, (get_or region 0 (1, 0)).1) ∷ whole_of b.shape))
+
+abbrev pub encode_rule : RuleModel
+encode_rule = two_rule false encode_form encode_item
+    (λ shape a b. record { reads = radices_read a; box = radices_box shape a b })
+    (λ shape a b. back a.shape)

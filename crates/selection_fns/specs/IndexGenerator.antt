@@ -1,5 +1,5 @@
 -- Index generator, ⍳N: the numbers from 1 up.
-use Rattle.std.specs.Prelude.{ℕ, pos, unsigned_abs, ◌&&◌, List, map, get_or, Result, Ok}
+use Rattle.std.specs.Prelude.{ℕ, pos, unsigned_abs, ◌&&◌, List, map, get_or, Result, Ok, [], ◌∷◌, true}
 use Rattle.arrays_core.specs.declared.item.Item.{Item}
 use Rattle.arrays_core.specs.declared.item.Item.TheVariants.{Num}
 use Rattle.arrays_core.specs.declared.item.ItemType.TheVariants.{Nums}
@@ -8,6 +8,11 @@ use Rattle.arrays_core.specs.declared.item.Kind.TheVariants.{Rank, Length, Domai
 use Rattle.arrays_core.specs.Arrays.{ArrayValue}
 use Rattle.index_region.specs.Checks.{Form, check, limited, whole}
 use Rattle.index_region.specs.Arguments.{is_list, has_one_item, counts_as_numbers, numbers, none_negative}
+use Rattle.index_region.specs.ArgumentLists.{of_one_argument}
+use Rattle.change_core.specs.Growth.{never}
+use Rattle.change_core.specs.RuleModels.{RuleModel}
+use Rattle.change_core.specs.Sourced.{uses_of_one}
+use Rattle.change_core.specs.Ways.{unread}
 
 -- RANK, LENGTH and DOMAIN in this order; then a vector of n numbers
 abbrev pub generator_form : ArrayValue → Result Form Kind
@@ -24,3 +29,14 @@ generator_item n index = Ok (Num (pos (get_or index 0 0)))
 -- the checks, and then the items
 abbrev pub generator_whole : ArrayValue → Result ArrayValue Kind
 generator_whole n = whole (generator_form n) (generator_item n)
+
+-- What a change of the argument of the index generator, ⍳N, changes of the result: all of it, its shape too.
+-- the number is a selector
+abbrev pub generator_rule : RuleModel
+generator_rule = record {
+  selectors = true ∷ [];
+  form = λ args. of_one_argument generator_form args;
+  item = λ args index. of_one_argument (λ n. generator_item n index) args;
+  uses = λ shape args. uses_of_one (λ _ n. unread) shape args;
+  grows = never;
+}

@@ -1,5 +1,5 @@
 -- Replicate: each place of an axis as often as its count. A scalar is a vector of one item.
-use Rattle.std.specs.Prelude.{◌≡◌, ℕ, suc, ◌-◌, nat_eq, ℤ, pos, int_le, Bool, IsTrue, max, unsigned_abs, ◌&&◌, ◌||◌, if◌then◌else◌, List, [], ◌∷◌, ◌++◌, map, length, get_or, set, replicate, insert, remove, sum, Result}
+use Rattle.std.specs.Prelude.{◌≡◌, ℕ, suc, ◌-◌, nat_eq, ℤ, pos, int_le, Bool, IsTrue, max, unsigned_abs, ◌&&◌, ◌||◌, if◌then◌else◌, List, [], ◌∷◌, ◌++◌, map, length, get_or, set, replicate, insert, remove, sum, Result, true, take, Some, None}
 use Rattle.std.specs.List.{list_all}
 use Rattle.arrays_core.specs.declared.item.Item.{Item}
 use Rattle.arrays_core.specs.declared.item.Kind.{Kind}
@@ -10,6 +10,9 @@ use Rattle.index_region.specs.Checks.{Form, check, limited, whole}
 use Rattle.index_region.specs.Sources.{Place, Source, item_from}
 use Rattle.index_region.specs.Arguments.{is_scalar, is_list, has_one_item, counts_as_numbers, number_of, numbers, none_negative}
 use Rattle.index_region.specs.Axes.{is_axis, axis_at, places_along}
+use Rattle.index_region.specs.Boxes.{Interval, whole_of}
+use Rattle.change_core.specs.RuleModels.{RuleModel}
+use Rattle.change_core.specs.Sourced.{Spread, on_axis, two_sourced}
 
 -- no copy, or one
 abbrev pub is_bit : ℤ → Bool
@@ -71,3 +74,24 @@ replicate_item along a b index = item_from a b b.item_type (replicate_source alo
 -- the checks, and then the items
 abbrev pub replicate_whole : Along → ArrayValue → ArrayValue → Result ArrayValue Kind
 replicate_whole along a b = whole (replicate_form along a b) (replicate_item along a b)
+
+-- What a change of an argument of replicate, A/B, changes of the result.
+-- how many copies there are of the first places of an axis of n places
+abbrev pub copies_before : ArrayValue → ℕ → ℕ → ℕ
+copies_before a n places = sum (take places (times a n))
+
+-- the copies of the places of an interval; where one place is extended to the counts, all copies
+abbrev pub copied_interval : ArrayValue → ℕ → ℕ → Interval → Interval
+copied_interval a n copies s = if nat_eq n 1 then (1, copies) else (suc (copies_before a n (s.0 - 1)), copies_before a n s.1)
+
+-- on the axis the copies of the changed places; all copies of a scalar
+abbrev pub replicate_box : Along → List ℕ → ArrayValue → ArrayValue → Spread
+replicate_box along shape a b region =
+    let axis = axis_at (max 1 (length b.shape)) along in
+    if is_scalar b then Some (whole_of shape)
+    else on_axis axis (copied_interval a (places_along b.shape axis) (get_or shape axis 0)) region
+
+-- the counts are a selector
+abbrev pub replicate_rule : Along → RuleModel
+replicate_rule along =
+    two_sourced true (replicate_form along) (λ a b. b.item_type) (replicate_source along) (λ shape a b region. None) (replicate_box along)

@@ -6,6 +6,9 @@ use Rattle.arrays_core.specs.declared.item.ItemType.TheVariants.{Nums}
 use Rattle.arrays_core.specs.declared.item.Kind.{Kind}
 use Rattle.arrays_core.specs.Arrays.{ArrayValue}
 use Rattle.index_region.specs.Checks.{Form, limited, whole}
+use Rattle.change_core.specs.RuleModels.{RuleModel}
+use Rattle.change_core.specs.Sourced.{one_rule}
+use Rattle.change_core.specs.Ways.{unread}
 
 -- a vector with a number for each axis
 abbrev pub shape_form : ArrayValue → Result Form Kind
@@ -18,3 +21,8 @@ shape_item b index = Ok (Num (pos (get_or b.shape (get_or index 0 0 - 1) 0)))
 -- the lengths of all axes
 abbrev pub shape_whole : ArrayValue → Result ArrayValue Kind
 shape_whole b = whole (shape_form b) (shape_item b)
+
+-- What a change of the argument of shape, ⍴B, changes of the result: nothing.
+-- no item is read
+abbrev pub shape_rule : RuleModel
+shape_rule = one_rule shape_form shape_item (λ shape b. unread)

@@ -5,7 +5,7 @@ ghost use Rattle.arrays_core.specs.Limits.{longest_axis};
 ghost use Rattle.index_region.specs.Axes.{places_along as places_on};
 
 /// The most places along an axis.
-pub(crate) const LONGEST_AXIS: u64 = 1_048_576;
+pub(crate) const LONGEST_AXIS: u64 = arrays_core::LONGEST_AXIS as u64;
 
 /// How many places an axis has, counted from 0; a scalar has one place along any axis.
 pub(crate) fn places_along(axes: &[u32], axis: usize) -> u32

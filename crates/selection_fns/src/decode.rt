@@ -1,20 +1,23 @@
 //! Decode: the numbers of digits.
 
 ghost use Rattle.std.specs.Prelude.{◌≡◌, ◌≢◌, ◌≤◌, ◌+ℤ◌, ◌*ℤ◌, pos, IsTrue, nat_eq, ◌||◌, if◌then◌else◌, drop, length, map, replicate, Ok, Err, IfErr, OnOk};
+ghost use Rattle.std.proofs.Common.{rules};
 ghost use Rattle.arrays_core.specs.declared.item.Item.TheVariants.{Num};
 ghost use Rattle.arrays_core.specs.declared.item.ItemType.TheVariants.{Nums};
 ghost use Rattle.arrays_core.specs.declared.item.Kind.TheVariants.{Length, Limit};
 ghost use Rattle.arrays_core.specs.Items.{and_then};
 ghost use Rattle.arrays_core.specs.Shapes.{is_index_of, size as size_of, IsWithinLimits};
 ghost use Rattle.arrays_core.specs.Arrays.{collect, IsAnswerTo};
-ghost use Rattle.scalar_fns.specs.Numbers.{number_or_limit};
-ghost use Rattle.scalar_fns.specs.Items.{number_item};
 ghost use Rattle.index_region.specs.ArgumentLists.{of_two_arguments};
 ghost use Rattle.index_region.specs.Axes.{places_along as places_on};
 ghost use Rattle.index_region.specs.Arguments.{has_one_item};
 ghost use Rattle.index_region.specs.Answers.{IsPlaceOf};
-ghost use Rattle.selection_fns.specs.Decode.{decode_form, decode_item, decode_whole, digit_count as count_of_digits, radix_at as radix_of, digit_at as digit_of};
+ghost use Rattle.change_core.proofs.Growing.{never_grows};
+ghost use Rattle.scalar_fns.specs.Numbers.{number_or_limit};
+ghost use Rattle.scalar_fns.specs.Items.{number_item};
+ghost use Rattle.selection_fns.specs.Decode.{decode_form, decode_item, decode_whole, digit_count as count_of_digits, radix_at as radix_of, digit_at as digit_of, decode_rule};
 ghost use Rattle.selection_fns.specs.DecodedRows.{HaveRadices, AreDecoded, HasLimit};
+ghost use Rattle.selection_fns.specs.Laws.Decode.{decode_tight};
 
 use crate::axes::places_along;
 use crate::more_digits::{add_digits, one_more};
@@ -22,7 +25,8 @@ use crate::number_at::number_at;
 use arrays_core::{
     ApplyFault, Array, Item, ItemType, Kind, Shape, append_axes, repeated, shape_of, size,
 };
-use index_region::{Primitive, Seen, apply, limited};
+use change_core::{Announced, Lawful};
+use index_region::{IndexBox, Intervals, Primitive, Seen, apply, limited};
 use std::alloc::{AllocError, Global};
 
 /// Decode, `A⊥B` (ISO/IEC 13751, "Base value"): the axes of B but the first, along which stand the
@@ -205,4 +209,46 @@ impl Primitive for Decode {
     fn item_at(&self, args: &[Seen], index: &[u32]) -> Result<Item, Kind> {
         Ok(Item::Num(decoded_at(&args[0], &args[1], index)?))
     }
+}
+
+impl Announced for Decode {
+    ghost selectors = { λ _. decode_rule.selectors };
+
+    ghost uses = { λ _ shape args. decode_rule.uses shape args };
+
+    fn grows(&self, _args: &[Seen], _grown: &[bool]) -> bool {
+        false
+    }
+
+    fn selects(&self, _which: usize) -> bool {
+        false
+    }
+
+    fn box_of(
+        &self,
+        _args: &[Seen],
+        shape: &[u32],
+        which: usize,
+        region: &IndexBox,
+    ) -> Option<Intervals> {
+        if which == 0 {
+            return Some(Intervals::whole(shape));
+        }
+        match region.as_slice() {
+            [] => Some(Intervals::none()),
+            [_, others @ ..] => Some(Intervals::of(others)),
+        }
+    }
+
+    fn whole(&self, alloc: Global, args: &[Seen]) -> Result<Array, ApplyFault> {
+        self.apply(alloc, args)
+    }
+
+    ghost counted = { λ _. Prim.search rules };
+}
+
+impl Lawful for Decode {
+    ghost tight = { λ _. decode_tight };
+
+    ghost growing = { λ _. never_grows _ };
 }

@@ -1,19 +1,24 @@
 //! Encode: the digits of numbers.
 
 ghost use Rattle.std.specs.Prelude.{◌≡◌, ◌≤◌, IsTrue, length};
+ghost use Rattle.std.proofs.Common.{rules};
 ghost use Rattle.arrays_core.specs.Arrays.{IsAnswerTo};
-ghost use Rattle.scalar_fns.specs.Items.{number_item};
 ghost use Rattle.index_region.specs.ArgumentLists.{of_two_arguments};
 ghost use Rattle.index_region.specs.Arguments.{numbers};
 ghost use Rattle.index_region.specs.Answers.{IsPlaceOf};
-ghost use Rattle.selection_fns.specs.Encode.{carried as carried_number, digit as digit_of, encode_form, encode_item, encode_whole};
+ghost use Rattle.change_core.proofs.Growing.{never_grows};
+ghost use Rattle.scalar_fns.specs.Items.{number_item};
+ghost use Rattle.selection_fns.specs.Encode.{carried as carried_number, digit as digit_of, encode_form, encode_item, encode_whole, encode_rule};
+ghost use Rattle.selection_fns.specs.Laws.Encode.{encode_tight};
 
+use crate::digits::digits_at_once;
 use crate::encoded_rows::encoded_rows;
 use crate::number_at::number_at;
 use arrays_core::{
     ApplyFault, Array, Item, ItemType, Kind, MOST_AXES, Shape, append_axes, shape_of,
 };
-use index_region::{Primitive, Seen, apply, limited};
+use change_core::{Announced, Lawful};
+use index_region::{IndexBox, Intervals, Primitive, Seen, apply, limited};
 use scalar_fns::{Scalar2, floor_quotient, two_numbers};
 use std::alloc::Global;
 
@@ -108,4 +113,64 @@ impl Primitive for Encode {
     fn item_at(&self, args: &[Seen], index: &[u32]) -> Result<Item, Kind> {
         Ok(Item::Num(digit_at(&args[0], &args[1], index)?))
     }
+}
+
+impl Announced for Encode {
+    ghost selectors = { λ _. encode_rule.selectors };
+
+    ghost uses = { λ _ shape args. encode_rule.uses shape args };
+
+    fn grows(&self, _args: &[Seen], _grown: &[bool]) -> bool {
+        false
+    }
+
+    fn selects(&self, _which: usize) -> bool {
+        false
+    }
+
+    fn box_of(
+        &self,
+        args: &[Seen],
+        shape: &[u32],
+        which: usize,
+        region: &IndexBox,
+    ) -> Option<Intervals> {
+        let radices = args[0].shape().as_slice();
+        if which == 1 {
+            return Some(Intervals::whole(radices).and_all(region.as_slice()));
+        }
+        if radices.is_empty() {
+            return Some(Intervals::whole(shape));
+        }
+        let (_, last) = region.as_slice()[0];
+        Some(Intervals::one(1, last).and_whole(args[1].shape().as_slice()))
+    }
+
+    fn whole(&self, alloc: Global, args: &[Seen]) -> Result<Array, ApplyFault> {
+        self.apply(alloc, args)
+    }
+
+    fn items_at_once(
+        &self,
+        alloc: Global,
+        args: &[Seen],
+        _shape: &[u32],
+        _item_type: ItemType,
+        region: &IndexBox,
+    ) -> Option<Result<Array, ApplyFault>> {
+        let (radices, array) = (&args[0], &args[1]);
+        if radices.shape().len() != 1 {
+            return None;
+        }
+        let digits = digits_at_once(alloc, radices, array, region)?;
+        Some(Ok(digits))
+    }
+
+    ghost counted = { λ _. Prim.search rules };
+}
+
+impl Lawful for Encode {
+    ghost tight = { λ _. encode_tight };
+
+    ghost growing = { λ _. never_grows _ };
 }

@@ -2,14 +2,18 @@
 
 ghost use Rattle.std.specs.Prelude.{◌≡◌, ◌≤◌, IfOk, length, map, pos};
 ghost use Rattle.std.specs.List.{range_with_len};
+ghost use Rattle.std.proofs.Common.{rules};
 ghost use Rattle.arrays_core.specs.Limits.{longest_axis};
 ghost use Rattle.arrays_core.specs.Arrays.{IsAnswerTo};
 ghost use Rattle.index_region.specs.ArgumentLists.{of_one_argument};
-ghost use Rattle.selection_fns.specs.IndexGenerator.{generator_form, generator_item, generator_whole};
+ghost use Rattle.change_core.proofs.Growing.{never_grows};
+ghost use Rattle.selection_fns.specs.IndexGenerator.{generator_form, generator_item, generator_whole, generator_rule};
+ghost use Rattle.selection_fns.specs.Laws.IndexGenerator.{generator_tight};
 
 use crate::axes::LONGEST_AXIS;
 use arrays_core::{ApplyFault, Array, Item, ItemType, Kind, Shape, room_of, shape_of};
-use index_region::{Primitive, Seen, limited};
+use change_core::{Announced, Lawful};
+use index_region::{IndexBox, Intervals, Primitive, Seen, limited};
 use std::alloc::{AllocError, Global};
 
 /// The numbers from 1 to `count`.
@@ -77,4 +81,40 @@ impl Primitive for IndexGenerator {
     fn item_at(&self, _args: &[Seen], index: &[u32]) -> Result<Item, Kind> {
         Ok(Item::Num(i64::from(index[0])))
     }
+}
+
+impl Announced for IndexGenerator {
+    ghost selectors = { λ _. generator_rule.selectors };
+
+    ghost uses = { λ _ shape args. generator_rule.uses shape args };
+
+    fn grows(&self, _args: &[Seen], _grown: &[bool]) -> bool {
+        false
+    }
+
+    fn selects(&self, which: usize) -> bool {
+        which == 0
+    }
+
+    fn box_of(
+        &self,
+        _args: &[Seen],
+        _shape: &[u32],
+        _which: usize,
+        _region: &IndexBox,
+    ) -> Option<Intervals> {
+        None
+    }
+
+    fn whole(&self, alloc: Global, args: &[Seen]) -> Result<Array, ApplyFault> {
+        self.apply(alloc, args)
+    }
+
+    ghost counted = { λ _. Prim.search rules };
+}
+
+impl Lawful for IndexGenerator {
+    ghost tight = { λ _. generator_tight };
+
+    ghost growing = { λ _. never_grows _ };
 }

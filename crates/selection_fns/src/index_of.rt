@@ -2,15 +2,20 @@
 
 ghost use Rattle.std.specs.Prelude.{◌≡◌, ◌≢◌, IfOk, suc, pos, length, map};
 ghost use Rattle.std.specs.List.{position_or_len};
+ghost use Rattle.std.proofs.Common.{rules};
 ghost use Rattle.arrays_core.specs.Arrays.{IsAnswerTo};
 ghost use Rattle.arrays_core.specs.Shapes.{size};
 ghost use Rattle.index_region.specs.ArgumentLists.{of_two_arguments};
+ghost use Rattle.change_core.proofs.Growing.{never_grows};
 ghost use Rattle.selection_fns.specs.SameItem.{same_item};
-ghost use Rattle.selection_fns.specs.IndexOf.{index_of_form, index_of_item, index_of_whole};
+ghost use Rattle.selection_fns.specs.IndexOf.{index_of_form, index_of_item, index_of_whole, index_of_rule};
+ghost use Rattle.selection_fns.specs.Laws.IndexOf.{index_of_tight};
 
 use crate::lookup::{all_of, first_places};
+use crate::whole_box::{is_small, items_of_whole};
 use arrays_core::{ApplyFault, Array, Item, ItemType, Kind, Shape, position, shape_of};
-use index_region::{Primitive, Seen, limited};
+use change_core::{Announced, Lawful};
+use index_region::{IndexBox, Intervals, Primitive, Seen, limited};
 use std::alloc::{AllocError, Global};
 
 /// Index of, `A⍳B` (ISO/IEC 13751, "Index of"): numbers in the shape of B, for each of its items the
@@ -123,4 +128,58 @@ impl Primitive for IndexOf {
         let item = sought.item(position(sought.shape(), index));
         Ok(Item::Num(i64::from(first_place(&args[0], item))))
     }
+}
+
+impl Announced for IndexOf {
+    ghost selectors = { λ _. index_of_rule.selectors };
+
+    ghost uses = { λ _ shape args. index_of_rule.uses shape args };
+
+    fn grows(&self, _args: &[Seen], _grown: &[bool]) -> bool {
+        false
+    }
+
+    fn selects(&self, _which: usize) -> bool {
+        false
+    }
+
+    fn box_of(
+        &self,
+        _args: &[Seen],
+        shape: &[u32],
+        which: usize,
+        region: &IndexBox,
+    ) -> Option<Intervals> {
+        if which == 0 {
+            return Some(Intervals::whole(shape));
+        }
+        Some(region.intervals().copy())
+    }
+
+    fn whole(&self, alloc: Global, args: &[Seen]) -> Result<Array, ApplyFault> {
+        self.apply(alloc, args)
+    }
+
+    fn items_at_once(
+        &self,
+        alloc: Global,
+        args: &[Seen],
+        shape: &[u32],
+        item_type: ItemType,
+        region: &IndexBox,
+    ) -> Option<Result<Array, ApplyFault>> {
+        if is_small(region) {
+            return None;
+        }
+        let answer = self.whole(alloc, args);
+        items_of_whole(self, alloc, args, answer, shape, item_type, region)
+    }
+
+    ghost counted = { λ _. Prim.search rules };
+}
+
+impl Lawful for IndexOf {
+    ghost tight = { λ _. index_of_tight };
+
+    ghost growing = { λ _. never_grows _ };
 }

@@ -3,12 +3,14 @@
 
 mod axes;
 mod decode;
+mod digits;
 mod encode;
 mod encoded_rows;
 mod index;
 mod index_generator;
 mod index_of;
 mod index_places;
+mod index_rule;
 mod kept;
 mod lookup;
 mod member;
@@ -16,7 +18,9 @@ mod more_digits;
 mod number_at;
 mod numbers_of;
 mod replicate;
+mod replicate_rule;
 mod shape;
+mod whole_box;
 
 pub use decode::Decode;
 pub use encode::Encode;

@@ -2,17 +2,22 @@
 
 ghost use Rattle.std.specs.Prelude.{◌≡◌, ◌≢◌, IfOk, length, map};
 ghost use Rattle.std.specs.List.{list_any};
+ghost use Rattle.std.proofs.Common.{rules};
 ghost use Rattle.arrays_core.specs.Arrays.{IsAnswerTo};
 ghost use Rattle.arrays_core.specs.Shapes.{size};
-ghost use Rattle.scalar_fns.specs.Numbers.{truth as truth_of};
 ghost use Rattle.index_region.specs.ArgumentLists.{of_two_arguments};
+ghost use Rattle.change_core.proofs.Growing.{never_grows};
+ghost use Rattle.scalar_fns.specs.Numbers.{truth as truth_of};
 ghost use Rattle.selection_fns.specs.SameItem.{same_item};
-ghost use Rattle.selection_fns.specs.Member.{member_form, member_item, member_whole};
+ghost use Rattle.selection_fns.specs.Member.{member_form, member_item, member_whole, member_rule};
+ghost use Rattle.selection_fns.specs.Laws.Member.{member_tight};
 
 use crate::index_of::first_place;
 use crate::lookup::{all_of, members_of};
+use crate::whole_box::{is_small, items_of_whole};
 use arrays_core::{ApplyFault, Array, Item, ItemType, Kind, Shape, position, shape_of};
-use index_region::{Primitive, Seen, limited};
+use change_core::{Announced, Lawful};
+use index_region::{IndexBox, Intervals, Primitive, Seen, limited};
 use scalar_fns::truth;
 use std::alloc::{AllocError, Global};
 
@@ -104,4 +109,58 @@ impl Primitive for Member {
         let item = sought.item(position(sought.shape(), index));
         Ok(Item::Num(truth(is_member(array, item))))
     }
+}
+
+impl Announced for Member {
+    ghost selectors = { λ _. member_rule.selectors };
+
+    ghost uses = { λ _ shape args. member_rule.uses shape args };
+
+    fn grows(&self, _args: &[Seen], _grown: &[bool]) -> bool {
+        false
+    }
+
+    fn selects(&self, _which: usize) -> bool {
+        false
+    }
+
+    fn box_of(
+        &self,
+        _args: &[Seen],
+        shape: &[u32],
+        which: usize,
+        region: &IndexBox,
+    ) -> Option<Intervals> {
+        if which == 0 {
+            return Some(region.intervals().copy());
+        }
+        Some(Intervals::whole(shape))
+    }
+
+    fn whole(&self, alloc: Global, args: &[Seen]) -> Result<Array, ApplyFault> {
+        self.apply(alloc, args)
+    }
+
+    fn items_at_once(
+        &self,
+        alloc: Global,
+        args: &[Seen],
+        shape: &[u32],
+        item_type: ItemType,
+        region: &IndexBox,
+    ) -> Option<Result<Array, ApplyFault>> {
+        if is_small(region) {
+            return None;
+        }
+        let answer = self.whole(alloc, args);
+        items_of_whole(self, alloc, args, answer, shape, item_type, region)
+    }
+
+    ghost counted = { λ _. Prim.search rules };
+}
+
+impl Lawful for Member {
+    ghost tight = { λ _. member_tight };
+
+    ghost growing = { λ _. never_grows _ };
 }

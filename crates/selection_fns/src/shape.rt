@@ -1,12 +1,16 @@
 //! Shape: the lengths of an array's axes.
 
 ghost use Rattle.std.specs.Prelude.{◌≡◌, length};
+ghost use Rattle.std.proofs.Common.{rules};
 ghost use Rattle.arrays_core.specs.Arrays.{IsAnswerTo};
 ghost use Rattle.index_region.specs.ArgumentLists.{of_one_argument};
-ghost use Rattle.selection_fns.specs.Shape.{shape_form, shape_item, shape_whole};
+ghost use Rattle.change_core.proofs.Growing.{never_grows};
+ghost use Rattle.selection_fns.specs.Shape.{shape_form, shape_item, shape_whole, shape_rule};
+ghost use Rattle.selection_fns.specs.Laws.Shape.{shape_tight};
 
 use arrays_core::{ApplyFault, Array, Item, ItemType, Kind, Shape, shape_of};
-use index_region::{Primitive, Seen, apply, limited};
+use change_core::{Announced, Lawful};
+use index_region::{IndexBox, Intervals, Primitive, Seen, apply, limited};
 use std::alloc::Global;
 
 /// Shape, `⍴B` (ISO/IEC 13751, "Shape"): the lengths of the axes as a vector of numbers. It has no
@@ -43,4 +47,40 @@ impl Primitive for ShapeOf {
         let shape = args[0].shape();
         Ok(Item::Num(i64::from(shape[(index[0] - 1) as usize])))
     }
+}
+
+impl Announced for ShapeOf {
+    ghost selectors = { λ _. shape_rule.selectors };
+
+    ghost uses = { λ _ shape args. shape_rule.uses shape args };
+
+    fn grows(&self, _args: &[Seen], _grown: &[bool]) -> bool {
+        false
+    }
+
+    fn selects(&self, _which: usize) -> bool {
+        false
+    }
+
+    fn box_of(
+        &self,
+        _args: &[Seen],
+        _shape: &[u32],
+        _which: usize,
+        _region: &IndexBox,
+    ) -> Option<Intervals> {
+        None
+    }
+
+    fn whole(&self, alloc: Global, args: &[Seen]) -> Result<Array, ApplyFault> {
+        self.apply(alloc, args)
+    }
+
+    ghost counted = { λ _. Prim.search rules };
+}
+
+impl Lawful for ShapeOf {
+    ghost tight = { λ _. shape_tight };
+
+    ghost growing = { λ _. never_grows _ };
 }

@@ -21,7 +21,8 @@ use Rattle.index_region.specs.Axes.{is_axis, axis_at}
 use Rattle.index_region.specs.Sources.{Place, item_from}
 use Rattle.index_region.proofs.Passing.{RowInside, row_passed, row_inside, place_of_row}
 use Rattle.structural_fns.specs.Catenate.{joined_rank, joined_places, other_axes, ranks_join, axes_agree, types_join, joined_type, joined_shape, in_side, in_side_of_row, catenate_form, catenate_item}
-use Rattle.structural_fns.proofs.Sides.{shared_long, right_typed}
+use Rattle.structural_fns.specs.Laws.SharedAxes.{shared_long}
+use Rattle.structural_fns.proofs.Sides.{right_typed}
 use Rattle.structural_fns.proofs.SidePlaces.{JoinFacts, join_facts}
 use Rattle.structural_fns.proofs.SteppedRows.{listed_same, step_of_two, at_end}
 

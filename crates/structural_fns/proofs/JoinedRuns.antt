@@ -21,7 +21,7 @@ use Rattle.index_region.specs.Checks.{form_of}
 use Rattle.structural_fns.specs.Catenate.{joined_rank, joined_places, other_axes, ranks_join, axes_agree, joined_type, joined_shape, types_join, in_side, catenate_item, catenate_form, catenate_whole}
 use Rattle.index_region.proofs.Passing.{gives}
 use Rattle.structural_fns.proofs.Runs.{item_after, limited_is, positive}
-use Rattle.structural_fns.proofs.Sides.{shared_long}
+use Rattle.structural_fns.specs.Laws.SharedAxes.{shared_long}
 
 -- ---- a side whose items are taken once, in row-major order, beside the other axes of the result
 

@@ -12,7 +12,7 @@ use Rattle.index_region.specs.Answers.{IsPlaceOf}
 use Rattle.index_region.proofs.Passing.{passed, place_inside}
 use Rattle.index_region.proofs.OnAxes.{OnAxis, scalar_inside, one_more_inside}
 use Rattle.structural_fns.specs.Catenate.{joined_rank, joined_places, other_axes, ranks_join, axes_agree, types_join, joined_type, joined_shape, in_side, catenate_form}
-use Rattle.structural_fns.proofs.Sides.{shared_long}
+use Rattle.structural_fns.specs.Laws.SharedAxes.{shared_long}
 
 -- an index list of a shape with one more axis
 record IsOfMore (others : List ℕ) (n : ℕ) (index : List ℕ) (k : ℕ) : Type 0 where

@@ -1,7 +1,7 @@
 -- The two sides of a catenation.
-use Rattle.std.proofs.Common.{◌≡◌, ℕ, suc, ◌+◌, ◌<◌, ◌≤◌, Bool, true, false, not, ◌&&◌, ◌||◌, if◌then◌else◌, nat_eq, nat_le, List, length, remove, refl, sym, ◌∙◌, inl, inr, arith}
-use Rattle.std.proofs.lemmas.Bool.{and_parts, or_cases, eqb-true, eqb-false, leb-true, true≢false, false≢true}
-use Rattle.std.proofs.lemmas.List.Edits.{length-insert, length-remove}
+use Rattle.std.proofs.Common.{◌≡◌, ℕ, ◌+◌, ◌<◌, Bool, true, false, not, ◌&&◌, ◌||◌, if◌then◌else◌, List, length, refl, ◌∙◌, arith}
+use Rattle.std.proofs.lemmas.Bool.{false≢true}
+use Rattle.std.proofs.lemmas.List.Edits.{length-insert}
 use Rattle.arrays_core.specs.declared.item.Item.{Item}
 use Rattle.arrays_core.specs.declared.item.ItemType.{ItemType}
 use Rattle.arrays_core.specs.declared.item.ItemType.TheVariants.{Nums, Chars}
@@ -16,6 +16,7 @@ use Rattle.index_region.specs.Axes.{is_axis, axis_at}
 use Rattle.index_region.specs.Answers.{IsPlaceOf, HasTypeOf}
 use Rattle.index_region.proofs.Passing.{passed, place_inside, typed_check, typed_limited}
 use Rattle.structural_fns.specs.Catenate.{joined_rank, joined_places, other_axes, ranks_join, axes_agree, types_join, joined_type, joined_shape, catenate_form}
+use Rattle.structural_fns.specs.Laws.SharedAxes.{shared_long}
 
 same_types : (left right : Bool) (s t : ItemType)
     → ((not left || not right) || is_same_type s t) ≡ true → right ≡ true
@@ -29,42 +30,6 @@ same_types true true Chars Chars h e = refl
 
 pub right_typed : (a b : ArrayValue) → types_join a b ≡ true → has_items b ≡ true → b.item_type ≡ joined_type a b
 right_typed a b h e = same_types (has_items a) (has_items b) a.item_type b.item_type h e
-
--- the axes of one side, of the greatest rank or of one less
-pub record IsNear (m : ArrayValue) (rank : ℕ) : Type 0 where
-  pub low : length m.shape ≤ rank
-  pub high : rank ≤ suc (length m.shape)
-
-near_by : (scalar : Bool) (a b : ArrayValue) → is_scalar a ≡ scalar → ranks_join a b ≡ true → IsNear (if scalar then b else a) (joined_rank a b)
-near_by true a b e h = let none = eqb-true (length a.shape) 0 e in record { low = omega arith; high = omega arith }
-near_by false a b e h =
-    elim (or_cases (is_scalar a || is_scalar b) (nat_le (length a.shape) (suc (length b.shape)) && nat_le (length b.shape) (suc (length a.shape))) h) [
-      | inl one ↦ elim (or_cases (is_scalar a) (is_scalar b) one) [
-        | inl t ↦ absurd (true≢false (sym t ∙ e))
-        | inr t ↦ let none = eqb-true (length b.shape) 0 t in record { low = omega arith; high = omega arith }
-      ]
-      | inr near ↦
-          let parts = and_parts (nat_le (length a.shape) (suc (length b.shape))) (nat_le (length b.shape) (suc (length a.shape))) near in
-          let p = leb-true (length a.shape) (suc (length b.shape)) parts.0 in
-          let q = leb-true (length b.shape) (suc (length a.shape)) parts.1 in
-          record { low = omega arith; high = omega arith }
-    ]
-
-other_by : (test : Bool) (shape : List ℕ) (rank axis : ℕ) → nat_eq (length shape) rank ≡ test → axis < rank → length shape ≤ rank → rank ≤ suc (length shape)
-    → length (if test then remove shape axis else shape) + 1 ≡ rank
-other_by true shape rank axis e h low high =
-    let same = eqb-true (length shape) rank e in
-    let long = length-remove shape axis (omega arith) in
-    omega arith
-other_by false shape rank axis e h low high = let differ = eqb-false (length shape) rank e in omega arith
-
--- the other axes are one less than the result's
-pub shared_long : (a b : ArrayValue) (axis : ℕ) → axis < joined_rank a b → ranks_join a b ≡ true
-    → length (other_axes (joined_rank a b) axis (if is_scalar a then b else a)) + 1 ≡ joined_rank a b
-shared_long a b axis h ranks =
-    let m = if is_scalar a then b else a in
-    let near = near_by (is_scalar a) a b refl ranks in
-    other_by (nat_eq (length m.shape) (joined_rank a b)) m.shape (joined_rank a b) axis refl h near.low near.high
 
 -- the types of two sides that have passed the checks
 pub join_types : (along : Along) (a b : ArrayValue) (index : List ℕ) → IsPlaceOf (catenate_form along a b) index → types_join a b ≡ true

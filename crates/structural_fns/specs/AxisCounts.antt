@@ -5,6 +5,7 @@ use Rattle.arrays_core.specs.declared.item.Kind.TheVariants.{Rank, Length, Domai
 use Rattle.arrays_core.specs.Arrays.{ArrayValue}
 use Rattle.index_region.specs.Checks.{check, Form, limited}
 use Rattle.index_region.specs.Arguments.{is_scalar, is_list, counts_as_numbers}
+use Rattle.index_region.specs.Boxes.{Interval, whole_of}
 
 -- the shape that the counts of a are for: of a scalar, an axis of one place for each count
 abbrev pub counted_shape : ArrayValue → ArrayValue → List ℕ
@@ -21,3 +22,8 @@ counted_form shape a b =
     (check (nat_eq (length a.items) (length (counted_shape a b))) Length
     (check (counts_as_numbers a) Domain
     (limited shape b.item_type)))
+
+-- What the rules of take and drop share.
+-- the box on the axes that the counts are for: of a scalar, its one place on each
+abbrev pub counted_box : ArrayValue → ArrayValue → List Interval → List Interval
+counted_box a b region = if is_scalar b then whole_of (counted_shape a b) else region

@@ -1,16 +1,19 @@
 -- Catenate: two arrays after one another along an axis.
-use Rattle.std.specs.Prelude.{ℕ, suc, ◌+◌, ◌-◌, max, nat_eq, nat_le, Bool, not, ◌&&◌, ◌||◌, if◌then◌else◌, List, [], ◌∷◌, ◌++◌, length, get_or, set, insert, remove, Result}
+use Rattle.std.specs.Prelude.{ℕ, suc, ◌+◌, ◌-◌, max, nat_eq, nat_le, Bool, not, ◌&&◌, ◌||◌, if◌then◌else◌, List, [], ◌∷◌, ◌++◌, length, get_or, set, insert, remove, Result, false, Some, ◌≡◌, ◌≤◌, ◌⊎◌}
 use Rattle.arrays_core.specs.declared.item.Item.{Item}
 use Rattle.arrays_core.specs.declared.item.ItemType.{ItemType}
 use Rattle.arrays_core.specs.declared.item.Kind.{Kind}
 use Rattle.arrays_core.specs.declared.item.Kind.TheVariants.{Axis, Rank, Length, Domain}
 use Rattle.arrays_core.specs.Arrays.{ArrayValue}
-use Rattle.scalar_fns.specs.ScalarExtension.{same_shape}
 use Rattle.index_region.specs.declared.along.Along.{Along}
 use Rattle.index_region.specs.Checks.{check, Form, limited, whole}
 use Rattle.index_region.specs.Arguments.{is_scalar, has_items, is_same_type}
 use Rattle.index_region.specs.Axes.{is_axis, axis_at}
 use Rattle.index_region.specs.Sources.{Place, Source, item_from}
+use Rattle.index_region.specs.Boxes.{Interval, whole_of}
+use Rattle.change_core.specs.RuleModels.{RuleModel}
+use Rattle.change_core.specs.Sourced.{Spread, on_axis, two_sourced}
+use Rattle.scalar_fns.specs.ScalarExtension.{same_shape}
 
 -- the result has the greater rank, and at least 1
 abbrev pub joined_rank : ArrayValue → ArrayValue → ℕ
@@ -89,3 +92,31 @@ catenate_item along a b index = item_from a b (joined_type a b) (catenate_source
 -- the whole result
 abbrev pub catenate_whole : Along → ArrayValue → ArrayValue → Result ArrayValue Kind
 catenate_whole along a b = whole (catenate_form along a b) (catenate_item along a b)
+
+-- a side is a scalar, or has the axes of the result or one less
+pub record IsSide (side : ArrayValue) (rank : ℕ) : Type 0 where
+  pub low : length side.shape ≤ rank
+  pub near : (length side.shape ≡ 0) ⊎ (rank ≤ length side.shape + 1)
+
+-- What a change of an argument of catenate changes of the result.
+-- a place of the result's axis
+abbrev pub one_place : ℕ → Interval
+one_place i = (i, i)
+
+-- a side that stands after so many places of the axis: a scalar is repeated over the other axes, an array of one rank
+-- less is one place, the intervals of any other are moved
+abbrev pub side_box : List ℕ → ℕ → ℕ → ArrayValue → Spread
+side_box shape axis before side region =
+    if is_scalar side then Some (set (whole_of shape) axis (one_place (before + 1)))
+    else (if nat_eq (length side.shape) (length shape) then on_axis axis (λ s. (before + s.0, before + s.1)) region
+    else Some (insert region axis (one_place (before + 1))))
+
+abbrev pub catenate_left_box : Along → List ℕ → ArrayValue → ArrayValue → Spread
+catenate_left_box along shape a b = side_box shape (axis_at (length shape) along) 0 a
+
+-- the right side stands after the places of the left one
+abbrev pub catenate_right_box : Along → List ℕ → ArrayValue → ArrayValue → Spread
+catenate_right_box along shape a b = let axis = axis_at (length shape) along in side_box shape axis (joined_places (length shape) axis a) b
+
+abbrev pub catenate_rule : Along → RuleModel
+catenate_rule along = two_sourced false (catenate_form along) joined_type (catenate_source along) (catenate_left_box along) (catenate_right_box along)

@@ -1,12 +1,15 @@
 -- Drop, A↓B: the first places of each axis, or the last, left out.
-use Rattle.std.specs.Prelude.{ℕ, ◌+◌, ◌-◌, ℤ, pos, negsuc, unsigned_abs, List, [], ◌∷◌, Result}
+use Rattle.std.specs.Prelude.{ℕ, ◌+◌, ◌-◌, ℤ, pos, negsuc, unsigned_abs, List, [], ◌∷◌, Result, suc, true, Some, None}
 use Rattle.arrays_core.specs.declared.item.Item.{Item}
 use Rattle.arrays_core.specs.declared.item.Kind.{Kind}
 use Rattle.arrays_core.specs.Arrays.{ArrayValue}
 use Rattle.index_region.specs.Checks.{Form, whole}
 use Rattle.index_region.specs.Arguments.{numbers}
 use Rattle.index_region.specs.Sources.{Place, Source, item_from}
-use Rattle.structural_fns.specs.AxisCounts.{counted_shape, uncounted, counted_form}
+use Rattle.change_core.specs.RuleModels.{RuleModel}
+use Rattle.change_core.specs.Ways.{Axis, images}
+use Rattle.change_core.specs.Sourced.{Spread, two_sourced}
+use Rattle.structural_fns.specs.AxisCounts.{counted_shape, uncounted, counted_form, counted_box}
 
 -- the lengths that are left of the axes
 abbrev pub dropped_shape : List ℕ → List ℤ → List ℕ
@@ -38,3 +41,21 @@ drop_item a b index = item_from a b b.item_type (drop_source a b index)
 -- the whole result
 abbrev pub drop_whole : ArrayValue → ArrayValue → Result ArrayValue Kind
 drop_whole a b = whole (drop_form a b) (drop_item a b)
+
+-- What a change of an argument of drop changes of the result.
+-- what is left of an axis of n places, and where drop puts an interval of it
+abbrev pub kept : ℕ → ℤ → Axis
+kept n (pos count) = record { len = n - count; source = kept_place (pos count); image = λ s. (s.0 - count, s.1 - count) }
+kept n (negsuc count) = record { len = n - suc count; source = kept_place (negsuc count); image = λ s. s }
+
+abbrev pub kept_axes : List ℕ → List ℤ → List Axis
+kept_axes (n ∷ shape) (count ∷ counts) = kept n count ∷ kept_axes shape counts
+kept_axes shape counts = []
+
+-- each interval goes to where drop puts it
+abbrev pub drop_box : List ℕ → ArrayValue → ArrayValue → Spread
+drop_box shape a b region = Some (images (kept_axes (counted_shape a b) (numbers a)) (counted_box a b region))
+
+-- the counts are a selector
+abbrev pub drop_rule : RuleModel
+drop_rule = two_sourced true drop_form (λ a b. b.item_type) drop_source (λ shape a b region. None) drop_box

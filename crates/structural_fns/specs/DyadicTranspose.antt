@@ -1,5 +1,5 @@
 -- Dyadic transpose, A⍉B: axis i of b goes to axis A[i].
-use Rattle.std.specs.Prelude.{ℕ, ◌-◌, max, min, nat_eq, ℤ, pos, int_le, unsigned_abs, Bool, ◌&&◌, List, [], ◌∷◌, map, length, get_or, zip, Result}
+use Rattle.std.specs.Prelude.{ℕ, ◌-◌, max, min, nat_eq, ℤ, pos, int_le, unsigned_abs, Bool, ◌&&◌, List, [], ◌∷◌, map, length, get_or, zip, Result, true, Some, None}
 use Rattle.std.specs.List.{filter, list_all, list_any, range_with_len}
 use Rattle.arrays_core.specs.declared.item.Item.{Item}
 use Rattle.arrays_core.specs.declared.item.Kind.{Kind}
@@ -8,6 +8,9 @@ use Rattle.arrays_core.specs.Arrays.{ArrayValue}
 use Rattle.index_region.specs.Checks.{check, Form, limited, whole}
 use Rattle.index_region.specs.Arguments.{is_list, counts_as_numbers, numbers}
 use Rattle.index_region.specs.Sources.{Place, Source, item_from}
+use Rattle.change_core.specs.RuleModels.{RuleModel}
+use Rattle.change_core.specs.Sourced.{Spread, two_sourced}
+use Rattle.change_core.specs.Ways.{meets}
 
 -- the axes that the axes of b go to, counted from 1
 abbrev pub axes_to : ArrayValue → List ℕ
@@ -69,3 +72,16 @@ transpose_by_item a b index = item_from a b b.item_type (transpose_by_source a b
 -- the whole result
 abbrev pub transpose_by_whole : ArrayValue → ArrayValue → Result ArrayValue Kind
 transpose_by_whole a b = whole (transpose_by_form a b) (transpose_by_item a b)
+
+-- What may change of A⍉B: on each axis what lies in all changed intervals that go there; anew where A changed.
+-- the axes that the axes of b go to, counted from 0
+abbrev pub axes_from_zero : ArrayValue → List ℕ
+axes_from_zero a = map (λ j. j - 1) (axes_to a)
+
+-- the box: each axis of the result, as far as it lies in all intervals that go to it
+abbrev pub transpose_by_box : List ℕ → ArrayValue → Spread
+transpose_by_box shape a region = Some (meets (axes_from_zero a) region 0 shape)
+
+-- each item reads the place that it comes from; A says which
+abbrev pub transpose_by_rule : RuleModel
+transpose_by_rule = two_sourced true transpose_by_form (λ a b. b.item_type) transpose_by_source (λ shape a b region. None) (λ shape a b. transpose_by_box shape a)

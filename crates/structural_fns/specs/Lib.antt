@@ -11,3 +11,5 @@ pub mod Transpose
 pub mod DyadicTranspose
 -- What proofs and bodies use.
 pub mod LeastLength
+-- Proofs that impls give with their functions: all that changes lies in the boxes, and what grows.
+pub mod Laws

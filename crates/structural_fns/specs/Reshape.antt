@@ -1,5 +1,5 @@
 -- Reshape, A⍴B: the items in row-major order, again and again, under another shape.
-use Rattle.std.specs.Prelude.{ℕ, ◌%◌, unsigned_abs, ◌&&◌, if◌then◌else◌, List, map, length, get_or, Result}
+use Rattle.std.specs.Prelude.{ℕ, ◌%◌, unsigned_abs, ◌&&◌, if◌then◌else◌, List, map, length, get_or, Result, true, None}
 use Rattle.arrays_core.specs.declared.item.Item.{Item}
 use Rattle.arrays_core.specs.declared.item.Kind.{Kind}
 use Rattle.arrays_core.specs.declared.item.Kind.TheVariants.{Rank, Domain}
@@ -10,6 +10,9 @@ use Rattle.arrays_core.specs.Shapes.{size, index_after, places_before}
 use Rattle.index_region.specs.Checks.{check, Form, limited, whole}
 use Rattle.index_region.specs.Arguments.{is_list, has_items, counts_as_numbers, numbers, none_negative}
 use Rattle.index_region.specs.Sources.{Place, Fill, Source, item_from}
+use Rattle.change_core.specs.Places.{by_place}
+use Rattle.change_core.specs.RuleModels.{RuleModel}
+use Rattle.change_core.specs.Sourced.{Spread, two_sourced}
 
 -- the lengths of axes that an array of numbers asks for, whatever their signs
 abbrev pub magnitudes : ArrayValue → List ℕ
@@ -42,3 +45,12 @@ reshape_item a b index = item_from a b b.item_type (reshape_source (magnitudes a
 -- the whole result
 abbrev pub reshape_whole : ArrayValue → ArrayValue → Result ArrayValue Kind
 reshape_whole a b = whole (reshape_form a b) (reshape_item a b)
+
+-- What a change of an argument of reshape changes of the result.
+-- all where items are needed again; else from the first place of the box in the ravel to the last, as far as there are such
+abbrev pub reshape_box : List ℕ → ArrayValue → ArrayValue → Spread
+reshape_box shape a b = (by_place b.shape shape).box
+
+-- the counts are a selector
+abbrev pub reshape_rule : RuleModel
+reshape_rule = two_sourced true reshape_form (λ a b. b.item_type) (λ a b. reshape_source (magnitudes a) b) (λ shape a b region. None) reshape_box

@@ -8,6 +8,9 @@ use Rattle.index_region.specs.declared.along.Along.{Along}
 use Rattle.index_region.specs.Checks.{check, Form, limited, whole}
 use Rattle.index_region.specs.Axes.{is_axis, axis_at, places_along}
 use Rattle.index_region.specs.Sources.{Place, Source, item_from}
+use Rattle.index_region.specs.Boxes.{Interval}
+use Rattle.change_core.specs.RuleModels.{RuleModel}
+use Rattle.change_core.specs.Sourced.{Spread, on_axis, one_sourced}
 
 -- the checks, and the shape and the type of the result
 abbrev pub reverse_form : Along → ArrayValue → Result Form Kind
@@ -26,3 +29,18 @@ reverse_item along b index = item_from b b b.item_type (reverse_source along b i
 -- the whole result
 abbrev pub reverse_whole : Along → ArrayValue → Result ArrayValue Kind
 reverse_whole along b = whole (reverse_form along b) (reverse_item along b)
+
+-- What may change of ⌽B along an axis: the changed interval of the axis, counted from its other end.
+-- an interval of an axis of n places, counted from its other end
+abbrev pub reversed : ℕ → Interval → Interval
+reversed n s = (suc n - s.1, suc n - s.0)
+
+-- the box: the interval of the axis reversed, other axes as they are
+abbrev pub reverse_box : Along → ArrayValue → Spread
+reverse_box along b =
+    let axis = axis_at (length b.shape) along in
+    on_axis axis (reversed (places_along b.shape axis))
+
+-- each item reads the place that it comes from
+abbrev pub reverse_rule : Along → RuleModel
+reverse_rule along = one_sourced (reverse_form along) (reverse_source along) (λ shape b. reverse_box along b)

@@ -1,16 +1,20 @@
 -- Rotate, A⌽B along an axis: its places moved along it, and round its end.
-use Rattle.std.specs.Prelude.{ℕ, suc, nat_eq, ℤ, pos, ◌+ℤ◌, ◌-ℤ◌, unsigned_abs, ◌||◌, List, length, get_or, set, remove, Result}
+use Rattle.std.specs.Prelude.{ℕ, suc, nat_eq, ℤ, pos, ◌+ℤ◌, ◌-ℤ◌, unsigned_abs, ◌||◌, List, length, get_or, set, remove, Result, ◌==◌, if◌then◌else◌, [], ◌∷◌, map, insert, false, Some}
 use Rattle.arrays_core.specs.declared.item.Item.{Item}
 use Rattle.arrays_core.specs.declared.item.Kind.{Kind}
 use Rattle.arrays_core.specs.declared.item.Kind.TheVariants.{Axis, Rank, Length, Domain}
 use Rattle.arrays_core.specs.Arrays.{ArrayValue}
-use Rattle.scalar_fns.specs.ScalarExtension.{same_shape, extended}
-use Rattle.scalar_fns.specs.Numbers.{residue}
+use Rattle.arrays_core.specs.Shapes.{size}
 use Rattle.index_region.specs.declared.along.Along.{Along}
 use Rattle.index_region.specs.Checks.{check, Form, limited, whole}
 use Rattle.index_region.specs.Arguments.{has_one_item, counts_as_numbers, number_of}
 use Rattle.index_region.specs.Axes.{is_axis, axis_at, places_along}
 use Rattle.index_region.specs.Sources.{Place, Source, item_from}
+use Rattle.index_region.specs.Boxes.{whole_of}
+use Rattle.change_core.specs.RuleModels.{RuleModel, Use}
+use Rattle.change_core.specs.Sourced.{Spread, on_axis, right_used, two_rule}
+use Rattle.scalar_fns.specs.ScalarExtension.{same_shape, extended}
+use Rattle.scalar_fns.specs.Numbers.{residue}
 
 -- one amount, or one for each line of a shape along an axis
 abbrev pub lines_checked : ℕ → ArrayValue → List ℕ → Result Form Kind → Result Form Kind
@@ -48,3 +52,27 @@ rotate_item along a b index = item_from a b b.item_type (rotate_source along a b
 -- the whole result
 abbrev pub rotate_whole : Along → ArrayValue → ArrayValue → Result ArrayValue Kind
 rotate_whole along a b = whole (rotate_form along a b) (rotate_item along a b)
+
+-- What may change of A⌽B along an axis: whole lines along it, as a place may come from any place of its line.
+-- the box of B: the axis whole, other axes as they are
+abbrev pub rotate_box : Along → ArrayValue → Spread
+rotate_box along b =
+    let axis = axis_at (length b.shape) along in
+    on_axis axis (λ s. (1, places_along b.shape axis))
+
+-- the box of A: all where it is one amount, else the lines of the changed amounts
+abbrev pub amounts_box : Along → List ℕ → ArrayValue → ArrayValue → Spread
+amounts_box along shape a b region =
+    let axis = axis_at (length b.shape) along in
+    Some (if has_one_item a then whole_of shape else insert region axis (1, places_along b.shape axis))
+
+-- each item reads the amount of its line, of one amount that one
+abbrev pub amounts_use : Along → List ℕ → ArrayValue → ArrayValue → Use
+amounts_use along shape a b = record {
+  reads = λ index. (if size a.shape == 1 then map (λ _. 1) a.shape else remove index (axis_at (length b.shape) along)) ∷ [];
+  box = amounts_box along shape a b;
+}
+
+-- each item reads its amount, and the place that it comes from
+abbrev pub rotate_rule : Along → RuleModel
+rotate_rule along = two_rule false (rotate_form along) (rotate_item along) (amounts_use along) (λ shape a b. right_used (rotate_source along a b) (rotate_box along b))

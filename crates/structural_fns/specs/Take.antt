@@ -1,5 +1,5 @@
 -- Take, A↑B: the first places of each axis, or the last, and fill beyond them.
-use Rattle.std.specs.Prelude.{ℕ, suc, ◌+◌, ◌-◌, ◌≤◌, ℤ, pos, negsuc, if◌then◌else◌, List, [], ◌∷◌, length, get_or, Result}
+use Rattle.std.specs.Prelude.{ℕ, suc, ◌+◌, ◌-◌, ◌≤◌, ℤ, pos, negsuc, if◌then◌else◌, List, [], ◌∷◌, length, get_or, Result, true, Some, None}
 use Rattle.arrays_core.specs.declared.item.Item.{Item}
 use Rattle.arrays_core.specs.declared.item.Kind.{Kind}
 use Rattle.arrays_core.specs.Arrays.{ArrayValue}
@@ -7,8 +7,11 @@ use Rattle.arrays_core.specs.Shapes.{is_index_of}
 use Rattle.index_region.specs.Checks.{Form, whole}
 use Rattle.index_region.specs.Arguments.{numbers}
 use Rattle.index_region.specs.Sources.{Place, Fill, Source, item_from}
+use Rattle.change_core.specs.RuleModels.{RuleModel}
+use Rattle.change_core.specs.Ways.{Axis, images}
+use Rattle.change_core.specs.Sourced.{Spread, two_sourced}
 use Rattle.structural_fns.specs.Reshape.{magnitudes}
-use Rattle.structural_fns.specs.AxisCounts.{counted_shape, uncounted, counted_form}
+use Rattle.structural_fns.specs.AxisCounts.{counted_shape, uncounted, counted_form, counted_box}
 
 -- the checks, and the shape and the type of the result
 abbrev pub take_form : ArrayValue → ArrayValue → Result Form Kind
@@ -45,3 +48,21 @@ AreOnLastAxis a b row before kept =
 -- the whole result
 abbrev pub take_whole : ArrayValue → ArrayValue → Result ArrayValue Kind
 take_whole a b = whole (take_form a b) (take_item a b)
+
+-- What a change of an argument of take changes of the result.
+-- an axis of n places of which so many are taken, and where take puts an interval of it
+abbrev pub taken : ℕ → ℤ → Axis
+taken n (pos count) = record { len = count; source = taken_place n (pos count); image = λ s. s }
+taken n (negsuc count) = record { len = suc count; source = taken_place n (negsuc count); image = λ s. (s.0 + suc count - n, s.1 + suc count - n) }
+
+abbrev pub taken_axes : List ℕ → List ℤ → List Axis
+taken_axes (n ∷ shape) (count ∷ counts) = taken n count ∷ taken_axes shape counts
+taken_axes shape counts = []
+
+-- each interval goes to where take puts it
+abbrev pub take_box : List ℕ → ArrayValue → ArrayValue → Spread
+take_box shape a b region = Some (images (taken_axes (counted_shape a b) (numbers a)) (counted_box a b region))
+
+-- the counts are a selector
+abbrev pub take_rule : RuleModel
+take_rule = two_sourced true take_form (λ a b. b.item_type) take_source (λ shape a b region. None) take_box

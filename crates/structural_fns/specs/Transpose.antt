@@ -1,10 +1,12 @@
 -- Transpose, ⍉B: the axes in reverse order.
-use Rattle.std.specs.Prelude.{ℕ, List, reverse, Result}
+use Rattle.std.specs.Prelude.{ℕ, List, reverse, Result, Some}
 use Rattle.arrays_core.specs.declared.item.Item.{Item}
 use Rattle.arrays_core.specs.declared.item.Kind.{Kind}
 use Rattle.arrays_core.specs.Arrays.{ArrayValue}
 use Rattle.index_region.specs.Checks.{Form, limited, whole}
 use Rattle.index_region.specs.Sources.{Place, Source, item_from}
+use Rattle.change_core.specs.RuleModels.{RuleModel}
+use Rattle.change_core.specs.Sourced.{Spread, one_sourced}
 
 -- the checks, and the shape and the type of the result
 abbrev pub transpose_form : ArrayValue → Result Form Kind
@@ -21,3 +23,12 @@ transpose_item b index = item_from b b b.item_type (transpose_source b index)
 -- the whole result
 abbrev pub transpose_whole : ArrayValue → Result ArrayValue Kind
 transpose_whole b = whole (transpose_form b) (transpose_item b)
+
+-- What may change of ⍉B: the changed box with its axes in reverse order.
+-- the box: the intervals in reverse order
+abbrev pub transpose_box : Spread
+transpose_box region = Some (reverse region)
+
+-- each item reads the place that it comes from
+abbrev pub transpose_rule : RuleModel
+transpose_rule = one_sourced transpose_form transpose_source (λ shape b. transpose_box)

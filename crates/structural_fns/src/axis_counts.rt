@@ -1,12 +1,12 @@
-//! What take and drop share: a count for each axis.
+//! What take and drop share: a count for each axis, and the axes that the counts are for.
 
 ghost use Rattle.std.specs.Prelude.{◌≡◌, ◌≤◌, All, IfOk, IfErr, List, ℕ, length};
 ghost use Rattle.arrays_core.specs.Limits.{most_axes, longest_axis};
 ghost use Rattle.index_region.specs.Checks.{limited};
-ghost use Rattle.structural_fns.specs.AxisCounts.{counted_shape as shape_counted, counted_form, uncounted as index_uncounted};
+ghost use Rattle.structural_fns.specs.AxisCounts.{counted_shape as shape_counted, counted_form, uncounted as index_uncounted, counted_box as box_counted};
 
 use arrays_core::{Kind, Shape, shape_of};
-use index_region::Seen;
+use index_region::{IndexBox, Intervals, Seen};
 
 /// The checks of the counts: RANK where they are neither a scalar nor a vector, LENGTH where they are
 /// not as many as the axes (a scalar takes any), DOMAIN where they are not numbers.
@@ -56,5 +56,17 @@ pub(crate) fn uncounted(array: &Seen, index: Shape) -> Shape
         shape_of(*shape.allocator(), &[])
     } else {
         index
+    }
+}
+
+/// The intervals of a box on the axes of that shape: of a scalar, its one place on each.
+pub(crate) fn counted_box(counts: &Seen, array: &Seen, region: &IndexBox) -> Intervals
+    requires { length counts.now.items ≤ most_axes }
+    ensures { result ≡ box_counted counts.now array.now region.now }
+{
+    if array.shape().is_empty() {
+        Intervals::whole(counted_shape(counts, array).as_slice())
+    } else {
+        region.intervals().copy()
     }
 }

@@ -1,6 +1,7 @@
 //! Catenate: two arrays after one another along an axis.
 
-ghost use Rattle.std.specs.Prelude.{◌≡◌, ◌≤◌, ◌<◌, ◌+◌, ◌-◌, ◌^◌, ◌++◌, ◌∷◌, [], ◌↔◌, ℕ, IfOk, OnOk, Err, IfErr, IsTrue, Result, true, if◌then◌else◌, length, nat_eq, ◌&&◌};
+ghost use Rattle.std.specs.Prelude.{◌≡◌, ◌≤◌, ◌<◌, ◌+◌, ◌-◌, ◌^◌, ◌++◌, ◌∷◌, [], ◌↔◌, ℕ, IfOk, OnOk, Err, IfErr, IsTrue, Result, true, if◌then◌else◌, length, nat_eq, ◌&&◌, Some};
+ghost use Rattle.std.proofs.Common.{rules};
 ghost use Rattle.arrays_core.specs.Limits.{most_axes, longest_axis};
 ghost use Rattle.arrays_core.specs.declared.item.Kind.{Kind as AKind};
 ghost use Rattle.arrays_core.specs.Arrays.{ArrayValue, IsAnswerTo, IsArray, item_of};
@@ -11,14 +12,21 @@ ghost use Rattle.index_region.specs.Arguments.{is_scalar, has_items};
 ghost use Rattle.index_region.specs.Axes.{is_axis, axis_at};
 ghost use Rattle.index_region.specs.ArgumentLists.{of_two_arguments};
 ghost use Rattle.index_region.specs.Answers.{IsPlaceOf, IsSourceIn, source_value};
-ghost use Rattle.structural_fns.specs.Catenate.{joined_rank as rank_joined, joined_places as places_joined, other_axes as axes_other, ranks_join as do_ranks_join, axes_agree as do_axes_agree, types_join as do_types_join, joined_type as type_joined, joined_shape as shape_joined, sides_checked, in_side as index_in_side, in_side_of_row, catenate_form, catenate_source, catenate_item, catenate_whole};
+ghost use Rattle.index_region.specs.Boxes.{fits};
+ghost use Rattle.change_core.proofs.Growing.{never_grows};
+ghost use Rattle.structural_fns.specs.Catenate.{joined_rank as rank_joined, joined_places as places_joined, other_axes as axes_other, ranks_join as do_ranks_join, axes_agree as do_axes_agree, types_join as do_types_join, joined_type as type_joined, joined_shape as shape_joined, sides_checked, in_side as index_in_side, in_side_of_row, catenate_form, catenate_source, catenate_item, catenate_whole, side_box as box_of_side, catenate_rule, IsSide};
+ghost use Rattle.structural_fns.specs.Laws.Catenate.{catenate_tight};
 
 use crate::even_steps::extend_evenly;
 use arrays_core::{
     ApplyFault, Array, ArrayBuilder, Item, ItemType, Kind, Shape, index_in_row, position, shape_of,
     with_axis, without_axis,
 };
-use index_region::{Along, Primitive, RowPrimitive, Seen, Source, apply_rows, item_from, limited};
+use change_core::{Announced, Lawful};
+use index_region::{
+    Along, IndexBox, Intervals, Primitive, RowPrimitive, Seen, Source, apply_rows, item_from,
+    limited,
+};
 use std::alloc::{AllocError, Global};
 
 /// The rank of the result: the greater one, and at least 1.
@@ -356,4 +364,78 @@ impl RowPrimitive for Catenate {
             extend_side(right, axis, places, row, 0, count, items)
         }
     }
+}
+
+/// Where an interval goes of a side that stands after so many places of the axis.
+fn moved_interval(before: u32, interval: (u32, u32)) -> (u32, u32)
+    requires within { before ≤ longest_axis }
+    requires order { interval.0 ≤ interval.1 }
+    requires high { interval.1 ≤ longest_axis }
+    ensures { result ≡ (before + interval.0, before + interval.1) }
+{
+    let (first, last) = interval;
+    (before + first, before + last)
+}
+
+/// The intervals of a result for a changed box of a side that stands after so many places of the axis.
+fn side_box(side: &Seen, shape: &[u32], axis: usize, before: u32, region: &IndexBox) -> Intervals
+    requires rank { length shape.now ≤ most_axes }
+    requires there { axis < length shape.now }
+    requires near { IsSide side.now (length shape.now) }
+    requires within { before ≤ longest_axis }
+    requires fit { IsTrue (fits region.now side.now.shape) }
+    ensures { Some result ≡ box_of_side shape.now axis before side.now region.now }
+{
+    let rank = side.shape().len();
+    if rank == 0 {
+        return Intervals::whole(shape).with(axis, before + 1, before + 1);
+    }
+    let intervals = region.intervals().copy();
+    if rank == shape.len() {
+        let (first, last) = moved_interval(before, region.as_slice()[axis]);
+        return intervals.with(axis, first, last);
+    }
+    intervals.with_axis(axis, before + 1, before + 1)
+}
+
+impl Announced for Catenate {
+    ghost selectors = { λ r. (catenate_rule r.along).selectors };
+
+    ghost uses = { λ r. (catenate_rule r.along).uses };
+
+    fn grows(&self, _args: &[Seen], _grown: &[bool]) -> bool {
+        false
+    }
+
+    fn selects(&self, _which: usize) -> bool {
+        false
+    }
+
+    fn box_of(
+        &self,
+        args: &[Seen],
+        shape: &[u32],
+        which: usize,
+        region: &IndexBox,
+    ) -> Option<Intervals> {
+        let (left, right) = (&args[0], &args[1]);
+        let axis = self.along.axis_at(shape.len() as u32);
+        if which == 0 {
+            return Some(side_box(left, shape, axis, 0, region));
+        }
+        let before = joined_places(left, shape.len(), axis);
+        Some(side_box(right, shape, axis, before, region))
+    }
+
+    fn whole(&self, alloc: Global, args: &[Seen]) -> Result<Array, ApplyFault> {
+        self.apply(alloc, args)
+    }
+
+    ghost counted = { λ _. Prim.search rules };
+}
+
+impl Lawful for Catenate {
+    ghost tight = { λ r. catenate_tight r.along };
+
+    ghost growing = { λ _. never_grows _ };
 }

@@ -1,22 +1,29 @@
 //! Drop: all places of each axis but a number of the first or of the last.
 
-ghost use Rattle.std.specs.Prelude.{◌≡◌, ◌≤◌, ◌+◌, ℤ, pos, unsigned_abs, IsTrue, IfOk, Ok, All, length, ◌∷◌, []};
+ghost use Rattle.std.specs.Prelude.{◌≡◌, ◌≤◌, ◌+◌, ℤ, pos, unsigned_abs, IsTrue, IfOk, Ok, All, length, ◌∷◌, [], ℕ};
+ghost use Rattle.std.proofs.Common.{rules};
 ghost use Rattle.arrays_core.specs.Limits.{most_axes, longest_axis};
 ghost use Rattle.arrays_core.specs.Arrays.{ArrayValue, IsAnswerTo, IsArray};
 ghost use Rattle.arrays_core.specs.Shapes.{IsWithinLimits, is_index_of as is_below};
 ghost use Rattle.index_region.specs.ArgumentLists.{of_two_arguments};
 ghost use Rattle.index_region.specs.Arguments.{numbers};
 ghost use Rattle.index_region.specs.Answers.{IsPlaceOf, IsSourceIn, source_value};
-ghost use Rattle.structural_fns.specs.AxisCounts.{counted_shape as shape_counted, uncounted as index_uncounted};
-ghost use Rattle.structural_fns.specs.Drop.{drop_form, drop_source, drop_item, drop_whole, dropped_shape as shape_dropped, kept_place as place_kept, kept_places as places_kept};
 ghost use Rattle.index_region.specs.Checks.{form_of};
+ghost use Rattle.change_core.specs.Ways.{images};
+ghost use Rattle.change_core.proofs.Growing.{never_grows};
+ghost use Rattle.structural_fns.specs.AxisCounts.{counted_shape as shape_counted, uncounted as index_uncounted};
+ghost use Rattle.structural_fns.specs.Drop.{drop_form, drop_source, drop_item, drop_whole, dropped_shape as shape_dropped, kept_place as place_kept, kept_places as places_kept, kept, kept_axes, drop_rule};
+ghost use Rattle.structural_fns.specs.Laws.Drop.{drop_tight};
 
-use crate::axis_counts::{check_axis_counts, counted_shape, uncounted};
+use crate::axis_counts::{check_axis_counts, counted_box, counted_shape, uncounted};
 use crate::limits::MOST_AXES;
 use arrays_core::{
     ApplyFault, Array, ArrayBuilder, Item, ItemType, Kind, Shape, index_in_row, position, size,
 };
-use index_region::{Primitive, RowPrimitive, Seen, Source, apply_rows, item_from, limited};
+use change_core::{Announced, Lawful};
+use index_region::{
+    IndexBox, Intervals, Primitive, RowPrimitive, Seen, Source, apply_rows, item_from, limited,
+};
 use smallvec::SmallVec;
 use std::alloc::{AllocError, Global};
 
@@ -173,4 +180,77 @@ impl RowPrimitive for DropPlaces {
         let at = self.place_of(counts, array, first.as_slice());
         array.extend_run(items, position(shape, at.as_slice()) - 1, count)
     }
+}
+
+/// Where drop puts an interval of an axis of which so many places are left out, by a negative count the last ones.
+fn kept_interval(count: i64, interval: (u32, u32)) -> (u32, u32)
+    ensures { (n : ℕ) → result ≡ (kept n count).image interval }
+{
+    if count < 0 {
+        return interval;
+    }
+    let dropped = count.unsigned_abs();
+    let (first, last) = interval;
+    (
+        u64::from(first).saturating_sub(dropped) as u32,
+        u64::from(last).saturating_sub(dropped) as u32,
+    )
+}
+
+/// Where drop puts the intervals of a box.
+fn kept_box(counts: &Seen, axes: &[u32], intervals: &[(u32, u32)]) -> Intervals
+    requires long { length counts.now.items ≡ length axes.now }
+    requires rank { length axes.now ≤ most_axes }
+    requires as_many { length intervals.now ≡ length axes.now }
+    ensures { result ≡ images (kept_axes axes.now (numbers counts.now)) intervals.now }
+{
+    let mut moved = Intervals::none();
+    for k in 0..axes.len() {
+        let count = counts.number(k as u32 + 1);
+        let (first, last) = kept_interval(count, intervals[k]);
+        moved.push(first, last);
+    }
+    moved
+}
+
+impl Announced for DropPlaces {
+    ghost selectors = { λ _. drop_rule.selectors };
+
+    ghost uses = { λ _. drop_rule.uses };
+
+    fn grows(&self, _args: &[Seen], _grown: &[bool]) -> bool {
+        false
+    }
+
+    fn selects(&self, which: usize) -> bool {
+        which == 0
+    }
+
+    fn box_of(
+        &self,
+        args: &[Seen],
+        _shape: &[u32],
+        which: usize,
+        region: &IndexBox,
+    ) -> Option<Intervals> {
+        if which == 0 {
+            return None;
+        }
+        let (counts, array) = (&args[0], &args[1]);
+        let axes = counted_shape(counts, array);
+        let intervals = counted_box(counts, array, region);
+        Some(kept_box(counts, axes.as_slice(), intervals.as_slice()))
+    }
+
+    fn whole(&self, alloc: Global, args: &[Seen]) -> Result<Array, ApplyFault> {
+        self.apply(alloc, args)
+    }
+
+    ghost counted = { λ _. Prim.search rules };
+}
+
+impl Lawful for DropPlaces {
+    ghost tight = { λ _. drop_tight };
+
+    ghost growing = { λ _. never_grows _ };
 }

@@ -1,6 +1,7 @@
 //! Dyadic transpose: each axis goes to the axis that is named for it.
 
 ghost use Rattle.std.specs.Prelude.{◌≡◌, ◌≤◌, ◌<◌, ◌++◌, [], get_or, List, ℕ, Option, Some, None, IfOk, IfErr, Err, if◌then◌else◌, ◌∷◌, length};
+ghost use Rattle.std.proofs.Common.{rules};
 ghost use Rattle.arrays_core.specs.Limits.{most_axes, most_places};
 ghost use Rattle.arrays_core.specs.declared.item.ItemType.{ItemType as AType};
 ghost use Rattle.arrays_core.specs.Arrays.{ArrayValue, IsAnswerTo, IsArray};
@@ -8,16 +9,22 @@ ghost use Rattle.arrays_core.specs.Shapes.{places_before};
 ghost use Rattle.index_region.specs.ArgumentLists.{of_two_arguments};
 ghost use Rattle.index_region.specs.Arguments.{numbers};
 ghost use Rattle.index_region.specs.Answers.{IsPlaceOf, IsSourceIn, IsFormAnswerTo, source_value};
-ghost use Rattle.structural_fns.specs.DyadicTranspose.{axes_to, greatest as greatest_of, least as least_of, all_positive as positive_all, occurs as does_occur, are_axes as do_name_axes, lengths_at, transposed_shape as shape_transposed, gathered as index_gathered, transpose_by_form, transpose_by_source, transpose_by_item, transpose_by_whole};
-ghost use Rattle.structural_fns.specs.LeastLength.{least_with};
 ghost use Rattle.index_region.specs.Checks.{limited as limited_form};
+ghost use Rattle.change_core.specs.Ways.{meet_at as meet_on_axis, meets as meets_on_axes};
+ghost use Rattle.change_core.proofs.Growing.{never_grows};
+ghost use Rattle.structural_fns.specs.DyadicTranspose.{axes_to, greatest as greatest_of, least as least_of, all_positive as positive_all, occurs as does_occur, are_axes as do_name_axes, lengths_at, transposed_shape as shape_transposed, gathered as index_gathered, transpose_by_form, transpose_by_source, transpose_by_item, transpose_by_whole, axes_from_zero, transpose_by_rule};
+ghost use Rattle.structural_fns.specs.LeastLength.{least_with};
+ghost use Rattle.structural_fns.specs.Laws.DyadicTranspose.{transpose_by_tight};
 
 use crate::even_steps::extend_evenly;
 use crate::limits::MOST_AXES;
 use arrays_core::{
     ApplyFault, Array, ArrayBuilder, Item, ItemType, Kind, Shape, index_in_row, position,
 };
-use index_region::{Primitive, RowPrimitive, Seen, Source, apply_rows, item_from, limited};
+use change_core::{Announced, Lawful};
+use index_region::{
+    IndexBox, Intervals, Primitive, RowPrimitive, Seen, Source, apply_rows, item_from, limited,
+};
 use smallvec::SmallVec;
 use std::alloc::{AllocError, Global};
 
@@ -238,4 +245,88 @@ impl RowPrimitive for DyadicTranspose {
         let second = self.place_in_row(axes, array, row, count.min(2));
         extend_evenly(array, first, second - first, count, items)
     }
+}
+
+/// The axis, counted from 0, that an axis goes to.
+fn axis_to(axes: &Seen, axis: usize) -> u64
+    requires few { axis < most_axes }
+    requires there { axis < length axes.now.items }
+    ensures { result ≡ get_or (axes_from_zero axes.now) axis 0 }
+{
+    axes.number(axis as u32 + 1)
+        .unsigned_abs()
+        .saturating_sub(1)
+}
+
+/// What of an axis of so many places lies in each interval that goes to it.
+fn meet_at(axes: &Seen, intervals: &[(u32, u32)], axis: usize, places: u32) -> (u32, u32)
+    requires few { length intervals.now ≤ most_axes }
+    requires as_many { length intervals.now ≡ length axes.now.items }
+    ensures { result ≡ meet_on_axis axis places (axes_from_zero axes.now) intervals.now }
+{
+    let mut first = 1;
+    let mut last = places;
+    for from in (0..intervals.len()).rev() {
+        if axis_to(axes, from) == axis as u64 {
+            first = intervals[from].0.max(first);
+            last = intervals[from].1.min(last);
+        }
+    }
+    (first, last)
+}
+
+/// What of each axis of a shape lies in all intervals that go to it.
+fn meets(axes: &Seen, intervals: &[(u32, u32)], shape: &[u32]) -> Intervals
+    requires few { length intervals.now ≤ most_axes }
+    requires as_many { length intervals.now ≡ length axes.now.items }
+    requires rank { length shape.now ≤ most_axes }
+    ensures { result ≡ meets_on_axes (axes_from_zero axes.now) intervals.now 0 shape.now }
+{
+    let mut met = Intervals::none();
+    for (axis, places) in shape.iter().enumerate() {
+        let (first, last) = meet_at(axes, intervals, axis, *places);
+        met.push(first, last);
+    }
+    met
+}
+
+impl Announced for DyadicTranspose {
+    ghost selectors = { λ _. transpose_by_rule.selectors };
+
+    ghost uses = { λ _. transpose_by_rule.uses };
+
+    fn grows(&self, _args: &[Seen], _grown: &[bool]) -> bool {
+        false
+    }
+
+    fn selects(&self, which: usize) -> bool {
+        which == 0
+    }
+
+    fn box_of(
+        &self,
+        args: &[Seen],
+        shape: &[u32],
+        which: usize,
+        region: &IndexBox,
+    ) -> Option<Intervals> {
+        if which == 0 {
+            return None;
+        }
+        let (axes, array) = (&args[0], &args[1]);
+        let _sound = array.shape();
+        Some(meets(axes, region.as_slice(), shape))
+    }
+
+    fn whole(&self, alloc: Global, args: &[Seen]) -> Result<Array, ApplyFault> {
+        self.apply(alloc, args)
+    }
+
+    ghost counted = { λ _. Prim.search rules };
+}
+
+impl Lawful for DyadicTranspose {
+    ghost tight = { λ _. transpose_by_tight };
+
+    ghost growing = { λ _. never_grows _ };
 }

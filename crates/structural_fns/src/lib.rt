@@ -9,6 +9,7 @@ mod dyadic_transpose;
 mod even_steps;
 mod limits;
 mod magnitudes;
+mod places;
 mod ravel;
 mod reshape;
 mod reverse;

@@ -1,7 +1,7 @@
-//! The limits of arrays.
+//! The limits of arrays, in the types of the numbers that are held against them.
 
 /// The most axes that an array may have.
-pub(crate) const MOST_AXES: u32 = 4;
+pub(crate) const MOST_AXES: u32 = arrays_core::MOST_AXES as u32;
 
 /// The most places that an axis may have.
-pub(crate) const LONGEST_AXIS: u64 = 1_048_576;
+pub(crate) const LONGEST_AXIS: u64 = arrays_core::LONGEST_AXIS as u64;

@@ -1,13 +1,18 @@
 //! Ravel: the items as a vector.
 
 ghost use Rattle.std.specs.Prelude.{◌≡◌, length, ◌∷◌, []};
+ghost use Rattle.std.proofs.Common.{rules};
 ghost use Rattle.arrays_core.specs.Arrays.{ArrayValue, IsAnswerTo};
 ghost use Rattle.index_region.specs.ArgumentLists.{of_one_argument};
 ghost use Rattle.index_region.specs.Answers.{IsPlaceOf, IsSourceIn, source_value};
-ghost use Rattle.structural_fns.specs.Ravel.{ravel_form, ravel_source, ravel_item, ravel_whole};
+ghost use Rattle.change_core.proofs.Growing.{never_grows};
+ghost use Rattle.structural_fns.specs.Ravel.{ravel_form, ravel_source, ravel_item, ravel_whole, ravel_rule};
+ghost use Rattle.structural_fns.specs.Laws.Ravel.{ravel_tight};
 
+use crate::places::places_of;
 use arrays_core::{ApplyFault, Array, Item, ItemType, Kind, Shape, index_of_position, shape_of};
-use index_region::{Primitive, Seen, Source, item_from, limited};
+use change_core::{Announced, Lawful};
+use index_region::{IndexBox, Intervals, Primitive, Seen, Source, item_from, limited};
 use std::alloc::Global;
 
 /// Ravel, `,B` (ISO/IEC 13751, "Ravel"): the items in row-major order as a vector. A scalar becomes a
@@ -67,4 +72,41 @@ impl Primitive for Ravel {
         let source = self.source(array, index);
         Ok(item_from(array, array, array.item_type(), source))
     }
+}
+
+impl Announced for Ravel {
+    ghost selectors = { λ _. ravel_rule.selectors };
+
+    ghost uses = { λ _. ravel_rule.uses };
+
+    fn grows(&self, _args: &[Seen], _grown: &[bool]) -> bool {
+        false
+    }
+
+    fn selects(&self, _which: usize) -> bool {
+        false
+    }
+
+    fn box_of(
+        &self,
+        args: &[Seen],
+        _shape: &[u32],
+        _which: usize,
+        region: &IndexBox,
+    ) -> Option<Intervals> {
+        let (first, last) = places_of(&args[0], region);
+        Some(Intervals::one(first, last))
+    }
+
+    fn whole(&self, alloc: Global, args: &[Seen]) -> Result<Array, ApplyFault> {
+        self.apply(alloc, args)
+    }
+
+    ghost counted = { λ _. Prim.search rules };
+}
+
+impl Lawful for Ravel {
+    ghost tight = { λ _. ravel_tight };
+
+    ghost growing = { λ _. never_grows _ };
 }

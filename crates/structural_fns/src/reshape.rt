@@ -1,17 +1,24 @@
 //! Reshape: the ravel again and again, under another shape.
 
-ghost use Rattle.std.specs.Prelude.{◌≡◌, ◌≤◌, IsTrue, IfOk, length, ◌∷◌, []};
+ghost use Rattle.std.specs.Prelude.{◌≡◌, ◌≤◌, IsTrue, IfOk, length, ◌∷◌, [], ◌-◌};
+ghost use Rattle.std.proofs.Common.{rules};
 ghost use Rattle.arrays_core.specs.Arrays.{ArrayValue, IsAnswerTo};
 ghost use Rattle.arrays_core.specs.Shapes.{IsWithinLimits, is_index_of, size as size_of};
 ghost use Rattle.index_region.specs.ArgumentLists.{of_two_arguments};
 ghost use Rattle.index_region.specs.Answers.{IsPlaceOf, IsSourceIn, source_value};
-ghost use Rattle.structural_fns.specs.Reshape.{magnitudes as magnitudes_of, again_under, reshape_form, reshape_source, reshape_item, reshape_whole};
+ghost use Rattle.change_core.specs.Places.{cover_in};
+ghost use Rattle.change_core.proofs.Growing.{never_grows};
+ghost use Rattle.structural_fns.specs.Reshape.{magnitudes as magnitudes_of, again_under, reshape_form, reshape_source, reshape_item, reshape_whole, reshape_rule};
+ghost use Rattle.structural_fns.specs.Laws.Reshape.{reshape_tight};
 
 use crate::magnitudes::magnitudes;
+use crate::places::places_of;
 use arrays_core::{
-    ApplyFault, Array, ArrayBuilder, Item, ItemType, Kind, Shape, index_of_position, position, size,
+    ApplyFault, Array, ArrayBuilder, Item, ItemType, Kind, Shape, index_of_position, position,
+    shape_of, size,
 };
-use index_region::{Primitive, Seen, Source, item_from, limited};
+use change_core::{Announced, Lawful};
+use index_region::{IndexBox, Intervals, Primitive, Seen, Source, item_from, limited};
 use std::alloc::{AllocError, Global};
 
 /// Where the item at an index list of a shape comes from.
@@ -122,4 +129,65 @@ impl Primitive for Reshape {
         let source = self.source(counts, array, index);
         Ok(item_from(array, array, array.item_type(), source))
     }
+}
+
+/// The intervals that cover the places `first` to `last` of a shape, counted from 1 in row-major order, as far as there
+/// are such. It takes no memory.
+fn covered(alloc: Global, shape: &[u32], first: u32, last: u32) -> Option<Intervals>
+    requires within { IsWithinLimits shape.now }
+    requires low { 1 ≤ first }
+    requires order { first ≤ last }
+    ensures { result ≡ cover_in shape.now (first - 1) (last - 1) }
+{
+    let places = size(shape);
+    if places < first {
+        return None;
+    }
+    let covering = IndexBox::cover(&shape_of(alloc, shape), first, last.min(places));
+    Some(covering.intervals().copy())
+}
+
+impl Announced for Reshape {
+    ghost selectors = { λ _. reshape_rule.selectors };
+
+    ghost uses = { λ _. reshape_rule.uses };
+
+    fn grows(&self, _args: &[Seen], _grown: &[bool]) -> bool {
+        false
+    }
+
+    fn selects(&self, which: usize) -> bool {
+        which == 0
+    }
+
+    fn box_of(
+        &self,
+        args: &[Seen],
+        shape: &[u32],
+        which: usize,
+        region: &IndexBox,
+    ) -> Option<Intervals> {
+        if which == 0 {
+            return None;
+        }
+        let array = &args[1];
+        if array.places() < size(shape) {
+            return Some(Intervals::whole(shape));
+        }
+        let alloc = *array.shape().allocator();
+        let (first, last) = places_of(array, region);
+        covered(alloc, shape, first, last)
+    }
+
+    fn whole(&self, alloc: Global, args: &[Seen]) -> Result<Array, ApplyFault> {
+        self.apply(alloc, args)
+    }
+
+    ghost counted = { λ _. Prim.search rules };
+}
+
+impl Lawful for Reshape {
+    ghost tight = { λ _. reshape_tight };
+
+    ghost growing = { λ _. never_grows _ };
 }

@@ -1,18 +1,26 @@
 //! Reverse: the places of an axis from the last to the first.
 
 ghost use Rattle.std.specs.Prelude.{◌≡◌, ◌≤◌, ◌-◌, suc, IsTrue, length, All, set, get_or, ◌∷◌, []};
+ghost use Rattle.std.proofs.Common.{rules};
 ghost use Rattle.arrays_core.specs.Limits.{most_axes, longest_axis};
 ghost use Rattle.arrays_core.specs.Arrays.{ArrayValue, IsAnswerTo};
 ghost use Rattle.arrays_core.specs.Shapes.{is_index_of};
 ghost use Rattle.index_region.specs.Axes.{is_axis, axis_at, places_along};
 ghost use Rattle.index_region.specs.ArgumentLists.{of_one_argument};
 ghost use Rattle.index_region.specs.Answers.{IsPlaceOf, IsSourceIn, source_value};
-ghost use Rattle.structural_fns.specs.Reverse.{reverse_form, reverse_source, reverse_item, reverse_whole};
+ghost use Rattle.index_region.specs.Boxes.{fits};
+ghost use Rattle.change_core.proofs.Growing.{never_grows};
+ghost use Rattle.structural_fns.specs.Reverse.{reverse_form, reverse_source, reverse_item, reverse_whole, reversed as interval_reversed, reverse_rule};
+ghost use Rattle.structural_fns.specs.Laws.Reverse.{reverse_tight};
 
 use arrays_core::{
     ApplyFault, Array, ArrayBuilder, Item, ItemType, Kind, Shape, index_in_row, position, shape_of,
 };
-use index_region::{Along, Primitive, RowPrimitive, Seen, Source, apply_rows, item_from, limited};
+use change_core::{Announced, Lawful};
+use index_region::{
+    Along, IndexBox, Intervals, Primitive, RowPrimitive, Seen, Source, apply_rows, item_from,
+    limited,
+};
 use std::alloc::{AllocError, Global};
 
 /// The index list of the same place counted from the other end of an axis.
@@ -127,4 +135,56 @@ impl RowPrimitive for Reverse {
             array.extend_run(items, place, count)
         }
     }
+}
+
+/// The intervals of a box, of which that of an axis is counted from its other end.
+fn reversed_on(axes: &[u32], axis: usize, region: &IndexBox) -> Intervals
+    requires { IsTrue (fits region.now axes.now) }
+    ensures { result ≡ set region.now axis (interval_reversed (places_along axes.now axis) (get_or region.now axis (0, 0))) }
+{
+    let intervals = region.intervals().copy();
+    if axis >= axes.len() {
+        return intervals;
+    }
+    let (first, last) = region.as_slice()[axis];
+    let places = axes[axis];
+    intervals.with(axis, places - (last - 1), places - (first - 1))
+}
+
+impl Announced for Reverse {
+    ghost selectors = { λ r. (reverse_rule r.along).selectors };
+
+    ghost uses = { λ r. (reverse_rule r.along).uses };
+
+    fn grows(&self, _args: &[Seen], _grown: &[bool]) -> bool {
+        false
+    }
+
+    fn selects(&self, _which: usize) -> bool {
+        false
+    }
+
+    fn box_of(
+        &self,
+        args: &[Seen],
+        _shape: &[u32],
+        _which: usize,
+        region: &IndexBox,
+    ) -> Option<Intervals> {
+        let axes = args[0].shape().as_slice();
+        let axis = self.along.axis_at(axes.len() as u32);
+        Some(reversed_on(axes, axis, region))
+    }
+
+    fn whole(&self, alloc: Global, args: &[Seen]) -> Result<Array, ApplyFault> {
+        self.apply(alloc, args)
+    }
+
+    ghost counted = { λ _. Prim.search rules };
+}
+
+impl Lawful for Reverse {
+    ghost tight = { λ r. reverse_tight r.along };
+
+    ghost growing = { λ _. never_grows _ };
 }

@@ -1,22 +1,29 @@
 //! Rotate: the places of an axis moved along it, and round its end.
 
 ghost use Rattle.std.specs.Prelude.{◌≡◌, ◌≤◌, ◌<◌, ◌≢◌, ◌++◌, ◌∷◌, [], IfOk, OnOk, Ok, Err, IfErr, IsTrue, Result, length, All, set, get_or, remove};
+ghost use Rattle.std.proofs.Common.{rules};
 ghost use Rattle.arrays_core.specs.Limits.{most_axes, longest_axis};
 ghost use Rattle.arrays_core.specs.declared.item.Kind.{Kind as AKind};
 ghost use Rattle.arrays_core.specs.Arrays.{ArrayValue, IsAnswerTo};
 ghost use Rattle.arrays_core.specs.Shapes.{is_index_of, size as size_of};
 ghost use Rattle.arrays_core.specs.Building.{with_row};
 ghost use Rattle.index_region.specs.Checks.{Form};
-ghost use Rattle.index_region.specs.Axes.{axis_at, places_along};
+ghost use Rattle.index_region.specs.Axes.{axis_at, places_along as length_along};
 ghost use Rattle.index_region.specs.ArgumentLists.{of_two_arguments};
 ghost use Rattle.index_region.specs.Answers.{IsPlaceOf, IsRowIn, IsSourceIn, source_value};
-ghost use Rattle.structural_fns.specs.Rotate.{lines_checked, rotate_form, rotation, rotated_place as place_rotated, rotate_source, rotate_item, rotate_whole};
+ghost use Rattle.change_core.proofs.Growing.{never_grows};
+ghost use Rattle.structural_fns.specs.Rotate.{lines_checked, rotate_form, rotation, rotated_place as place_rotated, rotate_source, rotate_item, rotate_whole, rotate_rule};
+ghost use Rattle.structural_fns.specs.Laws.Rotate.{rotate_tight};
 
 use arrays_core::{
     ApplyFault, Array, ArrayBuilder, Item, ItemType, Kind, Shape, index_in_row, position, shape_of,
     without_axis,
 };
-use index_region::{Along, Primitive, RowPrimitive, Seen, Source, apply_rows, item_from, limited};
+use change_core::{Announced, Lawful};
+use index_region::{
+    Along, IndexBox, Intervals, Primitive, RowPrimitive, Seen, Source, apply_rows, item_from,
+    limited,
+};
 use std::alloc::{AllocError, Global};
 
 /// The checks of the amounts: where there is not one alone, RANK where they have not one axis less, and
@@ -73,7 +80,7 @@ fn rotated(alloc: Global, axes: &[u32], axis: usize, amount: i64, index: &[u32])
     requires axes_in { All (λ n. n ≤ longest_axis) axes.now }
     requires there { 0 < length axes.now → axis < length axes.now }
     requires in_range { IsTrue (is_index_of axes.now index.now) }
-    ensures is { result.items ≡ set index.now axis (place_rotated (places_along axes.now axis) amount (get_or index.now axis 1)) }
+    ensures is { result.items ≡ set index.now axis (place_rotated (length_along axes.now axis) amount (get_or index.now axis 1)) }
     ensures inline { result.capacity ≡ 4 }
 {
     let mut at = shape_of(alloc, index);
@@ -98,7 +105,7 @@ impl Rotate {
     fn place_of(self, amounts: &Seen, array: &Seen, index: &[u32]) -> Shape
         requires { IsPlaceOf (rotate_form self.along amounts.now array.now) index.now }
         ensures is { let axis = axis_at (length array.now.shape) self.along in
-            result.items ≡ set index.now axis (place_rotated (places_along array.now.shape axis) (rotation axis amounts.now index.now) (get_or index.now axis 1)) }
+            result.items ≡ set index.now axis (place_rotated (length_along array.now.shape axis) (rotation axis amounts.now index.now) (get_or index.now axis 1)) }
         ensures inside { IsTrue (is_index_of array.now.shape result.items) }
         ensures inline { result.capacity ≡ 4 }
     {
@@ -253,4 +260,58 @@ impl RowPrimitive for Rotate {
         }
         self.push_row(amounts, array, row, count, items)
     }
+}
+
+/// The length of an axis; a scalar has one place along any axis.
+fn places_along(axes: &[u32], axis: usize) -> u32
+    ensures { result ≡ length_along axes.now axis }
+{
+    axes.get(axis).copied().unwrap_or(1)
+}
+
+impl Announced for Rotate {
+    ghost selectors = { λ r. (rotate_rule r.along).selectors };
+
+    ghost uses = { λ r. (rotate_rule r.along).uses };
+
+    fn grows(&self, _args: &[Seen], _grown: &[bool]) -> bool {
+        false
+    }
+
+    fn selects(&self, _which: usize) -> bool {
+        false
+    }
+
+    fn box_of(
+        &self,
+        args: &[Seen],
+        shape: &[u32],
+        which: usize,
+        region: &IndexBox,
+    ) -> Option<Intervals> {
+        let (amounts, array) = (&args[0], &args[1]);
+        let axes = array.shape().as_slice();
+        let axis = self.along.axis_at(axes.len() as u32);
+        let places = places_along(axes, axis);
+        let intervals = region.intervals().copy();
+        if which == 1 {
+            return Some(intervals.with(axis, 1, places));
+        }
+        if amounts.places() == 1 {
+            return Some(Intervals::whole(shape));
+        }
+        Some(intervals.with_axis(axis, 1, places))
+    }
+
+    fn whole(&self, alloc: Global, args: &[Seen]) -> Result<Array, ApplyFault> {
+        self.apply(alloc, args)
+    }
+
+    ghost counted = { λ _. Prim.search rules };
+}
+
+impl Lawful for Rotate {
+    ghost tight = { λ r. rotate_tight r.along };
+
+    ghost growing = { λ _. never_grows _ };
 }

@@ -1,6 +1,7 @@
 //! Take: a number of places of each axis, the first or the last, and fill beyond them.
 
 ghost use Rattle.std.specs.Prelude.{◌≡◌, ◌≤◌, ◌<◌, ◌+◌, ◌^◌, ◌++◌, ◌∷◌, [], ℤ, pos, unsigned_abs, IsTrue, IfOk, OnOk, Ok, All, length, get_or, nat_eq, nat_le, ◌&&◌};
+ghost use Rattle.std.proofs.Common.{rules};
 ghost use Rattle.arrays_core.specs.Limits.{most_axes, longest_axis};
 ghost use Rattle.arrays_core.specs.Building.{with_row};
 ghost use Rattle.arrays_core.specs.Arrays.{ArrayValue, IsAnswerTo};
@@ -8,17 +9,24 @@ ghost use Rattle.arrays_core.specs.Shapes.{IsWithinLimits, is_index_of as is_bel
 ghost use Rattle.index_region.specs.ArgumentLists.{of_two_arguments};
 ghost use Rattle.index_region.specs.Arguments.{numbers};
 ghost use Rattle.index_region.specs.Answers.{IsPlaceOf, IsSourceIn, source_value};
-ghost use Rattle.structural_fns.specs.Reshape.{magnitudes as magnitudes_of};
-ghost use Rattle.structural_fns.specs.Take.{take_form, take_source, take_item, take_whole, taken_place as place_taken, taken_places as places_taken, AreOnLastAxis};
 ghost use Rattle.index_region.specs.Checks.{form_of};
+ghost use Rattle.index_region.specs.Boxes.{fits};
+ghost use Rattle.change_core.specs.Ways.{images};
+ghost use Rattle.change_core.proofs.Growing.{never_grows};
+ghost use Rattle.structural_fns.specs.Reshape.{magnitudes as magnitudes_of, magnitudes};
+ghost use Rattle.structural_fns.specs.Take.{take_form, take_source, take_item, take_whole, taken_place as place_taken, taken_places as places_taken, AreOnLastAxis, taken, taken_axes, take_rule};
+ghost use Rattle.structural_fns.specs.Laws.Take.{take_tight};
 
-use crate::axis_counts::{check_axis_counts, counted_shape, uncounted};
+use crate::axis_counts::{check_axis_counts, counted_box, counted_shape, uncounted};
 use crate::magnitudes::magnitudes;
 use arrays_core::{
     ApplyFault, Array, ArrayBuilder, Item, ItemType, Kind, Shape, index_in_row, is_index_of,
     position,
 };
-use index_region::{Primitive, RowPrimitive, Seen, Source, apply_rows, item_from, limited};
+use change_core::{Announced, Lawful};
+use index_region::{
+    IndexBox, Intervals, Primitive, RowPrimitive, Seen, Source, apply_rows, item_from, limited,
+};
 use smallvec::SmallVec;
 use std::alloc::{AllocError, Global};
 
@@ -195,4 +203,80 @@ impl RowPrimitive for Take {
             self.extend_kept(counts, array, row, missing, kept, items)
         }
     }
+}
+
+/// Where take puts an interval of an axis of which so many places are taken, by a negative count the last ones.
+fn taken_interval(axis: u32, count: i64, places: u32, interval: (u32, u32)) -> (u32, u32)
+    requires magnitude { places ≡ unsigned_abs count }
+    requires order { interval.0 ≤ interval.1 }
+    requires on_axis { interval.1 ≤ axis }
+    ensures { result ≡ (taken axis count).image interval }
+{
+    if count >= 0 {
+        return interval;
+    }
+    let (first, last) = interval;
+    (
+        places.saturating_sub(axis - first),
+        places.saturating_sub(axis - last),
+    )
+}
+
+/// Where take puts the intervals of a box. The shape of the result is given.
+fn taken_box(counts: &Seen, axes: &[u32], shape: &[u32], intervals: &[(u32, u32)]) -> Intervals
+    requires long { length counts.now.items ≡ length axes.now }
+    requires rank { length axes.now ≤ most_axes }
+    requires fit { IsTrue (fits intervals.now axes.now) }
+    requires shaped { shape.now ≡ magnitudes counts.now }
+    ensures { result ≡ images (taken_axes axes.now (numbers counts.now)) intervals.now }
+{
+    let mut moved = Intervals::none();
+    for k in 0..axes.len() {
+        let count = counts.number(k as u32 + 1);
+        let (first, last) = taken_interval(axes[k], count, shape[k], intervals[k]);
+        moved.push(first, last);
+    }
+    moved
+}
+
+impl Announced for Take {
+    ghost selectors = { λ _. take_rule.selectors };
+
+    ghost uses = { λ _. take_rule.uses };
+
+    fn grows(&self, _args: &[Seen], _grown: &[bool]) -> bool {
+        false
+    }
+
+    fn selects(&self, which: usize) -> bool {
+        which == 0
+    }
+
+    fn box_of(
+        &self,
+        args: &[Seen],
+        shape: &[u32],
+        which: usize,
+        region: &IndexBox,
+    ) -> Option<Intervals> {
+        if which == 0 {
+            return None;
+        }
+        let (counts, array) = (&args[0], &args[1]);
+        let axes = counted_shape(counts, array);
+        let intervals = counted_box(counts, array, region);
+        Some(taken_box(counts, axes.as_slice(), shape, intervals.as_slice()))
+    }
+
+    fn whole(&self, alloc: Global, args: &[Seen]) -> Result<Array, ApplyFault> {
+        self.apply(alloc, args)
+    }
+
+    ghost counted = { λ _. Prim.search rules };
+}
+
+impl Lawful for Take {
+    ghost tight = { λ _. take_tight };
+
+    ghost growing = { λ _. never_grows _ };
 }

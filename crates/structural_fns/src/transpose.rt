@@ -1,17 +1,23 @@
 //! Transpose: the axes in reverse order.
 
 ghost use Rattle.std.specs.Prelude.{◌≡◌, ◌≤◌, length, reverse, ◌∷◌, []};
+ghost use Rattle.std.proofs.Common.{rules};
 ghost use Rattle.arrays_core.specs.Limits.{most_axes};
 ghost use Rattle.arrays_core.specs.Arrays.{ArrayValue, IsAnswerTo};
 ghost use Rattle.index_region.specs.ArgumentLists.{of_one_argument};
 ghost use Rattle.index_region.specs.Answers.{IsPlaceOf, IsSourceIn, source_value};
-ghost use Rattle.structural_fns.specs.Transpose.{transpose_form, transpose_source, transpose_item, transpose_whole};
+ghost use Rattle.change_core.proofs.Growing.{never_grows};
+ghost use Rattle.structural_fns.specs.Transpose.{transpose_form, transpose_source, transpose_item, transpose_whole, transpose_rule};
+ghost use Rattle.structural_fns.specs.Laws.Transpose.{transpose_tight};
 
 use crate::even_steps::extend_evenly;
 use arrays_core::{
     ApplyFault, Array, ArrayBuilder, Item, ItemType, Kind, Shape, index_in_row, position, size,
 };
-use index_region::{Primitive, RowPrimitive, Seen, Source, apply_rows, item_from, limited};
+use change_core::{Announced, Lawful};
+use index_region::{
+    IndexBox, Intervals, Primitive, RowPrimitive, Seen, Source, apply_rows, item_from, limited,
+};
 use smallvec::SmallVec;
 use std::alloc::{AllocError, Global};
 
@@ -103,4 +109,53 @@ impl RowPrimitive for Transpose {
         let step = size(&shape.as_slice()[1..]);
         extend_evenly(array, first, step, count, items)
     }
+}
+
+/// The intervals of a box from its last to its first.
+fn intervals_from_last(region: &IndexBox) -> Intervals
+    ensures { result ≡ reverse region.now }
+{
+    let list = region.as_slice();
+    let mut intervals = Intervals::none();
+    for axis in (0..list.len()).rev() {
+        let (first, last) = list[axis];
+        intervals.push(first, last);
+    }
+    intervals
+}
+
+impl Announced for Transpose {
+    ghost selectors = { λ _. transpose_rule.selectors };
+
+    ghost uses = { λ _. transpose_rule.uses };
+
+    fn grows(&self, _args: &[Seen], _grown: &[bool]) -> bool {
+        false
+    }
+
+    fn selects(&self, _which: usize) -> bool {
+        false
+    }
+
+    fn box_of(
+        &self,
+        _args: &[Seen],
+        _shape: &[u32],
+        _which: usize,
+        region: &IndexBox,
+    ) -> Option<Intervals> {
+        Some(intervals_from_last(region))
+    }
+
+    fn whole(&self, alloc: Global, args: &[Seen]) -> Result<Array, ApplyFault> {
+        self.apply(alloc, args)
+    }
+
+    ghost counted = { λ _. Prim.search rules };
+}
+
+impl Lawful for Transpose {
+    ghost tight = { λ _. transpose_tight };
+
+    ghost growing = { λ _. never_grows _ };
 }

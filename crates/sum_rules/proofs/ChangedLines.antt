@@ -25,7 +25,8 @@ use Rattle.index_region.proofs.Patched.{fits_within, patched_at}
 use Rattle.index_region.proofs.Walks.{offset_of_walk, walk_within}
 use Rattle.operator_fns.specs.Strides.{line_start}
 use Rattle.operator_fns.specs.SumTrees.{TreesValue, line_through, numbers_through, with_number}
-use Rattle.operator_fns.proofs.Lines.{inside, long_with_axis, stride}
+use Rattle.operator_fns.specs.Laws.LineIndices.{inside}
+use Rattle.operator_fns.proofs.Lines.{long_with_axis, stride}
 use Rattle.operator_fns.proofs.Reduced.{start_is}
 use Rattle.operator_fns.specs.RightFold.{fold_right, line}
 use Rattle.sum_rules.specs.LineSums.{StandFor, array_of, line_length, line_step}

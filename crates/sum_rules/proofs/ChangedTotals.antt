@@ -15,7 +15,7 @@ use Rattle.index_region.specs.Patches.{PatchValue, patched}
 use Rattle.index_region.specs.Tails.{TailValue}
 use Rattle.operator_fns.specs.Reduce.{reduce_form, reduce_item}
 use Rattle.operator_fns.specs.SumTrees.{TreesValue}
-use Rattle.operator_fns.proofs.Reduced.{reduce_facts}
+use Rattle.operator_fns.specs.Laws.ReducedShapes.{reduce_facts}
 use Rattle.change_core.specs.declared.reach.Reach.TheVariants.{Inside, Unmoved}
 use Rattle.change_core.specs.Parts.{items_in}
 use Rattle.change_core.specs.Reaches.{as_reach, reach_by, reach_of}
@@ -25,7 +25,7 @@ use Rattle.index_region.specs.declared.delta.Delta.TheVariants.{Same, Patch, Gro
 use Rattle.change_rules.specs.Nodes.{Argument, all_patched_at_most, all_same, is_patched_at_most, is_same, is_error, moved_by, node_cost, node_delta, node_grows, reached_cost, reached_delta, size_in}
 use Rattle.change_rules.specs.Outcomes.{Outcome, evaluation}
 use Rattle.change_core.specs.RuleModels.{form_size}
-use Rattle.operator_rules.specs.Growth.{is_along_a_later_axis}
+use Rattle.operator_fns.specs.Growth.{is_along_a_later_axis}
 use Rattle.change_rules.proofs.Nodes.{delta_reached}
 use Rattle.change_core.specs.Meters.{ticked}
 use Rattle.sum_rules.specs.LineSums.{array_of, length_along}

@@ -33,7 +33,8 @@ use Rattle.operator_fns.specs.Strides.{line_start}
 use Rattle.operator_fns.specs.SumTrees.{TreesValue, line_count, numbers_of_line}
 use Rattle.operator_fns.specs.declared.reduce.Reduce.{Reduce}
 use Rattle.operator_fns.proofs.Placewise.{collected_same}
-use Rattle.operator_fns.proofs.Reduced.{reduce_facts, reduced_whole}
+use Rattle.operator_fns.specs.Laws.ReducedShapes.{reduce_facts}
+use Rattle.operator_fns.proofs.Reduced.{reduced_whole}
 use Rattle.fold_trees.proofs.TreeFolds.{fold_of_numbers}
 use Rattle.sum_rules.specs.LineSums.{StandFor, length_along, line_length, line_step}
 use Rattle.sum_rules.specs.Totals.{StoodBefore, AreJoinsWithin, longer_totals}

@@ -24,7 +24,8 @@ use Rattle.operator_fns.specs.Strides.{line_start}
 use Rattle.operator_fns.specs.SumTrees.{TreesValue, line_count, numbers_of_line}
 use Rattle.operator_fns.specs.declared.reduce.Reduce.{Reduce}
 use Rattle.operator_fns.proofs.Placewise.{collected_same}
-use Rattle.operator_fns.proofs.Reduced.{lines_whole, reduce_facts, reduced_whole}
+use Rattle.operator_fns.specs.Laws.ReducedShapes.{reduce_facts}
+use Rattle.operator_fns.proofs.Reduced.{lines_whole, reduced_whole}
 use Rattle.fold_trees.proofs.TreeFolds.{fold_of_numbers}
 use Rattle.sum_rules.specs.LineSums.{StandFor, SummedValue, summed}
 use Rattle.sum_rules.specs.Totals.{all_totals}

@@ -23,7 +23,7 @@ use Rattle.change_core.specs.Meters.{ticked}
 use Rattle.operator_fns.specs.declared.reduce.Reduce.{Reduce}
 use Rattle.operator_fns.specs.RightFold.{fold_right}
 use Rattle.operator_fns.specs.SumTrees.{TreesValue, line_count, numbers_of_line}
-use Rattle.operator_rules.specs.Reduce.{reduce_rule}
+use Rattle.operator_fns.specs.Reduce.{reduce_rule}
 use Rattle.sum_rules.specs.LineSums.{StandFor, length_along}
 
 -- the totals that a reduction gives, as those of +/B

@@ -32,7 +32,6 @@ use change_core::{Meter, Reach, Rule};
 use change_rules::refresh_with_cost;
 use index_region::{Along, Delta, IndexBox, Patch, Seen, Tail};
 use operator_fns::{Reduce, SumTree};
-use operator_rules::Ruled;
 use scalar_fns::Scalar2;
 use std::alloc::{AllocError, Global};
 
@@ -130,9 +129,8 @@ fn change_by_trees<S: LineTotals>(
     ensures joins { AreJoinsWithin (box_size patch.now.region) (long_along fold.along array.now.shape) meter.old.joins meter.new.joins }
     ensures least { OnOk result (is_error change.new ≡ false → AreJoinsFrom (box_size patch.now.region) (long_along fold.along array.now.shape) meter.old.joins meter.new.joins) }
 {
-    let rule = Ruled { function: fold };
     let args = [array.again()];
-    let form = match rule.shape(&args) {
+    let form = match fold.shape(&args) {
         Ok(form) => form,
         Err(kind) => {
             *change = Delta::Whole(Err(Fault { kind, origin: None }));
@@ -140,7 +138,7 @@ fn change_by_trees<S: LineTotals>(
         }
     };
     let moved = [Some(patch.region().copy())];
-    match rule.reach_in(&args, form.0.as_slice(), &moved) {
+    match fold.reach_in(&args, form.0.as_slice(), &moved) {
         Reach::Unmoved => {
             *change = Delta::Same;
             Ok(0)
@@ -244,8 +242,7 @@ fn change_by_growth<S: LineTotals>(
     ensures joins { AreJoinsWithin (length tail.now.items) (long_along fold.along array.now.shape) meter.old.joins meter.new.joins }
     ensures least { OnOk result (is_error change.new ≡ false → AreJoinsFrom (length tail.now.items) (long_along fold.along array.now.shape) meter.old.joins meter.new.joins) }
 {
-    let rule = Ruled { function: fold };
-    let form = match rule.shape(&[array.again()]) {
+    let form = match fold.shape(&[array.again()]) {
         Ok(form) => form,
         Err(kind) => {
             *change = Delta::Whole(Err(Fault { kind, origin: None }));
@@ -294,9 +291,8 @@ pub fn fold_totals_with_cost(
     let (array, delta) = arg;
     let long = length_along(fold.along, array.shape().as_slice());
     let mut own = Meter::new();
-    let rule = Ruled { function: fold };
     let args = [(array, delta)];
-    let cost = refresh_with_cost(alloc, &rule, &args, old, change, &mut own)?;
+    let cost = refresh_with_cost(alloc, &fold, &args, old, change, &mut own)?;
     own.count_joins(own.ticks() * u64::from(long.saturating_sub(1)));
     meter.include(&own);
     Ok(cost)

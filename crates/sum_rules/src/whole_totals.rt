@@ -20,7 +20,6 @@ use change_core::{Meter, Rule};
 use fold_trees::FoldTrees;
 use index_region::{Delta, Seen};
 use operator_fns::Reduce;
-use operator_rules::Ruled;
 use std::alloc::{AllocError, Global};
 
 /// The totals of all lines of these trees, as an array of this shape, or the first error among them.
@@ -69,8 +68,7 @@ fn totals_read(
     ensures rises { meter.old.ticks ≤ meter.new.ticks }
     ensures joins { meter.new.joins ≡ meter.old.joins }
 {
-    let rule = Ruled { function: fold };
-    let form = match rule.shape(&[array.again()]) {
+    let form = match fold.shape(&[array.again()]) {
         Ok(form) => form,
         Err(kind) => {
             *change = Delta::Whole(Err(Fault { kind, origin: None }));

@@ -3,7 +3,7 @@ use Rattle.arrays_core.specs.Arrays.{ArrayValue}
 use Rattle.change_core.specs.Reaches.{AllFit}
 use Rattle.change_rules.specs.Currency.{HasAxis}
 use Rattle.change_rules.specs.Nodes.{views, moved}
-use Rattle.selection_rules.specs.Index.{index_rule}
+use Rattle.selection_fns.specs.Index.{index_rule}
 use Rattle.formula_core.specs.declared.input.Input.{Input}
 use Rattle.formula_core.specs.declared.input.Input.TheVariants.{Good}
 use Rattle.formula_core.specs.Rules.{with_change, IsRefreshed}

@@ -2,7 +2,8 @@ use Rattle.std.proofs.Common.{◌≡◌, ◌∙◌, ℕ, sym, ap, refl, subst, O
 use Rattle.scalar_fns.specs.Characters.{AreTold}
 use Rattle.arrays_core.specs.declared.item.Item.TheVariants.{Char}
 use Rattle.arrays_core.specs.Shapes.{size}
-use Rattle.scalar_fns.proofs.Joint.{IsOf, as_long_as, common_extends}
+use Rattle.scalar_fns.specs.Laws.Extension.{common_extends}
+use Rattle.scalar_fns.proofs.Joint.{IsOf, as_long_as}
 use Rattle.scalar_fns.proofs.Equalities.{of_characters, of_other_types}
 use Rattle.scalar_fns.proofs.scalar_extension.equal_items.Goals as goal
 

@@ -1,6 +1,6 @@
 use Rattle.std.proofs.Common.{map, unsigned_abs, arith}
 use Rattle.index_region.specs.Arguments.{numbers}
-use Rattle.selection_fns.proofs.Repeated.{maker_is_walk}
+use Rattle.selection_fns.specs.Laws.RepeatedPlaces.{maker_is_walk}
 use Rattle.selection_fns.proofs.replicate.maker.Goals as goal
 
 pub loop-place-init : goal.loop-place-init

@@ -1,12 +1,12 @@
 use Rattle.std.proofs.Common.{sym, subst}
 use Rattle.apl_expr.specs.declared.expr.Dyadic.{Dyadic}
 use Rattle.formula_core.specs.Rules.{with_change, both_rule, IsRefreshed}
-use Rattle.scalar_rules.specs.EachDyadic.{each_dyadic_rule}
-use Rattle.structural_rules.specs.Catenate.{catenate_rule}
-use Rattle.structural_rules.specs.Rotate.{rotate_rule}
-use Rattle.selection_rules.specs.Replicate.{replicate_rule}
-use Rattle.operator_rules.specs.OuterProduct.{outer_rule}
-use Rattle.operator_rules.specs.InnerProduct.{inner_rule}
+use Rattle.scalar_fns.specs.EachDyadic.{each_dyadic_rule}
+use Rattle.structural_fns.specs.Catenate.{catenate_rule}
+use Rattle.structural_fns.specs.Rotate.{rotate_rule}
+use Rattle.selection_fns.specs.Replicate.{replicate_rule}
+use Rattle.operator_fns.specs.OuterProduct.{outer_rule}
+use Rattle.operator_fns.specs.InnerProduct.{inner_rule}
 use Rattle.formula_core.proofs.refreshing.Operation.of_both.Goals as goal
 
 pub returns-in-Scalar-clause-refreshed : goal.returns-in-Scalar-clause-refreshed
@@ -49,24 +49,24 @@ returns-in-Decode-clause-refreshed c =
 pub returns-in-Catenate-clause-refreshed : goal.returns-in-Catenate-clause-refreshed
 returns-in-Catenate-clause-refreshed c =
     subst (λ (f : Dyadic). IsRefreshed (both_rule f) c.args.self.now.args.now c.args.self.now.held.now c.args.meter.now.ticks c.by-in-Catenate.new.meter.ticks (with_change c.by-in-Catenate.new.change c.by-in-Catenate.result)) (sym c.in-Catenate.is)
-    (subst (λ (r : _). IsRefreshed (catenate_rule r.function.along) c.args.self.now.args.now c.args.self.now.held.now c.args.meter.now.ticks c.by-in-Catenate.new.meter.ticks (with_change c.by-in-Catenate.new.change c.by-in-Catenate.result)) c.catenate.ensures c.by-in-Catenate.ensures.refreshed)
+    (subst (λ (r : _). IsRefreshed (catenate_rule r.along) c.args.self.now.args.now c.args.self.now.held.now c.args.meter.now.ticks c.by-in-Catenate.new.meter.ticks (with_change c.by-in-Catenate.new.change c.by-in-Catenate.result)) c.catenate.ensures c.by-in-Catenate.ensures.refreshed)
 
 pub returns-in-Rotate-clause-refreshed : goal.returns-in-Rotate-clause-refreshed
 returns-in-Rotate-clause-refreshed c =
     subst (λ (f : Dyadic). IsRefreshed (both_rule f) c.args.self.now.args.now c.args.self.now.held.now c.args.meter.now.ticks c.by-in-Rotate.new.meter.ticks (with_change c.by-in-Rotate.new.change c.by-in-Rotate.result)) (sym c.in-Rotate.is)
-    (subst (λ (r : _). IsRefreshed (rotate_rule r.function.along) c.args.self.now.args.now c.args.self.now.held.now c.args.meter.now.ticks c.by-in-Rotate.new.meter.ticks (with_change c.by-in-Rotate.new.change c.by-in-Rotate.result)) c.rotate.ensures c.by-in-Rotate.ensures.refreshed)
+    (subst (λ (r : _). IsRefreshed (rotate_rule r.along) c.args.self.now.args.now c.args.self.now.held.now c.args.meter.now.ticks c.by-in-Rotate.new.meter.ticks (with_change c.by-in-Rotate.new.change c.by-in-Rotate.result)) c.rotate.ensures c.by-in-Rotate.ensures.refreshed)
 
 pub returns-in-Replicate-clause-refreshed : goal.returns-in-Replicate-clause-refreshed
 returns-in-Replicate-clause-refreshed c =
     subst (λ (f : Dyadic). IsRefreshed (both_rule f) c.args.self.now.args.now c.args.self.now.held.now c.args.meter.now.ticks c.by-in-Replicate.new.meter.ticks (with_change c.by-in-Replicate.new.change c.by-in-Replicate.result)) (sym c.in-Replicate.is)
-    (subst (λ (r : _). IsRefreshed (replicate_rule r.function.along) c.args.self.now.args.now c.args.self.now.held.now c.args.meter.now.ticks c.by-in-Replicate.new.meter.ticks (with_change c.by-in-Replicate.new.change c.by-in-Replicate.result)) c.replicate.ensures c.by-in-Replicate.ensures.refreshed)
+    (subst (λ (r : _). IsRefreshed (replicate_rule r.along) c.args.self.now.args.now c.args.self.now.held.now c.args.meter.now.ticks c.by-in-Replicate.new.meter.ticks (with_change c.by-in-Replicate.new.change c.by-in-Replicate.result)) c.replicate.ensures c.by-in-Replicate.ensures.refreshed)
 
 pub returns-in-Outer-clause-refreshed : goal.returns-in-Outer-clause-refreshed
 returns-in-Outer-clause-refreshed c =
     subst (λ (f : Dyadic). IsRefreshed (both_rule f) c.args.self.now.args.now c.args.self.now.held.now c.args.meter.now.ticks c.by-in-Outer.new.meter.ticks (with_change c.by-in-Outer.new.change c.by-in-Outer.result)) (sym c.in-Outer.is)
-    (subst (λ (r : _). IsRefreshed (outer_rule r.function.function) c.args.self.now.args.now c.args.self.now.held.now c.args.meter.now.ticks c.by-in-Outer.new.meter.ticks (with_change c.by-in-Outer.new.change c.by-in-Outer.result)) c.outer.ensures c.by-in-Outer.ensures.refreshed)
+    (subst (λ (r : _). IsRefreshed (outer_rule r.function) c.args.self.now.args.now c.args.self.now.held.now c.args.meter.now.ticks c.by-in-Outer.new.meter.ticks (with_change c.by-in-Outer.new.change c.by-in-Outer.result)) c.outer.ensures c.by-in-Outer.ensures.refreshed)
 
 pub returns-in-Inner-clause-refreshed : goal.returns-in-Inner-clause-refreshed
 returns-in-Inner-clause-refreshed c =
     subst (λ (f : Dyadic). IsRefreshed (both_rule f) c.args.self.now.args.now c.args.self.now.held.now c.args.meter.now.ticks c.by-in-Inner.new.meter.ticks (with_change c.by-in-Inner.new.change c.by-in-Inner.result)) (sym c.in-Inner.is)
-    (subst (λ (r : _). IsRefreshed (inner_rule r.function.fold r.function.each) c.args.self.now.args.now c.args.self.now.held.now c.args.meter.now.ticks c.by-in-Inner.new.meter.ticks (with_change c.by-in-Inner.new.change c.by-in-Inner.result)) c.inner.ensures c.by-in-Inner.ensures.refreshed)
+    (subst (λ (r : _). IsRefreshed (inner_rule r.fold r.each) c.args.self.now.args.now c.args.self.now.held.now c.args.meter.now.ticks c.by-in-Inner.new.meter.ticks (with_change c.by-in-Inner.new.change c.by-in-Inner.result)) c.inner.ensures c.by-in-Inner.ensures.refreshed)

@@ -1,10 +1,10 @@
 use Rattle.std.proofs.Common.{sym, subst}
 use Rattle.apl_expr.specs.declared.expr.Monadic.{Monadic}
 use Rattle.formula_core.specs.Rules.{with_change, right_rule, IsRefreshed}
-use Rattle.scalar_rules.specs.EachMonadic.{each_monadic_rule}
-use Rattle.structural_rules.specs.Reverse.{reverse_rule}
-use Rattle.operator_rules.specs.Reduce.{reduce_rule}
-use Rattle.operator_rules.specs.Scan.{scan_rule}
+use Rattle.scalar_fns.specs.EachMonadic.{each_monadic_rule}
+use Rattle.structural_fns.specs.Reverse.{reverse_rule}
+use Rattle.operator_fns.specs.Reduce.{reduce_rule}
+use Rattle.operator_fns.specs.Scan.{scan_rule}
 use Rattle.formula_core.proofs.refreshing.Operation.of_right.Goals as goal
 
 pub returns-in-Scalar-clause-refreshed : goal.returns-in-Scalar-clause-refreshed
@@ -31,14 +31,14 @@ returns-in-Iota-clause-refreshed c =
 pub returns-in-Reverse-clause-refreshed : goal.returns-in-Reverse-clause-refreshed
 returns-in-Reverse-clause-refreshed c =
     subst (λ (f : Monadic). IsRefreshed (right_rule f) c.args.self.now.args.now c.args.self.now.held.now c.args.meter.now.ticks c.by-in-Reverse.new.meter.ticks (with_change c.by-in-Reverse.new.change c.by-in-Reverse.result)) (sym c.in-Reverse.is)
-    (subst (λ (r : _). IsRefreshed (reverse_rule r.function.along) c.args.self.now.args.now c.args.self.now.held.now c.args.meter.now.ticks c.by-in-Reverse.new.meter.ticks (with_change c.by-in-Reverse.new.change c.by-in-Reverse.result)) c.reverse.ensures c.by-in-Reverse.ensures.refreshed)
+    (subst (λ (r : _). IsRefreshed (reverse_rule r.along) c.args.self.now.args.now c.args.self.now.held.now c.args.meter.now.ticks c.by-in-Reverse.new.meter.ticks (with_change c.by-in-Reverse.new.change c.by-in-Reverse.result)) c.reverse.ensures c.by-in-Reverse.ensures.refreshed)
 
 pub returns-in-Reduce-clause-refreshed : goal.returns-in-Reduce-clause-refreshed
 returns-in-Reduce-clause-refreshed c =
     subst (λ (f : Monadic). IsRefreshed (right_rule f) c.args.self.now.args.now c.args.self.now.held.now c.args.meter.now.ticks c.by-in-Reduce.new.meter.ticks (with_change c.by-in-Reduce.new.change c.by-in-Reduce.result)) (sym c.in-Reduce.is)
-    (subst (λ (r : _). IsRefreshed (reduce_rule r.function.function r.function.along) c.args.self.now.args.now c.args.self.now.held.now c.args.meter.now.ticks c.by-in-Reduce.new.meter.ticks (with_change c.by-in-Reduce.new.change c.by-in-Reduce.result)) c.reduce.ensures c.by-in-Reduce.ensures.refreshed)
+    (subst (λ (r : _). IsRefreshed (reduce_rule r.function r.along) c.args.self.now.args.now c.args.self.now.held.now c.args.meter.now.ticks c.by-in-Reduce.new.meter.ticks (with_change c.by-in-Reduce.new.change c.by-in-Reduce.result)) c.reduce.ensures c.by-in-Reduce.ensures.refreshed)
 
 pub returns-in-Scan-clause-refreshed : goal.returns-in-Scan-clause-refreshed
 returns-in-Scan-clause-refreshed c =
     subst (λ (f : Monadic). IsRefreshed (right_rule f) c.args.self.now.args.now c.args.self.now.held.now c.args.meter.now.ticks c.by-in-Scan.new.meter.ticks (with_change c.by-in-Scan.new.change c.by-in-Scan.result)) (sym c.in-Scan.is)
-    (subst (λ (r : _). IsRefreshed (scan_rule r.function.function r.function.along) c.args.self.now.args.now c.args.self.now.held.now c.args.meter.now.ticks c.by-in-Scan.new.meter.ticks (with_change c.by-in-Scan.new.change c.by-in-Scan.result)) c.scan.ensures c.by-in-Scan.ensures.refreshed)
+    (subst (λ (r : _). IsRefreshed (scan_rule r.function r.along) c.args.self.now.args.now c.args.self.now.held.now c.args.meter.now.ticks c.by-in-Scan.new.meter.ticks (with_change c.by-in-Scan.new.change c.by-in-Scan.result)) c.scan.ensures c.by-in-Scan.ensures.refreshed)

@@ -8,6 +8,7 @@ use Rattle.index_region.proofs.Walks.{walk_within, some_place}
 use Rattle.index_region.proofs.Patched.{fits_within}
 use Rattle.index_region.proofs.Written.{IsWritten, written_none, written_more, written_all}
 use Rattle.index_region.proofs.patch.Patch.write_into.Goals as goal
+use Rattle.index_region.proofs.patch.Patch.write_into.Goals.{then-before-items, else-before-items}
 
 pub loop-before-init : goal.loop-before-init
 loop-before-init c = record {
@@ -58,8 +59,11 @@ loop-before-preserved c =
       written = subst (λ (now : ArrayValue). IsWritten a p (c.loop-before.before + 1) now)
           (sym (c.write_at.ensures ∙ (λ i. record c.loop-before.array { items = set c.loop-before.array.items (place i) (item i) })))
           more;
-      at = subst (λ (r : List Interval). c.loop-before.before + 1 < box_size r → c.advance.new.index ≡ walk_at r (c.loop-before.before + 1)) region
-          (λ later. c.advance.ensures.next c.loop-before.before later (c.loop-before.invariant.at below ∙ ap (λ (r : List Interval). walk_at r c.loop-before.before) (sym region)));
+      at = elim c.if-before-items.branch [
+        | then-before-items w ↦ subst (λ (r : List Interval). c.loop-before.before + 1 < box_size r → c.if-before-items.index ≡ walk_at r (c.loop-before.before + 1)) region
+            (λ later. w.index-is ∙ w.advance.ensures.next c.loop-before.before later (c.loop-before.invariant.at below ∙ ap (λ (r : List Interval). walk_at r c.loop-before.before) (sym region)))
+        | else-before-items w ↦ λ later. absurd (omega (arith, many, ap box_size region, w.if-before-items.false, later))
+      ];
     }
 
 pub returns : goal.returns

@@ -6,7 +6,8 @@ use Rattle.operator_fns.specs.RightFold.{fold_right}
 use Rattle.operator_fns.specs.RowByColumn.{entry, met}
 use Rattle.operator_fns.proofs.Joined.{long_enough}
 use Rattle.operator_fns.proofs.Meetings.{length-met}
-use Rattle.operator_fns.proofs.Inners.{passed_inner, products_met, fold_of_some}
+use Rattle.operator_fns.specs.Laws.InnerPlaces.{passed_inner}
+use Rattle.operator_fns.proofs.Inners.{products_met, fold_of_some}
 use Rattle.operator_fns.proofs.inner_product.Inner.folded_at.Goals as goal
 
 pub split_at-requires : goal.split_at-requires

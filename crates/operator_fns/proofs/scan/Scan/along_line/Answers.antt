@@ -10,7 +10,8 @@ use Rattle.scalar_fns.specs.NumberLists.{number_items}
 use Rattle.index_region.specs.Axes.{axis_at}
 use Rattle.operator_fns.specs.LinearScan.{folds_from}
 use Rattle.operator_fns.specs.RightFold.{line}
-use Rattle.operator_fns.proofs.Scanned.{scan_place, at_axis}
+use Rattle.operator_fns.specs.Laws.ScannedPlaces.{at_axis}
+use Rattle.operator_fns.proofs.Scanned.{scan_place}
 use Rattle.operator_fns.proofs.ScannedLine.{along_is, as_many}
 use Rattle.operator_fns.proofs.scan.Scan.along_line.Goals as goal
 

@@ -6,7 +6,8 @@ use Rattle.arrays_core.specs.Arrays.{ArrayValue}
 use Rattle.index_region.specs.Axes.{axis_at, places_along}
 use Rattle.selection_fns.specs.Replicate.{times, copied_place, replicate_form}
 use Rattle.selection_fns.proofs.Picked.{picked_long, picked_copies}
-use Rattle.selection_fns.proofs.Copies.{replicate_gives, exchanged_there, copies_within}
+use Rattle.selection_fns.specs.Laws.CopiedPlaces.{replicate_gives, exchanged_there}
+use Rattle.selection_fns.proofs.Copies.{copies_within}
 use Rattle.selection_fns.proofs.replicate.Replicate.copied.Goals as goal
 use Rattle.index_region.specs.Checks.{form_of}
 

@@ -1,5 +1,0 @@
-pub mod Ranks
-pub mod Boxes
-pub mod OneLine
-pub mod BoxTables
-pub mod BoxErrors

@@ -1,0 +1,54 @@
+-- What may change of the scalar functions in worked cases.
+use Rattle.std.proofs.Common.{◌≡◌, ℕ, List, [], ◌∷◌, Some, None, replicate, pos, refl}
+use Rattle.arrays_core.specs.declared.item.Item.TheVariants.{Num}
+use Rattle.arrays_core.specs.declared.item.ItemType.TheVariants.{Nums}
+use Rattle.arrays_core.specs.Arrays.{ArrayValue}
+use Rattle.arrays_core.specs.Shapes.{size}
+use Rattle.scalar_fns.specs.declared.function.Scalar1.TheVariants.{Negative}
+use Rattle.scalar_fns.specs.declared.function.Scalar2.TheVariants.{Plus}
+use Rattle.change_core.specs.declared.reach.Reach.TheVariants.{Unmoved, Inside, Anew}
+use Rattle.change_core.specs.Reaches.{reach_of}
+use Rattle.scalar_fns.specs.EachMonadic.{each_monadic_rule}
+use Rattle.scalar_fns.specs.EachDyadic.{each_dyadic_rule}
+
+-- an array of zeros
+abbrev zeros : List ℕ → ArrayValue
+zeros shape = record { item_type = Nums; shape = shape; items = replicate (size shape) (Num (pos 0)) }
+
+-- ---- of one array
+
+vector_negated : reach_of (each_monadic_rule Negative) (zeros (5 ∷ []) ∷ []) (Some ((2, 3) ∷ []) ∷ []) ≡ Inside ((2, 3) ∷ [])
+vector_negated = refl
+
+scalar_negated : reach_of (each_monadic_rule Negative) (zeros [] ∷ []) (Some [] ∷ []) ≡ Inside []
+scalar_negated = refl
+
+nothing_negated : reach_of (each_monadic_rule Negative) (zeros (0 ∷ []) ∷ []) (Some ((1, 1) ∷ []) ∷ []) ≡ Unmoved
+nothing_negated = refl
+
+-- ---- of two arrays
+
+left_place : reach_of (each_dyadic_rule Plus) (zeros (5 ∷ []) ∷ zeros (5 ∷ []) ∷ []) (Some ((2, 2) ∷ []) ∷ None ∷ []) ≡ Inside ((2, 2) ∷ [])
+left_place = refl
+
+both_places : reach_of (each_dyadic_rule Plus) (zeros (5 ∷ []) ∷ zeros (5 ∷ []) ∷ []) (Some ((1, 2) ∷ []) ∷ Some ((4, 4) ∷ []) ∷ []) ≡ Inside ((1, 4) ∷ [])
+both_places = refl
+
+beside_a_scalar : reach_of (each_dyadic_rule Plus) (zeros (3 ∷ 4 ∷ []) ∷ zeros [] ∷ []) (Some ((2, 2) ∷ (1, 3) ∷ []) ∷ None ∷ []) ≡ Inside ((2, 2) ∷ (1, 3) ∷ [])
+beside_a_scalar = refl
+
+scalar_extended : reach_of (each_dyadic_rule Plus) (zeros (3 ∷ 4 ∷ []) ∷ zeros [] ∷ []) (None ∷ Some [] ∷ []) ≡ Inside ((1, 3) ∷ (1, 4) ∷ [])
+scalar_extended = refl
+
+vector_of_one_extended : reach_of (each_dyadic_rule Plus) (zeros (1 ∷ []) ∷ zeros (3 ∷ []) ∷ []) (Some ((1, 1) ∷ []) ∷ None ∷ []) ≡ Inside ((1, 3) ∷ [])
+vector_of_one_extended = refl
+
+extended_over_nothing : reach_of (each_dyadic_rule Plus) (zeros [] ∷ zeros (0 ∷ []) ∷ []) (Some [] ∷ None ∷ []) ≡ Unmoved
+extended_over_nothing = refl
+
+two_scalars : reach_of (each_dyadic_rule Plus) (zeros [] ∷ zeros [] ∷ []) (Some [] ∷ None ∷ []) ≡ Inside []
+two_scalars = refl
+
+-- where a check fails no box is told
+no_common_shape : reach_of (each_dyadic_rule Plus) (zeros (2 ∷ []) ∷ zeros (3 ∷ []) ∷ []) (Some ((1, 1) ∷ []) ∷ None ∷ []) ≡ Anew
+no_common_shape = refl

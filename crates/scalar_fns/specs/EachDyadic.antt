@@ -1,0 +1,38 @@
+-- What may change of a scalar function of two arrays: the places that changed, or all by an array that is extended.
+use Rattle.std.specs.Prelude.{ℕ, ◌==◌, if◌then◌else◌, List, [], ◌∷◌, map, false, Some, Result, Ok, bytes_eq}
+use Rattle.arrays_core.specs.declared.item.Item.{Item}
+use Rattle.arrays_core.specs.declared.item.ItemType.TheVariants.{Nums}
+use Rattle.arrays_core.specs.declared.item.Kind.{Kind}
+use Rattle.arrays_core.specs.Arrays.{ArrayValue}
+use Rattle.arrays_core.specs.Shapes.{size}
+use Rattle.scalar_fns.specs.declared.function.Scalar2.{Scalar2}
+use Rattle.scalar_fns.specs.Items.{dyadic_on_items}
+use Rattle.scalar_fns.specs.ScalarExtension.{common, extended, for_shape}
+use Rattle.index_region.specs.Boxes.{whole_of}
+use Rattle.index_region.specs.Checks.{Form, form_of}
+use Rattle.change_core.specs.RuleModels.{RuleModel, Use}
+use Rattle.change_core.specs.Growth.{growing}
+use Rattle.change_core.specs.Sourced.{Spread, two_rule}
+use Rattle.scalar_fns.specs.Growth.{each_dyadic_grows}
+
+-- numbers in the common shape, where there is one
+abbrev pub each_dyadic_form : ArrayValue → ArrayValue → Result Form Kind
+each_dyadic_form a b = for_shape (common a.shape b.shape) (λ shape. Ok (form_of shape Nums))
+
+-- the item at an index list
+abbrev pub each_dyadic_item : Scalar2 → ArrayValue → ArrayValue → List ℕ → Result Item Kind
+each_dyadic_item f a b index = dyadic_on_items f (extended a index) (extended b index)
+
+-- the box: the changed one for an argument of the result's shape, all for an extended one
+abbrev pub extended_box : List ℕ → ArrayValue → Spread
+extended_box shape a region = Some (if bytes_eq a.shape shape then region else whole_of shape)
+
+-- each item reads its own place, of an array of one item that one
+abbrev pub extended_use : List ℕ → ArrayValue → Use
+extended_use shape a = record {
+  reads = λ index. (if size a.shape == 1 then map (λ _. 1) a.shape else index) ∷ [];
+  box = extended_box shape a;
+}
+
+abbrev pub each_dyadic_rule : Scalar2 → RuleModel
+each_dyadic_rule f = growing (two_rule false each_dyadic_form (each_dyadic_item f) (λ shape a b. extended_use shape a) (λ shape a b. extended_use shape b)) each_dyadic_grows

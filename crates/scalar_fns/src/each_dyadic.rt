@@ -1,0 +1,121 @@
+//! Scalar functions of two arrays as change rules.
+
+ghost use Rattle.std.specs.Prelude.{◌≡◌, ◌≢◌, IsTrue};
+ghost use Rattle.std.proofs.Common.{rules};
+ghost use Rattle.arrays_core.specs.Shapes.{size as size_of, is_index_of};
+ghost use Rattle.scalar_fns.specs.ScalarExtension.{extended};
+ghost use Rattle.index_region.specs.ArgumentLists.{of_two_arguments};
+ghost use Rattle.scalar_fns.specs.EachDyadic.{each_dyadic_form, each_dyadic_item, each_dyadic_rule};
+ghost use Rattle.scalar_fns.specs.Laws.EachDyadic.{each_dyadic_tight};
+ghost use Rattle.scalar_fns.specs.Laws.EachDyadicGrowth.{each_dyadic_growing};
+ghost use Rattle.scalar_fns.specs.Growth.{is_extended_to};
+
+use crate::function::Scalar2;
+use crate::items::two;
+use crate::scalar_extension::{apply_two, common_shape};
+use arrays_core::{ApplyFault, Array, Item, ItemType, Kind, Shape};
+use change_core::{Announced, Lawful};
+use index_region::{IndexBox, Intervals, Primitive, Seen, apply};
+use std::alloc::Global;
+
+/// A scalar function of two arrays, item by item.
+#[derive(Clone, Copy, PartialEq, Eq, Debug)]
+pub struct EachDyadic {
+    /// The function of two items.
+    pub function: Scalar2,
+}
+
+/// The item of an array at an index list of the common shape.
+fn extended_item(array: &Seen, index: &[u32]) -> Item
+    requires { size_of array.now.shape ≢ 1 → IsTrue (is_index_of array.now.shape index.now) }
+    ensures { result ≡ extended array.now index.now }
+{
+    // The shape says that there is one item a place.
+    let _one_item_a_place = array.shape();
+    match array.at(index) {
+        Some(item) => item,
+        None => array.item(1),
+    }
+}
+
+/// The other array has one item and no greater rank.
+fn is_extended_to(array: &Seen, other: &Seen) -> bool
+    ensures { result ≡ is_extended_to array.now other.now }
+{
+    other.places() == 1 && other.shape().len() <= array.shape().len()
+}
+
+impl Primitive for EachDyadic {
+    ghost arity = { λ _. 2 };
+
+    ghost form = { λ _ args. of_two_arguments each_dyadic_form args };
+
+    ghost item = { λ e args index. of_two_arguments (λ a b. each_dyadic_item e.function a b index) args };
+
+    fn shape_of(&self, args: &[Seen]) -> Result<(Shape, ItemType), Kind> {
+        let (left, right) = (&args[0], &args[1]);
+        let shape = common_shape(left.shape(), right.shape())?;
+        Ok((shape, ItemType::Nums))
+    }
+
+    fn item_at(&self, args: &[Seen], index: &[u32]) -> Result<Item, Kind> {
+        let (left, right) = (&args[0], &args[1]);
+        two(
+            self.function,
+            extended_item(left, index),
+            extended_item(right, index),
+        )
+    }
+}
+
+impl Announced for EachDyadic {
+    ghost selectors = { λ e. (each_dyadic_rule e.function).selectors };
+
+    ghost uses = { λ e. (each_dyadic_rule e.function).uses };
+
+    ghost growth = { λ e. (each_dyadic_rule e.function).grows };
+
+    fn grows(&self, args: &[Seen], grown: &[bool]) -> bool {
+        let (left, right) = (&args[0], &args[1]);
+        match (grown[0], grown[1]) {
+            (true, false) => is_extended_to(left, right),
+            (false, true) => is_extended_to(right, left),
+            (true, true) => left.shape().as_slice() == right.shape().as_slice(),
+            (false, false) => false,
+        }
+    }
+
+    fn selects(&self, _which: usize) -> bool {
+        false
+    }
+
+    fn box_of(
+        &self,
+        args: &[Seen],
+        shape: &[u32],
+        which: usize,
+        region: &IndexBox,
+    ) -> Option<Intervals> {
+        let (left, right) = (args[0].shape(), args[1].shape());
+        let axes = if which == 0 { left } else { right };
+        if axes.as_slice() == shape {
+            return Some(region.intervals().copy());
+        }
+        Some(Intervals::whole(shape))
+    }
+
+    fn whole(&self, alloc: Global, args: &[Seen]) -> Result<Array, ApplyFault> {
+        match (args[0].array(), args[1].array()) {
+            (Some(left), Some(right)) => apply_two(alloc, self.function, left, right),
+            _ => apply(alloc, self, args),
+        }
+    }
+
+    ghost counted = { λ _. Prim.search rules };
+}
+
+impl Lawful for EachDyadic {
+    ghost tight = { λ e. each_dyadic_tight e.function };
+
+    ghost growing = { λ e. each_dyadic_growing e.function };
+}

@@ -1,4 +1,0 @@
-mod Extended
-pub mod ScalarAnswers
-mod ScalarCases
-mod GrowthExamples

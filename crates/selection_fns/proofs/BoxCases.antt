@@ -1,0 +1,252 @@
+-- Worked boxes, computed: what changes of a result where boxes of the arguments changed.
+use Rattle.std.proofs.Common.{◌≡◌, ℕ, List, [], ◌∷◌, refl, true, false, Option, Some, None}
+use Rattle.arrays_core.specs.Arrays.{ArrayValue}
+use Rattle.arrays_core.proofs.CaseWords.{nums, scalar, no_numbers, no_text}
+use Rattle.index_region.specs.declared.along.Along.TheVariants.{First, Last}
+use Rattle.index_region.specs.Boxes.{Interval}
+use Rattle.change_core.specs.declared.reach.Reach.{Reach}
+use Rattle.change_core.specs.declared.reach.Reach.TheVariants.{Anew, Inside, Unmoved}
+use Rattle.change_core.specs.Reaches.{reach_of}
+use Rattle.selection_fns.specs.Shape.{shape_rule}
+use Rattle.selection_fns.specs.IndexGenerator.{generator_rule}
+use Rattle.selection_fns.specs.IndexOf.{index_of_rule}
+use Rattle.selection_fns.specs.Member.{member_rule}
+use Rattle.selection_fns.specs.Encode.{encode_rule}
+use Rattle.selection_fns.specs.Decode.{decode_rule}
+use Rattle.selection_fns.specs.Replicate.{replicate_rule}
+use Rattle.selection_fns.specs.Index.{index_rule}
+
+-- 2 3⍴⍳6, and a table of 3 rows and 5 columns
+abbrev table : ArrayValue
+table = nums (2 ∷ 3 ∷ []) (1 ∷ 2 ∷ 3 ∷ 4 ∷ 5 ∷ 6 ∷ [])
+
+abbrev wide : ArrayValue
+wide = nums (3 ∷ 5 ∷ []) (0 ∷ 0 ∷ 0 ∷ 0 ∷ 0 ∷ 0 ∷ 0 ∷ 0 ∷ 0 ∷ 0 ∷ 0 ∷ 0 ∷ 0 ∷ 0 ∷ 0 ∷ [])
+
+abbrev three : ArrayValue
+three = nums (3 ∷ []) (7 ∷ 8 ∷ 9 ∷ [])
+
+abbrev four : ArrayValue
+four = nums (4 ∷ []) (1 ∷ 2 ∷ 3 ∷ 4 ∷ [])
+
+-- the box of a scalar, of places of a vector, and of rows and columns
+abbrev place : Option (List Interval)
+place = Some []
+
+abbrev places : ℕ → ℕ → Option (List Interval)
+places first last = Some ((first, last) ∷ [])
+
+abbrev block : ℕ → ℕ → ℕ → ℕ → Option (List Interval)
+block top bottom left right = Some ((top, bottom) ∷ (left, right) ∷ [])
+
+abbrev one : ℕ → ℕ → Reach
+one first last = Inside ((first, last) ∷ [])
+
+abbrev two : ℕ → ℕ → ℕ → ℕ → Reach
+two top bottom left right = Inside ((top, bottom) ∷ (left, right) ∷ [])
+
+-- ---- shape
+
+shape_of_vector : reach_of shape_rule (three ∷ []) (places 2 2 ∷ []) ≡ Unmoved
+shape_of_vector = refl
+
+shape_of_scalar : reach_of shape_rule (scalar 5 ∷ []) (place ∷ []) ≡ Unmoved
+shape_of_scalar = refl
+
+-- ---- index generator
+
+generator_of_scalar : reach_of generator_rule (scalar 5 ∷ []) (place ∷ []) ≡ Anew
+generator_of_scalar = refl
+
+generator_of_vector : reach_of generator_rule (nums (1 ∷ []) (3 ∷ []) ∷ []) (places 1 1 ∷ []) ≡ Anew
+generator_of_vector = refl
+
+generator_unmoved : reach_of generator_rule (scalar 5 ∷ []) (None ∷ []) ≡ Unmoved
+generator_unmoved = refl
+
+-- ---- index of
+
+index_of_by_right : reach_of index_of_rule (three ∷ four ∷ []) (None ∷ places 2 3 ∷ []) ≡ one 2 3
+index_of_by_right = refl
+
+index_of_by_left : reach_of index_of_rule (three ∷ four ∷ []) (places 3 3 ∷ None ∷ []) ≡ one 1 4
+index_of_by_left = refl
+
+index_of_by_both : reach_of index_of_rule (three ∷ table ∷ []) (places 3 3 ∷ block 2 2 1 1 ∷ []) ≡ two 1 2 1 3
+index_of_by_both = refl
+
+index_of_scalar_by_left : reach_of index_of_rule (three ∷ scalar 8 ∷ []) (places 1 1 ∷ None ∷ []) ≡ Inside []
+index_of_scalar_by_left = refl
+
+index_of_scalar_by_right : reach_of index_of_rule (three ∷ scalar 8 ∷ []) (None ∷ place ∷ []) ≡ Inside []
+index_of_scalar_by_right = refl
+
+-- a result without items
+index_of_none : reach_of index_of_rule (three ∷ no_numbers ∷ []) (places 1 2 ∷ None ∷ []) ≡ Unmoved
+index_of_none = refl
+
+-- where the checks fail
+index_of_table : reach_of index_of_rule (table ∷ four ∷ []) (None ∷ places 1 1 ∷ []) ≡ Anew
+index_of_table = refl
+
+-- ---- membership
+
+member_by_left : reach_of member_rule (table ∷ three ∷ []) (block 1 2 2 2 ∷ None ∷ []) ≡ two 1 2 2 2
+member_by_left = refl
+
+member_by_right : reach_of member_rule (table ∷ three ∷ []) (None ∷ places 1 1 ∷ []) ≡ two 1 2 1 3
+member_by_right = refl
+
+member_by_both : reach_of member_rule (four ∷ scalar 3 ∷ []) (places 2 2 ∷ place ∷ []) ≡ one 1 4
+member_by_both = refl
+
+member_none : reach_of member_rule (no_text ∷ three ∷ []) (None ∷ places 1 1 ∷ []) ≡ Unmoved
+member_none = refl
+
+-- ---- encode: 24 60 60⊤B
+
+abbrev clock : ArrayValue
+clock = nums (3 ∷ []) (24 ∷ 60 ∷ 60 ∷ [])
+
+encode_by_second : reach_of encode_rule (clock ∷ four ∷ []) (places 2 2 ∷ None ∷ []) ≡ two 1 2 1 4
+encode_by_second = refl
+
+encode_by_first : reach_of encode_rule (clock ∷ four ∷ []) (places 1 1 ∷ None ∷ []) ≡ two 1 1 1 4
+encode_by_first = refl
+
+encode_by_right : reach_of encode_rule (clock ∷ four ∷ []) (None ∷ places 3 4 ∷ []) ≡ two 1 3 3 4
+encode_by_right = refl
+
+encode_by_both : reach_of encode_rule (clock ∷ four ∷ []) (places 1 2 ∷ places 3 3 ∷ []) ≡ two 1 3 1 4
+encode_by_both = refl
+
+encode_by_scalar : reach_of encode_rule (scalar 2 ∷ four ∷ []) (place ∷ None ∷ []) ≡ one 1 4
+encode_by_scalar = refl
+
+encode_of_scalar_by_radices : reach_of encode_rule (clock ∷ scalar 99 ∷ []) (places 2 2 ∷ None ∷ []) ≡ one 1 2
+encode_of_scalar_by_radices = refl
+
+encode_of_scalar : reach_of encode_rule (clock ∷ scalar 99 ∷ []) (None ∷ place ∷ []) ≡ one 1 3
+encode_of_scalar = refl
+
+encode_two_scalars : reach_of encode_rule (scalar 2 ∷ scalar 99 ∷ []) (place ∷ None ∷ []) ≡ Inside []
+encode_two_scalars = refl
+
+encode_of_none : reach_of encode_rule (clock ∷ no_numbers ∷ []) (places 2 2 ∷ None ∷ []) ≡ Unmoved
+encode_of_none = refl
+
+encode_by_none : reach_of encode_rule (no_numbers ∷ four ∷ []) (None ∷ places 2 2 ∷ []) ≡ Unmoved
+encode_by_none = refl
+
+-- ---- decode: 24 60 60⊥B
+
+decode_block : reach_of decode_rule (clock ∷ wide ∷ []) (None ∷ block 2 2 4 4 ∷ []) ≡ one 4 4
+decode_block = refl
+
+decode_by_left : reach_of decode_rule (clock ∷ wide ∷ []) (places 3 3 ∷ None ∷ []) ≡ one 1 5
+decode_by_left = refl
+
+decode_by_both : reach_of decode_rule (clock ∷ wide ∷ []) (places 3 3 ∷ block 1 3 2 3 ∷ []) ≡ one 1 5
+decode_by_both = refl
+
+decode_vector : reach_of decode_rule (scalar 2 ∷ four ∷ []) (None ∷ places 2 3 ∷ []) ≡ Inside []
+decode_vector = refl
+
+decode_scalar : reach_of decode_rule (clock ∷ scalar 1 ∷ []) (None ∷ place ∷ []) ≡ Inside []
+decode_scalar = refl
+
+decode_scalar_by_left : reach_of decode_rule (clock ∷ scalar 1 ∷ []) (places 1 1 ∷ None ∷ []) ≡ Inside []
+decode_scalar_by_left = refl
+
+decode_no_columns : reach_of decode_rule (scalar 2 ∷ nums (3 ∷ 0 ∷ []) [] ∷ []) (place ∷ None ∷ []) ≡ Unmoved
+decode_no_columns = refl
+
+-- ---- replicate
+
+-- 2 0 1/B
+abbrev counts : ArrayValue
+counts = nums (3 ∷ []) (2 ∷ 0 ∷ 1 ∷ [])
+
+replicate_first : reach_of (replicate_rule Last) (counts ∷ three ∷ []) (None ∷ places 1 1 ∷ []) ≡ one 1 2
+replicate_first = refl
+
+replicate_without_copies : reach_of (replicate_rule Last) (counts ∷ three ∷ []) (None ∷ places 2 2 ∷ []) ≡ Unmoved
+replicate_without_copies = refl
+
+replicate_last : reach_of (replicate_rule Last) (counts ∷ three ∷ []) (None ∷ places 2 3 ∷ []) ≡ one 3 3
+replicate_last = refl
+
+replicate_columns : reach_of (replicate_rule Last) (counts ∷ table ∷ []) (None ∷ block 2 2 1 2 ∷ []) ≡ two 2 2 1 2
+replicate_columns = refl
+
+replicate_rows : reach_of (replicate_rule First) (nums (2 ∷ []) (3 ∷ 1 ∷ []) ∷ table ∷ []) (None ∷ block 2 2 1 2 ∷ []) ≡ two 4 4 1 2
+replicate_rows = refl
+
+replicate_by_one_count : reach_of (replicate_rule Last) (scalar 3 ∷ three ∷ []) (None ∷ places 2 2 ∷ []) ≡ one 4 6
+replicate_by_one_count = refl
+
+replicate_scalar : reach_of (replicate_rule Last) (counts ∷ scalar 5 ∷ []) (None ∷ place ∷ []) ≡ one 1 3
+replicate_scalar = refl
+
+-- an axis of one place, extended to the counts
+replicate_one_place : reach_of (replicate_rule First) (counts ∷ nums (1 ∷ 2 ∷ []) (5 ∷ 6 ∷ []) ∷ []) (None ∷ block 1 1 2 2 ∷ []) ≡ two 1 3 2 2
+replicate_one_place = refl
+
+replicate_by_counts : reach_of (replicate_rule Last) (counts ∷ three ∷ []) (places 1 1 ∷ places 1 1 ∷ []) ≡ Anew
+replicate_by_counts = refl
+
+replicate_never : reach_of (replicate_rule Last) (scalar 0 ∷ three ∷ []) (None ∷ places 1 3 ∷ []) ≡ Unmoved
+replicate_never = refl
+
+-- ---- indexed reference
+
+-- B[1 3 1]
+abbrev picks : ArrayValue
+picks = nums (3 ∷ []) (1 ∷ 3 ∷ 1 ∷ [])
+
+index_array : reach_of (index_rule (true ∷ [])) (three ∷ picks ∷ []) (places 1 1 ∷ None ∷ []) ≡ one 1 3
+index_array = refl
+
+index_array_once : reach_of (index_rule (true ∷ [])) (three ∷ picks ∷ []) (places 2 3 ∷ None ∷ []) ≡ one 2 2
+index_array_once = refl
+
+index_array_missed : reach_of (index_rule (true ∷ [])) (three ∷ picks ∷ []) (places 2 2 ∷ None ∷ []) ≡ Unmoved
+index_array_missed = refl
+
+index_position : reach_of (index_rule (true ∷ [])) (three ∷ picks ∷ []) (None ∷ places 3 3 ∷ []) ≡ one 3 3
+index_position = refl
+
+index_both : reach_of (index_rule (true ∷ [])) (three ∷ picks ∷ []) (places 3 3 ∷ places 3 3 ∷ []) ≡ one 2 3
+index_both = refl
+
+-- B[2;], B[;1 3] and B[2;1 3]
+index_row : reach_of (index_rule (true ∷ false ∷ [])) (table ∷ scalar 2 ∷ []) (block 1 2 2 3 ∷ None ∷ []) ≡ one 2 3
+index_row = refl
+
+index_other_row : reach_of (index_rule (true ∷ false ∷ [])) (table ∷ scalar 2 ∷ []) (block 1 1 2 3 ∷ None ∷ []) ≡ Unmoved
+index_other_row = refl
+
+index_row_by_position : reach_of (index_rule (true ∷ false ∷ [])) (table ∷ scalar 2 ∷ []) (None ∷ place ∷ []) ≡ one 1 3
+index_row_by_position = refl
+
+index_columns : reach_of (index_rule (false ∷ true ∷ [])) (table ∷ picks ∷ []) (block 2 2 3 3 ∷ None ∷ []) ≡ two 2 2 2 2
+index_columns = refl
+
+index_columns_by_position : reach_of (index_rule (false ∷ true ∷ [])) (table ∷ picks ∷ []) (None ∷ places 2 3 ∷ []) ≡ two 1 2 2 3
+index_columns_by_position = refl
+
+index_place : reach_of (index_rule (true ∷ true ∷ [])) (table ∷ nums (2 ∷ []) (2 ∷ 1 ∷ []) ∷ picks ∷ []) (block 1 1 3 3 ∷ None ∷ None ∷ []) ≡ two 2 2 2 2
+index_place = refl
+
+index_positions : reach_of (index_rule (true ∷ true ∷ [])) (table ∷ nums (2 ∷ []) (2 ∷ 1 ∷ []) ∷ picks ∷ []) (None ∷ places 1 1 ∷ places 3 3 ∷ []) ≡ two 1 2 1 3
+index_positions = refl
+
+index_second_position : reach_of (index_rule (true ∷ true ∷ [])) (table ∷ nums (2 ∷ []) (2 ∷ 1 ∷ []) ∷ picks ∷ []) (None ∷ None ∷ places 3 3 ∷ []) ≡ two 1 2 3 3
+index_second_position = refl
+
+-- a table as a position: its places that name the changed one
+index_by_table : reach_of (index_rule (true ∷ [])) (three ∷ nums (2 ∷ 2 ∷ []) (1 ∷ 2 ∷ 3 ∷ 2 ∷ []) ∷ []) (places 2 2 ∷ None ∷ []) ≡ two 1 2 2 2
+index_by_table = refl
+
+index_nowhere : reach_of (index_rule (true ∷ [])) (three ∷ no_numbers ∷ []) (places 1 3 ∷ None ∷ []) ≡ Unmoved
+index_nowhere = refl

@@ -1,0 +1,81 @@
+-- What the checks of replicate say of the copies.
+use Rattle.std.proofs.Common.{◌≡◌, ℕ, zero, suc, ◌*◌, ◌≤◌, ◌<◌, Bool, true, false, nat_le, ◌&&◌, ◌||◌, nat_eq, List, [], ◌∷◌, length, take, replicate, get_or, refl, sym, ap, subst, arith, Result, Ok, Err}
+use Rattle.std.specs.Prelude.{max, sum}
+use Rattle.std.specs.List.{list_all}
+use Rattle.std.proofs.lemmas.Bool.{and_parts, leb-true}
+use Rattle.arrays_core.specs.declared.item.ItemType.{ItemType}
+use Rattle.arrays_core.specs.declared.item.Kind.{Kind}
+use Rattle.arrays_core.specs.declared.item.Kind.TheVariants.{Limit}
+use Rattle.arrays_core.specs.Arrays.{ArrayValue}
+use Rattle.arrays_core.specs.Shapes.{size}
+use Rattle.index_region.specs.declared.along.Along.{Along}
+use Rattle.index_region.specs.Arguments.{is_list, has_one_item, counts_as_numbers, none_negative, numbers}
+use Rattle.index_region.specs.Axes.{is_axis, axis_at, places_along}
+use Rattle.index_region.specs.Checks.{Form, form_of, check, limited, is_within_limits}
+use Rattle.index_region.proofs.Passing.{gives}
+use Rattle.change_core.specs.RuleModels.{HasShape}
+use Rattle.selection_fns.specs.Replicate.{times, replicated_shape, replicate_form}
+use Rattle.selection_fns.specs.Laws.RepeatedPlaces.{sum_front}
+use Rattle.selection_fns.specs.Laws.CopiedPlaces.{exchanged_there}
+
+pub sum_first_same : (first places count : ℕ) → first ≤ places → sum (take first (replicate places count)) ≡ first * count
+sum_first_same zero places count h = let none : 0 * count ≡ 0 = omega arith in sym none
+sum_first_same (suc first) zero count h = absurd (omega arith)
+sum_first_same (suc first) (suc places) count h =
+    let rest = sum_first_same first places count (omega arith) in
+    let front = sum_front count (take first (replicate places count)) in
+    omega arith
+
+-- a form is one of its shape and some type
+pub record IsForm (form : Result Form Kind) (shape : List ℕ) : Type 0 where
+  pub item_type : ItemType
+  pub is : form ≡ Ok (form_of shape item_type)
+
+pub has_form : (form : Result Form Kind) (shape : List ℕ) → HasShape form shape → IsForm form shape
+has_form (Ok f) shape h = record { item_type = f.item_type; is = λ i. Ok (form_of (h i) f.item_type) }
+has_form (Err kind) shape h = absurd h
+
+-- a shape within the limits
+pub record IsLimited (shape : List ℕ) (form : Form) : Type 0 where
+  pub is : form.shape ≡ shape
+  pub rank : length shape ≤ 4
+  pub axes : list_all (λ n. nat_le n 1048576) shape ≡ true
+
+pub limited_within : (shape : List ℕ) (item_type : ItemType) (form : Form) → limited shape item_type ≡ Ok form → IsLimited shape form
+limited_within shape item_type form h = decide (is_within_limits shape) refl h
+  where
+    decide : (w : Bool) → is_within_limits shape ≡ w → check w Limit (Ok (form_of shape item_type)) ≡ Ok form → IsLimited shape form
+    decide true e h =
+        let wanted : Form = form_of shape item_type in
+        let same : wanted ≡ form = cc in
+        let parts = and_parts _ _ (and_parts (nat_le (length shape) 4 && list_all (λ n. nat_le n 1048576) shape) (nat_le (size shape) 1048576) e).0 in
+        record { is = ap (λ (f : Form). f.shape) (sym same); rank = leb-true _ _ parts.0; axes = parts.1 }
+    decide false e h = let no : ⊥ = cc in absurd no
+
+pub axis_within : (shape : List ℕ) (axis : ℕ) → list_all (λ n. nat_le n 1048576) shape ≡ true → axis < length shape → get_or shape axis 0 ≤ 1048576
+axis_within [] axis h k = absurd (omega arith)
+axis_within (n ∷ shape) zero h k = leb-true n 1048576 (and_parts _ _ h).0
+axis_within (n ∷ shape) (suc axis) h k = axis_within shape axis (and_parts _ _ h).1 (omega arith)
+
+-- what the checks say where the array has axes
+pub record IsCopiedAlong (a : ArrayValue) (shape result : List ℕ) (axis : ℕ) : Type 0 where
+  pub there : axis < length result
+  pub few : sum (times a (places_along shape axis)) ≤ 1048576
+
+pub copied_along : (along : Along) (a b : ArrayValue) (shape : List ℕ) → HasShape (replicate_form along a b) shape → IsCopiedAlong a b.shape shape (axis_at (max 1 (length b.shape)) along)
+copied_along along a b shape h =
+    let form = has_form (replicate_form along a b) shape h in
+    let rank = max 1 (length b.shape) in
+    let axis = axis_at rank along in
+    let n = places_along b.shape axis in
+    let asked = form_of shape form.item_type in
+    let axes = gives (is_axis rank along) _ _ asked form.is in
+    let ranks = gives (is_list a) _ _ asked axes.is in
+    let lengths = gives (has_one_item a || (nat_eq n 1 || nat_eq (length a.items) n)) _ _ asked ranks.is in
+    let counted = gives (counts_as_numbers a && none_negative (numbers a)) _ _ asked lengths.is in
+    let limits = limited_within (replicated_shape a b.shape axis) b.item_type asked counted.is in
+    let copies = exchanged_there along b.shape (sum (times a n)) axes.test in
+    record {
+      there = subst (λ (s : List ℕ). axis < length s) (sym limits.is) copies.there;
+      few = subst (λ (k : ℕ). k ≤ 1048576) copies.is (axis_within (replicated_shape a b.shape axis) axis limits.axes copies.there);
+    }

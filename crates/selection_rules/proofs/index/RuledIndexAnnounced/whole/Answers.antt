@@ -1,9 +1,0 @@
-use Rattle.std.proofs.Common.{subst, sym, Result}
-use Rattle.arrays_core.specs.Arrays.{ArrayValue, IsAnswerTo}
-use Rattle.arrays_core.specs.declared.item.Kind.{Kind}
-use Rattle.selection_fns.specs.Index.{index_form, index_item}
-use Rattle.selection_fns.proofs.Indexed.{whole_of_positions}
-use Rattle.selection_rules.proofs.index.RuledIndexAnnounced.whole.Goals as goal
-
-pub returns : goal.returns
-returns c = subst (λ (w : Result ArrayValue Kind). IsAnswerTo w c.apply.result) (sym (whole_of_positions index_form index_item c.args.self.now.function.written.now c.args.args.now c.requires)) c.apply.ensures

@@ -1,7 +1,0 @@
-use Rattle.std.proofs.Common.{◌≡◌, map, take, unsigned_abs}
-use Rattle.std.specs.Prelude.{sum}
-use Rattle.index_region.specs.Arguments.{numbers}
-use Rattle.selection_rules.proofs.replicate.copies_of_counts.Given as goal
-
-abbrev pub invariant-loop-place : goal.invariant-loop-place
-invariant-loop-place l = l.copies ≡ sum (take l.place (map unsigned_abs (numbers l.fn.counts)))

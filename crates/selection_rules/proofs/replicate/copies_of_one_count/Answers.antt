@@ -1,6 +1,0 @@
-use Rattle.std.proofs.Common.{◌∙◌, ◌*◌, ap, sym}
-use Rattle.selection_rules.proofs.Copied.{sum_first_same}
-use Rattle.selection_rules.proofs.replicate.copies_of_one_count.Goals as goal
-
-pub returns : goal.returns
-returns c = ap (λ n. n * c.args.count) c.from.ensures ∙ sym (sum_first_same c.args.first c.args.places c.args.count c.requires.within)

@@ -1,0 +1,38 @@
+use Rattle.std.proofs.Common.{◌≡◌, ◌≤◌, List, ℕ, ◌∷◌, [], length, sym, arith}
+use Rattle.arrays_core.specs.Arrays.{ArrayValue}
+use Rattle.index_region.specs.Arguments.{numbers}
+use Rattle.index_region.specs.ArgumentLists.{of_two_arguments}
+use Rattle.index_region.proofs.Passing.{two_arguments}
+use Rattle.change_core.specs.RuleModels.{HasShape}
+use Rattle.structural_fns.specs.AxisCounts.{counted_shape}
+use Rattle.structural_fns.specs.Drop.{drop_form, dropped_shape}
+use Rattle.structural_fns.proofs.Counting.{dropped_long}
+use Rattle.structural_fns.specs.Laws.CountedAxes.{counted_facts}
+use Rattle.structural_fns.proofs.Calls.{form_of_two}
+use Rattle.structural_fns.proofs.drop_places.DropPlacesAnnounced.box_of.Goals as goal
+
+-- there are as many counts as axes, and at most four
+record Counts (a b : ArrayValue) : Type 0 where
+  pub many : length a.items ≡ length (counted_shape a b)
+  pub few : length a.items ≤ 4
+
+counts_of : (args : List ArrayValue) (a b : ArrayValue) (shape : List ℕ) → args ≡ a ∷ b ∷ [] → HasShape (of_two_arguments drop_form args) shape → Counts a b
+counts_of args a b shape two checked =
+    let form = form_of_two drop_form args a b shape two checked in
+    let facts = counted_facts (dropped_shape (counted_shape a b) (numbers a)) a b form.form form.is in
+    let long = dropped_long (counted_shape a b) (numbers a) (sym facts.many) in
+    record { many = facts.items; few = omega (arith, facts.rank, facts.items, long) }
+
+pub counted_shape-axes-requires : goal.counted_shape-axes-requires
+counted_shape-axes-requires c =
+    let a = c.index-args-0.result in
+    let b = c.index-args-1.result in
+    let two = two_arguments c.args.args.now a b c.requires.count c.index-args-0.is c.index-args-1.is in
+    (counts_of c.args.args.now a b c.args._shape.now two c.requires.checked).few
+
+pub counted_box-intervals-requires : goal.counted_box-intervals-requires
+counted_box-intervals-requires c =
+    let a = c.index-args-0.result in
+    let b = c.index-args-1.result in
+    let two = two_arguments c.args.args.now a b c.requires.count c.index-args-0.is c.index-args-1.is in
+    (counts_of c.args.args.now a b c.args._shape.now two c.requires.checked).few

@@ -1,0 +1,8 @@
+use Rattle.std.proofs.Common.{subst, sym}
+use Rattle.arrays_core.specs.Arrays.{IsAnswerTo}
+use Rattle.index_region.proofs.Arguments.{whole_of_two}
+use Rattle.structural_fns.specs.Drop.{drop_form, drop_item}
+use Rattle.structural_fns.proofs.drop_places.DropPlacesAnnounced.whole.Goals as goal
+
+pub returns : goal.returns
+returns c = subst (λ w. IsAnswerTo w c.apply.result) (sym (whole_of_two drop_form drop_item c.args.args.now c.requires)) c.apply.ensures

@@ -1,0 +1,11 @@
+use Rattle.std.proofs.Common.{subst, sym, Result}
+use Rattle.arrays_core.specs.Arrays.{ArrayValue, IsAnswerTo}
+use Rattle.arrays_core.specs.declared.item.Kind.{Kind}
+use Rattle.index_region.proofs.Arguments.{whole_of_one}
+use Rattle.structural_fns.specs.Reverse.{reverse_form, reverse_item}
+use Rattle.structural_fns.proofs.reverse.ReverseAnnounced.whole.Goals as goal
+
+pub returns : goal.returns
+returns c =
+    let along = c.args.self.now.along in
+    subst (λ (w : Result ArrayValue Kind). IsAnswerTo w c.apply.result) (sym (whole_of_one (reverse_form along) (reverse_item along) c.args.args.now c.requires)) c.apply.ensures

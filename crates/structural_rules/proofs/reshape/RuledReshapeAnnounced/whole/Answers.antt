@@ -1,8 +1,0 @@
-use Rattle.std.proofs.Common.{subst, sym}
-use Rattle.arrays_core.specs.Arrays.{IsAnswerTo}
-use Rattle.index_region.proofs.Arguments.{whole_of_two}
-use Rattle.structural_fns.specs.Reshape.{reshape_form, reshape_item}
-use Rattle.structural_rules.proofs.reshape.RuledReshapeAnnounced.whole.Goals as goal
-
-pub returns : goal.returns
-returns c = subst (λ w. IsAnswerTo w c.apply.result) (sym (whole_of_two reshape_form reshape_item c.args.args.now c.requires)) c.apply.ensures
