@@ -2,11 +2,11 @@
 use Rattle.std.proofs.Common.{ℕ, [], ◌∷◌, refl, arith}
 use Rattle.std.specs.Prelude.{pos, negsuc, codes}
 use Rattle.apl_tokens.specs.Lexemes.{Number, Characters, Named, Sign}
-use Rattle.apl_expr.specs.declared.expr.ScalarMonad.TheVariants as monad
-use Rattle.apl_expr.specs.declared.expr.ScalarDyad.TheVariants as dyad
+use Rattle.function_names.specs.declared.scalar.Scalar1.TheVariants as monad
+use Rattle.function_names.specs.declared.scalar.Scalar2.TheVariants as dyad
 use Rattle.apl_expr.specs.declared.expr.Monadic.TheVariants as monadic
 use Rattle.apl_expr.specs.declared.expr.Dyadic.TheVariants as dyadic
-use Rattle.apl_expr.specs.declared.expr.Along.TheVariants as along
+use Rattle.function_names.specs.declared.along.Along.TheVariants as along
 use Rattle.apl_expr.specs.Symbols.{scalar_monad_of, scalar_dyad_of, array_monad, array_dyad, folding_of, folding_along_of, monadic_along_of, dyadic_along_of}
 use Rattle.apl_expr.specs.Trees.{Tree, Numbers, Text, Const, Name, Monad, Dyad, Index, Filled, Empty, NoPositions}
 use Rattle.apl_expr.specs.Machine.{run}

@@ -4,100 +4,100 @@ use Rattle.std.specs.Prelude.{◌≡◌, ℕ, zero, suc, ℤ, pos, List, [], ◌
 use Rattle.std.proofs.Common.{sym, ◌∙◌, ap, inl, inr, append_assoc, append-nil}
 use Rattle.std.specs.Coded.{Coded, code_by, coded×, coded⊎, coded_list, coded_ℕ, coded_ℤ}
 use Rattle.apl_expr.specs.Trees.{Tree, Const, Name, Monad, Dyad, Index, Positions, NoPositions, Empty, Filled, Numbers, Text}
-use Rattle.apl_expr.specs.declared.expr.ScalarMonad.{ScalarMonad}
-use Rattle.apl_expr.specs.declared.expr.ScalarMonad.TheVariants as scalar_monad
-use Rattle.apl_expr.specs.declared.expr.ScalarDyad.{ScalarDyad}
-use Rattle.apl_expr.specs.declared.expr.ScalarDyad.TheVariants as scalar_dyad
-use Rattle.apl_expr.specs.declared.expr.Along.{Along}
-use Rattle.apl_expr.specs.declared.expr.Along.TheVariants.{First, Last, Axis}
+use Rattle.function_names.specs.declared.scalar.Scalar1.{Scalar1}
+use Rattle.function_names.specs.declared.scalar.Scalar1.TheVariants as one
+use Rattle.function_names.specs.declared.scalar.Scalar2.{Scalar2}
+use Rattle.function_names.specs.declared.scalar.Scalar2.TheVariants as two
+use Rattle.function_names.specs.declared.along.Along.{Along}
+use Rattle.function_names.specs.declared.along.Along.TheVariants.{First, Last, Axis}
 use Rattle.apl_expr.specs.declared.expr.Monadic.{Monadic}
 use Rattle.apl_expr.specs.declared.expr.Monadic.TheVariants as monadic
 use Rattle.apl_expr.specs.declared.expr.Dyadic.{Dyadic}
 use Rattle.apl_expr.specs.declared.expr.Dyadic.TheVariants as dyadic
 
 -- the number of a scalar function is how many stand before it here
-abbrev monads : List ScalarMonad
+abbrev monads : List Scalar1
 monads =
-    scalar_monad.Conjugate ∷ scalar_monad.Negative ∷ scalar_monad.Direction ∷ scalar_monad.Reciprocal ∷
-    scalar_monad.Magnitude ∷ scalar_monad.Ceiling ∷ scalar_monad.Floor ∷ scalar_monad.Not ∷ []
+    one.Conjugate ∷ one.Negative ∷ one.Direction ∷ one.Reciprocal ∷
+    one.Magnitude ∷ one.Ceiling ∷ one.Floor ∷ one.Not ∷ []
 
 -- the number of a scalar function of one argument
-abbrev number_of_monad : ScalarMonad → ℕ
-number_of_monad scalar_monad.Conjugate = 0
-number_of_monad scalar_monad.Negative = 1
-number_of_monad scalar_monad.Direction = 2
-number_of_monad scalar_monad.Reciprocal = 3
-number_of_monad scalar_monad.Magnitude = 4
-number_of_monad scalar_monad.Ceiling = 5
-number_of_monad scalar_monad.Floor = 6
-number_of_monad scalar_monad.Not = 7
+abbrev number_of_monad : Scalar1 → ℕ
+number_of_monad one.Conjugate = 0
+number_of_monad one.Negative = 1
+number_of_monad one.Direction = 2
+number_of_monad one.Reciprocal = 3
+number_of_monad one.Magnitude = 4
+number_of_monad one.Ceiling = 5
+number_of_monad one.Floor = 6
+number_of_monad one.Not = 7
 
 -- the scalar function of a number
-abbrev monad_of_number : ℕ → ScalarMonad
-monad_of_number n = get_or monads n scalar_monad.Not
+abbrev monad_of_number : ℕ → Scalar1
+monad_of_number n = get_or monads n one.Not
 
-monad_again : (f : ScalarMonad) → monad_of_number (number_of_monad f) ≡ f
-monad_again scalar_monad.Conjugate = refl
-monad_again scalar_monad.Negative = refl
-monad_again scalar_monad.Direction = refl
-monad_again scalar_monad.Reciprocal = refl
-monad_again scalar_monad.Magnitude = refl
-monad_again scalar_monad.Ceiling = refl
-monad_again scalar_monad.Floor = refl
-monad_again scalar_monad.Not = refl
+monad_again : (f : Scalar1) → monad_of_number (number_of_monad f) ≡ f
+monad_again one.Conjugate = refl
+monad_again one.Negative = refl
+monad_again one.Direction = refl
+monad_again one.Reciprocal = refl
+monad_again one.Magnitude = refl
+monad_again one.Ceiling = refl
+monad_again one.Floor = refl
+monad_again one.Not = refl
 
 -- the same for scalar functions of two arguments
-abbrev dyads : List ScalarDyad
+abbrev dyads : List Scalar2
 dyads =
-    scalar_dyad.Plus ∷ scalar_dyad.Minus ∷ scalar_dyad.Times ∷ scalar_dyad.Divide ∷ scalar_dyad.Power ∷
-    scalar_dyad.Residue ∷ scalar_dyad.Maximum ∷ scalar_dyad.Minimum ∷ scalar_dyad.Less ∷ scalar_dyad.LessOrEqual ∷
-    scalar_dyad.Equal ∷ scalar_dyad.GreaterOrEqual ∷ scalar_dyad.Greater ∷ scalar_dyad.NotEqual ∷ scalar_dyad.And ∷
-    scalar_dyad.Or ∷ scalar_dyad.Nand ∷ scalar_dyad.Nor ∷ []
+    two.Plus ∷ two.Minus ∷ two.Times ∷ two.Divide ∷ two.Power ∷
+    two.Residue ∷ two.Maximum ∷ two.Minimum ∷ two.Less ∷ two.LessOrEqual ∷
+    two.Equal ∷ two.GreaterOrEqual ∷ two.Greater ∷ two.NotEqual ∷ two.And ∷
+    two.Or ∷ two.Nand ∷ two.Nor ∷ []
 
 -- the number of a scalar function of two arguments
-abbrev number_of_dyad : ScalarDyad → ℕ
-number_of_dyad scalar_dyad.Plus = 0
-number_of_dyad scalar_dyad.Minus = 1
-number_of_dyad scalar_dyad.Times = 2
-number_of_dyad scalar_dyad.Divide = 3
-number_of_dyad scalar_dyad.Power = 4
-number_of_dyad scalar_dyad.Residue = 5
-number_of_dyad scalar_dyad.Maximum = 6
-number_of_dyad scalar_dyad.Minimum = 7
-number_of_dyad scalar_dyad.Less = 8
-number_of_dyad scalar_dyad.LessOrEqual = 9
-number_of_dyad scalar_dyad.Equal = 10
-number_of_dyad scalar_dyad.GreaterOrEqual = 11
-number_of_dyad scalar_dyad.Greater = 12
-number_of_dyad scalar_dyad.NotEqual = 13
-number_of_dyad scalar_dyad.And = 14
-number_of_dyad scalar_dyad.Or = 15
-number_of_dyad scalar_dyad.Nand = 16
-number_of_dyad scalar_dyad.Nor = 17
+abbrev number_of_dyad : Scalar2 → ℕ
+number_of_dyad two.Plus = 0
+number_of_dyad two.Minus = 1
+number_of_dyad two.Times = 2
+number_of_dyad two.Divide = 3
+number_of_dyad two.Power = 4
+number_of_dyad two.Residue = 5
+number_of_dyad two.Maximum = 6
+number_of_dyad two.Minimum = 7
+number_of_dyad two.Less = 8
+number_of_dyad two.LessOrEqual = 9
+number_of_dyad two.Equal = 10
+number_of_dyad two.GreaterOrEqual = 11
+number_of_dyad two.Greater = 12
+number_of_dyad two.NotEqual = 13
+number_of_dyad two.And = 14
+number_of_dyad two.Or = 15
+number_of_dyad two.Nand = 16
+number_of_dyad two.Nor = 17
 
 -- the scalar function of a number
-abbrev dyad_of_number : ℕ → ScalarDyad
-dyad_of_number n = get_or dyads n scalar_dyad.Nor
+abbrev dyad_of_number : ℕ → Scalar2
+dyad_of_number n = get_or dyads n two.Nor
 
-dyad_again : (f : ScalarDyad) → dyad_of_number (number_of_dyad f) ≡ f
-dyad_again scalar_dyad.Plus = refl
-dyad_again scalar_dyad.Minus = refl
-dyad_again scalar_dyad.Times = refl
-dyad_again scalar_dyad.Divide = refl
-dyad_again scalar_dyad.Power = refl
-dyad_again scalar_dyad.Residue = refl
-dyad_again scalar_dyad.Maximum = refl
-dyad_again scalar_dyad.Minimum = refl
-dyad_again scalar_dyad.Less = refl
-dyad_again scalar_dyad.LessOrEqual = refl
-dyad_again scalar_dyad.Equal = refl
-dyad_again scalar_dyad.GreaterOrEqual = refl
-dyad_again scalar_dyad.Greater = refl
-dyad_again scalar_dyad.NotEqual = refl
-dyad_again scalar_dyad.And = refl
-dyad_again scalar_dyad.Or = refl
-dyad_again scalar_dyad.Nand = refl
-dyad_again scalar_dyad.Nor = refl
+dyad_again : (f : Scalar2) → dyad_of_number (number_of_dyad f) ≡ f
+dyad_again two.Plus = refl
+dyad_again two.Minus = refl
+dyad_again two.Times = refl
+dyad_again two.Divide = refl
+dyad_again two.Power = refl
+dyad_again two.Residue = refl
+dyad_again two.Maximum = refl
+dyad_again two.Minimum = refl
+dyad_again two.Less = refl
+dyad_again two.LessOrEqual = refl
+dyad_again two.Equal = refl
+dyad_again two.GreaterOrEqual = refl
+dyad_again two.Greater = refl
+dyad_again two.NotEqual = refl
+dyad_again two.And = refl
+dyad_again two.Or = refl
+dyad_again two.Nand = refl
+dyad_again two.Nor = refl
 
 -- a function has a number, a number of its scalar function or its own among those without, and two of its axis or of
 -- its second scalar function

@@ -1,85 +1,13 @@
 //! Expressions.
 
 use apl_tokens::Name;
-
-/// The scalar functions of one argument, by the names of ISO/IEC 13751.
-#[derive(Clone, Copy, Debug, PartialEq, Eq)]
-pub enum ScalarMonad {
-    /// `+B`, B itself.
-    Conjugate,
-    /// `-B`, zero minus B.
-    Negative,
-    /// `×B`, the sign of B: `¯1`, `0` or `1`.
-    Direction,
-    /// `÷B`, one divided by B.
-    Reciprocal,
-    /// `|B`, the magnitude of B.
-    Magnitude,
-    /// `⌈B`, the least whole number that is not below B.
-    Ceiling,
-    /// `⌊B`, the greatest whole number that is not above B.
-    Floor,
-    /// `~B`, `1` for `0` and `0` for `1`.
-    Not,
-}
-
-/// The scalar functions of two arguments, by the names of ISO/IEC 13751.
-#[derive(Clone, Copy, Debug, PartialEq, Eq)]
-pub enum ScalarDyad {
-    /// `A+B`.
-    Plus,
-    /// `A-B`.
-    Minus,
-    /// `A×B`.
-    Times,
-    /// `A÷B`.
-    Divide,
-    /// `A*B`, A to the power of B.
-    Power,
-    /// `A|B`, what is left of B by A.
-    Residue,
-    /// `A⌈B`, the greater.
-    Maximum,
-    /// `A⌊B`, the lesser.
-    Minimum,
-    /// `A<B`.
-    Less,
-    /// `A≤B`.
-    LessOrEqual,
-    /// `A=B`.
-    Equal,
-    /// `A≥B`.
-    GreaterOrEqual,
-    /// `A>B`.
-    Greater,
-    /// `A≠B`.
-    NotEqual,
-    /// `A∧B`.
-    And,
-    /// `A∨B`.
-    Or,
-    /// `A⍲B`, not and.
-    Nand,
-    /// `A⍱B`, not or.
-    Nor,
-}
-
-/// The axis that a function works along: the first or the last where none is written, else the one that is.
-#[derive(Clone, Copy, Debug, PartialEq, Eq)]
-pub enum Along {
-    /// The first axis.
-    First,
-    /// The last axis.
-    Last,
-    /// The axis of this number, counted from 1.
-    Axis(i64),
-}
+use function_names::{Along, Scalar1, Scalar2};
 
 /// The functions of one argument, by the names of ISO/IEC 13751.
 #[derive(Clone, Copy, Debug, PartialEq, Eq)]
 pub enum Monadic {
     /// A scalar function.
-    Scalar(ScalarMonad),
+    Scalar(Scalar1),
     /// `,B`, the items of B as a vector.
     Ravel,
     /// `⌽B` and `⊖B`, the places of an axis from the last to the first.
@@ -91,16 +19,16 @@ pub enum Monadic {
     /// `⍳B`, the whole numbers from 1 to B.
     Iota,
     /// Reduction, `f/B` and `f⌿B`: the scalar function between the items of each line of an axis, from the right.
-    Reduce(ScalarDyad, Along),
+    Reduce(Scalar2, Along),
     /// Scan, `f\B` and `f⍀B`: at each place of an axis the reduction of the line up to there.
-    Scan(ScalarDyad, Along),
+    Scan(Scalar2, Along),
 }
 
 /// The functions of two arguments, by the names of ISO/IEC 13751.
 #[derive(Clone, Copy, Debug, PartialEq, Eq)]
 pub enum Dyadic {
     /// A scalar function.
-    Scalar(ScalarDyad),
+    Scalar(Scalar2),
     /// `A⍴B`, an array of shape A of the items of B.
     Reshape,
     /// `A,B` and `A⍪B`, A and B joined along an axis.
@@ -124,9 +52,9 @@ pub enum Dyadic {
     /// `A⊥B`, the value of the digits B to the radices A.
     Decode,
     /// Outer Product, `A∘.fB`: the scalar function between each item of A and each of B.
-    Outer(ScalarDyad),
+    Outer(Scalar2),
     /// Inner Product, `A f.g B`: the reduction by `f` of `g` between each line of the last axis of A and each of the first of B.
-    Inner(ScalarDyad, ScalarDyad),
+    Inner(Scalar2, Scalar2),
 }
 
 /// A literal of ISO 8485: numbers that stand side by side, or a text.

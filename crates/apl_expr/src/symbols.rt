@@ -3,50 +3,51 @@
 ghost use Rattle.std.specs.Prelude.{◌≡◌};
 ghost use Rattle.apl_expr.specs.Symbols.{scalar_monad_of, scalar_dyad_of, array_monad, array_dyad, monadic_of, monadic_along_of, folding_of, folding_along_of, folded_of, folded_along_of, dyadic_of, dyadic_along_of, outer_of, inner_of, stands_alone};
 
-use crate::expr::{Along, Dyadic, Monadic, ScalarDyad, ScalarMonad};
+use crate::expr::{Dyadic, Monadic};
+use function_names::{Along, Scalar1, Scalar2};
 
 /// The scalar function of one argument that the sign stands for.
 #[tactic(auto, unfolding(crate::specs::Symbols::scalar_monad_of))]
-fn scalar_monad_of(sign: char) -> Option<ScalarMonad>
+fn scalar_monad_of(sign: char) -> Option<Scalar1>
     ensures { result ≡ scalar_monad_of sign }
 {
     match sign {
-        '+' => Some(ScalarMonad::Conjugate),
-        '-' => Some(ScalarMonad::Negative),
-        '×' => Some(ScalarMonad::Direction),
-        '÷' => Some(ScalarMonad::Reciprocal),
-        '|' => Some(ScalarMonad::Magnitude),
-        '⌈' => Some(ScalarMonad::Ceiling),
-        '⌊' => Some(ScalarMonad::Floor),
-        '~' => Some(ScalarMonad::Not),
+        '+' => Some(Scalar1::Conjugate),
+        '-' => Some(Scalar1::Negative),
+        '×' => Some(Scalar1::Direction),
+        '÷' => Some(Scalar1::Reciprocal),
+        '|' => Some(Scalar1::Magnitude),
+        '⌈' => Some(Scalar1::Ceiling),
+        '⌊' => Some(Scalar1::Floor),
+        '~' => Some(Scalar1::Not),
         _ => None,
     }
 }
 
 /// The scalar function of two arguments that the sign stands for.
 #[tactic(auto, unfolding(crate::specs::Symbols::scalar_dyad_of))]
-fn scalar_dyad_of(sign: char) -> Option<ScalarDyad>
+fn scalar_dyad_of(sign: char) -> Option<Scalar2>
     ensures { result ≡ scalar_dyad_of sign }
 {
     match sign {
-        '+' => Some(ScalarDyad::Plus),
-        '-' => Some(ScalarDyad::Minus),
-        '×' => Some(ScalarDyad::Times),
-        '÷' => Some(ScalarDyad::Divide),
-        '*' => Some(ScalarDyad::Power),
-        '|' => Some(ScalarDyad::Residue),
-        '⌈' => Some(ScalarDyad::Maximum),
-        '⌊' => Some(ScalarDyad::Minimum),
-        '<' => Some(ScalarDyad::Less),
-        '≤' => Some(ScalarDyad::LessOrEqual),
-        '=' => Some(ScalarDyad::Equal),
-        '≥' => Some(ScalarDyad::GreaterOrEqual),
-        '>' => Some(ScalarDyad::Greater),
-        '≠' => Some(ScalarDyad::NotEqual),
-        '∧' => Some(ScalarDyad::And),
-        '∨' => Some(ScalarDyad::Or),
-        '⍲' => Some(ScalarDyad::Nand),
-        '⍱' => Some(ScalarDyad::Nor),
+        '+' => Some(Scalar2::Plus),
+        '-' => Some(Scalar2::Minus),
+        '×' => Some(Scalar2::Times),
+        '÷' => Some(Scalar2::Divide),
+        '*' => Some(Scalar2::Power),
+        '|' => Some(Scalar2::Residue),
+        '⌈' => Some(Scalar2::Maximum),
+        '⌊' => Some(Scalar2::Minimum),
+        '<' => Some(Scalar2::Less),
+        '≤' => Some(Scalar2::LessOrEqual),
+        '=' => Some(Scalar2::Equal),
+        '≥' => Some(Scalar2::GreaterOrEqual),
+        '>' => Some(Scalar2::Greater),
+        '≠' => Some(Scalar2::NotEqual),
+        '∧' => Some(Scalar2::And),
+        '∨' => Some(Scalar2::Or),
+        '⍲' => Some(Scalar2::Nand),
+        '⍱' => Some(Scalar2::Nor),
         _ => None,
     }
 }
@@ -137,7 +138,7 @@ pub(crate) fn dyadic_along_of(sign: char, axis: i64) -> Option<Dyadic>
 
 /// What the sign makes of a scalar function: its reduction or its scan.
 #[tactic(auto, unfolding(crate::specs::Symbols::folding_of))]
-fn folding_of(function: ScalarDyad, folding: char) -> Option<Monadic>
+fn folding_of(function: Scalar2, folding: char) -> Option<Monadic>
     ensures { result ≡ folding_of function folding }
 {
     match folding {
@@ -151,7 +152,7 @@ fn folding_of(function: ScalarDyad, folding: char) -> Option<Monadic>
 
 /// What the sign makes of a scalar function along the axis that stands after it.
 #[tactic(auto, unfolding(crate::specs::Symbols::folding_along_of))]
-fn folding_along_of(function: ScalarDyad, folding: char, axis: i64) -> Option<Monadic>
+fn folding_along_of(function: Scalar2, folding: char, axis: i64) -> Option<Monadic>
     ensures { result ≡ folding_along_of function folding axis }
 {
     match folding {

@@ -7,7 +7,7 @@ use Rattle.std.proofs.lemmas.List.Elements.{All-head, All-tail}
 use Rattle.std.proofs.lemmas.Bool.{lt-ltb, ltb-true, and_from, and_parts, cases_Bool, cond-true, cond-false}
 use Rattle.arrays_core.specs.declared.item.Kind.TheVariants.{Limit}
 use Rattle.arrays_core.specs.Items.{and_then}
-use Rattle.scalar_fns.specs.declared.function.Scalar2.TheVariants.{Times}
+use Rattle.function_names.specs.declared.scalar.Scalar2.TheVariants.{Times}
 use Rattle.scalar_fns.specs.Numbers.{dyadic_on_numbers, number_or_limit, is_number}
 use Rattle.scalar_fns.specs.Folds.{folded}
 use Rattle.fold_trees.specs.Products.{Products, none, before, products_of, product_told}

@@ -1,5 +1,5 @@
 -- The trees of the lines of an array, a kind for each function.
-use Rattle.scalar_fns.specs.declared.function.Scalar2.TheVariants.{Plus, Times, Maximum, Minimum, And, Or}
+use Rattle.function_names.specs.declared.scalar.Scalar2.TheVariants.{Plus, Times, Maximum, Minimum, And, Or}
 use Rattle.fold_trees.specs.FoldTrees.{FoldsValue, NewFoldsValue, NextFoldsValue}
 use Rattle.fold_trees.specs.declared.fold_trees.Trees.{Trees}
 use Rattle.fold_trees.specs.declared.fold_trees.Trees.TheVariants as trees

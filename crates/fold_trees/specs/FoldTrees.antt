@@ -4,8 +4,8 @@ use Rattle.arrays_core.specs.declared.item.Item.TheVariants.{Num}
 use Rattle.arrays_core.specs.declared.item.Kind.{Kind}
 use Rattle.scalar_fns.specs.Items.{number_item}
 use Rattle.operator_fns.specs.RightFold.{fold_right}
-use Rattle.scalar_fns.specs.declared.function.Scalar2.{Scalar2}
-use Rattle.scalar_fns.specs.declared.function.Scalar2.TheVariants.{Plus, Times, Maximum, Minimum, And, Or}
+use Rattle.function_names.specs.declared.scalar.Scalar2.{Scalar2}
+use Rattle.function_names.specs.declared.scalar.Scalar2.TheVariants.{Plus, Times, Maximum, Minimum, And, Or}
 use Rattle.operator_fns.specs.SumTrees.{TreesValue, NewTreesValue, NewPlacesValue, FitBehind, FitNext}
 
 -- what the reduction of these numbers by a function gives

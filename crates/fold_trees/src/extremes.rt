@@ -1,7 +1,7 @@
 //! What is kept of lists whose greatest or least number is asked for.
 
 ghost use Rattle.std.specs.Prelude.{pos};
-ghost use Rattle.scalar_fns.specs.declared.function.Scalar2.TheVariants.{Maximum, Minimum};
+ghost use Rattle.function_names.specs.declared.scalar.Scalar2.TheVariants.{Maximum, Minimum};
 ghost use Rattle.fold_trees.specs.Parts.{IsFold};
 
 use crate::part::Part;

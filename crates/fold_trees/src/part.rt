@@ -1,7 +1,7 @@
 //! What is kept of neighbours on a line that is folded.
 
 ghost use Rattle.std.specs.Prelude.{◌≡◌, ◌<◌, ◌++◌, ◌∷◌, [], ℤ, List, length};
-ghost use Rattle.scalar_fns.specs.declared.function.Scalar2.{Scalar2 as Function};
+ghost use Rattle.function_names.specs.declared.scalar.Scalar2.{Scalar2 as Function};
 ghost use Rattle.scalar_fns.specs.Numbers.{dyadic_on_numbers};
 ghost use Rattle.scalar_fns.specs.Folds.{folded};
 

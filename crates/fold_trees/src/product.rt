@@ -1,7 +1,7 @@
 //! What is kept of lists of numbers of which the product is asked for.
 
 ghost use Rattle.std.specs.Prelude.{◌≡◌, ◌^◌, ◌<◌, ◌≤◌, true, unsigned_abs, pos, ◌≤ℤ◌, neg_ℤ};
-ghost use Rattle.scalar_fns.specs.declared.function.Scalar2.TheVariants.{Times};
+ghost use Rattle.function_names.specs.declared.scalar.Scalar2.TheVariants.{Times};
 ghost use Rattle.fold_trees.specs.Products.{Products, IsOrdered, IsKeptOf, Tells, told, join as join_of, none as none_of, before as before_of, product_told};
 
 use crate::part::Part;

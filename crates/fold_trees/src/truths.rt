@@ -1,7 +1,7 @@
 //! What is kept of lists of truth values of which it is asked whether all are true, or any.
 
 ghost use Rattle.std.specs.Prelude.{◌≡◌, pos, IfOk, IfErr};
-ghost use Rattle.scalar_fns.specs.declared.function.Scalar2.TheVariants.{And as Both, Or as Either};
+ghost use Rattle.function_names.specs.declared.scalar.Scalar2.TheVariants.{And as Both, Or as Either};
 ghost use Rattle.fold_trees.specs.Parts.{IsTruthFold, truth_value};
 
 use crate::part::Part;

@@ -34,8 +34,7 @@ use Rattle.change_rules.specs.Nodes.{Argument, views, moved, is_same, is_whole, 
 use Rattle.change_rules.specs.Outcomes.{evaluation}
 use Rattle.change_rules.proofs.NodeRight.{brings_up_to_date}
 use Rattle.change_rules.proofs.Right.{node_is_right}
-use Rattle.selection_fns.specs.Index.{Position, count_written, written_positions}
-use Rattle.selection_fns.specs.Index.{index_rule}
+use Rattle.selection_fns.specs.Index.{Position, count_written, written_positions, index_rule}
 use Rattle.selection_fns.specs.Laws.Index.{length-selectors}
 use Rattle.formula_core.specs.Outcomes.{Outcome, given}
 use Rattle.formula_core.specs.Meaning.{eval, eval_positions, applied1, applied2, in_front, empty_in_front, indexed}

@@ -18,8 +18,7 @@ use Rattle.index_region.specs.Checks.{Form, whole}
 use Rattle.change_core.specs.Meters.{ticked}
 use Rattle.change_core.specs.RuleModels.{RuleModel, form_size}
 use Rattle.change_rules.specs.Outcomes.{given}
-use Rattle.selection_fns.specs.Index.{Position}
-use Rattle.selection_fns.specs.Index.{index_rule}
+use Rattle.selection_fns.specs.Index.{Position, index_rule}
 use Rattle.formula_core.specs.declared.evaluation.Operand.{Operand}
 use Rattle.formula_core.specs.Changes.{at_rest, arguments, operation_size, result_of, size_at, values_of, written}
 use Rattle.formula_core.specs.Counts.{cost_in, cost_in_positions, AreItemsCounted, ArePositionsCounted, IsCounted, IsTreeCounted}

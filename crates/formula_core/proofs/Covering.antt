@@ -36,35 +36,34 @@ use Rattle.operator_fns.specs.Laws.LinesGrowth.{reduce_growing, scan_growing}
 use Rattle.operator_fns.specs.Laws.OuterProduct.{outer_tight}
 use Rattle.operator_fns.specs.Laws.OuterProductGrowth.{outer_growing}
 use Rattle.operator_fns.specs.Laws.InnerProduct.{inner_tight}
-use Rattle.formula_core.specs.Meaning.{scalar1_of, scalar2_of, along_of}
 use Rattle.formula_core.specs.Rules.{right_rule, both_rule}
 use Rattle.formula_core.specs.Changes.{RulesCover, RulesGrow}
 
 right_tight : (f : Monadic) → IsTight (right_rule f)
-right_tight (monadic.Scalar f) = each_monadic_tight (scalar1_of f)
+right_tight (monadic.Scalar f) = each_monadic_tight f
 right_tight monadic.Ravel = ravel_tight
-right_tight (monadic.Reverse k) = reverse_tight (along_of k)
+right_tight (monadic.Reverse k) = reverse_tight k
 right_tight monadic.Transpose = transpose_tight
 right_tight monadic.Shape = shape_tight
 right_tight monadic.Iota = generator_tight
-right_tight (monadic.Reduce f k) = reduce_tight (scalar2_of f) (along_of k)
-right_tight (monadic.Scan f k) = scan_tight (scalar2_of f) (along_of k)
+right_tight (monadic.Reduce f k) = reduce_tight f k
+right_tight (monadic.Scan f k) = scan_tight f k
 
 both_tight : (f : Dyadic) → IsTight (both_rule f)
-both_tight (dyadic.Scalar f) = each_dyadic_tight (scalar2_of f)
+both_tight (dyadic.Scalar f) = each_dyadic_tight f
 both_tight dyadic.Reshape = reshape_tight
-both_tight (dyadic.Catenate k) = catenate_tight (along_of k)
+both_tight (dyadic.Catenate k) = catenate_tight k
 both_tight dyadic.Take = take_tight
 both_tight dyadic.Drop = drop_tight
-both_tight (dyadic.Rotate k) = rotate_tight (along_of k)
+both_tight (dyadic.Rotate k) = rotate_tight k
 both_tight dyadic.Transpose = transpose_by_tight
-both_tight (dyadic.Replicate k) = replicate_tight (along_of k)
+both_tight (dyadic.Replicate k) = replicate_tight k
 both_tight dyadic.IndexOf = index_of_tight
 both_tight dyadic.Member = member_tight
 both_tight dyadic.Encode = encode_tight
 both_tight dyadic.Decode = decode_tight
-both_tight (dyadic.Outer f) = outer_tight (scalar2_of f)
-both_tight (dyadic.Inner f g) = inner_tight (scalar2_of f) (scalar2_of g)
+both_tight (dyadic.Outer f) = outer_tight f
+both_tight (dyadic.Inner f g) = inner_tight f g
 
 -- the law of the rule of each function, and of an index with positions
 pub rules_cover : RulesCover
@@ -75,17 +74,17 @@ rules_cover = record {
 }
 
 right_growing : (f : Monadic) → IsGrowing (right_rule f) (right_rule f).grows
-right_growing (monadic.Scalar f) = each_monadic_growing (scalar1_of f)
+right_growing (monadic.Scalar f) = each_monadic_growing f
 right_growing monadic.Ravel = never_grows _
 right_growing (monadic.Reverse k) = never_grows _
 right_growing monadic.Transpose = never_grows _
 right_growing monadic.Shape = never_grows _
 right_growing monadic.Iota = never_grows _
-right_growing (monadic.Reduce f k) = reduce_growing (scalar2_of f) (along_of k)
-right_growing (monadic.Scan f k) = scan_growing (scalar2_of f) (along_of k)
+right_growing (monadic.Reduce f k) = reduce_growing f k
+right_growing (monadic.Scan f k) = scan_growing f k
 
 both_growing : (f : Dyadic) → IsGrowing (both_rule f) (both_rule f).grows
-both_growing (dyadic.Scalar f) = each_dyadic_growing (scalar2_of f)
+both_growing (dyadic.Scalar f) = each_dyadic_growing f
 both_growing dyadic.Reshape = never_grows _
 both_growing (dyadic.Catenate k) = never_grows _
 both_growing dyadic.Take = never_grows _
@@ -97,7 +96,7 @@ both_growing dyadic.IndexOf = never_grows _
 both_growing dyadic.Member = never_grows _
 both_growing dyadic.Encode = never_grows _
 both_growing dyadic.Decode = never_grows _
-both_growing (dyadic.Outer f) = outer_growing (scalar2_of f)
+both_growing (dyadic.Outer f) = outer_growing f
 both_growing (dyadic.Inner f g) = never_grows _
 
 -- where the rule of each function says that its node grows, the result does

@@ -7,8 +7,8 @@ use Rattle.apl_expr.specs.Trees.{Tree}
 use Rattle.arrays_core.specs.Arrays.{ArrayValue}
 use Rattle.arrays_core.specs.Growth.{grown_by}
 use Rattle.arrays_core.proofs.Growing.{rank_longer}
-use Rattle.index_region.specs.Axes.{axis_at}
-use Rattle.scalar_fns.specs.declared.function.Scalar2.{Scalar2}
+use Rattle.function_names.specs.Axes.{axis_at}
+use Rattle.function_names.specs.declared.scalar.Scalar2.{Scalar2}
 use Rattle.operator_fns.specs.declared.reduce.Reduce.{Reduce}
 use Rattle.index_region.specs.declared.delta.Delta.{Delta}
 use Rattle.index_region.specs.declared.delta.Delta.TheVariants.{Same, Patch, Grown, Whole}

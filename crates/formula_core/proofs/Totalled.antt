@@ -12,8 +12,8 @@ use Rattle.arrays_core.specs.Growth.{grown_by, one_longer}
 use Rattle.arrays_core.specs.Shapes.{size}
 use Rattle.arrays_core.proofs.Growing.{rank_longer}
 use Rattle.index_region.specs.Arguments.{is_of_numbers}
-use Rattle.index_region.specs.Axes.{axis_at, is_axis}
-use Rattle.index_region.specs.declared.along.Along.{Along}
+use Rattle.function_names.specs.Axes.{axis_at, is_axis}
+use Rattle.function_names.specs.declared.along.Along.{Along}
 use Rattle.index_region.specs.Tails.{TailValue}
 use Rattle.operator_fns.specs.declared.reduce.Reduce.{Reduce}
 use Rattle.index_region.specs.declared.delta.Delta.{Delta}
@@ -31,7 +31,6 @@ use Rattle.sum_rules.proofs.MorePlaces.{between, longer}
 use Rattle.formula_core.specs.declared.input.Input.TheVariants.{Good}
 use Rattle.formula_core.specs.Changes.{FitsNow, operation_cost}
 use Rattle.formula_core.specs.Joins.{binary_digits, had_trees, has_trees_for, least_joins_of}
-use Rattle.formula_core.specs.Meaning.{along_of, scalar2_of}
 use Rattle.formula_core.specs.Outcomes.{Outcome}
 use Rattle.formula_core.specs.Rules.{right_rule}
 use Rattle.formula_core.specs.Stages.{AreTotalsJoined}
@@ -42,24 +41,24 @@ use Rattle.formula_core.proofs.Summed.{kept_of}
 
 -- a total follows the rule of its fold
 pub total_is : (f : Monadic) (fold : Reduce) → total_of f ≡ Some fold → right_rule f ≡ total_rule fold
-total_is (monadic.Reduce f k) fold h = elim (cases_Bool (has_trees (scalar2_of f))) [
-  | inl t ↦ let whole : Some (record { function = scalar2_of f; along = along_of k }) ≡ Some fold = sym (cond-true (has_trees (scalar2_of f)) _ None t) ∙ h in
-      let same : record { function = scalar2_of f; along = along_of k } ≡ fold = cc in
+total_is (monadic.Reduce f k) fold h = elim (cases_Bool (has_trees f)) [
+  | inl t ↦ let whole : Some (record { function = f; along = k }) ≡ Some fold = sym (cond-true (has_trees f) _ None t) ∙ h in
+      let same : record { function = f; along = k } ≡ fold = cc in
       ap total_rule same
   | inr without ↦
-      let none : None ≡ Some fold = sym (cond-false (has_trees (scalar2_of f)) (Some (record { function = scalar2_of f; along = along_of k })) None without) ∙ h in
+      let none : None ≡ Some fold = sym (cond-false (has_trees f) (Some (record { function = f; along = k })) None without) ∙ h in
       absurd (let none : ⊥ = cc in none)
 ]
 total_is f fold h = absurd (false≢true (ap is_some h))
 
 -- and by a function whose folds are kept as trees
 pub total_has : (f : Monadic) (fold : Reduce) → total_of f ≡ Some fold → has_trees fold.function ≡ true
-total_has (monadic.Reduce f k) fold h = elim (cases_Bool (has_trees (scalar2_of f))) [
-  | inl t ↦ let whole : Some (record { function = scalar2_of f; along = along_of k }) ≡ Some fold = sym (cond-true (has_trees (scalar2_of f)) _ None t) ∙ h in
-      let same : record { function = scalar2_of f; along = along_of k } ≡ fold = cc in
+total_has (monadic.Reduce f k) fold h = elim (cases_Bool (has_trees f)) [
+  | inl t ↦ let whole : Some (record { function = f; along = k }) ≡ Some fold = sym (cond-true (has_trees f) _ None t) ∙ h in
+      let same : record { function = f; along = k } ≡ fold = cc in
       ap (λ (r : Reduce). has_trees r.function) (sym same) ∙ t
   | inr without ↦
-      let none : None ≡ Some fold = sym (cond-false (has_trees (scalar2_of f)) (Some (record { function = scalar2_of f; along = along_of k })) None without) ∙ h in
+      let none : None ≡ Some fold = sym (cond-false (has_trees f) (Some (record { function = f; along = k })) None without) ∙ h in
       absurd (let none : ⊥ = cc in none)
 ]
 total_has f fold h = absurd (false≢true (ap is_some h))

@@ -1,12 +1,6 @@
 -- What an expression means, where the names show these arrays and errors.
 use Rattle.std.specs.Prelude.{ℕ, List, [], ◌∷◌, ◌++◌, Some, None, Result, Ok}
 use Rattle.apl_expr.specs.Trees.{Tree, Const, Name, Monad, Dyad, Index, Positions, NoPositions, Empty, Filled, Literal, Numbers, Text}
-use Rattle.apl_expr.specs.declared.expr.ScalarMonad.{ScalarMonad}
-use Rattle.apl_expr.specs.declared.expr.ScalarMonad.TheVariants as scalar_monad
-use Rattle.apl_expr.specs.declared.expr.ScalarDyad.{ScalarDyad}
-use Rattle.apl_expr.specs.declared.expr.ScalarDyad.TheVariants as scalar_dyad
-use Rattle.apl_expr.specs.declared.expr.Along as written
-use Rattle.apl_expr.specs.declared.expr.Along.TheVariants as axis
 use Rattle.apl_expr.specs.declared.expr.Monadic.{Monadic}
 use Rattle.apl_expr.specs.declared.expr.Monadic.TheVariants as monadic
 use Rattle.apl_expr.specs.declared.expr.Dyadic.{Dyadic}
@@ -14,13 +8,7 @@ use Rattle.apl_expr.specs.declared.expr.Dyadic.TheVariants as dyadic
 use Rattle.arrays_core.specs.Items.{and_then}
 use Rattle.arrays_core.specs.Arrays.{ArrayValue, scalar_of, vector_of, character_scalar_of, text_of}
 use Rattle.arrays_core.specs.declared.item.Kind.{Kind}
-use Rattle.scalar_fns.specs.declared.function.Scalar1.{Scalar1}
-use Rattle.scalar_fns.specs.declared.function.Scalar1.TheVariants as one
-use Rattle.scalar_fns.specs.declared.function.Scalar2.{Scalar2}
-use Rattle.scalar_fns.specs.declared.function.Scalar2.TheVariants as two
 use Rattle.scalar_fns.specs.ScalarExtension.{monadic_on_array, dyadic_on_arrays}
-use Rattle.index_region.specs.declared.along.Along.{Along}
-use Rattle.index_region.specs.declared.along.Along.TheVariants.{First, Last, Axis}
 use Rattle.structural_fns.specs.Reshape.{reshape_whole}
 use Rattle.structural_fns.specs.Ravel.{ravel_whole}
 use Rattle.structural_fns.specs.Catenate.{catenate_whole}
@@ -54,68 +42,33 @@ array_of (Text []) = text_of []
 array_of (Text (c ∷ [])) = Ok (character_scalar_of c)
 array_of (Text (c ∷ d ∷ cs)) = text_of (c ∷ d ∷ cs)
 
-abbrev pub scalar1_of : ScalarMonad → Scalar1
-scalar1_of scalar_monad.Conjugate = one.Conjugate
-scalar1_of scalar_monad.Negative = one.Negative
-scalar1_of scalar_monad.Direction = one.Direction
-scalar1_of scalar_monad.Reciprocal = one.Reciprocal
-scalar1_of scalar_monad.Magnitude = one.Magnitude
-scalar1_of scalar_monad.Ceiling = one.Ceiling
-scalar1_of scalar_monad.Floor = one.Floor
-scalar1_of scalar_monad.Not = one.Not
-
-abbrev pub scalar2_of : ScalarDyad → Scalar2
-scalar2_of scalar_dyad.Plus = two.Plus
-scalar2_of scalar_dyad.Minus = two.Minus
-scalar2_of scalar_dyad.Times = two.Times
-scalar2_of scalar_dyad.Divide = two.Divide
-scalar2_of scalar_dyad.Power = two.Power
-scalar2_of scalar_dyad.Residue = two.Residue
-scalar2_of scalar_dyad.Maximum = two.Maximum
-scalar2_of scalar_dyad.Minimum = two.Minimum
-scalar2_of scalar_dyad.Less = two.Less
-scalar2_of scalar_dyad.LessOrEqual = two.LessOrEqual
-scalar2_of scalar_dyad.Equal = two.Equal
-scalar2_of scalar_dyad.GreaterOrEqual = two.GreaterOrEqual
-scalar2_of scalar_dyad.Greater = two.Greater
-scalar2_of scalar_dyad.NotEqual = two.NotEqual
-scalar2_of scalar_dyad.And = two.And
-scalar2_of scalar_dyad.Or = two.Or
-scalar2_of scalar_dyad.Nand = two.Nand
-scalar2_of scalar_dyad.Nor = two.Nor
-
-abbrev pub along_of : written.Along → Along
-along_of axis.First = First
-along_of axis.Last = Last
-along_of (axis.Axis k) = Axis k
-
 -- a function of one array
 abbrev pub of_right : Monadic → ArrayValue → Result ArrayValue Kind
-of_right (monadic.Scalar f) b = monadic_on_array (scalar1_of f) b
+of_right (monadic.Scalar f) b = monadic_on_array f b
 of_right monadic.Ravel b = ravel_whole b
-of_right (monadic.Reverse k) b = reverse_whole (along_of k) b
+of_right (monadic.Reverse k) b = reverse_whole k b
 of_right monadic.Transpose b = transpose_whole b
 of_right monadic.Shape b = shape_whole b
 of_right monadic.Iota b = generator_whole b
-of_right (monadic.Reduce f k) b = reduce_whole (scalar2_of f) (along_of k) b
-of_right (monadic.Scan f k) b = scan_whole (scalar2_of f) (along_of k) b
+of_right (monadic.Reduce f k) b = reduce_whole f k b
+of_right (monadic.Scan f k) b = scan_whole f k b
 
 -- a function of two arrays
 abbrev pub of_both : Dyadic → (left right : ArrayValue) → Result ArrayValue Kind
-of_both (dyadic.Scalar f) a b = dyadic_on_arrays (scalar2_of f) a b
+of_both (dyadic.Scalar f) a b = dyadic_on_arrays f a b
 of_both dyadic.Reshape a b = reshape_whole a b
-of_both (dyadic.Catenate k) a b = catenate_whole (along_of k) a b
+of_both (dyadic.Catenate k) a b = catenate_whole k a b
 of_both dyadic.Take a b = take_whole a b
 of_both dyadic.Drop a b = drop_whole a b
-of_both (dyadic.Rotate k) a b = rotate_whole (along_of k) a b
+of_both (dyadic.Rotate k) a b = rotate_whole k a b
 of_both dyadic.Transpose a b = transpose_by_whole a b
-of_both (dyadic.Replicate k) a b = replicate_whole (along_of k) a b
+of_both (dyadic.Replicate k) a b = replicate_whole k a b
 of_both dyadic.IndexOf a b = index_of_whole a b
 of_both dyadic.Member a b = member_whole a b
 of_both dyadic.Encode a b = encode_whole a b
 of_both dyadic.Decode a b = decode_whole a b
-of_both (dyadic.Outer f) a b = outer_whole (scalar2_of f) a b
-of_both (dyadic.Inner f g) a b = inner_whole (scalar2_of f) (scalar2_of g) a b
+of_both (dyadic.Outer f) a b = outer_whole f a b
+of_both (dyadic.Inner f g) a b = inner_whole f g a b
 
 abbrev pub applied1 : Monadic → Outcome → Outcome
 applied1 f right = and_then right (λ b. given (of_right f b))

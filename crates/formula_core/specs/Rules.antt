@@ -32,35 +32,34 @@ use Rattle.operator_fns.specs.Reduce.{reduce_rule}
 use Rattle.operator_fns.specs.Scan.{scan_rule}
 use Rattle.operator_fns.specs.OuterProduct.{outer_rule}
 use Rattle.operator_fns.specs.InnerProduct.{inner_rule}
-use Rattle.formula_core.specs.Meaning.{scalar1_of, scalar2_of, along_of}
 
 -- of a function of one array
 abbrev pub right_rule : Monadic → RuleModel
-right_rule (monadic.Scalar f) = each_monadic_rule (scalar1_of f)
+right_rule (monadic.Scalar f) = each_monadic_rule f
 right_rule monadic.Ravel = ravel_rule
-right_rule (monadic.Reverse k) = reverse_rule (along_of k)
+right_rule (monadic.Reverse k) = reverse_rule k
 right_rule monadic.Transpose = transpose_rule
 right_rule monadic.Shape = shape_rule
 right_rule monadic.Iota = generator_rule
-right_rule (monadic.Reduce f k) = reduce_rule (scalar2_of f) (along_of k)
-right_rule (monadic.Scan f k) = scan_rule (scalar2_of f) (along_of k)
+right_rule (monadic.Reduce f k) = reduce_rule f k
+right_rule (monadic.Scan f k) = scan_rule f k
 
 -- of a function of two arrays
 abbrev pub both_rule : Dyadic → RuleModel
-both_rule (dyadic.Scalar f) = each_dyadic_rule (scalar2_of f)
+both_rule (dyadic.Scalar f) = each_dyadic_rule f
 both_rule dyadic.Reshape = reshape_rule
-both_rule (dyadic.Catenate k) = catenate_rule (along_of k)
+both_rule (dyadic.Catenate k) = catenate_rule k
 both_rule dyadic.Take = take_rule
 both_rule dyadic.Drop = drop_rule
-both_rule (dyadic.Rotate k) = rotate_rule (along_of k)
+both_rule (dyadic.Rotate k) = rotate_rule k
 both_rule dyadic.Transpose = transpose_by_rule
-both_rule (dyadic.Replicate k) = replicate_rule (along_of k)
+both_rule (dyadic.Replicate k) = replicate_rule k
 both_rule dyadic.IndexOf = index_of_rule
 both_rule dyadic.Member = member_rule
 both_rule dyadic.Encode = encode_rule
 both_rule dyadic.Decode = decode_rule
-both_rule (dyadic.Outer f) = outer_rule (scalar2_of f)
-both_rule (dyadic.Inner f g) = inner_rule (scalar2_of f) (scalar2_of g)
+both_rule (dyadic.Outer f) = outer_rule f
+both_rule (dyadic.Inner f g) = inner_rule f g
 
 -- what is answered of what a change costs, with the change that was put in place
 abbrev pub with_change : Delta → Result ℕ AllocError → Result (Delta × ℕ) AllocError

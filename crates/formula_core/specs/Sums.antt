@@ -23,12 +23,12 @@ use Rattle.formula_core.specs.declared.table.Node.{Node}
 use Rattle.formula_core.specs.declared.table.Node.TheVariants as node
 use Rattle.formula_core.specs.declared.table.Operand.{Operand}
 use Rattle.fold_trees.specs.FoldTrees.{has_trees}
-use Rattle.formula_core.specs.Meaning.{along_of, scalar2_of, eval}
+use Rattle.formula_core.specs.Meaning.{eval}
 use Rattle.formula_core.specs.Outcomes.{Outcome}
 
 -- the fold that a function is whose parts are kept as trees, if it is one, as +/ and ⌈⌿ are
 abbrev pub total_of : Monadic → Option Reduce
-total_of (monadic.Reduce f k) = if has_trees (scalar2_of f) then Some (record { function = scalar2_of f; along = along_of k }) else None
+total_of (monadic.Reduce f k) = if has_trees f then Some (record { function = f; along = k }) else None
 total_of _ = None
 
 -- an array whose lines are folded by trees, if it is one

@@ -5,8 +5,7 @@ ghost use Rattle.std.specs.List.{list_all};
 ghost use Rattle.change_core.specs.Reaches.{AllFit};
 ghost use Rattle.change_rules.specs.Nodes.{views, moved};
 ghost use Rattle.change_rules.specs.Currency.{HasAxis};
-ghost use Rattle.selection_fns.specs.Index.{count_written};
-ghost use Rattle.selection_fns.specs.Index.{index_rule};
+ghost use Rattle.selection_fns.specs.Index.{count_written, index_rule};
 ghost use Rattle.formula_core.specs.Rules.{with_change, IsRefreshed};
 ghost use Rattle.formula_core.specs.Inputs.{stays, HasFit, AllHaveFit, IsOperationChange, arrays_among, last_error, written_inputs};
 

@@ -14,7 +14,6 @@ mod positions;
 mod refreshing;
 mod stage;
 mod sums;
-mod symbols;
 mod table;
 
 pub use evaluation::{Shows, evaluate, evaluate_counted};

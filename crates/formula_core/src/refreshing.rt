@@ -4,13 +4,10 @@ ghost use Rattle.std.specs.Prelude.{◌≡◌, suc, length};
 ghost use Rattle.change_core.specs.Reaches.{AllFit};
 ghost use Rattle.change_rules.specs.Nodes.{views, moved};
 ghost use Rattle.change_rules.specs.Currency.{HasAxis};
-ghost use Rattle.selection_fns.specs.Index.{count_written};
-ghost use Rattle.selection_fns.specs.Index.{index_rule};
-ghost use Rattle.formula_core.specs.Meaning.{scalar1_of, scalar2_of, along_of};
+ghost use Rattle.selection_fns.specs.Index.{count_written, index_rule};
 ghost use Rattle.formula_core.specs.Rules.{right_rule, both_rule, with_change, IsRefreshed};
 
-use crate::symbols::{along_of, scalar1_of, scalar2_of};
-use apl_expr::{Along, Dyadic, Monadic, ScalarDyad, ScalarMonad};
+use apl_expr::{Dyadic, Monadic};
 use arrays_core::{Array, Fault};
 use change_core::{Meter, Tight};
 use change_rules::refresh_with_cost;
@@ -66,14 +63,14 @@ impl<'a> Operation<'a> {
         ensures joins { meter.new.joins ≡ meter.old.joins }
     {
         match function {
-            Monadic::Scalar(scalar) => self.by(&each_item(scalar), change, meter),
+            Monadic::Scalar(function) => self.by(&EachMonadic { function }, change, meter),
             Monadic::Ravel => self.by(&Ravel, change, meter),
-            Monadic::Reverse(along) => self.by(&reverse(along), change, meter),
+            Monadic::Reverse(along) => self.by(&Reverse { along }, change, meter),
             Monadic::Transpose => self.by(&Transpose, change, meter),
             Monadic::Shape => self.by(&ShapeOf, change, meter),
             Monadic::Iota => self.by(&IndexGenerator, change, meter),
-            Monadic::Reduce(scalar, along) => self.by(&reduce(scalar, along), change, meter),
-            Monadic::Scan(scalar, along) => self.by(&scan(scalar, along), change, meter),
+            Monadic::Reduce(function, along) => self.by(&Reduce { function, along }, change, meter),
+            Monadic::Scan(function, along) => self.by(&Scan { function, along }, change, meter),
         }
     }
 
@@ -91,20 +88,20 @@ impl<'a> Operation<'a> {
         ensures joins { meter.new.joins ≡ meter.old.joins }
     {
         match function {
-            Dyadic::Scalar(scalar) => self.by(&between_items(scalar), change, meter),
+            Dyadic::Scalar(function) => self.by(&EachDyadic { function }, change, meter),
             Dyadic::Reshape => self.by(&Reshape, change, meter),
-            Dyadic::Catenate(along) => self.by(&catenate(along), change, meter),
+            Dyadic::Catenate(along) => self.by(&Catenate { along }, change, meter),
             Dyadic::Take => self.by(&Take, change, meter),
             Dyadic::Drop => self.by(&DropPlaces, change, meter),
-            Dyadic::Rotate(along) => self.by(&rotate(along), change, meter),
+            Dyadic::Rotate(along) => self.by(&Rotate { along }, change, meter),
             Dyadic::Transpose => self.by(&DyadicTranspose, change, meter),
-            Dyadic::Replicate(along) => self.by(&replicate(along), change, meter),
+            Dyadic::Replicate(along) => self.by(&Replicate { along }, change, meter),
             Dyadic::IndexOf => self.by(&IndexOf, change, meter),
             Dyadic::Member => self.by(&Member, change, meter),
             Dyadic::Encode => self.by(&Encode, change, meter),
             Dyadic::Decode => self.by(&Decode, change, meter),
-            Dyadic::Outer(scalar) => self.by(&outer(scalar), change, meter),
-            Dyadic::Inner(fold, each) => self.by(&inner(fold, each), change, meter),
+            Dyadic::Outer(function) => self.by(&Outer { function }, change, meter),
+            Dyadic::Inner(fold, each) => self.by(&Inner { fold, each }, change, meter),
         }
     }
 
@@ -122,88 +119,5 @@ impl<'a> Operation<'a> {
         ensures joins { meter.new.joins ≡ meter.old.joins }
     {
         self.by(&Index { written }, change, meter)
-    }
-}
-
-fn each_item(function: ScalarMonad) -> EachMonadic
-    ensures { result ≡ record { function = scalar1_of function } }
-{
-    EachMonadic {
-        function: scalar1_of(function),
-    }
-}
-
-fn between_items(function: ScalarDyad) -> EachDyadic
-    ensures { result ≡ record { function = scalar2_of function } }
-{
-    EachDyadic {
-        function: scalar2_of(function),
-    }
-}
-
-fn reverse(along: Along) -> Reverse
-    ensures { result ≡ record { along = along_of along } }
-{
-    Reverse {
-        along: along_of(along),
-    }
-}
-
-fn catenate(along: Along) -> Catenate
-    ensures { result ≡ record { along = along_of along } }
-{
-    Catenate {
-        along: along_of(along),
-    }
-}
-
-fn rotate(along: Along) -> Rotate
-    ensures { result ≡ record { along = along_of along } }
-{
-    Rotate {
-        along: along_of(along),
-    }
-}
-
-fn replicate(along: Along) -> Replicate
-    ensures { result ≡ record { along = along_of along } }
-{
-    Replicate {
-        along: along_of(along),
-    }
-}
-
-fn reduce(function: ScalarDyad, along: Along) -> Reduce
-    ensures { result ≡ record { function = scalar2_of function; along = along_of along } }
-{
-    Reduce {
-        function: scalar2_of(function),
-        along: along_of(along),
-    }
-}
-
-fn scan(function: ScalarDyad, along: Along) -> Scan
-    ensures { result ≡ record { function = scalar2_of function; along = along_of along } }
-{
-    Scan {
-        function: scalar2_of(function),
-        along: along_of(along),
-    }
-}
-
-fn outer(function: ScalarDyad) -> Outer
-    ensures { result ≡ record { function = scalar2_of function } }
-{
-    Outer {
-        function: scalar2_of(function),
-    }
-}
-
-fn inner(fold: ScalarDyad, each: ScalarDyad) -> Inner
-    ensures { result ≡ record { fold = scalar2_of fold; each = scalar2_of each } }
-{
-    Inner {
-        fold: scalar2_of(fold),
-        each: scalar2_of(each),
     }
 }

@@ -10,7 +10,6 @@ ghost use Rattle.formula_core.specs.Inputs.{shown, delta_of, HasFit};
 ghost use Rattle.formula_core.specs.Sums.{total_of as fold_of_total, in_box, resummed, FitsSums, IsSumsDelta};
 
 use crate::input::Input;
-use crate::symbols::{along_of, scalar2_of};
 use apl_expr::Monadic;
 use fold_trees::has_trees;
 use index_region::{Delta, Patch, Seen, Tail};
@@ -39,10 +38,7 @@ pub(crate) fn total_of(function: Monadic) -> Option<Reduce>
     ensures { result ≡ fold_of_total function }
 {
     match function {
-        Monadic::Reduce(scalar, along) if has_trees(scalar2_of(scalar)) => Some(Reduce {
-            function: scalar2_of(scalar),
-            along: along_of(along),
-        }),
+        Monadic::Reduce(function, along) if has_trees(function) => Some(Reduce { function, along }),
         _ => None,
     }
 }

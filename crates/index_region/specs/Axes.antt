@@ -1,19 +1,5 @@
--- The axis along which a function works, counted from 0.
-use Rattle.std.specs.Prelude.{ℕ, ◌-◌, pos, int_le, unsigned_abs, Bool, true, ◌&&◌, List, get_or}
-use Rattle.index_region.specs.declared.along.Along.{Along}
-use Rattle.index_region.specs.declared.along.Along.TheVariants.{First, Last, Axis}
-
--- there is such an axis among as many as the rank says
-abbrev pub is_axis : ℕ → Along → Bool
-is_axis rank First = true
-is_axis rank Last = true
-is_axis rank (Axis k) = int_le (pos 1) k && int_le k (pos rank)
-
--- the axis that is meant
-abbrev pub axis_at : ℕ → Along → ℕ
-axis_at rank First = 0
-axis_at rank Last = rank - 1
-axis_at rank (Axis k) = unsigned_abs k - 1
+-- The places along an axis, counted from 0.
+use Rattle.std.specs.Prelude.{ℕ, List, get_or}
 
 -- a scalar has one place along any axis
 abbrev pub places_along : List ℕ → ℕ → ℕ

@@ -2,7 +2,6 @@
 //! works along, the checks, and the whole result from the items of a function.
 #![tactic(auto)]
 
-mod along;
 mod checks;
 mod delta;
 mod index_box;
@@ -16,9 +15,9 @@ mod seen;
 mod source;
 mod tail;
 
-pub use along::Along;
 pub use checks::limited;
 pub use delta::Delta;
+pub use function_names::Along;
 pub use index_box::{IndexBox, law_of_covers, law_of_hulls, law_of_walks};
 pub use index_list::IndexList;
 pub use intervals::Intervals;

@@ -6,7 +6,7 @@ use Rattle.std.proofs.lemmas.Int.{ints, clamps}
 use Rattle.arrays_core.specs.declared.item.Kind.{Kind}
 use Rattle.arrays_core.specs.declared.item.Kind.TheVariants.{Domain, Limit}
 use Rattle.arrays_core.specs.Items.{and_then}
-use Rattle.scalar_fns.specs.declared.function.Scalar2.TheVariants.{Maximum, Minimum, And, Or}
+use Rattle.function_names.specs.declared.scalar.Scalar2.TheVariants.{Maximum, Minimum, And, Or}
 use Rattle.scalar_fns.specs.Numbers.{dyadic_on_numbers, as_truth, truth, on_truths, logical}
 use Rattle.scalar_fns.specs.Folds.{folded}
 use Rattle.operator_fns.specs.LinearScan.{fold_on, folded_left, IsAssociative}

@@ -11,9 +11,9 @@ use Rattle.arrays_core.specs.declared.item.Kind.{Kind}
 use Rattle.arrays_core.specs.declared.item.Kind.TheVariants.{Domain}
 use Rattle.arrays_core.specs.Items.{all_or_first_error, after, fill}
 use Rattle.arrays_core.specs.Arrays.{ArrayValue, with_items}
-use Rattle.scalar_fns.specs.declared.function.Scalar2.{Scalar2}
-use Rattle.index_region.specs.declared.along.Along.{Along}
-use Rattle.index_region.specs.Axes.{axis_at}
+use Rattle.function_names.specs.declared.scalar.Scalar2.{Scalar2}
+use Rattle.function_names.specs.declared.along.Along.{Along}
+use Rattle.function_names.specs.Axes.{axis_at}
 use Rattle.index_region.specs.Boxes.{Interval, box_size, box_offset, is_within, walk_at}
 use Rattle.index_region.proofs.Walks.{walk_within, walk_of_offset, offset_below}
 use Rattle.change_core.specs.Parts.{items_in}

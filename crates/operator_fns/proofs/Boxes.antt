@@ -3,9 +3,9 @@ use Rattle.std.proofs.Common.{◌≡◌, refl, pos, ℕ, List, [], ◌∷◌, re
 use Rattle.arrays_core.specs.Arrays.{ArrayValue}
 use Rattle.arrays_core.specs.Shapes.{size}
 use Rattle.arrays_core.proofs.CaseWords.{nums}
-use Rattle.index_region.specs.declared.along.Along.TheVariants.{First, Last, Axis}
+use Rattle.function_names.specs.declared.along.Along.TheVariants.{First, Last, Axis}
 use Rattle.index_region.specs.Boxes.{Interval}
-use Rattle.scalar_fns.specs.declared.function.Scalar2.TheVariants as two
+use Rattle.function_names.specs.declared.scalar.Scalar2.TheVariants as two
 use Rattle.change_core.specs.declared.reach.Reach.TheVariants.{Unmoved, Inside, Anew}
 use Rattle.change_core.specs.Reaches.{reach_of}
 use Rattle.operator_fns.specs.Reduce.{reduce_rule}

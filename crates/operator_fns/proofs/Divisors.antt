@@ -3,7 +3,7 @@ use Rattle.std.proofs.Common.{◌≡◌, ℕ, zero, suc, ◌+◌, ◌-◌, ◌<�
 use Rattle.std.proofs.lemmas.Bool.{eqb-true, eqb-false, cases_lt}
 use Rattle.std.proofs.lemmas.List.{get_or_append_left, length-append}
 use Rattle.std.proofs.Math.Seq.{get_or-append_right}
-use Rattle.scalar_fns.specs.declared.function.Scalar2.TheVariants.{Residue as ByResidue}
+use Rattle.function_names.specs.declared.scalar.Scalar2.TheVariants.{Residue as ByResidue}
 use Rattle.scalar_fns.specs.Numbers.{residue, dyadic_on_numbers}
 use Rattle.operator_fns.specs.declared.residue_scan.Divisor.{Divisor}
 use Rattle.operator_fns.specs.LinearScan.{depth}

@@ -11,7 +11,7 @@ use Rattle.arrays_core.specs.Shapes.{size, is_index_of, index_after, places_befo
 use Rattle.arrays_core.specs.Arrays.{ArrayValue, collect}
 use Rattle.arrays_core.proofs.Shapes.{places_below, factor_le}
 use Rattle.arrays_core.proofs.Order.{places_before-index_after, index_after-within}
-use Rattle.scalar_fns.specs.declared.function.Scalar2.{Scalar2}
+use Rattle.function_names.specs.declared.scalar.Scalar2.{Scalar2}
 use Rattle.scalar_fns.specs.Numbers.{dyadic_on_numbers}
 use Rattle.scalar_fns.specs.Items.{dyadic_on_items, number_item}
 use Rattle.scalar_fns.specs.NumberLists.{number_items}

@@ -1,7 +1,7 @@
 -- Worked cases of the inner product, computed.
 use Rattle.std.proofs.Common.{◌≡◌, refl, pos, [], ◌∷◌}
 use Rattle.arrays_core.specs.declared.item.Kind.TheVariants.{Length, Domain, Limit}
-use Rattle.scalar_fns.specs.declared.function.Scalar2.TheVariants as two
+use Rattle.function_names.specs.declared.scalar.Scalar2.TheVariants as two
 use Rattle.operator_fns.specs.InnerProduct.{inner_whole}
 use Rattle.arrays_core.proofs.CaseWords.{nums, ints, chars, is, fails, minus, greatest, least}
 

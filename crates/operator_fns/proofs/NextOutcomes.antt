@@ -5,7 +5,7 @@ use Rattle.std.specs.Prelude.{int_lt, int_le}
 use Rattle.std.proofs.lemmas.Bool.Decides.{Decides-int_eq}
 use Rattle.arrays_core.specs.declared.item.Kind.{Kind}
 use Rattle.arrays_core.specs.Items.{and_then}
-use Rattle.scalar_fns.specs.declared.function.Scalar2.TheVariants.{Less, LessOrEqual, Equal, GreaterOrEqual, Greater, NotEqual, Nand, Nor}
+use Rattle.function_names.specs.declared.scalar.Scalar2.TheVariants.{Less, LessOrEqual, Equal, GreaterOrEqual, Greater, NotEqual, Nand, Nor}
 use Rattle.scalar_fns.specs.Numbers.{dyadic_on_numbers, truth, as_truth, on_truths}
 use Rattle.operator_fns.specs.Prefixes.{GivesTruths, chosen, outcome, Continues, IsClosed}
 

@@ -8,7 +8,7 @@ use Rattle.arrays_core.specs.Items.{fill, all_or_first_error}
 use Rattle.arrays_core.specs.Shapes.{size, is_index_of, places_before}
 use Rattle.arrays_core.specs.Arrays.{ArrayValue, collect, with_items}
 use Rattle.arrays_core.proofs.Shapes.{places_below}
-use Rattle.scalar_fns.specs.declared.function.Scalar2.{Scalar2}
+use Rattle.function_names.specs.declared.scalar.Scalar2.{Scalar2}
 use Rattle.scalar_fns.specs.Numbers.{dyadic_on_numbers}
 use Rattle.scalar_fns.specs.Items.{number_item}
 use Rattle.scalar_fns.specs.NumberLists.{number_items}

@@ -10,7 +10,7 @@ use Rattle.std.proofs.lemmas.List.Elements.{All-take, All-drop}
 use Rattle.std.proofs.lemmas.Bool.{cases_lt}
 use Rattle.std.proofs.lemmas.Nat.{div-mul-add, mod-mul-add}
 use Rattle.arrays_core.specs.Items.{and_then}
-use Rattle.scalar_fns.specs.declared.function.Scalar2.TheVariants.{Plus, Times}
+use Rattle.function_names.specs.declared.scalar.Scalar2.TheVariants.{Plus, Times}
 use Rattle.scalar_fns.specs.Numbers.{dyadic_on_numbers, number_or_limit}
 use Rattle.scalar_fns.specs.Folds.{folded}
 use Rattle.operator_fns.specs.Sum.{sum_of}

@@ -14,14 +14,15 @@ use Rattle.arrays_core.specs.Items.{fill, and_then}
 use Rattle.arrays_core.specs.Shapes.{size, is_index_of, places_before}
 use Rattle.arrays_core.specs.Arrays.{ArrayValue, item_of, collect}
 use Rattle.arrays_core.proofs.Shapes.{head_of, places_below}
-use Rattle.scalar_fns.specs.declared.function.Scalar2.{Scalar2}
+use Rattle.function_names.specs.declared.scalar.Scalar2.{Scalar2}
 use Rattle.scalar_fns.specs.Numbers.{dyadic_on_numbers}
 use Rattle.scalar_fns.specs.Items.{dyadic_on_items, number_item}
 use Rattle.scalar_fns.specs.Folds.{strided, folded}
 use Rattle.scalar_fns.proofs.RightFolds.{length-strided, get_or-strided}
-use Rattle.index_region.specs.declared.along.Along.{Along}
+use Rattle.function_names.specs.declared.along.Along.{Along}
 use Rattle.index_region.specs.Checks.{form_of}
-use Rattle.index_region.specs.Axes.{places_along, axis_at}
+use Rattle.function_names.specs.Axes.{axis_at}
+use Rattle.index_region.specs.Axes.{places_along}
 use Rattle.operator_fns.specs.Reduce.{reduce_form, reduce_item, reduce_whole}
 use Rattle.operator_fns.proofs.Placewise.{collected_same}
 use Rattle.operator_fns.specs.RightFold.{fold_right, line}

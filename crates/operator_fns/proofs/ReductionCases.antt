@@ -1,8 +1,8 @@
 -- Worked cases of reduction, computed.
 use Rattle.std.proofs.Common.{◌≡◌, refl, pos, [], ◌∷◌}
 use Rattle.arrays_core.specs.declared.item.Kind.TheVariants.{Axis as AxisError, Domain, Limit}
-use Rattle.index_region.specs.declared.along.Along.TheVariants.{First, Last, Axis}
-use Rattle.scalar_fns.specs.declared.function.Scalar2.TheVariants as two
+use Rattle.function_names.specs.declared.along.Along.TheVariants.{First, Last, Axis}
+use Rattle.function_names.specs.declared.scalar.Scalar2.TheVariants as two
 use Rattle.operator_fns.specs.Reduce.{reduce_whole}
 use Rattle.arrays_core.proofs.CaseWords.{nums, ints, chars, is, fails, minus, greatest, least}
 

@@ -7,7 +7,7 @@ use Rattle.std.proofs.lemmas.Nat.{div-mul-add}
 use Rattle.std.proofs.lemmas.List.{length-take, get_or-take}
 use Rattle.std.proofs.lemmas.List.FromFn.{length-map-range_with_len, get_or-map-range_with_len}
 use Rattle.arrays_core.specs.Items.{all_or_first_error, and_then}
-use Rattle.scalar_fns.specs.declared.function.Scalar2.TheVariants.{Minus}
+use Rattle.function_names.specs.declared.scalar.Scalar2.TheVariants.{Minus}
 use Rattle.scalar_fns.specs.Numbers.{dyadic_on_numbers}
 use Rattle.scalar_fns.specs.Folds.{folded}
 use Rattle.scalar_fns.proofs.RightFolds.{length-strided}

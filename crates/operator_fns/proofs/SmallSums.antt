@@ -3,7 +3,7 @@ use Rattle.std.proofs.Common.{◌≡◌, ℕ, sym, suc, ◌+◌, ◌*◌, ◌<�
 use Rattle.std.specs.List.{All}
 use Rattle.std.proofs.lemmas.Int.{ints, clamps}
 use Rattle.arrays_core.specs.Items.{and_then}
-use Rattle.scalar_fns.specs.declared.function.Scalar2.TheVariants.{Plus}
+use Rattle.function_names.specs.declared.scalar.Scalar2.TheVariants.{Plus}
 use Rattle.scalar_fns.specs.Numbers.{dyadic_on_numbers}
 use Rattle.scalar_fns.specs.Folds.{folded}
 use Rattle.operator_fns.specs.LinearScan.{fold_on, folded_left}

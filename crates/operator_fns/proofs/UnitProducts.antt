@@ -3,7 +3,7 @@ use Rattle.std.proofs.Common.{◌≡◌, ℕ, zero, suc, ◌+◌, ◌*◌, ◌<�
 use borrow.Author.Differences.{up, down, product_is, same_in}
 use Rattle.std.specs.List.{All}
 use Rattle.arrays_core.specs.Items.{all_or_first_error, and_then}
-use Rattle.scalar_fns.specs.declared.function.Scalar2.TheVariants.{Times}
+use Rattle.function_names.specs.declared.scalar.Scalar2.TheVariants.{Times}
 use Rattle.scalar_fns.specs.Numbers.{dyadic_on_numbers}
 use Rattle.scalar_fns.specs.Folds.{folded}
 use Rattle.operator_fns.specs.LinearScan.{fold_on, folded_left, scanned}

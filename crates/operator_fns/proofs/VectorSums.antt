@@ -8,10 +8,10 @@ use Rattle.arrays_core.specs.declared.item.ItemType.{ItemType}
 use Rattle.arrays_core.specs.declared.item.Kind.{Kind}
 use Rattle.arrays_core.specs.Items.{fill}
 use Rattle.arrays_core.specs.Arrays.{ArrayValue, item_of}
-use Rattle.scalar_fns.specs.declared.function.Scalar2.TheVariants.{Plus}
+use Rattle.function_names.specs.declared.scalar.Scalar2.TheVariants.{Plus}
 use Rattle.scalar_fns.specs.Items.{number_item}
-use Rattle.index_region.specs.declared.along.Along.{Along}
-use Rattle.index_region.specs.Axes.{axis_at}
+use Rattle.function_names.specs.declared.along.Along.{Along}
+use Rattle.function_names.specs.Axes.{axis_at}
 use Rattle.operator_fns.specs.RightFold.{fold_right, line}
 use Rattle.operator_fns.specs.Reduce.{reduce_item}
 use Rattle.operator_fns.specs.SumTree.{IsReductionBySum}

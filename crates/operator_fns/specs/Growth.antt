@@ -1,7 +1,7 @@
 -- When reductions, scans and outer products grow with their arguments.
 use Rattle.std.specs.Prelude.{◌==◌, ◌&&◌, not, Bool, true, false, length}
-use Rattle.index_region.specs.declared.along.Along.{Along}
-use Rattle.index_region.specs.Axes.{axis_at, is_axis}
+use Rattle.function_names.specs.declared.along.Along.{Along}
+use Rattle.function_names.specs.Axes.{axis_at, is_axis}
 use Rattle.arrays_core.specs.Arrays.{ArrayValue}
 use Rattle.change_core.specs.Growth.{one_grows, two_grow}
 use Rattle.change_core.specs.RuleModels.{Growth}

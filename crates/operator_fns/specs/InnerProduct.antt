@@ -13,7 +13,7 @@ use Rattle.index_region.specs.Arguments.{has_one_item}
 use Rattle.index_region.specs.Boxes.{whole_of}
 use Rattle.change_core.specs.RuleModels.{RuleModel, Use}
 use Rattle.change_core.specs.Sourced.{two_rule}
-use Rattle.scalar_fns.specs.declared.function.Scalar2.{Scalar2}
+use Rattle.function_names.specs.declared.scalar.Scalar2.{Scalar2}
 use Rattle.scalar_fns.specs.Items.{dyadic_on_items}
 use Rattle.scalar_fns.specs.ScalarExtension.{extended}
 use Rattle.operator_fns.specs.RightFold.{fold_right}
@@ -59,6 +59,7 @@ abbrev pub inner_whole : Scalar2 → Scalar2 → ArrayValue → ArrayValue → R
 inner_whole f g a b = whole (inner_form a b) (inner_item f g a b)
 
 -- What a change of an argument of an inner product changes of its result.
+
 -- one item stands for each item of a line; else the line is read
 abbrev pub extended_line : ArrayValue → List (List ℕ) → List (List ℕ)
 extended_line a places = if size a.shape == 1 then map (λ _. 1) a.shape ∷ [] else places

@@ -9,7 +9,7 @@ use Rattle.change_core.specs.RuleModels.{RuleModel, Use}
 use Rattle.change_core.specs.Growth.{growing}
 use Rattle.change_core.specs.Sourced.{two_rule}
 use Rattle.change_core.specs.Ways.{front, back}
-use Rattle.scalar_fns.specs.declared.function.Scalar2.{Scalar2}
+use Rattle.function_names.specs.declared.scalar.Scalar2.{Scalar2}
 use Rattle.scalar_fns.specs.Items.{dyadic_on_items}
 use Rattle.operator_fns.specs.Growth.{outer_grows}
 
@@ -27,6 +27,7 @@ abbrev pub outer_whole : Scalar2 → ArrayValue → ArrayValue → Result ArrayV
 outer_whole f a b = whole (outer_form a b) (outer_item f a b)
 
 -- What a change of an argument of an outer product changes of its result.
+
 -- by the left argument: a changed box, and then the axes of the right one whole
 abbrev pub front_use : List ℕ → ArrayValue → ArrayValue → Use
 front_use shape a b = front (length a.shape) b.shape

@@ -7,14 +7,15 @@ use Rattle.arrays_core.specs.declared.item.ItemType.TheVariants.{Nums}
 use Rattle.arrays_core.specs.declared.item.Kind.{Kind}
 use Rattle.arrays_core.specs.declared.item.Kind.TheVariants.{Axis}
 use Rattle.arrays_core.specs.Arrays.{ArrayValue}
-use Rattle.index_region.specs.declared.along.Along.{Along}
+use Rattle.function_names.specs.declared.along.Along.{Along}
 use Rattle.index_region.specs.Checks.{Form, check, limited, whole}
-use Rattle.index_region.specs.Axes.{is_axis, axis_at, places_along}
+use Rattle.function_names.specs.Axes.{is_axis, axis_at}
+use Rattle.index_region.specs.Axes.{places_along}
 use Rattle.index_region.specs.Arguments.{is_scalar}
 use Rattle.change_core.specs.RuleModels.{RuleModel, Use}
 use Rattle.change_core.specs.Growth.{growing}
 use Rattle.change_core.specs.Sourced.{one_rule}
-use Rattle.scalar_fns.specs.declared.function.Scalar2.{Scalar2}
+use Rattle.function_names.specs.declared.scalar.Scalar2.{Scalar2}
 use Rattle.operator_fns.specs.RightFold.{fold_right, line}
 use Rattle.operator_fns.specs.Growth.{lines_grow}
 
@@ -37,6 +38,7 @@ abbrev pub reduce_whole : Scalar2 → Along → ArrayValue → Result ArrayValue
 reduce_whole f along b = whole (reduce_form along b) (reduce_item f along b)
 
 -- What a change of the argument of a reduction changes of its result.
+
 -- each item reads the line along an axis (from 0) at its index list, and a scalar is a line of its one item: a changed
 -- box goes to itself without that axis
 abbrev pub line_use : ℕ → ArrayValue → Use

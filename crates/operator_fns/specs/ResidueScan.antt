@@ -3,7 +3,7 @@ use Rattle.std.specs.Prelude.{◌≡◌, ℕ, suc, ◌-◌, ◌^◌, ◌<◌, �
 use Rattle.std.specs.List.{list_all}
 use Rattle.std.specs.Ordering.{int_eq}
 use Rattle.arrays_core.specs.declared.item.Kind.{Kind}
-use Rattle.scalar_fns.specs.declared.function.Scalar2.TheVariants.{Residue as ByResidue}
+use Rattle.function_names.specs.declared.scalar.Scalar2.TheVariants.{Residue as ByResidue}
 use Rattle.scalar_fns.specs.Numbers.{residue, dyadic_on_numbers}
 use Rattle.operator_fns.specs.declared.residue_scan.Divisor.{Divisor}
 use Rattle.operator_fns.specs.LinearScan.{depth}

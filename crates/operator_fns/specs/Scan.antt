@@ -8,15 +8,16 @@ use Rattle.arrays_core.specs.declared.item.Kind.{Kind}
 use Rattle.arrays_core.specs.declared.item.Kind.TheVariants.{Axis, Domain}
 use Rattle.arrays_core.specs.Items.{all_or_first_error}
 use Rattle.arrays_core.specs.Arrays.{ArrayValue, with_items}
-use Rattle.index_region.specs.declared.along.Along.{Along}
+use Rattle.function_names.specs.declared.along.Along.{Along}
 use Rattle.index_region.specs.Checks.{Form, check, limited, whole}
 use Rattle.index_region.specs.Arguments.{counts_as_numbers}
-use Rattle.index_region.specs.Axes.{is_axis, axis_at, places_along}
+use Rattle.function_names.specs.Axes.{is_axis, axis_at}
+use Rattle.index_region.specs.Axes.{places_along}
 use Rattle.change_core.specs.RuleModels.{RuleModel, Use}
 use Rattle.change_core.specs.Growth.{growing}
 use Rattle.change_core.specs.Sourced.{one_rule}
 use Rattle.change_core.specs.Ways.{along as on_own_line}
-use Rattle.scalar_fns.specs.declared.function.Scalar2.{Scalar2}
+use Rattle.function_names.specs.declared.scalar.Scalar2.{Scalar2}
 use Rattle.operator_fns.specs.RightFold.{fold_right, line}
 use Rattle.operator_fns.specs.Growth.{lines_grow}
 
@@ -50,6 +51,7 @@ abbrev pub scan_whole : Scalar2 → Along → ArrayValue → Result ArrayValue K
 scan_whole f along b = whole (scan_form along b) (scan_item f along b)
 
 -- What a change of the argument of a scan changes of its result.
+
 -- each item reads its line along an axis (from 0) up to its own place: on that axis a changed interval goes to itself
 -- and all places after it
 abbrev pub run_use : ℕ → ArrayValue → Use

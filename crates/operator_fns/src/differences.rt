@@ -1,7 +1,7 @@
 //! The difference of the numbers of a line so far and of the next one.
 
 ghost use Rattle.std.specs.Prelude.{◌≡◌, ◌+ℤ◌, ◌-ℤ◌, if◌then◌else◌};
-ghost use Rattle.scalar_fns.specs.declared.function.Scalar2.TheVariants.{Minus as Difference};
+ghost use Rattle.function_names.specs.declared.scalar.Scalar2.TheVariants.{Minus as Difference};
 ghost use Rattle.scalar_fns.specs.Numbers.{dyadic_on_numbers, number_or_limit};
 ghost use Rattle.operator_fns.specs.Prefixes.{IsFresh, difference};
 

@@ -1,7 +1,7 @@
 //! Scans of plain lists of numbers.
 
 ghost use Rattle.std.specs.Prelude.{◌≡◌, ◌<◌, ◌≤◌, ◌*◌, ℤ, List, false, length, drop, take, Ok, IfOk, IfSome, vec_len};
-ghost use Rattle.scalar_fns.specs.declared.function.Scalar2.TheVariants.{Residue as ByResidue};
+ghost use Rattle.function_names.specs.declared.scalar.Scalar2.TheVariants.{Residue as ByResidue};
 ghost use Rattle.scalar_fns.specs.Numbers.{dyadic_on_numbers};
 ghost use Rattle.scalar_fns.specs.NumberLists.{IsListAnswerTo};
 ghost use Rattle.scalar_fns.specs.Folds.{folded};

@@ -2,7 +2,7 @@
 
 ghost use Rattle.std.specs.Prelude.{◌≡◌, ◌<◌, ◌≤◌, ◌/◌, ◌^◌, ◌*ℤ◌, true, ℤ, FitsSigned};
 ghost use Rattle.std.specs.Int.{w64};
-ghost use Rattle.scalar_fns.specs.declared.function.Scalar2.TheVariants.{Times as Product};
+ghost use Rattle.function_names.specs.declared.scalar.Scalar2.TheVariants.{Times as Product};
 ghost use Rattle.scalar_fns.specs.Numbers.{dyadic_on_numbers};
 ghost use Rattle.operator_fns.specs.Prefixes.{IsFresh, product, reaches};
 

@@ -2,7 +2,7 @@
 
 ghost use Rattle.std.specs.Prelude.{◌≡◌, ◌<◌, ◌≤◌, ◌+◌, length, get_or, Ok, IsTrue, IfSome, Some, IfOk, vec_len};
 ghost use Rattle.std.specs.List.{list_all};
-ghost use Rattle.scalar_fns.specs.declared.function.Scalar2.TheVariants.{Residue as ByResidue};
+ghost use Rattle.function_names.specs.declared.scalar.Scalar2.TheVariants.{Residue as ByResidue};
 ghost use Rattle.scalar_fns.specs.Numbers.{dyadic_on_numbers};
 ghost use Rattle.scalar_fns.specs.Folds.{folded};
 ghost use Rattle.operator_fns.specs.LinearScan.{scanned};

@@ -3,7 +3,7 @@
 ghost use Rattle.std.specs.Prelude.{◌≡◌, ◌<◌, ◌≤◌, ◌+◌, ◌-◌, ◌*◌, ◌%◌, ◌+ℤ◌, ◌-ℤ◌, if◌then◌else◌, pos, All, FitsSigned, length, min, get_or, IfOk, vec_len};
 ghost use Rattle.std.specs.Int.{w64};
 ghost use Rattle.arrays_core.specs.Limits.{most_places};
-ghost use Rattle.scalar_fns.specs.declared.function.Scalar2.TheVariants.{Minus as Difference};
+ghost use Rattle.function_names.specs.declared.scalar.Scalar2.TheVariants.{Minus as Difference};
 ghost use Rattle.scalar_fns.specs.Numbers.{dyadic_on_numbers};
 ghost use Rattle.scalar_fns.specs.NumberLists.{IsListAnswerTo};
 ghost use Rattle.scalar_fns.specs.Folds.{folded};

@@ -1,7 +1,7 @@
 //! Scans by `×` of numbers that are 0, 1 or ¯1: no product of them leaves 64 bits.
 
 ghost use Rattle.std.specs.Prelude.{◌≡◌, ◌<◌, ◌≤◌, ◌*◌, true, All, length, IfOk, vec_len};
-ghost use Rattle.scalar_fns.specs.declared.function.Scalar2.TheVariants.{Times as Product};
+ghost use Rattle.function_names.specs.declared.scalar.Scalar2.TheVariants.{Times as Product};
 ghost use Rattle.scalar_fns.specs.Numbers.{dyadic_on_numbers};
 ghost use Rattle.scalar_fns.specs.NumberLists.{IsListAnswerTo};
 ghost use Rattle.scalar_fns.specs.Folds.{folded};

@@ -1,10 +1,10 @@
 //! The change of totals by trees of the sums of lines.
 
 ghost use Rattle.std.specs.Prelude.{◌≡◌, length, IfSome};
-ghost use Rattle.index_region.specs.Axes.{axis_at as axis_meant};
-ghost use Rattle.index_region.specs.declared.along.Along.TheVariants.{Last as LastAxis};
+ghost use Rattle.function_names.specs.Axes.{axis_at as axis_meant};
+ghost use Rattle.function_names.specs.declared.along.Along.TheVariants.{Last as LastAxis};
 ghost use Rattle.index_region.specs.Patches.{FitsPatch};
-ghost use Rattle.scalar_fns.specs.declared.function.Scalar2.TheVariants.{Plus as Sum};
+ghost use Rattle.function_names.specs.declared.scalar.Scalar2.TheVariants.{Plus as Sum};
 
 use crate::fixtures::{patch_of, tail_of};
 use arrays_core::{Array, Fault, Item, ItemType, Kind, is_within_limits, shape_of, size};

@@ -4,7 +4,7 @@ use Rattle.std.proofs.Math.Nat.{div-one, pow-zero}
 use Rattle.std.proofs.lemmas.Grind.{pow_more}
 use Rattle.std.proofs.lemmas.Int.{ints, clamps}
 use Rattle.std.proofs.lemmas.Bool.{lt-ltb}
-use Rattle.scalar_fns.specs.declared.function.Scalar2.TheVariants.{Plus, Minus, Times, Divide, Power, Residue, Maximum, Minimum, Less, LessOrEqual, Equal, GreaterOrEqual, Greater, NotEqual, And, Or}
+use Rattle.function_names.specs.declared.scalar.Scalar2.TheVariants.{Plus, Minus, Times, Divide, Power, Residue, Maximum, Minimum, Less, LessOrEqual, Equal, GreaterOrEqual, Greater, NotEqual, And, Or}
 use Rattle.scalar_fns.specs.Numbers.{number_or_limit, dyadic_on_numbers, truth}
 use Rattle.scalar_fns.specs.Identities.{least, greatest}
 use Rattle.scalar_fns.proofs.Residues.{quotient_whole}

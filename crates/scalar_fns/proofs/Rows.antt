@@ -2,8 +2,8 @@
 use Rattle.std.proofs.Common.{◌≡◌, refl, Ok, Err, pos, negsuc}
 use Rattle.arrays_core.specs.declared.item.Item.TheVariants.{Num, Char}
 use Rattle.arrays_core.specs.declared.item.Kind.TheVariants.{Domain, Limit}
-use Rattle.scalar_fns.specs.declared.function.Scalar1.TheVariants.{Negative, Reciprocal, Magnitude, Not}
-use Rattle.scalar_fns.specs.declared.function.Scalar2.TheVariants.{Divide, Power, Residue, Equal, NotEqual, Less, And, Or}
+use Rattle.function_names.specs.declared.scalar.Scalar1.TheVariants.{Negative, Reciprocal, Magnitude, Not}
+use Rattle.function_names.specs.declared.scalar.Scalar2.TheVariants.{Divide, Power, Residue, Equal, NotEqual, Less, And, Or}
 use Rattle.scalar_fns.specs.Numbers.{monadic_on_number, dyadic_on_numbers}
 use Rattle.scalar_fns.specs.Items.{dyadic_on_items}
 use Rattle.scalar_fns.specs.Identities.{least}

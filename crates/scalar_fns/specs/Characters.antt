@@ -4,8 +4,8 @@ use Rattle.arrays_core.specs.declared.item.Item.TheVariants.{Num}
 use Rattle.arrays_core.specs.declared.item.ItemType.TheVariants.{Nums}
 use Rattle.arrays_core.specs.declared.item.Kind.{Kind}
 use Rattle.arrays_core.specs.Arrays.{ArrayValue}
-use Rattle.scalar_fns.specs.declared.function.Scalar2.{Scalar2}
-use Rattle.scalar_fns.specs.declared.function.Scalar2.TheVariants.{Equal, NotEqual}
+use Rattle.function_names.specs.declared.scalar.Scalar2.{Scalar2}
+use Rattle.function_names.specs.declared.scalar.Scalar2.TheVariants.{Equal, NotEqual}
 use Rattle.scalar_fns.specs.Numbers.{truth}
 
 -- the function that asks whether items are equal, or the one that asks whether they differ

@@ -4,7 +4,7 @@ use Rattle.arrays_core.specs.declared.item.Item.{Item}
 use Rattle.arrays_core.specs.declared.item.ItemType.TheVariants.{Nums}
 use Rattle.arrays_core.specs.declared.item.Kind.{Kind}
 use Rattle.arrays_core.specs.Arrays.{ArrayValue, item_of}
-use Rattle.scalar_fns.specs.declared.function.Scalar1.{Scalar1}
+use Rattle.function_names.specs.declared.scalar.Scalar1.{Scalar1}
 use Rattle.scalar_fns.specs.Items.{monadic_on_item}
 use Rattle.index_region.specs.Checks.{Form, form_of}
 use Rattle.change_core.specs.RuleModels.{RuleModel}

@@ -6,8 +6,8 @@ use Rattle.arrays_core.specs.declared.item.Item.TheVariants.{Num}
 use Rattle.arrays_core.specs.declared.item.Kind.{Kind}
 use Rattle.arrays_core.specs.declared.fault.ApplyFault.{ApplyFault}
 use Rattle.arrays_core.specs.declared.fault.ApplyFault.TheVariants.{Kind as KindFault, NoMemory}
-use Rattle.scalar_fns.specs.declared.function.Scalar1.{Scalar1}
-use Rattle.scalar_fns.specs.declared.function.Scalar2.{Scalar2}
+use Rattle.function_names.specs.declared.scalar.Scalar1.{Scalar1}
+use Rattle.function_names.specs.declared.scalar.Scalar2.{Scalar2}
 use Rattle.scalar_fns.specs.Numbers.{monadic_on_number, dyadic_on_numbers}
 
 -- the results at each place of a list

@@ -8,8 +8,8 @@ use Rattle.arrays_core.specs.declared.item.Kind.TheVariants.{Rank, Length}
 use Rattle.arrays_core.specs.Items.{fill}
 use Rattle.arrays_core.specs.Shapes.{size, places_before}
 use Rattle.arrays_core.specs.Arrays.{ArrayValue, item_of, collect}
-use Rattle.scalar_fns.specs.declared.function.Scalar1.{Scalar1}
-use Rattle.scalar_fns.specs.declared.function.Scalar2.{Scalar2}
+use Rattle.function_names.specs.declared.scalar.Scalar1.{Scalar1}
+use Rattle.function_names.specs.declared.scalar.Scalar2.{Scalar2}
 use Rattle.scalar_fns.specs.Items.{monadic_on_item, dyadic_on_items}
 
 abbrev pub same_shape : List ℕ → List ℕ → Bool

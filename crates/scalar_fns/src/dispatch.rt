@@ -6,11 +6,11 @@ ghost use Rattle.arrays_core.specs.Items.{all_or_first_error};
 ghost use Rattle.scalar_fns.specs.Numbers.{monadic_on_number, dyadic_on_numbers};
 ghost use Rattle.scalar_fns.specs.NumberLists.{monadic_results, dyadic_results, results_by, paired_length, IsListAnswerTo};
 
-use crate::function::{Scalar1, Scalar2};
 use crate::kernels::*;
 use crate::loops::{on_each, on_lists};
 use crate::power_loops::on_powers;
 use arrays_core::{ApplyFault, Kind};
+use function_names::{Scalar1, Scalar2};
 use std::alloc::Global;
 
 /// A function of one number.

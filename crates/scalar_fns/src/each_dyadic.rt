@@ -10,11 +10,11 @@ ghost use Rattle.scalar_fns.specs.Laws.EachDyadic.{each_dyadic_tight};
 ghost use Rattle.scalar_fns.specs.Laws.EachDyadicGrowth.{each_dyadic_growing};
 ghost use Rattle.scalar_fns.specs.Growth.{is_extended_to};
 
-use crate::function::Scalar2;
 use crate::items::two;
 use crate::scalar_extension::{apply_two, common_shape};
 use arrays_core::{ApplyFault, Array, Item, ItemType, Kind, Shape};
 use change_core::{Announced, Lawful};
+use function_names::Scalar2;
 use index_region::{IndexBox, Intervals, Primitive, Seen, apply};
 use std::alloc::Global;
 

@@ -7,11 +7,11 @@ ghost use Rattle.scalar_fns.specs.EachMonadic.{each_monadic_form, each_monadic_i
 ghost use Rattle.scalar_fns.specs.Laws.EachMonadic.{each_monadic_tight};
 ghost use Rattle.scalar_fns.specs.Laws.EachMonadicGrowth.{each_monadic_growing};
 
-use crate::function::Scalar1;
 use crate::items::one;
 use crate::scalar_extension::apply_one;
 use arrays_core::{ApplyFault, Array, Item, ItemType, Kind, Shape, position, shape_of};
 use change_core::{Announced, Lawful};
+use function_names::Scalar1;
 use index_region::{IndexBox, Intervals, Primitive, Seen, apply};
 use std::alloc::Global;
 

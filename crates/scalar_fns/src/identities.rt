@@ -3,7 +3,7 @@
 ghost use Rattle.std.specs.Prelude.{◌≡◌};
 ghost use Rattle.scalar_fns.specs.Identities.{identity_of};
 
-use crate::function::Scalar2;
+use function_names::Scalar2;
 
 /// What a reduction of no items gives: the identity of the function (ISO/IEC 13751, "Reduction"), which
 /// `⍲` and `⍱` have none of. It takes no memory.

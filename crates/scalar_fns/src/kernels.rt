@@ -2,8 +2,8 @@
 
 ghost use Rattle.std.specs.Prelude.{◌≡◌, ℤ, pos, neg_ℤ, unsigned_abs, Result, Ok};
 ghost use Rattle.arrays_core.specs.declared.item.Kind.{Kind};
-ghost use Rattle.scalar_fns.specs.declared.function.Scalar1.TheVariants as one;
-ghost use Rattle.scalar_fns.specs.declared.function.Scalar2.TheVariants as two;
+ghost use Rattle.function_names.specs.declared.scalar.Scalar1.TheVariants as one;
+ghost use Rattle.function_names.specs.declared.scalar.Scalar2.TheVariants as two;
 ghost use Rattle.scalar_fns.specs.Numbers.{monadic_on_number, dyadic_on_numbers};
 
 use crate::numbers::{as_truth, in_range, power, quotient, residue, truth};

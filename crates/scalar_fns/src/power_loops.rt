@@ -2,7 +2,7 @@
 
 ghost use Rattle.std.specs.Prelude.{◌≡◌, ◌≢◌, ◌<◌, ◌≤◌, ℕ, pos, length, get_or, Ok, IfOk, vec_len};
 ghost use Rattle.arrays_core.specs.Items.{all_or_first_error};
-ghost use Rattle.scalar_fns.specs.declared.function.Scalar2.TheVariants as two;
+ghost use Rattle.function_names.specs.declared.scalar.Scalar2.TheVariants as two;
 ghost use Rattle.scalar_fns.specs.Numbers.{dyadic_on_numbers, power as power_of};
 ghost use Rattle.scalar_fns.specs.NumberLists.{dyadic_results, paired_length, IsListAnswerTo};
 

@@ -12,12 +12,12 @@ ghost use Rattle.arrays_core.specs.Items.{all_or_first_error};
 
 use crate::characters::{equalities, tell};
 use crate::dispatch::{on_number_lists, on_numbers};
-use crate::function::{Scalar1, Scalar2};
 use crate::items::{one, two};
 use arrays_core::{
     ApplyFault, Array, Item, ItemRule, ItemType, Kind, Shape, collect, position, repeated,
     shape_of, size,
 };
+use function_names::{Scalar1, Scalar2};
 use std::alloc::Global;
 
 /// The shape of a result of two arrays: of equal shapes that shape. An array of one item extends to

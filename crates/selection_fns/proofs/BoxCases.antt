@@ -2,7 +2,7 @@
 use Rattle.std.proofs.Common.{◌≡◌, ℕ, List, [], ◌∷◌, refl, true, false, Option, Some, None}
 use Rattle.arrays_core.specs.Arrays.{ArrayValue}
 use Rattle.arrays_core.proofs.CaseWords.{nums, scalar, no_numbers, no_text}
-use Rattle.index_region.specs.declared.along.Along.TheVariants.{First, Last}
+use Rattle.function_names.specs.declared.along.Along.TheVariants.{First, Last}
 use Rattle.index_region.specs.Boxes.{Interval}
 use Rattle.change_core.specs.declared.reach.Reach.{Reach}
 use Rattle.change_core.specs.declared.reach.Reach.TheVariants.{Anew, Inside, Unmoved}

@@ -8,9 +8,10 @@ use Rattle.arrays_core.specs.Shapes.{is_index_of, places_before}
 use Rattle.arrays_core.specs.Building.{IsRowOf}
 use Rattle.arrays_core.proofs.Shapes.{places_below}
 use Rattle.arrays_core.proofs.Rows.{places_in_row}
-use Rattle.index_region.specs.declared.along.Along.{Along}
+use Rattle.function_names.specs.declared.along.Along.{Along}
 use Rattle.index_region.specs.Answers.{IsPlaceOf}
-use Rattle.index_region.specs.Axes.{axis_at, places_along}
+use Rattle.function_names.specs.Axes.{axis_at}
+use Rattle.index_region.specs.Axes.{places_along}
 use Rattle.index_region.specs.Checks.{form_of}
 use Rattle.index_region.specs.Sources.{Place, item_from}
 use Rattle.index_region.proofs.Placed.{right_placed}

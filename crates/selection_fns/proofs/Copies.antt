@@ -15,10 +15,11 @@ use Rattle.arrays_core.specs.declared.item.Kind.TheVariants.{Axis, Length, Domai
 use Rattle.arrays_core.specs.Items.{type_of}
 use Rattle.arrays_core.specs.Arrays.{ArrayValue, item_of}
 use Rattle.arrays_core.specs.Shapes.{size, is_index_of}
-use Rattle.index_region.specs.declared.along.Along.{Along}
+use Rattle.function_names.specs.declared.along.Along.{Along}
 use Rattle.index_region.specs.Checks.{form_of, Form, check, limited}
 use Rattle.index_region.specs.Sources.{Place, Source}
-use Rattle.index_region.specs.Axes.{is_axis, axis_at, places_along}
+use Rattle.function_names.specs.Axes.{is_axis, axis_at}
+use Rattle.index_region.specs.Axes.{places_along}
 use Rattle.index_region.specs.Arguments.{is_list, has_one_item, counts_as_numbers, none_negative, numbers, number_of}
 use Rattle.index_region.specs.Answers.{IsPlaceOf, HasTypeOf}
 use Rattle.index_region.proofs.Passing.{passed, place_inside, typed_check, typed_limited}

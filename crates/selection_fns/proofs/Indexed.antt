@@ -1,11 +1,10 @@
 -- Indexed references whose checks have passed.
 use Rattle.std.proofs.Common.{◌≡◌, ℕ, suc, ◌<◌, Bool, true, false, List, [], ◌∷◌, length, refl, arith}
-use Rattle.std.specs.Prelude.{nat_eq, not, ◌&&◌}
+use Rattle.std.specs.Prelude.{nat_eq, not, ◌&&◌, Result}
 use Rattle.std.specs.List.{list_all}
 use Rattle.std.proofs.lemmas.Bool.Decides.{nat_tests}
 use Rattle.arrays_core.specs.declared.item.Item.{Item}
 use Rattle.arrays_core.specs.declared.item.Kind.{Kind}
-use Rattle.std.specs.Prelude.{Result}
 use Rattle.arrays_core.specs.Arrays.{ArrayValue}
 use Rattle.arrays_core.specs.Shapes.{is_index_of}
 use Rattle.index_region.specs.Checks.{Form, whole}

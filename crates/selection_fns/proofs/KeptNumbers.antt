@@ -9,9 +9,10 @@ use Rattle.arrays_core.specs.declared.item.ItemType.TheVariants.{Nums}
 use Rattle.arrays_core.specs.Items.{fill}
 use Rattle.arrays_core.specs.Arrays.{ArrayValue}
 use Rattle.arrays_core.specs.Shapes.{size}
-use Rattle.index_region.specs.declared.along.Along.{Along}
+use Rattle.function_names.specs.declared.along.Along.{Along}
 use Rattle.index_region.specs.Checks.{form_of}
-use Rattle.index_region.specs.Axes.{axis_at, places_along}
+use Rattle.function_names.specs.Axes.{axis_at}
+use Rattle.index_region.specs.Axes.{places_along}
 use Rattle.index_region.specs.Arguments.{numbers}
 use Rattle.selection_fns.specs.Replicate.{maker, times, copied_place, replicate_form, replicate_whole}
 use Rattle.selection_fns.specs.Kept.{AreKept}

@@ -3,7 +3,7 @@ use Rattle.std.proofs.Common.{◌≡◌, refl, pos, [], ◌∷◌, Some, None, O
 use Rattle.arrays_core.specs.declared.item.ItemType.TheVariants.{Nums}
 use Rattle.arrays_core.specs.declared.item.Kind.TheVariants.{Axis as AxisError, Rank, Length, Domain, Index, Limit}
 use Rattle.arrays_core.specs.Arrays.{ArrayValue}
-use Rattle.index_region.specs.declared.along.Along.TheVariants.{First, Last, Axis}
+use Rattle.function_names.specs.declared.along.Along.TheVariants.{First, Last, Axis}
 use Rattle.selection_fns.specs.Shape.{shape_whole}
 use Rattle.selection_fns.specs.IndexGenerator.{generator_form, generator_whole}
 use Rattle.selection_fns.specs.Replicate.{replicate_form, replicate_whole}

@@ -11,9 +11,10 @@ use Rattle.arrays_core.specs.Items.{fill, and_then}
 use Rattle.arrays_core.specs.Shapes.{size, index_after}
 use Rattle.arrays_core.specs.Arrays.{ArrayValue, item_if_there, collect, with_items}
 use Rattle.arrays_core.proofs.Order.{given_in_order}
-use Rattle.index_region.specs.declared.along.Along.{Along}
+use Rattle.function_names.specs.declared.along.Along.{Along}
 use Rattle.index_region.specs.Checks.{form_of}
-use Rattle.index_region.specs.Axes.{axis_at, places_along}
+use Rattle.function_names.specs.Axes.{axis_at}
+use Rattle.index_region.specs.Axes.{places_along}
 use Rattle.index_region.specs.Sources.{Place, item_from}
 use Rattle.selection_fns.specs.Replicate.{times, copied_place, replicate_form, replicate_item, replicate_whole}
 use Rattle.index_region.proofs.RowIndices.{axis_below}

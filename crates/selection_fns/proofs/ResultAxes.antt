@@ -14,9 +14,8 @@ use Rattle.index_region.proofs.Boxes.{fits_length, length-index_after}
 use Rattle.index_region.proofs.Passing.{gives}
 use Rattle.change_core.specs.RuleModels.{FitsAt, HasShape, box_at}
 use Rattle.arrays_core.proofs.Order.{places_before-index_after}
-use Rattle.selection_fns.specs.Index.{Position, count_written, written_positions, of_array_and_positions, index_form, indexed_shape, are_numbers, are_on}
+use Rattle.selection_fns.specs.Index.{Position, count_written, written_positions, of_array_and_positions, index_form, indexed_shape, are_numbers, are_on, least_box, place_named, point, position_uses, unselected}
 use Rattle.selection_fns.proofs.Indexed.{positions_long}
-use Rattle.selection_fns.specs.Index.{least_box, place_named, point, position_uses, unselected}
 use Rattle.selection_fns.specs.Laws.LeastBoxes.{length-point}
 use Rattle.selection_fns.specs.PositionAxes.{axes_before, count_axes}
 use Rattle.selection_fns.proofs.Copied.{has_form, limited_within}

@@ -58,6 +58,7 @@ abbrev pub decode_whole : ArrayValue → ArrayValue → Result ArrayValue Kind
 decode_whole a b = whole (decode_form a b) (decode_item a b)
 
 -- What a change of an argument of decode, A⊥B, changes of the result.
+
 -- a number reads its digits along the first axis, and changes with them
 abbrev pub digits_use : ArrayValue → Use
 digits_use b = record {

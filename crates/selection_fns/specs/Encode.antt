@@ -51,6 +51,7 @@ abbrev pub encode_whole : ArrayValue → ArrayValue → Result ArrayValue Kind
 encode_whole a b = whole (encode_form a b) (encode_item a b)
 
 -- What a change of an argument of encode, A⊤B, changes of the result.
+
 -- the places of the radices that a digit goes by: its own radix and those after it; a scalar is the one radix
 abbrev pub radices_read : ArrayValue → List ℕ → List (List ℕ)
 radices_read a index = if is_scalar a then [] ∷ [] else map (λ k. k ∷ []) (range_with_len (get_or index 0 1) (get_or a.shape 0 0 + 1 - get_or index 0 1))

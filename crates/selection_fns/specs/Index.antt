@@ -97,6 +97,7 @@ of_array_and_positions written f [] = Err Length
 of_array_and_positions written f (a ∷ args) = f a (written_positions written args)
 
 -- What a change of an argument of indexed reference, A[I;..], changes of the result.
+
 -- the place of an axis that an index names
 abbrev pub place_named : Item → ℕ
 place_named item = unsigned_abs (number_of item)

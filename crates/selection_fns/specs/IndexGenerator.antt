@@ -31,6 +31,7 @@ abbrev pub generator_whole : ArrayValue → Result ArrayValue Kind
 generator_whole n = whole (generator_form n) (generator_item n)
 
 -- What a change of the argument of the index generator, ⍳N, changes of the result: all of it, its shape too.
+
 -- the number is a selector
 abbrev pub generator_rule : RuleModel
 generator_rule = record {

@@ -27,6 +27,7 @@ abbrev pub index_of_whole : ArrayValue → ArrayValue → Result ArrayValue Kind
 index_of_whole a b = whole (index_of_form a b) (index_of_item a b)
 
 -- What a change of an argument of index of, A⍳B, changes of the result.
+
 -- each item of b is looked up in all of a
 abbrev pub index_of_rule : RuleModel
 index_of_rule = two_rule false index_of_form index_of_item (λ shape a b. everywhere shape (λ _. indices a.shape)) (λ shape a b. alike)

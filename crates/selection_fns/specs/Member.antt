@@ -27,6 +27,7 @@ abbrev pub member_whole : ArrayValue → ArrayValue → Result ArrayValue Kind
 member_whole a b = whole (member_form a b) (member_item a b)
 
 -- What a change of an argument of membership, A∊B, changes of the result.
+
 -- each item of a is looked up in all of b
 abbrev pub member_rule : RuleModel
 member_rule = two_rule false member_form member_item (λ shape a b. alike) (λ shape a b. everywhere shape (λ _. indices b.shape))

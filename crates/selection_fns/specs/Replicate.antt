@@ -5,11 +5,12 @@ use Rattle.arrays_core.specs.declared.item.Item.{Item}
 use Rattle.arrays_core.specs.declared.item.Kind.{Kind}
 use Rattle.arrays_core.specs.declared.item.Kind.TheVariants.{Axis, Rank, Length, Domain}
 use Rattle.arrays_core.specs.Arrays.{ArrayValue, item_of}
-use Rattle.index_region.specs.declared.along.Along.{Along}
+use Rattle.function_names.specs.declared.along.Along.{Along}
 use Rattle.index_region.specs.Checks.{Form, check, limited, whole}
 use Rattle.index_region.specs.Sources.{Place, Source, item_from}
 use Rattle.index_region.specs.Arguments.{is_scalar, is_list, has_one_item, counts_as_numbers, number_of, numbers, none_negative}
-use Rattle.index_region.specs.Axes.{is_axis, axis_at, places_along}
+use Rattle.function_names.specs.Axes.{is_axis, axis_at}
+use Rattle.index_region.specs.Axes.{places_along}
 use Rattle.index_region.specs.Boxes.{Interval, whole_of}
 use Rattle.change_core.specs.RuleModels.{RuleModel}
 use Rattle.change_core.specs.Sourced.{Spread, on_axis, two_sourced}
@@ -76,6 +77,7 @@ abbrev pub replicate_whole : Along → ArrayValue → ArrayValue → Result Arra
 replicate_whole along a b = whole (replicate_form along a b) (replicate_item along a b)
 
 -- What a change of an argument of replicate, A/B, changes of the result.
+
 -- how many copies there are of the first places of an axis of n places
 abbrev pub copies_before : ArrayValue → ℕ → ℕ → ℕ
 copies_before a n places = sum (take places (times a n))

@@ -4,7 +4,7 @@ use Rattle.std.specs.Ordering.{int_eq}
 use Rattle.arrays_core.specs.declared.item.Item.{Item}
 use Rattle.arrays_core.specs.declared.item.Item.TheVariants.{Num, Char}
 use Rattle.arrays_core.specs.declared.item.Kind.{Kind}
-use Rattle.scalar_fns.specs.declared.function.Scalar2.TheVariants.{Equal}
+use Rattle.function_names.specs.declared.scalar.Scalar2.TheVariants.{Equal}
 use Rattle.scalar_fns.specs.Items.{dyadic_on_items}
 
 -- the answer of a comparison is 1

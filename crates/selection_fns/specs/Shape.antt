@@ -23,6 +23,7 @@ abbrev pub shape_whole : ArrayValue → Result ArrayValue Kind
 shape_whole b = whole (shape_form b) (shape_item b)
 
 -- What a change of the argument of shape, ⍴B, changes of the result: nothing.
+
 -- no item is read
 abbrev pub shape_rule : RuleModel
 shape_rule = one_rule shape_form shape_item (λ shape b. unread)

@@ -6,9 +6,8 @@ ghost use Rattle.arrays_core.specs.Limits.{longest_axis};
 ghost use Rattle.index_region.specs.Arguments.{numbers};
 ghost use Rattle.index_region.specs.Boxes.{fits};
 ghost use Rattle.change_core.specs.RuleModels.{HasShape};
-ghost use Rattle.selection_fns.specs.Replicate.{times, replicate_form};
+ghost use Rattle.selection_fns.specs.Replicate.{times, replicate_form, replicate_rule, replicate_box, copies_before as copies_of_first, copied_interval as interval_of_copies};
 ghost use Rattle.change_core.proofs.Growing.{never_grows};
-ghost use Rattle.selection_fns.specs.Replicate.{replicate_rule, replicate_box, copies_before as copies_of_first, copied_interval as interval_of_copies};
 ghost use Rattle.selection_fns.specs.Laws.Replicate.{replicate_tight};
 
 use crate::replicate::Replicate;

@@ -7,8 +7,8 @@ use Rattle.arrays_core.specs.declared.item.ItemType.TheVariants.{Nums, Chars}
 use Rattle.arrays_core.specs.declared.item.Kind.{Kind}
 use Rattle.arrays_core.specs.declared.item.Kind.TheVariants as kind
 use Rattle.apl_expr.specs.Trees.{Tree, Const, Numbers, Text, Name, Dyad}
-use Rattle.apl_expr.specs.declared.expr.ScalarDyad.{ScalarDyad}
-use Rattle.apl_expr.specs.declared.expr.ScalarDyad.TheVariants.{Plus, Times, Divide}
+use Rattle.function_names.specs.declared.scalar.Scalar2.{Scalar2}
+use Rattle.function_names.specs.declared.scalar.Scalar2.TheVariants.{Plus, Times, Divide}
 use Rattle.apl_expr.specs.declared.expr.Dyadic.TheVariants.{Scalar}
 use Rattle.formula_core.specs.Outcomes.{Outcome, fault}
 use Rattle.formula_core.specs.Meaning.{eval}
@@ -36,7 +36,7 @@ T = 0x54 ∷ []
 abbrev U : List ℕ
 U = 0x55 ∷ []
 
-abbrev both : ScalarDyad → Tree → Tree → Tree
+abbrev both : Scalar2 → Tree → Tree → Tree
 both f a b = Dyad (Scalar f) a b
 
 abbrev number : ℕ → Tree

@@ -3,7 +3,7 @@ use Rattle.std.proofs.Common.{◌≡◌, refl, ℕ, pos, negsuc, List, [], ◌�
 use Rattle.arrays_core.specs.declared.item.Kind.TheVariants.{Axis as AxisError, Rank, Length, Domain, Limit}
 use Rattle.arrays_core.specs.Arrays.{ArrayValue}
 use Rattle.arrays_core.proofs.CaseWords.{nums, ints, chars, is, fails, scalar, no_text, no_numbers}
-use Rattle.index_region.specs.declared.along.Along.TheVariants.{First, Last, Axis}
+use Rattle.function_names.specs.declared.along.Along.TheVariants.{First, Last, Axis}
 use Rattle.structural_fns.specs.Reshape.{reshape_whole}
 use Rattle.structural_fns.specs.Ravel.{ravel_whole}
 use Rattle.structural_fns.specs.Take.{take_whole}

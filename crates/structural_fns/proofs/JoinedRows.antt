@@ -14,10 +14,10 @@ use Rattle.arrays_core.specs.Building.{listed, with_row}
 use Rattle.arrays_core.specs.Shapes.{is_index_of, places_before}
 use Rattle.arrays_core.proofs.Shapes.{places_below}
 use Rattle.arrays_core.proofs.Rows.{places_in_row, with_row_none, with_row_more}
-use Rattle.index_region.specs.declared.along.Along.{Along}
+use Rattle.function_names.specs.declared.along.Along.{Along}
 use Rattle.index_region.specs.Answers.{IsRowIn}
 use Rattle.index_region.specs.Arguments.{is_scalar, has_items}
-use Rattle.index_region.specs.Axes.{is_axis, axis_at}
+use Rattle.function_names.specs.Axes.{is_axis, axis_at}
 use Rattle.index_region.specs.Sources.{Place, item_from}
 use Rattle.index_region.proofs.Passing.{RowInside, row_passed, row_inside, place_of_row}
 use Rattle.structural_fns.specs.Catenate.{joined_rank, joined_places, other_axes, ranks_join, axes_agree, types_join, joined_type, joined_shape, in_side, in_side_of_row, catenate_form, catenate_item}

@@ -14,9 +14,9 @@ use Rattle.arrays_core.specs.Items.{fill, and_then}
 use Rattle.arrays_core.specs.Shapes.{size, index_after}
 use Rattle.arrays_core.specs.Arrays.{ArrayValue, IsArray, collect, with_items}
 use Rattle.arrays_core.proofs.Order.{given_in_order}
-use Rattle.index_region.specs.declared.along.Along.{Along}
+use Rattle.function_names.specs.declared.along.Along.{Along}
 use Rattle.index_region.specs.Arguments.{is_scalar}
-use Rattle.index_region.specs.Axes.{is_axis, axis_at}
+use Rattle.function_names.specs.Axes.{is_axis, axis_at}
 use Rattle.index_region.specs.Checks.{form_of}
 use Rattle.structural_fns.specs.Catenate.{joined_rank, joined_places, other_axes, ranks_join, axes_agree, joined_type, joined_shape, types_join, in_side, catenate_item, catenate_form, catenate_whole}
 use Rattle.index_region.proofs.Passing.{gives}

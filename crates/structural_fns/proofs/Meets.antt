@@ -6,8 +6,7 @@ use Rattle.arrays_core.specs.Arrays.{ArrayValue}
 use Rattle.index_region.specs.Arguments.{number_of, numbers}
 use Rattle.index_region.specs.Boxes.{Interval}
 use Rattle.change_core.specs.Ways.{meet_at}
-use Rattle.structural_fns.specs.DyadicTranspose.{axes_to}
-use Rattle.structural_fns.specs.DyadicTranspose.{axes_from_zero}
+use Rattle.structural_fns.specs.DyadicTranspose.{axes_to, axes_from_zero}
 
 -- one axis for each entry
 pub axes_long : (a : ArrayValue) → length (axes_from_zero a) ≡ length a.items

@@ -9,8 +9,9 @@ use Rattle.arrays_core.specs.Building.{IsRowOf}
 use Rattle.arrays_core.proofs.Shapes.{places_below}
 use Rattle.arrays_core.proofs.Rows.{places_in_row}
 use Rattle.index_region.specs.Answers.{IsRowIn}
-use Rattle.index_region.specs.Axes.{is_axis, axis_at, places_along}
-use Rattle.index_region.specs.declared.along.Along.{Along}
+use Rattle.function_names.specs.Axes.{is_axis, axis_at}
+use Rattle.index_region.specs.Axes.{places_along}
+use Rattle.function_names.specs.declared.along.Along.{Along}
 use Rattle.index_region.proofs.Passing.{row_passed, row_inside}
 use Rattle.index_region.proofs.Placed.{left_placed}
 use Rattle.structural_fns.specs.Reverse.{reverse_form, reverse_item}

@@ -12,10 +12,11 @@ use Rattle.arrays_core.specs.Shapes.{size, is_index_of, places_before}
 use Rattle.arrays_core.proofs.Shapes.{places_below}
 use Rattle.arrays_core.proofs.Rows.{places_in_row}
 use Rattle.scalar_fns.specs.ScalarExtension.{extended}
-use Rattle.index_region.specs.declared.along.Along.{Along}
+use Rattle.function_names.specs.declared.along.Along.{Along}
 use Rattle.index_region.specs.Answers.{IsRowIn}
 use Rattle.index_region.specs.Arguments.{has_one_item, counts_as_numbers, number_of}
-use Rattle.index_region.specs.Axes.{is_axis, axis_at, places_along}
+use Rattle.function_names.specs.Axes.{is_axis, axis_at}
+use Rattle.index_region.specs.Axes.{places_along}
 use Rattle.index_region.proofs.Passing.{RowInside, row_passed, row_inside}
 use Rattle.index_region.proofs.Placed.{right_placed}
 use Rattle.structural_fns.specs.Rotate.{rotate_form, rotate_item, rotated_place, rotation}

@@ -9,10 +9,10 @@ use Rattle.arrays_core.specs.declared.item.Kind.TheVariants.{Axis as AxisKind, R
 use Rattle.arrays_core.specs.Items.{type_of}
 use Rattle.arrays_core.specs.Arrays.{ArrayValue}
 use Rattle.arrays_core.proofs.Shapes.{as_long}
-use Rattle.index_region.specs.declared.along.Along.{Along}
+use Rattle.function_names.specs.declared.along.Along.{Along}
 use Rattle.index_region.specs.Checks.{check, limited}
 use Rattle.index_region.specs.Arguments.{is_scalar, has_items, is_same_type}
-use Rattle.index_region.specs.Axes.{is_axis, axis_at}
+use Rattle.function_names.specs.Axes.{is_axis, axis_at}
 use Rattle.index_region.specs.Answers.{IsPlaceOf, HasTypeOf}
 use Rattle.index_region.proofs.Passing.{passed, place_inside, typed_check, typed_limited}
 use Rattle.structural_fns.specs.Catenate.{joined_rank, joined_places, other_axes, ranks_join, axes_agree, types_join, joined_type, joined_shape, catenate_form}

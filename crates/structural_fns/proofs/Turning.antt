@@ -13,9 +13,9 @@ use Rattle.arrays_core.specs.Items.{type_of}
 use Rattle.arrays_core.specs.Arrays.{ArrayValue}
 use Rattle.scalar_fns.specs.Numbers.{residue}
 use Rattle.scalar_fns.proofs.Residues.{both_positive}
-use Rattle.index_region.specs.declared.along.Along.{Along}
+use Rattle.function_names.specs.declared.along.Along.{Along}
 use Rattle.index_region.specs.Checks.{check, limited}
-use Rattle.index_region.specs.Axes.{is_axis, axis_at}
+use Rattle.function_names.specs.Axes.{is_axis, axis_at}
 use Rattle.index_region.specs.Arguments.{has_one_item, counts_as_numbers}
 use Rattle.index_region.specs.Answers.{HasTypeOf}
 use Rattle.index_region.proofs.Passing.{typed_check, typed_limited}

@@ -24,6 +24,7 @@ counted_form shape a b =
     (limited shape b.item_type)))
 
 -- What the rules of take and drop share.
+
 -- the box on the axes that the counts are for: of a scalar, its one place on each
 abbrev pub counted_box : ArrayValue → ArrayValue → List Interval → List Interval
 counted_box a b region = if is_scalar b then whole_of (counted_shape a b) else region

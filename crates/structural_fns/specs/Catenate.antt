@@ -5,10 +5,10 @@ use Rattle.arrays_core.specs.declared.item.ItemType.{ItemType}
 use Rattle.arrays_core.specs.declared.item.Kind.{Kind}
 use Rattle.arrays_core.specs.declared.item.Kind.TheVariants.{Axis, Rank, Length, Domain}
 use Rattle.arrays_core.specs.Arrays.{ArrayValue}
-use Rattle.index_region.specs.declared.along.Along.{Along}
+use Rattle.function_names.specs.declared.along.Along.{Along}
 use Rattle.index_region.specs.Checks.{check, Form, limited, whole}
 use Rattle.index_region.specs.Arguments.{is_scalar, has_items, is_same_type}
-use Rattle.index_region.specs.Axes.{is_axis, axis_at}
+use Rattle.function_names.specs.Axes.{is_axis, axis_at}
 use Rattle.index_region.specs.Sources.{Place, Source, item_from}
 use Rattle.index_region.specs.Boxes.{Interval, whole_of}
 use Rattle.change_core.specs.RuleModels.{RuleModel}
@@ -99,6 +99,7 @@ pub record IsSide (side : ArrayValue) (rank : ℕ) : Type 0 where
   pub near : (length side.shape ≡ 0) ⊎ (rank ≤ length side.shape + 1)
 
 -- What a change of an argument of catenate changes of the result.
+
 -- a place of the result's axis
 abbrev pub one_place : ℕ → Interval
 one_place i = (i, i)

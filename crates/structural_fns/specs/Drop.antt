@@ -43,6 +43,7 @@ abbrev pub drop_whole : ArrayValue → ArrayValue → Result ArrayValue Kind
 drop_whole a b = whole (drop_form a b) (drop_item a b)
 
 -- What a change of an argument of drop changes of the result.
+
 -- what is left of an axis of n places, and where drop puts an interval of it
 abbrev pub kept : ℕ → ℤ → Axis
 kept n (pos count) = record { len = n - count; source = kept_place (pos count); image = λ s. (s.0 - count, s.1 - count) }

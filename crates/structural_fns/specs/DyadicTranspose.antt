@@ -74,6 +74,7 @@ abbrev pub transpose_by_whole : ArrayValue → ArrayValue → Result ArrayValue 
 transpose_by_whole a b = whole (transpose_by_form a b) (transpose_by_item a b)
 
 -- What may change of A⍉B: on each axis what lies in all changed intervals that go there; anew where A changed.
+
 -- the axes that the axes of b go to, counted from 0
 abbrev pub axes_from_zero : ArrayValue → List ℕ
 axes_from_zero a = map (λ j. j - 1) (axes_to a)

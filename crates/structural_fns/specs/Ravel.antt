@@ -27,6 +27,7 @@ abbrev pub ravel_whole : ArrayValue → Result ArrayValue Kind
 ravel_whole b = whole (ravel_form b) (ravel_item b)
 
 -- What a change of the argument of ravel changes of the result.
+
 -- from the first place of the box in the ravel to the last
 abbrev pub ravel_box : List ℕ → ArrayValue → Spread
 ravel_box shape b region = Some ((places_before b.shape (first_of_box region) + 1, places_before b.shape (last_of_box region) + 1) ∷ [])

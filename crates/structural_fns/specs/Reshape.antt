@@ -47,6 +47,7 @@ abbrev pub reshape_whole : ArrayValue → ArrayValue → Result ArrayValue Kind
 reshape_whole a b = whole (reshape_form a b) (reshape_item a b)
 
 -- What a change of an argument of reshape changes of the result.
+
 -- all where items are needed again; else from the first place of the box in the ravel to the last, as far as there are such
 abbrev pub reshape_box : List ℕ → ArrayValue → ArrayValue → Spread
 reshape_box shape a b = (by_place b.shape shape).box

@@ -4,9 +4,10 @@ use Rattle.arrays_core.specs.declared.item.Item.{Item}
 use Rattle.arrays_core.specs.declared.item.Kind.{Kind}
 use Rattle.arrays_core.specs.declared.item.Kind.TheVariants.{Axis}
 use Rattle.arrays_core.specs.Arrays.{ArrayValue}
-use Rattle.index_region.specs.declared.along.Along.{Along}
+use Rattle.function_names.specs.declared.along.Along.{Along}
 use Rattle.index_region.specs.Checks.{check, Form, limited, whole}
-use Rattle.index_region.specs.Axes.{is_axis, axis_at, places_along}
+use Rattle.function_names.specs.Axes.{is_axis, axis_at}
+use Rattle.index_region.specs.Axes.{places_along}
 use Rattle.index_region.specs.Sources.{Place, Source, item_from}
 use Rattle.index_region.specs.Boxes.{Interval}
 use Rattle.change_core.specs.RuleModels.{RuleModel}
@@ -31,6 +32,7 @@ abbrev pub reverse_whole : Along → ArrayValue → Result ArrayValue Kind
 reverse_whole along b = whole (reverse_form along b) (reverse_item along b)
 
 -- What may change of ⌽B along an axis: the changed interval of the axis, counted from its other end.
+
 -- an interval of an axis of n places, counted from its other end
 abbrev pub reversed : ℕ → Interval → Interval
 reversed n s = (suc n - s.1, suc n - s.0)

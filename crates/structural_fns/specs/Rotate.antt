@@ -5,10 +5,11 @@ use Rattle.arrays_core.specs.declared.item.Kind.{Kind}
 use Rattle.arrays_core.specs.declared.item.Kind.TheVariants.{Axis, Rank, Length, Domain}
 use Rattle.arrays_core.specs.Arrays.{ArrayValue}
 use Rattle.arrays_core.specs.Shapes.{size}
-use Rattle.index_region.specs.declared.along.Along.{Along}
+use Rattle.function_names.specs.declared.along.Along.{Along}
 use Rattle.index_region.specs.Checks.{check, Form, limited, whole}
 use Rattle.index_region.specs.Arguments.{has_one_item, counts_as_numbers, number_of}
-use Rattle.index_region.specs.Axes.{is_axis, axis_at, places_along}
+use Rattle.function_names.specs.Axes.{is_axis, axis_at}
+use Rattle.index_region.specs.Axes.{places_along}
 use Rattle.index_region.specs.Sources.{Place, Source, item_from}
 use Rattle.index_region.specs.Boxes.{whole_of}
 use Rattle.change_core.specs.RuleModels.{RuleModel, Use}
@@ -54,6 +55,7 @@ abbrev pub rotate_whole : Along → ArrayValue → ArrayValue → Result ArrayVa
 rotate_whole along a b = whole (rotate_form along a b) (rotate_item along a b)
 
 -- What may change of A⌽B along an axis: whole lines along it, as a place may come from any place of its line.
+
 -- the box of B: the axis whole, other axes as they are
 abbrev pub rotate_box : Along → ArrayValue → Spread
 rotate_box along b =

@@ -50,6 +50,7 @@ abbrev pub take_whole : ArrayValue → ArrayValue → Result ArrayValue Kind
 take_whole a b = whole (take_form a b) (take_item a b)
 
 -- What a change of an argument of take changes of the result.
+
 -- an axis of n places of which so many are taken, and where take puts an interval of it
 abbrev pub taken : ℕ → ℤ → Axis
 taken n (pos count) = record { len = count; source = taken_place n (pos count); image = λ s. s }

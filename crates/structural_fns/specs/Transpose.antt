@@ -25,6 +25,7 @@ abbrev pub transpose_whole : ArrayValue → Result ArrayValue Kind
 transpose_whole b = whole (transpose_form b) (transpose_item b)
 
 -- What may change of ⍉B: the changed box with its axes in reverse order.
+
 -- the box: the intervals in reverse order
 abbrev pub transpose_box : Spread
 transpose_box region = Some (reverse region)

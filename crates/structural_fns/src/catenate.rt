@@ -9,7 +9,7 @@ ghost use Rattle.arrays_core.specs.Building.{listed};
 ghost use Rattle.arrays_core.specs.Shapes.{size, is_index_of, places_before, IsWithinLimits};
 ghost use Rattle.index_region.specs.Checks.{Form};
 ghost use Rattle.index_region.specs.Arguments.{is_scalar, has_items};
-ghost use Rattle.index_region.specs.Axes.{is_axis, axis_at};
+ghost use Rattle.function_names.specs.Axes.{is_axis, axis_at};
 ghost use Rattle.index_region.specs.ArgumentLists.{of_two_arguments};
 ghost use Rattle.index_region.specs.Answers.{IsPlaceOf, IsSourceIn, source_value};
 ghost use Rattle.index_region.specs.Boxes.{fits};

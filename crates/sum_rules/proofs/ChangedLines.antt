@@ -12,12 +12,12 @@ use Rattle.arrays_core.specs.Arrays.{ArrayValue, item_of}
 use Rattle.arrays_core.specs.Items.{fill, type_of}
 use Rattle.arrays_core.specs.Shapes.{size, is_index_of, places_before}
 use Rattle.arrays_core.proofs.Shapes.{places_below}
-use Rattle.scalar_fns.specs.declared.function.Scalar2.{Scalar2}
+use Rattle.function_names.specs.declared.scalar.Scalar2.{Scalar2}
 use Rattle.scalar_fns.specs.Folds.{strided}
 use Rattle.scalar_fns.proofs.RightFolds.{length-strided, get_or-strided}
 use Rattle.index_region.specs.Arguments.{number_of}
 use Rattle.index_region.specs.Axes.{places_along}
-use Rattle.index_region.specs.declared.along.Along.{Along}
+use Rattle.function_names.specs.declared.along.Along.{Along}
 use Rattle.index_region.specs.Boxes.{Interval, box_size, is_within, walk_at}
 use Rattle.index_region.specs.Patches.{PatchValue, IsPatch, FitsPatch, patched, patched_item}
 use Rattle.index_region.proofs.Boxes.{fits_length}

@@ -7,8 +7,8 @@ use Rattle.arrays_core.specs.Arrays.{ArrayValue}
 use Rattle.arrays_core.specs.declared.item.Kind.{Kind}
 use Rattle.arrays_core.specs.declared.item.ItemType.{ItemType}
 use Rattle.operator_fns.specs.declared.reduce.Reduce.{Reduce}
-use Rattle.index_region.specs.Axes.{axis_at, is_axis}
-use Rattle.index_region.specs.declared.along.Along.{Along}
+use Rattle.function_names.specs.Axes.{axis_at, is_axis}
+use Rattle.function_names.specs.declared.along.Along.{Along}
 use Rattle.index_region.specs.Boxes.{Interval, box_size, met, unless_empty, join_boxes}
 use Rattle.index_region.specs.Checks.{Form, form_of}
 use Rattle.index_region.specs.Patches.{PatchValue, patched}

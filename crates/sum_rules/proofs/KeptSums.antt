@@ -6,8 +6,8 @@ use Rattle.arrays_core.specs.Shapes.{size}
 use Rattle.arrays_core.specs.declared.item.ItemType.{ItemType}
 use Rattle.arrays_core.specs.declared.item.ItemType.TheVariants.{Nums, Chars}
 use Rattle.index_region.specs.Arguments.{is_of_numbers}
-use Rattle.index_region.specs.Axes.{is_axis, axis_at}
-use Rattle.index_region.specs.declared.along.Along.{Along}
+use Rattle.function_names.specs.Axes.{is_axis, axis_at}
+use Rattle.function_names.specs.declared.along.Along.{Along}
 use Rattle.sum_rules.proofs.Lines.{has_axis}
 use Rattle.index_region.specs.Patches.{PatchValue, FitsPatch, patched}
 use Rattle.operator_fns.specs.declared.reduce.Reduce.{Reduce}

@@ -19,12 +19,12 @@ use Rattle.arrays_core.specs.Shapes.{size, indices, places_before}
 use Rattle.arrays_core.proofs.Growing.{rank_longer, size_longer}
 use Rattle.arrays_core.proofs.Order.{length-indices, get_or-indices, places_before-index_after}
 use Rattle.arrays_core.proofs.Shapes.{places_below}
-use Rattle.scalar_fns.specs.declared.function.Scalar2.{Scalar2}
+use Rattle.function_names.specs.declared.scalar.Scalar2.{Scalar2}
 use Rattle.scalar_fns.specs.Folds.{strided, folded}
 use Rattle.scalar_fns.specs.Items.{number_item}
 use Rattle.scalar_fns.specs.Numbers.{dyadic_on_numbers}
 use Rattle.scalar_fns.proofs.RightFolds.{length-strided, get_or-strided}
-use Rattle.index_region.specs.Axes.{axis_at, is_axis}
+use Rattle.function_names.specs.Axes.{axis_at, is_axis}
 use Rattle.index_region.specs.Checks.{form_of}
 use Rattle.index_region.specs.Tails.{TailValue}
 use Rattle.operator_fns.specs.Reduce.{reduce_form, reduce_whole}

@@ -6,10 +6,10 @@ use Rattle.arrays_core.specs.declared.item.Item.{Item}
 use Rattle.arrays_core.specs.Arrays.{ArrayValue, IsArray}
 use Rattle.arrays_core.specs.Growth.{grown_by}
 use Rattle.arrays_core.specs.Shapes.{size}
-use Rattle.scalar_fns.specs.declared.function.Scalar2.{Scalar2}
+use Rattle.function_names.specs.declared.scalar.Scalar2.{Scalar2}
 use Rattle.index_region.specs.Arguments.{is_of_numbers}
-use Rattle.index_region.specs.Axes.{is_axis, axis_at}
-use Rattle.index_region.specs.declared.along.Along.{Along}
+use Rattle.function_names.specs.Axes.{is_axis, axis_at}
+use Rattle.function_names.specs.declared.along.Along.{Along}
 use Rattle.index_region.specs.Patches.{PatchValue, patched}
 use Rattle.operator_fns.specs.declared.reduce.Reduce.{Reduce}
 use Rattle.operator_fns.specs.SumTrees.{TreesValue}

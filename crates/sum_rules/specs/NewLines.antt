@@ -3,7 +3,7 @@ use Rattle.std.specs.Prelude.{◌≡◌, ℕ, ◌-◌, ◌/◌, ◌<◌, ℤ, ma
 use Rattle.arrays_core.specs.declared.item.Item.TheVariants.{Num}
 use Rattle.arrays_core.specs.declared.item.ItemType.TheVariants.{Nums}
 use Rattle.arrays_core.specs.Shapes.{size, IsWithinLimits}
-use Rattle.scalar_fns.specs.declared.function.Scalar2.{Scalar2}
+use Rattle.function_names.specs.declared.scalar.Scalar2.{Scalar2}
 use Rattle.index_region.specs.Tails.{TailValue, FitsTail}
 use Rattle.operator_fns.specs.SumTrees.{with_lines, with_places}
 use Rattle.fold_trees.specs.FoldTrees.{FoldsValue, AreFoldedBehind, AreFoldedNext}

@@ -1,16 +1,16 @@
 -- The totals of the lines of an array whose sums are kept by trees.
 use Rattle.std.specs.Prelude.{◌≡◌, ℕ, ◌+◌, ◌-◌, ◌*◌, ◌<◌, ◌≤◌, ◌^◌, ℤ, pos, nat_eq, Bool, true, false, ◌&&◌, is_ok, List, [], ◌∷◌, ◌++◌, length, get_or, map, remove, All, Result}
 use Rattle.std.specs.List.{flat_map, range_with_len}
-use Rattle.scalar_fns.specs.declared.function.Scalar2.{Scalar2}
-use Rattle.scalar_fns.specs.declared.function.Scalar2.TheVariants.{Plus}
+use Rattle.function_names.specs.declared.scalar.Scalar2.{Scalar2}
+use Rattle.function_names.specs.declared.scalar.Scalar2.TheVariants.{Plus}
 use Rattle.arrays_core.specs.Arrays.{ArrayValue}
 use Rattle.arrays_core.specs.Growth.{grown_by}
 use Rattle.arrays_core.specs.declared.item.Item.{Item}
 use Rattle.arrays_core.specs.declared.item.Item.TheVariants.{Num}
 use Rattle.arrays_core.specs.declared.item.Kind.{Kind}
-use Rattle.index_region.specs.Axes.{is_axis, axis_at}
-use Rattle.index_region.specs.declared.along.Along.{Along}
-use Rattle.index_region.specs.declared.along.Along.TheVariants.{Last}
+use Rattle.function_names.specs.Axes.{is_axis, axis_at}
+use Rattle.function_names.specs.declared.along.Along.{Along}
+use Rattle.function_names.specs.declared.along.Along.TheVariants.{Last}
 use Rattle.index_region.specs.declared.delta.Delta.{Delta}
 use Rattle.index_region.specs.declared.delta.Delta.TheVariants.{Patch, Grown}
 use Rattle.index_region.specs.Boxes.{Interval, box_size}

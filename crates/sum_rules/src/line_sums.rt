@@ -6,7 +6,7 @@ ghost use Rattle.arrays_core.specs.declared.item.ItemType.TheVariants.{Nums};
 ghost use Rattle.arrays_core.specs.Arrays.{IsArray};
 ghost use Rattle.arrays_core.specs.Items.{type_of};
 ghost use Rattle.arrays_core.specs.Shapes.{size as size_of, IsWithinLimits};
-ghost use Rattle.index_region.specs.Axes.{is_axis as has_axis, axis_at as axis_meant};
+ghost use Rattle.function_names.specs.Axes.{is_axis as has_axis, axis_at as axis_meant};
 ghost use Rattle.index_region.specs.Patches.{FitsPatch, patched};
 ghost use Rattle.operator_fns.specs.SumTrees.{with_number};
 ghost use Rattle.fold_trees.specs.FoldTrees.{has_trees as has_such};

@@ -3,8 +3,8 @@
 ghost use Rattle.std.specs.Prelude.{◌≡◌, ◌<◌, ◌-◌, ◌/◌, ◌%◌, ◌++◌, ◌∷◌, [], length};
 ghost use Rattle.operator_fns.specs.SumTree.{IsWithinDigitsOf};
 ghost use Rattle.operator_fns.specs.SumTrees.{TreesValue, line_count, numbers_of_line, numbers_through, with_number};
-ghost use Rattle.scalar_fns.specs.declared.function.Scalar2.{Scalar2 as Function};
-ghost use Rattle.scalar_fns.specs.declared.function.Scalar2.TheVariants.{Plus as Sum};
+ghost use Rattle.function_names.specs.declared.scalar.Scalar2.{Scalar2 as Function};
+ghost use Rattle.function_names.specs.declared.scalar.Scalar2.TheVariants.{Plus as Sum};
 ghost use Rattle.fold_trees.specs.FoldTrees.{IsReductionBy};
 ghost use Rattle.sum_rules.specs.Totals.{AreAllAsLong, all_trees};
 
@@ -17,7 +17,7 @@ pub trait LineTotals {
     ghost use Rattle.std.specs.Prelude.{◌<◌, ◌-◌, ◌++◌, ◌∷◌, [], length};
     ghost use Rattle.operator_fns.specs.SumTree.{IsWithinDigitsOf};
     ghost use Rattle.operator_fns.specs.SumTrees.{TreesValue, line_count, numbers_of_line, numbers_through, with_number};
-    ghost use Rattle.scalar_fns.specs.declared.function.Scalar2.{Scalar2 as Function};
+    ghost use Rattle.function_names.specs.declared.scalar.Scalar2.{Scalar2 as Function};
     ghost use Rattle.fold_trees.specs.FoldTrees.{IsReductionBy};
 
     // The function by which the lines are folded.

@@ -1,10 +1,9 @@
 -- The law of inner product.
 use Rattle.std.proofs.Common.{false, refl}
-use Rattle.scalar_fns.specs.declared.function.Scalar2.{Scalar2}
+use Rattle.function_names.specs.declared.scalar.Scalar2.{Scalar2}
 use Rattle.change_core.specs.Laws.{IsTight}
 use Rattle.change_core.proofs.Sourced.{two_arrays_tight}
-use Rattle.operator_fns.specs.InnerProduct.{inner_form, inner_item}
-use Rattle.operator_fns.specs.InnerProduct.{column_use, inner_rule, row_use}
+use Rattle.operator_fns.specs.InnerProduct.{inner_form, inner_item, column_use, inner_rule, row_use}
 use Rattle.operator_fns.specs.Laws.InnerProductReads.{column_covered, inner_same, row_covered}
 
 pub inner_tight : (f g : Scalar2) → IsTight (inner_rule f g)

@@ -10,7 +10,7 @@ use Rattle.arrays_core.specs.Arrays.{ArrayValue, IsArray, item_if_there}
 use Rattle.arrays_core.specs.Items.{fill, and_then}
 use Rattle.arrays_core.specs.Shapes.{is_index_of, places_before, size}
 use Rattle.arrays_core.proofs.Shapes.{as_long}
-use Rattle.scalar_fns.specs.declared.function.Scalar2.{Scalar2}
+use Rattle.function_names.specs.declared.scalar.Scalar2.{Scalar2}
 use Rattle.scalar_fns.specs.Items.{dyadic_on_items}
 use Rattle.scalar_fns.specs.ScalarExtension.{extended}
 use Rattle.index_region.specs.Answers.{IsPlaceOf}
@@ -19,10 +19,9 @@ use Rattle.index_region.specs.Checks.{Form}
 use Rattle.change_core.specs.Laws.{Covered, Each}
 use Rattle.change_core.specs.Sourced.{other}
 use Rattle.change_core.proofs.UsedWays.{back-onto, each_all, each_map, front-onto}
-use Rattle.operator_fns.specs.InnerProduct.{all_or_last_error, column_length, inner_form, inner_item, inner_length, row_length, row_rank}
+use Rattle.operator_fns.specs.InnerProduct.{all_or_last_error, column_length, inner_form, inner_item, inner_length, row_length, row_rank, column_use, extended_line, row_use}
 use Rattle.operator_fns.specs.RightFold.{fold_right}
 use Rattle.operator_fns.specs.Laws.InnerPlaces.{PassedInner, column_place, extended_many, extended_one, passed_inner, row_place}
-use Rattle.operator_fns.specs.InnerProduct.{column_use, extended_line, row_use}
 use Rattle.change_core.proofs.ReadAlike.{item_same}
 
 -- ---- the place of an array of one item

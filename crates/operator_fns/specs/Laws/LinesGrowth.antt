@@ -9,22 +9,21 @@ use Rattle.arrays_core.specs.declared.item.ItemType.{ItemType}
 use Rattle.arrays_core.specs.declared.item.ItemType.TheVariants.{Nums}
 use Rattle.arrays_core.specs.Arrays.{ArrayValue, IsArray, item_of}
 use Rattle.arrays_core.specs.Shapes.{is_index_of}
-use Rattle.scalar_fns.specs.declared.function.Scalar2.{Scalar2}
-use Rattle.index_region.specs.declared.along.Along.{Along}
-use Rattle.index_region.specs.Axes.{axis_at, places_along}
+use Rattle.function_names.specs.declared.scalar.Scalar2.{Scalar2}
+use Rattle.function_names.specs.declared.along.Along.{Along}
+use Rattle.function_names.specs.Axes.{axis_at}
+use Rattle.index_region.specs.Axes.{places_along}
 use Rattle.index_region.specs.Checks.{Form, form_of}
 use Rattle.arrays_core.specs.Growth.{one_longer}
 use Rattle.change_core.specs.Growth.{IsGrown, IsGrowing}
 use Rattle.change_core.proofs.Growing.{along_longer, item_kept, growing_growing, length-longer, longer_form, one_growing, range_same, remove_longer, shape_grown, some_left, type_grown}
-use Rattle.operator_fns.specs.Reduce.{reduce_form, reduce_item, reduce_type}
-use Rattle.operator_fns.specs.Scan.{scan_form, scan_item, scan_type}
+use Rattle.operator_fns.specs.Reduce.{reduce_form, reduce_item, reduce_type, reduce_rule, reduce_use}
+use Rattle.operator_fns.specs.Scan.{scan_form, scan_item, scan_type, scan_rule, scan_use}
 use Rattle.operator_fns.specs.RightFold.{fold_right, line}
 use Rattle.operator_fns.specs.Laws.LineIndices.{inside}
 use Rattle.operator_fns.specs.Laws.ReducedShapes.{reduce_facts}
 use Rattle.operator_fns.specs.Laws.ScannedPlaces.{at_axis, scan_facts}
 use Rattle.index_region.proofs.RowIndices.{axis_below}
-use Rattle.operator_fns.specs.Reduce.{reduce_rule, reduce_use}
-use Rattle.operator_fns.specs.Scan.{scan_rule, scan_use}
 use Rattle.operator_fns.specs.Growth.{lines_grow}
 
 -- what is the same of the old array and the one that grew, along an axis that is not the first

@@ -6,23 +6,23 @@ use Rattle.std.proofs.lemmas.List.Edits.{length-remove}
 use Rattle.arrays_core.specs.declared.item.Item.{Item}
 use Rattle.arrays_core.specs.Arrays.{ArrayValue, item_if_there}
 use Rattle.arrays_core.specs.Shapes.{is_index_of}
-use Rattle.scalar_fns.specs.declared.function.Scalar2.{Scalar2}
-use Rattle.index_region.specs.declared.along.Along.{Along}
-use Rattle.index_region.specs.Axes.{axis_at, places_along}
+use Rattle.function_names.specs.declared.scalar.Scalar2.{Scalar2}
+use Rattle.function_names.specs.declared.along.Along.{Along}
+use Rattle.function_names.specs.Axes.{axis_at}
+use Rattle.index_region.specs.Axes.{places_along}
 use Rattle.index_region.specs.Boxes.{Interval, fits, is_within}
 use Rattle.change_core.specs.Laws.{IsTight, Covered, Each}
 use Rattle.change_core.specs.Sourced.{other}
 use Rattle.change_core.proofs.Growing.{tight_growing}
 use Rattle.change_core.proofs.Sourced.{one_tight}
 use Rattle.change_core.proofs.UsedWays.{lines-covered}
-use Rattle.operator_fns.specs.Reduce.{reduce_form, reduce_item}
+use Rattle.operator_fns.specs.Reduce.{reduce_form, reduce_item, line_use, reduce_rule, reduce_use}
 use Rattle.operator_fns.specs.RightFold.{fold_right, line}
 use Rattle.operator_fns.specs.Laws.LineIndices.{inside}
 use Rattle.operator_fns.specs.Laws.ReducedShapes.{reduce_facts}
 use Rattle.index_region.proofs.RowIndices.{axis_below}
 use Rattle.change_core.proofs.ReadAlike.{item_same}
 use Rattle.operator_fns.specs.Laws.ReadLines.{items_same, no_axes, scalar_line}
-use Rattle.operator_fns.specs.Reduce.{line_use, reduce_rule, reduce_use}
 
 -- a line is the same where it is read alike
 line_same : (d : ArrayValue) (xs : List Item) (axis : ℕ) (index : List ℕ) → (0 < length d.shape → axis < length d.shape) → is_index_of (remove d.shape axis) index ≡ true

@@ -8,21 +8,21 @@ use Rattle.arrays_core.specs.declared.item.Item.{Item}
 use Rattle.arrays_core.specs.Arrays.{ArrayValue, item_of, item_if_there}
 use Rattle.arrays_core.specs.Shapes.{is_index_of}
 use Rattle.arrays_core.proofs.Shapes.{as_long}
-use Rattle.scalar_fns.specs.declared.function.Scalar2.{Scalar2}
-use Rattle.index_region.specs.declared.along.Along.{Along}
-use Rattle.index_region.specs.Axes.{axis_at, places_along}
+use Rattle.function_names.specs.declared.scalar.Scalar2.{Scalar2}
+use Rattle.function_names.specs.declared.along.Along.{Along}
+use Rattle.function_names.specs.Axes.{axis_at}
+use Rattle.index_region.specs.Axes.{places_along}
 use Rattle.change_core.specs.Laws.{IsTight, Covered}
 use Rattle.change_core.specs.Sourced.{other}
 use Rattle.change_core.proofs.Growing.{tight_growing}
 use Rattle.change_core.proofs.Sourced.{one_tight}
 use Rattle.change_core.proofs.UsedWays.{Follows, along-covered, each_range}
-use Rattle.operator_fns.specs.Scan.{scan_form, scan_item}
+use Rattle.operator_fns.specs.Scan.{scan_form, scan_item, run_use, scan_rule, scan_use}
 use Rattle.operator_fns.specs.RightFold.{fold_right, line}
 use Rattle.operator_fns.specs.Laws.ScannedPlaces.{at_axis, scan_facts}
 use Rattle.index_region.proofs.RowIndices.{axis_below}
 use Rattle.change_core.proofs.ReadAlike.{item_same}
 use Rattle.operator_fns.specs.Laws.ReadLines.{items_same, no_axes, scalar_line}
-use Rattle.operator_fns.specs.Scan.{run_use, scan_rule, scan_use}
 
 -- an index that is taken out and put in again
 pub put_again : (axis j : ℕ) (index : List ℕ) → axis < length index → insert (remove index axis) axis j ≡ set index axis j

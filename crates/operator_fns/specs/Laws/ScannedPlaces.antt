@@ -5,10 +5,11 @@ use Rattle.arrays_core.specs.declared.item.ItemType.{ItemType}
 use Rattle.arrays_core.specs.Shapes.{is_index_of}
 use Rattle.arrays_core.specs.Arrays.{ArrayValue}
 use Rattle.arrays_core.proofs.Shapes.{head_of}
-use Rattle.index_region.specs.declared.along.Along.{Along}
+use Rattle.function_names.specs.declared.along.Along.{Along}
 use Rattle.index_region.specs.Checks.{form_of, Form, limited}
 use Rattle.index_region.specs.Arguments.{counts_as_numbers}
-use Rattle.index_region.specs.Axes.{places_along, is_axis, axis_at}
+use Rattle.function_names.specs.Axes.{is_axis, axis_at}
+use Rattle.index_region.specs.Axes.{places_along}
 use Rattle.index_region.proofs.Passing.{gives, limited_gives}
 use Rattle.operator_fns.specs.Scan.{scan_type, scan_form}
 

@@ -11,7 +11,7 @@ use Rattle.arrays_core.specs.Arrays.{ArrayValue, IsArray, item_of}
 use Rattle.arrays_core.specs.Items.{fill}
 use Rattle.arrays_core.specs.Shapes.{size, is_index_of, places_before}
 use Rattle.arrays_core.proofs.Shapes.{factor_le, places_below}
-use Rattle.scalar_fns.specs.declared.function.Scalar2.{Scalar2}
+use Rattle.function_names.specs.declared.scalar.Scalar2.{Scalar2}
 use Rattle.scalar_fns.specs.Items.{dyadic_on_items}
 use Rattle.scalar_fns.specs.ScalarExtension.{common, extended, for_shape}
 use Rattle.index_region.specs.Checks.{Form, form_of}

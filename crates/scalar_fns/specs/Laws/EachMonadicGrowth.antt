@@ -1,7 +1,7 @@
 -- The growth of a scalar function of one array.
 use Rattle.std.proofs.Common.{◌≡◌, ap, sym, ◌∙◌, true}
 use Rattle.arrays_core.specs.declared.item.ItemType.TheVariants.{Nums}
-use Rattle.scalar_fns.specs.declared.function.Scalar1.{Scalar1}
+use Rattle.function_names.specs.declared.scalar.Scalar1.{Scalar1}
 use Rattle.scalar_fns.specs.Items.{monadic_on_item}
 use Rattle.index_region.specs.Checks.{form_of}
 use Rattle.change_core.specs.Growth.{IsGrowing}

@@ -5,9 +5,10 @@ use Rattle.arrays_core.specs.declared.item.ItemType.{ItemType}
 use Rattle.arrays_core.specs.Arrays.{ArrayValue}
 use Rattle.arrays_core.specs.Shapes.{is_index_of}
 use Rattle.arrays_core.proofs.Shapes.{as_long, head_of}
-use Rattle.index_region.specs.declared.along.Along.{Along}
+use Rattle.function_names.specs.declared.along.Along.{Along}
 use Rattle.index_region.specs.Checks.{form_of, Form}
-use Rattle.index_region.specs.Axes.{is_axis, axis_at, places_along}
+use Rattle.function_names.specs.Axes.{is_axis, axis_at}
+use Rattle.index_region.specs.Axes.{places_along}
 use Rattle.index_region.specs.Arguments.{is_list, has_one_item, counts_as_numbers, none_negative, numbers}
 use Rattle.index_region.proofs.Passing.{gives, limited_gives}
 use Rattle.index_region.proofs.RowIndices.{axis_below}

@@ -21,8 +21,7 @@ use Rattle.change_core.specs.Sourced.{other}
 use Rattle.change_core.specs.Ways.{everywhere}
 use Rattle.change_core.proofs.Sourced.{two_arrays_tight}
 use Rattle.change_core.proofs.UsedWays.{each_all, each_map, everywhere-covered}
-use Rattle.selection_fns.specs.Decode.{decode_form, decode_item, decoded, digit_at, digit_count, radix_at}
-use Rattle.selection_fns.specs.Decode.{decode_rule, digits_use}
+use Rattle.selection_fns.specs.Decode.{decode_form, decode_item, decoded, digit_at, digit_count, radix_at, decode_rule, digits_use}
 use Rattle.change_core.proofs.ReadAlike.{item_same}
 use Rattle.selection_fns.specs.Laws.Reads.{all_same, one_read, with_axes}
 

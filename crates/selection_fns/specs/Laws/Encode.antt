@@ -19,8 +19,7 @@ use Rattle.change_core.specs.Sourced.{other}
 use Rattle.change_core.specs.Ways.{back}
 use Rattle.change_core.proofs.Sourced.{two_arrays_tight}
 use Rattle.change_core.proofs.UsedWays.{back-onto, each_map, each_range, index-drop, onto_covered, within-whole}
-use Rattle.selection_fns.specs.Encode.{carried_through, digit, encode_form, encode_item, radix_place}
-use Rattle.selection_fns.specs.Encode.{encode_rule, radices_box, radices_read}
+use Rattle.selection_fns.specs.Encode.{carried_through, digit, encode_form, encode_item, radix_place, encode_rule, radices_box, radices_read}
 use Rattle.change_core.proofs.ReadAlike.{item_same}
 use Rattle.selection_fns.specs.Laws.Reads.{all_same, one_read, place_read, with_axes}
 

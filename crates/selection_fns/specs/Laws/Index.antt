@@ -17,8 +17,7 @@ use Rattle.change_core.specs.Places.{lies_in}
 use Rattle.change_core.specs.Reaches.{is_moved}
 use Rattle.change_core.proofs.Sourced.{item_from_same_one}
 use Rattle.change_core.proofs.UsedWays.{index-take, index-drop, within-whole}
-use Rattle.selection_fns.specs.Index.{Position, are_numbers, are_on, count_written, indexed_shape, index_form, index_item, of_array_and_positions, source_index, written_positions}
-use Rattle.selection_fns.specs.Index.{indexed_box, index_rule, index_uses, place_named, position_box, position_uses, unselected}
+use Rattle.selection_fns.specs.Index.{Position, are_numbers, are_on, count_written, indexed_shape, index_form, index_item, of_array_and_positions, source_index, written_positions, indexed_box, index_rule, index_uses, place_named, position_box, position_uses, unselected}
 use Rattle.selection_fns.specs.Laws.LeastBoxes.{beside-within, least_rank, least_within}
 use Rattle.change_core.proofs.ReadAlike.{item_same}
 

@@ -8,8 +8,7 @@ use Rattle.change_core.specs.Ways.{unread}
 use Rattle.change_core.proofs.UsedWays.{unread-covered}
 use Rattle.index_region.specs.ArgumentLists.{of_one_argument}
 use Rattle.index_region.specs.Checks.{Form}
-use Rattle.selection_fns.specs.IndexGenerator.{generator_form, generator_item}
-use Rattle.selection_fns.specs.IndexGenerator.{generator_rule}
+use Rattle.selection_fns.specs.IndexGenerator.{generator_form, generator_item, generator_rule}
 
 -- the number itself is the same where what a selector shows is
 pub generator_tight : IsTight generator_rule

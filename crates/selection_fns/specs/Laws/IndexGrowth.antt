@@ -12,9 +12,8 @@ use Rattle.index_region.proofs.Passing.{gives, limited_gives}
 use Rattle.arrays_core.specs.Growth.{one_longer}
 use Rattle.change_core.specs.Growth.{AllGrew, IsGrown, IsGrowing}
 use Rattle.change_core.proofs.Growing.{item_kept, longer_form, shape_grown, type_grown}
-use Rattle.selection_fns.specs.Index.{Position, are_numbers, are_on, indexed_shape, index_form, index_item, source_index, written_positions}
+use Rattle.selection_fns.specs.Index.{Position, are_numbers, are_on, indexed_shape, index_form, index_item, source_index, written_positions, index_rule}
 use Rattle.selection_fns.specs.Growth.{index_grows}
-use Rattle.selection_fns.specs.Index.{index_rule}
 
 -- where no position grew, all are the same
 positions_same : (marks : List Bool) (olds news : List ArrayValue) → AllGrew marks olds news → list_all (λ m. not m) marks ≡ true → olds ≡ news

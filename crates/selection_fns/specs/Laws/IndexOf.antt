@@ -12,9 +12,8 @@ use Rattle.change_core.specs.Sourced.{other}
 use Rattle.change_core.specs.Ways.{alike, everywhere}
 use Rattle.change_core.proofs.Sourced.{two_arrays_tight}
 use Rattle.change_core.proofs.UsedWays.{alike-covered, everywhere-covered}
-use Rattle.selection_fns.specs.IndexOf.{index_of_form, index_of_item}
+use Rattle.selection_fns.specs.IndexOf.{index_of_form, index_of_item, index_of_rule}
 use Rattle.selection_fns.specs.SameItem.{same_item}
-use Rattle.selection_fns.specs.IndexOf.{index_of_rule}
 use Rattle.change_core.proofs.ReadAlike.{item_same}
 use Rattle.selection_fns.specs.Laws.Reads.{all_same, one_read}
 

@@ -6,9 +6,10 @@ use Rattle.std.proofs.lemmas.Bool.Decides.{nat_tests}
 use Rattle.std.proofs.lemmas.List.{get_or_default}
 use Rattle.arrays_core.specs.Arrays.{ArrayValue}
 use Rattle.arrays_core.specs.Shapes.{is_index_of}
-use Rattle.index_region.specs.declared.along.Along.{Along}
+use Rattle.function_names.specs.declared.along.Along.{Along}
 use Rattle.index_region.specs.Arguments.{is_scalar}
-use Rattle.index_region.specs.Axes.{axis_at, places_along}
+use Rattle.function_names.specs.Axes.{axis_at}
+use Rattle.index_region.specs.Axes.{places_along}
 use Rattle.index_region.specs.Boxes.{Interval, is_within}
 use Rattle.index_region.specs.Checks.{Form}
 use Rattle.change_core.specs.Laws.{Covered, IsTight}
@@ -16,11 +17,10 @@ use Rattle.change_core.specs.Reaches.{is_moved}
 use Rattle.change_core.specs.Sourced.{right_used}
 use Rattle.change_core.proofs.Sourced.{selected_sourced-tight}
 use Rattle.change_core.proofs.UsedWays.{Follows, within-set, within-whole}
-use Rattle.selection_fns.specs.Replicate.{times, copied_place, replicate_form, replicate_source}
+use Rattle.selection_fns.specs.Replicate.{times, copied_place, replicate_form, replicate_source, copied_interval, replicate_box, replicate_rule}
 use Rattle.index_region.proofs.RowIndices.{axis_below}
 use Rattle.selection_fns.specs.Laws.CopiedPlaces.{exchanged_there, is_copied, replicate_gives}
 use Rattle.selection_fns.specs.Laws.RepeatedPlaces.{maker_is_walk, sum_front, walk}
-use Rattle.selection_fns.specs.Replicate.{copied_interval, replicate_box, replicate_rule}
 
 past : (i count : ℕ) → nat_le i count ≡ false → count < i
 past i count f = grind (arith, nat_tests)

@@ -4,8 +4,7 @@ use Rattle.change_core.specs.Laws.{IsTight}
 use Rattle.change_core.specs.Ways.{unread}
 use Rattle.change_core.proofs.Sourced.{one_tight}
 use Rattle.change_core.proofs.UsedWays.{unread-covered}
-use Rattle.selection_fns.specs.Shape.{shape_form, shape_item}
-use Rattle.selection_fns.specs.Shape.{shape_rule}
+use Rattle.selection_fns.specs.Shape.{shape_form, shape_item, shape_rule}
 
 pub shape_tight : IsTight shape_rule
 shape_tight = one_tight shape_form shape_item (λ shape b. unread) (record {

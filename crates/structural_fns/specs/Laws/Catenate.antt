@@ -7,9 +7,9 @@ use Rattle.arrays_core.specs.Arrays.{ArrayValue}
 use Rattle.arrays_core.specs.Shapes.{is_index_of}
 use Rattle.arrays_core.proofs.Shapes.{as_long, head_at}
 use Rattle.arrays_core.proofs.NextIndex.{drop_inside}
-use Rattle.index_region.specs.declared.along.Along.{Along}
+use Rattle.function_names.specs.declared.along.Along.{Along}
 use Rattle.index_region.specs.Arguments.{is_scalar}
-use Rattle.index_region.specs.Axes.{is_axis, axis_at}
+use Rattle.function_names.specs.Axes.{is_axis, axis_at}
 use Rattle.index_region.specs.Boxes.{Interval, is_within, fits, whole_of}
 use Rattle.index_region.specs.Checks.{check, limited}
 use Rattle.index_region.specs.Sources.{Source, Place}
@@ -18,8 +18,7 @@ use Rattle.change_core.specs.Reaches.{is_moved}
 use Rattle.change_core.specs.Sourced.{left_of, right_of, left_used, right_used, other}
 use Rattle.change_core.proofs.Sourced.{two_sourced-tight}
 use Rattle.change_core.proofs.UsedWays.{within-whole, within-set, across-covered}
-use Rattle.structural_fns.specs.Catenate.{joined_rank, joined_places, other_axes, ranks_join, axes_agree, types_join, joined_type, joined_shape, in_side, catenate_form, catenate_source}
-use Rattle.structural_fns.specs.Catenate.{one_place, side_box, catenate_left_box, catenate_right_box, catenate_rule}
+use Rattle.structural_fns.specs.Catenate.{joined_rank, joined_places, other_axes, ranks_join, axes_agree, types_join, joined_type, joined_shape, in_side, catenate_form, catenate_source, one_place, side_box, catenate_left_box, catenate_right_box, catenate_rule}
 use Rattle.structural_fns.specs.Laws.JoinedAxes.{JoinedFacts, joined_facts}
 
 -- ---- neither checks nor types see more of the items than how many there are

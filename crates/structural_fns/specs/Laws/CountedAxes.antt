@@ -10,8 +10,7 @@ use Rattle.index_region.specs.Arguments.{is_scalar, is_list, counts_as_numbers, 
 use Rattle.index_region.specs.Boxes.{Interval, fits, is_within, whole_of}
 use Rattle.index_region.specs.Checks.{Form, is_within_limits}
 use Rattle.index_region.proofs.Passing.{gives, limited_gives}
-use Rattle.structural_fns.specs.AxisCounts.{counted_shape, counted_form, uncounted}
-use Rattle.structural_fns.specs.AxisCounts.{counted_box}
+use Rattle.structural_fns.specs.AxisCounts.{counted_shape, counted_form, uncounted, counted_box}
 
 -- what the checks have shown
 pub record CountedFacts (asked : List ℕ) (a b : ArrayValue) (f : Form) : Type 0 where

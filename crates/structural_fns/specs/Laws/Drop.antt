@@ -11,11 +11,9 @@ use Rattle.change_core.specs.Sourced.{right_used}
 use Rattle.change_core.specs.Ways.{IsSound, lengths, sources}
 use Rattle.change_core.proofs.Sourced.{selected_sourced-tight}
 use Rattle.change_core.proofs.UsedWays.{images-within}
-use Rattle.structural_fns.specs.AxisCounts.{counted_shape}
-use Rattle.structural_fns.specs.Drop.{kept_place, kept_places, drop_form, drop_source, dropped_shape}
-use Rattle.structural_fns.specs.AxisCounts.{counted_box}
+use Rattle.structural_fns.specs.AxisCounts.{counted_shape, counted_box}
+use Rattle.structural_fns.specs.Drop.{kept_place, kept_places, drop_form, drop_source, dropped_shape, kept, kept_axes, drop_box, drop_rule}
 use Rattle.structural_fns.specs.Laws.CountedAxes.{counted_facts, counted_fits, counted_within}
-use Rattle.structural_fns.specs.Drop.{kept, kept_axes, drop_box, drop_rule}
 
 kept_sound : (n : ℕ) (count : ℤ) → IsSound (kept n count)
 kept_sound n (pos count) = record { low = λ s i l u f h k. omega arith; high = λ s i l u f h k. omega arith }

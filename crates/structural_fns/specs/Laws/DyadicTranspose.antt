@@ -5,8 +5,7 @@ use Rattle.change_core.specs.Laws.{Each, IsTight}
 use Rattle.change_core.specs.Reaches.{is_moved}
 use Rattle.change_core.proofs.Sourced.{selected_sourced-tight}
 use Rattle.change_core.proofs.UsedWays.{permuted-covered}
-use Rattle.structural_fns.specs.DyadicTranspose.{axes_to, gathered, transpose_by_form, transpose_by_source}
-use Rattle.structural_fns.specs.DyadicTranspose.{axes_from_zero, transpose_by_box, transpose_by_rule}
+use Rattle.structural_fns.specs.DyadicTranspose.{axes_to, gathered, transpose_by_form, transpose_by_source, axes_from_zero, transpose_by_box, transpose_by_rule}
 
 -- the index of each axis, by axes counted from 1 and from 0
 from_zero : (axes index : List ℕ) → map (λ to. get_or index to 0) (map (λ j. j - 1) axes) ≡ gathered axes index

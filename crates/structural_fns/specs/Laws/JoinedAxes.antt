@@ -3,9 +3,9 @@ use Rattle.std.proofs.Common.{◌≡◌, ◌≤◌, ◌<◌, ◌+◌, ℕ, suc, 
 use Rattle.std.proofs.lemmas.Bool.{and_parts, or_cases, eqb-true, leb-true}
 use Rattle.std.proofs.lemmas.List.Edits.{length-insert, get_or-insert_at}
 use Rattle.arrays_core.specs.Arrays.{ArrayValue}
-use Rattle.index_region.specs.declared.along.Along.{Along}
+use Rattle.function_names.specs.declared.along.Along.{Along}
 use Rattle.index_region.specs.Arguments.{is_scalar}
-use Rattle.index_region.specs.Axes.{is_axis, axis_at}
+use Rattle.function_names.specs.Axes.{is_axis, axis_at}
 use Rattle.index_region.specs.Checks.{Form, is_within_limits}
 use Rattle.index_region.proofs.Passing.{gives, limited_gives}
 use Rattle.index_region.proofs.RowIndices.{axis_below}

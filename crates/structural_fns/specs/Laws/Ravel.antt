@@ -12,8 +12,7 @@ use Rattle.change_core.specs.Sourced.{left_used}
 use Rattle.change_core.proofs.Sourced.{one_sourced-tight}
 use Rattle.arrays_core.proofs.Order.{places_before-index_after}
 use Rattle.change_core.proofs.UsedPlaces.{offset_between}
-use Rattle.structural_fns.specs.Ravel.{ravel_form, ravel_source}
-use Rattle.structural_fns.specs.Ravel.{ravel_box, ravel_rule}
+use Rattle.structural_fns.specs.Ravel.{ravel_form, ravel_source, ravel_box, ravel_rule}
 
 abbrev ravelled : ArrayValue → List Interval → List Interval
 ravelled b region = (places_before b.shape (first_of_box region) + 1, places_before b.shape (last_of_box region) + 1) ∷ []

@@ -11,9 +11,8 @@ use Rattle.change_core.specs.Reaches.{is_moved}
 use Rattle.change_core.specs.Sourced.{right_used}
 use Rattle.change_core.proofs.Sourced.{selected_sourced-tight}
 use Rattle.change_core.proofs.UsedPlaces.{by_place-covered}
-use Rattle.structural_fns.specs.Reshape.{magnitudes, reshape_form, reshape_source}
+use Rattle.structural_fns.specs.Reshape.{magnitudes, reshape_form, reshape_source, reshape_box, reshape_rule}
 use Rattle.structural_fns.specs.Laws.PlacesOrFill.{none_left, where_there}
-use Rattle.structural_fns.specs.Reshape.{reshape_box, reshape_rule}
 
 reshape_shaped : (a b : ArrayValue) (f : Form) → reshape_form a b ≡ Ok f → f.shape ≡ magnitudes a
 reshape_shaped a b f e =

@@ -1,12 +1,12 @@
 -- All that changes of ⌽B lies in its box.
 use Rattle.std.proofs.Common.{length, refl, arith}
-use Rattle.index_region.specs.declared.along.Along.{Along}
-use Rattle.index_region.specs.Axes.{axis_at, places_along}
+use Rattle.function_names.specs.declared.along.Along.{Along}
+use Rattle.function_names.specs.Axes.{axis_at}
+use Rattle.index_region.specs.Axes.{places_along}
 use Rattle.change_core.specs.Laws.{IsTight}
 use Rattle.change_core.proofs.Sourced.{one_sourced-tight}
 use Rattle.change_core.proofs.UsedWays.{within-set}
-use Rattle.structural_fns.specs.Reverse.{reverse_form, reverse_source}
-use Rattle.structural_fns.specs.Reverse.{reversed, reverse_box, reverse_rule}
+use Rattle.structural_fns.specs.Reverse.{reverse_form, reverse_source, reversed, reverse_box, reverse_rule}
 
 pub reverse_tight : (along : Along) → IsTight (reverse_rule along)
 reverse_tight along =

@@ -7,10 +7,11 @@ use Rattle.arrays_core.specs.Shapes.{size, is_index_of}
 use Rattle.arrays_core.specs.Arrays.{ArrayValue, item_if_there}
 use Rattle.arrays_core.proofs.Shapes.{as_long}
 use Rattle.scalar_fns.specs.ScalarExtension.{extended}
-use Rattle.index_region.specs.declared.along.Along.{Along}
+use Rattle.function_names.specs.declared.along.Along.{Along}
 use Rattle.index_region.specs.Answers.{IsPlaceOf}
 use Rattle.index_region.specs.Arguments.{has_one_item, number_of}
-use Rattle.index_region.specs.Axes.{is_axis, axis_at, places_along}
+use Rattle.function_names.specs.Axes.{is_axis, axis_at}
+use Rattle.index_region.specs.Axes.{places_along}
 use Rattle.index_region.specs.Boxes.{Interval, is_within}
 use Rattle.index_region.specs.Checks.{Form}
 use Rattle.index_region.specs.Sources.{Place, item_from}
@@ -20,11 +21,10 @@ use Rattle.change_core.specs.Reaches.{is_moved}
 use Rattle.change_core.specs.Sourced.{other, right_used}
 use Rattle.change_core.proofs.Sourced.{item_from_same, two_arrays_tight}
 use Rattle.change_core.proofs.UsedWays.{across-covered, within-set, within-whole}
-use Rattle.structural_fns.specs.Rotate.{rotate_form, rotate_item, rotate_source, rotated_place}
+use Rattle.structural_fns.specs.Rotate.{rotate_form, rotate_item, rotate_source, rotated_place, amounts_box, amounts_use, rotate_box, rotate_rule}
 use Rattle.structural_fns.specs.Laws.RotatedLines.{rotation_facts, removed_inside}
 use Rattle.index_region.proofs.RowIndices.{axis_below}
 use Rattle.scalar_fns.specs.Laws.OneItem.{extended_same, only_index}
-use Rattle.structural_fns.specs.Rotate.{amounts_box, amounts_use, rotate_box, rotate_rule}
 
 -- an index of an index list lies on its axis
 pub record IsOnAxis (shape index : List ℕ) (axis d e : ℕ) : Type 0 where

@@ -11,12 +11,10 @@ use Rattle.change_core.specs.Ways.{IsSound, lengths, sources, images}
 use Rattle.change_core.proofs.Sourced.{selected_sourced-tight}
 use Rattle.change_core.proofs.UsedWays.{images-within}
 use Rattle.structural_fns.specs.Reshape.{magnitudes}
-use Rattle.structural_fns.specs.AxisCounts.{counted_shape, uncounted}
-use Rattle.structural_fns.specs.Take.{taken_place, taken_places, take_form, take_source}
-use Rattle.structural_fns.specs.AxisCounts.{counted_box}
+use Rattle.structural_fns.specs.AxisCounts.{counted_shape, uncounted, counted_box}
+use Rattle.structural_fns.specs.Take.{taken_place, taken_places, take_form, take_source, taken, taken_axes, take_box, take_rule}
 use Rattle.structural_fns.specs.Laws.CountedAxes.{counted_facts, counted_fits, counted_within}
 use Rattle.structural_fns.specs.Laws.PlacesOrFill.{none_left, where_there}
-use Rattle.structural_fns.specs.Take.{taken, taken_axes, take_box, take_rule}
 
 taken_sound : (n : ℕ) (count : ℤ) → IsSound (taken n count)
 taken_sound n (pos count) = record { low = λ s i l u f h k. h; high = λ s i l u f h k. k }

@@ -6,8 +6,7 @@ use mathlib.Core.List.{reverse_aux}
 use Rattle.index_region.specs.Boxes.{Interval, is_within}
 use Rattle.change_core.specs.Laws.{IsTight}
 use Rattle.change_core.proofs.Sourced.{one_sourced-tight}
-use Rattle.structural_fns.specs.Transpose.{transpose_form, transpose_source}
-use Rattle.structural_fns.specs.Transpose.{transpose_box, transpose_rule}
+use Rattle.structural_fns.specs.Transpose.{transpose_form, transpose_source, transpose_box, transpose_rule}
 
 within-aux : (region others : List Interval) (index rest : List ℕ) → is_within region index ≡ true → is_within others rest ≡ true
     → is_within (reverse_aux region others) (reverse_aux index rest) ≡ true

@@ -4,7 +4,7 @@ use Rattle.arrays_core.specs.Items.{all_or_first_error}
 use Rattle.arrays_core.specs.Shapes.{size}
 use Rattle.arrays_core.specs.Arrays.{with_items}
 use Rattle.arrays_core.specs.declared.item.ItemType.TheVariants.{Nums}
-use Rattle.scalar_fns.specs.declared.function.Scalar2.TheVariants.{Plus as Sum, Times as Product}
+use Rattle.function_names.specs.declared.scalar.Scalar2.TheVariants.{Plus as Sum, Times as Product}
 use Rattle.scalar_fns.specs.Numbers.{dyadic_on_numbers}
 use Rattle.scalar_fns.specs.NumberLists.{number_items}
 use Rattle.operator_fns.specs.RowByColumn.{cell, IsGridOf}

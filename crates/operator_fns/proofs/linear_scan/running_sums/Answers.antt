@@ -1,5 +1,5 @@
 use Rattle.std.proofs.Common.{subst}
-use Rattle.scalar_fns.specs.declared.function.Scalar2.TheVariants.{Plus as Sum}
+use Rattle.function_names.specs.declared.scalar.Scalar2.TheVariants.{Plus as Sum}
 use Rattle.scalar_fns.specs.Numbers.{dyadic_on_numbers}
 use Rattle.scalar_fns.specs.NumberLists.{IsListAnswerTo}
 use Rattle.scalar_fns.specs.Folds.{folded}

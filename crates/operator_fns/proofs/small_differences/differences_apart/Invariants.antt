@@ -1,5 +1,5 @@
 use Rattle.std.proofs.Common.{◌≡◌, ◌-◌, ◌<◌, ◌≤◌, ◌%◌, length, vec_len}
-use Rattle.scalar_fns.specs.declared.function.Scalar2.TheVariants.{Minus}
+use Rattle.function_names.specs.declared.scalar.Scalar2.TheVariants.{Minus}
 use Rattle.scalar_fns.specs.Numbers.{dyadic_on_numbers}
 use Rattle.operator_fns.specs.LinearScan.{depth, AreResultsTo}
 use Rattle.operator_fns.specs.Prefixes.{right_rule}

@@ -3,8 +3,8 @@ use Rattle.arrays_core.specs.Arrays.{ArrayValue}
 use Rattle.arrays_core.specs.declared.item.Item.{Item}
 use Rattle.arrays_core.specs.Growth.{grown_by}
 use Rattle.arrays_core.proofs.Growing.{rank_longer}
-use Rattle.index_region.specs.Axes.{axis_at}
-use Rattle.scalar_fns.specs.declared.function.Scalar2.TheVariants.{Plus}
+use Rattle.function_names.specs.Axes.{axis_at}
+use Rattle.function_names.specs.declared.scalar.Scalar2.TheVariants.{Plus}
 use Rattle.sum_rules.specs.LineSums.{SummedValue, grown_sums}
 use Rattle.rule_tests.proofs.line_sums_tests.grow_both.Goals as goal
 

@@ -2,7 +2,7 @@ use Rattle.std.proofs.Common.{◌≡◌, ◌∙◌, ◌%◌, ◌*◌, ℕ, ℤ, 
 use Rattle.std.proofs.lemmas.List.{length-map}
 use Rattle.arrays_core.specs.declared.item.Item.TheVariants.{Num}
 use Rattle.arrays_core.specs.Shapes.{size}
-use Rattle.index_region.specs.Axes.{axis_at}
+use Rattle.function_names.specs.Axes.{axis_at}
 use Rattle.sum_rules.specs.LineSums.{line_length, line_step}
 use Rattle.sum_rules.proofs.KeptSums.{kept_parts}
 use Rattle.sum_rules.proofs.Lines.{whole_lines}

@@ -3,7 +3,7 @@ use Rattle.std.proofs.Math.Nat.{mul-le-mul_right}
 use Rattle.arrays_core.specs.Arrays.{ArrayValue}
 use Rattle.arrays_core.specs.Items.{fill}
 use Rattle.arrays_core.specs.Shapes.{is_index_of, places_before}
-use Rattle.index_region.specs.Axes.{axis_at}
+use Rattle.function_names.specs.Axes.{axis_at}
 use Rattle.index_region.specs.Boxes.{Interval, box_size, box_offset, is_within, walk_at}
 use Rattle.index_region.specs.Patches.{patched}
 use Rattle.index_region.proofs.Patched.{fits_within}

@@ -1,6 +1,6 @@
 use Rattle.std.proofs.Common.{◌≡◌, ◌≤◌, ◌<◌, ◌+◌, take, length}
 use Rattle.arrays_core.specs.declared.item.ItemType.TheVariants.{Nums}
-use Rattle.index_region.specs.Axes.{axis_at}
+use Rattle.function_names.specs.Axes.{axis_at}
 use Rattle.index_region.specs.Boxes.{box_size, walk_at}
 use Rattle.index_region.specs.Patches.{patched}
 use Rattle.operator_fns.specs.Reduce.{reduce_item}

@@ -1,6 +1,6 @@
 use Rattle.std.proofs.Common.{◌≡◌, ◌∙◌, ◌-◌, ℕ, List, length, ap, sym, subst, arith}
-use Rattle.index_region.specs.Axes.{axis_at}
-use Rattle.index_region.specs.declared.along.Along.TheVariants.{Last}
+use Rattle.function_names.specs.Axes.{axis_at}
+use Rattle.function_names.specs.declared.along.Along.TheVariants.{Last}
 use Rattle.sum_rules.specs.LineSums.{length_along}
 use Rattle.sum_rules.specs.Totals.{AreAllAsLong}
 use Rattle.sum_rules.proofs.Lines.{some_in_line}

@@ -9,7 +9,7 @@ use Rattle.change_rules.proofs.Right.{answered, node_is_right}
 use Rattle.operator_fns.specs.Laws.LinesGrowth.{reduce_growing}
 use Rattle.operator_fns.specs.Laws.Reduce.{reduce_tight}
 use Rattle.sum_rules.specs.Totals.{total_rule, is_by_trees, is_narrow, is_one_a_line}
-use Rattle.index_region.specs.Axes.{is_axis, axis_at}
+use Rattle.function_names.specs.Axes.{is_axis, axis_at}
 use Rattle.arrays_core.specs.Arrays.{ArrayValue}
 use Rattle.sum_rules.proofs.ChangedTotals.{delta_is, folded, not_both, not_patched}
 use Rattle.sum_rules.proofs.totals.refresh_totals_with_cost.Goals.{in-Patch+else-is_ok, else-is_ok-via-then-is_ok+else-is_one_a_line, else-is_ok-via-else-is_ok, in_default}

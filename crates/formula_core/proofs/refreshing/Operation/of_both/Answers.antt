@@ -1,12 +1,6 @@
 use Rattle.std.proofs.Common.{sym, subst}
 use Rattle.apl_expr.specs.declared.expr.Dyadic.{Dyadic}
 use Rattle.formula_core.specs.Rules.{with_change, both_rule, IsRefreshed}
-use Rattle.scalar_fns.specs.EachDyadic.{each_dyadic_rule}
-use Rattle.structural_fns.specs.Catenate.{catenate_rule}
-use Rattle.structural_fns.specs.Rotate.{rotate_rule}
-use Rattle.selection_fns.specs.Replicate.{replicate_rule}
-use Rattle.operator_fns.specs.OuterProduct.{outer_rule}
-use Rattle.operator_fns.specs.InnerProduct.{inner_rule}
 use Rattle.formula_core.proofs.refreshing.Operation.of_both.Goals as goal
 
 pub returns-in-Scalar-clause-refreshed : goal.returns-in-Scalar-clause-refreshed

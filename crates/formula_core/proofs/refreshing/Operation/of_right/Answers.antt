@@ -1,10 +1,6 @@
 use Rattle.std.proofs.Common.{sym, subst}
 use Rattle.apl_expr.specs.declared.expr.Monadic.{Monadic}
 use Rattle.formula_core.specs.Rules.{with_change, right_rule, IsRefreshed}
-use Rattle.scalar_fns.specs.EachMonadic.{each_monadic_rule}
-use Rattle.structural_fns.specs.Reverse.{reverse_rule}
-use Rattle.operator_fns.specs.Reduce.{reduce_rule}
-use Rattle.operator_fns.specs.Scan.{scan_rule}
 use Rattle.formula_core.proofs.refreshing.Operation.of_right.Goals as goal
 
 pub returns-in-Scalar-clause-refreshed : goal.returns-in-Scalar-clause-refreshed

@@ -1,5 +1,5 @@
 use Rattle.std.proofs.Common.{◌≡◌, ℕ, ◌<◌, ◌≤◌, true, get_or, length, pos, Ok}
-use Rattle.scalar_fns.specs.declared.function.Scalar2.TheVariants.{Plus}
+use Rattle.function_names.specs.declared.scalar.Scalar2.TheVariants.{Plus}
 use Rattle.scalar_fns.specs.Numbers.{dyadic_on_numbers}
 use Rattle.operator_fns.proofs.columns.PlusRowFold.put_over.Given as goal
 

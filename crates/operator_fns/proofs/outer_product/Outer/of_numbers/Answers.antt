@@ -1,4 +1,4 @@
-use Rattle.std.proofs.Common.{◌∙◌, ap, subst}
+use Rattle.std.proofs.Common.{◌∙◌, ap, subst, ◌++◌}
 use Rattle.arrays_core.specs.declared.item.ItemType.TheVariants.{Nums}
 use Rattle.arrays_core.specs.Arrays.{IsAnswerTo}
 use Rattle.arrays_core.specs.Shapes.{size}
@@ -6,7 +6,6 @@ use Rattle.index_region.specs.Checks.{form_of, Form}
 use Rattle.index_region.proofs.Passing.{limited_gives}
 use Rattle.operator_fns.proofs.Outers.{outer_places, outer_of_numbers}
 use Rattle.operator_fns.proofs.outer_product.Outer.of_numbers.Goals as goal
-use Rattle.std.proofs.Common.{◌++◌}
 
 pub table-requires-clause-whole : goal.table-requires-clause-whole
 table-requires-clause-whole c =

@@ -1,6 +1,6 @@
 use Rattle.std.proofs.Common.{◌≡◌, ◌∙◌, ◌+◌, ◌-◌, ◌*◌, ◌/◌, ◌%◌, ◌≤◌, ap, length, drop, take, pos, arith}
 use Rattle.std.proofs.lemmas.Nat.{div-add-mod', mod_below}
-use Rattle.scalar_fns.specs.declared.function.Scalar2.TheVariants.{Plus}
+use Rattle.function_names.specs.declared.scalar.Scalar2.TheVariants.{Plus}
 use Rattle.scalar_fns.specs.Numbers.{dyadic_on_numbers}
 use Rattle.scalar_fns.specs.Folds.{strided, folded}
 use Rattle.scalar_fns.proofs.RightFolds.{strided_run}

@@ -7,7 +7,7 @@ use Rattle.arrays_core.specs.Arrays.{ArrayValue, IsAnswerTo, with_items}
 use Rattle.arrays_core.proofs.Shapes.{as_long}
 use Rattle.scalar_fns.specs.Numbers.{dyadic_on_numbers}
 use Rattle.scalar_fns.specs.NumberLists.{number_items}
-use Rattle.index_region.specs.Axes.{axis_at}
+use Rattle.function_names.specs.Axes.{axis_at}
 use Rattle.operator_fns.specs.LinearScan.{folds_from}
 use Rattle.operator_fns.specs.RightFold.{line}
 use Rattle.operator_fns.specs.Laws.ScannedPlaces.{at_axis}

@@ -1,5 +1,5 @@
 use Rattle.std.proofs.Common.{rules, ◌≡◌, ◌∙◌, ◌<◌, ◌≤◌, true, false, ap, get_or, length, arith}
-use Rattle.index_region.specs.Axes.{is_axis, axis_at}
+use Rattle.function_names.specs.Axes.{is_axis, axis_at}
 use Rattle.index_region.specs.Arguments.{counts_as_numbers}
 use Rattle.operator_fns.proofs.Scanned.{characters_fail}
 use Rattle.operator_fns.proofs.scan.Scan.form.Goals as goal

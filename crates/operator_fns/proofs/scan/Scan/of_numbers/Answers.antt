@@ -2,7 +2,7 @@ use Rattle.std.proofs.Common.{rules, ◌≡◌, ◌∙◌, ◌+◌, ◌<◌, suc
 use Rattle.std.proofs.lemmas.List.{length-map}
 use Rattle.arrays_core.specs.declared.item.Item.TheVariants.{Num}
 use Rattle.arrays_core.specs.Shapes.{size}
-use Rattle.index_region.specs.Axes.{axis_at}
+use Rattle.function_names.specs.Axes.{axis_at}
 use Rattle.operator_fns.specs.Laws.ScannedPlaces.{scan_facts}
 use Rattle.operator_fns.proofs.Scanned.{scanned_whole, block_fits}
 use Rattle.operator_fns.proofs.scan.Scan.of_numbers.Goals as goal

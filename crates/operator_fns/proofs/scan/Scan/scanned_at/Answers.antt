@@ -1,7 +1,7 @@
 use Rattle.std.proofs.Common.{rules, ◌≡◌, ◌∙◌, ◌<◌, ap, sym, subst, get_or, length, take, remove, arith}
 use Rattle.std.proofs.lemmas.List.{get_or_default}
 use Rattle.arrays_core.proofs.Shapes.{as_long}
-use Rattle.index_region.specs.Axes.{axis_at}
+use Rattle.function_names.specs.Axes.{axis_at}
 use Rattle.operator_fns.specs.RightFold.{fold_right, line}
 use Rattle.operator_fns.specs.Laws.ScannedPlaces.{at_axis}
 use Rattle.operator_fns.proofs.Scanned.{scan_place, scan_typed}

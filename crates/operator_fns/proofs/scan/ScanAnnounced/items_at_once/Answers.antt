@@ -5,7 +5,7 @@ use Rattle.arrays_core.specs.declared.item.Item.{Item}
 use Rattle.arrays_core.specs.declared.item.Kind.{Kind}
 use Rattle.arrays_core.specs.Arrays.{ArrayValue}
 use Rattle.index_region.specs.ArgumentLists.{of_one_argument}
-use Rattle.index_region.specs.Axes.{axis_at}
+use Rattle.function_names.specs.Axes.{axis_at}
 use Rattle.index_region.specs.Boxes.{box_size, interval_length, walk_at}
 use Rattle.index_region.proofs.Boxes.{fits_length}
 use Rattle.index_region.proofs.Walks.{some_place}

@@ -1,5 +1,6 @@
 use Rattle.std.proofs.Common.{rules, ℕ, ◌≡◌, ◌+◌, ◌<◌, length, get_or, subst, sym, ap, ◌∙◌, arith}
-use Rattle.index_region.specs.Axes.{axis_at, places_along}
+use Rattle.function_names.specs.Axes.{axis_at}
+use Rattle.index_region.specs.Axes.{places_along}
 use Rattle.std.specs.Prelude.{sum}
 use Rattle.selection_fns.specs.Replicate.{times, copied_place}
 use Rattle.selection_fns.proofs.Copies.{copy_facts, copy_source}

@@ -3,7 +3,8 @@ use Rattle.std.specs.Prelude.{max, sum}
 use Rattle.arrays_core.specs.declared.item.ItemType.{ItemType}
 use Rattle.arrays_core.specs.Items.{fill}
 use Rattle.arrays_core.specs.Arrays.{ArrayValue}
-use Rattle.index_region.specs.Axes.{axis_at, places_along}
+use Rattle.function_names.specs.Axes.{axis_at}
+use Rattle.index_region.specs.Axes.{places_along}
 use Rattle.selection_fns.specs.Replicate.{times, copied_place, replicate_form}
 use Rattle.selection_fns.proofs.Picked.{picked_long, picked_copies}
 use Rattle.selection_fns.specs.Laws.CopiedPlaces.{replicate_gives, exchanged_there}

@@ -1,7 +1,7 @@
 use Rattle.std.proofs.Common.{◌≡◌, Ok, ap, sym, ◌∙◌, subst}
 use Rattle.std.proofs.lemmas.Bool.{eqb-true, and_parts}
 use Rattle.arrays_core.specs.Arrays.{IsAnswerTo}
-use Rattle.index_region.specs.Axes.{is_axis, axis_at}
+use Rattle.function_names.specs.Axes.{is_axis, axis_at}
 use Rattle.index_region.specs.ArgumentLists.{of_two_arguments}
 use Rattle.index_region.proofs.Arguments.{whole_of_two}
 use Rattle.index_region.proofs.Passing.{two_arguments}

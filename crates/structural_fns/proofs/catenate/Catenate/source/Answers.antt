@@ -1,5 +1,5 @@
 use Rattle.std.proofs.Common.{◌≡◌, ◌<◌, ◌∙◌, sym, ap, subst, arith}
-use Rattle.index_region.specs.Axes.{axis_at}
+use Rattle.function_names.specs.Axes.{axis_at}
 use Rattle.structural_fns.specs.Catenate.{joined_rank}
 use Rattle.structural_fns.proofs.Sides.{join_long}
 use Rattle.structural_fns.proofs.SidePlaces.{JoinFacts, join_facts}

@@ -1,13 +1,12 @@
 use Rattle.std.proofs.Common.{◌≡◌, ℕ, List, length, get_or, subst, sym, ap, ◌∙◌, arith}
 use Rattle.arrays_core.specs.Arrays.{ArrayValue}
-use Rattle.index_region.specs.declared.along.Along.{Along}
+use Rattle.function_names.specs.declared.along.Along.{Along}
 use Rattle.index_region.specs.ArgumentLists.{of_two_arguments}
 use Rattle.index_region.proofs.Passing.{two_arguments}
 use Rattle.change_core.specs.RuleModels.{HasShape}
-use Rattle.index_region.specs.Axes.{axis_at}
+use Rattle.function_names.specs.Axes.{axis_at}
 use Rattle.change_core.specs.Sourced.{left_used, right_used}
-use Rattle.structural_fns.specs.Catenate.{joined_places, catenate_form, catenate_source}
-use Rattle.structural_fns.specs.Catenate.{side_box, catenate_left_box, catenate_right_box}
+use Rattle.structural_fns.specs.Catenate.{joined_places, catenate_form, catenate_source, side_box, catenate_left_box, catenate_right_box}
 use Rattle.structural_fns.specs.Laws.JoinedAxes.{JoinedFacts, joined_facts}
 use Rattle.structural_fns.proofs.Calls.{form_of_two, box_of_right}
 use Rattle.structural_fns.proofs.catenate.CatenateAnnounced.box_of.Goals as goal

@@ -2,7 +2,7 @@ use Rattle.std.proofs.Common.{◌≡◌, ◌<◌, ap, sym, subst, ◌∙◌, len
 use Rattle.std.proofs.lemmas.Result.{on_ok_weaker}
 use Rattle.std.proofs.lemmas.List.{get_or_append_left}
 use Rattle.arrays_core.specs.Building.{with_row}
-use Rattle.index_region.specs.Axes.{axis_at}
+use Rattle.function_names.specs.Axes.{axis_at}
 use Rattle.index_region.specs.ArgumentLists.{of_two_arguments}
 use Rattle.index_region.proofs.Passing.{two_arguments}
 use Rattle.structural_fns.specs.Catenate.{joined_rank, joined_places, catenate_item}

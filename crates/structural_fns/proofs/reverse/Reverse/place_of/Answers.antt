@@ -1,6 +1,6 @@
 use Rattle.std.proofs.Common.{◌≡◌, true, length}
 use Rattle.arrays_core.specs.Shapes.{is_index_of}
-use Rattle.index_region.specs.Axes.{is_axis, axis_at}
+use Rattle.function_names.specs.Axes.{is_axis, axis_at}
 use Rattle.index_region.proofs.Passing.{passed, place_inside}
 use Rattle.structural_fns.proofs.SourcePlaces.{reversed_inside}
 use Rattle.structural_fns.proofs.reverse.Reverse.place_of.Goals as goal

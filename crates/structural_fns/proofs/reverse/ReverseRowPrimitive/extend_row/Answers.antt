@@ -6,7 +6,7 @@ use Rattle.arrays_core.specs.Shapes.{places_before}
 use Rattle.arrays_core.proofs.Rows.{row_put}
 use Rattle.index_region.specs.Answers.{IsRowIn}
 use Rattle.index_region.specs.ArgumentLists.{of_one_argument}
-use Rattle.index_region.specs.Axes.{axis_at}
+use Rattle.function_names.specs.Axes.{axis_at}
 use Rattle.index_region.proofs.Passing.{one_argument}
 use Rattle.structural_fns.specs.Reverse.{reverse_form, reverse_item}
 use Rattle.structural_fns.proofs.ReversedRows.{at_index, below_last, last_item, last_low, other_item, other_fits}

@@ -1,7 +1,7 @@
 //! Axes along which functions work.
 
 ghost use Rattle.std.specs.Prelude.{◌≡◌, ◌<◌, IsTrue};
-ghost use Rattle.index_region.specs.Axes.{is_axis as has_axis, axis_at as axis_meant};
+ghost use Rattle.function_names.specs.Axes.{is_axis as has_axis, axis_at as axis_meant};
 
 /// The axis that a function works along: the first or the last, or one that is written, counted from 1.
 #[derive(Clone, Copy, PartialEq, Eq, Debug)]

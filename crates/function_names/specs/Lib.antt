@@ -1,0 +1,2 @@
+-- What public contracts mean.
+pub mod Axes

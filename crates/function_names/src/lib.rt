@@ -1,0 +1,8 @@
+//! The names of the scalar functions, and the axis along which a function works: what the grammar reads and the functions of arrays take.
+#![tactic(auto)]
+
+mod along;
+mod scalar;
+
+pub use along::Along;
+pub use scalar::{Scalar1, Scalar2};
