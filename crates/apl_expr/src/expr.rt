@@ -70,7 +70,18 @@ pub enum Literal {
     Text(Vec<char>),
 }
 
+/// The arguments of a function that stands between them.
+#[cycle(expr)]
+#[derive(Debug, Drop)]
+pub struct Sides {
+    /// The left one, an operand.
+    pub left: Expr,
+    /// The right one.
+    pub right: Expr,
+}
+
 /// An expression, as a tree. A function takes all that stands at its right; parentheses leave no node.
+#[cycle(expr)]
 #[derive(Debug, Drop)]
 pub enum Expr {
     /// A literal.
@@ -79,8 +90,8 @@ pub enum Expr {
     Name(Name),
     /// A function with its right argument.
     Monad(Monadic, Box<Expr>),
-    /// A function between its left argument, an operand, and its right one.
-    Dyad(Dyadic, Box<Expr>, Box<Expr>),
+    /// A function between its left argument, an operand, and its right one, which lie side by side.
+    Dyad(Dyadic, Box<Sides>),
     /// `A[I;..]`, an operand and the positions of its index, each of which may be empty.
     Index(Box<Expr>, Vec<Option<Expr>>),
 }

@@ -28,8 +28,8 @@ impl Expr {
             Expr::Const(_) => true,
             Expr::Name(_) => true,
             Expr::Monad(_, right) => right.is_within_height(limit - 1),
-            Expr::Dyad(_, left, right) => {
-                left.is_within_height(limit - 1) && right.is_within_height(limit - 1)
+            Expr::Dyad(_, sides) => {
+                sides.left.is_within_height(limit - 1) && sides.right.is_within_height(limit - 1)
             }
             Expr::Index(operand, positions) => {
                 operand.is_within_height(limit - 1) && are_within_height(positions, limit - 1)
@@ -48,9 +48,9 @@ impl Expr {
             Expr::Const(_) => Some(below),
             Expr::Name(_) => Some(below),
             Expr::Monad(_, right) => right.nodes_left(below),
-            Expr::Dyad(_, left, right) => {
-                let rest = left.nodes_left(below)?;
-                right.nodes_left(rest)
+            Expr::Dyad(_, sides) => {
+                let rest = sides.left.nodes_left(below)?;
+                sides.right.nodes_left(rest)
             }
             Expr::Index(operand, positions) => {
                 let rest = operand.nodes_left(below)?;

@@ -3,7 +3,7 @@
 ghost use Rattle.std.specs.Prelude.{◌≡◌, [], ◌∷◌, ◌++◌, IfOk, true};
 ghost use Rattle.apl_expr.specs.Trees.{Numbers, Text, Const, Name as Named, Monad, Dyad, literal_of, tree_of, is_plain, is_plain_expr, is_plain_position, are_plain};
 
-use crate::expr::{Dyadic, Expr, Literal, Monadic};
+use crate::expr::{Dyadic, Expr, Literal, Monadic, Sides};
 use apl_tokens::Name;
 use std::alloc::{AllocError, Global};
 
@@ -74,9 +74,8 @@ impl Plain {
         ensures { IfOk result (λ e. tree_of e.expr ≡ Dyad function (tree_of left.expr) (tree_of right.expr)) }
     {
         let (Plain { expr: left }, Plain { expr: right }) = (left, right);
-        let left = Box::new(alloc, left)?;
-        let right = Box::new(alloc, right)?;
-        let expr = Expr::Dyad(function, left, right);
+        let sides = Box::new(alloc, Sides { left, right })?;
+        let expr = Expr::Dyad(function, sides);
         Ok(Plain { expr })
     }
 }

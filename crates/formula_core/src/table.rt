@@ -84,9 +84,9 @@ pub(crate) fn lower(
             let right = lower(alloc, names, nodes, right)?;
             push(nodes, Node::Monad(*function, right))
         }
-        Expr::Dyad(function, left, right) => {
-            let left = lower(alloc, names, nodes, left)?;
-            let right = lower(alloc, names, nodes, right)?;
+        Expr::Dyad(function, sides) => {
+            let left = lower(alloc, names, nodes, &sides.left)?;
+            let right = lower(alloc, names, nodes, &sides.right)?;
             push(nodes, Node::Dyad(*function, left, right))
         }
         Expr::Index(operand, positions) => {

@@ -2,7 +2,7 @@
 
 ghost use Rattle.std.specs.Prelude.{◌≡◌, ◌≤◌, ◌≢◌, IsTrue, List, ℕ, Ok, false, length, replicate};
 ghost use Rattle.arrays_core.specs.Shapes.{size as size_of, is_index_of, IsWithinLimits, IsShapeAnswerTo};
-ghost use Rattle.arrays_core.specs.Arrays.{IsAnswerTo, IsArray, item_of, with_items};
+ghost use Rattle.arrays_core.specs.Arrays.{IsAnswerTo, IsArray, item_of, scalar_of, with_items};
 ghost use Rattle.arrays_core.specs.declared.item.ItemType.TheVariants.{Nums};
 ghost use Rattle.scalar_fns.specs.ScalarExtension.{common, extended, monadic_on_array, dyadic_on_arrays};
 ghost use Rattle.scalar_fns.specs.Items.{monadic_on_item, dyadic_on_items};
@@ -191,6 +191,37 @@ pub fn apply_one(alloc: Global, function: Scalar1, array: &Array) -> Result<Arra
     }
     let items = Items { function, array };
     collect(alloc, &items, ItemType::Nums, shape)
+}
+
+/// A scalar function of an array and, at its right, a number: what `apply_two` gives of the array that has no axes and the number as its
+/// item. That array is not made where the other one is of numbers.
+pub fn apply_to_right(
+    alloc: Global,
+    function: Scalar2,
+    left: &Array,
+    right: i64,
+) -> Result<Array, ApplyFault>
+    ensures { IsAnswerTo (dyadic_on_arrays function left.now (scalar_of right)) result }
+{
+    match left.numbers() {
+        Some(numbers) => apply_to_number_lists(alloc, function, left.shape(), numbers, &[right]),
+        None => apply_two(alloc, function, left, &Array::scalar(alloc, right)?),
+    }
+}
+
+/// The same of a number at the left of an array.
+pub fn apply_to_left(
+    alloc: Global,
+    function: Scalar2,
+    left: i64,
+    right: &Array,
+) -> Result<Array, ApplyFault>
+    ensures { IsAnswerTo (dyadic_on_arrays function (scalar_of left) right.now) result }
+{
+    match right.numbers() {
+        Some(numbers) => apply_to_number_lists(alloc, function, right.shape(), &[left], numbers),
+        None => apply_two(alloc, function, &Array::scalar(alloc, left)?, right),
+    }
 }
 
 /// A scalar function of two arrays, item by item (ISO/IEC 13751, "Dyadic scalar functions"). The result is of numbers and
