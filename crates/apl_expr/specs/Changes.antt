@@ -1,7 +1,9 @@
 -- The change that tokens are, in a line or behind the word that opens one.
-use Rattle.std.specs.Prelude.{IsTrue, Result, Ok, Err, List}
+use Rattle.std.specs.Prelude.{◌≡◌, IsTrue, Result, Ok, Err, List}
 use Rattle.apl_tokens.specs.Lexemes.{Lexeme}
 use Rattle.apl_expr.specs.declared.command.Change.{Change}
+use Rattle.apl_expr.specs.declared.command.Command.{Command}
+use Rattle.apl_expr.specs.declared.command.Command.TheVariants as command
 use Rattle.apl_expr.specs.declared.fault.ParseFault.{ParseFault}
 use Rattle.apl_expr.specs.declared.fault.ParseFault.TheVariants.{Syntax, Limit, NoMemory}
 use Rattle.apl_expr.specs.Grammar.{IsTooLarge}
@@ -17,3 +19,8 @@ IsChangeOf ts (Ok c) = IsChange ts (change_meaning c) × (HasTree IsTooLarge (ch
 IsChangeOf ts (Err Syntax) = IsNoChange ts
 IsChangeOf ts (Err Limit) = (m : Meaning) × IsChange ts m × HasTree IsTooLarge m
 IsChangeOf ts (Err NoMemory) = Unit {0}
+
+-- the same where the change was put in the place of a command
+abbrev pub IsChangeIn : {T : Type 0} → List Lexeme → Result T ParseFault → Command → Type 0
+IsChangeIn ts (Ok x) there = (c : Change) × (there ≡ command.Change c) × IsChangeOf ts (Ok c)
+IsChangeIn ts (Err e) there = IsChangeOf ts (Err e)

@@ -8,8 +8,8 @@ ghost use Rattle.apl_tokens.specs.Signs.{left_arrow, right_parenthesis, left_bra
 ghost use Rattle.apl_expr.specs.Limits.{most_tokens};
 ghost use Rattle.apl_expr.specs.Lines.{data_word, row_word, erase_word, names_word, cost_word, csv_word, open_word, step_word, commit_word, drop_word, IsCommand};
 ghost use Rattle.apl_expr.specs.Fronts.{name_before, name_first, only_name, number_first, only_number, command_word};
-ghost use Rattle.apl_expr.specs.Changes.{IsNoChange, IsChangeOf};
-ghost use Rattle.apl_expr.specs.Answers.{IsAnswered};
+ghost use Rattle.apl_expr.specs.Changes.{IsNoChange, IsChangeOf, IsChangeIn};
+ghost use Rattle.apl_expr.specs.Answers.{IsAnswered, put_in};
 
 use crate::edit::{edited, whole_literal};
 use crate::expr::{Expr, Literal};
@@ -18,7 +18,7 @@ use crate::limits::MOST_TOKENS;
 use crate::parser::parse;
 use apl_tokens::{
     CellPositions, Name, NumberEdit, NumberRow, Spanned, Token, TokenFault, number_edit,
-    number_row, tokens,
+    number_row, tokens_into,
 };
 use std::alloc::Global;
 
@@ -324,56 +324,121 @@ fn worded(alloc: Global, word: Name, rest: &[Spanned]) -> Result<Command, ParseF
     }
 }
 
-/// The expression to show.
-fn show(alloc: Global, tokens: &[Spanned]) -> Result<Command, ParseFault>
+/// Puts the command to show the expression.
+fn show(alloc: Global, tokens: &[Spanned], command: &mut Command) -> Result<(), ParseFault>
     requires some { 0 < length tokens.now }
     requires short { length tokens.now ≤ most_tokens }
     requires no_change { IsNoChange (lexemes tokens.now) }
     requires no_word { command_word (lexemes tokens.now) ≡ None }
-    ensures { IsCommand (lexemes tokens.now) result }
+    ensures { IsCommand (lexemes tokens.now) (put_in result command.new) }
 {
-    let shown = parse(alloc, tokens)?;
-    Ok(Command::Show(shown))
-}
-
-/// What a line asks for that is not empty and no change.
-fn no_change(alloc: Global, tokens: &[Spanned]) -> Result<Command, ParseFault>
-    requires some { 0 < length tokens.now }
-    requires short { length tokens.now ≤ most_tokens }
-    requires no_change { IsNoChange (lexemes tokens.now) }
-    ensures { IsCommand (lexemes tokens.now) result }
-{
-    match command_word(tokens) {
-        Some(front) => worded(alloc, front.name, front.rest),
-        None => show(alloc, tokens),
+    match parse(alloc, tokens) {
+        Ok(shown) => {
+            *command = Command::Show(shown);
+            Ok(())
+        }
+        Err(fault) => Err(fault),
     }
 }
 
-/// What a line of tokens asks for.
-fn command_of(alloc: Global, tokens: &[Spanned]) -> Result<Command, ParseFault>
-    ensures { IsCommand (lexemes tokens.now) result }
+/// Puts the command of the word that stands at the front, which is no change.
+fn worded_into(alloc: Global, front: Front<'_>, command: &mut Command) -> Result<(), ParseFault>
+    requires short { 2 + length front.rest.now ≤ most_tokens }
+    requires no_change { IsNoChange (Sign right_parenthesis ∷ Named front.name ∷ lexemes front.rest.now) }
+    ensures { IsCommand (Sign right_parenthesis ∷ Named front.entry.name ∷ lexemes front.entry.rest.now) (put_in result command.new) }
+{
+    match worded(alloc, front.name, front.rest) {
+        Ok(found) => {
+            *command = found;
+            Ok(())
+        }
+        Err(fault) => Err(fault),
+    }
+}
+
+/// Puts what a line asks for that is not empty and no change.
+fn no_change(alloc: Global, tokens: &[Spanned], command: &mut Command) -> Result<(), ParseFault>
+    requires some { 0 < length tokens.now }
+    requires short { length tokens.now ≤ most_tokens }
+    requires no_change { IsNoChange (lexemes tokens.now) }
+    ensures { IsCommand (lexemes tokens.now) (put_in result command.new) }
+{
+    match command_word(tokens) {
+        Some(front) => worded_into(alloc, front, command),
+        None => show(alloc, tokens, command),
+    }
+}
+
+/// Puts the definition with what comes after `NAME ←`.
+fn define_into(alloc: Global, front: Front<'_>, command: &mut Command) -> Result<(), ParseFault>
+    requires { length front.rest.now ≤ most_tokens }
+    ensures { IsChangeIn (Named front.entry.name ∷ Sign left_arrow ∷ lexemes front.entry.rest.now) result command.new }
+{
+    match parse(alloc, front.rest) {
+        Ok(formula) => {
+            *command = Command::Change(Change::Define(front.name, formula));
+            Ok(())
+        }
+        Err(fault) => Err(fault),
+    }
+}
+
+/// Puts a change that is no definition.
+fn other_into(alloc: Global, tokens: &[Spanned], command: &mut Command) -> Result<(), ParseFault>
+    requires { length tokens.now ≤ most_tokens }
+    ensures { IsChangeIn (lexemes tokens.now) result command.new }
+{
+    match change_of(alloc, tokens) {
+        Ok(change) => {
+            *command = Command::Change(change);
+            Ok(())
+        }
+        Err(fault) => Err(fault),
+    }
+}
+
+/// Puts the change that the tokens are.
+fn change_into(alloc: Global, tokens: &[Spanned], command: &mut Command) -> Result<(), ParseFault>
+    requires { length tokens.now ≤ most_tokens }
+    ensures { IsChangeIn (lexemes tokens.now) result command.new }
+{
+    match name_before(tokens, '←') {
+        Some(front) => define_into(alloc, front, command),
+        None => other_into(alloc, tokens, command),
+    }
+}
+
+/// Puts what a line of tokens asks for.
+fn command_of(alloc: Global, tokens: &[Spanned], command: &mut Command) -> Result<(), ParseFault>
+    ensures { IsCommand (lexemes tokens.now) (put_in result command.new) }
 {
     if tokens.len() > MOST_TOKENS {
         return Err(ParseFault::Limit);
     }
     if tokens.is_empty() {
-        return Ok(Command::Nothing);
+        *command = Command::Nothing;
+        return Ok(());
     }
-    match change_of(alloc, tokens) {
-        Ok(change) => Ok(Command::Change(change)),
-        Err(ParseFault::Syntax) => no_change(alloc, tokens),
+    match change_into(alloc, tokens, command) {
+        Ok(()) => Ok(()),
+        Err(ParseFault::Syntax) => no_change(alloc, tokens, command),
         Err(ParseFault::Limit) => Err(ParseFault::Limit),
         Err(ParseFault::NoMemory) => Err(ParseFault::NoMemory),
     }
 }
 
-/// What the tokens of a text ask for.
-fn line_of_tokens(alloc: Global, text: &str) -> Result<Command, LineFault>
-    ensures { IsAnswered (chars text.now) result }
+/// Puts what the tokens of a text ask for, which are put into the room.
+fn line_of_tokens(
+    alloc: Global,
+    text: &str,
+    room: &mut Vec<Spanned>,
+    command: &mut Command,
+) -> Result<(), LineFault>
+    ensures { IsAnswered (chars text.now) (put_in result command.new) }
 {
-    match tokens(alloc, text) {
-        Ok(found) => match command_of(alloc, &found) {
-            Ok(command) => Ok(command),
+    match tokens_into(alloc, text, room) {
+        Ok(()) => match command_of(alloc, room, command) {
+            Ok(()) => Ok(()),
             Err(ParseFault::Syntax) => Err(LineFault::Syntax),
             Err(ParseFault::Limit) => Err(LineFault::Limit),
             Err(ParseFault::NoMemory) => Err(LineFault::NoMemory),
@@ -385,6 +450,7 @@ fn line_of_tokens(alloc: Global, text: &str) -> Result<Command, LineFault>
 }
 
 /// The command of an edit that was read from the bytes of a text.
+#[inline(always)]
 fn cell_of(edit: NumberEdit) -> Command
     ensures { (cs : List ℕ) → IsNumberEdit cs edit → IsAnswered cs (Ok result) }
 {
@@ -392,19 +458,28 @@ fn cell_of(edit: NumberEdit) -> Command
 }
 
 /// The command of a row that was read from the bytes of a text.
+#[inline(always)]
 fn row_of(row: NumberRow) -> Command
     ensures { (cs : List ℕ) → IsNumberRow cs row → IsAnswered cs (Ok result) }
 {
     Command::Change(Change::Row(row.name, Literal::Num(row.number)))
 }
 
-/// What a line of text asks for that is no edit of a cell by a number, or was not read as one.
-fn row_or_tokens(alloc: Global, text: &str) -> Result<Command, LineFault>
-    ensures { IsAnswered (chars text.now) result }
+/// Puts what a line of text asks for that is no edit of a cell by a number, or was not read as one.
+fn row_or_tokens(
+    alloc: Global,
+    text: &str,
+    room: &mut Vec<Spanned>,
+    command: &mut Command,
+) -> Result<(), LineFault>
+    ensures { IsAnswered (chars text.now) (put_in result command.new) }
 {
     match number_row(text) {
-        Some(row) => Ok(row_of(row)),
-        None => line_of_tokens(alloc, text),
+        Some(row) => {
+            *command = row_of(row);
+            Ok(())
+        }
+        None => line_of_tokens(alloc, text, room, command),
     }
 }
 
@@ -420,8 +495,28 @@ fn row_or_tokens(alloc: Global, text: &str) -> Result<Command, LineFault>
 pub fn line(alloc: Global, text: &str) -> Result<Command, LineFault>
     ensures { IsAnswered (chars text.now) result }
 {
+    let mut command = Command::Nothing;
+    match line_into(alloc, text, &mut Vec::new(alloc), &mut command) {
+        Ok(()) => Ok(command),
+        Err(fault) => Err(fault),
+    }
+}
+
+/// Puts what a line of text asks for in a place, as `line` answers it; where there is a fault, what is then there is of no account. The room is for
+/// tokens, and what it holds is of no account, before and after: who reads line after line keeps it, and then tokens need no memory of their own.
+pub fn line_into(
+    alloc: Global,
+    text: &str,
+    room: &mut Vec<Spanned>,
+    command: &mut Command,
+) -> Result<(), LineFault>
+    ensures { IsAnswered (chars text.now) (put_in result command.new) }
+{
     match number_edit(alloc, text) {
-        Some(edit) => Ok(cell_of(edit)),
-        None => row_or_tokens(alloc, text),
+        Some(edit) => {
+            *command = cell_of(edit);
+            Ok(())
+        }
+        None => row_or_tokens(alloc, text, room, command),
     }
 }

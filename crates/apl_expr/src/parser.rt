@@ -1,8 +1,9 @@
 //! The parser: it reads the tokens from left to right, once, a function at a time, and keeps what waits for its right argument or
 //! for a bracket that closes.
 
-ghost use Rattle.std.specs.Prelude.{◌≡◌, Some, List, [], ◌∷◌, ◌++◌, IfOk, map, true};
-ghost use Rattle.apl_tokens.specs.Lexemes.{lexeme, lexemes};
+ghost use Rattle.std.specs.Prelude.{◌≡◌, ◌≤◌, Some, List, [], ◌∷◌, ◌++◌, length, IfOk, IfSome, map, true};
+ghost use Rattle.apl_tokens.specs.Lexemes.{Lexeme, lexeme, lexemes};
+ghost use Rattle.apl_expr.specs.Grammar.{IsOperand, IsTreeOf};
 ghost use Rattle.apl_expr.specs.Machine.{first, settle, position_ended, closed, skipped, ends_position, begin, next, after_reference, step, finish, run, state, Index, Inside, Nothing, Position, Strand};
 ghost use Rattle.apl_expr.specs.Parsing.{stack, reading_of, Settles, Steps, Gives, IsParsed};
 ghost use Rattle.apl_expr.specs.Symbols.{indexed_of};
@@ -13,6 +14,7 @@ use crate::fault::ParseFault;
 use crate::functions::{Function, function_from};
 use crate::limits::{MOST_HEIGHT, MOST_NODES, MOST_TOKENS};
 use crate::plain::{OpenIndex, Plain, literal, text_literal};
+use crate::symbols::dyadic_of;
 use apl_tokens::{Spanned, Token};
 use smallvec::SmallVec;
 use std::alloc::{AllocError, Global};
@@ -346,13 +348,44 @@ fn tree(alloc: Global, tokens: &[Spanned]) -> Result<Plain, ParseFault>
     finish(alloc, reading, &mut waiting)
 }
 
-/// The tree of the tokens, the expression of ISO 8485 that they are.
-///
-/// More than 4,096 tokens are `Limit`, whatever they are; then tokens that are no expression are `Syntax`; then a tree
-/// that is more than 256 high or has more than 512 nodes is `Limit`. A leaf is 1 high, a list of numbers is one node, an
-/// index is one, and parentheses and an empty position are none. One number is `Literal::Num` and never `Literal::Nums`, and one
-/// character `Literal::Char` and never `Literal::Text`.
-pub fn parse(alloc: Global, tokens: &[Spanned]) -> Result<Expr, ParseFault>
+/// An operand that is one token: a number or a name.
+#[inline(always)]
+fn leaf(token: &Token) -> Option<Plain>
+    ensures { IfSome result (λ e. (ts : List Lexeme) → IsOperand (lexeme token.now ∷ ts) (tree_of e.expr) ts) }
+{
+    match token {
+        Token::Num(number) => Some(Plain::constant(Literal::Num(*number))),
+        Token::Word(name) => Some(Plain::name(*name)),
+        _ => None,
+    }
+}
+
+/// The tree of a function between two operands, each of which is one token, where the tokens are that: the most usual expression.
+#[inline(always)]
+fn pair(alloc: Global, tokens: &[Spanned]) -> Result<Option<Plain>, AllocError>
+    ensures short { IfOk result (λ found. IfSome found (λ e. length tokens.now ≤ 3)) }
+    ensures tree { IfOk result (λ found. IfSome found (λ e. IsTreeOf (lexemes tokens.now) (tree_of e.expr))) }
+{
+    let [first, second, third] = tokens else {
+        return Ok(None);
+    };
+    let Token::Mark(sign) = &second.token else {
+        return Ok(None);
+    };
+    let Some(function) = dyadic_of(*sign) else {
+        return Ok(None);
+    };
+    let Some(left) = leaf(&first.token) else {
+        return Ok(None);
+    };
+    let Some(right) = leaf(&third.token) else {
+        return Ok(None);
+    };
+    Ok(Some(Plain::dyad(alloc, function, left, right)?))
+}
+
+/// The tree of the tokens, whatever they are, as `parse` answers it.
+fn parse_any(alloc: Global, tokens: &[Spanned]) -> Result<Expr, ParseFault>
     ensures { IsParsed (lexemes tokens.now) result }
 {
     if tokens.len() > MOST_TOKENS {
@@ -370,4 +403,20 @@ pub fn parse(alloc: Global, tokens: &[Spanned]) -> Result<Expr, ParseFault>
         return Err(ParseFault::Limit);
     }
     Ok(plain.expr)
+}
+
+/// The tree of the tokens, the expression of ISO 8485 that they are.
+///
+/// More than 4,096 tokens are `Limit`, whatever they are; then tokens that are no expression are `Syntax`; then a tree
+/// that is more than 256 high or has more than 512 nodes is `Limit`. A leaf is 1 high, a list of numbers is one node, an
+/// index is one, and parentheses and an empty position are none. One number is `Literal::Num` and never `Literal::Nums`, and one
+/// character `Literal::Char` and never `Literal::Text`.
+pub fn parse(alloc: Global, tokens: &[Spanned]) -> Result<Expr, ParseFault>
+    ensures { IsParsed (lexemes tokens.now) result }
+{
+    match pair(alloc, tokens) {
+        Ok(Some(plain)) => Ok(plain.expr),
+        Ok(None) => parse_any(alloc, tokens),
+        Err(AllocError) => Err(ParseFault::NoMemory),
+    }
 }

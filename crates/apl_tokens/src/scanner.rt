@@ -6,7 +6,7 @@ ghost use Rattle.std.specs.Str.{chars};
 ghost use Rattle.apl_tokens.specs.Lexemes.{lexeme};
 ghost use Rattle.apl_tokens.specs.Scans.{with_front, spanned};
 ghost use Rattle.apl_tokens.specs.Scanner.{begun, ended, then_begun, turn, scan, Between, Quoted, Goes};
-ghost use Rattle.apl_tokens.specs.Scanning.{scan_of, all_spanned, prepended, IsReading, StandsAt, Turns, Finds, Gives, AreTokensOf};
+ghost use Rattle.apl_tokens.specs.Scanning.{scan_of, all_spanned, prepended, IsReading, StandsAt, Turns, Finds, AreTokensIn, AreTokensOf};
 
 use crate::characters::{is_blank, is_letter, is_name_part, joins_number, sign_of};
 use crate::fault::TokenFault;
@@ -191,21 +191,20 @@ fn turn(
     }
 }
 
-/// The tokens of a text.
-fn scanned(alloc: Global, text: &str) -> Result<Vec<Spanned>, TokenFault>
+/// Puts the tokens of a text where others were.
+fn scanned(alloc: Global, text: &str, out: &mut Vec<Spanned>) -> Result<(), TokenFault>
     requires { length text.now < 2 ^ 64 }
-    ensures { Gives result (scan (chars text.now) 0 Between) }
+    ensures { Finds result out.new.items (scan (chars text.now) 0 Between) }
 {
     let bytes = text.as_bytes();
-    let mut out = Vec::with_capacity(alloc, FEW_TOKENS)?;
+    out.clear();
     let mut reading = Scan::Between;
     let mut at: usize = 0;
     for c in text.chars() {
-        reading = turn(alloc, bytes, at, c, reading, &mut out)?;
+        reading = turn(alloc, bytes, at, c, reading, out)?;
         at += c.len_utf8();
     }
-    ended(bytes, at, reading, &mut out)?;
-    Ok(out)
+    ended(bytes, at, reading, out)
 }
 
 /// The tokens of a line, the lexical units of ISO 8485; its comment, which `⍝` begins, and blanks between tokens are none.
@@ -215,11 +214,23 @@ fn scanned(alloc: Global, text: &str) -> Result<Vec<Spanned>, TokenFault>
 /// a high minus without a digit after it, for a text that does not close, from its quote to the end, and for a number that
 /// a letter, `_` or a high minus follows directly; `Limit` for a number that is out of range and for a name of more than 63
 /// bytes.
-#[tactic(auto, using(crate::proofs::Sound::are_tokens))]
 pub fn tokens(alloc: Global, text: &str) -> Result<Vec<Spanned>, TokenFault>
     ensures { AreTokensOf (chars text.now) result }
 {
+    let mut found = Vec::with_capacity(alloc, FEW_TOKENS)?;
+    match tokens_into(alloc, text, &mut found) {
+        Ok(()) => Ok(found),
+        Err(fault) => Err(fault),
+    }
+}
+
+/// Puts the tokens of a line where those of another were, so that lines that are read one after the other need no memory of their own. Where
+/// there is a fault, what is then there is of no account.
+#[tactic(auto, using(crate::proofs::Sound::are_tokens))]
+pub fn tokens_into(alloc: Global, text: &str, found: &mut Vec<Spanned>) -> Result<(), TokenFault>
+    ensures { AreTokensIn (chars text.now) result found.new }
+{
     // The length of a text is below 2^64, so no byte offset in it overflows.
     let _len = text.len();
-    scanned(alloc, text)
+    scanned(alloc, text, found)
 }

@@ -2,8 +2,9 @@
 
 ghost use Rattle.std.specs.Prelude.{◌≡◌, ◌+◌, ◌≤◌, ◌∷◌, ℕ, List, IfOk, IsOk, Result, Ok, Err, map, true};
 ghost use Rattle.std.specs.List.{Contains};
-ghost use Rattle.apl_expr.specs.Trees.{tree_of, position_of, positions_of};
-ghost use Rattle.arrays_core.specs.Arrays.{ArrayValue, IsAnswerTo};
+ghost use Rattle.apl_expr.specs.Trees.{Dyad, tree_of, position_of, positions_of};
+ghost use Rattle.apl_expr.specs.declared.expr.Dyadic.TheVariants.{Scalar};
+ghost use Rattle.arrays_core.specs.Arrays.{ArrayValue, IsAnswerTo, scalar_of};
 ghost use Rattle.arrays_core.specs.declared.item.Kind.{Kind as AKind};
 ghost use Rattle.change_core.specs.Meters.{ticked};
 ghost use Rattle.selection_fns.specs.Index.{index_whole};
@@ -19,11 +20,13 @@ use crate::application::{of_both, of_right};
 use crate::input::Input;
 use crate::literals::array_of;
 use crate::positions::written_of;
-use apl_expr::{Dyadic, Expr, Monadic};
+use crate::symbols::scalar2_of;
+use apl_expr::{Dyadic, Expr, Literal, Monadic, ScalarDyad, Sides};
 use apl_tokens::Name;
 use arrays_core::{ApplyFault, Array, Fault, size};
 use change_core::Meter;
 use index_region::{Delta, Seen};
+use scalar_fns::{apply_to_left, apply_to_right};
 use selection_fns::Index;
 use std::alloc::{AllocError, Global};
 
@@ -127,12 +130,7 @@ fn argument<'a, S: Shows>(
             let given = apply_monad(alloc, *function, right)?;
             Ok(counted(given, meter))
         }
-        Expr::Dyad(function, left, right) => {
-            let right = argument(alloc, right, names, meter)?;
-            let left = argument(alloc, left, names, meter)?;
-            let given = apply_dyad(alloc, *function, left, right)?;
-            Ok(counted(given, meter))
-        }
+        Expr::Dyad(function, sides) => between(alloc, *function, sides, names, meter),
         Expr::Index(operand, positions) => {
             let positions = position_operands(alloc, positions, names, meter)?;
             let operand = argument(alloc, operand, names, meter)?;
@@ -140,6 +138,36 @@ fn argument<'a, S: Shows>(
             Ok(counted(given, meter))
         }
     }
+}
+
+/// The value of a function between its arguments, and its cost. A number that is written beside a scalar function is no array of its own.
+#[cycle(value)]
+fn between<'a, S: Shows>(
+    alloc: Global,
+    function: Dyadic,
+    sides: &Sides,
+    names: &'a S,
+    meter: &mut Meter,
+) -> Result<Result<Operand<'a>, Fault>, AllocError>
+    ensures value { IfOk result (λ operand. outcome_of operand ≡ eval (Dyad function (tree_of sides.now.left) (tree_of sides.now.right)) (S.shows names.entry.now)) }
+    ensures counted { IsTreeCounted (S.shows names.entry.now) (Dyad function (tree_of sides.now.left) (tree_of sides.now.right)) meter.old.ticks meter.new.ticks result }
+{
+    if let Dyadic::Scalar(scalar) = function {
+        if let Expr::Const(Literal::Num(number)) = &sides.right {
+            let left = argument(alloc, &sides.left, names, meter)?;
+            let given = apply_to_number(alloc, scalar, left, *number)?;
+            return Ok(counted(given, meter));
+        }
+        if let Expr::Const(Literal::Num(number)) = &sides.left {
+            let right = argument(alloc, &sides.right, names, meter)?;
+            let given = apply_number_to(alloc, scalar, *number, right)?;
+            return Ok(counted(given, meter));
+        }
+    }
+    let right = argument(alloc, &sides.right, names, meter)?;
+    let left = argument(alloc, &sides.left, names, meter)?;
+    let given = apply_dyad(alloc, function, left, right)?;
+    Ok(counted(given, meter))
 }
 
 /// The values of the positions of an index, from the last to the first, and their cost; the first error that is met is the result.
@@ -206,6 +234,36 @@ fn apply_dyad<'a>(
             Ok(left) => made(of_both(alloc, function, left.array(), right.array())),
             Err(fault) => Ok(Err(fault)),
         },
+        Err(fault) => Ok(Err(fault)),
+    }
+}
+
+/// A scalar function of its left argument and a number, or the argument's error.
+fn apply_to_number<'a>(
+    alloc: Global,
+    function: ScalarDyad,
+    left: Result<Operand<'a>, Fault>,
+    right: i64,
+) -> Result<Result<Operand<'a>, Fault>, AllocError>
+    ensures { IfOk result (λ operand. outcome_of operand ≡ applied2 (Scalar function) (Ok (scalar_of right)) (outcome_of left.entry)) }
+{
+    match left {
+        Ok(left) => made(apply_to_right(alloc, scalar2_of(function), left.array(), right)),
+        Err(fault) => Ok(Err(fault)),
+    }
+}
+
+/// A scalar function of a number and its right argument, or the argument's error.
+fn apply_number_to<'a>(
+    alloc: Global,
+    function: ScalarDyad,
+    left: i64,
+    right: Result<Operand<'a>, Fault>,
+) -> Result<Result<Operand<'a>, Fault>, AllocError>
+    ensures { IfOk result (λ operand. outcome_of operand ≡ applied2 (Scalar function) (outcome_of right.entry) (Ok (scalar_of left))) }
+{
+    match right {
+        Ok(right) => made(apply_to_left(alloc, scalar2_of(function), left, right.array())),
         Err(fault) => Ok(Err(fault)),
     }
 }

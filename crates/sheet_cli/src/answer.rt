@@ -2,7 +2,10 @@
 ghost use Rattle.std.specs.Prelude.{◌≡◌, ℤ, IfOk, OnErr, IsOk};
 ghost use Rattle.std.specs.Str.{chars};
 ghost use Rattle.apl_expr.specs.Lines.{meaning, Cost, Commit, Drop};
-ghost use Rattle.sheet_cli.specs.Answer.{state_of, IsCarriedOut, IsTextAnswer, IsAnswer};
+ghost use Rattle.apl_expr.specs.Trees.{tree_of};
+ghost use Rattle.formula_core.specs.Meaning.{eval};
+ghost use Rattle.sheet_recalc.specs.Meaning.{val};
+ghost use Rattle.sheet_cli.specs.Answer.{state_of, shown_text, IsCarriedOut, IsTextAnswer, IsAnswer};
 ghost use Rattle.sheet_cli.specs.Lines.{strip_cr};
 ghost use Rattle.sheet_cli.specs.Printed.{printed_bytes};
 
@@ -10,15 +13,23 @@ use crate::count_line::CountLine;
 use crate::printed::Printed;
 use crate::queries::{list_names, show, table};
 use crate::refusals::{count_text, edit_text};
-use apl_expr::{Command, LineFault, line};
+use apl_expr::{Command, Expr, LineFault, line_into};
+use apl_tokens::Spanned;
 use sheet_desk::Desk;
+use sheet_recalc::Sheet;
 use std::alloc::{AllocError, Global};
 
 /// The most bytes of a line, without the LF or CR LF that ends it.
 pub const LONGEST_LINE: usize = 4096;
 
-/// Answers a line of bytes, its CR included. The text is made whole; where memory is refused nothing changes.
-pub(crate) fn answer(alloc: Global, desk: &mut Desk, line: &[u8]) -> Result<Printed, AllocError>
+/// Answers a line of bytes, its CR included. The text is made whole; where memory is refused nothing changes. The room is for the tokens of
+/// the line, and what it holds is of no account.
+pub(crate) fn answer(
+    alloc: Global,
+    desk: &mut Desk,
+    room: &mut Vec<Spanned>,
+    line: &[u8],
+) -> Result<Printed, AllocError>
     ensures ok { IfOk result (λ text. IsAnswer (state_of desk.old) line.now (printed_bytes text) (state_of desk.new)) }
     ensures err { OnErr result (desk.new ≡ desk.old) }
 {
@@ -27,26 +38,52 @@ pub(crate) fn answer(alloc: Global, desk: &mut Desk, line: &[u8]) -> Result<Prin
         return Ok(Printed::Fixed("LINE TOO LONG\n"));
     }
     match str::from_utf8(line) {
-        Ok(text) => answer_text(alloc, desk, text),
+        Ok(text) => answer_text(alloc, desk, room, text),
         Err(_) => Ok(Printed::Fixed("NOT TEXT\n")),
     }
 }
 
 /// Answers a text.
-fn answer_text(alloc: Global, desk: &mut Desk, text: &str) -> Result<Printed, AllocError>
+fn answer_text(
+    alloc: Global,
+    desk: &mut Desk,
+    room: &mut Vec<Spanned>,
+    text: &str,
+) -> Result<Printed, AllocError>
     ensures ok { IfOk result (λ answer. IsTextAnswer (state_of desk.old) (chars text.now) (printed_bytes answer) (state_of desk.new)) }
     ensures err { OnErr result (desk.new ≡ desk.old) }
 {
-    let read = line(alloc, text);
-    // A change is lent where it was read.
-    if let Ok(Command::Change(change)) = &read {
-        return edit_text(alloc, desk.plain_lent(change));
-    }
-    match read {
-        Ok(command) => carry_out(alloc, desk, command),
+    let mut command = Command::Nothing;
+    match line_into(alloc, text, room, &mut command) {
+        Ok(()) => carry_out_lent(alloc, desk, command),
         Err(LineFault::Syntax) => Ok(Printed::Fixed("SYNTAX ERROR\n")),
         Err(LineFault::Limit) => Ok(Printed::Fixed("LIMIT ERROR\n")),
         Err(LineFault::NoMemory) => Err(AllocError),
+    }
+}
+
+/// Does what a line asks for; a change and an expression are lent where they were read.
+#[inline(always)]
+fn carry_out_lent(alloc: Global, desk: &mut Desk, command: Command) -> Result<Printed, AllocError>
+    ensures ok { IfOk result (λ text. IsCarriedOut (state_of desk.old) (meaning command) (printed_bytes text) (state_of desk.new)) }
+    ensures err { OnErr result (desk.new ≡ desk.old) }
+{
+    if let Command::Change(change) = &command {
+        return edit_text(alloc, desk.plain_lent(change));
+    }
+    if let Command::Show(expr) = &command {
+        return shown(alloc, desk.sheet(), expr);
+    }
+    carry_out(alloc, desk, command)
+}
+
+/// What is printed of an expression's value.
+fn shown(alloc: Global, sheet: &Sheet, expr: &Expr) -> Result<Printed, AllocError>
+    ensures { IfOk result (λ text. printed_bytes text ≡ shown_text (eval (tree_of expr.now) (val sheet.now.names))) }
+{
+    match show(alloc, sheet, expr) {
+        Ok(text) => Ok(Printed::Made(text)),
+        Err(AllocError) => Err(AllocError),
     }
 }
 
@@ -62,7 +99,7 @@ fn carry_out(alloc: Global, desk: &mut Desk, command: Command) -> Result<Printed
     match command {
         Command::Nothing => Ok(Printed::Fixed("")),
         Command::Change(change) => edit_text(alloc, desk.plain(change)),
-        Command::Show(expr) => Ok(Printed::Made(show(alloc, desk.sheet(), &expr)?)),
+        Command::Show(expr) => shown(alloc, desk.sheet(), &expr),
         Command::Names => Ok(Printed::Made(list_names(alloc, desk.sheet())?)),
         Command::Cost => Ok(Printed::Count(CountLine::new(desk.sheet().last_cost()))),
         Command::Csv(name) => table(alloc, desk.sheet(), name),

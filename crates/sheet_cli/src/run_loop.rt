@@ -9,6 +9,7 @@ ghost use Rattle.sheet_cli.specs.Run.{Completes, BreaksOff, IsCut};
 use crate::answer::answer;
 use crate::device::{Failed, Sink, Source};
 use crate::line_buffer::{KEPT, OpenLine};
+use apl_tokens::Spanned;
 use sheet_desk::Desk;
 use std::alloc::{AllocError, Global};
 
@@ -58,12 +59,13 @@ fn strip_bom(bytes: &[u8]) -> &[u8]
     }
 }
 
-/// Answers one line, and counts it.
+/// Answers one line, and counts it. The room is for its tokens.
 fn answer_line<W: Sink>(
     alloc: Global,
     desk: &mut Desk,
     sink: &mut W,
     tally: &mut Tally,
+    room: &mut Vec<Spanned>,
     line: &[u8],
 ) -> Result<(), Failed>
     requires lines { tally.old.lines < u64.MAX }
@@ -77,7 +79,7 @@ fn answer_line<W: Sink>(
     ensures fault { OnErr result (W.has_failed sink.new ≡ true) }
 {
     tally.lines += 1;
-    match answer(alloc, desk, line) {
+    match answer(alloc, desk, room, line) {
         Ok(text) => put_all(sink, text.as_bytes()),
         Err(AllocError) => {
             tally.refused_for_memory += 1;
@@ -91,6 +93,8 @@ fn answer_line<W: Sink>(
 struct Progress {
     open_line: OpenLine,
     tally: Tally,
+    /// Room for the tokens of a line, kept from line to line.
+    room: Vec<Spanned>,
 }
 
 impl Progress {
@@ -103,6 +107,7 @@ impl Progress {
                 lines: 0,
                 refused_for_memory: 0,
             },
+            room: Vec::new(alloc),
         })
     }
 }
@@ -164,7 +169,14 @@ fn end_line<W: Sink>(
     ensures fault { OnErr result (W.has_failed sink.new ≡ true) }
 {
     let line = line_of(&progress.open_line, progress.tally.lines);
-    answer_line(alloc, desk, sink, &mut progress.tally, line)?;
+    answer_line(
+        alloc,
+        desk,
+        sink,
+        &mut progress.tally,
+        &mut progress.room,
+        line,
+    )?;
     progress.open_line.clear();
     Ok(())
 }
@@ -190,7 +202,14 @@ fn answer_lying<W: Sink>(
     ensures fault { OnErr result (W.has_failed sink.new ≡ true) }
 {
     let line = stripped(kept_of(bytes), progress.tally.lines);
-    answer_line(alloc, desk, sink, &mut progress.tally, line)
+    answer_line(
+        alloc,
+        desk,
+        sink,
+        &mut progress.tally,
+        &mut progress.room,
+        line,
+    )
 }
 
 /// Takes the next bytes of the input up to an LF and with it, or all, and says how many it took.
@@ -270,7 +289,14 @@ fn answer_last<W: Sink>(
     if line.is_empty() {
         return Ok(());
     }
-    answer_line(alloc, desk, sink, &mut progress.tally, line)
+    answer_line(
+        alloc,
+        desk,
+        sink,
+        &mut progress.tally,
+        &mut progress.room,
+        line,
+    )
 }
 
 /// Answers a last line without LF, and flushes.

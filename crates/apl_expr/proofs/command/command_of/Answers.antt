@@ -1,9 +1,10 @@
-use Rattle.std.proofs.Common.{◌≡◌, [], Err, subst, sym, refl, arith}
+use Rattle.std.proofs.Common.{◌≡◌, [], Ok, Err, subst, sym, refl, arith}
 use Rattle.std.proofs.lemmas.List.{length-map, nil_from_length}
 use Rattle.std.proofs.lemmas.Grind.{common_steps}
 use Rattle.apl_tokens.specs.Lexemes.{lexemes}
+use Rattle.apl_expr.specs.declared.command.Command.{Command}
 use Rattle.apl_expr.specs.declared.fault.ParseFault.{ParseFault}
-use Rattle.apl_expr.specs.Lines.{IsLine, nothing, Nothing}
+use Rattle.apl_expr.specs.Lines.{IsCommand, IsLine, nothing, Nothing}
 use Rattle.apl_expr.specs.Changes.{IsChangeOf}
 use Rattle.apl_expr.proofs.Commands.{change_ok, change_too_large}
 use Rattle.apl_expr.proofs.command.command_of.Goals as goal
@@ -14,7 +15,10 @@ returns-then-is_empty c =
     (simp length-map (omega arith), subst (λ ts. IsLine (lexemes ts) Nothing) (sym is_nil) nothing, λ x. x, refl)
 
 pub returns-in-Ok : goal.returns-in-Ok
-returns-in-Ok c = change_ok (lexemes c.args.tokens.now) (simp length-map (omega arith)) c.in-Ok.change c.in-Ok.ensures
+returns-in-Ok c =
+    let ts = lexemes c.args.tokens.now in
+    let found = c.in-Ok.ensures in
+    subst (λ (k : Command). IsCommand ts (Ok k)) (sym found.1) (change_ok ts (simp length-map (omega arith)) found.0 found.2)
 
 pub returns-in-Err-Limit : goal.returns-in-Err-Limit
 returns-in-Err-Limit c =

@@ -1,41 +1,13 @@
-use Rattle.std.proofs.Common.{◌<◌, ◌≤◌, inl, inr, arith}
+use Rattle.std.proofs.Common.{arith}
 use Rattle.std.proofs.lemmas.List.{length-map}
-use Rattle.std.proofs.lemmas.Result.{err_from_is_err_and}
 use Rattle.apl_tokens.specs.Lexemes.{lexemes}
-use Rattle.apl_expr.specs.Limits.{most_height, most_nodes}
-use Rattle.apl_expr.specs.Trees.{tree_of, height, nodes}
-use Rattle.apl_expr.proofs.Sizes.{above_limit}
+use Rattle.apl_expr.specs.Trees.{tree_of}
 use Rattle.apl_expr.proofs.FewTokens.{few_tokens}
-use Rattle.apl_expr.proofs.Parsed.{refused, too_large, read_tree}
 use Rattle.apl_expr.proofs.parser.parse.Goals as goal
 
-pub returns-in_err-plain : goal.returns-in_err-plain
-returns-in_err-plain c =
-    let p = err_from_is_err_and c.from_residual.result c.from_residual.ensures.1 in
-    refused c.in_err-plain.field-0.0 (lexemes c.args.tokens.now) c.from_residual.result (simp length-map (omega arith)) p.0 p.1 p.2 c.in_err-plain.ensures
-
-pub returns-then-tokens : goal.returns-then-tokens
-returns-then-tokens c =
-    let is = read_tree (lexemes c.args.tokens.now) (tree_of c.in_ok-plain.plain.expr) c.in_ok-plain.ensures in
-    let sizes = few_tokens (lexemes c.args.tokens.now) (tree_of c.in_ok-plain.plain.expr) is (simp length-map (omega arith)) in
-    (simp length-map (omega arith), is, sizes.0, sizes.1, c.in_ok-plain.plain.plain)
-
-pub returns-then-not-is_within_height : goal.returns-then-not-is_within_height
-returns-then-not-is_within_height c =
-    let above = above_limit (height (tree_of c.in_ok-plain.plain.expr)) _ c.is_within_height.result c.is_within_height.ensures c.if-not-is_within_height.true in
-    let high : most_height < height (tree_of c.in_ok-plain.plain.expr) = omega arith in
-    too_large (lexemes c.args.tokens.now) (tree_of c.in_ok-plain.plain.expr) c.in_ok-plain.ensures (inl high)
-
-pub returns-then-not-is_within_nodes : goal.returns-then-not-is_within_nodes
-returns-then-not-is_within_nodes c =
-    let above = above_limit (nodes (tree_of c.in_ok-plain.plain.expr)) _ c.is_within_nodes.result c.is_within_nodes.ensures c.if-not-is_within_nodes.true in
-    let many : most_nodes < nodes (tree_of c.in_ok-plain.plain.expr) = omega arith in
-    too_large (lexemes c.args.tokens.now) (tree_of c.in_ok-plain.plain.expr) c.in_ok-plain.ensures (inr many)
-
-pub returns : goal.returns
-returns c =
-    let within_height = c.is_within_height.ensures.0 c.if-not-is_within_height.false in
-    let within_nodes = c.is_within_nodes.ensures.0 c.if-not-is_within_nodes.false in
-    let low : height (tree_of c.in_ok-plain.plain.expr) ≤ most_height = omega arith in
-    let few : nodes (tree_of c.in_ok-plain.plain.expr) ≤ most_nodes = omega arith in
-    (simp length-map (omega arith), read_tree (lexemes c.args.tokens.now) (tree_of c.in_ok-plain.plain.expr) c.in_ok-plain.ensures, low, few, c.in_ok-plain.plain.plain)
+pub returns-in-Ok-Some : goal.returns-in-Ok-Some
+returns-in-Ok-Some c =
+    let short = rw c.in-Ok-Some.field-0-is at c.in-Ok-Some.ensures.short in
+    let tree = rw c.in-Ok-Some.field-0-is at c.in-Ok-Some.ensures.tree in
+    let sizes = few_tokens (lexemes c.args.tokens.now) (tree_of c.in-Ok-Some.plain.expr) tree (simp length-map (omega (arith, short))) in
+    (simp length-map (omega (arith, short)), tree, sizes.0, sizes.1, c.in-Ok-Some.plain.plain)

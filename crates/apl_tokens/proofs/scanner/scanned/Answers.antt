@@ -5,8 +5,8 @@ use Rattle.std.proofs.lemmas.Result.{err_from_is_err_and}
 use Rattle.std.proofs.lemmas.Str.{chars_past_char, IsUtf8-past_char}
 use Rattle.apl_tokens.specs.Scanner.{scan, turn, Between, Goes}
 use Rattle.apl_tokens.specs.Scans.{with_front}
-use Rattle.apl_tokens.specs.Scanning.{all_spanned, prepended, scan_of, IsReading}
-use Rattle.apl_tokens.proofs.Walk.{bytes_of_next, stands, drop_next, front_of_none, no_characters, goes, fails, at_end, end_fails}
+use Rattle.apl_tokens.specs.Scanning.{all_spanned, prepended, scan_of, Finds, IsReading}
+use Rattle.apl_tokens.proofs.Walk.{bytes_of_next, stands, drop_next, front_of_none, no_characters, goes, fails, at_end}
 use Rattle.apl_tokens.proofs.scanner.scanned.Goals as goal
 
 pub loop-c-init : goal.loop-c-init
@@ -17,7 +17,7 @@ loop-c-init c =
       byte = omega (arith, ap length start);
       left = c.as_bytes-bytes.ensures.value ∙ sym start;
       reading = tt;
-      kept = (λ i. with_front (all_spanned (c.in_ok-out.ensures.items i)) (scan (chars (start i)) 0 Between)) ∙ front_of_none (scan (chars c.args.text.now) 0 Between);
+      kept = (λ i. with_front (all_spanned (c.clear.ensures.items i)) (scan (chars (start i)) 0 Between)) ∙ front_of_none (scan (chars c.args.text.now) 0 Between);
     }
 
 pub turn-requires : goal.turn-requires
@@ -38,9 +38,9 @@ overflow_add-at c =
 
 pub returns-in_err-reading : goal.returns-in_err-reading
 returns-in_err-reading c =
-    let p = err_from_is_err_and c.from_residual-in_err-reading.result c.from_residual-in_err-reading.ensures.1 in
+    let p = err_from_is_err_and c.from_residual.result c.from_residual.ensures.1 in
     let is = chars_past_char c.loop-c.c-iterator.rest.now c.next.new.self.rest.now c.in-Some.c c.loop-c.invariant.utf8 c.in-Some.ensures.steps.0 in
-    fails c.as_bytes-bytes.result.now _ _ c.in-Some.c c.loop-c.at (scan_of c.as_bytes-bytes.result.now c.loop-c.at c.loop-c.reading) (all_spanned c.loop-c.out.items) _ is c.loop-c.invariant.kept c.turn.new.out.items c.from_residual-in_err-reading.result c.in_err-reading.field-0.0 p.0 p.1 p.2 c.in_err-reading.ensures.turns
+    fails c.as_bytes-bytes.result.now _ _ c.in-Some.c c.loop-c.at (scan_of c.as_bytes-bytes.result.now c.loop-c.at c.loop-c.reading) (all_spanned c.loop-c.out.items) _ is c.loop-c.invariant.kept c.turn.new.out.items c.from_residual.result c.in_err-reading.field-0.0 p.0 p.1 p.2 c.in_err-reading.ensures.turns
 
 pub loop-c-preserved : goal.loop-c-preserved
 loop-c-preserved c =
@@ -54,14 +54,7 @@ loop-c-preserved c =
       kept = goes c.as_bytes-bytes.result.now _ _ c.in-Some.c c.loop-c.at (scan_of c.as_bytes-bytes.result.now c.loop-c.at c.loop-c.reading) (all_spanned c.loop-c.out.items) _ is c.loop-c.invariant.kept (all_spanned c.turn.new.out.items) (scan_of c.as_bytes-bytes.result.now (c.loop-c.at + c.len_utf8-at.result) c.in_ok-reading.reading) _ (subst (λ n. prepended (all_spanned c.loop-c.out.items) (turn c.loop-c.at c.in-Some.c (scan_of c.as_bytes-bytes.result.now c.loop-c.at c.loop-c.reading)) ≡ Goes (all_spanned c.turn.new.out.items) (scan_of c.as_bytes-bytes.result.now (c.loop-c.at + n) c.in_ok-reading.reading)) (sym c.len_utf8-at.ensures.value) c.in_ok-reading.ensures.turns) (ap (λ n. c.loop-c.at + n) c.len_utf8-at.ensures.value);
     }
 
-pub returns-in_err-ended : goal.returns-in_err-ended
-returns-in_err-ended c =
-    let p = err_from_is_err_and c.from_residual-in_err-ended.result c.from_residual-in_err-ended.ensures.1 in
-    let none : chars c.loop-c.c-iterator.rest.now ≡ [] = no_characters c.loop-c.c-iterator.rest.now c.in-None.ensures.steps.0.0 in
-    let e = at_end _ c.loop-c.at (scan_of c.as_bytes-bytes.result.now c.loop-c.at c.loop-c.reading) (all_spanned c.loop-c.out.items) _ none c.loop-c.invariant.kept in
-    end_fails (Unit {0}) c.from_residual-in_err-ended.result c.ended.new.out.items c.in_err-ended.field-0.0 p.0 _ _ p.1 p.2 e c.in_err-ended.ensures
-
 pub returns : goal.returns
 returns c =
     let none : chars c.loop-c.c-iterator.rest.now ≡ [] = no_characters c.loop-c.c-iterator.rest.now c.in-None.ensures.steps.0.0 in
-    sym (at_end _ c.loop-c.at (scan_of c.as_bytes-bytes.result.now c.loop-c.at c.loop-c.reading) (all_spanned c.loop-c.out.items) _ none c.loop-c.invariant.kept) ∙ c.in_ok-ended.ensures
+    subst (λ r. Finds c.ended.result c.ended.new.out.items r) (at_end _ c.loop-c.at (scan_of c.as_bytes-bytes.result.now c.loop-c.at c.loop-c.reading) (all_spanned c.loop-c.out.items) _ none c.loop-c.invariant.kept) c.ended.ensures
