@@ -67,6 +67,7 @@ impl Default for Waiting {
 }
 
 /// Reads a token, or the function that it begins, where an expression is to begin.
+#[inline(always)]
 fn first(
     alloc: Global,
     token: &Token,
@@ -98,6 +99,7 @@ fn first(
 }
 
 /// Gives a value to all that waits for it, up to the innermost open bracket, which is taken off.
+#[inline(always)]
 fn settle(alloc: Global, value: Plain, waiting: &mut Waitings) -> Result<Settled, AllocError>
     ensures { IfOk result (λ s. Settles s waiting.new.items (settle (stack waiting.old.items) (tree_of value.expr))) }
 {
@@ -212,6 +214,7 @@ fn ends_position(sign: char) -> bool
 }
 
 /// Reads a token, or the function that it begins, where a position of an index is to begin.
+#[inline(always)]
 fn begin(
     alloc: Global,
     token: &Token,
@@ -227,6 +230,7 @@ fn begin(
 }
 
 /// Reads a token, or the function that it begins, after an operand.
+#[inline(always)]
 fn next(
     alloc: Global,
     token: &Token,
@@ -249,6 +253,7 @@ fn next(
 }
 
 /// Reads a token, or the function that it begins, after an operand that an index may follow.
+#[inline(always)]
 fn after_reference(
     alloc: Global,
     token: &Token,
@@ -282,6 +287,7 @@ fn strand(alloc: Global, first: i64, second: i64) -> Result<Reading, ParseFault>
 }
 
 /// Reads a token, or the function that it begins.
+#[inline(always)]
 fn step(
     alloc: Global,
     token: &Token,

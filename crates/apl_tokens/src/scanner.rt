@@ -38,6 +38,7 @@ enum Scan {
 }
 
 /// Puts a token after the others.
+#[inline(always)]
 fn put(out: &mut Vec<Spanned>, token: Token, span: Span) -> Result<(), TokenFault>
     ensures { Finds result out.new.items (Ok (all_spanned out.old.items ++ spanned (lexeme token) span.start span.end ∷ [])) }
 {
@@ -46,6 +47,7 @@ fn put(out: &mut Vec<Spanned>, token: Token, span: Span) -> Result<(), TokenFaul
 }
 
 /// Begins to read at a character that stands at byte `at`.
+#[inline(always)]
 fn begun(
     alloc: Global,
     text: &[u8],
@@ -82,6 +84,7 @@ fn begun(
 }
 
 /// Ends what is being read, before byte `at`.
+#[inline(always)]
 fn ended(text: &[u8], at: usize, scan: Scan, out: &mut Vec<Spanned>) -> Result<(), TokenFault>
     requires within { at ≤ length text.now }
     requires reading { IsReading text.now at scan }
@@ -111,6 +114,7 @@ fn ended(text: &[u8], at: usize, scan: Scan, out: &mut Vec<Spanned>) -> Result<(
 }
 
 /// Ends what is being read, and begins to read at a character that stands at byte `at`.
+#[inline(always)]
 fn then_begun(
     alloc: Global,
     text: &[u8],
@@ -140,6 +144,7 @@ fn quoted(start: usize, mut chars: Vec<char>, c: char) -> Result<Scan, TokenFaul
 }
 
 /// Reads a character that stands at byte `at`.
+#[inline(always)]
 fn turn(
     alloc: Global,
     text: &[u8],
