@@ -1,6 +1,6 @@
 //! Room that a change needs in a table, made ahead of the change and brought along by it.
 
-ghost use Rattle.std.specs.Prelude.{◌≡◌, ◌+◌, ◌^◌, ◌≤◌, ◌<◌, ◌↔◌, ◌++◌, List, [], ◌∷◌, IfOk, OnOk, MatchOption, length};
+ghost use Rattle.std.specs.Prelude.{◌≡◌, ◌+◌, ◌^◌, ◌≤◌, ◌<◌, ◌↔◌, ◌++◌, List, [], ◌∷◌, IsTrue, IfOk, OnOk, MatchOption, length};
 ghost use Rattle.std.specs.List.{Contains};
 ghost use Rattle.indexmap.specs.IndexMap.{spare};
 ghost use Rattle.dep_order.specs.Users.{Uses, users_of, IsExact, HasRoomFor, HasNoEmptyBut};
@@ -82,6 +82,25 @@ fn add_set<N: Eq + Hash + Copy>(
     let set = IndexSet::with_capacity(alloc, count + count + 1)?;
     sets.insert(reference, set)?;
     Ok(())
+}
+
+/// Each of these nodes has its set in the table, with room for one more user; where that is so, nothing need be brought along.
+pub fn has_room_for<N: Eq + Hash + Copy>(users: &Users<N>, references: &[N]) -> bool
+    ensures { IsTrue result → HasRoomFor N.eq users.now.entries references.now }
+{
+    for reference in references {
+        if !has_room_at(users, *reference) {
+            return false;
+        }
+    }
+    true
+}
+
+// The node has its set, with room for one more user.
+fn has_room_at<N: Eq + Hash + Copy>(users: &Users<N>, node: N) -> bool
+    ensures { IsTrue result → (references : List N) → HasRoomFor N.eq users.now.entries references → HasRoomFor N.eq users.now.entries (references ++ node ∷ []) }
+{
+    users_without_room(users, node).is_none()
 }
 
 // How many nodes refer to a node, where there is no room for one more.
