@@ -62,15 +62,16 @@ fn climb<N: Eq + Hash + Copy, V: Drop>(
     Ok(())
 }
 
-// The node is among those that are found. Where there are none it is not looked for.
+// The node is among those that are found. Where there are none it is not looked for, and where there is one that is compared.
 fn is_found<N: Eq + Hash + Copy, V>(found: &IndexMap<N, V>, node: &N) -> bool
     requires { IsExact N.eq }
     ensures { MatchBool result (Contains (keys_of found.now.entries) node.now) (Contains (keys_of found.now.entries) node.now → ⊥) }
 {
-    if found.is_empty() {
-        return false;
+    match found.keys().as_slice() {
+        [] => false,
+        [only] => only == node,
+        _ => found.contains_key(node),
     }
-    found.contains_key(node)
 }
 
 // The nodes that refer to a node.
@@ -89,7 +90,7 @@ pub fn first_found<N: Eq + Hash + Copy, V>(found: &IndexMap<N, V>, references: &
     ensures { MatchOption result ((b : N) → Contains references.now b → Contains (keys_of found.now.entries) b → ⊥) (λ b. Contains references.now b × Contains (keys_of found.now.entries) b) }
 {
     for reference in references {
-        if found.contains_key(reference) {
+        if is_found(found, reference) {
             return Some(*reference);
         }
     }

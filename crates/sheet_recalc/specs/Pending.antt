@@ -4,6 +4,7 @@ use Rattle.std.specs.Str.{bytes_eq}
 use Rattle.std.specs.Map.{keys_of}
 use Rattle.indexmap.specs.IndexMap.{spare}
 use Rattle.dep_order.specs.Room.{FindRoom, AreSetsFor}
+use Rattle.dep_order.specs.Users.{HasRoomFor}
 use Rattle.change_core.specs.Meters.{ticked}
 use Rattle.index_region.specs.declared.delta.Delta.TheVariants.{Whole}
 use Rattle.formula_core.specs.Meaning.{names_in}
@@ -40,9 +41,14 @@ pub record Brings (t : Tables) (references : List (List ℕ)) (g : Growth) : Typ
   pub users : FindRoom (length g.sets.entries) (length t.users.entries) (spare t.users) g.users
   pub sets : AreSetsFor bytes_eq t.users.entries references g.sets.entries
 
--- it is there, in a box
+-- nothing lacks: there is room for one more entry, and for one more user of each of these names
+pub record NothingLacks (t : Tables) (references : List (List ℕ)) : Type 0 where
+  pub entries : 0 < spare t.entries
+  pub users : HasRoomFor bytes_eq t.users.entries references
+
+-- what lacks is there, in a box; there is none where nothing lacks
 abbrev pub IsBrought : {A : Type 0} → Tables → List (List ℕ) → Option (Box Growth A) → Type 0
-IsBrought t references None = ⊥
+IsBrought t references None = NothingLacks t references
 IsBrought t references (Some b) = Brings t references b.value
 
 -- there is room for what a proposal puts under its name: a formula, or a whole array

@@ -14,7 +14,7 @@ ghost use Rattle.sheet_recalc.specs.declared.entry.Entry.{Entry as EntryValue};
 ghost use Rattle.sheet_recalc.specs.declared.entry.Entry.TheVariants.{Data as DataEntry};
 ghost use Rattle.dep_order.specs.Users.{HasRoomFor, HasNoEmptyBut};
 ghost use Rattle.sheet_recalc.specs.Live.{IsTable, IsCurrent, IsPlanned, IsAdopting, CanAdopt, plan_in};
-ghost use Rattle.sheet_recalc.specs.Pending.{outline_at, IsBrought, IsReady};
+ghost use Rattle.sheet_recalc.specs.Pending.{outline_at, Brings, IsBrought, IsReady};
 ghost use Rattle.sheet_recalc.specs.ProposedSheet.{proposed_names};
 
 use crate::entry::Entry;
@@ -81,10 +81,30 @@ fn commit_with(
     ensures tells { IsTable (put (names_of entries.old.entries) name (binding_of entry)) users.new.entries }
     ensures used { HasNoEmptyBut bytes_eq users.new.entries [] }
 {
-    let Some(growth) = growth else {
-        unreachable!();
-    };
-    let growth = Box::into_inner(growth);
+    match growth {
+        Some(growth) => commit_brought(entries, users, name, entry, found, Box::into_inner(growth)),
+        None => commit(entries, users, name, entry, found),
+    }
+}
+
+/// Puts an entry under a name, in room that is brought along.
+fn commit_brought(
+    entries: &mut IndexMap<Name, Entry>,
+    users: &mut Users<Name>,
+    name: Name,
+    entry: Entry,
+    found: &mut Found,
+    growth: Growth,
+)
+    requires planned { IsPlanned entries.old.entries name (Some entry) (put (names_of entries.old.entries) name (binding_of entry)) (plan_in found.old.entries) }
+    requires brings { Brings (record { entries = entries.old; users = users.old }) (referred (binding_of entry)) growth }
+    requires tells { IsTable (names_of entries.old.entries) users.old.entries }
+    requires used { HasNoEmptyBut bytes_eq users.old.entries [] }
+    ensures names { names_of entries.new.entries ≡ put (names_of entries.old.entries) name (binding_of entry) }
+    ensures current { IsCurrent entries.new.entries }
+    ensures tells { IsTable (put (names_of entries.old.entries) name (binding_of entry)) users.new.entries }
+    ensures used { HasNoEmptyBut bytes_eq users.new.entries [] }
+{
     take_larger(entries, growth.entries, 1);
     take_larger(users, growth.users, growth.sets.len());
     give_sets(users, growth.sets);

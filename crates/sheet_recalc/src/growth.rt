@@ -8,7 +8,7 @@ ghost use Rattle.sheet_recalc.specs.Pending.{IsBrought, HasPlace};
 use crate::entry::Entry;
 use crate::proposal::Proposal;
 use apl_tokens::Name;
-use dep_order::{Users, larger_map, sets_for};
+use dep_order::{Users, has_room_for, larger_map, sets_for};
 use index_region::Delta;
 use indexmap::IndexMap;
 use std::alloc::{AllocError, Global};
@@ -40,8 +40,23 @@ pub(crate) fn growth_for(
     }
 }
 
-/// What lacks for one more entry, in whose formula these names stand.
+/// What lacks for one more entry, in whose formula these names stand. Most often nothing does, and no memory is asked for.
 fn growth_with(
+    alloc: Global,
+    entries: &IndexMap<Name, Entry>,
+    users: &Users<Name>,
+    references: &[Name],
+) -> Result<Option<Box<Growth>>, AllocError>
+    ensures { IfOk result (IsBrought (record { entries = entries.now; users = users.now }) references.now) }
+{
+    if entries.len() < entries.capacity() && has_room_for(users, references) {
+        return Ok(None);
+    }
+    all_that_lacks(alloc, entries, users, references)
+}
+
+/// The same, where something does.
+fn all_that_lacks(
     alloc: Global,
     entries: &IndexMap<Name, Entry>,
     users: &Users<Name>,

@@ -5,8 +5,8 @@ use Rattle.std.proofs.lemmas.Map.Views.{Contains-from_any, list_any-from_Contain
 use Rattle.dep_order.proofs.Found.{key_found}
 use Rattle.dep_order.proofs.users.is_found.Goals as goal
 
-pub returns : goal.returns
-returns g c =
+pub returns-in_default : goal.returns-in_default
+returns-in_default g c =
     let node = c.args.node.now in
     let keys = keys_of c.args.found.now.entries in
     let same = c.contains_key.ensures ∙ key_found g.N.PartialEq.eq c.args.found.now.entries node in

@@ -7,8 +7,7 @@ use Rattle.sheet_recalc.specs.Names.{Names, put, referred}
 use Rattle.sheet_recalc.specs.Entries.{names_of, binding_of}
 use Rattle.sheet_recalc.specs.Live.{IsTable}
 use Rattle.sheet_recalc.specs.declared.entry.Entry.{Entry}
-use Rattle.sheet_recalc.specs.Pending.{Brings}
-use Rattle.sheet_recalc.proofs.commit.commit_with.Goals as goal
+use Rattle.sheet_recalc.proofs.commit.commit_brought.Goals as goal
 
 pub commit-requires-clause-tells : goal.commit-requires-clause-tells
 commit-requires-clause-tells c =
@@ -19,14 +18,12 @@ commit-requires-clause-tells c =
 pub commit-requires-clause-sets : goal.commit-requires-clause-sets
 commit-requires-clause-sets c =
     let references = referred (binding_of c.args.entry) in
-    let brought = subst (Brings (record { entries = c.args.entries.now; users = c.args.users.now }) references) (sym c.into_inner-growth.ensures) (rw c.in-Some.is at c.requires.brings) in
-    c.give_sets.ensures.room references (subst (λ (us : List (List ℕ × _)). AreSetsFor bytes_eq us references c.into_inner-growth.result.sets.entries) (sym c.take_larger-2.ensures.entries) brought.sets)
+    c.give_sets.ensures.room references (subst (λ (us : List (List ℕ × _)). AreSetsFor bytes_eq us references c.args.growth.sets.entries) (sym c.take_larger-2.ensures.entries) c.requires.brings.sets)
 
 pub commit-requires-clause-used : goal.commit-requires-clause-used
 commit-requires-clause-used c =
     let references = referred (binding_of c.args.entry) in
-    let brought = subst (Brings (record { entries = c.args.entries.now; users = c.args.users.now }) references) (sym c.into_inner-growth.ensures) (rw c.in-Some.is at c.requires.brings) in
-    c.give_sets.ensures.used references (subst (λ (us : List (List ℕ × _)). AreSetsFor bytes_eq us references c.into_inner-growth.result.sets.entries) (sym c.take_larger-2.ensures.entries) brought.sets)
+    c.give_sets.ensures.used references (subst (λ (us : List (List ℕ × _)). AreSetsFor bytes_eq us references c.args.growth.sets.entries) (sym c.take_larger-2.ensures.entries) c.requires.brings.sets)
     (subst (λ (us : List (List ℕ × _)). HasNoEmptyBut bytes_eq us references) (sym c.take_larger-2.ensures.entries) (λ b there. ⊎_elim (λ l. absurd (contains_none b l)) (λ r. inr r) (c.requires.used b there)))
 
 pub returns-clause-tells : goal.returns-clause-tells
