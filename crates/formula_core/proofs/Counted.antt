@@ -7,7 +7,7 @@ use Rattle.std.proofs.lemmas.List.Sums.{sum_by-append, sum_by_push}
 use Rattle.apl_expr.specs.declared.expr.Expr.{Expr}
 use Rattle.apl_expr.specs.declared.expr.Monadic.{Monadic}
 use Rattle.apl_expr.specs.declared.expr.Dyadic.{Dyadic}
-use Rattle.apl_expr.specs.Trees.{Tree, Const, Name, Monad, Dyad, Index, Positions, tree_of, position_of, positions_of}
+use Rattle.apl_expr.specs.Trees.{Tree, Const, Name, Monad, Dyad, Index, Literal, Positions, tree_of, position_of, positions_of}
 use Rattle.arrays_core.specs.Arrays.{ArrayValue, with_items}
 use Rattle.arrays_core.specs.Items.{and_then, all_or_first_error}
 use Rattle.arrays_core.specs.Shapes.{size, indices}
@@ -110,6 +110,10 @@ module _ (names : List ℕ → Outcome) where
 
   pub index_cost : (a : Tree) (ps : Positions) → cost_in names (Index a ps) ≡ (cost_in_positions names ps + cost_in names a) + size_at names (Index a ps)
   index_cost a ps = two_parts (inside a) (inside_positions ps) (Index a ps)
+
+  -- a literal counts nothing
+  pub literal_counted : (l : Literal) (before : ℕ) → IsTreeCounted {A = Unit {0}} names (Const l) before before (Ok tt)
+  literal_counted l before = record { most = omega arith; least = λ g. omega arith }
 
   -- a function of one argument
   pub monad_counted : {A B : Type 0} (f : Monadic) (b : Tree) (before now after : ℕ) (right : A) (gives : Result Operand Fault) (told : B) → IsTreeCounted names b before now (Ok right) → outcome_of gives ≡ eval (Monad f b) names

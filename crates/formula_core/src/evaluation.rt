@@ -1,8 +1,8 @@
 //! The value of an expression.
 
-ghost use Rattle.std.specs.Prelude.{◌≡◌, ◌+◌, ◌≤◌, ◌∷◌, ℕ, List, IfOk, IsOk, Result, Ok, Err, map, true};
+ghost use Rattle.std.specs.Prelude.{◌≡◌, ◌+◌, ◌≤◌, [], ◌∷◌, ℕ, List, IfOk, IfSome, IsOk, Result, Ok, Err, map, true};
 ghost use Rattle.std.specs.List.{Contains};
-ghost use Rattle.apl_expr.specs.Trees.{Dyad, tree_of, position_of, positions_of};
+ghost use Rattle.apl_expr.specs.Trees.{Const, Dyad, Numbers, tree_of, position_of, positions_of};
 ghost use Rattle.apl_expr.specs.declared.expr.Dyadic.TheVariants.{Scalar};
 ghost use Rattle.arrays_core.specs.Arrays.{ArrayValue, IsAnswerTo, scalar_of};
 ghost use Rattle.arrays_core.specs.declared.item.Kind.{Kind as AKind};
@@ -153,14 +153,14 @@ fn between<'a, S: Shows>(
     ensures counted { IsTreeCounted (S.shows names.entry.now) (Dyad function (tree_of sides.now.left) (tree_of sides.now.right)) meter.old.ticks meter.new.ticks result }
 {
     if let Dyadic::Scalar(scalar) = function {
-        if let Expr::Const(Literal::Num(number)) = &sides.right {
+        if let Some(number) = number_of(&sides.right) {
             let left = argument(alloc, &sides.left, names, meter)?;
-            let given = apply_to_number(alloc, scalar, left, *number)?;
+            let given = apply_to_number(alloc, scalar, left, number)?;
             return Ok(counted(given, meter));
         }
-        if let Expr::Const(Literal::Num(number)) = &sides.left {
+        if let Some(number) = number_of(&sides.left) {
             let right = argument(alloc, &sides.right, names, meter)?;
-            let given = apply_number_to(alloc, scalar, *number, right)?;
+            let given = apply_number_to(alloc, scalar, number, right)?;
             return Ok(counted(given, meter));
         }
     }
@@ -168,6 +168,17 @@ fn between<'a, S: Shows>(
     let left = argument(alloc, &sides.left, names, meter)?;
     let given = apply_dyad(alloc, function, left, right)?;
     Ok(counted(given, meter))
+}
+
+/// The number that an expression is, where one number is all of it.
+#[inline(always)]
+fn number_of(tree: &Expr) -> Option<i64>
+    ensures { IfSome result (λ z. tree_of tree.now ≡ Const (Numbers (z ∷ []))) }
+{
+    match tree {
+        Expr::Const(Literal::Num(number)) => Some(*number),
+        _ => None,
+    }
 }
 
 /// The values of the positions of an index, from the last to the first, and their cost; the first error that is met is the result.

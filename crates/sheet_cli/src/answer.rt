@@ -18,6 +18,7 @@ use apl_tokens::Spanned;
 use sheet_desk::Desk;
 use sheet_recalc::Sheet;
 use std::alloc::{AllocError, Global};
+use std::mem;
 
 /// The most bytes of a line, without the LF or CR LF that ends it.
 pub const LONGEST_LINE: usize = 4096;
@@ -55,26 +56,28 @@ fn answer_text(
 {
     let mut command = Command::Nothing;
     match line_into(alloc, text, room, &mut command) {
-        Ok(()) => carry_out_lent(alloc, desk, command),
+        Ok(()) => carry_out_lent(alloc, desk, &mut command),
         Err(LineFault::Syntax) => Ok(Printed::Fixed("SYNTAX ERROR\n")),
         Err(LineFault::Limit) => Ok(Printed::Fixed("LIMIT ERROR\n")),
         Err(LineFault::NoMemory) => Err(AllocError),
     }
 }
 
-/// Does what a line asks for; a change and an expression are lent where they were read.
+/// Does what a line asks for. A change and an expression are lent where they were read; any other command is taken from there.
 #[inline(always)]
-fn carry_out_lent(alloc: Global, desk: &mut Desk, command: Command) -> Result<Printed, AllocError>
-    ensures ok { IfOk result (λ text. IsCarriedOut (state_of desk.old) (meaning command) (printed_bytes text) (state_of desk.new)) }
+fn carry_out_lent(
+    alloc: Global,
+    desk: &mut Desk,
+    command: &mut Command,
+) -> Result<Printed, AllocError>
+    ensures ok { IfOk result (λ text. IsCarriedOut (state_of desk.old) (meaning command.old) (printed_bytes text) (state_of desk.new)) }
     ensures err { OnErr result (desk.new ≡ desk.old) }
 {
-    if let Command::Change(change) = &command {
-        return edit_text(alloc, desk.plain_lent(change));
+    match command {
+        Command::Change(change) => edit_text(alloc, desk.plain_lent(change)),
+        Command::Show(expr) => shown(alloc, desk.sheet(), expr),
+        _ => carry_out(alloc, desk, mem::replace(command, Command::Nothing)),
     }
-    if let Command::Show(expr) = &command {
-        return shown(alloc, desk.sheet(), expr);
-    }
-    carry_out(alloc, desk, command)
 }
 
 /// What is printed of an expression's value.

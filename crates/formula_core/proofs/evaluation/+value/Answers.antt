@@ -1,7 +1,11 @@
-use Rattle.std.proofs.Common.{◌≡◌, ◌+◌, ◌-◌, ◌<◌, ◌≤◌, length, get_or, drop, List, Option, Some, None, Result, Ok, Err, is_ok, ◌∙◌, ap, sym, subst, map, arith, rules}
+use Rattle.std.proofs.Common.{◌≡◌, ◌+◌, ◌-◌, ◌<◌, ◌≤◌, [], ◌∷◌, to_z, of_z, w64, SFits, length, get_or, drop, List, Option, Some, None, Result, Ok, Err, is_ok, ◌∙◌, ap, sym, subst, map, arith, rules}
 use Rattle.std.proofs.lemmas.Bool.{false≢true}
+use Rattle.std.proofs.lemmas.Int.{to_z-of_z}
 use Rattle.apl_expr.specs.declared.expr.Expr.{Expr}
-use Rattle.apl_expr.specs.Trees.{Tree, Monad, Dyad, Index, tree_of, position_of, positions_of}
+use Rattle.apl_expr.specs.declared.expr.Dyadic.{Dyadic}
+use Rattle.apl_expr.specs.declared.expr.Dyadic.TheVariants.{Scalar}
+use Rattle.apl_expr.specs.Trees.{Tree, Numbers, Const, Monad, Dyad, Index, tree_of, position_of, positions_of}
+use Rattle.arrays_core.specs.Arrays.{scalar_of}
 use Rattle.apl_expr.proofs.Rows.{tree_index}
 use Rattle.selection_fns.specs.Index.{Position}
 use Rattle.arrays_core.specs.declared.fault.Fault.{Fault}
@@ -9,8 +13,9 @@ use Rattle.formula_core.specs.Counts.{cost_in, cost_in_positions, ArePositionsCo
 use Rattle.formula_core.specs.Operands.{outcome_of, position_in, positions_in}
 use Rattle.formula_core.specs.Outcomes.{Outcome}
 use Rattle.formula_core.specs.Meaning.{eval, eval_positions, applied1, applied2, indexed}
-use Rattle.formula_core.proofs.Counted.{monad_counted, dyad_counted, index_counted, index_cost, cost_from, cost_written, cost_empty, cost_left, failed_at}
+use Rattle.formula_core.proofs.Counted.{literal_counted, monad_counted, dyad_counted, index_counted, index_cost, cost_from, cost_written, cost_empty, cost_left, failed_at}
 use Rattle.formula_core.proofs.Indexing.{there}
+use Rattle.formula_core.proofs.evaluation.+value.Goals.{between-in-Scalar+in_default-number_of+in_default-number_of-2, between-in_default}
 use Rattle.formula_core.proofs.evaluation.+value.Goals.{position_operands-in-Some+in_ok-operand-in-Some+in-Ok, position_operands-in-None}
 use Rattle.formula_core.proofs.evaluation.+value.Goals as goal
 
@@ -31,28 +36,72 @@ argument-returns-in_ok-given-in-Monad-clause-counted g t c =
     subst (λ (x : Tree). IsTreeCounted names x before after (Ok c.counted.result)) (sym made)
     (monad_counted names f b before now after c.in_ok-right-in-Monad.right c.in_ok-given-in-Monad.given c.counted.result first is c.counted.ensures.items)
 
-pub argument-returns-in_ok-given-in-Dyad-clause-counted : goal.argument-returns-in_ok-given-in-Dyad-clause-counted
-argument-returns-in_ok-given-in-Dyad-clause-counted g t c =
+pub between-returns-in-Some-clause-counted : goal.between-returns-in-Some-clause-counted
+between-returns-in-Some-clause-counted g t c =
     let names = g.S.Shows.shows c.args.names.now in
-    let f = c.in-Dyad.function in
-    let a = tree_of c.in-Dyad.left.value in
-    let b = tree_of c.in-Dyad.right.value in
+    let f = c.in-Scalar.scalar in
+    let z = c.in-Some.number in
+    let a = tree_of c.args.sides.now.left in
+    let b = Const (Numbers (z ∷ [])) in
     let before = c.args.meter.now.ticks in
-    let now = c.argument-in-Dyad.new.meter.ticks in
-    let then_now = c.argument-in-Dyad-2.new.meter.ticks in
-    let after = c.counted-in-Dyad.new.meter.ticks in
-    let made : tree_of c.args.tree.now ≡ Dyad f a b = ap tree_of c.in-Dyad.is in
-    let first : IsTreeCounted names b before now (Ok c.in_ok-right-in-Dyad.right) =
-    subst (λ (e : Expr). IsTreeCounted names (tree_of e) before now (Ok c.in_ok-right-in-Dyad.right)) c.deref-in-Dyad.ensures c.in_ok-right-in-Dyad.ensures.counted in
-    let second : IsTreeCounted names a now then_now (Ok c.in_ok-left-in-Dyad.left) =
-    subst (λ (e : Expr). IsTreeCounted names (tree_of e) now then_now (Ok c.in_ok-left-in-Dyad.left)) c.deref-in-Dyad-2.ensures c.in_ok-left-in-Dyad.ensures.counted in
-    let right : outcome_of c.in_ok-right-in-Dyad.right ≡ eval b names = search rules in
-    let left : outcome_of c.in_ok-left-in-Dyad.left ≡ eval a names = search rules in
-    let given : outcome_of c.in_ok-given-in-Dyad.given ≡ applied2 f (outcome_of c.in_ok-right-in-Dyad.right) (outcome_of c.in_ok-left-in-Dyad.left) = c.in_ok-given-in-Dyad.ensures in
-    let is : outcome_of c.in_ok-given-in-Dyad.given ≡ eval (Dyad f a b) names =
-    given ∙ ap (λ (o : Outcome). applied2 f o (outcome_of c.in_ok-left-in-Dyad.left)) right ∙ ap (applied2 f (eval b names)) left in
-    subst (λ (x : Tree). IsTreeCounted names x before after (Ok c.counted-in-Dyad.result)) (sym made)
-    (dyad_counted names f a b before now then_now after c.in_ok-right-in-Dyad.right c.in_ok-left-in-Dyad.left c.in_ok-given-in-Dyad.given c.counted-in-Dyad.result first second is c.counted-in-Dyad.ensures.items)
+    let now = c.argument.new.meter.ticks in
+    let after = c.counted.new.meter.ticks in
+    let fits : SFits w64 z = search rules in
+    let same : to_z w64 (of_z w64 z) ≡ z = to_z-of_z w64 _ fits in
+    let last : tree_of c.args.sides.now.right ≡ b = c.in-Some.ensures in
+    let made : Dyad c.args.function a (tree_of c.args.sides.now.right) ≡ Dyad (Scalar f) a b = λ i. Dyad (c.in-Scalar.is i) a (last i) in
+    let first : IsTreeCounted names a before now (Ok c.in_ok-left.left) = c.in_ok-left.ensures.counted in
+    let left : outcome_of c.in_ok-left.left ≡ eval a names = c.in_ok-left.ensures.value in
+    let given : outcome_of c.in_ok-given.given ≡ applied2 (Scalar f) (Ok (scalar_of z)) (outcome_of c.in_ok-left.left) = rw same at c.in_ok-given.ensures in
+    let is : outcome_of c.in_ok-given.given ≡ eval (Dyad (Scalar f) a b) names = given ∙ ap (applied2 (Scalar f) (Ok (scalar_of z))) left in
+    subst (λ (x : Tree). IsTreeCounted names x before after (Ok c.counted.result)) (sym made)
+    (dyad_counted names (Scalar f) a b before before now after tt c.in_ok-left.left c.in_ok-given.given c.counted.result (literal_counted names (Numbers (z ∷ [])) before) first is c.counted.ensures.items)
+
+pub between-returns-in-Some-number_of-clause-counted : goal.between-returns-in-Some-number_of-clause-counted
+between-returns-in-Some-number_of-clause-counted g t c =
+    let names = g.S.Shows.shows c.args.names.now in
+    let f = c.in-Scalar.scalar in
+    let z = c.in-Some-number_of.number in
+    let a = Const (Numbers (z ∷ [])) in
+    let b = tree_of c.args.sides.now.right in
+    let before = c.args.meter.now.ticks in
+    let now = c.argument-in-Some-number_of.new.meter.ticks in
+    let after = c.counted-in-Some-number_of.new.meter.ticks in
+    let fits : SFits w64 z = search rules in
+    let same : to_z w64 (of_z w64 z) ≡ z = to_z-of_z w64 _ fits in
+    let front : tree_of c.args.sides.now.left ≡ a = c.in-Some-number_of.ensures in
+    let made : Dyad c.args.function (tree_of c.args.sides.now.left) b ≡ Dyad (Scalar f) a b = λ i. Dyad (c.in-Scalar.is i) (front i) b in
+    let first : IsTreeCounted names b before now (Ok c.in_ok-right.right) = c.in_ok-right.ensures.counted in
+    let right : outcome_of c.in_ok-right.right ≡ eval b names = c.in_ok-right.ensures.value in
+    let given : outcome_of c.in_ok-given-2.given ≡ applied2 (Scalar f) (outcome_of c.in_ok-right.right) (Ok (scalar_of z)) = rw same at c.in_ok-given-2.ensures in
+    let is : outcome_of c.in_ok-given-2.given ≡ eval (Dyad (Scalar f) a b) names = given ∙ ap (λ (o : Outcome). applied2 (Scalar f) o (Ok (scalar_of z))) right in
+    subst (λ (x : Tree). IsTreeCounted names x before after (Ok c.counted-in-Some-number_of.result)) (sym made)
+    (dyad_counted names (Scalar f) a b before now now after c.in_ok-right.right tt c.in_ok-given-2.given c.counted-in-Some-number_of.result first (literal_counted names (Numbers (z ∷ [])) now) is c.counted-in-Some-number_of.ensures.items)
+
+pub between-returns-clause-counted : goal.between-returns-clause-counted
+between-returns-clause-counted g t c =
+    let names = g.S.Shows.shows c.args.names.now in
+    let f = c.args.function in
+    let a = tree_of c.args.sides.now.left in
+    let b = tree_of c.args.sides.now.right in
+    let before = c.args.meter.now.ticks in
+    let now = c.argument-2.new.meter.ticks in
+    let then_now = c.argument-3.new.meter.ticks in
+    let after = c.counted-2.new.meter.ticks in
+    let first : IsTreeCounted names b before now (Ok c.in_ok-right-2.right) = c.in_ok-right-2.ensures.counted in
+    let second : IsTreeCounted names a now then_now (Ok c.in_ok-left-2.left) = c.in_ok-left-2.ensures.counted in
+    let right : outcome_of c.in_ok-right-2.right ≡ eval b names = c.in_ok-right-2.ensures.value in
+    let left : outcome_of c.in_ok-left-2.left ≡ eval a names = c.in_ok-left-2.ensures.value in
+    let own : c.match-function.function ≡ f =
+    elim c.match-function.branch [
+      | between-in-Scalar+in_default-number_of+in_default-number_of-2 w ↦ w.function-is ∙ sym w.in-Scalar.is
+      | between-in_default w ↦ w.function-is
+    ] in
+    let given : outcome_of c.in_ok-given-3.given ≡ applied2 f (outcome_of c.in_ok-right-2.right) (outcome_of c.in_ok-left-2.left) =
+    c.in_ok-given-3.ensures ∙ ap (λ (h : Dyadic). applied2 h (outcome_of c.in_ok-right-2.right) (outcome_of c.in_ok-left-2.left)) own in
+    let is : outcome_of c.in_ok-given-3.given ≡ eval (Dyad f a b) names =
+    given ∙ ap (λ (o : Outcome). applied2 f o (outcome_of c.in_ok-left-2.left)) right ∙ ap (applied2 f (eval b names)) left in
+    dyad_counted names f a b before now then_now after c.in_ok-right-2.right c.in_ok-left-2.left c.in_ok-given-3.given c.counted-2.result first second is c.counted-2.ensures.items
 
 pub argument-returns-in_err-positions-in-Index-clause-counted : goal.argument-returns-in_err-positions-in-Index-clause-counted
 argument-returns-in_err-positions-in-Index-clause-counted g t c =

@@ -2,6 +2,7 @@ use Rattle.std.proofs.Common.{◌∙◌, List, Option, map, take, sym, ap, subst
 use Rattle.std.specs.Prelude.{IfOk}
 use Rattle.apl_expr.specs.Trees.{Tree, Const, Monad, Dyad, Index, tree_of, position_of, positions_of, literal_of}
 use Rattle.apl_expr.specs.declared.expr.Expr.{Expr}
+use Rattle.apl_expr.specs.declared.expr.Sides.{Sides}
 use Rattle.apl_expr.proofs.Rows.{tree_index}
 use Rattle.formula_core.specs.declared.table.Node.TheVariants as node
 use Rattle.formula_core.specs.Tables.{IsLowered, ArePositionsLowered}
@@ -42,14 +43,14 @@ lower-returns-in_ok-right-in-Dyad t c =
     let left = c.in_ok-left-in-Dyad.left in
     let right = c.in_ok-right-in-Dyad.right in
     let f = c.in-Dyad.function in
-    let a = tree_of c.in-Dyad.left.value in
-    let b = tree_of c.in-Dyad.right.value in
+    let a = tree_of c.in-Dyad.sides.value.left in
+    let b = tree_of c.in-Dyad.sides.value.right in
     let new = c.push-in-Dyad.new.nodes.items in
     subst (λ (u : Tree). IfOk c.push-in-Dyad.result (λ o. IsLowered names names'' old new u o)) (sym (ap tree_of c.in-Dyad.is))
     (as_lowered names names'' old last new (node.Dyad f left right) (Dyad f a b) c.push-in-Dyad.result c.push-in-Dyad.ensures.nodes c.push-in-Dyad.ensures.place
     (λ is. lowered_dyad names names' names'' old mid last new f a b left right
-    (subst (λ (e : Expr). IsLowered names names' old mid (tree_of e) left) c.deref-in-Dyad.ensures c.in_ok-left-in-Dyad.ensures)
-    (subst (λ (e : Expr). IsLowered names' names'' mid last (tree_of e) right) c.deref-in-Dyad-2.ensures c.in_ok-right-in-Dyad.ensures) is))
+    (subst (λ (s : Sides). IsLowered names names' old mid (tree_of s.left) left) c.deref-in-Dyad.ensures c.in_ok-left-in-Dyad.ensures)
+    (subst (λ (s : Sides). IsLowered names' names'' mid last (tree_of s.right) right) c.deref-in-Dyad-2.ensures c.in_ok-right-in-Dyad.ensures) is))
 
 pub lower-returns-in_ok-positions-in-Index : goal.lower-returns-in_ok-positions-in-Index
 lower-returns-in_ok-positions-in-Index t c =
