@@ -20,11 +20,11 @@ use crate::application::{of_both, of_right};
 use crate::input::Input;
 use crate::literals::array_of;
 use crate::positions::written_of;
-use crate::symbols::scalar2_of;
-use apl_expr::{Dyadic, Expr, Literal, Monadic, ScalarDyad, Sides};
+use apl_expr::{Dyadic, Expr, Literal, Monadic, Sides};
 use apl_tokens::Name;
 use arrays_core::{ApplyFault, Array, Fault, size};
 use change_core::Meter;
+use function_names::Scalar2;
 use index_region::{Delta, Seen};
 use scalar_fns::{apply_to_left, apply_to_right};
 use selection_fns::Index;
@@ -252,14 +252,14 @@ fn apply_dyad<'a>(
 /// A scalar function of its left argument and a number, or the argument's error.
 fn apply_to_number<'a>(
     alloc: Global,
-    function: ScalarDyad,
+    function: Scalar2,
     left: Result<Operand<'a>, Fault>,
     right: i64,
 ) -> Result<Result<Operand<'a>, Fault>, AllocError>
     ensures { IfOk result (λ operand. outcome_of operand ≡ applied2 (Scalar function) (Ok (scalar_of right)) (outcome_of left.entry)) }
 {
     match left {
-        Ok(left) => made(apply_to_right(alloc, scalar2_of(function), left.array(), right)),
+        Ok(left) => made(apply_to_right(alloc, function, left.array(), right)),
         Err(fault) => Ok(Err(fault)),
     }
 }
@@ -267,14 +267,14 @@ fn apply_to_number<'a>(
 /// A scalar function of a number and its right argument, or the argument's error.
 fn apply_number_to<'a>(
     alloc: Global,
-    function: ScalarDyad,
+    function: Scalar2,
     left: i64,
     right: Result<Operand<'a>, Fault>,
 ) -> Result<Result<Operand<'a>, Fault>, AllocError>
     ensures { IfOk result (λ operand. outcome_of operand ≡ applied2 (Scalar function) (outcome_of right.entry) (Ok (scalar_of left))) }
 {
     match right {
-        Ok(right) => made(apply_to_left(alloc, scalar2_of(function), left, right.array())),
+        Ok(right) => made(apply_to_left(alloc, function, left, right.array())),
         Err(fault) => Ok(Err(fault)),
     }
 }

@@ -2,10 +2,9 @@ use Rattle.std.proofs.Common.{◌≡◌, ℤ, sym, subst, IfOk, Ok, to_z, of_z, 
 use Rattle.std.proofs.lemmas.Int.{to_z-of_z}
 use Rattle.apl_expr.specs.declared.expr.Dyadic.TheVariants.{Scalar}
 use Rattle.arrays_core.specs.Arrays.{IsAnswerTo, ArrayValue, scalar_of}
-use Rattle.scalar_fns.specs.declared.function.Scalar2.{Scalar2}
 use Rattle.scalar_fns.specs.ScalarExtension.{dyadic_on_arrays}
 use Rattle.formula_core.specs.Operands.{outcome_of, array_in}
-use Rattle.formula_core.specs.Meaning.{of_both, applied2, scalar2_of}
+use Rattle.formula_core.specs.Meaning.{of_both, applied2}
 use Rattle.formula_core.proofs.evaluation.apply_number_to.Goals as goal
 
 pub returns-in-Ok : goal.returns-in-Ok
@@ -15,8 +14,7 @@ returns-in-Ok c =
     let fits : SFits w64 c.args.left = search rules in
     let same : to_z w64 (of_z w64 c.args.left) ≡ c.args.left = to_z-of_z w64 _ fits in
     let answer : IsAnswerTo (of_both (Scalar f) (scalar_of c.args.left) a) c.apply_to_left.result =
-    subst (λ (x : ArrayValue). IsAnswerTo (dyadic_on_arrays (scalar2_of f) (scalar_of c.args.left) x) c.apply_to_left.result) c.array.ensures
-    (subst (λ (h : Scalar2). IsAnswerTo (dyadic_on_arrays h (scalar_of c.args.left) c.array.result.now) c.apply_to_left.result) c.scalar2_of.ensures
-    (subst (λ (z : ℤ). IsAnswerTo (dyadic_on_arrays c.scalar2_of.result (scalar_of z) c.array.result.now) c.apply_to_left.result) same c.apply_to_left.ensures)) in
+    subst (λ (x : ArrayValue). IsAnswerTo (dyadic_on_arrays f (scalar_of c.args.left) x) c.apply_to_left.result) c.array.ensures
+    (subst (λ (z : ℤ). IsAnswerTo (dyadic_on_arrays f (scalar_of z) c.array.result.now) c.apply_to_left.result) same c.apply_to_left.ensures) in
     subst (λ r. IfOk c.made.result (λ operand. outcome_of operand ≡ applied2 (Scalar f) (outcome_of r) (Ok (scalar_of c.args.left)))) (sym c.in-Ok.is)
     (c.made.ensures (of_both (Scalar f) (scalar_of c.args.left) a) answer)

@@ -4,7 +4,7 @@ use Rattle.apl_expr.specs.declared.expr.Dyadic.TheVariants.{Scalar}
 use Rattle.arrays_core.specs.Arrays.{IsAnswerTo, ArrayValue, scalar_of}
 use Rattle.scalar_fns.specs.ScalarExtension.{dyadic_on_arrays}
 use Rattle.formula_core.specs.Operands.{outcome_of, array_in}
-use Rattle.formula_core.specs.Meaning.{of_both, applied2, scalar2_of}
+use Rattle.formula_core.specs.Meaning.{of_both, applied2}
 use Rattle.formula_core.proofs.evaluation.apply_to_number.Goals as goal
 
 pub returns-in-Ok : goal.returns-in-Ok
@@ -14,7 +14,7 @@ returns-in-Ok c =
     let fits : SFits w64 c.args.right = search rules in
     let same : to_z w64 (of_z w64 c.args.right) ≡ c.args.right = to_z-of_z w64 _ fits in
     let answer : IsAnswerTo (of_both (Scalar f) a (scalar_of c.args.right)) c.apply_to_right.result =
-    subst (λ (x : ArrayValue). IsAnswerTo (dyadic_on_arrays (scalar2_of f) x (scalar_of c.args.right)) c.apply_to_right.result) c.array.ensures
-    (rw (same, c.scalar2_of.ensures) at c.apply_to_right.ensures) in
+    subst (λ (x : ArrayValue). IsAnswerTo (dyadic_on_arrays f x (scalar_of c.args.right)) c.apply_to_right.result) c.array.ensures
+    (rw same at c.apply_to_right.ensures) in
     subst (λ r. IfOk c.made.result (λ operand. outcome_of operand ≡ applied2 (Scalar f) (Ok (scalar_of c.args.right)) (outcome_of r))) (sym c.in-Ok.is)
     (c.made.ensures (of_both (Scalar f) a (scalar_of c.args.right)) answer)
