@@ -76,8 +76,20 @@ fn carry_out_lent(
     match command {
         Command::Change(change) => edit_text(alloc, desk.plain_lent(change)),
         Command::Show(expr) => shown(alloc, desk.sheet(), expr),
-        _ => carry_out(alloc, desk, mem::replace(command, Command::Nothing)),
+        _ => carry_out_taken(alloc, desk, command),
     }
+}
+
+/// Does what a command asks for, which is taken from where it was read.
+fn carry_out_taken(
+    alloc: Global,
+    desk: &mut Desk,
+    command: &mut Command,
+) -> Result<Printed, AllocError>
+    ensures ok { IfOk result (λ text. IsCarriedOut (state_of desk.old) (meaning command.old) (printed_bytes text) (state_of desk.new)) }
+    ensures err { OnErr result (desk.new ≡ desk.old) }
+{
+    carry_out(alloc, desk, mem::replace(command, Command::Nothing))
 }
 
 /// What is printed of an expression's value.
