@@ -13,9 +13,9 @@ returns-in-Ok-clause-ok c =
 pub returns-in-Err-Syntax-clause-ok : goal.returns-in-Err-Syntax-clause-ok
 returns-in-Err-Syntax-clause-ok c =
     let read = c.in-Err-Syntax in
-    answered_no_line _ _ _ (subst (λ r. IsAnswered (chars c.args.text.now) (put_in r c.line_into.new.command)) (read.is ∙ ap (λ (e : LineFault). Err e) (rw read.is at read.field-0-is)) c.line_into.ensures) refl
+    answered_no_line _ _ _ (subst (λ r. IsAnswered (chars c.args.text.now) (put_in r c.line_into.new.command)) (read.is ∙ ap (λ (e : LineFault). Err e) read.field-0-is) c.line_into.ensures) refl
 
 pub returns-in-Err-Limit-clause-ok : goal.returns-in-Err-Limit-clause-ok
 returns-in-Err-Limit-clause-ok c =
     let read = c.in-Err-Limit in
-    answered_too_large _ _ _ (subst (λ r. IsAnswered (chars c.args.text.now) (put_in r c.line_into.new.command)) (read.is ∙ ap (λ (e : LineFault). Err e) (rw read.is at read.field-0-is)) c.line_into.ensures) refl
+    answered_too_large _ _ _ (subst (λ r. IsAnswered (chars c.args.text.now) (put_in r c.line_into.new.command)) (read.is ∙ ap (λ (e : LineFault). Err e) read.field-0-is) c.line_into.ensures) refl
