@@ -5,8 +5,7 @@ use Rattle.formula_core.proofs.refreshing.Operation.of_both.Goals as goal
 
 pub returns-in-Scalar-clause-refreshed : goal.returns-in-Scalar-clause-refreshed
 returns-in-Scalar-clause-refreshed c =
-    subst (λ (f : Dyadic). IsRefreshed (both_rule f) c.args.self.now.args.now c.args.self.now.held.now c.args.meter.now.ticks c.by.new.meter.ticks (with_change c.by.new.change c.by.result)) (sym c.in-Scalar.is)
-    (subst (λ (r : _). IsRefreshed (each_dyadic_rule r.function) c.args.self.now.args.now c.args.self.now.held.now c.args.meter.now.ticks c.by.new.meter.ticks (with_change c.by.new.change c.by.result)) c.between_items.ensures c.by.ensures.refreshed)
+    subst (λ (f : Dyadic). IsRefreshed (both_rule f) c.args.self.now.args.now c.args.self.now.held.now c.args.meter.now.ticks c.by.new.meter.ticks (with_change c.by.new.change c.by.result)) (sym c.in-Scalar.is) c.by.ensures.refreshed
 
 pub returns-in-Reshape-clause-refreshed : goal.returns-in-Reshape-clause-refreshed
 returns-in-Reshape-clause-refreshed c =
@@ -42,25 +41,20 @@ returns-in-Decode-clause-refreshed c =
 
 pub returns-in-Catenate-clause-refreshed : goal.returns-in-Catenate-clause-refreshed
 returns-in-Catenate-clause-refreshed c =
-    subst (λ (f : Dyadic). IsRefreshed (both_rule f) c.args.self.now.args.now c.args.self.now.held.now c.args.meter.now.ticks c.by-in-Catenate.new.meter.ticks (with_change c.by-in-Catenate.new.change c.by-in-Catenate.result)) (sym c.in-Catenate.is)
-    (subst (λ (r : _). IsRefreshed (catenate_rule r.along) c.args.self.now.args.now c.args.self.now.held.now c.args.meter.now.ticks c.by-in-Catenate.new.meter.ticks (with_change c.by-in-Catenate.new.change c.by-in-Catenate.result)) c.catenate.ensures c.by-in-Catenate.ensures.refreshed)
+    subst (λ (f : Dyadic). IsRefreshed (both_rule f) c.args.self.now.args.now c.args.self.now.held.now c.args.meter.now.ticks c.by-in-Catenate.new.meter.ticks (with_change c.by-in-Catenate.new.change c.by-in-Catenate.result)) (sym c.in-Catenate.is) c.by-in-Catenate.ensures.refreshed
 
 pub returns-in-Rotate-clause-refreshed : goal.returns-in-Rotate-clause-refreshed
 returns-in-Rotate-clause-refreshed c =
-    subst (λ (f : Dyadic). IsRefreshed (both_rule f) c.args.self.now.args.now c.args.self.now.held.now c.args.meter.now.ticks c.by-in-Rotate.new.meter.ticks (with_change c.by-in-Rotate.new.change c.by-in-Rotate.result)) (sym c.in-Rotate.is)
-    (subst (λ (r : _). IsRefreshed (rotate_rule r.along) c.args.self.now.args.now c.args.self.now.held.now c.args.meter.now.ticks c.by-in-Rotate.new.meter.ticks (with_change c.by-in-Rotate.new.change c.by-in-Rotate.result)) c.rotate.ensures c.by-in-Rotate.ensures.refreshed)
+    subst (λ (f : Dyadic). IsRefreshed (both_rule f) c.args.self.now.args.now c.args.self.now.held.now c.args.meter.now.ticks c.by-in-Rotate.new.meter.ticks (with_change c.by-in-Rotate.new.change c.by-in-Rotate.result)) (sym c.in-Rotate.is) c.by-in-Rotate.ensures.refreshed
 
 pub returns-in-Replicate-clause-refreshed : goal.returns-in-Replicate-clause-refreshed
 returns-in-Replicate-clause-refreshed c =
-    subst (λ (f : Dyadic). IsRefreshed (both_rule f) c.args.self.now.args.now c.args.self.now.held.now c.args.meter.now.ticks c.by-in-Replicate.new.meter.ticks (with_change c.by-in-Replicate.new.change c.by-in-Replicate.result)) (sym c.in-Replicate.is)
-    (subst (λ (r : _). IsRefreshed (replicate_rule r.along) c.args.self.now.args.now c.args.self.now.held.now c.args.meter.now.ticks c.by-in-Replicate.new.meter.ticks (with_change c.by-in-Replicate.new.change c.by-in-Replicate.result)) c.replicate.ensures c.by-in-Replicate.ensures.refreshed)
+    subst (λ (f : Dyadic). IsRefreshed (both_rule f) c.args.self.now.args.now c.args.self.now.held.now c.args.meter.now.ticks c.by-in-Replicate.new.meter.ticks (with_change c.by-in-Replicate.new.change c.by-in-Replicate.result)) (sym c.in-Replicate.is) c.by-in-Replicate.ensures.refreshed
 
 pub returns-in-Outer-clause-refreshed : goal.returns-in-Outer-clause-refreshed
 returns-in-Outer-clause-refreshed c =
-    subst (λ (f : Dyadic). IsRefreshed (both_rule f) c.args.self.now.args.now c.args.self.now.held.now c.args.meter.now.ticks c.by-in-Outer.new.meter.ticks (with_change c.by-in-Outer.new.change c.by-in-Outer.result)) (sym c.in-Outer.is)
-    (subst (λ (r : _). IsRefreshed (outer_rule r.function) c.args.self.now.args.now c.args.self.now.held.now c.args.meter.now.ticks c.by-in-Outer.new.meter.ticks (with_change c.by-in-Outer.new.change c.by-in-Outer.result)) c.outer.ensures c.by-in-Outer.ensures.refreshed)
+    subst (λ (f : Dyadic). IsRefreshed (both_rule f) c.args.self.now.args.now c.args.self.now.held.now c.args.meter.now.ticks c.by-in-Outer.new.meter.ticks (with_change c.by-in-Outer.new.change c.by-in-Outer.result)) (sym c.in-Outer.is) c.by-in-Outer.ensures.refreshed
 
 pub returns-in-Inner-clause-refreshed : goal.returns-in-Inner-clause-refreshed
 returns-in-Inner-clause-refreshed c =
-    subst (λ (f : Dyadic). IsRefreshed (both_rule f) c.args.self.now.args.now c.args.self.now.held.now c.args.meter.now.ticks c.by-in-Inner.new.meter.ticks (with_change c.by-in-Inner.new.change c.by-in-Inner.result)) (sym c.in-Inner.is)
-    (subst (λ (r : _). IsRefreshed (inner_rule r.fold r.each) c.args.self.now.args.now c.args.self.now.held.now c.args.meter.now.ticks c.by-in-Inner.new.meter.ticks (with_change c.by-in-Inner.new.change c.by-in-Inner.result)) c.inner.ensures c.by-in-Inner.ensures.refreshed)
+    subst (λ (f : Dyadic). IsRefreshed (both_rule f) c.args.self.now.args.now c.args.self.now.held.now c.args.meter.now.ticks c.by-in-Inner.new.meter.ticks (with_change c.by-in-Inner.new.change c.by-in-Inner.result)) (sym c.in-Inner.is) c.by-in-Inner.ensures.refreshed

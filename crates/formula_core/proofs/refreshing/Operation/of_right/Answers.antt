@@ -5,8 +5,7 @@ use Rattle.formula_core.proofs.refreshing.Operation.of_right.Goals as goal
 
 pub returns-in-Scalar-clause-refreshed : goal.returns-in-Scalar-clause-refreshed
 returns-in-Scalar-clause-refreshed c =
-    subst (λ (f : Monadic). IsRefreshed (right_rule f) c.args.self.now.args.now c.args.self.now.held.now c.args.meter.now.ticks c.by.new.meter.ticks (with_change c.by.new.change c.by.result)) (sym c.in-Scalar.is)
-    (subst (λ (r : _). IsRefreshed (each_monadic_rule r.function) c.args.self.now.args.now c.args.self.now.held.now c.args.meter.now.ticks c.by.new.meter.ticks (with_change c.by.new.change c.by.result)) c.each_item.ensures c.by.ensures.refreshed)
+    subst (λ (f : Monadic). IsRefreshed (right_rule f) c.args.self.now.args.now c.args.self.now.held.now c.args.meter.now.ticks c.by.new.meter.ticks (with_change c.by.new.change c.by.result)) (sym c.in-Scalar.is) c.by.ensures.refreshed
 
 pub returns-in-Ravel-clause-refreshed : goal.returns-in-Ravel-clause-refreshed
 returns-in-Ravel-clause-refreshed c =
@@ -26,15 +25,12 @@ returns-in-Iota-clause-refreshed c =
 
 pub returns-in-Reverse-clause-refreshed : goal.returns-in-Reverse-clause-refreshed
 returns-in-Reverse-clause-refreshed c =
-    subst (λ (f : Monadic). IsRefreshed (right_rule f) c.args.self.now.args.now c.args.self.now.held.now c.args.meter.now.ticks c.by-in-Reverse.new.meter.ticks (with_change c.by-in-Reverse.new.change c.by-in-Reverse.result)) (sym c.in-Reverse.is)
-    (subst (λ (r : _). IsRefreshed (reverse_rule r.along) c.args.self.now.args.now c.args.self.now.held.now c.args.meter.now.ticks c.by-in-Reverse.new.meter.ticks (with_change c.by-in-Reverse.new.change c.by-in-Reverse.result)) c.reverse.ensures c.by-in-Reverse.ensures.refreshed)
+    subst (λ (f : Monadic). IsRefreshed (right_rule f) c.args.self.now.args.now c.args.self.now.held.now c.args.meter.now.ticks c.by-in-Reverse.new.meter.ticks (with_change c.by-in-Reverse.new.change c.by-in-Reverse.result)) (sym c.in-Reverse.is) c.by-in-Reverse.ensures.refreshed
 
 pub returns-in-Reduce-clause-refreshed : goal.returns-in-Reduce-clause-refreshed
 returns-in-Reduce-clause-refreshed c =
-    subst (λ (f : Monadic). IsRefreshed (right_rule f) c.args.self.now.args.now c.args.self.now.held.now c.args.meter.now.ticks c.by-in-Reduce.new.meter.ticks (with_change c.by-in-Reduce.new.change c.by-in-Reduce.result)) (sym c.in-Reduce.is)
-    (subst (λ (r : _). IsRefreshed (reduce_rule r.function r.along) c.args.self.now.args.now c.args.self.now.held.now c.args.meter.now.ticks c.by-in-Reduce.new.meter.ticks (with_change c.by-in-Reduce.new.change c.by-in-Reduce.result)) c.reduce.ensures c.by-in-Reduce.ensures.refreshed)
+    subst (λ (f : Monadic). IsRefreshed (right_rule f) c.args.self.now.args.now c.args.self.now.held.now c.args.meter.now.ticks c.by-in-Reduce.new.meter.ticks (with_change c.by-in-Reduce.new.change c.by-in-Reduce.result)) (sym c.in-Reduce.is) c.by-in-Reduce.ensures.refreshed
 
 pub returns-in-Scan-clause-refreshed : goal.returns-in-Scan-clause-refreshed
 returns-in-Scan-clause-refreshed c =
-    subst (λ (f : Monadic). IsRefreshed (right_rule f) c.args.self.now.args.now c.args.self.now.held.now c.args.meter.now.ticks c.by-in-Scan.new.meter.ticks (with_change c.by-in-Scan.new.change c.by-in-Scan.result)) (sym c.in-Scan.is)
-    (subst (λ (r : _). IsRefreshed (scan_rule r.function r.along) c.args.self.now.args.now c.args.self.now.held.now c.args.meter.now.ticks c.by-in-Scan.new.meter.ticks (with_change c.by-in-Scan.new.change c.by-in-Scan.result)) c.scan.ensures c.by-in-Scan.ensures.refreshed)
+    subst (λ (f : Monadic). IsRefreshed (right_rule f) c.args.self.now.args.now c.args.self.now.held.now c.args.meter.now.ticks c.by-in-Scan.new.meter.ticks (with_change c.by-in-Scan.new.change c.by-in-Scan.result)) (sym c.in-Scan.is) c.by-in-Scan.ensures.refreshed
