@@ -62,11 +62,11 @@ fn reads_trees(rt: HostRuntime) {
     for (text, wanted) in [
         (
             "5-3×-1 2",
-            "Dyad(Scalar(Minus), Const(Num(5)), Dyad(Scalar(Times), Const(Num(3)), Monad(Scalar(Negative), Const(Nums([1, 2])))))",
+            "Dyad(Scalar(Minus), Sides { left: Const(Num(5)), right: Dyad(Scalar(Times), Sides { left: Const(Num(3)), right: Monad(Scalar(Negative), Const(Nums([1, 2]))) }) })",
         ),
         (
             "(5-3)⌽[¯1]'a'",
-            "Dyad(Rotate(Axis(-1)), Dyad(Scalar(Minus), Const(Num(5)), Const(Num(3))), Const(Char('a')))",
+            "Dyad(Rotate(Axis(-1)), Sides { left: Dyad(Scalar(Minus), Sides { left: Const(Num(5)), right: Const(Num(3)) }), right: Const(Char('a')) })",
         ),
         (
             "(5)[1;;⍳3][2]",
@@ -78,7 +78,7 @@ fn reads_trees(rt: HostRuntime) {
         ),
         (
             "1+.×2∘.=1/3",
-            "Dyad(Inner(Plus, Times), Const(Num(1)), Dyad(Outer(Equal), Const(Num(2)), Dyad(Replicate(Last), Const(Num(1)), Const(Num(3)))))",
+            "Dyad(Inner(Plus, Times), Sides { left: Const(Num(1)), right: Dyad(Outer(Equal), Sides { left: Const(Num(2)), right: Dyad(Replicate(Last), Sides { left: Const(Num(1)), right: Const(Num(3)) }) }) })",
         ),
     ] {
         let found = written(rt.alloc(), text);
