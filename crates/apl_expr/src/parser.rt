@@ -403,12 +403,29 @@ fn parse_any(alloc: Global, tokens: &[Spanned]) -> Result<Expr, ParseFault>
         return Ok(plain.expr);
     }
     if !plain.expr.is_within_height(MOST_HEIGHT) {
+        drop_in_turn(plain.expr);
         return Err(ParseFault::Limit);
     }
     if !plain.expr.is_within_nodes(MOST_NODES) {
         return Err(ParseFault::Limit);
     }
     Ok(plain.expr)
+}
+
+/// Drops a tree that may be as high as a line has tokens: its functions one after the other, each with its left argument, so that this takes no more
+/// stack than a low tree does.
+fn drop_in_turn(tree: Expr) {
+    let mut rest = tree;
+    for _ in 0..MOST_TOKENS {
+        rest = match rest {
+            Expr::Monad(_, right) => Box::into_inner(right),
+            Expr::Dyad(_, sides) => {
+                let sides = Box::into_inner(sides);
+                sides.right
+            }
+            last => last,
+        };
+    }
 }
 
 /// The tree of the tokens, the expression of ISO 8485 that they are.
