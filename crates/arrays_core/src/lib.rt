@@ -11,7 +11,7 @@ mod shape;
 
 pub use array::Array;
 pub use builder::ArrayBuilder;
-pub use fault::{ApplyFault, Fault};
+pub use fault::{ApplyFault, Fault, outcome};
 pub use item::{Item, ItemType, Kind};
 pub use room::{Room, copied, is_same_room, repeated, room_between, room_of, roomy};
 pub use rule::{ItemRule, RowRule, collect, collect_rows};

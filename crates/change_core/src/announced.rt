@@ -5,18 +5,19 @@ ghost use Rattle.arrays_core.specs.Arrays.{ArrayValue, IsAnswerTo};
 ghost use Rattle.arrays_core.specs.Shapes.{IsWithinLimits};
 ghost use Rattle.index_region.specs.Boxes.{fits};
 ghost use Rattle.index_region.specs.Checks.{whole, form_of};
-ghost use Rattle.change_core.specs.RuleModels.{Use, FitsAt, HasShape, box_at, form_size};
+ghost use Rattle.change_core.specs.RuleModels.{Use, FitsAt, HasShape, box_at};
 ghost use Rattle.change_core.specs.Laws.{IsTight};
 ghost use Rattle.change_core.specs.Growth.{IsGrowing, never};
 ghost use Rattle.change_core.specs.Parts.{HoldsItems, items_in};
 
 use crate::meter::Meter;
-use crate::rule::{Rule, Tight};
+use crate::rule::Rule;
 use arrays_core::{ApplyFault, Array, Item, ItemType, Kind, Shape, size};
 use index_region::{IndexBox, Intervals, Primitive, Seen, apply};
 use std::alloc::Global;
 
-/// A function of arrays that says what a change of its arguments changes of its result: it is a `Rule`.
+/// A function of arrays that says what a change of its arguments changes of its result: it is a `Rule`. What gives items here ticks no meter; `Rule`,
+/// which a change is worked out by, has no way to these.
 pub trait Announced: Primitive {
     /// The arguments that say by their items what is read of the others: a change of one makes the result anew.
     ghost selectors: { Self → List Bool };
@@ -80,25 +81,12 @@ pub trait Announced: Primitive {
     }
 
     ghost counted: { (rule : Self) → length (selectors rule) ≡ Self.arity rule };
-}
 
-/// A function of arrays whose boxes hold all that changes of its result, which grows where it says so: it is a `Tight`
-/// rule.
-pub trait Lawful: Announced {
-    ghost tight: { (rule : Self) → IsTight (record { selectors = Self.selectors rule; form = Self.form rule; item = Self.item rule; uses = Self.uses rule; grows = Self.growth rule }) };
+    /// The boxes hold all that changes.
+    ghost tight: { (rule : Self) → IsTight (record { selectors = selectors rule; form = Self.form rule; item = Self.item rule; uses = uses rule; grows = growth rule }) };
 
-    ghost growing: { (rule : Self) → IsGrowing (record { selectors = Self.selectors rule; form = Self.form rule; item = Self.item rule; uses = Self.uses rule; grows = Self.growth rule }) (Self.growth rule) };
-}
-
-/// How many places the result has; none where a check fails.
-fn places<P: Primitive>(primitive: &P, args: &[Seen]) -> u32
-    requires { length args.now ≡ P.arity primitive.now }
-    ensures { result ≡ form_size (P.form primitive.now args.now) }
-{
-    match primitive.shape_of(args) {
-        Ok((shape, _)) => size(shape.as_slice()),
-        Err(_) => 0,
-    }
+    /// The result grows where it says so.
+    ghost growing: { (rule : Self) → IsGrowing (record { selectors = selectors rule; form = Self.form rule; item = Self.item rule; uses = uses rule; grows = growth rule }) (growth rule) };
 }
 
 impl<P: Announced> Rule for P {
@@ -118,7 +106,7 @@ impl<P: Announced> Rule for P {
         // counted from its own shape, as the checks of an index look at all its positions
         meter.add(match &whole {
             Ok(array) => size(array.shape().as_slice()),
-            Err(_) => places(self, args),
+            Err(_) => self.places(args),
         });
         whole
     }
@@ -159,9 +147,7 @@ impl<P: Announced> Rule for P {
     ) -> Option<Intervals> {
         Announced::box_of(self, args, shape, which, region)
     }
-}
 
-impl<P: Lawful> Tight for P {
     ghost tight = { P.tight };
 
     ghost growing = { P.growing };

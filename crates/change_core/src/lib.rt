@@ -7,8 +7,8 @@ mod meter;
 mod reach;
 mod rule;
 
-pub use announced::{Announced, Lawful};
+pub use announced::Announced;
 pub use count::Count;
 pub use meter::Meter;
 pub use reach::{Reach, last_place, reach_covers};
-pub use rule::{Rule, Tight};
+pub use rule::Rule;

@@ -7,7 +7,7 @@ ghost use Rattle.change_core.specs.Reaches.{bounded, as_reach as reach_of_box};
 ghost use Rattle.change_core.specs.Growth.{last_place};
 ghost use Rattle.change_core.specs.Laws.{ReachCovers, ReachLies};
 
-use crate::rule::Tight;
+use crate::rule::Rule;
 use index_region::{IndexBox, Intervals};
 
 /// What may change of a result.
@@ -65,7 +65,7 @@ pub(crate) fn as_reach(region: Option<IndexBox>) -> Reach
 
 /// What the law of a rule gives: where arguments agree outside their changed boxes, results agree outside what is
 /// reached, which lies in the result.
-pub fn reach_covers<R: Tight>(rule: &R)
+pub fn reach_covers<R: Rule>(rule: &R)
     ensures covers { ReachCovers (R.model rule.now) }
     ensures lies { ReachLies (R.model rule.now) }
 {

@@ -10,17 +10,20 @@ ghost use Rattle.index_region.specs.Answers.{IsFormAnswerTo, IsPlaceOf, HasTypeO
 
 use crate::meter::Meter;
 use crate::reach::{Reach, as_reach, bounded, join_boxes};
-use arrays_core::{ApplyFault, Array, Item, ItemType, Kind, Shape, shape_of};
+use arrays_core::{ApplyFault, Array, Item, ItemType, Kind, Shape, shape_of, size};
 use index_region::{IndexBox, Intervals, Seen};
 use std::alloc::Global;
 
-/// A function of arrays, by its checks, its items, and what a change of its arguments changes of its result. None of
-/// `shape`, `item` and `reach` takes memory.
+/// A function of arrays, by its checks, its items, and what a change of its arguments changes of its result, with its laws: the boxes hold all that
+/// changes, and the result grows where it says so. It has no way to an item that does not tick. None of `shape`, `item`, `grows` and `reach` takes
+/// memory.
 pub trait Rule {
     ghost use Rattle.change_core.specs.RuleModels.{RuleModel, FitsAt, HasShape, box_at, form_size};
     ghost use Rattle.change_core.specs.Reaches.{AllFit, reach_of};
     ghost use Rattle.change_core.specs.Meters.{ticked};
     ghost use Rattle.change_core.specs.Parts.{HoldsItems, items_in};
+    ghost use Rattle.change_core.specs.Laws.{IsTight};
+    ghost use Rattle.change_core.specs.Growth.{IsGrowing};
 
     /// Its checks, its items, and how its results use its arguments.
     ghost model: { Self → RuleModel };
@@ -29,6 +32,17 @@ pub trait Rule {
     fn shape(&self, args: &[Seen]) -> Result<(Shape, ItemType), Kind>
         requires { length args.now ≡ length (model self.now).selectors }
         ensures { IsFormAnswerTo ((model self.now).form args.now) result };
+
+    /// How many places the result has; none where a check fails.
+    fn places(&self, args: &[Seen]) -> u32
+        requires { length args.now ≡ length (model self.now).selectors }
+        ensures { result ≡ form_size ((model self.now).form args.now) }
+    {
+        match self.shape(args) {
+            Ok(form) => size(form.0.as_slice()),
+            Err(_) => 0,
+        }
+    }
 
     /// The item at an index list of the result. It ticks once.
     fn item(&self, args: &[Seen], index: &[u32], meter: &mut Meter) -> Result<Item, Kind>
@@ -166,14 +180,10 @@ pub trait Rule {
             Err(_) => Reach::Anew,
         }
     }
-}
 
-/// A rule whose boxes hold all that changes, and whose result grows where it says so.
-pub trait Tight: Rule {
-    ghost use Rattle.change_core.specs.Laws.{IsTight};
-    ghost use Rattle.change_core.specs.Growth.{IsGrowing};
+    /// The boxes hold all that changes.
+    ghost tight: { (rule : Self) → IsTight (model rule) };
 
-    ghost tight: { (rule : Self) → IsTight (Self.model rule) };
-
-    ghost growing: { (rule : Self) → IsGrowing (Self.model rule) (Self.model rule).grows };
+    /// The result grows where it says so.
+    ghost growing: { (rule : Self) → IsGrowing (model rule) (model rule).grows };
 }

@@ -25,7 +25,8 @@ use Rattle.change_core.proofs.Regions.{HasFit, bounded-fits}
 use Rattle.change_core.proofs.Walking.{walk_is}
 use Rattle.change_rules.specs.Currency.{applied}
 use Rattle.change_rules.specs.Nodes.{grown_in, items_at, tail_delta, is_grown, is_grown_at_most}
-use Rattle.change_rules.specs.Outcomes.{Outcome, evaluation, fault, given}
+use Rattle.arrays_core.specs.Outcomes.{Outcome, fault, given}
+use Rattle.change_rules.specs.Evaluation.{evaluation}
 use Rattle.change_rules.proofs.Walked.{walked_is}
 use Rattle.change_rules.proofs.Refreshed.{ShowsAll, same_whole}
 

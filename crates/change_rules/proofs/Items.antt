@@ -9,6 +9,7 @@ use Rattle.arrays_core.specs.declared.item.Item.{Item}
 use Rattle.arrays_core.specs.declared.item.ItemType.{ItemType}
 use Rattle.arrays_core.specs.declared.item.Kind.{Kind}
 use Rattle.arrays_core.specs.Arrays.{ArrayValue, IsAnswerTo, with_items}
+use Rattle.arrays_core.specs.Outcomes.{Outcome, IsOutcomeOf}
 use Rattle.arrays_core.specs.Items.{all_or_first_error}
 use Rattle.arrays_core.specs.Shapes.{IsWithinLimits, size, indices}
 use Rattle.index_region.specs.Boxes.{Interval, interval_length, box_size, fits, walk_at, whole_of}
@@ -22,6 +23,11 @@ use Rattle.change_core.proofs.Collected.{items_are}
 use Rattle.change_core.proofs.Filling.{few_places}
 use Rattle.index_region.proofs.Walks.{some_place}
 use Rattle.change_core.proofs.Walking.{walk_is, length-along}
+
+-- the items that a call answered, where it gave an array
+pub given_items : (t : ItemType) (wanted : Result (List Item) Kind) (applied : Result ArrayValue ApplyFault) (o : Outcome) (a : ArrayValue)
+    → HoldsItems t wanted applied → IsOutcomeOf applied o → o ≡ Ok a → wanted ≡ Ok a.items
+given_items t wanted applied o a holds is gave = (subst (HoldsItems t wanted) (subst (IsOutcomeOf applied) gave is) holds).0
 
 -- factors are the greatest where their product is
 both_greatest : (a b n m : ℕ) → 0 < a → 0 < b → a ≤ n → b ≤ m → a * b ≡ n * m → (a ≡ n) × (b ≡ m)

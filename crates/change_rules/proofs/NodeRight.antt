@@ -12,7 +12,8 @@ use Rattle.change_core.specs.Reaches.{AllFit, LiesIn, reach_of}
 use Rattle.change_core.specs.RuleModels.{RuleModel}
 use Rattle.change_rules.specs.Currency.{BringsUpToDate, HasAxis, IsEvaluation, applied}
 use Rattle.change_rules.specs.Nodes.{Argument, all_same, any_grown, delta_in, grown_delta, is_grown, is_grown_at_most, node_grows, is_whole, marks, moved, node_delta, starts_anew, views}
-use Rattle.change_rules.specs.Outcomes.{Outcome, evaluation}
+use Rattle.arrays_core.specs.Outcomes.{Outcome}
+use Rattle.change_rules.specs.Evaluation.{evaluation}
 use Rattle.change_rules.proofs.GrownRight.{HaveAxes, grown_before, grown_right}
 use Rattle.change_rules.proofs.Refreshed.{ShowsAll, arguments_before, deltas, kept_right, moved_deltas, same_deltas, same_olds, shows_all, whole_deltas}
 

@@ -5,7 +5,7 @@ use Rattle.std.proofs.lemmas.Bool.{cond-true, cond-false, false≢true, or_parts
 use Rattle.index_region.specs.declared.delta.Delta.{Delta}
 use Rattle.index_region.specs.declared.delta.Delta.TheVariants.{Same, Patch, Grown, Whole}
 use Rattle.change_core.specs.RuleModels.{RuleModel}
-use Rattle.change_rules.specs.Outcomes.{Outcome}
+use Rattle.arrays_core.specs.Outcomes.{Outcome}
 use Rattle.change_rules.specs.Nodes.{Argument, views, all_same, any_grown, all_patched_at_most, is_grown, is_whole, is_patched_at_most, grown_delta, grown_cost, starts_anew, node_delta, node_cost, moved, reached_delta, reached_cost}
 use Rattle.change_rules.proofs.Refreshed.{deltas, whole_deltas}
 

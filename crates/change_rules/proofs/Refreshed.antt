@@ -24,7 +24,8 @@ use Rattle.change_rules.proofs.Walked.{array_of, walked, walked_is, walked_delta
 use Rattle.change_rules.specs.Currency.{IsEvaluation, Shows, applied}
 use Rattle.change_core.specs.RuleModels.{RuleModel}
 use Rattle.change_rules.specs.Nodes.{Argument, all_same, is_same, is_whole, moved, moved_by, patch_delta, delta_in, is_grown, views}
-use Rattle.change_rules.specs.Outcomes.{Outcome, evaluation}
+use Rattle.arrays_core.specs.Outcomes.{Outcome}
+use Rattle.change_rules.specs.Evaluation.{evaluation}
 use Rattle.index_region.proofs.Patched.{patched_at}
 use Rattle.index_region.specs.Boxes.{Interval, box_size, walk_at, whole_of}
 use Rattle.index_region.specs.Checks.{Form}

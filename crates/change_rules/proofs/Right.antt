@@ -1,6 +1,6 @@
 -- What a change says is so of the result.
 use Rattle.index_region.proofs.Walks.{walk_within, walk_of_offset, offset_below}
-use Rattle.std.proofs.Common.{◌≡◌, ℕ, inl, inr, ◌+◌, List, Option, Some, None, Result, Ok, Err, IfOk, OnOk, true, refl, ap, ◌∙◌, sym, subst, arith}
+use Rattle.std.proofs.Common.{◌≡◌, ℕ, inl, inr, ◌+◌, List, Option, Some, None, Result, Ok, Err, OnOk, true, refl, ap, ◌∙◌, sym, subst, arith}
 use Rattle.std.specs.declared.alloc.AllocError.{AllocError}
 use Rattle.std.proofs.lemmas.Bool.{cases_Bool, cond-true, cond-false}
 use Rattle.arrays_core.specs.declared.item.Item.{Item}
@@ -23,7 +23,7 @@ use Rattle.change_core.proofs.Collected.{items_are}
 use Rattle.change_core.proofs.Covers.{reaches_inside}
 use Rattle.change_rules.specs.Currency.{IsRight}
 use Rattle.change_rules.specs.Nodes.{Argument, views, moved, all_same, starts_anew, node_delta, patch_delta, delta_in, any_grown, grown_in, node_grows, items_at, tail_delta}
-use Rattle.change_rules.specs.Outcomes.{Outcome, given}
+use Rattle.arrays_core.specs.Outcomes.{Outcome, given}
 use Rattle.change_rules.proofs.PatchRight.{collected_in, first_error}
 
 patch_is_right : (p : RuleModel) (args : List ArrayValue) (f : Form) (region : List Interval) (r : Result (List Item) Kind) → p.form args ≡ Ok f → fits region f.shape ≡ true → items_in (p.item args) region ≡ r

@@ -13,7 +13,7 @@ use Rattle.change_core.specs.declared.reach.Reach.{Reach}
 use Rattle.change_core.specs.declared.reach.Reach.TheVariants.{Unmoved, Inside, Anew}
 use Rattle.change_core.proofs.Collected.{collected, along, collected_is, items_are}
 use Rattle.change_core.proofs.Walking.{walk_is}
-use Rattle.change_rules.specs.Outcomes.{Outcome, fault, given}
+use Rattle.arrays_core.specs.Outcomes.{Outcome, fault, given}
 use Rattle.change_rules.specs.Nodes.{patch_delta, delta_in}
 
 abbrev pub failing : Kind → Outcome

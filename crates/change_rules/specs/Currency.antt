@@ -13,7 +13,8 @@ use Rattle.index_region.specs.Tails.{TailValue}
 use Rattle.change_core.specs.Growth.{last_place}
 use Rattle.index_region.specs.Patches.{PatchValue, patched}
 use Rattle.change_core.specs.RuleModels.{RuleModel}
-use Rattle.change_rules.specs.Outcomes.{Outcome, fault, evaluation}
+use Rattle.arrays_core.specs.Outcomes.{Outcome, fault}
+use Rattle.change_rules.specs.Evaluation.{evaluation}
 use Rattle.change_rules.specs.Nodes.{Argument, views, is_grown, items_at}
 
 -- what a change makes of an array or an error

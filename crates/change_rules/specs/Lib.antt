@@ -1,5 +1,5 @@
 -- What public contracts mean.
-pub mod Outcomes
+pub mod Evaluation
 pub mod Nodes
 pub mod Currency
 -- What bodies use.

@@ -17,7 +17,8 @@ use Rattle.change_core.specs.Parts.{items_in}
 use Rattle.change_core.specs.Growth.{last_place}
 use Rattle.change_core.specs.Reaches.{reach_of}
 use Rattle.change_core.specs.RuleModels.{RuleModel, form_size}
-use Rattle.change_rules.specs.Outcomes.{Outcome, fault, given, evaluation}
+use Rattle.arrays_core.specs.Outcomes.{Outcome, fault, given}
+use Rattle.change_rules.specs.Evaluation.{evaluation}
 
 -- an argument as it is handed in: the array that it is now, and what changed of it
 abbrev pub Argument : Type 0

@@ -8,9 +8,9 @@ ghost use Rattle.change_core.specs.RuleModels.{form_size};
 ghost use Rattle.index_region.specs.declared.delta.Delta.TheVariants.{Whole};
 ghost use Rattle.change_rules.specs.Copies.{AreCopies};
 ghost use Rattle.change_rules.specs.Nodes.{is_error};
-ghost use Rattle.change_rules.specs.Outcomes.{evaluation};
+ghost use Rattle.change_rules.specs.Evaluation.{evaluation};
 
-use arrays_core::{ApplyFault, Array, Fault, size};
+use arrays_core::{ApplyFault, Array, Fault, outcome};
 use change_core::{Meter, Rule};
 use index_region::Seen;
 use std::alloc::{AllocError, Global};
@@ -29,22 +29,7 @@ pub(crate) fn evaluate<R: Rule>(
     ensures rises { meter.old.ticks ≤ meter.new.ticks }
     ensures joins { meter.new.joins ≡ meter.old.joins }
 {
-    match all_of(alloc, rule, args, meter) {
-        Ok(array) => Ok(Ok(array)),
-        Err(ApplyFault::Kind(kind)) => Ok(Err(Fault { kind, origin: None })),
-        Err(ApplyFault::NoMemory) => Err(AllocError),
-    }
-}
-
-/// How many places the result has; none where a check fails.
-pub(crate) fn places<R: Rule>(rule: &R, args: &[Seen]) -> u32
-    requires { length args.now ≡ length (R.model rule.now).selectors }
-    ensures { result ≡ form_size ((R.model rule.now).form args.now) }
-{
-    match rule.shape(args) {
-        Ok(form) => size(form.0.as_slice()),
-        Err(_) => 0,
-    }
+    outcome(all_of(alloc, rule, args, meter))
 }
 
 /// The whole result, of arguments without patches: one with a patch is copied once, so that its items lie in one piece.

@@ -6,6 +6,6 @@ mod evaluation;
 mod node;
 mod patch;
 
-pub use change_core::{Meter, Reach, Rule, Tight, reach_covers};
+pub use change_core::{Meter, Reach, Rule, reach_covers};
 pub use index_region::{Delta, Patch, Seen, Tail};
 pub use node::{refresh, refresh_with_cost};

@@ -10,7 +10,7 @@ ghost use Rattle.change_core.specs.Reaches.{AllFit};
 ghost use Rattle.change_core.specs.Meters.{ticked, most_ticks};
 ghost use Rattle.change_core.specs.RuleModels.{form_size};
 ghost use Rattle.index_region.specs.declared.delta.Delta.TheVariants.{Whole};
-ghost use Rattle.change_rules.specs.Outcomes.{evaluation};
+ghost use Rattle.change_rules.specs.Evaluation.{evaluation};
 ghost use Rattle.change_rules.specs.Nodes.{views, moved, is_error, all_same as all_are_same, starts_anew as is_anew, node_delta, node_cost, reached_delta, reached_cost, node_grows, grown_delta, grown_cost, grown_in, grown_size};
 ghost use Rattle.change_rules.specs.Currency.{BringsUpToDate, HasAxis, IsRight};
 
@@ -18,10 +18,10 @@ use crate::arguments::{
     all_same, grown_at_most, is_grown, marks_of, moved_by, moves_of, patched_at_most, starts_anew,
     views_are_arrays, views_of,
 };
-use crate::evaluation::{evaluate, places};
+use crate::evaluation::evaluate;
 use crate::patch::patch_of;
-use arrays_core::{ApplyFault, Array, Fault, Shape, shape_of, size};
-use change_core::{Meter, Reach, Rule, Tight, last_place};
+use arrays_core::{Array, Fault, Shape, outcome, shape_of, size};
+use change_core::{Meter, Reach, Rule, last_place};
 use index_region::{Delta, IndexBox, Seen, Tail};
 use std::alloc::{AllocError, Global};
 
@@ -48,7 +48,7 @@ fn reached<R: Rule>(
 {
     match rule.shape(args) {
         Err(kind) => {
-            *change = Delta::Whole(Err(Fault { kind, origin: None }));
+            *change = Delta::Whole(Err(kind.into()));
             Ok(0)
         }
         Ok(form) => match rule.reach_in(args, form.0.as_slice(), boxes) {
@@ -123,7 +123,7 @@ fn change_anew<R: Rule>(
     // counted from its own shape, as the checks of an index look at all its positions
     let cost = match &whole {
         Ok(array) => size(array.shape().as_slice()),
-        Err(_) => places(rule, seen),
+        Err(_) => rule.places(seen),
     };
     *change = Delta::Whole(whole);
     Ok(cost)
@@ -202,7 +202,7 @@ fn tail_of<R: Rule>(
     let (shape, item_type) = match rule.shape(seen) {
         Ok(form) => form,
         Err(kind) => {
-            *change = Delta::Whole(Err(Fault { kind, origin: None }));
+            *change = Delta::Whole(Err(kind.into()));
             return Ok(0);
         }
     };
@@ -216,10 +216,9 @@ fn tail_of<R: Rule>(
         tail_of_one(rule, seen, shape, &region, change, meter)?;
         return Ok(1);
     }
-    match rule.part(alloc, seen, shape.as_slice(), item_type, &region, meter) {
+    match outcome(rule.part(alloc, seen, shape.as_slice(), item_type, &region, meter))? {
         Ok(values) => *change = Delta::Grown(Tail::of(shape, values)?),
-        Err(ApplyFault::Kind(kind)) => *change = Delta::Whole(Err(Fault { kind, origin: None })),
-        Err(ApplyFault::NoMemory) => return Err(AllocError),
+        Err(fault) => *change = Delta::Whole(Err(fault)),
     }
     Ok(cost)
 }
@@ -249,7 +248,7 @@ fn tail_of_one<R: Rule>(
     let index = region.index_at(0);
     match rule.item(seen, index.as_slice(), meter) {
         Ok(item) => *change = Delta::Grown(Tail::one(shape, item)?),
-        Err(kind) => *change = Delta::Whole(Err(Fault { kind, origin: None })),
+        Err(kind) => *change = Delta::Whole(Err(kind.into())),
     }
     Ok(())
 }
@@ -330,7 +329,7 @@ fn change_of_more<R: Rule>(
 /// The change of a node, from the changes of its arguments, by a rule whose boxes hold all that changes: where `old` was
 /// the whole evaluation, what the change makes of it is the whole evaluation of the new arguments. Where no argument
 /// changed nothing does. Each item that it computes ticks.
-pub fn refresh<R: Tight>(
+pub fn refresh<R: Rule>(
     alloc: Global,
     rule: &R,
     args: &[(Seen, &Delta)],
@@ -355,7 +354,7 @@ pub fn refresh<R: Tight>(
 
 /// The change of a node, as `refresh` answers it, put in place of another one, and what it costs: how many items of the result it computes at most.
 #[inline(always)]
-pub fn refresh_with_cost<R: Tight>(
+pub fn refresh_with_cost<R: Rule>(
     alloc: Global,
     rule: &R,
     args: &[(Seen, &Delta)],

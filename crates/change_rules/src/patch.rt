@@ -9,7 +9,7 @@ ghost use Rattle.change_core.specs.Parts.{HoldsItems, items_in};
 ghost use Rattle.change_rules.specs.Nodes.{is_error, patch_delta};
 
 use crate::evaluation::all_of;
-use arrays_core::{ApplyFault, Array, Fault, ItemType, Shape, size};
+use arrays_core::{ApplyFault, Array, ItemType, Shape, outcome, size};
 use change_core::{Meter, Rule};
 use index_region::{Delta, IndexBox, Patch, Seen};
 use std::alloc::{AllocError, Global};
@@ -61,7 +61,7 @@ fn patch_of_one<R: Rule>(
     let index = region.index_at(0);
     match rule.item(args, index.as_slice(), meter) {
         Ok(item) => *change = Delta::Patch(Patch::one(region, item)),
-        Err(kind) => *change = Delta::Whole(Err(Fault { kind, origin: None })),
+        Err(kind) => *change = Delta::Whole(Err(kind.into())),
     }
 }
 
@@ -88,10 +88,9 @@ pub(crate) fn patch_of<R: Rule>(
         patch_of_one(rule, args, region, change, meter);
         return Ok(());
     }
-    match items_of(alloc, rule, args, form, &region, meter) {
+    match outcome(items_of(alloc, rule, args, form, &region, meter))? {
         Ok(values) => *change = Delta::Patch(Patch::of(region, values)),
-        Err(ApplyFault::Kind(kind)) => *change = Delta::Whole(Err(Fault { kind, origin: None })),
-        Err(ApplyFault::NoMemory) => return Err(AllocError),
+        Err(fault) => *change = Delta::Whole(Err(fault)),
     }
     Ok(())
 }

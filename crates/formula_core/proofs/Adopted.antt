@@ -9,7 +9,7 @@ use Rattle.formula_core.specs.declared.table.Node.{Node}
 use Rattle.formula_core.specs.declared.table.Node.TheVariants as node
 use Rattle.formula_core.specs.Changes.{each_with}
 use Rattle.formula_core.specs.Holdings.{Holding, holding, holdings_of, nodes_of, not_worked_out, no_change, taking, taken, adopted, IsFit, AllFit}
-use Rattle.formula_core.specs.Outcomes.{fault}
+use Rattle.arrays_core.specs.Outcomes.{fault}
 
 -- changes of elements, what they make of these, that they fit, and what is said where there is none
 module _ (C A : Type 0) (f : C → A → A) (Fits : C → A → Type 0) (no_change : C) (none : A) where

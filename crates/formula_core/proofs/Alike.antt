@@ -14,7 +14,7 @@ use Rattle.index_region.specs.declared.delta.Delta.TheVariants.{Same, Patch, Gro
 use Rattle.change_core.specs.RuleModels.{RuleModel}
 use Rattle.change_rules.specs.Nodes.{is_same, all_same}
 use Rattle.selection_fns.specs.Index.{index_rule}
-use Rattle.formula_core.specs.Outcomes.{Outcome}
+use Rattle.arrays_core.specs.Outcomes.{Outcome}
 use Rattle.formula_core.specs.Meaning.{eval, eval_positions, applied1, applied2, indexed, in_front, empty_in_front, names_in, names_in_positions}
 use Rattle.formula_core.specs.Tables.{inside, inside_positions, subtrees}
 use Rattle.formula_core.specs.Rules.{right_rule, both_rule}

@@ -31,12 +31,12 @@ use Rattle.change_core.specs.RuleModels.{RuleModel}
 use Rattle.change_core.proofs.Covers.{reaches_inside}
 use Rattle.change_rules.specs.Currency.{applied, Shows, HasAxis, IsRight, IsRightPatch, IsRightTail}
 use Rattle.change_rules.specs.Nodes.{Argument, views, moved, is_same, is_whole, all_same, items_at, node_delta}
-use Rattle.change_rules.specs.Outcomes.{evaluation}
+use Rattle.change_rules.specs.Evaluation.{evaluation}
 use Rattle.change_rules.proofs.NodeRight.{brings_up_to_date}
 use Rattle.change_rules.proofs.Right.{node_is_right}
 use Rattle.selection_fns.specs.Index.{Position, count_written, written_positions, index_rule}
 use Rattle.selection_fns.specs.Laws.Index.{length-selectors}
-use Rattle.formula_core.specs.Outcomes.{Outcome, given}
+use Rattle.arrays_core.specs.Outcomes.{Outcome, given}
 use Rattle.formula_core.specs.Meaning.{eval, eval_positions, applied1, applied2, in_front, empty_in_front, indexed}
 use Rattle.formula_core.specs.Rules.{right_rule, both_rule}
 use Rattle.formula_core.specs.Changes.{Change, argument_in_front, arguments, result_of, paired, operation_delta, written, values_of, change, changes, FitsIn, FitsNow, IsChanged, IsTreeChanged}

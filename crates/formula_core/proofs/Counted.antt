@@ -17,15 +17,13 @@ use Rattle.arrays_core.specs.declared.item.Kind.{Kind}
 use Rattle.index_region.specs.Checks.{Form, whole}
 use Rattle.change_core.specs.Meters.{ticked}
 use Rattle.change_core.specs.RuleModels.{RuleModel, form_size}
-use Rattle.change_rules.specs.Outcomes.{given}
+use Rattle.arrays_core.specs.Outcomes.{given, Outcome}
 use Rattle.selection_fns.specs.Index.{Position, index_rule}
 use Rattle.formula_core.specs.declared.evaluation.Operand.{Operand}
 use Rattle.formula_core.specs.Changes.{at_rest, arguments, operation_size, result_of, size_at, values_of, written}
 use Rattle.formula_core.specs.Counts.{cost_in, cost_in_positions, AreItemsCounted, ArePositionsCounted, IsCounted, IsTreeCounted}
 use Rattle.formula_core.specs.Meaning.{eval, eval_positions, in_front, of_right, of_both}
 use Rattle.formula_core.specs.Operands.{array_in, outcome_of}
-use Rattle.formula_core.specs.Outcomes.{Outcome}
-use Rattle.formula_core.specs.Outcomes as outcomes
 use Rattle.formula_core.specs.Plans.{tree_cost}
 use Rattle.formula_core.specs.Rules.{right_rule, both_rule}
 use Rattle.formula_core.specs.Tables.{inside, inside_positions}
@@ -125,7 +123,7 @@ module _ (names : List ℕ → Outcome) where
       record {
         most = omega (arith, first.most, most_items (eval t names) (size_at names t) now after gives is sized items, parts);
         least = λ h. subst (λ n. ticked before n ≤ after) (sym parts)
-            (then before now after (cost_in names b) (size_at names t) (first.least (first_given (eval b names) (λ y. outcomes.given (of_right f y)) h)) (least_items (eval t names) (size_at names t) now after gives is sized items h));
+            (then before now after (cost_in names b) (size_at names t) (first.least (first_given (eval b names) (λ y. given (of_right f y)) h)) (least_items (eval t names) (size_at names t) now after gives is sized items h));
       }
 
   pub dyad_counted : {A B D : Type 0} (f : Dyadic) (a b : Tree) (before now then_now after : ℕ) (right : A) (left : B) (gives : Result Operand Fault) (told : D) → IsTreeCounted names b before now (Ok right)
@@ -135,7 +133,7 @@ module _ (names : List ℕ → Outcome) where
       let t = Dyad f a b in
       let sized = meant_items (both_rule f) (arguments (eval a names ∷ eval b names ∷ [])) (eval t names) (dyad_meant f (eval a names) (eval b names)) in
       let all = two_counted (eval t names) (cost_in names b) (cost_in names a) (size_at names t) before now then_now after (IsOk (eval b names)) (IsOk (eval a names)) right left gives h k is sized
-      (λ g. first_given (eval b names) (λ y. and_then (eval a names) (λ x. outcomes.given (of_both f x y))) g) (λ g. second_given (eval b names) (eval a names) (λ y x. outcomes.given (of_both f x y)) g) items in
+      (λ g. first_given (eval b names) (λ y. and_then (eval a names) (λ x. given (of_both f x y))) g) (λ g. second_given (eval b names) (eval a names) (λ y x. given (of_both f x y)) g) items in
       record { most = subst (λ n. after ≤ before + n) (sym (dyad_cost f a b)) all.most; least = λ g. subst (λ n. ticked before n ≤ after) (sym (dyad_cost f a b)) (all.least g) }
 
   pub index_counted : {A B D : Type 0} (a : Tree) (ps : Positions) (before now then_now after : ℕ) (positions : A) (operand : B) (gives : Result Operand Fault) (told : D) → ArePositionsCounted names ps before now (Ok positions)

@@ -9,7 +9,7 @@ use Rattle.index_region.specs.declared.delta.Delta.{Delta}
 use Rattle.index_region.specs.declared.delta.Delta.TheVariants.{Same, Patch, Grown, Whole}
 use Rattle.change_rules.specs.Currency.{applied}
 use Rattle.change_rules.specs.Nodes.{is_grown}
-use Rattle.formula_core.specs.Outcomes.{Outcome}
+use Rattle.arrays_core.specs.Outcomes.{Outcome}
 use Rattle.formula_core.specs.Changes.{FitsIn, FitsNow}
 
 -- each place of the first axis stays as large

@@ -14,11 +14,11 @@ use Rattle.change_core.specs.Meters.{ticked}
 use Rattle.change_core.specs.RuleModels.{RuleModel, form_size}
 use Rattle.change_rules.specs.Nodes.{Argument, is_error as shows_error, views, moved, moved_by, marks, is_same, is_whole, is_grown, is_grown_at_most, any_grown, all_same, node_delta, node_cost, grown_in, grown_size, reached_delta, reached_cost}
 use Rattle.change_rules.specs.Currency.{HasAxis}
-use Rattle.change_rules.specs.Outcomes.{evaluation}
+use Rattle.change_rules.specs.Evaluation.{evaluation}
 use Rattle.selection_fns.specs.Index.{count_written}
 use Rattle.formula_core.specs.declared.input.Input.{Input}
 use Rattle.formula_core.specs.declared.input.Input.TheVariants.{Good, Bad}
-use Rattle.formula_core.specs.Outcomes.{Outcome}
+use Rattle.arrays_core.specs.Outcomes.{Outcome}
 use Rattle.formula_core.specs.Rules.{with_change, IsRefreshed}
 use Rattle.formula_core.specs.Changes.{FitsNow, argument_in_front, arguments, paired, operation_delta, operation_cost}
 use Rattle.formula_core.specs.Inputs.{shown, stays, delta_of, HasFit, AllHaveFit, IsOperationChange, written_inputs, arrays_among, last_error}

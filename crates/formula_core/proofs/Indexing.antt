@@ -7,7 +7,7 @@ use Rattle.arrays_core.specs.declared.fault.Fault.{Fault}
 use Rattle.selection_fns.specs.Index.{Position, count_written, written_positions}
 use Rattle.formula_core.specs.declared.evaluation.Operand.{Operand}
 use Rattle.formula_core.specs.Operands.{array_in, position_in, written_arrays}
-use Rattle.formula_core.specs.Outcomes.{Outcome}
+use Rattle.arrays_core.specs.Outcomes.{Outcome}
 use Rattle.formula_core.specs.Meaning.{eval, eval_positions, in_front, empty_in_front, names_in, names_in_positions}
 
 -- the names in one more position, which is written or not

@@ -29,7 +29,7 @@ use Rattle.formula_core.specs.Changes.{Change, FitsIn, arguments, change, cost_a
 use Rattle.formula_core.specs.Inputs.{IsInput, delta_of, shown}
 use Rattle.formula_core.specs.Joins.{had_trees, has_trees_for, least_joins, least_joins_of, most_joins, most_joins_of}
 use Rattle.formula_core.specs.Meaning.{eval}
-use Rattle.formula_core.specs.Outcomes.{Outcome}
+use Rattle.arrays_core.specs.Outcomes.{Outcome}
 use Rattle.formula_core.specs.Plans.{node_change, node_cost_at}
 use Rattle.formula_core.specs.Rules.{right_rule}
 use Rattle.formula_core.specs.Stages.{AreTotalsJoined, IsJoined, IsKeptBy, IsReady, IsStaged}

@@ -11,8 +11,8 @@ use Rattle.arrays_core.specs.declared.item.Kind.{Kind}
 use Rattle.scalar_fns.specs.ScalarExtension.{common, for_shape}
 use Rattle.index_region.specs.Checks.{form_of, whole}
 use Rattle.selection_fns.specs.Index.{index_whole, written_positions, index_rule}
-use Rattle.change_rules.specs.Outcomes.{evaluation}
-use Rattle.formula_core.specs.Outcomes.{given}
+use Rattle.change_rules.specs.Evaluation.{evaluation}
+use Rattle.arrays_core.specs.Outcomes.{given}
 use Rattle.formula_core.specs.Meaning.{of_right, of_both}
 use Rattle.formula_core.specs.Rules.{right_rule, both_rule}
 

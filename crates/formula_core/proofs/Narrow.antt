@@ -23,7 +23,7 @@ use Rattle.change_rules.proofs.Nodes.{cost_reached}
 use Rattle.sum_rules.specs.Totals.{is_narrow, is_one_a_line, lines_of, new_items, total_rule}
 use Rattle.sum_rules.proofs.ChangedTotals.{cost_grown}
 use Rattle.sum_rules.proofs.OneAxis.{size_with_one}
-use Rattle.formula_core.specs.Outcomes.{Outcome}
+use Rattle.arrays_core.specs.Outcomes.{Outcome}
 use Rattle.formula_core.specs.Changes.{FitsNow, operation_cost}
 
 -- ---- a box without an axis

@@ -17,7 +17,7 @@ use Rattle.formula_core.specs.declared.stage.Stage.{Stage}
 use Rattle.formula_core.specs.declared.table.Node.{Node}
 use Rattle.formula_core.specs.declared.table.Node.TheVariants as node
 use Rattle.formula_core.specs.Meaning.{eval, names_in}
-use Rattle.formula_core.specs.Outcomes.{Outcome}
+use Rattle.arrays_core.specs.Outcomes.{Outcome}
 use Rattle.formula_core.specs.Tables.{subtrees, tree_at, tree_of_node, trees_after, is_literal, IsNode, IsTable}
 use Rattle.formula_core.specs.Changes.{Change, FitsIn}
 use Rattle.formula_core.specs.Holdings.{Holding, holding, holding_at, holdings_of, nodes_of, not_worked_out, no_change, taking, adopted}

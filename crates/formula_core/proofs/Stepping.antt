@@ -13,11 +13,11 @@ use Rattle.index_region.specs.declared.delta.Delta.{Delta}
 use Rattle.index_region.specs.declared.delta.Delta.TheVariants.{Same, Patch, Grown, Whole}
 use Rattle.change_core.specs.RuleModels.{RuleModel, form_size}
 use Rattle.change_rules.specs.Nodes.{views, is_same, is_whole, node_delta, node_cost}
-use Rattle.change_rules.specs.Outcomes.{evaluation}
+use Rattle.change_rules.specs.Evaluation.{evaluation}
 use Rattle.selection_fns.specs.Index.{index_rule}
 use Rattle.formula_core.specs.declared.input.Input.{Input}
 use Rattle.formula_core.specs.declared.input.Input.TheVariants.{Good, Bad}
-use Rattle.formula_core.specs.Outcomes.{Outcome}
+use Rattle.arrays_core.specs.Outcomes.{Outcome}
 use Rattle.formula_core.specs.Meaning.{eval}
 use Rattle.formula_core.specs.Rules.{right_rule, both_rule}
 use Rattle.formula_core.specs.Changes.{Change, arguments, result_of, paired, operation_delta, operation_cost, operation_size, written, values_of, change, changes, cost_at, size_at}

@@ -19,7 +19,7 @@ use Rattle.formula_core.specs.declared.table.Operand.TheVariants as operand
 use Rattle.formula_core.specs.declared.table.Node.{Node}
 use Rattle.formula_core.specs.declared.table.Node.TheVariants as node
 use Rattle.formula_core.specs.Meaning.{eval}
-use Rattle.formula_core.specs.Outcomes.{Outcome, fault}
+use Rattle.arrays_core.specs.Outcomes.{Outcome, fault}
 use Rattle.formula_core.specs.Tables.{tree_at, tree_of_operand, tree_of_node, IsOperand, AreOperands, IsNode}
 use Rattle.formula_core.specs.Changes.{Change, change, changes, values_of, FitsIn, FitsNow, IsChanged, IsNameChanged, IsTreeChanged}
 use Rattle.formula_core.specs.Inputs.{shown, HasFit, IsAllOrNothing, IsInput}

@@ -29,7 +29,7 @@ use Rattle.formula_core.specs.declared.sums.SumsDelta.TheVariants as sums
 use Rattle.formula_core.specs.declared.table.Operand.{Operand}
 use Rattle.formula_core.specs.declared.table.Node.{Node}
 use Rattle.formula_core.specs.declared.table.Node.TheVariants as node
-use Rattle.formula_core.specs.Outcomes.{Outcome}
+use Rattle.arrays_core.specs.Outcomes.{Outcome}
 use Rattle.formula_core.specs.Meaning.{eval}
 use Rattle.formula_core.specs.Tables.{tree_of_operand, tree_of_node, IsOperand, IsNode}
 use Rattle.formula_core.specs.Changes.{Change, change, FitsIn}

@@ -16,7 +16,7 @@ use Rattle.formula_core.specs.Changes.{Change}
 use Rattle.formula_core.specs.Formulas.{FormulaValue, is_operation}
 use Rattle.formula_core.specs.Joins.{has_trees_for, least_joins, least_joins_of, most_joins, tree_joins, tree_least_joins}
 use Rattle.formula_core.specs.Meaning.{eval}
-use Rattle.formula_core.specs.Outcomes.{Outcome}
+use Rattle.arrays_core.specs.Outcomes.{Outcome}
 use Rattle.formula_core.specs.Plans.{IsComputed, node_change, node_cost_at}
 use Rattle.formula_core.specs.Progress.{IsAtOperation, operations_among}
 use Rattle.formula_core.specs.Sums.{total_of}

@@ -31,7 +31,7 @@ use Rattle.sum_rules.proofs.MorePlaces.{between, longer}
 use Rattle.formula_core.specs.declared.input.Input.TheVariants.{Good}
 use Rattle.formula_core.specs.Changes.{FitsNow, operation_cost}
 use Rattle.formula_core.specs.Joins.{binary_digits, had_trees, has_trees_for, least_joins_of}
-use Rattle.formula_core.specs.Outcomes.{Outcome}
+use Rattle.arrays_core.specs.Outcomes.{Outcome}
 use Rattle.formula_core.specs.Rules.{right_rule}
 use Rattle.formula_core.specs.Stages.{AreTotalsJoined}
 use Rattle.formula_core.specs.Sums.{AreSumsKept, IsSummedFor, total_of}

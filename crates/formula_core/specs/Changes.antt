@@ -16,9 +16,9 @@ use Rattle.change_core.specs.Laws.{ReachCovers}
 use Rattle.change_core.specs.RuleModels.{RuleModel, form_size}
 use Rattle.change_rules.specs.Currency.{applied}
 use Rattle.change_rules.specs.Nodes.{Argument, is_same, node_delta, node_cost}
-use Rattle.change_rules.specs.Outcomes.{evaluation}
+use Rattle.change_rules.specs.Evaluation.{evaluation}
 use Rattle.selection_fns.specs.Index.{index_rule}
-use Rattle.formula_core.specs.Outcomes.{Outcome}
+use Rattle.arrays_core.specs.Outcomes.{Outcome}
 use Rattle.formula_core.specs.Meaning.{eval}
 use Rattle.formula_core.specs.Rules.{right_rule, both_rule}
 

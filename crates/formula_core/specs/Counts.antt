@@ -10,7 +10,7 @@ use Rattle.formula_core.specs.declared.evaluation.Operand.{Operand}
 use Rattle.formula_core.specs.Changes.{size_at}
 use Rattle.formula_core.specs.Meaning.{eval, eval_positions}
 use Rattle.formula_core.specs.Operands.{array_in}
-use Rattle.formula_core.specs.Outcomes.{Outcome}
+use Rattle.arrays_core.specs.Outcomes.{Outcome}
 use Rattle.formula_core.specs.Tables.{inside, inside_positions}
 
 -- what the functions in a tree cost, where the names show these: for each the size of its result

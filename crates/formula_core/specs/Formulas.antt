@@ -5,7 +5,7 @@ use Rattle.apl_expr.specs.Trees.{Tree, Const, Name}
 use Rattle.formula_core.specs.declared.table.Node.{Node}
 use Rattle.formula_core.specs.Holdings.{Holding, holding_at, not_worked_out}
 use Rattle.formula_core.specs.Meaning.{names_in}
-use Rattle.formula_core.specs.Outcomes.{Outcome}
+use Rattle.arrays_core.specs.Outcomes.{Outcome}
 use Rattle.formula_core.specs.Tables.{tree_at, trees_after, subtrees, IsTable}
 
 -- its tree, that it was not worked out yet, and what the node of each tree that has one holds, the tree's own last

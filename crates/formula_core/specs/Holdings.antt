@@ -13,7 +13,7 @@ use Rattle.formula_core.specs.declared.sums.SumsDelta.TheVariants as sums
 use Rattle.formula_core.specs.declared.table.Node.{Node}
 use Rattle.formula_core.specs.Changes.{FitsIn, each_with}
 use Rattle.formula_core.specs.Meaning.{eval}
-use Rattle.formula_core.specs.Outcomes.{Outcome, fault}
+use Rattle.arrays_core.specs.Outcomes.{Outcome, fault}
 use Rattle.formula_core.specs.Sums.{summed_at, resummed, FitsSums}
 
 -- what a node holds: its result, and the array whose lines it keeps as trees, with their fold, if it does

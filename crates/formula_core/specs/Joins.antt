@@ -13,7 +13,7 @@ use Rattle.sum_rules.specs.LineSums.{length_along, most_without_tree}
 use Rattle.sum_rules.specs.Totals.{new_items, is_narrow}
 use Rattle.formula_core.specs.Changes.{Change}
 use Rattle.formula_core.specs.Meaning.{eval}
-use Rattle.formula_core.specs.Outcomes.{Outcome}
+use Rattle.arrays_core.specs.Outcomes.{Outcome}
 use Rattle.formula_core.specs.Plans.{node_change, node_cost_at}
 use Rattle.formula_core.specs.Sums.{total_of}
 use Rattle.formula_core.specs.Tables.{subtrees}

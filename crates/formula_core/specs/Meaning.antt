@@ -31,7 +31,7 @@ use Rattle.operator_fns.specs.Scan.{scan_whole}
 use Rattle.operator_fns.specs.OuterProduct.{outer_whole}
 use Rattle.operator_fns.specs.InnerProduct.{inner_whole}
 use Rattle.arrays_core.specs.declared.fault.Fault.{Fault}
-use Rattle.formula_core.specs.Outcomes.{Outcome, given}
+use Rattle.arrays_core.specs.Outcomes.{Outcome, given}
 
 -- one number is a scalar, several are a vector; so it is with the characters of a text
 abbrev pub array_of : Literal → Result ArrayValue Kind

@@ -9,7 +9,7 @@ use Rattle.change_core.specs.Meters.{ticked}
 use Rattle.change_core.specs.RuleModels.{RuleModel}
 use Rattle.index_region.specs.declared.delta.Delta.{Delta}
 use Rattle.change_rules.specs.Nodes.{Argument, is_error, node_delta, node_cost}
-use Rattle.change_rules.specs.Outcomes.{Outcome}
+use Rattle.arrays_core.specs.Outcomes.{Outcome}
 use Rattle.scalar_fns.specs.EachMonadic.{each_monadic_rule}
 use Rattle.scalar_fns.specs.EachDyadic.{each_dyadic_rule}
 use Rattle.structural_fns.specs.Reshape.{reshape_rule}

@@ -19,7 +19,7 @@ use Rattle.formula_core.specs.declared.stage.Stage.{Stage}
 use Rattle.formula_core.specs.declared.table.Operand.{Operand}
 use Rattle.formula_core.specs.declared.table.Operand.TheVariants as operand
 use Rattle.formula_core.specs.Meaning.{eval}
-use Rattle.formula_core.specs.Outcomes.{Outcome, fault}
+use Rattle.arrays_core.specs.Outcomes.{Outcome, fault}
 use Rattle.formula_core.specs.Tables.{tree_at, tree_of_node, trees_after, subtrees, IsTable}
 use Rattle.formula_core.specs.Holdings.{Holding, holding_at, holdings_of, nodes_of, not_worked_out, no_change, taking, IsFit}
 use Rattle.formula_core.specs.Formulas.{FormulaValue}

@@ -24,7 +24,7 @@ use Rattle.formula_core.specs.declared.table.Node.TheVariants as node
 use Rattle.formula_core.specs.declared.table.Operand.{Operand}
 use Rattle.fold_trees.specs.FoldTrees.{has_trees}
 use Rattle.formula_core.specs.Meaning.{eval}
-use Rattle.formula_core.specs.Outcomes.{Outcome}
+use Rattle.arrays_core.specs.Outcomes.{Outcome}
 
 -- the fold that a function is whose parts are kept as trees, if it is one, as +/ and ⌈⌿ are
 abbrev pub total_of : Monadic → Option Reduce

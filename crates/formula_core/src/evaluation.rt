@@ -10,7 +10,8 @@ ghost use Rattle.change_core.specs.Meters.{ticked};
 ghost use Rattle.selection_fns.specs.Index.{index_whole};
 ghost use Rattle.index_region.specs.declared.delta.Delta.TheVariants.{Same};
 ghost use Rattle.formula_core.specs.Changes.{at_rest};
-ghost use Rattle.formula_core.specs.Outcomes.{read, given};
+ghost use Rattle.arrays_core.specs.Outcomes.{given};
+ghost use Rattle.formula_core.specs.Outcomes.{read};
 ghost use Rattle.formula_core.specs.Counts.{AreItemsCounted, ArePositionsCounted, IsTreeCounted};
 ghost use Rattle.formula_core.specs.Plans.{tree_cost, AreInputs, IsNameSound};
 ghost use Rattle.formula_core.specs.Operands.{outcome_of, array_in, position_in, positions_in, written_arrays};
@@ -33,7 +34,8 @@ use std::alloc::{AllocError, Global};
 /// Something that knows what each name shows.
 pub trait Shows {
     ghost use Rattle.std.specs.Prelude.{◌≡◌, ℕ, List};
-    ghost use Rattle.formula_core.specs.Outcomes.{Outcome, read};
+    ghost use Rattle.arrays_core.specs.Outcomes.{Outcome};
+    ghost use Rattle.formula_core.specs.Outcomes.{read};
 
     // What each name shows.
     ghost shows: { Self → List ℕ → Outcome };

@@ -5,7 +5,7 @@ ghost use Rattle.arrays_core.specs.Arrays.{IsArray};
 ghost use Rattle.arrays_core.specs.declared.item.Kind.TheVariants.{Value};
 ghost use Rattle.change_rules.specs.Currency.{applied};
 ghost use Rattle.formula_core.specs.Changes.{FitsIn, each_with};
-ghost use Rattle.formula_core.specs.Outcomes.{fault};
+ghost use Rattle.arrays_core.specs.Outcomes.{fault};
 ghost use Rattle.formula_core.specs.Holdings.{holding, holdings_of, can_be_lent, no_change, taken, IsFit, AllFit};
 
 use crate::sums::{SumsDelta, take_sums_delta};

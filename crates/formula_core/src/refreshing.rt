@@ -9,7 +9,7 @@ ghost use Rattle.formula_core.specs.Rules.{right_rule, both_rule, with_change, I
 
 use apl_expr::{Dyadic, Monadic};
 use arrays_core::{Array, Fault};
-use change_core::{Meter, Tight};
+use change_core::{Meter, Rule};
 use change_rules::refresh_with_cost;
 use index_region::{Delta, Seen};
 use operator_fns::{Inner, Outer, Reduce, Scan};
@@ -34,7 +34,7 @@ pub(crate) struct Operation<'a> {
 impl<'a> Operation<'a> {
     /// Its change, put in place of another one, where it follows this rule; and what it costs. So it is with the calls below.
     #[inline(always)]
-    fn by<R: Tight>(
+    fn by<R: Rule>(
         &self,
         rule: &R,
         change: &mut Delta,

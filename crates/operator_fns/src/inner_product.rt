@@ -23,7 +23,7 @@ use arrays_core::{
     ApplyFault, Array, Item, ItemType, Kind, MOST_AXES, Shape, append_axes, position, shape_of,
     size, with_axis,
 };
-use change_core::{Announced, Lawful};
+use change_core::Announced;
 use index_region::{IndexBox, Intervals, Primitive, Seen, apply, limited};
 use scalar_fns::Scalar2;
 use std::alloc::Global;
@@ -301,9 +301,7 @@ impl Announced for Inner {
     }
 
     ghost counted = { λ _. Prim.search rules };
-}
 
-impl Lawful for Inner {
     ghost tight = { λ i. inner_tight i.fold i.each };
 
     ghost growing = { λ _. never_grows _ };

@@ -23,7 +23,7 @@ use arrays_core::{
     ApplyFault, Array, Item, ItemType, Kind, MOST_AXES, Shape, append_axes, position, room_of,
     shape_of,
 };
-use change_core::{Announced, Lawful};
+use change_core::Announced;
 use index_region::{IndexBox, Intervals, Primitive, Seen, apply, limited};
 use scalar_fns::kernels::{Equal, LessOrEqual, Maximum, Minimum, Minus, Plus, Times, TwoNumbers};
 use scalar_fns::{Scalar2, two};
@@ -223,9 +223,7 @@ impl Announced for Outer {
     }
 
     ghost counted = { λ _. Prim.search rules };
-}
 
-impl Lawful for Outer {
     ghost tight = { λ o. outer_tight o.function };
 
     ghost growing = { λ o. outer_growing o.function };

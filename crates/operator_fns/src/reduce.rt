@@ -25,7 +25,7 @@ use crate::number_rule::{NumberRule, collect_numbers};
 use crate::right_fold::{fold_line, identity_item, stride};
 use crate::sum::sum_list;
 use arrays_core::{ApplyFault, Array, Item, ItemType, Kind, Shape, shape_of, size, without_axis};
-use change_core::{Announced, Lawful};
+use change_core::Announced;
 use index_region::{Along, IndexBox, Intervals, Primitive, Seen, apply, limited};
 use scalar_fns::folds::fold_numbers;
 use scalar_fns::kernels::{Plus, TwoNumbers};
@@ -359,9 +359,7 @@ impl Announced for Reduce {
     }
 
     ghost counted = { λ _. Prim.search rules };
-}
 
-impl Lawful for Reduce {
     ghost tight = { λ r. reduce_tight r.function r.along };
 
     ghost growing = { λ r. reduce_growing r.function r.along };

@@ -27,7 +27,7 @@ use crate::later_axis::is_along_a_later_axis;
 use crate::number_scan::{later_folds, number_folds};
 use crate::right_fold::{fold_line, line_numbers, stride};
 use arrays_core::{ApplyFault, Array, Item, ItemType, Kind, Shape, shape_of, without_axis};
-use change_core::{Announced, Lawful};
+use change_core::Announced;
 use index_region::{Along, IndexBox, Intervals, Primitive, Seen, apply, limited};
 use scalar_fns::Scalar2;
 use std::alloc::Global;
@@ -271,9 +271,7 @@ impl Announced for Scan {
     }
 
     ghost counted = { λ _. Prim.search rules };
-}
 
-impl Lawful for Scan {
     ghost tight = { λ s. scan_tight s.function s.along };
 
     ghost growing = { λ s. scan_growing s.function s.along };

@@ -6,7 +6,7 @@ ghost use Rattle.index_region.specs.declared.delta.Delta.TheVariants.{Same, Grow
 
 use crate::fixtures::{array_of, tail_of, vector, zeros};
 use arrays_core::{Array, Fault, Kind};
-use change_core::{Meter, Tight};
+use change_core::{Meter, Rule};
 use change_rules::refresh_with_cost;
 use index_region::{Along, Delta, Seen};
 use operator_fns::{Outer, Reduce};
@@ -22,7 +22,7 @@ fn growth_of(alloc: Global, array: &Array, numbers: &[i64]) -> Option<Delta>
 }
 
 /// The change of a node of one argument, which grew so.
-fn change_of_one<R: Tight>(
+fn change_of_one<R: Rule>(
     alloc: Global,
     rule: &R,
     array: &Array,
@@ -42,7 +42,7 @@ fn change_of_one<R: Tight>(
 }
 
 /// The change of a node of two arguments, of which the left one grew so and the right one is as it was.
-fn change_beside<'a, R: Tight>(
+fn change_beside<'a, R: Rule>(
     alloc: Global,
     rule: &R,
     left: (&'a Array, &'a Delta),
@@ -66,7 +66,7 @@ fn change_beside<'a, R: Tight>(
 }
 
 /// The change of a node whose two arguments are one array, which grew so.
-fn change_of_both<R: Tight>(
+fn change_of_both<R: Rule>(
     alloc: Global,
     rule: &R,
     array: &Array,
@@ -90,7 +90,7 @@ fn change_of_both<R: Tight>(
 
 /// The change of a node of one argument, which grew by these numbers. Of what the node held it tells only that it was an
 /// array, as this one is.
-fn with_numbers<R: Tight>(
+fn with_numbers<R: Rule>(
     alloc: Global,
     rule: &R,
     shown: &Result<Array, Fault>,
@@ -106,7 +106,7 @@ fn with_numbers<R: Tight>(
 }
 
 /// The change of a node of two arguments, of which the left one grew by these numbers.
-fn with_numbers_beside<R: Tight>(
+fn with_numbers_beside<R: Rule>(
     alloc: Global,
     rule: &R,
     shown: &Result<Array, Fault>,
@@ -123,7 +123,7 @@ fn with_numbers_beside<R: Tight>(
 }
 
 /// The change of a node whose two arguments are one array, which grew by these numbers.
-fn with_numbers_twice<R: Tight>(
+fn with_numbers_twice<R: Rule>(
     alloc: Global,
     rule: &R,
     shown: &Result<Array, Fault>,

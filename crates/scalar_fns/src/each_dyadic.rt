@@ -13,7 +13,7 @@ ghost use Rattle.scalar_fns.specs.Growth.{is_extended_to};
 use crate::items::two;
 use crate::scalar_extension::{apply_two, common_shape};
 use arrays_core::{ApplyFault, Array, Item, ItemType, Kind, Shape};
-use change_core::{Announced, Lawful};
+use change_core::Announced;
 use function_names::Scalar2;
 use index_region::{IndexBox, Intervals, Primitive, Seen, apply};
 use std::alloc::Global;
@@ -112,9 +112,7 @@ impl Announced for EachDyadic {
     }
 
     ghost counted = { λ _. Prim.search rules };
-}
 
-impl Lawful for EachDyadic {
     ghost tight = { λ e. each_dyadic_tight e.function };
 
     ghost growing = { λ e. each_dyadic_growing e.function };

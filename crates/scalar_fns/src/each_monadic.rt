@@ -10,7 +10,7 @@ ghost use Rattle.scalar_fns.specs.Laws.EachMonadicGrowth.{each_monadic_growing};
 use crate::items::one;
 use crate::scalar_extension::apply_one;
 use arrays_core::{ApplyFault, Array, Item, ItemType, Kind, Shape, position, shape_of};
-use change_core::{Announced, Lawful};
+use change_core::Announced;
 use function_names::Scalar1;
 use index_region::{IndexBox, Intervals, Primitive, Seen, apply};
 use std::alloc::Global;
@@ -76,9 +76,7 @@ impl Announced for EachMonadic {
     }
 
     ghost counted = { λ _. Prim.search rules };
-}
 
-impl Lawful for EachMonadic {
     ghost tight = { λ e. each_monadic_tight e.function };
 
     ghost growing = { λ e. each_monadic_growing e.function };

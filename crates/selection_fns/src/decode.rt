@@ -25,7 +25,7 @@ use crate::number_at::number_at;
 use arrays_core::{
     ApplyFault, Array, Item, ItemType, Kind, Shape, append_axes, repeated, shape_of, size,
 };
-use change_core::{Announced, Lawful};
+use change_core::Announced;
 use index_region::{IndexBox, Intervals, Primitive, Seen, apply, limited};
 use std::alloc::{AllocError, Global};
 
@@ -245,9 +245,7 @@ impl Announced for Decode {
     }
 
     ghost counted = { λ _. Prim.search rules };
-}
 
-impl Lawful for Decode {
     ghost tight = { λ _. decode_tight };
 
     ghost growing = { λ _. never_grows _ };

@@ -17,7 +17,7 @@ use crate::number_at::number_at;
 use arrays_core::{
     ApplyFault, Array, Item, ItemType, Kind, MOST_AXES, Shape, append_axes, shape_of,
 };
-use change_core::{Announced, Lawful};
+use change_core::Announced;
 use index_region::{IndexBox, Intervals, Primitive, Seen, apply, limited};
 use scalar_fns::{Scalar2, floor_quotient, two_numbers};
 use std::alloc::Global;
@@ -167,9 +167,7 @@ impl Announced for Encode {
     }
 
     ghost counted = { λ _. Prim.search rules };
-}
 
-impl Lawful for Encode {
     ghost tight = { λ _. encode_tight };
 
     ghost growing = { λ _. never_grows _ };

@@ -12,7 +12,7 @@ ghost use Rattle.selection_fns.specs.Laws.IndexGenerator.{generator_tight};
 
 use crate::axes::LONGEST_AXIS;
 use arrays_core::{ApplyFault, Array, Item, ItemType, Kind, Shape, room_of, shape_of};
-use change_core::{Announced, Lawful};
+use change_core::Announced;
 use index_region::{IndexBox, Intervals, Primitive, Seen, limited};
 use std::alloc::{AllocError, Global};
 
@@ -111,9 +111,7 @@ impl Announced for IndexGenerator {
     }
 
     ghost counted = { λ _. Prim.search rules };
-}
 
-impl Lawful for IndexGenerator {
     ghost tight = { λ _. generator_tight };
 
     ghost growing = { λ _. never_grows _ };

@@ -14,7 +14,7 @@ ghost use Rattle.selection_fns.specs.Laws.IndexOf.{index_of_tight};
 use crate::lookup::{all_of, first_places};
 use crate::whole_box::{is_small, items_of_whole};
 use arrays_core::{ApplyFault, Array, Item, ItemType, Kind, Shape, position, shape_of};
-use change_core::{Announced, Lawful};
+use change_core::Announced;
 use index_region::{IndexBox, Intervals, Primitive, Seen, limited};
 use std::alloc::{AllocError, Global};
 
@@ -176,9 +176,7 @@ impl Announced for IndexOf {
     }
 
     ghost counted = { λ _. Prim.search rules };
-}
 
-impl Lawful for IndexOf {
     ghost tight = { λ _. index_of_tight };
 
     ghost growing = { λ _. never_grows _ };

@@ -14,7 +14,7 @@ ghost use Rattle.selection_fns.specs.Laws.Index.{index_tight, length-selectors};
 
 use crate::index::Index;
 use arrays_core::{ApplyFault, Array};
-use change_core::{Announced, Lawful};
+use change_core::Announced;
 use index_region::{IndexBox, Intervals, Seen};
 use std::alloc::Global;
 
@@ -178,9 +178,7 @@ impl<'w> Announced for Index<'w> {
     }
 
     ghost counted = { λ r. length-selectors r.written.now };
-}
 
-impl<'w> Lawful for Index<'w> {
     ghost tight = { λ r. index_tight r.written.now };
 
     ghost growing = { λ r. index_growing r.written.now };

@@ -16,7 +16,7 @@ use crate::index_of::first_place;
 use crate::lookup::{all_of, members_of};
 use crate::whole_box::{is_small, items_of_whole};
 use arrays_core::{ApplyFault, Array, Item, ItemType, Kind, Shape, position, shape_of};
-use change_core::{Announced, Lawful};
+use change_core::Announced;
 use index_region::{IndexBox, Intervals, Primitive, Seen, limited};
 use scalar_fns::truth;
 use std::alloc::{AllocError, Global};
@@ -157,9 +157,7 @@ impl Announced for Member {
     }
 
     ghost counted = { λ _. Prim.search rules };
-}
 
-impl Lawful for Member {
     ghost tight = { λ _. member_tight };
 
     ghost growing = { λ _. never_grows _ };

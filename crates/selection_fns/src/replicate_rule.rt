@@ -13,7 +13,7 @@ ghost use Rattle.selection_fns.specs.Laws.Replicate.{replicate_tight};
 use crate::replicate::Replicate;
 use crate::whole_box::{is_small, items_of_whole};
 use arrays_core::{ApplyFault, Array, ItemType};
-use change_core::{Announced, Lawful};
+use change_core::Announced;
 use index_region::{Along, IndexBox, Intervals, Seen};
 use std::alloc::Global;
 
@@ -139,9 +139,7 @@ impl Announced for Replicate {
     }
 
     ghost counted = { λ _. Prim.search rules };
-}
 
-impl Lawful for Replicate {
     ghost tight = { λ r. replicate_tight r.along };
 
     ghost growing = { λ _. never_grows _ };

@@ -9,7 +9,7 @@ ghost use Rattle.selection_fns.specs.Shape.{shape_form, shape_item, shape_whole,
 ghost use Rattle.selection_fns.specs.Laws.Shape.{shape_tight};
 
 use arrays_core::{ApplyFault, Array, Item, ItemType, Kind, Shape, shape_of};
-use change_core::{Announced, Lawful};
+use change_core::Announced;
 use index_region::{IndexBox, Intervals, Primitive, Seen, apply, limited};
 use std::alloc::Global;
 
@@ -77,9 +77,7 @@ impl Announced for ShapeOf {
     }
 
     ghost counted = { λ _. Prim.search rules };
-}
 
-impl Lawful for ShapeOf {
     ghost tight = { λ _. shape_tight };
 
     ghost growing = { λ _. never_grows _ };

@@ -3,7 +3,7 @@ use Rattle.std.specs.Prelude.{◌≡◌, ◌≢◌, ℕ, ℤ, Bool, true, false,
 use Rattle.std.specs.Option.{option_map}
 use Rattle.apl_expr.specs.Trees.{Tree}
 use Rattle.formula_core.specs.Meaning.{eval}
-use Rattle.formula_core.specs.Outcomes.{Outcome}
+use Rattle.arrays_core.specs.Outcomes.{Outcome}
 use Rattle.sheet_recalc.specs.Names.{Names}
 use Rattle.sheet_recalc.specs.Meaning.{val}
 use Rattle.sheet_recalc.specs.Changes.{Change, Accepts}

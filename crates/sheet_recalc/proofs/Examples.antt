@@ -10,7 +10,7 @@ use Rattle.apl_expr.specs.Trees.{Tree, Const, Numbers, Text, Name, Dyad}
 use Rattle.function_names.specs.declared.scalar.Scalar2.{Scalar2}
 use Rattle.function_names.specs.declared.scalar.Scalar2.TheVariants.{Plus, Times, Divide}
 use Rattle.apl_expr.specs.declared.expr.Dyadic.TheVariants.{Scalar}
-use Rattle.formula_core.specs.Outcomes.{Outcome, fault}
+use Rattle.arrays_core.specs.Outcomes.{Outcome, fault}
 use Rattle.formula_core.specs.Meaning.{eval}
 use Rattle.sheet_recalc.specs.Names.{Names, Data, Formula, binding, put}
 use Rattle.sheet_recalc.specs.Meaning.{val}

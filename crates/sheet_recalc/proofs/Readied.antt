@@ -8,7 +8,7 @@ use Rattle.arrays_core.specs.Arrays.{IsArray}
 use Rattle.change_rules.specs.Currency.{applied}
 use Rattle.dep_order.specs.Reachability.{Reaches, IsAcyclic}
 use Rattle.dep_order.specs.Users.{Uses, IsClosed}
-use Rattle.formula_core.specs.Outcomes.{Outcome}
+use Rattle.arrays_core.specs.Outcomes.{Outcome}
 use Rattle.indexmap.specs.IndexSet.{IndexSet}
 use Rattle.index_region.specs.declared.delta.Delta.{Delta}
 use Rattle.sheet_recalc.specs.Names.{Names, Binding, rebound, referred, Refers, most_names}

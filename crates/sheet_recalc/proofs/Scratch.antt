@@ -6,7 +6,7 @@ use Rattle.std.proofs.lemmas.List.{get_or-take, get_or_default, length-take}
 use Rattle.dep_order.specs.Reachability.{Chain, IsAcyclic}
 use Rattle.apl_expr.specs.Trees.{Tree}
 use Rattle.arrays_core.specs.declared.item.Kind.TheVariants.{Value}
-use Rattle.formula_core.specs.Outcomes.{Outcome, fault}
+use Rattle.arrays_core.specs.Outcomes.{Outcome, fault}
 use Rattle.formula_core.specs.Meaning.{names_in}
 use Rattle.formula_core.proofs.Alike.{eval_alike}
 use Rattle.sheet_recalc.specs.Names.{Names, Binding, Data, Formula, binding, Refers}

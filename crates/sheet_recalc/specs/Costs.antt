@@ -12,7 +12,7 @@ use Rattle.index_region.specs.Patches.{PatchValue}
 use Rattle.change_core.specs.Meters.{ticked}
 use Rattle.formula_core.specs.Changes as formula
 use Rattle.formula_core.specs.Formulas.{operations}
-use Rattle.formula_core.specs.Outcomes.{Outcome}
+use Rattle.arrays_core.specs.Outcomes.{Outcome}
 use Rattle.apl_expr.specs.Trees.{Tree}
 use Rattle.formula_core.specs.Plans.{tree_cost, node_cost_at, AllComputed}
 use Rattle.formula_core.specs.Tables.{subtrees, tree_at}

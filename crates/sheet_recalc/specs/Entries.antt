@@ -8,7 +8,7 @@ use Rattle.arrays_core.specs.Arrays.{ArrayValue}
 use Rattle.arrays_core.specs.Growth.{grown_by}
 use Rattle.index_region.specs.Patches.{PatchValue, FitsPatch, patched}
 use Rattle.index_region.specs.Tails.{TailValue, FitsTail}
-use Rattle.formula_core.specs.Outcomes.{Outcome, fault}
+use Rattle.arrays_core.specs.Outcomes.{Outcome, fault}
 use Rattle.formula_core.specs.Formulas.{root_result}
 use Rattle.formula_core.specs.Holdings.{adopted}
 use Rattle.formula_core.specs.Plans.{PlanValue}

@@ -3,7 +3,7 @@ use Rattle.std.specs.Prelude.{◌≡◌, ◌≤◌, ℕ, List, [], ◌↔◌, Op
 use Rattle.std.specs.Str.{bytes_eq}
 use Rattle.std.specs.Map.{lookup}
 use Rattle.std.specs.Option.{unwrap_or}
-use Rattle.formula_core.specs.Outcomes.{Outcome}
+use Rattle.arrays_core.specs.Outcomes.{Outcome}
 use Rattle.formula_core.specs.Formulas.{IsHeld, root_result}
 use Rattle.formula_core.specs.Plans.{PlanValue, IsPlanOf}
 use Rattle.sheet_recalc.specs.Names.{Names, Refers, IsSheet}

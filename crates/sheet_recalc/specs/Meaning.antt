@@ -2,7 +2,7 @@
 use Rattle.std.specs.Prelude.{◌≡◌, ℕ, zero, suc, List, Option, Some, None, Ok, Err, is_some, length, if◌then◌else◌}
 use Rattle.arrays_core.specs.declared.fault.Fault.{Fault}
 use Rattle.arrays_core.specs.declared.item.Kind.TheVariants.{Value}
-use Rattle.formula_core.specs.Outcomes.{Outcome, fault}
+use Rattle.arrays_core.specs.Outcomes.{Outcome, fault}
 use Rattle.formula_core.specs.Meaning.{eval}
 use Rattle.sheet_recalc.specs.Names.{Names, Binding, Data, Formula, binding}
 

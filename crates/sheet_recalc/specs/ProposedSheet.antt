@@ -7,7 +7,7 @@ use Rattle.index_region.specs.declared.delta.Delta.TheVariants.{Whole}
 use Rattle.change_rules.specs.Currency.{applied}
 use Rattle.dep_order.specs.Follows.{Follows}
 use Rattle.dep_order.specs.Reachability.{Reaches}
-use Rattle.formula_core.specs.Outcomes.{Outcome}
+use Rattle.arrays_core.specs.Outcomes.{Outcome}
 use Rattle.formula_core.specs.Meaning.{names_in}
 use Rattle.sheet_recalc.specs.Names.{Names, Refers, rebound}
 use Rattle.sheet_recalc.specs.Entries.{names_of, binding_of}

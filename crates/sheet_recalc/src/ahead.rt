@@ -3,7 +3,7 @@
 ghost use Rattle.std.specs.Prelude.{◌≡◌, ◌∷◌, [], ℕ, IfOk, IfSome, MatchOption, get_or, Some, None, List};
 ghost use Rattle.std.specs.List.{Contains};
 ghost use Rattle.std.specs.Map.{keys_of};
-ghost use Rattle.formula_core.specs.Outcomes.{Outcome};
+ghost use Rattle.arrays_core.specs.Outcomes.{Outcome};
 ghost use Rattle.formula_core.specs.Meaning.{names_in};
 ghost use Rattle.formula_core.specs.Changes.{IsNameChanged};
 ghost use Rattle.formula_core.specs.Inputs.{IsInput};

@@ -22,7 +22,7 @@ use arrays_core::{
     ApplyFault, Array, ArrayBuilder, Item, ItemType, Kind, Shape, index_in_row, position, shape_of,
     with_axis, without_axis,
 };
-use change_core::{Announced, Lawful};
+use change_core::Announced;
 use index_region::{
     Along, IndexBox, Intervals, Primitive, RowPrimitive, Seen, Source, apply_rows, item_from,
     limited,
@@ -432,9 +432,7 @@ impl Announced for Catenate {
     }
 
     ghost counted = { λ _. Prim.search rules };
-}
 
-impl Lawful for Catenate {
     ghost tight = { λ r. catenate_tight r.along };
 
     ghost growing = { λ _. never_grows _ };

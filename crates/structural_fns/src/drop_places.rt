@@ -20,7 +20,7 @@ use crate::limits::MOST_AXES;
 use arrays_core::{
     ApplyFault, Array, ArrayBuilder, Item, ItemType, Kind, Shape, index_in_row, position, size,
 };
-use change_core::{Announced, Lawful};
+use change_core::Announced;
 use index_region::{
     IndexBox, Intervals, Primitive, RowPrimitive, Seen, Source, apply_rows, item_from, limited,
 };
@@ -247,9 +247,7 @@ impl Announced for DropPlaces {
     }
 
     ghost counted = { λ _. Prim.search rules };
-}
 
-impl Lawful for DropPlaces {
     ghost tight = { λ _. drop_tight };
 
     ghost growing = { λ _. never_grows _ };

@@ -21,7 +21,7 @@ use crate::limits::MOST_AXES;
 use arrays_core::{
     ApplyFault, Array, ArrayBuilder, Item, ItemType, Kind, Shape, index_in_row, position,
 };
-use change_core::{Announced, Lawful};
+use change_core::Announced;
 use index_region::{
     IndexBox, Intervals, Primitive, RowPrimitive, Seen, Source, apply_rows, item_from, limited,
 };
@@ -323,9 +323,7 @@ impl Announced for DyadicTranspose {
     }
 
     ghost counted = { λ _. Prim.search rules };
-}
 
-impl Lawful for DyadicTranspose {
     ghost tight = { λ _. transpose_by_tight };
 
     ghost growing = { λ _. never_grows _ };

@@ -11,7 +11,7 @@ ghost use Rattle.structural_fns.specs.Laws.Ravel.{ravel_tight};
 
 use crate::places::places_of;
 use arrays_core::{ApplyFault, Array, Item, ItemType, Kind, Shape, index_of_position, shape_of};
-use change_core::{Announced, Lawful};
+use change_core::Announced;
 use index_region::{IndexBox, Intervals, Primitive, Seen, Source, item_from, limited};
 use std::alloc::Global;
 
@@ -103,9 +103,7 @@ impl Announced for Ravel {
     }
 
     ghost counted = { λ _. Prim.search rules };
-}
 
-impl Lawful for Ravel {
     ghost tight = { λ _. ravel_tight };
 
     ghost growing = { λ _. never_grows _ };

@@ -17,7 +17,7 @@ use arrays_core::{
     ApplyFault, Array, ArrayBuilder, Item, ItemType, Kind, Shape, index_of_position, position,
     shape_of, size,
 };
-use change_core::{Announced, Lawful};
+use change_core::Announced;
 use index_region::{IndexBox, Intervals, Primitive, Seen, Source, item_from, limited};
 use std::alloc::{AllocError, Global};
 
@@ -184,9 +184,7 @@ impl Announced for Reshape {
     }
 
     ghost counted = { λ _. Prim.search rules };
-}
 
-impl Lawful for Reshape {
     ghost tight = { λ _. reshape_tight };
 
     ghost growing = { λ _. never_grows _ };

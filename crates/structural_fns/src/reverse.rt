@@ -17,7 +17,7 @@ ghost use Rattle.structural_fns.specs.Laws.Reverse.{reverse_tight};
 use arrays_core::{
     ApplyFault, Array, ArrayBuilder, Item, ItemType, Kind, Shape, index_in_row, position, shape_of,
 };
-use change_core::{Announced, Lawful};
+use change_core::Announced;
 use index_region::{
     Along, IndexBox, Intervals, Primitive, RowPrimitive, Seen, Source, apply_rows, item_from,
     limited,
@@ -182,9 +182,7 @@ impl Announced for Reverse {
     }
 
     ghost counted = { λ _. Prim.search rules };
-}
 
-impl Lawful for Reverse {
     ghost tight = { λ r. reverse_tight r.along };
 
     ghost growing = { λ _. never_grows _ };

@@ -20,7 +20,7 @@ use arrays_core::{
     ApplyFault, Array, ArrayBuilder, Item, ItemType, Kind, Shape, index_in_row, position, shape_of,
     without_axis,
 };
-use change_core::{Announced, Lawful};
+use change_core::Announced;
 use index_region::{
     Along, IndexBox, Intervals, Primitive, RowPrimitive, Seen, Source, apply_rows, item_from,
     limited,
@@ -309,9 +309,7 @@ impl Announced for Rotate {
     }
 
     ghost counted = { λ _. Prim.search rules };
-}
 
-impl Lawful for Rotate {
     ghost tight = { λ r. rotate_tight r.along };
 
     ghost growing = { λ _. never_grows _ };

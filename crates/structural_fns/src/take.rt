@@ -23,7 +23,7 @@ use arrays_core::{
     ApplyFault, Array, ArrayBuilder, Item, ItemType, Kind, Shape, index_in_row, is_index_of,
     position,
 };
-use change_core::{Announced, Lawful};
+use change_core::Announced;
 use index_region::{
     IndexBox, Intervals, Primitive, RowPrimitive, Seen, Source, apply_rows, item_from, limited,
 };
@@ -273,9 +273,7 @@ impl Announced for Take {
     }
 
     ghost counted = { λ _. Prim.search rules };
-}
 
-impl Lawful for Take {
     ghost tight = { λ _. take_tight };
 
     ghost growing = { λ _. never_grows _ };

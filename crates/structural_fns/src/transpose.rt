@@ -14,7 +14,7 @@ use crate::even_steps::extend_evenly;
 use arrays_core::{
     ApplyFault, Array, ArrayBuilder, Item, ItemType, Kind, Shape, index_in_row, position, size,
 };
-use change_core::{Announced, Lawful};
+use change_core::Announced;
 use index_region::{
     IndexBox, Intervals, Primitive, RowPrimitive, Seen, Source, apply_rows, item_from, limited,
 };
@@ -152,9 +152,7 @@ impl Announced for Transpose {
     }
 
     ghost counted = { λ _. Prim.search rules };
-}
 
-impl Lawful for Transpose {
     ghost tight = { λ _. transpose_tight };
 
     ghost growing = { λ _. never_grows _ };

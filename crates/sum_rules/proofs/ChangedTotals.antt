@@ -23,7 +23,8 @@ use Rattle.change_core.proofs.Filling.{few_places}
 use Rattle.index_region.specs.declared.delta.Delta.{Delta}
 use Rattle.index_region.specs.declared.delta.Delta.TheVariants.{Same, Patch, Grown, Whole}
 use Rattle.change_rules.specs.Nodes.{Argument, all_patched_at_most, all_same, is_patched_at_most, is_same, is_error, moved_by, node_cost, node_delta, node_grows, reached_cost, reached_delta, size_in}
-use Rattle.change_rules.specs.Outcomes.{Outcome, evaluation}
+use Rattle.arrays_core.specs.Outcomes.{Outcome}
+use Rattle.change_rules.specs.Evaluation.{evaluation}
 use Rattle.change_core.specs.RuleModels.{form_size}
 use Rattle.operator_fns.specs.Growth.{is_along_a_later_axis}
 use Rattle.change_rules.proofs.Nodes.{delta_reached}

@@ -19,7 +19,7 @@ ghost use Rattle.change_core.specs.Meters.{ticked, most_ticks};
 ghost use Rattle.change_core.specs.Parts.{HoldsItems, items_in};
 ghost use Rattle.change_core.specs.Reaches.{AllFit};
 ghost use Rattle.change_core.specs.RuleModels.{form_size};
-ghost use Rattle.change_rules.specs.Outcomes.{evaluation};
+ghost use Rattle.change_rules.specs.Evaluation.{evaluation};
 ghost use Rattle.change_rules.specs.Nodes.{views, moved, is_error, node_delta, node_cost, reached_delta, reached_cost, patch_delta};
 ghost use Rattle.change_rules.specs.Currency.{BringsUpToDate, HasAxis, IsRight};
 ghost use Rattle.sum_rules.specs.LineSums.{StandFor, array_of, length_along as long_along};
@@ -27,7 +27,9 @@ ghost use Rattle.sum_rules.specs.Totals.{total_rule, longer_totals, StoodFor, St
 
 use crate::line_sums::length_along;
 use crate::line_totals::{LineTotals, TreeALine};
-use arrays_core::{ApplyFault, Array, Fault, Item, ItemType, Kind, Shape, position, shape_of};
+use arrays_core::{
+    ApplyFault, Array, Fault, Item, ItemType, Kind, Shape, outcome, position, shape_of,
+};
 use change_core::{Meter, Reach, Rule};
 use change_rules::refresh_with_cost;
 use index_region::{Along, Delta, IndexBox, Patch, Seen, Tail};
@@ -133,7 +135,7 @@ fn change_by_trees<S: LineTotals>(
     let form = match fold.shape(&args) {
         Ok(form) => form,
         Err(kind) => {
-            *change = Delta::Whole(Err(Fault { kind, origin: None }));
+            *change = Delta::Whole(Err(kind.into()));
             return Ok(0);
         }
     };
@@ -174,17 +176,11 @@ fn patch_of<S: LineTotals>(
     ensures joins { AreJoinsWithin (box_size patch.now.region) (long_along fold.along array.now.shape) meter.old.joins meter.new.joins }
     ensures least { OnOk result (is_error change.new ≡ false → AreJoinsFrom (box_size patch.now.region) (long_along fold.along array.now.shape) meter.old.joins meter.new.joins) }
 {
-    match new_totals(alloc, fold, array.shape(), sums, patch, meter) {
-        Ok(values) => {
-            *change = Delta::Patch(Patch::of(region, values));
-            Ok(())
-        }
-        Err(ApplyFault::Kind(kind)) => {
-            *change = Delta::Whole(Err(Fault { kind, origin: None }));
-            Ok(())
-        }
-        Err(ApplyFault::NoMemory) => Err(AllocError),
+    match outcome(new_totals(alloc, fold, array.shape(), sums, patch, meter))? {
+        Ok(values) => *change = Delta::Patch(Patch::of(region, values)),
+        Err(fault) => *change = Delta::Whole(Err(fault)),
     }
+    Ok(())
 }
 
 /// The totals of lines that get one of these numbers each behind their last one, as an array of this shape, or the first error among
@@ -245,7 +241,7 @@ fn change_by_growth<S: LineTotals>(
     let form = match fold.shape(&[array.again()]) {
         Ok(form) => form,
         Err(kind) => {
-            *change = Delta::Whole(Err(Fault { kind, origin: None }));
+            *change = Delta::Whole(Err(kind.into()));
             return Ok(0);
         }
     };
@@ -253,17 +249,8 @@ fn change_by_growth<S: LineTotals>(
         unreachable!()
     };
     let cost = numbers.len() as u32;
-    match totals_behind(alloc, &form.0, sums, numbers, meter) {
-        Ok(totals) => {
-            *change = Delta::Whole(Ok(totals));
-            Ok(cost)
-        }
-        Err(ApplyFault::Kind(kind)) => {
-            *change = Delta::Whole(Err(Fault { kind, origin: None }));
-            Ok(cost)
-        }
-        Err(ApplyFault::NoMemory) => Err(AllocError),
-    }
+    *change = Delta::Whole(outcome(totals_behind(alloc, &form.0, sums, numbers, meter))?);
+    Ok(cost)
 }
 
 /// The change of the totals of B by a fold, put in place of another one as `refresh_with_cost` does it, and what it costs: how many totals it works

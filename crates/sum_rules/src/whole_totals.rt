@@ -9,13 +9,13 @@ ghost use Rattle.index_region.specs.declared.delta.Delta.TheVariants.{Whole};
 ghost use Rattle.operator_fns.specs.SumTrees.{line_count};
 ghost use Rattle.change_core.specs.Meters.{ticked};
 ghost use Rattle.change_core.specs.RuleModels.{form_size};
-ghost use Rattle.change_rules.specs.Outcomes.{evaluation};
+ghost use Rattle.change_rules.specs.Evaluation.{evaluation};
 ghost use Rattle.change_rules.specs.Nodes.{is_error};
 ghost use Rattle.sum_rules.specs.LineSums.{summed, length_along as long_along};
 ghost use Rattle.sum_rules.specs.Totals.{total_rule, all_totals, AreFoldsWithin, AreFolds};
 
 use crate::line_sums::{LineSums, length_along};
-use arrays_core::{ApplyFault, Array, Fault, Item, ItemType, Shape, size};
+use arrays_core::{ApplyFault, Array, Fault, Item, ItemType, Shape, outcome, size};
 use change_core::{Meter, Rule};
 use fold_trees::FoldTrees;
 use index_region::{Delta, Seen};
@@ -71,23 +71,14 @@ fn totals_read(
     let form = match fold.shape(&[array.again()]) {
         Ok(form) => form,
         Err(kind) => {
-            *change = Delta::Whole(Err(Fault { kind, origin: None }));
+            *change = Delta::Whole(Err(kind.into()));
             return Ok(0);
         }
     };
     let trees = sums.trees();
     let cost = size(form.0.as_slice());
-    match totals_of_all(alloc, &form.0, trees, meter) {
-        Ok(totals) => {
-            *change = Delta::Whole(Ok(totals));
-            Ok(cost)
-        }
-        Err(ApplyFault::Kind(kind)) => {
-            *change = Delta::Whole(Err(Fault { kind, origin: None }));
-            Ok(cost)
-        }
-        Err(ApplyFault::NoMemory) => Err(AllocError),
-    }
+    *change = Delta::Whole(outcome(totals_of_all(alloc, &form.0, trees, meter))?);
+    Ok(cost)
 }
 
 /// The totals of an array as a whole, as their evaluation answers them, put in place of another change, and what they cost: how many totals there are.

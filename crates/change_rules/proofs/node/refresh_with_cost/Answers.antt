@@ -16,4 +16,4 @@ returns-clause-whole g c =
     let model = g.R.Rule.model rule in
     let args = c.args.args.now in
     answered (BringsUpToDate model args c.args.old.now) c.change_of.result _ _ c.change_of.ensures.delta
-    (brings_up_to_date model (covers model (g.met.R.Tight.tight rule)) (g.met.R.Tight.growing rule) args c.args.old.now c.requires.count (reaches_inside model (views args) (moved args)) c.requires.fit c.requires.axes c.views_are_arrays.ensures)
+    (brings_up_to_date model (covers model (g.met.R.Rule.tight rule)) (g.met.R.Rule.growing rule) args c.args.old.now c.requires.count (reaches_inside model (views args) (moved args)) c.requires.fit c.requires.axes c.views_are_arrays.ensures)

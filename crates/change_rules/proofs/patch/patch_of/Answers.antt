@@ -1,7 +1,7 @@
 use Rattle.std.proofs.Common.{arith}
 use Rattle.change_core.proofs.Filling.{few_places}
 use Rattle.index_region.specs.Checks.{form_of}
-use Rattle.change_rules.proofs.Items.{as_many}
+use Rattle.change_rules.proofs.Items.{as_many, given_items}
 use Rattle.change_rules.proofs.patch.patch_of.Goals as goal
 
 pub size-requires : goal.size-requires
@@ -11,4 +11,6 @@ pub returns-then-size-gt1-clause-delta : goal.returns-then-size-gt1-clause-delta
 returns-then-size-gt1-clause-delta g c = c.patch_of_one.ensures.delta (form_of c.args.form.now.0.items c.args.form.now.1) c.requires.checked.0
 
 pub of-requires : goal.of-requires
-of-requires g c = as_many ((g.R.Rule.model c.args.rule.now).item c.args.args.now) c.args.region c.in-Ok.values.items c.in-Ok.ensures.items.0
+of-requires g c =
+    let item = (g.R.Rule.model c.args.rule.now).item c.args.args.now in
+    as_many item c.args.region c.in-Ok.values.items (given_items _ _ c.items_of.result c.in_ok-values.field-0 c.in-Ok.values c.items_of.ensures.items c.in_ok-values.ensures c.in-Ok.is)

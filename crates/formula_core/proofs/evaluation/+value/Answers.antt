@@ -11,7 +11,7 @@ use Rattle.selection_fns.specs.Index.{Position}
 use Rattle.arrays_core.specs.declared.fault.Fault.{Fault}
 use Rattle.formula_core.specs.Counts.{cost_in, cost_in_positions, ArePositionsCounted, IsTreeCounted}
 use Rattle.formula_core.specs.Operands.{outcome_of, position_in, positions_in}
-use Rattle.formula_core.specs.Outcomes.{Outcome}
+use Rattle.arrays_core.specs.Outcomes.{Outcome}
 use Rattle.formula_core.specs.Meaning.{eval, eval_positions, applied1, applied2, indexed}
 use Rattle.formula_core.proofs.Counted.{literal_counted, monad_counted, dyad_counted, index_counted, index_cost, cost_from, cost_written, cost_empty, cost_left, failed_at}
 use Rattle.formula_core.proofs.Indexing.{there}

@@ -5,7 +5,8 @@ use Rattle.arrays_core.specs.Arrays.{IsArray}
 use Rattle.index_region.specs.declared.delta.Delta.{Delta}
 use Rattle.formula_core.specs.declared.input.Input.{Input}
 use Rattle.formula_core.specs.Changes.{FitsIn, at_rest}
-use Rattle.formula_core.specs.Outcomes.{Outcome, read}
+use Rattle.arrays_core.specs.Outcomes.{Outcome}
+use Rattle.formula_core.specs.Outcomes.{read}
 use Rattle.formula_core.specs.Plans.{AreInputs, IsNameSound}
 use Rattle.formula_core.proofs.AtRest.{inputs_more, all_more, rest_input}
 use Rattle.formula_core.proofs.evaluation.inputs_at_rest.Goals as goal

@@ -6,7 +6,7 @@ use Rattle.sum_rules.specs.Totals.{AreFolds, AreFoldsWithin, HasAllJoins, HasJoi
 use Rattle.formula_core.specs.declared.input.Input.{Input}
 use Rattle.formula_core.specs.Changes.{FitsNow, operation_cost}
 use Rattle.formula_core.specs.Inputs.{shown, delta_of, HasFit}
-use Rattle.formula_core.specs.Outcomes.{Outcome}
+use Rattle.arrays_core.specs.Outcomes.{Outcome}
 use Rattle.formula_core.specs.Rules.{with_change}
 use Rattle.formula_core.specs.Stages.{AreTotalsJoined}
 use Rattle.formula_core.proofs.Gathered.{in_place}

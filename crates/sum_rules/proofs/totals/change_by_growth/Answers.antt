@@ -8,7 +8,7 @@ use Rattle.index_region.specs.declared.delta.Delta.TheVariants.{Whole}
 use Rattle.index_region.specs.Checks.{form_of}
 use Rattle.operator_fns.specs.Reduce.{reduce_form, reduce_whole}
 use Rattle.change_core.specs.RuleModels.{form_size}
-use Rattle.change_rules.specs.Outcomes.{given}
+use Rattle.arrays_core.specs.Outcomes.{given}
 use Rattle.sum_rules.specs.Totals.{longer_totals}
 use Rattle.sum_rules.proofs.LongerTotals.{as_many_numbers, joins_within, lines_are, places_are, whole_is}
 use Rattle.sum_rules.proofs.totals.change_by_growth.Goals as goal

@@ -6,7 +6,7 @@ use Rattle.function_names.specs.declared.scalar.Scalar2.{Scalar2}
 use Rattle.index_region.specs.declared.delta.Delta.TheVariants.{Whole}
 use Rattle.index_region.specs.Checks.{form_of}
 use Rattle.operator_fns.specs.Reduce.{reduce_form, reduce_whole}
-use Rattle.change_rules.specs.Outcomes.{given}
+use Rattle.arrays_core.specs.Outcomes.{given}
 use Rattle.sum_rules.specs.Totals.{all_totals}
 use Rattle.sum_rules.proofs.WholeTotals.{function_is, places_are, some_lines, whole_is}
 use Rattle.sum_rules.proofs.whole_totals.totals_read.Goals as goal

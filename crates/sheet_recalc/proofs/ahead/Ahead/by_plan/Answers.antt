@@ -2,7 +2,8 @@ use Rattle.std.proofs.Common.{◌∙◌, sym, ap, subst, IfOk}
 use Rattle.index_region.specs.declared.delta.Delta.{Delta}
 use Rattle.change_rules.specs.Currency.{applied}
 use Rattle.arrays_core.specs.Arrays.{IsArray}
-use Rattle.formula_core.specs.Outcomes.{Outcome, read}
+use Rattle.arrays_core.specs.Outcomes.{Outcome}
+use Rattle.formula_core.specs.Outcomes.{read}
 use Rattle.formula_core.specs.Formulas.{root_result}
 use Rattle.formula_core.specs.Plans.{root_change}
 use Rattle.formula_core.specs.Changes.{FitsIn}

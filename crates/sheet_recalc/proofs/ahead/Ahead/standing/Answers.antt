@@ -2,7 +2,8 @@ use Rattle.std.proofs.Common.{◌∙◌, sym, subst, IfOk}
 use Rattle.std.proofs.lemmas.Bool.{false≢true}
 use Rattle.arrays_core.specs.Arrays.{IsArray}
 use Rattle.formula_core.specs.Changes.{FitsIn}
-use Rattle.formula_core.specs.Outcomes.{Outcome, read}
+use Rattle.arrays_core.specs.Outcomes.{Outcome}
+use Rattle.formula_core.specs.Outcomes.{read}
 use Rattle.index_region.specs.declared.delta.Delta.{Delta}
 use Rattle.sheet_recalc.specs.Entries.{names_of}
 use Rattle.sheet_recalc.specs.Meaning.{val}
