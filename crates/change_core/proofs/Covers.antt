@@ -11,7 +11,7 @@ use Rattle.change_core.specs.declared.reach.Reach.TheVariants.{Anew}
 use Rattle.change_core.proofs.Regions.{HasFit, bounded-fits, bounded-within, join_fits, join_unmoved}
 use Rattle.index_region.specs.Answers.{IsPlaceOf}
 use Rattle.change_core.specs.Laws.{Agrees, AllAgree, AllCovered, ArgumentChange, Covered, Each, IsTight, ReachCovers, ReachLies, blank, frames, gathered, moves, news, olds}
-use Rattle.change_core.specs.Reaches.{Fits, LiesIn, as_reach, bounded, changed, changed_by, is_anew, is_moved, is_reached, reach_by}
+use Rattle.change_core.specs.Reaches.{Fits, LiesInResult, as_reach, bounded, changed, changed_by, is_anew, is_moved, is_reached, reach_by}
 use Rattle.change_core.specs.RuleModels.{RuleModel, Use}
 use Rattle.index_region.specs.Boxes.{Interval, fits, is_within}
 use Rattle.index_region.specs.Checks.{Form}
@@ -25,23 +25,23 @@ changed-fits shape (u ∷ uses) (m ∷ ms) = join_fits shape _ _ (changed_by-fit
 changed-fits shape [] ms = tt
 changed-fits shape (u ∷ uses) [] = tt
 
-as_reach-lies : (f : Form) (o : Option (List Interval)) → HasFit f.shape o → LiesIn (Ok f) (as_reach o)
+as_reach-lies : (f : Form) (o : Option (List Interval)) → HasFit f.shape o → LiesInResult (Ok f) (as_reach o)
 as_reach-lies f None h = tt
 as_reach-lies f (Some region) h = h
 
-reach_by-lies : (form : Result Form Kind) (uses : List ℕ → List ArrayValue → List Use) (args : List ArrayValue) (ms : List (Option (List Interval))) → LiesIn form (reach_by form uses args ms)
+reach_by-lies : (form : Result Form Kind) (uses : List ℕ → List ArrayValue → List Use) (args : List ArrayValue) (ms : List (Option (List Interval))) → LiesInResult form (reach_by form uses args ms)
 reach_by-lies (Err k) uses args ms = tt
 reach_by-lies (Ok f) uses args ms = as_reach-lies f _ (changed-fits f.shape (uses f.shape args) ms)
 
-anew_lies : (form : Result Form Kind) → LiesIn form Anew
+anew_lies : (form : Result Form Kind) → LiesInResult form Anew
 anew_lies (Err k) = tt
 anew_lies (Ok f) = tt
 
 -- the box of what may change lies in the result
 pub reaches_inside : (p : RuleModel) → ReachLies p
 reaches_inside p args ms = elim (cases_Bool (is_anew p.selectors ms)) [
-  | inl t ↦ subst (LiesIn (p.form args)) (sym (cond-true _ _ _ t)) (anew_lies (p.form args))
-  | inr f ↦ subst (LiesIn (p.form args)) (sym (cond-false _ _ _ f)) (reach_by-lies (p.form args) p.uses args ms)
+  | inl t ↦ subst (LiesInResult (p.form args)) (sym (cond-true _ _ _ t)) (anew_lies (p.form args))
+  | inr f ↦ subst (LiesInResult (p.form args)) (sym (cond-false _ _ _ f)) (reach_by-lies (p.form args) p.uses args ms)
 ]
 
 -- an argument is read alike at each index list outside what changed, also where it has no place

@@ -10,7 +10,7 @@ use Rattle.index_region.specs.Checks.{Form}
 use Rattle.change_core.specs.declared.reach.Reach.{Reach}
 use Rattle.change_core.specs.declared.reach.Reach.TheVariants.{Anew}
 use Rattle.change_core.specs.RuleModels.{Use, RuleModel}
-use Rattle.change_core.specs.Reaches.{Fits, is_moved, is_reached, reach_of, LiesIn}
+use Rattle.change_core.specs.Reaches.{Fits, is_moved, is_reached, reach_of, LiesInResult}
 
 -- an array of which no item is known but how many there are
 abbrev pub blank : ArrayValue → ArrayValue
@@ -97,4 +97,4 @@ ReachCovers p = (changes : List ArgumentChange) → length changes ≡ length p.
 
 -- a box of what may change lies in the result
 abbrev pub ReachLies : RuleModel → Type 0
-ReachLies p = (args : List ArrayValue) (moves : List (Option (List Interval))) → LiesIn (p.form args) (reach_of p args moves)
+ReachLies p = (args : List ArrayValue) (moves : List (Option (List Interval))) → LiesInResult (p.form args) (reach_of p args moves)

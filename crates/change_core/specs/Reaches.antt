@@ -64,6 +64,6 @@ is_reached (Inside region) index = is_within region index
 is_reached Anew index = true
 
 -- a box of what may change lies in the result
-abbrev pub LiesIn : Result Form Kind → Reach → Type 0
-LiesIn (Ok f) (Inside region) = IsTrue (fits region f.shape)
-LiesIn _ _ = Unit {0}
+abbrev pub LiesInResult : Result Form Kind → Reach → Type 0
+LiesInResult (Ok f) (Inside region) = IsTrue (fits region f.shape)
+LiesInResult _ _ = Unit {0}

@@ -18,7 +18,7 @@ use Rattle.index_region.proofs.Patched.{box_within_size}
 use Rattle.change_core.specs.declared.reach.Reach.{Reach}
 use Rattle.change_core.specs.declared.reach.Reach.TheVariants.{Inside}
 use Rattle.change_core.specs.Parts.{HoldsItems, items_in}
-use Rattle.change_core.specs.Reaches.{LiesIn}
+use Rattle.change_core.specs.Reaches.{LiesInResult}
 use Rattle.change_core.proofs.Collected.{items_are}
 use Rattle.change_core.proofs.Filling.{few_places}
 use Rattle.index_region.proofs.Walks.{some_place}
@@ -87,9 +87,9 @@ one_item item region r one is =
     ∙ ap (λ (x : Result Item Kind). all_or_first_error (x ∷ [])) (sym is)
 
 -- what may change lies in the result
-pub inside_fit : (form : Result Form Kind) (shape : List ℕ) (t : ItemType) (reach : Reach) (region : List Interval) → form ≡ Ok (form_of shape t) → Inside region ≡ reach → LiesIn form reach → IsTrue (fits region shape)
-inside_fit form shape t reach region e w lies = subst (λ (r : Reach). LiesIn (Ok (form_of shape t)) r) (sym w) (subst (λ (x : Result Form Kind). LiesIn x reach) e lies)
+pub inside_fit : (form : Result Form Kind) (shape : List ℕ) (t : ItemType) (reach : Reach) (region : List Interval) → form ≡ Ok (form_of shape t) → Inside region ≡ reach → LiesInResult form reach → IsTrue (fits region shape)
+inside_fit form shape t reach region e w lies = subst (λ (r : Reach). LiesInResult (Ok (form_of shape t)) r) (sym w) (subst (λ (x : Result Form Kind). LiesInResult x reach) e lies)
 
 -- so it has no more places than an array can have
-pub few_inside : (form : Result Form Kind) (shape : List ℕ) (t : ItemType) (reach : Reach) (region : List Interval) → form ≡ Ok (form_of shape t) → Inside region ≡ reach → LiesIn form reach → IsWithinLimits shape → box_size region ≤ 1048576
+pub few_inside : (form : Result Form Kind) (shape : List ℕ) (t : ItemType) (reach : Reach) (region : List Interval) → form ≡ Ok (form_of shape t) → Inside region ≡ reach → LiesInResult form reach → IsWithinLimits shape → box_size region ≤ 1048576
 few_inside form shape t reach region e w lies limits = few_places region shape (inside_fit form shape t reach region e w lies) limits

@@ -8,7 +8,7 @@ use Rattle.index_region.specs.Boxes.{Interval}
 use Rattle.index_region.specs.declared.delta.Delta.{Delta}
 use Rattle.change_core.specs.Growth.{AllGrew, IsGrowing}
 use Rattle.change_core.specs.Laws.{Each, ReachCovers}
-use Rattle.change_core.specs.Reaches.{AllFit, LiesIn, reach_of}
+use Rattle.change_core.specs.Reaches.{AllFit, LiesInResult, reach_of}
 use Rattle.change_core.specs.RuleModels.{RuleModel}
 use Rattle.change_rules.specs.Currency.{BringsUpToDate, HasAxis, IsEvaluation, applied}
 use Rattle.change_rules.specs.Nodes.{Argument, all_same, any_grown, delta_in, grown_delta, is_grown, is_grown_at_most, node_grows, is_whole, marks, moved, node_delta, starts_anew, views}
@@ -46,7 +46,7 @@ grown_case p law os args old all axes sound evaluated ok = elim (cases_Bool (nod
 ]
 
 -- the change of a node makes of the old whole evaluation the new one
-pub brings_up_to_date : (p : RuleModel) → ReachCovers p → IsGrowing p p.grows → (args : List Argument) (old : Outcome) → length args ≡ length p.selectors → LiesIn (p.form (views args)) (reach_of p (views args) (moved args)) → AllFit (views args) (moved args)
+pub brings_up_to_date : (p : RuleModel) → ReachCovers p → IsGrowing p p.grows → (args : List Argument) (old : Outcome) → length args ≡ length p.selectors → LiesInResult (p.form (views args)) (reach_of p (views args) (moved args)) → AllFit (views args) (moved args)
     → HasAxis args → Each IsArray (views args) → BringsUpToDate p args old (node_delta p args old)
 brings_up_to_date p law growing args old count lies fit axes sound os shows evaluated =
     let boxes = moved_deltas args in
@@ -65,7 +65,7 @@ brings_up_to_date p law growing args old count lies fit axes sound os shows eval
                   let before = arguments_before os (deltas args) (views args) all (whole_deltas args ∙ parts.0) (grown_deltas args ∙ none) (subst (AllFit (views args)) boxes fit) sound in
                   ap then (cond-false _ _ _ f ∙ cond-false _ _ _ g ∙ cond-false _ _ _ none)
                   ∙ ap (λ (m : List (Option (List Interval))). applied (delta_in (p.form (views args)) (p.item (views args)) (reach_of p (views args) m)) old) boxes
-                  ∙ kept_right p law os (deltas args) (views args) old many (subst (λ (m : List (Option (List Interval))). LiesIn (p.form (views args)) (reach_of p (views args) m)) boxes lies) before evaluated (not-false (is_ok old) parts.1)
+                  ∙ kept_right p law os (deltas args) (views args) old many (subst (λ (m : List (Option (List Interval))). LiesInResult (p.form (views args)) (reach_of p (views args) m)) boxes lies) before evaluated (not-false (is_ok old) parts.1)
             ]
       ]
     ]

@@ -18,7 +18,7 @@ use Rattle.change_core.proofs.Collected.{along, collected}
 use Rattle.change_core.proofs.UsedWays.{within-whole}
 use Rattle.index_region.specs.Answers.{IsPlaceOf}
 use Rattle.change_core.specs.Laws.{Each, ReachCovers, AllAgree, ArgumentChange, Covers, moves, news, olds}
-use Rattle.change_core.specs.Reaches.{AllFit, LiesIn, reach_of, is_moved, is_reached}
+use Rattle.change_core.specs.Reaches.{AllFit, LiesInResult, reach_of, is_moved, is_reached}
 use Rattle.change_rules.proofs.PatchRight.{error_right, patch_right}
 use Rattle.change_rules.proofs.Walked.{array_of, walked, walked_is, walked_delta, walked_delta_is}
 use Rattle.change_rules.specs.Currency.{IsEvaluation, Shows, applied}
@@ -147,7 +147,7 @@ same_whole f old new h = ap (λ (rs : List (Result Item Kind)). array_of f (coll
     same_along axes old new h = same_map (λ p. old (walk_at (whole_of axes) p)) (λ p. new (walk_at (whole_of axes) p)) (box_size (whole_of axes)) 0 (λ p l. h (walk_at (whole_of axes) p) (sym (within-whole axes (walk_at (whole_of axes) p)) ∙ walk_within (whole_of axes) p (omega arith)))
 
 -- with one form before and after, and one item outside the announced box
-pub reached_right : (form : Result Form Kind) (old new : List ℕ → Result Item Kind) (reach : Reach) (a : ArrayValue) → LiesIn form reach → ((f : Form) → form ≡ Ok f → reach ≢ Anew → (index : List ℕ) → IsTrue (is_index_of f.shape index) → is_reached reach index ≡ false → old index ≡ new index) → ((f : Form) → form ≡ Ok f → reach ≢ Anew → Ok a ≡ walked (Ok f) old) → applied (walked_delta form new reach) (Ok a) ≡ walked form new
+pub reached_right : (form : Result Form Kind) (old new : List ℕ → Result Item Kind) (reach : Reach) (a : ArrayValue) → LiesInResult form reach → ((f : Form) → form ≡ Ok f → reach ≢ Anew → (index : List ℕ) → IsTrue (is_index_of f.shape index) → is_reached reach index ≡ false → old index ≡ new index) → ((f : Form) → form ≡ Ok f → reach ≢ Anew → Ok a ≡ walked (Ok f) old) → applied (walked_delta form new reach) (Ok a) ≡ walked form new
 reached_right (Err k) old new reach a lies outside e = refl
 reached_right (Ok f) old new Anew a lies outside e = refl
 reached_right (Ok f) old new Unmoved a lies outside e = e f refl (λ h. cc) ∙ same_whole f old new (λ index p. outside f refl (λ h. cc) index p refl)
@@ -166,7 +166,7 @@ ok_form : (form : Result Form Kind) (f : Form) → form ≡ Ok f → IsOk form
 ok_form (Ok g) f e = refl
 ok_form (Err k) f e = absurd cc
 
-pub kept_right : (p : RuleModel) → ReachCovers p → (os : List Outcome) (ds : List Delta) (ns : List ArrayValue) (old : Outcome) → length ns ≡ length p.selectors → LiesIn (p.form ns) (reach_of p ns (map moved_by ds))
+pub kept_right : (p : RuleModel) → ReachCovers p → (os : List Outcome) (ds : List Delta) (ns : List ArrayValue) (old : Outcome) → length ns ≡ length p.selectors → LiesInResult (p.form ns) (reach_of p ns (map moved_by ds))
     → Before os ds ns → IsEvaluation p os old → is_ok old ≡ true → applied (delta_in (p.form ns) (p.item ns) (reach_of p ns (map moved_by ds))) old ≡ evaluation p ns
 kept_right p law os ds ns (Err x) count lies before evaluated ok = absurd (false≢true ok)
 kept_right p law os ds ns (Ok a) count lies before evaluated ok =

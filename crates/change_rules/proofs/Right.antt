@@ -15,7 +15,7 @@ use Rattle.index_region.proofs.Patched.{fits_within}
 use Rattle.change_core.specs.declared.reach.Reach.{Reach}
 use Rattle.change_core.specs.declared.reach.Reach.TheVariants.{Unmoved, Inside, Anew}
 use Rattle.change_core.specs.Parts.{items_in}
-use Rattle.change_core.specs.Reaches.{LiesIn, reach_of}
+use Rattle.change_core.specs.Reaches.{LiesInResult, reach_of}
 use Rattle.change_core.specs.Growth.{last_interval, last_place}
 use Rattle.change_core.specs.RuleModels.{RuleModel}
 use Rattle.change_core.proofs.Regions.{HasFit, bounded-fits}
@@ -49,7 +49,7 @@ patch_is_right p args f region (Err k) e fit is =
       is = refl;
     })
 
-reached_is_right : (p : RuleModel) (args : List ArrayValue) (form : Result Form Kind) (reach : Reach) → p.form args ≡ form → LiesIn form reach → IsRight p args (delta_in form (p.item args) reach)
+reached_is_right : (p : RuleModel) (args : List ArrayValue) (form : Result Form Kind) (reach : Reach) → p.form args ≡ form → LiesInResult form reach → IsRight p args (delta_in form (p.item args) reach)
 reached_is_right p args (Err k) reach e lies = inl (ap (λ (x : Result Form Kind). given (whole x (p.item args))) (sym e))
 reached_is_right p args (Ok f) Unmoved e lies = tt
 reached_is_right p args (Ok f) Anew e lies = inl (ap (λ (x : Result Form Kind). given (whole x (p.item args))) (sym e))

@@ -17,7 +17,7 @@ abbrev pub IsName : Text → Type 0
 IsName text = (spells_name (chars text) ≡ true) × (length text ≤ longest_name)
 
 -- the table that the values of `table` ask for, by its name, its file, and whether its first record is a header
-pub record IsTable (values : List Row) (t : Text × Text × Bool) : Type 0 where
+pub record AsksForTable (values : List Row) (t : Text × Text × Bool) : Type 0 where
   pub name : first_of (codes "NAME") values ≡ Some t.0
   pub is_name : IsName t.0
   pub file : first_of (codes "FILE") values ≡ Some t.1
@@ -25,7 +25,7 @@ pub record IsTable (values : List Row) (t : Text × Text × Bool) : Type 0 where
 
 abbrev pub HasTable : List Row → Option (Text × String Global × Bool) → Type 0
 HasTable values None = ⊥
-HasTable values (Some t) = IsTable values (t.0, string_bytes t.1, t.2)
+HasTable values (Some t) = AsksForTable values (t.0, string_bytes t.1, t.2)
 
 abbrev pub is_table : Text → Bool
 is_table command = bytes_eq command (codes "table")

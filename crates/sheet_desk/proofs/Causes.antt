@@ -9,13 +9,13 @@ use Rattle.sheet_recalc.specs.Names.{Names, Binding, Formula, binding, put, Refe
 use Rattle.sheet_recalc.specs.Meaning.{val}
 use Rattle.sheet_recalc.specs.Cells.{cell_put}
 use Rattle.sheet_recalc.specs.Rows.{row_put}
-use Rattle.sheet_recalc.specs.Changes.{Change, Define, Store, Put, SetCell, AddRow, Erase, Accepts, Refuses, CannotPut, HasRoom, IsFullFor, IsCycleFrom}
+use Rattle.sheet_recalc.specs.Changes.{Change, Define, Store, Put, SetCell, AddRow, Erase, Accepts, Refuses, CannotPut, HasRoomForName, IsFullFor, IsCycleFrom}
 use Rattle.sheet_recalc.specs.declared.refusal.Refusal.{Refusal}
 use Rattle.sheet_recalc.specs.declared.refusal.Refusal.TheVariants as why
 use Rattle.sheet_desk.specs.Desk.{Refused}
 use Rattle.sheet_desk.specs.Laws.{names_cycle, IsSameAnswer}
 
-full_with_room : (names : Names) (name : List ℕ) → HasRoom names name → IsFullFor names name → ⊥
+full_with_room : (names : Names) (name : List ℕ) → HasRoomForName names name → IsFullFor names name → ⊥
 full_with_room names name room full =
     ⊎_elim (λ present. false≢true (sym (ap is_some full.0) ∙ present)) (λ (few : length names < most_names). omega (arith, few, full.1)) room
 

@@ -6,7 +6,7 @@ use Rattle.sheet_recalc.specs.Names.{Names}
 use Rattle.sheet_recalc.specs.Meaning.{val}
 use Rattle.sheet_recalc.specs.Changes.{Change, Accepts}
 use Rattle.sheet_desk.specs.Slots.{with_slot}
-use Rattle.sheet_desk.specs.Desk.{DeskValue, SlotValue, Event, Open, Step, Commit, Drop, Plain, Show, Answer, Done, Left, Shown, Refused, stale, holding, IsEvent, IsMade, IsStepped}
+use Rattle.sheet_desk.specs.Desk.{DeskValue, SlotValue, Event, Open, Step, Commit, Drop, Plain, Show, Answer, Done, Left, Shown, Refused, stale, with_held, IsEvent, IsMade, IsStepped}
 use Rattle.sheet_desk.specs.Laws.{open_changes, the_change, made_by, opened_after, committed, AreAccepted, NamesAreOfChangesCommitted, ShowsAreOfChangesCommitted}
 use Rattle.sheet_desk.proofs.Slotted.{slot_in-map, with_slot-map}
 use Rattle.sheet_desk.proofs.Placed.{with_slot_same}
@@ -76,7 +76,7 @@ follows d next (Step k) (Refused cause) h = let b = as_before d next h.1 in reco
 follows d next (Commit k) Done h =
     let held = slot_in-map (λ (s : SlotValue). s.change) d.slots k ∙ ap (option_map (option_map (λ (s : SlotValue). s.change))) h.held in
     record {
-      names = subst (λ (changes : List Change). AreAccepted d.names changes next.names) (sym (ap the_change held)) (made d (holding d k None) next h.slot.change
+      names = subst (λ (changes : List Change). AreAccepted d.names changes next.names) (sym (ap the_change held)) (made d (with_held d k None) next h.slot.change
           h.made refl);
       opened = ap open_changes h.made.slots ∙ stale_changes (with_slot d.slots k None) ∙ put_changes d.slots k None;
     }

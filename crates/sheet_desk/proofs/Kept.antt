@@ -3,7 +3,7 @@ use Rattle.std.proofs.Common.{◌≡◌, ◌≢◌, ℕ, zero, suc, ℤ, Bool, t
 use Rattle.std.specs.Option.{option_map}
 use Rattle.sheet_recalc.specs.Changes.{Change}
 use Rattle.sheet_desk.specs.Slots.{slot_in}
-use Rattle.sheet_desk.specs.Desk.{DeskValue, SlotValue, Event, Open, Step, Commit, Drop, Plain, Show, Answer, Done, Left, Shown, Refused, stale, held_in, holding, IsEvent, IsStepped, AreEvents}
+use Rattle.sheet_desk.specs.Desk.{DeskValue, SlotValue, Event, Open, Step, Commit, Drop, Plain, Show, Answer, Done, Left, Shown, Refused, stale, held_in, with_held, IsEvent, IsStepped, AreEvents}
 use Rattle.sheet_desk.specs.Laws.{makes_change, make_change, Keeps, AllKeep, HoldsStale, StaleWhereChanged}
 use Rattle.sheet_desk.proofs.Slotted.{slot_in-map, with_slot-map}
 use Rattle.sheet_desk.proofs.Placed.{slot_in-same, slot_in-other, with_slot_same}
@@ -35,7 +35,7 @@ module _ (k : ℤ) (change : Change) where
     sym (or_true b),
   )
 
-  same_other : (d : DeskValue) (j : ℤ) (held : Option SlotValue) → j ≢ k → held_in (holding d j held) k ≡ held_in d k
+  same_other : (d : DeskValue) (j : ℤ) (held : Option SlotValue) → j ≢ k → held_in (with_held d j held) k ≡ held_in d k
   same_other d j held other = slot_in-other d.slots j k held other
 
 -- the change and the flag of what is open
@@ -97,7 +97,7 @@ stays k change d next b (Step j) (Left n) h keeps e = same_marks k change d next
 stays k change d next b (Step j) (Shown outcome) h keeps e = absurd e
 stays k change d next b (Step j) (Refused cause) h keeps e = same_held k change d next b h (ap (λ (x : DeskValue). held_in x k) e.1)
 stays k change d next b (Commit j) Done h keeps e =
-    all_stale k change (holding d j None) next b (h.0, same_other k change d j None keeps ∙ h.1, h.2, h.3) e.made.slots
+    all_stale k change (with_held d j None) next b (h.0, same_other k change d j None keeps ∙ h.1, h.2, h.3) e.made.slots
 stays k change d next b (Commit j) (Left n) h keeps e = absurd e
 stays k change d next b (Commit j) (Shown outcome) h keeps e = absurd e
 stays k change d next b (Commit j) (Refused cause) h keeps e = same_held k change d next b h (ap (λ (x : DeskValue). held_in x k) e.1)

@@ -9,7 +9,7 @@ use Rattle.sheet_recalc.specs.Costs.{HasCost, IsStepCount, changed_name}
 use Rattle.sheet_recalc.specs.declared.refusal.Refusal.{Refusal}
 use Rattle.sheet_recalc.specs.declared.refusal.Refusal.TheVariants as why
 use Rattle.sheet_desk.specs.Slots.{slot_in, with_slot}
-use Rattle.sheet_desk.specs.Desk.{DeskValue, SlotValue, Event, Open, Step, Commit, Drop, Plain, Show, Answer, Done, Left, Shown, Refused, told, stale, held_in, holding, open_refusal, step_refusal, commit_refusal, drop_refusal, slot_refusal, RefusesThen, IsOpened, IsStepped, IsMade, IsCommitted, IsEvent}
+use Rattle.sheet_desk.specs.Desk.{DeskValue, SlotValue, Event, Open, Step, Commit, Drop, Plain, Show, Answer, Done, Left, Shown, Refused, told, stale, held_in, with_held, open_refusal, step_refusal, commit_refusal, drop_refusal, slot_refusal, RefusesThen, IsOpened, IsStepped, IsMade, IsCommitted, IsEvent}
 use Rattle.sheet_desk.specs.Laws.{told_of, AreAlike, IsSameAnswer, EachEventHasOneAnswer}
 use Rattle.sheet_desk.proofs.Slotted.{slot_in-map, with_slot-map}
 use Rattle.sheet_desk.proofs.Spent.{accepts_one}
@@ -134,7 +134,7 @@ alike_as_was : (d e d' e' : DeskValue) → AreAlike d e → d' ≡ d → e' ≡ 
 alike_as_was d e d' e' h p q = subst (λ (x : DeskValue). AreAlike x e') (sym p) (subst (λ (y : DeskValue). AreAlike d y) (sym q) h)
 
 holding_alike : (d e : DeskValue) (k : ℤ) (a b : Option SlotValue) → AreAlike d e → option_map told_of a ≡ option_map told_of b →
-    AreAlike (holding d k a) (holding e k b)
+    AreAlike (with_held d k a) (with_held e k b)
 holding_alike d e k a b h same = record {
   names = h.names;
   cost = h.cost;
@@ -205,7 +205,7 @@ stepped_alike d e d' e' k m n h p q = (p.told_is ∙ ap (λ (l : ℕ). told (l -
 committed_alike : (d e d' e' : DeskValue) (k : ℤ) → AreAlike d e → IsCommitted d k d' → IsCommitted e k e' → AreAlike d' e'
 committed_alike d e d' e' k h p q =
     let same = ap (λ (t : Told). t.0) (same_told d e h k p.slot q.slot p.held q.held) in
-    made_alike (holding d k None) (holding e k None) d' e' q.slot.change (holding_alike d e k None None h refl) (subst (λ (c : Change). IsMade (holding d k None) c
+    made_alike (with_held d k None) (with_held e k None) d' e' q.slot.change (holding_alike d e k None None h refl) (subst (λ (c : Change). IsMade (with_held d k None) c
     d') same p.made) q.made
 
 -- two that pass

@@ -13,7 +13,7 @@ use Rattle.sheet_recalc.specs.Pending.{steps_left}
 use Rattle.sheet_recalc.specs.declared.pending.Pending.{Pending}
 use Rattle.std.proofs.lemmas.Option.{slice_get-map, slice_get-get_or}
 use Rattle.sheet_desk.specs.Slots.{slot_in, with_slot}
-use Rattle.sheet_desk.specs.Desk.{DeskValue, SlotValue, held_in, holding}
+use Rattle.sheet_desk.specs.Desk.{DeskValue, SlotValue, held_in, with_held}
 use Rattle.sheet_desk.specs.Held.{slot_of, slots_of}
 use Rattle.sheet_desk.specs.declared.slot.Slot.{Slot}
 
@@ -77,9 +77,9 @@ module _ (sheet : SheetValue) (slots : List (Option Slot)) (k : ℤ) (d : DeskVa
   pub seen_in_desk : (held : Option (Option Slot)) → slot_in slots k ≡ held → held_in d k ≡ option_map (option_map slot_of) held
   seen_in_desk held h = subst (λ (e : DeskValue). held_in e k ≡ option_map (option_map slot_of) held) view (as_seen slots k held h)
 
-  pub put_in_desk : (held : Option Slot) → seen sheet (with_slot slots k held) ≡ holding d k (option_map slot_of held)
+  pub put_in_desk : (held : Option Slot) → seen sheet (with_slot slots k held) ≡ with_held d k (option_map slot_of held)
   put_in_desk held =
-      subst (λ (e : DeskValue). seen sheet (with_slot slots k held) ≡ holding e k (option_map slot_of held)) view
+      subst (λ (e : DeskValue). seen sheet (with_slot slots k held) ≡ with_held e k (option_map slot_of held)) view
       (ap (λ (ss : List (Option SlotValue)). record {
         names = sheet.names;
         cost = sheet.cost;
@@ -100,7 +100,7 @@ module _ {sheet : SheetValue} {slots : List (Option Slot)} {k : ℤ} {d : DeskVa
   held_seen any held read = seen_in_desk sheet slots k d at.view (Some held) (slot_there k at.fits slots place at.found any held read)
 
   -- what is put there
-  pub put_seen : (held : Option Slot) → seen sheet (set slots place held) ≡ holding d k (option_map slot_of held)
+  pub put_seen : (held : Option Slot) → seen sheet (set slots place held) ≡ with_held d k (option_map slot_of held)
   put_seen held = ap (seen sheet) (put_there k at.fits slots place at.found held) ∙ put_in_desk sheet slots k d at.view held
 
   -- what is put there looks as what lay there

@@ -57,8 +57,8 @@ abbrev pub held_in : DeskValue → ℤ → Option (Option SlotValue)
 held_in d k = slot_in d.slots k
 
 -- the desk, with this in that slot
-abbrev pub holding : DeskValue → ℤ → Option SlotValue → DeskValue
-holding d k held = record { names = d.names; cost = d.cost; ticks = d.ticks; slots = with_slot d.slots k held }
+abbrev pub with_held : DeskValue → ℤ → Option SlotValue → DeskValue
+with_held d k held = record { names = d.names; cost = d.cost; ticks = d.ticks; slots = with_slot d.slots k held }
 
 -- another change was made
 abbrev pub stale : SlotValue → SlotValue
@@ -125,7 +125,7 @@ pub record IsOpened (d : DeskValue) (k : ℤ) (change : Change) (n : ℕ) (next 
   pub told_is : n ≡ told left
   pub ticks : ℕ
   pub few : ticks ≤ expression_cost d.names change
-  pub next_is : next ≡ holding d k (Some (record { change = change; is_stale = false; left = left; ticks = ticks }))
+  pub next_is : next ≡ with_held d k (Some (record { change = change; is_stale = false; left = left; ticks = ticks }))
 
 -- one step less is left of the change in a slot; no more items were computed than some one function of the change costs
 pub record IsOneStep (d : DeskValue) (k : ℤ) (s : SlotValue) (next : DeskValue) : Type 0 where
@@ -133,7 +133,7 @@ pub record IsOneStep (d : DeskValue) (k : ℤ) (s : SlotValue) (next : DeskValue
   pub of_one : IsStepCost d.names s.change cost
   pub ticks : ℕ
   pub few : ticks ≤ s.ticks + cost
-  pub next_is : next ≡ holding d k (Some (record { change = s.change; is_stale = false; left = s.left - 1; ticks = ticks }))
+  pub next_is : next ≡ with_held d k (Some (record { change = s.change; is_stale = false; left = s.left - 1; ticks = ticks }))
 
 -- a step is done: where none is left, nothing happens
 pub record IsStepped (d : DeskValue) (k : ℤ) (n : ℕ) (next : DeskValue) : Type 0 where
@@ -157,7 +157,7 @@ pub record IsCommitted (d : DeskValue) (k : ℤ) (next : DeskValue) : Type 0 whe
   pub held : held_in d k ≡ Some (Some slot)
   pub fresh : slot.is_stale ≡ false
   pub ready : slot.left ≡ 0
-  pub made : IsMade (holding d k None) slot.change next
+  pub made : IsMade (with_held d k None) slot.change next
   pub ticks : next.ticks ≡ slot.ticks
   pub few : slot.ticks ≤ next.cost
 
@@ -165,16 +165,16 @@ pub record IsCommitted (d : DeskValue) (k : ℤ) (next : DeskValue) : Type 0 whe
 pub record IsDropped (d : DeskValue) (k : ℤ) (next : DeskValue) : Type 0 where
   pub slot : SlotValue
   pub held : held_in d k ≡ Some (Some slot)
-  pub next_is : next ≡ holding d k None
+  pub next_is : next ≡ with_held d k None
 
 -- an event is done
-abbrev pub IsDone : DeskValue → Event → DeskValue → Type 0
-IsDone d (Open k change) next = ⊥
-IsDone d (Step k) next = ⊥
-IsDone d (Commit k) next = IsCommitted d k next
-IsDone d (Drop k) next = IsDropped d k next
-IsDone d (Plain change) next = IsMade d change next
-IsDone d (Show tree) next = ⊥
+abbrev pub IsEventDone : DeskValue → Event → DeskValue → Type 0
+IsEventDone d (Open k change) next = ⊥
+IsEventDone d (Step k) next = ⊥
+IsEventDone d (Commit k) next = IsCommitted d k next
+IsEventDone d (Drop k) next = IsDropped d k next
+IsEventDone d (Plain change) next = IsMade d change next
+IsEventDone d (Show tree) next = ⊥
 
 -- it leaves so many steps
 abbrev pub IsLeft : DeskValue → Event → ℕ → DeskValue → Type 0
@@ -196,7 +196,7 @@ IsShown d (Show tree) outcome next = (outcome ≡ eval tree (val d.names)) × (n
 
 -- what an event is answered, and the desk after it: where it is refused, all is as it was
 abbrev pub IsEvent : DeskValue → Event → Answer → DeskValue → Type 0
-IsEvent d event Done next = IsDone d event next
+IsEvent d event Done next = IsEventDone d event next
 IsEvent d event (Left n) next = IsLeft d event n next
 IsEvent d event (Shown outcome) next = IsShown d event outcome next
 IsEvent d event (Refused cause) next = IsRefused d event cause × (next ≡ d)

@@ -7,7 +7,7 @@ use Rattle.change_core.specs.Meters.{ticked}
 use Rattle.indexmap.specs.IndexSet.{IndexSet}
 use Rattle.apl_expr.specs.Trees.{Tree}
 use Rattle.sheet_recalc.specs.Names.{Names, Data, Formula, binding, put}
-use Rattle.sheet_recalc.specs.Live.{IsTable}
+use Rattle.sheet_recalc.specs.Live.{TellsUsers}
 use Rattle.sheet_recalc.specs.Meaning.{val}
 use Rattle.sheet_recalc.proofs.Binding.{rebound_own, rebound_same}
 use Rattle.sheet_recalc.proofs.Live.{val_data}
@@ -37,7 +37,7 @@ pub formulas_alone : (cost total : ℕ) → total ≡ ticked 0 cost → total �
 formulas_alone cost total is = omega (arith, is)
 
 -- where other data is put under a name that holds data, each name refers to what it did
-pub table_kept : {S : Type 0} (names : Names) (name : List ℕ) (a b : ArrayValue) (users : List (List ℕ × IndexSet (List ℕ) S)) → binding names name ≡ Some (Data a) → IsTable names users → IsTable (put names name (Data b)) users
+pub table_kept : {S : Type 0} (names : Names) (name : List ℕ) (a b : ArrayValue) (users : List (List ℕ × IndexSet (List ℕ) S)) → binding names name ≡ Some (Data a) → TellsUsers names users → TellsUsers (put names name (Data b)) users
 table_kept {S} names name a b users held tells x y = (
   (λ u. let r = (tells x y).0 u in (r.0, rebound_same names name (Some (Data b)) x (apart r.0 r.1) ∙ r.1, r.2)),
   (λ r. (tells x y).1 (r.0, sym (rebound_same names name (Some (Data b)) x (apart_now r.0 r.1)) ∙ r.1, r.2)),

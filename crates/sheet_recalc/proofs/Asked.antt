@@ -16,7 +16,7 @@ use Rattle.formula_core.specs.Plans.{tree_cost}
 use Rattle.sheet_recalc.specs.Names.{SheetValue, Data, Formula, binding, put, rebound}
 use Rattle.sheet_recalc.specs.Meaning.{val}
 use Rattle.sheet_recalc.specs.Cells.{cell_put, index_of_numbers, literal_items}
-use Rattle.sheet_recalc.specs.Costs.{at_rest, cell_delta, row_delta, changed_name, asked_change, expression_cost, sheet_change}
+use Rattle.sheet_recalc.specs.Costs.{names_at_rest, cell_delta, row_delta, changed_name, asked_change, expression_cost, sheet_change}
 use Rattle.sheet_recalc.specs.Rows.{row_put}
 use Rattle.sheet_recalc.specs.Changes.{Change, Accepts, Define, Put, Store, SetCell, AddRow, Erase}
 use Rattle.sheet_recalc.specs.Entries.{names_of, binding_of, HasData}
@@ -94,7 +94,7 @@ module _ (s : SheetValue) (name : List ℕ) (a : ArrayValue) (spent : ℕ) (p : 
   array_makes : proposed_change (outline_for s.tables p) ≡ sheet_change s.names (names_after s.tables p) name (Whole (val (names_after s.tables p) name))
   array_makes = makes s name (proposed.Data (Whole (Ok a))) spent p h (Whole (val (names_after s.tables p) name)) (whole_put s.names (names_after s.tables p) name a (Whole (Ok a)) refl (sym array_names))
 
-  pub data_pending : (t : Tree) → eval t (val s.names) ≡ Ok a → spent ≡ ticked 0 (tree_cost true (at_rest s.names) t) → IsLaidOutOn s (Store name t) p
+  pub data_pending : (t : Tree) → eval t (val s.names) ≡ Ok a → spent ≡ ticked 0 (tree_cost true (names_at_rest s.names) t) → IsLaidOutOn s (Store name t) p
   data_pending t is first = asked s name (proposed.Data (Whole (Ok a))) spent p h (Store name t) first (a, is, array_names, h.room) refl array_makes
 
 pub put_pending : (s : SheetValue) (name : List ℕ) (a : ArrayValue) (p : Pending) → IsProposedOn s name (proposed.Data (Whole (Ok a))) 0 p → IsLaidOutOn s (Put name a) p

@@ -13,7 +13,7 @@ use Rattle.dep_order.specs.Follows.{Follows}
 use Rattle.dep_order.proofs.Following.{follows_has}
 use Rattle.sheet_recalc.specs.Names.{Names, Binding, Data, Formula, binding, Refers}
 use Rattle.sheet_recalc.specs.NameOrder.{IsNameOrder}
-use Rattle.sheet_recalc.specs.Costs.{origin_delta, delta_by, names_change, delta_at, delta_of, sheet_change}
+use Rattle.sheet_recalc.specs.Costs.{origin_delta, delta_by, names_change, delta_at, name_delta, sheet_change}
 use Rattle.sheet_recalc.proofs.NameEquality.{equal-true, equal-same}
 use Rattle.sheet_recalc.proofs.Scratch.{settles}
 
@@ -42,13 +42,13 @@ module _ (old new : Names) (name : List ℕ) (own : Delta) where
 
   -- what changed of a name is one step from what changed of all names
   pub delta_is : (order : List (List ℕ)) → IsNameOrder new order → (q : List ℕ)
-      → delta_of old new name own q ≡ (if bytes_eq q name then own else delta_by q (binding new q) (sheet_change old new name own))
+      → name_delta old new name own q ≡ (if bytes_eq q name then own else delta_by q (binding new q) (sheet_change old new name own))
   delta_is order o q = settles new order o (λ d. delta_at d old new name own) (λ x f. if bytes_eq x name then own else delta_by x (binding new x) (names_change old new f)) (λ d x. refl)
       (λ x f g h. ap (λ d. if bytes_eq x name then own else d) (delta_same x (binding new x) f g (λ t y is stands. h y (t, is, stands))))
       (λ d e x none. delta_absent d x none ∙ sym (delta_absent e x none)) q
 
   -- of the name that the change is about, what is told
-  pub delta_own : delta_of old new name own name ≡ own
+  pub delta_own : name_delta old new name own name ≡ own
   delta_own = by (length new)
     where
       by : (d : ℕ) → delta_at d old new name own name ≡ own
@@ -57,7 +57,7 @@ module _ (old new : Names) (name : List ℕ) (own : Delta) where
 
   -- of any other name, what its formula makes of it
   pub delta_apart : (order : List (List ℕ)) → IsNameOrder new order → (q : List ℕ) → bytes_eq q name ≡ false
-      → delta_of old new name own q ≡ delta_by q (binding new q) (sheet_change old new name own)
+      → name_delta old new name own q ≡ delta_by q (binding new q) (sheet_change old new name own)
   delta_apart order o q apart = delta_is order o q ∙ cond-false _ _ _ apart
 
   module _ (found : List (List ℕ)) (closed : Follows (λ a b. Refers new b a) (λ x. ⊥) found) (named : Contains found name) where
@@ -72,5 +72,5 @@ module _ (old new : Names) (name : List ℕ) (own : Delta) where
         ∙ unreached_by (names_change old new (delta_at d old new name own)) q (binding new q) refl none (unreached_at d)
 
     -- nothing changed of what is not found
-    pub delta_unreached : (q : List ℕ) → (Contains found q → ⊥) → delta_of old new name own q ≡ Same
+    pub delta_unreached : (q : List ℕ) → (Contains found q → ⊥) → name_delta old new name own q ≡ Same
     delta_unreached q none = unreached_at (length new) q none

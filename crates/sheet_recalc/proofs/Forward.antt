@@ -19,7 +19,7 @@ use Rattle.formula_core.proofs.Planned.{planned_at_end, plan_of}
 use Rattle.formula_core.proofs.Progressed.{all_among, left_at, part_left, longer, cost_more, cost_within}
 use Rattle.sheet_recalc.specs.Names.{Names, Binding}
 use Rattle.sheet_recalc.specs.Costs.{IsNodeCost}
-use Rattle.sheet_recalc.specs.Live.{IsPlanned, plan_in}
+use Rattle.sheet_recalc.specs.Live.{AreRightOnceTaken, plan_in}
 use Rattle.sheet_recalc.specs.ProposedSheet.{Outline, own_entry, proposed_names, proposed_change, proposed_cost, entry_of}
 use Rattle.sheet_recalc.specs.Costs.{functions_of}
 use Rattle.sheet_recalc.specs.Planning.{IsProposed, IsAffected, IsPlanAt, IsUnderWay, NoneFails, AreMade, IsPlanning, coming_cost, AllWait, IsComingTo, IsComing, IsOnTheWay, waiting_names, functions_at, name_cost, names_cost}
@@ -366,7 +366,7 @@ module _ (o : Outline) where
               let applies : functions_at o h.name ≡ operations h.formula.tree = ap (λ (b : Option Binding). option_map_or functions_of b 0) (bound_to o ready h.name h.formula h.held) in
               absurd (omega (arith, zero, now.count, h.done_is, under, ap (sum_by (functions_at o)) h.last, sum_by_push (functions_at o) h.before h.name, applies))
 
-      pub all_planned : (w : Plans) → IsOnTheWay o base w true ticks → w.left ≡ 0 → IsPlanned o.entries o.name (own_entry o) new (plan_in w.found.entries)
+      pub all_planned : (w : Plans) → IsOnTheWay o base w true ticks → w.left ≡ 0 → AreRightOnceTaken o.entries o.name (own_entry o) new (plan_in w.found.entries)
       all_planned w now zero =
           planned_in_the_end o ready (waiting_names w) (plan_in w.found.entries) now.made.way (λ l. let long = ap length (none_left w now zero) in let never : ⊥ = omega (arith, l, long) in never)
 

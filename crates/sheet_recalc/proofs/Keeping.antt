@@ -14,7 +14,7 @@ use Rattle.sheet_recalc.specs.Meaning.{shown, val}
 use Rattle.sheet_recalc.specs.NameOrder.{IsNameOrder, IsKeptOrder}
 use Rattle.dep_order.specs.Follows.{Follows, IsOnce}
 use Rattle.dep_order.specs.Users.{Uses, IsWithin}
-use Rattle.sheet_recalc.specs.Live.{IsTable}
+use Rattle.sheet_recalc.specs.Live.{TellsUsers}
 use Rattle.sheet_recalc.proofs.NameEquality.{names_equal, equal-true, equal-same}
 use Rattle.sheet_recalc.proofs.Scratch.{shown_same, val_is, val_absent, cases_binding, front}
 use Rattle.dep_order.proofs.Following.{contains_here, contains_there, contains_one, contains_cases, contains_none, follows_append, follows_at, follows_has, follows_kept, follows_backward, backward, backward_has, backward_only}
@@ -117,7 +117,7 @@ name_order names order o = record {
 }
 
 -- no chain of references is longer than the names are many
-module _ {S : Type 0} (names : Names) (table : List (List ℕ × IndexSet (List ℕ) S)) (tells : IsTable names table) (order : List (List ℕ)) (o : IsNameOrder names order) where
+module _ {S : Type 0} (names : Names) (table : List (List ℕ × IndexSet (List ℕ) S)) (tells : TellsUsers names table) (order : List (List ℕ)) (o : IsNameOrder names order) where
   falls : (i : ℕ) (via : List (List ℕ)) (b : List ℕ) → i < length order → Chain (Uses bytes_eq table) (slice_index_or order i []) via b → length via ≤ i
   falls i [] b h c = omega arith
   falls i (x ∷ via) b h c =

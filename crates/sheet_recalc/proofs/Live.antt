@@ -17,8 +17,8 @@ use Rattle.arrays_core.specs.Outcomes.{Outcome, fault}
 use Rattle.formula_core.specs.Plans.{PlanValue}
 use Rattle.sheet_recalc.specs.Names.{Names, Data, binding, put, without, Refers}
 use Rattle.sheet_recalc.specs.Meaning.{shown, val, val_at}
-use Rattle.sheet_recalc.specs.Entries.{names_of, binding_of, entry_outcome, holding, adopting}
-use Rattle.sheet_recalc.specs.Live.{IsRight, IsCurrent, IsLive, CanAdopt, IsPlanned, IsAdopting, entry_after, plan_in}
+use Rattle.sheet_recalc.specs.Entries.{names_of, binding_of, entry_outcome, shown_by, adopting}
+use Rattle.sheet_recalc.specs.Live.{IsRightEntry, IsCurrent, IsLive, CanAdopt, AreRightOnceTaken, IsAdopting, entry_after, plan_in}
 use Rattle.sheet_recalc.specs.declared.entry.Entry.{Entry}
 use Rattle.sheet_recalc.specs.declared.entry.Entry.TheVariants as entry
 use Rattle.sheet_recalc.proofs.NameEquality.{names_equal, equal-true, equal-same}
@@ -120,7 +120,7 @@ live_empty {S} es users none empty =
     subst (λ (fs : List (List ℕ × Entry)). IsLive fs users) (sym none) (subst (λ (us : List (List ℕ × IndexSet (List ℕ) S)). IsLive [] us) (sym empty) (live_none {S = S}))
 
 -- an entry that is right shows what its name shows
-pub right_shows : (names : List ℕ → Outcome) (q : List ℕ) (e : Entry) → IsRight names q e → entry_outcome q e ≡ names q
+pub right_shows : (names : List ℕ → Outcome) (q : List ℕ) (e : Entry) → IsRightEntry names q e → entry_outcome q e ≡ names q
 right_shows names q (entry.Data a) right = right
 right_shows names q (entry.Formula f) right = right.1
 
@@ -131,7 +131,7 @@ value_is es current q (Some e) is = rw (binding_of_name es q, ← is) (ap Some (
 value_is es current q None is = rw (binding_of_name es q, ← is) refl
 
 -- what the entries hold is what the names show
-pub holding_val : (es : List (List ℕ × Entry)) → IsCurrent es → (q : List ℕ) → holding es q ≡ val (names_of es) q
+pub holding_val : (es : List (List ℕ × Entry)) → IsCurrent es → (q : List ℕ) → shown_by es q ≡ val (names_of es) q
 holding_val es current q = by (lookup (bytes_eq q) es) refl
   where
     by : (o : Option Entry) → lookup (bytes_eq q) es ≡ o → unwrap_or (option_map (entry_outcome q) o) (Err (fault Value)) ≡ val (names_of es) q
@@ -198,14 +198,14 @@ module _ (names : Names) (es es' : List (List ℕ × Entry)) (plans plans' : Lis
         rest = rest;
       }
         where
-          rest : (q : List ℕ) (f : Entry) → lookup (bytes_eq q) es' ≡ Some f → plans' q ≡ None → IsRight (val names) q f
+          rest : (q : List ℕ) (f : Entry) → lookup (bytes_eq q) es' ≡ Some f → plans' q ≡ None → IsRightEntry (val names) q f
           rest q f there none = by (bytes_eq name q) refl
             where
-              by : (b : Bool) → bytes_eq name q ≡ b → IsRight (val names) q f
+              by : (b : Bool) → bytes_eq name q ≡ b → IsRightEntry (val names) q f
               by true is =
                   let same : Some (adopting e p) ≡ Some f = rw is at (sym (changed q) ∙ there) in
                   let this : adopting e p ≡ f = cc in
-                  subst (λ (g : Entry). IsRight (val names) q g) this (subst (λ n. IsRight (val names) n (adopting e p)) (equal-true name q is) (now.right name e p found this_plan))
+                  subst (λ (g : Entry). IsRightEntry (val names) q g) this (subst (λ n. IsRightEntry (val names) n (adopting e p)) (equal-true name q is) (now.right name e p found this_plan))
               by false is = now.rest q f (was_there q f is there) (was_left q None is none)
 
   -- by none, where the name has no entry
@@ -221,10 +221,10 @@ module _ (names : Names) (es es' : List (List ℕ × Entry)) (plans plans' : Lis
       rest = rest;
     }
       where
-        rest : (q : List ℕ) (f : Entry) → lookup (bytes_eq q) es' ≡ Some f → plans' q ≡ None → IsRight (val names) q f
+        rest : (q : List ℕ) (f : Entry) → lookup (bytes_eq q) es' ≡ Some f → plans' q ≡ None → IsRightEntry (val names) q f
         rest q f there none = by (bytes_eq name q) refl
           where
-            by : (b : Bool) → bytes_eq name q ≡ b → IsRight (val names) q f
+            by : (b : Bool) → bytes_eq name q ≡ b → IsRightEntry (val names) q f
             by true is =
                 let never : None ≡ Some f = sym absent ∙ (subst (λ n. lookup (bytes_eq n) es ≡ Some f) (sym (equal-true name q is)) (still q f there)) in absurd cc
             by false is = now.rest q f (still q f there) (was_left q None is none)
@@ -288,12 +288,12 @@ taken_next names es es' found found' place some keys taken now before = record {
 -- in the end each entry is right
 pub current_at_end : (names : Names) (es : List (List ℕ × Entry)) (found : List (List ℕ × Option PlanValue)) (place : ℕ) → place ≡ 0 → AreTaken names es found place → IsCurrent es
 current_at_end names es found place end now = λ q e h.
-    subst (λ ns. IsRight (val ns) q e) (sym now.adopting.names_are) (now.adopting.rest q e h (now.rest q (subst (λ n. Contains (take n (keys_of found)) q → ⊥) (sym end) (contains_none q))))
+    subst (λ ns. IsRightEntry (val ns) q e) (sym now.adopting.names_are) (now.adopting.rest q e h (now.rest q (subst (λ n. Contains (take n (keys_of found)) q → ⊥) (sym end) (contains_none q))))
 
 -- ---- plans that were made for entries after a change can be taken by these
 
 pub adopting_after : (es after : List (List ℕ × Entry)) (name : List ℕ) (own : Option Entry) (names : Names) (plans : List ℕ → Option PlanValue)
-    → names_of after ≡ names → ((q : List ℕ) → lookup (bytes_eq q) after ≡ entry_after es name own q) → IsPlanned es name own names plans → IsAdopting names after plans
+    → names_of after ≡ names → ((q : List ℕ) → lookup (bytes_eq q) after ≡ entry_after es name own q) → AreRightOnceTaken es name own names plans → IsAdopting names after plans
 adopting_after es after name own names plans is same planned = record {
   names_are = is;
   can = λ q e p there plan. planned.can q e p (sym (same q) ∙ there) plan;
@@ -303,7 +303,7 @@ adopting_after es after name own names plans is same planned = record {
 
 -- once the name is bound anew
 pub adopting_planned : (es : List (List ℕ × Entry)) (name : List ℕ) (own : Entry) (plans : List ℕ → Option PlanValue)
-    → IsPlanned es name (Some own) (put (names_of es) name (binding_of own)) plans
+    → AreRightOnceTaken es name (Some own) (put (names_of es) name (binding_of own)) plans
     → IsAdopting (put (names_of es) name (binding_of own)) (insert_entry bytes_eq es name own) plans
 adopting_planned es name own plans =
     adopting_after es (insert_entry bytes_eq es name own) name (Some own) (put (names_of es) name (binding_of own)) plans (names_of_insert name own es)
@@ -311,7 +311,7 @@ adopting_planned es name own plans =
 
 -- once the name is removed
 pub adopting_removed : (es : List (List ℕ × Entry)) (name : List ℕ) (plans : List ℕ → Option PlanValue)
-    → IsPlanned es name None (without (names_of es) name) plans → IsAdopting (without (names_of es) name) (others name es) plans
+    → AreRightOnceTaken es name None (without (names_of es) name) plans → IsAdopting (without (names_of es) name) (others name es) plans
 adopting_removed es name plans =
     adopting_after es (others name es) name None (without (names_of es) name) plans (names_of_others name es)
     (λ q. lookup_others name es q ∙ ap (λ (t : Bool). cond t None (lookup (bytes_eq q) es)) (names_equal.symm name q))

@@ -35,12 +35,12 @@ use Rattle.formula_core.specs.declared.input.Input.{Input}
 use Rattle.formula_core.specs.declared.input.Input.TheVariants.{Good, Bad}
 use Rattle.formula_core.proofs.Rooted.{before_root, root_last}
 use Rattle.sheet_recalc.specs.Names.{Names, Binding, Formula, binding}
-use Rattle.sheet_recalc.specs.Meaning.{with_origin, in_formula, shown, val}
+use Rattle.sheet_recalc.specs.Meaning.{with_origin, arisen_in, shown, val}
 use Rattle.sheet_recalc.specs.Costs.{origin_delta, delta_by, binding_cost}
 use Rattle.sheet_recalc.specs.Entries.{names_of, binding_of}
-use Rattle.sheet_recalc.specs.Live.{IsRight}
+use Rattle.sheet_recalc.specs.Live.{IsRightEntry}
 use Rattle.sheet_recalc.specs.ProposedSheet.{Outline, is_data, data_entry, proposed_entry, own_entry, proposed_names, proposed_delta, proposed_change, entry_of}
-use Rattle.sheet_recalc.specs.Planning.{IsProposed, IsPlanAt, ArePlans, IsDone, IsUntouched, NeedsNoPlan, IsProposalAt, name_cost}
+use Rattle.sheet_recalc.specs.Planning.{IsProposed, IsPlanAt, ArePlans, HasItsPlan, IsUntouched, NeedsNoPlan, IsProposalAt, name_cost}
 use Rattle.sheet_recalc.specs.declared.entry.Entry.{Entry}
 use Rattle.sheet_recalc.specs.declared.entry.Entry.TheVariants as entry
 use Rattle.sheet_recalc.specs.declared.proposal.Proposal.{Proposal}
@@ -98,7 +98,7 @@ all_by_origin x (Patch p) h = h
 all_by_origin x (Grown t) h = h
 all_by_origin x (Whole r) h = tt
 
-pub bad_origin : (x : List ℕ) (d : Delta) (held : Outcome) (e f : Fault) (changed : Bool) → f ≡ in_formula x e → IsInput (applied d held) d (Bad e changed) → IsInput (with_origin x (applied d held)) (origin_delta x d) (Bad f changed)
+pub bad_origin : (x : List ℕ) (d : Delta) (held : Outcome) (e f : Fault) (changed : Bool) → f ≡ arisen_in x e → IsInput (applied d held) d (Bad e changed) → IsInput (with_origin x (applied d held)) (origin_delta x d) (Bad f changed)
 bad_origin x d held e f changed from i = record {
   is = ap (λ g. Err g) from ∙ ap (with_origin x) i.is;
   same = i.same ∙ same_origin x d;
@@ -219,7 +219,7 @@ module _ (o : Outline) where
           by (proposed.Data d) is = absurd (no_formula (applied d (val old o.name)) f is)
           by proposed.Removed is = refl
 
-      pub formula_old : bytes_eq q o.name ≡ false → IsRight (val old) q (entry.Formula f)
+      pub formula_old : bytes_eq q o.name ≡ false → IsRightEntry (val old) q (entry.Formula f)
       formula_old other = ready.current q (entry.Formula f) (entry_other q (Some (entry.Formula f)) other held)
 
       pub is_new_own : f.is_new ≡ bytes_eq q o.name
@@ -395,7 +395,7 @@ module _ (o : Outline) where
       none_sound = record { old = ready.sound (ap is_data is); new = subst (λ r. IfOk r IsArray) (sym none_shows) tt }
 
 -- the name under which data is put needs no plan
-pub data_needs_none : (o : Outline) (plans : List ℕ → Option PlanValue) → is_data o.proposal ≡ true → ArePlans o plans → IsDone o plans o.name → NeedsNoPlan o o.name
+pub data_needs_none : (o : Outline) (plans : List ℕ → Option PlanValue) → is_data o.proposal ≡ true → ArePlans o plans → HasItsPlan o plans o.name → NeedsNoPlan o o.name
 data_needs_none o plans is_put are done = ⊎_elim (λ some. absurd (planned (plans o.name) refl some)) (λ none. none) done
   where
     formula : (s : Proposal) (f : FormulaValue) → is_data s ≡ true → proposed_entry (val (names_of o.entries) o.name) s ≡ Some (entry.Formula f) → ⊥

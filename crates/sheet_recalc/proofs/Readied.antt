@@ -13,7 +13,7 @@ use Rattle.indexmap.specs.IndexSet.{IndexSet}
 use Rattle.index_region.specs.declared.delta.Delta.{Delta}
 use Rattle.sheet_recalc.specs.Names.{Names, Binding, rebound, referred, Refers, most_names}
 use Rattle.sheet_recalc.specs.Meaning.{val}
-use Rattle.sheet_recalc.specs.Changes.{HasRoom}
+use Rattle.sheet_recalc.specs.Changes.{HasRoomForName}
 use Rattle.sheet_recalc.specs.Costs.{AreAllThatReach}
 use Rattle.sheet_recalc.specs.Entries.{names_of, binding_of}
 use Rattle.sheet_recalc.specs.Live.{IsLive}
@@ -44,7 +44,7 @@ pub distinct_rebound : (names : Names) (name : List ℕ) (b : Option Binding) �
 distinct_rebound names name (Some b) distinct = distinct_put name b names distinct
 distinct_rebound names name None distinct = distinct_others name names distinct
 
-few_rebound : (names : Names) (name : List ℕ) (b : Option Binding) → length names ≤ most_names → HasRoom names name → length (rebound names name b) ≤ most_names
+few_rebound : (names : Names) (name : List ℕ) (b : Option Binding) → length names ≤ most_names → HasRoomForName names name → length (rebound names name b) ≤ most_names
 few_rebound names name (Some b) few room = few_put names name b few room
 few_rebound names name None few room = omega (arith, few_others name names, few)
 
@@ -99,7 +99,7 @@ module _ {S : Type 0} (o : Outline) (users : List (List ℕ × IndexSet (List �
       (distinct_rebound (names_of o.entries) o.name b live.sheet.distinct) (distinct_once found distinct)
 
   -- the sheet can be so
-  pub ready_names : HasRoom (names_of o.entries) o.name → CanBe o
+  pub ready_names : HasRoomForName (names_of o.entries) o.name → CanBe o
   ready_names room = record {
     kept = has_order o.entries users live o.name b found closed named sound distinct none;
     sheet = record {

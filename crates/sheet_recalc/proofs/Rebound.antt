@@ -9,7 +9,7 @@ use Rattle.sheet_recalc.specs.Names.{Names, Binding, Data, Formula, binding, reb
 use Rattle.sheet_recalc.specs.Meaning.{val, IsSettled}
 use Rattle.sheet_recalc.specs.Costs.{AreAllThatReach}
 use Rattle.sheet_recalc.specs.Entries.{names_of}
-use Rattle.sheet_recalc.specs.Live.{IsLive, IsCurrent, IsTable}
+use Rattle.sheet_recalc.specs.Live.{IsLive, IsCurrent, TellsUsers}
 use Rattle.sheet_recalc.specs.ProposedSheet.{IsReaching}
 use Rattle.dep_order.specs.Follows.{Follows}
 use Rattle.dep_order.specs.Users.{Uses, IsClosed, HasNoEmptyBut}
@@ -110,9 +110,9 @@ module _ {S : Type 0} (es : List (List ℕ × Entry)) (users : List (List ℕ ×
     shown_still q apart = unaffected old new name same found closed_old named has_order.0 (name_order new has_order.0 has_order.1) (λ x. val_is old live.order (name_order old live.order live.kept) x) q apart
 
 -- the table, once the name refers to what it is bound to now, and no longer to what stood before
-pub table_after : {S : Type 0} (old : Names) (name : List ℕ) (b : Option Binding) (users after : List (List ℕ × IndexSet (List ℕ) S)) → IsTable old users
+pub table_after : {S : Type 0} (old : Names) (name : List ℕ) (b : Option Binding) (users after : List (List ℕ × IndexSet (List ℕ) S)) → TellsUsers old users
     → ((x y : List ℕ) → Uses bytes_eq after x y ↔ ((Uses bytes_eq users x y × ((x ≡ name) → Contains (referred_by old name) y → ⊥)) ⊎ ((x ≡ name) × Contains (option_map_or referred b []) y)))
-    → IsTable (rebound old name b) after
+    → TellsUsers (rebound old name b) after
 table_after {S} old name b users after tells change x y = (to, from)
   where
     to : Uses bytes_eq after x y → Refers (rebound old name b) x y
@@ -130,12 +130,12 @@ table_after {S} old name b users after tells change x y = (to, from)
         (λ apart. (change x y).1 (inl ((tells x y).1 (r.0, sym (rebound_same old name b x apart) ∙ r.1, r.2), λ e. absurd (apart e))))
 
 -- what the entries keep, after a change
-pub live_after : {S : Type 0} (es : List (List ℕ × Entry)) (users : List (List ℕ × IndexSet (List ℕ) S)) (new : Names) → names_of es ≡ new → IsSheet new → HasOrder new → IsTable new users → HasNoEmptyBut bytes_eq users [] → IsCurrent es → IsLive es users
+pub live_after : {S : Type 0} (es : List (List ℕ × Entry)) (users : List (List ℕ × IndexSet (List ℕ) S)) (new : Names) → names_of es ≡ new → IsSheet new → HasOrder new → TellsUsers new users → HasNoEmptyBut bytes_eq users [] → IsCurrent es → IsLive es users
 live_after {S} es users names is sheet order tells used current = record {
   sheet = subst IsSheet (sym is) sheet;
   order = order.0;
   kept = subst (λ (ns : Names). IsKeptOrder ns order.0) (sym is) order.1;
-  tells = subst (λ (ns : Names). IsTable ns users) (sym is) tells;
+  tells = subst (λ (ns : Names). TellsUsers ns users) (sym is) tells;
   used = used;
   current = current;
 }

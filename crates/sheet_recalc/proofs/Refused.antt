@@ -19,7 +19,7 @@ use Rattle.sheet_recalc.specs.Entries.{binding_of}
 use Rattle.sheet_recalc.specs.ProposedSheet.{data_entry, names_with}
 use Rattle.sheet_recalc.specs.declared.proposal.Proposal.TheVariants as proposed
 use Rattle.sheet_recalc.specs.Rows.{row_put}
-use Rattle.sheet_recalc.specs.Changes.{Define, Store, Put, SetCell, AddRow, Erase, Refuses, CannotBecome, CannotPut, IsCycleFrom, HasRoom}
+use Rattle.sheet_recalc.specs.Changes.{Define, Store, Put, SetCell, AddRow, Erase, Refuses, CannotBecome, CannotPut, IsCycleFrom, HasRoomForName}
 use Rattle.sheet_recalc.specs.declared.refusal.Refusal.{Refusal}
 use Rattle.sheet_recalc.specs.declared.refusal.Refusal.TheVariants as why
 use Rattle.sheet_recalc.proofs.Cycles.{no_cycle_anew}
@@ -164,7 +164,7 @@ module _ (names : Names) (name : List ℕ) (b : Binding) where
   absent_long : binding names name ≡ None → length (put names name b) ≡ length names + 1
   absent_long none = ap length (put_last name b names none) ∙ length-append names ((name, b) ∷ [])
 
-  pub few_put : length names ≤ most_names → HasRoom names name → length (put names name b) ≤ most_names
+  pub few_put : length names ≤ most_names → HasRoomForName names name → length (put names name b) ≤ most_names
   few_put few room = ⊎_elim (λ there. omega (arith, few, present_long there)) (λ fewer. by (binding names name) refl fewer) room
     where
       by : (o : Option Binding) → binding names name ≡ o → length names < most_names → length (put names name b) ≤ most_names

@@ -21,9 +21,9 @@ use Rattle.sheet_recalc.specs.Names.{Names, Binding, Data, Formula, binding, Ref
 use Rattle.sheet_recalc.specs.Meaning.{val, with_origin}
 use Rattle.sheet_recalc.specs.Costs.{delta_by, binding_cost}
 use Rattle.sheet_recalc.specs.Entries.{names_of, binding_of, adopting}
-use Rattle.sheet_recalc.specs.Live.{IsRight, IsPlanned, CanAdopt}
+use Rattle.sheet_recalc.specs.Live.{IsRightEntry, AreRightOnceTaken, CanAdopt}
 use Rattle.sheet_recalc.specs.ProposedSheet.{Outline, proposed_names, proposed_change, own_entry, entry_of}
-use Rattle.sheet_recalc.specs.Planning.{IsProposed, IsAffected, IsUntouched, IsPlanAt, NeedsNoPlan, IsDone, IsUnderWay, name_cost, names_cost, functions_at}
+use Rattle.sheet_recalc.specs.Planning.{IsProposed, IsAffected, IsUntouched, IsPlanAt, NeedsNoPlan, HasItsPlan, IsUnderWay, name_cost, names_cost, functions_at}
 use Rattle.sheet_recalc.specs.Costs.{functions_of}
 use Rattle.sheet_recalc.specs.declared.entry.Entry.{Entry}
 use Rattle.sheet_recalc.specs.declared.entry.Entry.TheVariants as entry
@@ -188,15 +188,15 @@ module _ (o : Outline) where
       pub plain_next : ((f : FormulaValue) → entry_of o x ≡ Some (entry.Formula f) → ⊥) → IsUnderWay o front made
       plain_next plain = record { once = once_distinct front once_now.1; closed = follows_front (λ a b. Refers new b a) (λ y. ⊥) front (x ∷ []) closed_now; plans = now.plans; done = done }
         where
-          done : (q : List ℕ) → (Contains front q → ⊥) → IsDone o made q
+          done : (q : List ℕ) → (Contains front q → ⊥) → HasItsPlan o made q
           done q none = by (bytes_eq x q) refl
             where
-              by : (t : Bool) → bytes_eq x q ≡ t → IsDone o made q
+              by : (t : Bool) → bytes_eq x q ≡ t → HasItsPlan o made q
               by true e = inr (subst (λ y. NeedsNoPlan o y) (equal-true x q e) (plain_needs_none x plain))
               by false e = now.done q (not_left q none e)
 
       -- what its formula refers to is done
-      pub reads_done : (f : FormulaValue) → entry_of o x ≡ Some (entry.Formula f) → (y : List ℕ) → Contains (names_in f.tree) y → IsDone o made y
+      pub reads_done : (f : FormulaValue) → entry_of o x ≡ Some (entry.Formula f) → (y : List ℕ) → Contains (names_in f.tree) y → HasItsPlan o made y
       reads_done f held y stands =
           now.done y (λ c. last_apart new front x once_now.0 closed_now y (f.tree, binding_entry o x ∙ ap (option_map binding_of) held, stands) (subst (λ xs. Contains xs y) split c))
 
@@ -214,15 +214,15 @@ module _ (o : Outline) where
                   subst (IsPlanAt o q) this (subst (λ y. IsPlanAt o y plan) (equal-true x q e) right)
               by false e = now.plans q p (rw e at (sym (change q) ∙ found))
 
-          done : (q : List ℕ) → (Contains front q → ⊥) → IsDone o made' q
+          done : (q : List ℕ) → (Contains front q → ⊥) → HasItsPlan o made' q
           done q none = by (bytes_eq x q) refl
             where
-              by : (t : Bool) → bytes_eq x q ≡ t → IsDone o made' q
+              by : (t : Bool) → bytes_eq x q ≡ t → HasItsPlan o made' q
               by true e = inl (rw (change q, e) refl)
               by false e = ⊎_elim (λ l. inl (rw (change q, e) l)) (λ r. inr r) (now.done q (not_left q none e))
 
     -- a formula that takes its plan is right
-    adopting_right : (q : List ℕ) (f : FormulaValue) (p : PlanValue) → IsPlanAt o q p → entry_of o q ≡ Some (entry.Formula f) → IsRight (val new) q (adopting (entry.Formula f) p)
+    adopting_right : (q : List ℕ) (f : FormulaValue) (p : PlanValue) → IsPlanAt o q p → entry_of o q ≡ Some (entry.Formula f) → IsRightEntry (val new) q (adopting (entry.Formula f) p)
     adopting_right q f p plan held =
         let made = plan_now o q p f plan held in (
           record { worked_out = refl; nodes = made.1.right },
@@ -230,14 +230,14 @@ module _ (o : Outline) where
         )
 
     -- what needs no plan is right as it is
-    still_right : (q : List ℕ) (e : Entry) → NeedsNoPlan o q → entry_of o q ≡ Some e → IsRight (val new) q e
+    still_right : (q : List ℕ) (e : Entry) → NeedsNoPlan o q → entry_of o q ≡ Some e → IsRightEntry (val new) q e
     still_right q (entry.Data a) n is = sym (val_data new q a (binding_entry o q ∙ ap (option_map binding_of) is))
     still_right q (entry.Formula f) n is = by (bytes_eq q o.name) refl
       where
         reads : (q ≢ o.name) × ((x : List ℕ) → Contains (names_in f.tree) x → IsUntouched o x)
         reads = n.reads f.tree (binding_entry o q ∙ ap (option_map binding_of) is)
 
-        by : (t : Bool) → bytes_eq q o.name ≡ t → IsRight (val new) q (entry.Formula f)
+        by : (t : Bool) → bytes_eq q o.name ≡ t → IsRightEntry (val new) q (entry.Formula f)
         by true e = absurd (reads.0 (equal-true q o.name e))
         by false e =
             let was = formula_old o ready q f is e in (
@@ -246,7 +246,7 @@ module _ (o : Outline) where
             )
 
     -- in the end the plans are those of the change
-    pub planned_in_the_end : (left : List (List ℕ)) (made : List ℕ → Option PlanValue) → IsUnderWay o left made → (0 < length left → ⊥) → IsPlanned es o.name (own_entry o) new made
+    pub planned_in_the_end : (left : List (List ℕ)) (made : List ℕ → Option PlanValue) → IsUnderWay o left made → (0 < length left → ⊥) → AreRightOnceTaken es o.name (own_entry o) new made
     planned_in_the_end (x ∷ left) made now none = absurd (none (omega arith))
     planned_in_the_end [] made now none = record { can = can; right = right; rest = rest }
       where
@@ -256,11 +256,11 @@ module _ (o : Outline) where
             let never : Some (entry.Data a) ≡ Some (entry.Formula plan.formula) = sym is ∙ plan.held in absurd cc
         can q (entry.Formula f) p is found = (plan_now o q p f (now.plans q p found) is).0
 
-        right : (q : List ℕ) (e : Entry) (p : PlanValue) → entry_of o q ≡ Some e → made q ≡ Some p → IsRight (val new) q (adopting e p)
+        right : (q : List ℕ) (e : Entry) (p : PlanValue) → entry_of o q ≡ Some e → made q ≡ Some p → IsRightEntry (val new) q (adopting e p)
         right q (entry.Data a) p is found = absurd (can q (entry.Data a) p is found)
         right q (entry.Formula f) p is found = adopting_right q f p (now.plans q p found) is
 
-        rest : (q : List ℕ) (e : Entry) → entry_of o q ≡ Some e → made q ≡ None → IsRight (val new) q e
+        rest : (q : List ℕ) (e : Entry) → entry_of o q ≡ Some e → made q ≡ None → IsRightEntry (val new) q e
         rest q e is absent = ⊎_elim (λ l. absurd (false≢true (subst (λ p. is_some p ≡ true) absent l))) (λ n. still_right q e n is) (now.done q (λ c. contains_none q c))
 
 pub nothing_left : (o : Outline) (left : List (List ℕ)) → (0 < length left → ⊥) → names_cost o left ≡ 0

@@ -27,14 +27,14 @@ pub data Change : Type 0 where
   Erase : List ℕ → Change
 
 -- there is room for the name: it is present, or fewer names are than a sheet has at most
-abbrev pub HasRoom : Names → List ℕ → Type 0
-HasRoom names name = IsSome (binding names name) ⊎ (length names < most_names)
+abbrev pub HasRoomForName : Names → List ℕ → Type 0
+HasRoomForName names name = IsSome (binding names name) ⊎ (length names < most_names)
 
 -- the change takes old to new
 abbrev pub Accepts : Names → Change → Names → Type 0
-Accepts old (Define n t) new = (new ≡ put old n (Formula t)) × IsAcyclic (Refers new) × HasRoom old n
-Accepts old (Store n t) new = (a : ArrayValue) × (eval t (val old) ≡ Ok a) × (new ≡ put old n (Data a)) × HasRoom old n
-Accepts old (Put n a) new = (new ≡ put old n (Data a)) × HasRoom old n
+Accepts old (Define n t) new = (new ≡ put old n (Formula t)) × IsAcyclic (Refers new) × HasRoomForName old n
+Accepts old (Store n t) new = (a : ArrayValue) × (eval t (val old) ≡ Ok a) × (new ≡ put old n (Data a)) × HasRoomForName old n
+Accepts old (Put n a) new = (new ≡ put old n (Data a)) × HasRoomForName old n
 Accepts old (SetCell n positions literal) new = (a : ArrayValue) × (cell_put (binding old n) positions literal ≡ Ok a) × (new ≡ put old n (Data a))
 Accepts old (AddRow n literal) new = (a : ArrayValue) × (row_put (binding old n) literal ≡ Ok a) × (new ≡ put old n (Data a))
 Accepts old (Erase n) new = IsSome (binding old n) × (new ≡ without old n)

@@ -70,12 +70,12 @@ delta_at zero old new name own q = if bytes_eq q name then own else Same
 delta_at (suc depth) old new name own q = if bytes_eq q name then own else delta_by q (binding new q) (names_change old new (delta_at depth old new name own))
 
 -- what changed of a name: to the depth of the number of names
-abbrev pub delta_of : Names → Names → List ℕ → Delta → List ℕ → Delta
-delta_of old new name own q = delta_at (length new) old new name own q
+abbrev pub name_delta : Names → Names → List ℕ → Delta → List ℕ → Delta
+name_delta old new name own q = delta_at (length new) old new name own q
 
 -- what a change makes of each name
 abbrev pub sheet_change : Names → Names → List ℕ → Delta → formula.Change
-sheet_change old new name own = names_change old new (delta_of old new name own)
+sheet_change old new name own = names_change old new (name_delta old new name own)
 
 -- what it costs at one name; the formula of the name that the change is about is new
 abbrev pub binding_cost : List ℕ → formula.Change → List ℕ × Binding → ℕ
@@ -87,12 +87,12 @@ abbrev pub formulas_cost : List ℕ → formula.Change → Names → ℕ
 formulas_cost name c names = sum_by (binding_cost name c) names
 
 -- the names as they are, of which nothing changed
-abbrev pub at_rest : Names → formula.Change
-at_rest names = names_change names names (λ q. Same)
+abbrev pub names_at_rest : Names → formula.Change
+names_at_rest names = names_change names names (λ q. Same)
 
 -- what working out the expression of stored data costs: it counts as a new formula
 abbrev pub expression_cost : Names → Change → ℕ
-expression_cost old (Store n t) = tree_cost true (at_rest old) t
+expression_cost old (Store n t) = tree_cost true (names_at_rest old) t
 expression_cost old change = 0
 
 -- what a change makes of each name that takes old to new

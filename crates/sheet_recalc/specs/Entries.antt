@@ -61,5 +61,5 @@ abbrev pub names_of : List (List ℕ × Entry) → Names
 names_of entries = map (λ e. (e.0, binding_of e.1)) entries
 
 -- what a name shows, by what the entries hold
-abbrev pub holding : List (List ℕ × Entry) → List ℕ → Outcome
-holding entries name = unwrap_or (option_map (entry_outcome name) (lookup (bytes_eq name) entries)) (Err (fault Value))
+abbrev pub shown_by : List (List ℕ × Entry) → List ℕ → Outcome
+shown_by entries name = unwrap_or (option_map (entry_outcome name) (lookup (bytes_eq name) entries)) (Err (fault Value))

@@ -17,22 +17,22 @@ change_of (made.Row name literal) = AddRow name (literal_of literal)
 change_of (made.Erase name) = Erase name
 
 -- what changes lead from and to: the names, what the last change that was made has cost, and the items that were computed in it
-pub record State : Type 0 where
+pub record SheetState : Type 0 where
   pub names : Names
   pub cost : ℕ
   pub ticks : ℕ
 
-abbrev pub state_of : SheetValue → State
+abbrev pub state_of : SheetValue → SheetState
 state_of s = record { names = s.names; cost = s.cost; ticks = s.ticks }
 
 -- from old, the change may have this answer and lead to new: where it is refused all of the state stays
-abbrev pub Step : State → Change → Result (Unit {0}) Refusal → State → Type 0
+abbrev pub Step : SheetState → Change → Result (Unit {0}) Refusal → SheetState → Type 0
 Step old change (Ok u) new = Accepts old.names change new.names × HasCost old.names change new.names new.cost × HasTicks old.names change new.names new.ticks
 Step old change (Err cause) new = Refuses old.names change cause × (new ≡ old)
 
 -- the changes may have these answers, one after another, and lead to new
-abbrev pub Run : State → List Change → List (Result (Unit {0}) Refusal) → State → Type 0
+abbrev pub Run : SheetState → List Change → List (Result (Unit {0}) Refusal) → SheetState → Type 0
 Run old [] [] new = new ≡ old
-Run old (change ∷ changes) (answer ∷ answers) new = (mid : State) × Step old change answer mid × Run mid changes answers new
+Run old (change ∷ changes) (answer ∷ answers) new = (mid : SheetState) × Step old change answer mid × Run mid changes answers new
 Run old [] (answer ∷ answers) new = ⊥
 Run old (change ∷ changes) [] new = ⊥

@@ -16,24 +16,24 @@ use Rattle.sheet_recalc.specs.declared.entry.Entry.{Entry}
 use Rattle.sheet_recalc.specs.declared.entry.Entry.TheVariants as entry
 
 -- where the names show these, an entry shows what this name shows, and each result of a formula is what its tree gives
-abbrev pub IsRight : (List ℕ → Outcome) → List ℕ → Entry → Type 0
-IsRight names q (entry.Data a) = Ok a ≡ names q
-IsRight names q (entry.Formula f) = IsHeld f names × (with_origin q (root_result f.nodes) ≡ names q)
+abbrev pub IsRightEntry : (List ℕ → Outcome) → List ℕ → Entry → Type 0
+IsRightEntry names q (entry.Data a) = Ok a ≡ names q
+IsRightEntry names q (entry.Formula f) = IsHeld f names × (with_origin q (root_result f.nodes) ≡ names q)
 
 -- so it is with each entry, as from scratch
 abbrev pub IsCurrent : List (List ℕ × Entry) → Type 0
-IsCurrent entries = (q : List ℕ) (e : Entry) → lookup (bytes_eq q) entries ≡ Some e → IsRight (val (names_of entries)) q e
+IsCurrent entries = (q : List ℕ) (e : Entry) → lookup (bytes_eq q) entries ≡ Some e → IsRightEntry (val (names_of entries)) q e
 
 -- the table tells exactly who refers to whom
-abbrev pub IsTable : {S : Type 0} → Names → List (List ℕ × IndexSet (List ℕ) S) → Type 0
-IsTable names users = (a b : List ℕ) → Uses bytes_eq users a b ↔ Refers names a b
+abbrev pub TellsUsers : {S : Type 0} → Names → List (List ℕ × IndexSet (List ℕ) S) → Type 0
+TellsUsers names users = (a b : List ℕ) → Uses bytes_eq users a b ↔ Refers names a b
 
 -- the names have an order, the table tells who refers to whom and no set of it is empty, and each entry shows what its name shows from scratch
 pub record IsLive {S : Type 0} (entries : List (List ℕ × Entry)) (users : List (List ℕ × IndexSet (List ℕ) S)) : Type 0 where
   pub sheet : IsSheet (names_of entries)
   pub order : List (List ℕ)
   pub kept : IsKeptOrder (names_of entries) order
-  pub tells : IsTable (names_of entries) users
+  pub tells : TellsUsers (names_of entries) users
   pub used : HasNoEmptyBut bytes_eq users []
   pub current : IsCurrent entries
 
@@ -56,14 +56,14 @@ abbrev pub entry_after : List (List ℕ × Entry) → List ℕ → Option Entry 
 entry_after entries name own q = if bytes_eq q name then own else lookup (bytes_eq q) entries
 
 -- the entries after a change are right as from scratch, each formula that has a plan once it took it
-pub record IsPlanned (entries : List (List ℕ × Entry)) (name : List ℕ) (own : Option Entry) (names : Names) (plans : List ℕ → Option PlanValue) : Type 0 where
+pub record AreRightOnceTaken (entries : List (List ℕ × Entry)) (name : List ℕ) (own : Option Entry) (names : Names) (plans : List ℕ → Option PlanValue) : Type 0 where
   pub can : (q : List ℕ) (e : Entry) (p : PlanValue) → entry_after entries name own q ≡ Some e → plans q ≡ Some p → CanAdopt e p
-  pub right : (q : List ℕ) (e : Entry) (p : PlanValue) → entry_after entries name own q ≡ Some e → plans q ≡ Some p → IsRight (val names) q (adopting e p)
-  pub rest : (q : List ℕ) (e : Entry) → entry_after entries name own q ≡ Some e → plans q ≡ None → IsRight (val names) q e
+  pub right : (q : List ℕ) (e : Entry) (p : PlanValue) → entry_after entries name own q ≡ Some e → plans q ≡ Some p → IsRightEntry (val names) q (adopting e p)
+  pub rest : (q : List ℕ) (e : Entry) → entry_after entries name own q ≡ Some e → plans q ≡ None → IsRightEntry (val names) q e
 
 -- plans are taken one after another
 pub record IsAdopting (names : Names) (es : List (List ℕ × Entry)) (plans : List ℕ → Option PlanValue) : Type 0 where
   pub names_are : names_of es ≡ names
   pub can : (q : List ℕ) (e : Entry) (p : PlanValue) → lookup (bytes_eq q) es ≡ Some e → plans q ≡ Some p → CanAdopt e p
-  pub right : (q : List ℕ) (e : Entry) (p : PlanValue) → lookup (bytes_eq q) es ≡ Some e → plans q ≡ Some p → IsRight (val names) q (adopting e p)
-  pub rest : (q : List ℕ) (e : Entry) → lookup (bytes_eq q) es ≡ Some e → plans q ≡ None → IsRight (val names) q e
+  pub right : (q : List ℕ) (e : Entry) (p : PlanValue) → lookup (bytes_eq q) es ≡ Some e → plans q ≡ Some p → IsRightEntry (val names) q (adopting e p)
+  pub rest : (q : List ℕ) (e : Entry) → lookup (bytes_eq q) es ≡ Some e → plans q ≡ None → IsRightEntry (val names) q e

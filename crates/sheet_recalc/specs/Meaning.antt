@@ -7,13 +7,13 @@ use Rattle.formula_core.specs.Meaning.{eval}
 use Rattle.sheet_recalc.specs.Names.{Names, Binding, Data, Formula, binding}
 
 -- an error that arose in the formula of a name gets its origin there, and keeps one that it has
-abbrev pub in_formula : List ℕ → Fault → Fault
-in_formula name e = record { kind = e.kind; origin = if is_some e.origin then e.origin else Some name }
+abbrev pub arisen_in : List ℕ → Fault → Fault
+arisen_in name e = record { kind = e.kind; origin = if is_some e.origin then e.origin else Some name }
 
 -- an outcome in the formula of a name: an error gets its origin there
 abbrev pub with_origin : List ℕ → Outcome → Outcome
 with_origin name (Ok a) = Ok a
-with_origin name (Err e) = Err (in_formula name e)
+with_origin name (Err e) = Err (arisen_in name e)
 
 -- what a name shows, where the other names show these: an absent name is a VALUE ERROR
 abbrev pub shown : List ℕ → Option Binding → (List ℕ → Outcome) → Outcome

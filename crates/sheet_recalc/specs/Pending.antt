@@ -11,10 +11,10 @@ use Rattle.formula_core.specs.Meaning.{names_in}
 use Rattle.formula_core.specs.Plans.{PlanValue}
 use Rattle.sheet_recalc.specs.Names.{Names, SheetValue, IsSheet}
 use Rattle.sheet_recalc.specs.NameOrder.{HasOrder}
-use Rattle.sheet_recalc.specs.Changes.{Change, Accepts, HasRoom}
+use Rattle.sheet_recalc.specs.Changes.{Change, Accepts, HasRoomForName}
 use Rattle.sheet_recalc.specs.Costs.{changed_name, asked_change, expression_cost, AreAllThatReach, IsNodeCost}
 use Rattle.sheet_recalc.specs.Entries.{names_of}
-use Rattle.sheet_recalc.specs.Live.{IsPlanned, plan_in}
+use Rattle.sheet_recalc.specs.Live.{AreRightOnceTaken, plan_in}
 use Rattle.sheet_recalc.specs.Planning.{IsProposalAt, IsProposed, NoneFails, IsPlanning, AllWait, IsOnTheWay}
 use Rattle.sheet_recalc.specs.ProposedSheet.{Outline, own_entry, proposed_names, proposed_change}
 use Rattle.sheet_recalc.specs.Tables.{Tables}
@@ -59,8 +59,8 @@ HasPlace t g (proposed.Data delta) = Unit {0}
 HasPlace t g proposed.Removed = Unit {0}
 
 -- all is worked out that a name is to be bound to: what that reaches, with the plans, and the room
-pub record IsReady {A : Type 0} (t : Tables) (name : List ℕ) (proposal : Proposal) (found : List (List ℕ × Option PlanValue)) (growth : Option (Box Growth A)) : Type 0 where
-  pub planned : IsPlanned t.entries.entries name (own_entry (outline_at t name proposal)) (proposed_names (outline_at t name proposal)) (plan_in found)
+pub record IsReadyToMake {A : Type 0} (t : Tables) (name : List ℕ) (proposal : Proposal) (found : List (List ℕ × Option PlanValue)) (growth : Option (Box Growth A)) : Type 0 where
+  pub planned : AreRightOnceTaken t.entries.entries name (own_entry (outline_at t name proposal)) (proposed_names (outline_at t name proposal)) (plan_in found)
   pub kept : HasOrder (proposed_names (outline_at t name proposal))
   pub sheet : IsSheet (proposed_names (outline_at t name proposal))
   pub proposal_at : IsProposalAt t.entries.entries name proposal
@@ -68,7 +68,7 @@ pub record IsReady {A : Type 0} (t : Tables) (name : List ℕ) (proposal : Propo
 
 -- the pending change is worked out, and its cost
 pub record IsAllReady (t : Tables) (p : Pending) : Type 0 where
-  pub ready : IsReady t p.name p.proposal p.plans.found.entries p.growth
+  pub ready : IsReadyToMake t p.name p.proposal p.plans.found.entries p.growth
   pub few : p.ticks ≤ p.plans.cost
   pub whole : NoneFails (outline_for t p) → p.ticks ≡ p.plans.cost
 
@@ -125,7 +125,7 @@ pub record IsProposedOn (s : SheetValue) (name : List ℕ) (proposal : Proposal)
   pub proposal_is : p.proposal ≡ proposal
   pub begun : IsLaidOut s.tables p spent
   pub even : p.ticks ≡ spent
-  pub room : HasRoom s.names name
+  pub room : HasRoomForName s.names name
 
 -- whatever is laid out for a name by this proposal is this change
 abbrev pub LaysOut : SheetValue → List ℕ → Proposal → ℕ → Change → Type 0

@@ -19,7 +19,7 @@ use Rattle.formula_core.specs.Plans as formula_plan
 use Rattle.dep_order.specs.Follows.{Follows}
 use Rattle.sheet_recalc.specs.Names.{Names, Formula, binding, Refers, IsSheet}
 use Rattle.sheet_recalc.specs.NameOrder.{HasOrder}
-use Rattle.sheet_recalc.specs.Changes.{HasRoom}
+use Rattle.sheet_recalc.specs.Changes.{HasRoomForName}
 use Rattle.sheet_recalc.specs.Meaning.{val, IsSettled}
 use Rattle.sheet_recalc.specs.Costs.{delta_by, binding_cost, functions_in, NoItemFails}
 use Rattle.sheet_recalc.specs.Entries.{names_of, HasData}
@@ -79,8 +79,8 @@ pub record NeedsNoPlan (o : Outline) (q : List ℕ) : Type 0 where
   pub reads : (t : Tree) → binding (proposed_names o) q ≡ Some (Formula t) → (q ≢ o.name) × ((x : List ℕ) → Contains (names_in t) x → IsUntouched o x)
 
 -- a name has its plan, or needs none
-abbrev pub IsDone : Outline → (List ℕ → Option formula_plan.PlanValue) → List ℕ → Type 0
-IsDone o plans q = IsSome (plans q) ⊎ NeedsNoPlan o q
+abbrev pub HasItsPlan : Outline → (List ℕ → Option formula_plan.PlanValue) → List ℕ → Type 0
+HasItsPlan o plans q = IsSome (plans q) ⊎ NeedsNoPlan o q
 
 -- a change and the plans so far
 pub record IsAhead (a : Ahead) : Type 0 where
@@ -101,7 +101,7 @@ pub record IsUnderWay (o : Outline) (left : List (List ℕ)) (made : (List ℕ �
   pub once : IsDistinct bytes_eq left
   pub closed : Follows (λ a b. Refers (proposed_names o) b a) (λ x. ⊥) left
   pub plans : ArePlans o made
-  pub done : (q : List ℕ) → (Contains left q → ⊥) → IsDone o made q
+  pub done : (q : List ℕ) → (Contains left q → ⊥) → HasItsPlan o made q
 
 -- the names that wait for their plans
 abbrev pub waiting_names : Plans → List (List ℕ)
@@ -183,4 +183,4 @@ pub record IsOnTheWay (o : Outline) (base : ℕ) (w : Plans) (rests : Bool) (tic
 pub record CanBe (o : Outline) : Type 0 where
   pub kept : HasOrder (proposed_names o)
   pub sheet : IsSheet (proposed_names o)
-  pub room : HasRoom (names_of o.entries) o.name
+  pub room : HasRoomForName (names_of o.entries) o.name

@@ -14,7 +14,7 @@ ghost use Rattle.sheet_recalc.specs.declared.entry.Entry.TheVariants.{Formula as
 ghost use Rattle.sheet_recalc.specs.Costs.{origin_delta};
 ghost use Rattle.sheet_recalc.specs.Meaning.{with_origin};
 ghost use Rattle.sheet_recalc.specs.ProposedSheet.{outline_of, proposed_change, entry_of};
-ghost use Rattle.sheet_recalc.specs.Planning.{IsAhead, IsDone, NeedsNoPlan, IsPlanAt};
+ghost use Rattle.sheet_recalc.specs.Planning.{IsAhead, HasItsPlan, NeedsNoPlan, IsPlanAt};
 ghost use Rattle.sheet_recalc.specs.Live.{plan_in};
 
 use crate::entry::arisen_in;
@@ -57,7 +57,7 @@ impl<'a, 'b> Ahead<'a, 'b> {
     ) -> Result<Inputs<'_>, AllocError>
         requires ahead { IsAhead self.now }
         requires held { entry_of (outline_of self.now.proposed.now) name ≡ Some (FormulaEntry formula.now) }
-        requires done { (x : List ℕ) → Contains (names_in formula.now.tree) x → IsDone (outline_of self.now.proposed.now) (plan_in self.now.found.now.entries) x }
+        requires done { (x : List ℕ) → Contains (names_in formula.now.tree) x → HasItsPlan (outline_of self.now.proposed.now) (plan_in self.now.found.now.entries) x }
         ensures { IfOk result (λ inputs. IsTold formula.now (proposed_change (outline_of self.now.proposed.now)) inputs.items) }
     {
         self.all_inputs(alloc, formula.references())
@@ -75,7 +75,7 @@ impl<'a, 'b> Ahead<'a, 'b> {
     ) -> [Input<'c>; 1]
         requires ahead { IsAhead self.now }
         requires held { entry_of (outline_of self.now.proposed.now) name ≡ Some (FormulaEntry formula.now) }
-        requires done { (x : List ℕ) → Contains (names_in formula.now.tree) x → IsDone (outline_of self.now.proposed.now) (plan_in self.now.found.now.entries) x }
+        requires done { (x : List ℕ) → Contains (names_in formula.now.tree) x → HasItsPlan (outline_of self.now.proposed.now) (plan_in self.now.found.now.entries) x }
         requires names { names_in formula.now.tree ≡ one ∷ [] }
         requires last { IfSome last (λ f. entry_of (outline_of self.now.proposed.now) (get_or (keys_of self.now.found.now.entries) place []) ≡ Some (FormulaEntry f.now)) }
         ensures { IsTold formula.now (proposed_change (outline_of self.now.proposed.now)) result }
@@ -86,7 +86,7 @@ impl<'a, 'b> Ahead<'a, 'b> {
     /// What a name shows, with what changed of it: if it is the one at this place, by the plan of its formula, which is told.
     fn input_near<'c>(&'c self, name: Name, place: usize, last: Option<&'c Formula>) -> Input<'c>
         requires ahead { IsAhead self.now }
-        requires done { IsDone (outline_of self.now.proposed.now) (plan_in self.now.found.now.entries) name }
+        requires done { HasItsPlan (outline_of self.now.proposed.now) (plan_in self.now.found.now.entries) name }
         requires last { IfSome last (λ f. entry_of (outline_of self.now.proposed.now) (get_or (keys_of self.now.found.now.entries) place []) ≡ Some (FormulaEntry f.now)) }
         ensures input { IsInput ((proposed_change (outline_of self.now.proposed.now)).new name) ((proposed_change (outline_of self.now.proposed.now)).delta name) result }
         ensures changed { IsNameChanged (proposed_change (outline_of self.now.proposed.now)) name }
@@ -110,7 +110,7 @@ impl<'a, 'b> Ahead<'a, 'b> {
     ) -> [Input<'_>; 2]
         requires ahead { IsAhead self.now }
         requires held { entry_of (outline_of self.now.proposed.now) name ≡ Some (FormulaEntry formula.now) }
-        requires done { (x : List ℕ) → Contains (names_in formula.now.tree) x → IsDone (outline_of self.now.proposed.now) (plan_in self.now.found.now.entries) x }
+        requires done { (x : List ℕ) → Contains (names_in formula.now.tree) x → HasItsPlan (outline_of self.now.proposed.now) (plan_in self.now.found.now.entries) x }
         requires names { names_in formula.now.tree ≡ one ∷ two ∷ [] }
         ensures { IsTold formula.now (proposed_change (outline_of self.now.proposed.now)) result }
     {
@@ -120,7 +120,7 @@ impl<'a, 'b> Ahead<'a, 'b> {
     /// What each of these names shows, with what changed of it.
     fn all_inputs(&self, alloc: Global, references: &[Name]) -> Result<Inputs<'_>, AllocError>
         requires ahead { IsAhead self.now }
-        requires done { (x : List ℕ) → Contains references.now x → IsDone (outline_of self.now.proposed.now) (plan_in self.now.found.now.entries) x }
+        requires done { (x : List ℕ) → Contains references.now x → HasItsPlan (outline_of self.now.proposed.now) (plan_in self.now.found.now.entries) x }
         ensures inputs { IfOk result (λ inputs. AreInputs (proposed_change (outline_of self.now.proposed.now)) references.now inputs.items) }
         ensures changed { IfOk result (λ inputs. (x : List ℕ) → Contains references.now x → IsNameChanged (proposed_change (outline_of self.now.proposed.now)) x) }
         ensures sound { IfOk result (λ inputs. (x : List ℕ) → Contains references.now x → IsNameSound (proposed_change (outline_of self.now.proposed.now)) x) }
@@ -136,7 +136,7 @@ impl<'a, 'b> Ahead<'a, 'b> {
     #[inline(always)]
     fn input_of(&self, name: Name) -> Input<'_>
         requires ahead { IsAhead self.now }
-        requires done { IsDone (outline_of self.now.proposed.now) (plan_in self.now.found.now.entries) name }
+        requires done { HasItsPlan (outline_of self.now.proposed.now) (plan_in self.now.found.now.entries) name }
         ensures input { IsInput ((proposed_change (outline_of self.now.proposed.now)).new name) ((proposed_change (outline_of self.now.proposed.now)).delta name) result }
         ensures changed { IsNameChanged (proposed_change (outline_of self.now.proposed.now)) name }
         ensures sound { IsNameSound (proposed_change (outline_of self.now.proposed.now)) name }
@@ -175,7 +175,7 @@ impl<'a, 'b> Ahead<'a, 'b> {
         ensures sound { IsNameSound (proposed_change (outline_of self.now.proposed.now)) name }
     {
         let held = formula.result();
-        in_formula(name, Input::of(&held, plan.delta()))
+        with_origin(name, Input::of(&held, plan.delta()))
     }
 
     /// What a name shows that has no plan.
@@ -216,7 +216,7 @@ impl<'a, 'b> Ahead<'a, 'b> {
 }
 
 /// What a name shows whose formula gives this: an error gets its origin there.
-fn in_formula(name: Name, input: Input<'_>) -> Input<'_>
+fn with_origin(name: Name, input: Input<'_>) -> Input<'_>
     ensures { (held : Outcome) (d : Change) → IsInput (applied d held) d input.entry → IsInput (with_origin name (applied d held)) (origin_delta name d) result }
 {
     match input {

@@ -13,8 +13,8 @@ ghost use Rattle.sheet_recalc.specs.Entries.{names_of, binding_of, adopting, Has
 ghost use Rattle.sheet_recalc.specs.declared.entry.Entry.{Entry as EntryValue};
 ghost use Rattle.sheet_recalc.specs.declared.entry.Entry.TheVariants.{Data as DataEntry};
 ghost use Rattle.dep_order.specs.Users.{HasRoomFor, HasNoEmptyBut};
-ghost use Rattle.sheet_recalc.specs.Live.{IsTable, IsCurrent, IsPlanned, IsAdopting, CanAdopt, plan_in};
-ghost use Rattle.sheet_recalc.specs.Pending.{outline_at, Brings, IsBrought, IsReady};
+ghost use Rattle.sheet_recalc.specs.Live.{TellsUsers, IsCurrent, AreRightOnceTaken, IsAdopting, CanAdopt, plan_in};
+ghost use Rattle.sheet_recalc.specs.Pending.{outline_at, Brings, IsBrought, IsReadyToMake};
 ghost use Rattle.sheet_recalc.specs.ProposedSheet.{proposed_names};
 
 use crate::entry::Entry;
@@ -38,12 +38,12 @@ pub(crate) fn make(
     found: &mut Found,
     growth: Option<Box<Growth>>,
 )
-    requires ready { IsReady (record { entries = entries.old; users = users.old }) name proposal found.old.entries growth }
-    requires tells { IsTable (names_of entries.old.entries) users.old.entries }
+    requires ready { IsReadyToMake (record { entries = entries.old; users = users.old }) name proposal found.old.entries growth }
+    requires tells { TellsUsers (names_of entries.old.entries) users.old.entries }
     requires used { HasNoEmptyBut bytes_eq users.old.entries [] }
     ensures names { names_of entries.new.entries ≡ proposed_names (outline_at (record { entries = entries.old; users = users.old }) name proposal) }
     ensures current { IsCurrent entries.new.entries }
-    ensures tells { IsTable (proposed_names (outline_at (record { entries = entries.old; users = users.old }) name proposal)) users.new.entries }
+    ensures tells { TellsUsers (proposed_names (outline_at (record { entries = entries.old; users = users.old }) name proposal)) users.new.entries }
     ensures used { HasNoEmptyBut bytes_eq users.new.entries [] }
 {
     match proposal {
@@ -72,13 +72,13 @@ fn commit_with(
     found: &mut Found,
     growth: Option<Box<Growth>>,
 )
-    requires planned { IsPlanned entries.old.entries name (Some entry) (put (names_of entries.old.entries) name (binding_of entry)) (plan_in found.old.entries) }
+    requires planned { AreRightOnceTaken entries.old.entries name (Some entry) (put (names_of entries.old.entries) name (binding_of entry)) (plan_in found.old.entries) }
     requires brings { IsBrought (record { entries = entries.old; users = users.old }) (referred (binding_of entry)) growth }
-    requires tells { IsTable (names_of entries.old.entries) users.old.entries }
+    requires tells { TellsUsers (names_of entries.old.entries) users.old.entries }
     requires used { HasNoEmptyBut bytes_eq users.old.entries [] }
     ensures names { names_of entries.new.entries ≡ put (names_of entries.old.entries) name (binding_of entry) }
     ensures current { IsCurrent entries.new.entries }
-    ensures tells { IsTable (put (names_of entries.old.entries) name (binding_of entry)) users.new.entries }
+    ensures tells { TellsUsers (put (names_of entries.old.entries) name (binding_of entry)) users.new.entries }
     ensures used { HasNoEmptyBut bytes_eq users.new.entries [] }
 {
     match growth {
@@ -96,13 +96,13 @@ fn commit_brought(
     found: &mut Found,
     growth: Growth,
 )
-    requires planned { IsPlanned entries.old.entries name (Some entry) (put (names_of entries.old.entries) name (binding_of entry)) (plan_in found.old.entries) }
+    requires planned { AreRightOnceTaken entries.old.entries name (Some entry) (put (names_of entries.old.entries) name (binding_of entry)) (plan_in found.old.entries) }
     requires brings { Brings (record { entries = entries.old; users = users.old }) (referred (binding_of entry)) growth }
-    requires tells { IsTable (names_of entries.old.entries) users.old.entries }
+    requires tells { TellsUsers (names_of entries.old.entries) users.old.entries }
     requires used { HasNoEmptyBut bytes_eq users.old.entries [] }
     ensures names { names_of entries.new.entries ≡ put (names_of entries.old.entries) name (binding_of entry) }
     ensures current { IsCurrent entries.new.entries }
-    ensures tells { IsTable (put (names_of entries.old.entries) name (binding_of entry)) users.new.entries }
+    ensures tells { TellsUsers (put (names_of entries.old.entries) name (binding_of entry)) users.new.entries }
     ensures used { HasNoEmptyBut bytes_eq users.new.entries [] }
 {
     take_larger(entries, growth.entries, 1);
@@ -120,13 +120,13 @@ fn commit(
     found: &mut Found,
 )
     requires room { 0 < spare entries.old }
-    requires planned { IsPlanned entries.old.entries name (Some entry) (put (names_of entries.old.entries) name (binding_of entry)) (plan_in found.old.entries) }
-    requires tells { IsTable (names_of entries.old.entries) users.old.entries }
+    requires planned { AreRightOnceTaken entries.old.entries name (Some entry) (put (names_of entries.old.entries) name (binding_of entry)) (plan_in found.old.entries) }
+    requires tells { TellsUsers (names_of entries.old.entries) users.old.entries }
     requires sets { HasRoomFor bytes_eq users.old.entries (referred (binding_of entry)) }
     requires used { HasNoEmptyBut bytes_eq users.old.entries (referred (binding_of entry)) }
     ensures names { names_of entries.new.entries ≡ put (names_of entries.old.entries) name (binding_of entry) }
     ensures current { IsCurrent entries.new.entries }
-    ensures tells { IsTable (put (names_of entries.old.entries) name (binding_of entry)) users.new.entries }
+    ensures tells { TellsUsers (put (names_of entries.old.entries) name (binding_of entry)) users.new.entries }
     ensures used { HasNoEmptyBut bytes_eq users.new.entries [] }
 {
     refer(
@@ -146,12 +146,12 @@ fn commit_removal(
     name: Name,
     found: &mut Found,
 )
-    requires planned { IsPlanned entries.old.entries name None (without (names_of entries.old.entries) name) (plan_in found.old.entries) }
-    requires tells { IsTable (names_of entries.old.entries) users.old.entries }
+    requires planned { AreRightOnceTaken entries.old.entries name None (without (names_of entries.old.entries) name) (plan_in found.old.entries) }
+    requires tells { TellsUsers (names_of entries.old.entries) users.old.entries }
     requires used { HasNoEmptyBut bytes_eq users.old.entries [] }
     ensures names { names_of entries.new.entries ≡ without (names_of entries.old.entries) name }
     ensures current { IsCurrent entries.new.entries }
-    ensures tells { IsTable (without (names_of entries.old.entries) name) users.new.entries }
+    ensures tells { TellsUsers (without (names_of entries.old.entries) name) users.new.entries }
     ensures used { HasNoEmptyBut bytes_eq users.new.entries [] }
 {
     refer(users, name, references_of(entries, name), &[]);
@@ -165,7 +165,7 @@ fn commit_removal(
 fn commit_patch(entries: &mut IndexMap<Name, Entry>, name: Name, patch: &Patch, found: &mut Found)
     requires data { (a : ArrayValue) × HasData entries.old.entries name a × FitsPatch a patch.now }
     requires planned { (a : ArrayValue) → HasData entries.old.entries name a
-        → IsPlanned entries.old.entries name (Some (DataEntry (patched a patch.now))) (put (names_of entries.old.entries) name (Data (patched a patch.now))) (plan_in found.old.entries) }
+        → AreRightOnceTaken entries.old.entries name (Some (DataEntry (patched a patch.now))) (put (names_of entries.old.entries) name (Data (patched a patch.now))) (plan_in found.old.entries) }
     ensures names { (a : ArrayValue) → HasData entries.old.entries name a → names_of entries.new.entries ≡ put (names_of entries.old.entries) name (Data (patched a patch.now)) }
     ensures current { IsCurrent entries.new.entries }
 {
@@ -187,7 +187,7 @@ fn write_patch(entries: &mut IndexMap<Name, Entry>, name: Name, patch: &Patch)
 fn commit_row(entries: &mut IndexMap<Name, Entry>, name: Name, tail: Tail, found: &mut Found)
     requires data { (a : ArrayValue) × HasData entries.old.entries name a × FitsTail a tail }
     requires planned { (a : ArrayValue) → HasData entries.old.entries name a
-        → IsPlanned entries.old.entries name (Some (DataEntry (grown_by a tail.items))) (put (names_of entries.old.entries) name (Data (grown_by a tail.items))) (plan_in found.old.entries) }
+        → AreRightOnceTaken entries.old.entries name (Some (DataEntry (grown_by a tail.items))) (put (names_of entries.old.entries) name (Data (grown_by a tail.items))) (plan_in found.old.entries) }
     ensures names { (a : ArrayValue) → HasData entries.old.entries name a → names_of entries.new.entries ≡ put (names_of entries.old.entries) name (Data (grown_by a tail.items)) }
     ensures current { IsCurrent entries.new.entries }
 {

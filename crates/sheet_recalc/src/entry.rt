@@ -2,7 +2,7 @@
 
 ghost use Rattle.std.specs.Prelude.{◌≡◌};
 ghost use Rattle.formula_core.specs.Outcomes.{read};
-ghost use Rattle.sheet_recalc.specs.Meaning.{in_formula};
+ghost use Rattle.sheet_recalc.specs.Meaning.{arisen_in};
 ghost use Rattle.sheet_recalc.specs.Entries.{binding_of, entry_outcome, adopting, patched_entry, grown_entry, FitsEntry, FitsBehind};
 ghost use Rattle.sheet_recalc.specs.Names.{referred};
 ghost use Rattle.sheet_recalc.specs.Live.{CanAdopt};
@@ -81,7 +81,7 @@ impl Entry {
 
 /// An error that arose in the formula of a name: it gets its origin there, and keeps one that it has.
 pub(crate) fn arisen_in(name: Name, fault: Fault) -> Fault
-    ensures { result ≡ in_formula name fault }
+    ensures { result ≡ arisen_in name fault }
 {
     Fault {
         kind: fault.kind,

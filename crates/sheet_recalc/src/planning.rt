@@ -12,11 +12,11 @@ ghost use Rattle.formula_core.specs.Tables.{subtrees, tree_at};
 ghost use Rattle.arrays_core.specs.Arrays.{IsArray};
 ghost use Rattle.sheet_recalc.specs.Meaning.{val};
 ghost use Rattle.sheet_recalc.specs.ProposedSheet.{outline_of, is_data, proposed_names, proposed_change, entry_of};
-ghost use Rattle.sheet_recalc.specs.Changes.{HasRoom, IsFullFor, CannotBecome};
+ghost use Rattle.sheet_recalc.specs.Changes.{HasRoomForName, IsFullFor, CannotBecome};
 ghost use Rattle.sheet_recalc.specs.Costs.{AreAllThatReach, IsNodeCost};
 ghost use Rattle.sheet_recalc.specs.Entries.{names_of};
 ghost use Rattle.sheet_recalc.specs.Live.{IsLive, IsCurrent, plan_in};
-ghost use Rattle.sheet_recalc.specs.Planning.{IsProposalAt, IsProposed, ArePlans, IsDone, IsAhead, IsPlanning, AllWait, IsOnTheWay, CanBe, waiting_names, functions_at};
+ghost use Rattle.sheet_recalc.specs.Planning.{IsProposalAt, IsProposed, ArePlans, HasItsPlan, IsAhead, IsPlanning, AllWait, IsOnTheWay, CanBe, waiting_names, functions_at};
 ghost use Rattle.sheet_recalc.specs.declared.entry.Entry.TheVariants.{Formula as FormulaEntry};
 
 use crate::ahead::Ahead;
@@ -87,7 +87,7 @@ fn shown_is_sound(proposed: &ProposedSheet<'_>)
 
 /// There is room for a name: it is present, or fewer than `MOST_NAMES` names are.
 fn has_room(entries: &IndexMap<Name, Entry>, name: Name) -> bool
-    ensures { MatchBool result (HasRoom (names_of entries.now.entries) name) (IsFullFor (names_of entries.now.entries) name) }
+    ensures { MatchBool result (HasRoomForName (names_of entries.now.entries) name) (IsFullFor (names_of entries.now.entries) name) }
 {
     entries.len() < MOST_NAMES || entries.contains_key(&name)
 }
@@ -189,7 +189,7 @@ fn started(
     requires proposed { IsProposed (outline_of proposed.now) }
     requires plans { ArePlans (outline_of proposed.now) (plan_in found.now.entries) }
     requires held { entry_of (outline_of proposed.now) name ≡ Some (FormulaEntry formula.now) }
-    requires done { (x : List ℕ) → Contains (names_in formula.now.tree) x → IsDone (outline_of proposed.now) (plan_in found.now.entries) x }
+    requires done { (x : List ℕ) → Contains (names_in formula.now.tree) x → HasItsPlan (outline_of proposed.now) (plan_in found.now.entries) x }
     ensures none { IfOk result (λ p. operations_among formula.now p.changes ≡ 0) }
     ensures cost { IfOk result (λ p. p.cost ≡ 0) }
     ensures planned { IfOk result (IsPlannedTo formula.now (proposed_change (outline_of proposed.now))) }
@@ -247,7 +247,7 @@ fn apply_to(
     requires proposed { IsProposed (outline_of proposed.now) }
     requires plans { ArePlans (outline_of proposed.now) (plan_in found.now.entries) }
     requires held { entry_of (outline_of proposed.now) name ≡ Some (FormulaEntry formula.now) }
-    requires done { (x : List ℕ) → Contains (names_in formula.now.tree) x → IsDone (outline_of proposed.now) (plan_in found.now.entries) x }
+    requires done { (x : List ℕ) → Contains (names_in formula.now.tree) x → HasItsPlan (outline_of proposed.now) (plan_in found.now.entries) x }
     requires planned { IsPlannedTo formula.now (proposed_change (outline_of proposed.now)) plan.old }
     requires left { operations_among formula.now plan.old.changes < operations formula.now.tree }
     ensures one { OnOk result (operations_among formula.now plan.new.changes ≡ operations_among formula.now plan.old.changes + 1) }
@@ -323,7 +323,7 @@ fn whole_plan(
     requires proposed { IsProposed (outline_of proposed.now) }
     requires plans { ArePlans (outline_of proposed.now) (plan_in found.now.entries) }
     requires held { entry_of (outline_of proposed.now) name ≡ Some (FormulaEntry formula.now) }
-    requires done { (x : List ℕ) → Contains (names_in formula.now.tree) x → IsDone (outline_of proposed.now) (plan_in found.now.entries) x }
+    requires done { (x : List ℕ) → Contains (names_in formula.now.tree) x → HasItsPlan (outline_of proposed.now) (plan_in found.now.entries) x }
     requires last { IfSome last (λ f. entry_of (outline_of proposed.now) (get_or (keys_of found.now.entries) place []) ≡ Some (FormulaEntry f.now)) }
     ensures of { IfOk result (IsPlanOf formula.now) }
     ensures planned { IfOk result (IsPlanned formula.now (proposed_change (outline_of proposed.now))) }
@@ -357,7 +357,7 @@ fn plan_of_many(
 ) -> Result<Plan, AllocError>
     requires ahead { IsAhead ahead.now }
     requires held { entry_of (outline_of ahead.now.proposed.now) name ≡ Some (FormulaEntry formula.now) }
-    requires done { (x : List ℕ) → Contains (names_in formula.now.tree) x → IsDone (outline_of ahead.now.proposed.now) (plan_in ahead.now.found.now.entries) x }
+    requires done { (x : List ℕ) → Contains (names_in formula.now.tree) x → HasItsPlan (outline_of ahead.now.proposed.now) (plan_in ahead.now.found.now.entries) x }
     ensures of { IfOk result (IsPlanOf formula.now) }
     ensures planned { IfOk result (IsPlanned formula.now (proposed_change (outline_of ahead.now.proposed.now))) }
     ensures ticks { OnOk result (meter.new.ticks ≤ meter.old.ticks + tree_cost formula.now.is_new (proposed_change (outline_of ahead.now.proposed.now)) formula.now.tree) }

@@ -17,7 +17,7 @@ ghost use Rattle.sheet_recalc.specs.Planning.{IsProposalAt};
 ghost use Rattle.sheet_recalc.specs.declared.proposal.Proposal.TheVariants.{Removed};
 ghost use Rattle.sheet_recalc.specs.Pending.{IsLaidOutOn, IsPendingOn, IsProposedOn, LaysOut, steps_left};
 ghost use Rattle.sheet_recalc.specs.Changes.{Change, Accepts, Refuses, Define, Store, Put, SetCell, AddRow, Erase, CannotBecome};
-ghost use Rattle.sheet_recalc.specs.Costs.{HasCost, HasTicks, at_rest, changed_name, expression_cost, IsStepCost, IsStepCount};
+ghost use Rattle.sheet_recalc.specs.Costs.{HasCost, HasTicks, names_at_rest, changed_name, expression_cost, IsStepCost, IsStepCount};
 
 use crate::cell::cell_patch;
 use crate::commit::make;
@@ -390,7 +390,7 @@ impl Sheet {
     /// What an expression has now, as another array for a name; an error in its place is a refusal.
     fn evaluated(&self, tree: &Expr, meter: &mut Meter) -> Result<Delta, Refusal>
         ensures is { IfOk result (λ change. (a : ArrayValue) × (eval (tree_of tree.now) (val self.now.names) ≡ Ok a) × (change ≡ Whole (Ok a))) }
-        ensures ticks { OnOk result (meter.new.ticks ≡ ticked meter.old.ticks (tree_cost true (at_rest self.now.names) (tree_of tree.now))) }
+        ensures ticks { OnOk result (meter.new.ticks ≡ ticked meter.old.ticks (tree_cost true (names_at_rest self.now.names) (tree_of tree.now))) }
         ensures refused { IfErr result (λ cause. (name : List ℕ) → Refuses self.now.names (Store name (tree_of tree.now)) cause) }
     {
         match evaluate_counted(self.alloc, tree, self, meter)? {

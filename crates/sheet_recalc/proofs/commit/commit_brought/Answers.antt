@@ -5,14 +5,14 @@ use Rattle.dep_order.specs.Room.{AreSetsFor}
 use Rattle.dep_order.proofs.Following.{contains_none}
 use Rattle.sheet_recalc.specs.Names.{Names, put, referred}
 use Rattle.sheet_recalc.specs.Entries.{names_of, binding_of}
-use Rattle.sheet_recalc.specs.Live.{IsTable}
+use Rattle.sheet_recalc.specs.Live.{TellsUsers}
 use Rattle.sheet_recalc.specs.declared.entry.Entry.{Entry}
 use Rattle.sheet_recalc.proofs.commit.commit_brought.Goals as goal
 
 pub commit-requires-clause-tells : goal.commit-requires-clause-tells
 commit-requires-clause-tells c =
-    let told = subst (λ (es : List (List ℕ × Entry)). IsTable (names_of es) c.take_larger-2.new.map.entries) (sym c.take_larger.ensures.entries)
-    (subst (λ (us : List (List ℕ × _)). IsTable (names_of c.args.entries.now.entries) us) (sym c.take_larger-2.ensures.entries) c.requires.tells) in
+    let told = subst (λ (es : List (List ℕ × Entry)). TellsUsers (names_of es) c.take_larger-2.new.map.entries) (sym c.take_larger.ensures.entries)
+    (subst (λ (us : List (List ℕ × _)). TellsUsers (names_of c.args.entries.now.entries) us) (sym c.take_larger-2.ensures.entries) c.requires.tells) in
     λ a b. ((λ u. (told a b).0 ((c.give_sets.ensures.same a b).0 u)), (λ r. (c.give_sets.ensures.same a b).1 ((told a b).1 r)))
 
 pub commit-requires-clause-sets : goal.commit-requires-clause-sets
@@ -28,4 +28,4 @@ commit-requires-clause-used c =
 
 pub returns-clause-tells : goal.returns-clause-tells
 returns-clause-tells c =
-    subst (λ (ns : Names). IsTable ns c.commit.new.users.entries) (ap (λ es. put (names_of es) c.args.name (binding_of c.args.entry)) c.take_larger.ensures.entries) c.commit.ensures.tells
+    subst (λ (ns : Names). TellsUsers ns c.commit.new.users.entries) (ap (λ es. put (names_of es) c.args.name (binding_of c.args.entry)) c.take_larger.ensures.entries) c.commit.ensures.tells

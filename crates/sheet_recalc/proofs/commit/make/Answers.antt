@@ -15,9 +15,9 @@ use Rattle.sheet_recalc.specs.Entries.{names_of, binding_of, HasData}
 use Rattle.formula_core.specs.Changes.{FitsIn}
 use Rattle.sheet_recalc.specs.Planning.{IsProposalAt}
 use Rattle.sheet_recalc.specs.Tables.{Tables}
-use Rattle.sheet_recalc.specs.Pending.{IsReady, outline_at}
+use Rattle.sheet_recalc.specs.Pending.{IsReadyToMake, outline_at}
 use Rattle.formula_core.specs.Plans.{PlanValue}
-use Rattle.sheet_recalc.specs.Live.{IsTable, IsPlanned, plan_in}
+use Rattle.sheet_recalc.specs.Live.{TellsUsers, AreRightOnceTaken, plan_in}
 use Rattle.sheet_recalc.specs.ProposedSheet.{data_entry, proposed_entry, proposed_names, names_with}
 use Rattle.sheet_recalc.specs.declared.entry.Entry.{Entry}
 use Rattle.sheet_recalc.specs.declared.entry.Entry.TheVariants as entry
@@ -55,21 +55,21 @@ own_changed es name d h other a held = ap (λ r. data_entry (applied d r)) (val_
 
 pub returns-in-Formula-clause-tells : goal.returns-in-Formula-clause-tells
 returns-in-Formula-clause-tells c =
-    subst (λ (p : Proposal). IsTable (names_with (names_of c.args.entries.now.entries) c.args.name p) c.commit_with.new.users.entries) (sym c.in-Formula.is) c.commit_with.ensures.tells
+    subst (λ (p : Proposal). TellsUsers (names_with (names_of c.args.entries.now.entries) c.args.name p) c.commit_with.new.users.entries) (sym c.in-Formula.is) c.commit_with.ensures.tells
 
 pub returns-in-Removed-clause-tells : goal.returns-in-Removed-clause-tells
 returns-in-Removed-clause-tells c =
-    subst (λ (p : Proposal). IsTable (names_with (names_of c.args.entries.now.entries) c.args.name p) c.commit_removal.new.users.entries) (sym c.in-Removed.is) c.commit_removal.ensures.tells
+    subst (λ (p : Proposal). TellsUsers (names_with (names_of c.args.entries.now.entries) c.args.name p) c.commit_removal.new.users.entries) (sym c.in-Removed.is) c.commit_removal.ensures.tells
 
 pub returns-in-Data-Whole-Ok-clause-tells : goal.returns-in-Data-Whole-Ok-clause-tells
 returns-in-Data-Whole-Ok-clause-tells c =
     let whole = c.in-Data-Whole-Ok in
     let is = whole.is ∙ (ap (λ (d : Delta). proposed.Data d) (whole.field-0-is ∙ ap Whole whole.field-0-0-is)) in
-    subst (λ (p : Proposal). IsTable (names_with (names_of c.args.entries.now.entries) c.args.name p) c.commit_with-in-Data-Whole-Ok.new.users.entries) (sym is) c.commit_with-in-Data-Whole-Ok.ensures.tells
+    subst (λ (p : Proposal). TellsUsers (names_with (names_of c.args.entries.now.entries) c.args.name p) c.commit_with-in-Data-Whole-Ok.new.users.entries) (sym is) c.commit_with-in-Data-Whole-Ok.ensures.tells
 
 -- where the data is changed in place
 module _ {A : Type 0} (t : Tables) (name : List ℕ) (p : Proposal) (found : List (List ℕ × Option PlanValue)) (growth : Option (Box Growth A)) (d : Delta) (is : p ≡ proposed.Data d)
-    (other : (b : ArrayValue) → d ≡ Whole (Ok b) → ⊥) (ready : IsReady t name p found growth) where
+    (other : (b : ArrayValue) → d ≡ Whole (Ok b) → ⊥) (ready : IsReadyToMake t name p found growth) where
   abbrev es : List (List ℕ × Entry)
   es = t.entries.entries
 
@@ -82,18 +82,18 @@ module _ {A : Type 0} (t : Tables) (name : List ℕ) (p : Proposal) (found : Lis
   own : (a : ArrayValue) → HasData es name a → proposed_entry (val (names_of es) name) p ≡ Some (entry.Data (changed_data a d))
   own a there = ap (proposed_entry (val (names_of es) name)) is ∙ own_changed es name d stands other a there
 
-  fits_planned : (a : ArrayValue) → HasData es name a → IsPlanned es name (Some (entry.Data (changed_data a d))) (put (names_of es) name (Data (changed_data a d))) (plan_in found)
+  fits_planned : (a : ArrayValue) → HasData es name a → AreRightOnceTaken es name (Some (entry.Data (changed_data a d))) (put (names_of es) name (Data (changed_data a d))) (plan_in found)
   fits_planned a there =
-      subst (λ (e : Option Entry). IsPlanned es name e (rebound (names_of es) name (option_map binding_of e)) (plan_in found)) (own a there) ready.planned
+      subst (λ (e : Option Entry). AreRightOnceTaken es name e (rebound (names_of es) name (option_map binding_of e)) (plan_in found)) (own a there) ready.planned
 
   makes_names : (new : Names) → ((a : ArrayValue) → HasData es name a → new ≡ put (names_of es) name (Data (changed_data a d))) → new ≡ proposed_names (outline_at t name p)
   makes_names new made =
       made held.0 held.1 ∙ sym (ap (λ (e : Option Entry). rebound (names_of es) name (option_map binding_of e)) (own held.0 held.1))
 
-  makes_table : {S : Type 0} (users : List (List ℕ × IndexSet (List ℕ) S)) → IsTable (names_of es) users → IsTable (proposed_names (outline_at t name p)) users
+  makes_table : {S : Type 0} (users : List (List ℕ × IndexSet (List ℕ) S)) → TellsUsers (names_of es) users → TellsUsers (proposed_names (outline_at t name p)) users
   makes_table users tells =
       let there : binding (names_of es) name ≡ Some (Data held.0) = binding_of_name es name ∙ ap (option_map binding_of) held.1 in
-      subst (λ (e : Option Entry). IsTable (rebound (names_of es) name (option_map binding_of e)) users) (sym (own held.0 held.1))
+      subst (λ (e : Option Entry). TellsUsers (rebound (names_of es) name (option_map binding_of e)) users) (sym (own held.0 held.1))
       (table_kept (names_of es) name held.0 (changed_data held.0 d) users there tells)
 
 no_array : (p : PatchValue) (b : ArrayValue) → Patch p ≡ Whole (Ok b) → ⊥

@@ -2,7 +2,7 @@ use Rattle.std.proofs.Common.{◌≡◌, ◌∙◌, sym, refl, arith, ℕ, List,
 use Rattle.std.proofs.lemmas.List.{length-map}
 use Rattle.sheet_recalc.specs.Names.{Binding}
 use Rattle.sheet_recalc.specs.Entries.{names_of, binding_of}
-use Rattle.sheet_recalc.specs.Changes.{HasRoom, IsFullFor}
+use Rattle.sheet_recalc.specs.Changes.{HasRoomForName, IsFullFor}
 use Rattle.sheet_recalc.specs.declared.entry.Entry.{Entry}
 use Rattle.sheet_recalc.proofs.Live.{present_name, absent_name}
 use Rattle.sheet_recalc.proofs.planning.has_room.Goals as goal
@@ -10,7 +10,7 @@ use Rattle.sheet_recalc.proofs.planning.has_room.Goals as goal
 pub returns-else-len-lt-MOST_NAMES : goal.returns-else-len-lt-MOST_NAMES
 returns-else-len-lt-MOST_NAMES c = by c.contains_key.result refl
   where
-    by : (t : Bool) → c.contains_key.result ≡ t → MatchBool t (HasRoom (names_of c.args.entries.now.entries) c.args.name) (IsFullFor (names_of c.args.entries.now.entries) c.args.name)
+    by : (t : Bool) → c.contains_key.result ≡ t → MatchBool t (HasRoomForName (names_of c.args.entries.now.entries) c.args.name) (IsFullFor (names_of c.args.entries.now.entries) c.args.name)
     by true is = inl (present_name c.args.entries.now.entries c.args.name (sym c.contains_key.ensures ∙ is))
     by false is = (
       absent_name c.args.entries.now.entries c.args.name (sym is ∙ c.contains_key.ensures),

@@ -7,7 +7,7 @@ use Rattle.sheet_recalc.specs.History.{change_of}
 use Rattle.sheet_recalc.specs.Pending.{steps_left}
 use Rattle.sheet_recalc.specs.declared.refusal.Refusal.{Refusal}
 use Rattle.sheet_recalc.specs.declared.refusal.Refusal.TheVariants.{Stale}
-use Rattle.sheet_desk.specs.Desk.{DeskValue, SlotValue, Step, IsEvent, held_in, holding, step_refusal, told}
+use Rattle.sheet_desk.specs.Desk.{DeskValue, SlotValue, Step, IsEvent, held_in, with_held, step_refusal, told}
 use Rattle.sheet_desk.specs.Held.{slot_of, IsOpenOn}
 use Rattle.sheet_desk.specs.declared.slot.Slot.{Slot}
 use Rattle.sheet_desk.specs.Asked.{count_answer}
@@ -107,7 +107,7 @@ returns c =
         few = cost.2;
         next_is =
             put_seen (placed_fresh at) (Some after)
-            ∙ ap (λ (now : SlotValue). holding c.args.self.now c.args.number (Some now))
+            ∙ ap (λ (now : SlotValue). with_held c.args.self.now c.args.number (Some now))
             (slot_after s c.advance.new.pending (steps_left s.pending - 1) c.advance.new.pending.ticks c.if-slot.false c.in_ok-advance.ensures.one refl);
       };
     }

@@ -29,10 +29,10 @@ returns-clause-input c =
     let f = c.args.formula.now in
     let p = c.args.plan.now in
     let now = plan_now o c.args.name p f c.requires.plan c.requires.held in
-    let given = c.in_formula.ensures (read c.result-held.result) c.delta.result.now c.of.ensures.is in
-    planned_input o c.requires.ahead.proposed c.args.name f c.requires.held p now.0 now.1 c.in_formula.result
-    (subst (λ (d : Delta). IsInput (with_origin c.args.name (applied d (root_result f.nodes))) (origin_delta c.args.name d) c.in_formula.result) c.delta.ensures
-    (subst (λ (h : Outcome). IsInput (with_origin c.args.name (applied c.delta.result.now h)) (origin_delta c.args.name c.delta.result.now) c.in_formula.result) c.result-held.ensures given))
+    let given = c.with_origin.ensures (read c.result-held.result) c.delta.result.now c.of.ensures.is in
+    planned_input o c.requires.ahead.proposed c.args.name f c.requires.held p now.0 now.1 c.with_origin.result
+    (subst (λ (d : Delta). IsInput (with_origin c.args.name (applied d (root_result f.nodes))) (origin_delta c.args.name d) c.with_origin.result) c.delta.ensures
+    (subst (λ (h : Outcome). IsInput (with_origin c.args.name (applied c.delta.result.now h)) (origin_delta c.args.name c.delta.result.now) c.with_origin.result) c.result-held.ensures given))
 
 pub returns-clause-changed : goal.returns-clause-changed
 returns-clause-changed c =

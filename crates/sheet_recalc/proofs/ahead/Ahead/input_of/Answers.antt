@@ -1,7 +1,7 @@
 use Rattle.std.proofs.Common.{◌≡◌, ◌∙◌, List, ℕ, sym, subst}
 use Rattle.sheet_recalc.specs.Live.{plan_in}
 use Rattle.sheet_recalc.specs.ProposedSheet.{outline_of}
-use Rattle.sheet_recalc.specs.Planning.{IsDone}
+use Rattle.sheet_recalc.specs.Planning.{HasItsPlan}
 use Rattle.sheet_recalc.proofs.NameEquality.{equal-true}
 use Rattle.sheet_recalc.proofs.PlannedNames.{data_needs_none}
 use Rattle.sheet_recalc.proofs.ahead.Ahead.input_of.Goals as goal
@@ -11,4 +11,4 @@ own-requires-clause-done c =
     let o = outline_of c.args.self.now.proposed.now in
     let plans = plan_in c.args.self.now.found.now.entries in
     let name : c.args.name ≡ o.name = equal-true c.args.name o.name (sym c.eq.ensures ∙ c.if-eq.true) in
-    data_needs_none o plans (sym c.is_data.ensures ∙ c.if-is_data.true) c.requires.ahead.plans (subst (λ (x : List ℕ). IsDone o plans x) name c.requires.done)
+    data_needs_none o plans (sym c.is_data.ensures ∙ c.if-is_data.true) c.requires.ahead.plans (subst (λ (x : List ℕ). HasItsPlan o plans x) name c.requires.done)

@@ -4,7 +4,7 @@ use Rattle.apl_expr.specs.Trees.{tree_of}
 use Rattle.change_core.specs.Meters.{ticked, MeterValue}
 use Rattle.index_region.specs.declared.delta.Delta.{Delta}
 use Rattle.formula_core.specs.Plans.{tree_cost}
-use Rattle.sheet_recalc.specs.Costs.{at_rest}
+use Rattle.sheet_recalc.specs.Costs.{names_at_rest}
 use Rattle.sheet_recalc.specs.ProposedSheet.{names_with}
 use Rattle.sheet_recalc.specs.Changes.{CannotBecome}
 use Rattle.sheet_recalc.specs.Pending.{IsProposedOn}
@@ -18,8 +18,8 @@ returns-clause-ok c =
     let s = c.args.self.now in
     let t = tree_of c.args.tree.now in
     let is = c.in_ok-change.ensures.is in
-    let spent : c.ticks-spent.result ≡ ticked 0 (tree_cost true (at_rest s.names) t) =
-    c.ticks-spent.ensures ∙ c.in_ok-change.ensures.ticks ∙ ap (λ (m : MeterValue). ticked m.ticks (tree_cost true (at_rest s.names) t)) c.new-meter.ensures in
+    let spent : c.ticks-spent.result ≡ ticked 0 (tree_cost true (names_at_rest s.names) t) =
+    c.ticks-spent.ensures ∙ c.in_ok-change.ensures.ticks ∙ ap (λ (m : MeterValue). ticked m.ticks (tree_cost true (names_at_rest s.names) t)) c.new-meter.ensures in
     if_ok_map c.propose.result _ _ (λ p h. data_pending s c.args.name is.0 c.ticks-spent.result p (subst (λ (d : Delta). IsProposedOn s c.args.name (Data d) c.ticks-spent.result p) is.2 h) t is.1 spent) c.propose.ensures.ok
 
 pub returns-clause-refused : goal.returns-clause-refused

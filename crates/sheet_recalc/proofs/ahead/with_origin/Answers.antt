@@ -2,7 +2,7 @@ use Rattle.std.proofs.Common.{subst}
 use Rattle.change_rules.specs.Currency.{applied}
 use Rattle.formula_core.specs.Inputs.{IsInput}
 use Rattle.sheet_recalc.proofs.PlannedNames.{good_origin, bad_origin}
-use Rattle.sheet_recalc.proofs.ahead.in_formula.Goals as goal
+use Rattle.sheet_recalc.proofs.ahead.with_origin.Goals as goal
 
 pub returns-in-Good : goal.returns-in-Good
 returns-in-Good c =
