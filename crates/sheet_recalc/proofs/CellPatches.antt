@@ -10,7 +10,8 @@ use Rattle.index_region.proofs.OnePlace.{one_place_size, one_place_fits, one_pla
 use Rattle.index_region.proofs.Written.{IsWritten, written_none, written_more, written_all}
 use Rattle.arrays_core.specs.declared.item.ItemType.{ItemType}
 use Rattle.arrays_core.specs.declared.item.ItemType.TheVariants.{Nums, Chars}
-use Rattle.sheet_recalc.specs.Cells.{with_item, item_put, is_same_type}
+use Rattle.index_region.specs.Arguments.{is_same_type}
+use Rattle.sheet_recalc.specs.Cells.{with_item, item_put}
 use Rattle.sheet_recalc.specs.Costs.{cell_patch}
 
 -- an array with a patch of one place is the array with the item there

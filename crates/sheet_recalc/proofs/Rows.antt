@@ -11,7 +11,8 @@ use Rattle.arrays_core.specs.declared.item.ItemType.{ItemType}
 use Rattle.arrays_core.specs.declared.item.ItemType.TheVariants.{Nums, Chars}
 use Rattle.index_region.specs.Checks.{is_within_limits}
 use Rattle.index_region.proofs.Passing.{is_within_from, within_limits}
-use Rattle.sheet_recalc.specs.Cells.{literal_items, is_same_type}
+use Rattle.index_region.specs.Arguments.{is_same_type}
+use Rattle.sheet_recalc.specs.Cells.{literal_items}
 use Rattle.sheet_recalc.specs.declared.refusal.Refusal.TheVariants.{Limit}
 use Rattle.sheet_recalc.specs.Rows.{row_length, are_of_type, row_items_put}
 

@@ -11,6 +11,7 @@ use Rattle.arrays_core.specs.declared.item.ItemType.TheVariants.{Nums, Chars}
 use Rattle.sheet_recalc.specs.Names.{Binding, Data, Formula}
 use Rattle.sheet_recalc.specs.declared.refusal.Refusal.{Refusal}
 use Rattle.sheet_recalc.specs.declared.refusal.Refusal.TheVariants.{NotFound, NotData, Rank, Index, Length, Domain, NoMemory}
+use Rattle.index_region.specs.Arguments.{is_same_type}
 
 -- a number as an index, where 0 is one that no axis has
 abbrev pub index_of_number : ℤ → ℕ
@@ -29,13 +30,6 @@ is_on_axis axis index = nat_le 1 index && nat_le index axis
 abbrev pub literal_items : Literal → List Item
 literal_items (Numbers ns) = map (λ n. Num n) ns
 literal_items (Text cs) = map (λ c. Char c) cs
-
--- whether two types of items are the same
-abbrev pub is_same_type : ItemType → ItemType → Bool
-is_same_type Nums Nums = true
-is_same_type Chars Chars = true
-is_same_type Nums Chars = false
-is_same_type Chars Nums = false
 
 -- the array with this item at an index list
 abbrev pub with_item : ArrayValue → List ℕ → Item → ArrayValue

@@ -9,7 +9,8 @@ use Rattle.arrays_core.specs.declared.item.Item.{Item}
 use Rattle.arrays_core.specs.declared.item.ItemType.{ItemType}
 use Rattle.index_region.specs.Checks.{is_within_limits}
 use Rattle.sheet_recalc.specs.Names.{Binding, Data, Formula}
-use Rattle.sheet_recalc.specs.Cells.{literal_items, is_same_type}
+use Rattle.index_region.specs.Arguments.{is_same_type}
+use Rattle.sheet_recalc.specs.Cells.{literal_items}
 use Rattle.sheet_recalc.specs.declared.refusal.Refusal.{Refusal}
 use Rattle.sheet_recalc.specs.declared.refusal.Refusal.TheVariants.{NotFound, NotData, Rank, Length, Domain, Limit}
 
