@@ -81,7 +81,8 @@ fn sums_of(alloc: Global, fold: Reduce, array: &Array) -> Result<Option<LineSums
         Some(numbers) => {
             let trees = FoldTrees::build(alloc, fold.function, numbers, count, step)?;
             let shape = shape_of(alloc, axes);
-            Ok(Some(LineSums { axis, shape, trees }))
+            let lines = Box::new(alloc, Lines { axis, shape, trees })?;
+            Ok(Some(LineSums { lines }))
         }
         None => unreachable!(),
     }
@@ -133,12 +134,18 @@ fn take_growth(trees: &mut FoldTrees, growth: Growth)
     }
 }
 
-/// The folds of the lines of an array of numbers along an axis by a function, as trees.
+/// The trees of the lines of an array of this shape along an axis.
 #[derive(Drop)]
-pub struct LineSums {
+struct Lines {
     axis: usize,
     shape: Shape,
     trees: FoldTrees,
+}
+
+/// The folds of the lines of an array of numbers along an axis by a function, as trees. They lie in a box, since most nodes of formulas have none.
+#[derive(Drop)]
+pub struct LineSums {
+    lines: Box<Lines>,
 }
 
 impl Model for LineSums {
@@ -146,9 +153,9 @@ impl Model for LineSums {
 
     ghost Value = { SummedValue };
 
-    ghost view = { λ s. record { function = s.trees.function; axis = s.axis; array = array_of s.shape.items s.trees.lines.numbers } };
+    ghost view = { λ s. record { function = s.lines.value.trees.function; axis = s.lines.value.axis; array = array_of s.lines.value.shape.items s.lines.value.trees.lines.numbers } };
 
-    ghost invariant = { λ s. StandFor s.trees.lines s.axis (array_of s.shape.items s.trees.lines.numbers) };
+    ghost invariant = { λ s. StandFor s.lines.value.trees.lines s.lines.value.axis (array_of s.lines.value.shape.items s.lines.value.trees.lines.numbers) };
 }
 
 impl LineSums {
@@ -172,7 +179,7 @@ impl LineSums {
         ensures function { result.now.function ≡ self.now.function }
         ensures lines { StandFor result.now.lines self.now.axis self.now.array }
     {
-        &self.trees
+        &self.lines.trees
     }
 
     /// Takes new items for the places of a box. It takes no memory.
@@ -180,7 +187,8 @@ impl LineSums {
         requires { FitsPatch self.old.array patch.now }
         ensures { self.new ≡ patched_sums self.old patch.now }
     {
-        write_into(&self.shape, &mut self.trees, patch);
+        let kept = &mut *self.lines;
+        write_into(&kept.shape, &mut kept.trees, patch);
     }
 
     /// Takes the trees of new lines behind the others, or one more number for each line. It takes no memory.
@@ -188,7 +196,8 @@ impl LineSums {
         requires { FitsSums self.old lines }
         ensures { self.new ≡ grown_sums self.old lines.tail.items }
     {
-        take_growth(&mut self.trees, lines.growth);
-        self.shape = lines.shape;
+        let kept = &mut *self.lines;
+        take_growth(&mut kept.trees, lines.growth);
+        kept.shape = lines.shape;
     }
 }

@@ -9,10 +9,10 @@ use Rattle.sum_rules.proofs.line_sums.LineSums.grow.Goals as goal
 
 pub take_growth-requires : goal.take_growth-requires
 take_growth-requires c =
-    let axis = c.self.inside.axis in
-    let old = c.self.inside.shape.items in
+    let axis = c.self.inside.lines.value.axis in
+    let old = c.self.inside.lines.value.shape.items in
     let new = c.lines.inside.shape.items in
-    let t = c.self.inside.trees in
+    let t = c.self.inside.lines.value.trees in
     let g = c.lines.inside.growth in
     let told : FitsSums (held axis old t) (lines_behind c.lines.inside.axis new g) =
     subst (λ (s : SummedValue). FitsSums s (lines_behind c.lines.inside.axis new g)) (sym c.self.view_is) (subst (FitsSums c.args.self.now) (sym c.lines.view_is) c.requires) in
@@ -20,10 +20,10 @@ take_growth-requires c =
 
 pub invariant_of-self : goal.invariant_of-self
 invariant_of-self c =
-    let axis = c.self.inside.axis in
-    let old = c.self.inside.shape.items in
+    let axis = c.self.inside.lines.value.axis in
+    let old = c.self.inside.lines.value.shape.items in
     let new = c.lines.inside.shape.items in
-    let t = c.self.inside.trees in
+    let t = c.self.inside.lines.value.trees in
     let g = c.lines.inside.growth in
     let told : FitsSums (held axis old t) (lines_behind c.lines.inside.axis new g) =
     subst (λ (s : SummedValue). FitsSums s (lines_behind c.lines.inside.axis new g)) (sym c.self.view_is) (subst (FitsSums c.args.self.now) (sym c.lines.view_is) c.requires) in
@@ -33,10 +33,10 @@ invariant_of-self c =
 
 pub returns : goal.returns
 returns c =
-    let axis = c.self.inside.axis in
-    let old = c.self.inside.shape.items in
+    let axis = c.self.inside.lines.value.axis in
+    let old = c.self.inside.lines.value.shape.items in
     let new = c.lines.inside.shape.items in
-    let t = c.self.inside.trees in
+    let t = c.self.inside.lines.value.trees in
     let g = c.lines.inside.growth in
     let shaped : new ≡ one_longer old =
     ap (λ (l : NewLinesValue). l.tail.shape) c.lines.view_is ∙ c.requires.tail.shaped ∙ ap (λ (s : SummedValue). one_longer s.array.shape) (sym c.self.view_is) in
