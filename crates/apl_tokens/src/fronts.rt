@@ -10,7 +10,7 @@ ghost use Rattle.apl_tokens.specs.Signs.{left_arrow};
 ghost use Rattle.apl_tokens.specs.Reading.{ReadsBefore, Reads, EndsName, EndsNumber, minus_bytes};
 
 use crate::name::Name;
-use crate::numbers::number;
+use crate::numbers::number_of_digits;
 
 /// The name at the front of a line, and the bytes after what ends it.
 #[derive(Clone, Copy)]
@@ -92,7 +92,7 @@ fn digits_front(text: &[u8], is_negative: bool) -> Option<(i64, &[u8])>
         return None;
     }
     let (digits, rest) = text.split_at(count);
-    let number = number(is_negative, digits)?;
+    let number = number_of_digits(is_negative, digits)?;
     Some((number, rest))
 }
 

@@ -1,33 +1,23 @@
-//! Number literals.
+//! Numbers in decimal digits.
 
 ghost use Rattle.std.specs.Prelude.{◌≡◌, true, false, MatchOption};
 ghost use Rattle.apl_tokens.specs.Characters.{decimal_from, signed, fits_number};
 
-/// The number that is one past the greatest.
-const TOP: u64 = 9_223_372_036_854_775_808;
-
-/// The number with its sign, unless it is out of range.
-fn signed(is_negative: bool, magnitude: u64) -> Option<i64>
+/// The number with this sign and magnitude, where it is one of 64 bits.
+fn with_sign(is_negative: bool, magnitude: u64) -> Option<i64>
     ensures { MatchOption result (fits_number is_negative magnitude ≡ false) (λ n. (fits_number is_negative magnitude ≡ true) × (n ≡ signed is_negative magnitude)) }
 {
     if is_negative {
-        if magnitude > TOP {
-            None
-        } else if magnitude == TOP {
-            Some(i64::MIN)
-        } else {
-            Some(-(magnitude as i64))
-        }
-    } else if magnitude < TOP {
-        Some(magnitude as i64)
+        0_i64.checked_sub_unsigned(magnitude)
     } else {
-        None
+        i64::try_from(magnitude).ok()
     }
 }
 
-/// The number of these ASCII digits, unless it is out of range.
+/// The number with this sign that these ASCII digits spell, where it is one of 64 bits: the least and the greatest of them are answered, and beyond
+/// them none. That of no digits is 0.
 #[tactic(auto, using(crate::proofs::Decimals::decimal_grows))]
-pub(crate) fn number(is_negative: bool, digits: &[u8]) -> Option<i64>
+pub fn number_of_digits(is_negative: bool, digits: &[u8]) -> Option<i64>
     ensures { MatchOption result (fits_number is_negative (decimal_from 0 digits.now) ≡ false) (λ n. (fits_number is_negative (decimal_from 0 digits.now) ≡ true) × (n ≡ signed is_negative (decimal_from 0 digits.now))) }
 {
     let mut magnitude: u64 = 0;
@@ -35,5 +25,5 @@ pub(crate) fn number(is_negative: bool, digits: &[u8]) -> Option<i64>
         let value = u64::from(digit.saturating_sub(48));
         magnitude = magnitude.checked_mul(10)?.checked_add(value)?;
     }
-    signed(is_negative, magnitude)
+    with_sign(is_negative, magnitude)
 }

@@ -11,7 +11,7 @@ ghost use Rattle.apl_tokens.specs.Scanning.{scan_of, all_spanned, prepended, IsR
 use crate::characters::{is_blank, is_letter, is_name_part, joins_number, sign_of};
 use crate::fault::TokenFault;
 use crate::name::Name;
-use crate::numbers::number;
+use crate::numbers::number_of_digits;
 use crate::token::{Span, Spanned, Token};
 use std::alloc::Global;
 
@@ -96,7 +96,7 @@ fn ended(text: &[u8], at: usize, scan: Scan, out: &mut Vec<Spanned>) -> Result<(
         Scan::Minus(span) => Err(TokenFault::Syntax(span)),
         Scan::Digits(start, is_negative, first) => {
             let span = Span { start, end: at };
-            match number(is_negative, &text[first..at]) {
+            match number_of_digits(is_negative, &text[first..at]) {
                 Some(n) => put(out, Token::Num(n), span),
                 None => Err(TokenFault::Limit(span)),
             }

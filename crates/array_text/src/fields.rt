@@ -1,13 +1,12 @@
 //! The number that a field of a table spells.
 
-ghost use Rattle.std.specs.Prelude.{◌≡◌, ◌<◌, ◌≤◌, ◌^◌, length, true, false, IfSome, MatchOption};
+ghost use Rattle.std.specs.Prelude.{◌≡◌, ◌<◌, ◌≤◌, ◌^◌, length, IfSome};
 ghost use Rattle.std.specs.List.{list_all, prefix_len};
 ghost use Rattle.std.specs.Char.{is_ascii_digit};
-ghost use Rattle.apl_tokens.specs.Characters.{is_blank as blank_at, decimal_from, signed, fits_number};
-ghost use Rattle.array_text.specs.Tables.{sign_and_rest, digits_number as number_of_digits, unsigned_number as number_without_sign, field_number as number_of_field};
+ghost use Rattle.apl_tokens.specs.Characters.{is_blank as blank_at, decimal_from};
+ghost use Rattle.array_text.specs.Tables.{sign_and_rest, digits_number as number_of_some_digits, unsigned_number as number_without_sign, field_number as number_of_field};
 
-/// The number that is one more than the greatest.
-const TOP: u64 = 9_223_372_036_854_775_808;
+use apl_tokens::number_of_digits;
 
 /// So many digits spell a number in range, whatever they are.
 const FEW_DIGITS: usize = 18;
@@ -68,46 +67,15 @@ fn without_sign(bytes: &[u8]) -> (bool, &[u8])
     }
 }
 
-/// The number with this sign and magnitude, unless it is out of range.
-fn with_sign(is_negative: bool, magnitude: u64) -> Option<i64>
-    ensures { MatchOption result (fits_number is_negative magnitude ≡ false) (λ n. (fits_number is_negative magnitude ≡ true) × (n ≡ signed is_negative magnitude)) }
-{
-    if is_negative {
-        if magnitude > TOP {
-            None
-        } else if magnitude == TOP {
-            Some(i64::MIN)
-        } else {
-            Some(-(magnitude as i64))
-        }
-    } else if magnitude < TOP {
-        Some(magnitude as i64)
-    } else {
-        None
-    }
-}
-
-/// The number that these digits spell, unless it is out of range.
-fn number_in_range(is_negative: bool, digits: &[u8]) -> Option<i64>
-    ensures { MatchOption result (fits_number is_negative (decimal_from 0 digits.now) ≡ false) (λ n. (fits_number is_negative (decimal_from 0 digits.now) ≡ true) × (n ≡ signed is_negative (decimal_from 0 digits.now))) }
-{
-    let mut magnitude: u64 = 0;
-    for digit in digits {
-        let value = u64::from(digit.saturating_sub(48));
-        magnitude = magnitude.checked_mul(10)?.checked_add(value)?;
-    }
-    with_sign(is_negative, magnitude)
-}
-
 /// The number that these digits spell, if there are any and it is in range.
 #[tactic(auto, unfolding(crate::specs::Tables::digits_number))]
 fn digits_number(is_negative: bool, digits: &[u8]) -> Option<i64>
-    ensures { result ≡ number_of_digits is_negative digits.now }
+    ensures { result ≡ number_of_some_digits is_negative digits.now }
 {
     if digits.is_empty() {
         return None;
     }
-    number_in_range(is_negative, digits)
+    number_of_digits(is_negative, digits)
 }
 
 /// The number that bytes spell, where they are a few, and digits alone.
@@ -132,12 +100,13 @@ fn few_digits(bytes: &[u8]) -> Option<u64>
 
 /// The number that digits with blanks after them spell, if it is in range. A few digits with nothing after them, as most
 /// fields have, are gone over once.
-#[tactic(auto, unfolding(crate::specs::Tables::unsigned_number))]
+#[tactic(auto, using(crate::proofs::Decimals::few_alone), unfolding(crate::specs::Tables::unsigned_number))]
 fn unsigned_number(is_negative: bool, bytes: &[u8]) -> Option<i64>
     ensures { result ≡ number_without_sign is_negative bytes.now }
 {
     if let Some(magnitude) = few_digits(bytes) {
-        return with_sign(is_negative, magnitude);
+        let number = magnitude as i64;
+        return Some(if is_negative { -number } else { number });
     }
     let size = digits_at(bytes);
     if !are_blanks(&bytes[size..]) {

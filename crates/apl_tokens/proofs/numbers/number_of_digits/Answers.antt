@@ -1,6 +1,6 @@
 use Rattle.std.proofs.Common.{arith}
 use Rattle.apl_tokens.proofs.Decimals.{too_great}
-use Rattle.apl_tokens.proofs.numbers.number.Goals as goal
+use Rattle.apl_tokens.proofs.numbers.number_of_digits.Goals as goal
 
 pub returns-in_err-checked_mul : goal.returns-in_err-checked_mul
 returns-in_err-checked_mul c =

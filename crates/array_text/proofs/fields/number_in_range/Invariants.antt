@@ -1,6 +1,0 @@
-use Rattle.std.proofs.Common.{◌≡◌, drop}
-use Rattle.apl_tokens.specs.Characters.{decimal_from}
-use Rattle.array_text.proofs.fields.number_in_range.Given as goal
-
-abbrev pub invariant-loop-digit : goal.invariant-loop-digit
-invariant-loop-digit l = decimal_from l.magnitude (drop l.digit-index l.digits) ≡ decimal_from 0 l.digits
