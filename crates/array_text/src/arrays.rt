@@ -3,8 +3,7 @@
 ghost use Rattle.std.specs.Prelude.{◌≡◌, IfOk, string_bytes};
 ghost use Rattle.array_text.specs.Text.{array_text};
 
-use crate::characters::push_characters;
-use crate::numbers::push_numbers;
+use crate::planes::push_items;
 use arrays_core::Array;
 use std::alloc::{AllocError, Global};
 
@@ -20,8 +19,8 @@ pub fn print(alloc: Global, array: &Array) -> Result<String, AllocError>
     let mut text = String::new(alloc);
     let axes = array.shape().as_slice();
     match array.numbers() {
-        Some(numbers) => push_numbers(alloc, &mut text, axes, numbers)?,
-        None => push_characters(&mut text, axes, array.characters().unwrap())?,
+        Some(numbers) => push_items(alloc, &mut text, axes, numbers)?,
+        None => push_items(alloc, &mut text, axes, array.characters().unwrap())?,
     }
     Ok(text)
 }

@@ -6,6 +6,7 @@ mod characters;
 mod faults;
 mod fields;
 mod numbers;
+mod planes;
 mod records;
 mod spacing;
 mod table_fault;

@@ -1,10 +1,10 @@
 //! The text of an array of numbers.
 
-ghost use Rattle.std.specs.Prelude.{◌≡◌, ◌+◌, ◌*◌, ◌^◌, ◌<◌, ◌≤◌, ◌++◌, length, IfOk, OnOk, string_bytes};
-ghost use Rattle.arrays_core.specs.Shapes.{size as size_of, IsWithinLimits};
-ghost use Rattle.array_text.specs.Text.{number_text, number_width, right_justified, number_line, column_width, column_widths as widths_of, number_row, number_plane, planes, numbers_text};
+ghost use Rattle.std.specs.Prelude.{◌≡◌, ◌+◌, ◌*◌, ◌<◌, ◌≤◌, ◌++◌, length, IfOk, OnOk, string_bytes};
+ghost use Rattle.array_text.specs.Text.{number_text, number_width, right_justified, number_line, column_width, column_widths as widths_of, number_row, number_plane};
 
-use crate::spacing::{push_blank_between, push_blanks, push_line_between};
+use crate::planes::Printed;
+use crate::spacing::{push_blank_between, push_blanks};
 use itoa::Buffer;
 use std::alloc::{AllocError, Global};
 
@@ -27,17 +27,6 @@ fn width_of(number: i64) -> usize
     let mut buffer = Buffer::new();
     let digits = buffer.format(number.unsigned_abs()).len();
     if number < 0 { digits + 1 } else { digits }
-}
-
-/// Adds a line of numbers with one blank between.
-fn push_line(out: &mut String, numbers: &[i64]) -> Result<(), AllocError>
-    ensures { OnOk result (string_bytes out.new ≡ string_bytes out.old ++ number_line numbers.now) }
-{
-    for (earlier, number) in numbers.iter().enumerate() {
-        push_blank_between(out, earlier)?;
-        push_number(out, *number)?;
-    }
-    out.push('\n')
 }
 
 /// The width of the widest number of a column.
@@ -93,87 +82,35 @@ fn push_row(out: &mut String, widths: &[usize], row: &[i64]) -> Result<(), Alloc
     out.push('\n')
 }
 
-/// Adds a matrix, each column right-justified.
-fn push_plane(
-    alloc: Global,
-    out: &mut String,
-    rows: usize,
-    columns: usize,
-    numbers: &[i64],
-) -> Result<(), AllocError>
-    requires { length numbers.now ≡ rows * columns }
-    ensures { OnOk result (string_bytes out.new ≡ string_bytes out.old ++ number_plane rows columns numbers.now) }
-{
-    let widths = column_widths(alloc, rows, columns, numbers)?;
-    for row in 0..rows {
-        push_row(
-            out,
-            widths.as_slice(),
-            &numbers[row * columns..(row + 1) * columns],
-        )?;
-    }
-    Ok(())
-}
+/// Numbers: in a line with one blank between, in a matrix with each column right-justified.
+impl Printed for i64 {
+    ghost line = { number_line };
 
-/// Adds planes, with an empty line between.
-fn push_planes(
-    alloc: Global,
-    out: &mut String,
-    count: usize,
-    rows: usize,
-    columns: usize,
-    numbers: &[i64],
-) -> Result<(), AllocError>
-    requires fits { rows * columns < 2 ^ 64 }
-    requires shape { length numbers.now ≡ count * (rows * columns) }
-    ensures { OnOk result (string_bytes out.new ≡ string_bytes out.old
-        ++ planes (number_plane rows columns) count (rows * columns) numbers.now) }
-{
-    if numbers.is_empty() {
-        return Ok(());
-    }
-    let size = rows * columns;
-    for part in 0..count {
-        push_line_between(out, part)?;
-        push_plane(
-            alloc,
-            out,
-            rows,
-            columns,
-            &numbers[part * size..(part + 1) * size],
-        )?;
-    }
-    Ok(())
-}
+    ghost plane = { number_plane };
 
-/// Adds the numbers of an array.
-pub(crate) fn push_numbers(
-    alloc: Global,
-    out: &mut String,
-    axes: &[u32],
-    numbers: &[i64],
-) -> Result<(), AllocError>
-    requires within { IsWithinLimits axes.now }
-    requires long { length numbers.now ≡ size_of axes.now }
-    ensures { OnOk result (string_bytes out.new ≡ string_bytes out.old ++ numbers_text axes.now numbers.now) }
-{
-    if axes.len() < 2 {
-        return push_line(out, numbers);
+    fn push_line(out: &mut String, numbers: &[i64]) -> Result<(), AllocError> {
+        for (earlier, number) in numbers.iter().enumerate() {
+            push_blank_between(out, earlier)?;
+            push_number(out, *number)?;
+        }
+        out.push('\n')
     }
-    let rows = axes[axes.len() - 2] as usize;
-    let columns = axes[axes.len() - 1] as usize;
-    if axes.len() == 2 {
-        return push_plane(alloc, out, rows, columns, numbers);
+
+    fn push_plane(
+        alloc: Global,
+        out: &mut String,
+        rows: usize,
+        columns: usize,
+        numbers: &[i64],
+    ) -> Result<(), AllocError> {
+        let widths = column_widths(alloc, rows, columns, numbers)?;
+        for row in 0..rows {
+            push_row(
+                out,
+                widths.as_slice(),
+                &numbers[row * columns..(row + 1) * columns],
+            )?;
+        }
+        Ok(())
     }
-    if axes.len() == 3 {
-        return push_planes(alloc, out, axes[0] as usize, rows, columns, numbers);
-    }
-    push_planes(
-        alloc,
-        out,
-        axes[0] as usize * axes[1] as usize,
-        rows,
-        columns,
-        numbers,
-    )
 }

@@ -3,7 +3,7 @@ use Rattle.std.specs.Prelude.{string_bytes}
 use Rattle.std.specs.List.{flat_map, range_with_len}
 use Rattle.array_text.specs.Text.{character_line, character_plane, part_of}
 use Rattle.array_text.proofs.Writing.{grown, flat_map-range_step, all_done, part_width}
-use Rattle.array_text.proofs.characters.push_plane.Goals as goal
+use Rattle.array_text.proofs.characters.CharPrinted.push_plane.Goals as goal
 
 pub loop-row-preserved : goal.loop-row-preserved
 loop-row-preserved c =

@@ -7,7 +7,7 @@ use Rattle.std.proofs.lemmas.Int.{to_z-of_z}
 use mir.Val.{SFits}
 use Rattle.array_text.specs.Text.{number_text, number_line, blank}
 use Rattle.array_text.proofs.Writing.{pushed, grown_twice, join_by-more}
-use Rattle.array_text.proofs.numbers.push_line.Goals as goal
+use Rattle.array_text.proofs.numbers.I64Printed.push_line.Goals as goal
 
 pub loop-earlier-preserved : goal.loop-earlier-preserved
 loop-earlier-preserved c =

@@ -1,6 +1,6 @@
 use Rattle.std.proofs.Common.{◌≡◌, ◌++◌, take}
 use Rattle.std.specs.Prelude.{encode_utf8_all, string_bytes}
-use Rattle.array_text.proofs.characters.push_line.Given as goal
+use Rattle.array_text.proofs.characters.CharPrinted.push_line.Given as goal
 
 abbrev pub invariant-loop-character : goal.invariant-loop-character
 invariant-loop-character l = string_bytes l.out ≡ string_bytes l.initial.out ++ encode_utf8_all (take l.character-index l.characters)

@@ -6,7 +6,7 @@ use Rattle.std.proofs.Math.Nat.{mul-le-mul_right}
 use Rattle.std.proofs.lemmas.List.FromFn.{length-map-range_with_len}
 use Rattle.array_text.specs.Text.{number_row, column_width, column_widths, number_plane, part_of}
 use Rattle.array_text.proofs.Writing.{grown, flat_map-range_step, all_done, part_width}
-use Rattle.array_text.proofs.numbers.push_plane.Goals as goal
+use Rattle.array_text.proofs.numbers.I64Printed.push_plane.Goals as goal
 
 as_many_widths : (rows columns : ℕ) (zs : List ℤ) → length (column_widths rows columns zs) ≡ columns
 unfolding column_widths

@@ -4,7 +4,7 @@ use Rattle.std.specs.Prelude.{encode_utf8_all, string_bytes}
 use Rattle.std.proofs.lemmas.List.{take_more, take_all}
 use Rattle.array_text.specs.Text.{character_line}
 use Rattle.array_text.proofs.Writing.{pushed, grown, encode_utf8_all-push}
-use Rattle.array_text.proofs.characters.push_line.Goals as goal
+use Rattle.array_text.proofs.characters.CharPrinted.push_line.Goals as goal
 
 pub loop-character-preserved : goal.loop-character-preserved
 loop-character-preserved c =

@@ -3,32 +3,34 @@ use Rattle.std.specs.Prelude.{string_bytes}
 use Rattle.std.specs.List.{join_by, range_with_len}
 use Rattle.std.proofs.lemmas.Bool.{eqb-true}
 use Rattle.std.proofs.lemmas.List.{append-nil}
-use Rattle.array_text.specs.Text.{number_plane, part_of, line_end}
+use Rattle.array_text.specs.Text.{part_of, line_end}
 use Rattle.array_text.proofs.Writing.{grown_twice, join_by-range_step, all_done, part_width, planes_none, planes_some}
-use Rattle.array_text.proofs.numbers.push_planes.Goals as goal
+use Rattle.array_text.proofs.planes.push_planes.Goals as goal
 
 pub returns-then-is_empty : goal.returns-then-is_empty
-returns-then-is_empty c =
-    let xs = c.args.numbers.now in
+returns-then-is_empty g c =
+    let xs = c.args.items.now in
     let none = eqb-true (length xs) 0 (sym c.if-is_empty.ensures) in
     let before = string_bytes c.args.out.now in
-    sym (ap (λ (t : List ℕ). before ++ t) (planes_none (number_plane c.args.rows c.args.columns) c.args.count (c.args.rows * c.args.columns) xs none) ∙ append-nil before)
+    sym (ap (λ (t : List ℕ). before ++ t) (planes_none (g.T.Printed.plane c.args.rows c.args.columns) c.args.count (c.args.rows * c.args.columns) xs none) ∙ append-nil before)
 
 pub loop-part-preserved : goal.loop-part-preserved
-loop-part-preserved c =
-    let xs = c.args.numbers.now in
+loop-part-preserved g c =
+    let xs = c.args.items.now in
     let size = c.args.rows * c.args.columns in
+    let plane = g.T.Printed.plane c.args.rows c.args.columns in
     let k = c.loop-part.part in
     let mid = string_bytes c.push_line_between.new.out in
-    let width = ap (λ (n : ℕ). mid ++ number_plane c.args.rows c.args.columns (take n (drop (k * size) xs))) (part_width k size) in
+    let width = ap (λ (n : ℕ). mid ++ plane (take n (drop (k * size) xs))) (part_width k size) in
     grown_twice _ _ _ _ _ _ _ _ (c.in_ok-push_plane.ensures ∙ width) c.in_ok-push_line_between.ensures c.loop-part.invariant
-    (join_by-range_step (λ part. number_plane c.args.rows c.args.columns (part_of size part xs)) line_end k)
+    (join_by-range_step (λ part. plane (part_of size part xs)) line_end k)
 
 pub returns : goal.returns
-returns c =
-    let xs = c.args.numbers.now in
+returns g c =
+    let xs = c.args.items.now in
     let size = c.args.rows * c.args.columns in
+    let plane = g.T.Printed.plane c.args.rows c.args.columns in
     let before = string_bytes c.args.out.now in
-    let text = λ (n : ℕ). join_by (λ part. number_plane c.args.rows c.args.columns (part_of size part xs)) line_end (range_with_len 0 n) in
+    let text = λ (n : ℕ). join_by (λ part. plane (part_of size part xs)) line_end (range_with_len 0 n) in
     all_done text c.loop-part.part c.args.count _ before c.loop-part.invariant (omega arith)
-    ∙ ap (λ (t : List ℕ). before ++ t) (sym (planes_some (number_plane c.args.rows c.args.columns) c.args.count size xs (sym c.if-is_empty.ensures)))
+    ∙ ap (λ (t : List ℕ). before ++ t) (sym (planes_some plane c.args.count size xs (sym c.if-is_empty.ensures)))

@@ -1,9 +1,0 @@
-use Rattle.std.proofs.Common.{◌≡◌, ◌++◌, ◌*◌}
-use Rattle.std.specs.Prelude.{string_bytes}
-use Rattle.std.specs.List.{join_by, range_with_len}
-use Rattle.array_text.specs.Text.{character_plane, part_of, line_end}
-use Rattle.array_text.proofs.characters.push_planes.Given as goal
-
-abbrev pub invariant-loop-part : goal.invariant-loop-part
-invariant-loop-part l = string_bytes l.out ≡ string_bytes l.initial.out
-    ++ join_by (λ part. character_plane l.rows l.columns (part_of (l.rows * l.columns) part l.characters)) line_end (range_with_len 0 l.part)
