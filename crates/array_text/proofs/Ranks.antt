@@ -1,5 +1,7 @@
 -- The text of an array by its rank.
 use Rattle.std.proofs.Common.{◌≡◌, ℕ, ◌-◌, ◌*◌, ◌<◌, List, [], ◌∷◌, length, get_or, map, refl, ap, ◌∙◌, arith, ℤ}
+use Rattle.std.proofs.NetLemmas.Arrays.{four_items}
+use Rattle.std.proofs.lemmas.Slice.Eq.{text_from_reads}
 use Rattle.arrays_core.specs.Arrays.{ArrayValue}
 use Rattle.arrays_core.specs.Shapes.{size}
 use Rattle.arrays_core.specs.declared.item.Item.TheVariants.{Num, Char}
@@ -16,42 +18,25 @@ module _ {X : Type 0} (line : List X → List ℕ) (plane : ℕ → ℕ → List
   pub of_rank_two : (shape : List ℕ) → length shape ≡ 2
       → text_by_rank line plane shape xs ≡ plane (get_or shape (length shape - 2) 0) (get_or shape (length shape - 1) 0) xs
   unfolding text_by_rank
-  of_rank_two [] h = absurd (omega arith)
-  of_rank_two (n ∷ []) h = absurd (omega arith)
-  of_rank_two (rows ∷ columns ∷ []) h = refl
-  of_rank_two (n ∷ rows ∷ columns ∷ shape) h = absurd (omega arith)
+  of_rank_two shape h = rw (text_from_reads shape (get_or shape 0 0 ∷ get_or shape 1 0 ∷ []) h (refl, (refl, tt))) refl
 
   pub of_rank_three : (shape : List ℕ) → length shape ≡ 3
       → text_by_rank line plane shape xs
       ≡ planes (plane (get_or shape (length shape - 2) 0) (get_or shape (length shape - 1) 0)) (get_or shape 0 0)
       (get_or shape (length shape - 2) 0 * get_or shape (length shape - 1) 0) xs
   unfolding text_by_rank
-  of_rank_three [] h = absurd (omega arith)
-  of_rank_three (n ∷ []) h = absurd (omega arith)
-  of_rank_three (n ∷ m ∷ []) h = absurd (omega arith)
-  of_rank_three (n ∷ rows ∷ columns ∷ []) h = refl
-  of_rank_three (n ∷ m ∷ rows ∷ columns ∷ shape) h = absurd (omega arith)
+  of_rank_three shape h = rw (text_from_reads shape (get_or shape 0 0 ∷ get_or shape 1 0 ∷ get_or shape 2 0 ∷ []) h (refl, (refl, (refl, tt)))) refl
 
   pub of_rank_four : (shape : List ℕ) → length shape ≡ 4
       → text_by_rank line plane shape xs
       ≡ planes (plane (get_or shape (length shape - 2) 0) (get_or shape (length shape - 1) 0)) (get_or shape 0 0 * get_or shape 1 0)
       (get_or shape (length shape - 2) 0 * get_or shape (length shape - 1) 0) xs
   unfolding text_by_rank
-  of_rank_four [] h = absurd (omega arith)
-  of_rank_four (n ∷ []) h = absurd (omega arith)
-  of_rank_four (n ∷ m ∷ []) h = absurd (omega arith)
-  of_rank_four (n ∷ m ∷ k ∷ []) h = absurd (omega arith)
-  of_rank_four (n ∷ m ∷ rows ∷ columns ∷ []) h = refl
-  of_rank_four (a ∷ b ∷ c ∷ d ∷ e ∷ shape) h = absurd (omega arith)
+  of_rank_four shape h = rw (four_items shape h) refl
 
 pub size_of_rank_four : (shape : List ℕ) → length shape ≡ 4
     → size shape ≡ get_or shape 0 0 * get_or shape 1 0 * (get_or shape (length shape - 2) 0 * get_or shape (length shape - 1) 0)
-size_of_rank_four [] h = absurd (omega arith)
-size_of_rank_four (n ∷ []) h = absurd (omega arith)
-size_of_rank_four (n ∷ m ∷ []) h = absurd (omega arith)
-size_of_rank_four (n ∷ m ∷ k ∷ []) h = absurd (omega arith)
-size_of_rank_four (n ∷ m ∷ rows ∷ columns ∷ []) h = omega arith
-size_of_rank_four (a ∷ b ∷ c ∷ d ∷ e ∷ shape) h = absurd (omega arith)
+size_of_rank_four shape h = rw (four_items shape h) (omega arith)
 
 pub numbers_again : (zs : List ℤ) → map item_number (map (λ z. Num z) zs) ≡ zs
 numbers_again [] = refl
