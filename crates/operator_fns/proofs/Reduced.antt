@@ -179,6 +179,10 @@ same_type : (w : Bool) (t : ItemType) → t ≡ Nums → cond w t Nums ≡ Nums
 same_type true t h = h
 same_type false t h = refl
 
+pub some_lines : (l n : ℕ) → 0 < l * n → 0 < l
+some_lines zero n h = absurd (omega arith)
+some_lines (suc l) n h = omega arith
+
 pub lines_whole : (axis : ℕ) (b shape : List ℕ) (n s : ℕ) → axis < length b → shape ≡ remove b axis → n ≡ get_or b axis 0 → s ≡ size (drop (suc axis) b) → 0 < size b
     → (1 ≤ n) × (size shape * n ≡ size b) × (size shape % s ≡ 0)
 lines_whole axis b shape n s there shaped n_is s_is some =

@@ -8,6 +8,7 @@ pub mod SumTree
 pub mod SumTrees
 -- What proofs and bodies use.
 pub mod Strides
+pub mod AxisLines
 pub mod Columns
 pub mod SmallProducts
 pub mod LinearScan

@@ -1,12 +1,12 @@
 //! Folds of columns, which are made a row at a time.
 
-ghost use Rattle.std.specs.Prelude.{◌≡◌, ◌<◌, ◌≤◌, ◌-◌, ◌*◌, ◌%◌, pos, length, drop, map, Ok, OnOk, IfOk, vec_len};
+ghost use Rattle.std.specs.Prelude.{◌≡◌, ◌≤◌, ◌-◌, ◌*◌, length, drop, map, Ok, OnOk, IfOk, vec_len};
 ghost use Rattle.std.specs.List.{range_with_len};
 ghost use Rattle.arrays_core.specs.Items.{all_or_first_error};
-ghost use Rattle.scalar_fns.specs.Folds.{strided, folded};
-ghost use Rattle.operator_fns.specs.Strides.{line_start};
+ghost use Rattle.operator_fns.specs.AxisLines.{fold_at};
 ghost use Rattle.operator_fns.specs.Columns.{ArePutOver, AreColumnFolds, EndsInFolds};
 
+use crate::axis_lines::AxisLines;
 use arrays_core::{ApplyFault, Kind, room_of};
 use scalar_fns::kernels::{Plus, TwoNumbers};
 use std::alloc::Global;
@@ -95,32 +95,25 @@ fn push_folds<S: RowFold>(
     Ok(())
 }
 
-/// The folds of the lines of some numbers, where none of them has an error; else some error of a line.
+/// The folds of the lines of an axis, where none of them has an error; else some error of a line.
 pub(crate) fn column_folds<S: RowFold>(
     alloc: Global,
     step: &S,
-    numbers: &[i64],
-    stride: usize,
-    count: usize,
-    places: usize,
+    lines: &AxisLines,
 ) -> Result<Vec<i64>, ApplyFault>
-    requires some { 1 ≤ count }
-    requires apart { 0 < stride }
-    requires whole { places * count ≡ length numbers.now }
-    requires even { places % stride ≡ 0 }
-    ensures long { IfOk result (λ v. vec_len v ≡ places) }
-    ensures is { IfOk result (λ v. all_or_first_error (map (λ place. folded (S.gives step.now) (strided (pos 0) numbers.now (line_start stride count place) stride count)) (range_with_len 0 places)) ≡ Ok v.items) }
+    ensures long { IfOk result (λ v. vec_len v ≡ lines.now.places) }
+    ensures is { IfOk result (λ v. all_or_first_error (map (fold_at (S.gives step.now) lines.now) (range_with_len 0 lines.now.places)) ≡ Ok v.items) }
 {
-    let mut folds = Vec::with_capacity(alloc, room_of(places))?;
-    for block in 0..places / stride {
-        let size = count * stride;
+    let mut folds = Vec::with_capacity(alloc, room_of(lines.places))?;
+    for block in 0..lines.places / lines.stride {
+        let size = lines.count * lines.stride;
         let first = block * size;
         push_folds(
             &mut folds,
             step,
-            &numbers[first..first + size],
-            stride,
-            count,
+            &lines.numbers[first..first + size],
+            lines.stride,
+            lines.count,
         )?;
     }
     Ok(folds)

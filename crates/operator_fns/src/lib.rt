@@ -1,6 +1,7 @@
 //! Operators on scalar functions: reduction, scan, outer and inner product.
 #![tactic(auto)]
 
+mod axis_lines;
 mod box_lines;
 mod columns;
 mod differences;

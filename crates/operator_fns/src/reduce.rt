@@ -1,30 +1,29 @@
 //! Reduction: the right fold of each line of an array.
 
-ghost use Rattle.std.specs.Prelude.{◌≡◌, ◌<◌, ◌≤◌, ◌*◌, ◌%◌, pos, length, map, IfOk, ◌∷◌, [], false};
+ghost use Rattle.std.specs.Prelude.{◌≡◌, ◌<◌, length, map, IfOk, ◌∷◌, [], false};
 ghost use Rattle.std.proofs.Common.{rules};
 ghost use Rattle.arrays_core.specs.declared.item.Item.TheVariants.{Num};
 ghost use Rattle.arrays_core.specs.declared.item.ItemType.TheVariants.{Nums};
-ghost use Rattle.arrays_core.specs.Arrays.{collect as collected, IsAnswerTo};
-ghost use Rattle.arrays_core.specs.Shapes.{size as size_of, places_before, IsWithinLimits};
+ghost use Rattle.arrays_core.specs.Arrays.{IsAnswerTo};
+ghost use Rattle.arrays_core.specs.Shapes.{size as size_of, IsWithinLimits};
 ghost use Rattle.index_region.specs.ArgumentLists.{of_one_argument};
 ghost use Rattle.index_region.specs.Answers.{IsFormAnswerTo, IsPlaceOf, HasTypeOf};
 ghost use Rattle.change_core.specs.Sourced.{uses_of_one};
 ghost use Rattle.function_names.specs.declared.scalar.Scalar2.TheVariants.{Plus as Sum};
 ghost use Rattle.scalar_fns.specs.Numbers.{dyadic_on_numbers};
-ghost use Rattle.scalar_fns.specs.Items.{number_item};
-ghost use Rattle.scalar_fns.specs.Folds.{strided, folded};
-ghost use Rattle.operator_fns.specs.Strides.{line_start};
+ghost use Rattle.operator_fns.specs.AxisLines.{fold_at, line_folds};
 ghost use Rattle.operator_fns.specs.Reduce.{reduce_form, reduce_item, reduce_whole, reduce_use};
 ghost use Rattle.operator_fns.specs.Laws.Reduce.{reduce_tight};
 ghost use Rattle.operator_fns.specs.Laws.LinesGrowth.{reduce_growing};
 ghost use Rattle.operator_fns.specs.Growth.{lines_grow};
 
+use crate::axis_lines::AxisLines;
 use crate::columns::{Numberwise, RowFold, column_folds};
 use crate::later_axis::is_along_a_later_axis;
 use crate::number_rule::{NumberRule, collect_numbers};
-use crate::right_fold::{fold_line, identity_item, stride};
+use crate::right_fold::{fold_line, identity_item};
 use crate::sum::sum_list;
-use arrays_core::{ApplyFault, Array, Item, ItemType, Kind, Shape, shape_of, size, without_axis};
+use arrays_core::{ApplyFault, Array, Item, ItemType, Kind, Shape, shape_of, without_axis};
 use change_core::Announced;
 use index_region::{Along, IndexBox, Intervals, Primitive, Seen, apply, limited};
 use scalar_fns::folds::fold_numbers;
@@ -32,162 +31,99 @@ use scalar_fns::kernels::{Plus, TwoNumbers};
 use scalar_fns::{Scalar2, WithFunction, with_function};
 use std::alloc::Global;
 
-/// The lines of a list of numbers, each folded.
+/// The fold of each line.
 #[derive(Drop)]
-struct Lines<'a, S> {
+struct LineFolds<'a, S> {
     step: &'a S,
-    numbers: &'a [i64],
-    stride: usize,
-    count: usize,
-    places: usize,
-    ghost some: { 1 ≤ count },
-    ghost apart: { 0 < stride },
-    ghost whole: { places * count ≡ length numbers.now },
-    ghost even: { places % stride ≡ 0 },
+    lines: AxisLines<'a>,
 }
 
-impl<'a, S: TwoNumbers> NumberRule for Lines<'a, S> {
-    ghost places = { λ l. l.places };
+impl<'a, S: TwoNumbers> NumberRule for LineFolds<'a, S> {
+    ghost places = { λ f. f.lines.places };
 
-    ghost number = { λ l place. folded (S.gives l.step.now) (strided (pos 0) l.numbers.now (line_start l.stride l.count place) l.stride l.count) };
+    ghost number = { λ f. fold_at (S.gives f.step.now) f.lines };
 
     fn number_at(&self, place: usize) -> Result<i64, Kind> {
-        let first = place / self.stride * (self.count * self.stride) + place % self.stride;
-        fold_numbers(self.step, self.numbers, first, self.stride, self.count)
+        let lines = &self.lines;
+        let first = place / lines.stride * (lines.count * lines.stride) + place % lines.stride;
+        fold_numbers(self.step, lines.numbers, first, lines.stride, lines.count)
     }
 }
 
-/// Lines that lie one after another in a list of numbers, each summed up.
+/// The sum of each line, where the numbers of a line stand side by side.
 #[derive(Drop)]
 struct Totals<'a> {
-    numbers: &'a [i64],
-    count: usize,
-    places: usize,
-    ghost some: { 1 ≤ count },
-    ghost whole: { places * count ≡ length numbers.now },
+    lines: AxisLines<'a>,
+    ghost beside: { lines.stride ≡ 1 },
 }
 
 impl<'a> NumberRule for Totals<'a> {
-    ghost places = { λ t. t.places };
+    ghost places = { λ t. t.lines.places };
 
-    ghost number = { λ t place. folded (dyadic_on_numbers Sum) (strided (pos 0) t.numbers.now (line_start 1 t.count place) 1 t.count) };
+    ghost number = { λ t. fold_at (dyadic_on_numbers Sum) t.lines };
 
     fn number_at(&self, place: usize) -> Result<i64, Kind> {
-        let first = place * self.count;
-        sum_list(&self.numbers[first..first + self.count])
+        let first = place * self.lines.count;
+        sum_list(&self.lines.numbers[first..first + self.lines.count])
     }
 }
 
-/// The array of the sums of the lines of some numbers.
-fn sums(
-    alloc: Global,
-    numbers: &[i64],
-    stride: usize,
-    count: usize,
-    shape: &Shape,
-) -> Result<Array, ApplyFault>
+/// The array of the sums of the lines.
+fn sums(alloc: Global, lines: &AxisLines, shape: &Shape) -> Result<Array, ApplyFault>
     requires within { IsWithinLimits shape.now.items }
-    requires some { 1 ≤ count }
-    requires apart { 0 < stride }
-    requires whole { size_of shape.now.items * count ≡ length numbers.now }
-    requires even { size_of shape.now.items % stride ≡ 0 }
-    ensures { IsAnswerTo (collected Nums shape.now.items (λ index. number_item (folded (dyadic_on_numbers Sum) (strided (pos 0) numbers.now (line_start stride count (places_before shape.now.items index)) stride count)))) result }
+    requires shaped { size_of shape.now.items ≡ lines.now.places }
+    ensures { IsAnswerTo (line_folds (dyadic_on_numbers Sum) lines.now shape.now.items) result }
 {
-    if stride != 1 {
-        return folds_by(alloc, &Plus, numbers, stride, count, shape);
+    if lines.stride == 1 {
+        collect_numbers(alloc, &Totals { lines: *lines }, shape)
+    } else {
+        folds_by(alloc, &Plus, lines, shape)
     }
-    let totals = Totals {
-        numbers,
-        count,
-        places: size(shape.as_slice()) as usize,
-    };
-    collect_numbers(alloc, &totals, shape)
 }
 
-/// The array of the folds of the lines of some numbers, each line in turn.
-fn folds_of_lines<S: TwoNumbers>(
-    alloc: Global,
-    step: &S,
-    numbers: &[i64],
-    stride: usize,
-    count: usize,
-    shape: &Shape,
-) -> Result<Array, ApplyFault>
-    requires within { IsWithinLimits shape.now.items }
-    requires some { 1 ≤ count }
-    requires apart { 0 < stride }
-    requires whole { size_of shape.now.items * count ≡ length numbers.now }
-    requires even { size_of shape.now.items % stride ≡ 0 }
-    ensures { IsAnswerTo (collected Nums shape.now.items (λ index. number_item (folded (S.gives step.now) (strided (pos 0) numbers.now (line_start stride count (places_before shape.now.items index)) stride count)))) result }
-{
-    let lines = Lines {
-        step,
-        numbers,
-        stride,
-        count,
-        places: size(shape.as_slice()) as usize,
-    };
-    collect_numbers(alloc, &lines, shape)
-}
-
-/// The array of the folds of the lines of some numbers, a row of the array at a time where the numbers of a line do not stand
-/// side by side. Where a line has an error, that of the first line that has one is looked for.
+/// The array of the folds of the lines, a row of the array at a time where the numbers of a line do not stand side by side.
+/// Where a line has an error, that of the first line that has one is looked for.
 fn folds_by<S: RowFold>(
     alloc: Global,
     step: &S,
-    numbers: &[i64],
-    stride: usize,
-    count: usize,
+    lines: &AxisLines,
     shape: &Shape,
 ) -> Result<Array, ApplyFault>
     requires within { IsWithinLimits shape.now.items }
-    requires some { 1 ≤ count }
-    requires apart { 0 < stride }
-    requires whole { size_of shape.now.items * count ≡ length numbers.now }
-    requires even { size_of shape.now.items % stride ≡ 0 }
-    ensures { IsAnswerTo (collected Nums shape.now.items (λ index. number_item (folded (S.gives step.now) (strided (pos 0) numbers.now (line_start stride count (places_before shape.now.items index)) stride count)))) result }
+    requires shaped { size_of shape.now.items ≡ lines.now.places }
+    ensures { IsAnswerTo (line_folds (S.gives step.now) lines.now shape.now.items) result }
 {
-    if stride == 1 {
-        return folds_of_lines(alloc, step, numbers, stride, count, shape);
+    let each = LineFolds {
+        step,
+        lines: *lines,
+    };
+    if lines.stride == 1 {
+        return collect_numbers(alloc, &each, shape);
     }
-    let places = size(shape.as_slice()) as usize;
-    match column_folds(alloc, step, numbers, stride, count, places) {
+    match column_folds(alloc, step, lines) {
         Ok(folds) => Ok(Array::from_numbers(shape, folds)?),
         Err(ApplyFault::NoMemory) => Err(ApplyFault::NoMemory),
-        Err(ApplyFault::Kind(_)) => folds_of_lines(alloc, step, numbers, stride, count, shape),
+        Err(ApplyFault::Kind(_)) => collect_numbers(alloc, &each, shape),
     }
 }
 
-/// Lines of some numbers that are to be folded, and the shape of their folds.
+/// Lines that are to be folded, and the shape of their folds.
 #[derive(Drop)]
 struct Foldable<'a> {
     alloc: Global,
-    numbers: &'a [i64],
-    stride: usize,
-    count: usize,
+    lines: AxisLines<'a>,
     shape: &'a Shape,
     ghost within: { IsWithinLimits shape.now.items },
-    ghost some: { 1 ≤ count },
-    ghost apart: { 0 < stride },
-    ghost whole: { size_of shape.now.items * count ≡ length numbers.now },
-    ghost even: { size_of shape.now.items % stride ≡ 0 },
+    ghost shaped: { size_of shape.now.items ≡ lines.places },
 }
 
 impl<'a> WithFunction for Foldable<'a> {
     type Output = Result<Array, ApplyFault>;
 
-    ghost makes = { λ l gives result. IsAnswerTo (collected Nums l.shape.now.items (λ index. number_item (folded gives (strided (pos 0) l.numbers.now (line_start l.stride l.count (places_before l.shape.now.items index)) l.stride l.count)))) result };
+    ghost makes = { λ f gives result. IsAnswerTo (line_folds gives f.lines f.shape.now.items) result };
 
     fn with<S: TwoNumbers + Copy>(self, step: S) -> Result<Array, ApplyFault> {
-        let step = Numberwise { step };
-        folds_by(
-            self.alloc,
-            &step,
-            self.numbers,
-            self.stride,
-            self.count,
-            self.shape,
-        )
+        folds_by(self.alloc, &Numberwise { step }, &self.lines, self.shape)
     }
 }
 
@@ -195,29 +131,22 @@ impl<'a> WithFunction for Foldable<'a> {
 fn folds(
     alloc: Global,
     function: Scalar2,
-    numbers: &[i64],
-    stride: usize,
-    count: usize,
+    lines: &AxisLines,
     shape: &Shape,
 ) -> Result<Array, ApplyFault>
     requires within { IsWithinLimits shape.now.items }
-    requires some { 1 ≤ count }
-    requires apart { 0 < stride }
-    requires whole { size_of shape.now.items * count ≡ length numbers.now }
-    requires even { size_of shape.now.items % stride ≡ 0 }
-    ensures { IsAnswerTo (collected Nums shape.now.items (λ index. number_item (folded (dyadic_on_numbers function) (strided (pos 0) numbers.now (line_start stride count (places_before shape.now.items index)) stride count)))) result }
+    requires shaped { size_of shape.now.items ≡ lines.now.places }
+    ensures { IsAnswerTo (line_folds (dyadic_on_numbers function) lines.now shape.now.items) result }
 {
     if function == Scalar2::Plus {
-        return sums(alloc, numbers, stride, count, shape);
+        return sums(alloc, lines, shape);
     }
-    let lines = Foldable {
+    let foldable = Foldable {
         alloc,
-        numbers,
-        stride,
-        count,
+        lines: *lines,
         shape,
     };
-    with_function(function, lines)
+    with_function(function, foldable)
 }
 
 /// Reduction, `f/B` and `f⌿B` (ISO/IEC 13751, "Reduction"): the lines along an axis, each put together by
@@ -298,17 +227,9 @@ impl Reduce {
         ensures { IsAnswerTo (reduce_whole self.function self.along array.now) result }
     {
         let (shape, _) = self.form(array)?;
-        let axes = array.shape();
-        let axis = self.along.axis_at(axes.len() as u32);
-        let apart = stride(axes.as_slice(), axis) as usize;
-        folds(
-            alloc,
-            self.function,
-            numbers,
-            apart,
-            axes[axis] as usize,
-            &shape,
-        )
+        let axis = self.along.axis_at(array.shape().len() as u32);
+        let lines = AxisLines::along(array, axis, numbers);
+        folds(alloc, self.function, &lines, &shape)
     }
 }
 

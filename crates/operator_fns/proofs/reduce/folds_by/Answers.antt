@@ -5,16 +5,16 @@ use Rattle.arrays_core.specs.Shapes.{size}
 use Rattle.arrays_core.specs.Arrays.{with_items}
 use Rattle.arrays_core.specs.declared.item.ItemType.TheVariants.{Nums}
 use Rattle.scalar_fns.specs.NumberLists.{number_items}
+use Rattle.operator_fns.specs.AxisLines.{fold_at}
 use Rattle.operator_fns.proofs.Placewise.{numbers_collected}
-use Rattle.operator_fns.proofs.ColumnFolds.{at_place}
 use Rattle.operator_fns.proofs.reduce.folds_by.Goals as goal
 
 pub returns-in_ok-from_numbers-in-Ok : goal.returns-in_ok-from_numbers-in-Ok
 returns-in_ok-from_numbers-in-Ok g c =
     let shape = c.args.shape.now.items in
-    let rule = at_place (g.S.TwoNumbers.gives c.args.step.now) c.args.numbers.now c.args.stride c.args.count in
+    let rule = fold_at (g.S.TwoNumbers.gives c.args.step.now) c.args.lines.now in
     let made : all_or_first_error (map rule (range_with_len 0 (size shape))) ≡ Ok c.in-Ok.folds.items =
-    ap (λ n. all_or_first_error (map rule (range_with_len 0 n))) (sym (c.size-places.ensures ∙ ap size c.as_slice.ensures)) ∙ c.in-Ok.ensures.is in
+    ap (λ n. all_or_first_error (map rule (range_with_len 0 n))) c.requires.shaped ∙ c.in-Ok.ensures.is in
     numbers_collected shape rule
     ∙ ap (λ r. with_items Nums shape (number_items r)) made
     ∙ ap Ok (sym c.in_ok-from_numbers-in-Ok.ensures)
