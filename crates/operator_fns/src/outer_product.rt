@@ -11,7 +11,6 @@ ghost use Rattle.arrays_core.specs.Shapes.{size as size_of, IsWithinLimits};
 ghost use Rattle.index_region.specs.ArgumentLists.{of_two_arguments};
 ghost use Rattle.index_region.specs.Answers.{IsFormAnswerTo, IsPlaceOf, HasTypeOf};
 ghost use Rattle.change_core.specs.Sourced.{uses_of_two};
-ghost use Rattle.scalar_fns.specs.Numbers.{dyadic_on_numbers};
 ghost use Rattle.scalar_fns.specs.NumberLists.{number_items, IsListAnswerTo};
 ghost use Rattle.operator_fns.specs.ResultTable.{table as table_of, with_results, LeavesOrFails};
 ghost use Rattle.operator_fns.specs.OuterProduct.{outer_form, outer_item, outer_whole, front_use, back_use};
@@ -25,8 +24,8 @@ use arrays_core::{
 };
 use change_core::Announced;
 use index_region::{IndexBox, Intervals, Primitive, Seen, apply, limited};
-use scalar_fns::kernels::{Equal, LessOrEqual, Maximum, Minimum, Minus, Plus, Times, TwoNumbers};
-use scalar_fns::{Scalar2, two};
+use scalar_fns::kernels::TwoNumbers;
+use scalar_fns::{Scalar2, WithFunction, two, with_function};
 use std::alloc::Global;
 
 /// Puts what a function gives for a number with each of others at the end of a list.
@@ -63,44 +62,25 @@ fn table_numbers<S: TwoNumbers>(
     Ok(numbers)
 }
 
-/// The array of what a function gives for each number of one list with each of another.
-fn table_by<S: TwoNumbers>(
+/// Two lists of numbers, and the shape of what a function gives for each number of one with each of the other.
+#[derive(Drop)]
+struct Table<'a> {
     alloc: Global,
-    step: &S,
-    left: &[i64],
-    right: &[i64],
-    shape: &Shape,
-) -> Result<Array, ApplyFault>
-    requires within { IsWithinLimits shape.now.items }
-    requires whole { size_of shape.now.items ≡ length left.now * length right.now }
-    ensures { IsAnswerTo (with_items Nums shape.now.items (number_items (all_or_first_error (table_of (S.gives step.now) left.now right.now)))) result }
-{
-    let numbers = table_numbers(alloc, step, left, right)?;
-    Ok(Array::from_numbers(shape, numbers)?)
+    left: &'a [i64],
+    right: &'a [i64],
+    shape: &'a Shape,
+    ghost within: { IsWithinLimits shape.now.items },
+    ghost whole: { size_of shape.now.items ≡ length left.now * length right.now },
 }
 
-/// The array of what the scalar function that is named gives for each number of one list with each of another; the most
-/// usual ones have a loop of their own.
-fn table(
-    alloc: Global,
-    function: Scalar2,
-    left: &[i64],
-    right: &[i64],
-    shape: &Shape,
-) -> Result<Array, ApplyFault>
-    requires within { IsWithinLimits shape.now.items }
-    requires whole { size_of shape.now.items ≡ length left.now * length right.now }
-    ensures { IsAnswerTo (with_items Nums shape.now.items (number_items (all_or_first_error (table_of (dyadic_on_numbers function) left.now right.now)))) result }
-{
-    match function {
-        Scalar2::Plus => table_by(alloc, &Plus, left, right, shape),
-        Scalar2::Minus => table_by(alloc, &Minus, left, right, shape),
-        Scalar2::Times => table_by(alloc, &Times, left, right, shape),
-        Scalar2::Maximum => table_by(alloc, &Maximum, left, right, shape),
-        Scalar2::Minimum => table_by(alloc, &Minimum, left, right, shape),
-        Scalar2::Equal => table_by(alloc, &Equal, left, right, shape),
-        Scalar2::LessOrEqual => table_by(alloc, &LessOrEqual, left, right, shape),
-        _ => table_by(alloc, &function, left, right, shape),
+impl<'a> WithFunction for Table<'a> {
+    type Output = Result<Array, ApplyFault>;
+
+    ghost makes = { λ t gives result. IsAnswerTo (with_items Nums t.shape.now.items (number_items (all_or_first_error (table_of gives t.left.now t.right.now)))) result };
+
+    fn with<S: TwoNumbers + Copy>(self, step: S) -> Result<Array, ApplyFault> {
+        let numbers = table_numbers(self.alloc, &step, self.left, self.right)?;
+        Ok(Array::from_numbers(self.shape, numbers)?)
     }
 }
 
@@ -168,7 +148,13 @@ impl Outer {
         ensures { IsAnswerTo (outer_whole self.function left.now right.now) result }
     {
         let (shape, _) = self.form(left, right)?;
-        table(alloc, self.function, numbers, others, &shape)
+        let table = Table {
+            alloc,
+            left: numbers,
+            right: others,
+            shape: &shape,
+        };
+        with_function(self.function, table)
     }
 }
 

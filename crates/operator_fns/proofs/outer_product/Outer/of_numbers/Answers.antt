@@ -7,8 +7,8 @@ use Rattle.index_region.proofs.Passing.{limited_gives}
 use Rattle.operator_fns.proofs.Outers.{outer_places, outer_of_numbers}
 use Rattle.operator_fns.proofs.outer_product.Outer.of_numbers.Goals as goal
 
-pub table-requires-clause-whole : goal.table-requires-clause-whole
-table-requires-clause-whole c =
+pub invariant_of-table-clause-whole : goal.invariant_of-table-clause-whole
+invariant_of-table-clause-whole c =
     let a = c.args.left.now in
     let b = c.args.right.now in
     let form : Form = form_of c.in_ok-shape.shape.items c.in_ok-shape.field-0-1 in
@@ -20,6 +20,6 @@ returns c =
     let a = c.args.left.now in
     let b = c.args.right.now in
     let form : Form = form_of c.in_ok-shape.shape.items c.in_ok-shape.field-0-1 in
-    subst (λ w. IsAnswerTo w c.table.result)
+    subst (λ w. IsAnswerTo w c.with_function.result)
     (outer_of_numbers c.args.self.function a b c.args.numbers.now c.args.others.now c.in_ok-shape.ensures.left_sound.one_item_a_place c.in_ok-shape.ensures.right_sound.one_item_a_place c.requires.numbers c.requires.others form c.in_ok-shape.ensures.is.0)
-    c.table.ensures
+    c.with_function.ensures
