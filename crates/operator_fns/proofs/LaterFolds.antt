@@ -12,8 +12,18 @@ use Rattle.arrays_core.specs.Items.{all_or_first_error, and_then}
 use Rattle.scalar_fns.specs.NumberLists.{IsListAnswerTo}
 use Rattle.scalar_fns.specs.Folds.{strided, folded}
 use Rattle.scalar_fns.proofs.RightFolds.{strided_run}
+use Rattle.operator_fns.specs.declared.axis_lines.AxisLines.{AxisLines}
+use Rattle.operator_fns.specs.AxisLines.{scans_of}
 use Rattle.operator_fns.specs.LinearScan.{run_to, scanned, folds_from}
 use Rattle.operator_fns.proofs.Tables.{after_parts, all_then, as_many_as}
+
+-- a list as one line
+pub one_line : (f : ℤ → ℤ → Result ℤ Kind) (lines : AxisLines) (zs : List ℤ) → lines.numbers.now ≡ zs → lines.stride ≡ 1 → lines.count ≡ length zs
+    → scans_of f lines ≡ scanned (folded f) zs 1 (length zs)
+one_line f lines zs numbers beside count =
+    ap (λ ys. scanned (folded f) ys lines.stride lines.count) numbers
+    ∙ ap (λ s. scanned (folded f) zs s lines.count) beside
+    ∙ ap (scanned (folded f) zs 1) count
 
 -- ---- results behind the first ones
 

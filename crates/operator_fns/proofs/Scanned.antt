@@ -33,7 +33,7 @@ use Rattle.operator_fns.specs.LinearScan.{depth, run_to, scanned}
 use Rattle.operator_fns.specs.Scan.{scan_type, scan_form, scan_item, scan_whole}
 use Rattle.operator_fns.proofs.Lines.{stride, line-strided, size-drop-le}
 use Rattle.operator_fns.proofs.Placewise.{collected_same, numbers_collected}
-use Rattle.operator_fns.proofs.Reduced.{numbers_folded, start_is, sizes}
+use Rattle.operator_fns.proofs.Reduced.{numbers_folded, start_is}
 use Rattle.operator_fns.specs.Laws.ScannedPlaces.{at_axis, scan_facts}
 
 -- ---- an index list and its place
@@ -140,28 +140,23 @@ scan_typed along b index (Ok item) sound h there one several =
     (typed_limited b.shape (scan_type b axis) item t))
 
 -- a block of lines lies in an array that has items
-pub block_fits : (axis : ℕ) (shape : List ℕ) (n s : ℕ) → axis < length shape → n ≡ get_or shape axis 0 → s ≡ size (drop (suc axis) shape) → 0 < size shape
-    → (1 ≤ n) × (n * s ≤ size shape)
-block_fits axis shape n s there n_is s_is some =
-    let parts = sizes axis shape there in
-    let fits = some_fit n s parts.lines (size shape) (rw (n_is, s_is) parts.all) some in
-    fits
-  where
-    some_fit : (n s l t : ℕ) → t ≡ l * (n * s) → 0 < t → (1 ≤ n) × (n * s ≤ t)
-    some_fit zero s l t e h = absurd (omega arith)
-    some_fit (suc n) s zero t e h = absurd (omega arith)
-    some_fit (suc n) s (suc l) t e h = (omega arith, omega arith)
-
 of_numbers : (w : Bool) (t : ItemType) → t ≡ Nums → (if w then t else Nums) ≡ Nums
 of_numbers true t h = h
 of_numbers false t h = refl
 
+-- the array of the folds up to each place, as the list of them
+scan_collected : (f : ℤ → ℤ → Result ℤ Kind) (xs : List ℤ) (s n : ℕ) (shape : List ℕ) → size shape ≡ length xs
+    → collect Nums shape (λ index. number_item (folded f (run_to (pos 0) xs s n (places_before shape index)))) ≡ with_items Nums shape (number_items (scanned (folded f) xs s n))
+scan_collected f xs s n shape long =
+    numbers_collected shape (λ place. folded f (run_to (pos 0) xs s n place))
+    ∙ ap (λ m. with_items Nums shape (number_items (all_or_first_error (map (λ place. folded f (run_to (pos 0) xs s n place)) (range_with_len 0 m))))) long
+
 module _ (f : Scalar2) (b : ArrayValue) (xs : List ℤ) (items : b.items ≡ map (λ z. Num z) xs) (typed : b.item_type ≡ Nums) where
-  -- the whole scan, place by place
+  -- the whole scan
   pub scanned_whole : (along : Along) (shape : List ℕ) (t : ItemType) (axis n s : ℕ) → scan_form along b ≡ Ok (form_of shape t) → axis ≡ axis_at (length b.shape) along
-      → axis < length b.shape → n ≡ get_or b.shape axis 0 → s ≡ size (drop (suc axis) b.shape) → 0 < size b.shape
-      → scan_whole f along b ≡ collect Nums shape (λ index. number_item (folded (dyadic_on_numbers f) (run_to (pos 0) xs s n (places_before shape index))))
-  scanned_whole along shape t axis n s form meant there n_is s_is some =
+      → axis < length b.shape → n ≡ get_or b.shape axis 0 → s ≡ size (drop (suc axis) b.shape) → 0 < size b.shape → size shape ≡ length xs
+      → scan_whole f along b ≡ with_items Nums shape (number_items (scanned (folded (dyadic_on_numbers f)) xs s n))
+  scanned_whole along shape t axis n s form meant there n_is s_is some long =
       let facts = scan_facts along b shape t form in
       let t_is : t ≡ Nums = facts.typed ∙ of_numbers _ b.item_type typed in
       ap (λ r. and_then r (λ g. collect g.item_type g.shape (scan_item f along b))) form
@@ -171,13 +166,7 @@ module _ (f : Scalar2) (b : ArrayValue) (xs : List ℤ) (items : b.items ≡ map
       ap (λ a. fold_right f (take (get_or index a 1) (line b a (remove index a)))) (sym meant)
       ∙ run_there f b xs items typed axis index there below some
       ∙ (rw (n_is, s_is, facts.shaped) refl))
-
--- the array of the folds up to each place, as the list of them
-pub scan_collected : (f : ℤ → ℤ → Result ℤ Kind) (xs : List ℤ) (s n : ℕ) (shape : List ℕ) → size shape ≡ length xs
-    → collect Nums shape (λ index. number_item (folded f (run_to (pos 0) xs s n (places_before shape index)))) ≡ with_items Nums shape (number_items (scanned (folded f) xs s n))
-scan_collected f xs s n shape long =
-    numbers_collected shape (λ place. folded f (run_to (pos 0) xs s n place))
-    ∙ ap (λ m. with_items Nums shape (number_items (all_or_first_error (map (λ place. folded f (run_to (pos 0) xs s n place)) (range_with_len 0 m))))) long
+      ∙ scan_collected (dyadic_on_numbers f) xs s n shape long
 
 -- characters along an axis of two or more
 pub characters_fail : (along : Along) (b : ArrayValue) (axis : ℕ) → is_axis (length b.shape) along ≡ true → axis ≡ axis_at (length b.shape) along → axis < length b.shape

@@ -8,6 +8,7 @@ use Rattle.scalar_fns.specs.Items.{number_item}
 use Rattle.scalar_fns.specs.Folds.{strided, folded}
 use Rattle.operator_fns.specs.declared.axis_lines.AxisLines.{AxisLines}
 use Rattle.operator_fns.specs.Strides.{line_start}
+use Rattle.operator_fns.specs.LinearScan.{scanned}
 
 -- the fold of the line of a place
 abbrev pub fold_at : (ℤ → ℤ → Result ℤ Kind) → AxisLines → ℕ → Result ℤ Kind
@@ -16,3 +17,7 @@ fold_at f lines place = folded f (strided (pos 0) lines.numbers.now (line_start 
 -- the array of the folds of the lines
 abbrev pub line_folds : (ℤ → ℤ → Result ℤ Kind) → AxisLines → (shape : List ℕ) → Result ArrayValue Kind
 line_folds f lines shape = collect Nums shape (λ index. number_item (fold_at f lines (places_before shape index)))
+
+-- the folds of the numbers of each line up to each of its places
+abbrev pub scans_of : (ℤ → ℤ → Result ℤ Kind) → AxisLines → Result (List ℤ) Kind
+scans_of f lines = scanned (folded f) lines.numbers.now lines.stride lines.count

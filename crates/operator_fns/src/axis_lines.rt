@@ -46,4 +46,19 @@ impl<'a> AxisLines<'a> {
             places: numbers.len() / count,
         }
     }
+
+    /// A list of numbers as one line.
+    pub(crate) fn one(numbers: &'a [i64]) -> AxisLines<'a>
+        requires { 0 < length numbers.now }
+        ensures numbers { result.numbers.now ≡ numbers.now }
+        ensures stride { result.stride ≡ 1 }
+        ensures count { result.count ≡ length numbers.now }
+    {
+        AxisLines {
+            numbers,
+            stride: 1,
+            count: numbers.len(),
+            places: 1,
+        }
+    }
 }

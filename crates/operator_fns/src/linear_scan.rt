@@ -5,9 +5,10 @@ ghost use Rattle.std.specs.Int.{int_max, int_min};
 ghost use Rattle.function_names.specs.declared.scalar.Scalar2.TheVariants.{Plus as Sum};
 ghost use Rattle.scalar_fns.specs.Numbers.{dyadic_on_numbers};
 ghost use Rattle.scalar_fns.specs.NumberLists.{IsListAnswerTo};
-ghost use Rattle.scalar_fns.specs.Folds.{folded};
+ghost use Rattle.operator_fns.specs.AxisLines.{scans_of};
 ghost use Rattle.operator_fns.specs.LinearScan.{folded_left, left_rule, scanned, AreResultsTo, FailsAt, HasRead, IsAssociative};
 
+use crate::axis_lines::AxisLines;
 use crate::limits::MOST_ITEMS;
 use crate::sum::are_small;
 use arrays_core::{ApplyFault, Kind, room_of};
@@ -132,23 +133,20 @@ fn running_beside<S: TwoNumbers>(
     Ok(results)
 }
 
-/// The left folds of the first numbers of each line, where a line has `count` numbers, a stride apart.
+/// The left folds of the first numbers of each line, of which neighbours may stand apart.
 fn running_apart<S: TwoNumbers>(
     alloc: Global,
     step: &S,
-    numbers: &[i64],
-    stride: usize,
-    count: usize,
+    lines: &AxisLines,
 ) -> Result<Vec<i64>, ApplyFault>
-    requires some { 1 ≤ count }
-    requires apart { 0 < stride }
-    requires high { count * stride ≤ length numbers.now }
-    ensures is { IsListAnswerTo (scanned (folded_left (S.gives step.now)) numbers.now stride count) result }
-    ensures long { IfOk result (λ v. vec_len v ≡ length numbers.now) }
-    ensures read { HasRead (folded_left (S.gives step.now)) numbers.now stride count result }
+    ensures is { IsListAnswerTo (scanned (folded_left (S.gives step.now)) lines.now.numbers.now lines.now.stride lines.now.count) result }
+    ensures long { IfOk result (λ v. vec_len v ≡ length lines.now.numbers.now) }
+    ensures read { HasRead (folded_left (S.gives step.now)) lines.now.numbers.now lines.now.stride lines.now.count result }
 {
+    let numbers = lines.numbers;
+    let stride = lines.stride;
     let mut results = Vec::with_capacity(alloc, room_of(numbers.len()))?;
-    let block = count * stride;
+    let block = lines.count * stride;
     let mut block_place = 0;
     for place in 0..numbers.len() {
         let is_first = block_place < stride;
@@ -159,25 +157,20 @@ fn running_apart<S: TwoNumbers>(
     Ok(results)
 }
 
-/// The left folds of the first numbers of each line, where a line has `count` numbers, a stride of 1 or more apart.
+/// The left folds of the first numbers of each line.
 pub(crate) fn running<S: TwoNumbers>(
     alloc: Global,
     step: &S,
-    numbers: &[i64],
-    stride: usize,
-    count: usize,
+    lines: &AxisLines,
 ) -> Result<Vec<i64>, ApplyFault>
-    requires some { 1 ≤ count }
-    requires apart { 0 < stride }
-    requires high { count * stride ≤ length numbers.now }
-    ensures is { IsListAnswerTo (scanned (folded_left (S.gives step.now)) numbers.now stride count) result }
-    ensures long { IfOk result (λ v. vec_len v ≡ length numbers.now) }
-    ensures read { HasRead (folded_left (S.gives step.now)) numbers.now stride count result }
+    ensures is { IsListAnswerTo (scanned (folded_left (S.gives step.now)) lines.now.numbers.now lines.now.stride lines.now.count) result }
+    ensures long { IfOk result (λ v. vec_len v ≡ length lines.now.numbers.now) }
+    ensures read { HasRead (folded_left (S.gives step.now)) lines.now.numbers.now lines.now.stride lines.now.count result }
 {
-    if stride == 1 {
-        running_beside(alloc, step, numbers, count)
+    if lines.stride == 1 {
+        running_beside(alloc, step, lines.numbers, lines.count)
     } else {
-        running_apart(alloc, step, numbers, stride, count)
+        running_apart(alloc, step, lines)
     }
 }
 
@@ -186,39 +179,26 @@ pub(crate) fn running<S: TwoNumbers>(
 pub(crate) fn running_folds<S: TwoNumbers>(
     alloc: Global,
     step: &S,
-    numbers: &[i64],
-    stride: usize,
-    count: usize,
+    lines: &AxisLines,
 ) -> Result<Vec<i64>, ApplyFault>
-    requires associative { IsAssociative (S.gives step.now) }
-    requires some { 1 ≤ count }
-    requires apart { 0 < stride }
-    requires high { count * stride ≤ length numbers.now }
-    ensures is { IsListAnswerTo (scanned (folded (S.gives step.now)) numbers.now stride count) result }
-    ensures long { IfOk result (λ v. vec_len v ≡ length numbers.now) }
+    requires { IsAssociative (S.gives step.now) }
+    ensures is { IsListAnswerTo (scans_of (S.gives step.now) lines.now) result }
+    ensures long { IfOk result (λ v. vec_len v ≡ length lines.now.numbers.now) }
 {
-    running(alloc, step, numbers, stride, count)
+    running(alloc, step, lines)
 }
 
 /// The sums of the first numbers of each line. Such a sum is within 64 bits on its way from the last
 /// number to the first where that of each ending is, so where the greatest and the least of these are. Those
 /// of small numbers always are.
-pub(crate) fn running_sums(
-    alloc: Global,
-    numbers: &[i64],
-    stride: usize,
-    count: usize,
-) -> Result<Vec<i64>, ApplyFault>
-    requires some { 1 ≤ count }
-    requires apart { 0 < stride }
-    requires high { count * stride ≤ length numbers.now }
-    ensures is { IsListAnswerTo (scanned (folded (dyadic_on_numbers Sum)) numbers.now stride count) result }
-    ensures long { IfOk result (λ v. vec_len v ≡ length numbers.now) }
+pub(crate) fn running_sums(alloc: Global, lines: &AxisLines) -> Result<Vec<i64>, ApplyFault>
+    ensures is { IsListAnswerTo (scans_of (dyadic_on_numbers Sum) lines.now) result }
+    ensures long { IfOk result (λ v. vec_len v ≡ length lines.now.numbers.now) }
 {
-    if numbers.len() <= MOST_ITEMS && are_small(numbers) {
-        return running(alloc, &Plus, numbers, stride, count);
+    if lines.numbers.len() <= MOST_ITEMS && are_small(lines.numbers) {
+        return running(alloc, &Plus, lines);
     }
-    running(alloc, &GreatestEnding, numbers, stride, count)?;
-    running(alloc, &LeastEnding, numbers, stride, count)?;
-    running(alloc, &Plus, numbers, stride, count)
+    running(alloc, &GreatestEnding, lines)?;
+    running(alloc, &LeastEnding, lines)?;
+    running(alloc, &Plus, lines)
 }

@@ -1,13 +1,15 @@
 //! Scans of plain lists of numbers.
 
-ghost use Rattle.std.specs.Prelude.{◌≡◌, ◌<◌, ◌≤◌, ◌*◌, ℤ, List, false, length, drop, take, Ok, IfOk, IfSome, vec_len};
+ghost use Rattle.std.specs.Prelude.{◌≡◌, ◌≤◌, ℤ, List, false, length, drop, take, Ok, IfOk, IfSome, vec_len};
 ghost use Rattle.function_names.specs.declared.scalar.Scalar2.TheVariants.{Residue as ByResidue};
 ghost use Rattle.scalar_fns.specs.Numbers.{dyadic_on_numbers};
 ghost use Rattle.scalar_fns.specs.NumberLists.{IsListAnswerTo};
 ghost use Rattle.scalar_fns.specs.Folds.{folded};
+ghost use Rattle.operator_fns.specs.AxisLines.{scans_of};
 ghost use Rattle.operator_fns.specs.LinearScan.{scanned, folds_from};
 ghost use Rattle.operator_fns.specs.Prefixes.{GivesTruths};
 
+use crate::axis_lines::AxisLines;
 use crate::linear_scan::{running_folds, running_sums};
 use crate::outcomes::Outcomes;
 use crate::prefix::prefix_folds;
@@ -27,74 +29,56 @@ use std::alloc::Global;
 fn truth_folds<S: TwoNumbers + Copy>(
     alloc: Global,
     step: S,
-    numbers: &[i64],
-    stride: usize,
-    count: usize,
+    lines: &AxisLines,
 ) -> Result<Vec<i64>, ApplyFault>
-    requires truths { GivesTruths (S.gives step) }
-    requires some { 1 ≤ count }
-    requires apart { 0 < stride }
-    requires high { count * stride ≤ length numbers.now }
-    ensures is { IsListAnswerTo (scanned (folded (S.gives step)) numbers.now stride count) result }
-    ensures long { IfOk result (λ v. vec_len v ≡ length numbers.now) }
+    requires { GivesTruths (S.gives step) }
+    ensures is { IsListAnswerTo (scans_of (S.gives step) lines.now) result }
+    ensures long { IfOk result (λ v. vec_len v ≡ length lines.now.numbers.now) }
 {
     let none = Outcomes::none(step);
-    prefix_folds(alloc, &none, numbers, stride, count)
+    prefix_folds(alloc, &none, lines)
 }
 
 /// The residues of the first numbers of each line. Where none is below 0, or none above, few divisors are looked at for each.
-fn residue_folds(
-    alloc: Global,
-    numbers: &[i64],
-    stride: usize,
-    count: usize,
-) -> Result<Vec<i64>, ApplyFault>
-    requires some { 1 ≤ count }
-    requires apart { 0 < stride }
-    ensures is { IsListAnswerTo (scanned (folded (dyadic_on_numbers ByResidue)) numbers.now stride count) result }
-    ensures long { IfOk result (λ v. vec_len v ≡ length numbers.now) }
+fn residue_folds(alloc: Global, lines: &AxisLines) -> Result<Vec<i64>, ApplyFault>
+    ensures is { IsListAnswerTo (scans_of (dyadic_on_numbers ByResidue) lines.now) result }
+    ensures long { IfOk result (λ v. vec_len v ≡ length lines.now.numbers.now) }
 {
-    if are_one_sided(numbers) {
-        Ok(running_residues(alloc, numbers, stride, count)?)
+    if are_one_sided(lines.numbers) {
+        Ok(running_residues(alloc, lines)?)
     } else {
-        recalled_folds(alloc, &Residue, numbers, stride, count)
+        recalled_folds(alloc, &Residue, lines)
     }
 }
 
-/// The folds of the first numbers of each line by the scalar function that is named, where a line has `count` numbers, a stride
-/// of 1 or more apart.
+/// The folds of the first numbers of each line by the scalar function that is named.
 pub(crate) fn number_folds(
     alloc: Global,
     function: Scalar2,
-    numbers: &[i64],
-    stride: usize,
-    count: usize,
+    lines: &AxisLines,
 ) -> Result<Vec<i64>, ApplyFault>
-    requires some { 1 ≤ count }
-    requires apart { 0 < stride }
-    requires high { count * stride ≤ length numbers.now }
-    ensures is { IsListAnswerTo (scanned (folded (dyadic_on_numbers function)) numbers.now stride count) result }
-    ensures long { IfOk result (λ v. vec_len v ≡ length numbers.now) }
+    ensures is { IsListAnswerTo (scans_of (dyadic_on_numbers function) lines.now) result }
+    ensures long { IfOk result (λ v. vec_len v ≡ length lines.now.numbers.now) }
 {
     match function {
-        Scalar2::Plus => running_sums(alloc, numbers, stride, count),
-        Scalar2::Minus => running_differences(alloc, numbers, stride, count),
-        Scalar2::Times => running_products(alloc, numbers, stride, count),
-        Scalar2::Maximum => running_folds(alloc, &Maximum, numbers, stride, count),
-        Scalar2::Minimum => running_folds(alloc, &Minimum, numbers, stride, count),
-        Scalar2::And => running_folds(alloc, &And, numbers, stride, count),
-        Scalar2::Or => running_folds(alloc, &Or, numbers, stride, count),
-        Scalar2::Less => truth_folds(alloc, Less, numbers, stride, count),
-        Scalar2::LessOrEqual => truth_folds(alloc, LessOrEqual, numbers, stride, count),
-        Scalar2::Equal => truth_folds(alloc, Equal, numbers, stride, count),
-        Scalar2::GreaterOrEqual => truth_folds(alloc, GreaterOrEqual, numbers, stride, count),
-        Scalar2::Greater => truth_folds(alloc, Greater, numbers, stride, count),
-        Scalar2::NotEqual => truth_folds(alloc, NotEqual, numbers, stride, count),
-        Scalar2::Nand => truth_folds(alloc, Nand, numbers, stride, count),
-        Scalar2::Nor => truth_folds(alloc, Nor, numbers, stride, count),
-        Scalar2::Divide => recalled_folds(alloc, &Divide, numbers, stride, count),
-        Scalar2::Power => recalled_folds(alloc, &Power, numbers, stride, count),
-        Scalar2::Residue => residue_folds(alloc, numbers, stride, count),
+        Scalar2::Plus => running_sums(alloc, lines),
+        Scalar2::Minus => running_differences(alloc, lines),
+        Scalar2::Times => running_products(alloc, lines),
+        Scalar2::Maximum => running_folds(alloc, &Maximum, lines),
+        Scalar2::Minimum => running_folds(alloc, &Minimum, lines),
+        Scalar2::And => running_folds(alloc, &And, lines),
+        Scalar2::Or => running_folds(alloc, &Or, lines),
+        Scalar2::Less => truth_folds(alloc, Less, lines),
+        Scalar2::LessOrEqual => truth_folds(alloc, LessOrEqual, lines),
+        Scalar2::Equal => truth_folds(alloc, Equal, lines),
+        Scalar2::GreaterOrEqual => truth_folds(alloc, GreaterOrEqual, lines),
+        Scalar2::Greater => truth_folds(alloc, Greater, lines),
+        Scalar2::NotEqual => truth_folds(alloc, NotEqual, lines),
+        Scalar2::Nand => truth_folds(alloc, Nand, lines),
+        Scalar2::Nor => truth_folds(alloc, Nor, lines),
+        Scalar2::Divide => recalled_folds(alloc, &Divide, lines),
+        Scalar2::Power => recalled_folds(alloc, &Power, lines),
+        Scalar2::Residue => residue_folds(alloc, lines),
     }
 }
 
@@ -113,7 +97,7 @@ fn may_fail(alloc: Global, function: Scalar2, numbers: &[i64], count: usize) -> 
     requires { count ≤ length numbers.now }
     ensures { result ≡ false → (folds : List ℤ) × (scanned (folded (dyadic_on_numbers function)) (take count numbers.now) 1 count ≡ Ok folds) }
 {
-    count > 0 && number_folds(alloc, function, &numbers[..count], 1, count).is_err()
+    count > 0 && number_folds(alloc, function, &AxisLines::one(&numbers[..count])).is_err()
 }
 
 /// The folds of the first numbers of a list, up to each place from the one that is told on, counted from 1; None where an
@@ -128,7 +112,7 @@ pub(crate) fn later_folds(
     requires high { first ≤ length numbers.now }
     ensures { IfSome result (IsListAnswerTo (folds_from (dyadic_on_numbers function) numbers.now first)) }
 {
-    match number_folds(alloc, function, numbers, 1, numbers.len()) {
+    match number_folds(alloc, function, &AxisLines::one(numbers)) {
         Ok(folds) => Some(behind(alloc, &folds, first - 1)),
         Err(_) if may_fail(alloc, function, numbers, first - 1) => None,
         Err(fault) => Some(Err(fault)),

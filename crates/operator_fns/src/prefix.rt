@@ -4,9 +4,11 @@ ghost use Rattle.std.specs.Prelude.{◌≡◌, ◌<◌, ◌≤◌, ◌+◌, ◌*
 ghost use Rattle.arrays_core.specs.declared.item.Kind.{Kind};
 ghost use Rattle.scalar_fns.specs.NumberLists.{IsListAnswerTo};
 ghost use Rattle.scalar_fns.specs.Folds.{folded};
+ghost use Rattle.operator_fns.specs.AxisLines.{scans_of};
 ghost use Rattle.operator_fns.specs.LinearScan.{scanned, AreResultsTo};
 ghost use Rattle.operator_fns.specs.Prefixes.{right_rule, Continues, IsClosed, IsFresh};
 
+use crate::axis_lines::AxisLines;
 use crate::linear_scan::place_after;
 use arrays_core::{ApplyFault, Kind, room_of};
 use std::alloc::Global;
@@ -82,59 +84,50 @@ fn line_so_far<P: Copy>(none: &P, lines: &[P], column: usize, is_first: bool) ->
     if is_first { *none } else { lines[column] }
 }
 
-/// The folds of the first numbers of each line, where a line has `count` numbers, a stride apart. What is kept of the lines
-/// of a block stands beside one another, that of the line of the next number first for each.
+/// The folds of the first numbers of each line, of which neighbours may stand apart. What is kept of the lines of a block stands
+/// beside one another, that of the line of the next number first for each.
 fn folds_apart<P: Prefix + Copy>(
     alloc: Global,
     none: &P,
-    numbers: &[i64],
-    stride: usize,
-    count: usize,
+    lines: &AxisLines,
 ) -> Result<Vec<i64>, ApplyFault>
     requires fresh { IsFresh (P.gives none.now) }
     requires closed { IsClosed (P.step none.now) }
-    requires some { 1 ≤ count }
-    requires apart { 0 < stride }
-    requires high { count * stride ≤ length numbers.now }
-    ensures is { IsListAnswerTo (scanned (folded (P.step none.now)) numbers.now stride count) result }
-    ensures long { IfOk result (λ v. vec_len v ≡ length numbers.now) }
+    ensures is { IsListAnswerTo (scans_of (P.step none.now) lines.now) result }
+    ensures long { IfOk result (λ v. vec_len v ≡ length lines.now.numbers.now) }
 {
+    let numbers = lines.numbers;
+    let stride = lines.stride;
     let mut results = Vec::with_capacity(alloc, room_of(numbers.len()))?;
-    let mut lines = vec![in alloc; *none; stride]?;
-    let block = count * stride;
+    let mut kept = vec![in alloc; *none; stride]?;
+    let block = lines.count * stride;
     let mut block_place = 0;
     let mut column = 0;
     for place in 0..numbers.len() {
-        let mut line = line_so_far(none, &lines, column, block_place < stride);
+        let mut line = line_so_far(none, &kept, column, block_place < stride);
         let result = line.push(numbers[place])?;
         results.push_reserved(result);
-        lines[column] = line;
+        kept[column] = line;
         block_place = place_after(block_place, block);
         column = place_after(column, stride);
     }
     Ok(results)
 }
 
-/// The folds of the first numbers of each line, where a line has `count` numbers, a stride of 1 or more apart: one step for
-/// each number, from a prefix of no numbers.
+/// The folds of the first numbers of each line: one step for each number, from a prefix of no numbers.
 pub(crate) fn prefix_folds<P: Prefix + Copy>(
     alloc: Global,
     none: &P,
-    numbers: &[i64],
-    stride: usize,
-    count: usize,
+    lines: &AxisLines,
 ) -> Result<Vec<i64>, ApplyFault>
     requires fresh { IsFresh (P.gives none.now) }
     requires closed { IsClosed (P.step none.now) }
-    requires some { 1 ≤ count }
-    requires apart { 0 < stride }
-    requires high { count * stride ≤ length numbers.now }
-    ensures is { IsListAnswerTo (scanned (folded (P.step none.now)) numbers.now stride count) result }
-    ensures long { IfOk result (λ v. vec_len v ≡ length numbers.now) }
+    ensures is { IsListAnswerTo (scans_of (P.step none.now) lines.now) result }
+    ensures long { IfOk result (λ v. vec_len v ≡ length lines.now.numbers.now) }
 {
-    if stride == 1 {
-        folds_beside(alloc, none, numbers, count)
+    if lines.stride == 1 {
+        folds_beside(alloc, none, lines.numbers, lines.count)
     } else {
-        folds_apart(alloc, none, numbers, stride, count)
+        folds_apart(alloc, none, lines)
     }
 }

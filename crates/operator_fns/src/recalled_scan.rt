@@ -2,11 +2,12 @@
 
 ghost use Rattle.std.specs.Prelude.{◌≡◌, ℕ, ◌<◌, ◌≤◌, pos, length, get_or, Ok, IfOk, vec_len};
 ghost use Rattle.scalar_fns.specs.NumberLists.{IsListAnswerTo};
-ghost use Rattle.scalar_fns.specs.Folds.{folded};
-ghost use Rattle.operator_fns.specs.LinearScan.{run_to, scanned};
+ghost use Rattle.operator_fns.specs.AxisLines.{scans_of};
+ghost use Rattle.operator_fns.specs.LinearScan.{run_to};
 ghost use Rattle.operator_fns.specs.Prefixes.{right_rule};
 ghost use Rattle.operator_fns.specs.RecalledScan.{AreRecalled};
 
+use crate::axis_lines::AxisLines;
 use arrays_core::{ApplyFault, Kind, room_of};
 use scalar_fns::kernels::TwoNumbers;
 use std::alloc::Global;
@@ -61,24 +62,28 @@ fn recalled_fold<S: TwoNumbers>(
     Ok(number)
 }
 
-/// The right folds of the first numbers of each line, where a line has `count` numbers, a stride of 1 or more apart.
+/// The right folds of the first numbers of each line.
 pub(crate) fn recalled_folds<S: TwoNumbers>(
     alloc: Global,
     step: &S,
-    numbers: &[i64],
-    stride: usize,
-    count: usize,
+    lines: &AxisLines,
 ) -> Result<Vec<i64>, ApplyFault>
-    requires some { 1 ≤ count }
-    requires apart { 0 < stride }
-    ensures is { IsListAnswerTo (scanned (folded (S.gives step.now)) numbers.now stride count) result }
-    ensures long { IfOk result (λ v. vec_len v ≡ length numbers.now) }
+    ensures is { IsListAnswerTo (scans_of (S.gives step.now) lines.now) result }
+    ensures long { IfOk result (λ v. vec_len v ≡ length lines.now.numbers.now) }
 {
+    let numbers = lines.numbers;
     let mut results = Vec::with_capacity(alloc, room_of(numbers.len()))?;
     let mut recalled = Vec::with_capacity(alloc, numbers.len())?;
     for place in 0..numbers.len() {
         let number = numbers[place];
-        let result = recalled_fold(step, numbers, &results, &mut recalled, stride, count)?;
+        let result = recalled_fold(
+            step,
+            numbers,
+            &results,
+            &mut recalled,
+            lines.stride,
+            lines.count,
+        )?;
         results.push_reserved(result);
         recalled.push_reserved(Recalled {
             number,

@@ -5,9 +5,11 @@ ghost use Rattle.std.specs.List.{list_all};
 ghost use Rattle.function_names.specs.declared.scalar.Scalar2.TheVariants.{Residue as ByResidue};
 ghost use Rattle.scalar_fns.specs.Numbers.{dyadic_on_numbers};
 ghost use Rattle.scalar_fns.specs.Folds.{folded};
+ghost use Rattle.operator_fns.specs.AxisLines.{scans_of};
 ghost use Rattle.operator_fns.specs.LinearScan.{scanned};
 ghost use Rattle.operator_fns.specs.ResidueScan.{reach_of as reach_by, reach_at, place_before as place_ahead, are_one_sided as are_sided, is_low, is_high, IsBeside, AreDivisors, IsDivisor, AreTheSame, LeadsTo, from, rank};
 
+use crate::axis_lines::AxisLines;
 use arrays_core::room_of;
 use scalar_fns::residue;
 use std::alloc::{AllocError, Global};
@@ -192,25 +194,17 @@ impl<'a> SidedLines<'a> {
     }
 }
 
-/// The residues of the first numbers of each line, where a line has `count` numbers, a stride of 1 or more apart, and none of
-/// them is below 0, or none above. A number that is nearer to 0 than a divisor is its own residue by it, so only those divisors are
-/// looked at that make it less than half as far from 0.
-pub(crate) fn running_residues(
-    alloc: Global,
-    numbers: &[i64],
-    stride: usize,
-    count: usize,
-) -> Result<Vec<i64>, AllocError>
-    requires sided { IsTrue (are_sided numbers.now) }
-    requires some { 1 ≤ count }
-    requires apart { 0 < stride }
-    ensures is { IfOk result (λ v. scanned (folded (dyadic_on_numbers ByResidue)) numbers.now stride count ≡ Ok v.items) }
-    ensures long { IfOk result (λ v. vec_len v ≡ length numbers.now) }
+/// The residues of the first numbers of each line, where none of them is below 0, or none above. A number that is nearer to 0
+/// than a divisor is its own residue by it, so only those divisors are looked at that make it less than half as far from 0.
+pub(crate) fn running_residues(alloc: Global, lines: &AxisLines) -> Result<Vec<i64>, AllocError>
+    requires sided { IsTrue (are_sided lines.now.numbers.now) }
+    ensures is { IfOk result (λ v. scans_of (dyadic_on_numbers ByResidue) lines.now ≡ Ok v.items) }
+    ensures long { IfOk result (λ v. vec_len v ≡ length lines.now.numbers.now) }
 {
-    let lines = SidedLines {
-        numbers,
-        stride,
-        count,
+    let sided = SidedLines {
+        numbers: lines.numbers,
+        stride: lines.stride,
+        count: lines.count,
     };
-    lines.residues(alloc)
+    sided.residues(alloc)
 }

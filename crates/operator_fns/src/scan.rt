@@ -1,12 +1,12 @@
 //! Scan: the right folds of the first items of each line of an array.
 
-ghost use Rattle.std.specs.Prelude.{◌≡◌, ◌<◌, ◌≤◌, ◌+◌, ◌-◌, ◌*◌, ◌∷◌, [], pos, length, map, get_or, IfOk, IfSome, false, set};
+ghost use Rattle.std.specs.Prelude.{◌≡◌, ◌<◌, ◌≤◌, ◌+◌, ◌-◌, ◌∷◌, [], length, map, get_or, IfOk, IfSome, false, set};
 ghost use Rattle.std.proofs.Common.{rules};
 ghost use Rattle.arrays_core.specs.declared.item.Item.TheVariants.{Num};
 ghost use Rattle.arrays_core.specs.declared.item.ItemType.TheVariants.{Nums};
-ghost use Rattle.arrays_core.specs.Arrays.{collect as collected, with_items, IsAnswerTo};
-ghost use Rattle.arrays_core.specs.Limits.{longest_axis, most_axes};
-ghost use Rattle.arrays_core.specs.Shapes.{size as size_of, places_before, IsWithinLimits};
+ghost use Rattle.arrays_core.specs.Arrays.{with_items, IsAnswerTo};
+ghost use Rattle.arrays_core.specs.Limits.{longest_axis};
+ghost use Rattle.arrays_core.specs.Shapes.{size as size_of, IsWithinLimits};
 ghost use Rattle.index_region.specs.ArgumentLists.{of_one_argument};
 ghost use Rattle.index_region.specs.Answers.{IsFormAnswerTo, IsPlaceOf, HasTypeOf};
 ghost use Rattle.function_names.specs.Axes.{axis_at};
@@ -14,18 +14,18 @@ ghost use Rattle.index_region.specs.Axes.{places_along};
 ghost use Rattle.change_core.specs.Sourced.{uses_of_one};
 ghost use Rattle.scalar_fns.specs.Numbers.{dyadic_on_numbers};
 ghost use Rattle.scalar_fns.specs.NumberLists.{number_items};
-ghost use Rattle.scalar_fns.specs.Items.{number_item};
-ghost use Rattle.scalar_fns.specs.Folds.{folded};
-ghost use Rattle.operator_fns.specs.LinearScan.{run_to, folds_from};
+ghost use Rattle.operator_fns.specs.AxisLines.{scans_of};
+ghost use Rattle.operator_fns.specs.LinearScan.{folds_from};
 ghost use Rattle.operator_fns.specs.Scan.{scan_form, scan_item, scan_along, scan_whole, scan_use};
 ghost use Rattle.operator_fns.specs.Laws.Scan.{scan_tight};
 ghost use Rattle.operator_fns.specs.Laws.LinesGrowth.{scan_growing};
 ghost use Rattle.operator_fns.specs.Growth.{lines_grow};
 
+use crate::axis_lines::AxisLines;
 use crate::box_lines::items_by_lines;
 use crate::later_axis::is_along_a_later_axis;
 use crate::number_scan::{later_folds, number_folds};
-use crate::right_fold::{fold_line, line_numbers, stride};
+use crate::right_fold::{fold_line, line_numbers};
 use arrays_core::{ApplyFault, Array, Item, ItemType, Kind, Shape, shape_of, without_axis};
 use change_core::Announced;
 use index_region::{Along, IndexBox, Intervals, Primitive, Seen, apply, limited};
@@ -36,19 +36,14 @@ use std::alloc::Global;
 fn scans(
     alloc: Global,
     function: Scalar2,
-    numbers: &[i64],
-    stride: usize,
-    count: usize,
+    lines: &AxisLines,
     shape: &Shape,
 ) -> Result<Array, ApplyFault>
     requires within { IsWithinLimits shape.now.items }
-    requires some { 1 ≤ count }
-    requires apart { 0 < stride }
-    requires high { count * stride ≤ length numbers.now }
-    requires long { size_of shape.now.items ≡ length numbers.now }
-    ensures { IsAnswerTo (collected Nums shape.now.items (λ index. number_item (folded (dyadic_on_numbers function) (run_to (pos 0) numbers.now stride count (places_before shape.now.items index))))) result }
+    requires long { size_of shape.now.items ≡ length lines.now.numbers.now }
+    ensures { IsAnswerTo (with_items Nums shape.now.items (number_items (scans_of (dyadic_on_numbers function) lines.now))) result }
 {
-    let folds = number_folds(alloc, function, numbers, stride, count)?;
+    let folds = number_folds(alloc, function, lines)?;
     Ok(Array::from_numbers(shape, folds)?)
 }
 
@@ -173,18 +168,11 @@ impl Scan {
         let (shape, _) = self.form(array)?;
         let axes = array.shape();
         if axes.is_empty() {
-            return scans(alloc, self.function, numbers, 1, 1, &shape);
+            return scans(alloc, self.function, &AxisLines::one(numbers), &shape);
         }
         let axis = self.along.axis_at(axes.len() as u32);
-        let apart = stride(axes.as_slice(), axis) as usize;
-        scans(
-            alloc,
-            self.function,
-            numbers,
-            apart,
-            axes[axis] as usize,
-            &shape,
-        )
+        let lines = AxisLines::along(array, axis, numbers);
+        scans(alloc, self.function, &lines, &shape)
     }
 }
 

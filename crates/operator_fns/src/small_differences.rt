@@ -1,16 +1,18 @@
 //! Scans by `-` of small numbers: each result from the one before it on its line, by a sum or a difference that is within 64 bits.
 
-ghost use Rattle.std.specs.Prelude.{◌≡◌, ◌<◌, ◌≤◌, ◌+◌, ◌-◌, ◌*◌, ◌%◌, ◌+ℤ◌, ◌-ℤ◌, if◌then◌else◌, pos, All, FitsSigned, length, min, get_or, IfOk, vec_len};
+ghost use Rattle.std.specs.Prelude.{◌≡◌, ◌<◌, ◌≤◌, ◌+◌, ◌-◌, ◌%◌, ◌+ℤ◌, ◌-ℤ◌, if◌then◌else◌, pos, All, FitsSigned, length, min, get_or, IfOk, vec_len};
 ghost use Rattle.std.specs.Int.{w64};
 ghost use Rattle.arrays_core.specs.Limits.{most_places};
 ghost use Rattle.function_names.specs.declared.scalar.Scalar2.TheVariants.{Minus as Difference};
 ghost use Rattle.scalar_fns.specs.Numbers.{dyadic_on_numbers};
 ghost use Rattle.scalar_fns.specs.NumberLists.{IsListAnswerTo};
 ghost use Rattle.scalar_fns.specs.Folds.{folded};
+ghost use Rattle.operator_fns.specs.AxisLines.{scans_of};
 ghost use Rattle.operator_fns.specs.LinearScan.{depth, scanned, AreResultsTo};
 ghost use Rattle.operator_fns.specs.Prefixes.{right_rule};
 ghost use Rattle.operator_fns.specs.Sum.{IsSmall};
 
+use crate::axis_lines::AxisLines;
 use crate::differences::Differences;
 use crate::limits::MOST_ITEMS;
 use crate::linear_scan::place_after;
@@ -106,48 +108,32 @@ fn push_row(
     place_after(row, count)
 }
 
-/// The right folds by `-` of the first numbers of each line, where a line has `count` numbers, a stride apart.
-fn differences_apart(
-    alloc: Global,
-    numbers: &[i64],
-    stride: usize,
-    count: usize,
-) -> Result<Vec<i64>, ApplyFault>
-    requires small { All IsSmall numbers.now }
-    requires few { length numbers.now ≤ most_places }
-    requires some { 1 ≤ count }
-    requires apart { 0 < stride }
-    ensures is { IsListAnswerTo (scanned (folded (dyadic_on_numbers Difference)) numbers.now stride count) result }
-    ensures long { IfOk result (λ v. vec_len v ≡ length numbers.now) }
+/// The right folds by `-` of the first numbers of each line, of which neighbours may stand apart.
+fn differences_apart(alloc: Global, lines: &AxisLines) -> Result<Vec<i64>, ApplyFault>
+    requires small { All IsSmall lines.now.numbers.now }
+    requires few { length lines.now.numbers.now ≤ most_places }
+    ensures is { IsListAnswerTo (scans_of (dyadic_on_numbers Difference) lines.now) result }
+    ensures long { IfOk result (λ v. vec_len v ≡ length lines.now.numbers.now) }
 {
-    let mut results = Vec::with_capacity(alloc, room_of(numbers.len()))?;
+    let mut results = Vec::with_capacity(alloc, room_of(lines.numbers.len()))?;
     let mut row = 0;
-    while results.len() < numbers.len() {
-        row = push_row(&mut results, numbers, stride, count, row);
+    while results.len() < lines.numbers.len() {
+        row = push_row(&mut results, lines.numbers, lines.stride, lines.count, row);
     }
     Ok(results)
 }
 
-/// The folds by `-` of the first numbers of each line, where a line has `count` numbers, a stride of 1 or more apart. Those of small numbers
-/// are within 64 bits on their way.
-pub(crate) fn running_differences(
-    alloc: Global,
-    numbers: &[i64],
-    stride: usize,
-    count: usize,
-) -> Result<Vec<i64>, ApplyFault>
-    requires some { 1 ≤ count }
-    requires apart { 0 < stride }
-    requires high { count * stride ≤ length numbers.now }
-    ensures is { IsListAnswerTo (scanned (folded (dyadic_on_numbers Difference)) numbers.now stride count) result }
-    ensures long { IfOk result (λ v. vec_len v ≡ length numbers.now) }
+/// The folds by `-` of the first numbers of each line. Those of small numbers are within 64 bits on their way.
+pub(crate) fn running_differences(alloc: Global, lines: &AxisLines) -> Result<Vec<i64>, ApplyFault>
+    ensures is { IsListAnswerTo (scans_of (dyadic_on_numbers Difference) lines.now) result }
+    ensures long { IfOk result (λ v. vec_len v ≡ length lines.now.numbers.now) }
 {
-    if numbers.len() > MOST_ITEMS || !are_small(numbers) {
-        return prefix_folds(alloc, &Differences::none(), numbers, stride, count);
+    if lines.numbers.len() > MOST_ITEMS || !are_small(lines.numbers) {
+        return prefix_folds(alloc, &Differences::none(), lines);
     }
-    if stride == 1 {
-        differences_beside(alloc, numbers, count)
+    if lines.stride == 1 {
+        differences_beside(alloc, lines.numbers, lines.count)
     } else {
-        differences_apart(alloc, numbers, stride, count)
+        differences_apart(alloc, lines)
     }
 }

@@ -1,13 +1,13 @@
 //! Scans by `×` of numbers that are 0, 1 or ¯1: no product of them leaves 64 bits.
 
-ghost use Rattle.std.specs.Prelude.{◌≡◌, ◌<◌, ◌≤◌, ◌*◌, true, All, length, IfOk, vec_len};
+ghost use Rattle.std.specs.Prelude.{◌≡◌, true, All, length, IfOk, vec_len};
 ghost use Rattle.function_names.specs.declared.scalar.Scalar2.TheVariants.{Times as Product};
 ghost use Rattle.scalar_fns.specs.Numbers.{dyadic_on_numbers};
 ghost use Rattle.scalar_fns.specs.NumberLists.{IsListAnswerTo};
-ghost use Rattle.scalar_fns.specs.Folds.{folded};
-ghost use Rattle.operator_fns.specs.LinearScan.{scanned};
+ghost use Rattle.operator_fns.specs.AxisLines.{scans_of};
 ghost use Rattle.operator_fns.specs.Prefixes.{IsUnit};
 
+use crate::axis_lines::AxisLines;
 use crate::linear_scan::running;
 use crate::prefix::prefix_folds;
 use crate::products::Products;
@@ -26,23 +26,14 @@ fn are_units(numbers: &[i64]) -> bool
     bits < 2
 }
 
-/// The folds by `×` of the first numbers of each line, where a line has `count` numbers, a stride of 1 or more apart. Of numbers that are 0,
-/// 1 or ¯1, the product from the left is that from the right.
-pub(crate) fn running_products(
-    alloc: Global,
-    numbers: &[i64],
-    stride: usize,
-    count: usize,
-) -> Result<Vec<i64>, ApplyFault>
-    requires some { 1 ≤ count }
-    requires apart { 0 < stride }
-    requires high { count * stride ≤ length numbers.now }
-    ensures is { IsListAnswerTo (scanned (folded (dyadic_on_numbers Product)) numbers.now stride count) result }
-    ensures long { IfOk result (λ v. vec_len v ≡ length numbers.now) }
+/// The folds by `×` of the first numbers of each line. Of numbers that are 0, 1 or ¯1, the product from the left is that from the right.
+pub(crate) fn running_products(alloc: Global, lines: &AxisLines) -> Result<Vec<i64>, ApplyFault>
+    ensures is { IsListAnswerTo (scans_of (dyadic_on_numbers Product) lines.now) result }
+    ensures long { IfOk result (λ v. vec_len v ≡ length lines.now.numbers.now) }
 {
-    if are_units(numbers) {
-        running(alloc, &Times, numbers, stride, count)
+    if are_units(lines.numbers) {
+        running(alloc, &Times, lines)
     } else {
-        prefix_folds(alloc, &Products::none(), numbers, stride, count)
+        prefix_folds(alloc, &Products::none(), lines)
     }
 }

@@ -10,7 +10,7 @@ use Rattle.operator_fns.proofs.linear_scan.running_folds.Goals as goal
 pub returns-clause-is : goal.returns-clause-is
 returns-clause-is g c =
     let f = g.S.TwoNumbers.gives c.args.step.now in
-    let zs = c.args.numbers.now in
-    let same : scanned (folded_left f) zs c.args.stride c.args.count ≡ scanned (folded f) zs c.args.stride c.args.count =
-    ap all_or_first_error (same_rules _ _ (length zs) (λ k below. left_is_right f c.requires.associative (run_to (pos 0) zs c.args.stride c.args.count k))) in
+    let zs = c.args.lines.now.numbers.now in
+    let same : scanned (folded_left f) zs c.args.lines.now.stride c.args.lines.now.count ≡ scanned (folded f) zs c.args.lines.now.stride c.args.lines.now.count =
+    ap all_or_first_error (same_rules _ _ (length zs) (λ k below. left_is_right f c.requires (run_to (pos 0) zs c.args.lines.now.stride c.args.lines.now.count k))) in
     subst (λ w. IsListAnswerTo w c.running.result) same c.running.ensures.is

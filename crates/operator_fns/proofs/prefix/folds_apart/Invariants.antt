@@ -6,9 +6,9 @@ use Rattle.operator_fns.proofs.prefix.folds_apart.Given as goal
 
 abbrev pub invariant-loop-place : goal.invariant-loop-place
 invariant-loop-place g l = record {
-  so_far : AreResultsTo l.place (right_rule (g.P.Prefix.step l.none) l.numbers l.stride l.count) l.numbers l.results;
-  here : l.block_place ≡ l.place % (l.count * l.stride);
+  so_far : AreResultsTo l.place (right_rule (g.P.Prefix.step l.none) l.numbers l.stride l.lines.count) l.numbers l.results;
+  here : l.block_place ≡ l.place % (l.lines.count * l.stride);
   column : l.column ≡ l.place % l.stride;
-  long : length l.lines.items ≡ l.stride;
-  kept : AreKept g.P.Prefix.step g.P.Prefix.gives l.none l.numbers l.stride l.count l.place l.lines.items;
+  long : length l.kept.items ≡ l.stride;
+  kept : AreKept g.P.Prefix.step g.P.Prefix.gives l.none l.numbers l.stride l.lines.count l.place l.kept.items;
 }

@@ -15,7 +15,7 @@ loop-place-init g c =
     let made = c.in_ok-results.ensures in
     let kept = c.in_ok-recalled.ensures in
     record {
-      so_far = none_yet (right_rule (g.S.TwoNumbers.gives c.args.step.now) c.args.numbers.now c.args.stride c.args.count) c.args.numbers.now c.in_ok-results.results made.items made.len
+      so_far = none_yet (right_rule (g.S.TwoNumbers.gives c.args.step.now) c.args.lines.now.numbers.now c.args.lines.now.stride c.args.lines.now.count) c.args.lines.now.numbers.now c.in_ok-results.results made.items made.len
           (omega (arith, c.room_of.ensures.low, made.capacity));
       long = kept.len;
       room = omega (arith, kept.capacity);
@@ -24,18 +24,18 @@ loop-place-init g c =
 
 pub recalled_fold-requires-clause-results : goal.recalled_fold-requires-clause-results
 recalled_fold-requires-clause-results g c place h =
-    let rule = right_rule (g.S.TwoNumbers.gives c.args.step.now) c.args.numbers.now c.args.stride c.args.count in
+    let rule = right_rule (g.S.TwoNumbers.gives c.args.step.now) c.args.lines.now.numbers.now c.args.lines.now.stride c.args.lines.now.count in
     let so_far = c.loop-place.invariant.so_far in
     let below : place < c.loop-place.place = omega (arith, h, c.deref.ensures.len, so_far.long) in
-    result_before rule c.args.numbers.now c.loop-place.place c.loop-place.results so_far (omega arith) place below
+    result_before rule c.args.lines.now.numbers.now c.loop-place.place c.loop-place.results so_far (omega arith) place below
     ∙ ap (λ xs. Ok (get_or xs place (pos 0))) (sym c.deref.ensures.value)
 
 pub returns-in_err-result-clause-is : goal.returns-in_err-result-clause-is
 returns-in_err-result-clause-is g c =
     let f = g.S.TwoNumbers.gives c.args.step.now in
-    let zs = c.args.numbers.now in
+    let zs = c.args.lines.now.numbers.now in
     let k = c.loop-place.place in
-    let rule = right_rule f zs c.args.stride c.args.count in
+    let rule = right_rule f zs c.args.lines.now.stride c.args.lines.now.count in
     let so_far = c.loop-place.invariant.so_far in
     let fit : SFits w64 (get_or zs k (pos 0)) = search rules in
     let count : length c.deref.result.now ≡ k = omega (arith, c.deref.ensures.len, so_far.long) in
@@ -45,10 +45,10 @@ returns-in_err-result-clause-is g c =
 pub loop-place-preserved : goal.loop-place-preserved
 loop-place-preserved g c =
     let f = g.S.TwoNumbers.gives c.args.step.now in
-    let zs = c.args.numbers.now in
+    let zs = c.args.lines.now.numbers.now in
     let k = c.loop-place.place in
-    let s = c.args.stride in
-    let n = c.args.count in
+    let s = c.args.lines.now.stride in
+    let n = c.args.lines.now.count in
     let rule = right_rule f zs s n in
     let before = c.loop-place.invariant in
     let so_far = before.so_far in
@@ -72,11 +72,11 @@ loop-place-preserved g c =
           (omega (arith, c.push_reserved.ensures.capacity));
       long = omega (arith, c.push_reserved-in-loop-place.ensures.len, before.long);
       room = omega (arith, c.push_reserved-in-loop-place.ensures.capacity, before.room);
-      recalled = next_recalled f zs s n c.requires.apart c.requires.some kept c.push_reserved-in-loop-place.new.self.items entry c.recalled_fold.ensures.recalled
+      recalled = next_recalled f zs s n c.args.lines.now.apart c.args.lines.now.some kept c.push_reserved-in-loop-place.new.self.items entry c.recalled_fold.ensures.recalled
           (read ∙ ap (λ i. get_or zs i (pos 0)) (sym long)) (sym long) more;
     }
 
 pub returns-clause-is : goal.returns-clause-is
 returns-clause-is g c =
-    results_end (right_rule (g.S.TwoNumbers.gives c.args.step.now) c.args.numbers.now c.args.stride c.args.count) c.args.numbers.now c.loop-place.place c.loop-place.results
+    results_end (right_rule (g.S.TwoNumbers.gives c.args.step.now) c.args.lines.now.numbers.now c.args.lines.now.stride c.args.lines.now.count) c.args.lines.now.numbers.now c.loop-place.place c.loop-place.results
     c.loop-place.invariant.so_far (omega (arith, c.loop-place-test.false))

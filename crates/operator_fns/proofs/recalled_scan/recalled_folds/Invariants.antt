@@ -6,8 +6,8 @@ use Rattle.operator_fns.proofs.recalled_scan.recalled_folds.Given as goal
 
 abbrev pub invariant-loop-place : goal.invariant-loop-place
 invariant-loop-place g l = record {
-  so_far : AreResultsTo l.place (right_rule (g.S.TwoNumbers.gives l.step) l.numbers l.stride l.count) l.numbers l.results;
+  so_far : AreResultsTo l.place (right_rule (g.S.TwoNumbers.gives l.step) l.numbers l.lines.stride l.lines.count) l.numbers l.results;
   long : vec_len l.recalled ≡ l.place;
   room : length l.numbers ≤ vec_capacity l.recalled;
-  recalled : AreRecalled (g.S.TwoNumbers.gives l.step) l.numbers l.stride l.count l.recalled.items;
+  recalled : AreRecalled (g.S.TwoNumbers.gives l.step) l.numbers l.lines.stride l.lines.count l.recalled.items;
 }

@@ -7,11 +7,11 @@ use Rattle.operator_fns.proofs.small_differences.differences_apart.Given as goal
 
 abbrev pub invariant-loop-results : goal.invariant-loop-results
 invariant-loop-results l = record {
-  so_far : AreResultsTo (vec_len l.results) (right_rule (dyadic_on_numbers Minus) l.numbers l.stride l.count) l.numbers l.results;
-  within : vec_len l.results ≤ length l.numbers;
-  begins : vec_len l.results < length l.numbers → vec_len l.results % l.stride ≡ 0;
-  row : vec_len l.results < length l.numbers → l.row ≡ depth l.stride l.count (vec_len l.results);
+  so_far : AreResultsTo (vec_len l.results) (right_rule (dyadic_on_numbers Minus) l.lines.numbers.now l.lines.stride l.lines.count) l.lines.numbers.now l.results;
+  within : vec_len l.results ≤ length l.lines.numbers.now;
+  begins : vec_len l.results < length l.lines.numbers.now → vec_len l.results % l.lines.stride ≡ 0;
+  row : vec_len l.results < length l.lines.numbers.now → l.row ≡ depth l.lines.stride l.lines.count (vec_len l.results);
 }
 
 abbrev pub decreases-loop-results : goal.decreases-loop-results
-decreases-loop-results l = length l.numbers - vec_len l.results
+decreases-loop-results l = length l.lines.numbers.now - vec_len l.results

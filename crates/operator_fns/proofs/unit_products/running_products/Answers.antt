@@ -6,5 +6,5 @@ use Rattle.operator_fns.proofs.unit_products.running_products.Goals as goal
 pub returns-then-are_units-clause-is : goal.returns-then-are_units-clause-is
 returns-then-are_units-clause-is c =
     subst (λ w. IsListAnswerTo w c.running.result)
-    (unit_products c.args.numbers.now c.args.stride c.args.count c.requires.apart c.requires.some (c.are_units.ensures c.if-are_units.true))
+    (unit_products c.args.lines.now.numbers.now c.args.lines.now.stride c.args.lines.now.count c.args.lines.now.apart c.args.lines.now.some (c.are_units.ensures c.if-are_units.true))
     c.running.ensures.is
