@@ -1,4 +1,4 @@
-use Rattle.std.proofs.Common.{◌≡◌, ◌∙◌, sym, ap, subst, Ok, Err}
+use Rattle.std.proofs.Common.{◌≡◌, ◌∙◌, sym, ap, subst, Ok}
 use Rattle.arrays_core.specs.declared.item.ItemType.TheVariants.{Nums}
 use Rattle.arrays_core.specs.Arrays.{ArrayValue, with_items}
 use Rattle.arrays_core.specs.Items.{all_or_first_error}
@@ -8,6 +8,7 @@ use Rattle.index_region.specs.Checks.{form_of}
 use Rattle.operator_fns.specs.Reduce.{reduce_form, reduce_whole}
 use Rattle.arrays_core.specs.Outcomes.{given}
 use Rattle.sum_rules.specs.Totals.{all_totals}
+use Rattle.sum_rules.proofs.Outcomes.{outcome_given}
 use Rattle.sum_rules.proofs.WholeTotals.{function_is, places_are, some_lines, whole_is}
 use Rattle.sum_rules.proofs.whole_totals.totals_read.Goals as goal
 
@@ -27,8 +28,8 @@ totals_of_all-requires-clause-some c =
     let form = subst (λ (b : ArrayValue). reduce_form fold.along b ≡ Ok (form_of c.in-Ok.form.0.items c.in-Ok.form.1)) c.again.ensures c.in-Ok.ensures.0 in
     some_lines fold a c.args.sums.now t c.requires c.trees-trees.ensures.lines c.in-Ok.form.0.items c.in-Ok.form.1 form
 
-pub returns-in-Ok-totals_of_all-clause-delta : goal.returns-in-Ok-totals_of_all-clause-delta
-returns-in-Ok-totals_of_all-clause-delta c =
+pub returns-clause-delta : goal.returns-clause-delta
+returns-clause-delta c =
     let fold = c.args.fold in
     let a = c.args.array.now in
     let t = c.trees-trees.result.now.lines in
@@ -37,18 +38,4 @@ returns-in-Ok-totals_of_all-clause-delta c =
     let whole : reduce_whole fold.function fold.along a ≡ with_items Nums c.in-Ok.form.0.items (all_or_first_error (all_totals c.trees-trees.result.now.function t)) =
     whole_is fold a c.args.sums.now t c.requires c.trees-trees.ensures.lines c.in-Ok.form.0.items c.in-Ok.form.1 form
     ∙ ap (λ (f : Scalar2). with_items Nums c.in-Ok.form.0.items (all_or_first_error (all_totals f t))) (sym same) in
-    sym (ap (λ r. Whole (given r)) (whole ∙ c.in-Ok-totals_of_all.ensures.totals))
-
-pub returns-in-Err-Kind-clause-delta : goal.returns-in-Err-Kind-clause-delta
-returns-in-Err-Kind-clause-delta c =
-    let fold = c.args.fold in
-    let a = c.args.array.now in
-    let t = c.trees-trees.result.now.lines in
-    let form = subst (λ (b : ArrayValue). reduce_form fold.along b ≡ Ok (form_of c.in-Ok.form.0.items c.in-Ok.form.1)) c.again.ensures c.in-Ok.ensures.0 in
-    let same = c.trees-trees.ensures.function ∙ function_is fold a c.args.sums.now t c.requires c.trees-trees.ensures.lines c.in-Ok.form.0.items c.in-Ok.form.1 form in
-    let whole : reduce_whole fold.function fold.along a ≡ with_items Nums c.in-Ok.form.0.items (all_or_first_error (all_totals c.trees-trees.result.now.function t)) =
-    whole_is fold a c.args.sums.now t c.requires c.trees-trees.ensures.lines c.in-Ok.form.0.items c.in-Ok.form.1 form
-    ∙ ap (λ (f : Scalar2). with_items Nums c.in-Ok.form.0.items (all_or_first_error (all_totals f t))) (sym same) in
-    let told = rw c.in-Err-Kind.field-0-is at c.in-Err-Kind.ensures.totals in
-    let failed : reduce_whole fold.function fold.along a ≡ Err c.in-Err-Kind.kind = rw c.in-Err-Kind.kind-is (whole ∙ told) in
-    sym (ap (λ r. Whole (given r)) failed)
+    ap Whole (outcome_given _ c.totals_of_all.result c.in_ok-outcome.field-0 c.totals_of_all.ensures.totals c.in_ok-outcome.ensures) ∙ sym (ap (λ r. Whole (given r)) whole)
