@@ -29,7 +29,7 @@ use Rattle.operator_fns.proofs.Reduced.{lines_whole, reduced_whole}
 use Rattle.fold_trees.proofs.TreeFolds.{fold_of_numbers}
 use Rattle.sum_rules.specs.LineSums.{StandFor, SummedValue, summed}
 use Rattle.sum_rules.specs.Totals.{all_totals}
-use Rattle.sum_rules.proofs.KeptSums.{kept_parts, summed_is}
+use Rattle.sum_rules.proofs.KeptSums.{summed_is}
 use Rattle.sum_rules.proofs.LongerTotals.{items_by_place}
 
 -- the total of one of them
