@@ -8,7 +8,7 @@ use Rattle.apl_expr.specs.declared.expr.Monadic.TheVariants as monadic
 use Rattle.apl_expr.specs.declared.expr.Dyadic.TheVariants as dyadic
 use Rattle.function_names.specs.declared.along.Along.TheVariants as along
 use Rattle.apl_expr.specs.Symbols.{scalar_monad_of, scalar_dyad_of, array_monad, array_dyad, folding_of, folding_along_of, monadic_along_of, dyadic_along_of}
-use Rattle.apl_expr.specs.Trees.{Tree, Numbers, Text, Const, Name, Monad, Dyad, Index, Filled, Empty, NoPositions}
+use Rattle.apl_expr.specs.Trees.{Tree, Numbers, Text, Const, Name, Monad, Dyad, Index, Reduce, Scan, Outer, Inner, Filled, Empty, NoPositions}
 use Rattle.apl_expr.specs.Machine.{run}
 use Rattle.apl_expr.specs.Grammar.{IsTreeOf, one, more}
 use Rattle.apl_expr.specs.Lines.{IsLine, show, change, cell, define, row, erase, word, about, opened, numbered, nums_lit, text_lit, last, further}
@@ -71,12 +71,12 @@ unfolding run scalar_dyad_of monadic_along_of dyadic_along_of
 along_an_axis = correct _ _ refl
 
 -- ⌈⍀[1]B: a scan, with its axis
-scanned : IsTreeOf (Sign 0x2308 ∷ Sign 0x2340 ∷ Sign 0x5b ∷ Number (pos 1) ∷ Sign 0x5d ∷ Named (0x42 ∷ []) ∷ []) (Monad (monadic.Scan dyad.Maximum (along.Axis (pos 1))) (Name (0x42 ∷ [])))
+scanned : IsTreeOf (Sign 0x2308 ∷ Sign 0x2340 ∷ Sign 0x5b ∷ Number (pos 1) ∷ Sign 0x5d ∷ Named (0x42 ∷ []) ∷ []) (Scan dyad.Maximum (along.Axis (pos 1)) (Name (0x42 ∷ [])))
 unfolding run scalar_dyad_of folding_along_of
 scanned = correct _ _ refl
 
 -- A/+/B: the first sign is a function between two arguments, the other one makes a reduction
-replicated_sum : IsTreeOf (Named (0x41 ∷ []) ∷ Sign 0x2f ∷ Sign 0x2b ∷ Sign 0x2f ∷ Named (0x42 ∷ []) ∷ []) (Dyad (dyadic.Replicate along.Last) (Name (0x41 ∷ [])) (Monad (monadic.Reduce dyad.Plus along.Last) (Name (0x42 ∷ []))))
+replicated_sum : IsTreeOf (Named (0x41 ∷ []) ∷ Sign 0x2f ∷ Sign 0x2b ∷ Sign 0x2f ∷ Named (0x42 ∷ []) ∷ []) (Dyad (dyadic.Replicate along.Last) (Name (0x41 ∷ [])) (Reduce dyad.Plus along.Last (Name (0x42 ∷ []))))
 unfolding run scalar_dyad_of array_dyad folding_of
 replicated_sum = correct _ _ refl
 
@@ -91,12 +91,12 @@ unfolding run scalar_monad_of scalar_dyad_of array_monad array_dyad
 no_function_folded e is = run_none 0 (Named (0x42 ∷ []) ∷ []) e (complete is)
 
 -- A∘.+B∘.×C
-outer_products : IsTreeOf (Named (0x41 ∷ []) ∷ Sign 0x2218 ∷ Sign 0x2e ∷ Sign 0x2b ∷ Named (0x42 ∷ []) ∷ Sign 0x2218 ∷ Sign 0x2e ∷ Sign 0xd7 ∷ Named (0x43 ∷ []) ∷ []) (Dyad (dyadic.Outer dyad.Plus) (Name (0x41 ∷ [])) (Dyad (dyadic.Outer dyad.Times) (Name (0x42 ∷ [])) (Name (0x43 ∷ []))))
+outer_products : IsTreeOf (Named (0x41 ∷ []) ∷ Sign 0x2218 ∷ Sign 0x2e ∷ Sign 0x2b ∷ Named (0x42 ∷ []) ∷ Sign 0x2218 ∷ Sign 0x2e ∷ Sign 0xd7 ∷ Named (0x43 ∷ []) ∷ []) (Outer dyad.Plus (Name (0x41 ∷ [])) (Outer dyad.Times (Name (0x42 ∷ [])) (Name (0x43 ∷ []))))
 unfolding run scalar_dyad_of
 outer_products = correct _ _ refl
 
 -- M+.×⍉M
-inner_product : IsTreeOf (Named (0x4d ∷ []) ∷ Sign 0x2b ∷ Sign 0x2e ∷ Sign 0xd7 ∷ Sign 0x2349 ∷ Named (0x4d ∷ []) ∷ []) (Dyad (dyadic.Inner dyad.Plus dyad.Times) (Name (0x4d ∷ [])) (Monad monadic.Transpose (Name (0x4d ∷ []))))
+inner_product : IsTreeOf (Named (0x4d ∷ []) ∷ Sign 0x2b ∷ Sign 0x2e ∷ Sign 0xd7 ∷ Sign 0x2349 ∷ Named (0x4d ∷ []) ∷ []) (Inner dyad.Plus dyad.Times (Name (0x4d ∷ [])) (Monad monadic.Transpose (Name (0x4d ∷ []))))
 unfolding run scalar_monad_of scalar_dyad_of array_monad
 inner_product = correct _ _ refl
 

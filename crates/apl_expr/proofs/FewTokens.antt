@@ -1,24 +1,26 @@
 -- A tree has no more nodes than tokens, and is no higher than it has nodes.
-use Rattle.std.proofs.Common.{◌≡◌, ℕ, ◌+◌, ◌≤◌, List, [], ◌∷◌, length, Option, Some, None, subst, arith}
+use Rattle.std.proofs.Common.{◌≡◌, ℕ, ◌+◌, ◌≤◌, List, [], ◌∷◌, length, Option, Some, None, refl, subst, arith}
 use Rattle.std.specs.Prelude.{ℤ}
 use Rattle.apl_tokens.specs.Lexemes.{Lexeme}
-use Rattle.apl_expr.specs.declared.expr.Monadic.{Monadic}
-use Rattle.apl_expr.specs.declared.expr.Dyadic.{Dyadic}
+use Rattle.apl_expr.specs.declared.functions.Function1.{Function1}
+use Rattle.apl_expr.specs.declared.functions.Function1.TheVariants as function1
+use Rattle.apl_expr.specs.declared.functions.Function2.{Function2}
+use Rattle.apl_expr.specs.declared.functions.Function2.TheVariants as function2
 use Rattle.apl_expr.specs.Limits.{most_height, most_nodes}
-use Rattle.apl_expr.specs.Trees.{Tree, Const, Name, Monad, Dyad, Index, Positions, NoPositions, Empty, Filled, positions_of, height, height_in, nodes, nodes_in}
+use Rattle.apl_expr.specs.Trees.{Tree, Const, Name, Monad, Dyad, Index, Reduce, Scan, Outer, Inner, before_argument, between_arguments, Positions, NoPositions, Empty, Filled, positions_of, height, height_in, nodes, nodes_in}
 use Rattle.apl_expr.specs.Grammar.{IsNums, one, more, IsMonadicFunction, plain1, along1, folded, folded_along, IsDyadicFunction, plain2, along2, outer, inner, IsExpr, operand, mono, duo, IsOperand, nums, text, ref, IsRef, name, parens, index, IsPositions, last_position, more_positions, IsPosition, empty, filled, IsTreeOf}
 
 nums_tokens : {ts us : List Lexeme} {ns : List ℤ} → IsNums ts ns us → 1 + length us ≤ length ts
 nums_tokens one = omega arith
 nums_tokens (more is) = let rest = nums_tokens is in omega arith
 
-monadic_tokens : {ts us : List Lexeme} {f : Monadic} → IsMonadicFunction ts f us → 1 + length us ≤ length ts
+monadic_tokens : {ts us : List Lexeme} {f : Function1} → IsMonadicFunction ts f us → 1 + length us ≤ length ts
 monadic_tokens (plain1 is) = omega arith
 monadic_tokens (along1 is) = omega arith
 monadic_tokens (folded is) = omega arith
 monadic_tokens (folded_along is) = omega arith
 
-dyadic_tokens : {ts us : List Lexeme} {f : Dyadic} → IsDyadicFunction ts f us → 1 + length us ≤ length ts
+dyadic_tokens : {ts us : List Lexeme} {f : Function2} → IsDyadicFunction ts f us → 1 + length us ≤ length ts
 dyadic_tokens (plain2 is) = omega arith
 dyadic_tokens (along2 is) = omega arith
 dyadic_tokens (outer is) = omega arith
@@ -36,11 +38,22 @@ nodes_more (Some e) ps = omega arith
 index_nodes : (a e : Tree) (ps : List (Option Tree)) → Some (Index a (positions_of ps)) ≡ Some e → nodes e ≡ 1 + nodes a + nodes_in (positions_of ps)
 index_nodes a e ps is = let same : Index a (positions_of ps) ≡ e = cc in subst (λ (d : Tree). nodes d ≡ 1 + nodes a + nodes_in (positions_of ps)) same (omega arith)
 
+-- a function is one node
+nodes_before : (f : Function1) (e : Tree) → nodes (before_argument f e) ≡ 1 + nodes e
+nodes_before (function1.Monad f) e = refl
+nodes_before (function1.Reduce f k) e = refl
+nodes_before (function1.Scan f k) e = refl
+
+nodes_between : (f : Function2) (a e : Tree) → nodes (between_arguments f a e) ≡ 1 + nodes a + nodes e
+nodes_between (function2.Dyad f) a e = refl
+nodes_between (function2.Outer f) a e = refl
+nodes_between (function2.Inner f g) a e = refl
+
 mutual
   expr_tokens : {ts us : List Lexeme} {e : Tree} → IsExpr ts e us → nodes e + length us ≤ length ts
   expr_tokens (operand is) = operand_tokens is
-  expr_tokens (mono f is) = let first = monadic_tokens f in let rest = expr_tokens is in omega arith
-  expr_tokens (duo a f is) = let left = operand_tokens a in let first = dyadic_tokens f in let rest = expr_tokens is in omega arith
+  expr_tokens (mono {f = f} {e = e} m is) = let first = monadic_tokens m in let rest = expr_tokens is in let size = nodes_before f e in omega arith
+  expr_tokens (duo {f = f} {a = a} {e = e} o m is) = let left = operand_tokens o in let first = dyadic_tokens m in let rest = expr_tokens is in let size = nodes_between f a e in omega arith
 
   operand_tokens : {ts us : List Lexeme} {a : Tree} → IsOperand ts a us → nodes a + length us ≤ length ts
   operand_tokens (nums is) = let rest = nums_tokens is in omega arith
@@ -67,6 +80,10 @@ mutual
   height_nodes (Monad f e) = let rest = height_nodes e in omega arith
   height_nodes (Dyad f a e) = let left = height_nodes a in let rest = height_nodes e in omega arith
   height_nodes (Index a ps) = let left = height_nodes a in let rest = height_nodes_in ps in omega arith
+  height_nodes (Reduce f k e) = let rest = height_nodes e in omega arith
+  height_nodes (Scan f k e) = let rest = height_nodes e in omega arith
+  height_nodes (Outer f a e) = let left = height_nodes a in let rest = height_nodes e in omega arith
+  height_nodes (Inner f g a e) = let left = height_nodes a in let rest = height_nodes e in omega arith
 
   height_nodes_in : (ps : Positions) → height_in ps ≤ nodes_in ps
   height_nodes_in NoPositions = omega arith

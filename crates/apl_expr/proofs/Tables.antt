@@ -4,7 +4,7 @@ use Rattle.std.proofs.Common.{◌≡◌, ℕ, Bool, true, false, cond, Option, S
 use Rattle.std.specs.Prelude.{ℤ, ◌==◌, ◌||◌}
 use Rattle.std.proofs.lemmas.Bool.{eqb-true}
 use Rattle.std.proofs.lemmas.Option.{option_and_then_some}
-use Rattle.apl_expr.specs.declared.expr.Monadic.{Monadic}
+use Rattle.apl_expr.specs.declared.functions.Function1.{Function1}
 use Rattle.apl_expr.specs.Symbols.{Meant, meant, foldings, foldings_along, scalar_monad_of, scalar_dyad_of, array_monad, array_dyad, monadic_of, monadic_along_of, folding_of, folding_along_of, folded_of, folded_along_of, dyadic_of, dyadic_along_of, inner_of, stands_alone}
 
 -- the sign begins no function of one argument
@@ -113,11 +113,11 @@ module _ {A : Type 0} (P : ℕ → Type 0) where
   among c [] x each h = let no : ⊥ = cc in absurd no
   among c (m ∷ ms) x each h = this_or_later c m (meant c ms) x each.0 (among c ms x each.1) (c == m.sign) refl h
 
-pub folding : (c d : ℕ) (f : Monadic) → folded_of c d ≡ Some f → IsFolding d
+pub folding : (c d : ℕ) (f : Function1) → folded_of c d ≡ Some f → IsFolding d
 unfolding folding_of
 folding c d f is = option_and_then_some (λ g. folding_of g d) (scalar_dyad_of c) f is (λ g of_c of_d. among IsFolding d (foldings g) f (slash, (slash_bar, (backslash, (backslash_bar, tt)))) of_d)
 
-pub folding_along : (c d : ℕ) (k : ℤ) (f : Monadic) → folded_along_of c d k ≡ Some f → IsFolding d
+pub folding_along : (c d : ℕ) (k : ℤ) (f : Function1) → folded_along_of c d k ≡ Some f → IsFolding d
 unfolding folding_along_of
 folding_along c d k f is = option_and_then_some (λ g. folding_along_of g d k) (scalar_dyad_of c) f is (λ g of_c of_d. among IsFolding d (foldings_along g k) f (slash, (slash_bar, (backslash, (backslash_bar, tt)))) of_d)
 

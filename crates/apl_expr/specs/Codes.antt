@@ -3,17 +3,19 @@
 use Rattle.std.specs.Prelude.{◌≡◌, ℕ, zero, suc, ℤ, pos, List, [], ◌∷◌, ◌++◌, get_or, ◌⊎◌, refl}
 use Rattle.std.proofs.Common.{sym, ◌∙◌, ap, inl, inr, append_assoc, append-nil}
 use Rattle.std.specs.Coded.{Coded, code_by, coded×, coded⊎, coded_list, coded_ℕ, coded_ℤ}
-use Rattle.apl_expr.specs.Trees.{Tree, Const, Name, Monad, Dyad, Index, Positions, NoPositions, Empty, Filled, Numbers, Text}
+use Rattle.apl_expr.specs.Trees.{Tree, Const, Name, Monad, Dyad, Index, Reduce, Scan, Outer, Inner, before_argument, between_arguments, Positions, NoPositions, Empty, Filled, Numbers, Text}
 use Rattle.function_names.specs.declared.scalar.Scalar1.{Scalar1}
 use Rattle.function_names.specs.declared.scalar.Scalar1.TheVariants as one
 use Rattle.function_names.specs.declared.scalar.Scalar2.{Scalar2}
 use Rattle.function_names.specs.declared.scalar.Scalar2.TheVariants as two
 use Rattle.function_names.specs.declared.along.Along.{Along}
 use Rattle.function_names.specs.declared.along.Along.TheVariants.{First, Last, Axis}
-use Rattle.apl_expr.specs.declared.expr.Monadic.{Monadic}
 use Rattle.apl_expr.specs.declared.expr.Monadic.TheVariants as monadic
-use Rattle.apl_expr.specs.declared.expr.Dyadic.{Dyadic}
 use Rattle.apl_expr.specs.declared.expr.Dyadic.TheVariants as dyadic
+use Rattle.apl_expr.specs.declared.functions.Function1.{Function1}
+use Rattle.apl_expr.specs.declared.functions.Function1.TheVariants as function1
+use Rattle.apl_expr.specs.declared.functions.Function2.{Function2}
+use Rattle.apl_expr.specs.declared.functions.Function2.TheVariants as function2
 
 -- the number of a scalar function is how many stand before it here
 abbrev monads : List Scalar1
@@ -126,86 +128,86 @@ along_again Last = refl
 along_again (Axis k) = refl
 
 -- a function of one argument as numbers
-abbrev code_of_monadic : Monadic → Code
-code_of_monadic (monadic.Scalar f) = (0, (number_of_monad f, none))
-code_of_monadic (monadic.Reverse a) = (1, (0, code_of_along a))
-code_of_monadic (monadic.Reduce f a) = (2, (number_of_dyad f, code_of_along a))
-code_of_monadic (monadic.Scan f a) = (3, (number_of_dyad f, code_of_along a))
-code_of_monadic monadic.Ravel = (4, (0, none))
-code_of_monadic monadic.Transpose = (4, (1, none))
-code_of_monadic monadic.Shape = (4, (2, none))
-code_of_monadic monadic.Iota = (4, (3, none))
+abbrev code_of_one : Function1 → Code
+code_of_one (function1.Monad (monadic.Scalar f)) = (0, (number_of_monad f, none))
+code_of_one (function1.Monad (monadic.Reverse a)) = (1, (0, code_of_along a))
+code_of_one (function1.Reduce f a) = (2, (number_of_dyad f, code_of_along a))
+code_of_one (function1.Scan f a) = (3, (number_of_dyad f, code_of_along a))
+code_of_one (function1.Monad monadic.Ravel) = (4, (0, none))
+code_of_one (function1.Monad monadic.Transpose) = (4, (1, none))
+code_of_one (function1.Monad monadic.Shape) = (4, (2, none))
+code_of_one (function1.Monad monadic.Iota) = (4, (3, none))
 
 -- the functions of one argument that have neither an axis nor a scalar function
-abbrev plain_monads : List Monadic
-plain_monads = monadic.Ravel ∷ monadic.Transpose ∷ monadic.Shape ∷ monadic.Iota ∷ []
+abbrev plain_monads : List Function1
+plain_monads = function1.Monad monadic.Ravel ∷ function1.Monad monadic.Transpose ∷ function1.Monad monadic.Shape ∷ function1.Monad monadic.Iota ∷ []
 
 -- the function of one argument of these numbers
-abbrev monadic_of_code : Code → Monadic
-monadic_of_code (zero, c) = monadic.Scalar (monad_of_number c.0)
-monadic_of_code (suc zero, c) = monadic.Reverse (along_of_code c.1)
-monadic_of_code (suc (suc zero), c) = monadic.Reduce (dyad_of_number c.0) (along_of_code c.1)
-monadic_of_code (suc (suc (suc zero)), c) = monadic.Scan (dyad_of_number c.0) (along_of_code c.1)
-monadic_of_code (suc (suc (suc (suc n))), c) = get_or plain_monads c.0 monadic.Transpose
+abbrev one_of_code : Code → Function1
+one_of_code (zero, c) = function1.Monad (monadic.Scalar (monad_of_number c.0))
+one_of_code (suc zero, c) = function1.Monad (monadic.Reverse (along_of_code c.1))
+one_of_code (suc (suc zero), c) = function1.Reduce (dyad_of_number c.0) (along_of_code c.1)
+one_of_code (suc (suc (suc zero)), c) = function1.Scan (dyad_of_number c.0) (along_of_code c.1)
+one_of_code (suc (suc (suc (suc n))), c) = get_or plain_monads c.0 (function1.Monad monadic.Transpose)
 
-monadic_again : (f : Monadic) → monadic_of_code (code_of_monadic f) ≡ f
-monadic_again (monadic.Scalar f) = ap (λ g. monadic.Scalar g) (monad_again f)
-monadic_again (monadic.Reverse a) = ap (λ b. monadic.Reverse b) (along_again a)
-monadic_again (monadic.Reduce f a) = ap (λ g. monadic.Reduce g (along_of_code (code_of_along a))) (dyad_again f) ∙ ap (λ b. monadic.Reduce f b) (along_again a)
-monadic_again (monadic.Scan f a) = ap (λ g. monadic.Scan g (along_of_code (code_of_along a))) (dyad_again f) ∙ ap (λ b. monadic.Scan f b) (along_again a)
-monadic_again monadic.Ravel = refl
-monadic_again monadic.Transpose = refl
-monadic_again monadic.Shape = refl
-monadic_again monadic.Iota = refl
+one_again : (f : Function1) → one_of_code (code_of_one f) ≡ f
+one_again (function1.Monad (monadic.Scalar f)) = ap (λ g. function1.Monad (monadic.Scalar g)) (monad_again f)
+one_again (function1.Monad (monadic.Reverse a)) = ap (λ b. function1.Monad (monadic.Reverse b)) (along_again a)
+one_again (function1.Reduce f a) = ap (λ g. function1.Reduce g (along_of_code (code_of_along a))) (dyad_again f) ∙ ap (λ b. function1.Reduce f b) (along_again a)
+one_again (function1.Scan f a) = ap (λ g. function1.Scan g (along_of_code (code_of_along a))) (dyad_again f) ∙ ap (λ b. function1.Scan f b) (along_again a)
+one_again (function1.Monad monadic.Ravel) = refl
+one_again (function1.Monad monadic.Transpose) = refl
+one_again (function1.Monad monadic.Shape) = refl
+one_again (function1.Monad monadic.Iota) = refl
 
 -- a function of two arguments as numbers
-abbrev code_of_dyadic : Dyadic → Code
-code_of_dyadic (dyadic.Scalar f) = (0, (number_of_dyad f, none))
-code_of_dyadic (dyadic.Catenate a) = (1, (0, code_of_along a))
-code_of_dyadic (dyadic.Rotate a) = (2, (0, code_of_along a))
-code_of_dyadic (dyadic.Replicate a) = (3, (0, code_of_along a))
-code_of_dyadic (dyadic.Outer f) = (4, (number_of_dyad f, none))
-code_of_dyadic (dyadic.Inner f g) = (5, (number_of_dyad f, (number_of_dyad g, pos 0)))
-code_of_dyadic dyadic.Reshape = (6, (0, none))
-code_of_dyadic dyadic.Take = (6, (1, none))
-code_of_dyadic dyadic.Drop = (6, (2, none))
-code_of_dyadic dyadic.Transpose = (6, (3, none))
-code_of_dyadic dyadic.IndexOf = (6, (4, none))
-code_of_dyadic dyadic.Member = (6, (5, none))
-code_of_dyadic dyadic.Encode = (6, (6, none))
-code_of_dyadic dyadic.Decode = (6, (7, none))
+abbrev code_of_two : Function2 → Code
+code_of_two (function2.Dyad (dyadic.Scalar f)) = (0, (number_of_dyad f, none))
+code_of_two (function2.Dyad (dyadic.Catenate a)) = (1, (0, code_of_along a))
+code_of_two (function2.Dyad (dyadic.Rotate a)) = (2, (0, code_of_along a))
+code_of_two (function2.Dyad (dyadic.Replicate a)) = (3, (0, code_of_along a))
+code_of_two (function2.Outer f) = (4, (number_of_dyad f, none))
+code_of_two (function2.Inner f g) = (5, (number_of_dyad f, (number_of_dyad g, pos 0)))
+code_of_two (function2.Dyad dyadic.Reshape) = (6, (0, none))
+code_of_two (function2.Dyad dyadic.Take) = (6, (1, none))
+code_of_two (function2.Dyad dyadic.Drop) = (6, (2, none))
+code_of_two (function2.Dyad dyadic.Transpose) = (6, (3, none))
+code_of_two (function2.Dyad dyadic.IndexOf) = (6, (4, none))
+code_of_two (function2.Dyad dyadic.Member) = (6, (5, none))
+code_of_two (function2.Dyad dyadic.Encode) = (6, (6, none))
+code_of_two (function2.Dyad dyadic.Decode) = (6, (7, none))
 
 -- the functions of two arguments that have neither an axis nor a scalar function
-abbrev plain_dyads : List Dyadic
+abbrev plain_dyads : List Function2
 plain_dyads =
-    dyadic.Reshape ∷ dyadic.Take ∷ dyadic.Drop ∷ dyadic.Transpose ∷ dyadic.IndexOf ∷ dyadic.Member ∷
-    dyadic.Encode ∷ dyadic.Decode ∷ []
+    function2.Dyad dyadic.Reshape ∷ function2.Dyad dyadic.Take ∷ function2.Dyad dyadic.Drop ∷ function2.Dyad dyadic.Transpose ∷
+    function2.Dyad dyadic.IndexOf ∷ function2.Dyad dyadic.Member ∷ function2.Dyad dyadic.Encode ∷ function2.Dyad dyadic.Decode ∷ []
 
 -- the function of two arguments of these numbers
-abbrev dyadic_of_code : Code → Dyadic
-dyadic_of_code (zero, c) = dyadic.Scalar (dyad_of_number c.0)
-dyadic_of_code (suc zero, c) = dyadic.Catenate (along_of_code c.1)
-dyadic_of_code (suc (suc zero), c) = dyadic.Rotate (along_of_code c.1)
-dyadic_of_code (suc (suc (suc zero)), c) = dyadic.Replicate (along_of_code c.1)
-dyadic_of_code (suc (suc (suc (suc zero))), c) = dyadic.Outer (dyad_of_number c.0)
-dyadic_of_code (suc (suc (suc (suc (suc zero)))), c) = dyadic.Inner (dyad_of_number c.0) (dyad_of_number c.1.0)
-dyadic_of_code (suc (suc (suc (suc (suc (suc n))))), c) = get_or plain_dyads c.0 dyadic.Reshape
+abbrev two_of_code : Code → Function2
+two_of_code (zero, c) = function2.Dyad (dyadic.Scalar (dyad_of_number c.0))
+two_of_code (suc zero, c) = function2.Dyad (dyadic.Catenate (along_of_code c.1))
+two_of_code (suc (suc zero), c) = function2.Dyad (dyadic.Rotate (along_of_code c.1))
+two_of_code (suc (suc (suc zero)), c) = function2.Dyad (dyadic.Replicate (along_of_code c.1))
+two_of_code (suc (suc (suc (suc zero))), c) = function2.Outer (dyad_of_number c.0)
+two_of_code (suc (suc (suc (suc (suc zero)))), c) = function2.Inner (dyad_of_number c.0) (dyad_of_number c.1.0)
+two_of_code (suc (suc (suc (suc (suc (suc n))))), c) = get_or plain_dyads c.0 (function2.Dyad dyadic.Reshape)
 
-dyadic_again : (f : Dyadic) → dyadic_of_code (code_of_dyadic f) ≡ f
-dyadic_again (dyadic.Scalar f) = ap (λ g. dyadic.Scalar g) (dyad_again f)
-dyadic_again (dyadic.Catenate a) = ap (λ b. dyadic.Catenate b) (along_again a)
-dyadic_again (dyadic.Rotate a) = ap (λ b. dyadic.Rotate b) (along_again a)
-dyadic_again (dyadic.Replicate a) = ap (λ b. dyadic.Replicate b) (along_again a)
-dyadic_again (dyadic.Outer f) = ap (λ g. dyadic.Outer g) (dyad_again f)
-dyadic_again (dyadic.Inner f g) = ap (λ h. dyadic.Inner h (dyad_of_number (number_of_dyad g))) (dyad_again f) ∙ ap (λ h. dyadic.Inner f h) (dyad_again g)
-dyadic_again dyadic.Reshape = refl
-dyadic_again dyadic.Take = refl
-dyadic_again dyadic.Drop = refl
-dyadic_again dyadic.Transpose = refl
-dyadic_again dyadic.IndexOf = refl
-dyadic_again dyadic.Member = refl
-dyadic_again dyadic.Encode = refl
-dyadic_again dyadic.Decode = refl
+two_again : (f : Function2) → two_of_code (code_of_two f) ≡ f
+two_again (function2.Dyad (dyadic.Scalar f)) = ap (λ g. function2.Dyad (dyadic.Scalar g)) (dyad_again f)
+two_again (function2.Dyad (dyadic.Catenate a)) = ap (λ b. function2.Dyad (dyadic.Catenate b)) (along_again a)
+two_again (function2.Dyad (dyadic.Rotate a)) = ap (λ b. function2.Dyad (dyadic.Rotate b)) (along_again a)
+two_again (function2.Dyad (dyadic.Replicate a)) = ap (λ b. function2.Dyad (dyadic.Replicate b)) (along_again a)
+two_again (function2.Outer f) = ap (λ g. function2.Outer g) (dyad_again f)
+two_again (function2.Inner f g) = ap (λ h. function2.Inner h (dyad_of_number (number_of_dyad g))) (dyad_again f) ∙ ap (λ h. function2.Inner f h) (dyad_again g)
+two_again (function2.Dyad dyadic.Reshape) = refl
+two_again (function2.Dyad dyadic.Take) = refl
+two_again (function2.Dyad dyadic.Drop) = refl
+two_again (function2.Dyad dyadic.Transpose) = refl
+two_again (function2.Dyad dyadic.IndexOf) = refl
+two_again (function2.Dyad dyadic.Member) = refl
+two_again (function2.Dyad dyadic.Encode) = refl
+two_again (function2.Dyad dyadic.Decode) = refl
 
 -- one run of positions, and another after it
 abbrev followed_by : Positions → Positions → Positions
@@ -245,9 +247,13 @@ abbrev mutual
   words (Const (Numbers ns)) = inl ns ∷ []
   words (Const (Text cs)) = inr (inl cs) ∷ []
   words (Name x) = inr (inr (inl x)) ∷ []
-  words (Monad f b) = words b ++ monad_word (code_of_monadic f) ∷ []
-  words (Dyad f a b) = words a ++ (words b ++ dyad_word (code_of_dyadic f) ∷ [])
+  words (Monad f b) = words b ++ monad_word (code_of_one (function1.Monad f)) ∷ []
+  words (Dyad f a b) = words a ++ (words b ++ dyad_word (code_of_two (function2.Dyad f)) ∷ [])
   words (Index a ps) = words a ++ (index_word 0 ∷ words_in ps)
+  words (Reduce f k b) = words b ++ monad_word (code_of_one (function1.Reduce f k)) ∷ []
+  words (Scan f k b) = words b ++ monad_word (code_of_one (function1.Scan f k)) ∷ []
+  words (Outer f a b) = words a ++ (words b ++ dyad_word (code_of_two (function2.Outer f)) ∷ [])
+  words (Inner f g a b) = words a ++ (words b ++ dyad_word (code_of_two (function2.Inner f g)) ∷ [])
 
   words_in : Positions → List Word
   words_in NoPositions = []
@@ -281,10 +287,10 @@ push (inl ns) stack = Const (Numbers ns) ∷ stack
 push (inr (inl cs)) stack = Const (Text cs) ∷ stack
 push (inr (inr (inl x))) stack = Name x ∷ stack
 push (inr (inr (inr (inl f)))) [] = []
-push (inr (inr (inr (inl f)))) (b ∷ stack) = Monad (monadic_of_code f) b ∷ stack
+push (inr (inr (inr (inl f)))) (b ∷ stack) = before_argument (one_of_code f) b ∷ stack
 push (inr (inr (inr (inr (inl f))))) [] = []
 push (inr (inr (inr (inr (inl f))))) (b ∷ []) = b ∷ []
-push (inr (inr (inr (inr (inl f))))) (b ∷ a ∷ stack) = Dyad (dyadic_of_code f) a b ∷ stack
+push (inr (inr (inr (inr (inl f))))) (b ∷ a ∷ stack) = between_arguments (two_of_code f) a b ∷ stack
 push (inr (inr (inr (inr (inr n))))) stack = index_step n stack
 
 -- what the words do, one after the other
@@ -297,19 +303,38 @@ abbrev top : List Tree → Tree
 top [] = Name []
 top (t ∷ ts) = t
 
+-- the words of a function and of its arguments, where those of each argument build it
+before_again : (f : Function1) (b : Tree) (ws : List Word) (stack : List Tree) → build (words b ++ (monad_word (code_of_one f) ∷ ws)) stack ≡ build (monad_word (code_of_one f) ∷ ws) (b ∷ stack)
+    → build ((words b ++ monad_word (code_of_one f) ∷ []) ++ ws) stack ≡ build ws (before_argument f b ∷ stack)
+before_again f b ws stack given =
+    ap (λ vs. build vs stack) (append_assoc (words b) (monad_word (code_of_one f) ∷ []) ws) ∙ (given ∙ ap (λ g. build ws (before_argument g b ∷ stack)) (one_again f))
+
+between_again : (f : Function2) (a b : Tree) (ws : List Word) (stack : List Tree)
+    → build (words a ++ (words b ++ (dyad_word (code_of_two f) ∷ ws))) stack ≡ build (words b ++ (dyad_word (code_of_two f) ∷ ws)) (a ∷ stack)
+    → build (words b ++ (dyad_word (code_of_two f) ∷ ws)) (a ∷ stack) ≡ build (dyad_word (code_of_two f) ∷ ws) (b ∷ a ∷ stack)
+    → build ((words a ++ (words b ++ dyad_word (code_of_two f) ∷ [])) ++ ws) stack ≡ build ws (between_arguments f a b ∷ stack)
+between_again f a b ws stack left right =
+    let word = dyad_word (code_of_two f) in
+    ap (λ vs. build vs stack) (append_assoc (words a) (words b ++ word ∷ []) ws ∙ ap (λ vs. words a ++ vs) (append_assoc (words b) (word ∷ []) ws))
+    ∙ (left ∙ (right ∙ ap (λ g. build ws (between_arguments g a b ∷ stack)) (two_again f)))
+
 mutual
   again : (t : Tree) (ws : List Word) (stack : List Tree) → build (words t ++ ws) stack ≡ build ws (t ∷ stack)
   again (Const (Numbers ns)) ws stack = refl
   again (Const (Text cs)) ws stack = refl
   again (Name x) ws stack = refl
-  again (Monad f b) ws stack =
-      let word = monad_word (code_of_monadic f) in
-      ap (λ vs. build vs stack) (append_assoc (words b) (word ∷ []) ws)
-      ∙ (again b (word ∷ ws) stack ∙ ap (λ g. build ws (Monad g b ∷ stack)) (monadic_again f))
+  again (Monad f b) ws stack = let word = monad_word (code_of_one (function1.Monad f)) in before_again (function1.Monad f) b ws stack (again b (word ∷ ws) stack)
+  again (Reduce f k b) ws stack = let word = monad_word (code_of_one (function1.Reduce f k)) in before_again (function1.Reduce f k) b ws stack (again b (word ∷ ws) stack)
+  again (Scan f k b) ws stack = let word = monad_word (code_of_one (function1.Scan f k)) in before_again (function1.Scan f k) b ws stack (again b (word ∷ ws) stack)
   again (Dyad f a b) ws stack =
-      let word = dyad_word (code_of_dyadic f) in
-      ap (λ vs. build vs stack) (append_assoc (words a) (words b ++ word ∷ []) ws ∙ ap (λ vs. words a ++ vs) (append_assoc (words b) (word ∷ []) ws))
-      ∙ (again a (words b ++ (word ∷ ws)) stack ∙ (again b (word ∷ ws) (a ∷ stack) ∙ ap (λ g. build ws (Dyad g a b ∷ stack)) (dyadic_again f)))
+      let word = dyad_word (code_of_two (function2.Dyad f)) in
+      between_again (function2.Dyad f) a b ws stack (again a (words b ++ (word ∷ ws)) stack) (again b (word ∷ ws) (a ∷ stack))
+  again (Outer f a b) ws stack =
+      let word = dyad_word (code_of_two (function2.Outer f)) in
+      between_again (function2.Outer f) a b ws stack (again a (words b ++ (word ∷ ws)) stack) (again b (word ∷ ws) (a ∷ stack))
+  again (Inner f g a b) ws stack =
+      let word = dyad_word (code_of_two (function2.Inner f g)) in
+      between_again (function2.Inner f g) a b ws stack (again a (words b ++ (word ∷ ws)) stack) (again b (word ∷ ws) (a ∷ stack))
   again (Index a ps) ws stack =
       ap (λ vs. build vs stack) (append_assoc (words a) (index_word 0 ∷ words_in ps) ws)
       ∙ (again a (index_word 0 ∷ (words_in ps ++ ws)) stack ∙ positions_again ps ws a NoPositions stack)

@@ -18,10 +18,6 @@ pub enum Monadic {
     Shape,
     /// `⍳B`, the whole numbers from 1 to B.
     Iota,
-    /// Reduction, `f/B` and `f⌿B`: the scalar function between the items of each line of an axis, from the right.
-    Reduce(Scalar2, Along),
-    /// Scan, `f\B` and `f⍀B`: at each place of an axis the reduction of the line up to there.
-    Scan(Scalar2, Along),
 }
 
 /// The functions of two arguments, by the names of ISO/IEC 13751.
@@ -51,10 +47,6 @@ pub enum Dyadic {
     Encode,
     /// `A⊥B`, the value of the digits B to the radices A.
     Decode,
-    /// Outer Product, `A∘.fB`: the scalar function between each item of A and each of B.
-    Outer(Scalar2),
-    /// Inner Product, `A f.g B`: the reduction by `f` of `g` between each line of the last axis of A and each of the first of B.
-    Inner(Scalar2, Scalar2),
 }
 
 /// A literal of ISO 8485: numbers that stand side by side, or a text.
@@ -94,4 +86,12 @@ pub enum Expr {
     Dyad(Dyadic, Box<Sides>),
     /// `A[I;..]`, an operand and the positions of its index, each of which may be empty.
     Index(Box<Expr>, Vec<Option<Expr>>),
+    /// Reduction, `f/B` and `f⌿B`: the scalar function between the items of each line of an axis, from the right.
+    Reduce(Scalar2, Along, Box<Expr>),
+    /// Scan, `f\B` and `f⍀B`: at each place of an axis the reduction of the line up to there.
+    Scan(Scalar2, Along, Box<Expr>),
+    /// Outer Product, `A∘.fB`: the scalar function between each item of A and each of B.
+    Outer(Scalar2, Box<Sides>),
+    /// Inner Product, `A f.g B`: the reduction by `f` of `g` between each line of the last axis of A and each of the first of B.
+    Inner(Scalar2, Scalar2, Box<Sides>),
 }

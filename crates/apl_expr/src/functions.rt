@@ -11,14 +11,37 @@ use crate::symbols::{
     outer_of, stands_alone,
 };
 use apl_tokens::{Spanned, Token};
+use function_names::{Along, Scalar2};
+
+/// A function before its argument.
+#[derive(Clone, Copy, Debug, PartialEq, Eq)]
+pub enum Function1 {
+    /// A function of one argument.
+    Monad(Monadic),
+    /// The reduction by a scalar function along an axis.
+    Reduce(Scalar2, Along),
+    /// The scan by a scalar function along an axis.
+    Scan(Scalar2, Along),
+}
+
+/// A function between its arguments.
+#[derive(Clone, Copy, Debug, PartialEq, Eq)]
+pub enum Function2 {
+    /// A function of two arguments.
+    Dyad(Dyadic),
+    /// The outer product by a scalar function.
+    Outer(Scalar2),
+    /// The inner product by two scalar functions.
+    Inner(Scalar2, Scalar2),
+}
 
 /// A function as it is written: what it is alone and between two arguments, if it is a function there, and how long it is.
 #[derive(Clone, Copy)]
 pub(crate) struct Function {
     /// What it is before its argument.
-    pub(crate) alone: Option<Monadic>,
+    pub(crate) alone: Option<Function1>,
     /// What it is between its arguments.
-    pub(crate) between: Option<Dyadic>,
+    pub(crate) between: Option<Function2>,
     /// How many tokens it has after its first.
     pub(crate) more: usize,
 }
@@ -37,7 +60,7 @@ fn axis_in(tokens: &[Spanned]) -> Option<i64>
 }
 
 /// The product that the sign begins: `∘ . f`, or `f . g`.
-fn product_in(sign: char, tokens: &[Spanned]) -> Option<Dyadic>
+fn product_in(sign: char, tokens: &[Spanned]) -> Option<Function2>
     ensures { result ≡ product_in sign (lexemes tokens.now) }
 {
     let [dot, function, ..] = tokens else {
@@ -56,7 +79,7 @@ fn product_in(sign: char, tokens: &[Spanned]) -> Option<Dyadic>
 }
 
 /// The fold that the sign begins.
-fn fold_in(sign: char, tokens: &[Spanned]) -> Option<Monadic>
+fn fold_in(sign: char, tokens: &[Spanned]) -> Option<Function1>
     ensures { result ≡ fold_in sign (lexemes tokens.now) }
 {
     let (folding, _) = tokens.split_first()?;
@@ -67,7 +90,7 @@ fn fold_in(sign: char, tokens: &[Spanned]) -> Option<Monadic>
 }
 
 /// The fold with an axis that the sign begins.
-fn fold_along_in(sign: char, tokens: &[Spanned]) -> Option<Monadic>
+fn fold_along_in(sign: char, tokens: &[Spanned]) -> Option<Function1>
     ensures { result ≡ fold_along_in sign (lexemes tokens.now) }
 {
     let (folding, rest) = tokens.split_first()?;
@@ -81,7 +104,7 @@ fn fold_along_in(sign: char, tokens: &[Spanned]) -> Option<Monadic>
 }
 
 /// The function before its argument that the sign is with an axis after it.
-fn monadic_along_in(sign: char, tokens: &[Spanned]) -> Option<Monadic>
+fn monadic_along_in(sign: char, tokens: &[Spanned]) -> Option<Function1>
     ensures { result ≡ monadic_along_in sign (lexemes tokens.now) }
 {
     let axis = axis_in(tokens)?;
@@ -89,7 +112,7 @@ fn monadic_along_in(sign: char, tokens: &[Spanned]) -> Option<Monadic>
 }
 
 /// The function between its arguments that the sign is with an axis after it.
-fn dyadic_along_in(sign: char, tokens: &[Spanned]) -> Option<Dyadic>
+fn dyadic_along_in(sign: char, tokens: &[Spanned]) -> Option<Function2>
     ensures { result ≡ dyadic_along_in sign (lexemes tokens.now) }
 {
     let axis = axis_in(tokens)?;

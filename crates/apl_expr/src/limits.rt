@@ -1,9 +1,9 @@
 //! How large a tree may be.
 
-ghost use Rattle.std.specs.Prelude.{MatchOption, ◌≡◌, ◌+◌, ◌<◌, ◌≤◌, ◌↔◌, IsTrue, map};
+ghost use Rattle.std.specs.Prelude.{MatchOption, ◌≡◌, ◌+◌, ◌<◌, ◌≤◌, ◌↔◌, IsTrue, map, max};
 ghost use Rattle.apl_expr.specs.Trees.{tree_of, position_of, positions_of, height, height_in, nodes, nodes_in};
 
-use crate::expr::Expr;
+use crate::expr::{Expr, Sides};
 
 /// The most tokens of a line.
 pub const MOST_TOKENS: usize = 4096;
@@ -27,9 +27,11 @@ impl Expr {
         match self {
             Expr::Const(_) => true,
             Expr::Name(_) => true,
-            Expr::Monad(_, right) => right.is_within_height(limit - 1),
-            Expr::Dyad(_, sides) => {
-                sides.left.is_within_height(limit - 1) && sides.right.is_within_height(limit - 1)
+            Expr::Monad(_, right) | Expr::Reduce(_, _, right) | Expr::Scan(_, _, right) => {
+                right.is_within_height(limit - 1)
+            }
+            Expr::Dyad(_, sides) | Expr::Outer(_, sides) | Expr::Inner(_, _, sides) => {
+                sides.are_within_height(limit - 1)
             }
             Expr::Index(operand, positions) => {
                 operand.is_within_height(limit - 1) && are_within_height(positions, limit - 1)
@@ -47,10 +49,11 @@ impl Expr {
         match self {
             Expr::Const(_) => Some(below),
             Expr::Name(_) => Some(below),
-            Expr::Monad(_, right) => right.nodes_left(below),
-            Expr::Dyad(_, sides) => {
-                let rest = sides.left.nodes_left(below)?;
-                sides.right.nodes_left(rest)
+            Expr::Monad(_, right) | Expr::Reduce(_, _, right) | Expr::Scan(_, _, right) => {
+                right.nodes_left(below)
+            }
+            Expr::Dyad(_, sides) | Expr::Outer(_, sides) | Expr::Inner(_, _, sides) => {
+                sides.nodes_left(below)
             }
             Expr::Index(operand, positions) => {
                 let rest = operand.nodes_left(below)?;
@@ -64,6 +67,25 @@ impl Expr {
         ensures { IsTrue result ↔ (nodes (tree_of self.now) ≤ limit) }
     {
         self.nodes_left(limit).is_some()
+    }
+}
+
+impl Sides {
+    /// Whether both trees are at most `limit` high.
+    #[cycle(height)]
+    fn are_within_height(&self, limit: u32) -> bool
+        ensures { IsTrue result ↔ (max (height (tree_of self.now.left)) (height (tree_of self.now.right)) ≤ limit) }
+    {
+        self.left.is_within_height(limit) && self.right.is_within_height(limit)
+    }
+
+    /// How many nodes more than both trees have are allowed.
+    #[cycle(nodes)]
+    fn nodes_left(&self, limit: u32) -> Option<u32>
+        ensures { MatchOption result (limit < nodes (tree_of self.now.left) + nodes (tree_of self.now.right)) (λ left. left + (nodes (tree_of self.now.left) + nodes (tree_of self.now.right)) ≡ limit) }
+    {
+        let rest = self.left.nodes_left(limit)?;
+        self.right.nodes_left(rest)
     }
 }
 

@@ -9,9 +9,9 @@ ghost use Rattle.apl_expr.specs.Parsing.{stack, reading_of, Settles, Steps, Give
 ghost use Rattle.apl_expr.specs.Symbols.{indexed_of};
 ghost use Rattle.apl_expr.specs.Trees.{is_plain_position, tree_of, position_of};
 
-use crate::expr::{Dyadic, Expr, Literal, Monadic};
+use crate::expr::{Expr, Literal};
 use crate::fault::ParseFault;
-use crate::functions::{Function, function_from};
+use crate::functions::{Function, Function1, Function2, function_from};
 use crate::limits::{MOST_HEIGHT, MOST_NODES, MOST_TOKENS};
 use crate::plain::{OpenIndex, Plain, literal, text_literal};
 use crate::symbols::dyadic_of;
@@ -29,8 +29,8 @@ enum Bracket {
 /// What waits for a value at its right: a function, or an open bracket.
 #[derive(Drop)]
 enum Waiting {
-    Argument1(Monadic),
-    Argument2(Dyadic, Plain),
+    Argument1(Function1),
+    Argument2(Function2, Plain),
     Inside(Bracket),
 }
 
@@ -418,8 +418,10 @@ fn drop_in_turn(tree: Expr) {
     let mut rest = tree;
     for _ in 0..MOST_TOKENS {
         rest = match rest {
-            Expr::Monad(_, right) => Box::into_inner(right),
-            Expr::Dyad(_, sides) => {
+            Expr::Monad(_, right) | Expr::Reduce(_, _, right) | Expr::Scan(_, _, right) => {
+                Box::into_inner(right)
+            }
+            Expr::Dyad(_, sides) | Expr::Outer(_, sides) | Expr::Inner(_, _, sides) => {
                 let sides = Box::into_inner(sides);
                 sides.right
             }

@@ -1,9 +1,10 @@
 //! Literals as the parser makes them: one number is a scalar and never a vector, and so is one character.
 
 ghost use Rattle.std.specs.Prelude.{◌≡◌, [], ◌∷◌, ◌++◌, IfOk, true};
-ghost use Rattle.apl_expr.specs.Trees.{Numbers, Text, Const, Name as Named, Monad, Dyad, literal_of, tree_of, is_plain, is_plain_expr, is_plain_position, are_plain};
+ghost use Rattle.apl_expr.specs.Trees.{Numbers, Text, Const, Name as Named, before_argument, between_arguments, literal_of, tree_of, is_plain, is_plain_expr, is_plain_position, are_plain};
 
-use crate::expr::{Dyadic, Expr, Literal, Monadic, Sides};
+use crate::expr::{Expr, Literal, Sides};
+use crate::functions::{Function1, Function2};
 use apl_tokens::Name;
 use std::alloc::{AllocError, Global};
 
@@ -55,27 +56,39 @@ impl Plain {
     }
 
     /// A function with its right argument.
-    pub(crate) fn monad(alloc: Global, function: Monadic, right: Plain) -> Result<Plain, AllocError>
-        ensures { IfOk result (λ e. tree_of e.expr ≡ Monad function (tree_of right.expr)) }
+    pub(crate) fn monad(
+        alloc: Global,
+        function: Function1,
+        right: Plain,
+    ) -> Result<Plain, AllocError>
+        ensures { IfOk result (λ e. tree_of e.expr ≡ before_argument function (tree_of right.expr)) }
     {
         let Plain { expr } = right;
         let right = Box::new(alloc, expr)?;
-        let expr = Expr::Monad(function, right);
+        let expr = match function {
+            Function1::Monad(function) => Expr::Monad(function, right),
+            Function1::Reduce(function, along) => Expr::Reduce(function, along, right),
+            Function1::Scan(function, along) => Expr::Scan(function, along, right),
+        };
         Ok(Plain { expr })
     }
 
     /// A function between its left argument and its right one.
     pub(crate) fn dyad(
         alloc: Global,
-        function: Dyadic,
+        function: Function2,
         left: Plain,
         right: Plain,
     ) -> Result<Plain, AllocError>
-        ensures { IfOk result (λ e. tree_of e.expr ≡ Dyad function (tree_of left.expr) (tree_of right.expr)) }
+        ensures { IfOk result (λ e. tree_of e.expr ≡ between_arguments function (tree_of left.expr) (tree_of right.expr)) }
     {
         let (Plain { expr: left }, Plain { expr: right }) = (left, right);
         let sides = Box::new(alloc, Sides { left, right })?;
-        let expr = Expr::Dyad(function, sides);
+        let expr = match function {
+            Function2::Dyad(function) => Expr::Dyad(function, sides),
+            Function2::Outer(function) => Expr::Outer(function, sides),
+            Function2::Inner(fold, each) => Expr::Inner(fold, each, sides),
+        };
         Ok(Plain { expr })
     }
 }

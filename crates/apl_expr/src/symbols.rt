@@ -4,6 +4,7 @@ ghost use Rattle.std.specs.Prelude.{◌≡◌};
 ghost use Rattle.apl_expr.specs.Symbols.{scalar_monad_of, scalar_dyad_of, array_monad, array_dyad, monadic_of, monadic_along_of, folding_of, folding_along_of, folded_of, folded_along_of, dyadic_of, dyadic_along_of, outer_of, inner_of, stands_alone};
 
 use crate::expr::{Dyadic, Monadic};
+use crate::functions::{Function1, Function2};
 use function_names::{Along, Scalar1, Scalar2};
 
 /// The scalar function of one argument that the sign stands for.
@@ -93,102 +94,102 @@ fn array_dyad(sign: char) -> Option<Dyadic>
 }
 
 /// The function of one argument that the sign stands for.
-pub(crate) fn monadic_of(sign: char) -> Option<Monadic>
+pub(crate) fn monadic_of(sign: char) -> Option<Function1>
     ensures { result ≡ monadic_of sign }
 {
     match scalar_monad_of(sign) {
-        Some(function) => Some(Monadic::Scalar(function)),
-        None => array_monad(sign),
+        Some(function) => Some(Function1::Monad(Monadic::Scalar(function))),
+        None => Some(Function1::Monad(array_monad(sign)?)),
     }
 }
 
 /// The function of two arguments that the sign stands for.
-pub(crate) fn dyadic_of(sign: char) -> Option<Dyadic>
+pub(crate) fn dyadic_of(sign: char) -> Option<Function2>
     ensures { result ≡ dyadic_of sign }
 {
     match scalar_dyad_of(sign) {
-        Some(function) => Some(Dyadic::Scalar(function)),
-        None => array_dyad(sign),
+        Some(function) => Some(Function2::Dyad(Dyadic::Scalar(function))),
+        None => Some(Function2::Dyad(array_dyad(sign)?)),
     }
 }
 
 /// The function of one argument that the sign stands for with an axis after it.
 #[tactic(auto, unfolding(crate::specs::Symbols::monadic_along_of))]
-pub(crate) fn monadic_along_of(sign: char, axis: i64) -> Option<Monadic>
+pub(crate) fn monadic_along_of(sign: char, axis: i64) -> Option<Function1>
     ensures { result ≡ monadic_along_of sign axis }
 {
     match sign {
-        '⌽' | '⊖' => Some(Monadic::Reverse(Along::Axis(axis))),
+        '⌽' | '⊖' => Some(Function1::Monad(Monadic::Reverse(Along::Axis(axis)))),
         _ => None,
     }
 }
 
 /// The function of two arguments that the sign stands for with an axis after it.
 #[tactic(auto, unfolding(crate::specs::Symbols::dyadic_along_of))]
-pub(crate) fn dyadic_along_of(sign: char, axis: i64) -> Option<Dyadic>
+pub(crate) fn dyadic_along_of(sign: char, axis: i64) -> Option<Function2>
     ensures { result ≡ dyadic_along_of sign axis }
 {
     match sign {
-        ',' | '⍪' => Some(Dyadic::Catenate(Along::Axis(axis))),
-        '⌽' | '⊖' => Some(Dyadic::Rotate(Along::Axis(axis))),
-        '/' | '⌿' => Some(Dyadic::Replicate(Along::Axis(axis))),
+        ',' | '⍪' => Some(Function2::Dyad(Dyadic::Catenate(Along::Axis(axis)))),
+        '⌽' | '⊖' => Some(Function2::Dyad(Dyadic::Rotate(Along::Axis(axis)))),
+        '/' | '⌿' => Some(Function2::Dyad(Dyadic::Replicate(Along::Axis(axis)))),
         _ => None,
     }
 }
 
 /// What the sign makes of a scalar function: its reduction or its scan.
 #[tactic(auto, unfolding(crate::specs::Symbols::folding_of))]
-fn folding_of(function: Scalar2, folding: char) -> Option<Monadic>
+fn folding_of(function: Scalar2, folding: char) -> Option<Function1>
     ensures { result ≡ folding_of function folding }
 {
     match folding {
-        '/' => Some(Monadic::Reduce(function, Along::Last)),
-        '⌿' => Some(Monadic::Reduce(function, Along::First)),
-        '\\' => Some(Monadic::Scan(function, Along::Last)),
-        '⍀' => Some(Monadic::Scan(function, Along::First)),
+        '/' => Some(Function1::Reduce(function, Along::Last)),
+        '⌿' => Some(Function1::Reduce(function, Along::First)),
+        '\\' => Some(Function1::Scan(function, Along::Last)),
+        '⍀' => Some(Function1::Scan(function, Along::First)),
         _ => None,
     }
 }
 
 /// What the sign makes of a scalar function along the axis that stands after it.
 #[tactic(auto, unfolding(crate::specs::Symbols::folding_along_of))]
-fn folding_along_of(function: Scalar2, folding: char, axis: i64) -> Option<Monadic>
+fn folding_along_of(function: Scalar2, folding: char, axis: i64) -> Option<Function1>
     ensures { result ≡ folding_along_of function folding axis }
 {
     match folding {
-        '/' | '⌿' => Some(Monadic::Reduce(function, Along::Axis(axis))),
-        '\\' | '⍀' => Some(Monadic::Scan(function, Along::Axis(axis))),
+        '/' | '⌿' => Some(Function1::Reduce(function, Along::Axis(axis))),
+        '\\' | '⍀' => Some(Function1::Scan(function, Along::Axis(axis))),
         _ => None,
     }
 }
 
 /// The reduction or scan by a scalar function that the two signs stand for.
-pub(crate) fn folded_of(function: char, folding: char) -> Option<Monadic>
+pub(crate) fn folded_of(function: char, folding: char) -> Option<Function1>
     ensures { result ≡ folded_of function folding }
 {
     folding_of(scalar_dyad_of(function)?, folding)
 }
 
 /// The reduction or scan by a scalar function that the two signs stand for, along the axis that stands after them.
-pub(crate) fn folded_along_of(function: char, folding: char, axis: i64) -> Option<Monadic>
+pub(crate) fn folded_along_of(function: char, folding: char, axis: i64) -> Option<Function1>
     ensures { result ≡ folded_along_of function folding axis }
 {
     folding_along_of(scalar_dyad_of(function)?, folding, axis)
 }
 
 /// The outer product by the scalar function after `∘.`.
-pub(crate) fn outer_of(function: char) -> Option<Dyadic>
+pub(crate) fn outer_of(function: char) -> Option<Function2>
     ensures { result ≡ outer_of function }
 {
-    Some(Dyadic::Outer(scalar_dyad_of(function)?))
+    Some(Function2::Outer(scalar_dyad_of(function)?))
 }
 
 /// The inner product by the scalar functions before and after a dot.
-pub(crate) fn inner_of(first: char, second: char) -> Option<Dyadic>
+pub(crate) fn inner_of(first: char, second: char) -> Option<Function2>
     ensures { result ≡ inner_of first second }
 {
     let first = scalar_dyad_of(first)?;
-    Some(Dyadic::Inner(first, scalar_dyad_of(second)?))
+    Some(Function2::Inner(first, scalar_dyad_of(second)?))
 }
 
 /// Whether the sign belongs to no function.
