@@ -4,9 +4,11 @@ use Rattle.std.specs.List.{Contains, list_all, sum_by}
 use Rattle.std.proofs.lemmas.Bool.{false≢true, cond-true}
 use Rattle.std.proofs.lemmas.List.Elements.{Contains-append_left, Contains-append_right, Contains-push}
 use Rattle.std.proofs.lemmas.List.Sums.{sum_by-append, sum_by_push}
-use Rattle.apl_expr.specs.Trees.{Tree, Const, Name, Monad, Dyad, Index, Positions, NoPositions, Empty, Filled}
-use Rattle.apl_expr.specs.declared.expr.Monadic.{Monadic}
-use Rattle.apl_expr.specs.declared.expr.Dyadic.{Dyadic}
+use Rattle.apl_expr.specs.Trees.{Tree, Const, Name, Monad, Dyad, Index, Reduce, Scan, Outer, Inner, Positions, NoPositions, Empty, Filled}
+use Rattle.apl_expr.specs.declared.functions.Function1.{Function1}
+use Rattle.apl_expr.specs.declared.functions.Function1.TheVariants as function1
+use Rattle.apl_expr.specs.declared.functions.Function2.{Function2}
+use Rattle.apl_expr.specs.declared.functions.Function2.TheVariants as function2
 use Rattle.arrays_core.specs.Arrays.{ArrayValue}
 use Rattle.arrays_core.specs.declared.fault.Fault.{Fault}
 use Rattle.index_region.specs.declared.delta.Delta.{Delta}
@@ -28,20 +30,24 @@ in_left P xs ys h x o = h x (Contains-append_left xs ys x o)
 in_right : (P : List ℕ → Type 0) (xs ys : List (List ℕ)) → ((x : List ℕ) → Contains (xs ++ ys) x → P x) → (x : List ℕ) → Contains ys x → P x
 in_right P xs ys h x o = h x (Contains-append_right xs ys x o)
 
+both_alike : (f : Function2) {p q r s : Outcome} → p ≡ q → r ≡ s → applied2 f p r ≡ applied2 f q s
+both_alike f right left = λ i. applied2 f (right i) (left i)
+
 mutual
   -- a tree gives the same where the names in it show the same
   pub eval_alike : (t : Tree) (a b : List ℕ → Outcome) → ((x : List ℕ) → Contains (names_in t) x → a x ≡ b x) → eval t a ≡ eval t b
   eval_alike (Const l) a b h = refl
   eval_alike (Name x) a b h = h x (Contains-push [] x)
-  eval_alike (Monad f r) a b h = ap (applied1 f) (eval_alike r a b h)
-  eval_alike (Dyad f l r) a b h =
-      let right = eval_alike r a b (in_right _ (names_in l) (names_in r) h) in
-      let left = eval_alike l a b (in_left _ (names_in l) (names_in r) h) in
-      λ i. applied2 f (right i) (left i)
+  eval_alike (Monad f r) a b h = ap (applied1 (function1.Monad f)) (eval_alike r a b h)
+  eval_alike (Dyad f l r) a b h = both_alike (function2.Dyad f) (eval_alike r a b (in_right _ (names_in l) (names_in r) h)) (eval_alike l a b (in_left _ (names_in l) (names_in r) h))
   eval_alike (Index l ps) a b h =
       let positions = positions_alike ps a b (in_right _ (names_in l) (names_in_positions ps) h) in
       let operand = eval_alike l a b (in_left _ (names_in l) (names_in_positions ps) h) in
       λ i. indexed (positions i) (operand i)
+  eval_alike (Reduce f k r) a b h = ap (applied1 (function1.Reduce f k)) (eval_alike r a b h)
+  eval_alike (Scan f k r) a b h = ap (applied1 (function1.Scan f k)) (eval_alike r a b h)
+  eval_alike (Outer f l r) a b h = both_alike (function2.Outer f) (eval_alike r a b (in_right _ (names_in l) (names_in r) h)) (eval_alike l a b (in_left _ (names_in l) (names_in r) h))
+  eval_alike (Inner f g l r) a b h = both_alike (function2.Inner f g) (eval_alike r a b (in_right _ (names_in l) (names_in r) h)) (eval_alike l a b (in_left _ (names_in l) (names_in r) h))
 
   pub positions_alike : (ps : Positions) (a b : List ℕ → Outcome) → ((x : List ℕ) → Contains (names_in_positions ps) x → a x ≡ b x) → eval_positions ps a ≡ eval_positions ps b
   positions_alike NoPositions a b h = refl
@@ -72,22 +78,23 @@ OfOperation A = RuleModel → Result (List ArrayValue) Fault → List Delta → 
 
 -- it is the same where the arguments showed, show and changed the same
 module _ {A : Type 0} (of_operation : OfOperation A) (c d : Change) where
-  monad_alike : (f : Monadic) (r : Tree) → ((x : List ℕ) → Contains (names_in r) x → IsAlikeAt c d x) → change c r ≡ change d r
-      → of_operation (right_rule f) (arguments (eval r c.new ∷ [])) (change c r ∷ []) (eval (Monad f r) c.old)
-      ≡ of_operation (right_rule f) (arguments (eval r d.new ∷ [])) (change d r ∷ []) (eval (Monad f r) d.old)
+  monad_alike : (f : Function1) (r : Tree) → ((x : List ℕ) → Contains (names_in r) x → IsAlikeAt c d x) → change c r ≡ change d r
+      → of_operation (right_rule f) (arguments (eval r c.new ∷ [])) (change c r ∷ []) (applied1 f (eval r c.old))
+      ≡ of_operation (right_rule f) (arguments (eval r d.new ∷ [])) (change d r ∷ []) (applied1 f (eval r d.old))
   monad_alike f r h right =
       let now = eval_alike r c.new d.new (λ x o. (h x o).new) in
-      let held = eval_alike (Monad f r) c.old d.old (λ x o. (h x o).old) in
-      λ i. of_operation (right_rule f) (arguments (now i ∷ [])) (right i ∷ []) (held i)
+      let held = eval_alike r c.old d.old (λ x o. (h x o).old) in
+      λ i. of_operation (right_rule f) (arguments (now i ∷ [])) (right i ∷ []) (applied1 f (held i))
 
-  dyad_alike : (f : Dyadic) (l r : Tree) → ((x : List ℕ) → Contains (names_in (Dyad f l r)) x → IsAlikeAt c d x) → change c l ≡ change d l → change c r ≡ change d r
-      → of_operation (both_rule f) (arguments (eval l c.new ∷ eval r c.new ∷ [])) (change c l ∷ change c r ∷ []) (eval (Dyad f l r) c.old)
-      ≡ of_operation (both_rule f) (arguments (eval l d.new ∷ eval r d.new ∷ [])) (change d l ∷ change d r ∷ []) (eval (Dyad f l r) d.old)
+  dyad_alike : (f : Function2) (l r : Tree) → ((x : List ℕ) → Contains (names_in l ++ names_in r) x → IsAlikeAt c d x) → change c l ≡ change d l → change c r ≡ change d r
+      → of_operation (both_rule f) (arguments (eval l c.new ∷ eval r c.new ∷ [])) (change c l ∷ change c r ∷ []) (applied2 f (eval r c.old) (eval l c.old))
+      ≡ of_operation (both_rule f) (arguments (eval l d.new ∷ eval r d.new ∷ [])) (change d l ∷ change d r ∷ []) (applied2 f (eval r d.old) (eval l d.old))
   dyad_alike f l r h left right =
       let now_l = eval_alike l c.new d.new (λ x o. (in_left _ (names_in l) (names_in r) h x o).new) in
       let now_r = eval_alike r c.new d.new (λ x o. (in_right _ (names_in l) (names_in r) h x o).new) in
-      let held = eval_alike (Dyad f l r) c.old d.old (λ x o. (h x o).old) in
-      λ i. of_operation (both_rule f) (arguments (now_l i ∷ now_r i ∷ [])) (left i ∷ right i ∷ []) (held i)
+      let held_l = eval_alike l c.old d.old (λ x o. (in_left _ (names_in l) (names_in r) h x o).old) in
+      let held_r = eval_alike r c.old d.old (λ x o. (in_right _ (names_in l) (names_in r) h x o).old) in
+      λ i. of_operation (both_rule f) (arguments (now_l i ∷ now_r i ∷ [])) (left i ∷ right i ∷ []) (applied2 f (held_r i) (held_l i))
 
   index_alike : (l : Tree) (ps : Positions) → ((x : List ℕ) → Contains (names_in (Index l ps)) x → IsAlikeAt c d x) → change c l ≡ change d l → changes c ps ≡ changes d ps
       → of_operation (index_rule (written ps)) (arguments (eval l c.new ∷ values_of ps c.new)) (change c l ∷ changes c ps) (eval (Index l ps) c.old)
@@ -103,11 +110,17 @@ mutual
   pub change_alike : (t : Tree) (c d : Change) → ((x : List ℕ) → Contains (names_in t) x → IsAlikeAt c d x) → change c t ≡ change d t
   change_alike (Const l) c d h = refl
   change_alike (Name x) c d h = (h x (Contains-push [] x)).delta
-  change_alike (Monad f r) c d h = monad_alike operation_delta c d f r h (change_alike r c d h)
+  change_alike (Monad f r) c d h = monad_alike operation_delta c d (function1.Monad f) r h (change_alike r c d h)
   change_alike (Dyad f l r) c d h =
-      dyad_alike operation_delta c d f l r h (change_alike l c d (in_left _ (names_in l) (names_in r) h)) (change_alike r c d (in_right _ (names_in l) (names_in r) h))
+      dyad_alike operation_delta c d (function2.Dyad f) l r h (change_alike l c d (in_left _ (names_in l) (names_in r) h)) (change_alike r c d (in_right _ (names_in l) (names_in r) h))
   change_alike (Index l ps) c d h =
       index_alike operation_delta c d l ps h (change_alike l c d (in_left _ (names_in l) (names_in_positions ps) h)) (changes_alike ps c d (in_right _ (names_in l) (names_in_positions ps) h))
+  change_alike (Reduce f k r) c d h = monad_alike operation_delta c d (function1.Reduce f k) r h (change_alike r c d h)
+  change_alike (Scan f k r) c d h = monad_alike operation_delta c d (function1.Scan f k) r h (change_alike r c d h)
+  change_alike (Outer f l r) c d h =
+      dyad_alike operation_delta c d (function2.Outer f) l r h (change_alike l c d (in_left _ (names_in l) (names_in r) h)) (change_alike r c d (in_right _ (names_in l) (names_in r) h))
+  change_alike (Inner f g l r) c d h =
+      dyad_alike operation_delta c d (function2.Inner f g) l r h (change_alike l c d (in_left _ (names_in l) (names_in r) h)) (change_alike r c d (in_right _ (names_in l) (names_in r) h))
 
   pub changes_alike : (ps : Positions) (c d : Change) → ((x : List ℕ) → Contains (names_in_positions ps) x → IsAlikeAt c d x) → changes c ps ≡ changes d ps
   changes_alike NoPositions c d h = refl
@@ -121,11 +134,17 @@ mutual
 pub cost_alike : (t : Tree) (c d : Change) → ((x : List ℕ) → Contains (names_in t) x → IsAlikeAt c d x) → cost_at c t ≡ cost_at d t
 cost_alike (Const l) c d h = refl
 cost_alike (Name x) c d h = refl
-cost_alike (Monad f r) c d h = monad_alike operation_cost c d f r h (change_alike r c d h)
+cost_alike (Monad f r) c d h = monad_alike operation_cost c d (function1.Monad f) r h (change_alike r c d h)
 cost_alike (Dyad f l r) c d h =
-    dyad_alike operation_cost c d f l r h (change_alike l c d (in_left _ (names_in l) (names_in r) h)) (change_alike r c d (in_right _ (names_in l) (names_in r) h))
+    dyad_alike operation_cost c d (function2.Dyad f) l r h (change_alike l c d (in_left _ (names_in l) (names_in r) h)) (change_alike r c d (in_right _ (names_in l) (names_in r) h))
 cost_alike (Index l ps) c d h =
     index_alike operation_cost c d l ps h (change_alike l c d (in_left _ (names_in l) (names_in_positions ps) h)) (changes_alike ps c d (in_right _ (names_in l) (names_in_positions ps) h))
+cost_alike (Reduce f k r) c d h = monad_alike operation_cost c d (function1.Reduce f k) r h (change_alike r c d h)
+cost_alike (Scan f k r) c d h = monad_alike operation_cost c d (function1.Scan f k) r h (change_alike r c d h)
+cost_alike (Outer f l r) c d h =
+    dyad_alike operation_cost c d (function2.Outer f) l r h (change_alike l c d (in_left _ (names_in l) (names_in r) h)) (change_alike r c d (in_right _ (names_in l) (names_in r) h))
+cost_alike (Inner f g l r) c d h =
+    dyad_alike operation_cost c d (function2.Inner f g) l r h (change_alike l c d (in_left _ (names_in l) (names_in r) h)) (change_alike r c d (in_right _ (names_in l) (names_in r) h))
 
 -- the sum over two lists and one tree more
 sum_of_parts : (g : Tree → ℕ) (ts us : List Tree) (t : Tree) → sum_by g (ts ++ (us ++ t ∷ [])) ≡ sum_by g ts + (sum_by g us + g t)
@@ -133,25 +152,27 @@ sum_of_parts g ts us t = sum_by-append g ts (us ++ t ∷ []) ∙ ap (λ n. sum_b
 
 -- a number of each tree that is told by what holds of the names in it
 module _ (P : List ℕ → Type 0) (f g : Tree → ℕ) (same : (t : Tree) → ((x : List ℕ) → Contains (names_in t) x → P x) → f t ≡ g t) where
+  -- with one tree more
+  one_more : (ts : List Tree) (t : Tree) → sum_by f ts ≡ sum_by g ts → f t ≡ g t → sum_by f (ts ++ t ∷ []) ≡ sum_by g (ts ++ t ∷ [])
+  one_more ts t below here = sum_by_push f ts t ∙ ((λ i. below i + here i) ∙ sym (sum_by_push g ts t))
+
+  two_more : (ts us : List Tree) (t : Tree) → sum_by f ts ≡ sum_by g ts → sum_by f us ≡ sum_by g us → f t ≡ g t → sum_by f (ts ++ (us ++ t ∷ [])) ≡ sum_by g (ts ++ (us ++ t ∷ []))
+  two_more ts us t left right here = sum_of_parts f ts us t ∙ ((λ i. left i + (right i + here i)) ∙ sym (sum_of_parts g ts us t))
+
   mutual
     -- adds up to the same over all that have a node in a tree
     pub sums_alike : (t : Tree) → ((x : List ℕ) → Contains (names_in t) x → P x) → sum_by f (inside t) ≡ sum_by g (inside t)
     sums_alike (Const l) h = ap (λ n. 0 + n) (same (Const l) h)
     sums_alike (Name x) h = refl
-    sums_alike (Monad k r) h =
-        let below = sums_alike r h in
-        let here = same (Monad k r) h in
-        sum_by_push f (inside r) (Monad k r) ∙ ((λ i. below i + here i) ∙ sym (sum_by_push g (inside r) (Monad k r)))
-    sums_alike (Dyad k l r) h =
-        let left = sums_alike l (in_left _ (names_in l) (names_in r) h) in
-        let right = sums_alike r (in_right _ (names_in l) (names_in r) h) in
-        let here = same (Dyad k l r) h in
-        sum_of_parts f (inside l) (inside r) (Dyad k l r) ∙ ((λ i. left i + (right i + here i)) ∙ sym (sum_of_parts g (inside l) (inside r) (Dyad k l r)))
+    sums_alike (Monad k r) h = one_more (inside r) (Monad k r) (sums_alike r h) (same (Monad k r) h)
+    sums_alike (Dyad k l r) h = two_more (inside l) (inside r) (Dyad k l r) (sums_alike l (in_left _ (names_in l) (names_in r) h)) (sums_alike r (in_right _ (names_in l) (names_in r) h)) (same (Dyad k l r) h)
     sums_alike (Index l ps) h =
-        let left = sums_alike l (in_left _ (names_in l) (names_in_positions ps) h) in
-        let positions = position_sums_alike ps (in_right _ (names_in l) (names_in_positions ps) h) in
-        let here = same (Index l ps) h in
-        sum_of_parts f (inside l) (inside_positions ps) (Index l ps) ∙ ((λ i. left i + (positions i + here i)) ∙ sym (sum_of_parts g (inside l) (inside_positions ps) (Index l ps)))
+        two_more (inside l) (inside_positions ps) (Index l ps) (sums_alike l (in_left _ (names_in l) (names_in_positions ps) h)) (position_sums_alike ps (in_right _ (names_in l) (names_in_positions ps) h)) (same (Index l ps) h)
+    sums_alike (Reduce k j r) h = one_more (inside r) (Reduce k j r) (sums_alike r h) (same (Reduce k j r) h)
+    sums_alike (Scan k j r) h = one_more (inside r) (Scan k j r) (sums_alike r h) (same (Scan k j r) h)
+    sums_alike (Outer k l r) h = two_more (inside l) (inside r) (Outer k l r) (sums_alike l (in_left _ (names_in l) (names_in r) h)) (sums_alike r (in_right _ (names_in l) (names_in r) h)) (same (Outer k l r) h)
+    sums_alike (Inner k j l r) h =
+        two_more (inside l) (inside r) (Inner k j l r) (sums_alike l (in_left _ (names_in l) (names_in r) h)) (sums_alike r (in_right _ (names_in l) (names_in r) h)) (same (Inner k j l r) h)
 
     pub position_sums_alike : (ps : Positions) → ((x : List ℕ) → Contains (names_in_positions ps) x → P x) → sum_by f (inside_positions ps) ≡ sum_by g (inside_positions ps)
     position_sums_alike NoPositions h = refl
@@ -168,26 +189,35 @@ module _ (P : List ℕ → Type 0) (f g : Tree → ℕ) (same : (t : Tree) → (
   subtree_sums_alike (Monad k r) h = sums_alike (Monad k r) h
   subtree_sums_alike (Dyad k l r) h = sums_alike (Dyad k l r) h
   subtree_sums_alike (Index l ps) h = sums_alike (Index l ps) h
+  subtree_sums_alike (Reduce k j r) h = sums_alike (Reduce k j r) h
+  subtree_sums_alike (Scan k j r) h = sums_alike (Scan k j r) h
+  subtree_sums_alike (Outer k l r) h = sums_alike (Outer k l r) h
+  subtree_sums_alike (Inner k j l r) h = sums_alike (Inner k j l r) h
 
 -- and what the changes of all nodes in it cost
 pub costs_alike : (t : Tree) (c d : Change) → ((x : List ℕ) → Contains (names_in t) x → IsAlikeAt c d x) → sum_by (cost_at c) (inside t) ≡ sum_by (cost_at d) (inside t)
 costs_alike t c d h = sums_alike (λ x. IsAlikeAt c d x) (cost_at c) (cost_at d) (λ u k. cost_alike u c d k) t h
 
+one_sized : (p : RuleModel) {r s : Outcome} → r ≡ s → operation_size p (arguments (r ∷ [])) ≡ operation_size p (arguments (s ∷ []))
+one_sized p right = λ i. operation_size p (arguments (right i ∷ []))
+
+two_sized : (p : RuleModel) {l m r s : Outcome} → l ≡ m → r ≡ s → operation_size p (arguments (l ∷ r ∷ [])) ≡ operation_size p (arguments (m ∷ s ∷ []))
+two_sized p left right = λ i. operation_size p (arguments (left i ∷ right i ∷ []))
+
 -- where the names in a tree show the same, what it gives has as many places
 pub size_alike : (t : Tree) (a b : List ℕ → Outcome) → ((x : List ℕ) → Contains (names_in t) x → a x ≡ b x) → size_at a t ≡ size_at b t
 size_alike (Const l) a b h = refl
 size_alike (Name x) a b h = refl
-size_alike (Monad f r) a b h =
-    let right = eval_alike r a b h in
-    λ i. operation_size (right_rule f) (arguments (right i ∷ []))
-size_alike (Dyad f l r) a b h =
-    let left = eval_alike l a b (in_left _ (names_in l) (names_in r) h) in
-    let right = eval_alike r a b (in_right _ (names_in l) (names_in r) h) in
-    λ i. operation_size (both_rule f) (arguments (left i ∷ right i ∷ []))
+size_alike (Monad f r) a b h = one_sized (right_rule (function1.Monad f)) (eval_alike r a b h)
+size_alike (Dyad f l r) a b h = two_sized (both_rule (function2.Dyad f)) (eval_alike l a b (in_left _ (names_in l) (names_in r) h)) (eval_alike r a b (in_right _ (names_in l) (names_in r) h))
 size_alike (Index l ps) a b h =
     let left = eval_alike l a b (in_left _ (names_in l) (names_in_positions ps) h) in
     let positions = values_alike ps a b (in_right _ (names_in l) (names_in_positions ps) h) in
     λ i. operation_size (index_rule (written ps)) (arguments (left i ∷ positions i))
+size_alike (Reduce f k r) a b h = one_sized (right_rule (function1.Reduce f k)) (eval_alike r a b h)
+size_alike (Scan f k r) a b h = one_sized (right_rule (function1.Scan f k)) (eval_alike r a b h)
+size_alike (Outer f l r) a b h = two_sized (both_rule (function2.Outer f)) (eval_alike l a b (in_left _ (names_in l) (names_in r) h)) (eval_alike r a b (in_right _ (names_in l) (names_in r) h))
+size_alike (Inner f g l r) a b h = two_sized (both_rule (function2.Inner f g)) (eval_alike l a b (in_left _ (names_in l) (names_in r) h)) (eval_alike r a b (in_right _ (names_in l) (names_in r) h))
 
 node_cost_alike : (is_new : Bool) (t : Tree) (c d : Change) → ((x : List ℕ) → Contains (names_in t) x → IsAlikeAt c d x) → node_cost_at is_new c t ≡ node_cost_at is_new d t
 node_cost_alike true t c d h = size_alike t c.new d.new (λ x o. (h x o).new)
@@ -215,27 +245,47 @@ operation_unchanged p (Err e) ds held h = (cond-true _ _ _ h, refl)
 same_in_front : (d : Delta) (ds : List Delta) → d ≡ Same → list_all is_same ds ≡ true → list_all is_same (d ∷ ds) ≡ true
 same_in_front d ds e h = subst (λ (x : Delta). list_all is_same (x ∷ ds) ≡ true) (sym e) h
 
+-- a tree of which nothing changes, and no node in which costs anything
+abbrev IsUnchanged : Change → Tree → List Tree → Type 0
+IsUnchanged c t ts = (change c t ≡ Same) × (sum_by (cost_at c) ts ≡ 0)
+
+-- so is one that applies a function to such trees
+unchanged_before : (c : Change) (f : Function1) (r t : Tree) → change c t ≡ operation_delta (right_rule f) (arguments (eval r c.new ∷ [])) (change c r ∷ []) (eval t c.old)
+    → cost_at c t ≡ operation_cost (right_rule f) (arguments (eval r c.new ∷ [])) (change c r ∷ []) (eval t c.old) → IsUnchanged c r (inside r) → IsUnchanged c t (inside r ++ t ∷ [])
+unchanged_before c f r t delta cost right =
+    let here = operation_unchanged (right_rule f) (arguments (eval r c.new ∷ [])) (change c r ∷ []) (eval t c.old) (same_in_front (change c r) [] right.0 refl) in
+    let free = cost ∙ here.1 in
+    (delta ∙ here.0, sum_by_push (cost_at c) (inside r) t ∙ (λ i. right.1 i + free i))
+
+unchanged_between : (c : Change) (f : Function2) (l r t : Tree) → change c t ≡ operation_delta (both_rule f) (arguments (eval l c.new ∷ eval r c.new ∷ [])) (change c l ∷ change c r ∷ []) (eval t c.old)
+    → cost_at c t ≡ operation_cost (both_rule f) (arguments (eval l c.new ∷ eval r c.new ∷ [])) (change c l ∷ change c r ∷ []) (eval t c.old) → IsUnchanged c l (inside l) → IsUnchanged c r (inside r)
+    → IsUnchanged c t (inside l ++ (inside r ++ t ∷ []))
+unchanged_between c f l r t delta cost left right =
+    let here = operation_unchanged (both_rule f) (arguments (eval l c.new ∷ eval r c.new ∷ [])) (change c l ∷ change c r ∷ []) (eval t c.old)
+    (same_in_front (change c l) (change c r ∷ []) left.0 (same_in_front (change c r) [] right.0 refl)) in
+    let free = cost ∙ here.1 in
+    (delta ∙ here.0, sum_of_parts (cost_at c) (inside l) (inside r) t ∙ (λ i. left.1 i + (right.1 i + free i)))
+
 mutual
   -- nothing changed of the names in a tree: then it does not change either, and no node in it costs anything
   pub unchanged_costs_nothing : (t : Tree) (c : Change) → ((x : List ℕ) → Contains (names_in t) x → c.delta x ≡ Same) → (change c t ≡ Same) × (sum_by (cost_at c) (inside t) ≡ 0)
   unchanged_costs_nothing (Const l) c h = (refl, refl)
   unchanged_costs_nothing (Name x) c h = (h x (Contains-push [] x), refl)
-  unchanged_costs_nothing (Monad f r) c h =
-      let right = unchanged_costs_nothing r c h in
-      let here = operation_unchanged (right_rule f) (arguments (eval r c.new ∷ [])) (change c r ∷ []) (eval (Monad f r) c.old) (same_in_front (change c r) [] right.0 refl) in
-      (here.0, sum_by_push (cost_at c) (inside r) (Monad f r) ∙ (λ i. right.1 i + here.1 i))
+  unchanged_costs_nothing (Monad f r) c h = unchanged_before c (function1.Monad f) r (Monad f r) refl refl (unchanged_costs_nothing r c h)
   unchanged_costs_nothing (Dyad f l r) c h =
-      let left = unchanged_costs_nothing l c (in_left _ (names_in l) (names_in r) h) in
-      let right = unchanged_costs_nothing r c (in_right _ (names_in l) (names_in r) h) in
-      let here = operation_unchanged (both_rule f) (arguments (eval l c.new ∷ eval r c.new ∷ [])) (change c l ∷ change c r ∷ []) (eval (Dyad f l r) c.old)
-      (same_in_front (change c l) (change c r ∷ []) left.0 (same_in_front (change c r) [] right.0 refl)) in
-      (here.0, sum_of_parts (cost_at c) (inside l) (inside r) (Dyad f l r) ∙ (λ i. left.1 i + (right.1 i + here.1 i)))
+      unchanged_between c (function2.Dyad f) l r (Dyad f l r) refl refl (unchanged_costs_nothing l c (in_left _ (names_in l) (names_in r) h)) (unchanged_costs_nothing r c (in_right _ (names_in l) (names_in r) h))
   unchanged_costs_nothing (Index l ps) c h =
       let left = unchanged_costs_nothing l c (in_left _ (names_in l) (names_in_positions ps) h) in
       let positions = unchanged_positions_cost_nothing ps c (in_right _ (names_in l) (names_in_positions ps) h) in
       let here = operation_unchanged (index_rule (written ps)) (arguments (eval l c.new ∷ values_of ps c.new)) (change c l ∷ changes c ps) (eval (Index l ps) c.old)
       (same_in_front (change c l) (changes c ps) left.0 positions.0) in
       (here.0, sum_of_parts (cost_at c) (inside l) (inside_positions ps) (Index l ps) ∙ (λ i. left.1 i + (positions.1 i + here.1 i)))
+  unchanged_costs_nothing (Reduce f k r) c h = unchanged_before c (function1.Reduce f k) r (Reduce f k r) refl refl (unchanged_costs_nothing r c h)
+  unchanged_costs_nothing (Scan f k r) c h = unchanged_before c (function1.Scan f k) r (Scan f k r) refl refl (unchanged_costs_nothing r c h)
+  unchanged_costs_nothing (Outer f l r) c h =
+      unchanged_between c (function2.Outer f) l r (Outer f l r) refl refl (unchanged_costs_nothing l c (in_left _ (names_in l) (names_in r) h)) (unchanged_costs_nothing r c (in_right _ (names_in l) (names_in r) h))
+  unchanged_costs_nothing (Inner f g l r) c h =
+      unchanged_between c (function2.Inner f g) l r (Inner f g l r) refl refl (unchanged_costs_nothing l c (in_left _ (names_in l) (names_in r) h)) (unchanged_costs_nothing r c (in_right _ (names_in l) (names_in r) h))
 
   pub unchanged_positions_cost_nothing : (ps : Positions) (c : Change) → ((x : List ℕ) → Contains (names_in_positions ps) x → c.delta x ≡ Same)
       → (list_all is_same (changes c ps) ≡ true) × (sum_by (cost_at c) (inside_positions ps) ≡ 0)
@@ -253,3 +303,7 @@ unchanged_tree_costs_nothing (Const l) c h = refl
 unchanged_tree_costs_nothing (Monad f r) c h = (unchanged_costs_nothing (Monad f r) c h).1
 unchanged_tree_costs_nothing (Dyad f l r) c h = (unchanged_costs_nothing (Dyad f l r) c h).1
 unchanged_tree_costs_nothing (Index l ps) c h = (unchanged_costs_nothing (Index l ps) c h).1
+unchanged_tree_costs_nothing (Reduce f k r) c h = (unchanged_costs_nothing (Reduce f k r) c h).1
+unchanged_tree_costs_nothing (Scan f k r) c h = (unchanged_costs_nothing (Scan f k r) c h).1
+unchanged_tree_costs_nothing (Outer f l r) c h = (unchanged_costs_nothing (Outer f l r) c h).1
+unchanged_tree_costs_nothing (Inner f g l r) c h = (unchanged_costs_nothing (Inner f g l r) c h).1

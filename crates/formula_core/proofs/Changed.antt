@@ -3,11 +3,13 @@ use Rattle.std.proofs.Common.{◌≡◌, ℕ, suc, ◌+◌, ◌<◌, List, [], �
 use Rattle.std.proofs.lemmas.List.{length-append, length-map}
 use Rattle.std.specs.List.{list_all, list_any, range_with_len}
 use Rattle.std.proofs.lemmas.Bool.{false≢true, cases_Bool, cond-true, cond-false}
-use Rattle.apl_expr.specs.Trees.{Tree, Monad, Dyad, Index, Positions, NoPositions, Empty, Filled}
-use Rattle.apl_expr.specs.declared.expr.Monadic.{Monadic}
+use Rattle.apl_expr.specs.Trees.{Tree, Index, before_argument, between_arguments, Positions, NoPositions, Empty, Filled}
+use Rattle.apl_expr.specs.declared.functions.Function1.{Function1}
 use Rattle.apl_expr.specs.declared.expr.Monadic.TheVariants as monadic
-use Rattle.apl_expr.specs.declared.expr.Dyadic.{Dyadic}
+use Rattle.apl_expr.specs.declared.functions.Function1.TheVariants as function1
+use Rattle.apl_expr.specs.declared.functions.Function2.{Function2}
 use Rattle.apl_expr.specs.declared.expr.Dyadic.TheVariants as dyadic
+use Rattle.apl_expr.specs.declared.functions.Function2.TheVariants as function2
 use Rattle.arrays_core.specs.Arrays.{ArrayValue, IsArray, with_items}
 use Rattle.arrays_core.specs.Growth.{grown_by, one_longer}
 use Rattle.arrays_core.specs.Items.{after, all_or_first_error}
@@ -40,6 +42,7 @@ use Rattle.arrays_core.specs.Outcomes.{Outcome, given}
 use Rattle.formula_core.specs.Meaning.{eval, eval_positions, applied1, applied2, in_front, empty_in_front, indexed}
 use Rattle.formula_core.specs.Rules.{right_rule, both_rule}
 use Rattle.formula_core.specs.Changes.{Change, argument_in_front, arguments, result_of, paired, operation_delta, written, values_of, change, changes, FitsIn, FitsNow, IsChanged, IsTreeChanged}
+use Rattle.formula_core.proofs.Applied.{change_before, change_between, eval_before, eval_between}
 use Rattle.formula_core.proofs.Covering.{rules_cover, rules_grow}
 use Rattle.formula_core.proofs.Fitting.{fit_now, axis_lies}
 use Rattle.formula_core.proofs.Meant.{right_meant, both_meant, index_meant}
@@ -225,11 +228,11 @@ module _ (p : RuleModel) (law : ReachCovers p) (growing : IsGrowing p p.grows) (
       fit_of p args old (node_delta p args old) refl sound (node_is_right p args old) (operation_becomes (Ok arrays) is ∙ sym seen)
 
 -- what a function gives by its rule is what its expression means
-pub monad_meant : (f : Monadic) (o : Outcome) → result_of (right_rule f) (arguments (o ∷ [])) ≡ applied1 f o
+pub monad_meant : (f : Function1) (o : Outcome) → result_of (right_rule f) (arguments (o ∷ [])) ≡ applied1 f o
 monad_meant f (Err e) = refl
 monad_meant f (Ok b) = right_meant f b
 
-pub dyad_meant : (f : Dyadic) (a b : Outcome) → result_of (both_rule f) (arguments (a ∷ b ∷ [])) ≡ applied2 f b a
+pub dyad_meant : (f : Function2) (a b : Outcome) → result_of (both_rule f) (arguments (a ∷ b ∷ [])) ≡ applied2 f b a
 dyad_meant f a (Err e) = refl
 dyad_meant f (Err e) (Ok b) = refl
 dyad_meant f (Ok a) (Ok b) = both_meant f a b
@@ -264,31 +267,31 @@ index_by_rule ws (Ok a) (Ok arrays) = index_meant ws a arrays
 pub indexing_meant : (a : Tree) (ps : Positions) (names : List ℕ → Outcome) → result_of (index_rule (written ps)) (arguments (eval a names ∷ values_of ps names)) ≡ eval (Index a ps) names
 indexing_meant a ps names = index_by_rule (written ps) (eval a names) (arguments (values_of ps names)) ∙ ap (λ r. indexed r (eval a names)) (sym (positions_meant ps names))
 
-one_selector : (f : Monadic) → 1 ≡ length (right_rule f).selectors
-one_selector (monadic.Scalar f) = refl
-one_selector monadic.Ravel = refl
-one_selector (monadic.Reverse k) = refl
-one_selector monadic.Transpose = refl
-one_selector monadic.Shape = refl
-one_selector monadic.Iota = refl
-one_selector (monadic.Reduce f k) = refl
-one_selector (monadic.Scan f k) = refl
+one_selector : (f : Function1) → 1 ≡ length (right_rule f).selectors
+one_selector (function1.Monad (monadic.Scalar f)) = refl
+one_selector (function1.Monad monadic.Ravel) = refl
+one_selector (function1.Monad (monadic.Reverse k)) = refl
+one_selector (function1.Monad monadic.Transpose) = refl
+one_selector (function1.Monad monadic.Shape) = refl
+one_selector (function1.Monad monadic.Iota) = refl
+one_selector (function1.Reduce f k) = refl
+one_selector (function1.Scan f k) = refl
 
-two_selectors : (f : Dyadic) → 2 ≡ length (both_rule f).selectors
-two_selectors (dyadic.Scalar f) = refl
-two_selectors dyadic.Reshape = refl
-two_selectors (dyadic.Catenate k) = refl
-two_selectors dyadic.Take = refl
-two_selectors dyadic.Drop = refl
-two_selectors (dyadic.Rotate k) = refl
-two_selectors dyadic.Transpose = refl
-two_selectors (dyadic.Replicate k) = refl
-two_selectors dyadic.IndexOf = refl
-two_selectors dyadic.Member = refl
-two_selectors dyadic.Encode = refl
-two_selectors dyadic.Decode = refl
-two_selectors (dyadic.Outer f) = refl
-two_selectors (dyadic.Inner f g) = refl
+two_selectors : (f : Function2) → 2 ≡ length (both_rule f).selectors
+two_selectors (function2.Dyad (dyadic.Scalar f)) = refl
+two_selectors (function2.Dyad dyadic.Reshape) = refl
+two_selectors (function2.Dyad (dyadic.Catenate k)) = refl
+two_selectors (function2.Dyad dyadic.Take) = refl
+two_selectors (function2.Dyad dyadic.Drop) = refl
+two_selectors (function2.Dyad (dyadic.Rotate k)) = refl
+two_selectors (function2.Dyad dyadic.Transpose) = refl
+two_selectors (function2.Dyad (dyadic.Replicate k)) = refl
+two_selectors (function2.Dyad dyadic.IndexOf) = refl
+two_selectors (function2.Dyad dyadic.Member) = refl
+two_selectors (function2.Dyad dyadic.Encode) = refl
+two_selectors (function2.Dyad dyadic.Decode) = refl
+two_selectors (function2.Outer f) = refl
+two_selectors (function2.Inner f g) = refl
 
 written_many : (c : Change) (ps : Positions) → length (changes c ps) ≡ count_written (written ps)
 written_many c NoPositions = refl
@@ -304,18 +307,23 @@ operation_changed p law growing os ds ns old new sound all count was is =
     subst (λ (o : Outcome). (applied (operation_delta p (arguments ns) ds o) o ≡ new) × FitsIn (operation_delta p (arguments ns) ds o) o) was
     (operation_becomes p law growing os ds ns all count (arguments ns) refl ∙ is, operation_fits p law growing os ds ns all count held (arguments ns) refl)
 
--- the change of an operation makes of what it gave what it gives, where that of each argument does
-pub monad_changed : (c : Change) (f : Monadic) (b : Tree) → IfOk (eval (Monad f b) c.old) IsArray → IsChanged (eval b c.old) (change c b) (eval b c.new) → IsTreeChanged c (Monad f b)
-monad_changed c f b sound right =
-    let h = operation_changed (right_rule f) (rules_cover.of_right f) (rules_grow.of_right f) (eval b c.old ∷ []) (change c b ∷ []) (eval b c.new ∷ []) (eval (Monad f b) c.old) (eval (Monad f b) c.new) sound
-    (right, tt) (one_selector f) (monad_meant f (eval b c.old)) (monad_meant f (eval b c.new)) in
-    record { right = h.0; fit = h.1 }
+changed_so : (c : Change) (t : Tree) (d : Delta) → change c t ≡ d → (applied d (eval t c.old) ≡ eval t c.new) × FitsIn d (eval t c.old) → IsTreeChanged c t
+changed_so c t d is h = record { right = ap (λ x. applied x (eval t c.old)) is ∙ h.0; fit = subst (λ (x : Delta). FitsIn x (eval t c.old)) (sym is) h.1 }
 
-pub dyad_changed : (c : Change) (f : Dyadic) (a b : Tree) → IfOk (eval (Dyad f a b) c.old) IsArray → IsChanged (eval a c.old) (change c a) (eval a c.new) → IsChanged (eval b c.old) (change c b) (eval b c.new) → IsTreeChanged c (Dyad f a b)
+-- the change of an operation makes of what it gave what it gives, where that of each argument does
+pub monad_changed : (c : Change) (f : Function1) (b : Tree) → IfOk (eval (before_argument f b) c.old) IsArray → IsChanged (eval b c.old) (change c b) (eval b c.new) → IsTreeChanged c (before_argument f b)
+monad_changed c f b sound right =
+    let t = before_argument f b in
+    let h = operation_changed (right_rule f) (rules_cover.of_right f) (rules_grow.of_right f) (eval b c.old ∷ []) (change c b ∷ []) (eval b c.new ∷ []) (eval t c.old) (eval t c.new) sound
+    (right, tt) (one_selector f) (monad_meant f (eval b c.old) ∙ sym (eval_before c.old f b)) (monad_meant f (eval b c.new) ∙ sym (eval_before c.new f b)) in
+    changed_so c t _ (change_before c f b) h
+
+pub dyad_changed : (c : Change) (f : Function2) (a b : Tree) → IfOk (eval (between_arguments f a b) c.old) IsArray → IsChanged (eval a c.old) (change c a) (eval a c.new) → IsChanged (eval b c.old) (change c b) (eval b c.new) → IsTreeChanged c (between_arguments f a b)
 dyad_changed c f a b sound left right =
-    let h = operation_changed (both_rule f) (rules_cover.of_both f) (rules_grow.of_both f) (eval a c.old ∷ eval b c.old ∷ []) (change c a ∷ change c b ∷ []) (eval a c.new ∷ eval b c.new ∷ []) (eval (Dyad f a b) c.old) (eval (Dyad f a b) c.new) sound
-    (left, (right, tt)) (two_selectors f) (dyad_meant f (eval a c.old) (eval b c.old)) (dyad_meant f (eval a c.new) (eval b c.new)) in
-    record { right = h.0; fit = h.1 }
+    let t = between_arguments f a b in
+    let h = operation_changed (both_rule f) (rules_cover.of_both f) (rules_grow.of_both f) (eval a c.old ∷ eval b c.old ∷ []) (change c a ∷ change c b ∷ []) (eval a c.new ∷ eval b c.new ∷ []) (eval t c.old) (eval t c.new) sound
+    (left, (right, tt)) (two_selectors f) (dyad_meant f (eval a c.old) (eval b c.old) ∙ sym (eval_between c.old f a b)) (dyad_meant f (eval a c.new) (eval b c.new) ∙ sym (eval_between c.new f a b)) in
+    changed_so c t _ (change_between c f a b) h
 
 pub index_changed : (c : Change) (a : Tree) (ps : Positions) → IfOk (eval (Index a ps) c.old) IsArray → IsChanged (eval a c.old) (change c a) (eval a c.new) → AllChanged (values_of ps c.old) (changes c ps) (values_of ps c.new) → IsTreeChanged c (Index a ps)
 index_changed c a ps sound array positions =

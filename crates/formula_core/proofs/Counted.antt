@@ -5,9 +5,9 @@ use Rattle.std.proofs.lemmas.Bool.{false≢true}
 use Rattle.std.proofs.lemmas.List.{drop_more}
 use Rattle.std.proofs.lemmas.List.Sums.{sum_by-append, sum_by_push}
 use Rattle.apl_expr.specs.declared.expr.Expr.{Expr}
-use Rattle.apl_expr.specs.declared.expr.Monadic.{Monadic}
-use Rattle.apl_expr.specs.declared.expr.Dyadic.{Dyadic}
-use Rattle.apl_expr.specs.Trees.{Tree, Const, Name, Monad, Dyad, Index, Literal, Positions, tree_of, position_of, positions_of}
+use Rattle.apl_expr.specs.declared.functions.Function1.{Function1}
+use Rattle.apl_expr.specs.declared.functions.Function2.{Function2}
+use Rattle.apl_expr.specs.Trees.{Tree, Const, Name, Monad, Dyad, Index, Reduce, Scan, Outer, Inner, before_argument, between_arguments, Literal, Positions, tree_of, position_of, positions_of}
 use Rattle.arrays_core.specs.Arrays.{ArrayValue, with_items}
 use Rattle.arrays_core.specs.Items.{and_then, all_or_first_error}
 use Rattle.arrays_core.specs.Shapes.{size, indices}
@@ -22,11 +22,12 @@ use Rattle.selection_fns.specs.Index.{Position, index_rule}
 use Rattle.formula_core.specs.declared.evaluation.Operand.{Operand}
 use Rattle.formula_core.specs.Changes.{at_rest, arguments, operation_size, result_of, size_at, values_of, written}
 use Rattle.formula_core.specs.Counts.{cost_in, cost_in_positions, AreItemsCounted, ArePositionsCounted, IsCounted, IsTreeCounted}
-use Rattle.formula_core.specs.Meaning.{eval, eval_positions, in_front, of_right, of_both}
+use Rattle.formula_core.specs.Meaning.{applied2, eval, eval_positions, in_front, of_right, of_both}
 use Rattle.formula_core.specs.Operands.{array_in, outcome_of}
 use Rattle.formula_core.specs.Plans.{tree_cost}
 use Rattle.formula_core.specs.Rules.{right_rule, both_rule}
 use Rattle.formula_core.specs.Tables.{inside, inside_positions}
+use Rattle.formula_core.proofs.Applied.{eval_before, eval_between, inside_before, inside_between, size_before, size_between}
 use Rattle.formula_core.proofs.Changed.{monad_meant, dyad_meant, indexing_meant}
 use Rattle.formula_core.proofs.Indexing.{error_stands, value_written}
 
@@ -97,14 +98,14 @@ two_counted o one two own before now then_now after First Second first second gi
 
 module _ (names : List ℕ → Outcome) where
   -- the cost of a tree is that of its arguments and its own
-  pub monad_cost : (f : Monadic) (b : Tree) → cost_in names (Monad f b) ≡ cost_in names b + size_at names (Monad f b)
-  monad_cost f b = sum_by_push (size_at names) (inside b) (Monad f b)
+  pub monad_cost : (f : Function1) (b : Tree) → cost_in names (before_argument f b) ≡ cost_in names b + size_at names (before_argument f b)
+  monad_cost f b = ap (sum_by (size_at names)) (inside_before f b) ∙ sum_by_push (size_at names) (inside b) (before_argument f b)
 
   two_parts : (xs ys : List Tree) (t : Tree) → sum_by (size_at names) (xs ++ (ys ++ t ∷ [])) ≡ (sum_by (size_at names) ys + sum_by (size_at names) xs) + size_at names t
   two_parts xs ys t = omega (arith, sum_by-append (size_at names) xs (ys ++ t ∷ []), sum_by_push (size_at names) ys t)
 
-  pub dyad_cost : (f : Dyadic) (a b : Tree) → cost_in names (Dyad f a b) ≡ (cost_in names b + cost_in names a) + size_at names (Dyad f a b)
-  dyad_cost f a b = two_parts (inside a) (inside b) (Dyad f a b)
+  pub dyad_cost : (f : Function2) (a b : Tree) → cost_in names (between_arguments f a b) ≡ (cost_in names b + cost_in names a) + size_at names (between_arguments f a b)
+  dyad_cost f a b = ap (sum_by (size_at names)) (inside_between f a b) ∙ two_parts (inside a) (inside b) (between_arguments f a b)
 
   pub index_cost : (a : Tree) (ps : Positions) → cost_in names (Index a ps) ≡ (cost_in_positions names ps + cost_in names a) + size_at names (Index a ps)
   index_cost a ps = two_parts (inside a) (inside_positions ps) (Index a ps)
@@ -114,26 +115,29 @@ module _ (names : List ℕ → Outcome) where
   literal_counted l before = record { most = omega arith; least = λ g. omega arith }
 
   -- a function of one argument
-  pub monad_counted : {A B : Type 0} (f : Monadic) (b : Tree) (before now after : ℕ) (right : A) (gives : Result Operand Fault) (told : B) → IsTreeCounted names b before now (Ok right) → outcome_of gives ≡ eval (Monad f b) names
-      → AreItemsCounted gives now after → IsTreeCounted names (Monad f b) before after (Ok told)
+  pub monad_counted : {A B : Type 0} (f : Function1) (b : Tree) (before now after : ℕ) (right : A) (gives : Result Operand Fault) (told : B) → IsTreeCounted names b before now (Ok right) → outcome_of gives ≡ eval (before_argument f b) names
+      → AreItemsCounted gives now after → IsTreeCounted names (before_argument f b) before after (Ok told)
   monad_counted f b before now after right gives told first is items =
-      let t = Monad f b in
-      let sized = meant_items (right_rule f) (arguments (eval b names ∷ [])) (eval t names) (monad_meant f (eval b names)) in
+      let t = before_argument f b in
+      let sized : is_ok (eval t names) ≡ true → items_in (eval t names) ≡ size_at names t =
+      λ g. meant_items (right_rule f) (arguments (eval b names ∷ [])) (eval t names) (monad_meant f (eval b names) ∙ sym (eval_before names f b)) g ∙ sym (size_before names f b) in
       let parts = monad_cost f b in
       record {
         most = omega (arith, first.most, most_items (eval t names) (size_at names t) now after gives is sized items, parts);
         least = λ h. subst (λ n. ticked before n ≤ after) (sym parts)
-            (then before now after (cost_in names b) (size_at names t) (first.least (first_given (eval b names) (λ y. given (of_right f y)) h)) (least_items (eval t names) (size_at names t) now after gives is sized items h));
+            (then before now after (cost_in names b) (size_at names t) (first.least (first_given (eval b names) (λ y. given (of_right f y)) (ap is_ok (sym (eval_before names f b)) ∙ h))) (least_items (eval t names) (size_at names t) now after gives is sized items h));
       }
 
-  pub dyad_counted : {A B D : Type 0} (f : Dyadic) (a b : Tree) (before now then_now after : ℕ) (right : A) (left : B) (gives : Result Operand Fault) (told : D) → IsTreeCounted names b before now (Ok right)
-      → IsTreeCounted names a now then_now (Ok left) → outcome_of gives ≡ eval (Dyad f a b) names → AreItemsCounted gives then_now after
-      → IsTreeCounted names (Dyad f a b) before after (Ok told)
+  pub dyad_counted : {A B D : Type 0} (f : Function2) (a b : Tree) (before now then_now after : ℕ) (right : A) (left : B) (gives : Result Operand Fault) (told : D) → IsTreeCounted names b before now (Ok right)
+      → IsTreeCounted names a now then_now (Ok left) → outcome_of gives ≡ eval (between_arguments f a b) names → AreItemsCounted gives then_now after
+      → IsTreeCounted names (between_arguments f a b) before after (Ok told)
   dyad_counted f a b before now then_now after right left gives told h k is items =
-      let t = Dyad f a b in
-      let sized = meant_items (both_rule f) (arguments (eval a names ∷ eval b names ∷ [])) (eval t names) (dyad_meant f (eval a names) (eval b names)) in
+      let t = between_arguments f a b in
+      let sized : is_ok (eval t names) ≡ true → items_in (eval t names) ≡ size_at names t =
+      λ g. meant_items (both_rule f) (arguments (eval a names ∷ eval b names ∷ [])) (eval t names) (dyad_meant f (eval a names) (eval b names) ∙ sym (eval_between names f a b)) g ∙ sym (size_between names f a b) in
+      let gives_all : is_ok (eval t names) ≡ true → is_ok (applied2 f (eval b names) (eval a names)) ≡ true = λ g. ap is_ok (sym (eval_between names f a b)) ∙ g in
       let all = two_counted (eval t names) (cost_in names b) (cost_in names a) (size_at names t) before now then_now after (IsOk (eval b names)) (IsOk (eval a names)) right left gives h k is sized
-      (λ g. first_given (eval b names) (λ y. and_then (eval a names) (λ x. given (of_both f x y))) g) (λ g. second_given (eval b names) (eval a names) (λ y x. given (of_both f x y)) g) items in
+      (λ g. first_given (eval b names) (λ y. and_then (eval a names) (λ x. given (of_both f x y))) (gives_all g)) (λ g. second_given (eval b names) (eval a names) (λ y x. given (of_both f x y)) (gives_all g)) items in
       record { most = subst (λ n. after ≤ before + n) (sym (dyad_cost f a b)) all.most; least = λ g. subst (λ n. ticked before n ≤ after) (sym (dyad_cost f a b)) (all.least g) }
 
   pub index_counted : {A B D : Type 0} (a : Tree) (ps : Positions) (before now then_now after : ℕ) (positions : A) (operand : B) (gives : Result Operand Fault) (told : D) → ArePositionsCounted names ps before now (Ok positions)
@@ -175,3 +179,7 @@ module _ (names : List ℕ → Outcome) where
   cost_anew (Monad f b) = refl
   cost_anew (Dyad f a b) = refl
   cost_anew (Index a ps) = refl
+  cost_anew (Reduce f k b) = refl
+  cost_anew (Scan f k b) = refl
+  cost_anew (Outer f a b) = refl
+  cost_anew (Inner f g a b) = refl

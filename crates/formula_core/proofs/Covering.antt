@@ -1,8 +1,10 @@
 -- The laws of the rule of each function of an expression.
-use Rattle.apl_expr.specs.declared.expr.Monadic.{Monadic}
+use Rattle.apl_expr.specs.declared.functions.Function1.{Function1}
 use Rattle.apl_expr.specs.declared.expr.Monadic.TheVariants as monadic
-use Rattle.apl_expr.specs.declared.expr.Dyadic.{Dyadic}
+use Rattle.apl_expr.specs.declared.functions.Function1.TheVariants as function1
+use Rattle.apl_expr.specs.declared.functions.Function2.{Function2}
 use Rattle.apl_expr.specs.declared.expr.Dyadic.TheVariants as dyadic
+use Rattle.apl_expr.specs.declared.functions.Function2.TheVariants as function2
 use Rattle.change_core.specs.Growth.{IsGrowing}
 use Rattle.change_core.specs.Laws.{IsTight}
 use Rattle.change_core.proofs.Covers.{covers}
@@ -39,31 +41,31 @@ use Rattle.operator_fns.specs.Laws.InnerProduct.{inner_tight}
 use Rattle.formula_core.specs.Rules.{right_rule, both_rule}
 use Rattle.formula_core.specs.Changes.{RulesCover, RulesGrow}
 
-right_tight : (f : Monadic) → IsTight (right_rule f)
-right_tight (monadic.Scalar f) = each_monadic_tight f
-right_tight monadic.Ravel = ravel_tight
-right_tight (monadic.Reverse k) = reverse_tight k
-right_tight monadic.Transpose = transpose_tight
-right_tight monadic.Shape = shape_tight
-right_tight monadic.Iota = generator_tight
-right_tight (monadic.Reduce f k) = reduce_tight f k
-right_tight (monadic.Scan f k) = scan_tight f k
+right_tight : (f : Function1) → IsTight (right_rule f)
+right_tight (function1.Monad (monadic.Scalar f)) = each_monadic_tight f
+right_tight (function1.Monad monadic.Ravel) = ravel_tight
+right_tight (function1.Monad (monadic.Reverse k)) = reverse_tight k
+right_tight (function1.Monad monadic.Transpose) = transpose_tight
+right_tight (function1.Monad monadic.Shape) = shape_tight
+right_tight (function1.Monad monadic.Iota) = generator_tight
+right_tight (function1.Reduce f k) = reduce_tight f k
+right_tight (function1.Scan f k) = scan_tight f k
 
-both_tight : (f : Dyadic) → IsTight (both_rule f)
-both_tight (dyadic.Scalar f) = each_dyadic_tight f
-both_tight dyadic.Reshape = reshape_tight
-both_tight (dyadic.Catenate k) = catenate_tight k
-both_tight dyadic.Take = take_tight
-both_tight dyadic.Drop = drop_tight
-both_tight (dyadic.Rotate k) = rotate_tight k
-both_tight dyadic.Transpose = transpose_by_tight
-both_tight (dyadic.Replicate k) = replicate_tight k
-both_tight dyadic.IndexOf = index_of_tight
-both_tight dyadic.Member = member_tight
-both_tight dyadic.Encode = encode_tight
-both_tight dyadic.Decode = decode_tight
-both_tight (dyadic.Outer f) = outer_tight f
-both_tight (dyadic.Inner f g) = inner_tight f g
+both_tight : (f : Function2) → IsTight (both_rule f)
+both_tight (function2.Dyad (dyadic.Scalar f)) = each_dyadic_tight f
+both_tight (function2.Dyad dyadic.Reshape) = reshape_tight
+both_tight (function2.Dyad (dyadic.Catenate k)) = catenate_tight k
+both_tight (function2.Dyad dyadic.Take) = take_tight
+both_tight (function2.Dyad dyadic.Drop) = drop_tight
+both_tight (function2.Dyad (dyadic.Rotate k)) = rotate_tight k
+both_tight (function2.Dyad dyadic.Transpose) = transpose_by_tight
+both_tight (function2.Dyad (dyadic.Replicate k)) = replicate_tight k
+both_tight (function2.Dyad dyadic.IndexOf) = index_of_tight
+both_tight (function2.Dyad dyadic.Member) = member_tight
+both_tight (function2.Dyad dyadic.Encode) = encode_tight
+both_tight (function2.Dyad dyadic.Decode) = decode_tight
+both_tight (function2.Outer f) = outer_tight f
+both_tight (function2.Inner f g) = inner_tight f g
 
 -- the law of the rule of each function, and of an index with positions
 pub rules_cover : RulesCover
@@ -73,31 +75,31 @@ rules_cover = record {
   of_positions = λ positions. covers (index_rule positions) (index_tight positions);
 }
 
-right_growing : (f : Monadic) → IsGrowing (right_rule f) (right_rule f).grows
-right_growing (monadic.Scalar f) = each_monadic_growing f
-right_growing monadic.Ravel = never_grows _
-right_growing (monadic.Reverse k) = never_grows _
-right_growing monadic.Transpose = never_grows _
-right_growing monadic.Shape = never_grows _
-right_growing monadic.Iota = never_grows _
-right_growing (monadic.Reduce f k) = reduce_growing f k
-right_growing (monadic.Scan f k) = scan_growing f k
+right_growing : (f : Function1) → IsGrowing (right_rule f) (right_rule f).grows
+right_growing (function1.Monad (monadic.Scalar f)) = each_monadic_growing f
+right_growing (function1.Monad monadic.Ravel) = never_grows _
+right_growing (function1.Monad (monadic.Reverse k)) = never_grows _
+right_growing (function1.Monad monadic.Transpose) = never_grows _
+right_growing (function1.Monad monadic.Shape) = never_grows _
+right_growing (function1.Monad monadic.Iota) = never_grows _
+right_growing (function1.Reduce f k) = reduce_growing f k
+right_growing (function1.Scan f k) = scan_growing f k
 
-both_growing : (f : Dyadic) → IsGrowing (both_rule f) (both_rule f).grows
-both_growing (dyadic.Scalar f) = each_dyadic_growing f
-both_growing dyadic.Reshape = never_grows _
-both_growing (dyadic.Catenate k) = never_grows _
-both_growing dyadic.Take = never_grows _
-both_growing dyadic.Drop = never_grows _
-both_growing (dyadic.Rotate k) = never_grows _
-both_growing dyadic.Transpose = never_grows _
-both_growing (dyadic.Replicate k) = never_grows _
-both_growing dyadic.IndexOf = never_grows _
-both_growing dyadic.Member = never_grows _
-both_growing dyadic.Encode = never_grows _
-both_growing dyadic.Decode = never_grows _
-both_growing (dyadic.Outer f) = outer_growing f
-both_growing (dyadic.Inner f g) = never_grows _
+both_growing : (f : Function2) → IsGrowing (both_rule f) (both_rule f).grows
+both_growing (function2.Dyad (dyadic.Scalar f)) = each_dyadic_growing f
+both_growing (function2.Dyad dyadic.Reshape) = never_grows _
+both_growing (function2.Dyad (dyadic.Catenate k)) = never_grows _
+both_growing (function2.Dyad dyadic.Take) = never_grows _
+both_growing (function2.Dyad dyadic.Drop) = never_grows _
+both_growing (function2.Dyad (dyadic.Rotate k)) = never_grows _
+both_growing (function2.Dyad dyadic.Transpose) = never_grows _
+both_growing (function2.Dyad (dyadic.Replicate k)) = never_grows _
+both_growing (function2.Dyad dyadic.IndexOf) = never_grows _
+both_growing (function2.Dyad dyadic.Member) = never_grows _
+both_growing (function2.Dyad dyadic.Encode) = never_grows _
+both_growing (function2.Dyad dyadic.Decode) = never_grows _
+both_growing (function2.Outer f) = outer_growing f
+both_growing (function2.Inner f g) = never_grows _
 
 -- where the rule of each function says that its node grows, the result does
 pub rules_grow : RulesGrow

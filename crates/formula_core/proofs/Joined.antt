@@ -3,8 +3,8 @@ use Rattle.std.proofs.Common.{◌≡◌, ℕ, ◌+◌, ◌-◌, ◌*◌, ◌≤�
 use Rattle.std.specs.Option.{option_map_or}
 use Rattle.std.specs.declared.alloc.AllocError.{AllocError}
 use Rattle.std.proofs.lemmas.Bool.{cases_Bool, cond-false, cond-true, false≢true}
-use Rattle.apl_expr.specs.Trees.{Tree, Monad}
-use Rattle.apl_expr.specs.declared.expr.Monadic.{Monadic}
+use Rattle.apl_expr.specs.Trees.{Tree, before_argument}
+use Rattle.apl_expr.specs.declared.functions.Function1.{Function1}
 use Rattle.arrays_core.specs.Arrays.{ArrayValue}
 use Rattle.arrays_core.specs.Growth.{grown_by}
 use Rattle.arrays_core.specs.declared.fault.Fault.{Fault}
@@ -35,6 +35,7 @@ use Rattle.formula_core.specs.Rules.{right_rule}
 use Rattle.formula_core.specs.Stages.{AreTotalsJoined, IsJoined, IsKeptBy, IsReady, IsStaged}
 use Rattle.formula_core.specs.Sums.{AreSumsKept, WereSumsKept, summed_in, total_of}
 use Rattle.formula_core.specs.Tables.{IsOperand, tree_of_operand}
+use Rattle.formula_core.proofs.Applied.{cost_before, least_before, most_before, size_before, summed_before}
 use Rattle.formula_core.proofs.Stepping.{array_delta, cost_stepped, whole_all}
 use Rattle.formula_core.proofs.Summed.{at_axis, was_summed}
 use Rattle.formula_core.proofs.Totalled.{total_is}
@@ -56,7 +57,7 @@ grown_beside fold t a kept (Err e) fit is keeps = absurd fit
 grown_beside fold t a kept (Ok b) fit is keeps = let same : grown_by b t.items ≡ a = cc in record { before = b; fit = fit; becomes = sym same; keeps = ap is_some keeps ∙ some_summed fold b }
 
 -- where the argument of a total is patched or grew, the sums of its lines are kept if these are long enough, or were
-pub kept_well : (s : Stage) (f : Monadic) (b : Operand) → IsOperand (length s.inputs.now) (length s.changes.now) b → (kept : Option SummedValue) → IsKeptBy s (node.Monad f b) kept → (i : Input)
+pub kept_well : (s : Stage) (f : Function1) (b : Operand) → IsOperand (length s.inputs.now) (length s.changes.now) b → (kept : Option SummedValue) → IsKeptBy s (node.Monad f b) kept → (i : Input)
     → ((c : Change) → (names : List (List ℕ)) → (trees : List Tree) → IsStaged c names trees s → IsReady s.is_new c (tree_of_operand names trees b) i)
     → (fold : Reduce) → total_of f ≡ Some fold → AreSumsKept fold (shown i) (delta_of i) kept
 kept_well s f b within kept keeps i ready fold total = record {
@@ -84,7 +85,7 @@ kept_well s f b within kept keeps i ready fold total = record {
     old = eval (tree_of_operand names trees b) c.old
 
     held : s.is_new ≡ false → kept ≡ summed_in fold old
-    held was = keeps.1.1.1.1 was ∙ ap (λ (k : Option Reduce). option_map_or (λ x. summed_in x old) k None) total
+    held was = keeps.1.1.1.1 was ∙ summed_before c.old f (tree_of_operand names trees b) ∙ ap (λ (k : Option Reduce). option_map_or (λ x. summed_in x old) k None) total
 
 -- ---- a node that joins none
 
@@ -131,40 +132,40 @@ module _ (fold : Reduce) (count : Outcome → Delta → Outcome → ℕ → ℕ)
   new_same (Err x) d other h k held gave n m e = counts.error x d other held gave n m
 
   -- the count of a total by its argument as it is taken is that of its tree
-  counted_same : (is_new : Bool) (c : Change) (f : Monadic) (b : Tree) (i : Input) (held : Outcome) → IsReady is_new c b i → (is_new ≡ false → held ≡ eval (Monad f b) c.old) → right_rule f ≡ total_rule fold
-      → count (shown i) (delta_of i) held (operation_cost (total_rule fold) (arguments (shown i ∷ [])) (delta_of i ∷ []) held) ≡ count (eval b c.new) (node_change is_new c b) (eval (Monad f b) c.old) (node_cost_at is_new c (Monad f b))
+  counted_same : (is_new : Bool) (c : Change) (f : Function1) (b : Tree) (i : Input) (held : Outcome) → IsReady is_new c b i → (is_new ≡ false → held ≡ eval (before_argument f b) c.old) → right_rule f ≡ total_rule fold
+      → count (shown i) (delta_of i) held (operation_cost (total_rule fold) (arguments (shown i ∷ [])) (delta_of i ∷ []) held) ≡ count (eval b c.new) (node_change is_new c b) (eval (before_argument f b) c.old) (node_cost_at is_new c (before_argument f b))
   counted_same true c f b i held ready holds rule =
       let shows = ready.shows refl in
       let whole = whole_all (right_rule f) (eval b c.new ∷ []) (i ∷ []) held (λ k. shows k ∷ []) (ready.anew refl) in
       let cost : operation_cost (total_rule fold) (arguments (shown i ∷ [])) (delta_of i ∷ []) held ≡ operation_size (right_rule f) (arguments (eval b c.new ∷ [])) =
       ap (λ (p : RuleModel). operation_cost p (arguments (shown i ∷ [])) (delta_of i ∷ []) held) (sym rule) ∙ (whole.cost ∙ ap (λ (o : Outcome). operation_size (right_rule f) (arguments (o ∷ []))) shows) in
       ap (λ (o : Outcome). count o (delta_of i) held (operation_cost (total_rule fold) (arguments (shown i ∷ [])) (delta_of i ∷ []) held)) shows
-      ∙ new_same (eval b c.new) (delta_of i) (Whole (eval b c.new)) (whole_not_narrow (delta_of i) (ready.anew refl)) (λ axis. refl) held (eval (Monad f b) c.old) _ _ cost
+      ∙ new_same (eval b c.new) (delta_of i) (Whole (eval b c.new)) (whole_not_narrow (delta_of i) (ready.anew refl)) (λ axis. refl) held (eval (before_argument f b) c.old) _ _ (cost ∙ sym (size_before c.new f b))
   counted_same false c f b i held ready holds rule =
       let input = ready.is refl in
-      let cost : operation_cost (total_rule fold) (arguments (shown i ∷ [])) (delta_of i ∷ []) held ≡ cost_at c (Monad f b) =
+      let cost : operation_cost (total_rule fold) (arguments (shown i ∷ [])) (delta_of i ∷ []) held ≡ cost_at c (before_argument f b) =
       ap (λ (p : RuleModel). operation_cost p (arguments (shown i ∷ [])) (delta_of i ∷ []) held) (sym rule)
       ∙ (cost_stepped (right_rule f) (eval b c.new ∷ []) (change c b ∷ []) (i ∷ []) (input, tt) held
-      ∙ ap (operation_cost (right_rule f) (arguments (eval b c.new ∷ [])) (change c b ∷ [])) (holds refl)) in
-      held_same (eval b c.new) (change c b) i input held (eval (Monad f b) c.old) (holds refl) _ _ cost
+      ∙ (ap (operation_cost (right_rule f) (arguments (eval b c.new ∷ [])) (change c b ∷ [])) (holds refl) ∙ sym (cost_before c f b))) in
+      held_same (eval b c.new) (change c b) i input held (eval (before_argument f b) c.old) (holds refl) _ _ cost
 
 -- a count of joins for the node of a tree, if it sums up lines along an axis
-abbrev counted_for : (Reduce → Outcome → Delta → Outcome → ℕ → ℕ) → (is_new : Bool) → Change → Monadic → Tree → Option Reduce → ℕ
-counted_for count is_new c f b o = option_map_or (λ fold. count fold (eval b c.new) (node_change is_new c b) (eval (Monad f b) c.old) (node_cost_at is_new c (Monad f b))) o 0
+abbrev counted_for : (Reduce → Outcome → Delta → Outcome → ℕ → ℕ) → (is_new : Bool) → Change → Function1 → Tree → Option Reduce → ℕ
+counted_for count is_new c f b o = option_map_or (λ fold. count fold (eval b c.new) (node_change is_new c b) (eval (before_argument f b) c.old) (node_cost_at is_new c (before_argument f b))) o 0
 
-pub monad_joined : (is_new : Bool) (c : Change) (f : Monadic) (b : Tree) (right : Input) (held : Outcome) (before after : ℕ) (r : Result (Delta × ℕ) AllocError) → IsReady is_new c b right
-    → (is_new ≡ false → held ≡ eval (Monad f b) c.old) → ((fold : Reduce) → total_of f ≡ Some fold → AreTotalsJoined fold right held before after r) → (total_of f ≡ None → after ≡ before)
-    → IsJoined is_new c (Monad f b) before after r
+pub monad_joined : (is_new : Bool) (c : Change) (f : Function1) (b : Tree) (right : Input) (held : Outcome) (before after : ℕ) (r : Result (Delta × ℕ) AllocError) → IsReady is_new c b right
+    → (is_new ≡ false → held ≡ eval (before_argument f b) c.old) → ((fold : Reduce) → total_of f ≡ Some fold → AreTotalsJoined fold right held before after r) → (total_of f ≡ None → after ≡ before)
+    → IsJoined is_new c (before_argument f b) before after r
 monad_joined is_new c f b right held before after r ready holds joined none = by (total_of f) refl
   where
-    by : (o : Option Reduce) → total_of f ≡ o → IsJoined is_new c (Monad f b) before after r
+    by : (o : Option Reduce) → total_of f ≡ o → IsJoined is_new c (before_argument f b) before after r
     by (Some fold) total =
         let j = joined fold total in
         let rule = total_is f fold total in
         record {
-          most = subst (λ k. after ≤ before + k) (counted_same fold (most_joins_of fold) (most_counts fold) is_new c f b right held ready holds rule ∙ sym (ap (counted_for most_joins_of is_new c f b) total)) j.most;
+          most = subst (λ k. after ≤ before + k) (counted_same fold (most_joins_of fold) (most_counts fold) is_new c f b right held ready holds rule ∙ sym (most_before is_new c f b ∙ ap (counted_for most_joins_of is_new c f b) total)) j.most;
           least =
               subst (λ k. IfOk r (λ s. is_error s.0 ≡ false → ticked before k ≤ after))
-              (counted_same fold (least_joins_of fold) (least_counts fold) is_new c f b right held ready holds rule ∙ sym (ap (counted_for least_joins_of is_new c f b) total)) j.least;
+              (counted_same fold (least_joins_of fold) (least_counts fold) is_new c f b right held ready holds rule ∙ sym (least_before is_new c f b ∙ ap (counted_for least_joins_of is_new c f b) total)) j.least;
         }
-    by None other = unjoined is_new c (Monad f b) before after r (none other) (ap (counted_for most_joins_of is_new c f b) other) (ap (counted_for least_joins_of is_new c f b) other)
+    by None other = unjoined is_new c (before_argument f b) before after r (none other) (most_before is_new c f b ∙ ap (counted_for most_joins_of is_new c f b) other) (least_before is_new c f b ∙ ap (counted_for least_joins_of is_new c f b) other)

@@ -1,3 +1,4 @@
+pub mod Applied
 pub mod Indexing
 pub mod Tabled
 pub mod Rooted

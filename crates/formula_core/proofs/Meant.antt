@@ -1,9 +1,11 @@
 -- The whole evaluation of a function's rule is what the function gives.
 use Rattle.std.proofs.Common.{◌≡◌, ℕ, List, [], ◌∷◌, Result, Ok, Err, refl}
-use Rattle.apl_expr.specs.declared.expr.Monadic.{Monadic}
+use Rattle.apl_expr.specs.declared.functions.Function1.{Function1}
 use Rattle.apl_expr.specs.declared.expr.Monadic.TheVariants as monadic
-use Rattle.apl_expr.specs.declared.expr.Dyadic.{Dyadic}
+use Rattle.apl_expr.specs.declared.functions.Function1.TheVariants as function1
+use Rattle.apl_expr.specs.declared.functions.Function2.{Function2}
 use Rattle.apl_expr.specs.declared.expr.Dyadic.TheVariants as dyadic
+use Rattle.apl_expr.specs.declared.functions.Function2.TheVariants as function2
 use Rattle.arrays_core.specs.Arrays.{ArrayValue, collect}
 use Rattle.arrays_core.specs.declared.item.Item.{Item}
 use Rattle.arrays_core.specs.declared.item.ItemType.TheVariants.{Nums}
@@ -16,36 +18,36 @@ use Rattle.arrays_core.specs.Outcomes.{given}
 use Rattle.formula_core.specs.Meaning.{of_right, of_both}
 use Rattle.formula_core.specs.Rules.{right_rule, both_rule}
 
-pub right_meant : (f : Monadic) (b : ArrayValue) → evaluation (right_rule f) (b ∷ []) ≡ given (of_right f b)
-right_meant (monadic.Scalar f) b = refl
-right_meant monadic.Ravel b = refl
-right_meant (monadic.Reverse k) b = refl
-right_meant monadic.Transpose b = refl
-right_meant monadic.Shape b = refl
-right_meant monadic.Iota b = refl
-right_meant (monadic.Reduce f k) b = refl
-right_meant (monadic.Scan f k) b = refl
+pub right_meant : (f : Function1) (b : ArrayValue) → evaluation (right_rule f) (b ∷ []) ≡ given (of_right f b)
+right_meant (function1.Monad (monadic.Scalar f)) b = refl
+right_meant (function1.Monad monadic.Ravel) b = refl
+right_meant (function1.Monad (monadic.Reverse k)) b = refl
+right_meant (function1.Monad monadic.Transpose) b = refl
+right_meant (function1.Monad monadic.Shape) b = refl
+right_meant (function1.Monad monadic.Iota) b = refl
+right_meant (function1.Reduce f k) b = refl
+right_meant (function1.Scan f k) b = refl
 
 -- a shape and then the items, in one step or in two
 in_two_steps : (shape : Result (List ℕ) Kind) (item : List ℕ → Result Item Kind) → given (whole (for_shape shape (λ s. Ok (form_of s Nums))) item) ≡ given (for_shape shape (λ s. collect Nums s item))
 in_two_steps (Ok s) item = refl
 in_two_steps (Err kind) item = refl
 
-pub both_meant : (f : Dyadic) (a b : ArrayValue) → evaluation (both_rule f) (a ∷ b ∷ []) ≡ given (of_both f a b)
-both_meant (dyadic.Scalar f) a b = in_two_steps (common a.shape b.shape) _
-both_meant dyadic.Reshape a b = refl
-both_meant (dyadic.Catenate k) a b = refl
-both_meant dyadic.Take a b = refl
-both_meant dyadic.Drop a b = refl
-both_meant (dyadic.Rotate k) a b = refl
-both_meant dyadic.Transpose a b = refl
-both_meant (dyadic.Replicate k) a b = refl
-both_meant dyadic.IndexOf a b = refl
-both_meant dyadic.Member a b = refl
-both_meant dyadic.Encode a b = refl
-both_meant dyadic.Decode a b = refl
-both_meant (dyadic.Outer f) a b = refl
-both_meant (dyadic.Inner f g) a b = refl
+pub both_meant : (f : Function2) (a b : ArrayValue) → evaluation (both_rule f) (a ∷ b ∷ []) ≡ given (of_both f a b)
+both_meant (function2.Dyad (dyadic.Scalar f)) a b = in_two_steps (common a.shape b.shape) _
+both_meant (function2.Dyad dyadic.Reshape) a b = refl
+both_meant (function2.Dyad (dyadic.Catenate k)) a b = refl
+both_meant (function2.Dyad dyadic.Take) a b = refl
+both_meant (function2.Dyad dyadic.Drop) a b = refl
+both_meant (function2.Dyad (dyadic.Rotate k)) a b = refl
+both_meant (function2.Dyad dyadic.Transpose) a b = refl
+both_meant (function2.Dyad (dyadic.Replicate k)) a b = refl
+both_meant (function2.Dyad dyadic.IndexOf) a b = refl
+both_meant (function2.Dyad dyadic.Member) a b = refl
+both_meant (function2.Dyad dyadic.Encode) a b = refl
+both_meant (function2.Dyad dyadic.Decode) a b = refl
+both_meant (function2.Outer f) a b = refl
+both_meant (function2.Inner f g) a b = refl
 
 pub index_meant : (written : _) (a : ArrayValue) (args : List ArrayValue) → evaluation (index_rule written) (a ∷ args) ≡ given (index_whole a (written_positions written args))
 index_meant written a args = refl

@@ -2,7 +2,7 @@
 use Rattle.std.proofs.Common.{◌≡◌, ℕ, zero, suc, ◌+◌, ◌<◌, ◌≤◌, Option, Some, None, List, [], ◌∷◌, ◌++◌, length, map, get_or, refl, sym, ap, ◌∙◌, subst, arith, append_assoc}
 use Rattle.std.specs.Option.{option_map}
 use Rattle.std.proofs.lemmas.List.{length-append, append-nil}
-use Rattle.apl_expr.specs.Trees.{Tree, Monad, Dyad, Index, positions_of}
+use Rattle.apl_expr.specs.Trees.{Tree, Index, before_argument, between_arguments, positions_of}
 use Rattle.formula_core.specs.declared.table.Operand.{Operand}
 use Rattle.formula_core.specs.declared.table.Operand.TheVariants as operand
 use Rattle.formula_core.specs.declared.table.Node.{Node}
@@ -14,9 +14,9 @@ use Rattle.formula_core.proofs.Tabled.{at_last, operand_front, operands_front}
 node_front : (names : List (List ℕ)) (count : ℕ) (ts us : List Tree) (n : Node) → IsNode count (length ts) n → tree_of_node names (ts ++ us) n ≡ tree_of_node names ts n
 node_front names count ts us (node.Constant l) h = refl
 node_front names count ts us (node.Name k) h = refl
-node_front names count ts us (node.Monad f b) h = ap (λ t. Monad f t) (operand_front names count ts us b h)
+node_front names count ts us (node.Monad f b) h = ap (λ t. before_argument f t) (operand_front names count ts us b h)
 node_front names count ts us (node.Dyad f a b) h =
-    ap (λ t. Dyad f t (tree_of_operand names (ts ++ us) b)) (operand_front names count ts us a h.0) ∙ ap (λ t. Dyad f (tree_of_operand names ts a) t) (operand_front names count ts us b h.1)
+    ap (λ t. between_arguments f t (tree_of_operand names (ts ++ us) b)) (operand_front names count ts us a h.0) ∙ ap (λ t. between_arguments f (tree_of_operand names ts a) t) (operand_front names count ts us b h.1)
 node_front names count ts us (node.Index a os) h =
     ap (λ t. Index t (positions_of (map (option_map (tree_of_operand names (ts ++ us))) os.items))) (operand_front names count ts us a h.0)
     ∙ ap (λ xs. Index (tree_of_operand names ts a) (positions_of xs)) (operands_front names count ts us os.items h.1)

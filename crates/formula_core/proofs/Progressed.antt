@@ -4,7 +4,7 @@ use Rattle.std.specs.List.{count_by, sum_by}
 use Rattle.std.proofs.lemmas.Bool.{false≢true, cases_lt}
 use Rattle.std.proofs.lemmas.List.{length-append, take_all, take-take}
 use Rattle.std.proofs.lemmas.List.Sums.{sum_by_more, sum_by_more_le, sum_by-take-le, count_by_more_yes, count_by_more_no}
-use Rattle.apl_expr.specs.Trees.{Tree, Const, Name, Monad, Dyad, Index, Numbers}
+use Rattle.apl_expr.specs.Trees.{Tree, Const, Name, Monad, Dyad, Index, Reduce, Scan, Outer, Inner, Numbers}
 use Rattle.change_core.specs.Meters.{ticked}
 use Rattle.change_rules.specs.Nodes.{is_error}
 use Rattle.index_region.specs.declared.delta.Delta.{Delta}
@@ -17,15 +17,16 @@ use Rattle.formula_core.specs.Holdings.{not_worked_out}
 use Rattle.formula_core.specs.Plans.{node_change, node_cost_at, tree_cost, IsComputed}
 use Rattle.formula_core.specs.Progress.{operations_among, IsAtOperation}
 use Rattle.formula_core.specs.Stages.{IsBegun, IsDone}
-use Rattle.formula_core.specs.Tables.{applies, subtrees, tree_at, tree_of_node}
+use Rattle.formula_core.specs.Tables.{applies, subtrees, tree_at, tree_of_node, tree_of_operand}
+use Rattle.formula_core.proofs.Applied.{operation_before, operation_between}
 use Rattle.formula_core.proofs.Planned.{begun_more}
 
 -- a node applies a function where its tree does
 pub applied_there : (names : List (List ℕ)) (trees : List Tree) (n : Node) → is_operation (tree_of_node names trees n) ≡ applies n
 applied_there names trees (node.Constant literal) = refl
 applied_there names trees (node.Name place) = refl
-applied_there names trees (node.Monad f right) = refl
-applied_there names trees (node.Dyad f left right) = refl
+applied_there names trees (node.Monad f right) = operation_before f (tree_of_operand names trees right)
+applied_there names trees (node.Dyad f left right) = operation_between f (tree_of_operand names trees left) (tree_of_operand names trees right)
 applied_there names trees (node.Index array positions) = refl
 
 -- a literal and a name cost nothing
@@ -37,6 +38,10 @@ free false c (Name x) plain = refl
 free is_new c (Monad f b) plain = absurd (false≢true (sym plain))
 free is_new c (Dyad f a b) plain = absurd (false≢true (sym plain))
 free is_new c (Index a ps) plain = absurd (false≢true (sym plain))
+free is_new c (Reduce f k b) plain = absurd (false≢true (sym plain))
+free is_new c (Scan f k b) plain = absurd (false≢true (sym plain))
+free is_new c (Outer f a b) plain = absurd (false≢true (sym plain))
+free is_new c (Inner f g a b) plain = absurd (false≢true (sym plain))
 
 -- nothing more is spent
 pub spent_none : (cost sum : ℕ) → cost ≡ ticked 0 sum → cost ≡ ticked cost 0

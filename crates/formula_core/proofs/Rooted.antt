@@ -3,15 +3,16 @@ use Rattle.std.proofs.Common.{◌≡◌, ℕ, ◌+◌, ◌-◌, ◌<◌, true, f
 use Rattle.std.specs.List.{count_by}
 use Rattle.std.proofs.lemmas.List.{length-append}
 use Rattle.std.proofs.lemmas.List.Sums.{sum_by-append, count_by_more_yes, count_by_more_no}
-use Rattle.apl_expr.specs.Trees.{Tree, Const, Name, Monad, Dyad, Index, Numbers}
+use Rattle.apl_expr.specs.Trees.{Tree, Const, Name, Monad, Dyad, Index, Reduce, Scan, Outer, Inner, Numbers}
 use Rattle.formula_core.specs.declared.table.Operand.TheVariants as operand
 use Rattle.formula_core.specs.declared.table.Node.{Node}
 use Rattle.formula_core.specs.declared.table.Node.TheVariants as node
 use Rattle.formula_core.specs.Meaning.{names_in}
-use Rattle.formula_core.specs.Tables.{inside, inside_positions, subtrees, tree_at, tree_of_node, trees_after, applies, IsTable, IsLowered}
+use Rattle.formula_core.specs.Tables.{inside, inside_positions, subtrees, tree_at, tree_of_node, tree_of_operand, trees_after, applies, IsTable, IsLowered}
 use Rattle.formula_core.specs.declared.kept.Kept.{Kept}
 use Rattle.formula_core.specs.Holdings.{nodes_of}
 use Rattle.formula_core.specs.Formulas.{root_of, IsTableOf, is_operation, operations}
+use Rattle.formula_core.proofs.Applied.{operation_before, operation_between}
 use Rattle.formula_core.proofs.Tabled.{trees_long, trees_more, table_more, at_last}
 
 -- a tree stands last among its subtrees
@@ -21,6 +22,10 @@ before_root (Name x) = []
 before_root (Monad f b) = inside b
 before_root (Dyad f a b) = inside a ++ inside b
 before_root (Index a ps) = inside a ++ inside_positions ps
+before_root (Reduce f k b) = inside b
+before_root (Scan f k b) = inside b
+before_root (Outer f a b) = inside a ++ inside b
+before_root (Inner f g a b) = inside a ++ inside b
 
 pub root_last : (t : Tree) → subtrees t ≡ before_root t ++ t ∷ []
 root_last (Const c) = refl
@@ -28,6 +33,10 @@ root_last (Name x) = refl
 root_last (Monad f b) = refl
 root_last (Dyad f a b) = sym (append_assoc (inside a) (inside b) (Dyad f a b ∷ []))
 root_last (Index a ps) = sym (append_assoc (inside a) (inside_positions ps) (Index a ps ∷ []))
+root_last (Reduce f k b) = refl
+root_last (Scan f k b) = refl
+root_last (Outer f a b) = sym (append_assoc (inside a) (inside b) (Outer f a b ∷ []))
+root_last (Inner f g a b) = sym (append_assoc (inside a) (inside b) (Inner f g a b ∷ []))
 
 pub root_found : (names : List (List ℕ)) (nodes : List Node) (t : Tree) → trees_after names [] nodes ≡ subtrees t → root_of names nodes ≡ t
 root_found names nodes t is =
@@ -58,6 +67,10 @@ rooted_node names nodes (Const c) k l = table_made names nodes (Const c) l.named
 rooted_node names nodes (Monad f b) k l = table_made names nodes (Monad f b) l.named (plain names nodes (inside (Monad f b)) (l.trees [])) (l.table (length names) (omega arith) tt)
 rooted_node names nodes (Dyad f a b) k l = table_made names nodes (Dyad f a b) l.named (plain names nodes (inside (Dyad f a b)) (l.trees [])) (l.table (length names) (omega arith) tt)
 rooted_node names nodes (Index a ps) k l = table_made names nodes (Index a ps) l.named (plain names nodes (inside (Index a ps)) (l.trees [])) (l.table (length names) (omega arith) tt)
+rooted_node names nodes (Reduce f i b) k l = table_made names nodes (Reduce f i b) l.named (plain names nodes (inside (Reduce f i b)) (l.trees [])) (l.table (length names) (omega arith) tt)
+rooted_node names nodes (Scan f i b) k l = table_made names nodes (Scan f i b) l.named (plain names nodes (inside (Scan f i b)) (l.trees [])) (l.table (length names) (omega arith) tt)
+rooted_node names nodes (Outer f a b) k l = table_made names nodes (Outer f a b) l.named (plain names nodes (inside (Outer f a b)) (l.trees [])) (l.table (length names) (omega arith) tt)
+rooted_node names nodes (Inner f g a b) k l = table_made names nodes (Inner f g a b) l.named (plain names nodes (inside (Inner f g a b)) (l.trees [])) (l.table (length names) (omega arith) tt)
 
 pub rooted_name : (names : List (List ℕ)) (nodes new : List Node) (t : Tree) (k : ℕ) → IsLowered [] names [] nodes t (operand.Name k) → new ≡ nodes ++ node.Name k ∷ [] → IsTableOf names new t
 rooted_name names nodes new t k l is =
@@ -73,8 +86,8 @@ rooted_name names nodes new t k l is =
 node_applies : (names : List (List ℕ)) (trees : List Tree) (n : Node) → is_operation (tree_of_node names trees n) ≡ applies n
 node_applies names trees (node.Constant l) = refl
 node_applies names trees (node.Name k) = refl
-node_applies names trees (node.Monad f b) = refl
-node_applies names trees (node.Dyad f a b) = refl
+node_applies names trees (node.Monad f b) = operation_before f (tree_of_operand names trees b)
+node_applies names trees (node.Dyad f a b) = operation_between f (tree_of_operand names trees a) (tree_of_operand names trees b)
 node_applies names trees (node.Index a ps) = refl
 
 applying : (names : List (List ℕ)) (trees : List Tree) (nodes : List Node) → count_by is_operation (trees_after names trees nodes) ≡ count_by is_operation trees + count_by applies nodes

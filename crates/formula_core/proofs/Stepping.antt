@@ -4,9 +4,9 @@ use Rattle.std.specs.List.{list_all}
 use Rattle.std.specs.declared.alloc.AllocError.{AllocError}
 use Rattle.std.proofs.lemmas.Bool.{false≢true}
 use Rattle.std.proofs.lemmas.List.{length-map}
-use Rattle.apl_expr.specs.Trees.{Tree, Monad, Dyad, Index, positions_of}
-use Rattle.apl_expr.specs.declared.expr.Monadic.{Monadic}
-use Rattle.apl_expr.specs.declared.expr.Dyadic.{Dyadic}
+use Rattle.apl_expr.specs.Trees.{Tree, Index, before_argument, between_arguments, positions_of}
+use Rattle.apl_expr.specs.declared.functions.Function1.{Function1}
+use Rattle.apl_expr.specs.declared.functions.Function2.{Function2}
 use Rattle.arrays_core.specs.Arrays.{ArrayValue}
 use Rattle.arrays_core.specs.declared.fault.Fault.{Fault}
 use Rattle.index_region.specs.declared.delta.Delta.{Delta}
@@ -23,6 +23,7 @@ use Rattle.formula_core.specs.Rules.{right_rule, both_rule}
 use Rattle.formula_core.specs.Changes.{Change, arguments, result_of, paired, operation_delta, operation_cost, operation_size, written, values_of, change, changes, cost_at, size_at}
 use Rattle.formula_core.specs.Inputs.{shown, stays, delta_of, written_inputs, AllHaveFit, IsInput, IsOperationChange}
 use Rattle.formula_core.specs.Stages.{IsReady, AreReady, IsStep}
+use Rattle.formula_core.proofs.Applied.{change_before, change_between, cost_before, cost_between, eval_before, eval_between, size_before, size_between}
 use Rattle.formula_core.proofs.Changed.{all_arrays, monad_meant, dyad_meant, indexing_meant}
 
 -- each operand gives what it should
@@ -141,25 +142,26 @@ new_step p c t os is held before after r shows new meant sized made =
       rises = made.rises;
     }
 
-pub monad_step : (is_new : Bool) (c : Change) (f : Monadic) (b : Tree) (right : Input) (held : Outcome) (before after : ℕ) (r : Result (Delta × ℕ) AllocError) → IsReady is_new c b right → (is_new ≡ false → held ≡ eval (Monad f b) c.old)
-    → IsOperationChange (right_rule f) (right ∷ []) held before after r → IsStep is_new c (Monad f b) before after r
+pub monad_step : (is_new : Bool) (c : Change) (f : Function1) (b : Tree) (right : Input) (held : Outcome) (before after : ℕ) (r : Result (Delta × ℕ) AllocError) → IsReady is_new c b right → (is_new ≡ false → held ≡ eval (before_argument f b) c.old)
+    → IsOperationChange (right_rule f) (right ∷ []) held before after r → IsStep is_new c (before_argument f b) before after r
 monad_step true c f b right held before after r ready holds made =
     let shows = ready.shows refl in
-    new_step (right_rule f) c (Monad f b) (eval b c.new ∷ []) (right ∷ []) held before after r (λ i. shows i ∷ []) (ready.anew refl) (monad_meant f (eval b c.new)) refl made
+    new_step (right_rule f) c (before_argument f b) (eval b c.new ∷ []) (right ∷ []) held before after r (λ i. shows i ∷ []) (ready.anew refl) (monad_meant f (eval b c.new) ∙ sym (eval_before c.new f b)) (size_before c.new f b) made
 monad_step false c f b right held before after r ready holds made =
-    held_step (right_rule f) c (Monad f b) (eval b c.new ∷ []) (change c b ∷ []) (right ∷ []) held before after r (ready.is refl, tt)
-    (ap (operation_delta (right_rule f) (arguments (eval b c.new ∷ [])) (change c b ∷ [])) (sym (holds refl))) (ap (operation_cost (right_rule f) (arguments (eval b c.new ∷ [])) (change c b ∷ [])) (sym (holds refl))) made
+    held_step (right_rule f) c (before_argument f b) (eval b c.new ∷ []) (change c b ∷ []) (right ∷ []) held before after r (ready.is refl, tt)
+    (change_before c f b ∙ ap (operation_delta (right_rule f) (arguments (eval b c.new ∷ [])) (change c b ∷ [])) (sym (holds refl)))
+    (cost_before c f b ∙ ap (operation_cost (right_rule f) (arguments (eval b c.new ∷ [])) (change c b ∷ [])) (sym (holds refl))) made
 
-pub dyad_step : (is_new : Bool) (c : Change) (f : Dyadic) (a b : Tree) (left right : Input) (held : Outcome) (before after : ℕ) (r : Result (Delta × ℕ) AllocError) → IsReady is_new c a left → IsReady is_new c b right
-    → (is_new ≡ false → held ≡ eval (Dyad f a b) c.old) → IsOperationChange (both_rule f) (left ∷ right ∷ []) held before after r → IsStep is_new c (Dyad f a b) before after r
+pub dyad_step : (is_new : Bool) (c : Change) (f : Function2) (a b : Tree) (left right : Input) (held : Outcome) (before after : ℕ) (r : Result (Delta × ℕ) AllocError) → IsReady is_new c a left → IsReady is_new c b right
+    → (is_new ≡ false → held ≡ eval (between_arguments f a b) c.old) → IsOperationChange (both_rule f) (left ∷ right ∷ []) held before after r → IsStep is_new c (between_arguments f a b) before after r
 dyad_step true c f a b left right held before after r l k holds made =
     let shows = l.shows refl in
     let show = k.shows refl in
-    new_step (both_rule f) c (Dyad f a b) (eval a c.new ∷ eval b c.new ∷ []) (left ∷ right ∷ []) held before after r (λ i. shows i ∷ show i ∷ []) (l.anew refl) (dyad_meant f (eval a c.new) (eval b c.new)) refl made
+    new_step (both_rule f) c (between_arguments f a b) (eval a c.new ∷ eval b c.new ∷ []) (left ∷ right ∷ []) held before after r (λ i. shows i ∷ show i ∷ []) (l.anew refl) (dyad_meant f (eval a c.new) (eval b c.new) ∙ sym (eval_between c.new f a b)) (size_between c.new f a b) made
 dyad_step false c f a b left right held before after r l k holds made =
-    held_step (both_rule f) c (Dyad f a b) (eval a c.new ∷ eval b c.new ∷ []) (change c a ∷ change c b ∷ []) (left ∷ right ∷ []) held before after r (l.is refl, (k.is refl, tt))
-    (ap (operation_delta (both_rule f) (arguments (eval a c.new ∷ eval b c.new ∷ [])) (change c a ∷ change c b ∷ [])) (sym (holds refl)))
-    (ap (operation_cost (both_rule f) (arguments (eval a c.new ∷ eval b c.new ∷ [])) (change c a ∷ change c b ∷ [])) (sym (holds refl))) made
+    held_step (both_rule f) c (between_arguments f a b) (eval a c.new ∷ eval b c.new ∷ []) (change c a ∷ change c b ∷ []) (left ∷ right ∷ []) held before after r (l.is refl, (k.is refl, tt))
+    (change_between c f a b ∙ ap (operation_delta (both_rule f) (arguments (eval a c.new ∷ eval b c.new ∷ [])) (change c a ∷ change c b ∷ [])) (sym (holds refl)))
+    (cost_between c f a b ∙ ap (operation_cost (both_rule f) (arguments (eval a c.new ∷ eval b c.new ∷ [])) (change c a ∷ change c b ∷ [])) (sym (holds refl))) made
 
 -- the positions of an index
 ready_inputs : (c : Change) (ts : List (Option Tree)) (is : List (Option Input)) → AreReady false c ts is → AllInputs (values_of (positions_of ts) c.new) (changes c (positions_of ts)) (written_inputs is)

@@ -4,7 +4,7 @@ use Rattle.std.specs.List.{Contains}
 use Rattle.std.specs.Option.{option_map}
 use Rattle.std.proofs.lemmas.Bool.{false≢true}
 use Rattle.std.proofs.lemmas.List.{get_or-map, get_or_default, map_more}
-use Rattle.apl_expr.specs.Trees.{Tree, Const, Name, Monad, Dyad, Index, Numbers, positions_of}
+use Rattle.apl_expr.specs.Trees.{Tree, Const, Name, Monad, Dyad, Index, Reduce, Scan, Outer, Inner, Numbers, positions_of}
 use Rattle.arrays_core.specs.Arrays.{IsArray}
 use Rattle.arrays_core.specs.declared.item.Kind.TheVariants.{Value}
 use Rattle.index_region.specs.declared.delta.Delta.{Delta}
@@ -168,3 +168,7 @@ free_step false c (Name x) meter d is none = record { delta = is; cost = refl; t
 free_step is_new c (Monad f b) meter d is none = absurd (false≢true (sym none))
 free_step is_new c (Dyad f a b) meter d is none = absurd (false≢true (sym none))
 free_step is_new c (Index a ps) meter d is none = absurd (false≢true (sym none))
+free_step is_new c (Reduce f k b) meter d is none = absurd (false≢true (sym none))
+free_step is_new c (Scan f k b) meter d is none = absurd (false≢true (sym none))
+free_step is_new c (Outer f a b) meter d is none = absurd (false≢true (sym none))
+free_step is_new c (Inner f g a b) meter d is none = absurd (false≢true (sym none))

@@ -36,6 +36,7 @@ use Rattle.formula_core.specs.Changes.{Change, change, FitsIn}
 use Rattle.formula_core.specs.Inputs.{shown, delta_of, IsInput}
 use Rattle.formula_core.specs.Stages.{IsStaged, IsReady, IsKeptBy, IsMadeBy, IsSumsStep}
 use Rattle.formula_core.specs.Sums.{summed_in, summed_at, total_of, totalled, WasGrown, WasPatched, WasSummed, AreNewSums, IsSumsDelta, IsSummedFor}
+use Rattle.formula_core.proofs.Applied.{summed_before, summed_between}
 use Rattle.formula_core.proofs.Steps.{operand_changed}
 
 -- an array whose lines along an axis are folded by a function
@@ -197,8 +198,8 @@ total_summed names trees b shows (Some fold) = refl
 pub totalled_summed : (names : List (List ℕ)) (trees : List Tree) (n : Node) (shows : List ℕ → Outcome) → summed_at shows (tree_of_node names trees n) ≡ summed_by shows names trees (totalled n)
 totalled_summed names trees (node.Constant l) shows = refl
 totalled_summed names trees (node.Name k) shows = refl
-totalled_summed names trees (node.Monad f b) shows = total_summed names trees b shows (total_of f)
-totalled_summed names trees (node.Dyad f a b) shows = refl
+totalled_summed names trees (node.Monad f b) shows = summed_before shows f (tree_of_operand names trees b) ∙ total_summed names trees b shows (total_of f)
+totalled_summed names trees (node.Dyad f a b) shows = summed_between shows f (tree_of_operand names trees a) (tree_of_operand names trees b)
 totalled_summed names trees (node.Index a ps) shows = refl
 
 operand_of_total : (b : Operand) (k : Option Reduce) (fold : Reduce) (o : Operand) → option_map (beside b) k ≡ Some (fold, o) → b ≡ o
@@ -266,7 +267,7 @@ kept_for s f b within kept keeps i ready fold total = record {
     old = eval (tree_of_operand names trees b) c.old
 
     held : s.is_new ≡ false → kept ≡ summed_in fold old
-    held was = keeps.1.1.1.1 was ∙ ap (λ (k : Option Reduce). option_map_or (λ x. summed_in x old) k None) total
+    held was = keeps.1.1.1.1 was ∙ summed_before c.old f (tree_of_operand names trees b) ∙ ap (λ (k : Option Reduce). option_map_or (λ x. summed_in x old) k None) total
 
 -- an operand shows what its tree gives
 shows_tree : (is_new : Bool) (c : Change) (t : Tree) (i : Input) → IsReady is_new c t i → shown i ≡ eval t c.new
@@ -282,7 +283,7 @@ made_for s f b made by i ready fold total = λ sums is.
     let names = by.1.0 in
     let trees = by.1.1.0 in
     let t = tree_of_operand names trees b in
-    by.1.1.1.1 sums is
+    by.1.1.1.1 sums is ∙ summed_before c.new f t
     ∙ (ap (λ (k : Option Reduce). option_map_or (λ x. summed_in x (eval t c.new)) k None) total
     ∙ ap (summed_in fold) (sym (shows_tree s.is_new c t i (ready c names trees by.1.1.1.0))))
 

@@ -5,10 +5,10 @@ use Rattle.std.specs.Option.{option_map}
 use Rattle.std.proofs.lemmas.List.{length-append, map-append, get_or_append_left}
 use Rattle.std.proofs.Math.Seq.{take-suc}
 use Rattle.apl_expr.specs.declared.expr.Expr.{Expr}
-use Rattle.apl_expr.specs.Trees.{Tree, Const, Name, Monad, Dyad, Index, Numbers, literal_of, position_of, positions_of}
+use Rattle.apl_expr.specs.Trees.{Tree, Const, Name, Index, before_argument, between_arguments, Numbers, literal_of, position_of, positions_of}
 use Rattle.apl_expr.specs.declared.expr.Literal.{Literal}
-use Rattle.apl_expr.specs.declared.expr.Monadic.{Monadic}
-use Rattle.apl_expr.specs.declared.expr.Dyadic.{Dyadic}
+use Rattle.apl_expr.specs.declared.functions.Function1.{Function1}
+use Rattle.apl_expr.specs.declared.functions.Function2.{Function2}
 use Rattle.std.specs.Global.{Vec}
 use Rattle.formula_core.specs.declared.table.Operand.{Operand}
 use Rattle.formula_core.specs.declared.table.Operand.TheVariants as operand
@@ -16,6 +16,7 @@ use Rattle.formula_core.specs.declared.table.Node.{Node}
 use Rattle.formula_core.specs.declared.table.Node.TheVariants as node
 use Rattle.formula_core.specs.Meaning.{names_in, names_in_positions}
 use Rattle.formula_core.specs.Tables.{inside, inside_positions, tree_at, tree_of_operand, tree_of_node, trees_after, IsOperand, AreOperands, IsNode, IsTable, IsLowered, ArePositionsLowered}
+use Rattle.formula_core.proofs.Applied.{inside_before, inside_between, names_before, names_between}
 
 pub trees_more : (names : List (List ℕ)) (trees : List Tree) (xs ys : List Node) → trees_after names trees (xs ++ ys) ≡ trees_after names (trees_after names trees xs) ys
 trees_more names trees [] ys = refl
@@ -120,10 +121,10 @@ lowered_name names names' old x is = record {
   below = λ count h. omega (arith, h, ap (λ ns. length ns) is, length-append names (x ∷ []));
 }
 
-pub lowered_monad : (names names' : List (List ℕ)) (old mid new : List Node) (f : Monadic) (b : Tree) (right : Operand) → IsLowered names names' old mid b right → new ≡ mid ++ node.Monad f right ∷ []
-    → IsLowered names names' old new (Monad f b) (operand.Node (length mid))
+pub lowered_monad : (names names' : List (List ℕ)) (old mid new : List Node) (f : Function1) (b : Tree) (right : Operand) → IsLowered names names' old mid b right → new ≡ mid ++ node.Monad f right ∷ []
+    → IsLowered names names' old new (before_argument f b) (operand.Node (length mid))
 lowered_monad names names' old mid new f b right r is =
-    lowered_push names names' old mid new (node.Monad f right) (Monad f b) (inside b) r.named refl is r.trees (λ later. ap (λ t. Monad f t) (r.stands later)) r.table r.below
+    lowered_push names names' old mid new (node.Monad f right) (before_argument f b) (inside b) (r.named ∙ ap (λ ns. names ++ ns) (sym (names_before f b))) (sym (inside_before f b)) is r.trees (λ later. ap (λ t. before_argument f t) (r.stands later)) r.table r.below
 
 -- what was lowered stays so where more follows
 module _ (names names' names'' : List (List ℕ)) (old mid new : List Node) (more : List (List ℕ)) (us : List Tree)
@@ -160,15 +161,15 @@ module _ (names names' names'' : List (List ℕ)) (old mid new : List Node) (mor
   kept_all_below : (os : List (Option Operand)) → ((count : ℕ) → length names' ≤ count → AreOperands count (length mid) os) → (count : ℕ) → length names'' ≤ count → AreOperands count (length new) os
   kept_all_below os below count h = operands_wider count (length mid) (length new) os (grown (names'' ++ []) mid new us (then [])) (below count (longer count h))
 
-pub lowered_dyad : (names names' names'' : List (List ℕ)) (old mid last new : List Node) (f : Dyadic) (a b : Tree) (left right : Operand) → IsLowered names names' old mid a left → IsLowered names' names'' mid last b right
-    → new ≡ last ++ node.Dyad f left right ∷ [] → IsLowered names names'' old new (Dyad f a b) (operand.Node (length last))
+pub lowered_dyad : (names names' names'' : List (List ℕ)) (old mid last new : List Node) (f : Function2) (a b : Tree) (left right : Operand) → IsLowered names names' old mid a left → IsLowered names' names'' mid last b right
+    → new ≡ last ++ node.Dyad f left right ∷ [] → IsLowered names names'' old new (between_arguments f a b) (operand.Node (length last))
 lowered_dyad names names' names'' old mid last new f a b left right l r is =
     let trees = kept_trees names names' names'' old mid last (names_in b) (inside b) r.named r.trees (inside a) l.trees in
     let stands = kept_stands names names' names'' old mid last (names_in b) (inside b) r.named r.trees a left l.stands (l.below (length names') (omega arith)) in
-    lowered_push names names'' old last new (node.Dyad f left right) (Dyad f a b) (inside a ++ inside b)
-    (r.named ∙ (ap (λ ns. ns ++ names_in b) l.named ∙ append_assoc names (names_in a) (names_in b)))
-    (append_assoc (inside a) (inside b) (Dyad f a b ∷ [])) is trees
-    (λ later. ap (λ t. Dyad f t (tree_of_operand (names'' ++ later) (trees_after (names'' ++ later) [] last) right)) (stands later) ∙ ap (λ t. Dyad f a t) (r.stands later))
+    lowered_push names names'' old last new (node.Dyad f left right) (between_arguments f a b) (inside a ++ inside b)
+    (r.named ∙ (ap (λ ns. ns ++ names_in b) l.named ∙ (append_assoc names (names_in a) (names_in b) ∙ ap (λ ns. names ++ ns) (sym (names_between f a b)))))
+    (append_assoc (inside a) (inside b) (between_arguments f a b ∷ []) ∙ sym (inside_between f a b)) is trees
+    (λ later. ap (λ t. between_arguments f t (tree_of_operand (names'' ++ later) (trees_after (names'' ++ later) [] last) right)) (stands later) ∙ ap (λ t. between_arguments f a t) (r.stands later))
     (λ count h t. r.table count h (l.table count (longer names names' names'' old mid last (names_in b) (inside b) r.named r.trees count h) t))
     (λ count h. (kept_below names names' names'' old mid last (names_in b) (inside b) r.named r.trees left l.below count h, r.below count h))
 

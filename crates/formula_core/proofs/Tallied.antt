@@ -5,7 +5,9 @@ use Rattle.std.specs.Option.{option_map_or}
 use Rattle.std.proofs.lemmas.Bool.{cases_Bool, cond-false, cond-true, false≢true}
 use Rattle.std.proofs.lemmas.List.{take_all}
 use Rattle.std.proofs.lemmas.List.Sums.{count_by_more_yes, sum_by-cons, sum_by-take-le, sum_by_more}
-use Rattle.apl_expr.specs.Trees.{Tree, Const, Name, Monad, Dyad, Index, Numbers}
+use Rattle.apl_expr.specs.Trees.{Tree, Const, Name, Monad, Dyad, Index, Scan, Outer, Inner, Numbers}
+use Rattle.apl_expr.specs.Trees as tree
+use Rattle.apl_expr.specs.declared.functions.Function1.TheVariants as function1
 use Rattle.change_core.specs.Meters.{ticked}
 use Rattle.change_rules.specs.Nodes.{is_error}
 use Rattle.operator_fns.specs.declared.reduce.Reduce.{Reduce}
@@ -56,6 +58,10 @@ plain_joins is_new c (Name x) plain = refl
 plain_joins is_new c (Monad f b) plain = absurd (false≢true (sym plain))
 plain_joins is_new c (Dyad f a b) plain = absurd (false≢true (sym plain))
 plain_joins is_new c (Index a ps) plain = absurd (false≢true (sym plain))
+plain_joins is_new c (tree.Reduce f k b) plain = absurd (false≢true (sym plain))
+plain_joins is_new c (Scan f k b) plain = absurd (false≢true (sym plain))
+plain_joins is_new c (Outer f a b) plain = absurd (false≢true (sym plain))
+plain_joins is_new c (Inner f g a b) plain = absurd (false≢true (sym plain))
 
 -- nor do no totals
 none_of : (fold : Reduce) (o : Outcome) (d : Delta) (held : Outcome) (n : ℕ) → n ≡ 0 → least_joins_of fold o d held n ≡ 0
@@ -77,9 +83,13 @@ none_along (Some fold) right d held n none = none_of fold right d held n none
 costless : (is_new : Bool) (c : Change) (t : Tree) → node_cost_at is_new c t ≡ 0 → least_joins is_new c t ≡ 0
 costless is_new c (Const l) none = refl
 costless is_new c (Name x) none = refl
-costless is_new c (Monad f b) none = none_along (total_of f) (eval b c.new) (node_change is_new c b) (eval (Monad f b) c.old) (node_cost_at is_new c (Monad f b)) none
+costless is_new c (Monad f b) none = refl
 costless is_new c (Dyad f a b) none = refl
 costless is_new c (Index a ps) none = refl
+costless is_new c (tree.Reduce f k b) none = none_along (total_of (function1.Reduce f k)) (eval b c.new) (node_change is_new c b) (eval (tree.Reduce f k b) c.old) (node_cost_at is_new c (tree.Reduce f k b)) none
+costless is_new c (Scan f k b) none = refl
+costless is_new c (Outer f a b) none = refl
+costless is_new c (Inner f g a b) none = refl
 
 -- where no item of a node fails, it joins what it is to
 joined_by : (failed : Bool) (start least own after : ℕ) → (failed ≡ true → least ≡ 0) → (failed ≡ false → ticked 0 least ≤ own) → after ≡ ticked start own → ticked start least ≤ after

@@ -5,8 +5,8 @@ use Rattle.std.specs.declared.alloc.AllocError.{AllocError}
 use Rattle.std.proofs.lemmas.Bool.{and_from, and_parts, cases_Bool, cond-false, cond-true, eqb-true, false≢true, lt-ltb, ltb-false, ltb-true}
 use Rattle.std.proofs.lemmas.Result.{IfOk-weaker}
 use Rattle.std.proofs.Math.Nat.{mul-le-mul, mul-le-mul_left, mul-le-mul_right}
-use Rattle.apl_expr.specs.declared.expr.Monadic.{Monadic}
-use Rattle.apl_expr.specs.declared.expr.Monadic.TheVariants as monadic
+use Rattle.apl_expr.specs.declared.functions.Function1.{Function1}
+use Rattle.apl_expr.specs.declared.functions.Function1.TheVariants as function1
 use Rattle.arrays_core.specs.Arrays.{ArrayValue}
 use Rattle.arrays_core.specs.Growth.{grown_by, one_longer}
 use Rattle.arrays_core.specs.Shapes.{size}
@@ -40,8 +40,8 @@ use Rattle.formula_core.proofs.Narrow.{narrow_within}
 use Rattle.formula_core.proofs.Summed.{kept_of}
 
 -- a total follows the rule of its fold
-pub total_is : (f : Monadic) (fold : Reduce) → total_of f ≡ Some fold → right_rule f ≡ total_rule fold
-total_is (monadic.Reduce f k) fold h = elim (cases_Bool (has_trees f)) [
+pub total_is : (f : Function1) (fold : Reduce) → total_of f ≡ Some fold → right_rule f ≡ total_rule fold
+total_is (function1.Reduce f k) fold h = elim (cases_Bool (has_trees f)) [
   | inl t ↦ let whole : Some (record { function = f; along = k }) ≡ Some fold = sym (cond-true (has_trees f) _ None t) ∙ h in
       let same : record { function = f; along = k } ≡ fold = cc in
       ap total_rule same
@@ -52,8 +52,8 @@ total_is (monadic.Reduce f k) fold h = elim (cases_Bool (has_trees f)) [
 total_is f fold h = absurd (false≢true (ap is_some h))
 
 -- and by a function whose folds are kept as trees
-pub total_has : (f : Monadic) (fold : Reduce) → total_of f ≡ Some fold → has_trees fold.function ≡ true
-total_has (monadic.Reduce f k) fold h = elim (cases_Bool (has_trees f)) [
+pub total_has : (f : Function1) (fold : Reduce) → total_of f ≡ Some fold → has_trees fold.function ≡ true
+total_has (function1.Reduce f k) fold h = elim (cases_Bool (has_trees f)) [
   | inl t ↦ let whole : Some (record { function = f; along = k }) ≡ Some fold = sym (cond-true (has_trees f) _ None t) ∙ h in
       let same : record { function = f; along = k } ≡ fold = cc in
       ap (λ (r : Reduce). has_trees r.function) (sym same) ∙ t

@@ -1,9 +1,11 @@
 -- What a change of the names changes of the result of each node of a formula that holds results.
 use Rattle.std.specs.Prelude.{◌≡◌, ◌<◌, ℕ, List, [], ◌∷◌, Bool, true, false, length, drop, Result, Ok, Err, IfOk, if◌then◌else◌}
 use Rattle.std.specs.List.{list_all}
-use Rattle.apl_expr.specs.Trees.{Tree, Const, Name, Monad, Dyad, Index, Positions, NoPositions, Empty, Filled}
-use Rattle.apl_expr.specs.declared.expr.Monadic.{Monadic}
-use Rattle.apl_expr.specs.declared.expr.Dyadic.{Dyadic}
+use Rattle.apl_expr.specs.Trees.{Tree, Const, Name, Monad, Dyad, Index, Reduce, Scan, Outer, Inner, Positions, NoPositions, Empty, Filled}
+use Rattle.apl_expr.specs.declared.functions.Function1.{Function1}
+use Rattle.apl_expr.specs.declared.functions.Function1.TheVariants as function1
+use Rattle.apl_expr.specs.declared.functions.Function2.{Function2}
+use Rattle.apl_expr.specs.declared.functions.Function2.TheVariants as function2
 use Rattle.arrays_core.specs.Arrays.{ArrayValue, IsArray}
 use Rattle.arrays_core.specs.Shapes.{size}
 use Rattle.arrays_core.specs.declared.fault.Fault.{Fault}
@@ -80,9 +82,13 @@ abbrev mutual
   pub change : Change → Tree → Delta
   change c (Const l) = Same
   change c (Name x) = c.delta x
-  change c (Monad f b) = operation_delta (right_rule f) (arguments (eval b c.new ∷ [])) (change c b ∷ []) (eval (Monad f b) c.old)
-  change c (Dyad f a b) = operation_delta (both_rule f) (arguments (eval a c.new ∷ eval b c.new ∷ [])) (change c a ∷ change c b ∷ []) (eval (Dyad f a b) c.old)
+  change c (Monad f b) = operation_delta (right_rule (function1.Monad f)) (arguments (eval b c.new ∷ [])) (change c b ∷ []) (eval (Monad f b) c.old)
+  change c (Dyad f a b) = operation_delta (both_rule (function2.Dyad f)) (arguments (eval a c.new ∷ eval b c.new ∷ [])) (change c a ∷ change c b ∷ []) (eval (Dyad f a b) c.old)
   change c (Index a ps) = operation_delta (index_rule (written ps)) (arguments (eval a c.new ∷ values_of ps c.new)) (change c a ∷ changes c ps) (eval (Index a ps) c.old)
+  change c (Reduce f k b) = operation_delta (right_rule (function1.Reduce f k)) (arguments (eval b c.new ∷ [])) (change c b ∷ []) (eval (Reduce f k b) c.old)
+  change c (Scan f k b) = operation_delta (right_rule (function1.Scan f k)) (arguments (eval b c.new ∷ [])) (change c b ∷ []) (eval (Scan f k b) c.old)
+  change c (Outer f a b) = operation_delta (both_rule (function2.Outer f)) (arguments (eval a c.new ∷ eval b c.new ∷ [])) (change c a ∷ change c b ∷ []) (eval (Outer f a b) c.old)
+  change c (Inner f g a b) = operation_delta (both_rule (function2.Inner f g)) (arguments (eval a c.new ∷ eval b c.new ∷ [])) (change c a ∷ change c b ∷ []) (eval (Inner f g a b) c.old)
 
   pub changes : Change → Positions → List Delta
   changes c NoPositions = []
@@ -93,9 +99,13 @@ abbrev mutual
 abbrev pub cost_at : Change → Tree → ℕ
 cost_at c (Const l) = 0
 cost_at c (Name x) = 0
-cost_at c (Monad f b) = operation_cost (right_rule f) (arguments (eval b c.new ∷ [])) (change c b ∷ []) (eval (Monad f b) c.old)
-cost_at c (Dyad f a b) = operation_cost (both_rule f) (arguments (eval a c.new ∷ eval b c.new ∷ [])) (change c a ∷ change c b ∷ []) (eval (Dyad f a b) c.old)
+cost_at c (Monad f b) = operation_cost (right_rule (function1.Monad f)) (arguments (eval b c.new ∷ [])) (change c b ∷ []) (eval (Monad f b) c.old)
+cost_at c (Dyad f a b) = operation_cost (both_rule (function2.Dyad f)) (arguments (eval a c.new ∷ eval b c.new ∷ [])) (change c a ∷ change c b ∷ []) (eval (Dyad f a b) c.old)
 cost_at c (Index a ps) = operation_cost (index_rule (written ps)) (arguments (eval a c.new ∷ values_of ps c.new)) (change c a ∷ changes c ps) (eval (Index a ps) c.old)
+cost_at c (Reduce f k b) = operation_cost (right_rule (function1.Reduce f k)) (arguments (eval b c.new ∷ [])) (change c b ∷ []) (eval (Reduce f k b) c.old)
+cost_at c (Scan f k b) = operation_cost (right_rule (function1.Scan f k)) (arguments (eval b c.new ∷ [])) (change c b ∷ []) (eval (Scan f k b) c.old)
+cost_at c (Outer f a b) = operation_cost (both_rule (function2.Outer f)) (arguments (eval a c.new ∷ eval b c.new ∷ [])) (change c a ∷ change c b ∷ []) (eval (Outer f a b) c.old)
+cost_at c (Inner f g a b) = operation_cost (both_rule (function2.Inner f g)) (arguments (eval a c.new ∷ eval b c.new ∷ [])) (change c a ∷ change c b ∷ []) (eval (Inner f g a b) c.old)
 
 -- how many places the result of an operation has; none beside an error and where a check fails
 abbrev pub operation_size : RuleModel → Result (List ArrayValue) Fault → ℕ
@@ -106,9 +116,13 @@ operation_size p (Err e) = 0
 abbrev pub size_at : (List ℕ → Outcome) → Tree → ℕ
 size_at names (Const l) = 0
 size_at names (Name x) = 0
-size_at names (Monad f b) = operation_size (right_rule f) (arguments (eval b names ∷ []))
-size_at names (Dyad f a b) = operation_size (both_rule f) (arguments (eval a names ∷ eval b names ∷ []))
+size_at names (Monad f b) = operation_size (right_rule (function1.Monad f)) (arguments (eval b names ∷ []))
+size_at names (Dyad f a b) = operation_size (both_rule (function2.Dyad f)) (arguments (eval a names ∷ eval b names ∷ []))
 size_at names (Index a ps) = operation_size (index_rule (written ps)) (arguments (eval a names ∷ values_of ps names))
+size_at names (Reduce f k b) = operation_size (right_rule (function1.Reduce f k)) (arguments (eval b names ∷ []))
+size_at names (Scan f k b) = operation_size (right_rule (function1.Scan f k)) (arguments (eval b names ∷ []))
+size_at names (Outer f a b) = operation_size (both_rule (function2.Outer f)) (arguments (eval a names ∷ eval b names ∷ []))
+size_at names (Inner f g a b) = operation_size (both_rule (function2.Inner f g)) (arguments (eval a names ∷ eval b names ∷ []))
 
 -- each with its change, from the first; those behind the last change stay
 abbrev pub each_with : {C A : Type 0} → (C → A → A) → List C → List A → List A
@@ -158,12 +172,12 @@ pub record IsTreeChanged (c : Change) (t : Tree) : Type 0 where
 
 -- the law of each rule: where arguments agree outside their changed boxes, results agree outside what is reached
 pub record RulesCover : Type 0 where
-  pub of_right : (f : Monadic) → ReachCovers (right_rule f)
-  pub of_both : (f : Dyadic) → ReachCovers (both_rule f)
+  pub of_right : (f : Function1) → ReachCovers (right_rule f)
+  pub of_both : (f : Function2) → ReachCovers (both_rule f)
   pub of_positions : (positions : List Bool) → ReachCovers (index_rule positions)
 
 -- and where it says that its node grows, the result grows by one place
 pub record RulesGrow : Type 0 where
-  pub of_right : (f : Monadic) → IsGrowing (right_rule f) (right_rule f).grows
-  pub of_both : (f : Dyadic) → IsGrowing (both_rule f) (both_rule f).grows
+  pub of_right : (f : Function1) → IsGrowing (right_rule f) (right_rule f).grows
+  pub of_both : (f : Function2) → IsGrowing (both_rule f) (both_rule f).grows
   pub of_positions : (positions : List Bool) → IsGrowing (index_rule positions) (index_rule positions).grows

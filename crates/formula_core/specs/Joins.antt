@@ -2,7 +2,9 @@
 use Rattle.std.specs.Prelude.{ℕ, ◌-◌, ◌*◌, ◌^◌, nat_le, nat_lt, Bool, true, ◌&&◌, is_ok, Ok, Err, length, if◌then◌else◌}
 use Rattle.std.specs.List.{count_by, range_with_len, sum_by}
 use Rattle.std.specs.Option.{option_map_or}
-use Rattle.apl_expr.specs.Trees.{Tree, Const, Name, Monad, Dyad, Index}
+use Rattle.apl_expr.specs.Trees.{Tree, Const, Name, Monad, Dyad, Index, Scan, Outer, Inner}
+use Rattle.apl_expr.specs.Trees as tree
+use Rattle.apl_expr.specs.declared.functions.Function1.TheVariants as function1
 use Rattle.arrays_core.specs.Arrays.{ArrayValue}
 use Rattle.index_region.specs.Arguments.{is_of_numbers}
 use Rattle.function_names.specs.Axes.{axis_at}
@@ -47,17 +49,25 @@ least_joins_of fold (Err e) d held totals = 0
 abbrev pub most_joins : (is_new : Bool) → Change → Tree → ℕ
 most_joins is_new c (Const l) = 0
 most_joins is_new c (Name x) = 0
-most_joins is_new c (Monad f b) = option_map_or (λ fold. most_joins_of fold (eval b c.new) (node_change is_new c b) (eval (Monad f b) c.old) (node_cost_at is_new c (Monad f b))) (total_of f) 0
+most_joins is_new c (Monad f b) = 0
 most_joins is_new c (Dyad f a b) = 0
 most_joins is_new c (Index a ps) = 0
+most_joins is_new c (tree.Reduce f k b) = option_map_or (λ fold. most_joins_of fold (eval b c.new) (node_change is_new c b) (eval (tree.Reduce f k b) c.old) (node_cost_at is_new c (tree.Reduce f k b))) (total_of (function1.Reduce f k)) 0
+most_joins is_new c (Scan f k b) = 0
+most_joins is_new c (Outer f a b) = 0
+most_joins is_new c (Inner f g a b) = 0
 
 -- how many at least where no item of it fails
 abbrev pub least_joins : (is_new : Bool) → Change → Tree → ℕ
 least_joins is_new c (Const l) = 0
 least_joins is_new c (Name x) = 0
-least_joins is_new c (Monad f b) = option_map_or (λ fold. least_joins_of fold (eval b c.new) (node_change is_new c b) (eval (Monad f b) c.old) (node_cost_at is_new c (Monad f b))) (total_of f) 0
+least_joins is_new c (Monad f b) = 0
 least_joins is_new c (Dyad f a b) = 0
 least_joins is_new c (Index a ps) = 0
+least_joins is_new c (tree.Reduce f k b) = option_map_or (λ fold. least_joins_of fold (eval b c.new) (node_change is_new c b) (eval (tree.Reduce f k b) c.old) (node_cost_at is_new c (tree.Reduce f k b))) (total_of (function1.Reduce f k)) 0
+least_joins is_new c (Scan f k b) = 0
+least_joins is_new c (Outer f a b) = 0
+least_joins is_new c (Inner f g a b) = 0
 
 -- how many at most for the change of a tree with all in it
 abbrev pub tree_joins : (is_new : Bool) → Change → Tree → ℕ

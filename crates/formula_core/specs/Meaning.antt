@@ -1,10 +1,14 @@
 -- What an expression means, where the names show these arrays and errors.
 use Rattle.std.specs.Prelude.{ℕ, List, [], ◌∷◌, ◌++◌, Some, None, Result, Ok}
-use Rattle.apl_expr.specs.Trees.{Tree, Const, Name, Monad, Dyad, Index, Positions, NoPositions, Empty, Filled, Literal, Numbers, Text}
+use Rattle.apl_expr.specs.Trees.{Tree, Const, Name, Monad, Dyad, Index, Reduce, Scan, Outer, Inner, Positions, NoPositions, Empty, Filled, Literal, Numbers, Text}
 use Rattle.apl_expr.specs.declared.expr.Monadic.{Monadic}
 use Rattle.apl_expr.specs.declared.expr.Monadic.TheVariants as monadic
 use Rattle.apl_expr.specs.declared.expr.Dyadic.{Dyadic}
 use Rattle.apl_expr.specs.declared.expr.Dyadic.TheVariants as dyadic
+use Rattle.apl_expr.specs.declared.functions.Function1.{Function1}
+use Rattle.apl_expr.specs.declared.functions.Function1.TheVariants as function1
+use Rattle.apl_expr.specs.declared.functions.Function2.{Function2}
+use Rattle.apl_expr.specs.declared.functions.Function2.TheVariants as function2
 use Rattle.arrays_core.specs.Items.{and_then}
 use Rattle.arrays_core.specs.Arrays.{ArrayValue, scalar_of, vector_of, character_scalar_of, text_of}
 use Rattle.arrays_core.specs.declared.item.Kind.{Kind}
@@ -42,39 +46,47 @@ array_of (Text []) = text_of []
 array_of (Text (c ∷ [])) = Ok (character_scalar_of c)
 array_of (Text (c ∷ d ∷ cs)) = text_of (c ∷ d ∷ cs)
 
+-- a function of one array that is no operator's
+abbrev pub of_monadic : Monadic → ArrayValue → Result ArrayValue Kind
+of_monadic (monadic.Scalar f) b = monadic_on_array f b
+of_monadic monadic.Ravel b = ravel_whole b
+of_monadic (monadic.Reverse k) b = reverse_whole k b
+of_monadic monadic.Transpose b = transpose_whole b
+of_monadic monadic.Shape b = shape_whole b
+of_monadic monadic.Iota b = generator_whole b
+
 -- a function of one array
-abbrev pub of_right : Monadic → ArrayValue → Result ArrayValue Kind
-of_right (monadic.Scalar f) b = monadic_on_array f b
-of_right monadic.Ravel b = ravel_whole b
-of_right (monadic.Reverse k) b = reverse_whole k b
-of_right monadic.Transpose b = transpose_whole b
-of_right monadic.Shape b = shape_whole b
-of_right monadic.Iota b = generator_whole b
-of_right (monadic.Reduce f k) b = reduce_whole f k b
-of_right (monadic.Scan f k) b = scan_whole f k b
+abbrev pub of_right : Function1 → ArrayValue → Result ArrayValue Kind
+of_right (function1.Monad f) b = of_monadic f b
+of_right (function1.Reduce f k) b = reduce_whole f k b
+of_right (function1.Scan f k) b = scan_whole f k b
+
+-- a function of two arrays that is no operator's
+abbrev pub of_dyadic : Dyadic → (left right : ArrayValue) → Result ArrayValue Kind
+of_dyadic (dyadic.Scalar f) a b = dyadic_on_arrays f a b
+of_dyadic dyadic.Reshape a b = reshape_whole a b
+of_dyadic (dyadic.Catenate k) a b = catenate_whole k a b
+of_dyadic dyadic.Take a b = take_whole a b
+of_dyadic dyadic.Drop a b = drop_whole a b
+of_dyadic (dyadic.Rotate k) a b = rotate_whole k a b
+of_dyadic dyadic.Transpose a b = transpose_by_whole a b
+of_dyadic (dyadic.Replicate k) a b = replicate_whole k a b
+of_dyadic dyadic.IndexOf a b = index_of_whole a b
+of_dyadic dyadic.Member a b = member_whole a b
+of_dyadic dyadic.Encode a b = encode_whole a b
+of_dyadic dyadic.Decode a b = decode_whole a b
 
 -- a function of two arrays
-abbrev pub of_both : Dyadic → (left right : ArrayValue) → Result ArrayValue Kind
-of_both (dyadic.Scalar f) a b = dyadic_on_arrays f a b
-of_both dyadic.Reshape a b = reshape_whole a b
-of_both (dyadic.Catenate k) a b = catenate_whole k a b
-of_both dyadic.Take a b = take_whole a b
-of_both dyadic.Drop a b = drop_whole a b
-of_both (dyadic.Rotate k) a b = rotate_whole k a b
-of_both dyadic.Transpose a b = transpose_by_whole a b
-of_both (dyadic.Replicate k) a b = replicate_whole k a b
-of_both dyadic.IndexOf a b = index_of_whole a b
-of_both dyadic.Member a b = member_whole a b
-of_both dyadic.Encode a b = encode_whole a b
-of_both dyadic.Decode a b = decode_whole a b
-of_both (dyadic.Outer f) a b = outer_whole f a b
-of_both (dyadic.Inner f g) a b = inner_whole f g a b
+abbrev pub of_both : Function2 → (left right : ArrayValue) → Result ArrayValue Kind
+of_both (function2.Dyad f) a b = of_dyadic f a b
+of_both (function2.Outer f) a b = outer_whole f a b
+of_both (function2.Inner f g) a b = inner_whole f g a b
 
-abbrev pub applied1 : Monadic → Outcome → Outcome
+abbrev pub applied1 : Function1 → Outcome → Outcome
 applied1 f right = and_then right (λ b. given (of_right f b))
 
 -- the right argument's error comes before the left's
-abbrev pub applied2 : Dyadic → (right left : Outcome) → Outcome
+abbrev pub applied2 : Function2 → (right left : Outcome) → Outcome
 applied2 f right left = and_then right (λ b. and_then left (λ a. given (of_both f a b)))
 
 -- one more written position before those that follow; their error comes before its own
@@ -94,9 +106,13 @@ abbrev mutual
   pub eval : Tree → (List ℕ → Outcome) → Outcome
   eval (Const c) names = given (array_of c)
   eval (Name x) names = names x
-  eval (Monad f b) names = applied1 f (eval b names)
-  eval (Dyad f a b) names = applied2 f (eval b names) (eval a names)
+  eval (Monad f b) names = applied1 (function1.Monad f) (eval b names)
+  eval (Dyad f a b) names = applied2 (function2.Dyad f) (eval b names) (eval a names)
   eval (Index a ps) names = indexed (eval_positions ps names) (eval a names)
+  eval (Reduce f k b) names = applied1 (function1.Reduce f k) (eval b names)
+  eval (Scan f k b) names = applied1 (function1.Scan f k) (eval b names)
+  eval (Outer f a b) names = applied2 (function2.Outer f) (eval b names) (eval a names)
+  eval (Inner f g a b) names = applied2 (function2.Inner f g) (eval b names) (eval a names)
 
   -- the values of positions; the error of the last that has one
   pub eval_positions : Positions → (List ℕ → Outcome) → Result (List Position) Fault
@@ -112,6 +128,10 @@ abbrev mutual
   names_in (Monad f b) = names_in b
   names_in (Dyad f a b) = names_in a ++ names_in b
   names_in (Index a ps) = names_in a ++ names_in_positions ps
+  names_in (Reduce f k b) = names_in b
+  names_in (Scan f k b) = names_in b
+  names_in (Outer f a b) = names_in a ++ names_in b
+  names_in (Inner f g a b) = names_in a ++ names_in b
 
   pub names_in_positions : Positions → List (List ℕ)
   names_in_positions NoPositions = []

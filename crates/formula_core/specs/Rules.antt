@@ -5,6 +5,10 @@ use Rattle.apl_expr.specs.declared.expr.Monadic.{Monadic}
 use Rattle.apl_expr.specs.declared.expr.Monadic.TheVariants as monadic
 use Rattle.apl_expr.specs.declared.expr.Dyadic.{Dyadic}
 use Rattle.apl_expr.specs.declared.expr.Dyadic.TheVariants as dyadic
+use Rattle.apl_expr.specs.declared.functions.Function1.{Function1}
+use Rattle.apl_expr.specs.declared.functions.Function1.TheVariants as function1
+use Rattle.apl_expr.specs.declared.functions.Function2.{Function2}
+use Rattle.apl_expr.specs.declared.functions.Function2.TheVariants as function2
 use Rattle.change_core.specs.Meters.{ticked}
 use Rattle.change_core.specs.RuleModels.{RuleModel}
 use Rattle.index_region.specs.declared.delta.Delta.{Delta}
@@ -33,33 +37,41 @@ use Rattle.operator_fns.specs.Scan.{scan_rule}
 use Rattle.operator_fns.specs.OuterProduct.{outer_rule}
 use Rattle.operator_fns.specs.InnerProduct.{inner_rule}
 
+-- of a function of one array that is no operator's
+abbrev pub monadic_rule : Monadic → RuleModel
+monadic_rule (monadic.Scalar f) = each_monadic_rule f
+monadic_rule monadic.Ravel = ravel_rule
+monadic_rule (monadic.Reverse k) = reverse_rule k
+monadic_rule monadic.Transpose = transpose_rule
+monadic_rule monadic.Shape = shape_rule
+monadic_rule monadic.Iota = generator_rule
+
 -- of a function of one array
-abbrev pub right_rule : Monadic → RuleModel
-right_rule (monadic.Scalar f) = each_monadic_rule f
-right_rule monadic.Ravel = ravel_rule
-right_rule (monadic.Reverse k) = reverse_rule k
-right_rule monadic.Transpose = transpose_rule
-right_rule monadic.Shape = shape_rule
-right_rule monadic.Iota = generator_rule
-right_rule (monadic.Reduce f k) = reduce_rule f k
-right_rule (monadic.Scan f k) = scan_rule f k
+abbrev pub right_rule : Function1 → RuleModel
+right_rule (function1.Monad f) = monadic_rule f
+right_rule (function1.Reduce f k) = reduce_rule f k
+right_rule (function1.Scan f k) = scan_rule f k
+
+-- of a function of two arrays that is no operator's
+abbrev pub dyadic_rule : Dyadic → RuleModel
+dyadic_rule (dyadic.Scalar f) = each_dyadic_rule f
+dyadic_rule dyadic.Reshape = reshape_rule
+dyadic_rule (dyadic.Catenate k) = catenate_rule k
+dyadic_rule dyadic.Take = take_rule
+dyadic_rule dyadic.Drop = drop_rule
+dyadic_rule (dyadic.Rotate k) = rotate_rule k
+dyadic_rule dyadic.Transpose = transpose_by_rule
+dyadic_rule (dyadic.Replicate k) = replicate_rule k
+dyadic_rule dyadic.IndexOf = index_of_rule
+dyadic_rule dyadic.Member = member_rule
+dyadic_rule dyadic.Encode = encode_rule
+dyadic_rule dyadic.Decode = decode_rule
 
 -- of a function of two arrays
-abbrev pub both_rule : Dyadic → RuleModel
-both_rule (dyadic.Scalar f) = each_dyadic_rule f
-both_rule dyadic.Reshape = reshape_rule
-both_rule (dyadic.Catenate k) = catenate_rule k
-both_rule dyadic.Take = take_rule
-both_rule dyadic.Drop = drop_rule
-both_rule (dyadic.Rotate k) = rotate_rule k
-both_rule dyadic.Transpose = transpose_by_rule
-both_rule (dyadic.Replicate k) = replicate_rule k
-both_rule dyadic.IndexOf = index_of_rule
-both_rule dyadic.Member = member_rule
-both_rule dyadic.Encode = encode_rule
-both_rule dyadic.Decode = decode_rule
-both_rule (dyadic.Outer f) = outer_rule f
-both_rule (dyadic.Inner f g) = inner_rule f g
+abbrev pub both_rule : Function2 → RuleModel
+both_rule (function2.Dyad f) = dyadic_rule f
+both_rule (function2.Outer f) = outer_rule f
+both_rule (function2.Inner f g) = inner_rule f g
 
 -- what is answered of what a change costs, with the change that was put in place
 abbrev pub with_change : Delta → Result ℕ AllocError → Result (Delta × ℕ) AllocError

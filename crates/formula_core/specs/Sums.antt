@@ -2,9 +2,10 @@
 use Rattle.std.specs.Prelude.{◌≡◌, ℕ, List, false, Option, Some, None, is_some, Ok, Err, if◌then◌else◌}
 use Rattle.std.specs.Global.{Box}
 use Rattle.std.specs.Option.{option_map, option_map_or}
-use Rattle.apl_expr.specs.Trees.{Tree, Const, Name, Monad, Dyad, Index}
-use Rattle.apl_expr.specs.declared.expr.Monadic.{Monadic}
-use Rattle.apl_expr.specs.declared.expr.Monadic.TheVariants as monadic
+use Rattle.apl_expr.specs.Trees.{Tree, Const, Name, Monad, Dyad, Index, Scan, Outer, Inner}
+use Rattle.apl_expr.specs.Trees as tree
+use Rattle.apl_expr.specs.declared.functions.Function1.{Function1}
+use Rattle.apl_expr.specs.declared.functions.Function1.TheVariants as function1
 use Rattle.arrays_core.specs.Arrays.{ArrayValue}
 use Rattle.arrays_core.specs.Growth.{grown_by}
 use Rattle.operator_fns.specs.declared.reduce.Reduce.{Reduce}
@@ -27,8 +28,8 @@ use Rattle.formula_core.specs.Meaning.{eval}
 use Rattle.arrays_core.specs.Outcomes.{Outcome}
 
 -- the fold that a function is whose parts are kept as trees, if it is one, as +/ and ⌈⌿ are
-abbrev pub total_of : Monadic → Option Reduce
-total_of (monadic.Reduce f k) = if has_trees f then Some (record { function = f; along = k }) else None
+abbrev pub total_of : Function1 → Option Reduce
+total_of (function1.Reduce f k) = if has_trees f then Some (record { function = f; along = k }) else None
 total_of _ = None
 
 -- an array whose lines are folded by trees, if it is one
@@ -40,9 +41,13 @@ summed_in fold (Err e) = None
 abbrev pub summed_at : (List ℕ → Outcome) → Tree → Option SummedValue
 summed_at names (Const l) = None
 summed_at names (Name x) = None
-summed_at names (Monad f b) = option_map_or (λ fold. summed_in fold (eval b names)) (total_of f) None
+summed_at names (Monad f b) = None
 summed_at names (Dyad f a b) = None
 summed_at names (Index a ps) = None
+summed_at names (tree.Reduce f k b) = option_map_or (λ fold. summed_in fold (eval b names)) (total_of (function1.Reduce f k)) None
+summed_at names (Scan f k b) = None
+summed_at names (Outer f a b) = None
+summed_at names (Inner f g a b) = None
 
 -- the argument of a node that folds its lines by trees, behind the fold
 abbrev pub totalled : Node → Option (Reduce × Operand)

@@ -1,7 +1,7 @@
 -- A formula as a table of nodes, each after those whose results it takes: what each node stands for.
 use Rattle.std.specs.Prelude.{◌≡◌, ◌<◌, ◌≤◌, ℕ, suc, List, [], ◌∷◌, ◌++◌, Bool, true, false, Option, Some, None, length, map, get_or}
 use Rattle.std.specs.Option.{option_map}
-use Rattle.apl_expr.specs.Trees.{Tree, Const, Name, Monad, Dyad, Index, Positions, NoPositions, Empty, Filled, Numbers, literal_of, positions_of}
+use Rattle.apl_expr.specs.Trees.{Tree, Const, Name, Monad, Dyad, Index, Reduce, Scan, Outer, Inner, before_argument, between_arguments, Positions, NoPositions, Empty, Filled, Numbers, literal_of, positions_of}
 use Rattle.formula_core.specs.declared.table.Operand.{Operand}
 use Rattle.formula_core.specs.declared.table.Operand.TheVariants as operand
 use Rattle.formula_core.specs.declared.table.Node.{Node}
@@ -16,6 +16,10 @@ abbrev mutual
   inside (Monad f b) = inside b ++ Monad f b ∷ []
   inside (Dyad f a b) = inside a ++ (inside b ++ Dyad f a b ∷ [])
   inside (Index a ps) = inside a ++ (inside_positions ps ++ Index a ps ∷ [])
+  inside (Reduce f k b) = inside b ++ Reduce f k b ∷ []
+  inside (Scan f k b) = inside b ++ Scan f k b ∷ []
+  inside (Outer f a b) = inside a ++ (inside b ++ Outer f a b ∷ [])
+  inside (Inner f g a b) = inside a ++ (inside b ++ Inner f g a b ∷ [])
 
   pub inside_positions : Positions → List Tree
   inside_positions NoPositions = []
@@ -43,8 +47,8 @@ tree_of_index names trees array positions = Index (tree_of_operand names trees a
 abbrev pub tree_of_node : List (List ℕ) → List Tree → Node → Tree
 tree_of_node names trees (node.Constant literal) = Const (literal_of literal)
 tree_of_node names trees (node.Name place) = Name (get_or names place [])
-tree_of_node names trees (node.Monad f right) = Monad f (tree_of_operand names trees right)
-tree_of_node names trees (node.Dyad f left right) = Dyad f (tree_of_operand names trees left) (tree_of_operand names trees right)
+tree_of_node names trees (node.Monad f right) = before_argument f (tree_of_operand names trees right)
+tree_of_node names trees (node.Dyad f left right) = between_arguments f (tree_of_operand names trees left) (tree_of_operand names trees right)
 tree_of_node names trees (node.Index array positions) = tree_of_index names trees array positions.items
 
 -- it applies a function to arguments

@@ -1,9 +1,10 @@
 //! The value of an expression.
 
-ghost use Rattle.std.specs.Prelude.{◌≡◌, ◌+◌, ◌≤◌, [], ◌∷◌, ℕ, List, IfOk, IfSome, IsOk, Result, Ok, Err, map, true};
+ghost use Rattle.std.specs.Prelude.{◌≡◌, ◌+◌, ◌≤◌, [], ◌∷◌, ℕ, List, IfOk, IfSome, IsOk, OnErr, Result, Ok, Err, map, true};
 ghost use Rattle.std.specs.List.{Contains};
-ghost use Rattle.apl_expr.specs.Trees.{Const, Dyad, Numbers, tree_of, position_of, positions_of};
+ghost use Rattle.apl_expr.specs.Trees.{Const, Numbers, tree_of, position_of, positions_of, between_arguments};
 ghost use Rattle.apl_expr.specs.declared.expr.Dyadic.TheVariants.{Scalar};
+ghost use Rattle.apl_expr.specs.declared.functions.Function2.TheVariants.{Dyad};
 ghost use Rattle.arrays_core.specs.Arrays.{ArrayValue, IsAnswerTo, scalar_of};
 ghost use Rattle.arrays_core.specs.declared.item.Kind.{Kind as AKind};
 ghost use Rattle.change_core.specs.Meters.{ticked};
@@ -21,7 +22,7 @@ use crate::application::{of_both, of_right};
 use crate::input::Input;
 use crate::literals::array_of;
 use crate::positions::written_of;
-use apl_expr::{Dyadic, Expr, Literal, Monadic, Sides};
+use apl_expr::{Dyadic, Expr, Function1, Function2, Literal, Sides};
 use apl_tokens::Name;
 use arrays_core::{ApplyFault, Array, Fault, size};
 use change_core::Meter;
@@ -129,32 +130,64 @@ fn argument<'a, S: Shows>(
         },
         Expr::Monad(function, right) => {
             let right = argument(alloc, right, names, meter)?;
-            let given = apply_monad(alloc, *function, right)?;
-            Ok(counted(given, meter))
+            before(alloc, Function1::Monad(*function), right, meter)
         }
-        Expr::Dyad(function, sides) => between(alloc, *function, sides, names, meter),
+        Expr::Dyad(function, sides) => {
+            between(alloc, Function2::Dyad(*function), sides, names, meter)
+        }
         Expr::Index(operand, positions) => {
             let positions = position_operands(alloc, positions, names, meter)?;
             let operand = argument(alloc, operand, names, meter)?;
             let given = apply_index(alloc, operand, positions)?;
             Ok(counted(given, meter))
         }
+        Expr::Reduce(function, along, right) => {
+            let right = argument(alloc, right, names, meter)?;
+            before(alloc, Function1::Reduce(*function, *along), right, meter)
+        }
+        Expr::Scan(function, along, right) => {
+            let right = argument(alloc, right, names, meter)?;
+            before(alloc, Function1::Scan(*function, *along), right, meter)
+        }
+        Expr::Outer(function, sides) => {
+            between(alloc, Function2::Outer(*function), sides, names, meter)
+        }
+        Expr::Inner(fold, each, sides) => {
+            between(alloc, Function2::Inner(*fold, *each), sides, names, meter)
+        }
     }
+}
+
+/// The value of a function before its argument, whose items are counted. It stands alone, so that no more than the argument lies on the stack while
+/// that is worked out.
+#[inline(never)]
+fn before<'a>(
+    alloc: Global,
+    function: Function1,
+    right: Result<Operand<'a>, Fault>,
+    meter: &mut Meter,
+) -> Result<Result<Operand<'a>, Fault>, AllocError>
+    ensures value { IfOk result (λ operand. outcome_of operand ≡ applied1 function (outcome_of right.entry)) }
+    ensures items { IfOk result (λ operand. AreItemsCounted operand meter.old.ticks meter.new.ticks) }
+    ensures refused { OnErr result (meter.new.ticks ≡ meter.old.ticks) }
+{
+    let given = apply_monad(alloc, function, right)?;
+    Ok(counted(given, meter))
 }
 
 /// The value of a function between its arguments, and its cost. A number that is written beside a scalar function is no array of its own.
 #[cycle(value)]
 fn between<'a, S: Shows>(
     alloc: Global,
-    function: Dyadic,
+    function: Function2,
     sides: &Sides,
     names: &'a S,
     meter: &mut Meter,
 ) -> Result<Result<Operand<'a>, Fault>, AllocError>
-    ensures value { IfOk result (λ operand. outcome_of operand ≡ eval (Dyad function (tree_of sides.now.left) (tree_of sides.now.right)) (S.shows names.entry.now)) }
-    ensures counted { IsTreeCounted (S.shows names.entry.now) (Dyad function (tree_of sides.now.left) (tree_of sides.now.right)) meter.old.ticks meter.new.ticks result }
+    ensures value { IfOk result (λ operand. outcome_of operand ≡ eval (between_arguments function (tree_of sides.now.left) (tree_of sides.now.right)) (S.shows names.entry.now)) }
+    ensures counted { IsTreeCounted (S.shows names.entry.now) (between_arguments function (tree_of sides.now.left) (tree_of sides.now.right)) meter.old.ticks meter.new.ticks result }
 {
-    if let Dyadic::Scalar(scalar) = function {
+    if let Function2::Dyad(Dyadic::Scalar(scalar)) = function {
         if let Some(number) = number_of(&sides.right) {
             let left = argument(alloc, &sides.left, names, meter)?;
             let given = apply_to_number(alloc, scalar, left, number)?;
@@ -222,7 +255,7 @@ fn counted<'a>(given: Result<Operand<'a>, Fault>, meter: &mut Meter) -> Result<O
 /// A function of its right argument, or the argument's error.
 fn apply_monad<'a>(
     alloc: Global,
-    function: Monadic,
+    function: Function1,
     right: Result<Operand<'a>, Fault>,
 ) -> Result<Result<Operand<'a>, Fault>, AllocError>
     ensures { IfOk result (λ operand. outcome_of operand ≡ applied1 function (outcome_of right.entry)) }
@@ -236,7 +269,7 @@ fn apply_monad<'a>(
 /// A function of its two arguments, or the right argument's error, or the left's.
 fn apply_dyad<'a>(
     alloc: Global,
-    function: Dyadic,
+    function: Function2,
     left: Result<Operand<'a>, Fault>,
     right: Result<Operand<'a>, Fault>,
 ) -> Result<Result<Operand<'a>, Fault>, AllocError>
@@ -258,7 +291,7 @@ fn apply_to_number<'a>(
     left: Result<Operand<'a>, Fault>,
     right: i64,
 ) -> Result<Result<Operand<'a>, Fault>, AllocError>
-    ensures { IfOk result (λ operand. outcome_of operand ≡ applied2 (Scalar function) (Ok (scalar_of right)) (outcome_of left.entry)) }
+    ensures { IfOk result (λ operand. outcome_of operand ≡ applied2 (Dyad (Scalar function)) (Ok (scalar_of right)) (outcome_of left.entry)) }
 {
     match left {
         Ok(left) => made(apply_to_right(alloc, function, left.array(), right)),
@@ -273,7 +306,7 @@ fn apply_number_to<'a>(
     left: i64,
     right: Result<Operand<'a>, Fault>,
 ) -> Result<Result<Operand<'a>, Fault>, AllocError>
-    ensures { IfOk result (λ operand. outcome_of operand ≡ applied2 (Scalar function) (outcome_of right.entry) (Ok (scalar_of left))) }
+    ensures { IfOk result (λ operand. outcome_of operand ≡ applied2 (Dyad (Scalar function)) (outcome_of right.entry) (Ok (scalar_of left))) }
 {
     match right {
         Ok(right) => made(apply_to_left(alloc, function, left, right.array())),

@@ -11,7 +11,7 @@ ghost use Rattle.formula_core.specs.Sums.{total_of as fold_of_total, IsSummedFor
 use crate::input::Input;
 use crate::refreshing::Operation;
 use crate::sums::{SumsDelta, total_of};
-use apl_expr::{Dyadic, Monadic};
+use apl_expr::{Function1, Function2};
 use arrays_core::{Array, Fault};
 use change_core::Meter;
 use index_region::Delta;
@@ -23,7 +23,7 @@ use sum_rules::{LineSums, fold_totals_with_cost, read_totals_with_cost, refresh_
 /// the calls below.
 fn change_of_right(
     alloc: Global,
-    function: Monadic,
+    function: Function1,
     right: &Input,
     held: &Result<Array, Fault>,
     change: &mut Delta,
@@ -54,7 +54,7 @@ fn change_of_right(
 /// is found by these. Only totals join sums.
 pub(crate) fn change_of_monad(
     alloc: Global,
-    function: Monadic,
+    function: Function1,
     right: &Input,
     kept: &Option<LineSums>,
     made: &SumsDelta,
@@ -121,7 +121,7 @@ fn change_of_total(
 /// The change of a function of its two arguments, and what it costs; beside an error it is that error, the right argument's first.
 pub(crate) fn change_of_both(
     alloc: Global,
-    function: Dyadic,
+    function: Function2,
     left: &Input,
     right: &Input,
     held: &Result<Array, Fault>,

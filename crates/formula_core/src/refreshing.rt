@@ -5,9 +5,9 @@ ghost use Rattle.change_core.specs.Reaches.{AllFit};
 ghost use Rattle.change_rules.specs.Nodes.{views, moved};
 ghost use Rattle.change_rules.specs.Currency.{HasAxis};
 ghost use Rattle.selection_fns.specs.Index.{count_written, index_rule};
-ghost use Rattle.formula_core.specs.Rules.{right_rule, both_rule, with_change, IsRefreshed};
+ghost use Rattle.formula_core.specs.Rules.{monadic_rule, dyadic_rule, right_rule, both_rule, with_change, IsRefreshed};
 
-use apl_expr::{Dyadic, Monadic};
+use apl_expr::{Dyadic, Function1, Function2, Monadic};
 use arrays_core::{Array, Fault};
 use change_core::{Meter, Rule};
 use change_rules::refresh_with_cost;
@@ -52,7 +52,7 @@ impl<'a> Operation<'a> {
     /// The change of a function of one argument.
     pub(crate) fn of_right(
         &self,
-        function: Monadic,
+        function: Function1,
         change: &mut Delta,
         meter: &mut Meter,
     ) -> Result<u32, AllocError>
@@ -63,19 +63,61 @@ impl<'a> Operation<'a> {
         ensures joins { meter.new.joins ≡ meter.old.joins }
     {
         match function {
+            Function1::Monad(function) => self.of_monadic(function, change, meter),
+            Function1::Reduce(function, along) => {
+                self.by(&Reduce { function, along }, change, meter)
+            }
+            Function1::Scan(function, along) => self.by(&Scan { function, along }, change, meter),
+        }
+    }
+
+    /// The change of one that is no operator's.
+    #[inline(always)]
+    fn of_monadic(
+        &self,
+        function: Monadic,
+        change: &mut Delta,
+        meter: &mut Meter,
+    ) -> Result<u32, AllocError>
+        requires count { length self.now.args.now ≡ 1 }
+        requires fit { AllFit (views self.now.args.now) (moved self.now.args.now) }
+        requires axes { HasAxis self.now.args.now }
+        ensures refreshed { IsRefreshed (monadic_rule function) self.now.args.now self.now.held.now meter.old.ticks meter.new.ticks (with_change change.new result) }
+        ensures joins { meter.new.joins ≡ meter.old.joins }
+    {
+        match function {
             Monadic::Scalar(function) => self.by(&EachMonadic { function }, change, meter),
             Monadic::Ravel => self.by(&Ravel, change, meter),
             Monadic::Reverse(along) => self.by(&Reverse { along }, change, meter),
             Monadic::Transpose => self.by(&Transpose, change, meter),
             Monadic::Shape => self.by(&ShapeOf, change, meter),
             Monadic::Iota => self.by(&IndexGenerator, change, meter),
-            Monadic::Reduce(function, along) => self.by(&Reduce { function, along }, change, meter),
-            Monadic::Scan(function, along) => self.by(&Scan { function, along }, change, meter),
         }
     }
 
     /// The change of a function of two arguments, the left one first.
     pub(crate) fn of_both(
+        &self,
+        function: Function2,
+        change: &mut Delta,
+        meter: &mut Meter,
+    ) -> Result<u32, AllocError>
+        requires count { length self.now.args.now ≡ 2 }
+        requires fit { AllFit (views self.now.args.now) (moved self.now.args.now) }
+        requires axes { HasAxis self.now.args.now }
+        ensures refreshed { IsRefreshed (both_rule function) self.now.args.now self.now.held.now meter.old.ticks meter.new.ticks (with_change change.new result) }
+        ensures joins { meter.new.joins ≡ meter.old.joins }
+    {
+        match function {
+            Function2::Dyad(function) => self.of_dyadic(function, change, meter),
+            Function2::Outer(function) => self.by(&Outer { function }, change, meter),
+            Function2::Inner(fold, each) => self.by(&Inner { fold, each }, change, meter),
+        }
+    }
+
+    /// The change of one that is no operator's.
+    #[inline(always)]
+    fn of_dyadic(
         &self,
         function: Dyadic,
         change: &mut Delta,
@@ -84,7 +126,7 @@ impl<'a> Operation<'a> {
         requires count { length self.now.args.now ≡ 2 }
         requires fit { AllFit (views self.now.args.now) (moved self.now.args.now) }
         requires axes { HasAxis self.now.args.now }
-        ensures refreshed { IsRefreshed (both_rule function) self.now.args.now self.now.held.now meter.old.ticks meter.new.ticks (with_change change.new result) }
+        ensures refreshed { IsRefreshed (dyadic_rule function) self.now.args.now self.now.held.now meter.old.ticks meter.new.ticks (with_change change.new result) }
         ensures joins { meter.new.joins ≡ meter.old.joins }
     {
         match function {
@@ -100,8 +142,6 @@ impl<'a> Operation<'a> {
             Dyadic::Member => self.by(&Member, change, meter),
             Dyadic::Encode => self.by(&Encode, change, meter),
             Dyadic::Decode => self.by(&Decode, change, meter),
-            Dyadic::Outer(function) => self.by(&Outer { function }, change, meter),
-            Dyadic::Inner(fold, each) => self.by(&Inner { fold, each }, change, meter),
         }
     }
 

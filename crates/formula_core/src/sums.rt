@@ -10,7 +10,7 @@ ghost use Rattle.formula_core.specs.Inputs.{shown, delta_of, HasFit};
 ghost use Rattle.formula_core.specs.Sums.{total_of as fold_of_total, in_box, resummed, FitsSums, IsSumsDelta};
 
 use crate::input::Input;
-use apl_expr::Monadic;
+use apl_expr::Function1;
 use fold_trees::has_trees;
 use index_region::{Delta, Patch, Seen, Tail};
 use operator_fns::Reduce;
@@ -34,11 +34,13 @@ pub(crate) enum SumsDelta {
 }
 
 /// The fold that a function is whose parts are kept as trees, if it is one, as `+/` and `⌈⌿` are.
-pub(crate) fn total_of(function: Monadic) -> Option<Reduce>
+pub(crate) fn total_of(function: Function1) -> Option<Reduce>
     ensures { result ≡ fold_of_total function }
 {
     match function {
-        Monadic::Reduce(function, along) if has_trees(function) => Some(Reduce { function, along }),
+        Function1::Reduce(function, along) if has_trees(function) => {
+            Some(Reduce { function, along })
+        }
         _ => None,
     }
 }

@@ -1,13 +1,13 @@
 //! The nodes of an expression, each after those whose results it takes.
 
 ghost use Rattle.std.specs.Prelude.{◌≡◌, ◌++◌, [], ◌∷◌, length, map, IfOk, OnOk};
-ghost use Rattle.apl_expr.specs.Trees.{tree_of, position_of, positions_of, literal_of};
+ghost use Rattle.apl_expr.specs.Trees.{tree_of, position_of, positions_of, literal_of, between_arguments};
 ghost use Rattle.formula_core.specs.declared.table.Operand.TheVariants.{Node as NodeAt};
 ghost use Rattle.formula_core.specs.Sums.{totalled};
 ghost use Rattle.formula_core.specs.Tables.{IsLowered, ArePositionsLowered, applies, is_literal};
 
 use crate::sums::total_of;
-use apl_expr::{Dyadic, Expr, Literal, Monadic};
+use apl_expr::{Expr, Function1, Function2, Literal, Sides};
 use apl_tokens::Name;
 use operator_fns::Reduce;
 use std::alloc::{AllocError, Global};
@@ -29,10 +29,10 @@ pub(crate) enum Node {
     Constant(Literal),
     /// The name at this place of the references.
     Name(usize),
-    /// A function of one argument.
-    Monad(Monadic, Operand),
-    /// A function of two arguments, the left one and the right one.
-    Dyad(Dyadic, Operand, Operand),
+    /// A function before its argument.
+    Monad(Function1, Operand),
+    /// A function between its arguments, the left one and the right one.
+    Dyad(Function2, Operand, Operand),
     /// An array and the positions of its index, each of which may be empty.
     Index(Operand, Vec<Option<Operand>>),
 }
@@ -82,19 +82,53 @@ pub(crate) fn lower(
         }
         Expr::Monad(function, right) => {
             let right = lower(alloc, names, nodes, right)?;
-            push(nodes, Node::Monad(*function, right))
+            push(nodes, Node::Monad(Function1::Monad(*function), right))
         }
         Expr::Dyad(function, sides) => {
-            let left = lower(alloc, names, nodes, &sides.left)?;
-            let right = lower(alloc, names, nodes, &sides.right)?;
-            push(nodes, Node::Dyad(*function, left, right))
+            lower_between(alloc, names, nodes, Function2::Dyad(*function), sides)
         }
         Expr::Index(operand, positions) => {
             let operand = lower(alloc, names, nodes, operand)?;
             let positions = lower_positions(alloc, names, nodes, positions)?;
             push(nodes, Node::Index(operand, positions))
         }
+        Expr::Reduce(function, along, right) => {
+            let right = lower(alloc, names, nodes, right)?;
+            push(
+                nodes,
+                Node::Monad(Function1::Reduce(*function, *along), right),
+            )
+        }
+        Expr::Scan(function, along, right) => {
+            let right = lower(alloc, names, nodes, right)?;
+            push(
+                nodes,
+                Node::Monad(Function1::Scan(*function, *along), right),
+            )
+        }
+        Expr::Outer(function, sides) => {
+            lower_between(alloc, names, nodes, Function2::Outer(*function), sides)
+        }
+        Expr::Inner(fold, each, sides) => {
+            lower_between(alloc, names, nodes, Function2::Inner(*fold, *each), sides)
+        }
     }
+}
+
+/// Adds the names and the nodes of a function between its arguments behind these, and tells what stands for it as an argument.
+#[cycle(lower)]
+fn lower_between(
+    alloc: Global,
+    names: &mut Vec<Name>,
+    nodes: &mut Vec<Node>,
+    function: Function2,
+    sides: &Sides,
+) -> Result<Operand, AllocError>
+    ensures { IfOk result (λ operand. IsLowered names.old.items names.new.items nodes.old.items nodes.new.items (between_arguments function (tree_of sides.now.left) (tree_of sides.now.right)) operand) }
+{
+    let left = lower(alloc, names, nodes, &sides.left)?;
+    let right = lower(alloc, names, nodes, &sides.right)?;
+    push(nodes, Node::Dyad(function, left, right))
 }
 
 /// Adds the names and the nodes of the positions of an index behind these, from the left, and tells what stands for each

@@ -7,7 +7,8 @@ use Rattle.std.proofs.lemmas.Bool.{false≢true}
 use Rattle.std.proofs.lemmas.List.{map-append}
 use Rattle.std.proofs.lemmas.List.Sums.{sum_by_push}
 use Rattle.std.proofs.lemmas.List.Elements.{Contains-append_left, Contains-append_right, Contains-append_cases}
-use Rattle.apl_expr.specs.Trees.{Tree, Const, Name, Monad, Dyad, Index, Positions, NoPositions, Empty, Filled}
+use Rattle.apl_expr.specs.Trees.{Tree, Const, Name, Monad, Dyad, Index, Reduce, Scan, Outer, Inner, Positions, NoPositions, Empty, Filled}
+use Rattle.apl_expr.specs.declared.functions.Function1.TheVariants as function1
 use Rattle.arrays_core.specs.Outcomes.{Outcome}
 use Rattle.formula_core.specs.Meaning.{names_in, names_in_positions}
 use Rattle.formula_core.specs.Tables.{inside, inside_positions, subtrees}
@@ -50,6 +51,14 @@ module _ (X : Type 0) (by_f by_g : Tree → X) (P : List ℕ → Type 0) (same :
     inside_same (Index a ps) h =
         append_same by_f by_g (inside a) (inside_positions ps ++ Index a ps ∷ []) (inside_same a (λ x o. h x (Contains-append_left (names_in a) (names_in_positions ps) x o)))
         (append_same by_f by_g (inside_positions ps) (Index a ps ∷ []) (inside_positions_same ps (λ x o. h x (Contains-append_right (names_in a) (names_in_positions ps) x o))) (ap (λ o. o ∷ []) (same (Index a ps) h)))
+    inside_same (Reduce k j b) h = append_same by_f by_g (inside b) (Reduce k j b ∷ []) (inside_same b h) (ap (λ o. o ∷ []) (same (Reduce k j b) h))
+    inside_same (Scan k j b) h = append_same by_f by_g (inside b) (Scan k j b ∷ []) (inside_same b h) (ap (λ o. o ∷ []) (same (Scan k j b) h))
+    inside_same (Outer k a b) h =
+        append_same by_f by_g (inside a) (inside b ++ Outer k a b ∷ []) (inside_same a (λ x o. h x (Contains-append_left (names_in a) (names_in b) x o)))
+        (append_same by_f by_g (inside b) (Outer k a b ∷ []) (inside_same b (λ x o. h x (Contains-append_right (names_in a) (names_in b) x o))) (ap (λ o. o ∷ []) (same (Outer k a b) h)))
+    inside_same (Inner k j a b) h =
+        append_same by_f by_g (inside a) (inside b ++ Inner k j a b ∷ []) (inside_same a (λ x o. h x (Contains-append_left (names_in a) (names_in b) x o)))
+        (append_same by_f by_g (inside b) (Inner k j a b ∷ []) (inside_same b (λ x o. h x (Contains-append_right (names_in a) (names_in b) x o))) (ap (λ o. o ∷ []) (same (Inner k j a b) h)))
 
     inside_positions_same : (ps : Positions) → ((x : List ℕ) → Contains (names_in_positions ps) x → P x) → map by_f (inside_positions ps) ≡ map by_g (inside_positions ps)
     inside_positions_same NoPositions h = refl
@@ -64,15 +73,23 @@ module _ (X : Type 0) (by_f by_g : Tree → X) (P : List ℕ → Type 0) (same :
   subtrees_same (Monad k b) h = inside_same (Monad k b) h
   subtrees_same (Dyad k a b) h = inside_same (Dyad k a b) h
   subtrees_same (Index a ps) h = inside_same (Index a ps) h
+  subtrees_same (Reduce k j b) h = inside_same (Reduce k j b) h
+  subtrees_same (Scan k j b) h = inside_same (Scan k j b) h
+  subtrees_same (Outer k a b) h = inside_same (Outer k a b) h
+  subtrees_same (Inner k j a b) h = inside_same (Inner k j a b) h
 
 -- only the names in a tree matter, to the result of each tree in it, and to the sums that are kept for it
 module _ (f g : List ℕ → Outcome) (t : Tree) (h : (x : List ℕ) → Contains (names_in t) x → f x ≡ g x) where
   summed_alike : (u : Tree) → ((x : List ℕ) → Contains (names_in u) x → f x ≡ g x) → summed_at f u ≡ summed_at g u
   summed_alike (Const l) k = refl
   summed_alike (Name x) k = refl
-  summed_alike (Monad m b) k = ap (λ o. option_map_or (λ fold. summed_in fold o) (total_of m) None) (eval_alike b f g k)
+  summed_alike (Monad m b) k = refl
   summed_alike (Dyad m a b) k = refl
   summed_alike (Index a ps) k = refl
+  summed_alike (Reduce m j b) k = ap (λ o. option_map_or (λ fold. summed_in fold o) (total_of (function1.Reduce m j)) None) (eval_alike b f g k)
+  summed_alike (Scan m j b) k = refl
+  summed_alike (Outer m a b) k = refl
+  summed_alike (Inner m j a b) k = refl
 
   pub held_same : map (holding_at f) (subtrees t) ≡ map (holding_at g) (subtrees t)
   held_same = subtrees_same Holding (holding_at f) (holding_at g) (λ x. f x ≡ g x) (λ u k. let e = eval_alike u f g k in let s = summed_alike u k in λ i. record { result = e i; sums = s i }) t h

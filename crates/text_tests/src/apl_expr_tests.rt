@@ -74,11 +74,11 @@ fn reads_trees(rt: HostRuntime) {
         ),
         (
             "+/[2]-⍀3",
-            "Monad(Reduce(Plus, Axis(2)), Monad(Scan(Minus, First), Const(Num(3))))",
+            "Reduce(Plus, Axis(2), Scan(Minus, First, Const(Num(3))))",
         ),
         (
             "1+.×2∘.=1/3",
-            "Dyad(Inner(Plus, Times), Sides { left: Const(Num(1)), right: Dyad(Outer(Equal), Sides { left: Const(Num(2)), right: Dyad(Replicate(Last), Sides { left: Const(Num(1)), right: Const(Num(3)) }) }) })",
+            "Inner(Plus, Times, Sides { left: Const(Num(1)), right: Outer(Equal, Sides { left: Const(Num(2)), right: Dyad(Replicate(Last), Sides { left: Const(Num(1)), right: Const(Num(3)) }) }) })",
         ),
     ] {
         let found = written(rt.alloc(), text);

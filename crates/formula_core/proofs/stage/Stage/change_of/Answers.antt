@@ -4,6 +4,7 @@ use Rattle.formula_core.specs.declared.table.Operand.{Operand}
 use Rattle.formula_core.specs.Meaning.{eval}
 use Rattle.formula_core.specs.Tables.{tree_of_node, tree_of_index, tree_of_operand}
 use Rattle.formula_core.specs.Stages.{IsStep, IsJoined, IsKeptBy, IsMadeBy}
+use Rattle.formula_core.proofs.Applied.{least_between, most_between}
 use Rattle.formula_core.proofs.Steps.{free_step, name_input, name_told}
 use Rattle.formula_core.proofs.Joined.{kept_well, monad_joined, unjoined}
 use Rattle.formula_core.proofs.Summed.{kept_for, made_for}
@@ -72,7 +73,9 @@ returns-in-Monad-clause-joins c = λ change names trees staged holds.
 pub returns-in-Dyad-clause-joins : goal.returns-in-Dyad-clause-joins
 returns-in-Dyad-clause-joins c = λ change names trees staged holds.
     subst (λ (n : Node). IsJoined c.args.self.now.is_new change (tree_of_node names trees n) c.args.meter.now.joins c.change_of_both.new.meter.joins (with_change c.change_of_both.new.change c.change_of_both.result)) (sym c.in-Dyad.is)
-    (unjoined c.args.self.now.is_new change _ _ _ (with_change c.change_of_both.new.change c.change_of_both.result) c.change_of_both.ensures.joins refl refl)
+    (unjoined c.args.self.now.is_new change _ _ _ (with_change c.change_of_both.new.change c.change_of_both.result) c.change_of_both.ensures.joins
+    (most_between c.args.self.now.is_new change c.in-Dyad.function (tree_of_operand names trees c.in-Dyad.left) (tree_of_operand names trees c.in-Dyad.right))
+    (least_between c.args.self.now.is_new change c.in-Dyad.function (tree_of_operand names trees c.in-Dyad.left) (tree_of_operand names trees c.in-Dyad.right)))
 
 pub returns-in-Index-clause-joins : goal.returns-in-Index-clause-joins
 returns-in-Index-clause-joins c = λ change names trees staged holds.
