@@ -1,5 +1,7 @@
 -- What is counted where an expression is worked out once is what its functions cost.
-use Rattle.std.proofs.Common.{◌≡◌, ◌∙◌, ◌+◌, ◌<◌, ◌≤◌, ℕ, zero, suc, List, [], ◌∷◌, ◌++◌, length, map, drop, get_or, true, is_ok, Option, Some, None, Result, Ok, Err, IsOk, refl, sym, ap, subst, arith}
+use Rattle.std.proofs.Common.{◌≡◌, ◌∙◌, ◌+◌, ◌<◌, ◌≤◌, ℕ, zero, suc, List, [], ◌∷◌, ◌++◌, length, map, drop, get_or, true, is_ok, Option, Some, None, Result, Ok, Err, IsOk, refl, sym, ap, subst, arith, IfOk}
+use Rattle.std.specs.Prelude.{OnErr}
+use Rattle.std.specs.declared.alloc.AllocError.{AllocError}
 use Rattle.std.specs.List.{sum_by}
 use Rattle.std.proofs.lemmas.Bool.{false≢true}
 use Rattle.std.proofs.lemmas.List.{drop_more}
@@ -22,7 +24,7 @@ use Rattle.selection_fns.specs.Index.{Position, index_rule}
 use Rattle.formula_core.specs.declared.evaluation.Operand.{Operand}
 use Rattle.formula_core.specs.Changes.{at_rest, arguments, operation_size, result_of, size_at, values_of, written}
 use Rattle.formula_core.specs.Counts.{cost_in, cost_in_positions, AreItemsCounted, ArePositionsCounted, IsCounted, IsTreeCounted}
-use Rattle.formula_core.specs.Meaning.{applied2, eval, eval_positions, in_front, of_right, of_both}
+use Rattle.formula_core.specs.Meaning.{applied1, applied2, eval, eval_positions, in_front, of_right, of_both}
 use Rattle.formula_core.specs.Operands.{array_in, outcome_of}
 use Rattle.formula_core.specs.Plans.{tree_cost}
 use Rattle.formula_core.specs.Rules.{right_rule, both_rule}
@@ -127,6 +129,16 @@ module _ (names : List ℕ → Outcome) where
         least = λ h. subst (λ n. ticked before n ≤ after) (sym parts)
             (then before now after (cost_in names b) (size_at names t) (first.least (first_given (eval b names) (λ y. given (of_right f y)) (ap is_ok (sym (eval_before names f b)) ∙ h))) (least_items (eval t names) (size_at names t) now after gives is sized items h));
       }
+
+  -- what it is answered, and what that counts
+  pub monad_given : (f : Function1) (b : Tree) (right : Outcome) (r : Result (Result Operand Fault) AllocError) → right ≡ eval b names → IfOk r (λ o. outcome_of o ≡ applied1 f right) → IfOk r (λ o. outcome_of o ≡ eval (before_argument f b) names)
+  monad_given f b right (Ok gives) is given = given ∙ (ap (applied1 f) is ∙ sym (eval_before names f b))
+  monad_given f b right (Err e) is given = tt
+
+  pub monad_answered : {A : Type 0} (f : Function1) (b : Tree) (before now after : ℕ) (right : A) (r : Result (Result Operand Fault) AllocError) → IsTreeCounted names b before now (Ok right)
+      → IfOk r (λ o. outcome_of o ≡ eval (before_argument f b) names) → IfOk r (λ o. AreItemsCounted o now after) → OnErr r (after ≡ now) → IsTreeCounted names (before_argument f b) before after r
+  monad_answered f b before now after right (Ok gives) first is items same = monad_counted f b before now after right gives gives first is items
+  monad_answered f b before now after right (Err e) first is items same = record { most = omega (arith, first.most, same, monad_cost f b); least = tt }
 
   pub dyad_counted : {A B D : Type 0} (f : Function2) (a b : Tree) (before now then_now after : ℕ) (right : A) (left : B) (gives : Result Operand Fault) (told : D) → IsTreeCounted names b before now (Ok right)
       → IsTreeCounted names a now then_now (Ok left) → outcome_of gives ≡ eval (between_arguments f a b) names → AreItemsCounted gives then_now after

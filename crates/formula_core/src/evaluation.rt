@@ -130,7 +130,7 @@ fn argument<'a, S: Shows>(
         },
         Expr::Monad(function, right) => {
             let right = argument(alloc, right, names, meter)?;
-            before(alloc, Function1::Monad(*function), right, meter)
+            of_argument(alloc, Function1::Monad(*function), right, meter)
         }
         Expr::Dyad(function, sides) => {
             between(alloc, Function2::Dyad(*function), sides, names, meter)
@@ -143,11 +143,11 @@ fn argument<'a, S: Shows>(
         }
         Expr::Reduce(function, along, right) => {
             let right = argument(alloc, right, names, meter)?;
-            before(alloc, Function1::Reduce(*function, *along), right, meter)
+            of_argument(alloc, Function1::Reduce(*function, *along), right, meter)
         }
         Expr::Scan(function, along, right) => {
             let right = argument(alloc, right, names, meter)?;
-            before(alloc, Function1::Scan(*function, *along), right, meter)
+            of_argument(alloc, Function1::Scan(*function, *along), right, meter)
         }
         Expr::Outer(function, sides) => {
             between(alloc, Function2::Outer(*function), sides, names, meter)
@@ -161,7 +161,7 @@ fn argument<'a, S: Shows>(
 /// The value of a function before its argument, whose items are counted. It stands alone, so that no more than the argument lies on the stack while
 /// that is worked out.
 #[inline(never)]
-fn before<'a>(
+fn of_argument<'a>(
     alloc: Global,
     function: Function1,
     right: Result<Operand<'a>, Fault>,
@@ -187,7 +187,7 @@ fn between<'a, S: Shows>(
     ensures value { IfOk result (λ operand. outcome_of operand ≡ eval (between_arguments function (tree_of sides.now.left) (tree_of sides.now.right)) (S.shows names.entry.now)) }
     ensures counted { IsTreeCounted (S.shows names.entry.now) (between_arguments function (tree_of sides.now.left) (tree_of sides.now.right)) meter.old.ticks meter.new.ticks result }
 {
-    if let Function2::Dyad(Dyadic::Scalar(scalar)) = function {
+    if let Some(scalar) = scalar_in(function) {
         if let Some(number) = number_of(&sides.right) {
             let left = argument(alloc, &sides.left, names, meter)?;
             let given = apply_to_number(alloc, scalar, left, number)?;
@@ -203,6 +203,17 @@ fn between<'a, S: Shows>(
     let left = argument(alloc, &sides.left, names, meter)?;
     let given = apply_dyad(alloc, function, left, right)?;
     Ok(counted(given, meter))
+}
+
+/// The scalar function that it is, if it is one.
+#[inline(always)]
+fn scalar_in(function: Function2) -> Option<Scalar2>
+    ensures { IfSome result (λ scalar. function ≡ Dyad (Scalar scalar)) }
+{
+    match function {
+        Function2::Dyad(Dyadic::Scalar(scalar)) => Some(scalar),
+        _ => None,
+    }
 }
 
 /// The number that an expression is, where one number is all of it.

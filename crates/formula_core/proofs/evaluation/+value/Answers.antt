@@ -1,10 +1,11 @@
-use Rattle.std.proofs.Common.{◌≡◌, ◌+◌, ◌-◌, ◌<◌, ◌≤◌, [], ◌∷◌, to_z, of_z, w64, SFits, length, get_or, drop, List, Option, Some, None, Result, Ok, Err, is_ok, ◌∙◌, ap, sym, subst, map, arith, rules}
+use Rattle.std.proofs.Common.{◌≡◌, ◌+◌, ◌-◌, ◌<◌, ◌≤◌, [], ◌∷◌, to_z, of_z, w64, SFits, length, get_or, drop, List, Option, Some, None, Result, Ok, Err, is_ok, IfOk, ◌∙◌, ap, sym, subst, map, arith, rules}
 use Rattle.std.proofs.lemmas.Bool.{false≢true}
 use Rattle.std.proofs.lemmas.Int.{to_z-of_z}
 use Rattle.apl_expr.specs.declared.expr.Expr.{Expr}
-use Rattle.apl_expr.specs.declared.expr.Dyadic.{Dyadic}
+use Rattle.apl_expr.specs.declared.functions.Function1.TheVariants as function1
+use Rattle.apl_expr.specs.declared.functions.Function2.TheVariants.{Dyad}
 use Rattle.apl_expr.specs.declared.expr.Dyadic.TheVariants.{Scalar}
-use Rattle.apl_expr.specs.Trees.{Tree, Numbers, Const, Monad, Dyad, Index, tree_of, position_of, positions_of}
+use Rattle.apl_expr.specs.Trees.{Tree, Numbers, Const, Index, between_arguments, tree_of, position_of, positions_of}
 use Rattle.arrays_core.specs.Arrays.{scalar_of}
 use Rattle.apl_expr.proofs.Rows.{tree_index}
 use Rattle.selection_fns.specs.Index.{Position}
@@ -13,34 +14,86 @@ use Rattle.formula_core.specs.Counts.{cost_in, cost_in_positions, ArePositionsCo
 use Rattle.formula_core.specs.Operands.{outcome_of, position_in, positions_in}
 use Rattle.arrays_core.specs.Outcomes.{Outcome}
 use Rattle.formula_core.specs.Meaning.{eval, eval_positions, applied1, applied2, indexed}
-use Rattle.formula_core.proofs.Counted.{literal_counted, monad_counted, dyad_counted, index_counted, index_cost, cost_from, cost_written, cost_empty, cost_left, failed_at}
+use Rattle.formula_core.proofs.Applied.{eval_between}
+use Rattle.formula_core.proofs.Counted.{literal_counted, monad_given, monad_answered, dyad_counted, index_counted, index_cost, cost_from, cost_written, cost_empty, cost_left, failed_at}
 use Rattle.formula_core.proofs.Indexing.{there}
-use Rattle.formula_core.proofs.evaluation.+value.Goals.{between-in-Scalar+in_default-number_of+in_default-number_of-2, between-in_default}
 use Rattle.formula_core.proofs.evaluation.+value.Goals.{position_operands-in-Some+in_ok-operand-in-Some+in-Ok, position_operands-in-None}
 use Rattle.formula_core.proofs.evaluation.+value.Goals as goal
 
-pub argument-returns-in_ok-given-in-Monad-clause-counted : goal.argument-returns-in_ok-given-in-Monad-clause-counted
-argument-returns-in_ok-given-in-Monad-clause-counted g t c =
+pub argument-returns-in_ok-right-in-Monad-clause-value : goal.argument-returns-in_ok-right-in-Monad-clause-value
+argument-returns-in_ok-right-in-Monad-clause-value g t c =
     let names = g.S.Shows.shows c.args.names.now in
-    let f = c.in-Monad.function in
     let b = tree_of c.in-Monad.right.value in
-    let before = c.args.meter.now.ticks in
-    let now = c.argument.new.meter.ticks in
-    let after = c.counted.new.meter.ticks in
-    let made : tree_of c.args.tree.now ≡ Monad f b = ap tree_of c.in-Monad.is in
-    let first : IsTreeCounted names b before now (Ok c.in_ok-right-in-Monad.right) =
-    subst (λ (e : Expr). IsTreeCounted names (tree_of e) before now (Ok c.in_ok-right-in-Monad.right)) c.deref.ensures c.in_ok-right-in-Monad.ensures.counted in
     let right : outcome_of c.in_ok-right-in-Monad.right ≡ eval b names = search rules in
-    let given : outcome_of c.in_ok-given-in-Monad.given ≡ applied1 f (outcome_of c.in_ok-right-in-Monad.right) = c.in_ok-given-in-Monad.ensures in
-    let is : outcome_of c.in_ok-given-in-Monad.given ≡ eval (Monad f b) names = given ∙ ap (applied1 f) right in
-    subst (λ (x : Tree). IsTreeCounted names x before after (Ok c.counted.result)) (sym made)
-    (monad_counted names f b before now after c.in_ok-right-in-Monad.right c.in_ok-given-in-Monad.given c.counted.result first is c.counted.ensures.items)
+    subst (λ (x : Tree). IfOk c.of_argument.result (λ o. outcome_of o ≡ eval x names)) (sym (ap tree_of c.in-Monad.is))
+    (monad_given names (function1.Monad c.in-Monad.function) b (outcome_of c.in_ok-right-in-Monad.right) c.of_argument.result right c.of_argument.ensures.value)
 
-pub between-returns-in-Some-clause-counted : goal.between-returns-in-Some-clause-counted
-between-returns-in-Some-clause-counted g t c =
+pub argument-returns-in_ok-right-in-Monad-clause-counted : goal.argument-returns-in_ok-right-in-Monad-clause-counted
+argument-returns-in_ok-right-in-Monad-clause-counted g t c =
     let names = g.S.Shows.shows c.args.names.now in
-    let f = c.in-Scalar.scalar in
-    let z = c.in-Some.number in
+    let f = function1.Monad c.in-Monad.function in
+    let b = tree_of c.in-Monad.right.value in
+    let start = c.args.meter.now.ticks in
+    let now = c.argument.new.meter.ticks in
+    let after = c.of_argument.new.meter.ticks in
+    let first : IsTreeCounted names b start now (Ok c.in_ok-right-in-Monad.right) =
+    subst (λ (e : Expr). IsTreeCounted names (tree_of e) start now (Ok c.in_ok-right-in-Monad.right)) c.deref.ensures c.in_ok-right-in-Monad.ensures.counted in
+    let right : outcome_of c.in_ok-right-in-Monad.right ≡ eval b names = search rules in
+    subst (λ (x : Tree). IsTreeCounted names x start after c.of_argument.result) (sym (ap tree_of c.in-Monad.is))
+    (monad_answered names f b start now after c.in_ok-right-in-Monad.right c.of_argument.result first
+    (monad_given names f b (outcome_of c.in_ok-right-in-Monad.right) c.of_argument.result right c.of_argument.ensures.value) c.of_argument.ensures.items c.of_argument.ensures.refused)
+
+pub argument-returns-in_ok-right-in-Reduce-clause-value : goal.argument-returns-in_ok-right-in-Reduce-clause-value
+argument-returns-in_ok-right-in-Reduce-clause-value g t c =
+    let names = g.S.Shows.shows c.args.names.now in
+    let b = tree_of c.in-Reduce.right.value in
+    let right : outcome_of c.in_ok-right-in-Reduce.right ≡ eval b names = search rules in
+    subst (λ (x : Tree). IfOk c.of_argument-in-Reduce.result (λ o. outcome_of o ≡ eval x names)) (sym (ap tree_of c.in-Reduce.is))
+    (monad_given names (function1.Reduce c.in-Reduce.function c.in-Reduce.along) b (outcome_of c.in_ok-right-in-Reduce.right) c.of_argument-in-Reduce.result right c.of_argument-in-Reduce.ensures.value)
+
+pub argument-returns-in_ok-right-in-Reduce-clause-counted : goal.argument-returns-in_ok-right-in-Reduce-clause-counted
+argument-returns-in_ok-right-in-Reduce-clause-counted g t c =
+    let names = g.S.Shows.shows c.args.names.now in
+    let f = function1.Reduce c.in-Reduce.function c.in-Reduce.along in
+    let b = tree_of c.in-Reduce.right.value in
+    let start = c.args.meter.now.ticks in
+    let now = c.argument-in-Reduce.new.meter.ticks in
+    let after = c.of_argument-in-Reduce.new.meter.ticks in
+    let first : IsTreeCounted names b start now (Ok c.in_ok-right-in-Reduce.right) =
+    subst (λ (e : Expr). IsTreeCounted names (tree_of e) start now (Ok c.in_ok-right-in-Reduce.right)) c.deref-in-Reduce.ensures c.in_ok-right-in-Reduce.ensures.counted in
+    let right : outcome_of c.in_ok-right-in-Reduce.right ≡ eval b names = search rules in
+    subst (λ (x : Tree). IsTreeCounted names x start after c.of_argument-in-Reduce.result) (sym (ap tree_of c.in-Reduce.is))
+    (monad_answered names f b start now after c.in_ok-right-in-Reduce.right c.of_argument-in-Reduce.result first
+    (monad_given names f b (outcome_of c.in_ok-right-in-Reduce.right) c.of_argument-in-Reduce.result right c.of_argument-in-Reduce.ensures.value) c.of_argument-in-Reduce.ensures.items c.of_argument-in-Reduce.ensures.refused)
+
+pub argument-returns-in_ok-right-in-Scan-clause-value : goal.argument-returns-in_ok-right-in-Scan-clause-value
+argument-returns-in_ok-right-in-Scan-clause-value g t c =
+    let names = g.S.Shows.shows c.args.names.now in
+    let b = tree_of c.in-Scan.right.value in
+    let right : outcome_of c.in_ok-right-in-Scan.right ≡ eval b names = search rules in
+    subst (λ (x : Tree). IfOk c.of_argument-in-Scan.result (λ o. outcome_of o ≡ eval x names)) (sym (ap tree_of c.in-Scan.is))
+    (monad_given names (function1.Scan c.in-Scan.function c.in-Scan.along) b (outcome_of c.in_ok-right-in-Scan.right) c.of_argument-in-Scan.result right c.of_argument-in-Scan.ensures.value)
+
+pub argument-returns-in_ok-right-in-Scan-clause-counted : goal.argument-returns-in_ok-right-in-Scan-clause-counted
+argument-returns-in_ok-right-in-Scan-clause-counted g t c =
+    let names = g.S.Shows.shows c.args.names.now in
+    let f = function1.Scan c.in-Scan.function c.in-Scan.along in
+    let b = tree_of c.in-Scan.right.value in
+    let start = c.args.meter.now.ticks in
+    let now = c.argument-in-Scan.new.meter.ticks in
+    let after = c.of_argument-in-Scan.new.meter.ticks in
+    let first : IsTreeCounted names b start now (Ok c.in_ok-right-in-Scan.right) =
+    subst (λ (e : Expr). IsTreeCounted names (tree_of e) start now (Ok c.in_ok-right-in-Scan.right)) c.deref-in-Scan.ensures c.in_ok-right-in-Scan.ensures.counted in
+    let right : outcome_of c.in_ok-right-in-Scan.right ≡ eval b names = search rules in
+    subst (λ (x : Tree). IsTreeCounted names x start after c.of_argument-in-Scan.result) (sym (ap tree_of c.in-Scan.is))
+    (monad_answered names f b start now after c.in_ok-right-in-Scan.right c.of_argument-in-Scan.result first
+    (monad_given names f b (outcome_of c.in_ok-right-in-Scan.right) c.of_argument-in-Scan.result right c.of_argument-in-Scan.ensures.value) c.of_argument-in-Scan.ensures.items c.of_argument-in-Scan.ensures.refused)
+
+pub between-returns-in-Some-number_of-clause-counted : goal.between-returns-in-Some-number_of-clause-counted
+between-returns-in-Some-number_of-clause-counted g t c =
+    let names = g.S.Shows.shows c.args.names.now in
+    let f = Dyad (Scalar c.in-Some.scalar) in
+    let z = c.in-Some-number_of.number in
     let a = tree_of c.args.sides.now.left in
     let b = Const (Numbers (z ∷ [])) in
     let before = c.args.meter.now.ticks in
@@ -48,35 +101,35 @@ between-returns-in-Some-clause-counted g t c =
     let after = c.counted.new.meter.ticks in
     let fits : SFits w64 z = search rules in
     let same : to_z w64 (of_z w64 z) ≡ z = to_z-of_z w64 _ fits in
-    let last : tree_of c.args.sides.now.right ≡ b = c.in-Some.ensures in
-    let made : Dyad c.args.function a (tree_of c.args.sides.now.right) ≡ Dyad (Scalar f) a b = λ i. Dyad (c.in-Scalar.is i) a (last i) in
+    let last : tree_of c.args.sides.now.right ≡ b = c.in-Some-number_of.ensures in
+    let made : between_arguments c.args.function a (tree_of c.args.sides.now.right) ≡ between_arguments f a b = λ i. between_arguments (c.in-Some.ensures i) a (last i) in
     let first : IsTreeCounted names a before now (Ok c.in_ok-left.left) = c.in_ok-left.ensures.counted in
     let left : outcome_of c.in_ok-left.left ≡ eval a names = c.in_ok-left.ensures.value in
-    let given : outcome_of c.in_ok-given.given ≡ applied2 (Scalar f) (Ok (scalar_of z)) (outcome_of c.in_ok-left.left) = rw same at c.in_ok-given.ensures in
-    let is : outcome_of c.in_ok-given.given ≡ eval (Dyad (Scalar f) a b) names = given ∙ ap (applied2 (Scalar f) (Ok (scalar_of z))) left in
+    let given : outcome_of c.in_ok-given.given ≡ applied2 f (Ok (scalar_of z)) (outcome_of c.in_ok-left.left) = rw same at c.in_ok-given.ensures in
+    let is : outcome_of c.in_ok-given.given ≡ eval (between_arguments f a b) names = given ∙ ap (applied2 f (Ok (scalar_of z))) left in
     subst (λ (x : Tree). IsTreeCounted names x before after (Ok c.counted.result)) (sym made)
-    (dyad_counted names (Scalar f) a b before before now after tt c.in_ok-left.left c.in_ok-given.given c.counted.result (literal_counted names (Numbers (z ∷ [])) before) first is c.counted.ensures.items)
+    (dyad_counted names f a b before before now after tt c.in_ok-left.left c.in_ok-given.given c.counted.result (literal_counted names (Numbers (z ∷ [])) before) first is c.counted.ensures.items)
 
-pub between-returns-in-Some-number_of-clause-counted : goal.between-returns-in-Some-number_of-clause-counted
-between-returns-in-Some-number_of-clause-counted g t c =
+pub between-returns-in-Some-number_of-2-clause-counted : goal.between-returns-in-Some-number_of-2-clause-counted
+between-returns-in-Some-number_of-2-clause-counted g t c =
     let names = g.S.Shows.shows c.args.names.now in
-    let f = c.in-Scalar.scalar in
-    let z = c.in-Some-number_of.number in
+    let f = Dyad (Scalar c.in-Some.scalar) in
+    let z = c.in-Some-number_of-2.number in
     let a = Const (Numbers (z ∷ [])) in
     let b = tree_of c.args.sides.now.right in
     let before = c.args.meter.now.ticks in
-    let now = c.argument-in-Some-number_of.new.meter.ticks in
-    let after = c.counted-in-Some-number_of.new.meter.ticks in
+    let now = c.argument-in-Some-number_of-2.new.meter.ticks in
+    let after = c.counted-in-Some-number_of-2.new.meter.ticks in
     let fits : SFits w64 z = search rules in
     let same : to_z w64 (of_z w64 z) ≡ z = to_z-of_z w64 _ fits in
-    let front : tree_of c.args.sides.now.left ≡ a = c.in-Some-number_of.ensures in
-    let made : Dyad c.args.function (tree_of c.args.sides.now.left) b ≡ Dyad (Scalar f) a b = λ i. Dyad (c.in-Scalar.is i) (front i) b in
+    let front : tree_of c.args.sides.now.left ≡ a = c.in-Some-number_of-2.ensures in
+    let made : between_arguments c.args.function (tree_of c.args.sides.now.left) b ≡ between_arguments f a b = λ i. between_arguments (c.in-Some.ensures i) (front i) b in
     let first : IsTreeCounted names b before now (Ok c.in_ok-right.right) = c.in_ok-right.ensures.counted in
     let right : outcome_of c.in_ok-right.right ≡ eval b names = c.in_ok-right.ensures.value in
-    let given : outcome_of c.in_ok-given-2.given ≡ applied2 (Scalar f) (outcome_of c.in_ok-right.right) (Ok (scalar_of z)) = rw same at c.in_ok-given-2.ensures in
-    let is : outcome_of c.in_ok-given-2.given ≡ eval (Dyad (Scalar f) a b) names = given ∙ ap (λ (o : Outcome). applied2 (Scalar f) o (Ok (scalar_of z))) right in
-    subst (λ (x : Tree). IsTreeCounted names x before after (Ok c.counted-in-Some-number_of.result)) (sym made)
-    (dyad_counted names (Scalar f) a b before now now after c.in_ok-right.right tt c.in_ok-given-2.given c.counted-in-Some-number_of.result first (literal_counted names (Numbers (z ∷ [])) now) is c.counted-in-Some-number_of.ensures.items)
+    let given : outcome_of c.in_ok-given-2.given ≡ applied2 f (outcome_of c.in_ok-right.right) (Ok (scalar_of z)) = rw same at c.in_ok-given-2.ensures in
+    let is : outcome_of c.in_ok-given-2.given ≡ eval (between_arguments f a b) names = given ∙ ap (λ (o : Outcome). applied2 f o (Ok (scalar_of z))) right in
+    subst (λ (x : Tree). IsTreeCounted names x before after (Ok c.counted-in-Some-number_of-2.result)) (sym made)
+    (dyad_counted names f a b before now now after c.in_ok-right.right tt c.in_ok-given-2.given c.counted-in-Some-number_of-2.result first (literal_counted names (Numbers (z ∷ [])) now) is c.counted-in-Some-number_of-2.ensures.items)
 
 pub between-returns-clause-counted : goal.between-returns-clause-counted
 between-returns-clause-counted g t c =
@@ -92,15 +145,10 @@ between-returns-clause-counted g t c =
     let second : IsTreeCounted names a now then_now (Ok c.in_ok-left-2.left) = c.in_ok-left-2.ensures.counted in
     let right : outcome_of c.in_ok-right-2.right ≡ eval b names = c.in_ok-right-2.ensures.value in
     let left : outcome_of c.in_ok-left-2.left ≡ eval a names = c.in_ok-left-2.ensures.value in
-    let own : c.match-function.function ≡ f =
-    elim c.match-function.branch [
-      | between-in-Scalar+in_default-number_of+in_default-number_of-2 w ↦ w.function-is ∙ sym w.in-Scalar.is
-      | between-in_default w ↦ w.function-is
-    ] in
     let given : outcome_of c.in_ok-given-3.given ≡ applied2 f (outcome_of c.in_ok-right-2.right) (outcome_of c.in_ok-left-2.left) =
-    c.in_ok-given-3.ensures ∙ ap (λ (h : Dyadic). applied2 h (outcome_of c.in_ok-right-2.right) (outcome_of c.in_ok-left-2.left)) own in
-    let is : outcome_of c.in_ok-given-3.given ≡ eval (Dyad f a b) names =
-    given ∙ ap (λ (o : Outcome). applied2 f o (outcome_of c.in_ok-left-2.left)) right ∙ ap (applied2 f (eval b names)) left in
+    c.in_ok-given-3.ensures in
+    let is : outcome_of c.in_ok-given-3.given ≡ eval (between_arguments f a b) names =
+    given ∙ ap (λ (o : Outcome). applied2 f o (outcome_of c.in_ok-left-2.left)) right ∙ ap (applied2 f (eval b names)) left ∙ sym (eval_between names f a b) in
     dyad_counted names f a b before now then_now after c.in_ok-right-2.right c.in_ok-left-2.left c.in_ok-given-3.given c.counted-2.result first second is c.counted-2.ensures.items
 
 pub argument-returns-in_err-positions-in-Index-clause-counted : goal.argument-returns-in_err-positions-in-Index-clause-counted
@@ -149,7 +197,7 @@ argument-returns-in_ok-given-in-Index-clause-value g t c =
     let positions : positions_in c.in_ok-positions-in-Index.positions ≡ eval_positions ps names = search rules in
     let operand : outcome_of c.in_ok-operand-in-Index.operand ≡ eval a names = search rules in
     let given : outcome_of c.in_ok-given-in-Index.given ≡ indexed (positions_in c.in_ok-positions-in-Index.positions) (outcome_of c.in_ok-operand-in-Index.operand) = c.in_ok-given-in-Index.ensures in
-    ap outcome_of c.counted-in-Index.ensures.same ∙ given
+    ap outcome_of c.counted.ensures.same ∙ given
     ∙ ap (λ (r : Result (List Position) Fault). indexed r (outcome_of c.in_ok-operand-in-Index.operand)) positions ∙ ap (indexed (eval_positions ps names)) operand
     ∙ ap (λ (x : Tree). eval x names) (sym made)
 
@@ -161,7 +209,7 @@ argument-returns-in_ok-given-in-Index-clause-counted g t c =
     let before = c.args.meter.now.ticks in
     let now = c.position_operands.new.meter.ticks in
     let then_now = c.argument-in-Index.new.meter.ticks in
-    let after = c.counted-in-Index.new.meter.ticks in
+    let after = c.counted.new.meter.ticks in
     let made : tree_of c.args.tree.now ≡ Index a ps = ap tree_of c.in-Index.is ∙ tree_index c.in-Index.operand c.in-Index.positions in
     let first : ArePositionsCounted names ps before now (Ok c.in_ok-positions-in-Index.positions) =
     subst (λ (xs : List (Option Expr)). ArePositionsCounted names (positions_of (map position_of xs)) before now (Ok c.in_ok-positions-in-Index.positions))
@@ -173,8 +221,8 @@ argument-returns-in_ok-given-in-Index-clause-counted g t c =
     let given : outcome_of c.in_ok-given-in-Index.given ≡ indexed (positions_in c.in_ok-positions-in-Index.positions) (outcome_of c.in_ok-operand-in-Index.operand) = c.in_ok-given-in-Index.ensures in
     let is : outcome_of c.in_ok-given-in-Index.given ≡ eval (Index a ps) names =
     given ∙ ap (λ (r : Result (List Position) Fault). indexed r (outcome_of c.in_ok-operand-in-Index.operand)) positions ∙ ap (indexed (eval_positions ps names)) operand in
-    subst (λ (x : Tree). IsTreeCounted names x before after (Ok c.counted-in-Index.result)) (sym made)
-    (index_counted names a ps before now then_now after c.in_ok-positions-in-Index.positions c.in_ok-operand-in-Index.operand c.in_ok-given-in-Index.given c.counted-in-Index.result first second is c.counted-in-Index.ensures.items)
+    subst (λ (x : Tree). IsTreeCounted names x before after (Ok c.counted.result)) (sym made)
+    (index_counted names a ps before now then_now after c.in_ok-positions-in-Index.positions c.in_ok-operand-in-Index.operand c.in_ok-given-in-Index.given c.counted.result first second is c.counted.ensures.items)
 
 pub position_operands-returns-in_err-operand-in-Some-clause-counted : goal.position_operands-returns-in_err-operand-in-Some-clause-counted
 position_operands-returns-in_err-operand-in-Some-clause-counted g t c =

@@ -1,6 +1,7 @@
 use Rattle.std.proofs.Common.{◌≡◌, sym, subst, IfOk, Ok, to_z, of_z, w64, SFits, rules}
 use Rattle.std.proofs.lemmas.Int.{to_z-of_z}
 use Rattle.apl_expr.specs.declared.expr.Dyadic.TheVariants.{Scalar}
+use Rattle.apl_expr.specs.declared.functions.Function2.TheVariants.{Dyad}
 use Rattle.arrays_core.specs.Arrays.{IsAnswerTo, ArrayValue, scalar_of}
 use Rattle.scalar_fns.specs.ScalarExtension.{dyadic_on_arrays}
 use Rattle.formula_core.specs.Operands.{outcome_of, array_in}
@@ -13,8 +14,8 @@ returns-in-Ok c =
     let a = array_in c.in-Ok.left in
     let fits : SFits w64 c.args.right = search rules in
     let same : to_z w64 (of_z w64 c.args.right) ≡ c.args.right = to_z-of_z w64 _ fits in
-    let answer : IsAnswerTo (of_both (Scalar f) a (scalar_of c.args.right)) c.apply_to_right.result =
+    let answer : IsAnswerTo (of_both (Dyad (Scalar f)) a (scalar_of c.args.right)) c.apply_to_right.result =
     subst (λ (x : ArrayValue). IsAnswerTo (dyadic_on_arrays f x (scalar_of c.args.right)) c.apply_to_right.result) c.array.ensures
     (rw same at c.apply_to_right.ensures) in
-    subst (λ r. IfOk c.made.result (λ operand. outcome_of operand ≡ applied2 (Scalar f) (Ok (scalar_of c.args.right)) (outcome_of r))) (sym c.in-Ok.is)
-    (c.made.ensures (of_both (Scalar f) a (scalar_of c.args.right)) answer)
+    subst (λ r. IfOk c.made.result (λ operand. outcome_of operand ≡ applied2 (Dyad (Scalar f)) (Ok (scalar_of c.args.right)) (outcome_of r))) (sym c.in-Ok.is)
+    (c.made.ensures (of_both (Dyad (Scalar f)) a (scalar_of c.args.right)) answer)

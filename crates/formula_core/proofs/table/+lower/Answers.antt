@@ -1,8 +1,8 @@
 use Rattle.std.proofs.Common.{◌∙◌, List, Option, map, take, sym, ap, subst}
 use Rattle.std.specs.Prelude.{IfOk}
-use Rattle.apl_expr.specs.Trees.{Tree, Const, Monad, Dyad, Index, tree_of, position_of, positions_of, literal_of}
+use Rattle.apl_expr.specs.Trees.{Tree, Const, Index, before_argument, between_arguments, tree_of, position_of, positions_of, literal_of}
 use Rattle.apl_expr.specs.declared.expr.Expr.{Expr}
-use Rattle.apl_expr.specs.declared.expr.Sides.{Sides}
+use Rattle.apl_expr.specs.declared.functions.Function1.TheVariants as function1
 use Rattle.apl_expr.proofs.Rows.{tree_index}
 use Rattle.formula_core.specs.declared.table.Node.TheVariants as node
 use Rattle.formula_core.specs.Tables.{IsLowered, ArePositionsLowered}
@@ -26,31 +26,11 @@ lower-returns-in_ok-right-in-Monad t c =
     let old = c.args.nodes.now.items in
     let mid = c.lower.new.nodes.items in
     let right = c.in_ok-right-in-Monad.right in
-    let f = c.in-Monad.function in
+    let f = function1.Monad c.in-Monad.function in
     let b = tree_of c.in-Monad.right.value in
     subst (λ (u : Tree). IfOk c.push-in-Monad.result (λ o. IsLowered names names' old c.push-in-Monad.new.nodes.items u o)) (sym (ap tree_of c.in-Monad.is))
-    (as_lowered names names' old mid c.push-in-Monad.new.nodes.items (node.Monad f right) (Monad f b) c.push-in-Monad.result c.push-in-Monad.ensures.nodes c.push-in-Monad.ensures.place
+    (as_lowered names names' old mid c.push-in-Monad.new.nodes.items (node.Monad f right) (before_argument f b) c.push-in-Monad.result c.push-in-Monad.ensures.nodes c.push-in-Monad.ensures.place
     (λ is. lowered_monad names names' old mid c.push-in-Monad.new.nodes.items f b right (subst (λ (e : Expr). IsLowered names names' old mid (tree_of e) right) c.deref.ensures c.in_ok-right-in-Monad.ensures) is))
-
-pub lower-returns-in_ok-right-in-Dyad : goal.lower-returns-in_ok-right-in-Dyad
-lower-returns-in_ok-right-in-Dyad t c =
-    let names = c.args.names.now.items in
-    let names' = c.lower-in-Dyad.new.names.items in
-    let names'' = c.lower-in-Dyad-2.new.names.items in
-    let old = c.args.nodes.now.items in
-    let mid = c.lower-in-Dyad.new.nodes.items in
-    let last = c.lower-in-Dyad-2.new.nodes.items in
-    let left = c.in_ok-left-in-Dyad.left in
-    let right = c.in_ok-right-in-Dyad.right in
-    let f = c.in-Dyad.function in
-    let a = tree_of c.in-Dyad.sides.value.left in
-    let b = tree_of c.in-Dyad.sides.value.right in
-    let new = c.push-in-Dyad.new.nodes.items in
-    subst (λ (u : Tree). IfOk c.push-in-Dyad.result (λ o. IsLowered names names'' old new u o)) (sym (ap tree_of c.in-Dyad.is))
-    (as_lowered names names'' old last new (node.Dyad f left right) (Dyad f a b) c.push-in-Dyad.result c.push-in-Dyad.ensures.nodes c.push-in-Dyad.ensures.place
-    (λ is. lowered_dyad names names' names'' old mid last new f a b left right
-    (subst (λ (s : Sides). IsLowered names names' old mid (tree_of s.left) left) c.deref-in-Dyad.ensures c.in_ok-left-in-Dyad.ensures)
-    (subst (λ (s : Sides). IsLowered names' names'' mid last (tree_of s.right) right) c.deref-in-Dyad-2.ensures c.in_ok-right-in-Dyad.ensures) is))
 
 pub lower-returns-in_ok-positions-in-Index : goal.lower-returns-in_ok-positions-in-Index
 lower-returns-in_ok-positions-in-Index t c =
@@ -71,6 +51,49 @@ lower-returns-in_ok-positions-in-Index t c =
     subst (λ (u : Tree). IfOk c.push-in-Index.result (λ o. IsLowered names names'' old new u o)) (sym made)
     (as_lowered names names'' old last new (node.Index array operands) (Index a (positions_of ps)) c.push-in-Index.result c.push-in-Index.ensures.nodes c.push-in-Index.ensures.place
     (λ is. lowered_index names names' names'' old mid last new a ps array operands (subst (λ (e : Expr). IsLowered names names' old mid (tree_of e) array) c.deref-in-Index.ensures c.in_ok-operand-in-Index.ensures) lowered is))
+
+pub lower-returns-in_ok-right-in-Reduce : goal.lower-returns-in_ok-right-in-Reduce
+lower-returns-in_ok-right-in-Reduce t c =
+    let names = c.args.names.now.items in
+    let names' = c.lower-in-Reduce.new.names.items in
+    let old = c.args.nodes.now.items in
+    let mid = c.lower-in-Reduce.new.nodes.items in
+    let right = c.in_ok-right-in-Reduce.right in
+    let f = function1.Reduce c.in-Reduce.function c.in-Reduce.along in
+    let b = tree_of c.in-Reduce.right.value in
+    subst (λ (u : Tree). IfOk c.push-in-Reduce.result (λ o. IsLowered names names' old c.push-in-Reduce.new.nodes.items u o)) (sym (ap tree_of c.in-Reduce.is))
+    (as_lowered names names' old mid c.push-in-Reduce.new.nodes.items (node.Monad f right) (before_argument f b) c.push-in-Reduce.result c.push-in-Reduce.ensures.nodes c.push-in-Reduce.ensures.place
+    (λ is. lowered_monad names names' old mid c.push-in-Reduce.new.nodes.items f b right (subst (λ (e : Expr). IsLowered names names' old mid (tree_of e) right) c.deref-in-Reduce.ensures c.in_ok-right-in-Reduce.ensures) is))
+
+pub lower-returns-in_ok-right-in-Scan : goal.lower-returns-in_ok-right-in-Scan
+lower-returns-in_ok-right-in-Scan t c =
+    let names = c.args.names.now.items in
+    let names' = c.lower-in-Scan.new.names.items in
+    let old = c.args.nodes.now.items in
+    let mid = c.lower-in-Scan.new.nodes.items in
+    let right = c.in_ok-right-in-Scan.right in
+    let f = function1.Scan c.in-Scan.function c.in-Scan.along in
+    let b = tree_of c.in-Scan.right.value in
+    subst (λ (u : Tree). IfOk c.push-in-Scan.result (λ o. IsLowered names names' old c.push-in-Scan.new.nodes.items u o)) (sym (ap tree_of c.in-Scan.is))
+    (as_lowered names names' old mid c.push-in-Scan.new.nodes.items (node.Monad f right) (before_argument f b) c.push-in-Scan.result c.push-in-Scan.ensures.nodes c.push-in-Scan.ensures.place
+    (λ is. lowered_monad names names' old mid c.push-in-Scan.new.nodes.items f b right (subst (λ (e : Expr). IsLowered names names' old mid (tree_of e) right) c.deref-in-Scan.ensures c.in_ok-right-in-Scan.ensures) is))
+
+pub lower_between-returns : goal.lower_between-returns
+lower_between-returns t c =
+    let names = c.args.names.now.items in
+    let names' = c.lower.new.names.items in
+    let names'' = c.lower-2.new.names.items in
+    let old = c.args.nodes.now.items in
+    let mid = c.lower.new.nodes.items in
+    let last = c.lower-2.new.nodes.items in
+    let left = c.in_ok-left.left in
+    let right = c.in_ok-right.right in
+    let f = c.args.function in
+    let a = tree_of c.args.sides.now.left in
+    let b = tree_of c.args.sides.now.right in
+    let new = c.push.new.nodes.items in
+    as_lowered names names'' old last new (node.Dyad f left right) (between_arguments f a b) c.push.result c.push.ensures.nodes c.push.ensures.place
+    (λ is. lowered_dyad names names' names'' old mid last new f a b left right c.in_ok-left.ensures c.in_ok-right.ensures is)
 
 pub lower_positions-loop-position-preserved : goal.lower_positions-loop-position-preserved
 lower_positions-loop-position-preserved t c =
