@@ -1,7 +1,6 @@
 -- What the next change of a formula is worked out from, and the change of its node.
 use Rattle.std.specs.Prelude.{◌≡◌, ◌+◌, ◌≤◌, ◌<◌, ℕ, List, [], ◌∷◌, Bool, true, false, Option, Some, None, Result, IfOk, length, map, take, get_or}
 use Rattle.std.specs.declared.alloc.AllocError.{AllocError}
-use Rattle.std.specs.Global.{Box}
 use Rattle.std.specs.List.{Contains, sum_by}
 use Rattle.apl_expr.specs.Trees.{Tree}
 use Rattle.arrays_core.specs.Arrays.{IsArray}
@@ -27,7 +26,7 @@ use Rattle.formula_core.specs.Changes.{Change, change, arguments, operation_cost
 use Rattle.formula_core.specs.Inputs.{shown, delta_of, IsInput}
 use Rattle.formula_core.specs.Joins.{most_joins_of, least_joins_of, most_joins, least_joins}
 use Rattle.formula_core.specs.Plans.{node_change, node_cost_at, AreInputs, IsNameSound}
-use Rattle.formula_core.specs.Sums.{summed_at, resummed, in_box, FitsSums}
+use Rattle.formula_core.specs.Sums.{summed_at, resummed, FitsSums}
 use Rattle.formula_core.specs.declared.sums.SumsDelta.{SumsDelta}
 use Rattle.formula_core.specs.declared.sums.SumsDelta.TheVariants.{Whole}
 use Rattle.formula_core.specs.declared.table.Node.{Node}
@@ -63,7 +62,7 @@ IsKeptBy s n kept = (c : Change) × ((names : List (List ℕ)) × ((trees : List
 
 -- sums that are made anew for a node are those of what its argument is now
 abbrev pub IsMadeBy : Stage → Node → SumsDelta → Type 0
-IsMadeBy s n made = (c : Change) × ((names : List (List ℕ)) × ((trees : List Tree) × (IsStaged c names trees s × ((sums : Option (Box SummedValue)) → made ≡ Whole sums → in_box sums ≡ summed_at c.new (tree_of_node names trees n)))))
+IsMadeBy s n made = (c : Change) × ((names : List (List ℕ)) × ((trees : List Tree) × (IsStaged c names trees s × ((sums : Option SummedValue) → made ≡ Whole sums → sums ≡ summed_at c.new (tree_of_node names trees n)))))
 
 -- the change of the sums that the node of a tree keeps makes of them those of what its argument is now
 pub record IsSumsStep (c : Change) (t : Tree) (kept : Option SummedValue) (s : SumsDelta) : Type 0 where

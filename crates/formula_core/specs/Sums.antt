@@ -1,6 +1,5 @@
 -- The trees of lines that the totals of a formula keep.
 use Rattle.std.specs.Prelude.{◌≡◌, ℕ, List, false, Option, Some, None, is_some, Ok, Err, if◌then◌else◌}
-use Rattle.std.specs.Global.{Box}
 use Rattle.std.specs.Option.{option_map, option_map_or}
 use Rattle.apl_expr.specs.Trees.{Tree, Const, Name, Monad, Dyad, Index, Scan, Outer, Inner}
 use Rattle.apl_expr.specs.Trees as tree
@@ -57,10 +56,6 @@ totalled (node.Monad f right) = option_map (λ fold. (fold, right)) (total_of f)
 totalled (node.Dyad f left right) = None
 totalled (node.Index array positions) = None
 
--- the array whose lines are folded by what lies in a box
-abbrev pub in_box : Option (Box SummedValue) → Option SummedValue
-in_box s = option_map (λ (b : Box SummedValue). b.value) s
-
 -- the sums that a node keeps, with their change
 abbrev pub resummed : SumsDelta → Option SummedValue → Option SummedValue
 resummed Same kept = kept
@@ -68,7 +63,7 @@ resummed (Patch p) (Some s) = Some (patched_sums s p.value)
 resummed (Patch p) None = None
 resummed (Grown l) (Some s) = Some (grown_sums s l.value.tail.items)
 resummed (Grown l) None = None
-resummed (Whole s) kept = in_box s
+resummed (Whole s) kept = s
 
 -- a box that changes lies in the array whose lines are folded, and new lines are what that grows by
 abbrev pub FitsSums : SumsDelta → Option SummedValue → Type 0
@@ -91,7 +86,7 @@ pub record IsSumsDelta (fold : Reduce) (now : Outcome) (d : Delta) (kept : Optio
 
 -- sums that are made anew for an argument are those of its lines as it is now
 abbrev pub AreNewSums : Reduce → (now : Outcome) → SumsDelta → Type 0
-AreNewSums fold now s = (sums : Option (Box SummedValue)) → s ≡ Whole sums → in_box sums ≡ summed_in fold now
+AreNewSums fold now s = (sums : Option SummedValue) → s ≡ Whole sums → sums ≡ summed_in fold now
 
 -- these sums are those of the lines along an axis of what became this by a patch
 pub record WasPatched (fold : Reduce) (now : Outcome) (p : PatchValue) (s : SummedValue) : Type 0 where

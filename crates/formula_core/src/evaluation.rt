@@ -24,7 +24,7 @@ use crate::literals::array_of;
 use crate::positions::written_of;
 use apl_expr::{Dyadic, Expr, Function1, Function2, Literal, Sides};
 use apl_tokens::Name;
-use arrays_core::{ApplyFault, Array, Fault, size};
+use arrays_core::{ApplyFault, Array, Fault, outcome, size};
 use change_core::Meter;
 use function_names::Scalar2;
 use index_region::{Delta, Seen};
@@ -272,7 +272,10 @@ fn apply_monad<'a>(
     ensures { IfOk result (λ operand. outcome_of operand ≡ applied1 function (outcome_of right.entry)) }
 {
     match right {
-        Ok(right) => made(of_right(alloc, function, right.array())),
+        Ok(right) => {
+            let outcome = of_right(alloc, function, right.array())?;
+            Ok(as_operand(outcome))
+        }
         Err(fault) => Ok(Err(fault)),
     }
 }
@@ -288,7 +291,10 @@ fn apply_dyad<'a>(
 {
     match right {
         Ok(right) => match left {
-            Ok(left) => made(of_both(alloc, function, left.array(), right.array())),
+            Ok(left) => {
+                let outcome = of_both(alloc, function, left.array(), right.array())?;
+                Ok(as_operand(outcome))
+            }
             Err(fault) => Ok(Err(fault)),
         },
         Err(fault) => Ok(Err(fault)),
@@ -381,10 +387,17 @@ fn arguments_of<'a>(
 fn made<'a>(applied: Result<Array, ApplyFault>) -> Result<Result<Operand<'a>, Fault>, AllocError>
     ensures { (wanted : Result ArrayValue AKind) → IsAnswerTo wanted applied → IfOk result (λ operand. outcome_of operand ≡ given wanted) }
 {
-    match applied {
-        Ok(array) => Ok(Ok(Operand::Made(array))),
-        Err(ApplyFault::Kind(kind)) => Ok(Err(Fault { kind, origin: None })),
-        Err(ApplyFault::NoMemory) => Err(AllocError),
+    let outcome = outcome(applied)?;
+    Ok(as_operand(outcome))
+}
+
+/// An array that was made, as an argument, or the error in its place.
+fn as_operand<'a>(outcome: Result<Array, Fault>) -> Result<Operand<'a>, Fault>
+    ensures { outcome_of result ≡ outcome }
+{
+    match outcome {
+        Ok(array) => Ok(Operand::Made(array)),
+        Err(fault) => Err(fault),
     }
 }
 

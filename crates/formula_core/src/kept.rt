@@ -107,10 +107,7 @@ impl NodeChange {
 pub(crate) fn unknown() -> Fault
     ensures { result ≡ fault Value }
 {
-    Fault {
-        kind: Kind::Value,
-        origin: None,
-    }
+    Kind::Value.into()
 }
 
 /// The result of a node takes its change. No memory is asked for: a patch writes its items where they lie, and a tail brings the room that its

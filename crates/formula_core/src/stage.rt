@@ -25,7 +25,7 @@ use crate::positions::Positions;
 use crate::sums::{SumsDelta, sums_delta};
 use crate::table::{Node, Operand};
 use apl_expr::Literal;
-use arrays_core::{ApplyFault, Array, Fault};
+use arrays_core::{Array, Fault, outcome};
 use change_core::Meter;
 use index_region::Delta;
 use smallvec::SmallVec;
@@ -164,6 +164,7 @@ impl<'a> Stage<'a> {
 
     /// The change of an index of what these operands give, as `change_of` tells it. It stands alone, since its positions take room that the other
     /// nodes need not clear.
+    #[inline(never)]
     fn change_of_indexed(
         &self,
         array: Operand,
@@ -208,11 +209,7 @@ impl<'a> Stage<'a> {
         if !self.is_new {
             return Ok(Delta::Same);
         }
-        match array_of(self.alloc, literal) {
-            Ok(array) => Ok(Delta::Whole(Ok(array))),
-            Err(ApplyFault::Kind(kind)) => Ok(Delta::Whole(Err(Fault { kind, origin: None }))),
-            Err(ApplyFault::NoMemory) => Err(AllocError),
-        }
+        Ok(Delta::Whole(outcome(array_of(self.alloc, literal))?))
     }
 
     /// The change of a name that is the whole expression: that of the name, and in a new formula it is new.

@@ -7,7 +7,7 @@ ghost use Rattle.index_region.specs.Patches.{FitsPatch};
 ghost use Rattle.sum_rules.specs.LineSums.{SummedValue};
 ghost use Rattle.formula_core.specs.Changes.{HasGrown};
 ghost use Rattle.formula_core.specs.Inputs.{shown, delta_of, HasFit};
-ghost use Rattle.formula_core.specs.Sums.{total_of as fold_of_total, in_box, resummed, FitsSums, IsSumsDelta};
+ghost use Rattle.formula_core.specs.Sums.{total_of as fold_of_total, resummed, FitsSums, IsSumsDelta};
 
 use crate::input::Input;
 use apl_expr::Function1;
@@ -30,7 +30,7 @@ pub(crate) enum SumsDelta {
     /// What the lines get where the array grew.
     Grown(Box<NewLines>),
     /// Other sums, or none.
-    Whole(Option<Box<LineSums>>),
+    Whole(Option<LineSums>),
 }
 
 /// The fold that a function is whose parts are kept as trees, if it is one, as `+/` and `⌈⌿` are.
@@ -73,8 +73,7 @@ fn made_anew(alloc: Global, fold: Reduce, array: &Seen) -> Result<SumsDelta, All
     requires { has_such fold.function ≡ true }
     ensures { IfOk result (λ s. (d : Delta) → (kept : Option SummedValue) → IsSumsDelta fold (Ok array.now) d kept s) }
 {
-    let sums = LineSums::of(alloc, fold, array)?;
-    Ok(SumsDelta::Whole(boxed(alloc, sums)?))
+    Ok(SumsDelta::Whole(LineSums::of(alloc, fold, array)?))
 }
 
 /// What changes of the sums where the array is patched: a patch that is small beside the array is kept for the trees. Where it is
@@ -119,26 +118,6 @@ fn grown_delta(
     made_anew(alloc, fold, array)
 }
 
-/// Sums in a box, so that a change of a node is small.
-fn boxed(alloc: Global, sums: Option<LineSums>) -> Result<Option<Box<LineSums>>, AllocError>
-    ensures { IfOk result (λ b. in_box b ≡ sums) }
-{
-    match sums {
-        Some(sums) => Ok(Some(Box::new(alloc, sums)?)),
-        None => Ok(None),
-    }
-}
-
-/// The sums that lie in a box.
-fn unboxed(sums: Option<Box<LineSums>>) -> Option<LineSums>
-    ensures { result ≡ in_box sums }
-{
-    match sums {
-        Some(sums) => Some(Box::into_inner(sums)),
-        None => None,
-    }
-}
-
 /// The sums that a node keeps take their change. No memory is asked for.
 pub(crate) fn take_sums_delta(kept: &mut Option<LineSums>, change: SumsDelta)
     requires { FitsSums change kept.old }
@@ -146,7 +125,7 @@ pub(crate) fn take_sums_delta(kept: &mut Option<LineSums>, change: SumsDelta)
 {
     match change {
         SumsDelta::Same => {}
-        SumsDelta::Whole(sums) => *kept = unboxed(sums),
+        SumsDelta::Whole(sums) => *kept = sums,
         SumsDelta::Patch(patch) => {
             if let Some(sums) = kept {
                 sums.write(&patch);

@@ -1,12 +1,11 @@
-use Rattle.std.proofs.Common.{◌≡◌, sym, subst, IfOk}
-use Rattle.arrays_core.specs.Arrays.{IsAnswerTo, ArrayValue}
-use Rattle.formula_core.specs.Operands.{outcome_of, array_in}
+use Rattle.std.proofs.Common.{◌∙◌, ap, sym}
+use Rattle.arrays_core.specs.Arrays.{ArrayValue}
+use Rattle.arrays_core.specs.Outcomes.{given}
+use Rattle.formula_core.specs.Operands.{outcome_of}
 use Rattle.formula_core.specs.Meaning.{of_right, applied1}
 use Rattle.formula_core.proofs.evaluation.apply_monad.Goals as goal
 
-pub returns-in-Ok : goal.returns-in-Ok
-returns-in-Ok c =
-    let answer : IsAnswerTo (of_right c.args.function (array_in c.in-Ok.right)) c.of_right.result =
-    subst (λ (b : ArrayValue). IsAnswerTo (of_right c.args.function b) c.of_right.result) c.array.ensures c.of_right.ensures in
-    subst (λ r. IfOk c.made.result (λ operand. outcome_of operand ≡ applied1 c.args.function (outcome_of r))) (sym c.in-Ok.is)
-    (c.made.ensures (of_right c.args.function (array_in c.in-Ok.right)) answer)
+pub returns-in_ok-outcome-in-Ok : goal.returns-in_ok-outcome-in-Ok
+returns-in_ok-outcome-in-Ok c =
+    let f = c.args.function in
+    c.as_operand.ensures ∙ c.in_ok-outcome-in-Ok.ensures ∙ ap (λ (b : ArrayValue). given (of_right f b)) c.array.ensures ∙ sym (ap (λ r. applied1 f (outcome_of r)) c.in-Ok.is)

@@ -10,7 +10,7 @@ use Rattle.arrays_core.specs.Outcomes.{Outcome}
 use Rattle.formula_core.specs.Rules.{with_change}
 use Rattle.formula_core.specs.Stages.{AreTotalsJoined}
 use Rattle.formula_core.proofs.Gathered.{in_place}
-use Rattle.formula_core.specs.Sums.{in_box, summed_in, AreSumsKept, IsSummedFor, WasGrown, WasPatched}
+use Rattle.formula_core.specs.Sums.{summed_in, AreSumsKept, IsSummedFor, WasGrown, WasPatched}
 use Rattle.formula_core.proofs.Summed.{kept_of, stood_before, stood_for}
 use Rattle.formula_core.proofs.Totalled.{totalled_by_folds, totalled_by_trees}
 use Rattle.formula_core.proofs.operation_change.change_of_total.Goals as goal
@@ -83,4 +83,4 @@ returns-in-None-clause-joins c = λ well.
 pub read_totals_with_cost-requires : goal.read_totals_with_cost-requires
 read_totals_with_cost-requires c =
     let made = c.requires.made c.in-Whole-made.new c.in-Whole-made.is in
-    ap (λ (s : SummedValue). Some s) c.deref.ensures ∙ sym (ap in_box c.in-Some.is) ∙ made ∙ ap (λ (i : Input). summed_in c.args.fold (shown i)) c.in-Good.is
+    sym c.in-Some.is ∙ made ∙ ap (λ (i : Input). summed_in c.args.fold (shown i)) c.in-Good.is

@@ -1,0 +1,13 @@
+use Rattle.std.proofs.Common.{◌≡◌, ◌∙◌, [], ◌∷◌, sym}
+use Rattle.change_rules.specs.Evaluation.{evaluation}
+use Rattle.index_region.specs.declared.delta.Delta.TheVariants.{Whole}
+use Rattle.formula_core.specs.Rules.{both_rule}
+use Rattle.formula_core.proofs.Meant.{both_meant}
+use Rattle.formula_core.proofs.application.of_both.Goals as goal
+
+pub returns : goal.returns
+returns c =
+    let f = c.args.function in
+    let told : Whole c.brought.result ≡ Whole (evaluation (both_rule f) (c.plain.result ∷ c.plain-2.result ∷ [])) = sym c.brought.ensures ∙ c.in_ok-_cost.ensures.refreshed.delta in
+    let is : c.brought.result ≡ evaluation (both_rule f) (c.plain.result ∷ c.plain-2.result ∷ []) = cc in
+    is ∙ (λ i. evaluation (both_rule f) (c.plain.ensures i ∷ c.plain-2.ensures i ∷ [])) ∙ both_meant f c.args.left.now c.args.right.now
