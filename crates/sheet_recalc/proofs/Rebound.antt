@@ -5,7 +5,7 @@ use Rattle.std.specs.List.{Contains, IsDistinct}
 use Rattle.indexmap.specs.IndexSet.{IndexSet}
 use Rattle.dep_order.specs.Reachability.{Chain, Reaches, IsAcyclic}
 use Rattle.std.specs.Option.{option_map_or}
-use Rattle.sheet_recalc.specs.Names.{Names, Binding, Data, Formula, binding, rebound, Refers, referred, referred_by, IsSheet}
+use Rattle.sheet_recalc.specs.Names.{Names, Binding, Data, Formula, binding, put, rebound, Refers, referred, referred_by, IsSheet}
 use Rattle.sheet_recalc.specs.Meaning.{val, IsSettled}
 use Rattle.sheet_recalc.specs.Costs.{AreAllThatReach}
 use Rattle.sheet_recalc.specs.Entries.{names_of}
@@ -128,6 +128,21 @@ table_after {S} old name b users after tells change x y = (to, from)
     from r = cases_name (Uses bytes_eq after x y) name x
         (λ e. (change x y).1 (inr (e, subst (λ (o : Option Binding). Contains (option_map_or referred o []) y) (rebound_own old name b) (refers_referred (rebound old name b) name y (subst (λ z. Refers (rebound old name b) z y) e r)))))
         (λ apart. (change x y).1 (inl ((tells x y).1 (r.0, sym (rebound_same old name b x apart) ∙ r.1, r.2), λ e. absurd (apart e))))
+
+-- the table stays where a name refers to what it referred to
+pub table_stays : {S : Type 0} (old : Names) (name : List ℕ) (b : Binding) (users : List (List ℕ × IndexSet (List ℕ) S)) → TellsUsers old users → referred_by old name ≡ referred b → TellsUsers (put old name b) users
+table_stays {S} old name b users tells same = table_after old name (Some b) users users tells (λ x y. (
+  λ u. cases_name ((Uses bytes_eq users x y × ((x ≡ name) → Contains (referred_by old name) y → ⊥)) ⊎ ((x ≡ name) × Contains (referred b) y)) name x
+      (λ e. inr (e, subst (λ zs. Contains zs y) same (refers_referred old name y (subst (λ z. Refers old z y) e ((tells x y).0 u)))))
+      (λ apart. inl (u, λ e. absurd (apart e))),
+  ⊎_elim (λ l. l.0) (λ r. (tells x y).1 (subst (λ z. Refers old z y) (sym r.0) (referred_refers old name y (subst (λ zs. Contains zs y) (sym same) r.1)))),
+))
+
+-- and no set of it is empty, as the name is in those of what it refers to
+pub used_still : {S : Type 0} (old : Names) (name : List ℕ) (b : Binding) (users : List (List ℕ × IndexSet (List ℕ) S)) → TellsUsers old users → referred_by old name ≡ referred b
+    → HasNoEmptyBut bytes_eq users (referred b) → HasNoEmptyBut bytes_eq users []
+used_still old name b users tells same used y some = ⊎_elim
+    (λ c. inr (name, (tells name y).1 (referred_refers old name y (subst (λ zs. Contains zs y) (sym same) c)))) (λ r. inr r) (used y some)
 
 -- what the entries keep, after a change
 pub live_after : {S : Type 0} (es : List (List ℕ × Entry)) (users : List (List ℕ × IndexSet (List ℕ) S)) (new : Names) → names_of es ≡ new → IsSheet new → HasOrder new → TellsUsers new users → HasNoEmptyBut bytes_eq users [] → IsCurrent es → IsLive es users

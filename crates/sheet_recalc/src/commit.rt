@@ -129,14 +129,30 @@ fn commit(
     ensures tells { TellsUsers (put (names_of entries.old.entries) name (binding_of entry)) users.new.entries }
     ensures used { HasNoEmptyBut bytes_eq users.new.entries [] }
 {
-    refer(
-        users,
-        name,
-        references_of(entries, name),
-        entry.references(),
-    );
+    refer_anew(entries, users, name, &entry);
     let _before = entries.insert(name, entry).unwrap();
     adopt_all(entries, found);
+}
+
+/// The table where a name is to be bound to this entry. Where the same names stand in it as in what stood there, the table stays.
+fn refer_anew(
+    entries: &IndexMap<Name, Entry>,
+    users: &mut Users<Name>,
+    name: Name,
+    entry: &Entry,
+)
+    requires tells { TellsUsers (names_of entries.now.entries) users.old.entries }
+    requires sets { HasRoomFor bytes_eq users.old.entries (referred (binding_of entry.now)) }
+    requires used { HasNoEmptyBut bytes_eq users.old.entries (referred (binding_of entry.now)) }
+    ensures tells { TellsUsers (put (names_of entries.now.entries) name (binding_of entry.now)) users.new.entries }
+    ensures used { HasNoEmptyBut bytes_eq users.new.entries [] }
+{
+    let before = references_of(entries, name);
+    let references = entry.references();
+    if before == references {
+        return;
+    }
+    refer(users, name, before, references);
 }
 
 /// Takes a name out, and gives each formula its new results.

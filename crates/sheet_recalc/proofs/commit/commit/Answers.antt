@@ -10,9 +10,6 @@ use Rattle.sheet_recalc.proofs.NameEquality.{equal-true}
 use Rattle.sheet_recalc.proofs.Rebound.{table_after}
 use Rattle.sheet_recalc.proofs.commit.commit.Goals as goal
 
-pub refer-requires-clause-exact : goal.refer-requires-clause-exact
-refer-requires-clause-exact c = equal-true
-
 pub adopt_all-requires : goal.adopt_all-requires
 adopt_all-requires c =
     let es = c.args.entries.now.entries in
@@ -25,15 +22,3 @@ pub returns-clause-names : goal.returns-clause-names
 returns-clause-names c =
     let put_in : c.insert.new.self.entries ≡ insert_entry bytes_eq c.args.entries.now.entries c.args.name c.args.entry = rw c.unwrap-before.ensures at c.insert.ensures.entries in
     c.adopt_all.ensures.names ∙ (ap names_of put_in ∙ names_of_insert c.args.name c.args.entry c.args.entries.now.entries)
-
-pub returns-clause-tells : goal.returns-clause-tells
-returns-clause-tells c =
-    let old = names_of c.args.entries.now.entries in
-    let to = λ (xs ys : List (List ℕ)) (is : xs ≡ ys) (b : List ℕ) (h : Contains xs b). subst (λ (zs : List (List ℕ)). Contains zs b) is h in
-    table_after old c.args.name (Some (binding_of c.args.entry)) c.args.users.now.entries c.refer.new.users.entries c.requires.tells
-    (λ x y. (
-      (λ u. ⊎_elim (λ l. inl (l.0, λ e h. l.1 e (to (referred_by old c.args.name) c.references_of.result.now (sym c.references_of.ensures) y h)))
-          (λ r. inr (r.0, to c.references.result.now (referred (binding_of c.args.entry)) c.references.ensures y r.1)) ((c.refer.ensures.uses x y).0 u)),
-      (λ p. (c.refer.ensures.uses x y).1 (⊎_elim (λ l. inl (l.0, λ e h. l.1 e (to c.references_of.result.now (referred_by old c.args.name) c.references_of.ensures y h)))
-          (λ r. inr (r.0, to (referred (binding_of c.args.entry)) c.references.result.now (sym c.references.ensures) y r.1)) p)),
-    ))

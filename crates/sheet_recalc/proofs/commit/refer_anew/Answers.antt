@@ -1,0 +1,25 @@
+use Rattle.std.proofs.Common.{◌≡◌, ◌∙◌, sym, ap, subst, inl, inr, ⊎_elim, List, ℕ, Some}
+use Rattle.std.specs.Str.{bytes_eq}
+use Rattle.std.specs.List.{Contains}
+use Rattle.sheet_recalc.specs.Names.{referred, referred_by}
+use Rattle.sheet_recalc.specs.Entries.{names_of, binding_of}
+use Rattle.sheet_recalc.proofs.NameEquality.{equal-true}
+use Rattle.sheet_recalc.proofs.Rebound.{table_after}
+use Rattle.sheet_recalc.proofs.commit.refer_anew.Goals as goal
+
+pub refer-requires-clause-exact : goal.refer-requires-clause-exact
+refer-requires-clause-exact c = equal-true
+
+pub returns-clause-tells : goal.returns-clause-tells
+returns-clause-tells c =
+    let old = names_of c.args.entries.now.entries in
+    let to = λ (xs ys : List (List ℕ)) (is : xs ≡ ys) (b : List ℕ) (h : Contains xs b). subst (λ (zs : List (List ℕ)). Contains zs b) is h in
+    let before = c.references_of-before.result.now in
+    let after = c.references-references.result.now in
+    table_after old c.args.name (Some (binding_of c.args.entry.now)) c.args.users.now.entries c.refer.new.users.entries c.requires.tells
+    (λ x y. (
+      (λ u. ⊎_elim (λ l. inl (l.0, λ e h. l.1 e (to (referred_by old c.args.name) before (sym c.references_of-before.ensures) y h)))
+          (λ r. inr (r.0, to after (referred (binding_of c.args.entry.now)) c.references-references.ensures y r.1)) ((c.refer.ensures.uses x y).0 u)),
+      (λ p. (c.refer.ensures.uses x y).1 (⊎_elim (λ l. inl (l.0, λ e h. l.1 e (to before (referred_by old c.args.name) c.references_of-before.ensures y h)))
+          (λ r. inr (r.0, to (referred (binding_of c.args.entry.now)) after (sym c.references-references.ensures) y r.1)) p)),
+    ))
