@@ -13,7 +13,7 @@ use Rattle.arrays_core.specs.declared.fault.Fault.{Fault}
 use Rattle.formula_core.specs.Counts.{cost_in, cost_in_positions, ArePositionsCounted, IsTreeCounted}
 use Rattle.formula_core.specs.Operands.{outcome_of, position_in, positions_in}
 use Rattle.arrays_core.specs.Outcomes.{Outcome}
-use Rattle.formula_core.specs.Meaning.{eval, eval_positions, applied1, applied2, indexed}
+use Rattle.formula_core.specs.Meaning.{eval, eval_positions, applied2, indexed}
 use Rattle.formula_core.proofs.Applied.{eval_between}
 use Rattle.formula_core.proofs.Counted.{literal_counted, monad_given, monad_answered, dyad_counted, index_counted, index_cost, cost_from, cost_written, cost_empty, cost_left, failed_at}
 use Rattle.formula_core.proofs.Indexing.{there}
