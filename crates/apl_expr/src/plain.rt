@@ -56,6 +56,7 @@ impl Plain {
     }
 
     /// A function with its right argument.
+    #[inline(always)]
     pub(crate) fn monad(
         alloc: Global,
         function: Function1,
@@ -74,6 +75,7 @@ impl Plain {
     }
 
     /// A function between its left argument and its right one.
+    #[inline(always)]
     pub(crate) fn dyad(
         alloc: Global,
         function: Function2,

@@ -22,13 +22,12 @@ use crate::input::Input;
 use crate::kept::{Kept, NodeChange, adopt_all, unknown};
 use crate::plan::Plan;
 use crate::stage::Stage;
-use crate::table::{Node, Nodes, Operand, lower, names_in};
+use crate::table::{Node, Operand, lower, names_in};
 use apl_expr::Expr;
 use apl_tokens::Name;
 use arrays_core::{Array, Fault};
 use change_core::{Count, Meter};
 use index_region::Delta;
-use smallvec::SmallVec;
 use std::alloc::{AllocError, Global};
 use std::cell::Cell;
 use std::marker::Model;
@@ -75,7 +74,7 @@ impl Formula {
         ensures { IfOk result (λ formula. formula ≡ new_formula (tree_of tree.now)) }
     {
         let mut names = Vec::with_capacity(alloc, names_in(tree))?;
-        let mut nodes = SmallVec::new(alloc);
+        let mut nodes = Vec::new(alloc);
         lower_whole(alloc, &mut names, &mut nodes, tree)?;
         let nodes = all_new(alloc, nodes)?;
         Ok(Formula {
@@ -343,7 +342,7 @@ impl Formula {
 }
 
 /// The nodes, none of which was worked out yet.
-fn all_new(alloc: Global, nodes: Nodes) -> Result<Vec<Kept>, AllocError>
+fn all_new(alloc: Global, nodes: Vec<Node>) -> Result<Vec<Kept>, AllocError>
     ensures nodes { IfOk result (λ kept. nodes_of kept.items ≡ nodes.items) }
     ensures held { IfOk result (λ kept. holdings_of kept.items ≡ map (λ n. not_worked_out) nodes.items) }
 {
@@ -358,7 +357,7 @@ fn all_new(alloc: Global, nodes: Nodes) -> Result<Vec<Kept>, AllocError>
 fn lower_whole(
     alloc: Global,
     names: &mut Vec<Name>,
-    nodes: &mut Nodes,
+    nodes: &mut Vec<Node>,
     tree: &Expr,
 ) -> Result<(), AllocError>
     requires names { names.old.items ≡ [] }

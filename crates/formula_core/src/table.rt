@@ -10,7 +10,6 @@ use crate::sums::total_of;
 use apl_expr::{Expr, Function1, Function2, Literal, Sides};
 use apl_tokens::Name;
 use operator_fns::Reduce;
-use smallvec::SmallVec;
 use std::alloc::{AllocError, Global};
 
 /// What a node takes as an argument: what a name shows, by its place among the references, or the result of a node
@@ -64,25 +63,12 @@ impl Node {
     }
 }
 
-impl Default for Node {
-    /// The first name, in a place where there is no node.
-    fn default() -> Node {
-        Node::Name(0)
-    }
-}
-
-/// So many nodes of a formula take no memory while it is made.
-const FEW_NODES: usize = 4;
-
-/// The nodes that are made of an expression.
-pub(crate) type Nodes = SmallVec<Node, FEW_NODES>;
-
 /// Adds the names and the nodes of an expression behind these, and tells what stands for it as an argument.
 #[cycle(lower)]
 pub(crate) fn lower(
     alloc: Global,
     names: &mut Vec<Name>,
-    nodes: &mut Nodes,
+    nodes: &mut Vec<Node>,
     tree: &Expr,
 ) -> Result<Operand, AllocError>
     ensures { IfOk result (λ operand. IsLowered names.old.items names.new.items nodes.old.items nodes.new.items (tree_of tree.now) operand) }
@@ -134,7 +120,7 @@ pub(crate) fn lower(
 fn lower_between(
     alloc: Global,
     names: &mut Vec<Name>,
-    nodes: &mut Nodes,
+    nodes: &mut Vec<Node>,
     function: Function2,
     sides: &Sides,
 ) -> Result<Operand, AllocError>
@@ -151,7 +137,7 @@ fn lower_between(
 fn lower_positions(
     alloc: Global,
     names: &mut Vec<Name>,
-    nodes: &mut Nodes,
+    nodes: &mut Vec<Node>,
     positions: &[Option<Expr>],
 ) -> Result<Vec<Option<Operand>>, AllocError>
     ensures { IfOk result (λ operands. ArePositionsLowered names.old.items names.new.items nodes.old.items nodes.new.items (map position_of positions.now) operands.items) }
@@ -173,15 +159,15 @@ pub(crate) fn names_in(tree: &Expr) -> usize {
     match tree {
         Expr::Const(_) => 0,
         Expr::Name(_) => 1,
-        Expr::Monad(_, right) => names_in(right),
-        Expr::Dyad(_, sides) => names_beside(sides),
+        Expr::Monad(_, right) | Expr::Reduce(_, _, right) | Expr::Scan(_, _, right) => {
+            names_in(right)
+        }
+        Expr::Dyad(_, sides) | Expr::Outer(_, sides) | Expr::Inner(_, _, sides) => {
+            names_beside(sides)
+        }
         Expr::Index(operand, positions) => {
             names_in(operand).saturating_add(names_within(positions))
         }
-        Expr::Reduce(_, _, right) => names_in(right),
-        Expr::Scan(_, _, right) => names_in(right),
-        Expr::Outer(_, sides) => names_beside(sides),
-        Expr::Inner(_, _, sides) => names_beside(sides),
     }
 }
 
@@ -204,7 +190,7 @@ fn names_within(positions: &[Option<Expr>]) -> usize {
 }
 
 /// Adds a node, and tells what stands for it as an argument.
-fn push(nodes: &mut Nodes, node: Node) -> Result<Operand, AllocError>
+fn push(nodes: &mut Vec<Node>, node: Node) -> Result<Operand, AllocError>
     ensures nodes { OnOk result (nodes.new.items ≡ nodes.old.items ++ node ∷ []) }
     ensures place { IfOk result (λ operand. operand ≡ NodeAt (length nodes.old.items)) }
 {

@@ -10,4 +10,4 @@ returns-in-Node c =
 pub returns-in_ok-push-in-Name : goal.returns-in_ok-push-in-Name
 returns-in_ok-push-in-Name c =
     rooted_name c.lower.new.names.items c.lower.new.nodes.items c.push.new.self.items (tree_of c.args.tree.now) c.in-Name.place
-    (rw (c.requires.names, c.requires.nodes, c.in-Name.is) at c.in_ok-lower.ensures) c.in_ok-push-in-Name.ensures.ok
+    (rw (c.requires.names, c.requires.nodes, c.in-Name.is) at c.in_ok-lower.ensures) c.in_ok-push-in-Name.ensures.items
