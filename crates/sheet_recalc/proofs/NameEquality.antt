@@ -1,7 +1,9 @@
 -- Names are compared by their texts.
-use Rattle.std.proofs.Common.{◌≡◌, ℕ, List, true}
+use Rattle.std.proofs.Common.{◌≡◌, ℕ, List, [], ◌∷◌, true, refl}
+use lib.Pointwise.{pointwise}
 use Rattle.std.specs.Str.{bytes_eq}
 use Rattle.std.specs.Cmp.{IsEquivalence}
+use Rattle.std.proofs.lemmas.Bool.{and_parts, false≢true}
 use Rattle.std.proofs.lemmas.Cmp.{nat_list_eq_equiv}
 use Rattle.std.proofs.lemmas.Slice.Eq.{bytes_eq-Decides}
 
@@ -13,3 +15,10 @@ equal-true a b = (bytes_eq-Decides a b).0
 
 pub equal-same : (a b : List ℕ) → a ≡ b → bytes_eq a b ≡ true
 equal-same a b = (bytes_eq-Decides a b).1
+
+-- so are lists of names
+pub lists-true : (xs ys : List (List ℕ)) → pointwise bytes_eq xs ys ≡ true → xs ≡ ys
+lists-true [] [] h = refl
+lists-true [] (y ∷ ys) h = absurd (false≢true h)
+lists-true (x ∷ xs) [] h = absurd (false≢true h)
+lists-true (x ∷ xs) (y ∷ ys) h = let parts = and_parts _ _ h in λ i. equal-true x y parts.0 i ∷ lists-true xs ys parts.1 i

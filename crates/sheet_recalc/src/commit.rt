@@ -135,12 +135,7 @@ fn commit(
 }
 
 /// The table where a name is to be bound to this entry. Where the same names stand in it as in what stood there, the table stays.
-fn refer_anew(
-    entries: &IndexMap<Name, Entry>,
-    users: &mut Users<Name>,
-    name: Name,
-    entry: &Entry,
-)
+fn refer_anew(entries: &IndexMap<Name, Entry>, users: &mut Users<Name>, name: Name, entry: &Entry)
     requires tells { TellsUsers (names_of entries.now.entries) users.old.entries }
     requires sets { HasRoomFor bytes_eq users.old.entries (referred (binding_of entry.now)) }
     requires used { HasNoEmptyBut bytes_eq users.old.entries (referred (binding_of entry.now)) }

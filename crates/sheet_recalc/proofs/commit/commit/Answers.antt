@@ -1,13 +1,10 @@
-use Rattle.std.proofs.Common.{◌≡◌, ◌∙◌, sym, ap, subst, inl, inr, ⊎_elim, List, ℕ, Some}
+use Rattle.std.proofs.Common.{◌≡◌, ◌∙◌, sym, ap, subst}
 use Rattle.std.specs.Str.{bytes_eq}
 use Rattle.indexmap.specs.IndexMap.{insert_entry}
-use Rattle.std.specs.List.{Contains}
-use Rattle.sheet_recalc.specs.Names.{put, referred, referred_by}
+use Rattle.sheet_recalc.specs.Names.{put}
 use Rattle.sheet_recalc.specs.Entries.{names_of, binding_of}
 use Rattle.sheet_recalc.specs.Live.{IsAdopting, plan_in}
 use Rattle.sheet_recalc.proofs.Live.{names_of_insert, adopting_planned}
-use Rattle.sheet_recalc.proofs.NameEquality.{equal-true}
-use Rattle.sheet_recalc.proofs.Rebound.{table_after}
 use Rattle.sheet_recalc.proofs.commit.commit.Goals as goal
 
 pub adopt_all-requires : goal.adopt_all-requires

@@ -1,10 +1,9 @@
-use Rattle.std.proofs.Common.{◌≡◌, ◌∙◌, sym, ap, subst, inl, inr, ⊎_elim, List, ℕ, Some}
-use Rattle.std.specs.Str.{bytes_eq}
+use Rattle.std.proofs.Common.{◌≡◌, ◌∙◌, sym, subst, inl, inr, ⊎_elim, List, ℕ, Some}
 use Rattle.std.specs.List.{Contains}
 use Rattle.sheet_recalc.specs.Names.{referred, referred_by}
 use Rattle.sheet_recalc.specs.Entries.{names_of, binding_of}
-use Rattle.sheet_recalc.proofs.NameEquality.{equal-true}
-use Rattle.sheet_recalc.proofs.Rebound.{table_after}
+use Rattle.sheet_recalc.proofs.NameEquality.{equal-true, lists-true}
+use Rattle.sheet_recalc.proofs.Rebound.{table_after, table_stays, used_still}
 use Rattle.sheet_recalc.proofs.commit.refer_anew.Goals as goal
 
 pub refer-requires-clause-exact : goal.refer-requires-clause-exact
@@ -23,3 +22,15 @@ returns-clause-tells c =
       (λ p. (c.refer.ensures.uses x y).1 (⊎_elim (λ l. inl (l.0, λ e h. l.1 e (to before (referred_by old c.args.name) c.references_of-before.ensures y h)))
           (λ r. inr (r.0, to (referred (binding_of c.args.entry.now)) after (sym c.references-references.ensures) y r.1)) p)),
     ))
+
+pub returns-then-eq-clause-tells : goal.returns-then-eq-clause-tells
+returns-then-eq-clause-tells c =
+    let same = lists-true c.references_of-before.result.now c.references-references.result.now (sym c.eq.ensures ∙ c.if-eq.true) in
+    table_stays (names_of c.args.entries.now.entries) c.args.name (binding_of c.args.entry.now) c.args.users.now.entries c.requires.tells
+    (sym c.references_of-before.ensures ∙ same ∙ c.references-references.ensures)
+
+pub returns-then-eq-clause-used : goal.returns-then-eq-clause-used
+returns-then-eq-clause-used c =
+    let same = lists-true c.references_of-before.result.now c.references-references.result.now (sym c.eq.ensures ∙ c.if-eq.true) in
+    used_still (names_of c.args.entries.now.entries) c.args.name (binding_of c.args.entry.now) c.args.users.now.entries c.requires.tells
+    (sym c.references_of-before.ensures ∙ same ∙ c.references-references.ensures) c.requires.used
