@@ -1,8 +1,8 @@
 //! The value of an expression.
 
-ghost use Rattle.std.specs.Prelude.{◌≡◌, ◌+◌, ◌≤◌, [], ◌∷◌, ℕ, List, IfOk, IfSome, IsOk, OnErr, Result, Ok, Err, map, true};
+ghost use Rattle.std.specs.Prelude.{◌≡◌, ◌+◌, ◌≤◌, [], ◌∷◌, ℕ, List, IfOk, IfSome, IsOk, Result, Ok, Err, map, true};
 ghost use Rattle.std.specs.List.{Contains};
-ghost use Rattle.apl_expr.specs.Trees.{Const, Numbers, tree_of, position_of, positions_of, between_arguments};
+ghost use Rattle.apl_expr.specs.Trees.{Const, Numbers, tree_of, position_of, positions_of, before_argument, between_arguments};
 ghost use Rattle.apl_expr.specs.declared.expr.Dyadic.TheVariants.{Scalar};
 ghost use Rattle.apl_expr.specs.declared.functions.Function2.TheVariants.{Dyad};
 ghost use Rattle.arrays_core.specs.Arrays.{ArrayValue, IsAnswerTo, scalar_of};
@@ -128,10 +128,13 @@ fn argument<'a, S: Shows>(
             Ok(array) => Ok(Ok(Operand::Lent(array))),
             Err(fault) => Ok(Err(fault)),
         },
-        Expr::Monad(function, right) => {
-            let right = argument(alloc, right, names, meter)?;
-            of_argument(alloc, Function1::Monad(*function), right, meter)
-        }
+        Expr::Monad(function, right) => before(
+            alloc,
+            Function1::Monad(*function),
+            right,
+            names,
+            meter,
+        ),
         Expr::Dyad(function, sides) => {
             between(alloc, Function2::Dyad(*function), sides, names, meter)
         }
@@ -141,14 +144,20 @@ fn argument<'a, S: Shows>(
             let given = apply_index(alloc, operand, positions)?;
             Ok(counted(given, meter))
         }
-        Expr::Reduce(function, along, right) => {
-            let right = argument(alloc, right, names, meter)?;
-            of_argument(alloc, Function1::Reduce(*function, *along), right, meter)
-        }
-        Expr::Scan(function, along, right) => {
-            let right = argument(alloc, right, names, meter)?;
-            of_argument(alloc, Function1::Scan(*function, *along), right, meter)
-        }
+        Expr::Reduce(function, along, right) => before(
+            alloc,
+            Function1::Reduce(*function, *along),
+            right,
+            names,
+            meter,
+        ),
+        Expr::Scan(function, along, right) => before(
+            alloc,
+            Function1::Scan(*function, *along),
+            right,
+            names,
+            meter,
+        ),
         Expr::Outer(function, sides) => {
             between(alloc, Function2::Outer(*function), sides, names, meter)
         }
@@ -158,25 +167,28 @@ fn argument<'a, S: Shows>(
     }
 }
 
-/// The value of a function before its argument, whose items are counted. It stands alone, so that no more than the argument lies on the stack while
-/// that is worked out.
+/// The value of a function before its argument, and its cost. It stands alone, and so does that of a function between two, so that what each holds lies
+/// on the stack where it is called and nowhere else.
+#[cycle(value)]
 #[inline(never)]
-fn of_argument<'a>(
+fn before<'a, S: Shows>(
     alloc: Global,
     function: Function1,
-    right: Result<Operand<'a>, Fault>,
+    right: &Expr,
+    names: &'a S,
     meter: &mut Meter,
 ) -> Result<Result<Operand<'a>, Fault>, AllocError>
-    ensures value { IfOk result (λ operand. outcome_of operand ≡ applied1 function (outcome_of right.entry)) }
-    ensures items { IfOk result (λ operand. AreItemsCounted operand meter.old.ticks meter.new.ticks) }
-    ensures refused { OnErr result (meter.new.ticks ≡ meter.old.ticks) }
+    ensures value { IfOk result (λ operand. outcome_of operand ≡ eval (before_argument function (tree_of right.now)) (S.shows names.entry.now)) }
+    ensures counted { IsTreeCounted (S.shows names.entry.now) (before_argument function (tree_of right.now)) meter.old.ticks meter.new.ticks result }
 {
+    let right = argument(alloc, right, names, meter)?;
     let given = apply_monad(alloc, function, right)?;
     Ok(counted(given, meter))
 }
 
 /// The value of a function between its arguments, and its cost. A number that is written beside a scalar function is no array of its own.
 #[cycle(value)]
+#[inline(never)]
 fn between<'a, S: Shows>(
     alloc: Global,
     function: Function2,

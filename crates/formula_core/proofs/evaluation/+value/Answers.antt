@@ -1,11 +1,10 @@
-use Rattle.std.proofs.Common.{◌≡◌, ◌+◌, ◌-◌, ◌<◌, ◌≤◌, [], ◌∷◌, to_z, of_z, w64, SFits, length, get_or, drop, List, Option, Some, None, Result, Ok, Err, is_ok, IfOk, ◌∙◌, ap, sym, subst, map, arith, rules}
+use Rattle.std.proofs.Common.{◌≡◌, ◌+◌, ◌-◌, ◌<◌, ◌≤◌, [], ◌∷◌, to_z, of_z, w64, SFits, length, get_or, drop, List, Option, Some, None, Result, Ok, Err, is_ok, ◌∙◌, ap, sym, subst, map, arith, rules}
 use Rattle.std.proofs.lemmas.Bool.{false≢true}
 use Rattle.std.proofs.lemmas.Int.{to_z-of_z}
 use Rattle.apl_expr.specs.declared.expr.Expr.{Expr}
-use Rattle.apl_expr.specs.declared.functions.Function1.TheVariants as function1
 use Rattle.apl_expr.specs.declared.functions.Function2.TheVariants.{Dyad}
 use Rattle.apl_expr.specs.declared.expr.Dyadic.TheVariants.{Scalar}
-use Rattle.apl_expr.specs.Trees.{Tree, Numbers, Const, Index, between_arguments, tree_of, position_of, positions_of}
+use Rattle.apl_expr.specs.Trees.{Tree, Numbers, Const, Index, before_argument, between_arguments, tree_of, position_of, positions_of}
 use Rattle.arrays_core.specs.Arrays.{scalar_of}
 use Rattle.apl_expr.proofs.Rows.{tree_index}
 use Rattle.selection_fns.specs.Index.{Position}
@@ -13,81 +12,25 @@ use Rattle.arrays_core.specs.declared.fault.Fault.{Fault}
 use Rattle.formula_core.specs.Counts.{cost_in, cost_in_positions, ArePositionsCounted, IsTreeCounted}
 use Rattle.formula_core.specs.Operands.{outcome_of, position_in, positions_in}
 use Rattle.arrays_core.specs.Outcomes.{Outcome}
-use Rattle.formula_core.specs.Meaning.{eval, eval_positions, applied2, indexed}
-use Rattle.formula_core.proofs.Applied.{eval_between}
-use Rattle.formula_core.proofs.Counted.{literal_counted, monad_given, monad_answered, dyad_counted, index_counted, index_cost, cost_from, cost_written, cost_empty, cost_left, failed_at}
+use Rattle.formula_core.specs.Meaning.{eval, eval_positions, applied1, applied2, indexed}
+use Rattle.formula_core.proofs.Applied.{eval_before, eval_between}
+use Rattle.formula_core.proofs.Counted.{literal_counted, monad_counted, dyad_counted, index_counted, index_cost, cost_from, cost_written, cost_empty, cost_left, failed_at}
 use Rattle.formula_core.proofs.Indexing.{there}
 use Rattle.formula_core.proofs.evaluation.+value.Goals.{position_operands-in-Some+in_ok-operand-in-Some+in-Ok, position_operands-in-None}
 use Rattle.formula_core.proofs.evaluation.+value.Goals as goal
 
-pub argument-returns-in_ok-right-in-Monad-clause-value : goal.argument-returns-in_ok-right-in-Monad-clause-value
-argument-returns-in_ok-right-in-Monad-clause-value g t c =
+pub before-returns-clause-counted : goal.before-returns-clause-counted
+before-returns-clause-counted g t c =
     let names = g.S.Shows.shows c.args.names.now in
-    let b = tree_of c.in-Monad.right.value in
-    let right : outcome_of c.in_ok-right-in-Monad.right ≡ eval b names = search rules in
-    subst (λ (x : Tree). IfOk c.of_argument.result (λ o. outcome_of o ≡ eval x names)) (sym (ap tree_of c.in-Monad.is))
-    (monad_given names (function1.Monad c.in-Monad.function) b (outcome_of c.in_ok-right-in-Monad.right) c.of_argument.result right c.of_argument.ensures.value)
-
-pub argument-returns-in_ok-right-in-Monad-clause-counted : goal.argument-returns-in_ok-right-in-Monad-clause-counted
-argument-returns-in_ok-right-in-Monad-clause-counted g t c =
-    let names = g.S.Shows.shows c.args.names.now in
-    let f = function1.Monad c.in-Monad.function in
-    let b = tree_of c.in-Monad.right.value in
+    let f = c.args.function in
+    let b = tree_of c.args.right.now in
     let start = c.args.meter.now.ticks in
     let now = c.argument.new.meter.ticks in
-    let after = c.of_argument.new.meter.ticks in
-    let first : IsTreeCounted names b start now (Ok c.in_ok-right-in-Monad.right) =
-    subst (λ (e : Expr). IsTreeCounted names (tree_of e) start now (Ok c.in_ok-right-in-Monad.right)) c.deref.ensures c.in_ok-right-in-Monad.ensures.counted in
-    let right : outcome_of c.in_ok-right-in-Monad.right ≡ eval b names = search rules in
-    subst (λ (x : Tree). IsTreeCounted names x start after c.of_argument.result) (sym (ap tree_of c.in-Monad.is))
-    (monad_answered names f b start now after c.in_ok-right-in-Monad.right c.of_argument.result first
-    (monad_given names f b (outcome_of c.in_ok-right-in-Monad.right) c.of_argument.result right c.of_argument.ensures.value) c.of_argument.ensures.items c.of_argument.ensures.refused)
-
-pub argument-returns-in_ok-right-in-Reduce-clause-value : goal.argument-returns-in_ok-right-in-Reduce-clause-value
-argument-returns-in_ok-right-in-Reduce-clause-value g t c =
-    let names = g.S.Shows.shows c.args.names.now in
-    let b = tree_of c.in-Reduce.right.value in
-    let right : outcome_of c.in_ok-right-in-Reduce.right ≡ eval b names = search rules in
-    subst (λ (x : Tree). IfOk c.of_argument-in-Reduce.result (λ o. outcome_of o ≡ eval x names)) (sym (ap tree_of c.in-Reduce.is))
-    (monad_given names (function1.Reduce c.in-Reduce.function c.in-Reduce.along) b (outcome_of c.in_ok-right-in-Reduce.right) c.of_argument-in-Reduce.result right c.of_argument-in-Reduce.ensures.value)
-
-pub argument-returns-in_ok-right-in-Reduce-clause-counted : goal.argument-returns-in_ok-right-in-Reduce-clause-counted
-argument-returns-in_ok-right-in-Reduce-clause-counted g t c =
-    let names = g.S.Shows.shows c.args.names.now in
-    let f = function1.Reduce c.in-Reduce.function c.in-Reduce.along in
-    let b = tree_of c.in-Reduce.right.value in
-    let start = c.args.meter.now.ticks in
-    let now = c.argument-in-Reduce.new.meter.ticks in
-    let after = c.of_argument-in-Reduce.new.meter.ticks in
-    let first : IsTreeCounted names b start now (Ok c.in_ok-right-in-Reduce.right) =
-    subst (λ (e : Expr). IsTreeCounted names (tree_of e) start now (Ok c.in_ok-right-in-Reduce.right)) c.deref-in-Reduce.ensures c.in_ok-right-in-Reduce.ensures.counted in
-    let right : outcome_of c.in_ok-right-in-Reduce.right ≡ eval b names = search rules in
-    subst (λ (x : Tree). IsTreeCounted names x start after c.of_argument-in-Reduce.result) (sym (ap tree_of c.in-Reduce.is))
-    (monad_answered names f b start now after c.in_ok-right-in-Reduce.right c.of_argument-in-Reduce.result first
-    (monad_given names f b (outcome_of c.in_ok-right-in-Reduce.right) c.of_argument-in-Reduce.result right c.of_argument-in-Reduce.ensures.value) c.of_argument-in-Reduce.ensures.items c.of_argument-in-Reduce.ensures.refused)
-
-pub argument-returns-in_ok-right-in-Scan-clause-value : goal.argument-returns-in_ok-right-in-Scan-clause-value
-argument-returns-in_ok-right-in-Scan-clause-value g t c =
-    let names = g.S.Shows.shows c.args.names.now in
-    let b = tree_of c.in-Scan.right.value in
-    let right : outcome_of c.in_ok-right-in-Scan.right ≡ eval b names = search rules in
-    subst (λ (x : Tree). IfOk c.of_argument-in-Scan.result (λ o. outcome_of o ≡ eval x names)) (sym (ap tree_of c.in-Scan.is))
-    (monad_given names (function1.Scan c.in-Scan.function c.in-Scan.along) b (outcome_of c.in_ok-right-in-Scan.right) c.of_argument-in-Scan.result right c.of_argument-in-Scan.ensures.value)
-
-pub argument-returns-in_ok-right-in-Scan-clause-counted : goal.argument-returns-in_ok-right-in-Scan-clause-counted
-argument-returns-in_ok-right-in-Scan-clause-counted g t c =
-    let names = g.S.Shows.shows c.args.names.now in
-    let f = function1.Scan c.in-Scan.function c.in-Scan.along in
-    let b = tree_of c.in-Scan.right.value in
-    let start = c.args.meter.now.ticks in
-    let now = c.argument-in-Scan.new.meter.ticks in
-    let after = c.of_argument-in-Scan.new.meter.ticks in
-    let first : IsTreeCounted names b start now (Ok c.in_ok-right-in-Scan.right) =
-    subst (λ (e : Expr). IsTreeCounted names (tree_of e) start now (Ok c.in_ok-right-in-Scan.right)) c.deref-in-Scan.ensures c.in_ok-right-in-Scan.ensures.counted in
-    let right : outcome_of c.in_ok-right-in-Scan.right ≡ eval b names = search rules in
-    subst (λ (x : Tree). IsTreeCounted names x start after c.of_argument-in-Scan.result) (sym (ap tree_of c.in-Scan.is))
-    (monad_answered names f b start now after c.in_ok-right-in-Scan.right c.of_argument-in-Scan.result first
-    (monad_given names f b (outcome_of c.in_ok-right-in-Scan.right) c.of_argument-in-Scan.result right c.of_argument-in-Scan.ensures.value) c.of_argument-in-Scan.ensures.items c.of_argument-in-Scan.ensures.refused)
+    let after = c.counted.new.meter.ticks in
+    let first : IsTreeCounted names b start now (Ok c.in_ok-right.right) = c.in_ok-right.ensures.counted in
+    let right : outcome_of c.in_ok-right.right ≡ eval b names = c.in_ok-right.ensures.value in
+    let is : outcome_of c.in_ok-given.given ≡ eval (before_argument f b) names = c.in_ok-given.ensures ∙ ap (applied1 f) right ∙ sym (eval_before names f b) in
+    monad_counted names f b start now after c.in_ok-right.right c.in_ok-given.given c.counted.result first is c.counted.ensures.items
 
 pub between-returns-in-Some-number_of-clause-counted : goal.between-returns-in-Some-number_of-clause-counted
 between-returns-in-Some-number_of-clause-counted g t c =
@@ -171,8 +114,8 @@ argument-returns-in_err-operand-in-Index-clause-counted g t c =
     let cost = ap (cost_in names) made ∙ index_cost names a ps in
     let first : c.position_operands.new.meter.ticks ≤ c.args.meter.now.ticks + cost_in_positions names ps =
     subst (λ (xs : List (Option Expr)). c.position_operands.new.meter.ticks ≤ c.args.meter.now.ticks + cost_in_positions names (positions_of (map position_of xs))) c.deref-in-Index.ensures.value c.position_operands.ensures.counted.most in
-    let second : c.argument-in-Index.new.meter.ticks ≤ c.position_operands.new.meter.ticks + cost_in names a =
-    subst (λ (e : Expr). c.argument-in-Index.new.meter.ticks ≤ c.position_operands.new.meter.ticks + cost_in names (tree_of e)) c.deref-in-Index-2.ensures c.argument-in-Index.ensures.counted.most in
+    let second : c.argument.new.meter.ticks ≤ c.position_operands.new.meter.ticks + cost_in names a =
+    subst (λ (e : Expr). c.argument.new.meter.ticks ≤ c.position_operands.new.meter.ticks + cost_in names (tree_of e)) c.deref-in-Index-2.ensures c.argument.ensures.counted.most in
     record { most = omega (arith, first, second, cost); least = search rules }
 
 pub argument-returns-in_err-given-in-Index-clause-counted : goal.argument-returns-in_err-given-in-Index-clause-counted
@@ -184,8 +127,8 @@ argument-returns-in_err-given-in-Index-clause-counted g t c =
     let cost = ap (cost_in names) made ∙ index_cost names a ps in
     let first : c.position_operands.new.meter.ticks ≤ c.args.meter.now.ticks + cost_in_positions names ps =
     subst (λ (xs : List (Option Expr)). c.position_operands.new.meter.ticks ≤ c.args.meter.now.ticks + cost_in_positions names (positions_of (map position_of xs))) c.deref-in-Index.ensures.value c.position_operands.ensures.counted.most in
-    let second : c.argument-in-Index.new.meter.ticks ≤ c.position_operands.new.meter.ticks + cost_in names a =
-    subst (λ (e : Expr). c.argument-in-Index.new.meter.ticks ≤ c.position_operands.new.meter.ticks + cost_in names (tree_of e)) c.deref-in-Index-2.ensures c.argument-in-Index.ensures.counted.most in
+    let second : c.argument.new.meter.ticks ≤ c.position_operands.new.meter.ticks + cost_in names a =
+    subst (λ (e : Expr). c.argument.new.meter.ticks ≤ c.position_operands.new.meter.ticks + cost_in names (tree_of e)) c.deref-in-Index-2.ensures c.argument.ensures.counted.most in
     record { most = omega (arith, first, second, cost); least = search rules }
 
 pub argument-returns-in_ok-given-in-Index-clause-value : goal.argument-returns-in_ok-given-in-Index-clause-value
@@ -208,7 +151,7 @@ argument-returns-in_ok-given-in-Index-clause-counted g t c =
     let ps = positions_of (map position_of c.in-Index.positions.items) in
     let before = c.args.meter.now.ticks in
     let now = c.position_operands.new.meter.ticks in
-    let then_now = c.argument-in-Index.new.meter.ticks in
+    let then_now = c.argument.new.meter.ticks in
     let after = c.counted.new.meter.ticks in
     let made : tree_of c.args.tree.now ≡ Index a ps = ap tree_of c.in-Index.is ∙ tree_index c.in-Index.operand c.in-Index.positions in
     let first : ArePositionsCounted names ps before now (Ok c.in_ok-positions-in-Index.positions) =
