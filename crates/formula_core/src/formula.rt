@@ -52,7 +52,7 @@ impl Model for Formula {
     ghost Value = { FormulaValue };
 
     ghost use Rattle.std.specs.Coded.{codes};
-    ghost use Rattle.apl_expr.specs.Codes.{coded_tree};
+    ghost use Rattle.apl_expr.specs.Laws.Codes.{coded_tree};
 
     ghost coded = { Prim.hlevel (codes, coded_tree) };
 

@@ -35,8 +35,8 @@ impl Model for Desk {
     ghost Value = { DeskValue };
 
     ghost use Rattle.std.specs.Coded.{codes};
-    ghost use Rattle.apl_expr.specs.Codes.{coded_tree};
-    ghost use Rattle.sheet_recalc.specs.Codes.{coded_binding};
+    ghost use Rattle.apl_expr.specs.Laws.Codes.{coded_tree};
+    ghost use Rattle.sheet_recalc.specs.Laws.Codes.{coded_binding};
 
     ghost coded = { Prim.hlevel (codes, coded_tree, coded_binding) };
 

@@ -14,4 +14,5 @@ pub mod Live
 pub mod Planning
 pub mod Tables
 pub mod Pending
-pub mod Codes
+-- Proofs that impls give with their types: what contracts see of them is a set.
+pub mod Laws

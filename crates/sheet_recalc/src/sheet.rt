@@ -68,8 +68,8 @@ impl Model for Sheet {
     ghost Value = { SheetValue };
 
     ghost use Rattle.std.specs.Coded.{codes};
-    ghost use Rattle.apl_expr.specs.Codes.{coded_tree};
-    ghost use Rattle.sheet_recalc.specs.Codes.{coded_binding};
+    ghost use Rattle.apl_expr.specs.Laws.Codes.{coded_tree};
+    ghost use Rattle.sheet_recalc.specs.Laws.Codes.{coded_binding};
     ghost use Rattle.sheet_recalc.specs.contracts.entry.Entry as entry_row;
     ghost use Rattle.indexmap.specs.Layout.{hash_map_code, hash_set_code};
 
