@@ -8,7 +8,7 @@ use Rattle.apl_expr.specs.declared.functions.Function2.{Function2}
 use Rattle.apl_expr.specs.declared.functions.Function2.TheVariants as function2
 use Rattle.apl_expr.specs.Limits.{most_height, most_nodes}
 use Rattle.apl_expr.specs.Trees.{Tree, Const, Name, Monad, Dyad, Index, Reduce, Scan, Outer, Inner, before_argument, between_arguments, Positions, NoPositions, Empty, Filled, positions_of, height, height_in, nodes, nodes_in}
-use Rattle.apl_expr.specs.Grammar.{IsNums, one, more, IsMonadicFunction, plain1, along1, folded, folded_along, IsDyadicFunction, plain2, along2, outer, inner, IsExpr, operand, mono, duo, IsOperand, nums, text, ref, IsRef, name, parens, index, IsPositions, last_position, more_positions, IsPosition, empty, filled, IsTreeOf}
+use Rattle.apl_expr.specs.Grammar.{IsNums, one, more, IsMonadicFunction, plain1, along1, folded, folded_along, IsDyadicFunction, plain2, along2, outer, inner, IsExpr, operand, mono, duo, IsWrittenOperand, nums, text, ref, IsRef, name, parens, index, IsPositions, last_position, more_positions, IsPosition, empty, filled, IsTreeOf}
 
 nums_tokens : {ts us : List Lexeme} {ns : List ℤ} → IsNums ts ns us → 1 + length us ≤ length ts
 nums_tokens one = omega arith
@@ -55,7 +55,7 @@ mutual
   expr_tokens (mono {f = f} {e = e} m is) = let first = monadic_tokens m in let rest = expr_tokens is in let size = nodes_before f e in omega arith
   expr_tokens (duo {f = f} {a = a} {e = e} o m is) = let left = operand_tokens o in let first = dyadic_tokens m in let rest = expr_tokens is in let size = nodes_between f a e in omega arith
 
-  operand_tokens : {ts us : List Lexeme} {a : Tree} → IsOperand ts a us → nodes a + length us ≤ length ts
+  operand_tokens : {ts us : List Lexeme} {a : Tree} → IsWrittenOperand ts a us → nodes a + length us ≤ length ts
   operand_tokens (nums is) = let rest = nums_tokens is in omega arith
   operand_tokens text = omega arith
   operand_tokens (ref is) = ref_tokens is

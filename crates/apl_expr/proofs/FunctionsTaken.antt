@@ -7,7 +7,7 @@ use Rattle.apl_expr.specs.declared.functions.Function1.{Function1}
 use Rattle.apl_expr.specs.declared.functions.Function2.{Function2}
 use Rattle.apl_expr.specs.Symbols.{monadic_of, monadic_along_of, folded_of, folded_along_of, dyadic_of, dyadic_along_of, outer_of, inner_of, stands_alone}
 use Rattle.apl_expr.specs.Trees.{Tree}
-use Rattle.apl_expr.specs.Grammar.{IsNums, one, more, IsMonadicFunction, plain1, along1, folded, folded_along, IsDyadicFunction, plain2, along2, outer, inner, IsExpr, operand, mono, duo, IsOperand, nums, text, ref, IsRef, name, parens, index}
+use Rattle.apl_expr.specs.Grammar.{IsNums, one, more, IsMonadicFunction, plain1, along1, folded, folded_along, IsDyadicFunction, plain2, along2, outer, inner, IsExpr, operand, mono, duo, IsWrittenOperand, nums, text, ref, IsRef, name, parens, index}
 use Rattle.apl_expr.specs.Functions.{function, axis_in, product_in, fold_in, fold_along_in, monadic_along_in, dyadic_along_in, along_or_plain, fold_or_less, fold_along_or_less, product_or_less, function_at}
 use Rattle.apl_expr.specs.Machine.{ends_position}
 use Rattle.apl_expr.proofs.Tables.{BeginsNone, IsNoFunction, IsFolding, left_bracket, right_bracket, semicolon, dot, no_function, folding, folding_along, jot_inner}
@@ -37,7 +37,7 @@ mutual
   expr_begins (mono m d) = mono_begins m
   expr_begins (duo o m d) = operand_begins o
 
-  operand_begins : {ts us : List Lexeme} {a : Tree} → IsOperand ts a us → Begins ts
+  operand_begins : {ts us : List Lexeme} {a : Tree} → IsWrittenOperand ts a us → Begins ts
   operand_begins (nums n) = nums_begin n
   operand_begins text = a_text
   operand_begins (ref r) = ref_begins r

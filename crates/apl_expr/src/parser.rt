@@ -3,7 +3,7 @@
 
 ghost use Rattle.std.specs.Prelude.{◌≡◌, ◌≤◌, Some, List, [], ◌∷◌, ◌++◌, length, IfOk, IfSome, map, true};
 ghost use Rattle.apl_tokens.specs.Lexemes.{Lexeme, lexeme, lexemes};
-ghost use Rattle.apl_expr.specs.Grammar.{IsOperand, IsTreeOf};
+ghost use Rattle.apl_expr.specs.Grammar.{IsWrittenOperand, IsTreeOf};
 ghost use Rattle.apl_expr.specs.Machine.{first, settle, position_ended, closed, skipped, ends_position, begin, next, after_reference, step, finish, run, state, Index, Inside, Nothing, Position, Strand};
 ghost use Rattle.apl_expr.specs.Parsing.{stack, reading_of, Settles, Steps, Gives, IsParsed};
 ghost use Rattle.apl_expr.specs.Symbols.{indexed_of};
@@ -357,7 +357,7 @@ fn tree(alloc: Global, tokens: &[Spanned]) -> Result<Plain, ParseFault>
 /// An operand that is one token: a number or a name.
 #[inline(always)]
 fn leaf(token: &Token) -> Option<Plain>
-    ensures { IfSome result (λ e. (ts : List Lexeme) → IsOperand (lexeme token.now ∷ ts) (tree_of e.expr) ts) }
+    ensures { IfSome result (λ e. (ts : List Lexeme) → IsWrittenOperand (lexeme token.now ∷ ts) (tree_of e.expr) ts) }
 {
     match token {
         Token::Num(number) => Some(Plain::constant(Literal::Num(*number))),

@@ -10,7 +10,7 @@ use Rattle.std.proofs.lemmas.List.FromFn.{map-range_with_len_more}
 use mir.Val.{to_z, of_z, SFits}
 use Rattle.std.proofs.lemmas.Fmt.{IsAscii-decimal}
 use Rattle.std.proofs.lemmas.Str.Ascii.{encodes-IsAscii}
-use Rattle.array_text.specs.Text.{number_text, number_width, number_characters, column_width, number_at}
+use Rattle.array_text.specs.Text.{number_text, number_width, number_characters, column_width, matrix_number}
 
 digits_are_their_bytes : (n : ℕ) → n < 2 ^ 64 → encode_utf8_all (decimal n) ≡ decimal n
 digits_are_their_bytes n h = encodes-IsAscii (decimal n) (IsAscii-decimal n h)
@@ -49,5 +49,5 @@ pub column_width-more : (columns : ℕ) (zs : List ℤ) (column row : ℕ)
     → column_width (row + 1) columns zs column ≡ max (column_width row columns zs column) (number_width (get_or zs (row * columns + column) (pos 0)))
 unfolding column_width
 column_width-more columns zs column row =
-    let width = λ (r : ℕ). number_width (number_at columns zs r column) in
+    let width = λ (r : ℕ). number_width (matrix_number columns zs r column) in
     ap (fold max 0) (map-range_with_len_more width 0 row row (omega arith)) ∙ fold-append max 0 (map width (range_with_len 0 row)) (width row ∷ [])

@@ -131,8 +131,8 @@ IsReadOf wanted Holds (Ok x) = (wanted ≡ None) × Holds x
 IsReadOf wanted Holds (Err f) = AnswersFault wanted f
 
 -- what reading records answers: their table where none has a fault, else the first fault; or want of memory
-abbrev pub IsTableOf : (header : Bool) → List Fields → Result ArrayValue TableFault → Type 0
-IsTableOf header rows result = IsReadOf (first_fault header (columns_of rows) 1 rows) (λ a. a ≡ table_of header rows) result
+abbrev pub IsTableRead : (header : Bool) → List Fields → Result ArrayValue TableFault → Type 0
+IsTableRead header rows result = IsReadOf (first_fault header (columns_of rows) 1 rows) (λ a. a ≡ table_of header rows) result
 
 -- the records of a file, as `csv` reads them with its defaults: a byte order mark at the start is skipped; CR, LF and CR LF each
 -- end a record; empty lines are none
@@ -140,12 +140,12 @@ abbrev pub records_of : List ℕ → List Fields
 records_of bytes = records default_config (strip_bom bytes)
 
 -- what stands between two fields
-abbrev pub comma : List ℕ
-comma = 44 ∷ []
+abbrev pub between_fields : List ℕ
+between_fields = 44 ∷ []
 
 -- a record of a table that is written: its numbers with a comma between
 unfoldable pub record_text : List ℤ → List ℕ
-record_text zs = join_by signed_decimal comma zs ++ line_end
+record_text zs = join_by signed_decimal between_fields zs ++ line_end
 
 -- a matrix, one record a row
 unfoldable pub records_text : (rows columns : ℕ) → List ℤ → List ℕ

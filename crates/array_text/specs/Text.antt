@@ -11,8 +11,8 @@ use Rattle.arrays_core.specs.declared.item.Kind.TheVariants.{Domain, Rank, Lengt
 use Rattle.arrays_core.specs.declared.fault.Fault.{Fault}
 
 -- the blank between two numbers
-abbrev pub blank : List ℕ
-blank = 32 ∷ []
+abbrev pub between_numbers : List ℕ
+between_numbers = 32 ∷ []
 
 -- the end of a line, LF
 abbrev pub line_end : List ℕ
@@ -41,19 +41,19 @@ gap between earlier = if earlier == 0 then [] else between
 
 -- a scalar or vector of numbers: the numbers with one blank between
 unfoldable pub number_line : List ℤ → List ℕ
-number_line zs = join_by number_text blank zs ++ line_end
+number_line zs = join_by number_text between_numbers zs ++ line_end
 
 -- a scalar or vector of characters, or a row of a matrix
 unfoldable pub character_line : List ℕ → List ℕ
 character_line cs = encode_utf8_all cs ++ line_end
 
 -- the number in a row and a column of a matrix, both counted from 0
-abbrev pub number_at : (columns : ℕ) → List ℤ → (row column : ℕ) → ℤ
-number_at columns zs row column = get_or zs (row * columns + column) (pos 0)
+abbrev pub matrix_number : (columns : ℕ) → List ℤ → (row column : ℕ) → ℤ
+matrix_number columns zs row column = get_or zs (row * columns + column) (pos 0)
 
 -- the width of the widest number of a column
 unfoldable pub column_width : (rows columns : ℕ) → List ℤ → (column : ℕ) → ℕ
-column_width rows columns zs column = fold max 0 (map (λ row. number_width (number_at columns zs row column)) (range_with_len 0 rows))
+column_width rows columns zs column = fold max 0 (map (λ row. number_width (matrix_number columns zs row column)) (range_with_len 0 rows))
 
 -- one of the parts, numbered from 0, of a list that is cut into parts of `size` items each
 abbrev pub part_of : {X : Type 0} → (size part : ℕ) → List X → List X
@@ -65,7 +65,7 @@ column_widths rows columns zs = map (column_width rows columns zs) (range_with_l
 
 -- a row of a matrix of numbers: each right-justified in its column, with one blank between
 unfoldable pub number_row : (widths : List ℕ) → (row : List ℤ) → List ℕ
-number_row widths row = join_by (λ column. right_justified (get_or widths column 0) (get_or row column (pos 0))) blank (range_with_len 0 (length row)) ++ line_end
+number_row widths row = join_by (λ column. right_justified (get_or widths column 0) (get_or row column (pos 0))) between_numbers (range_with_len 0 (length row)) ++ line_end
 
 -- a matrix of numbers
 unfoldable pub number_plane : (rows columns : ℕ) → List ℤ → List ℕ

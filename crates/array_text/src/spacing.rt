@@ -1,14 +1,14 @@
 //! The blanks and empty lines between the items of a text.
 
 ghost use Rattle.std.specs.Prelude.{◌≡◌, ◌++◌, OnOk, string_bytes, replicate};
-ghost use Rattle.array_text.specs.Text.{blank, line_end, gap};
+ghost use Rattle.array_text.specs.Text.{between_numbers, line_end, gap};
 
 use std::alloc::AllocError;
 
 /// Adds the blank before each number of a line but the first, by how many come earlier.
 #[tactic(auto, unfolding(crate::specs::Text::gap))]
 pub(crate) fn push_blank_between(out: &mut String, earlier: usize) -> Result<(), AllocError>
-    ensures { OnOk result (string_bytes out.new ≡ string_bytes out.old ++ gap blank earlier) }
+    ensures { OnOk result (string_bytes out.new ≡ string_bytes out.old ++ gap between_numbers earlier) }
 {
     if earlier == 0 {
         return Ok(());

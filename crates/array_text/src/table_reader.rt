@@ -5,7 +5,7 @@ ghost use Rattle.csv.specs.Records.{fields_of};
 ghost use Rattle.arrays_core.specs.declared.item.Item.TheVariants.{Num};
 ghost use Rattle.arrays_core.specs.declared.item.ItemType.TheVariants.{Nums};
 ghost use Rattle.array_text.specs.Reading.{AreLeft, AreRead};
-ghost use Rattle.array_text.specs.Tables.{Fields, IsReadOf, IsTableOf, bad_field_fault, columns_of, fields_read, first_bad, first_fault, is_matrix_within as within_limits, numbers_of, record_fault, records_of, rows_of as rows_by_records};
+ghost use Rattle.array_text.specs.Tables.{Fields, IsReadOf, IsTableRead, bad_field_fault, columns_of, fields_read, first_bad, first_fault, is_matrix_within as within_limits, numbers_of, record_fault, records_of, rows_of as rows_by_records};
 
 use crate::fields::field_number;
 use crate::records::{read_next, reader_of};
@@ -129,7 +129,7 @@ fn push_records(
 /// then its fields from the left, then the limits of an array. The answer is a matrix of records by
 /// fields; a file without records has no rows and no columns.
 pub fn read_table(alloc: Global, bytes: &[u8], header: bool) -> Result<Array, TableFault>
-    ensures { IsTableOf header (records_of bytes.now) result }
+    ensures { IsTableRead header (records_of bytes.now) result }
 {
     let mut reader = reader_of(alloc, bytes);
     let mut row = ByteRecord::new(alloc);

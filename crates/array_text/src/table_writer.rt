@@ -5,7 +5,7 @@ ghost use Rattle.std.specs.Fmt.{signed_decimal};
 ghost use Rattle.arrays_core.specs.Items.{type_of};
 ghost use Rattle.arrays_core.specs.declared.item.ItemType.TheVariants.{Nums};
 ghost use Rattle.array_text.specs.Text.{gap, item_number};
-ghost use Rattle.array_text.specs.Tables.{comma, record_text, records_text, table_text};
+ghost use Rattle.array_text.specs.Tables.{between_fields, record_text, records_text, table_text};
 
 use arrays_core::Array;
 use itoa::Buffer;
@@ -14,7 +14,7 @@ use std::alloc::{AllocError, Global};
 /// Adds the comma before each field of a record but the first, by how many come earlier.
 #[tactic(auto, unfolding(crate::specs::Text::gap))]
 fn push_comma_between(out: &mut String, earlier: usize) -> Result<(), AllocError>
-    ensures { OnOk result (string_bytes out.new ≡ string_bytes out.old ++ gap comma earlier) }
+    ensures { OnOk result (string_bytes out.new ≡ string_bytes out.old ++ gap between_fields earlier) }
 {
     if earlier == 0 {
         return Ok(());

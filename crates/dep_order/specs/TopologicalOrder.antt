@@ -24,12 +24,12 @@ abbrev pub IsPlaced : List Bool → ℕ → Type 0
 IsPlaced marks a = slice_index_or marks a false ≡ true
 
 -- the node has no mark
-abbrev pub IsLeft : List Bool → ℕ → Type 0
-IsLeft marks a = (a < length marks) × (slice_index_or marks a true ≡ false)
+abbrev pub IsUnplaced : List Bool → ℕ → Type 0
+IsUnplaced marks a = (a < length marks) × (slice_index_or marks a true ≡ false)
 
 -- each node with no mark refers to another
 abbrev pub IsStuck : List (List ℕ) → List Bool → Type 0
-IsStuck graph marks = (a : ℕ) → IsLeft marks a → (b : ℕ) × Points graph a b × IsLeft marks b
+IsStuck graph marks = (a : ℕ) → IsUnplaced marks a → (b : ℕ) × Points graph a b × IsUnplaced marks b
 
 -- a fault that names a cycle names a real one
 abbrev pub IsCycleOf : List (List ℕ) → OrderFault → Type 0

@@ -24,8 +24,8 @@ abbrev pub IsWithin : {N S : Type 0} → (N → N → Bool) → List (N × Index
 IsWithin {N} eq table height node = (a : N) (via : List N) → Chain (Uses eq table) a via node → length via < height
 
 -- each node stands after all that refer to it
-abbrev pub IsClosed : {N S : Type 0} → (N → N → Bool) → List (N × IndexSet N S) → List N → Type 0
-IsClosed eq table found = Follows (λ a b. Uses eq table b a) (λ x. ⊥) found
+abbrev pub EachFollowsUsers : {N S : Type 0} → (N → N → Bool) → List (N × IndexSet N S) → List N → Type 0
+EachFollowsUsers eq table found = Follows (λ a b. Uses eq table b a) (λ x. ⊥) found
 
 -- each of these has its set, with room for one more
 abbrev pub HasRoomFor : {N S : Type 0} → (N → N → Bool) → List (N × IndexSet N S) → List N → Type 0

@@ -1,7 +1,7 @@
 //! What depends on a node.
 ghost use Rattle.std.specs.Prelude.{◌≡◌, ℕ, ◌<◌, ◌⊎◌, ◌↔◌, length, IfOk, IfSome, IfNone, nat_eq};
 ghost use Rattle.std.specs.List.{Contains, IsDistinct};
-ghost use Rattle.dep_order.specs.TopologicalOrder.{Points, IsPlaced, IsLeft, IsHit};
+ghost use Rattle.dep_order.specs.TopologicalOrder.{Points, IsPlaced, IsUnplaced, IsHit};
 ghost use Rattle.dep_order.specs.Reachability.{Reaches};
 
 use crate::graph::Graph;
@@ -28,7 +28,7 @@ pub fn dependents(alloc: Global, graph: &Graph, node: usize) -> Result<Vec<usize
 // A node with no mark that refers to the node, or to one with a mark.
 fn next_dependent(graph: &Graph, marks: &[bool], node: usize) -> Option<usize>
     requires { length marks.now ≡ length graph.now }
-    ensures left { IfSome result (IsLeft marks.now) }
+    ensures left { IfSome result (IsUnplaced marks.now) }
     ensures hit { IfSome result (λ a. (b : ℕ) × Points graph.now a b × IsHit marks.now node b) }
     ensures none { IfNone result ((a b : ℕ) → a < length graph.now → Points graph.now a b → IsHit marks.now node b → IsPlaced marks.now a) }
 {

@@ -1,7 +1,7 @@
 //! Orders and cycles.
 ghost use Rattle.std.specs.Prelude.{◌≡◌, ℕ, ◌<◌, ◌≤◌, length, slice_index, slice_index_or, [], Some, IfOk, IfErr, IfSome, IfNone, IsTrue, false, true, get_or, MatchOption};
 ghost use Rattle.std.specs.List.{Contains};
-ghost use Rattle.dep_order.specs.TopologicalOrder.{IsOrder, Points, IsPlaced, IsLeft, IsStuck, IsCycleOf};
+ghost use Rattle.dep_order.specs.TopologicalOrder.{IsOrder, Points, IsPlaced, IsUnplaced, IsStuck, IsCycleOf};
 ghost use Rattle.dep_order.specs.Reachability.{IsCycle, IsAcyclic};
 ghost use Rattle.dep_order.specs.declared.topological_order.OrderFault.TheVariants.{NoMemory};
 
@@ -58,7 +58,7 @@ pub fn order(alloc: Global, graph: &Graph) -> Result<Vec<usize>, OrderFault>
 
 // The first node that is not placed.
 fn first_left(placed: &[bool]) -> Option<usize>
-    ensures { MatchOption result ((a : ℕ) → a < length placed.now → IsPlaced placed.now a) (IsLeft placed.now) }
+    ensures { MatchOption result ((a : ℕ) → a < length placed.now → IsPlaced placed.now a) (IsUnplaced placed.now) }
 {
     for (node, is_placed) in placed.iter().enumerate() {
         if !*is_placed {
@@ -72,7 +72,7 @@ fn first_left(placed: &[bool]) -> Option<usize>
 fn next_ready(graph: &Graph, placed: &[bool]) -> Option<usize>
     requires { length placed.now ≡ length graph.now }
     ensures none { IfNone result (IsStuck graph.now placed.now) }
-    ensures left { IfSome result (IsLeft placed.now) }
+    ensures left { IfSome result (IsUnplaced placed.now) }
     ensures ready { IfSome result (λ node. (b : ℕ) → Points graph.now node b → IsPlaced placed.now b) }
 {
     for node in 0..graph.len() {
@@ -88,7 +88,7 @@ fn missing(graph: &Graph, placed: &[bool], node: usize) -> Option<usize>
     requires size { length placed.now ≡ length graph.now }
     requires within { node < length graph.now }
     ensures none { IfNone result ((b : ℕ) → Points graph.now node b → IsPlaced placed.now b) }
-    ensures left { IfSome result (IsLeft placed.now) }
+    ensures left { IfSome result (IsUnplaced placed.now) }
     ensures points { IfSome result (Points graph.now node) }
 {
     // The length of a graph says that each reference is to one of its nodes.
@@ -109,7 +109,7 @@ fn cycle(
     first: usize,
 ) -> Result<Vec<usize>, AllocError>
     requires size { length placed.now ≡ length graph.now }
-    requires left { IsLeft placed.now first }
+    requires left { IsUnplaced placed.now first }
     requires stuck { IsStuck graph.now placed.now }
     ensures { IfOk result (λ cycle. IsCycle (Points graph.now) cycle.items) }
 {

@@ -3,7 +3,7 @@ ghost use Rattle.std.specs.Prelude.{◌≡◌, ◌⊎◌, ◌↔◌, List, [], �
 ghost use Rattle.std.specs.List.{Contains, IsDistinct};
 ghost use Rattle.std.specs.Map.{keys_of};
 ghost use Rattle.dep_order.specs.Reachability.{Reaches};
-ghost use Rattle.dep_order.specs.Users.{Uses, users_of, IsExact, IsWithin, IsClosed, HasRoomFor, IsReadyFor, HasNoEmptyBut, HasNothing};
+ghost use Rattle.dep_order.specs.Users.{Uses, users_of, IsExact, IsWithin, EachFollowsUsers, HasRoomFor, IsReadyFor, HasNoEmptyBut, HasNothing};
 
 use indexmap::{IndexMap, IndexSet};
 use std::alloc::AllocError;
@@ -24,7 +24,7 @@ pub fn affected<N: Eq + Hash + Copy, V: Drop>(
     requires exact { IsExact N.eq }
     requires within { IsWithin N.eq users.now.entries height node }
     ensures distinct { OnOk result (IsDistinct N.eq (keys_of found.new.entries)) }
-    ensures closed { OnOk result (IsClosed N.eq users.now.entries (keys_of found.new.entries)) }
+    ensures closed { OnOk result (EachFollowsUsers N.eq users.now.entries (keys_of found.new.entries)) }
     ensures named { OnOk result (Contains (keys_of found.new.entries) node) }
     ensures sound { OnOk result ((a : N) → Contains (keys_of found.new.entries) a → (a ≡ node) ⊎ Reaches (Uses N.eq users.now.entries) a node) }
     ensures none { OnOk result (HasNothing N.eq found.new.entries) }
@@ -45,8 +45,8 @@ fn climb<N: Eq + Hash + Copy, V: Drop>(
 ) -> Result<(), AllocError>
     requires exact { IsExact N.eq }
     requires within { IsWithin N.eq users.now.entries height node.now }
-    requires closed { IsClosed N.eq users.now.entries (keys_of found.old.entries) }
-    ensures closed { OnOk result (IsClosed N.eq users.now.entries (keys_of found.new.entries)) }
+    requires closed { EachFollowsUsers N.eq users.now.entries (keys_of found.old.entries) }
+    ensures closed { OnOk result (EachFollowsUsers N.eq users.now.entries (keys_of found.new.entries)) }
     ensures named { OnOk result (Contains (keys_of found.new.entries) node.now) }
     ensures kept { OnOk result ((a : N) → Contains (keys_of found.old.entries) a → Contains (keys_of found.new.entries) a) }
     ensures sound { OnOk result ((a : N) → Contains (keys_of found.new.entries) a → Contains (keys_of found.old.entries) a ⊎ ((a ≡ node.now) ⊎ Reaches (Uses N.eq users.now.entries) a node.now)) }

@@ -17,7 +17,7 @@ use Rattle.clap.specs.declared.builder.value_parser.Reading.{Reading}
 use Rattle.clap.specs.declared.builder.value_parser.Reading.TheVariants as reading
 use Rattle.clap.proofs.OnLiterals.{clap_on_literals}
 use Rattle.program_words.specs.Asked.{is_table}
-use Rattle.program_words.specs.Matched.{IsTruth, IsWhole, IsWholeTable}
+use Rattle.program_words.specs.Matched.{IsTruth, HasTableWords, IsWholeTable}
 use Rattle.program_words.specs.Program.{aplsheet, run_command, table_command}
 use Rattle.program_words.proofs.Rows.{Fitting, flag, found_fits, found_passes, is_fit, is_truth, none_of_both}
 use Rattle.program_words.proofs.Walks.{defaults-fitting, settled-fitting, walk-fitting}
@@ -122,7 +122,7 @@ subcommands_whole : list_all is_whole (built aplsheet).subs ≡ true
 unfolding aplsheet run_command table_command clap_on_literals flag
 subcommands_whole = refl
 
-shape_whole : (s : Shape) (words : List Text) → is_whole s ≡ true → level_fault s [] nothing_held words false [] ≡ [] → is_table s.name ≡ true → IsWhole (rows_after s.rules [] words)
+shape_whole : (s : Shape) (words : List Text) → is_whole s ≡ true → level_fault s [] nothing_held words false [] ≡ [] → is_table s.name ≡ true → HasTableWords (rows_after s.rules [] words)
 unfolding flag
 shape_whole s words whole none is =
     ⊎_elim (λ h. absurd (both_ways _ (not-true _ h) is)) (λ h.

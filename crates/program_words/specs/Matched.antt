@@ -28,11 +28,11 @@ abbrev pub has_word : Text → List Row → Bool
 has_word id values = is_some (first_of id values)
 
 -- the words of `table` that are required are there, and its flag is true, false or absent
-pub record IsWhole (values : List Row) : Type 0 where
+pub record HasTableWords (values : List Row) : Type 0 where
   pub name : has_word (codes "NAME") values ≡ true
   pub file : has_word (codes "FILE") values ≡ true
   pub header : IsTruth (one_of (codes "header") values)
 
 unfoldable pub IsWholeTable : Option (Text × List Row) → Type 0
 IsWholeTable None = Unit {0}
-IsWholeTable (Some p) = is_table p.0 ≡ true → IsWhole p.1
+IsWholeTable (Some p) = is_table p.0 ≡ true → HasTableWords p.1

@@ -5,7 +5,7 @@ ghost use Rattle.clap.specs.Words.{found_of, first_of, fault_of, kind_of, rows_o
 ghost use Rattle.clap.specs.Walk.{texts};
 ghost use Rattle.program_words.specs.Program.{aplsheet};
 ghost use Rattle.program_words.specs.Asked.{HasBadName, HasNoName, IsNotBadWords, IsNotText, IsRefusalOf, AsksForTable, Means};
-ghost use Rattle.program_words.specs.Matched.{IsForName, IsRefusalFor, IsWhole, IsWholeTable, has_word};
+ghost use Rattle.program_words.specs.Matched.{IsForName, IsRefusalFor, HasTableWords, IsWholeTable, has_word};
 ghost use Rattle.program_words.specs.declared.reading.WordsFault.TheVariants.{NoMemory};
 
 use crate::command::program;
@@ -126,7 +126,7 @@ fn script_of(alloc: Global, values: &ArgMatches<'_>) -> Result<Option<String>, A
 
 /// The table that the values of `table` ask for.
 fn table_of(alloc: Global, values: &ArgMatches<'_>) -> Result<(Name, String, bool), WordsFault>
-    requires { IsWhole (rows_of (found_of values.now)) }
+    requires { HasTableWords (rows_of (found_of values.now)) }
     ensures ok { IfOk result (λ t. AsksForTable (rows_of (found_of values.now)) (t.0, string_bytes t.1, t.2)) }
     ensures bad_name { IfErr result (IsForName (HasNoName (rows_of (found_of values.now)))) }
 {

@@ -5,7 +5,7 @@ use Rattle.std.specs.declared.alloc.Global.{Global}
 use Rattle.std.specs.declared.string.String.{String}
 use Rattle.clap.specs.Words.{Text, fault_of, subcommand_of, takes}
 use Rattle.arrays_core.specs.Arrays.{ArrayValue}
-use Rattle.array_text.specs.Tables.{IsTableOf, records_of}
+use Rattle.array_text.specs.Tables.{IsTableRead, records_of}
 use Rattle.program_words.specs.Asked.{IsNotBadWords, IsNotText, IsRefusalOf, Means}
 use Rattle.program_words.specs.Program.{aplsheet}
 use Rattle.program_words.specs.declared.reading.Words.{Words}
@@ -37,12 +37,12 @@ pub data RefusesWords (host : HostValue) : Ending → Type 0 where
 
 -- the file of a path can be read, and is the table of this array
 abbrev pub GivesTable : HostValue → Text → Bool → ArrayValue → Type 0
-GivesTable host path header a = (bytes : List ℕ) × Reads host path bytes × IsTableOf header (records_of bytes) (Ok a)
+GivesTable host path header a = (bytes : List ℕ) × Reads host path bytes × IsTableRead header (records_of bytes) (Ok a)
 
 -- why it gives no table: it cannot be read; it has this fault; or for want of memory
 abbrev pub GivesNoTable : HostValue → Text → Bool → Ending → Type 0
 GivesNoTable host path header CannotRead = FailsToRead host path
-GivesNoTable host path header (Table fault) = (bytes : List ℕ) × Reads host path bytes × IsTableOf header (records_of bytes) (Err fault)
+GivesNoTable host path header (Table fault) = (bytes : List ℕ) × Reads host path bytes × IsTableRead header (records_of bytes) (Err fault)
 GivesNoTable host path header NoMemory = Unit {0}
 GivesNoTable host path header ending = ⊥
 

@@ -12,7 +12,7 @@ use Rattle.sheet_recalc.specs.Entries.{names_of}
 use Rattle.sheet_recalc.specs.Live.{IsLive, IsCurrent, TellsUsers}
 use Rattle.sheet_recalc.specs.ProposedSheet.{IsReaching}
 use Rattle.dep_order.specs.Follows.{Follows}
-use Rattle.dep_order.specs.Users.{Uses, IsClosed, HasNoEmptyBut}
+use Rattle.dep_order.specs.Users.{Uses, EachFollowsUsers, HasNoEmptyBut}
 use Rattle.sheet_recalc.specs.NameOrder.{IsKeptOrder, HasOrder}
 use Rattle.sheet_recalc.specs.declared.entry.Entry.{Entry}
 use Rattle.sheet_recalc.proofs.Binding.{rebound_same, rebound_own}
@@ -43,7 +43,7 @@ referred_refers names a c = by (binding names a) refl
     by (Some b) is h = refers_to names a b c is h
 
 module _ {S : Type 0} (es : List (List ℕ × Entry)) (users : List (List ℕ × IndexSet (List ℕ) S)) (live : IsLive es users) (name : List ℕ) (b : Option Binding)
-    (found : List (List ℕ)) (closed : IsClosed bytes_eq users found) (named : Contains found name) (sound : (a : List ℕ) → Contains found a → (a ≡ name) ⊎ Reaches (Uses bytes_eq users) a name)
+    (found : List (List ℕ)) (closed : EachFollowsUsers bytes_eq users found) (named : Contains found name) (sound : (a : List ℕ) → Contains found a → (a ≡ name) ⊎ Reaches (Uses bytes_eq users) a name)
     (distinct : IsDistinct bytes_eq found) where
   abbrev old : Names
   old = names_of es

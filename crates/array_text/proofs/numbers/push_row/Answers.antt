@@ -4,7 +4,7 @@ use Rattle.std.specs.Prelude.{string_bytes}
 use Rattle.std.specs.List.{join_by, range_with_len}
 use Rattle.std.proofs.lemmas.Int.{to_z-of_z}
 use mir.Val.{SFits}
-use Rattle.array_text.specs.Text.{right_justified, number_row, blank}
+use Rattle.array_text.specs.Text.{right_justified, number_row, between_numbers}
 use Rattle.array_text.proofs.Writing.{pushed, grown_twice, join_by-range_step, all_done}
 use Rattle.array_text.proofs.numbers.push_row.Goals as goal
 
@@ -17,7 +17,7 @@ loop-column-preserved c =
     let same = ap (right_justified (get_or widths k 0)) (to_z-of_z w64 (get_or row k (pos 0)) fits) in
     grown_twice _ _ _ _ _ _ _ _ (c.in_ok-push_cell.ensures ∙ ap (λ (t : List ℕ). string_bytes c.push_blank_between.new.out ++ t) same)
     c.in_ok-push_blank_between.ensures c.loop-column.invariant
-    (join_by-range_step (λ column. right_justified (get_or widths column 0) (get_or row column (pos 0))) blank k)
+    (join_by-range_step (λ column. right_justified (get_or widths column 0) (get_or row column (pos 0))) between_numbers k)
 
 pub returns : goal.returns
 unfolding number_row encode
@@ -25,7 +25,7 @@ returns c =
     let widths = c.args.widths.now in
     let row = c.args.row.now in
     let before = string_bytes c.args.out.now in
-    let text = λ (n : ℕ). join_by (λ column. right_justified (get_or widths column 0) (get_or row column (pos 0))) blank (range_with_len 0 n) in
+    let text = λ (n : ℕ). join_by (λ column. right_justified (get_or widths column 0) (get_or row column (pos 0))) between_numbers (range_with_len 0 n) in
     let all : string_bytes c.loop-column.out ≡ before ++ text (length row) =
     all_done text c.loop-column.column (length row) _ before c.loop-column.invariant (omega arith) in
     pushed c.push.result _ (string_bytes c.loop-column.out) (10 ∷ []) _ c.push.ensures.bytes

@@ -6,7 +6,7 @@ use Rattle.std.specs.List.{join_by}
 use Rattle.std.proofs.lemmas.List.{take_all}
 use Rattle.std.proofs.lemmas.Int.{to_z-of_z}
 use mir.Val.{SFits}
-use Rattle.array_text.specs.Tables.{comma, record_text}
+use Rattle.array_text.specs.Tables.{between_fields, record_text}
 use Rattle.array_text.proofs.Writing.{pushed, grown_twice, join_by-more}
 use Rattle.array_text.proofs.table_writer.push_record.Goals as goal
 
@@ -17,14 +17,14 @@ loop-column-preserved c =
     let fits : SFits w64 (get_or zs k (pos 0)) = search rules in
     let same = ap signed_decimal (to_z-of_z w64 (get_or zs k (pos 0)) fits) in
     grown_twice _ _ _ _ _ _ _ _ (c.in_ok-push_field.ensures ∙ ap (λ (t : List ℕ). string_bytes c.push_comma_between.new.out ++ t) same)
-    c.in_ok-push_comma_between.ensures c.loop-column.invariant (join_by-more signed_decimal comma zs k (pos 0) c.loop-column-test.true)
+    c.in_ok-push_comma_between.ensures c.loop-column.invariant (join_by-more signed_decimal between_fields zs k (pos 0) c.loop-column-test.true)
 
 pub returns : goal.returns
 unfolding record_text encode
 returns c =
     let zs = c.args.numbers.now in
     let before = string_bytes c.args.out.now in
-    let all : string_bytes c.loop-column.out ≡ before ++ join_by signed_decimal comma zs =
-    c.loop-column.invariant ∙ ap (λ t. before ++ join_by signed_decimal comma t) (take_all c.loop-column.column zs c.loop-column-test.false) in
+    let all : string_bytes c.loop-column.out ≡ before ++ join_by signed_decimal between_fields zs =
+    c.loop-column.invariant ∙ ap (λ t. before ++ join_by signed_decimal between_fields t) (take_all c.loop-column.column zs c.loop-column-test.false) in
     pushed c.push.result _ (string_bytes c.loop-column.out) (10 ∷ []) _ c.push.ensures.bytes
-    (ap (λ (t : List ℕ). t ++ 10 ∷ []) all ∙ append_assoc before (join_by signed_decimal comma zs) (10 ∷ []))
+    (ap (λ (t : List ℕ). t ++ 10 ∷ []) all ∙ append_assoc before (join_by signed_decimal between_fields zs) (10 ∷ []))

@@ -1,7 +1,7 @@
 use Rattle.std.proofs.Common.{◌≡◌, ℕ, ◌<◌, slice_index, true, List, Bool, length, set, subst, arith, sym, ap, nat_eq, ◌∙◌}
 use Rattle.std.specs.List.{Contains, IsDistinct}
 use Rattle.std.proofs.lemmas.List.{length-set}
-use Rattle.dep_order.specs.TopologicalOrder.{Points, IsPlaced, IsLeft, IsHit}
+use Rattle.dep_order.specs.TopologicalOrder.{Points, IsPlaced, IsUnplaced, IsHit}
 use Rattle.dep_order.proofs.Chains.{back_along}
 use Rattle.dep_order.proofs.Marks.{of_each, none_marked, now_listed, now_marked, still_once, IsDistinct-none, now_reach, points_from}
 use Rattle.dep_order.proofs.reachability.dependents.Goals as goal
@@ -26,7 +26,7 @@ loop-next-preserved c =
     let next = c.in-Some.next in
     let xs = c.loop-next.found.items in
     let same : c.deref.result.now ≡ marks = c.deref.ensures.value in
-    let left = subst (λ (ms : List Bool). IsLeft ms next) same c.in-Some.ensures.left in
+    let left = subst (λ (ms : List Bool). IsUnplaced ms next) same c.in-Some.ensures.left in
     let hit = subst (λ (ms : List Bool). (b : ℕ) × Points c.args.graph.now next b × IsHit ms c.args.node b) same c.in-Some.ensures.hit in
     let more = c.in_ok-push.ensures.items in
     record {

@@ -2,10 +2,10 @@ use Rattle.std.proofs.Common.{◌≡◌, ℕ, true, List, length, get_or, subst,
 use Rattle.std.specs.List.{Contains}
 use Rattle.std.proofs.lemmas.List.{length-set, get_or_default, take_rest}
 use Rattle.std.proofs.lemmas.Result.{IfOk-weaker}
-use Rattle.dep_order.specs.TopologicalOrder.{Points, IsLeft}
-use Rattle.dep_order.specs.Reachability.{IsCycle, LeadsTo}
+use Rattle.dep_order.specs.TopologicalOrder.{Points, IsUnplaced}
+use Rattle.dep_order.specs.Reachability.{IsCycle, IsChainTo}
 use Rattle.dep_order.proofs.Marks.{IsSome-from_none, apart, now_listed}
-use Rattle.dep_order.proofs.Chains.{LeadsTo-push, cycle_from}
+use Rattle.dep_order.proofs.Chains.{IsChainTo-push, cycle_from}
 use Rattle.dep_order.proofs.topological_order.cycle.Goals as goal
 
 pub unwrap-node-requires : goal.unwrap-node-requires
@@ -18,13 +18,13 @@ loop-seen-preserved c =
     let v = c.loop-seen.invariant in
     let seen = c.loop-seen.seen.items in
     let within : c.loop-seen.node < length seen = omega (arith, v.left.0) in
-    let left : IsLeft seen c.loop-seen.node = (within, get_or_default seen c.loop-seen.node true c.index.result.now within ∙ sym c.index.ensures ∙ c.loop-seen-test.true) in
+    let left : IsUnplaced seen c.loop-seen.node = (within, get_or_default seen c.loop-seen.node true c.index.result.now within ∙ sym c.index.ensures ∙ c.loop-seen-test.true) in
     record {
       size = length-set seen c.loop-seen.node true ∙ v.size;
       left = rw c.unwrap-node.ensures at c.missing.ensures.left;
       seen = λ a p. subst (λ xs. Contains xs a) (sym c.in_ok-push.ensures.items) (now_listed seen c.loop-seen.node left c.loop-seen.path.items v.seen a p);
-      leads = subst (λ xs. LeadsTo (Points c.args.graph.now) xs c.unwrap-node.result) (sym c.in_ok-push.ensures.items)
-          (LeadsTo-push (Points c.args.graph.now) c.loop-seen.path.items c.loop-seen.node c.unwrap-node.result v.leads (rw c.unwrap-node.ensures at c.missing.ensures.points));
+      leads = subst (λ xs. IsChainTo (Points c.args.graph.now) xs c.unwrap-node.result) (sym c.in_ok-push.ensures.items)
+          (IsChainTo-push (Points c.args.graph.now) c.loop-seen.path.items c.loop-seen.node c.unwrap-node.result v.leads (rw c.unwrap-node.ensures at c.missing.ensures.points));
     }
 
 pub returns : goal.returns

@@ -1,15 +1,15 @@
 use Rattle.std.proofs.Common.{◌≡◌, ℕ, length, count_by, not}
 use Rattle.std.specs.List.{Contains}
-use Rattle.dep_order.specs.TopologicalOrder.{IsLeft, IsPlaced, Points}
-use Rattle.dep_order.specs.Reachability.{LeadsTo}
+use Rattle.dep_order.specs.TopologicalOrder.{IsUnplaced, IsPlaced, Points}
+use Rattle.dep_order.specs.Reachability.{IsChainTo}
 use Rattle.dep_order.proofs.topological_order.cycle.Given as goal
 
 abbrev pub invariant-loop-seen : goal.invariant-loop-seen
 invariant-loop-seen l = record {
   size : length l.seen.items ≡ length l.graph;
-  left : IsLeft l.placed l.node;
+  left : IsUnplaced l.placed l.node;
   seen : (a : ℕ) → IsPlaced l.seen.items a → Contains l.path.items a;
-  leads : LeadsTo (Points l.graph) l.path.items l.node;
+  leads : IsChainTo (Points l.graph) l.path.items l.node;
 }
 
 abbrev pub decreases-loop-seen : goal.decreases-loop-seen

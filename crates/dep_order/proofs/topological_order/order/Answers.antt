@@ -1,7 +1,7 @@
 use Rattle.std.proofs.Common.{◌≡◌, ℕ, ◌<◌, slice_index, true, List, length, set, subst, arith, sym, ap, take, nat_eq, Bool, ◌∙◌}
 use Rattle.std.specs.List.{Contains, IsDistinct}
 use Rattle.std.proofs.lemmas.List.{length-set}
-use Rattle.dep_order.specs.TopologicalOrder.{Points, IsPlaced, IsLeft, IsStuck}
+use Rattle.dep_order.specs.TopologicalOrder.{Points, IsPlaced, IsUnplaced, IsStuck}
 use Rattle.dep_order.proofs.Marks.{none_marked, now_listed, now_marked, still_once, still_after, IsDistinct-none}
 use Rattle.dep_order.proofs.topological_order.order.Goals as goal
 
@@ -25,7 +25,7 @@ loop-first-preserved c =
     let node = c.in-Some-next_ready.node in
     let xs = c.loop-first.order.items in
     let same : c.deref-in-Some.result.now ≡ marks = c.deref-in-Some.ensures.value in
-    let left = subst (λ (ms : List Bool). IsLeft ms node) same c.in-Some-next_ready.ensures.left in
+    let left = subst (λ (ms : List Bool). IsUnplaced ms node) same c.in-Some-next_ready.ensures.left in
     let ready = λ (b : ℕ) (p : Points c.args.graph.now node b). v.placed b (subst (λ (ms : List Bool). IsPlaced ms b) same (c.in-Some-next_ready.ensures.ready b p)) in
     let more = c.in_ok-push-in-Some-next_ready.ensures.items in
     record {

@@ -2,7 +2,7 @@ use Rattle.std.proofs.Common.{◌≡◌, ◌∙◌, inl, inr, List, None, get_or
 use Rattle.std.specs.List.{Contains}
 use Rattle.std.specs.Map.{keys_of}
 use Rattle.std.proofs.lemmas.List.{get_or_default}
-use Rattle.dep_order.specs.Users.{Uses, IsClosed}
+use Rattle.dep_order.specs.Users.{Uses, EachFollowsUsers}
 use Rattle.dep_order.proofs.Climbing.{within_first, within_user, reaches_on}
 use Rattle.dep_order.proofs.Found.{found_closed, found_has, found_kept, found_only, keys_inserted, nothing_more}
 use Rattle.dep_order.proofs.users.+climb.Goals as goal
@@ -56,7 +56,7 @@ returns-clause-closed g t c =
     let table = c.args.users.now.entries in
     let found = keys_of c.loop-user.found.entries in
     let items = c.users_of-user-items.result.now in
-    subst (λ (ks : List _). IsClosed eq table ks) (sym (ap keys_of c.in_ok-insert.ensures.entries ∙ keys_inserted g.N.PartialEq.eq c.loop-user.found.entries c.args.node.now None))
+    subst (λ (ks : List _). EachFollowsUsers eq table ks) (sym (ap keys_of c.in_ok-insert.ensures.entries ∙ keys_inserted g.N.PartialEq.eq c.loop-user.found.entries c.args.node.now None))
     (found_closed eq c.requires.exact found c.args.node.now (λ a b. Uses eq table b a) c.loop-user.invariant.closed
     (λ b u.
     let at = subst (λ (us : List _). Contains us b) (sym c.users_of-user-items.ensures) u in

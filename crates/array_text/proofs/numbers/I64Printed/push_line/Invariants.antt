@@ -1,8 +1,8 @@
 use Rattle.std.proofs.Common.{◌≡◌, ◌++◌, take}
 use Rattle.std.specs.Prelude.{string_bytes}
 use Rattle.std.specs.List.{join_by}
-use Rattle.array_text.specs.Text.{number_text, blank}
+use Rattle.array_text.specs.Text.{number_text, between_numbers}
 use Rattle.array_text.proofs.numbers.I64Printed.push_line.Given as goal
 
 abbrev pub invariant-loop-earlier : goal.invariant-loop-earlier
-invariant-loop-earlier l = string_bytes l.out ≡ string_bytes l.initial.out ++ join_by number_text blank (take l.earlier l.numbers)
+invariant-loop-earlier l = string_bytes l.out ≡ string_bytes l.initial.out ++ join_by number_text between_numbers (take l.earlier l.numbers)
