@@ -58,7 +58,7 @@ module _ (cs : List ℕ) where
   read_one : (m n : Meaning) → IsReadAs cs m → IsReadAs cs n → n ≡ m
   read_one m n a b = sym (one_meaning_of a.3 n (line_in a.0 b.0 n a.1 b.1 b.3))
 
-opening_one : (old : State) (k : ℤ) (edit : Option change.Change) (text₁ text₂ : List ℕ) (new₁ new₂ : State) → IsOpening old k edit text₁ new₁ → IsOpening old k edit text₂ new₂ → (text₁ ≡ text₂) × (new₁ ≡ new₂)
+opening_one : (old : State) (k : ℤ) (edit : Option change.SheetChange) (text₁ text₂ : List ℕ) (new₁ new₂ : State) → IsOpening old k edit text₁ new₁ → IsOpening old k edit text₂ new₂ → (text₁ ≡ text₂) × (new₁ ≡ new₂)
 opening_one old k None text₁ text₂ new₁ new₂ a b = absurd a
 opening_one old k (Some edit) text₁ text₂ new₁ new₂ a b = asked_one old (desk.Open k edit) text₁ text₂ new₁ new₂ a b
 

@@ -1,7 +1,7 @@
 -- An edit has one outcome, but for want of memory.
 use Rattle.std.proofs.Common.{◌≡◌, ℕ, List, refl, sym, subst, ◌∙◌}
 use Rattle.sheet_recalc.specs.Names.{Names}
-use Rattle.sheet_recalc.specs.Changes.{Change}
+use Rattle.sheet_recalc.specs.Changes.{SheetChange}
 use Rattle.sheet_recalc.specs.Costs.{HasCost}
 use Rattle.sheet_desk.specs.Desk.{Refused}
 use Rattle.sheet_desk.proofs.Causes.{accepted_refused, refused_one}
@@ -10,13 +10,13 @@ use Rattle.sheet_cli.specs.Answer.{State, refusal_text, IsEdited, accepted, refu
 use Rattle.sheet_cli.proofs.OneEvent.{texts_one}
 
 -- what accepts an edit gives one cost
-costs_one : (names : Names) (edit : Change) (new₁ new₂ : Names) (cost₁ cost₂ : ℕ) → new₁ ≡ new₂ → HasCost names edit new₁ cost₁ → HasCost names edit new₂ cost₂ → cost₁ ≡ cost₂
+costs_one : (names : Names) (edit : SheetChange) (new₁ new₂ : Names) (cost₁ cost₂ : ℕ) → new₁ ≡ new₂ → HasCost names edit new₁ cost₁ → HasCost names edit new₂ cost₂ → cost₁ ≡ cost₂
 costs_one names edit new₁ new₂ cost₁ cost₂ same a b = subst (λ (new : Names). HasCost names edit new cost₁) same a ∙ sym b
 
 same_state : (a b : State) → a.names ≡ b.names → a.cost ≡ b.cost → a.slots ≡ b.slots → a ≡ b
 same_state a b names cost slots = λ i. record { names = names i; cost = cost i; slots = slots i }
 
-pub edit_one : (old : State) (edit : Change) (text₁ text₂ : List ℕ) (new₁ new₂ : State) → IsEdited old edit text₁ new₁ → IsEdited old edit text₂ new₂ → (text₁ ≡ text₂) × (new₁ ≡ new₂)
+pub edit_one : (old : State) (edit : SheetChange) (text₁ text₂ : List ℕ) (new₁ new₂ : State) → IsEdited old edit text₁ new₁ → IsEdited old edit text₂ new₂ → (text₁ ≡ text₂) × (new₁ ≡ new₂)
 edit_one old edit text₁ text₂ new₁ new₂ (accepted a c s) (accepted b d t) =
     let same = accepts_one old.names edit _ _ a b in
     (refl, same_state new₁ new₂ same (costs_one old.names edit _ _ _ _ same c d) (s ∙ sym t))

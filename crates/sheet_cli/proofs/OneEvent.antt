@@ -2,26 +2,26 @@
 use Rattle.std.proofs.Common.{◌≡◌, ◌≢◌, ℕ, inl, inr, Bool, true, List, [], ◌∷◌, map, codes, Option, Some, None, refl, sym, ap, subst, ◌∙◌}
 use Rattle.std.specs.Option.{option_map}
 use Rattle.std.proofs.lemmas.Bool.{false≢true}
-use Rattle.sheet_recalc.specs.Changes.{Change}
+use Rattle.sheet_recalc.specs.Changes.{SheetChange}
 use Rattle.sheet_recalc.specs.declared.refusal.Refusal.TheVariants as why
 use Rattle.sheet_desk.specs.Desk.{SlotValue, DeskValue, Event, Plain, Answer, Done, Left, Shown, Refused, stale, IsRefused, IsEvent}
-use Rattle.sheet_desk.specs.Laws.{told_of, AreAlike, names_cycle, IsSameAnswer}
+use Rattle.sheet_desk.specs.Laws.{told_of_slot, AreAlike, names_cycle, IsSameAnswer}
 use Rattle.sheet_desk.proofs.OneAnswer.{one_answer}
 use Rattle.sheet_cli.specs.Answer.{OpenChange, State, open_change, state_of, as_stale, IsEdited, accepted, refused, IsPrintedFor, IsAsked}
 
 -- what answers tell of a slot is what a run keeps of it
-abbrev told : OpenChange → Change × Bool × ℕ
+abbrev told : OpenChange → SheetChange × Bool × ℕ
 told o = (o.change, o.is_stale, o.left)
 
-abbrev kept : Change × Bool × ℕ → OpenChange
+abbrev kept : SheetChange × Bool × ℕ → OpenChange
 kept t = record { change = t.0; is_stale = t.1; left = t.2 }
 
-told_open : (slots : List (Option SlotValue)) → map (option_map told_of) slots ≡ map (option_map told) (map (option_map open_change) slots)
+told_open : (slots : List (Option SlotValue)) → map (option_map told_of_slot) slots ≡ map (option_map told) (map (option_map open_change) slots)
 told_open [] = refl
-told_open (None ∷ slots) = ap (λ (rest : List (Option (Change × Bool × ℕ))). None ∷ rest) (told_open slots)
-told_open (Some s ∷ slots) = ap (λ (rest : List (Option (Change × Bool × ℕ))). Some (told_of s) ∷ rest) (told_open slots)
+told_open (None ∷ slots) = ap (λ (rest : List (Option (SheetChange × Bool × ℕ))). None ∷ rest) (told_open slots)
+told_open (Some s ∷ slots) = ap (λ (rest : List (Option (SheetChange × Bool × ℕ))). Some (told_of_slot s) ∷ rest) (told_open slots)
 
-kept_told : (slots : List (Option SlotValue)) → map (option_map open_change) slots ≡ map (option_map kept) (map (option_map told_of) slots)
+kept_told : (slots : List (Option SlotValue)) → map (option_map open_change) slots ≡ map (option_map kept) (map (option_map told_of_slot) slots)
 kept_told [] = refl
 kept_told (None ∷ slots) = ap (λ (rest : List (Option OpenChange)). None ∷ rest) (kept_told slots)
 kept_told (Some s ∷ slots) = ap (λ (rest : List (Option OpenChange)). Some (open_change s) ∷ rest) (kept_told slots)
@@ -35,7 +35,7 @@ alike d e same = record {
 
 one_state : (d e : DeskValue) → AreAlike d e → state_of d ≡ state_of e
 one_state d e are =
-    let slots = kept_told d.slots ∙ ap (λ (ts : List (Option (Change × Bool × ℕ))). map (option_map kept) ts) are.slots ∙ sym (kept_told e.slots) in
+    let slots = kept_told d.slots ∙ ap (λ (ts : List (Option (SheetChange × Bool × ℕ))). map (option_map kept) ts) are.slots ∙ sym (kept_told e.slots) in
     λ i. record { names = are.names i; cost = are.cost i; slots = slots i }
 
 -- an answer is printed in one way, and all that name a cycle alike
@@ -89,7 +89,7 @@ open_stale (None ∷ slots) = ap (λ (rest : List (Option OpenChange)). None ∷
 open_stale (Some s ∷ slots) = ap (λ (rest : List (Option OpenChange)). Some (as_stale (open_change s)) ∷ rest) (open_stale slots)
 
 -- a plain change is an edit
-pub plain_edited : (d next : DeskValue) (change : Change) (answer : Answer) (text : List ℕ) → IsEvent d (Plain change) answer next → IsPrintedFor answer text → IsEdited (state_of d) change text (state_of next)
+pub plain_edited : (d next : DeskValue) (change : SheetChange) (answer : Answer) (text : List ℕ) → IsEvent d (Plain change) answer next → IsPrintedFor answer text → IsEdited (state_of d) change text (state_of next)
 plain_edited d next change Done text made h = rw h (accepted made.accepts made.cost (ap (λ (slots : List (Option SlotValue)). map (option_map open_change) slots) made.slots ∙ open_stale d.slots))
 plain_edited d next change (Left n) text e h = absurd e
 plain_edited d next change (Shown outcome) text e h = absurd h

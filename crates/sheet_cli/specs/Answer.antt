@@ -18,7 +18,7 @@ use Rattle.formula_core.specs.Meaning.{eval}
 use Rattle.sheet_recalc.specs.Names as sheet
 use Rattle.sheet_recalc.specs.Names.{Binding, binding}
 use Rattle.sheet_recalc.specs.Meaning.{val}
-use Rattle.sheet_recalc.specs.Changes.{Change, Accepts, Refuses}
+use Rattle.sheet_recalc.specs.Changes.{SheetChange, Accepts, Refuses}
 use Rattle.sheet_recalc.specs.Changes as change
 use Rattle.sheet_recalc.specs.Costs.{HasCost}
 use Rattle.sheet_recalc.specs.declared.refusal.Refusal.{Refusal}
@@ -29,7 +29,7 @@ use Rattle.sheet_cli.specs.Lines.{longest_line, strip_cr}
 
 -- a change that is open: whether another change was made since, and how many steps are left
 pub record OpenChange : Type 0 where
-  pub change : Change
+  pub change : SheetChange
   pub is_stale : Bool
   pub left : ℕ
 
@@ -107,9 +107,9 @@ IsRefusalText cause text = (text ≡ refusal_text cause) × (cause ≢ why.NoMem
 
 -- an edit is accepted, prints nothing, its cost is kept and all changes that are open are stale; or it is refused, not for want of memory,
 -- prints why and changes nothing
-pub data IsEdited : State → Change → List ℕ → State → Type 0 where
-  accepted : {old new : State} {edit : Change} → Accepts old.names edit new.names → HasCost old.names edit new.names new.cost → new.slots ≡ map (option_map as_stale) old.slots → IsEdited old edit [] new
-  refused : {old : State} {edit : Change} (cause : Refusal) → Refuses old.names edit cause → cause ≢ why.NoMemory → IsEdited old edit (refusal_text cause) old
+pub data IsEdited : State → SheetChange → List ℕ → State → Type 0 where
+  accepted : {old new : State} {edit : SheetChange} → Accepts old.names edit new.names → HasCost old.names edit new.names new.cost → new.slots ≡ map (option_map as_stale) old.slots → IsEdited old edit [] new
+  refused : {old : State} {edit : SheetChange} (cause : Refusal) → Refuses old.names edit cause → cause ≢ why.NoMemory → IsEdited old edit (refusal_text cause) old
 
 -- what a desk answers to a line about a slot, as it is printed: nothing where the thing is done, how many steps are left, or why it is refused
 abbrev pub IsPrintedFor : desk.Answer → List ℕ → Type 0
@@ -129,7 +129,7 @@ pub record IsAsked (old : State) (event : desk.Event) (text : List ℕ) (new : S
   pub text_is : IsPrintedFor answer text
 
 -- the change that is meant, if it is one
-abbrev pub change_meant : Meaning → Option Change
+abbrev pub change_meant : Meaning → Option SheetChange
 change_meant (Define n t) = Some (change.Define n t)
 change_meant (Data n t) = Some (change.Store n t)
 change_meant (Cell n ps l) = Some (change.SetCell n ps l)
@@ -138,7 +138,7 @@ change_meant (Erase n) = Some (change.Erase n)
 change_meant m = None
 
 -- this change is opened in the slot of a number
-abbrev pub IsOpening : State → ℤ → Option Change → List ℕ → State → Type 0
+abbrev pub IsOpening : State → ℤ → Option SheetChange → List ℕ → State → Type 0
 IsOpening old k None text new = ⊥
 IsOpening old k (Some edit) text new = IsAsked old (desk.Open k edit) text new
 

@@ -38,9 +38,9 @@ told_of BadName = Some (codes "BAD NAME\n")
 told_of (BadWords e) = None
 
 -- all is done where nothing went wrong
-abbrev pub ended : Result (Unit {0}) Ending → Ending
-ended (Ok done) = Done
-ended (Err ending) = ending
+abbrev pub done_or_ending : Result (Unit {0}) Ending → Ending
+done_or_ending (Ok done) = Done
+done_or_ending (Err ending) = ending
 
 -- the ending that refused words come to
 abbrev pub ending_of : WordsFault → Ending

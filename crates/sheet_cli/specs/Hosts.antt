@@ -45,8 +45,8 @@ IsOpenedAs (Broken bytes) left = left ≡ Some bytes
 IsOpenedAs (Whole bytes) left = left ≡ Some bytes
 
 -- the same of the file of a path
-abbrev pub Reads : HostValue → Text → List ℕ → Type 0
-Reads host path bytes = IfSome (host.file path) (λ file. IsWhole file bytes)
+abbrev pub ReadsFile : HostValue → Text → List ℕ → Type 0
+ReadsFile host path bytes = IfSome (host.file path) (λ file. IsWhole file bytes)
 
 abbrev pub FailsToRead : HostValue → Text → Type 0
 FailsToRead host path = IfSome (host.file path) IsNotWhole

@@ -14,7 +14,7 @@ use Rattle.sheet_recalc.specs.Names.{Names, Data}
 use Rattle.sheet_desk.specs.Slots.{slot_count}
 use Rattle.sheet_cli.specs.Answer.{State}
 use Rattle.sheet_cli.specs.Endings.{OfWords, ending_of, status_of, told_of}
-use Rattle.sheet_cli.specs.Hosts.{HostValue, HasWords, HasNoText, Reads, FailsToRead, Opens, FailsToOpen}
+use Rattle.sheet_cli.specs.Hosts.{HostValue, HasWords, HasNoText, ReadsFile, FailsToRead, Opens, FailsToOpen}
 use Rattle.sheet_cli.specs.Run.{Completes, BreaksOff, IsCut}
 use Rattle.sheet_cli.specs.declared.ending.Ending.{Ending}
 use Rattle.sheet_cli.specs.declared.ending.Ending.TheVariants.{Done, Run, Table, CannotRead, NoMemory}
@@ -37,12 +37,12 @@ pub data RefusesWords (host : HostValue) : Ending → Type 0 where
 
 -- the file of a path can be read, and is the table of this array
 abbrev pub GivesTable : HostValue → Text → Bool → ArrayValue → Type 0
-GivesTable host path header a = (bytes : List ℕ) × Reads host path bytes × IsTableRead header (records_of bytes) (Ok a)
+GivesTable host path header a = (bytes : List ℕ) × ReadsFile host path bytes × IsTableRead header (records_of bytes) (Ok a)
 
 -- why it gives no table: it cannot be read; it has this fault; or for want of memory
 abbrev pub GivesNoTable : HostValue → Text → Bool → Ending → Type 0
 GivesNoTable host path header CannotRead = FailsToRead host path
-GivesNoTable host path header (Table fault) = (bytes : List ℕ) × Reads host path bytes × IsTableRead header (records_of bytes) (Err fault)
+GivesNoTable host path header (Table fault) = (bytes : List ℕ) × ReadsFile host path bytes × IsTableRead header (records_of bytes) (Err fault)
 GivesNoTable host path header NoMemory = Unit {0}
 GivesNoTable host path header ending = ⊥
 
@@ -116,12 +116,12 @@ pub data ComesTo {R S W : Type 0} (s : Setting R S W) : Ending → Type 0 where
       LinesComeTo s.inputs s.outputs s.input₁ s.input₂ s.output₁ s.output₂ (first_state names) ending → ComesTo s ending
 
 -- what is told of an ending was taken, or a call has failed
-abbrev pub IsTold : Option (List ℕ) → Option (List ℕ) → Bool → Ending → Type 0
-IsTold told₁ told₂ has_failed ending = IfSome (told_of ending) (λ text. Appends told₁ told₂ text ⊎ (has_failed ≡ true))
+abbrev pub IsEndingTold : Option (List ℕ) → Option (List ℕ) → Bool → Ending → Type 0
+IsEndingTold told₁ told₂ has_failed ending = IfSome (told_of ending) (λ text. Appends told₁ told₂ text ⊎ (has_failed ≡ true))
 
 -- the whole program: it comes to an ending, tells it, and its exit status is that of the ending
 pub record Performs {R S W : Type 0} (s : Setting R S W) (told₁ told₂ : Option (List ℕ)) (has_failed : Bool) (status : ℕ) : Type 0 where
   pub ending : Ending
   pub comes_to : ComesTo s ending
-  pub is_told : IsTold told₁ told₂ has_failed ending
+  pub is_told : IsEndingTold told₁ told₂ has_failed ending
   pub status_is : status ≡ status_of ending

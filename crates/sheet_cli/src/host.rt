@@ -3,7 +3,7 @@
 ghost use Rattle.std.specs.Prelude.{◌≡◌, ◌||◌, ℕ, Bool, List, Option, IfOk, IfSome, IsErrOf, OnErr, OnOk, is_err, map, string_bytes};
 ghost use Rattle.std.specs.Io.KnownBytes.{Appends};
 ghost use Rattle.std.specs.IoError.{error_kind};
-ghost use Rattle.sheet_cli.specs.Hosts.{HostValue, HasWords, HasNoText, Reads, FailsToRead, Opens, FailsToOpen};
+ghost use Rattle.sheet_cli.specs.Hosts.{HostValue, HasWords, HasNoText, ReadsFile, FailsToRead, Opens, FailsToOpen};
 
 use crate::device::{Failed, Source};
 use std::alloc::AllocError;
@@ -89,7 +89,7 @@ pub trait Host {
 
     /// The bytes of the file of a path, all of them.
     fn read(&self, path: &str) -> Result<Vec<u8>, NotRead>
-        ensures ok { IfOk result (λ bytes. Reads (value self.now) path.now bytes.items) }
+        ensures ok { IfOk result (λ bytes. ReadsFile (value self.now) path.now bytes.items) }
         ensures not_read { IsErrOf result NotRead.CannotRead → FailsToRead (value self.now) path.now };
 
     /// Opens the file of a path.

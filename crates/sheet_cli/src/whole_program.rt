@@ -4,7 +4,7 @@ ghost use Rattle.std.specs.Prelude.{◌≡◌, IfOk, IfErr, map, string_bytes};
 ghost use Rattle.clap.specs.Walk.{texts};
 ghost use Rattle.sheet_cli.specs.Programs.{AsksFor, RefusesWords, GivesTable, GivesNoTable, BeginsWith, FailsToBegin};
 ghost use Rattle.sheet_cli.specs.Programs.{LinesComeTo, ComesTo, Performs, first_state};
-ghost use Rattle.sheet_cli.specs.Endings.{ended};
+ghost use Rattle.sheet_cli.specs.Endings.{done_or_ending};
 ghost use Rattle.sheet_cli.specs.declared.ending.Ending.TheVariants.{NoMemory};
 
 use crate::device::{Failed, Sink, Source};
@@ -84,7 +84,7 @@ fn answer_lines<R: Source, W: Sink>(
     requires cost { sheet.cost ≡ 0 }
     ensures { LinesComeTo (record { remaining = R.remaining; has_failed = R.has_failed })
         (record { written = W.written; has_failed = W.has_failed; is_flushed = W.is_flushed })
-        source.old source.new sink.old sink.new (first_state sheet.names) (ended result) }
+        source.old source.new sink.old sink.new (first_state sheet.names) (done_or_ending result) }
 {
     let mut desk = Desk::new(sheet);
     run(alloc, &mut desk, source, sink)?;
@@ -107,7 +107,7 @@ fn perform<H: Host, R: Source, W: Sink>(
       input₂ = input.new;
       output₁ = output.old;
       output₂ = output.new;
-    }) (ended result) }
+    }) (done_or_ending result) }
 {
     let asked = asked_for(alloc, host)?;
     let sheet = first_sheet(alloc, host, &asked)?;

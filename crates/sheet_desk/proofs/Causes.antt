@@ -9,7 +9,7 @@ use Rattle.sheet_recalc.specs.Names.{Names, Binding, Formula, binding, put, Refe
 use Rattle.sheet_recalc.specs.Meaning.{val}
 use Rattle.sheet_recalc.specs.Cells.{cell_put}
 use Rattle.sheet_recalc.specs.Rows.{row_put}
-use Rattle.sheet_recalc.specs.Changes.{Change, Define, Store, Put, SetCell, AddRow, Erase, Accepts, Refuses, CannotPut, HasRoomForName, IsFullFor, IsCycleFrom}
+use Rattle.sheet_recalc.specs.Changes.{SheetChange, Define, Store, Put, SetCell, AddRow, Erase, Accepts, Refuses, CannotPut, HasRoomForName, IsFullFor, IsCycleFrom}
 use Rattle.sheet_recalc.specs.declared.refusal.Refusal.{Refusal}
 use Rattle.sheet_recalc.specs.declared.refusal.Refusal.TheVariants as why
 use Rattle.sheet_desk.specs.Desk.{Refused}
@@ -156,7 +156,7 @@ one_err : {A B : Type 0} {r : Result A B} {a b : B} → r ≡ Err a → r ≡ Er
 one_err p q = cc
 
 -- what is accepted is not refused
-pub accepted_refused : (names : Names) (change : Change) (new : Names) (cause : Refusal) → Accepts names change new → Refuses names change cause →
+pub accepted_refused : (names : Names) (change : SheetChange) (new : Names) (cause : Refusal) → Accepts names change new → Refuses names change cause →
     cause ≢ why.NoMemory → ⊥
 accepted_refused names (Define n t) new cause a r other = by (define_cause names n t cause r other)
   where
@@ -177,7 +177,7 @@ same : (a b : Refusal) → a ≡ b → IsSameAnswer (Refused a) (Refused b)
 same a b h = inl (ap (λ (c : Refusal). Refused c) h)
 
 -- two causes of one refusal are one, or both name a cycle
-pub refused_one : (names : Names) (change : Change) (a b : Refusal) → Refuses names change a → a ≢ why.NoMemory → Refuses names change b → b ≢ why.NoMemory →
+pub refused_one : (names : Names) (change : SheetChange) (a b : Refusal) → Refuses names change a → a ≢ why.NoMemory → Refuses names change b → b ≢ why.NoMemory →
     IsSameAnswer (Refused a) (Refused b)
 refused_one names (Define n t) a b r other s another = by (define_cause names n t a r other) (define_cause names n t b s another)
   where

@@ -4,7 +4,7 @@ use Rattle.std.specs.Option.{option_map}
 use Rattle.formula_core.specs.Meaning.{eval}
 use Rattle.sheet_recalc.specs.Names.{Names}
 use Rattle.sheet_recalc.specs.Meaning.{val}
-use Rattle.sheet_recalc.specs.Changes.{Change, Accepts}
+use Rattle.sheet_recalc.specs.Changes.{SheetChange, Accepts}
 use Rattle.sheet_desk.specs.Slots.{with_slot}
 use Rattle.sheet_desk.specs.Desk.{DeskValue, SlotValue, Event, Open, Step, Commit, Drop, Plain, Show, Answer, Done, Left, Shown, Refused, stale, with_held, IsEvent, IsMade, IsStepped}
 use Rattle.sheet_desk.specs.Laws.{open_changes, the_change, made_by, opened_after, committed, AreAccepted, NamesAreOfChangesCommitted, ShowsAreOfChangesCommitted}
@@ -12,19 +12,19 @@ use Rattle.sheet_desk.proofs.Slotted.{slot_in-map, with_slot-map}
 use Rattle.sheet_desk.proofs.Placed.{with_slot_same}
 use Rattle.sheet_desk.proofs.Spent.{accepts_one}
 
-accepted_append : (old mid new : Names) (xs ys : List Change) → AreAccepted old xs mid → AreAccepted mid ys new → AreAccepted old (xs ++ ys) new
+accepted_append : (old mid new : Names) (xs ys : List SheetChange) → AreAccepted old xs mid → AreAccepted mid ys new → AreAccepted old (xs ++ ys) new
 accepted_append old mid new [] ys h rest = subst (λ (names : Names). AreAccepted names ys new) h rest
 accepted_append old mid new (x ∷ xs) ys h rest = (h.0, h.1, accepted_append h.0 mid new xs ys h.2 rest)
 
-accepted_one : (old new₁ new₂ : Names) (xs : List Change) → AreAccepted old xs new₁ → AreAccepted old xs new₂ → new₁ ≡ new₂
+accepted_one : (old new₁ new₂ : Names) (xs : List SheetChange) → AreAccepted old xs new₁ → AreAccepted old xs new₂ → new₁ ≡ new₂
 accepted_one old new₁ new₂ [] a b = a ∙ sym b
 accepted_one old new₁ new₂ (x ∷ xs) a b = accepted_one b.0 new₁ new₂ xs (subst (λ (names : Names). AreAccepted names xs new₁) (accepts_one old x a.0 b.0 a.1 b.1)
     a.2) b.2
 
 stale_changes : (slots : List (Option SlotValue)) → open_changes (map (option_map stale) slots) ≡ open_changes slots
 stale_changes [] = refl
-stale_changes (None ∷ slots) = ap (λ (rest : List (Option Change)). None ∷ rest) (stale_changes slots)
-stale_changes (Some s ∷ slots) = ap (λ (rest : List (Option Change)). Some s.change ∷ rest) (stale_changes slots)
+stale_changes (None ∷ slots) = ap (λ (rest : List (Option SheetChange)). None ∷ rest) (stale_changes slots)
+stale_changes (Some s ∷ slots) = ap (λ (rest : List (Option SheetChange)). Some s.change ∷ rest) (stale_changes slots)
 
 put_changes : (slots : List (Option SlotValue)) (k : ℤ) (held : Option SlotValue) →
     open_changes (with_slot slots k held) ≡ with_slot (open_changes slots) k (option_map (λ (s : SlotValue). s.change) held)
@@ -57,7 +57,7 @@ stepped d next k n h = by h.slot.left refl
               ∙ with_slot_same (open_changes d.slots) k (Some h.slot.change) held;
         }
 
-made : (d e next : DeskValue) (change : Change) → IsMade e change next → e.names ≡ d.names → AreAccepted d.names (change ∷ []) next.names
+made : (d e next : DeskValue) (change : SheetChange) → IsMade e change next → e.names ≡ d.names → AreAccepted d.names (change ∷ []) next.names
 made d e next change h same = (next.names, subst (λ (names : Names). Accepts names change next.names) same h.accepts, refl)
 
 follows : (d next : DeskValue) (event : Event) (answer : Answer) → IsEvent d event answer next → Follows d next event answer
@@ -76,7 +76,7 @@ follows d next (Step k) (Refused cause) h = let b = as_before d next h.1 in reco
 follows d next (Commit k) Done h =
     let held = slot_in-map (λ (s : SlotValue). s.change) d.slots k ∙ ap (option_map (option_map (λ (s : SlotValue). s.change))) h.held in
     record {
-      names = subst (λ (changes : List Change). AreAccepted d.names changes next.names) (sym (ap the_change held)) (made d (with_held d k None) next h.slot.change
+      names = subst (λ (changes : List SheetChange). AreAccepted d.names changes next.names) (sym (ap the_change held)) (made d (with_held d k None) next h.slot.change
           h.made refl);
       opened = ap open_changes h.made.slots ∙ stale_changes (with_slot d.slots k None) ∙ put_changes d.slots k None;
     }
@@ -108,7 +108,7 @@ names_committed d new (event ∷ events) (answer ∷ answers) h =
     let f = follows d h.0 event answer h.1 in
     let rest = names_committed h.0 new events answers h.2 in
     accepted_append d.names h.0.names new.names (made_by (open_changes d.slots) event answer) _ f.names
-    (subst (λ (opened : List (Option Change)). AreAccepted h.0.names (committed opened events answers) new.names) f.opened rest)
+    (subst (λ (opened : List (Option SheetChange)). AreAccepted h.0.names (committed opened events answers) new.names) f.opened rest)
 
 pub shows_committed : ShowsAreOfChangesCommitted
 shows_committed d mid new events answers tree outcome names h shown changes =

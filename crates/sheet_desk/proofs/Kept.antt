@@ -1,7 +1,7 @@
 -- A change that stays open is stale exactly where another was made.
 use Rattle.std.proofs.Common.{◌≡◌, ◌≢◌, ℕ, zero, suc, ℤ, Bool, true, false, ◌||◌, List, [], ◌∷◌, map, Option, Some, None, refl, sym, ap, subst, ◌∙◌, arith}
 use Rattle.std.specs.Option.{option_map}
-use Rattle.sheet_recalc.specs.Changes.{Change}
+use Rattle.sheet_recalc.specs.Changes.{SheetChange}
 use Rattle.sheet_desk.specs.Slots.{slot_in}
 use Rattle.sheet_desk.specs.Desk.{DeskValue, SlotValue, Event, Open, Step, Commit, Drop, Plain, Show, Answer, Done, Left, Shown, Refused, stale, held_in, with_held, IsEvent, IsStepped, AreEvents}
 use Rattle.sheet_desk.specs.Laws.{makes_change, make_change, Keeps, AllKeep, HoldsStale, StaleWhereChanged}
@@ -20,7 +20,7 @@ or_assoc : (a b c : Bool) → ((a || b) || c) ≡ (a || (b || c))
 or_assoc true b c = refl
 or_assoc false b c = refl
 
-module _ (k : ℤ) (change : Change) where
+module _ (k : ℤ) (change : SheetChange) where
   -- a slot that finds the same holds the same
   same_held : (d next : DeskValue) (b : Bool) → HoldsStale d k change b → held_in next k ≡ held_in d k → HoldsStale next k change (b || false)
   same_held d next b h same = (h.0, same ∙ h.1, h.2, h.3 ∙ sym (or_false b))
@@ -39,14 +39,14 @@ module _ (k : ℤ) (change : Change) where
   same_other d j held other = slot_in-other d.slots j k held other
 
 -- the change and the flag of what is open
-abbrev mark : SlotValue → Change × Bool
+abbrev mark : SlotValue → SheetChange × Bool
 mark s = (s.change, s.is_stale)
 
-abbrev marks : List (Option SlotValue) → List (Option (Change × Bool))
+abbrev marks : List (Option SlotValue) → List (Option (SheetChange × Bool))
 marks slots = map (option_map mark) slots
 
 -- what has a mark is there
-marked_as : (o : Option (Option SlotValue)) (m : Change × Bool) → option_map (option_map mark) o ≡ Some (Some m) →
+marked_as : (o : Option (Option SlotValue)) (m : SheetChange × Bool) → option_map (option_map mark) o ≡ Some (Some m) →
     (s : SlotValue) × (o ≡ Some (Some s)) × (mark s ≡ m)
 marked_as None m h = cc
 marked_as (Some None) m h = cc
@@ -56,14 +56,14 @@ marked_as (Some (Some s)) m h = (s, refl, some_some h)
     some_some e = cc
 
 -- slots with the same marks hold the same changes
-same_marks : (k : ℤ) (change : Change) (d next : DeskValue) (b : Bool) → HoldsStale d k change b → marks next.slots ≡ marks d.slots →
+same_marks : (k : ℤ) (change : SheetChange) (d next : DeskValue) (b : Bool) → HoldsStale d k change b → marks next.slots ≡ marks d.slots →
     HoldsStale next k change (b || false)
 same_marks k change d next b h same =
     let there : option_map (option_map mark) (held_in next k) ≡ Some (Some (h.0.change, h.0.is_stale)) =
-    sym (slot_in-map mark next.slots k) ∙ ap (λ (ms : List (Option (Change × Bool))). slot_in ms k) same ∙ slot_in-map mark d.slots k
+    sym (slot_in-map mark next.slots k) ∙ ap (λ (ms : List (Option (SheetChange × Bool))). slot_in ms k) same ∙ slot_in-map mark d.slots k
     ∙ ap (option_map (option_map mark)) h.1 in
     let s = marked_as (held_in next k) (h.0.change, h.0.is_stale) there in
-    (s.0, s.1, ap (λ (m : Change × Bool). m.0) s.2 ∙ h.2, ap (λ (m : Change × Bool). m.1) s.2 ∙ h.3 ∙ sym (or_false b))
+    (s.0, s.1, ap (λ (m : SheetChange × Bool). m.0) s.2 ∙ h.2, ap (λ (m : SheetChange × Bool). m.1) s.2 ∙ h.3 ∙ sym (or_false b))
 
 stepped_marks : (d next : DeskValue) (j : ℤ) (n : ℕ) → IsStepped d j n next → marks next.slots ≡ marks d.slots
 stepped_marks d next j n h = by h.slot.left refl
@@ -84,7 +84,7 @@ empty_other d j k s empty held same = clash (held_in d k) (sym (ap (held_in d) s
     clash : (o : Option (Option SlotValue)) → o ≡ Some None → o ≡ Some (Some s) → ⊥
     clash o p q = cc
 
-stays : (k : ℤ) (change : Change) (d next : DeskValue) (b : Bool) (event : Event) (answer : Answer) → HoldsStale d k change b → Keeps k event answer →
+stays : (k : ℤ) (change : SheetChange) (d next : DeskValue) (b : Bool) (event : Event) (answer : Answer) → HoldsStale d k change b → Keeps k event answer →
     IsEvent d event answer next →
     HoldsStale next k change (b || makes_change event answer)
 stays k change d next b (Open j c) Done h keeps e = absurd e
@@ -114,7 +114,7 @@ stays k change d next b (Show tree) (Left n) h keeps e = absurd e
 stays k change d next b (Show tree) (Shown outcome) h keeps e = same_held k change d next b h (ap (λ (x : DeskValue). held_in x k) e.1)
 stays k change d next b (Show tree) (Refused cause) h keeps e = same_held k change d next b h (ap (λ (x : DeskValue). held_in x k) e.1)
 
-all_stay : (k : ℤ) (change : Change) (d new : DeskValue) (b : Bool) (events : List Event) (answers : List Answer) → HoldsStale d k change b →
+all_stay : (k : ℤ) (change : SheetChange) (d new : DeskValue) (b : Bool) (events : List Event) (answers : List Answer) → HoldsStale d k change b →
     AllKeep k events answers → AreEvents d events answers new →
     HoldsStale new k change (b || make_change events answers)
 all_stay k change d new b [] [] h keeps e = subst (λ (x : DeskValue). HoldsStale x k change (b || false)) (sym e) (h.0, h.1, h.2, h.3 ∙ sym (or_false b))

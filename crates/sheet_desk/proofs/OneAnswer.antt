@@ -4,13 +4,13 @@ use Rattle.std.specs.Option.{option_map}
 use Rattle.formula_core.specs.Meaning.{eval}
 use Rattle.sheet_recalc.specs.Names.{Names}
 use Rattle.sheet_recalc.specs.Meaning.{val}
-use Rattle.sheet_recalc.specs.Changes.{Change, Accepts, Refuses}
+use Rattle.sheet_recalc.specs.Changes.{SheetChange, Accepts, Refuses}
 use Rattle.sheet_recalc.specs.Costs.{HasCost, IsStepCount, changed_name}
 use Rattle.sheet_recalc.specs.declared.refusal.Refusal.{Refusal}
 use Rattle.sheet_recalc.specs.declared.refusal.Refusal.TheVariants as why
 use Rattle.sheet_desk.specs.Slots.{slot_in, with_slot}
-use Rattle.sheet_desk.specs.Desk.{DeskValue, SlotValue, Event, Open, Step, Commit, Drop, Plain, Show, Answer, Done, Left, Shown, Refused, told, stale, held_in, with_held, open_refusal, step_refusal, commit_refusal, drop_refusal, slot_refusal, RefusesThen, IsOpened, IsStepped, IsMade, IsCommitted, IsEvent}
-use Rattle.sheet_desk.specs.Laws.{told_of, AreAlike, IsSameAnswer, EachEventHasOneAnswer}
+use Rattle.sheet_desk.specs.Desk.{DeskValue, SlotValue, Event, Open, Step, Commit, Drop, Plain, Show, Answer, Done, Left, Shown, Refused, steps_told, stale, held_in, with_held, open_refusal, step_refusal, commit_refusal, drop_refusal, slot_refusal, RefusesThen, IsOpened, IsStepped, IsMade, IsCommitted, IsEvent}
+use Rattle.sheet_desk.specs.Laws.{told_of_slot, AreAlike, IsSameAnswer, EachEventHasOneAnswer}
 use Rattle.sheet_desk.proofs.Slotted.{slot_in-map, with_slot-map}
 use Rattle.sheet_desk.proofs.Spent.{accepts_one}
 use Rattle.sheet_desk.proofs.Counted.{count_one}
@@ -18,13 +18,13 @@ use Rattle.sheet_desk.proofs.Causes.{accepted_refused, refused_one}
 
 -- what answers tell of a slot
 abbrev Told : Type 0
-Told = Change × Bool × ℕ
+Told = SheetChange × Bool × ℕ
 
 abbrev told_in : DeskValue → ℤ → Option (Option Told)
-told_in d k = option_map (option_map told_of) (held_in d k)
+told_in d k = option_map (option_map told_of_slot) (held_in d k)
 
 told_alike : (d e : DeskValue) → AreAlike d e → (k : ℤ) → told_in d k ≡ told_in e k
-told_alike d e h k = sym (slot_in-map told_of d.slots k) ∙ ap (λ (ts : List (Option Told)). slot_in ts k) h.slots ∙ slot_in-map told_of e.slots k
+told_alike d e h k = sym (slot_in-map told_of_slot d.slots k) ∙ ap (λ (ts : List (Option Told)). slot_in ts k) h.slots ∙ slot_in-map told_of_slot e.slots k
 
 -- the refusals of slots are of what is told of them
 abbrev open_by : Option (Option Told) → Option Refusal
@@ -47,22 +47,22 @@ drop_by None = Some why.NoSlot
 drop_by (Some None) = Some why.NoSlot
 drop_by (Some (Some t)) = None
 
-open_told : (o : Option (Option SlotValue)) → open_refusal o ≡ open_by (option_map (option_map told_of) o)
+open_told : (o : Option (Option SlotValue)) → open_refusal o ≡ open_by (option_map (option_map told_of_slot) o)
 open_told None = refl
 open_told (Some None) = refl
 open_told (Some (Some s)) = refl
 
-step_told : (o : Option (Option SlotValue)) → step_refusal o ≡ step_by (option_map (option_map told_of) o)
+step_told : (o : Option (Option SlotValue)) → step_refusal o ≡ step_by (option_map (option_map told_of_slot) o)
 step_told None = refl
 step_told (Some None) = refl
 step_told (Some (Some s)) = refl
 
-commit_told : (o : Option (Option SlotValue)) → commit_refusal o ≡ commit_by (option_map (option_map told_of) o)
+commit_told : (o : Option (Option SlotValue)) → commit_refusal o ≡ commit_by (option_map (option_map told_of_slot) o)
 commit_told None = refl
 commit_told (Some None) = refl
 commit_told (Some (Some s)) = refl
 
-drop_told : (o : Option (Option SlotValue)) → drop_refusal o ≡ drop_by (option_map (option_map told_of) o)
+drop_told : (o : Option (Option SlotValue)) → drop_refusal o ≡ drop_by (option_map (option_map told_of_slot) o)
 drop_told None = refl
 drop_told (Some None) = refl
 drop_told (Some (Some s)) = refl
@@ -133,28 +133,28 @@ comes d next event (Refused cause) h =
 alike_as_was : (d e d' e' : DeskValue) → AreAlike d e → d' ≡ d → e' ≡ e → AreAlike d' e'
 alike_as_was d e d' e' h p q = subst (λ (x : DeskValue). AreAlike x e') (sym p) (subst (λ (y : DeskValue). AreAlike d y) (sym q) h)
 
-holding_alike : (d e : DeskValue) (k : ℤ) (a b : Option SlotValue) → AreAlike d e → option_map told_of a ≡ option_map told_of b →
+holding_alike : (d e : DeskValue) (k : ℤ) (a b : Option SlotValue) → AreAlike d e → option_map told_of_slot a ≡ option_map told_of_slot b →
     AreAlike (with_held d k a) (with_held e k b)
 holding_alike d e k a b h same = record {
   names = h.names;
   cost = h.cost;
   slots =
-      with_slot-map told_of d.slots k a
-      ∙ ap (λ (ts : List (Option Told)). with_slot ts k (option_map told_of a)) h.slots
-      ∙ ap (with_slot (map (option_map told_of) e.slots) k) same
-      ∙ sym (with_slot-map told_of e.slots k b);
+      with_slot-map told_of_slot d.slots k a
+      ∙ ap (λ (ts : List (Option Told)). with_slot ts k (option_map told_of_slot a)) h.slots
+      ∙ ap (with_slot (map (option_map told_of_slot) e.slots) k) same
+      ∙ sym (with_slot-map told_of_slot e.slots k b);
 }
 
 -- what is told of a change that is stale
 abbrev restaled : Told → Told
 restaled t = (t.0, true, t.2)
 
-stale_told : (slots : List (Option SlotValue)) → map (option_map told_of) (map (option_map stale) slots) ≡ map (option_map restaled) (map (option_map told_of) slots)
+stale_told : (slots : List (Option SlotValue)) → map (option_map told_of_slot) (map (option_map stale) slots) ≡ map (option_map restaled) (map (option_map told_of_slot) slots)
 stale_told [] = refl
 stale_told (None ∷ slots) = ap (λ (ts : List (Option Told)). None ∷ ts) (stale_told slots)
 stale_told (Some s ∷ slots) = ap (λ (ts : List (Option Told)). Some (s.change, true, s.left) ∷ ts) (stale_told slots)
 
-made_alike : (d e d' e' : DeskValue) (change : Change) → AreAlike d e → IsMade d change d' → IsMade e change e' → AreAlike d' e'
+made_alike : (d e d' e' : DeskValue) (change : SheetChange) → AreAlike d e → IsMade d change d' → IsMade e change e' → AreAlike d' e'
 made_alike d e d' e' change h p q =
     let accepts : Accepts d.names change e'.names = subst (λ (ns : Names). Accepts ns change e'.names) (sym h.names) q.accepts in
     let names = accepts_one d.names change d'.names e'.names p.accepts accepts in
@@ -164,31 +164,31 @@ made_alike d e d' e' change h p q =
       names = names;
       cost = p.cost ∙ sym cost;
       slots =
-          ap (map (option_map told_of)) p.slots ∙ stale_told d.slots ∙ ap (map (option_map restaled)) h.slots ∙ sym (stale_told e.slots)
-          ∙ ap (map (option_map told_of)) (sym q.slots);
+          ap (map (option_map told_of_slot)) p.slots ∙ stale_told d.slots ∙ ap (map (option_map restaled)) h.slots ∙ sym (stale_told e.slots)
+          ∙ ap (map (option_map told_of_slot)) (sym q.slots);
     }
 
 -- what two desks that are alike hold in a slot
-same_told : (d e : DeskValue) → AreAlike d e → (k : ℤ) (s t : SlotValue) → held_in d k ≡ Some (Some s) → held_in e k ≡ Some (Some t) → told_of s ≡ told_of t
-same_told d e h k s t p q = some_some (sym (ap (option_map (option_map told_of)) p) ∙ told_alike d e h k ∙ ap (option_map (option_map told_of)) q)
+same_told : (d e : DeskValue) → AreAlike d e → (k : ℤ) (s t : SlotValue) → held_in d k ≡ Some (Some s) → held_in e k ≡ Some (Some t) → told_of_slot s ≡ told_of_slot t
+same_told d e h k s t p q = some_some (sym (ap (option_map (option_map told_of_slot)) p) ∙ told_alike d e h k ∙ ap (option_map (option_map told_of_slot)) q)
   where
     some_some : {A : Type 0} {x y : A} → Some (Some x) ≡ Some (Some y) → x ≡ y
     some_some r = cc
 
-opened_alike : (d e d' e' : DeskValue) (k : ℤ) (change : Change) (m n : ℕ) → AreAlike d e → IsOpened d k change m d' → IsOpened e k change n e' →
+opened_alike : (d e d' e' : DeskValue) (k : ℤ) (change : SheetChange) (m n : ℕ) → AreAlike d e → IsOpened d k change m d' → IsOpened e k change n e' →
     (m ≡ n) × AreAlike d' e'
 opened_alike d e d' e' k change m n h p q =
     let accepts : Accepts d.names change q.new = subst (λ (ns : Names). Accepts ns change q.new) (sym h.names) q.accepts in
     let new = accepts_one d.names change p.new q.new p.accepts accepts in
     let left = count_one q.new (changed_name change) p.left q.left (subst (λ (ns : Names). IsStepCount ns (changed_name change) p.left) new p.counted) q.counted in (
-      p.told_is ∙ ap told left ∙ sym q.told_is,
+      p.told_is ∙ ap steps_told left ∙ sym q.told_is,
       alike_as_was _ _ d' e' (holding_alike d e k (Some _) (Some _) h (ap (λ (l : ℕ). Some (change, false, l)) left)) p.next_is q.next_is,
     )
 
 stepped_alike : (d e d' e' : DeskValue) (k : ℤ) (m n : ℕ) → AreAlike d e → IsStepped d k m d' → IsStepped e k n e' → (m ≡ n) × AreAlike d' e'
-stepped_alike d e d' e' k m n h p q = (p.told_is ∙ ap (λ (l : ℕ). told (l - 1)) left ∙ sym q.told_is, by p.slot.left refl)
+stepped_alike d e d' e' k m n h p q = (p.told_is ∙ ap (λ (l : ℕ). steps_told (l - 1)) left ∙ sym q.told_is, by p.slot.left refl)
   where
-    same : told_of p.slot ≡ told_of q.slot
+    same : told_of_slot p.slot ≡ told_of_slot q.slot
     same = same_told d e h k p.slot q.slot p.held q.held
 
     left : p.slot.left ≡ q.slot.left
@@ -205,7 +205,7 @@ stepped_alike d e d' e' k m n h p q = (p.told_is ∙ ap (λ (l : ℕ). told (l -
 committed_alike : (d e d' e' : DeskValue) (k : ℤ) → AreAlike d e → IsCommitted d k d' → IsCommitted e k e' → AreAlike d' e'
 committed_alike d e d' e' k h p q =
     let same = ap (λ (t : Told). t.0) (same_told d e h k p.slot q.slot p.held q.held) in
-    made_alike (with_held d k None) (with_held e k None) d' e' q.slot.change (holding_alike d e k None None h refl) (subst (λ (c : Change). IsMade (with_held d k None) c
+    made_alike (with_held d k None) (with_held e k None) d' e' q.slot.change (holding_alike d e k None None h refl) (subst (λ (c : SheetChange). IsMade (with_held d k None) c
     d') same p.made) q.made
 
 -- two that pass

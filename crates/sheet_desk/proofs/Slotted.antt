@@ -14,7 +14,7 @@ use Rattle.sheet_recalc.specs.declared.pending.Pending.{Pending}
 use Rattle.std.proofs.lemmas.Option.{slice_get-map, slice_get-get_or}
 use Rattle.sheet_desk.specs.Slots.{slot_in, with_slot}
 use Rattle.sheet_desk.specs.Desk.{DeskValue, SlotValue, held_in, with_held}
-use Rattle.sheet_desk.specs.Held.{slot_of, slots_of}
+use Rattle.sheet_desk.specs.Held.{slot_value_of, slot_values_of}
 use Rattle.sheet_desk.specs.declared.slot.Slot.{Slot}
 
 -- what holds at a place of what holds at the number
@@ -43,7 +43,7 @@ is_not_there (Some x) h = absurd (false≢true (sym h))
 
 -- the desk of a sheet and of slots
 abbrev pub seen : SheetValue → List (Option Slot) → DeskValue
-seen sheet slots = record { names = sheet.names; cost = sheet.cost; ticks = sheet.ticks; slots = slots_of slots }
+seen sheet slots = record { names = sheet.names; cost = sheet.cost; ticks = sheet.ticks; slots = slot_values_of slots }
 
 -- the number of a call is the number
 module _ (k : ℤ) (fits : SFits w64 k) where
@@ -69,24 +69,24 @@ module _ (k : ℤ) (fits : SFits w64 k) where
 
 -- what a slot holds, as it is seen
 pub as_seen : (slots : List (Option Slot)) (k : ℤ) (held : Option (Option Slot)) → slot_in slots k ≡ held →
-    slot_in (slots_of slots) k ≡ option_map (option_map slot_of) held
-as_seen slots k held h = slot_in-map slot_of slots k ∙ ap (option_map (option_map slot_of)) h
+    slot_in (slot_values_of slots) k ≡ option_map (option_map slot_value_of) held
+as_seen slots k held h = slot_in-map slot_value_of slots k ∙ ap (option_map (option_map slot_value_of)) h
 
 -- the same of a desk
 module _ (sheet : SheetValue) (slots : List (Option Slot)) (k : ℤ) (d : DeskValue) (view : seen sheet slots ≡ d) where
-  pub seen_in_desk : (held : Option (Option Slot)) → slot_in slots k ≡ held → held_in d k ≡ option_map (option_map slot_of) held
-  seen_in_desk held h = subst (λ (e : DeskValue). held_in e k ≡ option_map (option_map slot_of) held) view (as_seen slots k held h)
+  pub seen_in_desk : (held : Option (Option Slot)) → slot_in slots k ≡ held → held_in d k ≡ option_map (option_map slot_value_of) held
+  seen_in_desk held h = subst (λ (e : DeskValue). held_in e k ≡ option_map (option_map slot_value_of) held) view (as_seen slots k held h)
 
-  pub put_in_desk : (held : Option Slot) → seen sheet (with_slot slots k held) ≡ with_held d k (option_map slot_of held)
+  pub put_in_desk : (held : Option Slot) → seen sheet (with_slot slots k held) ≡ with_held d k (option_map slot_value_of held)
   put_in_desk held =
-      subst (λ (e : DeskValue). seen sheet (with_slot slots k held) ≡ with_held e k (option_map slot_of held)) view
+      subst (λ (e : DeskValue). seen sheet (with_slot slots k held) ≡ with_held e k (option_map slot_value_of held)) view
       (ap (λ (ss : List (Option SlotValue)). record {
         names = sheet.names;
         cost = sheet.cost;
         ticks = sheet.ticks;
         slots =
             ss;
-      }) (with_slot-map slot_of slots k held))
+      }) (with_slot-map slot_value_of slots k held))
 
 -- a number that a call was given is that of a place of the slots, and the desk is seen so
 pub record IsPlaced (sheet : SheetValue) (slots : List (Option Slot)) (k : ℤ) (d : DeskValue) (place : ℕ) : Type 0 where
@@ -96,18 +96,18 @@ pub record IsPlaced (sheet : SheetValue) (slots : List (Option Slot)) (k : ℤ) 
 
 module _ {sheet : SheetValue} {slots : List (Option Slot)} {k : ℤ} {d : DeskValue} {place : ℕ} (at : IsPlaced sheet slots k d place) where
   -- what lies at the place
-  pub held_seen : (any held : Option Slot) → get_or slots place any ≡ held → held_in d k ≡ Some (option_map slot_of held)
+  pub held_seen : (any held : Option Slot) → get_or slots place any ≡ held → held_in d k ≡ Some (option_map slot_value_of held)
   held_seen any held read = seen_in_desk sheet slots k d at.view (Some held) (slot_there k at.fits slots place at.found any held read)
 
   -- what is put there
-  pub put_seen : (held : Option Slot) → seen sheet (set slots place held) ≡ with_held d k (option_map slot_of held)
+  pub put_seen : (held : Option Slot) → seen sheet (set slots place held) ≡ with_held d k (option_map slot_value_of held)
   put_seen held = ap (seen sheet) (put_there k at.fits slots place at.found held) ∙ put_in_desk sheet slots k d at.view held
 
   -- what is put there looks as what lay there
-  pub put_same : (any held now : Option Slot) → get_or slots place any ≡ held → option_map slot_of now ≡ option_map slot_of held → seen sheet (set slots place now) ≡ d
+  pub put_same : (any held now : Option Slot) → get_or slots place any ≡ held → option_map slot_value_of now ≡ option_map slot_value_of held → seen sheet (set slots place now) ≡ d
   put_same any held now read same =
       ap (λ (ss : List (Option SlotValue)). record { names = sheet.names; cost = sheet.cost; ticks = sheet.ticks; slots = ss })
-      (map-set_same (option_map slot_of) slots place now any (same ∙ sym (ap (option_map slot_of) read)))
+      (map-set_same (option_map slot_value_of) slots place now any (same ∙ sym (ap (option_map slot_value_of) read)))
       ∙ at.view
 
 -- where there is no slot, none is seen
@@ -117,7 +117,7 @@ none_seen sheet slots k d fits view h = seen_in_desk sheet slots k d view None (
 
 -- a step changes how much is left of what is open, and how much was computed for it
 pub slot_after : (s : Slot) (after : Pending) (left ticks : ℕ) → s.is_stale ≡ false → steps_left after ≡ left → after.ticks ≡ ticks →
-    slot_of (record { change = s.change; pending = after; is_stale = s.is_stale }) ≡ record {
+    slot_value_of (record { change = s.change; pending = after; is_stale = s.is_stale }) ≡ record {
       change = change_of s.change;
       is_stale = false;
       left = left;

@@ -1,7 +1,7 @@
 -- What was computed for a change that is made is no more than it costs.
 use Rattle.std.proofs.Common.{◌≡◌, ◌≤◌, ℕ, Ok, Result, subst, sym, ◌∙◌}
 use Rattle.sheet_recalc.specs.Names.{Names, SheetValue}
-use Rattle.sheet_recalc.specs.Changes.{Change, Define, Store, Put, SetCell, AddRow, Erase, Accepts}
+use Rattle.sheet_recalc.specs.Changes.{SheetChange, Define, Store, Put, SetCell, AddRow, Erase, Accepts}
 use Rattle.sheet_recalc.specs.Costs.{HasCost}
 use Rattle.sheet_recalc.specs.Pending.{IsPendingOn, steps_left, names_after}
 use Rattle.sheet_recalc.specs.declared.pending.Pending.{Pending}
@@ -11,7 +11,7 @@ same_ok : {A B : Type 0} {r : Result A B} {a b : A} → r ≡ Ok a → r ≡ Ok 
 same_ok p q = cc
 
 -- what accepts a change gives one list of names
-pub accepts_one : (names : Names) (change : Change) (new₁ new₂ : Names) → Accepts names change new₁ → Accepts names change new₂ → new₁ ≡ new₂
+pub accepts_one : (names : Names) (change : SheetChange) (new₁ new₂ : Names) → Accepts names change new₁ → Accepts names change new₂ → new₁ ≡ new₂
 accepts_one names (Define n t) new₁ new₂ a b = a.0 ∙ sym b.0
 accepts_one names (Store n t) new₁ new₂ a b = rw (same_ok a.1 b.1) at a.2 ∙ sym b.2
 accepts_one names (Put n v) new₁ new₂ a b = a.0 ∙ sym b.0
@@ -19,7 +19,7 @@ accepts_one names (SetCell n positions literal) new₁ new₂ a b = rw (same_ok 
 accepts_one names (AddRow n literal) new₁ new₂ a b = rw (same_ok a.1 b.1) at a.2 ∙ sym b.2
 accepts_one names (Erase n) new₁ new₂ a b = a.1 ∙ sym b.1
 
-pub spent_within : (s : SheetValue) (change : Change) (p : Pending) (after : Names) (cost : ℕ) → IsPendingOn s change p → steps_left p ≡ 0 →
+pub spent_within : (s : SheetValue) (change : SheetChange) (p : Pending) (after : Names) (cost : ℕ) → IsPendingOn s change p → steps_left p ≡ 0 →
     Accepts s.names change after → HasCost s.names change after cost → p.ticks ≤ cost
 spent_within s change p after cost h none accepts costs =
     let same = accepts_one s.names change (names_after s.tables p) after h.accepts accepts in

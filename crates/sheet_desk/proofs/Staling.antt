@@ -9,7 +9,7 @@ use Rattle.std.proofs.lemmas.Option.{slice_get_within, get_or_from_slice_get}
 use Rattle.sheet_recalc.specs.Names.{SheetValue}
 use Rattle.sheet_desk.specs.Slots.{slot_count, slot_in, with_slot}
 use Rattle.sheet_desk.specs.Desk.{SlotValue, stale}
-use Rattle.sheet_desk.specs.Held.{IsOpenOn, AreOpenOn, marked, slot_of, slots_of}
+use Rattle.sheet_desk.specs.Held.{IsOpenOn, AreOpenOn, marked, slot_value_of, slot_values_of}
 use Rattle.sheet_desk.specs.declared.slot.Slot.{Slot}
 
 -- what holds of all slots holds of the one that a number names
@@ -30,10 +30,10 @@ pub open_put : (sheet : SheetValue) (slots : List (Option Slot)) (place : ℕ) (
 open_put sheet slots place held all one = record { count = length-set slots place held ∙ all.count; all = All-set (IsOpenOn sheet) slots place held one all.all }
 
 -- what is marked is seen as stale
-pub marked_seen : (slots : List (Option Slot)) → slots_of (map (option_map marked) slots) ≡ map (option_map stale) (slots_of slots)
+pub marked_seen : (slots : List (Option Slot)) → slot_values_of (map (option_map marked) slots) ≡ map (option_map stale) (slot_values_of slots)
 marked_seen [] = refl
 marked_seen (None ∷ slots) = ap (λ (rest : List (Option SlotValue)). None ∷ rest) (marked_seen slots)
-marked_seen (Some s ∷ slots) = ap (λ (rest : List (Option SlotValue)). Some (stale (slot_of s)) ∷ rest) (marked_seen slots)
+marked_seen (Some s ∷ slots) = ap (λ (rest : List (Option SlotValue)). Some (stale (slot_value_of s)) ∷ rest) (marked_seen slots)
 
 -- of what is stale nothing is asked
 open_when_marked : (sheet : SheetValue) (held : Option Slot) → IsOpenOn sheet (option_map marked held)

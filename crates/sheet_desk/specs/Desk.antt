@@ -6,7 +6,7 @@ use Rattle.formula_core.specs.Meaning.{eval}
 use Rattle.arrays_core.specs.Outcomes.{Outcome}
 use Rattle.sheet_recalc.specs.Names.{Names}
 use Rattle.sheet_recalc.specs.Meaning.{val}
-use Rattle.sheet_recalc.specs.Changes.{Change, Accepts, Refuses}
+use Rattle.sheet_recalc.specs.Changes.{SheetChange, Accepts, Refuses}
 use Rattle.sheet_recalc.specs.Costs.{HasCost, HasTicks, changed_name, expression_cost, IsStepCost, IsStepCount}
 use Rattle.sheet_recalc.specs.declared.refusal.Refusal.{Refusal}
 use Rattle.sheet_recalc.specs.declared.refusal.Refusal.TheVariants.{NoMemory, Stale, NotReady, NoSlot, SlotInUse}
@@ -14,7 +14,7 @@ use Rattle.sheet_desk.specs.Slots.{slot_in, with_slot}
 
 -- a change that is open: whether another change was made since, how many steps are left, and how many items of results were computed for it
 pub record SlotValue : Type 0 where
-  pub change : Change
+  pub change : SheetChange
   pub is_stale : Bool
   pub left : ℕ
   pub ticks : ℕ
@@ -29,7 +29,7 @@ pub record DeskValue : Type 0 where
 -- what is asked of a desk; a slot is named by its number
 pub data Event : Type 0 where
   -- open a change in a slot
-  Open : ℤ → Change → Event
+  Open : ℤ → SheetChange → Event
   -- do one step of the change in a slot
   Step : ℤ → Event
   -- make the change in a slot
@@ -37,7 +37,7 @@ pub data Event : Type 0 where
   -- give the change in a slot up
   Drop : ℤ → Event
   -- make a change at once
-  Plain : Change → Event
+  Plain : SheetChange → Event
   -- show what an expression gives
   Show : Tree → Event
 
@@ -49,8 +49,8 @@ pub data Answer : Type 0 where
   Refused : Refusal → Answer
 
 -- how many steps are told where so many are left: the greatest number of 32 bits where there are more
-abbrev pub told : ℕ → ℕ
-told left = min left 4294967295
+abbrev pub steps_told : ℕ → ℕ
+steps_told left = min left 4294967295
 
 -- what the slot of a number holds, if there is such a slot
 abbrev pub held_in : DeskValue → ℤ → Option (Option SlotValue)
@@ -116,13 +116,13 @@ abbrev pub IsRefused : DeskValue → Event → Refusal → Type 0
 IsRefused d event cause = (slot_refusal d event ≡ Some cause) ⊎ ((slot_refusal d event ≡ None) × RefusesThen d event cause)
 
 -- a change is opened: the sheet accepts it, its steps are counted, and no more items are computed than the own expression of stored data costs
-pub record IsOpened (d : DeskValue) (k : ℤ) (change : Change) (n : ℕ) (next : DeskValue) : Type 0 where
+pub record IsOpened (d : DeskValue) (k : ℤ) (change : SheetChange) (n : ℕ) (next : DeskValue) : Type 0 where
   pub empty : held_in d k ≡ Some None
   pub new : Names
   pub accepts : Accepts d.names change new
   pub left : ℕ
   pub counted : IsStepCount new (changed_name change) left
-  pub told_is : n ≡ told left
+  pub told_is : n ≡ steps_told left
   pub ticks : ℕ
   pub few : ticks ≤ expression_cost d.names change
   pub next_is : next ≡ with_held d k (Some (record { change = change; is_stale = false; left = left; ticks = ticks }))
@@ -140,12 +140,12 @@ pub record IsStepped (d : DeskValue) (k : ℤ) (n : ℕ) (next : DeskValue) : Ty
   pub slot : SlotValue
   pub held : held_in d k ≡ Some (Some slot)
   pub fresh : slot.is_stale ≡ false
-  pub told_is : n ≡ told (slot.left - 1)
+  pub told_is : n ≡ steps_told (slot.left - 1)
   pub none : slot.left ≡ 0 → next ≡ d
   pub one : 0 < slot.left → IsOneStep d k slot next
 
 -- a change is made: all that are open then are stale
-pub record IsMade (d : DeskValue) (change : Change) (next : DeskValue) : Type 0 where
+pub record IsMade (d : DeskValue) (change : SheetChange) (next : DeskValue) : Type 0 where
   pub accepts : Accepts d.names change next.names
   pub cost : HasCost d.names change next.names next.cost
   pub computed : HasTicks d.names change next.names next.ticks

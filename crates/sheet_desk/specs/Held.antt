@@ -10,12 +10,12 @@ use Rattle.sheet_desk.specs.Desk.{SlotValue}
 use Rattle.sheet_desk.specs.declared.slot.Slot.{Slot}
 
 -- a change that is open
-abbrev pub slot_of : Slot → SlotValue
-slot_of s = record { change = change_of s.change; is_stale = s.is_stale; left = steps_left s.pending; ticks = s.pending.ticks }
+abbrev pub slot_value_of : Slot → SlotValue
+slot_value_of s = record { change = change_of s.change; is_stale = s.is_stale; left = steps_left s.pending; ticks = s.pending.ticks }
 
 -- and what every slot holds
-abbrev pub slots_of : List (Option Slot) → List (Option SlotValue)
-slots_of slots = map (option_map slot_of) slots
+abbrev pub slot_values_of : List (Option Slot) → List (Option SlotValue)
+slot_values_of slots = map (option_map slot_value_of) slots
 
 -- what is open and not stale is worked out on the sheet as it is
 abbrev pub IsOpenOn : SheetValue → Option Slot → Type 0

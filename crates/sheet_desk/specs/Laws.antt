@@ -6,42 +6,42 @@ use Rattle.formula_core.specs.Meaning.{eval}
 use Rattle.arrays_core.specs.Outcomes.{Outcome}
 use Rattle.sheet_recalc.specs.Names.{Names}
 use Rattle.sheet_recalc.specs.Meaning.{val}
-use Rattle.sheet_recalc.specs.Changes.{Change, Accepts}
+use Rattle.sheet_recalc.specs.Changes.{SheetChange, Accepts}
 use Rattle.sheet_recalc.specs.declared.refusal.Refusal.TheVariants as why
 use Rattle.sheet_desk.specs.Slots.{slot_in, with_slot}
 use Rattle.sheet_desk.specs.Desk.{DeskValue, SlotValue, Event, Open, Commit, Drop, Plain, Show, Answer, Done, Left, Shown, Refused, held_in, IsEvent, AreEvents}
 
 -- the changes that are open, slot by slot
-abbrev pub open_changes : List (Option SlotValue) → List (Option Change)
+abbrev pub open_changes : List (Option SlotValue) → List (Option SheetChange)
 open_changes slots = map (option_map (λ (s : SlotValue). s.change)) slots
 
 -- the one that a number names, if there is one
-abbrev pub the_change : Option (Option Change) → List Change
+abbrev pub the_change : Option (Option SheetChange) → List SheetChange
 the_change None = []
 the_change (Some None) = []
 the_change (Some (Some change)) = change ∷ []
 
 -- the change that an event makes, if it makes one, where these are open
-abbrev pub made_by : List (Option Change) → Event → Answer → List Change
+abbrev pub made_by : List (Option SheetChange) → Event → Answer → List SheetChange
 made_by opened (Commit k) Done = the_change (slot_in opened k)
 made_by opened (Plain change) Done = change ∷ []
 made_by opened event answer = []
 
 -- those that are open after it
-abbrev pub opened_after : List (Option Change) → Event → Answer → List (Option Change)
+abbrev pub opened_after : List (Option SheetChange) → Event → Answer → List (Option SheetChange)
 opened_after opened (Open k change) (Left n) = with_slot opened k (Some change)
 opened_after opened (Commit k) Done = with_slot opened k None
 opened_after opened (Drop k) Done = with_slot opened k None
 opened_after opened event answer = opened
 
 -- the changes that events make, in their order
-abbrev pub committed : List (Option Change) → List Event → List Answer → List Change
+abbrev pub committed : List (Option SheetChange) → List Event → List Answer → List SheetChange
 committed opened [] answers = []
 committed opened (event ∷ events) [] = []
 committed opened (event ∷ events) (answer ∷ answers) = made_by opened event answer ++ committed (opened_after opened event answer) events answers
 
 -- the changes, one after another, take old to new
-abbrev pub AreAccepted : Names → List Change → Names → Type 0
+abbrev pub AreAccepted : Names → List SheetChange → Names → Type 0
 AreAccepted old [] new = new ≡ old
 AreAccepted old (change ∷ changes) new = (mid : Names) × Accepts old change mid × AreAccepted mid changes new
 
@@ -81,23 +81,23 @@ AllKeep k (event ∷ events) [] = Unit {0}
 AllKeep k (event ∷ events) (answer ∷ answers) = Keeps k event answer × AllKeep k events answers
 
 -- a slot holds this change, and it is stale exactly where so it is said
-abbrev pub HoldsStale : DeskValue → ℤ → Change → Bool → Type 0
+abbrev pub HoldsStale : DeskValue → ℤ → SheetChange → Bool → Type 0
 HoldsStale d k change is_stale = (s : SlotValue) × (held_in d k ≡ Some (Some s)) × (s.change ≡ change) × (s.is_stale ≡ is_stale)
 
 -- a change that was opened, and neither made nor given up since, is stale exactly where another was made since: what is refused makes none stale
 abbrev pub StaleWhereChanged : Type 0
-StaleWhereChanged = (d mid new : DeskValue) (k : ℤ) (change : Change) (n : ℕ) (events : List Event) (answers : List Answer) →
+StaleWhereChanged = (d mid new : DeskValue) (k : ℤ) (change : SheetChange) (n : ℕ) (events : List Event) (answers : List Answer) →
     IsEvent d (Open k change) (Left n) mid → AreEvents mid events answers new → AllKeep k events answers → HoldsStale new k change (make_change events answers)
 
 -- what answers tell of a change that is open: not how many items were computed for it
-abbrev pub told_of : SlotValue → Change × Bool × ℕ
-told_of s = (s.change, s.is_stale, s.left)
+abbrev pub told_of_slot : SlotValue → SheetChange × Bool × ℕ
+told_of_slot s = (s.change, s.is_stale, s.left)
 
 -- two desks that no answer tells apart
 pub record AreAlike (d e : DeskValue) : Type 0 where
   pub names : d.names ≡ e.names
   pub cost : d.cost ≡ e.cost
-  pub slots : map (option_map told_of) d.slots ≡ map (option_map told_of) e.slots
+  pub slots : map (option_map told_of_slot) d.slots ≡ map (option_map told_of_slot) e.slots
 
 -- a refusal that names a cycle
 abbrev pub names_cycle : Answer → Bool

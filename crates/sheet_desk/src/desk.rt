@@ -40,9 +40,9 @@ impl Model for Desk {
 
     ghost coded = { Prim.hlevel (codes, coded_tree, coded_binding) };
 
-    ghost use Rattle.sheet_desk.specs.Held.{slots_of, AreOpenOn};
+    ghost use Rattle.sheet_desk.specs.Held.{slot_values_of, AreOpenOn};
 
-    ghost view = { λ d. record { names = d.sheet.names; cost = d.sheet.cost; ticks = d.sheet.ticks; slots = slots_of d.slots } };
+    ghost view = { λ d. record { names = d.sheet.names; cost = d.sheet.cost; ticks = d.sheet.ticks; slots = slot_values_of d.slots } };
 
     ghost invariant = { λ d. AreOpenOn d.sheet d.slots };
 }

@@ -5,7 +5,7 @@ ghost use Rattle.std.specs.Option.{option_map};
 ghost use Rattle.sheet_recalc.specs.Pending.{steps_left};
 ghost use Rattle.sheet_desk.specs.Slots.{slot_in, with_slot};
 ghost use Rattle.sheet_desk.specs.Desk.{commit_refusal};
-ghost use Rattle.sheet_desk.specs.Held.{slots_of, marked};
+ghost use Rattle.sheet_desk.specs.Held.{slot_values_of, marked};
 
 use apl_expr::Change;
 use sheet_recalc::{Pending, Refusal};
@@ -49,7 +49,7 @@ pub(crate) fn take_ready(slots: &mut [Option<Slot>], number: i64) -> Result<Slot
     ensures fresh { IfOk result (λ slot. slot.is_stale ≡ false) }
     ensures left { IfOk result (λ slot. steps_left slot.pending ≡ 0) }
     ensures out { OnOk result (slots.new ≡ with_slot slots.old number None) }
-    ensures refused { IfErr result (λ cause. commit_refusal (slot_in (slots_of slots.old) number) ≡ Some cause) }
+    ensures refused { IfErr result (λ cause. commit_refusal (slot_in (slot_values_of slots.old) number) ≡ Some cause) }
     ensures err { OnErr result (slots.new ≡ slots.old) }
 {
     let Some(place) = place_in(slots, number) else {

@@ -18,7 +18,7 @@ use Rattle.sheet_recalc.specs.Meaning.{val}
 use Rattle.sheet_recalc.specs.Cells.{cell_put, index_of_numbers, literal_items}
 use Rattle.sheet_recalc.specs.Costs.{names_at_rest, cell_delta, row_delta, changed_name, asked_change, expression_cost, sheet_change}
 use Rattle.sheet_recalc.specs.Rows.{row_put}
-use Rattle.sheet_recalc.specs.Changes.{Change, Accepts, Define, Put, Store, SetCell, AddRow, Erase}
+use Rattle.sheet_recalc.specs.Changes.{SheetChange, Accepts, Define, Put, Store, SetCell, AddRow, Erase}
 use Rattle.sheet_recalc.specs.Entries.{names_of, binding_of, HasData}
 use Rattle.sheet_recalc.specs.ProposedSheet.{data_entry, proposed_entry, proposed_delta, proposed_change}
 use Rattle.sheet_recalc.specs.Pending.{IsLaidOutOn, IsProposedOn, names_after, outline_for}
@@ -55,7 +55,7 @@ module _ (s : SheetValue) (name : List ℕ) (proposal : Proposal) (spent : ℕ) 
       (λ i. sheet_change (h.names_are i) (names_after s.tables p) (h.name_is i) (proposed_delta (h.name_is i) (names_after s.tables p) (h.proposal_is i)))
       ∙ ap (λ e. sheet_change s.names (names_after s.tables p) name e) is
 
-  pub asked : (change : Change) → spent ≡ ticked 0 (expression_cost s.names change) → Accepts s.names change (names_after s.tables p) → name ≡ changed_name change → proposed_change (outline_for s.tables p) ≡ asked_change s.names change (names_after s.tables p) → IsLaidOutOn s change p
+  pub asked : (change : SheetChange) → spent ≡ ticked 0 (expression_cost s.names change) → Accepts s.names change (names_after s.tables p) → name ≡ changed_name change → proposed_change (outline_for s.tables p) ≡ asked_change s.names change (names_after s.tables p) → IsLaidOutOn s change p
   asked change first accepts about is = record { base = spent; begun = h.begun; base_is = first; accepts = accepts; name_is = h.name_is ∙ about; makes = is }
 
   -- at first no more items were computed than was spent

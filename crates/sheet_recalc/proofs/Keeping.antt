@@ -10,7 +10,7 @@ use Rattle.std.proofs.lemmas.List.Elements.{Contains-append_left, Contains-appen
 use Rattle.indexmap.specs.IndexSet.{IndexSet}
 use Rattle.dep_order.specs.Reachability.{Chain}
 use Rattle.sheet_recalc.specs.Names.{Names, binding, Refers}
-use Rattle.sheet_recalc.specs.Meaning.{shown, val}
+use Rattle.sheet_recalc.specs.Meaning.{shown_beside, val}
 use Rattle.sheet_recalc.specs.NameOrder.{IsNameOrder, IsKeptOrder}
 use Rattle.dep_order.specs.Follows.{Follows, IsOnce}
 use Rattle.dep_order.specs.Users.{Uses, IsWithin}
@@ -232,7 +232,7 @@ module _ (old new : Names) (name : List ℕ) (same : (q : List ℕ) → q ≢ na
     }
 
   -- what is not found shows what it did
-  module _ (order : List (List ℕ)) (o : IsNameOrder new order) (step : (q : List ℕ) → val old q ≡ shown q (binding old q) (val old)) where
+  module _ (order : List (List ℕ)) (o : IsNameOrder new order) (step : (q : List ℕ) → val old q ≡ shown_beside q (binding old q) (val old)) where
     absent_same : (x : List ℕ) → x ≢ name → binding new x ≡ None → val new x ≡ val old x
     absent_same x apart none = val_absent new (length new) x none ∙ sym (val_absent old (length old) x (sym (same x apart) ∙ none))
 
@@ -252,7 +252,7 @@ module _ (old new : Names) (name : List ℕ) (same : (q : List ℕ) → q ≢ na
         let k = front [] order i x h (o.after i x h r present) in
         subst (λ y. val new y ≡ val old y) k.2
         (unaffected_at n k.0 (omega (arith, k.1)) (omega (arith, k.1)) (subst (λ y. Contains found y → ⊥) (sym k.2) x_none))))
-        ∙ (ap (λ b. shown (name_at i) b (val old)) (same (name_at i) (apart_from (name_at i) none)) ∙ sym (step (name_at i))))
+        ∙ (ap (λ b. shown_beside (name_at i) b (val old)) (same (name_at i) (apart_from (name_at i) none)) ∙ sym (step (name_at i))))
 
     pub unaffected : (q : List ℕ) → (Contains found q → ⊥) → val new q ≡ val old q
     unaffected q none = cases_binding new (val new q ≡ val old q) q (absent_same q (apart_from q none))

@@ -16,7 +16,7 @@ use Rattle.dep_order.specs.Reachability.{Chain, IsAcyclic}
 use Rattle.arrays_core.specs.Outcomes.{Outcome, fault}
 use Rattle.formula_core.specs.Plans.{PlanValue}
 use Rattle.sheet_recalc.specs.Names.{Names, Data, binding, put, without, Refers}
-use Rattle.sheet_recalc.specs.Meaning.{shown, val, val_at}
+use Rattle.sheet_recalc.specs.Meaning.{shown_beside, val, val_at}
 use Rattle.sheet_recalc.specs.Entries.{names_of, binding_of, entry_outcome, shown_by, adopting}
 use Rattle.sheet_recalc.specs.Live.{IsRightEntry, IsCurrent, IsLive, CanAdopt, AreRightOnceTaken, IsAdopting, entry_after, plan_in}
 use Rattle.sheet_recalc.specs.declared.entry.Entry.{Entry}
@@ -95,7 +95,7 @@ names_of_adopting name p found (e ∷ es) h = by (bytes_eq name e.0) refl (names
 -- a name bound to data shows it
 pub val_data : (names : Names) (q : List ℕ) (a : ArrayValue) → binding names q ≡ Some (Data a) → val names q ≡ Ok a
 val_data [] q a h = let never : None ≡ Some (Data a) = h in absurd cc
-val_data (e ∷ es) q a h = ap (λ b. shown q b (val_at (length es) (e ∷ es))) h
+val_data (e ∷ es) q a h = ap (λ b. shown_beside q b (val_at (length es) (e ∷ es))) h
 
 pub live_none : {S : Type 0} → IsLive {S = S} [] []
 unfolding IsDistinct

@@ -3,7 +3,7 @@ use Rattle.std.proofs.Common.{◌≡◌, ◌<◌, ◌∙◌, ℕ, false, sym, su
 use Rattle.change_core.specs.Meters.{MeterValue}
 use Rattle.sheet_recalc.specs.Names.{SheetValue}
 use Rattle.sheet_recalc.specs.Tables.{Tables}
-use Rattle.sheet_recalc.specs.Changes.{Change}
+use Rattle.sheet_recalc.specs.Changes.{SheetChange}
 use Rattle.std.specs.Map.{keys_of}
 use Rattle.sheet_recalc.specs.Costs.{AreAllThatReach}
 use Rattle.sheet_recalc.specs.Planning.{AllWait, CanBe, IsPlanning, IsProposed}
@@ -33,7 +33,7 @@ module _ (t : Tables) (p : Pending) (w : Plans) (ticks : ℕ) (m : MeterValue) (
       let made = all_made (outline_for t p) h.proposed base m.ticks w (way base h.way) all (left ∙ h.first.uncounted) (current ∙ h.first.none) in
       is_ready t worked_out base (begun_of_laid_out t p base h w ticks m made told small) (none_left base h)
 
-  pub still_pending : (s : SheetValue) → t ≡ s.tables → (change : Change) → IsLaidOutOn s change p → IsPendingOn s change worked_out
+  pub still_pending : (s : SheetValue) → t ≡ s.tables → (change : SheetChange) → IsLaidOutOn s change p → IsPendingOn s change worked_out
   still_pending s same change h =
       let before = subst (λ (t : Tables). IsPlanning (outline_for t p) h.base p.plans p.meter.ticks) (sym same) h.begun.way in
       let after = subst (λ (t : Tables). IsPlanning (outline_for t p) h.base w m.ticks) same (way h.base before) in

@@ -35,7 +35,7 @@ use Rattle.formula_core.specs.declared.input.Input.{Input}
 use Rattle.formula_core.specs.declared.input.Input.TheVariants.{Good, Bad}
 use Rattle.formula_core.proofs.Rooted.{before_root, root_last}
 use Rattle.sheet_recalc.specs.Names.{Names, Binding, Formula, binding}
-use Rattle.sheet_recalc.specs.Meaning.{with_origin, arisen_in, shown, val}
+use Rattle.sheet_recalc.specs.Meaning.{with_origin, arisen_in, shown_beside, val}
 use Rattle.sheet_recalc.specs.Costs.{origin_delta, delta_by, binding_cost}
 use Rattle.sheet_recalc.specs.Entries.{names_of, binding_of}
 use Rattle.sheet_recalc.specs.Live.{IsRightEntry}
@@ -230,7 +230,7 @@ module _ (o : Outline) where
           by false is = (formula_old is).0.worked_out ∙ sym is
 
       pub shows_formula : val new q ≡ with_origin q (eval f.tree (val new))
-      shows_formula = ready.settled q ∙ ap (λ b. shown q b (val new)) bound_to
+      shows_formula = ready.settled q ∙ ap (λ b. shown_beside q b (val new)) bound_to
 
       -- it holds what it gave before, unless it is new
       formula_holds : f.is_new ≡ false → f.nodes ≡ map (holding_at (val old)) (subtrees f.tree)

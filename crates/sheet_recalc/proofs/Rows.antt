@@ -14,7 +14,7 @@ use Rattle.index_region.proofs.Passing.{is_within_from, within_limits}
 use Rattle.index_region.specs.Arguments.{is_same_type}
 use Rattle.sheet_recalc.specs.Cells.{literal_items}
 use Rattle.sheet_recalc.specs.declared.refusal.Refusal.TheVariants.{Limit}
-use Rattle.sheet_recalc.specs.Rows.{row_length, are_of_type, row_items_put}
+use Rattle.sheet_recalc.specs.Rows.{items_in_row, are_of_type, row_items_put}
 
 all_numbers : (ns : List ℤ) → are_of_type Nums (literal_items (Numbers ns)) ≡ true
 all_numbers [] = refl
@@ -36,19 +36,19 @@ are_characters Nums (c ∷ cs) some = refl
 are_characters Chars (c ∷ cs) some = all_characters cs
 
 -- a row that passes each check is put
-pub row_is_put : (a : ArrayValue) (count : ℕ) (row : List Item) → row_length a.shape ≡ Some count → length row ≡ count → are_of_type a.item_type row ≡ true → IsWithinLimits (one_longer a.shape)
-    → row_items_put a (row_length a.shape) row ≡ Ok (grown_by a row)
+pub row_is_put : (a : ArrayValue) (count : ℕ) (row : List Item) → items_in_row a.shape ≡ Some count → length row ≡ count → are_of_type a.item_type row ≡ true → IsWithinLimits (one_longer a.shape)
+    → row_items_put a (items_in_row a.shape) row ≡ Ok (grown_by a row)
 row_is_put a count row has long typed limits =
     rw (has, eq-eqb (length row) count long, typed, is_within_from (one_longer a.shape) limits) refl
 
 -- one that passes all but the last is refused for the limits
-pub row_is_beyond : (a : ArrayValue) (count : ℕ) (row : List Item) → row_length a.shape ≡ Some count → length row ≡ count → are_of_type a.item_type row ≡ true → (IsWithinLimits (one_longer a.shape) → ⊥)
-    → row_items_put a (row_length a.shape) row ≡ Err Limit
+pub row_is_beyond : (a : ArrayValue) (count : ℕ) (row : List Item) → items_in_row a.shape ≡ Some count → length row ≡ count → are_of_type a.item_type row ≡ true → (IsWithinLimits (one_longer a.shape) → ⊥)
+    → row_items_put a (items_in_row a.shape) row ≡ Err Limit
 row_is_beyond a count row has long typed beyond =
     rw (has, eq-eqb (length row) count long, typed, false_from_ne_true (is_within_limits (one_longer a.shape)) (λ t. beyond (within_limits (one_longer a.shape) t))) refl
 
 -- a row has as many items as one place of the first axis, of which there is one
-pub row_fits : (shape : List ℕ) (count : ℕ) → row_length shape ≡ Some count → (0 < length shape) × (count ≡ size (drop 1 shape))
+pub row_fits : (shape : List ℕ) (count : ℕ) → items_in_row shape ≡ Some count → (0 < length shape) × (count ≡ size (drop 1 shape))
 row_fits [] count has = absurd (let no : ⊥ = cc in no)
 row_fits (n ∷ []) count has = let one : 1 ≡ count = cc in (omega arith, sym one)
 row_fits (n ∷ columns ∷ []) count has = let same : columns ≡ count = cc in (omega arith, sym same ∙ (let places : columns ≡ size (columns ∷ []) = omega arith in places))

@@ -10,10 +10,10 @@ use Rattle.arrays_core.specs.Outcomes.{Outcome, fault}
 use Rattle.formula_core.specs.Meaning.{names_in}
 use Rattle.formula_core.proofs.Alike.{eval_alike}
 use Rattle.sheet_recalc.specs.Names.{Names, Binding, Data, Formula, binding, Refers}
-use Rattle.sheet_recalc.specs.Meaning.{shown, with_origin, val_at, val}
+use Rattle.sheet_recalc.specs.Meaning.{shown_beside, with_origin, val_at, val}
 use Rattle.sheet_recalc.specs.NameOrder.{IsNameOrder}
 
-pub shown_same : (name : List ℕ) (b : Option Binding) (f g : List ℕ → Outcome) → ((t : Tree) (x : List ℕ) → b ≡ Some (Formula t) → Contains (names_in t) x → f x ≡ g x) → shown name b f ≡ shown name b g
+pub shown_same : (name : List ℕ) (b : Option Binding) (f g : List ℕ → Outcome) → ((t : Tree) (x : List ℕ) → b ≡ Some (Formula t) → Contains (names_in t) x → f x ≡ g x) → shown_beside name b f ≡ shown_beside name b g
 shown_same name None f g h = refl
 shown_same name (Some (Data a)) f g h = refl
 shown_same name (Some (Formula t)) f g h = ap (with_origin name) (eval_alike t f g (λ x o. h t x refl o))
@@ -71,12 +71,12 @@ module _ (names : Names) where
 
   pub val_absent : (d : ℕ) (x : List ℕ) → binding names x ≡ None → val_at d names x ≡ Err (fault Value)
   val_absent zero x e = refl
-  val_absent (suc d) x e = ap (λ b. shown x b (val_at d names)) e
+  val_absent (suc d) x e = ap (λ b. shown_beside x b (val_at d names)) e
 
   module _ (order : List (List ℕ)) (o : IsNameOrder names order) where
     -- what a name shows is one step from what all names show
-    pub val_is : (name : List ℕ) → val names name ≡ shown name (binding names name) (val names)
-    val_is name = settles order o (λ d. val_at d names) (λ q f. shown q (binding names q) f) (λ d q. refl)
+    pub val_is : (name : List ℕ) → val names name ≡ shown_beside name (binding names name) (val names)
+    val_is name = settles order o (λ d. val_at d names) (λ q f. shown_beside q (binding names q) f) (λ d q. refl)
         (λ q f g h. shown_same q (binding names q) f g (λ t x is stands. h x (t, is, stands)))
         (λ d e x none. val_absent d x none ∙ sym (val_absent e x none)) name
 

@@ -4,7 +4,7 @@ use Rattle.std.proofs.lemmas.Bool.{false≢true}
 use Rattle.change_core.specs.Meters.{ticked, MeterValue}
 use Rattle.sheet_recalc.specs.Names.{SheetValue}
 use Rattle.sheet_recalc.specs.Tables.{Tables}
-use Rattle.sheet_recalc.specs.Changes.{Change}
+use Rattle.sheet_recalc.specs.Changes.{SheetChange}
 use Rattle.sheet_recalc.specs.Costs.{HasCost, HasTicks, NoItemFails, expression_cost, formulas_cost, changed_name, IsNodeCost, IsStepCost}
 use Rattle.formula_core.specs.Changes as formula
 use Rattle.sheet_recalc.specs.ProposedSheet.{proposed_change}
@@ -45,13 +45,13 @@ module _ (t : Tables) (p : Pending) (base : ℕ) (h : IsBegunOn t p base) (none 
         whole = λ good. told ∙ all_whole (outline_for t p) h.proposed base p.meter.ticks p.plans rests nothing_left good;
       }
 
-pub whole_cost : (s : SheetValue) (change : Change) (p : Pending) → IsPendingOn s change p → steps_left p ≡ 0 → HasCost s.names change (names_after s.tables p) p.plans.cost
+pub whole_cost : (s : SheetValue) (change : SheetChange) (p : Pending) → IsPendingOn s change p → steps_left p ≡ 0 → HasCost s.names change (names_after s.tables p) p.plans.cost
 whole_cost s change p h none =
     let all = all_cost (outline_for s.tables p) h.begun.proposed h.base p.meter.ticks p.plans (rests s.tables p h.base h.begun none) (nothing_left s.tables p h.base h.begun none) in
     let new = names_after s.tables p in
     expression_more h.base (expression_cost s.names change) _ p.plans.cost h.base_is all ∙ (λ i. ticked 0 (expression_cost s.names change + formulas_cost (h.name_is i) (h.makes i) new))
 
-pub whole_ticks : (s : SheetValue) (change : Change) (p : Pending) → IsPendingOn s change p → steps_left p ≡ 0 → HasTicks s.names change (names_after s.tables p) p.ticks
+pub whole_ticks : (s : SheetValue) (change : SheetChange) (p : Pending) → IsPendingOn s change p → steps_left p ≡ 0 → HasTicks s.names change (names_after s.tables p) p.ticks
 whole_ticks s change p h none =
     let cost = whole_cost s change p h none in
     let ready = is_ready s.tables p h.base h.begun none in
@@ -76,7 +76,7 @@ module _ (p : Pending) (w : Plans) (cut : Bool) (ticks : ℕ) (m : MeterValue) w
   begun_on : (t : Tables) (base : ℕ) → IsBegunOn t p base → IsOnTheWay (outline_for t p) base w (not cut) m.ticks → (cut ≡ false → ticks ≡ m.ticks) → IsUntold t → ticks < 18446744073709551616 → IsBegunOn t after base
   begun_on t base h way told untold small = record { proposed = h.proposed; kept = h.kept; sheet = h.sheet; place = h.place; way = way; told = told; untold = untold; small = small }
 
-  pub pending_on : (s : SheetValue) (change : Change) (h : IsPendingOn s change p) → IsOnTheWay (outline_for s.tables p) h.base w (not cut) m.ticks → (cut ≡ false → ticks ≡ m.ticks) → IsUntold s.tables → ticks < 18446744073709551616 → IsPendingOn s change after
+  pub pending_on : (s : SheetValue) (change : SheetChange) (h : IsPendingOn s change p) → IsOnTheWay (outline_for s.tables p) h.base w (not cut) m.ticks → (cut ≡ false → ticks ≡ m.ticks) → IsUntold s.tables → ticks < 18446744073709551616 → IsPendingOn s change after
   pending_on s change h way told untold small = record { base = h.base; begun = begun_on s.tables h.base h.begun way told untold small; base_is = h.base_is; accepts = h.accepts; name_is = h.name_is; makes = h.makes }
 
 -- a change that was laid out, where its plans have come to a rest
@@ -93,7 +93,7 @@ begun_of_laid_out t p base h w ticks m way told small = record {
   small = small;
 }
 
-pub of_laid_out : (s : SheetValue) (change : Change) (p : Pending) (h : IsLaidOutOn s change p) (w : Plans) (ticks : ℕ) (m : MeterValue) → IsOnTheWay (outline_for s.tables p) h.base w true m.ticks → ticks ≡ m.ticks
+pub of_laid_out : (s : SheetValue) (change : SheetChange) (p : Pending) (h : IsLaidOutOn s change p) (w : Plans) (ticks : ℕ) (m : MeterValue) → IsOnTheWay (outline_for s.tables p) h.base w true m.ticks → ticks ≡ m.ticks
     → ticks < 18446744073709551616 → IsPendingOn s change (record p { plans = w; ticks = ticks; meter = m })
 of_laid_out s change p h w ticks m way told small = record {
   base = h.base;
@@ -105,7 +105,7 @@ of_laid_out s change p h w ticks m way told small = record {
 }
 
 -- what was not told yet of a change is what some one node of it has cost at most
-pub step_cost : (s : SheetValue) (change : Change) (p : Pending) → IsPendingOn s change p → p.is_cut ≡ true → (cost : ℕ) × IsStepCost s.names change cost × (p.meter.ticks ≤ p.ticks + cost)
+pub step_cost : (s : SheetValue) (change : SheetChange) (p : Pending) → IsPendingOn s change p → p.is_cut ≡ true → (cost : ℕ) × IsStepCost s.names change cost × (p.meter.ticks ≤ p.ticks + cost)
 step_cost s change p h cut =
     let new = names_after s.tables p in
     let k = h.begun.untold cut in

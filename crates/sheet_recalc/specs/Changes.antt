@@ -12,26 +12,26 @@ use Rattle.sheet_recalc.specs.declared.refusal.Refusal.{Refusal}
 use Rattle.sheet_recalc.specs.declared.refusal.Refusal.TheVariants as why
 
 -- a change that a sheet is asked for
-pub data Change : Type 0 where
+pub data SheetChange : Type 0 where
   -- bind a name to a formula
-  Define : List ℕ → Tree → Change
+  Define : List ℕ → Tree → SheetChange
   -- bind a name to the array that an expression has now
-  Store : List ℕ → Tree → Change
+  Store : List ℕ → Tree → SheetChange
   -- bind a name to an array
-  Put : List ℕ → ArrayValue → Change
+  Put : List ℕ → ArrayValue → SheetChange
   -- replace one item of data
-  SetCell : List ℕ → List ℤ → Literal → Change
+  SetCell : List ℕ → List ℤ → Literal → SheetChange
   -- put a row at the end of data
-  AddRow : List ℕ → Literal → Change
+  AddRow : List ℕ → Literal → SheetChange
   -- remove a name
-  Erase : List ℕ → Change
+  Erase : List ℕ → SheetChange
 
 -- there is room for the name: it is present, or fewer names are than a sheet has at most
 abbrev pub HasRoomForName : Names → List ℕ → Type 0
 HasRoomForName names name = IsSome (binding names name) ⊎ (length names < most_names)
 
 -- the change takes old to new
-abbrev pub Accepts : Names → Change → Names → Type 0
+abbrev pub Accepts : Names → SheetChange → Names → Type 0
 Accepts old (Define n t) new = (new ≡ put old n (Formula t)) × IsAcyclic (Refers new) × HasRoomForName old n
 Accepts old (Store n t) new = (a : ArrayValue) × (eval t (val old) ≡ Ok a) × (new ≡ put old n (Data a)) × HasRoomForName old n
 Accepts old (Put n a) new = (new ≡ put old n (Data a)) × HasRoomForName old n
@@ -60,7 +60,7 @@ abbrev pub CannotPut : Names → List ℕ → Binding → Refusal → Type 0
 CannotPut old name b cause = CannotBecome old (put old name b) name cause
 
 -- the change is refused for this cause, or for want of memory, which may come at any time
-abbrev pub Refuses : Names → Change → Refusal → Type 0
+abbrev pub Refuses : Names → SheetChange → Refusal → Type 0
 Refuses old change why.NoMemory = Unit {0}
 Refuses old (SetCell n positions literal) cause = cell_put (binding old n) positions literal ≡ Err cause
 Refuses old (AddRow n literal) cause = row_put (binding old n) literal ≡ Err cause

@@ -19,7 +19,7 @@ use Rattle.formula_core.specs.Tables.{subtrees, tree_at}
 use Rattle.sheet_recalc.specs.Names.{Names, Binding, Data, Formula, binding, Refers}
 use Rattle.sheet_recalc.specs.Meaning.{val, with_origin}
 use Rattle.sheet_recalc.specs.Cells.{index_of_numbers, literal_items}
-use Rattle.sheet_recalc.specs.Changes.{Change, Accepts, Define, Store, Put, SetCell, AddRow, Erase}
+use Rattle.sheet_recalc.specs.Changes.{SheetChange, Accepts, Define, Store, Put, SetCell, AddRow, Erase}
 
 -- a patch of the one place at an index list
 abbrev pub cell_patch : List ℕ → Item → PatchValue
@@ -36,7 +36,7 @@ row_delta (Ok a) items = Grown (record { item_type = a.item_type; shape = a.shap
 row_delta (Err e) items = Whole (Err e)
 
 -- the name that a change is about
-abbrev pub changed_name : Change → List ℕ
+abbrev pub changed_name : SheetChange → List ℕ
 changed_name (Define n t) = n
 changed_name (Store n t) = n
 changed_name (Put n a) = n
@@ -45,7 +45,7 @@ changed_name (AddRow n literal) = n
 changed_name (Erase n) = n
 
 -- what it changes of that name: one place by an edit of a cell, one more place of its first axis by a row, by any other change the whole
-abbrev pub own_delta : Change → Names → Delta
+abbrev pub own_delta : SheetChange → Names → Delta
 own_delta (SetCell n positions literal) new = cell_delta (index_of_numbers positions) (literal_items literal)
 own_delta (AddRow n literal) new = row_delta (val new n) (literal_items literal)
 own_delta change new = Whole (val new (changed_name change))
@@ -91,20 +91,20 @@ abbrev pub names_at_rest : Names → formula.Change
 names_at_rest names = names_change names names (λ q. Same)
 
 -- what working out the expression of stored data costs: it counts as a new formula
-abbrev pub expression_cost : Names → Change → ℕ
+abbrev pub expression_cost : Names → SheetChange → ℕ
 expression_cost old (Store n t) = tree_cost true (names_at_rest old) t
 expression_cost old change = 0
 
 -- what a change makes of each name that takes old to new
-abbrev pub asked_change : Names → Change → Names → formula.Change
+abbrev pub asked_change : Names → SheetChange → Names → formula.Change
 asked_change old change new = sheet_change old new (changed_name change) (own_delta change new)
 
 -- and what it costs
-abbrev pub change_cost : Names → Change → Names → ℕ
+abbrev pub change_cost : Names → SheetChange → Names → ℕ
 change_cost old change new = expression_cost old change + formulas_cost (changed_name change) (asked_change old change new) new
 
 -- the cost of the change is this; the greatest number of 64 bits where it is more
-abbrev pub HasCost : Names → Change → Names → ℕ → Type 0
+abbrev pub HasCost : Names → SheetChange → Names → ℕ → Type 0
 HasCost old change new cost = cost ≡ ticked 0 (change_cost old change new)
 
 -- no item fails of those that the formulas of the names compute, where the change makes this of each and is about this name
@@ -112,7 +112,7 @@ abbrev pub NoItemFails : List ℕ → formula.Change → Names → Type 0
 NoItemFails name c names = (q : List ℕ) (t : Tree) → binding names q ≡ Some (Formula t) → AllComputed (bytes_eq q name) c t
 
 -- so many items were computed in the change: no more than it costs, and as many where none of them fails
-pub record HasTicks (old : Names) (change : Change) (new : Names) (ticks : ℕ) : Type 0 where
+pub record HasTicks (old : Names) (change : SheetChange) (new : Names) (ticks : ℕ) : Type 0 where
   pub most : ticks ≤ ticked 0 (change_cost old change new)
   pub all : NoItemFails (changed_name change) (asked_change old change new) new → ticks ≡ ticked 0 (change_cost old change new)
 
@@ -146,7 +146,7 @@ pub record IsNodeCost (name : List ℕ) (c : formula.Change) (names : Names) (co
   pub cost_is : cost ≡ node_cost_at (bytes_eq at name) c (tree_at (subtrees tree) place)
 
 -- so much is the cost of some one node of what the change makes of the names
-pub record IsStepCost (old : Names) (change : Change) (cost : ℕ) : Type 0 where
+pub record IsStepCost (old : Names) (change : SheetChange) (cost : ℕ) : Type 0 where
   pub new : Names
   pub accepts : Accepts old change new
   pub node : IsNodeCost (changed_name change) (asked_change old change new) new cost

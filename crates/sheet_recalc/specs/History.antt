@@ -3,13 +3,13 @@ use Rattle.std.specs.Prelude.{◌≡◌, ℕ, List, [], ◌∷◌, Result, Ok, E
 use Rattle.sheet_recalc.specs.Names.{Names, SheetValue}
 use Rattle.sheet_recalc.specs.Costs.{HasCost, HasTicks}
 use Rattle.apl_expr.specs.Trees.{tree_of, literal_of}
-use Rattle.sheet_recalc.specs.Changes.{Change, Define, Store, SetCell, AddRow, Erase, Accepts, Refuses}
+use Rattle.sheet_recalc.specs.Changes.{SheetChange, Define, Store, SetCell, AddRow, Erase, Accepts, Refuses}
 use Rattle.apl_expr.specs.declared.command.Change as code
 use Rattle.apl_expr.specs.declared.command.Change.TheVariants as made
 use Rattle.sheet_recalc.specs.declared.refusal.Refusal.{Refusal}
 
 -- what a change of a line asks of a sheet
-abbrev pub change_of : code.Change → Change
+abbrev pub change_of : code.Change → SheetChange
 change_of (made.Define name tree) = Define name (tree_of tree)
 change_of (made.Data name tree) = Store name (tree_of tree)
 change_of (made.Cell name positions literal) = SetCell name positions.items (literal_of literal)
@@ -22,16 +22,16 @@ pub record SheetState : Type 0 where
   pub cost : ℕ
   pub ticks : ℕ
 
-abbrev pub state_of : SheetValue → SheetState
-state_of s = record { names = s.names; cost = s.cost; ticks = s.ticks }
+abbrev pub sheet_state_of : SheetValue → SheetState
+sheet_state_of s = record { names = s.names; cost = s.cost; ticks = s.ticks }
 
 -- from old, the change may have this answer and lead to new: where it is refused all of the state stays
-abbrev pub Step : SheetState → Change → Result (Unit {0}) Refusal → SheetState → Type 0
+abbrev pub Step : SheetState → SheetChange → Result (Unit {0}) Refusal → SheetState → Type 0
 Step old change (Ok u) new = Accepts old.names change new.names × HasCost old.names change new.names new.cost × HasTicks old.names change new.names new.ticks
 Step old change (Err cause) new = Refuses old.names change cause × (new ≡ old)
 
 -- the changes may have these answers, one after another, and lead to new
-abbrev pub Run : SheetState → List Change → List (Result (Unit {0}) Refusal) → SheetState → Type 0
+abbrev pub Run : SheetState → List SheetChange → List (Result (Unit {0}) Refusal) → SheetState → Type 0
 Run old [] [] new = new ≡ old
 Run old (change ∷ changes) (answer ∷ answers) new = (mid : SheetState) × Step old change answer mid × Run mid changes answers new
 Run old [] (answer ∷ answers) new = ⊥

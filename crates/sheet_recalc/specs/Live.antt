@@ -38,7 +38,7 @@ pub record IsLive {S : Type 0} (entries : List (List ℕ × Entry)) (users : Lis
   pub current : IsCurrent entries
 
 -- what a sheet keeps: its entries, and what its last change cost, with the items that were computed in it, which are no more
-pub record IsKept {S : Type 0} (entries : List (List ℕ × Entry)) (users : List (List ℕ × IndexSet (List ℕ) S)) (cost ticks : ℕ) : Type 0 where
+pub record IsKeptBySheet {S : Type 0} (entries : List (List ℕ × Entry)) (users : List (List ℕ × IndexSet (List ℕ) S)) (cost ticks : ℕ) : Type 0 where
   pub live : IsLive entries users
   pub few : ticks ≤ cost
 

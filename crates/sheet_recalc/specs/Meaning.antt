@@ -16,15 +16,15 @@ with_origin name (Ok a) = Ok a
 with_origin name (Err e) = Err (arisen_in name e)
 
 -- what a name shows, where the other names show these: an absent name is a VALUE ERROR
-abbrev pub shown : List ℕ → Option Binding → (List ℕ → Outcome) → Outcome
-shown name None others = Err (fault Value)
-shown name (Some (Data a)) others = Ok a
-shown name (Some (Formula t)) others = with_origin name (eval t others)
+abbrev pub shown_beside : List ℕ → Option Binding → (List ℕ → Outcome) → Outcome
+shown_beside name None others = Err (fault Value)
+shown_beside name (Some (Data a)) others = Ok a
+shown_beside name (Some (Formula t)) others = with_origin name (eval t others)
 
 -- what a name shows, worked out to a depth
 abbrev pub val_at : ℕ → Names → List ℕ → Outcome
 val_at zero names name = Err (fault Value)
-val_at (suc depth) names name = shown name (binding names name) (val_at depth names)
+val_at (suc depth) names name = shown_beside name (binding names name) (val_at depth names)
 
 -- what a name shows from scratch: to the depth of the number of names
 abbrev pub val : Names → List ℕ → Outcome
@@ -32,4 +32,4 @@ val names name = val_at (length names) names name
 
 -- what each name shows is one step from what all of them show
 abbrev pub IsSettled : Names → Type 0
-IsSettled names = (q : List ℕ) → val names q ≡ shown q (binding names q) (val names)
+IsSettled names = (q : List ℕ) → val names q ≡ shown_beside q (binding names q) (val names)

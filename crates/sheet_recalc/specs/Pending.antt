@@ -11,7 +11,7 @@ use Rattle.formula_core.specs.Meaning.{names_in}
 use Rattle.formula_core.specs.Plans.{PlanValue}
 use Rattle.sheet_recalc.specs.Names.{Names, SheetValue, IsSheet}
 use Rattle.sheet_recalc.specs.NameOrder.{HasOrder}
-use Rattle.sheet_recalc.specs.Changes.{Change, Accepts, HasRoomForName}
+use Rattle.sheet_recalc.specs.Changes.{SheetChange, Accepts, HasRoomForName}
 use Rattle.sheet_recalc.specs.Costs.{changed_name, asked_change, expression_cost, AreAllThatReach, IsNodeCost}
 use Rattle.sheet_recalc.specs.Entries.{names_of}
 use Rattle.sheet_recalc.specs.Live.{AreRightOnceTaken, plan_in}
@@ -102,7 +102,7 @@ abbrev pub steps_left : Pending → ℕ
 steps_left p = p.plans.left + (if p.is_cut then 1 else 0)
 
 -- the change is the one that is asked for on the sheet as it is, and this is how far it is
-pub record IsOfChange (s : SheetValue) (change : Change) (p : Pending) (stands : ℕ → Type 0) : Type 0 where
+pub record IsOfChange (s : SheetValue) (change : SheetChange) (p : Pending) (stands : ℕ → Type 0) : Type 0 where
   pub base : ℕ
   pub begun : stands base
   pub base_is : base ≡ ticked 0 (expression_cost s.names change)
@@ -111,11 +111,11 @@ pub record IsOfChange (s : SheetValue) (change : Change) (p : Pending) (stands :
   pub makes : proposed_change (outline_for s.tables p) ≡ asked_change s.names change (names_after s.tables p)
 
 -- the change is being worked out on the sheet as it is
-abbrev pub IsPendingOn : SheetValue → Change → Pending → Type 0
+abbrev pub IsPendingOn : SheetValue → SheetChange → Pending → Type 0
 IsPendingOn s change p = IsOfChange s change p (IsBegunOn s.tables p)
 
 -- it is laid out there
-abbrev pub IsLaidOutOn : SheetValue → Change → Pending → Type 0
+abbrev pub IsLaidOutOn : SheetValue → SheetChange → Pending → Type 0
 IsLaidOutOn s change p = IsOfChange s change p (IsLaidOut s.tables p)
 
 -- what a name is to be bound to is laid out, where finding that has cost so much
@@ -128,5 +128,5 @@ pub record IsProposedOn (s : SheetValue) (name : List ℕ) (proposal : Proposal)
   pub room : HasRoomForName s.names name
 
 -- whatever is laid out for a name by this proposal is this change
-abbrev pub LaysOut : SheetValue → List ℕ → Proposal → ℕ → Change → Type 0
+abbrev pub LaysOut : SheetValue → List ℕ → Proposal → ℕ → SheetChange → Type 0
 LaysOut s name proposal spent change = (p : Pending) → IsProposedOn s name proposal spent p → IsLaidOutOn s change p

@@ -15,10 +15,10 @@ use Rattle.sheet_recalc.specs.declared.refusal.Refusal.{Refusal}
 use Rattle.sheet_recalc.specs.declared.refusal.Refusal.TheVariants.{NotFound, NotData, Rank, Length, Domain, Limit}
 
 -- how many items a row has: one of a vector, one a column of a table; other arrays have no rows
-abbrev pub row_length : List ℕ → Option ℕ
-row_length (items ∷ []) = Some 1
-row_length (rows ∷ columns ∷ []) = Some columns
-row_length shape = None
+abbrev pub items_in_row : List ℕ → Option ℕ
+items_in_row (items ∷ []) = Some 1
+items_in_row (rows ∷ columns ∷ []) = Some columns
+items_in_row shape = None
 
 -- each of these items is of this type, so no items are of any
 abbrev pub are_of_type : ItemType → List Item → Bool
@@ -40,4 +40,4 @@ row_items_put a (Some count) row = if length row == count then items_put a row e
 abbrev pub row_put : Option Binding → Literal → Result ArrayValue Refusal
 row_put None literal = Err NotFound
 row_put (Some (Formula t)) literal = Err NotData
-row_put (Some (Data a)) literal = row_items_put a (row_length a.shape) (literal_items literal)
+row_put (Some (Data a)) literal = row_items_put a (items_in_row a.shape) (literal_items literal)

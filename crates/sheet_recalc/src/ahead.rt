@@ -8,7 +8,7 @@ ghost use Rattle.formula_core.specs.Meaning.{names_in};
 ghost use Rattle.formula_core.specs.Changes.{IsNameChanged};
 ghost use Rattle.formula_core.specs.Inputs.{IsInput};
 ghost use Rattle.formula_core.specs.Plans.{AreInputs, IsNameSound, IsTold};
-ghost use Rattle.index_region.specs.declared.delta.Delta.{Delta as Change};
+ghost use Rattle.index_region.specs.declared.delta.Delta.{Delta as AnyDelta};
 ghost use Rattle.change_rules.specs.Currency.{applied};
 ghost use Rattle.sheet_recalc.specs.declared.entry.Entry.TheVariants.{Formula as FormulaEntry};
 ghost use Rattle.sheet_recalc.specs.Costs.{origin_delta};
@@ -217,7 +217,7 @@ impl<'a, 'b> Ahead<'a, 'b> {
 
 /// What a name shows whose formula gives this: an error gets its origin there.
 fn with_origin(name: Name, input: Input<'_>) -> Input<'_>
-    ensures { (held : Outcome) (d : Change) → IsInput (applied d held) d input.entry → IsInput (with_origin name (applied d held)) (origin_delta name d) result }
+    ensures { (held : Outcome) (d : AnyDelta) → IsInput (applied d held) d input.entry → IsInput (with_origin name (applied d held)) (origin_delta name d) result }
 {
     match input {
         Input::Good(array, delta) => Input::Good(array, delta),

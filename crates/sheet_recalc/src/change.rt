@@ -4,7 +4,7 @@ ghost use Rattle.std.specs.Prelude.{◌≡◌, ◌≤◌, IfOk, IfErr, OnOk, OnE
 ghost use Rattle.sheet_recalc.specs.Changes.{Accepts, Refuses};
 ghost use Rattle.sheet_recalc.specs.Costs.{HasCost, HasTicks, changed_name, expression_cost, IsStepCount};
 ghost use Rattle.sheet_recalc.specs.Names.{Names};
-ghost use Rattle.sheet_recalc.specs.History.{Run, change_of, state_of};
+ghost use Rattle.sheet_recalc.specs.History.{Run, change_of, sheet_state_of};
 ghost use Rattle.sheet_recalc.specs.Pending.{IsLaidOutOn, IsPendingOn, steps_left};
 
 use crate::pending::Pending;
@@ -86,7 +86,7 @@ impl Sheet {
         &mut self,
         mut changes: VecDeque<Change>,
     ) -> Result<Vec<Result<(), Refusal>>, AllocError>
-        ensures run { IfOk result (λ answers. Run (state_of self.old) (map change_of changes.items) answers.items (state_of self.new)) }
+        ensures run { IfOk result (λ answers. Run (sheet_state_of self.old) (map change_of changes.items) answers.items (sheet_state_of self.new)) }
         ensures err { OnErr result (self.new ≡ self.old) }
     {
         let mut answers = Vec::with_capacity(self.alloc(), changes.len())?;

@@ -10,7 +10,7 @@ ghost use Rattle.index_region.specs.Tails.{FitsTail};
 ghost use Rattle.sheet_recalc.specs.Names.{binding, Data};
 ghost use Rattle.sheet_recalc.specs.Entries.{names_of, HasData};
 ghost use Rattle.sheet_recalc.specs.Cells.{literal_items, IsDataAnswer};
-ghost use Rattle.sheet_recalc.specs.Rows.{row_put, row_length, are_of_type};
+ghost use Rattle.sheet_recalc.specs.Rows.{row_put, items_in_row, are_of_type};
 
 use crate::entry::Entry;
 use crate::refusal::Refusal;
@@ -50,7 +50,7 @@ fn tail_of(alloc: Global, array: &Array, literal: &Literal) -> Result<Tail, Refu
     ensures items { IfOk result (λ tail. tail.items ≡ literal_items (literal_of literal.now)) }
     ensures refused { IfErr result (λ cause. IsDataAnswer (row_put (Some (Data array.now)) (literal_of literal.now)) (Err cause)) }
 {
-    let Some(count) = row_length(array.shape().as_slice()) else {
+    let Some(count) = items_in_row(array.shape().as_slice()) else {
         return Err(Refusal::Rank);
     };
     if items_in(literal) != count {
@@ -90,8 +90,8 @@ fn tail_to(
 }
 
 /// How many items a row of an array of this shape has, if it has rows.
-fn row_length(shape: &[u32]) -> Option<usize>
-    ensures { result ≡ row_length shape.now }
+fn items_in_row(shape: &[u32]) -> Option<usize>
+    ensures { result ≡ items_in_row shape.now }
 {
     match shape {
         [_] => Some(1),

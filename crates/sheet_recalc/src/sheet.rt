@@ -16,7 +16,7 @@ ghost use Rattle.sheet_recalc.specs.ProposedSheet.{names_with};
 ghost use Rattle.sheet_recalc.specs.Planning.{IsProposalAt};
 ghost use Rattle.sheet_recalc.specs.declared.proposal.Proposal.TheVariants.{Removed};
 ghost use Rattle.sheet_recalc.specs.Pending.{IsLaidOutOn, IsPendingOn, IsProposedOn, LaysOut, steps_left};
-ghost use Rattle.sheet_recalc.specs.Changes.{Change, Accepts, Refuses, Define, Store, Put, SetCell, AddRow, Erase, CannotBecome};
+ghost use Rattle.sheet_recalc.specs.Changes.{SheetChange, Accepts, Refuses, Define, Store, Put, SetCell, AddRow, Erase, CannotBecome};
 ghost use Rattle.sheet_recalc.specs.Costs.{HasCost, HasTicks, names_at_rest, changed_name, expression_cost, IsStepCost, IsStepCount};
 
 use crate::cell::cell_patch;
@@ -76,11 +76,11 @@ impl Model for Sheet {
     ghost coded = { Prim.hlevel (codes, coded_tree, coded_binding, entry_row.the_row.coded, hash_map_code, hash_set_code) };
 
     ghost use Rattle.sheet_recalc.specs.Entries.{names_of};
-    ghost use Rattle.sheet_recalc.specs.Live.{IsKept};
+    ghost use Rattle.sheet_recalc.specs.Live.{IsKeptBySheet};
 
     ghost view = { λ s. record { names = names_of s.entries.entries; cost = s.cost; ticks = s.ticks; tables = record { entries = s.entries; users = s.users } } };
 
-    ghost invariant = { λ s. IsKept s.entries.entries s.users.entries s.cost s.ticks };
+    ghost invariant = { λ s. IsKeptBySheet s.entries.entries s.users.entries s.cost s.ticks };
 }
 
 impl Shows for Sheet {
@@ -195,11 +195,11 @@ impl Sheet {
     /// no function is to be applied. It answers how many steps are left; where none was, nothing is done. It computes no more items than
     /// some one function of the change costs. Where memory is refused, what is left and the items counted are as they were.
     pub fn advance(&self, pending: &mut Pending) -> Result<u32, AllocError>
-        requires { (change : Change) × IsPendingOn self.now change pending.old }
+        requires { (change : SheetChange) × IsPendingOn self.now change pending.old }
         ensures left { IfOk result (λ n. n ≡ min (steps_left pending.new) 4294967295) }
         ensures one { OnOk result (steps_left pending.new ≡ steps_left pending.old - 1) }
-        ensures kept { (change : Change) → IsPendingOn self.now change pending.old → IsPendingOn self.now change pending.new }
-        ensures ticks { OnOk result (0 < steps_left pending.old → (change : Change) → IsPendingOn self.now change pending.old → (cost : ℕ) × IsStepCost self.now.names change cost × (pending.new.ticks ≤ pending.old.ticks + cost)) }
+        ensures kept { (change : SheetChange) → IsPendingOn self.now change pending.old → IsPendingOn self.now change pending.new }
+        ensures ticks { OnOk result (0 < steps_left pending.old → (change : SheetChange) → IsPendingOn self.now change pending.old → (cost : ℕ) × IsStepCost self.now.names change cost × (pending.new.ticks ≤ pending.old.ticks + cost)) }
         ensures none { steps_left pending.old ≡ 0 → pending.new ≡ pending.old }
         ensures err { OnErr result (steps_left pending.new ≡ steps_left pending.old) }
         ensures err_ticks { OnErr result (pending.new.ticks ≡ pending.old.ticks) }
@@ -214,9 +214,9 @@ impl Sheet {
 
     /// Applies the next function of a change, unless a step that was cut off has done so.
     fn apply_function(&self, pending: &mut Pending) -> Result<(), AllocError>
-        requires begun { (change : Change) × IsPendingOn self.now change pending.old }
+        requires begun { (change : SheetChange) × IsPendingOn self.now change pending.old }
         requires left { 0 < steps_left pending.old }
-        ensures kept { (change : Change) → IsPendingOn self.now change pending.old → IsPendingOn self.now change pending.new }
+        ensures kept { (change : SheetChange) → IsPendingOn self.now change pending.old → IsPendingOn self.now change pending.new }
         ensures cut { OnOk result (pending.new.is_cut ≡ true) }
         ensures steps { steps_left pending.new ≡ steps_left pending.old }
         ensures ticks { pending.new.ticks ≡ pending.old.ticks }
@@ -241,11 +241,11 @@ impl Sheet {
 
     /// Plans what comes after the function that a step has applied, which ends the step.
     fn plan_ahead(&self, pending: &mut Pending) -> Result<(), AllocError>
-        requires begun { (change : Change) × IsPendingOn self.now change pending.old }
+        requires begun { (change : SheetChange) × IsPendingOn self.now change pending.old }
         requires cut { pending.old.is_cut ≡ true }
-        ensures kept { (change : Change) → IsPendingOn self.now change pending.old → IsPendingOn self.now change pending.new }
+        ensures kept { (change : SheetChange) → IsPendingOn self.now change pending.old → IsPendingOn self.now change pending.new }
         ensures one { OnOk result (steps_left pending.new + 1 ≡ steps_left pending.old) }
-        ensures ticks { OnOk result ((change : Change) → IsPendingOn self.now change pending.old → (cost : ℕ) × IsStepCost self.now.names change cost × (pending.new.ticks ≤ pending.old.ticks + cost)) }
+        ensures ticks { OnOk result ((change : SheetChange) → IsPendingOn self.now change pending.old → (cost : ℕ) × IsStepCost self.now.names change cost × (pending.new.ticks ≤ pending.old.ticks + cost)) }
         ensures err { OnErr result (steps_left pending.new ≡ steps_left pending.old) }
         ensures err_ticks { OnErr result (pending.new.ticks ≡ pending.old.ticks) }
     {
@@ -262,9 +262,9 @@ impl Sheet {
 
     /// Counts the functions of a change that is laid out, and plans what comes before the first.
     pub(crate) fn count(&self, pending: &mut Pending) -> Result<(), AllocError>
-        requires { (change : Change) × IsLaidOutOn self.now change pending.old }
-        ensures begun { OnOk result ((change : Change) → IsLaidOutOn self.now change pending.old → IsPendingOn self.now change pending.new) }
-        ensures steps { OnOk result ((change : Change) → IsLaidOutOn self.now change pending.old → (new : Names) × Accepts self.now.names change new × IsStepCount new (changed_name change) (steps_left pending.new)) }
+        requires { (change : SheetChange) × IsLaidOutOn self.now change pending.old }
+        ensures begun { OnOk result ((change : SheetChange) → IsLaidOutOn self.now change pending.old → IsPendingOn self.now change pending.new) }
+        ensures steps { OnOk result ((change : SheetChange) → IsLaidOutOn self.now change pending.old → (new : Names) × Accepts self.now.names change new × IsStepCount new (changed_name change) (steps_left pending.new)) }
         ensures ticks { pending.new.ticks ≡ pending.old.ticks }
     {
         let proposed = ProposedSheet {
@@ -280,12 +280,12 @@ impl Sheet {
     /// Makes a change that was begun on the sheet as it is, and of which no step is left. No memory is asked for.
     #[inline(always)]
     pub fn adopt(&mut self, pending: Pending)
-        requires begun { (change : Change) × IsPendingOn self.old change pending }
+        requires begun { (change : SheetChange) × IsPendingOn self.old change pending }
         requires left { steps_left pending ≡ 0 }
-        ensures made { (change : Change) → IsPendingOn self.old change pending → Accepts self.old.names change self.new.names }
-        ensures cost { (change : Change) → IsPendingOn self.old change pending → HasCost self.old.names change self.new.names self.new.cost }
+        ensures made { (change : SheetChange) → IsPendingOn self.old change pending → Accepts self.old.names change self.new.names }
+        ensures cost { (change : SheetChange) → IsPendingOn self.old change pending → HasCost self.old.names change self.new.names self.new.cost }
         ensures ticks { self.new.ticks ≡ pending.ticks }
-        ensures computed { (change : Change) → IsPendingOn self.old change pending → HasTicks self.old.names change self.new.names self.new.ticks }
+        ensures computed { (change : SheetChange) → IsPendingOn self.old change pending → HasTicks self.old.names change self.new.names self.new.ticks }
     {
         let Pending {
             name,
@@ -319,7 +319,7 @@ impl Sheet {
     ) -> Result<(), Refusal>
         requires proposal { IsProposalAt self.old.tables.entries.entries name proposal }
         requires even { meter.ticks ≡ spent }
-        ensures made { OnOk result ((change : Change) → LaysOut self.old name proposal spent change
+        ensures made { OnOk result ((change : SheetChange) → LaysOut self.old name proposal spent change
             → Accepts self.old.names change self.new.names × HasCost self.old.names change self.new.names self.new.cost × HasTicks self.old.names change self.new.names self.new.ticks) }
         ensures refused { IfErr result (CannotBecome self.old.names (names_with self.old.names name proposal) name) }
         ensures sound { IsSheet self.old.names }

@@ -1,6 +1,6 @@
 //! A change in steps: begun, done function by function, and made or given up. Where memory is refused a step is done again.
 
-ghost use Rattle.sheet_recalc.specs.Changes.{Change as Asked};
+ghost use Rattle.sheet_recalc.specs.Changes.{SheetChange as Asked};
 ghost use Rattle.sheet_recalc.specs.Pending.{IsPendingOn};
 
 use crate::fixtures::{are_numbers, tree_of};

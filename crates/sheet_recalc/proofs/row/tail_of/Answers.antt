@@ -5,7 +5,7 @@ use Rattle.arrays_core.specs.Shapes.{IsWithinLimits}
 use Rattle.arrays_core.specs.declared.item.Item.{Item}
 use Rattle.index_region.specs.Tails.{TailValue}
 use Rattle.sheet_recalc.specs.Cells.{literal_items}
-use Rattle.sheet_recalc.specs.Rows.{row_length, are_of_type}
+use Rattle.sheet_recalc.specs.Rows.{items_in_row, are_of_type}
 use Rattle.sheet_recalc.proofs.Rows.{row_is_put}
 use Rattle.sheet_recalc.proofs.row.tail_of.Goals as goal
 
@@ -13,7 +13,7 @@ pub returns-clause-put : goal.returns-clause-put
 returns-clause-put c =
     let a = c.args.array.now in
     let row = literal_items (literal_of c.args.literal.now) in
-    let has : row_length a.shape ≡ Some c.in-Some.count = cc in
+    let has : items_in_row a.shape ≡ Some c.in-Some.count = cc in
     let long : length row ≡ c.in-Some.count = cc in
     let typed : are_of_type a.item_type row ≡ true = cc in
     let same : c.one_longer-shape.result.items ≡ one_longer a.shape = cc in

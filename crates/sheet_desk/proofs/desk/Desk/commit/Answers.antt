@@ -13,7 +13,7 @@ use Rattle.sheet_recalc.specs.declared.refusal.Refusal.{Refusal}
 use Rattle.sheet_desk.specs.Slots.{slot_in, with_slot}
 use Rattle.sheet_desk.specs.Desk.{DeskValue, Commit, IsEvent, stale, commit_refusal}
 use Rattle.sheet_desk.specs.Asked.{done_answer}
-use Rattle.sheet_desk.specs.Held.{slot_of, slots_of, marked, IsOpenOn, AreOpenOn}
+use Rattle.sheet_desk.specs.Held.{slot_value_of, slot_values_of, marked, IsOpenOn, AreOpenOn}
 use Rattle.sheet_desk.proofs.Slotted.{seen, seen_in_desk, put_in_desk}
 use Rattle.sheet_desk.proofs.Staling.{all_in, length-with_slot, marked_seen, open_marked}
 use Rattle.sheet_desk.proofs.Spent.{spent_within}
@@ -48,7 +48,7 @@ returns-in_err-slot c =
     let next : DeskValue = seen c.self.inside.sheet c.take_ready.new.slots in
     let same : next ≡ c.args.self.now = ap (seen c.self.inside.sheet) c.in_err-slot.ensures.err ∙ c.self.view_is in
     let refused = subst (λ (d : DeskValue). commit_refusal (slot_in d.slots c.args.number) ≡ Some c.in_err-slot.field-0.0) c.self.view_is
-    (subst (λ (k : ℤ). commit_refusal (slot_in (slots_of c.self.inside.slots) k) ≡ Some c.in_err-slot.field-0.0) number c.in_err-slot.ensures.refused) in
+    (subst (λ (k : ℤ). commit_refusal (slot_in (slot_values_of c.self.inside.slots) k) ≡ Some c.in_err-slot.field-0.0) number c.in_err-slot.ensures.refused) in
     subst (λ (r : Result (Unit {0}) Refusal). IsEvent c.args.self.now (Commit c.args.number) (done_answer r) next) (sym (p.1 ∙ ap (λ (e : Refusal). Err e) p.2))
     (inl refused, same)
 
@@ -62,7 +62,7 @@ returns c =
     let accepts = c.adopt.ensures.made change begun in
     let costs = c.adopt.ensures.cost change begun in
     record {
-      slot = slot_of s;
+      slot = slot_value_of s;
       held = seen_in_desk c.self.inside.sheet c.self.inside.slots c.args.number c.args.self.now c.self.view_is (Some (Some s)) there;
       fresh = c.in_ok-slot.ensures.fresh;
       ready = c.in_ok-slot.ensures.left;
@@ -71,7 +71,7 @@ returns c =
         cost = subst (λ (d : DeskValue). HasCost d.names change c.adopt.new.self.names c.adopt.new.self.cost) c.self.view_is costs;
         computed = subst (λ (d : DeskValue). HasTicks d.names change c.adopt.new.self.names c.adopt.new.self.ticks) c.self.view_is (c.adopt.ensures.computed change begun);
         slots =
-            ap slots_of (c.mark_stale.ensures ∙ ap (map (option_map marked)) out)
+            ap slot_values_of (c.mark_stale.ensures ∙ ap (map (option_map marked)) out)
             ∙ marked_seen _
             ∙ ap (λ (d : DeskValue). map (option_map stale) d.slots) (put_in_desk c.self.inside.sheet c.self.inside.slots c.args.number c.args.self.now
             c.self.view_is None);

@@ -1,6 +1,6 @@
 use Rattle.std.proofs.Common.{None, Some, not, inl, refl, ap, ◌∙◌}
 use Rattle.sheet_desk.specs.Desk.{drop_refusal}
-use Rattle.sheet_desk.specs.Held.{slot_of}
+use Rattle.sheet_desk.specs.Held.{slot_value_of}
 use Rattle.sheet_desk.proofs.Slotted.{IsPlaced, none_seen, held_seen, put_seen, is_there, is_not_there}
 use Rattle.sheet_desk.proofs.Staling.{open_put}
 use Rattle.sheet_desk.proofs.desk.Desk.drop_slot.Goals as goal
@@ -22,7 +22,7 @@ pub returns : goal.returns
 returns c =
     let at = placed (goal.at.returns c).In-Some in
     let some = is_there _ (c.is_none.ensures ∙ ap not c.if-is_none.false) in
-    record { slot = slot_of some.0; held = held_seen at c.index-self-place.result (Some some.0) some.1; next_is = put_seen at None }
+    record { slot = slot_value_of some.0; held = held_seen at c.index-self-place.result (Some some.0) some.1; next_is = put_seen at None }
 
 pub invariant_of-self : goal.invariant_of-self
 invariant_of-self c = open_put c.self.inside.sheet c.self.inside.slots c.in-Some.place None c.self.invariant tt

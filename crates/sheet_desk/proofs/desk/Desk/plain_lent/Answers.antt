@@ -8,7 +8,7 @@ use Rattle.sheet_recalc.specs.History.{change_of}
 use Rattle.sheet_recalc.specs.declared.refusal.Refusal.{Refusal}
 use Rattle.sheet_desk.specs.Desk.{DeskValue, Plain, IsEvent, stale}
 use Rattle.sheet_desk.specs.Asked.{done_answer}
-use Rattle.sheet_desk.specs.Held.{slots_of, AreOpenOn}
+use Rattle.sheet_desk.specs.Held.{slot_values_of, AreOpenOn}
 use Rattle.sheet_desk.proofs.Slotted.{seen}
 use Rattle.sheet_desk.proofs.Staling.{marked_seen, open_marked}
 use Rattle.sheet_desk.proofs.desk.Desk.plain_lent.Goals as goal
@@ -30,7 +30,7 @@ returns c =
       accepts = subst (λ (d : DeskValue). Accepts d.names change c.apply_lent.new.self.names) c.self.view_is c.in_ok-apply_lent.ensures.ok;
       cost = subst (λ (d : DeskValue). HasCost d.names change c.apply_lent.new.self.names c.apply_lent.new.self.cost) c.self.view_is c.in_ok-apply_lent.ensures.cost;
       computed = subst (λ (d : DeskValue). HasTicks d.names change c.apply_lent.new.self.names c.apply_lent.new.self.ticks) c.self.view_is c.in_ok-apply_lent.ensures.ticks;
-      slots = ap slots_of c.mark_stale.ensures ∙ marked_seen c.self.inside.slots ∙ ap (λ (d : DeskValue). map (option_map stale) d.slots) c.self.view_is;
+      slots = ap slot_values_of c.mark_stale.ensures ∙ marked_seen c.self.inside.slots ∙ ap (λ (d : DeskValue). map (option_map stale) d.slots) c.self.view_is;
     }
 
 pub invariant_of-self : goal.invariant_of-self

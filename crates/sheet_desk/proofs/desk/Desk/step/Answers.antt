@@ -7,8 +7,8 @@ use Rattle.sheet_recalc.specs.History.{change_of}
 use Rattle.sheet_recalc.specs.Pending.{steps_left}
 use Rattle.sheet_recalc.specs.declared.refusal.Refusal.{Refusal}
 use Rattle.sheet_recalc.specs.declared.refusal.Refusal.TheVariants.{Stale}
-use Rattle.sheet_desk.specs.Desk.{DeskValue, SlotValue, Step, IsEvent, held_in, with_held, step_refusal, told}
-use Rattle.sheet_desk.specs.Held.{slot_of, IsOpenOn}
+use Rattle.sheet_desk.specs.Desk.{DeskValue, SlotValue, Step, IsEvent, held_in, with_held, step_refusal, steps_told}
+use Rattle.sheet_desk.specs.Held.{slot_value_of, IsOpenOn}
 use Rattle.sheet_desk.specs.declared.slot.Slot.{Slot}
 use Rattle.sheet_desk.specs.Asked.{count_answer}
 use Rattle.sheet_desk.proofs.Slotted.{IsPlaced, seen, none_seen, held_seen, put_seen, put_same, slot_after}
@@ -25,11 +25,11 @@ placed_fresh : (c : Else-slot) → IsPlaced c.self.inside.sheet c.self.inside.sl
 placed_fresh c = record { fits = c.ranges.number; view = c.self.view_is; found = c.in-Some.ensures }
 
 -- what the number finds
-found : (c : Else-slot) → held_in c.args.self.now c.args.number ≡ Some (Some (slot_of c.in-Some-slots.slot))
+found : (c : Else-slot) → held_in c.args.self.now c.args.number ≡ Some (Some (slot_value_of c.in-Some-slots.slot))
 found c = held_seen (placed_fresh c) c.index-self-place.result (Some c.in-Some-slots.slot) c.in-Some-slots.is
 
 -- and what it finds afterwards, where that looks the same
-unchanged : (c : Else-slot) (now : Slot) → slot_of now ≡ slot_of c.in-Some-slots.slot →
+unchanged : (c : Else-slot) (now : Slot) → slot_value_of now ≡ slot_value_of c.in-Some-slots.slot →
     seen c.self.inside.sheet (set c.self.inside.slots c.in-Some.place (Some now)) ≡ c.args.self.now
 unchanged c now same =
     put_same (placed_fresh c) c.index-self-place.result (Some c.in-Some-slots.slot) (Some now) c.in-Some-slots.is (ap (λ (s : SlotValue). Some s) same)
@@ -47,7 +47,7 @@ pub returns-in_default-slots : goal.returns-in_default-slots
 returns-in_default-slots c =
     let at = placed (goal.at.returns-in_default-slots c).In-Some in
     let is = c.in_default-slots.is in
-    (inl (ap step_refusal (held_seen at c.index-self-place.result None is)), put_same at c.index-self-place.result None _ is (ap (option_map slot_of) is))
+    (inl (ap step_refusal (held_seen at c.index-self-place.result None is)), put_same at c.index-self-place.result None _ is (ap (option_map slot_value_of) is))
 
 pub returns-then-slot : goal.returns-then-slot
 returns-then-slot c =
@@ -63,10 +63,10 @@ returns-then-left-eq0 c =
     let at = (goal.at.returns-then-left-eq0 c).Else-slot in
     let none : steps_left c.in-Some-slots.slot.pending ≡ 0 = omega (arith, c.left.ensures, c.if-left-eq0.true) in
     record {
-      slot = slot_of c.in-Some-slots.slot;
+      slot = slot_value_of c.in-Some-slots.slot;
       held = found at;
       fresh = c.if-slot.false;
-      told_is = ap (λ (n : ℕ). told (n - 1)) (sym none);
+      told_is = ap (λ (n : ℕ). steps_told (n - 1)) (sym none);
       none = λ h. unchanged at c.in-Some-slots.slot refl;
       one = λ more. absurd (omega (arith, more, none));
     }
@@ -78,12 +78,12 @@ returns-in_err-advance c =
     let p = err_from_is_err_and c.from_residual.result c.from_residual.ensures.1 in
     let s = c.in-Some-slots.slot in
     let after : Slot = record { change = s.change; pending = c.advance.new.pending; is_stale = s.is_stale } in
-    let same : slot_of after ≡ slot_of s =
+    let same : slot_value_of after ≡ slot_value_of s =
     slot_after s c.advance.new.pending (steps_left s.pending) s.pending.ticks c.if-slot.false c.in_err-advance.ensures.err c.in_err-advance.ensures.err_ticks
     ∙ sym (slot_after s s.pending (steps_left s.pending) s.pending.ticks c.if-slot.false refl refl) in
     let next : DeskValue = seen c.self.inside.sheet (set c.self.inside.slots c.in-Some.place (Some after)) in
     subst (λ (r : Result ℕ Refusal). IsEvent c.args.self.now (Step c.args.number) (count_answer r) next) (sym (p.1 ∙ ap (λ (e : Refusal). Err e) p.2)) (
-      inr (ap step_refusal (found at) ∙ ap (λ (b : Bool). if b then Some Stale else None) c.if-slot.false, ((slot_of s, found at, some), refl)),
+      inr (ap step_refusal (found at) ∙ ap (λ (b : Bool). if b then Some Stale else None) c.if-slot.false, ((slot_value_of s, found at, some), refl)),
       unchanged at after same,
     )
 
@@ -95,10 +95,10 @@ returns c =
     let after : Slot = record { change = s.change; pending = c.advance.new.pending; is_stale = s.is_stale } in
     let cost = c.in_ok-advance.ensures.ticks some (change_of s.change) (pending_on at c.if-slot.false) in
     record {
-      slot = slot_of s;
+      slot = slot_value_of s;
       held = found at;
       fresh = c.if-slot.false;
-      told_is = c.in_ok-advance.ensures.left ∙ ap told c.in_ok-advance.ensures.one;
+      told_is = c.in_ok-advance.ensures.left ∙ ap steps_told c.in_ok-advance.ensures.one;
       none = λ h. absurd (omega (arith, h, some));
       one = λ more. record {
         cost = cost.0;
