@@ -263,13 +263,6 @@ impl RowPrimitive for Rotate {
     }
 }
 
-/// The length of an axis; a scalar has one place along any axis.
-fn places_along(axes: &[u32], axis: usize) -> u32
-    ensures { result ≡ length_along axes.now axis }
-{
-    axes.get(axis).copied().unwrap_or(1)
-}
-
 impl Announced for Rotate {
     ghost selectors = { λ r. (rotate_rule r.along).selectors };
 
@@ -293,7 +286,7 @@ impl Announced for Rotate {
         let (amounts, array) = (&args[0], &args[1]);
         let axes = array.shape().as_slice();
         let axis = self.along.axis_at(axes.len() as u32);
-        let places = places_along(axes, axis);
+        let places = axes.get(axis).copied().unwrap_or(1);
         let intervals = region.intervals().copy();
         if which == 1 {
             return Some(intervals.with(axis, 1, places));
