@@ -28,10 +28,10 @@ use Rattle.selection_fns.specs.Laws.Replicate.{replicate_tight}
 use Rattle.selection_fns.specs.Index.{index_rule}
 use Rattle.selection_fns.specs.Laws.Index.{index_tight}
 use Rattle.selection_fns.specs.Laws.IndexGrowth.{index_growing}
-use Rattle.selection_fns.specs.Laws.IndexOf.{index_of_tight}
-use Rattle.selection_fns.specs.Laws.Member.{member_tight}
-use Rattle.selection_fns.specs.Laws.Encode.{encode_tight}
-use Rattle.selection_fns.specs.Laws.Decode.{decode_tight}
+use Rattle.search_fns.specs.Laws.IndexOf.{index_of_tight}
+use Rattle.search_fns.specs.Laws.Member.{member_tight}
+use Rattle.search_fns.specs.Laws.Encode.{encode_tight}
+use Rattle.search_fns.specs.Laws.Decode.{decode_tight}
 use Rattle.operator_fns.specs.Laws.Reduce.{reduce_tight}
 use Rattle.operator_fns.specs.Laws.Scan.{scan_tight}
 use Rattle.operator_fns.specs.Laws.LinesGrowth.{reduce_growing, scan_growing}

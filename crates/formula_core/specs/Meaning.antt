@@ -26,10 +26,10 @@ use Rattle.selection_fns.specs.Shape.{shape_whole}
 use Rattle.selection_fns.specs.IndexGenerator.{generator_whole}
 use Rattle.selection_fns.specs.Replicate.{replicate_whole}
 use Rattle.selection_fns.specs.Index.{Position, index_whole}
-use Rattle.selection_fns.specs.IndexOf.{index_of_whole}
-use Rattle.selection_fns.specs.Member.{member_whole}
-use Rattle.selection_fns.specs.Encode.{encode_whole}
-use Rattle.selection_fns.specs.Decode.{decode_whole}
+use Rattle.search_fns.specs.IndexOf.{index_of_whole}
+use Rattle.search_fns.specs.Member.{member_whole}
+use Rattle.search_fns.specs.Encode.{encode_whole}
+use Rattle.search_fns.specs.Decode.{decode_whole}
 use Rattle.operator_fns.specs.Reduce.{reduce_whole}
 use Rattle.operator_fns.specs.Scan.{scan_whole}
 use Rattle.operator_fns.specs.OuterProduct.{outer_whole}

@@ -28,10 +28,10 @@ use Rattle.structural_fns.specs.DyadicTranspose.{transpose_by_rule}
 use Rattle.selection_fns.specs.Shape.{shape_rule}
 use Rattle.selection_fns.specs.IndexGenerator.{generator_rule}
 use Rattle.selection_fns.specs.Replicate.{replicate_rule}
-use Rattle.selection_fns.specs.IndexOf.{index_of_rule}
-use Rattle.selection_fns.specs.Member.{member_rule}
-use Rattle.selection_fns.specs.Encode.{encode_rule}
-use Rattle.selection_fns.specs.Decode.{decode_rule}
+use Rattle.search_fns.specs.IndexOf.{index_of_rule}
+use Rattle.search_fns.specs.Member.{member_rule}
+use Rattle.search_fns.specs.Encode.{encode_rule}
+use Rattle.search_fns.specs.Decode.{decode_rule}
 use Rattle.operator_fns.specs.Reduce.{reduce_rule}
 use Rattle.operator_fns.specs.Scan.{scan_rule}
 use Rattle.operator_fns.specs.OuterProduct.{outer_rule}

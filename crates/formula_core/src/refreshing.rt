@@ -14,7 +14,8 @@ use change_rules::refresh_with_cost;
 use index_region::{Delta, Seen};
 use operator_fns::{Inner, Outer, Reduce, Scan};
 use scalar_fns::{EachDyadic, EachMonadic};
-use selection_fns::{Decode, Encode, Index, IndexGenerator, IndexOf, Member, Replicate, ShapeOf};
+use search_fns::{Decode, Encode, IndexOf, Member};
+use selection_fns::{Index, IndexGenerator, Replicate, ShapeOf};
 use std::alloc::{AllocError, Global};
 use structural_fns::{
     Catenate, DropPlaces, DyadicTranspose, Ravel, Reshape, Reverse, Rotate, Take, Transpose,

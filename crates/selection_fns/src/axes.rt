@@ -8,7 +8,7 @@ ghost use Rattle.index_region.specs.Axes.{places_along as places_on};
 pub(crate) const LONGEST_AXIS: u64 = arrays_core::LONGEST_AXIS as u64;
 
 /// How many places an axis has, counted from 0; a scalar has one place along any axis.
-pub(crate) fn places_along(axes: &[u32], axis: usize) -> u32
+pub fn places_along(axes: &[u32], axis: usize) -> u32
     requires { All (λ n. n ≤ longest_axis) axes.now }
     ensures is { result ≡ places_on axes.now axis }
     ensures within { result ≤ longest_axis }

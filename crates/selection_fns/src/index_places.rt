@@ -12,7 +12,7 @@ ghost use Rattle.index_region.specs.Arguments.{numbers};
 ghost use Rattle.selection_fns.specs.Index.{written_positions, count_written, is_on_axis, are_on as are_positions_on, indexed_shape};
 ghost use Rattle.selection_fns.specs.IndexPlaces.{sums as all_sums, row_places, all_places, ArePlacesOf};
 
-use crate::numbers_of::numbers_of;
+use crate::numbers::numbers_of;
 use arrays_core::{Array, ArrayBuilder, Shape, room_of, size};
 use index_region::Seen;
 use std::alloc::{AllocError, Global};

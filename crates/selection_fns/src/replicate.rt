@@ -18,7 +18,7 @@ ghost use Rattle.selection_fns.specs.Replicate.{is_bit as is_bit_of, IsMask, tim
 
 use crate::axes::{LONGEST_AXIS, places_along};
 use crate::kept::kept_numbers;
-use crate::numbers_of::numbers_of;
+use crate::numbers::numbers_of;
 use arrays_core::{
     ApplyFault, Array, ArrayBuilder, Item, ItemRule, ItemType, Kind, RowRule, Shape, collect_rows,
     index_in_row, position, shape_of,

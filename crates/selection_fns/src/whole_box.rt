@@ -37,14 +37,14 @@ fn picked(alloc: Global, whole: &Array, region: &IndexBox) -> Option<Array>
 }
 
 /// Whether a box has so few places that their items are better worked out one by one.
-pub(crate) fn is_small(region: &IndexBox) -> bool
+pub fn is_small(region: &IndexBox) -> bool
     requires { box_size region.now ≤ most_places }
 {
     region.size() <= FEW_ITEMS
 }
 
 /// The items in a box of a result, from its whole. None where that has an error, and where there is no memory.
-pub(crate) fn items_of_whole<P: Primitive>(
+pub fn items_of_whole<P: Primitive>(
     _primitive: &P,
     alloc: Global,
     _args: &[Seen],

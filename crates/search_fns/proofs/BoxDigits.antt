@@ -1,0 +1,177 @@
+-- The digits in a box, taken from those of its numbers by the radices from its first one on.
+use Rattle.std.proofs.Common.{◌≡◌, ℕ, ◌+◌, ◌-◌, ◌*◌, ◌/◌, ◌%◌, ◌<◌, ◌≤◌, IsTrue, ℤ, pos, List, [], ◌∷◌, ◌++◌, length, get_or, map, take, drop, Result, Ok, Err, refl, ap, sym, ◌∙◌, arith}
+use Rattle.std.specs.List.{range_with_len}
+use Rattle.std.proofs.lemmas.Bool.{and_parts, leb-true, false≢true}
+use Rattle.std.proofs.lemmas.List.{length-map, length-take, length-drop, get_or-take, get_or-drop, drop-drop, drop-map, get_or-map as get_or-map_inside, take_all}
+use Rattle.std.proofs.lemmas.List.FromFn.{length-map-range_with_len, get_or-map-range_with_len}
+use Rattle.std.proofs.lemmas.Nat.{div-mul-add, mod_below}
+use Rattle.std.proofs.Math.Nat.{mul-le-mul_right}
+use Rattle.arrays_core.specs.declared.item.Item.{Item}
+use Rattle.arrays_core.specs.declared.item.Item.TheVariants.{Num}
+use Rattle.arrays_core.specs.declared.item.ItemType.TheVariants.{Nums}
+use Rattle.arrays_core.specs.declared.item.Kind.{Kind}
+use Rattle.arrays_core.specs.declared.item.Kind.TheVariants.{Domain}
+use Rattle.arrays_core.specs.Items.{all_or_first_error, and_then, fill}
+use Rattle.arrays_core.specs.Shapes.{size, indices, index_after, places_before}
+use Rattle.arrays_core.specs.Arrays.{ArrayValue, collect, with_items, item_of}
+use Rattle.arrays_core.proofs.Order.{length-indices, get_or-indices}
+use Rattle.scalar_fns.specs.Items.{number_item}
+use Rattle.scalar_fns.specs.Numbers.{residue}
+use Rattle.index_region.specs.Arguments.{number_of, numbers}
+use Rattle.index_region.specs.Boxes.{Interval, interval_length, box_size, walk_at, fits}
+use Rattle.index_region.specs.Checks.{Form}
+use Rattle.index_region.proofs.Walks.{some_place}
+use Rattle.change_core.specs.Parts.{items_in}
+use Rattle.search_fns.specs.Encode.{carried_through, digit, encode_form, encode_item, encode_whole}
+use Rattle.search_fns.specs.Digits.{AreColumns}
+use Rattle.search_fns.specs.Laws.Encode.{encode_facts}
+use Rattle.selection_fns.proofs.Entries.{entry_of, from_entries, long_entries}
+
+-- ---- the box
+
+-- a box of the digits of a vector of radices
+pub record DigitBox (radices rest : List ℕ) (region : List Interval) : Type 0 where
+  pub first : Interval
+  pub later : List Interval
+  pub count : ℕ
+  pub is : region ≡ first ∷ later
+  pub shaped : radices ≡ count ∷ []
+  pub low : 1 ≤ first.0
+  pub order : first.0 ≤ first.1
+  pub high : first.1 ≤ count
+  pub some : 0 < box_size later
+
+pub digit_box : (radices rest : List ℕ) (region : List Interval) → length radices ≡ 1 → IsTrue (fits region (radices ++ rest)) → DigitBox radices rest region
+digit_box [] rest region vector fit = absurd (omega arith)
+digit_box (n ∷ m ∷ more) rest region vector fit = absurd (omega arith)
+digit_box (n ∷ []) rest [] vector fit = absurd (false≢true fit)
+digit_box (n ∷ []) rest (s ∷ region) vector fit =
+    let parts = and_parts _ _ fit in
+    let here = and_parts _ _ parts.0 in
+    let bounds = and_parts _ _ here.0 in
+    record {
+      first = s;
+      later = region;
+      count = n;
+      is = refl;
+      shaped = refl;
+      low = leb-true 1 s.0 bounds.0;
+      order = leb-true s.0 s.1 bounds.1;
+      high = leb-true s.1 n here.1;
+      some = some_place region rest parts.1;
+    }
+
+-- so many columns as there are places in a row
+pub columns_in : (s : Interval) (region : List Interval) → s.0 ≤ s.1 → 0 < box_size region → box_size (s ∷ region) / (s.1 + 1 - s.0) ≡ box_size region
+columns_in s region order some =
+    let e : box_size (s ∷ region) ≡ box_size region * (s.1 + 1 - s.0) + 0 = omega arith in
+    ap (λ n. n / (s.1 + 1 - s.0)) e ∙ div-mul-add (box_size region) (s.1 + 1 - s.0) 0 (omega arith)
+
+-- ---- the digits
+
+-- radices that are left out before the first one change no digit behind them
+shifted : (zs : List ℤ) (q k : ℕ) (z : ℤ) → 1 ≤ k → digit (drop q zs) k z ≡ digit zs (q + k) z
+shifted zs q k z low =
+    let rest : drop k (drop q zs) ≡ drop (q + k) zs = drop-drop k q zs in
+    let place : q + (k - 1) ≡ q + k - 1 = omega arith in
+    let own : get_or (drop q zs) (k - 1) (pos 0) ≡ get_or zs (q + k - 1) (pos 0) = get_or-drop q zs (k - 1) (pos 0) ∙ ap (λ m. get_or zs m (pos 0)) place in
+    λ i. and_then (carried_through (rest i) z) (λ r. Ok (residue (own i) r))
+
+-- what the checks and the items of a whole result give
+record Digits (a v digits : ArrayValue) : Type 0 where
+  typed : digits.item_type ≡ Nums
+  each : (k : ℕ) → k < size (a.shape ++ v.shape) → encode_item a v (index_after (a.shape ++ v.shape) k) ≡ Ok (get_or digits.items k (Num (pos 0)))
+  long : length digits.items ≡ size (a.shape ++ v.shape)
+
+digits_of : (a v digits : ArrayValue) → encode_whole a v ≡ Ok digits → Digits a v digits
+digits_of a v digits made = decide (encode_form a v) refl made
+  where
+    items : (g : Form) (r : Result (List Item) Kind) → all_or_first_error (map (encode_item a v) (indices (a.shape ++ v.shape))) ≡ r → with_items {E = Kind} g.item_type (a.shape ++ v.shape) r ≡ Ok digits → g.item_type ≡ Nums → Digits a v digits
+    items g (Err k) is h typed = cc
+    items g (Ok xs) is h typed =
+        let same : record { item_type = g.item_type; shape = a.shape ++ v.shape; items = xs } ≡ digits = cc in
+        let listed : all_or_first_error (map (encode_item a v) (indices (a.shape ++ v.shape))) ≡ Ok digits.items = is ∙ ap (λ (d : ArrayValue). Ok d.items) same in
+        let many = length-map (indices (a.shape ++ v.shape)) (encode_item a v) in
+        let all = length-indices (a.shape ++ v.shape) in
+        record {
+          typed = sym (ap (λ (d : ArrayValue). d.item_type) same) ∙ typed;
+          each = λ k below.
+              sym (get_or-map_inside (encode_item a v) (indices (a.shape ++ v.shape)) k [] (Err Domain) (omega (arith, below, all)) ∙ ap (encode_item a v) (get_or-indices (a.shape ++ v.shape) k below))
+              ∙ entry_of (map (encode_item a v) (indices (a.shape ++ v.shape))) digits.items k (Err Domain) (Num (pos 0)) listed (omega (arith, below, many, all));
+          long = long_entries _ digits.items listed ∙ many ∙ all;
+        }
+
+    decide : (form : Result Form Kind) → encode_form a v ≡ form → and_then form (λ g. collect {E = Kind} g.item_type g.shape (encode_item a v)) ≡ Ok digits → Digits a v digits
+    decide (Err k) is h = cc
+    decide (Ok g) is h =
+        let facts = encode_facts a v g is in
+        items g _ refl (ap (λ shape. with_items {E = Kind} g.item_type shape (all_or_first_error (map (encode_item a v) (indices shape)))) (sym facts.shaped) ∙ h) facts.typed
+
+module _ (a b left v digits : ArrayValue) (s : Interval) (region : List Interval) (n : ℕ) (shaped : a.shape ≡ n ∷ []) (many : length a.items ≡ n) (low : 1 ≤ s.0) (order : s.0 ≤ s.1) (high : s.1 ≤ n)
+    (some : 0 < box_size region) (left_shape : left.shape ≡ (n + 1 - s.0) ∷ []) (left_items : left.items ≡ take (n + 1 - s.0) (drop (s.0 - 1) a.items)) (columns : AreColumns b region v) (made : encode_whole left v ≡ Ok digits) where
+  abbrev m : ℕ
+  m = box_size region
+
+  found : Digits left v digits
+  found = digits_of left v digits made
+
+  shapes : left.shape ++ v.shape ≡ (n + 1 - s.0) ∷ m ∷ []
+  shapes = rw (left_shape, columns.shaped) refl
+
+  radices_left : numbers left ≡ drop (s.0 - 1) (numbers a)
+  radices_left =
+      let dropped = length-drop (s.0 - 1) a.items in
+      ap (map number_of) (left_items ∙ take_all (n + 1 - s.0) (drop (s.0 - 1) a.items) (omega (arith, dropped, many, low, order, high)))
+      ∙ sym (drop-map number_of (s.0 - 1) a.items)
+
+  rows_fit : (e f w : ℕ) → e ≤ f → e * w ≤ f * (w * 1)
+  rows_fit e f w h = let more : e * w ≤ f * w = mul-le-mul_right w h in let same : f * (w * 1) ≡ f * w = ap (λ x. f * x) (let one : w * 1 ≡ w = omega arith in one) in omega (arith, more, same)
+
+  enough : box_size (s ∷ region) ≤ size (left.shape ++ v.shape)
+  enough = let rows = rows_fit (interval_length s) (n + 1 - s.0) m (omega (arith, high, order)) in let same = ap size shapes in omega (arith, rows, same)
+
+  number_there : (j : ℕ) → j < m → number_of (item_of v ((j / 1 + 1) ∷ [])) ≡ number_of (item_of b (walk_at region j))
+  number_there j below =
+      let place : (j / 1 + 1 - 1) * 1 + 0 ≡ j = omega arith in
+      ap (λ shape. number_of (get_or v.items (places_before shape ((j / 1 + 1) ∷ [])) (fill v.item_type))) columns.shaped
+      ∙ ap (λ k. number_of (get_or v.items k (fill v.item_type))) place
+      ∙ ap (λ t. number_of (get_or v.items j (fill t))) columns.typed
+      ∙ ap number_of (columns.each j below)
+
+  item_here : (p : ℕ) → p < box_size (s ∷ region) → encode_item a b (walk_at (s ∷ region) p) ≡ Ok (get_or digits.items p (Num (pos 0)))
+  item_here p below =
+      let one : m * 1 ≡ m = omega arith in
+      let left_over : p % m < m = mod_below p m some in
+      let place : s.0 - 1 + (p / m + 1) ≡ s.0 + p / m = omega (arith, low) in
+      let z = number_of (item_of b (walk_at region (p % m))) in
+      let mine : encode_item a b (walk_at (s ∷ region) p) ≡ number_item (digit (numbers a) (s.0 + p / m) z) = rw shaped refl in
+      let theirs : encode_item left v ((p / (m * 1) + 1) ∷ (p % (m * 1) / 1 + 1) ∷ []) ≡ number_item (digit (numbers left) (p / (m * 1) + 1) (number_of (item_of v ((p % (m * 1) / 1 + 1) ∷ [])))) = rw left_shape refl in
+      let same : encode_item left v (index_after (left.shape ++ v.shape) p) ≡ encode_item a b (walk_at (s ∷ region) p) =
+      ap (λ shape. encode_item left v (index_after shape p)) shapes
+      ∙ theirs
+      ∙ ap (λ w. number_item (digit (numbers left) (p / w + 1) (number_of (item_of v ((p % w / 1 + 1) ∷ []))))) one
+      ∙ ap (λ x. number_item (digit (numbers left) (p / m + 1) x)) (number_there (p % m) left_over)
+      ∙ ap (λ zs. number_item (digit zs (p / m + 1) z)) radices_left
+      ∙ ap number_item (shifted (numbers a) (s.0 - 1) (p / m + 1) z (omega arith))
+      ∙ ap (λ k. number_item (digit (numbers a) k z)) place
+      ∙ sym mine in
+      sym same ∙ found.each p (omega (arith, below, enough))
+
+  pub digits_hold : (items : List Item) → items ≡ take (box_size (s ∷ region)) digits.items → items_in (encode_item a b) (s ∷ region) ≡ Ok items
+  digits_hold items is =
+      let g : ℕ → Result Item Kind = λ p. encode_item a b (walk_at (s ∷ region) p) in
+      let count = box_size (s ∷ region) in
+      let long = length-map-range_with_len g 0 count in
+      let taken = length-take count digits.items in
+      let listed : length items ≡ count = omega (arith, ap length is, taken, enough, found.long) in
+      from_entries (map g (range_with_len 0 count)) items (Err Domain) (Num (pos 0)) (long ∙ sym listed) (λ k below.
+      let inside : k < count = omega (arith, below, listed) in
+      get_or-map-range_with_len g 0 count k k (Err Domain) inside (omega arith)
+      ∙ item_here k inside
+      ∙ ap (λ x. Ok x) (sym (ap (λ xs. get_or xs k (Num (pos 0))) is ∙ get_or-take count digits.items k (Num (pos 0)) inside)))
+
+  pub digits_long : box_size (s ∷ region) ≤ length digits.items
+  digits_long = omega (arith, enough, found.long)
+
+  pub digits_typed : digits.item_type ≡ Nums
+  digits_typed = found.typed

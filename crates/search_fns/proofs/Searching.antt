@@ -1,0 +1,93 @@
+-- Items sought in the items of an array.
+use Rattle.std.proofs.Common.{◌≡◌, ◌≢◌, ℕ, ◌+◌, ◌<◌, Bool, true, false, List, [], ◌∷◌, length, get_or, map, replicate, suc, pos, ℤ, refl, ap, sym, ◌∙◌, arith}
+use Rattle.std.specs.Prelude.{nat_eq, nat_le}
+use Rattle.std.specs.Ordering.{int_eq}
+use Rattle.std.specs.List.{All, list_any, position_or_len}
+use Rattle.std.proofs.lemmas.Bool.Decides.{nat_tests}
+use Rattle.std.proofs.lemmas.List.Sums.{position_or_len_is}
+use Rattle.scalar_fns.specs.Numbers.{truth}
+use Rattle.arrays_core.specs.declared.item.Item.{Item}
+use Rattle.arrays_core.specs.declared.item.Item.TheVariants.{Num, Char}
+use Rattle.arrays_core.specs.Items.{type_of}
+use Rattle.arrays_core.specs.Arrays.{ArrayValue}
+use Rattle.search_fns.specs.SameItem.{same_item}
+
+-- ---- numbers among numbers, characters among characters
+
+module _ {K : Type 0} (item : K → Item) (eq : K → K → Bool) (alike : (x y : K) → same_item (item x) (item y) ≡ eq x y) where
+  position_as : (x : K) (xs : List K) → position_or_len (same_item (item x)) (map item xs) ≡ position_or_len (eq x) xs
+  position_as x [] = refl
+  position_as x (y ∷ xs) = rw (alike x y, position_as x xs) refl
+
+  any_as : (x : K) (xs : List K) → list_any (same_item (item x)) (map item xs) ≡ list_any (eq x) xs
+  any_as x [] = refl
+  any_as x (y ∷ xs) = rw (alike x y, any_as x xs) refl
+
+  pub places_as : (xs ys : List K) → map (λ y. pos (suc (position_or_len (eq y) xs))) ys ≡ map (λ y. pos (suc (position_or_len (same_item y) (map item xs)))) (map item ys)
+  places_as xs [] = refl
+  places_as xs (y ∷ ys) = rw (position_as y xs, places_as xs ys) refl
+
+  pub members_as : (xs ys : List K) → map (λ y. truth (list_any (eq y) xs)) ys ≡ map (λ y. truth (list_any (same_item y) (map item xs))) (map item ys)
+  members_as xs [] = refl
+  members_as xs (y ∷ ys) = rw (any_as y xs, members_as xs ys) refl
+
+truth_is_1 : (w : Bool) → int_eq (truth w) (pos 1) ≡ w
+truth_is_1 true = refl
+truth_is_1 false = refl
+
+pub same_numbers : (x y : ℤ) → same_item (Num x) (Num y) ≡ int_eq x y
+same_numbers x y = truth_is_1 (int_eq x y)
+
+pub same_characters : (x y : ℕ) → same_item (Char x) (Char y) ≡ nat_eq x y
+same_characters x y = truth_is_1 (nat_eq x y)
+
+-- ---- items of the other type
+
+other_type : (x y : Item) → (type_of x ≡ type_of y → ⊥) → same_item x y ≡ false
+other_type (Num x) (Num y) h = absurd (h refl)
+other_type (Num x) (Char y) h = refl
+other_type (Char x) (Num y) h = refl
+other_type (Char x) (Char y) h = absurd (h refl)
+
+none_same : (x : Item) (xs : List Item) → All (λ y. type_of x ≢ type_of y) xs → position_or_len (same_item x) xs ≡ length xs
+none_same x xs h =
+    position_or_len_is (same_item x) xs (length xs) x (omega arith) (λ k below. other_type x (get_or xs k x) (h k x below)) (λ below. absurd (omega arith))
+
+none_any : (x : Item) (xs : List Item) → All (λ y. type_of x ≢ type_of y) xs → list_any (same_item x) xs ≡ false
+none_any x [] h = refl
+none_any x (y ∷ xs) h =
+    let first : same_item x y ≡ false = other_type x y (h 0 x (omega arith)) in
+    let rest : list_any (same_item x) xs ≡ false = none_any x xs (λ k d below. h (suc k) d (omega arith)) in
+    rw (first, rest) refl
+
+all_alike : {A B : Type 0} (f : A → B) (y : B) (xs : List A) → All (λ x. f x ≡ y) xs → map f xs ≡ replicate (length xs) y
+all_alike f y [] h = refl
+all_alike f y (x ∷ xs) h = rw (h 0 x (omega arith), all_alike f y xs (λ k d below. h (suc k) d (omega arith))) refl
+
+module _ (a b : ArrayValue) (in_a : All (λ item. type_of item ≡ a.item_type) a.items) (in_b : All (λ item. type_of item ≡ b.item_type) b.items) (apart : a.item_type ≢ b.item_type) where
+  differ : (k : ℕ) (d : Item) → k < length b.items → All (λ y. type_of (get_or b.items k d) ≢ type_of y) a.items
+  differ k d below j e inside = λ same. apart (sym (in_a j e inside) ∙ sym same ∙ in_b k d below)
+
+  pub no_places_as : map (λ x. pos (suc (position_or_len (same_item x) a.items))) b.items ≡ replicate (length b.items) (pos (suc (length a.items)))
+  no_places_as = all_alike _ _ b.items (λ k d below. ap (λ n. pos (suc n)) (none_same (get_or b.items k d) a.items (differ k d below)))
+
+  pub no_members_as : map (λ x. truth (list_any (same_item x) a.items)) b.items ≡ replicate (length b.items) (pos 0)
+  no_members_as = all_alike _ _ b.items (λ k d below. ap truth (none_any (get_or b.items k d) a.items (differ k d below)))
+
+-- ---- an item is there where its first place is
+
+first_passes : (n : ℕ) → nat_le 1 (suc n) ≡ true
+first_passes n = grind (arith, nat_tests)
+
+after_the_first : (m n : ℕ) (w : Bool) → nat_le (suc m) n ≡ w → nat_le (suc (1 + m)) (suc n) ≡ w
+after_the_first m n true h = grind (arith, nat_tests)
+after_the_first m n false h = grind (arith, nat_tests)
+
+pub found_if_any : (p : Item → Bool) (xs : List Item) → nat_le (suc (position_or_len p xs)) (length xs) ≡ list_any p xs
+found_if_any p [] = refl
+found_if_any p (x ∷ xs) = decide (p x) refl (found_if_any p xs)
+  where
+    decide : (w : Bool) → p x ≡ w → nat_le (suc (position_or_len p xs)) (length xs) ≡ list_any p xs
+        → nat_le (suc (position_or_len p (x ∷ xs))) (length (x ∷ xs)) ≡ list_any p (x ∷ xs)
+    decide true e more = rw e (first_passes (length xs))
+    decide false e more = rw e (after_the_first (position_or_len p xs) (length xs) (list_any p xs) more)

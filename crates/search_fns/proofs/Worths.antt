@@ -1,0 +1,106 @@
+-- Numbers of digits: where the digits and their radices stand, and one more digit.
+use Rattle.std.proofs.Common.{◌≡◌, ◌≢◌, ℕ, suc, ◌+◌, ◌-◌, ◌*◌, ◌<◌, ◌≤◌, ◌==◌, true, false, cond, List, [], ◌∷◌, length, get_or, map, drop, ℤ, pos, ◌+ℤ◌, ◌*ℤ◌, Result, Ok, Err, refl, ap, sym, ◌∙◌, arith}
+use Rattle.std.specs.Prelude.{◌&&◌, ◌||◌, nat_le, nat_eq, if◌then◌else◌}
+use Rattle.std.specs.List.{range_with_len}
+use Rattle.std.proofs.lemmas.Bool.Decides.{nat_tests}
+use Rattle.std.proofs.lemmas.Bool.{and_from, le-leb}
+use Rattle.std.proofs.Math.ListN.{get_or-map}
+use Rattle.arrays_core.specs.declared.item.Kind.{Kind}
+use Rattle.arrays_core.specs.declared.item.ItemType.{ItemType}
+use Rattle.arrays_core.specs.declared.item.ItemType.TheVariants.{Nums, Chars}
+use Rattle.arrays_core.specs.Items.{fill, and_then}
+use Rattle.arrays_core.specs.Shapes.{size, places_before, is_index_of}
+use Rattle.arrays_core.specs.Arrays.{ArrayValue}
+use Rattle.scalar_fns.specs.Numbers.{number_or_limit}
+use Rattle.index_region.specs.Arguments.{is_list, has_one_item, counts_as_numbers, numbers, number_of}
+use Rattle.index_region.specs.Axes.{places_along}
+use Rattle.index_region.specs.Answers.{IsPlaceOf}
+use Rattle.index_region.proofs.Passing.{passed, place_inside}
+use Rattle.search_fns.specs.Decode.{decode_form, digit_count, radix_at, digit_at, worth, decoded}
+
+-- ---- what is known at a place of decode's result
+
+pub record Decodes (a b : ArrayValue) (index : List ℕ) : Type 0 where
+  pub list : length a.shape ≤ 1
+  pub inside : is_index_of (drop 1 b.shape) index ≡ true
+  pub radices : (k : ℕ) → k ≤ digit_count a b → length a.items ≢ 1 → k ≤ length a.items
+  pub axis : (k : ℕ) → k ≤ digit_count a b → places_along b.shape 0 ≢ 1 → k ≤ places_along b.shape 0
+
+at_most_one : (n : ℕ) → nat_le n 1 ≡ true → n ≤ 1
+at_most_one n e = grind (arith, nat_tests)
+
+within_radices : (items n k : ℕ) → k ≤ cond (nat_eq items 1) n items → items ≢ 1 → k ≤ items
+within_radices items n k h e = grind (arith, nat_tests)
+
+within_axis : (items n k : ℕ) → (nat_eq items 1 || (nat_eq n 1 || nat_eq items n)) ≡ true → k ≤ cond (nat_eq items 1) n items → n ≢ 1 → k ≤ n
+within_axis items n k t h e = grind (arith, nat_tests)
+
+pub decodes : (a b : ArrayValue) (index : List ℕ) → IsPlaceOf (decode_form a b) index → Decodes a b index
+decodes a b index h =
+    let n = places_along b.shape 0 in
+    let rank = passed (is_list a) _ _ index h in
+    let agree = passed (has_one_item a || (nat_eq n 1 || nat_eq (length a.items) n)) _ _ index rank.place in
+    let counted = passed (counts_as_numbers a && counts_as_numbers b) _ _ index agree.place in
+    record {
+      list = at_most_one (length a.shape) rank.test;
+      inside = place_inside (drop 1 b.shape) Nums index counted.place;
+      radices = λ k below apart. within_radices (length a.items) n k below apart;
+      axis = λ k below apart. within_axis (length a.items) n k agree.test below apart;
+    }
+
+-- ---- radices
+
+no_fill : (t : ItemType) → number_of (fill t) ≡ pos 0
+no_fill Nums = refl
+no_fill Chars = refl
+
+pub number_there : (a : ArrayValue) (j : ℕ) → get_or (numbers a) j (pos 0) ≡ number_of (get_or a.items j (fill a.item_type))
+number_there a j = ap (λ d. get_or (numbers a) j d) (sym (no_fill a.item_type)) ∙ get_or-map number_of a.items j (fill a.item_type)
+
+place_on : (shape : List ℕ) (k : ℕ) → length shape ≤ 1 → size shape ≢ 1 → (if size shape == 1 then 0 else places_before shape (k ∷ [])) ≡ k - 1
+place_on [] k one some = absurd (some refl)
+place_on (m ∷ n ∷ shape) k one some = absurd (omega arith)
+place_on (n ∷ []) k one some =
+    let many : (n * 1 == 1) ≡ false = not_one (n * 1) some in
+    rw many (omega arith)
+  where
+    not_one : (m : ℕ) → m ≢ 1 → (m == 1) ≡ false
+    not_one m h = grind (arith, nat_tests)
+
+pub radix_there : (a : ArrayValue) (k : ℕ) → length a.shape ≤ 1 → size a.shape ≢ 1 → get_or (numbers a) (k - 1) (pos 0) ≡ radix_at a k
+radix_there a k one some = number_there a (k - 1) ∙ ap (λ j. number_of (get_or a.items j (fill a.item_type))) (sym (place_on a.shape k one some))
+
+-- ---- one more digit
+
+-- a radix and the digit there
+abbrev pub digit_pair : ArrayValue → ArrayValue → List ℕ → ℕ → ℤ × ℤ
+digit_pair a b index k = (radix_at a k, digit_at b index k)
+
+module _ (a b : ArrayValue) (index : List ℕ) where
+  -- the digits, with their radices, that come after the first few
+  abbrev pub digits_after : ℕ → ℕ → List (ℤ × ℤ)
+  digits_after count before = map (digit_pair a b index) (range_with_len (before + 1) (count - before))
+
+  pub all_digits : (count : ℕ) → worth (pos 0) (digits_after count 0) ≡ decoded (map (digit_pair a b index) (range_with_len 1 count))
+  all_digits count = let same : count - 0 ≡ count = omega arith in rw same refl
+
+  pub no_more_digits : (count before : ℕ) (value : ℤ) → count ≤ before → worth value (digits_after count before) ≡ Ok value
+  no_more_digits count before value h = let none : count - before ≡ 0 = omega arith in rw none refl
+
+  pub one_more_digit : (count before : ℕ) (value : ℤ) → before < count
+      → worth value (digits_after count before)
+      ≡ and_then (and_then (number_or_limit (value *ℤ radix_at a (before + 1))) (λ product. number_or_limit (product +ℤ digit_at b index (before + 1)))) (λ next. worth next (digits_after count (before + 1)))
+  one_more_digit count before value h =
+      let some : count - before ≡ suc (count - (before + 1)) = omega arith in
+      rw some (regroup (number_or_limit (value *ℤ radix_at a (before + 1))) (λ product. number_or_limit (product +ℤ digit_at b index (before + 1))) (λ next. worth next (digits_after count (before + 1))))
+    where
+      regroup : (r : Result ℤ Kind) (g h : ℤ → Result ℤ Kind) → and_then r (λ product. and_then (g product) h) ≡ and_then (and_then r g) h
+      regroup (Ok x) g h = refl
+      regroup (Err e) g h = refl
+
+-- ---- index lists of digits
+
+pub digit_inside : (shape index : List ℕ) (place : ℕ) → length shape ≢ 0 → 1 ≤ place → place ≤ get_or shape 0 0 → is_index_of (drop 1 shape) index ≡ true
+    → is_index_of shape (place ∷ index) ≡ true
+digit_inside [] index place some low high h = absurd (some refl)
+digit_inside (n ∷ shape) index place some low high h = and_from _ _ (and_from _ _ (le-leb 1 place low) (le-leb place n high)) h

@@ -1,0 +1,10 @@
+use Rattle.std.proofs.Common.{◌≡◌, ℕ, ◌<◌, length, get_or, pos, drop}
+use Rattle.arrays_core.specs.Shapes.{index_after}
+use Rattle.search_fns.proofs.DecodedRows.{IsOnTheWay}
+use Rattle.search_fns.proofs.decode.add_rows.Given as goal
+
+abbrev pub invariant-loop-before : goal.invariant-loop-before
+invariant-loop-before l = record {
+  long : length l.numbers ≡ l.width;
+  made : (place : ℕ) → place < l.width → IsOnTheWay l.radices l.array (index_after (drop 1 l.array.shape) place) l.count l.before (get_or l.numbers place (pos 0));
+}

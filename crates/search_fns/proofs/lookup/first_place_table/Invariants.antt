@@ -1,0 +1,7 @@
+use Rattle.std.proofs.Common.{◌≡◌, drop}
+use Rattle.std.specs.List.{position_from}
+use Rattle.std.specs.HashMap.{get}
+use Rattle.search_fns.proofs.lookup.first_place_table.Given as goal
+
+abbrev pub invariant-loop-place : goal.invariant-loop-place
+invariant-loop-place g l = (q : g.row.T.Denot) → get g.T.PartialEq.eq l.places q ≡ position_from (g.T.PartialEq.eq q) l.place (drop l.place l.items)

@@ -1,0 +1,7 @@
+use Rattle.std.proofs.Common.{◌≡◌, map, take}
+use Rattle.std.specs.List.{list_any}
+use Rattle.scalar_fns.specs.Numbers.{truth}
+use Rattle.search_fns.proofs.lookup.members_of.Given as goal
+
+abbrev pub invariant-loop-item : goal.invariant-loop-item
+invariant-loop-item g l = l.found.items ≡ map (λ x. truth (list_any (g.T.PartialEq.eq x) l.items)) (take l.item-index l.sought)

@@ -1,0 +1,9 @@
+use Rattle.std.proofs.Common.{subst, sym, Result}
+use Rattle.arrays_core.specs.Arrays.{ArrayValue, IsAnswerTo}
+use Rattle.arrays_core.specs.declared.item.Kind.{Kind}
+use Rattle.index_region.proofs.Arguments.{whole_of_two}
+use Rattle.search_fns.specs.Member.{member_form, member_item}
+use Rattle.search_fns.proofs.member.MemberAnnounced.whole.Goals as goal
+
+pub returns : goal.returns
+returns c = subst (λ (w : Result ArrayValue Kind). IsAnswerTo w c.apply.result) (sym (whole_of_two member_form member_item c.args.args.now c.requires)) c.apply.ensures

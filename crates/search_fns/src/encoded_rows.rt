@@ -1,0 +1,89 @@
+//! The digits of numbers, a row at a time: a row has the digits of all numbers by one radix.
+
+ghost use Rattle.std.specs.Prelude.{◌≡◌, ◌≤◌, ◌<◌, ◌+◌, ◌*◌, Ok, OnOk, IfOk, length};
+ghost use Rattle.arrays_core.specs.Arrays.{IsArray};
+ghost use Rattle.index_region.specs.Arguments.{numbers};
+ghost use Rattle.scalar_fns.specs.Numbers.{residue as residue_of};
+ghost use Rattle.search_fns.specs.Encode.{carried as carried_number};
+ghost use Rattle.search_fns.specs.EncodedRows.{AreCarried, AreDigits, HasRow};
+
+use crate::encode::carried;
+use arrays_core::{ApplyFault, Kind, repeated};
+use index_region::Seen;
+use scalar_fns::residue;
+use selection_fns::numbers_of;
+use std::alloc::Global;
+
+/// Puts the digits of some numbers by a radix in a row, which has so many others before it.
+fn put_row(digits: &mut [i64], before: usize, radix: i64, rests: &[i64])
+    requires { before + length rests.now ≤ length digits.old }
+    ensures { HasRow radix rests.now before digits.old digits.new }
+{
+    for place in 0..rests.len() {
+        digits[before + place] = residue(radix, rests[place]);
+    }
+}
+
+/// The digit of a number by a radix, from what the radix leaves of it to the radices before it.
+fn digit_beside(radix: i64, number: i64, left: i64) -> i64
+    requires { carried_number radix number ≡ Ok left }
+    ensures { result ≡ residue_of radix number }
+{
+    number.wrapping_sub(radix.wrapping_mul(left))
+}
+
+/// Puts the digits of some numbers by a radix in a row, which has so many others before it, and in the place of each
+/// number what the radix leaves of it to the radices before it.
+fn put_row_and_carry(
+    digits: &mut [i64],
+    before: usize,
+    radix: i64,
+    rests: &mut [i64],
+) -> Result<(), Kind>
+    requires { before + length rests.old ≤ length digits.old }
+    ensures row { OnOk result (HasRow radix rests.old before digits.old digits.new) }
+    ensures carried { OnOk result (AreCarried radix rests.old rests.new) }
+{
+    for place in 0..rests.len() {
+        let rest = rests[place];
+        let left = carried(radix, rest)?;
+        digits[before + place] = digit_beside(radix, rest, left);
+        rests[place] = left;
+    }
+    Ok(())
+}
+
+/// Puts the digits of numbers in their rows, that of the last radix first. In the place of each number stays what the
+/// radices behind the first leave of it.
+fn put_rows(radices: &[i64], rests: &mut [i64], digits: &mut [i64]) -> Result<(), Kind>
+    requires { length digits.old ≡ length radices.now * length rests.old }
+    ensures { OnOk result (AreDigits radices.now rests.old digits.new) }
+{
+    let places = rests.len();
+    for place in (1..radices.len()).rev() {
+        put_row_and_carry(digits, place * places, radices[place], rests)?;
+    }
+    if radices.is_empty() {
+        return Ok(());
+    }
+    put_row(digits, 0, radices[0], rests);
+    Ok(())
+}
+
+/// The digits of the numbers of an array by each radix, a row for each, where no number has an error; else some error of
+/// a number. It takes time in proportion to the digits.
+pub(crate) fn encoded_rows(
+    alloc: Global,
+    radices: &Seen,
+    array: &Seen,
+) -> Result<Vec<i64>, ApplyFault>
+    ensures is { IfOk result (λ v. AreDigits (numbers radices.now) (numbers array.now) v.items) }
+    ensures sound_radices { IfOk result (λ _. IsArray radices.now) }
+    ensures sound_array { IfOk result (λ _. IsArray array.now) }
+{
+    let radices = numbers_of(alloc, radices)?;
+    let mut rests = numbers_of(alloc, array)?;
+    let mut digits = repeated(alloc, 0, radices.len() * rests.len())?;
+    put_rows(&radices, &mut rests, &mut digits)?;
+    Ok(digits)
+}

@@ -1,0 +1,183 @@
+//! Index of: the first places of items.
+
+ghost use Rattle.std.specs.Prelude.{◌≡◌, ◌≢◌, IfOk, suc, pos, length, map};
+ghost use Rattle.std.specs.List.{position_or_len};
+ghost use Rattle.std.proofs.Common.{rules};
+ghost use Rattle.arrays_core.specs.Arrays.{IsAnswerTo};
+ghost use Rattle.arrays_core.specs.Shapes.{size};
+ghost use Rattle.index_region.specs.ArgumentLists.{of_two_arguments};
+ghost use Rattle.change_core.proofs.Growing.{never_grows};
+ghost use Rattle.search_fns.specs.SameItem.{same_item};
+ghost use Rattle.search_fns.specs.IndexOf.{index_of_form, index_of_item, index_of_whole, index_of_rule};
+ghost use Rattle.search_fns.specs.Laws.IndexOf.{index_of_tight};
+
+use crate::lookup::{all_of, first_places};
+use arrays_core::{ApplyFault, Array, Item, ItemType, Kind, Shape, position, shape_of};
+use change_core::Announced;
+use index_region::{IndexBox, Intervals, Primitive, Seen, limited};
+use selection_fns::{is_small, items_of_whole};
+use std::alloc::{AllocError, Global};
+
+/// Index of, `A⍳B` (ISO/IEC 13751, "Index of"): numbers in the shape of B, for each of its items the
+/// first place of A that holds it, or one more than the length of A. A character is no number. RANK
+/// where A is not a vector.
+#[derive(Clone, Copy, PartialEq, Eq, Debug)]
+pub struct IndexOf;
+
+/// Items are equal: of one type, and the same number or character.
+fn is_same(left: Item, right: Item) -> bool
+    ensures { result ≡ same_item left right }
+{
+    match (left, right) {
+        (Item::Num(left), Item::Num(right)) => left == right,
+        (Item::Char(left), Item::Char(right)) => left == right,
+        (Item::Num(_), Item::Char(_)) => false,
+        (Item::Char(_), Item::Num(_)) => false,
+    }
+}
+
+/// The first place of an item in an array, counted from 1, or one more than there are places.
+pub(crate) fn first_place(array: &Seen, item: Item) -> u32
+    ensures { result ≡ suc (position_or_len (same_item item) array.now.items) }
+{
+    let places = array.places();
+    for before in 0..places {
+        if is_same(item, array.item(before + 1)) {
+            return before + 1;
+        }
+    }
+    places + 1
+}
+
+/// No item of an array is an item of an array of the other type.
+fn no_places(alloc: Global, array: &Seen, sought: &Seen) -> Result<Vec<i64>, AllocError>
+    requires { array.now.item_type ≢ sought.now.item_type }
+    ensures { IfOk result (λ v. v.items ≡ map (λ x. pos (suc (position_or_len (same_item x) array.now.items))) sought.now.items) }
+{
+    all_of(alloc, i64::from(array.places() + 1), sought.places())
+}
+
+/// The first place in an array of each item that is sought. Each of the two is read once.
+fn first_places_in_array(
+    alloc: Global,
+    array: &Array,
+    sought: &Array,
+) -> Result<Vec<i64>, AllocError>
+    ensures { IfOk result (λ v. v.items ≡ map (λ x. pos (suc (position_or_len (same_item x) array.now.items))) sought.now.items) }
+{
+    // The shape says that there are no more places than an array may have.
+    let _within_limits = array.shape();
+    if let (Some(items), Some(numbers)) = (array.numbers(), sought.numbers()) {
+        return first_places(alloc, items, numbers);
+    }
+    if let (Some(items), Some(characters)) = (array.characters(), sought.characters()) {
+        return first_places(alloc, items, characters);
+    }
+    no_places(alloc, &Seen::plain(array), &Seen::plain(sought))
+}
+
+/// The first place in an array, as it is seen, of each item that is sought. Where one of the two has a patch or a tail, both
+/// are copied first.
+fn first_places_in(alloc: Global, array: &Seen, sought: &Seen) -> Result<Vec<i64>, AllocError>
+    ensures is { IfOk result (λ v. v.items ≡ map (λ x. pos (suc (position_or_len (same_item x) array.now.items))) sought.now.items) }
+    ensures long { length sought.now.items ≡ size sought.now.shape }
+{
+    // The number of places says that there is one item for each place of the shape.
+    let _one_item_a_place = sought.places();
+    if let (Some(array), Some(sought)) = (array.array(), sought.array()) {
+        return first_places_in_array(alloc, array, sought);
+    }
+    let array = array.copy()?;
+    let sought = sought.copy()?;
+    first_places_in_array(alloc, &array, &sought)
+}
+
+impl IndexOf {
+    /// The first place of each item of B in A.
+    pub fn apply(&self, alloc: Global, args: &[Seen]) -> Result<Array, ApplyFault>
+        requires { length args.now ≡ 2 }
+        ensures { IsAnswerTo (of_two_arguments index_of_whole args.now) result }
+    {
+        let (shape, _) = self.shape_of(args)?;
+        let (array, sought) = (&args[0], &args[1]);
+        let places = first_places_in(alloc, array, sought)?;
+        Ok(Array::from_numbers(&shape, places)?)
+    }
+}
+
+impl Primitive for IndexOf {
+    ghost arity = { λ _. 2 };
+
+    ghost form = { λ _ args. of_two_arguments index_of_form args };
+
+    ghost item = { λ _ args index. of_two_arguments (λ a b. index_of_item a b index) args };
+
+    fn shape_of(&self, args: &[Seen]) -> Result<(Shape, ItemType), Kind> {
+        if args[0].shape().len() != 1 {
+            return Err(Kind::Rank);
+        }
+        let shape = args[1].shape();
+        limited(
+            shape_of(*shape.allocator(), shape.as_slice()),
+            ItemType::Nums,
+        )
+    }
+
+    fn item_at(&self, args: &[Seen], index: &[u32]) -> Result<Item, Kind> {
+        let sought = &args[1];
+        let item = sought.item(position(sought.shape(), index));
+        Ok(Item::Num(i64::from(first_place(&args[0], item))))
+    }
+}
+
+impl Announced for IndexOf {
+    ghost selectors = { λ _. index_of_rule.selectors };
+
+    ghost uses = { λ _ shape args. index_of_rule.uses shape args };
+
+    fn grows(&self, _args: &[Seen], _grown: &[bool]) -> bool {
+        false
+    }
+
+    fn selects(&self, _which: usize) -> bool {
+        false
+    }
+
+    fn box_of(
+        &self,
+        _args: &[Seen],
+        shape: &[u32],
+        which: usize,
+        region: &IndexBox,
+    ) -> Option<Intervals> {
+        if which == 0 {
+            return Some(Intervals::whole(shape));
+        }
+        Some(region.intervals().copy())
+    }
+
+    fn whole(&self, alloc: Global, args: &[Seen]) -> Result<Array, ApplyFault> {
+        self.apply(alloc, args)
+    }
+
+    fn items_at_once(
+        &self,
+        alloc: Global,
+        args: &[Seen],
+        shape: &[u32],
+        item_type: ItemType,
+        region: &IndexBox,
+    ) -> Option<Result<Array, ApplyFault>> {
+        if is_small(region) {
+            return None;
+        }
+        let answer = self.whole(alloc, args);
+        items_of_whole(self, alloc, args, answer, shape, item_type, region)
+    }
+
+    ghost counted = { λ _. Prim.search rules };
+
+    ghost tight = { λ _. index_of_tight };
+
+    ghost growing = { λ _. never_grows _ };
+}

@@ -1,0 +1,17 @@
+//! Functions that look items up, and those that split numbers into digits and put them together.
+#![tactic(auto)]
+
+mod decode;
+mod digits;
+mod encode;
+mod encoded_rows;
+mod index_of;
+mod lookup;
+mod member;
+mod more_digits;
+mod number_at;
+
+pub use decode::Decode;
+pub use encode::Encode;
+pub use index_of::IndexOf;
+pub use member::Member;

@@ -1,0 +1,164 @@
+//! Membership: which items are items of another array.
+
+ghost use Rattle.std.specs.Prelude.{◌≡◌, ◌≢◌, IfOk, length, map};
+ghost use Rattle.std.specs.List.{list_any};
+ghost use Rattle.std.proofs.Common.{rules};
+ghost use Rattle.arrays_core.specs.Arrays.{IsAnswerTo};
+ghost use Rattle.arrays_core.specs.Shapes.{size};
+ghost use Rattle.index_region.specs.ArgumentLists.{of_two_arguments};
+ghost use Rattle.change_core.proofs.Growing.{never_grows};
+ghost use Rattle.scalar_fns.specs.Numbers.{truth as truth_of};
+ghost use Rattle.search_fns.specs.SameItem.{same_item};
+ghost use Rattle.search_fns.specs.Member.{member_form, member_item, member_whole, member_rule};
+ghost use Rattle.search_fns.specs.Laws.Member.{member_tight};
+
+use crate::index_of::first_place;
+use crate::lookup::{all_of, members_of};
+use arrays_core::{ApplyFault, Array, Item, ItemType, Kind, Shape, position, shape_of};
+use change_core::Announced;
+use index_region::{IndexBox, Intervals, Primitive, Seen, limited};
+use scalar_fns::truth;
+use selection_fns::{is_small, items_of_whole};
+use std::alloc::{AllocError, Global};
+
+/// Membership, `A∊B` (ISO/IEC 13751, "Member of"): numbers in the shape of A, 1 for each of its items
+/// that is an item of B, else 0. A character is no number. It has no error.
+#[derive(Clone, Copy, PartialEq, Eq, Debug)]
+pub struct Member;
+
+/// An item is one of the items of an array.
+fn is_member(array: &Seen, item: Item) -> bool
+    ensures { result ≡ list_any (same_item item) array.now.items }
+{
+    first_place(array, item) <= array.places()
+}
+
+/// No item of an array is an item of an array of the other type.
+fn no_members(alloc: Global, array: &Seen, sought: &Seen) -> Result<Vec<i64>, AllocError>
+    requires { array.now.item_type ≢ sought.now.item_type }
+    ensures { IfOk result (λ v. v.items ≡ map (λ x. truth_of (list_any (same_item x) array.now.items)) sought.now.items) }
+{
+    // The number of places says that each item is of the type of its array.
+    let _one_type = array.places();
+    all_of(alloc, 0, sought.places())
+}
+
+/// Whether each item that is sought is one of an array. Each of the two is read once.
+fn are_members_of_array(
+    alloc: Global,
+    array: &Array,
+    sought: &Array,
+) -> Result<Vec<i64>, AllocError>
+    ensures { IfOk result (λ v. v.items ≡ map (λ x. truth_of (list_any (same_item x) array.now.items)) sought.now.items) }
+{
+    if let (Some(items), Some(numbers)) = (array.numbers(), sought.numbers()) {
+        return members_of(alloc, items, numbers);
+    }
+    if let (Some(items), Some(characters)) = (array.characters(), sought.characters()) {
+        return members_of(alloc, items, characters);
+    }
+    no_members(alloc, &Seen::plain(array), &Seen::plain(sought))
+}
+
+/// Whether each item that is sought is one of an array, as both are seen. Where one of the two has a patch or a tail, both are
+/// copied first.
+fn are_members(alloc: Global, array: &Seen, sought: &Seen) -> Result<Vec<i64>, AllocError>
+    ensures is { IfOk result (λ v. v.items ≡ map (λ x. truth_of (list_any (same_item x) array.now.items)) sought.now.items) }
+    ensures long { length sought.now.items ≡ size sought.now.shape }
+{
+    // The number of places says that there is one item for each place of the shape.
+    let _one_item_a_place = sought.places();
+    if let (Some(array), Some(sought)) = (array.array(), sought.array()) {
+        return are_members_of_array(alloc, array, sought);
+    }
+    let array = array.copy()?;
+    let sought = sought.copy()?;
+    are_members_of_array(alloc, &array, &sought)
+}
+
+impl Member {
+    /// 1 for each item of A that is an item of B, else 0.
+    pub fn apply(&self, alloc: Global, args: &[Seen]) -> Result<Array, ApplyFault>
+        requires { length args.now ≡ 2 }
+        ensures { IsAnswerTo (of_two_arguments member_whole args.now) result }
+    {
+        let (shape, _) = self.shape_of(args)?;
+        let (sought, array) = (&args[0], &args[1]);
+        let members = are_members(alloc, array, sought)?;
+        Ok(Array::from_numbers(&shape, members)?)
+    }
+}
+
+impl Primitive for Member {
+    ghost arity = { λ _. 2 };
+
+    ghost form = { λ _ args. of_two_arguments member_form args };
+
+    ghost item = { λ _ args index. of_two_arguments (λ a b. member_item a b index) args };
+
+    fn shape_of(&self, args: &[Seen]) -> Result<(Shape, ItemType), Kind> {
+        let shape = args[0].shape();
+        limited(
+            shape_of(*shape.allocator(), shape.as_slice()),
+            ItemType::Nums,
+        )
+    }
+
+    fn item_at(&self, args: &[Seen], index: &[u32]) -> Result<Item, Kind> {
+        let (sought, array) = (&args[0], &args[1]);
+        let item = sought.item(position(sought.shape(), index));
+        Ok(Item::Num(truth(is_member(array, item))))
+    }
+}
+
+impl Announced for Member {
+    ghost selectors = { λ _. member_rule.selectors };
+
+    ghost uses = { λ _ shape args. member_rule.uses shape args };
+
+    fn grows(&self, _args: &[Seen], _grown: &[bool]) -> bool {
+        false
+    }
+
+    fn selects(&self, _which: usize) -> bool {
+        false
+    }
+
+    fn box_of(
+        &self,
+        _args: &[Seen],
+        shape: &[u32],
+        which: usize,
+        region: &IndexBox,
+    ) -> Option<Intervals> {
+        if which == 0 {
+            return Some(region.intervals().copy());
+        }
+        Some(Intervals::whole(shape))
+    }
+
+    fn whole(&self, alloc: Global, args: &[Seen]) -> Result<Array, ApplyFault> {
+        self.apply(alloc, args)
+    }
+
+    fn items_at_once(
+        &self,
+        alloc: Global,
+        args: &[Seen],
+        shape: &[u32],
+        item_type: ItemType,
+        region: &IndexBox,
+    ) -> Option<Result<Array, ApplyFault>> {
+        if is_small(region) {
+            return None;
+        }
+        let answer = self.whole(alloc, args);
+        items_of_whole(self, alloc, args, answer, shape, item_type, region)
+    }
+
+    ghost counted = { λ _. Prim.search rules };
+
+    ghost tight = { λ _. member_tight };
+
+    ghost growing = { λ _. never_grows _ };
+}

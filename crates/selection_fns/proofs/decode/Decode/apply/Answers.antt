@@ -1,8 +1,0 @@
-use Rattle.std.proofs.Common.{subst}
-use Rattle.arrays_core.specs.Arrays.{IsAnswerTo}
-use Rattle.index_region.proofs.Arguments.{whole_of_two}
-use Rattle.selection_fns.specs.Decode.{decode_form, decode_item}
-use Rattle.selection_fns.proofs.decode.Decode.apply.Goals as goal
-
-pub returns : goal.returns
-returns c = subst (λ w. IsAnswerTo w c.apply.result) (whole_of_two decode_form decode_item c.args.args.now c.requires) c.apply.ensures

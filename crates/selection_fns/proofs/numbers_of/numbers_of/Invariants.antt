@@ -1,6 +1,0 @@
-use Rattle.std.proofs.Common.{◌≡◌, take}
-use Rattle.index_region.specs.Arguments.{numbers}
-use Rattle.selection_fns.proofs.numbers_of.numbers_of.Given as goal
-
-abbrev pub invariant-loop-before : goal.invariant-loop-before
-invariant-loop-before l = l.found.items ≡ take l.before (numbers l.array)
