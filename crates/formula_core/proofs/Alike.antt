@@ -162,7 +162,7 @@ module _ (P : List ℕ → Type 0) (f g : Tree → ℕ) (same : (t : Tree) → (
   mutual
     -- adds up to the same over all that have a node in a tree
     pub sums_alike : (t : Tree) → ((x : List ℕ) → Contains (names_in t) x → P x) → sum_by f (inside t) ≡ sum_by g (inside t)
-    sums_alike (Const l) h = ap (λ n. 0 + n) (same (Const l) h)
+    sums_alike (Const l) h = refl
     sums_alike (Name x) h = refl
     sums_alike (Monad k r) h = one_more (inside r) (Monad k r) (sums_alike r h) (same (Monad k r) h)
     sums_alike (Dyad k l r) h = two_more (inside l) (inside r) (Dyad k l r) (sums_alike l (in_left _ (names_in l) (names_in r) h)) (sums_alike r (in_right _ (names_in l) (names_in r) h)) (same (Dyad k l r) h)
@@ -185,7 +185,7 @@ module _ (P : List ℕ → Type 0) (f g : Tree → ℕ) (same : (t : Tree) → (
   -- so it does with the tree itself
   pub subtree_sums_alike : (t : Tree) → ((x : List ℕ) → Contains (names_in t) x → P x) → sum_by f (subtrees t) ≡ sum_by g (subtrees t)
   subtree_sums_alike (Name x) h = ap (λ n. 0 + n) (same (Name x) h)
-  subtree_sums_alike (Const l) h = sums_alike (Const l) h
+  subtree_sums_alike (Const l) h = ap (λ n. 0 + n) (same (Const l) h)
   subtree_sums_alike (Monad k r) h = sums_alike (Monad k r) h
   subtree_sums_alike (Dyad k l r) h = sums_alike (Dyad k l r) h
   subtree_sums_alike (Index l ps) h = sums_alike (Index l ps) h

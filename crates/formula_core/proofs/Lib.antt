@@ -1,3 +1,4 @@
+pub mod LiteralArrays
 pub mod Applied
 pub mod Indexing
 pub mod Tabled

@@ -57,6 +57,7 @@ node_at names place (m ∷ nodes) table (suc k) below n is = subst (λ (i : ℕ)
 
 -- what stands before a place stands before a later one
 operand_later : (names place later : ℕ) (o : Operand) → place ≤ later → IsOperand names place o → IsOperand names later o
+operand_later names place later (operand.Literal l) more h = tt
 operand_later names place later (operand.Name k) more h = h
 operand_later names place later (operand.Node k) more h = omega (arith, more, h)
 

@@ -18,7 +18,7 @@ use Rattle.formula_core.specs.declared.table.Node.{Node}
 use Rattle.formula_core.specs.declared.table.Node.TheVariants as node
 use Rattle.formula_core.specs.Meaning.{eval, names_in}
 use Rattle.arrays_core.specs.Outcomes.{Outcome}
-use Rattle.formula_core.specs.Tables.{subtrees, tree_at, tree_of_node, trees_after, is_literal, IsNode, IsTable}
+use Rattle.formula_core.specs.Tables.{subtrees, tree_at, tree_of_node, trees_after, IsNode, IsTable}
 use Rattle.formula_core.specs.Changes.{Change, FitsIn}
 use Rattle.formula_core.specs.Holdings.{Holding, holding, holding_at, holdings_of, nodes_of, not_worked_out, no_change, taking, adopted}
 use Rattle.formula_core.specs.Formulas.{FormulaValue, IsTableOf, new_formula, root_of}
@@ -185,43 +185,3 @@ made_new names nodes kept t table same held =
     let root = ap (root_of names) same ∙ table.root in
     let all = held ∙ same_everywhere nodes (subtrees t) (omega (arith, trees_long names [] nodes, ap (λ (ts : List Tree). length ts) table.trees)) in
     λ i. record { tree = root i; is_new = true; nodes = all i }
-
--- a literal stays in a formula that was worked out before
-module _ (f : FormulaValue) (names : List (List ℕ)) (nodes : List Kept) (table : IsTableOf names (nodes_of nodes) (root_of names (nodes_of nodes))) (root : root_of names (nodes_of nodes) ≡ f.tree) (held : holdings_of nodes ≡ f.nodes) where
-  pub literal_stays : (c : Change) (inputs : List Input) → IsTold f c inputs → f.is_new ≡ false → (p : ℕ) → p < length nodes → (k : Kept) → get_or nodes p k ≡ k → is_literal k.node ≡ true → IfOk k.result IsArray
-      → IsDone f.is_new c (tree_at (subtrees f.tree) p) (get_or f.nodes p not_worked_out) no_change
-  literal_stays c inputs told old p below k is literal sound = by k.node refl literal
-    where
-      tree : tree_at (subtrees f.tree) p ≡ tree_of_node names (subtrees f.tree) k.node
-      tree = tree_there f names nodes table root held p below k is
-
-      all : length nodes ≡ length (subtrees f.tree)
-      all = counted f names nodes table root held ∙ known f names nodes table root held
-
-      there : get_or f.nodes p not_worked_out ≡ holding k
-      there = ap (λ (hs : List Holding). get_or hs p not_worked_out) (sym held) ∙ (get_or-map holding nodes p k not_worked_out below ∙ ap holding is)
-
-      gave : holding k ≡ holding_at c.old (tree_at (subtrees f.tree) p)
-      gave =
-          sym there
-          ∙ (ap (λ (hs : List Holding). get_or hs p not_worked_out) (told.holds old)
-          ∙ get_or-map (holding_at c.old) (subtrees f.tree) p (Const (Numbers [])) not_worked_out (omega (arith, below, all)))
-
-      by : (n : Node) → n ≡ k.node → is_literal n ≡ true → IsDone f.is_new c (tree_at (subtrees f.tree) p) (get_or f.nodes p not_worked_out) no_change
-      by (node.Constant l) at literal =
-          let const : tree_at (subtrees f.tree) p ≡ Const (literal_of l) = tree ∙ ap (λ (n : Node). tree_of_node names (subtrees f.tree) n) (sym at) in
-          let now : holding k ≡ holding_at c.new (Const (literal_of l)) = gave ∙ ap (holding_at c.old) const in
-          subst (λ (u : Tree). IsDone f.is_new c u (get_or f.nodes p not_worked_out) no_change) (sym const)
-          (subst (λ (h : Holding). IsDone f.is_new c (Const (literal_of l)) h no_change) (sym there)
-          (subst (λ (b : Bool). IsDone b c (Const (literal_of l)) (holding k) no_change) (sym old)
-          (record {
-            is = refl;
-            right = now;
-            fit = record { delta = tt; sums = tt };
-            sound_held = sound;
-            sound_new = subst (λ (h : Holding). IfOk h.result IsArray) now sound;
-          })))
-      by (node.Name place) at literal = absurd (false≢true literal)
-      by (node.Monad g right) at literal = absurd (false≢true literal)
-      by (node.Dyad g left right) at literal = absurd (false≢true literal)
-      by (node.Index array positions) at literal = absurd (false≢true literal)

@@ -1,14 +1,16 @@
 -- A formula is its table.
-use Rattle.std.proofs.Common.{◌≡◌, ℕ, ◌+◌, ◌-◌, ◌<◌, true, false, List, [], ◌∷◌, ◌++◌, length, take, get_or, refl, sym, ap, ◌∙◌, subst, arith, append_assoc, cond}
+use Rattle.std.proofs.Common.{◌≡◌, ℕ, ◌+◌, ◌-◌, ◌<◌, true, false, Box, Global, List, [], ◌∷◌, ◌++◌, length, take, get_or, refl, sym, ap, ◌∙◌, subst, arith, append_assoc, cond}
 use Rattle.std.specs.List.{count_by}
 use Rattle.std.proofs.lemmas.List.{length-append}
 use Rattle.std.proofs.lemmas.List.Sums.{sum_by-append, count_by_more_yes, count_by_more_no}
 use Rattle.apl_expr.specs.Trees.{Tree, Const, Name, Monad, Dyad, Index, Reduce, Scan, Outer, Inner, Numbers}
+use Rattle.formula_core.specs.declared.constant.Constant.{Constant}
+use Rattle.formula_core.specs.declared.table.Operand.{Operand}
 use Rattle.formula_core.specs.declared.table.Operand.TheVariants as operand
 use Rattle.formula_core.specs.declared.table.Node.{Node}
 use Rattle.formula_core.specs.declared.table.Node.TheVariants as node
 use Rattle.formula_core.specs.Meaning.{names_in}
-use Rattle.formula_core.specs.Tables.{inside, inside_positions, subtrees, tree_at, tree_of_node, tree_of_operand, trees_after, applies, IsTable, IsLowered}
+use Rattle.formula_core.specs.Tables.{inside, inside_positions, subtrees, tree_at, tree_of_node, tree_of_operand, trees_after, applies, IsNode, IsTable, IsLowered}
 use Rattle.formula_core.specs.declared.kept.Kept.{Kept}
 use Rattle.formula_core.specs.Holdings.{nodes_of}
 use Rattle.formula_core.specs.Formulas.{root_of, IsTableOf, is_operation, operations}
@@ -63,7 +65,7 @@ below_none names nodes k is below = omega (arith, below, trees_long (names ++ []
 
 pub rooted_node : (names : List (List ℕ)) (nodes : List Node) (t : Tree) (k : ℕ) → IsLowered [] names [] nodes t (operand.Node k) → IsTableOf names nodes t
 rooted_node names nodes (Name x) k l = absurd (below_none names nodes k (l.trees []) (l.below (length names) (omega arith)))
-rooted_node names nodes (Const c) k l = table_made names nodes (Const c) l.named (plain names nodes (inside (Const c)) (l.trees [])) (l.table (length names) (omega arith) tt)
+rooted_node names nodes (Const c) k l = absurd (below_none names nodes k (l.trees []) (l.below (length names) (omega arith)))
 rooted_node names nodes (Monad f b) k l = table_made names nodes (Monad f b) l.named (plain names nodes (inside (Monad f b)) (l.trees [])) (l.table (length names) (omega arith) tt)
 rooted_node names nodes (Dyad f a b) k l = table_made names nodes (Dyad f a b) l.named (plain names nodes (inside (Dyad f a b)) (l.trees [])) (l.table (length names) (omega arith) tt)
 rooted_node names nodes (Index a ps) k l = table_made names nodes (Index a ps) l.named (plain names nodes (inside (Index a ps)) (l.trees [])) (l.table (length names) (omega arith) tt)
@@ -72,15 +74,24 @@ rooted_node names nodes (Scan f i b) k l = table_made names nodes (Scan f i b) l
 rooted_node names nodes (Outer f a b) k l = table_made names nodes (Outer f a b) l.named (plain names nodes (inside (Outer f a b)) (l.trees [])) (l.table (length names) (omega arith) tt)
 rooted_node names nodes (Inner f g a b) k l = table_made names nodes (Inner f g a b) l.named (plain names nodes (inside (Inner f g a b)) (l.trees [])) (l.table (length names) (omega arith) tt)
 
+-- a leaf that is the whole tree has the only node
+rooted_leaf : (names : List (List ℕ)) (nodes new : List Node) (t leaf : Tree) (n : Node) (o : Operand) → IsLowered [] names [] nodes t o → t ≡ leaf → inside leaf ≡ [] → subtrees leaf ≡ leaf ∷ []
+    → tree_of_node names [] n ≡ leaf → IsNode (length names) 0 n → new ≡ nodes ++ n ∷ [] → IsTableOf names new t
+rooted_leaf names nodes new t leaf n o l whole empty alone stands within is =
+    let none : trees_after names [] nodes ≡ [] = plain names nodes (inside t) (l.trees []) ∙ (ap inside whole ∙ empty) in
+    let long : length nodes ≡ 0 = omega (arith, trees_long names [] nodes, ap (λ ts. length ts) none) in
+    table_made names new t l.named
+    (ap (λ ns. trees_after names [] ns) is ∙ (trees_more names [] nodes (n ∷ []) ∙ (ap (λ ts. ts ++ tree_of_node names ts n ∷ []) none ∙ (ap (λ u. u ∷ []) stands ∙ (sym alone ∙ ap subtrees (sym whole))))))
+    (subst (λ (ns : List Node). IsTable (length names) 0 ns) (sym is) (table_more (length names) 0 nodes n (l.table (length names) (omega arith) tt) (subst (λ (k : ℕ). IsNode (length names) k n) (omega (arith, long)) within)))
+
+pub rooted_literal : (names : List (List ℕ)) (nodes new : List Node) (t : Tree) (c : Box Constant Global) → IsLowered [] names [] nodes t (operand.Literal c) → new ≡ nodes ++ node.Constant c ∷ [] → IsTableOf names new t
+rooted_literal names nodes new t c l is = rooted_leaf names nodes new t (Const c.value) (node.Constant c) (operand.Literal c) l (sym (l.stands [])) refl refl refl tt is
+
 pub rooted_name : (names : List (List ℕ)) (nodes new : List Node) (t : Tree) (k : ℕ) → IsLowered [] names [] nodes t (operand.Name k) → new ≡ nodes ++ node.Name k ∷ [] → IsTableOf names new t
 rooted_name names nodes new t k l is =
     let x = get_or names k [] in
     let name : t ≡ Name x = sym (ap (λ ns. Name (get_or ns k [])) (sym (append_none names)) ∙ l.stands []) in
-    let none : trees_after names [] nodes ≡ [] = plain names nodes (inside t) (l.trees []) ∙ ap inside name in
-    let long : length nodes ≡ 0 = omega (arith, trees_long names [] nodes, ap (λ ts. length ts) none) in
-    table_made names new t l.named
-    (ap (λ ns. trees_after names [] ns) is ∙ (trees_more names [] nodes (node.Name k ∷ []) ∙ (ap (λ ts. ts ++ Name x ∷ []) none ∙ ap subtrees (sym name))))
-    (subst (λ (ns : List Node). IsTable (length names) 0 ns) (sym is) (table_more (length names) 0 nodes (node.Name k) (l.table (length names) (omega arith) tt) (l.below (length names) (omega arith))))
+    rooted_leaf names nodes new t (Name x) (node.Name k) (operand.Name k) l name refl refl refl (l.below (length names) (omega arith)) is
 
 -- a node applies a function where its tree does
 node_applies : (names : List (List ℕ)) (trees : List Tree) (n : Node) → is_operation (tree_of_node names trees n) ≡ applies n

@@ -25,9 +25,10 @@ use Rattle.formula_core.specs.Changes.{Change, change, changes, values_of, FitsI
 use Rattle.formula_core.specs.Inputs.{shown, HasFit, IsAllOrNothing, IsInput}
 use Rattle.formula_core.specs.Holdings.{Holding, holding_at, holdings_of, not_worked_out, no_change}
 use Rattle.formula_core.specs.Plans.{node_change, AreInputs}
-use Rattle.formula_core.specs.Stages.{IsStaged, IsTaken, AreReady, IsStep}
+use Rattle.formula_core.specs.Stages.{IsStaged, IsTaken, IsLiteralChange, AreReady, IsStep}
 use Rattle.formula_core.specs.Formulas.{is_operation}
 use Rattle.formula_core.proofs.Fitting.{fit_now}
+use Rattle.formula_core.proofs.LiteralArrays.{literal_is_array}
 use Rattle.formula_core.proofs.Changed.{AllChanged, monad_changed, dyad_changed, index_changed}
 use Rattle.formula_core.proofs.Stepping.{ready_more}
 
@@ -60,6 +61,7 @@ module _ (c : Change) (names : List (List ℕ)) (trees : List Tree) (s : Stage) 
   -- an operand's tree: what it gave, its change, and what it gives
   pub operand_changed : s.is_new ≡ false → (o : Operand) → IsOperand (length s.inputs.now) (length s.changes.now) o
       → IsChanged (eval (tree_of_operand names trees o) c.old) (change c (tree_of_operand names trees o)) (eval (tree_of_operand names trees o) c.new)
+  operand_changed old (operand.Literal l) within = let sound = literal_is_array l.value in record { right = refl; fit = tt; sound_old = sound; sound_new = sound }
   operand_changed old (operand.Name k) within =
       let there = known_name k within in
       let told = staged.changed (get_or names k []) there in
@@ -100,9 +102,10 @@ module _ (c : Change) (names : List (List ℕ)) (trees : List Tree) (s : Stage) 
       index_changed c (tree_of_operand names trees a) (positions_of (map (option_map (tree_of_operand names trees)) os.items)) sound (operand_changed old a within.0) (operands_changed old os.items within.1)
 
   -- an operand as it stands is an input of its tree
-  pub taken_input : s.is_new ≡ false → (o : Operand) → IsOperand (length s.inputs.now) (length s.changes.now) o → (i : Input) → IsTaken s.inputs.now (holdings_of s.nodes.now) s.changes.now o i → IsInput (eval (tree_of_operand names trees o) c.new) (change c (tree_of_operand names trees o)) i
-  taken_input old (operand.Name k) within i taken = subst (λ (j : Input). IsInput (c.new (get_or names k [])) (c.delta (get_or names k [])) j) (sym taken) (input_at c names s.inputs.now staged.tell k (Bad (fault Value) false) within)
-  taken_input old (operand.Node k) within i taken =
+  pub taken_input : s.is_new ≡ false → IsLiteralChange s.is_new s.of_literals.now → (o : Operand) → IsOperand (length s.inputs.now) (length s.changes.now) o → (i : Input) → IsTaken s.inputs.now (holdings_of s.nodes.now) s.changes.now s.of_literals.now o i → IsInput (eval (tree_of_operand names trees o) c.new) (change c (tree_of_operand names trees o)) i
+  taken_input old literals (operand.Literal l) within i taken = subst (λ (d : Delta). IsInput (eval (Const l.value) c.new) d i) (literals.same old) taken
+  taken_input old literals (operand.Name k) within i taken = subst (λ (j : Input). IsInput (c.new (get_or names k [])) (c.delta (get_or names k [])) j) (sym taken) (input_at c names s.inputs.now staged.tell k (Bad (fault Value) false) within)
+  taken_input old literals (operand.Node k) within i taken =
       let done = staged.done k within in
       let d = (get_or s.changes.now k no_change).delta in
       let is : d ≡ change c (tree_at trees k) = done.is ∙ ap (λ (n : Bool). node_change n c (tree_at trees k)) old in
@@ -117,15 +120,16 @@ module _ (c : Change) (names : List (List ℕ)) (trees : List Tree) (s : Stage) 
   name_told k within = staged.changed (get_or names k []) (known_name k within)
 
   -- and shows what that gives
-  pub taken_shown : (o : Operand) → IsOperand (length s.inputs.now) (length s.changes.now) o → (i : Input) → IsTaken s.inputs.now (holdings_of s.nodes.now) s.changes.now o i → shown i ≡ eval (tree_of_operand names trees o) c.new
+  pub taken_shown : (o : Operand) → IsOperand (length s.inputs.now) (length s.changes.now) o → (i : Input) → IsTaken s.inputs.now (holdings_of s.nodes.now) s.changes.now s.of_literals.now o i → shown i ≡ eval (tree_of_operand names trees o) c.new
+  taken_shown (operand.Literal l) within i taken = taken.is
   taken_shown (operand.Name k) within i taken = ap shown taken ∙ (input_at c names s.inputs.now staged.tell k (Bad (fault Value) false) within).is
   taken_shown (operand.Node k) within i taken = taken.is ∙ ap (λ (h : Holding). h.result) (staged.done k within).right
 
-  pub taken_fits : s.is_new ≡ false → (o : Operand) → IsOperand (length s.inputs.now) (length s.changes.now) o → (i : Input) → IsTaken s.inputs.now (holdings_of s.nodes.now) s.changes.now o i → HasFit i
-  taken_fits old o within i taken =
+  pub taken_fits : s.is_new ≡ false → IsLiteralChange s.is_new s.of_literals.now → (o : Operand) → IsOperand (length s.inputs.now) (length s.changes.now) o → (i : Input) → IsTaken s.inputs.now (holdings_of s.nodes.now) s.changes.now s.of_literals.now o i → HasFit i
+  taken_fits old literals o within i taken =
       let t = tree_of_operand names trees o in
       let changed = operand_changed old o within in
-      input_fits (eval t c.new) (change c t) i (taken_input old o within i taken) (subst (λ (n : Outcome). FitsNow (change c t) n) changed.right (fit_now (change c t) (eval t c.old) changed.fit))
+      input_fits (eval t c.new) (change c t) i (taken_input old literals o within i taken) (subst (λ (n : Outcome). FitsNow (change c t) n) changed.right (fit_now (change c t) (eval t c.old) changed.fit))
 
   -- the change of a node lies in what it held
   pub change_fits : (is_new : Bool) → s.is_new ≡ is_new → (n : Node) → IsNode (length s.inputs.now) (length s.changes.now) n → (held : Outcome) → (is_new ≡ false → held ≡ eval (tree_of_node names trees n) c.old) → IfOk held IsArray

@@ -1,15 +1,15 @@
 -- What a table stands for, as names and nodes are added.
-use Rattle.std.proofs.Common.{◌≡◌, ℕ, suc, ◌+◌, ◌<◌, ◌≤◌, List, [], ◌∷◌, ◌++◌, length, map, take, get_or, add-one, Option, Some, None, refl, sym, ap, ◌∙◌, subst, arith, append_assoc}
+use Rattle.std.proofs.Common.{◌≡◌, ℕ, suc, ◌+◌, ◌<◌, ◌≤◌, List, [], ◌∷◌, ◌++◌, length, map, take, get_or, add-one, Box, Global, Option, Some, None, refl, sym, ap, ◌∙◌, subst, arith, append_assoc}
 use Rattle.std.specs.Prelude.{Result, Ok, Err, OnOk, IfOk}
 use Rattle.std.specs.Option.{option_map}
 use Rattle.std.proofs.lemmas.List.{length-append, map-append, get_or_append_left}
 use Rattle.std.proofs.Math.Seq.{take-suc}
 use Rattle.apl_expr.specs.declared.expr.Expr.{Expr}
-use Rattle.apl_expr.specs.Trees.{Tree, Const, Name, Index, before_argument, between_arguments, Numbers, literal_of, position_of, positions_of}
-use Rattle.apl_expr.specs.declared.expr.Literal.{Literal}
+use Rattle.apl_expr.specs.Trees.{Tree, Const, Name, Index, before_argument, between_arguments, Numbers, position_of, positions_of, Literal}
 use Rattle.apl_expr.specs.declared.functions.Function1.{Function1}
 use Rattle.apl_expr.specs.declared.functions.Function2.{Function2}
 use Rattle.std.specs.Global.{Vec}
+use Rattle.formula_core.specs.declared.constant.Constant.{Constant}
 use Rattle.formula_core.specs.declared.table.Operand.{Operand}
 use Rattle.formula_core.specs.declared.table.Operand.TheVariants as operand
 use Rattle.formula_core.specs.declared.table.Node.{Node}
@@ -38,6 +38,7 @@ table_more names place (m ∷ nodes) n t h = (t.0, table_more names (suc place) 
 
 -- an argument stands for the same tree where more trees follow
 pub operand_front : (names : List (List ℕ)) (count : ℕ) (ts us : List Tree) (o : Operand) → IsOperand count (length ts) o → tree_of_operand names (ts ++ us) o ≡ tree_of_operand names ts o
+operand_front names count ts us (operand.Literal l) below = refl
 operand_front names count ts us (operand.Name k) below = refl
 operand_front names count ts us (operand.Node k) below = get_or_append_left ts us (Const (Numbers [])) k below
 
@@ -50,6 +51,7 @@ operands_front names count ts us (Some o ∷ os) below =
     ∙ ap (λ rest. Some (tree_of_operand names ts o) ∷ rest) (operands_front names count ts us os below.1)
 
 pub operand_wider : (count place more : ℕ) (o : Operand) → place ≤ more → IsOperand count place o → IsOperand count more o
+operand_wider count place more (operand.Literal l) h below = tt
 operand_wider count place more (operand.Name k) h below = below
 operand_wider count place more (operand.Node k) h below = omega (arith, h, below)
 
@@ -106,11 +108,14 @@ module _ (names names' : List (List ℕ)) (old mid new : List Node) (n : Node) (
         below = λ count h. omega (arith, ap (λ ns. length ns) is, length-append mid (n ∷ []));
       }
 
-pub lowered_const : (names : List (List ℕ)) (old new : List Node) (literal copy : Literal) → literal_of copy ≡ literal_of literal → new ≡ old ++ node.Constant copy ∷ []
-    → IsLowered names names old new (Const (literal_of literal)) (operand.Node (length old))
-lowered_const names old new literal copy same is =
-    lowered_push names names old old new (node.Constant copy) (Const (literal_of literal)) [] (sym (append_none names)) refl is
-    (λ later. sym (append_none (trees_after (names ++ later) [] old))) (λ later. ap (λ l. Const l) same) (λ count h t. t) (λ count h. tt)
+pub lowered_const : (names : List (List ℕ)) (old : List Node) (literal : Box Constant Global) (l : Literal) → literal.value ≡ l → IsLowered names names old old (Const l) (operand.Literal literal)
+lowered_const names old literal l is = record {
+  named = sym (append_none names);
+  trees = λ later. sym (append_none (trees_after (names ++ later) [] old));
+  stands = λ later. ap (λ c. Const c) is;
+  table = λ count h t. t;
+  below = λ count h. tt;
+}
 
 pub lowered_name : (names names' : List (List ℕ)) (old : List Node) (x : List ℕ) → names' ≡ names ++ x ∷ [] → IsLowered names names' old old (Name x) (operand.Name (length names))
 lowered_name names names' old x is = record {

@@ -1,6 +1,7 @@
 -- What public contracts mean.
 pub mod Outcomes
 pub mod Meaning
+pub mod Constants
 pub mod Tables
 pub mod Formulas
 pub mod Rules
@@ -15,3 +16,5 @@ pub mod Operands
 pub mod Counts
 pub mod Stages
 pub mod Progress
+-- What the impl of a model gives as a proof.
+pub mod Laws

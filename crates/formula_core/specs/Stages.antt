@@ -7,6 +7,7 @@ use Rattle.arrays_core.specs.Arrays.{IsArray}
 use Rattle.arrays_core.specs.declared.item.Kind.TheVariants.{Value}
 use Rattle.operator_fns.specs.declared.reduce.Reduce.{Reduce}
 use Rattle.index_region.specs.declared.delta.Delta.{Delta}
+use Rattle.index_region.specs.declared.delta.Delta.TheVariants.{Same}
 use Rattle.change_core.specs.Meters.{ticked}
 use Rattle.change_rules.specs.Currency.{applied}
 use Rattle.change_rules.specs.Nodes.{is_whole, is_error}
@@ -17,8 +18,8 @@ use Rattle.formula_core.specs.declared.input.Input.TheVariants.{Bad}
 use Rattle.formula_core.specs.declared.stage.Stage.{Stage}
 use Rattle.formula_core.specs.declared.table.Operand.{Operand}
 use Rattle.formula_core.specs.declared.table.Operand.TheVariants as operand
-use Rattle.formula_core.specs.Meaning.{eval}
-use Rattle.arrays_core.specs.Outcomes.{Outcome, fault}
+use Rattle.formula_core.specs.Meaning.{array_of, eval}
+use Rattle.arrays_core.specs.Outcomes.{Outcome, fault, given}
 use Rattle.formula_core.specs.Tables.{tree_at, tree_of_node, trees_after, subtrees, IsTable}
 use Rattle.formula_core.specs.Holdings.{Holding, holding_at, holdings_of, nodes_of, not_worked_out, no_change, taking, IsFit}
 use Rattle.formula_core.specs.Formulas.{FormulaValue}
@@ -69,10 +70,16 @@ pub record IsSumsStep (c : Change) (t : Tree) (kept : Option SummedValue) (s : S
   pub right : resummed s kept ≡ summed_at c.new t
   pub fit : FitsSums s kept
 
--- an operand as it stands: the input of a name, or what a node held with its change
-abbrev pub IsTaken : List Input → List Holding → List NodeChange → Operand → Input → Type 0
-IsTaken inputs held changes (operand.Name k) i = i ≡ get_or inputs k (Bad (fault Value) false)
-IsTaken inputs held changes (operand.Node k) i = IsInput (applied (get_or changes k no_change).delta (get_or held k not_worked_out).result) (get_or changes k no_change).delta i
+-- what changes of each literal: nothing, and in a new formula all of it
+pub record IsLiteralChange (is_new : Bool) (d : Delta) : Type 0 where
+  pub whole : is_new ≡ true → is_whole d ≡ true
+  pub same : is_new ≡ false → d ≡ Same
+
+-- an operand as it stands: what a literal gives with the change of literals, the input of a name, or what a node held with its change
+abbrev pub IsTaken : List Input → List Holding → List NodeChange → Delta → Operand → Input → Type 0
+IsTaken inputs held changes of_literals (operand.Literal literal) i = IsInput (given (array_of literal.value)) of_literals i
+IsTaken inputs held changes of_literals (operand.Name k) i = i ≡ get_or inputs k (Bad (fault Value) false)
+IsTaken inputs held changes of_literals (operand.Node k) i = IsInput (applied (get_or changes k no_change).delta (get_or held k not_worked_out).result) (get_or changes k no_change).delta i
 
 -- an operand gives what its tree does; in a new formula it counts as new
 pub record IsReady (is_new : Bool) (c : Change) (t : Tree) (i : Input) : Type 0 where

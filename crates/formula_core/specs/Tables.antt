@@ -1,7 +1,7 @@
 -- A formula as a table of nodes, each after those whose results it takes: what each node stands for.
 use Rattle.std.specs.Prelude.{◌≡◌, ◌<◌, ◌≤◌, ℕ, suc, List, [], ◌∷◌, ◌++◌, Bool, true, false, Option, Some, None, length, map, get_or}
 use Rattle.std.specs.Option.{option_map}
-use Rattle.apl_expr.specs.Trees.{Tree, Const, Name, Monad, Dyad, Index, Reduce, Scan, Outer, Inner, before_argument, between_arguments, Positions, NoPositions, Empty, Filled, Numbers, literal_of, positions_of}
+use Rattle.apl_expr.specs.Trees.{Tree, Const, Name, Monad, Dyad, Index, Reduce, Scan, Outer, Inner, before_argument, between_arguments, Positions, NoPositions, Empty, Filled, Numbers, positions_of}
 use Rattle.formula_core.specs.declared.table.Operand.{Operand}
 use Rattle.formula_core.specs.declared.table.Operand.TheVariants as operand
 use Rattle.formula_core.specs.declared.table.Node.{Node}
@@ -9,9 +9,9 @@ use Rattle.formula_core.specs.declared.table.Node.TheVariants as node
 use Rattle.formula_core.specs.Meaning.{names_in, names_in_positions}
 
 abbrev mutual
-  -- the trees of the literals and operations in a tree, each after those in it; a name is lent, and has no node
+  -- the trees of the operations in a tree, each after those in it; what a literal gives and a name shows is lent, and has no node
   pub inside : Tree → List Tree
-  inside (Const c) = Const c ∷ []
+  inside (Const c) = []
   inside (Name x) = []
   inside (Monad f b) = inside b ++ Monad f b ∷ []
   inside (Dyad f a b) = inside a ++ (inside b ++ Dyad f a b ∷ [])
@@ -26,8 +26,9 @@ abbrev mutual
   inside_positions (Empty ps) = inside_positions ps
   inside_positions (Filled e ps) = inside e ++ inside_positions ps
 
--- the trees that have a node: those in a tree, the tree itself last, also where it is a name
+-- the trees that have a node: those in a tree, the tree itself last, also where it is a literal or a name
 abbrev pub subtrees : Tree → List Tree
+subtrees (Const c) = Const c ∷ []
 subtrees (Name x) = Name x ∷ []
 subtrees t = inside t
 
@@ -36,6 +37,7 @@ tree_at trees place = get_or trees place (Const (Numbers []))
 
 -- the tree of an argument, from the names and the trees of the nodes
 abbrev pub tree_of_operand : List (List ℕ) → List Tree → Operand → Tree
+tree_of_operand names trees (operand.Literal literal) = Const literal.value
 tree_of_operand names trees (operand.Name place) = Name (get_or names place [])
 tree_of_operand names trees (operand.Node place) = tree_at trees place
 
@@ -45,7 +47,7 @@ tree_of_index names trees array positions = Index (tree_of_operand names trees a
 
 -- the tree of a node, from the names and the trees of the nodes before it
 abbrev pub tree_of_node : List (List ℕ) → List Tree → Node → Tree
-tree_of_node names trees (node.Constant literal) = Const (literal_of literal)
+tree_of_node names trees (node.Constant literal) = Const literal.value
 tree_of_node names trees (node.Name place) = Name (get_or names place [])
 tree_of_node names trees (node.Monad f right) = before_argument f (tree_of_operand names trees right)
 tree_of_node names trees (node.Dyad f left right) = between_arguments f (tree_of_operand names trees left) (tree_of_operand names trees right)
@@ -57,18 +59,14 @@ applies (node.Constant literal) = false
 applies (node.Name place) = false
 applies _ = true
 
--- it is a literal
-abbrev pub is_literal : Node → Bool
-is_literal (node.Constant literal) = true
-is_literal _ = false
-
 -- the trees of further nodes, behind these
 abbrev pub trees_after : List (List ℕ) → List Tree → List Node → List Tree
 trees_after names trees [] = trees
 trees_after names trees (node ∷ nodes) = trees_after names (trees ++ tree_of_node names trees node ∷ []) nodes
 
--- an argument is one of the names, or of the nodes before a place
+-- an argument is a literal, one of the names, or of the nodes before a place
 abbrev pub IsOperand : ℕ → ℕ → Operand → Type 0
+IsOperand names place (operand.Literal literal) = Unit {0}
 IsOperand names place (operand.Name k) = k < names
 IsOperand names place (operand.Node k) = k < place
 

@@ -14,7 +14,7 @@ ghost use Rattle.formula_core.specs.Formulas.{new_formula, root_result, operatio
 ghost use Rattle.formula_core.specs.Joins.{most_joins, least_joins, tree_joins, tree_least_joins};
 ghost use Rattle.formula_core.specs.Plans.{tree_cost, node_cost_at, IsComputed, AllComputed, IsPlanOf, IsTold, IsPlanned};
 ghost use Rattle.formula_core.specs.Progress.{operations_among, IsAtOperation, IsPlannedTo};
-ghost use Rattle.formula_core.specs.Stages.{IsBegun, IsDone};
+ghost use Rattle.formula_core.specs.Stages.{IsBegun, IsDone, IsLiteralChange};
 ghost use Rattle.formula_core.specs.Tables.{applies, subtrees, tree_at};
 
 use crate::evaluation::{Shows, inputs_at_rest};
@@ -242,10 +242,6 @@ impl Formula {
         ensures { IfOk result (λ d. (c : Change) → IsTold self.now c inputs.now → (cost : ℕ) → IsBegun self.now c changes.now cost
             → IsDone self.now.is_new c (tree_at (subtrees self.now.tree) (length changes.now)) (get_or self.now.nodes (length changes.now) not_worked_out) d) }
     {
-        let kept = &self.nodes[changes.len()];
-        if !self.is_new && kept.node.is_literal() {
-            return Ok(kept.unchanged());
-        }
         let mut change = NodeChange::none();
         let _items = self.next(changes, inputs, &mut change, &mut Meter::new())?;
         Ok(change)
@@ -276,14 +272,14 @@ impl Formula {
         ensures joined { OnOk result ((c : Change) → IsTold self.now c inputs.now → (cost : ℕ) → IsBegun self.now c changes.now cost → is_error change.new.delta ≡ false
             → ticked meter.old.joins (least_joins self.now.is_new c (tree_at (subtrees self.now.tree) (length changes.now))) ≤ meter.new.joins) }
     {
-        let anew = Delta::Whole(Err(unknown()));
+        let of_literals = of_literals(self.is_new);
         let stage = Stage {
             alloc: self.alloc,
             is_new: self.is_new,
             inputs,
             nodes: self.nodes.as_slice(),
             changes,
-            anew: &anew,
+            of_literals: &of_literals,
         };
         stage.next(change, meter)
     }
@@ -365,12 +361,22 @@ fn lower_whole(
     ensures { OnOk result (IsTableOf names.new.items nodes.new.items (tree_of tree.now)) }
 {
     match lower(alloc, names, nodes, tree)? {
-        Operand::Node(_) => Ok(()),
-        Operand::Name(place) => {
-            nodes.push(Node::Name(place))?;
-            Ok(())
-        }
+        Operand::Node(_) => {}
+        Operand::Name(place) => nodes.push(Node::Name(place))?,
+        Operand::Literal(constant) => nodes.push(Node::Constant(constant))?,
     }
+    Ok(())
+}
+
+/// What changes of each literal of a formula: nothing, and where it is new all.
+#[inline(always)]
+fn of_literals(is_new: bool) -> Delta
+    ensures { IsLiteralChange is_new result }
+{
+    if is_new {
+        return Delta::Whole(Err(unknown()));
+    }
+    Delta::Same
 }
 
 /// An empty list with room for so many changes: in the memory that was kept, where it is enough.

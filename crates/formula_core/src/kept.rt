@@ -1,7 +1,6 @@
 //! A node with what it keeps, and what changes of that.
 
-ghost use Rattle.std.specs.Prelude.{◌≡◌, true, length, None, Err, IfOk};
-ghost use Rattle.arrays_core.specs.Arrays.{IsArray};
+ghost use Rattle.std.specs.Prelude.{◌≡◌, true, length, None, Err};
 ghost use Rattle.arrays_core.specs.declared.item.Kind.TheVariants.{Value};
 ghost use Rattle.change_rules.specs.Currency.{applied};
 ghost use Rattle.formula_core.specs.Changes.{FitsIn, each_with};
@@ -44,17 +43,6 @@ impl Kept {
             result: Err(unknown()),
             sums: None,
         }
-    }
-
-    /// No change of it. Its result says that it is an array, if it is no error.
-    pub(crate) fn unchanged(&self) -> NodeChange
-        ensures none { result ≡ no_change }
-        ensures sound { IfOk self.now.result IsArray }
-    {
-        if let Ok(array) = &self.result {
-            let _is_array = array.shape();
-        }
-        NodeChange::none()
     }
 
     /// Takes a change that can be lent. No memory is asked for.

@@ -2,6 +2,7 @@
 #![tactic(auto)]
 
 mod application;
+mod constant;
 mod evaluation;
 mod formula;
 mod index_change;

@@ -2,30 +2,32 @@
 
 ghost use Rattle.std.specs.Prelude.{◌≡◌, ◌+◌, ◌≤◌, ◌<◌, ℕ, List, true, false, length, map, get_or, IfOk, OnOk};
 ghost use Rattle.std.specs.Option.{option_map};
-ghost use Rattle.apl_expr.specs.Trees.{Tree, Const, Name, literal_of};
+ghost use Rattle.apl_expr.specs.Trees.{Tree, Const, Name};
 ghost use Rattle.change_core.specs.Meters.{ticked};
-ghost use Rattle.change_rules.specs.Nodes.{is_whole, is_error};
+ghost use Rattle.change_rules.specs.Nodes.{is_error};
 ghost use Rattle.formula_core.specs.Meaning.{eval};
 ghost use Rattle.formula_core.specs.Changes.{Change, IsNameChanged};
+ghost use Rattle.arrays_core.specs.declared.item.Kind.TheVariants.{Value};
+ghost use Rattle.arrays_core.specs.Outcomes.{fault};
+ghost use Rattle.formula_core.specs.declared.input.Input.TheVariants.{Bad};
 ghost use Rattle.formula_core.specs.Inputs.{HasFit, AllHaveFit, IsInput};
 ghost use Rattle.formula_core.specs.Holdings.{holdings_of, not_worked_out, AllFit};
 ghost use Rattle.formula_core.specs.Joins.{most_joins, least_joins};
 ghost use Rattle.formula_core.specs.Plans.{node_change, node_cost_at};
 ghost use Rattle.formula_core.specs.Rules.{with_change};
-ghost use Rattle.formula_core.specs.Stages.{IsStaged, StagedBy, IsKeptBy, IsMadeBy, IsTaken, IsReady, AreReady, IsStep, IsJoined, IsDone, IsSumsStep};
+ghost use Rattle.formula_core.specs.Stages.{IsStaged, StagedBy, IsKeptBy, IsMadeBy, IsTaken, IsReady, AreReady, IsStep, IsJoined, IsDone, IsSumsStep, IsLiteralChange};
 ghost use Rattle.formula_core.specs.Sums.{summed_at};
 ghost use Rattle.formula_core.specs.Tables.{IsOperand, AreOperands, IsNode, tree_at, tree_of_index, tree_of_operand, tree_of_node};
 
+use crate::constant::Constant;
 use crate::index_change::change_of_index;
 use crate::input::{Input, outcome_is_array, outcomes_are_arrays};
 use crate::kept::{Kept, NodeChange};
-use crate::literals::array_of;
 use crate::operation_change::{change_of_both, change_of_monad};
 use crate::positions::Positions;
 use crate::sums::{SumsDelta, sums_delta};
 use crate::table::{Node, Operand};
-use apl_expr::Literal;
-use arrays_core::{Array, Fault, outcome};
+use arrays_core::{Array, Fault};
 use change_core::Meter;
 use index_region::Delta;
 use smallvec::SmallVec;
@@ -42,32 +44,50 @@ pub(crate) struct Stage<'a> {
     pub(crate) inputs: &'a [Input<'a>],
     pub(crate) nodes: &'a [Kept],
     pub(crate) changes: &'a [NodeChange],
-    /// Any change of the whole: all that a new formula takes counts as new.
-    pub(crate) anew: &'a Delta,
+    /// What changes of each literal: nothing, but in a new formula all of it, since there all that a node takes counts as new.
+    pub(crate) of_literals: &'a Delta,
 }
 
 impl<'a> Stage<'a> {
     /// An argument of the next node; in a new formula it counts as new.
     #[inline(always)]
-    fn operand(&self, operand: Operand) -> Input<'a>
-        requires within { IsOperand (length self.now.inputs.now) (length self.now.changes.now) operand }
+    fn operand(&self, operand: &'a Operand) -> Input<'a>
+        requires within { IsOperand (length self.now.inputs.now) (length self.now.changes.now) operand.now }
         requires staged { StagedBy self.now }
-        requires anew { is_whole self.now.anew.now ≡ true }
+        requires literals { IsLiteralChange self.now.is_new self.now.of_literals.now }
         ensures fit { HasFit result }
-        ensures ready { (c : Change) → (names : List (List ℕ)) → (trees : List Tree) → IsStaged c names trees self.now → IsReady self.now.is_new c (tree_of_operand names trees operand) result }
+        ensures ready { (c : Change) → (names : List (List ℕ)) → (trees : List Tree) → IsStaged c names trees self.now → IsReady self.now.is_new c (tree_of_operand names trees operand.now) result }
     {
-        let input = taken(operand, self.inputs, self.nodes, self.changes);
+        let input = self.taken(operand);
         if self.is_new {
-            return input.made_anew(self.anew);
+            return input.made_anew(self.of_literals);
         }
         input
     }
 
+    /// What an argument gives as it stands.
+    #[inline(always)]
+    fn taken(&self, operand: &'a Operand) -> Input<'a>
+        requires within { IsOperand (length self.now.inputs.now) (length self.now.changes.now) operand.now }
+        requires few { length self.now.changes.now ≤ length self.now.nodes.now }
+        requires fit { AllFit self.now.changes.now (holdings_of self.now.nodes.now) }
+        requires literals { IsLiteralChange self.now.is_new self.now.of_literals.now }
+        ensures { IsTaken self.now.inputs.now (holdings_of self.now.nodes.now) self.now.changes.now self.now.of_literals.now operand.now result }
+    {
+        match operand {
+            Operand::Literal(constant) => constant.input(self.of_literals),
+            Operand::Name(place) => told(self.inputs, *place),
+            Operand::Node(place) => {
+                Input::of_node(&self.nodes[*place].result, &self.changes[*place].delta)
+            }
+        }
+    }
+
     /// The positions of an index that are written. Up to four positions take no memory.
-    fn positions(&self, operands: &[Option<Operand>]) -> Result<Positions<'a>, AllocError>
+    fn positions(&self, operands: &'a [Option<Operand>]) -> Result<Positions<'a>, AllocError>
         requires within { AreOperands (length self.now.inputs.now) (length self.now.changes.now) operands.now }
         requires staged { StagedBy self.now }
-        requires anew { is_whole self.now.anew.now ≡ true }
+        requires literals { IsLiteralChange self.now.is_new self.now.of_literals.now }
         ensures fit { IfOk result (λ positions. AllHaveFit positions.items) }
         ensures ready { IfOk result (λ positions. (c : Change) → (names : List (List ℕ)) → (trees : List Tree) → IsStaged c names trees self.now
             → AreReady self.now.is_new c (map (option_map (tree_of_operand names trees)) operands.now) positions.items) }
@@ -75,7 +95,7 @@ impl<'a> Stage<'a> {
         let mut positions = SmallVec::new(self.alloc);
         for operand in operands {
             positions.push(match operand {
-                Some(operand) => Some(self.operand(*operand)),
+                Some(operand) => Some(self.operand(operand)),
                 None => None,
             })?;
         }
@@ -87,7 +107,7 @@ impl<'a> Stage<'a> {
     pub(crate) fn next(&self, change: &mut NodeChange, meter: &mut Meter) -> Result<u32, AllocError>
         requires below { length self.now.changes.now < length self.now.nodes.now }
         requires staged { StagedBy self.now }
-        requires anew { is_whole self.now.anew.now ≡ true }
+        requires literals { IsLiteralChange self.now.is_new self.now.of_literals.now }
         ensures done { OnOk result ((c : Change) → (names : List (List ℕ)) → (trees : List Tree) → IsStaged c names trees self.now
             → IsDone self.now.is_new c (tree_at trees (length self.now.changes.now)) (get_or (holdings_of self.now.nodes.now) (length self.now.changes.now) not_worked_out) change.new) }
         ensures cost { IfOk result (λ n. (c : Change) → (names : List (List ℕ)) → (trees : List Tree) → IsStaged c names trees self.now
@@ -115,7 +135,7 @@ impl<'a> Stage<'a> {
     /// made before, so that the items of an argument that is another array are gone over once.
     fn change_of(
         &self,
-        node: &Node,
+        node: &'a Node,
         held: &Result<Array, Fault>,
         kept: &Option<LineSums>,
         made: &SumsDelta,
@@ -126,7 +146,7 @@ impl<'a> Stage<'a> {
         requires staged { StagedBy self.now }
         requires kept { IsKeptBy self.now node.now kept.now }
         requires made { IsMadeBy self.now node.now made.now }
-        requires anew { is_whole self.now.anew.now ≡ true }
+        requires literals { IsLiteralChange self.now.is_new self.now.of_literals.now }
         ensures step { (c : Change) → (names : List (List ℕ)) → (trees : List Tree) → IsStaged c names trees self.now
             → (self.now.is_new ≡ false → held.now ≡ eval (tree_of_node names trees node.now) c.old)
             → IsStep self.now.is_new c (tree_of_node names trees node.now) meter.old.ticks meter.new.ticks (with_change change.new result) }
@@ -135,29 +155,28 @@ impl<'a> Stage<'a> {
             → IsJoined self.now.is_new c (tree_of_node names trees node.now) meter.old.joins meter.new.joins (with_change change.new result) }
     {
         match node {
-            Node::Constant(literal) => {
-                *change = self.change_of_literal(literal)?;
+            Node::Constant(constant) => {
+                *change = self.change_of_literal(constant)?;
                 Ok(0)
             }
             Node::Name(place) => {
-                let name = Operand::Name(*place);
-                let input = taken(name, self.inputs, self.nodes, self.changes);
+                let input = told(self.inputs, *place);
                 *change = self.change_of_name(&input)?;
                 Ok(0)
             }
             Node::Monad(function, right) => {
-                let right = self.operand(*right);
+                let right = self.operand(right);
                 change_of_monad(
                     self.alloc, *function, &right, kept, made, held, change, meter,
                 )
             }
             Node::Dyad(function, left, right) => {
-                let left = self.operand(*left);
-                let right = self.operand(*right);
+                let left = self.operand(left);
+                let right = self.operand(right);
                 change_of_both(self.alloc, *function, &left, &right, held, change, meter)
             }
             Node::Index(array, positions) => {
-                self.change_of_indexed(*array, positions, held, change, meter)
+                self.change_of_indexed(array, positions, held, change, meter)
             }
         }
     }
@@ -167,19 +186,19 @@ impl<'a> Stage<'a> {
     #[inline(never)]
     fn change_of_indexed(
         &self,
-        array: Operand,
-        positions: &[Option<Operand>],
+        array: &'a Operand,
+        positions: &'a [Option<Operand>],
         held: &Result<Array, Fault>,
         change: &mut Delta,
         meter: &mut Meter,
     ) -> Result<u32, AllocError>
-        requires array { IsOperand (length self.now.inputs.now) (length self.now.changes.now) array }
+        requires array { IsOperand (length self.now.inputs.now) (length self.now.changes.now) array.now }
         requires positions { AreOperands (length self.now.inputs.now) (length self.now.changes.now) positions.now }
         requires staged { StagedBy self.now }
-        requires anew { is_whole self.now.anew.now ≡ true }
+        requires literals { IsLiteralChange self.now.is_new self.now.of_literals.now }
         ensures step { (c : Change) → (names : List (List ℕ)) → (trees : List Tree) → IsStaged c names trees self.now
-            → (self.now.is_new ≡ false → held.now ≡ eval (tree_of_index names trees array positions.now) c.old)
-            → IsStep self.now.is_new c (tree_of_index names trees array positions.now) meter.old.ticks meter.new.ticks (with_change change.new result) }
+            → (self.now.is_new ≡ false → held.now ≡ eval (tree_of_index names trees array.now positions.now) c.old)
+            → IsStep self.now.is_new c (tree_of_index names trees array.now positions.now) meter.old.ticks meter.new.ticks (with_change change.new result) }
         ensures joins { meter.new.joins ≡ meter.old.joins }
     {
         let array = self.operand(array);
@@ -188,10 +207,10 @@ impl<'a> Stage<'a> {
     }
 
     /// What changes of the sums that a node keeps: of which there are some if it is a total.
-    fn sums_of(&self, node: &Node, kept: &Option<LineSums>) -> Result<SumsDelta, AllocError>
+    fn sums_of(&self, node: &'a Node, kept: &Option<LineSums>) -> Result<SumsDelta, AllocError>
         requires node { IsNode (length self.now.inputs.now) (length self.now.changes.now) node.now }
         requires staged { StagedBy self.now }
-        requires anew { is_whole self.now.anew.now ≡ true }
+        requires literals { IsLiteralChange self.now.is_new self.now.of_literals.now }
         ensures { IfOk result (λ s. (c : Change) → (names : List (List ℕ)) → (trees : List Tree) → IsStaged c names trees self.now
             → (self.now.is_new ≡ false → kept.now ≡ summed_at c.old (tree_of_node names trees node.now)) → IsSumsStep c (tree_of_node names trees node.now) kept.now s) }
     {
@@ -203,13 +222,14 @@ impl<'a> Stage<'a> {
     }
 
     /// The change of a literal: it stays, and in a new formula it is new.
-    fn change_of_literal(&self, literal: &Literal) -> Result<Delta, AllocError>
-        ensures { IfOk result (λ d. (c : Change) → d ≡ node_change self.now.is_new c (Const (literal_of literal.now))) }
+    fn change_of_literal(&self, constant: &Constant) -> Result<Delta, AllocError>
+        requires { IsLiteralChange self.now.is_new self.now.of_literals.now }
+        ensures { IfOk result (λ d. (c : Change) → d ≡ node_change self.now.is_new c (Const constant.now)) }
     {
         if !self.is_new {
             return Ok(Delta::Same);
         }
-        Ok(Delta::Whole(outcome(array_of(self.alloc, literal))?))
+        Ok(Delta::Whole(constant.input(self.of_literals).copy()?))
     }
 
     /// The change of a name that is the whole expression: that of the name, and in a new formula it is new.
@@ -229,21 +249,11 @@ impl<'a> Stage<'a> {
     }
 }
 
-/// What an argument gives as it stands, where the names show these, and these nodes changed so.
+/// What the name at this place of the references shows.
 #[inline(always)]
-fn taken<'a>(
-    operand: Operand,
-    inputs: &'a [Input<'a>],
-    nodes: &'a [Kept],
-    changes: &'a [NodeChange],
-) -> Input<'a>
-    requires within { IsOperand (length inputs.now) (length changes.now) operand }
-    requires few { length changes.now ≤ length nodes.now }
-    requires fit { AllFit changes.now (holdings_of nodes.now) }
-    ensures { IsTaken inputs.now (holdings_of nodes.now) changes.now operand result }
+fn told<'a>(inputs: &'a [Input<'a>], place: usize) -> Input<'a>
+    requires { place < length inputs.now }
+    ensures { result ≡ get_or inputs.now place (Bad (fault Value) false) }
 {
-    match operand {
-        Operand::Name(place) => inputs[place].again(),
-        Operand::Node(place) => Input::of_node(&nodes[place].result, &changes[place].delta),
-    }
+    inputs[place].again()
 }

@@ -1,32 +1,35 @@
 //! The nodes of an expression, each after those whose results it takes.
 
-ghost use Rattle.std.specs.Prelude.{◌≡◌, ◌++◌, [], ◌∷◌, length, map, IfOk, OnOk};
-ghost use Rattle.apl_expr.specs.Trees.{tree_of, position_of, positions_of, literal_of, between_arguments};
+ghost use Rattle.std.specs.Prelude.{◌≡◌, ◌++◌, [], ◌∷◌, length, map, option_map, IfOk, OnOk};
+ghost use Rattle.apl_expr.specs.Trees.{tree_of, position_of, positions_of, between_arguments};
 ghost use Rattle.formula_core.specs.declared.table.Operand.TheVariants.{Node as NodeAt};
 ghost use Rattle.formula_core.specs.Sums.{totalled};
-ghost use Rattle.formula_core.specs.Tables.{IsLowered, ArePositionsLowered, applies, is_literal};
+ghost use Rattle.formula_core.specs.Tables.{IsLowered, ArePositionsLowered, applies};
 
+use crate::constant::Constant;
 use crate::sums::total_of;
-use apl_expr::{Expr, Function1, Function2, Literal, Sides};
+use apl_expr::{Expr, Function1, Function2, Sides};
 use apl_tokens::Name;
 use operator_fns::Reduce;
 use std::alloc::{AllocError, Global};
 
-/// What a node takes as an argument: what a name shows, by its place among the references, or the result of a node
+/// What a node takes as an argument: what a literal gives, what a name shows, by its place among the references, or the result of a node
 /// before it.
-#[derive(Clone, Copy, PartialEq, Eq, Debug)]
+#[derive(Drop)]
 pub(crate) enum Operand {
+    /// This literal.
+    Literal(Box<Constant>),
     /// The name at this place of the references.
     Name(usize),
     /// The node at this place of the table.
     Node(usize),
 }
 
-/// A node: a literal, an operation, or a name where that is the whole expression. A name inside an expression is no node.
+/// A node: an operation, or a literal or a name where that is the whole expression. Inside an expression these are no nodes.
 #[derive(Drop)]
 pub(crate) enum Node {
     /// A literal.
-    Constant(Literal),
+    Constant(Box<Constant>),
     /// The name at this place of the references.
     Name(usize),
     /// A function before its argument.
@@ -45,19 +48,12 @@ impl Node {
         !matches!(self, Node::Constant(_) | Node::Name(_))
     }
 
-    /// It is a literal.
-    pub(crate) fn is_literal(&self) -> bool
-        ensures { result ≡ is_literal self.now }
-    {
-        matches!(self, Node::Constant(_))
-    }
-
     /// The argument whose lines it folds, where it keeps trees of these, behind the fold.
-    pub(crate) fn totalled(&self) -> Option<(Reduce, Operand)>
-        ensures { result ≡ totalled self.now }
+    pub(crate) fn totalled(&self) -> Option<(Reduce, &Operand)>
+        ensures { option_map (λ p. (p.0, p.1.now)) result ≡ totalled self.now }
     {
         match self {
-            Node::Monad(function, right) => Some((total_of(*function)?, *right)),
+            Node::Monad(function, right) => Some((total_of(*function)?, right)),
             _ => None,
         }
     }
@@ -74,7 +70,10 @@ pub(crate) fn lower(
     ensures { IfOk result (λ operand. IsLowered names.old.items names.new.items nodes.old.items nodes.new.items (tree_of tree.now) operand) }
 {
     match tree {
-        Expr::Const(literal) => push(nodes, Node::Constant(copy_of(alloc, literal)?)),
+        Expr::Const(literal) => {
+            let constant = Constant::of(alloc, literal)?;
+            Ok(Operand::Literal(Box::new(alloc, constant)?))
+        }
         Expr::Name(name) => {
             let place = names.len();
             names.push(*name)?;
@@ -197,17 +196,4 @@ fn push(nodes: &mut Vec<Node>, node: Node) -> Result<Operand, AllocError>
     let place = nodes.len();
     nodes.push(node)?;
     Ok(Operand::Node(place))
-}
-
-/// Another literal that says the same.
-fn copy_of(alloc: Global, literal: &Literal) -> Result<Literal, AllocError>
-    ensures { IfOk result (λ copy. literal_of copy ≡ literal_of literal.now) }
-{
-    let copy = match literal {
-        Literal::Num(number) => Literal::Num(*number),
-        Literal::Nums(numbers) => Literal::Nums(numbers.to_vec(alloc)?),
-        Literal::Char(character) => Literal::Char(*character),
-        Literal::Text(characters) => Literal::Text(characters.to_vec(alloc)?),
-    };
-    Ok(copy)
 }

@@ -5,19 +5,19 @@ use Rattle.apl_expr.specs.declared.expr.Expr.{Expr}
 use Rattle.apl_expr.specs.declared.functions.Function1.TheVariants as function1
 use Rattle.apl_expr.proofs.Rows.{tree_index}
 use Rattle.formula_core.specs.declared.table.Node.TheVariants as node
+use Rattle.formula_core.specs.declared.table.Operand.TheVariants as operand
 use Rattle.formula_core.specs.Tables.{IsLowered, ArePositionsLowered}
 use Rattle.formula_core.proofs.Tabled.{lowered_const, lowered_monad, lowered_dyad, lowered_index, as_lowered, position_more, filled_position, empty_position}
 use Rattle.formula_core.proofs.table.+lower.Goals.{lower_positions-in-Some+in_ok-lower-in-Some, lower_positions-in-None}
 use Rattle.formula_core.proofs.table.+lower.Goals as goal
 
-pub lower-returns-in_ok-copy_of-in-Const : goal.lower-returns-in_ok-copy_of-in-Const
-lower-returns-in_ok-copy_of-in-Const t c =
+pub lower-returns-in_ok-new-in-Const : goal.lower-returns-in_ok-new-in-Const
+lower-returns-in_ok-new-in-Const t c =
     let names = c.args.names.now.items in
     let old = c.args.nodes.now.items in
-    let copy = c.in_ok-copy_of-in-Const.field-0 in
-    subst (λ (u : Tree). IfOk c.push.result (λ o. IsLowered names names old c.push.new.nodes.items u o)) (sym (ap tree_of c.in-Const.is))
-    (as_lowered names names old old c.push.new.nodes.items (node.Constant copy) (Const (literal_of c.in-Const.literal)) c.push.result c.push.ensures.nodes c.push.ensures.place
-    (λ is. lowered_const names old c.push.new.nodes.items c.in-Const.literal copy c.in_ok-copy_of-in-Const.ensures is))
+    let literal = c.in_ok-new-in-Const.field-0 in
+    subst (λ (u : Tree). IsLowered names names old old u (operand.Literal literal)) (sym (ap tree_of c.in-Const.is))
+    (lowered_const names old literal (literal_of c.in-Const.literal) (c.in_ok-new-in-Const.ensures.ok ∙ c.in_ok-constant-in-Const.ensures))
 
 pub lower-returns-in_ok-right-in-Monad : goal.lower-returns-in_ok-right-in-Monad
 lower-returns-in_ok-right-in-Monad t c =

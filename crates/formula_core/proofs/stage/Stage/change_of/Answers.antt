@@ -1,8 +1,10 @@
 use Rattle.std.proofs.Common.{Ok, List, Option, refl, sym, subst, ap, ◌∙◌}
+use Rattle.apl_expr.specs.Trees.{Const}
 use Rattle.formula_core.specs.declared.table.Node.{Node}
 use Rattle.formula_core.specs.declared.table.Operand.{Operand}
 use Rattle.formula_core.specs.Meaning.{eval}
 use Rattle.formula_core.specs.Tables.{tree_of_node, tree_of_index, tree_of_operand}
+use Rattle.formula_core.specs.Plans.{node_change}
 use Rattle.formula_core.specs.Stages.{IsStep, IsJoined, IsKeptBy, IsMadeBy}
 use Rattle.formula_core.proofs.Applied.{least_between, most_between}
 use Rattle.formula_core.proofs.Steps.{free_step, name_input, name_told}
@@ -15,14 +17,14 @@ use Rattle.formula_core.proofs.stage.Stage.change_of.Goals as goal
 pub returns-in_ok-change-in-Constant-clause-step : goal.returns-in_ok-change-in-Constant-clause-step
 returns-in_ok-change-in-Constant-clause-step c = λ change names trees staged holds.
     subst (λ (n : Node). IsStep c.args.self.now.is_new change (tree_of_node names trees n) c.args.meter.now.ticks c.args.meter.now.ticks (Ok (c.in_ok-change-in-Constant.field-0, 0))) (sym c.in-Constant.is)
-    (free_step c.args.self.now.is_new change _ c.args.meter.now.ticks _ (c.in_ok-change-in-Constant.ensures change) refl)
+    (free_step c.args.self.now.is_new change _ c.args.meter.now.ticks _ (c.in_ok-change-in-Constant.ensures change ∙ ap (λ l. node_change c.args.self.now.is_new change (Const l)) c.deref.ensures) refl)
 
 pub returns-in_ok-change-in-Name-clause-step : goal.returns-in_ok-change-in-Name-clause-step
 returns-in_ok-change-in-Name-clause-step c = λ change names trees staged holds.
     let within = rw c.in-Name.is at c.requires.node in
     subst (λ (n : Node). IsStep c.args.self.now.is_new change (tree_of_node names trees n) c.args.meter.now.ticks c.args.meter.now.ticks (Ok (c.in_ok-change-in-Name.field-0, 0))) (sym c.in-Name.is)
     (free_step c.args.self.now.is_new change _ c.args.meter.now.ticks _
-    (c.in_ok-change-in-Name.ensures change _ (name_input change names trees c.args.self.now staged c.in-Name.place within c.taken-input.result c.taken-input.ensures) (name_told change names trees c.args.self.now staged c.in-Name.place within)) refl)
+    (c.in_ok-change-in-Name.ensures change _ (name_input change names trees c.args.self.now staged c.in-Name.place within c.told-input.result c.told-input.ensures) (name_told change names trees c.args.self.now staged c.in-Name.place within)) refl)
 
 pub change_of_monad-requires-clause-kept : goal.change_of_monad-requires-clause-kept
 change_of_monad-requires-clause-kept c =
@@ -47,9 +49,9 @@ returns-in-Dyad-clause-step c = λ change names trees staged holds.
 pub returns-in-Index-clause-step : goal.returns-in-Index-clause-step
 returns-in-Index-clause-step c = λ change names trees staged holds.
     let array = c.in-Index.array in
-    let were : _ = λ (old : _). (rw c.in-Index.is at holds) old ∙ ap (λ (ps : List (Option Operand)). eval (tree_of_index names trees array ps) change.old) (sym c.deref.ensures.value) in
+    let were : _ = λ (old : _). (rw c.in-Index.is at holds) old ∙ ap (λ (ps : List (Option Operand)). eval (tree_of_index names trees array ps) change.old) (sym c.deref-in-Index.ensures.value) in
     subst (λ (n : Node). IsStep c.args.self.now.is_new change (tree_of_node names trees n) c.args.meter.now.ticks c.change_of_indexed.new.meter.ticks (with_change c.change_of_indexed.new.change c.change_of_indexed.result)) (sym c.in-Index.is)
-    (subst (λ (ps : List (Option Operand)). IsStep c.args.self.now.is_new change (tree_of_index names trees array ps) c.args.meter.now.ticks c.change_of_indexed.new.meter.ticks (with_change c.change_of_indexed.new.change c.change_of_indexed.result)) c.deref.ensures.value
+    (subst (λ (ps : List (Option Operand)). IsStep c.args.self.now.is_new change (tree_of_index names trees array ps) c.args.meter.now.ticks c.change_of_indexed.new.meter.ticks (with_change c.change_of_indexed.new.change c.change_of_indexed.result)) c.deref-in-Index.ensures.value
     (c.change_of_indexed.ensures.step change names trees staged were))
 
 pub returns-in_ok-change-in-Constant-clause-joins : goal.returns-in_ok-change-in-Constant-clause-joins

@@ -1,5 +1,6 @@
-use Rattle.std.proofs.Common.{◌+◌, List, map, take, Option, Some, None, sym, subst}
+use Rattle.std.proofs.Common.{◌+◌, ◌∙◌, List, map, take, Option, Some, None, sym, subst}
 use Rattle.std.specs.Option.{option_map}
+use Rattle.std.proofs.lemmas.List.{get_or_default}
 use Rattle.formula_core.specs.declared.input.Input.{Input}
 use Rattle.formula_core.specs.Inputs.{AllHaveFit}
 use Rattle.formula_core.specs.Stages.{AreReady}
@@ -11,7 +12,8 @@ use Rattle.formula_core.proofs.stage.Stage.positions.Goals.{in-Some, in-None}
 
 pub operand-requires-clause-within : goal.operand-requires-clause-within
 operand-requires-clause-within c =
-    operand_within _ _ c.args.operands.now c.requires.within c.loop-operand.operand-index c.in-Some.operand c.loop-operand-test.true c.in-Some.is
+    operand_within _ _ c.args.operands.now c.requires.within c.loop-operand.operand-index c.in-Some.operand c.loop-operand-test.true
+    (get_or_default c.args.operands.now c.loop-operand.operand-index None c.operand-item.result c.loop-operand-test.true ∙ (sym c.operand-item.is ∙ c.in-Some.is))
 
 pub loop-operand-preserved : goal.loop-operand-preserved
 loop-operand-preserved c =
@@ -20,6 +22,7 @@ loop-operand-preserved c =
     let k = c.loop-operand.operand-index in
     let before = c.loop-operand.positions.items in
     let pushed = c.in_ok-push.ensures.ok in
+    let here = get_or_default os k None c.operand-item.result c.loop-operand-test.true ∙ sym c.operand-item.is in
     elim c.match-operand.branch [
       | in-Some w ↦
           let more = rw w.push-is at pushed in
@@ -27,7 +30,7 @@ loop-operand-preserved c =
             fit = subst AllHaveFit (sym more) (fit_more before (Some w.operand.result) c.loop-operand.invariant.fit (w.operand.ensures.fit, tt));
             ready = λ change names trees staged.
                 subst (λ (is : List (Option Input)). AreReady s.is_new change (map (option_map (tree_of_operand names trees)) (take (k + 1) os)) is) (sym more)
-                (position_ready s.is_new change (option_map (tree_of_operand names trees)) os k (Some w.in-Some.operand) before (Some w.operand.result) c.loop-operand-test.true w.in-Some.is
+                (position_ready s.is_new change (option_map (tree_of_operand names trees)) os k (Some w.in-Some.operand) before (Some w.operand.result) c.loop-operand-test.true (here ∙ w.in-Some.is)
                 (c.loop-operand.invariant.ready change names trees staged) (w.operand.ensures.ready change names trees staged, tt));
           }
       | in-None w ↦
@@ -36,6 +39,6 @@ loop-operand-preserved c =
             fit = subst AllHaveFit (sym more) (fit_more before None c.loop-operand.invariant.fit tt);
             ready = λ change names trees staged.
                 subst (λ (is : List (Option Input)). AreReady s.is_new change (map (option_map (tree_of_operand names trees)) (take (k + 1) os)) is) (sym more)
-                (position_ready s.is_new change (option_map (tree_of_operand names trees)) os k None before None c.loop-operand-test.true w.in-None.is (c.loop-operand.invariant.ready change names trees staged) tt);
+                (position_ready s.is_new change (option_map (tree_of_operand names trees)) os k None before None c.loop-operand-test.true (here ∙ w.in-None.is) (c.loop-operand.invariant.ready change names trees staged) tt);
           }
     ]

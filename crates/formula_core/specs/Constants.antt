@@ -1,0 +1,31 @@
+-- A literal of a formula, by what it gives.
+use Rattle.std.specs.Prelude.{◌≡◌, ℕ, List, Result, Ok, Err, map}
+use Rattle.apl_expr.specs.declared.expr.Literal.{Literal as WrittenLiteral}
+use Rattle.apl_expr.specs.Trees.{Literal, Numbers, Text, literal_of}
+use Rattle.arrays_core.specs.declared.item.Item.{Item}
+use Rattle.arrays_core.specs.declared.item.Item.TheVariants.{Num, Char}
+use Rattle.arrays_core.specs.declared.item.ItemType.{ItemType}
+use Rattle.arrays_core.specs.declared.item.ItemType.TheVariants.{Nums, Chars}
+use Rattle.arrays_core.specs.declared.item.Kind.{Kind}
+use Rattle.arrays_core.specs.Arrays.{ArrayValue}
+use Rattle.index_region.specs.Arguments.{number_of}
+use Rattle.formula_core.specs.Meaning.{array_of}
+
+abbrev pub character_of : Item → ℕ
+character_of (Char c) = c
+character_of (Num z) = 32
+
+-- the literal of these items
+abbrev pub literal_of_items : ItemType → List Item → Literal
+literal_of_items Nums items = Numbers (map number_of items)
+literal_of_items Chars items = Text (map character_of items)
+
+-- a literal by the array that it gives, or as it was written, where it gives an error
+abbrev pub literal_in : Result ArrayValue (WrittenLiteral × Kind) → Literal
+literal_in (Ok a) = literal_of_items a.item_type a.items
+literal_in (Err e) = literal_of e.0
+
+-- it gives that array, or that error
+abbrev pub IsGiven : Result ArrayValue (WrittenLiteral × Kind) → Type 0
+IsGiven (Ok a) = array_of (literal_of_items a.item_type a.items) ≡ Ok a
+IsGiven (Err e) = array_of (literal_of e.0) ≡ Err e.1

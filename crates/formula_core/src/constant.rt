@@ -1,0 +1,79 @@
+//! A literal with what it gives.
+
+ghost use Rattle.std.specs.Prelude.{◌≡◌, Ok, Err, IfOk};
+ghost use Rattle.apl_expr.specs.Trees.{literal_of};
+ghost use Rattle.arrays_core.specs.Outcomes.{given};
+ghost use Rattle.formula_core.specs.Inputs.{IsAllOrNothing, IsInput};
+ghost use Rattle.formula_core.specs.Meaning.{array_of};
+
+use crate::input::Input;
+use crate::literals::array_of;
+use apl_expr::Literal;
+use arrays_core::{ApplyFault, Array, Fault, Kind};
+use index_region::{Delta, Seen};
+use std::alloc::{AllocError, Global};
+use std::marker::Model;
+
+/// A literal of a formula, as the array that it gives; one that gives none, as it is longer than arrays are, stands beside its error.
+#[derive(Drop)]
+pub(crate) struct Constant {
+    gives: Result<Array, (Literal, Kind)>,
+}
+
+impl Model for Constant {
+    ghost use Rattle.apl_expr.specs.Trees.{Literal};
+    ghost use Rattle.formula_core.specs.Constants.{literal_in, IsGiven};
+
+    ghost Value = { Literal };
+
+    ghost use Rattle.std.specs.Coded.{codes};
+    ghost use Rattle.formula_core.specs.Laws.Codes.{coded_literal};
+
+    ghost coded = { Prim.hlevel (codes, coded_literal) };
+
+    ghost view = { λ c. literal_in c.gives };
+
+    ghost invariant = { λ c. IsGiven c.gives };
+}
+
+impl Constant {
+    /// The literal, with what it gives, which is made here.
+    pub(crate) fn of(alloc: Global, literal: &Literal) -> Result<Constant, AllocError>
+        ensures { IfOk result (λ constant. constant ≡ literal_of literal.now) }
+    {
+        match array_of(alloc, literal) {
+            Ok(array) => Ok(Constant { gives: Ok(array) }),
+            Err(ApplyFault::Kind(kind)) => Ok(Constant {
+                gives: Err((copy_of(alloc, literal)?, kind)),
+            }),
+            Err(ApplyFault::NoMemory) => Err(AllocError),
+        }
+    }
+
+    /// What it gives, with this change.
+    pub(crate) fn input<'a>(&'a self, change: &'a Delta) -> Input<'a>
+        requires { IsAllOrNothing change.now }
+        ensures { IsInput (given (array_of self.now)) change.now result }
+    {
+        match &self.gives {
+            Ok(array) => Input::Good(Seen::plain(array), change),
+            Err((_, kind)) => Input::Bad {
+                fault: (*kind).into(),
+                changed: !matches!(change, Delta::Same),
+            },
+        }
+    }
+}
+
+/// Another literal that says the same.
+fn copy_of(alloc: Global, literal: &Literal) -> Result<Literal, AllocError>
+    ensures { IfOk result (λ copy. literal_of copy ≡ literal_of literal.now) }
+{
+    let copy = match literal {
+        Literal::Num(number) => Literal::Num(*number),
+        Literal::Nums(numbers) => Literal::Nums(numbers.to_vec(alloc)?),
+        Literal::Char(character) => Literal::Char(*character),
+        Literal::Text(characters) => Literal::Text(characters.to_vec(alloc)?),
+    };
+    Ok(copy)
+}
