@@ -14,6 +14,9 @@ use change_core::{Meter, Rule};
 use index_region::{Delta, IndexBox, Patch, Seen};
 use std::alloc::{AllocError, Global};
 
+/// So many places are few.
+const FEW_PLACES: u32 = 16;
+
 /// The items of a box of the result, whose shape and type are given. Where the box is all of the result, they are made
 /// as a whole.
 fn items_of<R: Rule>(
@@ -41,6 +44,11 @@ fn items_of<R: Rule>(
     }
 }
 
+/// Each argument has so few items that going through it by its view is as quick as in one piece.
+fn are_small(args: &[Seen]) -> bool {
+    args.iter().all(|arg| arg.places() <= FEW_PLACES)
+}
+
 /// The patch of one place of the result, or the error there, put in place of another change. It takes no memory.
 fn patch_of_one<R: Rule>(
     rule: &R,
@@ -65,7 +73,8 @@ fn patch_of_one<R: Rule>(
     }
 }
 
-/// The patch of a box of the result, or the first error in it, put in place of another change. One place that is not all of the result takes no memory.
+/// The patch of a box of the result, or the first error in it, put in place of another change. One place takes no memory where it
+/// is not all of the result, or where the arguments are small.
 pub(crate) fn patch_of<R: Rule>(
     alloc: Global,
     rule: &R,
@@ -84,7 +93,7 @@ pub(crate) fn patch_of<R: Rule>(
     ensures rises { meter.old.ticks ≤ meter.new.ticks }
     ensures joins { meter.new.joins ≡ meter.old.joins }
 {
-    if region.size() == 1 && size(form.0.as_slice()) > 1 {
+    if region.size() == 1 && (size(form.0.as_slice()) > 1 || are_small(args)) {
         patch_of_one(rule, args, region, change, meter);
         return Ok(());
     }

@@ -7,8 +7,8 @@ use Rattle.change_rules.proofs.patch.patch_of.Goals as goal
 pub size-requires : goal.size-requires
 size-requires g c = omega (arith, few_places c.args.region c.args.form.now.0.items c.requires.fit c.requires.checked.2)
 
-pub returns-then-size-gt1-clause-delta : goal.returns-then-size-gt1-clause-delta
-returns-then-size-gt1-clause-delta g c = c.patch_of_one.ensures.delta (form_of c.args.form.now.0.items c.args.form.now.1) c.requires.checked.0
+pub returns-then-are_small-clause-delta : goal.returns-then-are_small-clause-delta
+returns-then-are_small-clause-delta g c = c.patch_of_one.ensures.delta (form_of c.args.form.now.0.items c.args.form.now.1) c.requires.checked.0
 
 pub of-requires : goal.of-requires
 of-requires g c =
