@@ -41,7 +41,7 @@ pub struct Formula {
     names: Vec<Name>,
     nodes: Vec<Kept>,
     is_new: bool,
-    /// Room for the changes of the next plan, kept from the last one that was adopted.
+    /// Room for the changes of the next plan, kept from the last edit.
     room: Cell<Vec<NodeChange>>,
 }
 
@@ -285,14 +285,16 @@ impl Formula {
     }
 
     /// Takes the results of a plan that was made of it as it is. No memory is asked for: patches are written where the
-    /// results lie. The memory of the plan is kept for the next.
+    /// results lie. The memory of the plan of an edit is kept for the next; that of a new formula is not, which may never be edited again.
     pub fn adopt(&mut self, plan: Plan)
         requires { IsPlanOf self.old plan }
         ensures { self.new ≡ record { tree = self.old.tree; is_new = false; nodes = adopted plan.changes self.old.nodes } }
     {
         let mut changes = plan.changes;
         adopt_all(&mut self.nodes, &mut changes);
-        self.room.set(changes);
+        if !self.is_new {
+            self.room.set(changes);
+        }
         self.is_new = false;
     }
 
