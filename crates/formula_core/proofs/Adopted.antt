@@ -8,7 +8,7 @@ use Rattle.formula_core.specs.declared.kept.NodeChange.{NodeChange}
 use Rattle.formula_core.specs.declared.table.Node.{Node}
 use Rattle.formula_core.specs.declared.table.Node.TheVariants as node
 use Rattle.formula_core.specs.Changes.{each_with}
-use Rattle.formula_core.specs.Holdings.{Holding, holding, holdings_of, nodes_of, not_worked_out, no_change, taking, taken, adopted, IsFit, AllFit}
+use Rattle.formula_core.specs.Holdings.{Holding, holding, holdings_of, nodes_of, not_worked_out, no_change, taking, node_taking, adopted, IsFit, AllChangesFit}
 use Rattle.arrays_core.specs.Outcomes.{fault}
 
 -- changes of elements, what they make of these, that they fit, and what is said where there is none
@@ -62,18 +62,18 @@ abbrev pub no_node : Kept
 no_node = record { node = node.Name 0; result = Err (fault Value); sums = None }
 
 -- nodes that took their changes apply what they did, and hold what they held with its changes
-pub nodes_taken : (changes : List NodeChange) (nodes : List Kept) → length changes ≤ length nodes → nodes_of (each_with taken changes nodes) ≡ nodes_of nodes
+pub nodes_taken : (changes : List NodeChange) (nodes : List Kept) → length changes ≤ length nodes → nodes_of (each_with node_taking changes nodes) ≡ nodes_of nodes
 nodes_taken [] nodes h = refl
 nodes_taken (d ∷ changes) [] h = absurd (omega (arith, h))
 nodes_taken (d ∷ changes) (k ∷ nodes) h = ap (λ (ns : List Node). k.node ∷ ns) (nodes_taken changes nodes (omega (arith, h)))
 
-pub held_taken : (changes : List NodeChange) (nodes : List Kept) → holdings_of (each_with taken changes nodes) ≡ adopted changes (holdings_of nodes)
+pub held_taken : (changes : List NodeChange) (nodes : List Kept) → holdings_of (each_with node_taking changes nodes) ≡ adopted changes (holdings_of nodes)
 held_taken [] nodes = refl
 held_taken (d ∷ changes) [] = refl
 held_taken (d ∷ changes) (k ∷ nodes) = ap (λ (hs : List Holding). taking d (holding k) ∷ hs) (held_taken changes nodes)
 
-pub all_left : (changes : List NodeChange) (nodes : List Kept) → length changes ≡ length nodes → AllFit changes (holdings_of nodes)
-    → IsLeft NodeChange Kept taken (λ d k. IsFit d (holding k)) no_change no_node changes nodes (each_with taken changes nodes)
+pub all_left : (changes : List NodeChange) (nodes : List Kept) → length changes ≡ length nodes → AllChangesFit changes (holdings_of nodes)
+    → IsLeft NodeChange Kept node_taking (λ d k. IsFit d (holding k)) no_change no_node changes nodes (each_with node_taking changes nodes)
 all_left changes nodes each fit = record {
   few = omega (arith, each);
   fit = λ k below. subst (λ (h : Holding). IsFit (get_or changes k no_change) h) (get_or-map holding nodes k no_node not_worked_out (omega (arith, below, each))) (fit k below);

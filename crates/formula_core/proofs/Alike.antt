@@ -20,7 +20,7 @@ use Rattle.arrays_core.specs.Outcomes.{Outcome}
 use Rattle.formula_core.specs.Meaning.{eval, eval_positions, applied1, applied2, indexed, in_front, empty_in_front, names_in, names_in_positions}
 use Rattle.formula_core.specs.Tables.{inside, inside_positions, subtrees}
 use Rattle.formula_core.specs.Rules.{right_rule, both_rule}
-use Rattle.formula_core.specs.Changes.{Change, arguments, paired, operation_delta, operation_cost, written, values_of, change, changes, cost_at, operation_size, size_at}
+use Rattle.formula_core.specs.Changes.{Change, arguments, paired, operation_delta, operation_cost, written, values_of, change, changes, cost_at, operation_size, tree_size}
 use Rattle.formula_core.specs.Plans.{node_cost_at, tree_cost}
 
 -- what holds of each name in an expression holds of each in a part of it
@@ -205,7 +205,7 @@ two_sized : (p : RuleModel) {l m r s : Outcome} → l ≡ m → r ≡ s → oper
 two_sized p left right = λ i. operation_size p (arguments (left i ∷ right i ∷ []))
 
 -- where the names in a tree show the same, what it gives has as many places
-pub size_alike : (t : Tree) (a b : List ℕ → Outcome) → ((x : List ℕ) → Contains (names_in t) x → a x ≡ b x) → size_at a t ≡ size_at b t
+pub size_alike : (t : Tree) (a b : List ℕ → Outcome) → ((x : List ℕ) → Contains (names_in t) x → a x ≡ b x) → tree_size a t ≡ tree_size b t
 size_alike (Const l) a b h = refl
 size_alike (Name x) a b h = refl
 size_alike (Monad f r) a b h = one_sized (right_rule (function1.Monad f)) (eval_alike r a b h)

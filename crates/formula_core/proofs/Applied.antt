@@ -7,7 +7,7 @@ use Rattle.apl_expr.specs.declared.functions.Function1.TheVariants as function1
 use Rattle.apl_expr.specs.declared.functions.Function2.{Function2}
 use Rattle.apl_expr.specs.declared.functions.Function2.TheVariants as function2
 use Rattle.arrays_core.specs.Outcomes.{Outcome}
-use Rattle.formula_core.specs.Changes.{Change, arguments, change, cost_at, operation_cost, operation_delta, operation_size, size_at}
+use Rattle.formula_core.specs.Changes.{Change, arguments, change, cost_at, operation_cost, operation_delta, operation_size, tree_size}
 use Rattle.formula_core.specs.Formulas.{is_operation}
 use Rattle.formula_core.specs.Joins.{least_joins, least_joins_of, most_joins, most_joins_of}
 use Rattle.formula_core.specs.Meaning.{applied1, applied2, eval, names_in}
@@ -80,12 +80,12 @@ cost_between c (function2.Dyad f) a b = refl
 cost_between c (function2.Outer f) a b = refl
 cost_between c (function2.Inner f g) a b = refl
 
-pub size_before : (names : List ℕ → Outcome) (f : Function1) (b : Tree) → size_at names (before_argument f b) ≡ operation_size (right_rule f) (arguments (eval b names ∷ []))
+pub size_before : (names : List ℕ → Outcome) (f : Function1) (b : Tree) → tree_size names (before_argument f b) ≡ operation_size (right_rule f) (arguments (eval b names ∷ []))
 size_before names (function1.Monad f) b = refl
 size_before names (function1.Reduce f k) b = refl
 size_before names (function1.Scan f k) b = refl
 
-pub size_between : (names : List ℕ → Outcome) (f : Function2) (a b : Tree) → size_at names (between_arguments f a b) ≡ operation_size (both_rule f) (arguments (eval a names ∷ eval b names ∷ []))
+pub size_between : (names : List ℕ → Outcome) (f : Function2) (a b : Tree) → tree_size names (between_arguments f a b) ≡ operation_size (both_rule f) (arguments (eval a names ∷ eval b names ∷ []))
 size_between names (function2.Dyad f) a b = refl
 size_between names (function2.Outer f) a b = refl
 size_between names (function2.Inner f g) a b = refl

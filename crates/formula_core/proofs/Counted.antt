@@ -22,7 +22,7 @@ use Rattle.change_core.specs.RuleModels.{RuleModel, form_size}
 use Rattle.arrays_core.specs.Outcomes.{given, Outcome}
 use Rattle.selection_fns.specs.Index.{Position, index_rule}
 use Rattle.formula_core.specs.declared.evaluation.Operand.{Operand}
-use Rattle.formula_core.specs.Changes.{at_rest, arguments, operation_size, result_of, size_at, values_of, written}
+use Rattle.formula_core.specs.Changes.{at_rest, arguments, operation_size, result_of, tree_size, values_of, written}
 use Rattle.formula_core.specs.Counts.{cost_in, cost_in_positions, AreItemsCounted, ArePositionsCounted, IsCounted, IsTreeCounted}
 use Rattle.formula_core.specs.Meaning.{applied1, applied2, eval, eval_positions, in_front, of_right, of_both}
 use Rattle.formula_core.specs.Operands.{array_in, outcome_of}
@@ -100,16 +100,16 @@ two_counted o one two own before now then_now after First Second first second gi
 
 module _ (names : List ℕ → Outcome) where
   -- the cost of a tree is that of its arguments and its own
-  pub monad_cost : (f : Function1) (b : Tree) → cost_in names (before_argument f b) ≡ cost_in names b + size_at names (before_argument f b)
-  monad_cost f b = ap (sum_by (size_at names)) (inside_before f b) ∙ sum_by_push (size_at names) (inside b) (before_argument f b)
+  pub monad_cost : (f : Function1) (b : Tree) → cost_in names (before_argument f b) ≡ cost_in names b + tree_size names (before_argument f b)
+  monad_cost f b = ap (sum_by (tree_size names)) (inside_before f b) ∙ sum_by_push (tree_size names) (inside b) (before_argument f b)
 
-  two_parts : (xs ys : List Tree) (t : Tree) → sum_by (size_at names) (xs ++ (ys ++ t ∷ [])) ≡ (sum_by (size_at names) ys + sum_by (size_at names) xs) + size_at names t
-  two_parts xs ys t = omega (arith, sum_by-append (size_at names) xs (ys ++ t ∷ []), sum_by_push (size_at names) ys t)
+  two_parts : (xs ys : List Tree) (t : Tree) → sum_by (tree_size names) (xs ++ (ys ++ t ∷ [])) ≡ (sum_by (tree_size names) ys + sum_by (tree_size names) xs) + tree_size names t
+  two_parts xs ys t = omega (arith, sum_by-append (tree_size names) xs (ys ++ t ∷ []), sum_by_push (tree_size names) ys t)
 
-  pub dyad_cost : (f : Function2) (a b : Tree) → cost_in names (between_arguments f a b) ≡ (cost_in names b + cost_in names a) + size_at names (between_arguments f a b)
-  dyad_cost f a b = ap (sum_by (size_at names)) (inside_between f a b) ∙ two_parts (inside a) (inside b) (between_arguments f a b)
+  pub dyad_cost : (f : Function2) (a b : Tree) → cost_in names (between_arguments f a b) ≡ (cost_in names b + cost_in names a) + tree_size names (between_arguments f a b)
+  dyad_cost f a b = ap (sum_by (tree_size names)) (inside_between f a b) ∙ two_parts (inside a) (inside b) (between_arguments f a b)
 
-  pub index_cost : (a : Tree) (ps : Positions) → cost_in names (Index a ps) ≡ (cost_in_positions names ps + cost_in names a) + size_at names (Index a ps)
+  pub index_cost : (a : Tree) (ps : Positions) → cost_in names (Index a ps) ≡ (cost_in_positions names ps + cost_in names a) + tree_size names (Index a ps)
   index_cost a ps = two_parts (inside a) (inside_positions ps) (Index a ps)
 
   -- a literal counts nothing
@@ -121,13 +121,13 @@ module _ (names : List ℕ → Outcome) where
       → AreItemsCounted gives now after → IsTreeCounted names (before_argument f b) before after (Ok told)
   monad_counted f b before now after right gives told first is items =
       let t = before_argument f b in
-      let sized : is_ok (eval t names) ≡ true → items_in (eval t names) ≡ size_at names t =
+      let sized : is_ok (eval t names) ≡ true → items_in (eval t names) ≡ tree_size names t =
       λ g. meant_items (right_rule f) (arguments (eval b names ∷ [])) (eval t names) (monad_meant f (eval b names) ∙ sym (eval_before names f b)) g ∙ sym (size_before names f b) in
       let parts = monad_cost f b in
       record {
-        most = omega (arith, first.most, most_items (eval t names) (size_at names t) now after gives is sized items, parts);
+        most = omega (arith, first.most, most_items (eval t names) (tree_size names t) now after gives is sized items, parts);
         least = λ h. subst (λ n. ticked before n ≤ after) (sym parts)
-            (then before now after (cost_in names b) (size_at names t) (first.least (first_given (eval b names) (λ y. given (of_right f y)) (ap is_ok (sym (eval_before names f b)) ∙ h))) (least_items (eval t names) (size_at names t) now after gives is sized items h));
+            (then before now after (cost_in names b) (tree_size names t) (first.least (first_given (eval b names) (λ y. given (of_right f y)) (ap is_ok (sym (eval_before names f b)) ∙ h))) (least_items (eval t names) (tree_size names t) now after gives is sized items h));
       }
 
   -- what it is answered, and what that counts
@@ -145,10 +145,10 @@ module _ (names : List ℕ → Outcome) where
       → IsTreeCounted names (between_arguments f a b) before after (Ok told)
   dyad_counted f a b before now then_now after right left gives told h k is items =
       let t = between_arguments f a b in
-      let sized : is_ok (eval t names) ≡ true → items_in (eval t names) ≡ size_at names t =
+      let sized : is_ok (eval t names) ≡ true → items_in (eval t names) ≡ tree_size names t =
       λ g. meant_items (both_rule f) (arguments (eval a names ∷ eval b names ∷ [])) (eval t names) (dyad_meant f (eval a names) (eval b names) ∙ sym (eval_between names f a b)) g ∙ sym (size_between names f a b) in
       let gives_all : is_ok (eval t names) ≡ true → is_ok (applied2 f (eval b names) (eval a names)) ≡ true = λ g. ap is_ok (sym (eval_between names f a b)) ∙ g in
-      let all = two_counted (eval t names) (cost_in names b) (cost_in names a) (size_at names t) before now then_now after (IsOk (eval b names)) (IsOk (eval a names)) right left gives h k is sized
+      let all = two_counted (eval t names) (cost_in names b) (cost_in names a) (tree_size names t) before now then_now after (IsOk (eval b names)) (IsOk (eval a names)) right left gives h k is sized
       (λ g. first_given (eval b names) (λ y. and_then (eval a names) (λ x. given (of_both f x y))) (gives_all g)) (λ g. second_given (eval b names) (eval a names) (λ y x. given (of_both f x y)) (gives_all g)) items in
       record { most = subst (λ n. after ≤ before + n) (sym (dyad_cost f a b)) all.most; least = λ g. subst (λ n. ticked before n ≤ after) (sym (dyad_cost f a b)) (all.least g) }
 
@@ -158,7 +158,7 @@ module _ (names : List ℕ → Outcome) where
   index_counted a ps before now then_now after positions operand gives told h k is items =
       let t = Index a ps in
       let sized = meant_items (index_rule (written ps)) (arguments (eval a names ∷ values_of ps names)) (eval t names) (indexing_meant a ps names) in
-      let all = two_counted (eval t names) (cost_in_positions names ps) (cost_in names a) (size_at names t) before now then_now after (IsOk (eval_positions ps names)) (IsOk (eval a names)) positions operand gives h k is sized
+      let all = two_counted (eval t names) (cost_in_positions names ps) (cost_in names a) (tree_size names t) before now then_now after (IsOk (eval_positions ps names)) (IsOk (eval a names)) positions operand gives h k is sized
       (λ g. first_given (eval_positions ps names) _ g) (λ g. second_given (eval_positions ps names) (eval a names) _ g) items in
       record { most = subst (λ n. after ≤ before + n) (sym (index_cost a ps)) all.most; least = λ g. subst (λ n. ticked before n ≤ after) (sym (index_cost a ps)) (all.least g) }
 
@@ -167,7 +167,7 @@ module _ (names : List ℕ → Outcome) where
   cost_from ps k = cost_in_positions names (positions_of (map position_of (drop k ps)))
 
   pub cost_written : (ps : List (Option Expr)) (k : ℕ) (e : Expr) → k < length ps → get_or ps k None ≡ Some e → cost_from ps k ≡ cost_in names (tree_of e) + cost_from ps (k + 1)
-  cost_written ps k e below is = rw (drop_more ps k None below, is) (sum_by-append (size_at names) (inside (tree_of e)) (inside_positions (positions_of (map position_of (drop (k + 1) ps)))))
+  cost_written ps k e below is = rw (drop_more ps k None below, is) (sum_by-append (tree_size names) (inside (tree_of e)) (inside_positions (positions_of (map position_of (drop (k + 1) ps)))))
 
   pub cost_empty : (ps : List (Option Expr)) (k : ℕ) → k < length ps → get_or ps k None ≡ None → cost_from ps k ≡ cost_from ps (k + 1)
   cost_empty ps k below is = rw (drop_more ps k None below, is) refl
@@ -176,7 +176,7 @@ module _ (names : List ℕ → Outcome) where
   cost_left ps zero = omega arith
   cost_left [] (suc k) = omega arith
   cost_left (None ∷ ps) (suc k) = cost_left ps k
-  cost_left (Some e ∷ ps) (suc k) = omega (arith, cost_left ps k, sum_by-append (size_at names) (inside (tree_of e)) (inside_positions (positions_of (map position_of ps))))
+  cost_left (Some e ∷ ps) (suc k) = omega (arith, cost_left ps k, sum_by-append (tree_size names) (inside (tree_of e)) (inside_positions (positions_of (map position_of ps))))
 
   -- where a position fails and those after it do not, that is the error of all
   pub failed_at : (ps : List (Option Expr)) (k : ℕ) (e : Expr) (fault : Fault) (later : List Position) → k < length ps → get_or ps k None ≡ Some e → eval (tree_of e) names ≡ Err fault

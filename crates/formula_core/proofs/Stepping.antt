@@ -20,7 +20,7 @@ use Rattle.formula_core.specs.declared.input.Input.TheVariants.{Good, Bad}
 use Rattle.arrays_core.specs.Outcomes.{Outcome}
 use Rattle.formula_core.specs.Meaning.{eval}
 use Rattle.formula_core.specs.Rules.{right_rule, both_rule}
-use Rattle.formula_core.specs.Changes.{Change, arguments, result_of, paired, operation_delta, operation_cost, operation_size, written, values_of, change, changes, cost_at, size_at}
+use Rattle.formula_core.specs.Changes.{Change, arguments, result_of, paired, operation_delta, operation_cost, operation_size, written, values_of, change, changes, cost_at, tree_size}
 use Rattle.formula_core.specs.Inputs.{shown, stays, delta_of, written_inputs, AllHaveFit, IsInput, IsOperationChange}
 use Rattle.formula_core.specs.Stages.{IsReady, AreReady, IsStep}
 use Rattle.formula_core.proofs.Applied.{change_before, change_between, cost_before, cost_between, eval_before, eval_between, size_before, size_between}
@@ -129,7 +129,7 @@ whole_all p os (i ∷ is) held shows new = whole_by p (arguments (map shown (i �
 
 -- an operation's step where the formula was not worked out yet
 pub new_step : (p : RuleModel) (c : Change) (t : Tree) (os : List Outcome) (is : List Input) (held : Outcome) (before after : ℕ) (r : Result (Delta × ℕ) AllocError) → map shown is ≡ os → BeginsAnew is
-    → result_of p (arguments os) ≡ eval t c.new → size_at c.new t ≡ operation_size p (arguments os) → IsOperationChange p is held before after r → IsStep true c t before after r
+    → result_of p (arguments os) ≡ eval t c.new → tree_size c.new t ≡ operation_size p (arguments os) → IsOperationChange p is held before after r → IsStep true c t before after r
 new_step p c t os is held before after r shows new meant sized made =
     let whole = whole_all p os is held shows new in
     let delta = whole.delta ∙ ap (λ xs. Whole (result_of p (arguments xs))) shows ∙ ap (λ o. Whole o) meant in

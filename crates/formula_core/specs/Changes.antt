@@ -113,16 +113,16 @@ operation_size p (Ok arrays) = form_size (p.form arrays)
 operation_size p (Err e) = 0
 
 -- the same of the node of a tree, where the names show these
-abbrev pub size_at : (List ℕ → Outcome) → Tree → ℕ
-size_at names (Const l) = 0
-size_at names (Name x) = 0
-size_at names (Monad f b) = operation_size (right_rule (function1.Monad f)) (arguments (eval b names ∷ []))
-size_at names (Dyad f a b) = operation_size (both_rule (function2.Dyad f)) (arguments (eval a names ∷ eval b names ∷ []))
-size_at names (Index a ps) = operation_size (index_rule (written ps)) (arguments (eval a names ∷ values_of ps names))
-size_at names (Reduce f k b) = operation_size (right_rule (function1.Reduce f k)) (arguments (eval b names ∷ []))
-size_at names (Scan f k b) = operation_size (right_rule (function1.Scan f k)) (arguments (eval b names ∷ []))
-size_at names (Outer f a b) = operation_size (both_rule (function2.Outer f)) (arguments (eval a names ∷ eval b names ∷ []))
-size_at names (Inner f g a b) = operation_size (both_rule (function2.Inner f g)) (arguments (eval a names ∷ eval b names ∷ []))
+abbrev pub tree_size : (List ℕ → Outcome) → Tree → ℕ
+tree_size names (Const l) = 0
+tree_size names (Name x) = 0
+tree_size names (Monad f b) = operation_size (right_rule (function1.Monad f)) (arguments (eval b names ∷ []))
+tree_size names (Dyad f a b) = operation_size (both_rule (function2.Dyad f)) (arguments (eval a names ∷ eval b names ∷ []))
+tree_size names (Index a ps) = operation_size (index_rule (written ps)) (arguments (eval a names ∷ values_of ps names))
+tree_size names (Reduce f k b) = operation_size (right_rule (function1.Reduce f k)) (arguments (eval b names ∷ []))
+tree_size names (Scan f k b) = operation_size (right_rule (function1.Scan f k)) (arguments (eval b names ∷ []))
+tree_size names (Outer f a b) = operation_size (both_rule (function2.Outer f)) (arguments (eval a names ∷ eval b names ∷ []))
+tree_size names (Inner f g a b) = operation_size (both_rule (function2.Inner f g)) (arguments (eval a names ∷ eval b names ∷ []))
 
 -- each with its change, from the first; those behind the last change stay
 abbrev pub each_with : {C A : Type 0} → (C → A → A) → List C → List A → List A

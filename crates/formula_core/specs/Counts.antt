@@ -7,7 +7,7 @@ use Rattle.arrays_core.specs.Shapes.{size}
 use Rattle.arrays_core.specs.declared.fault.Fault.{Fault}
 use Rattle.change_core.specs.Meters.{ticked}
 use Rattle.formula_core.specs.declared.evaluation.Operand.{Operand}
-use Rattle.formula_core.specs.Changes.{size_at}
+use Rattle.formula_core.specs.Changes.{tree_size}
 use Rattle.formula_core.specs.Meaning.{eval, eval_positions}
 use Rattle.formula_core.specs.Operands.{array_in}
 use Rattle.arrays_core.specs.Outcomes.{Outcome}
@@ -15,11 +15,11 @@ use Rattle.formula_core.specs.Tables.{inside, inside_positions}
 
 -- what the functions in a tree cost, where the names show these: for each the size of its result
 abbrev pub cost_in : (List ℕ → Outcome) → Tree → ℕ
-cost_in names t = sum_by (size_at names) (inside t)
+cost_in names t = sum_by (tree_size names) (inside t)
 
 -- and those in positions
 abbrev pub cost_in_positions : (List ℕ → Outcome) → Positions → ℕ
-cost_in_positions names ps = sum_by (size_at names) (inside_positions ps)
+cost_in_positions names ps = sum_by (tree_size names) (inside_positions ps)
 
 -- at most so much is counted, also where memory is refused, and no less where nothing has failed
 pub record IsCounted {A : Type 0} (cost : ℕ) (Given : Type 0) (before after : ℕ) (r : Result A AllocError) : Type 0 where

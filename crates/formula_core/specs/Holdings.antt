@@ -14,7 +14,7 @@ use Rattle.formula_core.specs.declared.table.Node.{Node}
 use Rattle.formula_core.specs.Changes.{FitsIn, each_with}
 use Rattle.formula_core.specs.Meaning.{eval}
 use Rattle.arrays_core.specs.Outcomes.{Outcome, fault}
-use Rattle.formula_core.specs.Sums.{summed_at, resummed, FitsSums}
+use Rattle.formula_core.specs.Sums.{summed_at, resummed, FitsInSums}
 
 -- what a node holds: its result, and the array whose lines it keeps as trees, with their fold, if it does
 pub record Holding : Type 0 where
@@ -66,8 +66,8 @@ abbrev pub taking : NodeChange → Holding → Holding
 taking d h = record { result = applied d.delta h.result; sums = resummed d.sums h.sums }
 
 -- a node that took its change
-abbrev pub taken : NodeChange → Kept → Kept
-taken d k = record { node = k.node; result = applied d.delta k.result; sums = resummed d.sums k.sums }
+abbrev pub node_taking : NodeChange → Kept → Kept
+node_taking d k = record { node = k.node; result = applied d.delta k.result; sums = resummed d.sums k.sums }
 
 -- what nodes hold, with their changes
 abbrev pub adopted : List NodeChange → List Holding → List Holding
@@ -76,8 +76,8 @@ adopted changes held = each_with taking changes held
 -- the boxes that change lie in what the node holds
 pub record IsFit (d : NodeChange) (h : Holding) : Type 0 where
   pub delta : FitsIn d.delta h.result
-  pub sums : FitsSums d.sums h.sums
+  pub sums : FitsInSums d.sums h.sums
 
 -- so it is with each node that has a change
-abbrev pub AllFit : List NodeChange → List Holding → Type 0
-AllFit changes held = (k : ℕ) → k < length changes → IsFit (get_or changes k no_change) (get_or held k not_worked_out)
+abbrev pub AllChangesFit : List NodeChange → List Holding → Type 0
+AllChangesFit changes held = (k : ℕ) → k < length changes → IsFit (get_or changes k no_change) (get_or held k not_worked_out)

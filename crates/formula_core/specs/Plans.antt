@@ -11,9 +11,9 @@ use Rattle.formula_core.specs.declared.input.Input.{Input}
 use Rattle.formula_core.specs.Meaning.{eval, names_in}
 use Rattle.formula_core.specs.Tables.{subtrees, tree_at}
 use Rattle.formula_core.specs.Formulas.{FormulaValue}
-use Rattle.formula_core.specs.Changes.{Change, change, cost_at, size_at, IsNameChanged}
+use Rattle.formula_core.specs.Changes.{Change, change, cost_at, tree_size, IsNameChanged}
 use Rattle.formula_core.specs.Inputs.{IsInput}
-use Rattle.formula_core.specs.Holdings.{holding_at, no_change, adopted, AllFit}
+use Rattle.formula_core.specs.Holdings.{holding_at, no_change, adopted, AllChangesFit}
 use Rattle.formula_core.specs.declared.kept.NodeChange.{NodeChange}
 
 -- the changes of nodes, from the first on, and what they cost; of all nodes once the plan is whole
@@ -28,7 +28,7 @@ root_change changes = (get_or changes (length changes - 1) no_change).delta
 -- it has a change for each node, which lies in what that holds
 pub record IsPlanOf (f : FormulaValue) (p : PlanValue) : Type 0 where
   pub each : length p.changes ≡ length f.nodes
-  pub fit : AllFit p.changes f.nodes
+  pub fit : AllChangesFit p.changes f.nodes
 
 -- the change of a node: where the formula was not worked out yet every node is whole
 abbrev pub node_change : (is_new : Bool) → Change → Tree → Delta
@@ -36,7 +36,7 @@ node_change is_new c t = if is_new then Whole (eval t c.new) else change c t
 
 -- what it costs: where the formula was not worked out yet, the size of the result
 abbrev pub node_cost_at : (is_new : Bool) → Change → Tree → ℕ
-node_cost_at is_new c t = if is_new then size_at c.new t else cost_at c t
+node_cost_at is_new c t = if is_new then tree_size c.new t else cost_at c t
 
 -- what the change of a tree costs with all in it
 abbrev pub tree_cost : (is_new : Bool) → Change → Tree → ℕ

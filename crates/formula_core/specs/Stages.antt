@@ -27,7 +27,7 @@ use Rattle.formula_core.specs.Changes.{Change, change, arguments, operation_cost
 use Rattle.formula_core.specs.Inputs.{shown, delta_of, IsInput}
 use Rattle.formula_core.specs.Joins.{most_joins_of, least_joins_of, most_joins, least_joins}
 use Rattle.formula_core.specs.Plans.{node_change, node_cost_at, AreInputs, IsNameSound}
-use Rattle.formula_core.specs.Sums.{summed_at, resummed, FitsSums}
+use Rattle.formula_core.specs.Sums.{summed_at, resummed, FitsInSums}
 use Rattle.formula_core.specs.declared.sums.SumsDelta.{SumsDelta}
 use Rattle.formula_core.specs.declared.sums.SumsDelta.TheVariants.{Whole}
 use Rattle.formula_core.specs.declared.table.Node.{Node}
@@ -68,7 +68,7 @@ IsMadeBy s n made = (c : Change) × ((names : List (List ℕ)) × ((trees : List
 -- the change of the sums that the node of a tree keeps makes of them those of what its argument is now
 pub record IsSumsStep (c : Change) (t : Tree) (kept : Option SummedValue) (s : SumsDelta) : Type 0 where
   pub right : resummed s kept ≡ summed_at c.new t
-  pub fit : FitsSums s kept
+  pub fit : FitsInSums s kept
 
 -- what changes of each literal: nothing, and in a new formula all of it
 pub record IsLiteralChange (is_new : Bool) (d : Delta) : Type 0 where

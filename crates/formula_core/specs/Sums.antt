@@ -15,7 +15,7 @@ use Rattle.index_region.specs.Tails.{TailValue, FitsTail}
 use Rattle.change_rules.specs.Currency.{applied}
 use Rattle.change_rules.specs.Nodes.{is_whole}
 use Rattle.sum_rules.specs.LineSums.{SummedValue, keeps_sums, summed, patched_sums, grown_sums}
-use Rattle.sum_rules.specs.NewLines.{FitsSums as FitBehind}
+use Rattle.sum_rules.specs.NewLines.{FitsInSums as FitBehind}
 use Rattle.formula_core.specs.declared.sums.SumsDelta.{SumsDelta}
 use Rattle.formula_core.specs.declared.sums.SumsDelta.TheVariants.{Same, Patch, Grown, Whole}
 use Rattle.formula_core.specs.Changes.{FitsIn}
@@ -66,12 +66,12 @@ resummed (Grown l) None = None
 resummed (Whole s) kept = s
 
 -- a box that changes lies in the array whose lines are folded, and new lines are what that grows by
-abbrev pub FitsSums : SumsDelta → Option SummedValue → Type 0
-FitsSums (Patch p) (Some s) = FitsPatch s.array p.value
-FitsSums (Patch p) None = ⊥
-FitsSums (Grown l) (Some s) = FitBehind s l.value
-FitsSums (Grown l) None = ⊥
-FitsSums _ _ = Unit {0}
+abbrev pub FitsInSums : SumsDelta → Option SummedValue → Type 0
+FitsInSums (Patch p) (Some s) = FitsPatch s.array p.value
+FitsInSums (Patch p) None = ⊥
+FitsInSums (Grown l) (Some s) = FitBehind s l.value
+FitsInSums (Grown l) None = ⊥
+FitsInSums _ _ = Unit {0}
 
 -- the argument is what this change makes of what it was, and sums that were kept are those of that
 pub record WasSummed (fold : Reduce) (now : Outcome) (d : Delta) (kept : Option SummedValue) (old : Outcome) : Type 0 where
@@ -82,7 +82,7 @@ pub record WasSummed (fold : Reduce) (now : Outcome) (d : Delta) (kept : Option 
 -- what changes of the sums that are kept of an argument's lines along an axis: whatever it was, they are then those of what it is now
 pub record IsSumsDelta (fold : Reduce) (now : Outcome) (d : Delta) (kept : Option SummedValue) (s : SumsDelta) : Type 0 where
   pub right : (old : Outcome) → (is_whole d ≡ false → WasSummed fold now d kept old) → resummed s kept ≡ summed_in fold now
-  pub fit : (old : Outcome) → (is_whole d ≡ false → WasSummed fold now d kept old) → FitsSums s kept
+  pub fit : (old : Outcome) → (is_whole d ≡ false → WasSummed fold now d kept old) → FitsInSums s kept
 
 -- sums that are made anew for an argument are those of its lines as it is now
 abbrev pub AreNewSums : Reduce → (now : Outcome) → SumsDelta → Type 0

@@ -5,7 +5,7 @@ ghost use Rattle.arrays_core.specs.declared.item.Kind.TheVariants.{Value};
 ghost use Rattle.change_rules.specs.Currency.{applied};
 ghost use Rattle.formula_core.specs.Changes.{FitsIn, each_with};
 ghost use Rattle.arrays_core.specs.Outcomes.{fault};
-ghost use Rattle.formula_core.specs.Holdings.{holding, holdings_of, can_be_lent, no_change, taken, IsFit, AllFit};
+ghost use Rattle.formula_core.specs.Holdings.{holding, holdings_of, can_be_lent, no_change, node_taking, IsFit, AllChangesFit};
 
 use crate::sums::{SumsDelta, take_sums_delta};
 use crate::table::Node;
@@ -49,7 +49,7 @@ impl Kept {
     fn adopt_lent(&mut self, change: &NodeChange)
         requires fit { IsFit change.now (holding self.old) }
         requires lent { can_be_lent change.now ≡ true }
-        ensures { self.new ≡ taken change.now self.old }
+        ensures { self.new ≡ node_taking change.now self.old }
     {
         if let Delta::Patch(patch) = &change.delta {
             if let Ok(array) = &mut self.result {
@@ -62,7 +62,7 @@ impl Kept {
     #[inline(always)]
     fn adopt(&mut self, change: NodeChange)
         requires { IsFit change (holding self.old) }
-        ensures { self.new ≡ taken change self.old }
+        ensures { self.new ≡ node_taking change self.old }
     {
         adopt_change(&mut self.result, change.delta);
         take_sums_delta(&mut self.sums, change.sums);
@@ -123,8 +123,8 @@ fn adopt_change(held: &mut Result<Array, Fault>, change: Delta)
 /// Each node takes its change out of the list. What can be lent is not moved.
 pub(crate) fn adopt_all(nodes: &mut Vec<Kept>, changes: &mut Vec<NodeChange>)
     requires each { length changes.old.items ≡ length nodes.old.items }
-    requires fit { AllFit changes.old.items (holdings_of nodes.old.items) }
-    ensures { nodes.new.items ≡ each_with taken changes.old.items nodes.old.items }
+    requires fit { AllChangesFit changes.old.items (holdings_of nodes.old.items) }
+    ensures { nodes.new.items ≡ each_with node_taking changes.old.items nodes.old.items }
 {
     while !changes.is_empty() {
         let place = changes.len() - 1;

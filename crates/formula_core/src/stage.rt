@@ -11,7 +11,7 @@ ghost use Rattle.arrays_core.specs.declared.item.Kind.TheVariants.{Value};
 ghost use Rattle.arrays_core.specs.Outcomes.{fault};
 ghost use Rattle.formula_core.specs.declared.input.Input.TheVariants.{Bad};
 ghost use Rattle.formula_core.specs.Inputs.{HasFit, AllHaveFit, IsInput};
-ghost use Rattle.formula_core.specs.Holdings.{holdings_of, not_worked_out, AllFit};
+ghost use Rattle.formula_core.specs.Holdings.{holdings_of, not_worked_out, AllChangesFit};
 ghost use Rattle.formula_core.specs.Joins.{most_joins, least_joins};
 ghost use Rattle.formula_core.specs.Plans.{node_change, node_cost_at};
 ghost use Rattle.formula_core.specs.Rules.{with_change};
@@ -70,7 +70,7 @@ impl<'a> Stage<'a> {
     fn taken(&self, operand: &'a Operand) -> Input<'a>
         requires within { IsOperand (length self.now.inputs.now) (length self.now.changes.now) operand.now }
         requires few { length self.now.changes.now ≤ length self.now.nodes.now }
-        requires fit { AllFit self.now.changes.now (holdings_of self.now.nodes.now) }
+        requires fit { AllChangesFit self.now.changes.now (holdings_of self.now.nodes.now) }
         requires literals { IsLiteralChange self.now.is_new self.now.of_literals.now }
         ensures { IsTaken self.now.inputs.now (holdings_of self.now.nodes.now) self.now.changes.now self.now.of_literals.now operand.now result }
     {

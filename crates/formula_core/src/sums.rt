@@ -7,7 +7,7 @@ ghost use Rattle.index_region.specs.Patches.{FitsPatch};
 ghost use Rattle.sum_rules.specs.LineSums.{SummedValue};
 ghost use Rattle.formula_core.specs.Changes.{HasGrown};
 ghost use Rattle.formula_core.specs.Inputs.{shown, delta_of, HasFit};
-ghost use Rattle.formula_core.specs.Sums.{total_of as fold_of_total, resummed, FitsSums, IsSumsDelta};
+ghost use Rattle.formula_core.specs.Sums.{total_of as fold_of_total, resummed, FitsInSums, IsSumsDelta};
 
 use crate::input::Input;
 use apl_expr::Function1;
@@ -120,7 +120,7 @@ fn grown_delta(
 
 /// The sums that a node keeps take their change. No memory is asked for.
 pub(crate) fn take_sums_delta(kept: &mut Option<LineSums>, change: SumsDelta)
-    requires { FitsSums change kept.old }
+    requires { FitsInSums change kept.old }
     ensures { kept.new ≡ resummed change kept.old }
 {
     match change {
