@@ -1,10 +1,11 @@
 -- A plan comes forward.
-use Rattle.std.proofs.Common.{◌≡◌, ◌<◌, ◌+◌, ◌≤◌, ℕ, List, [], ◌∷◌, ◌++◌, Bool, true, false, cond, refl, sym, ap, ◌∙◌, subst, length, take, get_or, arith, ◌⊎◌, inl, inr}
+use Rattle.std.proofs.Common.{◌≡◌, ◌<◌, ◌+◌, ◌≤◌, ℕ, zero, suc, All, List, [], ◌∷◌, ◌++◌, Bool, true, false, cond, refl, sym, ap, ◌∙◌, subst, length, take, get_or, arith, ◌⊎◌, inl, inr}
 use Rattle.std.specs.List.{count_by, sum_by}
 use Rattle.std.proofs.lemmas.Bool.{false≢true, cases_lt}
 use Rattle.std.proofs.lemmas.List.{length-append, take_all, take-take}
+use Rattle.std.proofs.lemmas.List.Elements.{All-nil, All-append, All-push}
 use Rattle.std.proofs.lemmas.List.Sums.{sum_by_more, sum_by_more_le, sum_by-take-le, count_by_more_yes, count_by_more_no}
-use Rattle.apl_expr.specs.Trees.{Tree, Const, Name, Monad, Dyad, Index, Reduce, Scan, Outer, Inner, Numbers}
+use Rattle.apl_expr.specs.Trees.{Tree, Const, Name, Monad, Dyad, Index, Reduce, Scan, Outer, Inner, Numbers, Positions, NoPositions, Empty, Filled}
 use Rattle.change_core.specs.Meters.{ticked}
 use Rattle.change_rules.specs.Nodes.{is_error}
 use Rattle.index_region.specs.declared.delta.Delta.{Delta}
@@ -17,9 +18,10 @@ use Rattle.formula_core.specs.Holdings.{not_worked_out}
 use Rattle.formula_core.specs.Plans.{node_change, node_cost_at, tree_cost, IsComputed}
 use Rattle.formula_core.specs.Progress.{operations_among, IsAtOperation}
 use Rattle.formula_core.specs.Stages.{IsBegun, IsDone}
-use Rattle.formula_core.specs.Tables.{applies, subtrees, tree_at, tree_of_node, tree_of_operand}
+use Rattle.formula_core.specs.Tables.{applies, inside, inside_positions, subtrees, tree_at, tree_of_node, tree_of_operand}
 use Rattle.formula_core.proofs.Applied.{operation_before, operation_between}
 use Rattle.formula_core.proofs.Planned.{begun_more}
+use Rattle.formula_core.proofs.Rooted.{before_root, root_last}
 
 -- a node applies a function where its tree does
 pub applied_there : (names : List (List ℕ)) (trees : List Tree) (n : Node) → is_operation (tree_of_node names trees n) ≡ applies n
@@ -28,6 +30,58 @@ applied_there names trees (node.Name place) = refl
 applied_there names trees (node.Monad f right) = operation_before f (tree_of_operand names trees right)
 applied_there names trees (node.Dyad f left right) = operation_between f (tree_of_operand names trees left) (tree_of_operand names trees right)
 applied_there names trees (node.Index array positions) = refl
+
+-- it applies a function to arguments
+abbrev Applies : Tree → Type 0
+Applies t = is_operation t ≡ true
+
+mutual
+  -- all trees inside a tree that have a node do
+  inside_apply : (t : Tree) → All Applies (inside t)
+  inside_apply (Const l) = All-nil Applies
+  inside_apply (Name x) = All-nil Applies
+  inside_apply (Monad f b) = All-push Applies (inside b) (Monad f b) (inside_apply b) refl
+  inside_apply (Dyad f a b) = All-append Applies (inside a) (inside b ++ Dyad f a b ∷ []) (inside_apply a) (All-push Applies (inside b) (Dyad f a b) (inside_apply b) refl)
+  inside_apply (Index a ps) = All-append Applies (inside a) (inside_positions ps ++ Index a ps ∷ []) (inside_apply a) (All-push Applies (inside_positions ps) (Index a ps) (positions_apply ps) refl)
+  inside_apply (Reduce f k b) = All-push Applies (inside b) (Reduce f k b) (inside_apply b) refl
+  inside_apply (Scan f k b) = All-push Applies (inside b) (Scan f k b) (inside_apply b) refl
+  inside_apply (Outer f a b) = All-append Applies (inside a) (inside b ++ Outer f a b ∷ []) (inside_apply a) (All-push Applies (inside b) (Outer f a b) (inside_apply b) refl)
+  inside_apply (Inner f g a b) = All-append Applies (inside a) (inside b ++ Inner f g a b ∷ []) (inside_apply a) (All-push Applies (inside b) (Inner f g a b) (inside_apply b) refl)
+
+  positions_apply : (ps : Positions) → All Applies (inside_positions ps)
+  positions_apply NoPositions = All-nil Applies
+  positions_apply (Empty ps) = positions_apply ps
+  positions_apply (Filled e ps) = All-append Applies (inside e) (inside_positions ps) (inside_apply e) (positions_apply ps)
+
+-- so where one of the trees that have a node does, any other does
+pub applies_later : (t : Tree) (k m : ℕ) → k < length (subtrees t) → is_operation (tree_at (subtrees t) k) ≡ true → m < length (subtrees t) → is_operation (tree_at (subtrees t) m) ≡ true
+applies_later (Const l) zero m below one under = absurd (false≢true one)
+applies_later (Const l) (suc k) m below one under = absurd (omega (arith, below))
+applies_later (Name x) zero m below one under = absurd (false≢true one)
+applies_later (Name x) (suc k) m below one under = absurd (omega (arith, below))
+applies_later (Monad f b) k m below one under = inside_apply (Monad f b) m (Const (Numbers [])) under
+applies_later (Dyad f a b) k m below one under = inside_apply (Dyad f a b) m (Const (Numbers [])) under
+applies_later (Index a ps) k m below one under = inside_apply (Index a ps) m (Const (Numbers [])) under
+applies_later (Reduce f i b) k m below one under = inside_apply (Reduce f i b) m (Const (Numbers [])) under
+applies_later (Scan f i b) k m below one under = inside_apply (Scan f i b) m (Const (Numbers [])) under
+applies_later (Outer f a b) k m below one under = inside_apply (Outer f a b) m (Const (Numbers [])) under
+applies_later (Inner f g a b) k m below one under = inside_apply (Inner f g a b) m (Const (Numbers [])) under
+
+-- some tree has a node
+pub some_node : (t : Tree) → 0 < length (subtrees t)
+some_node t = omega (arith, ap (λ (ts : List Tree). length ts) (root_last t), length-append (before_root t) (t ∷ []))
+
+-- and one that does not is alone
+pub leaf_alone : (t : Tree) → is_operation (tree_at (subtrees t) 0) ≡ false → length (subtrees t) ≡ 1
+leaf_alone (Const l) plain = refl
+leaf_alone (Name x) plain = refl
+leaf_alone (Monad f b) plain = absurd (false≢true (sym plain ∙ inside_apply (Monad f b) 0 (Const (Numbers [])) (some_node (Monad f b))))
+leaf_alone (Dyad f a b) plain = absurd (false≢true (sym plain ∙ inside_apply (Dyad f a b) 0 (Const (Numbers [])) (some_node (Dyad f a b))))
+leaf_alone (Index a ps) plain = absurd (false≢true (sym plain ∙ inside_apply (Index a ps) 0 (Const (Numbers [])) (some_node (Index a ps))))
+leaf_alone (Reduce f k b) plain = absurd (false≢true (sym plain ∙ inside_apply (Reduce f k b) 0 (Const (Numbers [])) (some_node (Reduce f k b))))
+leaf_alone (Scan f k b) plain = absurd (false≢true (sym plain ∙ inside_apply (Scan f k b) 0 (Const (Numbers [])) (some_node (Scan f k b))))
+leaf_alone (Outer f a b) plain = absurd (false≢true (sym plain ∙ inside_apply (Outer f a b) 0 (Const (Numbers [])) (some_node (Outer f a b))))
+leaf_alone (Inner f g a b) plain = absurd (false≢true (sym plain ∙ inside_apply (Inner f g a b) 0 (Const (Numbers [])) (some_node (Inner f g a b))))
 
 -- a literal and a name cost nothing
 pub free : (is_new : Bool) (c : Change) (t : Tree) → is_operation t ≡ false → 0 ≡ node_cost_at is_new c t
@@ -126,18 +180,6 @@ module _ (f : FormulaValue) (c : Change) (changes new : List NodeChange) (d : No
     (done : IsDone f.is_new c (tree_at (subtrees f.tree) (length changes)) (get_or f.nodes (length changes) not_worked_out) d) where
   pub begun_one : IsBegun f c new (ticked cost items)
   begun_one = begun_more f c changes new d cost items (ticked cost items) begun (node_left f changes left begun.known) is refl costs done
-
--- what was put behind is taken off again
-rolled_at : (inner after : List NodeChange) (d : NodeChange) → take (length (inner ++ d ∷ [])) after ≡ inner ++ d ∷ [] → take (length inner) after ≡ inner
-rolled_at [] after d h = refl
-rolled_at (x ∷ inner) [] d h = let never : [] ≡ x ∷ (inner ++ d ∷ []) = h in absurd cc
-rolled_at (x ∷ inner) (y ∷ after) d h =
-    let first : y ≡ x = cc in
-    let rest : take (length (inner ++ d ∷ [])) after ≡ inner ++ d ∷ [] = cc in
-    ap (λ z. z ∷ take (length inner) after) first ∙ ap (λ ds. x ∷ ds) (rolled_at inner after d rest)
-
-pub rolled : (inner more after : List NodeChange) (d : NodeChange) → more ≡ inner ++ d ∷ [] → take (length more) after ≡ more → take (length inner) after ≡ inner
-rolled inner more after d is kept = rolled_at inner after d (subst (λ (ds : List NodeChange). take (length ds) after ≡ ds) is kept)
 
 -- where no item of a node fails, its cost is counted whole
 counted_by : (failed : Bool) (start cost own after : ℕ) → (failed ≡ true → cost ≡ 0) → (failed ≡ false → ticked 0 cost ≤ own) → own ≤ cost → after ≡ ticked start own → after ≡ ticked start cost

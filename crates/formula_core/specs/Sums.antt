@@ -15,7 +15,7 @@ use Rattle.index_region.specs.Tails.{TailValue, FitsTail}
 use Rattle.change_rules.specs.Currency.{applied}
 use Rattle.change_rules.specs.Nodes.{is_whole}
 use Rattle.sum_rules.specs.LineSums.{SummedValue, keeps_sums, summed, patched_sums, grown_sums}
-use Rattle.sum_rules.specs.NewLines.{FitsInSums as FitBehind}
+use Rattle.sum_rules.specs.NewLines.{FitsSums as FitBehind}
 use Rattle.formula_core.specs.declared.sums.SumsDelta.{SumsDelta}
 use Rattle.formula_core.specs.declared.sums.SumsDelta.TheVariants.{Same, Patch, Grown, Whole}
 use Rattle.formula_core.specs.Changes.{FitsIn}

@@ -158,7 +158,7 @@ impl Formula {
         plan.changes.len() == self.nodes.len()
     }
 
-    /// The plan of which no function is done yet: it has the changes of the literals and names that stand before the first. The inputs
+    /// The plan of which no function is done yet: it has the change of a literal or name that is the whole expression. The inputs
     /// are as for `plan`.
     #[inline(always)]
     pub fn start(&self, inputs: &[Input]) -> Result<Plan, AllocError>
@@ -171,12 +171,15 @@ impl Formula {
             changes: room_for_changes(self.alloc, &self.room, self.nodes.len())?,
             cost: Count::new(),
         };
-        self.go_on(&mut plan.changes, inputs)?;
+        if self.nodes[0].node.applies() {
+            return Ok(plan);
+        }
+        let change = self.next_leaf(plan.changes.as_slice(), inputs)?;
+        plan.changes.push(change)?;
         Ok(plan)
     }
 
-    /// One function more of a plan of this formula as it is, of which fewer were done than there are, with the literals and names that
-    /// come after it; the inputs tell the same change each time. Where memory is refused, the plan and the meter are as they were.
+    /// One function more of a plan of this formula as it is, of which fewer were done than there are; the inputs tell the same change each time. Where memory is refused, the plan and the meter are as they were.
     #[inline(always)]
     pub fn advance(
         &self,
@@ -202,40 +205,16 @@ impl Formula {
         ensures err { OnErr result (plan.new ≡ plan.old) }
         ensures err_meter { OnErr result (meter.new ≡ meter.old) }
     {
-        let done = plan.changes.len();
         let mut own = Meter::new();
         let mut change = NodeChange::none();
         let items = self.next(plan.changes.as_slice(), inputs, &mut change, &mut own)?;
         plan.changes.push(change)?;
-        match self.go_on(&mut plan.changes, inputs) {
-            Ok(()) => {}
-            Err(refused) => {
-                plan.changes.truncate(done);
-                return Err(refused);
-            }
-        }
         plan.cost.add(items);
         meter.include(&own);
         Ok(())
     }
 
-    /// The changes of the literals and names that come next, until a function does.
-    #[inline]
-    fn go_on(&self, changes: &mut Vec<NodeChange>, inputs: &[Input]) -> Result<(), AllocError>
-        requires begun { (c : Change) × (IsTold self.now c inputs.now × ((cost : ℕ) × IsBegun self.now c changes.old.items cost)) }
-        ensures kept { take (length changes.old.items) changes.new.items ≡ changes.old.items }
-        ensures next { OnOk result (IsAtOperation self.now changes.new.items) }
-        ensures same { OnOk result (operations_among self.now changes.new.items ≡ operations_among self.now changes.old.items) }
-        ensures begun { OnOk result ((c : Change) → IsTold self.now c inputs.now → (cost : ℕ) → IsBegun self.now c changes.old.items cost → IsBegun self.now c changes.new.items cost) }
-    {
-        while changes.len() < self.nodes.len() && !self.nodes[changes.len()].node.applies() {
-            let change = self.next_leaf(changes.as_slice(), inputs)?;
-            changes.push(change)?;
-        }
-        Ok(())
-    }
-
-    /// What changes of the literal or name that comes next after those that have these changes: of a literal nothing, but in a new formula.
+    /// What changes of the literal or name that comes next after those that have these changes.
     fn next_leaf(&self, changes: &[NodeChange], inputs: &[Input]) -> Result<NodeChange, AllocError>
         requires below { length changes.now < length self.now.nodes }
         requires begun { (c : Change) × (IsTold self.now c inputs.now × ((cost : ℕ) × IsBegun self.now c changes.now cost)) }

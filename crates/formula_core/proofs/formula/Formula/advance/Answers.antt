@@ -1,4 +1,4 @@
-use Rattle.std.proofs.Common.{◌≡◌, ◌∙◌, ◌<◌, ◌≤◌, ◌+◌, List, sym, ap, subst, length, take, get_or, arith, true, false}
+use Rattle.std.proofs.Common.{◌≡◌, ◌∙◌, ◌<◌, ◌≤◌, ◌+◌, List, sym, ap, subst, length, get_or, arith, true, false}
 use Rattle.change_core.specs.Meters.{ticked, MeterValue}
 use Rattle.formula_core.specs.declared.kept.NodeChange.{NodeChange}
 use Rattle.formula_core.specs.Formulas.{is_operation, operations}
@@ -9,7 +9,7 @@ use Rattle.formula_core.specs.Plans.{PlanValue, node_cost_at}
 use Rattle.formula_core.specs.Progress.{operations_among}
 use Rattle.formula_core.specs.Stages.{IsBegun, IsDone}
 use Rattle.formula_core.specs.Tables.{subtrees, tree_at}
-use Rattle.formula_core.proofs.Progressed.{node_left, among_more, begun_one, counted_whole, rolled}
+use Rattle.formula_core.proofs.Progressed.{node_left, among_more, applies_later, begun_one, counted_whole}
 use Rattle.formula_core.proofs.Tallied.{joined_whole}
 use Rattle.formula_core.proofs.formula.Formula.advance.Goals as goal
 
@@ -18,27 +18,6 @@ next-requires-clause-below c =
     let f = c.args.self.now in
     let was : c.plan.inside.changes.items ≡ c.args.plan.now.changes = ap (λ (p : PlanValue). p.changes) c.plan.view_is in
     omega (arith, node_left f c.args.plan.now.changes c.requires.left c.requires.planned.1.1.begun.known, ap (λ (ds : List NodeChange). length ds) (c.as_slice.ensures.value ∙ was))
-
-pub go_on-requires : goal.go_on-requires
-go_on-requires c =
-    let f = c.args.self.now in
-    let inner = c.plan.inside.changes.items in
-    let was : inner ≡ c.args.plan.now.changes = ap (λ (p : PlanValue). p.changes) c.plan.view_is in
-    let w = c.requires.planned in
-    let cost = c.args.plan.now.cost in
-    let begun : IsBegun f w.0 inner cost = subst (λ (ds : List NodeChange). IsBegun f w.0 ds cost) (sym was) w.1.1.begun in
-    let left = subst (λ (ds : List NodeChange). operations_among f ds < operations f.tree) (sym was) c.requires.left in
-    let seen : IsBegun f w.0 c.as_slice.result.now cost = subst (λ (ds : List NodeChange). IsBegun f w.0 ds cost) (sym c.as_slice.ensures.value) begun in
-    let items = subst (λ (ds : List NodeChange). c.in_ok-items.items ≡ node_cost_at f.is_new w.0 (tree_at (subtrees f.tree) (length ds))) c.as_slice.ensures.value (c.in_ok-items.ensures.cost w.0 w.1.0 cost seen) in
-    let done = subst (λ (ds : List NodeChange). IsDone f.is_new w.0 (tree_at (subtrees f.tree) (length ds)) (get_or f.nodes (length ds) not_worked_out) c.next.new.change) c.as_slice.ensures.value (c.in_ok-items.ensures.done w.0 w.1.0 cost seen) in
-    record { begun = (w.0, (w.1.0, (ticked cost c.in_ok-items.items, begun_one f w.0 inner c.push.new.self.items c.next.new.change cost c.in_ok-items.items begun left c.in_ok-push.ensures.items items done))) }
-
-pub returns-in-Err-clause-err : goal.returns-in-Err-clause-err
-returns-in-Err-clause-err c =
-    let inner = c.plan.inside.changes.items in
-    let place : c.len-done.result ≡ length inner = c.len-done.ensures ∙ c.plan.inside.changes.ok.0 in
-    let back = c.truncate.ensures.items ∙ (ap (λ k. take k c.go_on.new.changes.items) place ∙ rolled inner c.push.new.self.items c.go_on.new.changes.items c.next.new.change c.in_ok-push.ensures.items c.go_on.ensures.kept) in
-    ap (λ (ds : List NodeChange). record { changes = ds; cost = c.plan.inside.cost }) back ∙ c.plan.view_is
 
 pub returns-clause-one : goal.returns-clause-one
 returns-clause-one c =
@@ -51,7 +30,7 @@ returns-clause-one c =
     let w = c.requires.planned in
     let one : is_operation (tree_at (subtrees f.tree) (length inner)) ≡ true =
     subst (λ (ds : List NodeChange). is_operation (tree_at (subtrees f.tree) (length ds)) ≡ true) (sym was) (w.1.1.next (subst (λ (ds : List NodeChange). length ds < length f.nodes) was below)) in
-    c.in-Ok.ensures.same ∙ (among_more f inner c.push.new.self.items c.next.new.change c.in_ok-push.ensures.items (omega (arith, below, all)) one ∙ ap (λ (ds : List NodeChange). operations_among f ds + 1) was)
+    among_more f inner c.push.new.self.items c.next.new.change c.in_ok-push.ensures.items (omega (arith, below, all)) one ∙ ap (λ (ds : List NodeChange). operations_among f ds + 1) was
 
 pub returns-clause-planned : goal.returns-clause-planned
 returns-clause-planned c = λ change told planned.
@@ -67,8 +46,11 @@ returns-clause-planned c = λ change told planned.
     let more = begun_one f change inner c.push.new.self.items c.next.new.change cost c.in_ok-items.items begun left c.in_ok-push.ensures.items items done in
     let total : c.add.new.self ≡ ticked cost c.in_ok-items.items = c.add.ensures.exact ∙ ap (λ (p : PlanValue). ticked p.cost c.in_ok-items.items) c.plan.view_is in
     record {
-      begun = subst (λ k. IsBegun f change c.go_on.new.changes.items k) (sym total) (c.in-Ok.ensures.begun change told _ more);
-      next = c.in-Ok.ensures.next;
+      begun = subst (λ k. IsBegun f change c.push.new.self.items k) (sym total) more;
+      next = λ under.
+          let below : length inner < length (subtrees f.tree) = omega (arith, node_left f inner left planned.begun.known, planned.begun.known) in
+          let at = planned.next (subst (λ (ds : List NodeChange). length ds < length f.nodes) was (node_left f inner left planned.begun.known)) in
+          applies_later f.tree (length inner) (length c.push.new.self.items) below (subst (λ (ds : List NodeChange). is_operation (tree_at (subtrees f.tree) (length ds)) ≡ true) (sym was) at) (omega (arith, under, planned.begun.known));
     }
 
 pub returns-clause-ticks : goal.returns-clause-ticks
