@@ -97,10 +97,6 @@ free is_new c (Scan f k b) plain = absurd (false≢true (sym plain))
 free is_new c (Outer f a b) plain = absurd (false≢true (sym plain))
 free is_new c (Inner f g a b) plain = absurd (false≢true (sym plain))
 
--- nothing more is spent
-pub spent_none : (cost sum : ℕ) → cost ≡ ticked 0 sum → cost ≡ ticked cost 0
-spent_none cost sum is = omega (arith, is)
-
 -- sums over a longer front
 module _ {X : Type 0} (f : X → ℕ) (xs : List X) (d : X) where
   front_within : (i m : ℕ) → i ≤ m → sum_by f (take i xs) ≤ sum_by f (take m xs)
@@ -148,14 +144,6 @@ part_left f changes few part = by (cases_lt (length changes) (length f.nodes))
 -- where each node has its change, all are done
 pub all_among : (f : FormulaValue) (changes : List NodeChange) → length changes ≡ length f.nodes → length f.nodes ≡ length (subtrees f.tree) → operations_among f changes ≡ operations f.tree
 all_among f changes whole known = among_all f changes (omega (arith, whole, known))
-
--- where all are done, none is
-pub none_left : (f : FormulaValue) (changes : List NodeChange) → IsAtOperation f changes → operations_among f changes ≡ operations f.tree → length changes ≤ length f.nodes → length f.nodes ≡ length (subtrees f.tree) → length changes ≡ length f.nodes
-none_left f changes at all few known = by (cases_lt (length changes) (length f.nodes))
-  where
-    by : (length changes < length f.nodes) ⊎ (length f.nodes ≤ length changes) → length changes ≡ length f.nodes
-    by (inl under) = absurd (omega (arith, all, left_at f changes at under known))
-    by (inr long) = omega (arith, long, few)
 
 -- where one operation more is done, a change more is there
 pub longer : (f : FormulaValue) (changes new : List NodeChange) → operations_among f new ≡ operations_among f changes + 1 → length changes < length new

@@ -52,10 +52,6 @@ append_none (x ∷ xs) = ap (λ rest. x ∷ rest) (append_none xs)
 table_made : (names : List (List ℕ)) (nodes : List Node) (t : Tree) → names ≡ names_in t → trees_after names [] nodes ≡ subtrees t → IsTable (length names) 0 nodes → IsTableOf names nodes t
 table_made names nodes t named is table = record { root = root_found names nodes t is; named = named; trees = is; table = table }
 
--- the table of a tree is that of the last node's
-pub rooted : (names : List (List ℕ)) (nodes : List Node) (t : Tree) → IsTableOf names nodes t → IsTableOf names nodes (root_of names nodes)
-rooted names nodes t table = subst (λ (u : Tree). IsTableOf names nodes u) (sym table.root) table
-
 -- the trees where no further names follow
 plain : (names : List (List ℕ)) (nodes : List Node) (ts : List Tree) → trees_after (names ++ []) [] nodes ≡ ts → trees_after names [] nodes ≡ ts
 plain names nodes ts is = ap (λ ns. trees_after ns [] nodes) (sym (append_none names)) ∙ is

@@ -6,7 +6,7 @@ use Rattle.formula_core.specs.Progress.{operations_among}
 use Rattle.formula_core.specs.Stages.{IsBegun, IsDone}
 use Rattle.formula_core.specs.Tables.{subtrees, tree_at}
 use Rattle.formula_core.proofs.Planned.{counted, known, tree_there, begun_none, begun_more}
-use Rattle.formula_core.proofs.Progressed.{applied_there, free, among_plain, leaf_alone, some_node, spent_none}
+use Rattle.formula_core.proofs.Progressed.{applied_there, free, among_plain, leaf_alone, some_node}
 use Rattle.formula_core.proofs.formula.Formula.start.Goals as goal
 
 pub next_leaf-requires : goal.next_leaf-requires
