@@ -1,5 +1,5 @@
 -- The lines of an array in which each of some lines has one new number.
-use Rattle.std.proofs.Common.{◌≡◌, ◌≢◌, ℕ, ◌+◌, ◌-◌, ◌*◌, ◌/◌, ◌<◌, ◌≤◌, ℤ, pos, true, false, List, length, get_or, set, map, remove, insert, refl, ap, sym, ◌∙◌, arith, nat_eq, inl, inr}
+use Rattle.std.proofs.Common.{◌≡◌, ◌≢◌, ℕ, ◌+◌, ◌-◌, ◌*◌, ◌/◌, ◌<◌, ◌≤◌, ℤ, pos, true, false, List, length, get_or, set, map, remove, insert, refl, ap, sym, subst, ◌∙◌, arith, nat_eq, inl, inr}
 use Rattle.std.proofs.lemmas.Bool.{cases_Bool, cond-true, cond-false, eqb-true, eqb-false}
 use Rattle.std.proofs.lemmas.List.{length-map, ext_get_or, get_or_default, get_or-set_same, get_or-set_other}
 use Rattle.std.proofs.lemmas.List.FromFn.{length-map-range_with_len, get_or-map-range_with_len}
@@ -18,14 +18,15 @@ use Rattle.scalar_fns.proofs.RightFolds.{length-strided, get_or-strided}
 use Rattle.index_region.specs.Arguments.{number_of}
 use Rattle.index_region.specs.Axes.{places_along}
 use Rattle.function_names.specs.declared.along.Along.{Along}
-use Rattle.index_region.specs.Boxes.{Interval, box_size, is_within, walk_at}
+use Rattle.index_region.specs.Boxes.{Interval, box_size, box_offset, is_within, walk_at}
 use Rattle.index_region.specs.Patches.{PatchValue, IsPatch, FitsPatch, patched, patched_item}
 use Rattle.index_region.proofs.Boxes.{fits_length}
 use Rattle.index_region.proofs.Patched.{fits_within, patched_at}
-use Rattle.index_region.proofs.Walks.{offset_of_walk, walk_within}
+use Rattle.index_region.proofs.Walks.{offset_below, offset_of_walk, walk_of_offset, walk_within}
 use Rattle.operator_fns.specs.Strides.{line_start}
 use Rattle.operator_fns.specs.SumTrees.{TreesValue, line_through, numbers_through, with_number}
 use Rattle.operator_fns.specs.Laws.LineIndices.{inside}
+use Rattle.operator_fns.proofs.BoxTables.{remove_inserted}
 use Rattle.operator_fns.proofs.Lines.{long_with_axis, stride}
 use Rattle.operator_fns.proofs.Reduced.{start_is}
 use Rattle.operator_fns.specs.RightFold.{fold_right, line}
@@ -79,6 +80,20 @@ module _ (axis : ℕ) (t : TreesValue) (a : ArrayValue) (p : PatchValue) (stand 
   pub as_many_lines : box_size p.region ≡ box_size region
   as_many_lines = size_with_one axis p.region on_region same_last
 
+  -- the line that a place of the box is on
+  module _ (before : ℕ) (below : before < box_size region) where
+    on_others : is_index_of others (walk_at region before) ≡ true
+    on_others = fits_within region others (walk_at region before) fits_axes.rest (walk_within region before below)
+
+    long : length (walk_at region before) + 1 ≡ length a.shape
+    long = long_with_axis a.shape (walk_at region before) axis stand.there on_others
+
+    new_index : walk_at p.region before ≡ insert (walk_at region before) axis s.0
+    new_index = walk_with_one axis p.region before on_region same_last below
+
+    pub line_there : remove (walk_at p.region before) axis ≡ walk_at region before
+    line_there = ap (λ (i : List ℕ). remove i axis) new_index ∙ remove_inserted axis s.0 (walk_at region before) (omega (arith, long, stand.there))
+
   module _ (sound : IsPatch p) (before : ℕ) (below : before < box_size region) where
     abbrev index : List ℕ
     index = walk_at region before
@@ -92,17 +107,8 @@ module _ (axis : ℕ) (t : TreesValue) (a : ArrayValue) (p : PatchValue) (stand 
     abbrev place : ℕ
     place = places_before a.shape (walk_at p.region before)
 
-    on_others : is_index_of others index ≡ true
-    on_others = fits_within region others index fits_axes.rest (walk_within region before below)
-
-    long : length index + 1 ≡ length a.shape
-    long = long_with_axis a.shape index axis stand.there on_others
-
-    new_index : walk_at p.region before ≡ insert index axis s.0
-    new_index = walk_with_one axis p.region before on_region same_last below
-
     inside_shape : (j : ℕ) → 1 ≤ j → j ≤ n → is_index_of a.shape (insert index axis j) ≡ true
-    inside_shape j low high = inside axis a.shape index j stand.there on_others low high
+    inside_shape j low high = inside axis a.shape index j stand.there (on_others before below) low high
 
     low_high : (1 ≤ s.0) × (s.0 ≤ n)
     low_high = (fits_axes.low, omega (arith, fits_axes.high, same_last))
@@ -110,28 +116,28 @@ module _ (axis : ℕ) (t : TreesValue) (a : ArrayValue) (p : PatchValue) (stand 
     place_at : (k : ℕ) → places_before a.shape (insert index axis (k + 1)) ≡ first + k * step
     place_at k =
         let less : k + 1 - 1 ≡ k = omega arith in
-        stride axis a.shape index (k + 1) stand.there long ∙ ap (λ m. first + m * step) less
+        stride axis a.shape index (k + 1) stand.there (long before below) ∙ ap (λ m. first + m * step) less
 
     -- where the new number lies
     new_place : place ≡ first + (s.0 - 1) * step
     new_place =
         let one_more : s.0 ≡ s.0 - 1 + 1 = omega (arith, low_high.0) in
-        ap (places_before a.shape) (new_index ∙ ap (insert index axis) one_more) ∙ place_at (s.0 - 1)
+        ap (places_before a.shape) ((new_index before below) ∙ ap (insert index axis) one_more) ∙ place_at (s.0 - 1)
 
     -- the line on which it lies
     first_is : line_start t.step t.count (line_through t.count t.step place) ≡ first
     first_is =
         let which = places_before others index in
-        let start : first ≡ line_start step n which = start_is axis a.shape index stand.there on_others some in
+        let start : first ≡ line_start step n which = start_is axis a.shape index stand.there (on_others before below) some in
         let through : line_through n step place ≡ which =
         ap (line_through n step) (new_place ∙ ap (λ m. m + (s.0 - 1) * step) start) ∙ line_through_place n step which (s.0 - 1) some (omega (arith, low_high.0, low_high.1)) in
         (λ i. line_start (stand.apart i) (stand.counted i) (line_through (stand.counted i) (stand.apart i) place))
         ∙ ap (line_start step n) through
         ∙ sym start
 
-    pub place_below : place < length t.numbers
+    place_below : place < length t.numbers
     place_below =
-        let within = places_below a.shape (walk_at p.region before) (ap (is_index_of a.shape) new_index ∙ inside_shape s.0 low_high.0 low_high.1) in
+        let within = places_below a.shape (walk_at p.region before) (ap (is_index_of a.shape) (new_index before below) ∙ inside_shape s.0 low_high.0 low_high.1) in
         let many : length t.numbers ≡ size a.shape =
         sym (length-map t.numbers (λ (y : ℤ). Num y)) ∙ sym (ap (λ (b : ArrayValue). length b.items) stand.is) ∙ stand.sound.one_item_a_place in
         omega (arith, within, many)
@@ -150,7 +156,7 @@ module _ (axis : ℕ) (t : TreesValue) (a : ArrayValue) (p : PatchValue) (stand 
         let inside_box : before < box_size p.region = rw as_many_lines below in
         let typed : type_of (get_or p.items before (fill p.item_type)) ≡ Nums = sound.one_type before (fill p.item_type) (omega (arith, sound.one_item_a_place)) ∙ fit.typed ∙ ap (λ (b : ArrayValue). b.item_type) stand.is in
         patched_at a p (insert index axis s.0) (inside_shape s.0 low_high.0 low_high.1)
-        ∙ ap (patched_item a p) (sym new_index)
+        ∙ ap (patched_item a p) (sym (new_index before below))
         ∙ cond-true _ _ _ (walk_within p.region before inside_box)
         ∙ ap (λ m. get_or p.items m (fill p.item_type)) (offset_of_walk p.region before inside_box)
         ∙ number_item_is (get_or p.items before (fill p.item_type)) typed
@@ -158,7 +164,7 @@ module _ (axis : ℕ) (t : TreesValue) (a : ArrayValue) (p : PatchValue) (stand 
     outside : (j : ℕ) → j ≢ s.0 → is_within p.region (insert index axis j) ≡ false
     outside j away = elim (cases_Bool (is_within p.region (insert index axis j))) [
       | inl w ↦
-          let on = within_axis axis p.region index j on_region (omega (arith, long, as_many_axes)) w in
+          let on = within_axis axis p.region index j on_region (omega (arith, (long before below), as_many_axes)) w in
           absurd (omega (arith, on.0, on.1, same_last))
       | inr f ↦ f
     ]
@@ -198,7 +204,7 @@ module _ (axis : ℕ) (t : TreesValue) (a : ArrayValue) (p : PatchValue) (stand 
         ∙ sym (get_or-map (λ (y : ℤ). Num y) numbers k (pos 0) ∙ ap (λ (y : ℤ). Num y) (get_or-strided (pos 0) numbers_now first step n k (pos 0) under)))
 
     -- the total of a line is what its tree says of the new number
-    pub total_there : (f h : Scalar2) → h ≡ f → (at : ℕ) (item : Item) → at ≡ place → item ≡ get_or p.items before (fill p.item_type)
+    total_there : (f h : Scalar2) → h ≡ f → (at : ℕ) (item : Item) → at ≡ place → item ≡ get_or p.items before (fill p.item_type)
         → fold_right f (line (patched a p) axis index) ≡ fold_right h (map (λ (y : ℤ). Num y) (numbers_through (with_number t at (number_of item)) at))
     total_there f h same at item at_is item_is =
         let told : numbers_through (with_number t at (number_of item)) at ≡ strided (pos 0) numbers_now first step n =
@@ -206,6 +212,27 @@ module _ (axis : ℕ) (t : TreesValue) (a : ArrayValue) (p : PatchValue) (stand 
         ∙ (λ i. strided (pos 0) numbers_now (first_is i) (stand.apart i) (stand.counted i)) in
         let line_is = changed_line ∙ ap (map (λ (y : ℤ). Num y)) (sym told) in
         λ i. fold_right (sym same i) (line_is i)
+
+  -- the same of a place of the box by its index list
+  module _ (sound : IsPatch p) (index : List ℕ) (within : is_within p.region index ≡ true) where
+    abbrev before : ℕ
+    before = box_offset p.region index
+
+    below : before < box_size region
+    below = rw (← as_many_lines) (offset_below p.region index within)
+
+    walked : walk_at p.region before ≡ index
+    walked = walk_of_offset p.region index within
+
+    pub place_on : places_before a.shape index < length t.numbers
+    place_on = subst (λ (i : List ℕ). places_before a.shape i < length t.numbers) walked (place_below sound before below)
+
+    pub total_on : (f h : Scalar2) → h ≡ f → (at : ℕ) (item : Item) → at ≡ places_before a.shape index → item ≡ get_or p.items before (fill p.item_type)
+        → fold_right f (line (patched a p) axis (remove index axis)) ≡ fold_right h (map (λ (y : ℤ). Num y) (numbers_through (with_number t at (number_of item)) at))
+    total_on f h same at item at_is item_is =
+        ap (λ (i : List ℕ). fold_right f (line (patched a p) axis (remove i axis))) (sym walked)
+        ∙ ap (λ (i : List ℕ). fold_right f (line (patched a p) axis i)) (line_there before below)
+        ∙ total_there sound before below f h same at item (at_is ∙ ap (places_before a.shape) (sym walked)) item_is
 
 -- what the array is now, by its trees
 pub now_is : (along : Along) (t : TreesValue) (p : PatchValue) (now : ArrayValue) → StoodFor along t p now → patched (array_of now.shape t.numbers) p ≡ now

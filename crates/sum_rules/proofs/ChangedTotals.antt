@@ -1,15 +1,18 @@
 -- The totals of which one number of the line is new.
-use Rattle.std.proofs.Common.{◌≡◌, ℕ, ◌-◌, ◌*◌, ◌≤◌, Bool, true, false, ◌&&◌, not, is_ok, List, [], ◌∷◌, length, remove, Option, Some, None, Result, Ok, Err, IfOk, OnOk, refl, ap, sym, subst, ◌∙◌, arith}
+use Rattle.std.proofs.Common.{◌≡◌, ℕ, ◌-◌, ◌*◌, ◌<◌, ◌≤◌, Bool, true, false, ◌&&◌, not, is_ok, List, [], ◌∷◌, length, map, remove, Option, Some, None, Result, Ok, Err, IfOk, OnOk, refl, ap, sym, subst, ◌∙◌, arith}
 use Rattle.std.specs.Prelude.{◌==◌}
+use Rattle.std.specs.List.{range_with_len}
 use Rattle.std.specs.declared.alloc.AllocError.{AllocError}
 use Rattle.std.proofs.lemmas.Bool.{cond-false, false≢true}
 use Rattle.arrays_core.specs.Arrays.{ArrayValue}
+use Rattle.arrays_core.specs.Items.{all_or_first_error}
+use Rattle.arrays_core.specs.declared.item.Item.{Item}
 use Rattle.arrays_core.specs.declared.item.Kind.{Kind}
 use Rattle.arrays_core.specs.declared.item.ItemType.{ItemType}
 use Rattle.operator_fns.specs.declared.reduce.Reduce.{Reduce}
 use Rattle.function_names.specs.Axes.{axis_at, is_axis}
 use Rattle.function_names.specs.declared.along.Along.{Along}
-use Rattle.index_region.specs.Boxes.{Interval, box_size, met, unless_empty, join_boxes}
+use Rattle.index_region.specs.Boxes.{Interval, box_size, walk_at, met, unless_empty, join_boxes}
 use Rattle.index_region.specs.Checks.{Form, form_of}
 use Rattle.index_region.specs.Patches.{PatchValue, patched}
 use Rattle.index_region.specs.Tails.{TailValue}
@@ -31,7 +34,7 @@ use Rattle.change_rules.proofs.Nodes.{delta_reached}
 use Rattle.change_core.specs.Meters.{ticked}
 use Rattle.sum_rules.specs.LineSums.{array_of, length_along}
 use Rattle.sum_rules.specs.Totals.{AreFolds, HasAllJoins, StoodFor, is_by_trees, is_narrow, is_one_a_line, lines_of, total_rule}
-use Rattle.sum_rules.proofs.ChangedLines.{as_many_lines, fits_axes, now_is}
+use Rattle.sum_rules.proofs.ChangedLines.{as_many_lines, fits_axes, line_there, now_is}
 use Rattle.sum_rules.proofs.OneAxis.{fit_some, met_fit}
 
 -- the axis that is meant stays under a patch
@@ -47,9 +50,7 @@ items_now fold t p now shape region stood shaped is =
     let box : lines_of (axis_at (length shape) fold.along) p.region ≡ region = ap (λ (axes : List ℕ). lines_of (axis_at (length axes) fold.along) p.region) shaped ∙ sym is in
     λ i. items_in (reduce_item fold.function fold.along (same i)) (box i)
 
--- the box of what may change of the result
-module _ (fold : Reduce) (t : TreesValue) (p : PatchValue) (now : ArrayValue) (stood : StoodFor fold.along t p now) (one : is_one_a_line (axis_at (length now.shape) fold.along) p.region ≡ true)
-    (shape : List ℕ) (type : ItemType) (form : reduce_form fold.along now ≡ Ok (form_of shape type)) where
+module _ (fold : Reduce) (t : TreesValue) (p : PatchValue) (now : ArrayValue) (stood : StoodFor fold.along t p now) (one : is_one_a_line (axis_at (length now.shape) fold.along) p.region ≡ true) where
   abbrev axis : ℕ
   axis = axis_at (length stood.before.shape) fold.along
 
@@ -59,37 +60,63 @@ module _ (fold : Reduce) (t : TreesValue) (p : PatchValue) (now : ArrayValue) (s
   one_before : is_one_a_line axis p.region ≡ true
   one_before = subst (λ k. is_one_a_line k p.region ≡ true) axis_is one
 
-  as_many : box_size p.region ≡ box_size (lines_of (axis_at (length now.shape) fold.along) p.region)
-  as_many = as_many_lines axis t stood.before p stood.lines stood.fit one_before ∙ ap (λ k. box_size (lines_of k p.region)) (sym axis_is)
+  -- the lines of the box are as many as its places
+  pub as_many_lines_now : box_size p.region ≡ box_size (lines_of (axis_at (length now.shape) fold.along) p.region)
+  as_many_lines_now = as_many_lines axis t stood.before p stood.lines stood.fit one_before ∙ ap (λ k. box_size (lines_of k p.region)) (sym axis_is)
 
-  met_is : unless_empty (met shape (remove p.region (axis_at (length now.shape) fold.along))) ≡ Some (lines_of (axis_at (length now.shape) fold.along) p.region)
-  met_is =
-      let fit = fits_axes axis t stood.before p stood.lines stood.fit one_before in
-      let now_shape : now.shape ≡ stood.before.shape = ap (λ (a : ArrayValue). a.shape) stood.is in
-      let others : shape ≡ remove stood.before.shape axis = (reduce_facts fold.along now shape type form).shaped ∙ (λ i. remove (now_shape i) (axis_is i)) in
-      (λ i. unless_empty (met (others i) (remove p.region (axis_is i))))
-      ∙ ap unless_empty (met_fit _ (lines_of axis p.region) fit.rest)
-      ∙ cond-false _ _ _ (fit_some (lines_of axis p.region) _ fit.rest)
-      ∙ ap (λ k. Some (lines_of k p.region)) (sym axis_is)
+  -- so a box of one line has one place
+  pub one_place : (region : List Interval) → region ≡ lines_of (axis_at (length now.shape) fold.along) p.region → box_size region ≡ 1 → box_size p.region ≡ 1
+  one_place region is single = as_many_lines_now ∙ sym (ap box_size is) ∙ single
 
-  reach_is : reach_of (total_rule fold) (now ∷ []) (Some p.region ∷ []) ≡ Inside (lines_of (axis_at (length now.shape) fold.along) p.region)
-  reach_is =
-      ap (λ (x : Result Form Kind). reach_by x (total_rule fold).uses (now ∷ []) (Some p.region ∷ [])) form
-      ∙ ap (λ (m : Option (List Interval)). as_reach (join_boxes m None)) met_is
+  -- the total of one line is all that its box holds
+  pub one_total : (shape : List ℕ) (region : List Interval) → shape ≡ now.shape → region ≡ lines_of (axis_at (length now.shape) fold.along) p.region → box_size region ≡ 1
+      → (index : List ℕ) → index ≡ walk_at p.region 0
+      → (total : Result Item Kind) → total ≡ reduce_item fold.function fold.along (patched (array_of shape t.numbers) p) (remove index (axis_at (length shape) fold.along))
+      → items_in (reduce_item fold.function fold.along now) region ≡ all_or_first_error (total ∷ [])
+  one_total shape region shaped is single index first total total_is =
+      let item = reduce_item fold.function fold.along now in
+      let same : patched (array_of shape t.numbers) p ≡ now = ap (λ (axes : List ℕ). patched (array_of axes t.numbers) p) shaped ∙ now_is fold.along t p now stood in
+      let before_is : axis_at (length shape) fold.along ≡ axis = ap (λ (axes : List ℕ). axis_at (length axes) fold.along) shaped ∙ axis_is in
+      let some : 0 < box_size (lines_of axis p.region) = omega (arith, single, ap box_size is, ap (λ k. box_size (lines_of k p.region)) axis_is) in
+      let there : remove index (axis_at (length shape) fold.along) ≡ walk_at region 0 =
+      (λ i. remove (first i) (before_is i))
+      ∙ line_there axis t stood.before p stood.lines stood.fit one_before 0 some
+      ∙ ap (λ k. walk_at (lines_of k p.region) 0) (sym axis_is)
+      ∙ ap (λ (r : List Interval). walk_at r 0) (sym is) in
+      let total_there : total ≡ item (walk_at region 0) = total_is ∙ (λ i. reduce_item fold.function fold.along (same i) (there i)) in
+      ap (λ k. all_or_first_error (map (λ before. item (walk_at region before)) (range_with_len 0 k))) single
+      ∙ ap (λ (r : Result Item Kind). all_or_first_error (r ∷ [])) (sym total_there)
 
-  pub reached_box : (region : List Interval) → Inside region ≡ reach_of (total_rule fold) (now ∷ []) (Some p.region ∷ []) → region ≡ lines_of (axis_at (length now.shape) fold.along) p.region
-  reached_box region is = let same = is ∙ reach_is in cc
+  -- the box of what may change of the result
+  module _ (shape : List ℕ) (type : ItemType) (form : reduce_form fold.along now ≡ Ok (form_of shape type)) where
+    met_is : unless_empty (met shape (remove p.region (axis_at (length now.shape) fold.along))) ≡ Some (lines_of (axis_at (length now.shape) fold.along) p.region)
+    met_is =
+        let fit = fits_axes axis t stood.before p stood.lines stood.fit one_before in
+        let now_shape : now.shape ≡ stood.before.shape = ap (λ (a : ArrayValue). a.shape) stood.is in
+        let others : shape ≡ remove stood.before.shape axis = (reduce_facts fold.along now shape type form).shaped ∙ (λ i. remove (now_shape i) (axis_is i)) in
+        (λ i. unless_empty (met (others i) (remove p.region (axis_is i))))
+        ∙ ap unless_empty (met_fit _ (lines_of axis p.region) fit.rest)
+        ∙ cond-false _ _ _ (fit_some (lines_of axis p.region) _ fit.rest)
+        ∙ ap (λ k. Some (lines_of k p.region)) (sym axis_is)
 
-  pub some_reached : Unmoved ≡ reach_of (total_rule fold) (now ∷ []) (Some p.region ∷ []) → ⊥
-  some_reached is = let same = is ∙ reach_is in cc
+    reach_is : reach_of (total_rule fold) (now ∷ []) (Some p.region ∷ []) ≡ Inside (lines_of (axis_at (length now.shape) fold.along) p.region)
+    reach_is =
+        ap (λ (x : Result Form Kind). reach_by x (total_rule fold).uses (now ∷ []) (Some p.region ∷ [])) form
+        ∙ ap (λ (m : Option (List Interval)). as_reach (join_boxes m None)) met_is
 
-  pub reached_size : reached_cost (total_rule fold) (now ∷ []) (Some p.region ∷ []) ≡ box_size p.region
-  reached_size = (λ i. size_in (form i) (reach_is i)) ∙ sym as_many
+    pub reached_box : (region : List Interval) → Inside region ≡ reach_of (total_rule fold) (now ∷ []) (Some p.region ∷ []) → region ≡ lines_of (axis_at (length now.shape) fold.along) p.region
+    reached_box region is = let same = is ∙ reach_is in cc
 
-  pub few_lines : (region : List Interval) → Inside region ≡ reach_of (total_rule fold) (now ∷ []) (Some p.region ∷ []) → box_size region ≤ 1048576
-  few_lines region is =
-      let few = few_places p.region stood.before.shape stood.fit.inside stood.lines.sound.within in
-      omega (arith, few, ap box_size (reached_box region is), as_many)
+    pub some_reached : Unmoved ≡ reach_of (total_rule fold) (now ∷ []) (Some p.region ∷ []) → ⊥
+    some_reached is = let same = is ∙ reach_is in cc
+
+    pub reached_size : reached_cost (total_rule fold) (now ∷ []) (Some p.region ∷ []) ≡ box_size p.region
+    reached_size = (λ i. size_in (form i) (reach_is i)) ∙ sym as_many_lines_now
+
+    pub few_lines : (region : List Interval) → Inside region ≡ reach_of (total_rule fold) (now ∷ []) (Some p.region ∷ []) → box_size region ≤ 1048576
+    few_lines region is =
+        let few = few_places p.region stood.before.shape stood.fit.inside stood.lines.sound.within in
+        omega (arith, few, ap box_size (reached_box region is), as_many_lines_now)
 
 -- the change of the totals where they were an array and a box of the argument is new
 pub delta_is : (fold : Reduce) (arg : Argument) (p : PatchValue) (old : Outcome) → arg.1.now ≡ Patch p → is_ok old ≡ true

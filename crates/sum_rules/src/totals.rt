@@ -1,6 +1,6 @@
 //! The change of the totals of lines, from trees of their sums.
 
-ghost use Rattle.std.specs.Prelude.{◌≡◌, ◌-◌, ◌+◌, ◌≤◌, ◌<◌, ◌∷◌, [], true, false, Some, length, map, IfOk, OnOk, IsTrue};
+ghost use Rattle.std.specs.Prelude.{◌≡◌, ◌-◌, ◌+◌, ◌≤◌, ◌<◌, ◌∷◌, [], true, false, Some, length, map, remove, IfOk, OnOk, IsTrue};
 ghost use Rattle.arrays_core.specs.declared.item.Item.TheVariants.{Num};
 ghost use Rattle.arrays_core.specs.Arrays.{with_items, IsAnswerTo};
 ghost use Rattle.arrays_core.specs.Items.{all_or_first_error, type_of};
@@ -9,7 +9,7 @@ ghost use Rattle.arrays_core.specs.declared.item.ItemType.TheVariants.{Nums};
 ghost use Rattle.index_region.specs.declared.delta.Delta.TheVariants.{Whole};
 ghost use Rattle.index_region.specs.Arguments.{number_of};
 ghost use Rattle.function_names.specs.Axes.{is_axis as has_axis, axis_at as axis_meant};
-ghost use Rattle.index_region.specs.Boxes.{box_size};
+ghost use Rattle.index_region.specs.Boxes.{box_size, is_within};
 ghost use Rattle.index_region.specs.Patches.{FitsPatch, patched};
 ghost use Rattle.operator_fns.specs.Reduce.{reduce_item};
 ghost use Rattle.operator_fns.specs.RightFold.{fold_right};
@@ -66,6 +66,38 @@ fn total_with<S: LineTotals>(sums: &S, place: usize, item: Item) -> (Result<Item
     }
 }
 
+/// The total of the line of an array of this shape that a place of the box is on, which has a new number there. It takes no memory.
+fn line_total<S: LineTotals>(
+    fold: Reduce,
+    shape: &Shape,
+    sums: &S,
+    patch: &Patch,
+    index: &[u32],
+    meter: &mut Meter,
+) -> Result<Item, Kind>
+    requires function { S.function sums.now ≡ fold.function }
+    requires on_axis { has_axis (length shape.now.items) fold.along ≡ true }
+    requires lines { StandFor (S.trees sums.now) (axis_meant (length shape.now.items) fold.along) (array_of shape.now.items (S.trees sums.now).numbers) }
+    requires fit { FitsPatch (array_of shape.now.items (S.trees sums.now).numbers) patch.now }
+    requires one { has_one_a_line (axis_meant (length shape.now.items) fold.along) patch.now.region ≡ true }
+    requires inside { IsTrue (is_within patch.now.region index.now) }
+    ensures total { result ≡ reduce_item fold.function fold.along (patched (array_of shape.now.items (S.trees sums.now).numbers) patch.now) (remove index.now (axis_meant (length shape.now.items) fold.along)) }
+    ensures typed { IfOk result (λ total. type_of total ≡ Nums) }
+    ensures ticks { meter.new.ticks ≡ ticked meter.old.ticks 1 }
+    ensures rises { meter.old.ticks ≤ meter.new.ticks }
+    ensures joins { AreJoinsWithin 1 (long_along fold.along shape.now.items) meter.old.joins meter.new.joins }
+    ensures least { AreJoinsFrom 1 (long_along fold.along shape.now.items) meter.old.joins meter.new.joins }
+{
+    // The type of the items says that the patch has one item for each place.
+    let _one_item_a_place = patch.item_type();
+    let place = position(shape, index) - 1;
+    let item = patch.item(index);
+    let (total, joins) = total_with(sums, place as usize, item);
+    meter.tick();
+    meter.count_joins(u64::from(joins));
+    total
+}
+
 /// The totals of the lines of an array of this shape that have a new number each, or the first error among them.
 fn new_totals<S: LineTotals>(
     alloc: Global,
@@ -87,19 +119,12 @@ fn new_totals<S: LineTotals>(
     ensures joins { AreJoinsWithin (box_size patch.now.region) (long_along fold.along shape.now.items) meter.old.joins meter.new.joins }
     ensures least { IfOk result (λ _. AreJoinsFrom (box_size patch.now.region) (long_along fold.along shape.now.items) meter.old.joins meter.new.joins) }
 {
-    // The type of the items says that the patch has one item for each place.
-    let _one_item_a_place = patch.item_type();
     let region = patch.region();
     let lines = region.size();
     let mut totals = Array::filled(alloc, ItemType::Nums, &shape_of(alloc, &[lines as u32]))?;
     let mut index = region.index_at(0);
     for line in 0..lines {
-        let place = position(shape, index.as_slice()) - 1;
-        let item = patch.item(index.as_slice());
-        let (total, joins) = total_with(sums, place as usize, item);
-        meter.tick();
-        meter.count_joins(u64::from(joins));
-        match total {
+        match line_total(fold, shape, sums, patch, index.as_slice(), meter) {
             Ok(total) => totals.write_at(line as u32 + 1, total),
             Err(kind) => return Err(ApplyFault::Kind(kind)),
         }
@@ -154,7 +179,35 @@ fn change_by_trees<S: LineTotals>(
     }
 }
 
-/// The patch of the totals of the lines of a box, or the first error among them.
+/// The patch of the total of one line, or the error there, put in place of another change. It takes no memory.
+fn patch_of_one<S: LineTotals>(
+    fold: Reduce,
+    region: IndexBox,
+    array: &Seen,
+    sums: &S,
+    patch: &Patch,
+    change: &mut Delta,
+    meter: &mut Meter,
+)
+    requires function { S.function sums.now ≡ fold.function }
+    requires lines { StoodFor fold.along (S.trees sums.now) patch.now array.now }
+    requires one { has_one_a_line (axis_meant (length array.now.shape) fold.along) patch.now.region ≡ true }
+    requires region { region ≡ lines_of (axis_meant (length array.now.shape) fold.along) patch.now.region }
+    requires single { box_size region ≡ 1 }
+    ensures delta { change.new ≡ patch_delta Nums region (items_in (reduce_item fold.function fold.along array.now) region) }
+    ensures ticks { meter.new.ticks ≡ ticked meter.old.ticks 1 }
+    ensures rises { meter.old.ticks ≤ meter.new.ticks }
+    ensures joins { AreJoinsWithin 1 (long_along fold.along array.now.shape) meter.old.joins meter.new.joins }
+    ensures least { AreJoinsFrom 1 (long_along fold.along array.now.shape) meter.old.joins meter.new.joins }
+{
+    let index = patch.region().index_at(0);
+    match line_total(fold, array.shape(), sums, patch, index.as_slice(), meter) {
+        Ok(total) => *change = Delta::Patch(Patch::one(region, total)),
+        Err(kind) => *change = Delta::Whole(Err(kind.into())),
+    }
+}
+
+/// The patch of the totals of the lines of a box, or the first error among them. One total takes no memory.
 fn patch_of<S: LineTotals>(
     alloc: Global,
     fold: Reduce,
@@ -176,6 +229,10 @@ fn patch_of<S: LineTotals>(
     ensures joins { AreJoinsWithin (box_size patch.now.region) (long_along fold.along array.now.shape) meter.old.joins meter.new.joins }
     ensures least { OnOk result (is_error change.new ≡ false → AreJoinsFrom (box_size patch.now.region) (long_along fold.along array.now.shape) meter.old.joins meter.new.joins) }
 {
+    if region.size() == 1 {
+        patch_of_one(fold, region, array, sums, patch, change, meter);
+        return Ok(());
+    }
     match outcome(new_totals(alloc, fold, array.shape(), sums, patch, meter))? {
         Ok(values) => *change = Delta::Patch(Patch::of(region, values)),
         Err(fault) => *change = Delta::Whole(Err(fault)),

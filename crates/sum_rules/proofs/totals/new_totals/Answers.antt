@@ -1,22 +1,18 @@
-use Rattle.std.proofs.Common.{◌≡◌, refl, ◌∙◌, ◌<◌, ◌+◌, ◌-◌, ◌*◌, ◌≤◌, ℕ, List, length, get_or, take, sym, ap, arith, subst}
+use Rattle.std.proofs.Common.{◌≡◌, refl, ◌∙◌, ◌<◌, ◌+◌, ◌*◌, ◌≤◌, ℕ, List, length, remove, take, sym, ap, arith, subst}
 use Rattle.std.proofs.Math.Nat.{mul-le-mul_right}
 use Rattle.arrays_core.specs.Arrays.{ArrayValue}
-use Rattle.arrays_core.specs.Items.{fill}
-use Rattle.arrays_core.specs.Shapes.{is_index_of, places_before}
 use Rattle.function_names.specs.Axes.{axis_at}
-use Rattle.index_region.specs.Boxes.{Interval, box_size, box_offset, is_within, walk_at}
+use Rattle.index_region.specs.Boxes.{Interval, box_size, is_within, walk_at}
 use Rattle.index_region.specs.Patches.{patched}
-use Rattle.index_region.proofs.Patched.{fits_within}
-use Rattle.index_region.proofs.Walks.{offset_of_walk, some_place, walk_within}
+use Rattle.index_region.proofs.Walks.{some_place, walk_within}
 use Rattle.operator_fns.specs.Reduce.{reduce_item}
-use Rattle.change_core.specs.Meters.{MeterValue, ticked}
+use Rattle.change_core.specs.Meters.{ticked}
 use Rattle.change_core.proofs.Collected.{items_are}
 use Rattle.change_core.proofs.Filling.{all_filled, as_many_written, few_places, filled_many, nothing_filled, one_filled, one_more_tick, vector_within}
 use Rattle.change_core.proofs.Walking.{rest_err}
-use Rattle.sum_rules.specs.LineSums.{array_of, length_along}
+use Rattle.sum_rules.specs.LineSums.{array_of}
 use Rattle.sum_rules.specs.Totals.{lines_of}
-use Rattle.sum_rules.proofs.KeptSums.{along_axis}
-use Rattle.sum_rules.proofs.ChangedLines.{as_many_lines, place_below, total_there}
+use Rattle.sum_rules.proofs.ChangedLines.{as_many_lines, line_there}
 use Rattle.sum_rules.proofs.totals.new_totals.Goals as goal
 
 pub size-lines-requires : goal.size-lines-requires
@@ -58,36 +54,6 @@ loop-line-init g c =
       rest = nothing_filled (λ before. reduce_item c.args.fold.function c.args.fold.along (patched a p) (walk_at region before)) (box_size region) c.in_ok-totals.totals.items;
     }
 
-pub position-place-requires-clause-in_range : goal.position-place-requires-clause-in_range
-position-place-requires-clause-in_range g c =
-    let p = c.args.patch.now in
-    let before = c.loop-line.line in
-    let below : before < box_size p.region = omega (arith, c.loop-line-test.true, c.size-lines.ensures, ap box_size c.region-region.ensures) in
-    ap (is_index_of c.args.shape.now.items) (c.as_slice.ensures.is ∙ c.loop-line.invariant.at below)
-    ∙ fits_within p.region c.args.shape.now.items (walk_at p.region before) c.requires.fit.inside (walk_within p.region before below)
-
-pub item-item-requires : goal.item-item-requires
-item-item-requires g c =
-    let p = c.args.patch.now in
-    let before = c.loop-line.line in
-    let below : before < box_size p.region = omega (arith, c.loop-line-test.true, c.size-lines.ensures, ap box_size c.region-region.ensures) in
-    ap (is_within p.region) (c.as_slice-in-loop-line.ensures.is ∙ c.loop-line.invariant.at below) ∙ walk_within p.region before below
-
-pub total_with-total-requires : goal.total_with-total-requires
-total_with-total-requires g c =
-    let p = c.args.patch.now in
-    let shape = c.args.shape.now.items in
-    let t = g.S.LineTotals.trees c.args.sums.now in
-    let axis = axis_at (length shape) c.args.fold.along in
-    let a = array_of shape t.numbers in
-    let before = c.loop-line.line in
-    let below : before < box_size p.region = omega (arith, c.loop-line-test.true, c.size-lines.ensures, ap box_size c.region-region.ensures) in
-    let as_many = as_many_lines axis t a p c.requires.lines c.requires.fit c.requires.one in
-    let index : c.as_slice.result.now ≡ walk_at p.region before = c.as_slice.ensures.is ∙ c.loop-line.invariant.at below in
-    let place : c.position-place.result - 1 ≡ places_before shape (walk_at p.region before) = omega (arith, c.position-place.ensures.is, ap (places_before shape) index) in
-    let there = place_below axis t a p c.requires.lines c.requires.fit c.requires.one c.item_type-one_item_a_place.ensures.sound before (omega (arith, below, as_many)) in
-    omega (arith, there, place)
-
 pub write_at-requires-clause-high : goal.write_at-requires-clause-high
 write_at-requires-clause-high g c =
     let p = c.args.patch.now in
@@ -95,77 +61,6 @@ write_at-requires-clause-high g c =
     let axis = axis_at (length c.args.shape.now.items) c.args.fold.along in
     let as_many = as_many_lines axis t (array_of c.args.shape.now.items t.numbers) p c.requires.lines c.requires.fit c.requires.one in
     omega (arith, c.loop-line.invariant.many, c.loop-line-test.true, c.size-lines.ensures, ap box_size c.region-region.ensures)
-
-pub returns-in-Err-clause-totals : goal.returns-in-Err-clause-totals
-returns-in-Err-clause-totals g c =
-    let p = c.args.patch.now in
-    let shape = c.args.shape.now.items in
-    let t = g.S.LineTotals.trees c.args.sums.now in
-    let axis = axis_at (length c.args.shape.now.items) c.args.fold.along in
-    let a = array_of shape t.numbers in
-    let region = lines_of axis p.region in
-    let item = reduce_item c.args.fold.function c.args.fold.along (patched a p) in
-    let before = c.loop-line.line in
-    let below : before < box_size p.region = omega (arith, c.loop-line-test.true, c.size-lines.ensures, ap box_size c.region-region.ensures) in
-    let as_many = as_many_lines axis t a p c.requires.lines c.requires.fit c.requires.one in
-    let under : before < box_size region = omega (arith, as_many) in
-    let here = c.loop-line.invariant.at below in
-    let index : c.as_slice.result.now ≡ walk_at p.region before = c.as_slice.ensures.is ∙ here in
-    let place : c.position-place.result - 1 ≡ places_before shape (walk_at p.region before) = omega (arith, c.position-place.ensures.is, ap (places_before shape) index) in
-    let given_item : c.item-item.result ≡ get_or p.items before (fill p.item_type) =
-    c.item-item.ensures.is
-    ∙ ap (λ (i : List ℕ). get_or p.items (box_offset p.region i) (fill p.item_type)) (c.as_slice-in-loop-line.ensures.is ∙ here)
-    ∙ ap (λ (m : ℕ). get_or p.items m (fill p.item_type)) (offset_of_walk p.region before below) in
-    let total = total_there axis t a p c.requires.lines c.requires.fit c.requires.one c.item_type-one_item_a_place.ensures.sound before under c.args.fold.function (g.S.LineTotals.function c.args.sums.now) c.requires.function (c.position-place.result - 1) c.item-item.result place given_item in
-    let failed = total ∙ sym c.total_with-total.ensures.total ∙ c.in-Err.is in
-    sym (items_are item region) ∙ sym c.loop-line.invariant.rest ∙ rest_err (λ q. item (walk_at region q)) (box_size region) before (take before c.loop-line.totals.items) _ under failed
-
-pub loop-line-preserved : goal.loop-line-preserved
-loop-line-preserved g c =
-    let p = c.args.patch.now in
-    let shape = c.args.shape.now.items in
-    let t = g.S.LineTotals.trees c.args.sums.now in
-    let axis = axis_at (length c.args.shape.now.items) c.args.fold.along in
-    let a = array_of shape t.numbers in
-    let region = lines_of axis p.region in
-    let item = reduce_item c.args.fold.function c.args.fold.along (patched a p) in
-    let before = c.loop-line.line in
-    let below : before < box_size p.region = omega (arith, c.loop-line-test.true, c.size-lines.ensures, ap box_size c.region-region.ensures) in
-    let as_many = as_many_lines axis t a p c.requires.lines c.requires.fit c.requires.one in
-    let under : before < box_size region = omega (arith, as_many) in
-    let here = c.loop-line.invariant.at below in
-    let index : c.as_slice.result.now ≡ walk_at p.region before = c.as_slice.ensures.is ∙ here in
-    let place : c.position-place.result - 1 ≡ places_before shape (walk_at p.region before) = omega (arith, c.position-place.ensures.is, ap (places_before shape) index) in
-    let given_item : c.item-item.result ≡ get_or p.items before (fill p.item_type) =
-    c.item-item.ensures.is
-    ∙ ap (λ (i : List ℕ). get_or p.items (box_offset p.region i) (fill p.item_type)) (c.as_slice-in-loop-line.ensures.is ∙ here)
-    ∙ ap (λ (m : ℕ). get_or p.items m (fill p.item_type)) (offset_of_walk p.region before below) in
-    let total = total_there axis t a p c.requires.lines c.requires.fit c.requires.one c.item_type-one_item_a_place.ensures.sound before under c.args.fold.function (g.S.LineTotals.function c.args.sums.now) c.requires.function (c.position-place.result - 1) c.item-item.result place given_item in
-    let count : t.count ≡ length_along c.args.fold.along shape = c.requires.lines.counted ∙ sym (along_axis c.args.fold.along shape c.requires.on_axis) in
-    let given = total ∙ sym c.total_with-total.ensures.total ∙ c.in-Ok.is in
-    record {
-      ticks = omega (arith, c.tick.ensures.by_one, ap (λ (m : MeterValue). m.ticks) c.count_joins.ensures, c.loop-line.invariant.ticks);
-      none = λ h. absurd (omega arith);
-      some = λ _. one_more_tick c.args.meter.now.ticks before c.loop-line.meter.ticks _ c.loop-line.invariant.none c.loop-line.invariant.some (ap (λ (m : MeterValue). m.ticks) c.count_joins.ensures ∙ ap (λ (m : MeterValue). m.ticks) c.tick.ensures.exact);
-      rises = omega (arith, c.tick.ensures.rises, ap (λ (m : MeterValue). m.ticks) c.count_joins.ensures, c.loop-line.invariant.rises);
-      joins = λ digits h.
-          let so_far = c.loop-line.invariant.joins digits h in
-          let more = c.total_with-total.ensures.joins digits (rw count h) in
-          let kept = ap (λ (m : MeterValue). m.joins) c.tick.ensures.exact in
-          let now = ap (λ (m : MeterValue). m.joins) c.count_joins.ensures in
-          omega (arith, so_far, more, kept, now);
-      least = λ two.
-          let so_far = c.loop-line.invariant.least two in
-          let more = c.total_with-total.ensures.some (rw count two) in
-          let kept = ap (λ (m : MeterValue). m.joins) c.tick.ensures.exact in
-          let now = ap (λ (m : MeterValue). m.joins) c.count_joins.ensures in
-          omega (arith, so_far, more, kept, now);
-      at = subst (λ (r : List Interval). before + 1 < box_size r → c.advance.new.index ≡ walk_at r (before + 1)) c.region-region.ensures
-          (λ later. c.advance.ensures.next before later (here ∙ ap (λ (r : List Interval). walk_at r before) (sym c.region-region.ensures)));
-      many = as_many_written c.loop-line.totals c.write_at.new.self (box_size region) before _ c.loop-line.invariant.many c.write_at.ensures;
-      typed = ap (λ (b : ArrayValue). b.item_type) c.write_at.ensures ∙ c.loop-line.invariant.typed;
-      rest = one_filled c.loop-line.totals c.write_at.new.self (λ q. item (walk_at region q)) (box_size region) before _ _ c.loop-line.invariant.many under given c.write_at.ensures c.loop-line.invariant.rest;
-    }
 
 pub returns-clause-totals : goal.returns-clause-totals
 returns-clause-totals g c =
@@ -188,15 +83,72 @@ returns-clause-exact g c =
     let some : 0 < c.loop-line.line = omega (arith, last, some_place p.region c.args.shape.now.items c.requires.fit.inside) in
     c.loop-line.invariant.some some ∙ ap (ticked c.args.meter.now.ticks) last
 
-pub returns-in-Err-clause-joins : goal.returns-in-Err-clause-joins
-returns-in-Err-clause-joins g c = λ digits h.
+pub line_total-requires-clause-inside : goal.line_total-requires-clause-inside
+line_total-requires-clause-inside g c =
+    let p = c.args.patch.now in
+    let before = c.loop-line.line in
+    let below : before < box_size p.region = omega (arith, c.loop-line-test.true, c.size-lines.ensures, ap box_size c.region-region.ensures) in
+    ap (is_within p.region) (c.as_slice.ensures.is ∙ c.loop-line.invariant.at below) ∙ walk_within p.region before below
+
+pub returns-in-Err-clause-totals : goal.returns-in-Err-clause-totals
+returns-in-Err-clause-totals g c =
+    let p = c.args.patch.now in
     let shape = c.args.shape.now.items in
     let t = g.S.LineTotals.trees c.args.sums.now in
-    let count : t.count ≡ length_along c.args.fold.along shape = c.requires.lines.counted ∙ sym (along_axis c.args.fold.along shape c.requires.on_axis) in
+    let axis = axis_at (length shape) c.args.fold.along in
+    let a = array_of shape t.numbers in
+    let region = lines_of axis p.region in
+    let item = reduce_item c.args.fold.function c.args.fold.along (patched a p) in
+    let before = c.loop-line.line in
+    let below : before < box_size p.region = omega (arith, c.loop-line-test.true, c.size-lines.ensures, ap box_size c.region-region.ensures) in
+    let as_many = as_many_lines axis t a p c.requires.lines c.requires.fit c.requires.one in
+    let under : before < box_size region = omega (arith, as_many) in
+    let index : c.as_slice.result.now ≡ walk_at p.region before = c.as_slice.ensures.is ∙ c.loop-line.invariant.at below in
+    let there = ap (λ (i : List ℕ). remove i axis) index ∙ line_there axis t a p c.requires.lines c.requires.fit c.requires.one before under in
+    let failed = ap item (sym there) ∙ sym c.line_total.ensures.total ∙ c.in-Err.is in
+    sym (items_are item region) ∙ sym c.loop-line.invariant.rest ∙ rest_err (λ q. item (walk_at region q)) (box_size region) before (take before c.loop-line.totals.items) _ under failed
+
+pub returns-in-Err-clause-joins : goal.returns-in-Err-clause-joins
+returns-in-Err-clause-joins g c = λ digits h.
     let below : c.loop-line.line < box_size c.args.patch.now.region = omega (arith, c.loop-line-test.true, c.size-lines.ensures, ap box_size c.region-region.ensures) in
     let most : (c.loop-line.line + 1) * digits ≤ box_size c.args.patch.now.region * digits = mul-le-mul_right digits (omega (arith, below)) in
     let so_far = c.loop-line.invariant.joins digits h in
-    let more = c.total_with-total.ensures.joins digits (rw count h) in
-    let kept = ap (λ (m : MeterValue). m.joins) c.tick.ensures.exact in
-    let now = ap (λ (m : MeterValue). m.joins) c.count_joins.ensures in
-    omega (arith, so_far, more, kept, now, most)
+    let more = c.line_total.ensures.joins digits h in
+    omega (arith, so_far, more, most)
+
+pub loop-line-preserved : goal.loop-line-preserved
+loop-line-preserved g c =
+    let p = c.args.patch.now in
+    let shape = c.args.shape.now.items in
+    let t = g.S.LineTotals.trees c.args.sums.now in
+    let axis = axis_at (length shape) c.args.fold.along in
+    let a = array_of shape t.numbers in
+    let region = lines_of axis p.region in
+    let item = reduce_item c.args.fold.function c.args.fold.along (patched a p) in
+    let before = c.loop-line.line in
+    let below : before < box_size p.region = omega (arith, c.loop-line-test.true, c.size-lines.ensures, ap box_size c.region-region.ensures) in
+    let as_many = as_many_lines axis t a p c.requires.lines c.requires.fit c.requires.one in
+    let under : before < box_size region = omega (arith, as_many) in
+    let here = c.loop-line.invariant.at below in
+    let index : c.as_slice.result.now ≡ walk_at p.region before = c.as_slice.ensures.is ∙ here in
+    let there = ap (λ (i : List ℕ). remove i axis) index ∙ line_there axis t a p c.requires.lines c.requires.fit c.requires.one before under in
+    let given = ap item (sym there) ∙ sym c.line_total.ensures.total ∙ c.in-Ok.is in
+    record {
+      ticks = omega (arith, c.line_total.ensures.ticks, c.loop-line.invariant.ticks);
+      none = λ h. absurd (omega arith);
+      some = λ _. one_more_tick c.args.meter.now.ticks before c.loop-line.meter.ticks _ c.loop-line.invariant.none c.loop-line.invariant.some c.line_total.ensures.ticks;
+      rises = omega (arith, c.line_total.ensures.rises, c.loop-line.invariant.rises);
+      joins = λ digits h.
+          let so_far = c.loop-line.invariant.joins digits h in
+          let more = c.line_total.ensures.joins digits h in
+          omega (arith, so_far, more);
+      least = λ two.
+          let so_far = c.loop-line.invariant.least two in
+          let more = c.line_total.ensures.least two in
+          omega (arith, so_far, more);
+      at = subst (λ (r : List Interval). before + 1 < box_size r → c.advance.new.index ≡ walk_at r (before + 1)) c.region-region.ensures
+          (λ later. c.advance.ensures.next before later (here ∙ ap (λ (r : List Interval). walk_at r before) (sym c.region-region.ensures)));
+      many = as_many_written c.loop-line.totals c.write_at.new.self (box_size region) before _ c.loop-line.invariant.many c.write_at.ensures;
+      typed = ap (λ (b : ArrayValue). b.item_type) c.write_at.ensures ∙ c.loop-line.invariant.typed;
+      rest = one_filled c.loop-line.totals c.write_at.new.self (λ q. item (walk_at region q)) (box_size region) before _ _ c.loop-line.invariant.many under given c.write_at.ensures c.loop-line.invariant.rest;
+    }
