@@ -94,6 +94,7 @@ module _ (axis : ℕ) (t : TreesValue) (a : ArrayValue) (p : PatchValue) (stand 
     pub line_there : remove (walk_at p.region before) axis ≡ walk_at region before
     line_there = ap (λ (i : List ℕ). remove i axis) new_index ∙ remove_inserted axis s.0 (walk_at region before) (omega (arith, long, stand.there))
 
+  -- and its total
   module _ (sound : IsPatch p) (before : ℕ) (below : before < box_size region) where
     abbrev index : List ℕ
     index = walk_at region before
@@ -122,7 +123,7 @@ module _ (axis : ℕ) (t : TreesValue) (a : ArrayValue) (p : PatchValue) (stand 
     new_place : place ≡ first + (s.0 - 1) * step
     new_place =
         let one_more : s.0 ≡ s.0 - 1 + 1 = omega (arith, low_high.0) in
-        ap (places_before a.shape) ((new_index before below) ∙ ap (insert index axis) one_more) ∙ place_at (s.0 - 1)
+        ap (places_before a.shape) (new_index before below ∙ ap (insert index axis) one_more) ∙ place_at (s.0 - 1)
 
     -- the line on which it lies
     first_is : line_start t.step t.count (line_through t.count t.step place) ≡ first
@@ -164,7 +165,7 @@ module _ (axis : ℕ) (t : TreesValue) (a : ArrayValue) (p : PatchValue) (stand 
     outside : (j : ℕ) → j ≢ s.0 → is_within p.region (insert index axis j) ≡ false
     outside j away = elim (cases_Bool (is_within p.region (insert index axis j))) [
       | inl w ↦
-          let on = within_axis axis p.region index j on_region (omega (arith, (long before below), as_many_axes)) w in
+          let on = within_axis axis p.region index j on_region (omega (arith, long before below, as_many_axes)) w in
           absurd (omega (arith, on.0, on.1, same_last))
       | inr f ↦ f
     ]
@@ -213,7 +214,7 @@ module _ (axis : ℕ) (t : TreesValue) (a : ArrayValue) (p : PatchValue) (stand 
         let line_is = changed_line ∙ ap (map (λ (y : ℤ). Num y)) (sym told) in
         λ i. fold_right (sym same i) (line_is i)
 
-  -- the same of a place of the box by its index list
+  -- the same of a place of the box that its index list tells
   module _ (sound : IsPatch p) (index : List ℕ) (within : is_within p.region index ≡ true) where
     abbrev before : ℕ
     before = box_offset p.region index
