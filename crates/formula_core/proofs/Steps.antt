@@ -1,10 +1,11 @@
 -- How the change of a node is worked out from what stands before it.
-use Rattle.std.proofs.Common.{◌≡◌, ℕ, zero, suc, ◌+◌, ◌<◌, List, [], ◌∷◌, ◌++◌, length, map, take, get_or, Bool, true, false, Option, Some, None, Ok, refl, sym, ap, ◌∙◌, subst, arith, IfOk}
+use Rattle.std.proofs.Common.{◌≡◌, ℕ, zero, suc, ◌+◌, ◌<◌, List, [], ◌∷◌, ◌++◌, length, map, take, get_or, Bool, true, false, Option, Some, None, Result, Ok, Err, refl, sym, ap, ◌∙◌, subst, arith, IfOk, OnOk}
 use Rattle.std.specs.List.{Contains}
 use Rattle.std.specs.Option.{option_map}
 use Rattle.std.proofs.lemmas.Bool.{false≢true}
 use Rattle.std.proofs.lemmas.List.{get_or-map, get_or_default, map_more}
 use Rattle.apl_expr.specs.Trees.{Tree, Const, Name, Monad, Dyad, Index, Reduce, Scan, Outer, Inner, Numbers, positions_of}
+use Rattle.std.specs.declared.alloc.AllocError.{AllocError}
 use Rattle.arrays_core.specs.Arrays.{IsArray}
 use Rattle.arrays_core.specs.declared.item.Kind.TheVariants.{Value}
 use Rattle.index_region.specs.declared.delta.Delta.{Delta}
@@ -25,6 +26,7 @@ use Rattle.formula_core.specs.Changes.{Change, change, changes, values_of, FitsI
 use Rattle.formula_core.specs.Inputs.{shown, HasFit, IsAllOrNothing, IsInput}
 use Rattle.formula_core.specs.Holdings.{Holding, holding_at, holdings_of, not_worked_out, no_change}
 use Rattle.formula_core.specs.Plans.{node_change, AreInputs}
+use Rattle.formula_core.specs.Rules.{with_change}
 use Rattle.formula_core.specs.Stages.{IsStaged, IsTaken, IsLiteralChange, AreReady, IsStep}
 use Rattle.formula_core.specs.Formulas.{is_operation}
 use Rattle.formula_core.proofs.Fitting.{fit_now}
@@ -164,7 +166,7 @@ whole_name old now (Grown t) none same is = absurd none
 whole_name old now (Whole r) none same is = ap (λ o. Whole o) is
 
 -- a step of a node that applies no function costs nothing
-pub free_step : (is_new : Bool) (c : Change) (t : Tree) (meter : ℕ) (d : Delta) → d ≡ node_change is_new c t → is_operation t ≡ false → IsStep is_new c t meter meter (Ok (d, 0))
+free_step : (is_new : Bool) (c : Change) (t : Tree) (meter : ℕ) (d : Delta) → d ≡ node_change is_new c t → is_operation t ≡ false → IsStep is_new c t meter meter (Ok (d, 0))
 free_step true c (Const l) meter d is none = record { delta = is; cost = refl; ticks = omega arith; least = λ _. omega arith; rises = omega arith }
 free_step true c (Name x) meter d is none = record { delta = is; cost = refl; ticks = omega arith; least = λ _. omega arith; rises = omega arith }
 free_step false c (Const l) meter d is none = record { delta = is; cost = refl; ticks = omega arith; least = λ _. omega arith; rises = omega arith }
@@ -176,3 +178,8 @@ free_step is_new c (Reduce f k b) meter d is none = absurd (false≢true (sym no
 free_step is_new c (Scan f k b) meter d is none = absurd (false≢true (sym none))
 free_step is_new c (Outer f a b) meter d is none = absurd (false≢true (sym none))
 free_step is_new c (Inner f g a b) meter d is none = absurd (false≢true (sym none))
+
+pub leaf_step : {X : Type 0} (is_new : Bool) (c : Change) (t : Tree) (meter : ℕ) (d : Delta) (r : Result ℕ AllocError) → OnOk r X → (X → d ≡ node_change is_new c t) → IfOk r (λ n. n ≡ 0) → is_operation t ≡ false
+    → IsStep is_new c t meter meter (with_change d r)
+leaf_step is_new c t meter d (Ok n) told is nothing none = subst (λ (k : ℕ). IsStep is_new c t meter meter (Ok (d, k))) (sym nothing) (free_step is_new c t meter d (is told) none)
+leaf_step is_new c t meter d (Err e) told is nothing none = record { delta = tt; cost = tt; ticks = omega arith; least = tt; rises = omega arith }

@@ -155,15 +155,8 @@ impl<'a> Stage<'a> {
             → IsJoined self.now.is_new c (tree_of_node names trees node.now) meter.old.joins meter.new.joins (with_change change.new result) }
     {
         match node {
-            Node::Constant(constant) => {
-                *change = self.change_of_literal(constant)?;
-                Ok(0)
-            }
-            Node::Name(place) => {
-                let input = told(self.inputs, *place);
-                *change = self.change_of_name(&input)?;
-                Ok(0)
-            }
+            Node::Constant(constant) => self.change_of_literal(constant, change),
+            Node::Name(place) => self.change_of_name(*place, change),
             Node::Monad(function, right) => {
                 let right = self.operand(right);
                 change_of_monad(
@@ -221,19 +214,37 @@ impl<'a> Stage<'a> {
         }
     }
 
-    /// The change of a literal: it stays, and in a new formula it is new.
-    fn change_of_literal(&self, constant: &Constant) -> Result<Delta, AllocError>
+    /// The change of a literal that is the whole expression, put in place of another one: it stays, and in a new formula it is new. It costs nothing. It
+    /// stands alone, as the next call does, since it takes room that the other nodes need not clear.
+    #[inline(never)]
+    fn change_of_literal(&self, constant: &Constant, change: &mut Delta) -> Result<u32, AllocError>
         requires { IsLiteralChange self.now.is_new self.now.of_literals.now }
-        ensures { IfOk result (λ d. (c : Change) → d ≡ node_change self.now.is_new c (Const constant.now)) }
+        ensures change { OnOk result ((c : Change) → change.new ≡ node_change self.now.is_new c (Const constant.now)) }
+        ensures free { IfOk result (λ n. n ≡ 0) }
     {
         if !self.is_new {
-            return Ok(Delta::Same);
+            *change = Delta::Same;
+            return Ok(0);
         }
-        Ok(Delta::Whole(constant.input(self.of_literals).copy()?))
+        *change = Delta::Whole(constant.input(self.of_literals).copy()?);
+        Ok(0)
     }
 
-    /// The change of a name that is the whole expression: that of the name, and in a new formula it is new.
-    fn change_of_name(&self, input: &Input) -> Result<Delta, AllocError>
+    /// The change of a name that is the whole expression, put in place of another one. It costs nothing.
+    #[inline(never)]
+    fn change_of_name(&self, place: usize, change: &mut Delta) -> Result<u32, AllocError>
+        requires { place < length self.now.inputs.now }
+        ensures change { OnOk result ((c : Change) → (x : List ℕ) → IsInput (c.new x) (c.delta x) (get_or self.now.inputs.now place (Bad (fault Value) false)) → IsNameChanged c x
+            → change.new ≡ node_change self.now.is_new c (Name x)) }
+        ensures free { IfOk result (λ n. n ≡ 0) }
+    {
+        let input = told(self.inputs, place);
+        *change = self.delta_of_name(&input)?;
+        Ok(0)
+    }
+
+    /// What changes of a name that is the whole expression: what changed of the name, and in a new formula it is new.
+    fn delta_of_name(&self, input: &Input) -> Result<Delta, AllocError>
         ensures { IfOk result (λ d. (c : Change) → (x : List ℕ) → IsInput (c.new x) (c.delta x) input.now → IsNameChanged c x → d ≡ node_change self.now.is_new c (Name x)) }
     {
         if self.is_new {

@@ -1,5 +1,5 @@
-use Rattle.std.proofs.Common.{Ok, List, Option, refl, sym, subst, ap, ◌∙◌}
-use Rattle.apl_expr.specs.Trees.{Const}
+use Rattle.std.proofs.Common.{Ok, List, [], get_or, Option, refl, sym, subst, ap, ◌∙◌}
+use Rattle.apl_expr.specs.Trees.{Const, Name}
 use Rattle.formula_core.specs.declared.table.Node.{Node}
 use Rattle.formula_core.specs.declared.table.Operand.{Operand}
 use Rattle.formula_core.specs.Meaning.{eval}
@@ -7,24 +7,25 @@ use Rattle.formula_core.specs.Tables.{tree_of_node, tree_of_index, tree_of_opera
 use Rattle.formula_core.specs.Plans.{node_change}
 use Rattle.formula_core.specs.Stages.{IsStep, IsJoined, IsKeptBy, IsMadeBy}
 use Rattle.formula_core.proofs.Applied.{least_between, most_between}
-use Rattle.formula_core.proofs.Steps.{free_step, name_input, name_told}
+use Rattle.formula_core.proofs.Steps.{leaf_step, name_input, name_told}
 use Rattle.formula_core.proofs.Joined.{kept_well, monad_joined, unjoined}
 use Rattle.formula_core.proofs.Summed.{kept_for, made_for}
 use Rattle.formula_core.proofs.Stepping.{monad_step, dyad_step}
 use Rattle.formula_core.specs.Rules.{with_change}
 use Rattle.formula_core.proofs.stage.Stage.change_of.Goals as goal
 
-pub returns-in_ok-change-in-Constant-clause-step : goal.returns-in_ok-change-in-Constant-clause-step
-returns-in_ok-change-in-Constant-clause-step c = λ change names trees staged holds.
-    subst (λ (n : Node). IsStep c.args.self.now.is_new change (tree_of_node names trees n) c.args.meter.now.ticks c.args.meter.now.ticks (Ok (c.in_ok-change-in-Constant.field-0, 0))) (sym c.in-Constant.is)
-    (free_step c.args.self.now.is_new change _ c.args.meter.now.ticks _ (c.in_ok-change-in-Constant.ensures change ∙ ap (λ l. node_change c.args.self.now.is_new change (Const l)) c.deref.ensures) refl)
+pub returns-in-Constant-clause-step : goal.returns-in-Constant-clause-step
+returns-in-Constant-clause-step c = λ change names trees staged holds.
+    subst (λ (n : Node). IsStep c.args.self.now.is_new change (tree_of_node names trees n) c.args.meter.now.ticks c.args.meter.now.ticks (with_change c.change_of_literal.new.change c.change_of_literal.result)) (sym c.in-Constant.is)
+    (leaf_step c.args.self.now.is_new change (Const c.in-Constant.constant.value) c.args.meter.now.ticks c.change_of_literal.new.change c.change_of_literal.result c.change_of_literal.ensures.change
+    (λ is. is change ∙ ap (λ l. node_change c.args.self.now.is_new change (Const l)) c.deref.ensures) c.change_of_literal.ensures.free refl)
 
-pub returns-in_ok-change-in-Name-clause-step : goal.returns-in_ok-change-in-Name-clause-step
-returns-in_ok-change-in-Name-clause-step c = λ change names trees staged holds.
+pub returns-in-Name-clause-step : goal.returns-in-Name-clause-step
+returns-in-Name-clause-step c = λ change names trees staged holds.
     let within = rw c.in-Name.is at c.requires.node in
-    subst (λ (n : Node). IsStep c.args.self.now.is_new change (tree_of_node names trees n) c.args.meter.now.ticks c.args.meter.now.ticks (Ok (c.in_ok-change-in-Name.field-0, 0))) (sym c.in-Name.is)
-    (free_step c.args.self.now.is_new change _ c.args.meter.now.ticks _
-    (c.in_ok-change-in-Name.ensures change _ (name_input change names trees c.args.self.now staged c.in-Name.place within c.told-input.result c.told-input.ensures) (name_told change names trees c.args.self.now staged c.in-Name.place within)) refl)
+    subst (λ (n : Node). IsStep c.args.self.now.is_new change (tree_of_node names trees n) c.args.meter.now.ticks c.args.meter.now.ticks (with_change c.change_of_name.new.change c.change_of_name.result)) (sym c.in-Name.is)
+    (leaf_step c.args.self.now.is_new change (Name (get_or names c.in-Name.place [])) c.args.meter.now.ticks c.change_of_name.new.change c.change_of_name.result c.change_of_name.ensures.change
+    (λ is. is change _ (name_input change names trees c.args.self.now staged c.in-Name.place within _ refl) (name_told change names trees c.args.self.now staged c.in-Name.place within)) c.change_of_name.ensures.free refl)
 
 pub change_of_monad-requires-clause-kept : goal.change_of_monad-requires-clause-kept
 change_of_monad-requires-clause-kept c =
@@ -54,14 +55,14 @@ returns-in-Index-clause-step c = λ change names trees staged holds.
     (subst (λ (ps : List (Option Operand)). IsStep c.args.self.now.is_new change (tree_of_index names trees array ps) c.args.meter.now.ticks c.change_of_indexed.new.meter.ticks (with_change c.change_of_indexed.new.change c.change_of_indexed.result)) c.deref-in-Index.ensures.value
     (c.change_of_indexed.ensures.step change names trees staged were))
 
-pub returns-in_ok-change-in-Constant-clause-joins : goal.returns-in_ok-change-in-Constant-clause-joins
-returns-in_ok-change-in-Constant-clause-joins c = λ change names trees staged holds.
-    subst (λ (n : Node). IsJoined c.args.self.now.is_new change (tree_of_node names trees n) c.args.meter.now.joins c.args.meter.now.joins (Ok (c.in_ok-change-in-Constant.field-0, 0))) (sym c.in-Constant.is)
+pub returns-in-Constant-clause-joins : goal.returns-in-Constant-clause-joins
+returns-in-Constant-clause-joins c = λ change names trees staged holds.
+    subst (λ (n : Node). IsJoined c.args.self.now.is_new change (tree_of_node names trees n) c.args.meter.now.joins c.args.meter.now.joins (with_change c.change_of_literal.new.change c.change_of_literal.result)) (sym c.in-Constant.is)
     (unjoined c.args.self.now.is_new change _ c.args.meter.now.joins c.args.meter.now.joins _ refl refl refl)
 
-pub returns-in_ok-change-in-Name-clause-joins : goal.returns-in_ok-change-in-Name-clause-joins
-returns-in_ok-change-in-Name-clause-joins c = λ change names trees staged holds.
-    subst (λ (n : Node). IsJoined c.args.self.now.is_new change (tree_of_node names trees n) c.args.meter.now.joins c.args.meter.now.joins (Ok (c.in_ok-change-in-Name.field-0, 0))) (sym c.in-Name.is)
+pub returns-in-Name-clause-joins : goal.returns-in-Name-clause-joins
+returns-in-Name-clause-joins c = λ change names trees staged holds.
+    subst (λ (n : Node). IsJoined c.args.self.now.is_new change (tree_of_node names trees n) c.args.meter.now.joins c.args.meter.now.joins (with_change c.change_of_name.new.change c.change_of_name.result)) (sym c.in-Name.is)
     (unjoined c.args.self.now.is_new change _ c.args.meter.now.joins c.args.meter.now.joins _ refl refl refl)
 
 pub returns-in-Monad-clause-joins : goal.returns-in-Monad-clause-joins
