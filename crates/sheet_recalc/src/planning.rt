@@ -341,13 +341,14 @@ fn whole_plan(
         [one] => {
             let input = ahead.input_of_one(name, formula, *one, place, last);
             formula.plan(&input, meter)
-        },
-        [one, two] => formula.plan(&ahead.inputs_of_two(name, formula, *one, *two), meter),
+        }
         _ => plan_of_many(alloc, &ahead, name, formula, meter),
     }
 }
 
-/// The whole plan of a name's formula, in which any number of names stands, where all that it refers to is done.
+/// The whole plan of a name's formula, in which any number of names stands, where all that it refers to is done. It stands alone, since what two names
+/// show takes room that need not be cleared for one.
+#[inline(never)]
 fn plan_of_many(
     alloc: Global,
     ahead: &Ahead<'_, '_>,
@@ -364,6 +365,9 @@ fn plan_of_many(
     ensures all { OnOk result (AllComputed formula.now.is_new (proposed_change (outline_of ahead.now.proposed.now)) formula.now.tree
         → meter.new.ticks ≡ ticked meter.old.ticks (tree_cost formula.now.is_new (proposed_change (outline_of ahead.now.proposed.now)) formula.now.tree)) }
 {
+    if let [one, two] = formula.references() {
+        return formula.plan(&ahead.inputs_of_two(name, formula, *one, *two), meter);
+    }
     let inputs = ahead.inputs_of(alloc, name, formula)?;
     formula.plan(inputs.as_slice(), meter)
 }
