@@ -1,7 +1,8 @@
 -- A formula is its table.
-use Rattle.std.proofs.Common.{◌≡◌, ℕ, ◌+◌, ◌-◌, ◌<◌, true, false, Box, Global, List, [], ◌∷◌, ◌++◌, length, take, get_or, refl, sym, ap, ◌∙◌, subst, arith, append_assoc, cond}
+use Rattle.std.proofs.Common.{◌≡◌, ℕ, ◌+◌, ◌-◌, ◌<◌, true, false, Box, Global, List, [], ◌∷◌, ◌++◌, length, map, take, get_or, refl, sym, ap, ◌∙◌, subst, arith, append_assoc, cond}
 use Rattle.std.specs.List.{count_by}
-use Rattle.std.proofs.lemmas.List.{length-append}
+use Rattle.std.proofs.lemmas.List.{length-append, map-append}
+use Rattle.std.proofs.lemmas.List.Elements.{All-nil, All-push, All-head, All-tail}
 use Rattle.std.proofs.lemmas.List.Sums.{sum_by-append, count_by_more_yes, count_by_more_no}
 use Rattle.apl_expr.specs.Trees.{Tree, Const, Name, Monad, Dyad, Index, Reduce, Scan, Outer, Inner, Numbers}
 use Rattle.formula_core.specs.declared.constant.Constant.{Constant}
@@ -12,7 +13,7 @@ use Rattle.formula_core.specs.declared.table.Node.TheVariants as node
 use Rattle.formula_core.specs.Meaning.{names_in}
 use Rattle.formula_core.specs.Tables.{inside, inside_positions, subtrees, tree_at, tree_of_node, tree_of_operand, trees_after, applies, IsNode, IsTable, IsLowered}
 use Rattle.formula_core.specs.declared.kept.Kept.{Kept}
-use Rattle.formula_core.specs.Holdings.{nodes_of}
+use Rattle.formula_core.specs.Holdings.{Holding, holding, holdings_of, nodes_of, not_worked_out, AreNew}
 use Rattle.formula_core.specs.Formulas.{root_of, IsTableOf, is_operation, operations}
 use Rattle.formula_core.proofs.Applied.{operation_before, operation_between}
 use Rattle.formula_core.proofs.Tabled.{trees_long, trees_more, table_more, at_last}
@@ -69,6 +70,23 @@ rooted_node names nodes (Reduce f i b) k l = table_made names nodes (Reduce f i 
 rooted_node names nodes (Scan f i b) k l = table_made names nodes (Scan f i b) l.named (plain names nodes (inside (Scan f i b)) (l.trees [])) (l.table (length names) (omega arith) tt)
 rooted_node names nodes (Outer f a b) k l = table_made names nodes (Outer f a b) l.named (plain names nodes (inside (Outer f a b)) (l.trees [])) (l.table (length names) (omega arith) tt)
 rooted_node names nodes (Inner f g a b) k l = table_made names nodes (Inner f g a b) l.named (plain names nodes (inside (Inner f g a b)) (l.trees [])) (l.table (length names) (omega arith) tt)
+
+-- a node that is pushed
+pub nodes_pushed : (old new : List Kept) (k : Kept) (n : Node) → new ≡ old ++ k ∷ [] → k.node ≡ n → nodes_of new ≡ nodes_of old ++ n ∷ []
+nodes_pushed old new k n is node_is = ap nodes_of is ∙ (map-append (λ (x : Kept). x.node) old (k ∷ []) ∙ ap (λ (m : Node). nodes_of old ++ m ∷ []) node_is)
+
+pub none_worked_out : (nodes : List Kept) → nodes ≡ [] → AreNew nodes
+none_worked_out nodes none = subst AreNew (sym none) (All-nil (λ (k : Kept). holding k ≡ not_worked_out))
+
+pub new_pushed : (old new : List Kept) (k : Kept) → new ≡ old ++ k ∷ [] → holding k ≡ not_worked_out → AreNew old → AreNew new
+new_pushed old new k is one all = subst AreNew (sym is) (All-push (λ (x : Kept). holding x ≡ not_worked_out) old k all one)
+
+-- what new nodes hold
+pub new_holdings : (nodes : List Kept) → AreNew nodes → holdings_of nodes ≡ map (λ (n : Node). not_worked_out) (nodes_of nodes)
+new_holdings [] all = refl
+new_holdings (k ∷ nodes) all =
+    ap (λ (h : Holding). h ∷ holdings_of nodes) (All-head (λ (x : Kept). holding x ≡ not_worked_out) k nodes all)
+    ∙ ap (λ (hs : List Holding). not_worked_out ∷ hs) (new_holdings nodes (All-tail (λ (x : Kept). holding x ≡ not_worked_out) k nodes all))
 
 -- a leaf that is the whole tree has the only node
 rooted_leaf : (names : List (List ℕ)) (nodes new : List Node) (t leaf : Tree) (n : Node) (o : Operand) → IsLowered [] names [] nodes t o → t ≡ leaf → inside leaf ≡ [] → subtrees leaf ≡ leaf ∷ []

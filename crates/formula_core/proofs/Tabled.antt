@@ -230,6 +230,11 @@ pub as_lowered : {E : Type 0} (names names' : List (List ℕ)) (old mid new : Li
 as_lowered names names' old mid new n t (Ok o) pushed place made = subst (λ (x : Operand). IsLowered names names' old new t x) (sym place) (made pushed)
 as_lowered names names' old mid new n t (Err e) pushed place made = tt
 
+-- what holds of all nodes before a push, and then of all
+pub pushed_anew : {T E : Type 0} (r : Result T E) (P Q O : Type 0) → (O → P) → OnOk r (P → Q) → OnOk r (O → Q)
+pushed_anew (Ok t) P Q O before then = λ o. then (before o)
+pushed_anew (Err e) P Q O before then = tt
+
 -- one position more of those of the code
 pub position_more : (names names' : List (List ℕ)) (old new : List Node) (xs : List (Option Expr)) (k : ℕ) (x : Option Expr) (os os' : List (Option Operand)) (o : Option Operand)
     → k < length xs → x ≡ get_or xs k x → os' ≡ os ++ o ∷ []

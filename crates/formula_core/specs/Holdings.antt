@@ -1,5 +1,5 @@
 -- What the nodes of a formula keep, and what changes of it.
-use Rattle.std.specs.Prelude.{ℕ, ◌<◌, Bool, true, false, ◌&&◌, List, Option, None, Err, length, get_or, map}
+use Rattle.std.specs.Prelude.{◌≡◌, ℕ, ◌<◌, All, Bool, true, false, ◌&&◌, List, Option, None, Err, length, get_or, map}
 use Rattle.arrays_core.specs.declared.item.Kind.TheVariants.{Value}
 use Rattle.index_region.specs.declared.delta.Delta.{Delta}
 use Rattle.index_region.specs.declared.delta.Delta.TheVariants.{Same, Patch, Grown, Whole}
@@ -38,6 +38,10 @@ holdings_of nodes = map holding nodes
 
 abbrev pub nodes_of : List Kept → List Node
 nodes_of nodes = map (λ k. k.node) nodes
+
+-- none of these was worked out yet
+abbrev pub AreNew : List Kept → Type 0
+AreNew nodes = All (λ k. holding k ≡ not_worked_out) nodes
 
 -- nothing changes of a node
 abbrev pub no_change : NodeChange

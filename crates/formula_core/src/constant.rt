@@ -9,7 +9,7 @@ ghost use Rattle.formula_core.specs.Meaning.{array_of};
 use crate::input::Input;
 use crate::literals::array_of;
 use apl_expr::Literal;
-use arrays_core::{ApplyFault, Array, Fault, Kind};
+use arrays_core::{ApplyFault, Array, Kind};
 use index_region::{Delta, Seen};
 use std::alloc::{AllocError, Global};
 use std::marker::Model;

@@ -9,7 +9,7 @@ ghost use Rattle.index_region.specs.declared.delta.Delta.TheVariants.{Same};
 ghost use Rattle.formula_core.specs.Outcomes.{read};
 ghost use Rattle.formula_core.specs.Meaning.{eval, names_in};
 ghost use Rattle.formula_core.specs.Changes.{Change, at_rest};
-ghost use Rattle.formula_core.specs.Holdings.{holdings_of, nodes_of, not_worked_out, adopted};
+ghost use Rattle.formula_core.specs.Holdings.{nodes_of, not_worked_out, adopted, AreNew};
 ghost use Rattle.formula_core.specs.Formulas.{new_formula, root_result, operations, IsHeld, IsTableOf};
 ghost use Rattle.formula_core.specs.Joins.{most_joins, least_joins, tree_joins, tree_least_joins};
 ghost use Rattle.formula_core.specs.Plans.{tree_cost, node_cost_at, IsComputed, AllComputed, IsPlanOf, IsTold, IsPlanned};
@@ -22,7 +22,7 @@ use crate::input::Input;
 use crate::kept::{Kept, NodeChange, adopt_all, unknown};
 use crate::plan::Plan;
 use crate::stage::Stage;
-use crate::table::{Node, Operand, lower, names_in};
+use crate::table::{Node, Operand, lower, room_for};
 use apl_expr::Expr;
 use apl_tokens::Name;
 use arrays_core::{Array, Fault};
@@ -73,10 +73,11 @@ impl Formula {
     pub fn of(alloc: Global, tree: &Expr) -> Result<Formula, AllocError>
         ensures { IfOk result (λ formula. formula ≡ new_formula (tree_of tree.now)) }
     {
-        let mut names = Vec::with_capacity(alloc, names_in(tree))?;
-        let mut nodes = Vec::new(alloc);
+        let room = room_for(tree);
+        let mut names = Vec::with_capacity(alloc, room.names)?;
+        // A literal or a name that is the whole expression has a node.
+        let mut nodes = Vec::with_capacity(alloc, room.nodes.max(1))?;
         lower_whole(alloc, &mut names, &mut nodes, tree)?;
-        let nodes = all_new(alloc, nodes)?;
         Ok(Formula {
             alloc,
             names,
@@ -179,7 +180,8 @@ impl Formula {
         Ok(plan)
     }
 
-    /// One function more of a plan of this formula as it is, of which fewer were done than there are; the inputs tell the same change each time. Where memory is refused, the plan and the meter are as they were.
+    /// One function more of a plan of this formula as it is, of which fewer were done than there are; the inputs tell the same change each time. Where
+    /// memory is refused, the plan and the meter are as they were.
     #[inline(always)]
     pub fn advance(
         &self,
@@ -318,33 +320,22 @@ impl Formula {
     }
 }
 
-/// The nodes, none of which was worked out yet.
-fn all_new(alloc: Global, nodes: Vec<Node>) -> Result<Vec<Kept>, AllocError>
-    ensures nodes { IfOk result (λ kept. nodes_of kept.items ≡ nodes.items) }
-    ensures held { IfOk result (λ kept. holdings_of kept.items ≡ map (λ n. not_worked_out) nodes.items) }
-{
-    let mut kept = Vec::with_capacity(alloc, nodes.len())?;
-    for node in nodes {
-        kept.push(Kept::new(node))?;
-    }
-    Ok(kept)
-}
-
 /// The names and the nodes of an expression, whose own node stands last.
 fn lower_whole(
     alloc: Global,
     names: &mut Vec<Name>,
-    nodes: &mut Vec<Node>,
+    nodes: &mut Vec<Kept>,
     tree: &Expr,
 ) -> Result<(), AllocError>
     requires names { names.old.items ≡ [] }
     requires nodes { nodes.old.items ≡ [] }
-    ensures { OnOk result (IsTableOf names.new.items nodes.new.items (tree_of tree.now)) }
+    ensures table { OnOk result (IsTableOf names.new.items (nodes_of nodes.new.items) (tree_of tree.now)) }
+    ensures anew { OnOk result (AreNew nodes.new.items) }
 {
     match lower(alloc, names, nodes, tree)? {
         Operand::Node(_) => {}
-        Operand::Name(place) => nodes.push(Node::Name(place))?,
-        Operand::Literal(constant) => nodes.push(Node::Constant(constant))?,
+        Operand::Name(place) => nodes.push(Kept::new(Node::Name(place)))?,
+        Operand::Literal(constant) => nodes.push(Kept::new(Node::Constant(constant)))?,
     }
     Ok(())
 }

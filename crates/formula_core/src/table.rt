@@ -3,10 +3,12 @@
 ghost use Rattle.std.specs.Prelude.{◌≡◌, ◌++◌, [], ◌∷◌, length, map, option_map, IfOk, OnOk};
 ghost use Rattle.apl_expr.specs.Trees.{tree_of, position_of, positions_of, between_arguments};
 ghost use Rattle.formula_core.specs.declared.table.Operand.TheVariants.{Node as NodeAt};
+ghost use Rattle.formula_core.specs.Holdings.{nodes_of, AreNew};
 ghost use Rattle.formula_core.specs.Sums.{totalled};
 ghost use Rattle.formula_core.specs.Tables.{IsLowered, ArePositionsLowered, applies};
 
 use crate::constant::Constant;
+use crate::kept::Kept;
 use crate::sums::total_of;
 use apl_expr::{Expr, Function1, Function2, Sides};
 use apl_tokens::Name;
@@ -64,10 +66,11 @@ impl Node {
 pub(crate) fn lower(
     alloc: Global,
     names: &mut Vec<Name>,
-    nodes: &mut Vec<Node>,
+    nodes: &mut Vec<Kept>,
     tree: &Expr,
 ) -> Result<Operand, AllocError>
-    ensures { IfOk result (λ operand. IsLowered names.old.items names.new.items nodes.old.items nodes.new.items (tree_of tree.now) operand) }
+    ensures lowered { IfOk result (λ operand. IsLowered names.old.items names.new.items (nodes_of nodes.old.items) (nodes_of nodes.new.items) (tree_of tree.now) operand) }
+    ensures anew { OnOk result (AreNew nodes.old.items → AreNew nodes.new.items) }
 {
     match tree {
         Expr::Const(literal) => {
@@ -119,11 +122,12 @@ pub(crate) fn lower(
 fn lower_between(
     alloc: Global,
     names: &mut Vec<Name>,
-    nodes: &mut Vec<Node>,
+    nodes: &mut Vec<Kept>,
     function: Function2,
     sides: &Sides,
 ) -> Result<Operand, AllocError>
-    ensures { IfOk result (λ operand. IsLowered names.old.items names.new.items nodes.old.items nodes.new.items (between_arguments function (tree_of sides.now.left) (tree_of sides.now.right)) operand) }
+    ensures anew { OnOk result (AreNew nodes.old.items → AreNew nodes.new.items) }
+    ensures lowered { IfOk result (λ operand. IsLowered names.old.items names.new.items (nodes_of nodes.old.items) (nodes_of nodes.new.items) (between_arguments function (tree_of sides.now.left) (tree_of sides.now.right)) operand) }
 {
     let left = lower(alloc, names, nodes, &sides.left)?;
     let right = lower(alloc, names, nodes, &sides.right)?;
@@ -136,10 +140,11 @@ fn lower_between(
 fn lower_positions(
     alloc: Global,
     names: &mut Vec<Name>,
-    nodes: &mut Vec<Node>,
+    nodes: &mut Vec<Kept>,
     positions: &[Option<Expr>],
 ) -> Result<Vec<Option<Operand>>, AllocError>
-    ensures { IfOk result (λ operands. ArePositionsLowered names.old.items names.new.items nodes.old.items nodes.new.items (map position_of positions.now) operands.items) }
+    ensures anew { OnOk result (AreNew nodes.old.items → AreNew nodes.new.items) }
+    ensures lowered { IfOk result (λ operands. ArePositionsLowered names.old.items names.new.items (nodes_of nodes.old.items) (nodes_of nodes.new.items) (map position_of positions.now) operands.items) }
 {
     let mut operands = Vec::new(alloc);
     for position in positions {
@@ -152,48 +157,74 @@ fn lower_positions(
     Ok(operands)
 }
 
-/// How many names stand in an expression: so many have room, and no more.
-#[cycle(names)]
-pub(crate) fn names_in(tree: &Expr) -> usize {
+/// How many names an expression takes and how many nodes: so many have room, and no more.
+#[derive(Clone, Copy)]
+pub(crate) struct Room {
+    /// The names that stand in it.
+    pub(crate) names: usize,
+    /// Its functions.
+    pub(crate) nodes: usize,
+}
+
+impl Room {
+    /// Room for what both take.
+    fn and(self, other: Room) -> Room {
+        Room {
+            names: self.names.saturating_add(other.names),
+            nodes: self.nodes.saturating_add(other.nodes),
+        }
+    }
+}
+
+/// What a name takes.
+const ONE_NAME: Room = Room { names: 1, nodes: 0 };
+
+/// What a function takes, beside its arguments.
+const ONE_NODE: Room = Room { names: 0, nodes: 1 };
+
+/// What an expression takes.
+#[cycle(room)]
+pub(crate) fn room_for(tree: &Expr) -> Room {
     match tree {
-        Expr::Const(_) => 0,
-        Expr::Name(_) => 1,
+        Expr::Const(_) => Room { names: 0, nodes: 0 },
+        Expr::Name(_) => ONE_NAME,
         Expr::Monad(_, right) | Expr::Reduce(_, _, right) | Expr::Scan(_, _, right) => {
-            names_in(right)
+            room_for(right).and(ONE_NODE)
         }
         Expr::Dyad(_, sides) | Expr::Outer(_, sides) | Expr::Inner(_, _, sides) => {
-            names_beside(sides)
+            room_beside(sides).and(ONE_NODE)
         }
         Expr::Index(operand, positions) => {
-            names_in(operand).saturating_add(names_within(positions))
+            room_for(operand).and(room_within(positions)).and(ONE_NODE)
         }
     }
 }
 
-/// How many names stand in the arguments of a function.
-#[cycle(names)]
-fn names_beside(sides: &Sides) -> usize {
-    names_in(&sides.left).saturating_add(names_in(&sides.right))
+/// What the arguments of a function take.
+#[cycle(room)]
+fn room_beside(sides: &Sides) -> Room {
+    room_for(&sides.left).and(room_for(&sides.right))
 }
 
-/// How many names stand in the positions of an index.
-#[cycle(names)]
-fn names_within(positions: &[Option<Expr>]) -> usize {
-    let mut count: usize = 0;
+/// What the positions of an index take.
+#[cycle(room)]
+fn room_within(positions: &[Option<Expr>]) -> Room {
+    let mut room = Room { names: 0, nodes: 0 };
     for position in positions {
         if let Some(tree) = position {
-            count = count.saturating_add(names_in(tree));
+            room = room.and(room_for(tree));
         }
     }
-    count
+    room
 }
 
 /// Adds a node, and tells what stands for it as an argument.
-fn push(nodes: &mut Vec<Node>, node: Node) -> Result<Operand, AllocError>
-    ensures nodes { OnOk result (nodes.new.items ≡ nodes.old.items ++ node ∷ []) }
-    ensures place { IfOk result (λ operand. operand ≡ NodeAt (length nodes.old.items)) }
+fn push(nodes: &mut Vec<Kept>, node: Node) -> Result<Operand, AllocError>
+    ensures nodes { OnOk result (nodes_of nodes.new.items ≡ nodes_of nodes.old.items ++ node ∷ []) }
+    ensures place { IfOk result (λ operand. operand ≡ NodeAt (length (nodes_of nodes.old.items))) }
+    ensures anew { OnOk result (AreNew nodes.old.items → AreNew nodes.new.items) }
 {
     let place = nodes.len();
-    nodes.push(node)?;
+    nodes.push(Kept::new(node))?;
     Ok(Operand::Node(place))
 }
