@@ -42,7 +42,7 @@ append_same f g xs ys left right = map-append f xs ys ∙ (ap (λ l. l ++ map f 
 module _ (X : Type 0) (by_f by_g : Tree → X) (P : List ℕ → Type 0) (same : (t : Tree) → ((x : List ℕ) → Contains (names_in t) x → P x) → by_f t ≡ by_g t) where
   mutual
     inside_same : (t : Tree) → ((x : List ℕ) → Contains (names_in t) x → P x) → map by_f (inside t) ≡ map by_g (inside t)
-    inside_same (Const l) h = ap (λ o. o ∷ []) (same (Const l) h)
+    inside_same (Const l) h = refl
     inside_same (Name x) h = refl
     inside_same (Monad k b) h = append_same by_f by_g (inside b) (Monad k b ∷ []) (inside_same b h) (ap (λ o. o ∷ []) (same (Monad k b) h))
     inside_same (Dyad k a b) h =
