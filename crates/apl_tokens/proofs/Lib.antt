@@ -4,5 +4,6 @@ pub mod Walk
 pub mod Sound
 pub mod Complete
 pub mod Names
+pub mod Words
 pub mod Order
 pub mod EditBytes

@@ -1,5 +1,5 @@
 -- What public contracts mean.
-pub mod Stored
+pub mod Words
 pub mod Lexemes
 pub mod Signs
 pub mod Limits
@@ -12,3 +12,5 @@ pub mod Scanner
 pub mod Order
 pub mod NumberEdits
 pub mod Reading
+-- Proofs that impls give with their types: what contracts see of them is the bytes.
+pub mod Laws

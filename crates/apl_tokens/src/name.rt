@@ -1,9 +1,11 @@
 //! Names.
 
 ghost use Rattle.std.specs.Prelude.{◌≡◌, ℕ, ◌<◌, ◌≤◌, true, List, length, IfSome, IfNone};
+ghost use Rattle.std.specs.Int.{w64, to_le_bytes};
 ghost use Rattle.std.specs.Str.{is_utf8, chars};
 ghost use Rattle.apl_tokens.specs.Characters.{spells_name};
 ghost use Rattle.apl_tokens.specs.Limits.{longest_name};
+ghost use Rattle.apl_tokens.specs.Words.{most_words, count_of_words, word_at};
 
 use crate::characters::spells_name;
 use std::hash::{Hash, Hasher};
@@ -11,6 +13,9 @@ use std::marker::Model;
 
 /// The most bytes of a name.
 pub const LONGEST_NAME: usize = 63;
+
+/// The bytes of a word.
+const WORD: usize = 8;
 
 /// A name, an identifier of ISO 8485: its text, at most 63 bytes of UTF-8.
 #[derive(Clone, Copy, Debug)]
@@ -26,7 +31,7 @@ impl Model for Name {
 
     ghost Value = { List ℕ };
 
-    ghost use Rattle.apl_tokens.specs.Stored.{stored, IsStored, stored_again};
+    ghost use Rattle.apl_tokens.specs.Laws.Stored.{stored, IsStored, stored_again};
 
     ghost view = { λ a. take a.len a.bytes };
 
@@ -78,12 +83,46 @@ impl Name {
         &self.bytes[..self.len as usize]
     }
 
+    /// How many words its bytes take.
+    fn words(&self) -> usize
+        ensures count { result ≡ count_of_words self.now }
+        ensures few { result ≤ most_words }
+    {
+        (self.len as usize).div_ceil(WORD)
+    }
+
+    /// Its word of this number, from 0 on, with the zeros behind its end.
+    fn word(&self, index: usize) -> u64
+        requires { index < most_words }
+        ensures { to_le_bytes w64 result ≡ word_at self.now index }
+    {
+        let room = &self.bytes;
+        let from = (index * WORD).min(LONGEST_NAME - WORD);
+        number_of([
+            room[from],
+            room[from + 1],
+            room[from + 2],
+            room[from + 3],
+            room[from + 4],
+            room[from + 5],
+            room[from + 6],
+            room[from + 7],
+        ])
+    }
+
     /// Its text.
     pub fn text(&self) -> &str
         ensures { result.now ≡ self.now }
     {
         std::str::from_utf8(self.bytes()).unwrap()
     }
+}
+
+/// The number of these bytes, the first counting least.
+fn number_of(bytes: [u8; WORD]) -> u64
+    ensures { to_le_bytes w64 result ≡ bytes }
+{
+    u64::from_le_bytes(bytes)
 }
 
 impl PartialEq for Name {
@@ -95,8 +134,17 @@ impl PartialEq for Name {
 
     ghost laws = { Prim.search (comparing, rules) };
 
+    /// By words: a byte at a time takes several times as long.
     fn eq(&self, other: &Name) -> bool {
-        self.bytes() == other.bytes()
+        if self.len != other.len {
+            return false;
+        }
+        for index in 0..self.words() {
+            if self.word(index) != other.word(index) {
+                return false;
+            }
+        }
+        true
     }
 }
 
@@ -110,13 +158,16 @@ impl Eq for Name {
 impl Hash for Name {
     ghost use Rattle.std.proofs.Common.{rules};
     ghost use Rattle.std.specs.Cmp.Rules.{hashing};
-    ghost use Rattle.std.specs.Hash as fed;
+    ghost use Rattle.apl_tokens.specs.Words.{hashed_words};
 
-    ghost hash_input = { λ n. fed.slice (λ b. fed.u8 b) n };
+    ghost hash_input = { hashed_words };
 
     ghost respects_eq = { Prim.search (hashing, rules) };
 
+    /// By words, as equality: equal names have the same, zeros and all.
     fn hash<H: Hasher>(&self, state: &mut H) {
-        self.bytes().hash(state);
+        for index in 0..self.words() {
+            state.write_u64(self.word(index));
+        }
     }
 }
