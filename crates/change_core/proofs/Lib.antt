@@ -1,4 +1,5 @@
 pub mod Regions
+pub mod KeptPlaces
 pub mod Covers
 pub mod Sourced
 pub mod UsedWays

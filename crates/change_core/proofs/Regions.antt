@@ -31,6 +31,37 @@ within-some (s ∷ intervals) (i ∷ index) h =
     let order : s.0 ≤ s.1 = omega (arith, leb-true s.0 i h1.0, leb-true i s.1 h1.1) in
     or_from _ _ (le-ltb _ _ order) (within-some intervals index hp.1)
 
+lower : (i : ℕ) → 1 ≤ i → max 1 i ≡ i
+lower i h = omega arith
+
+upper : (i n : ℕ) → i ≤ n → min i n ≡ i
+upper i n h = omega arith
+
+-- what lies in a shape of a box that fits it is the box
+pub met_fit : (shape : List ℕ) (region : List Interval) → fits region shape ≡ true → met shape region ≡ region
+met_fit [] [] h = refl
+met_fit [] (s ∷ region) h = absurd (false≢true h)
+met_fit (n ∷ shape) [] h = absurd (false≢true h)
+met_fit (n ∷ shape) (s ∷ region) h =
+    let parts = and_parts _ _ h in
+    let first = and_parts _ _ parts.0 in
+    let some : 1 ≤ s.0 = leb-true 1 s.0 (and_parts _ _ first.0).0 in
+    let on : s.1 ≤ n = leb-true s.1 n first.1 in
+    let low : max 1 s.0 ≡ s.0 = lower s.0 some in
+    let high : min s.1 n ≡ s.1 = upper s.1 n on in
+    let rest = met_fit shape region parts.1 in
+    λ i. (low i, high i) ∷ rest i
+
+-- a box that fits has no empty interval
+pub fit_some : (region : List Interval) (shape : List ℕ) → fits region shape ≡ true → is_empty region ≡ false
+fit_some [] [] h = refl
+fit_some [] (n ∷ shape) h = absurd (false≢true h)
+fit_some (s ∷ region) [] h = absurd (false≢true h)
+fit_some (s ∷ region) (n ∷ shape) h =
+    let parts = and_parts _ _ h in
+    let order : s.0 ≤ s.1 = leb-true s.0 s.1 (and_parts _ _ (and_parts _ _ parts.0).0).1 in
+    rw (le-ltb s.1 s.0 order) (fit_some region shape parts.1)
+
 pub hull_fits : (a b : List Interval) (shape : List ℕ) → fits a shape ≡ true → fits b shape ≡ true → fits (hull_of a b) shape ≡ true
 hull_fits [] [] shape h k = h
 hull_fits (s ∷ a) (t ∷ b) (n ∷ shape) h k =

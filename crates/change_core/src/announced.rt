@@ -5,7 +5,7 @@ ghost use Rattle.arrays_core.specs.Arrays.{ArrayValue, IsAnswerTo};
 ghost use Rattle.arrays_core.specs.Shapes.{IsWithinLimits};
 ghost use Rattle.index_region.specs.Boxes.{fits};
 ghost use Rattle.index_region.specs.Checks.{whole, form_of};
-ghost use Rattle.change_core.specs.RuleModels.{Use, FitsAt, HasShape, box_at};
+ghost use Rattle.change_core.specs.RuleModels.{Use, FitsAt, HasShape, KeepsPlaces, box_at};
 ghost use Rattle.change_core.specs.Laws.{IsTight};
 ghost use Rattle.change_core.specs.Growth.{IsGrowing, never};
 ghost use Rattle.change_core.specs.Parts.{HoldsItems, items_in};
@@ -34,6 +34,16 @@ pub trait Announced: Primitive {
         requires count { length args.now ≡ Self.arity self.now }
         requires marks { length grown.now ≡ length args.now }
         ensures { result ≡ growth self.now args.now grown.now };
+
+    /// The result has the places of this argument, and of these may change what changed of the argument, as far as that is known without
+    /// the shape of the result.
+    fn keeps_places(&self, _args: &[Seen], _which: usize) -> bool
+        requires count { length _args.now ≡ Self.arity self.now }
+        requires below { _which < length _args.now }
+        ensures { IsTrue result → KeepsPlaces (record { selectors = selectors self.now; form = Self.form self.now; item = Self.item self.now; uses = uses self.now; grows = growth self.now }) _args.now _which }
+    {
+        false
+    }
 
     /// A change of the argument makes the result anew.
     fn selects(&self, which: usize) -> bool
@@ -94,6 +104,10 @@ impl<P: Announced> Rule for P {
 
     fn shape(&self, args: &[Seen]) -> Result<(Shape, ItemType), Kind> {
         self.shape_of(args)
+    }
+
+    fn keeps_places(&self, args: &[Seen], which: usize) -> bool {
+        Announced::keeps_places(self, args, which)
     }
 
     fn item(&self, args: &[Seen], index: &[u32], meter: &mut Meter) -> Result<Item, Kind> {

@@ -18,7 +18,7 @@ use std::alloc::Global;
 /// changes, and the result grows where it says so. It has no way to an item that does not tick. None of `shape`, `item`, `grows` and `reach` takes
 /// memory.
 pub trait Rule {
-    ghost use Rattle.change_core.specs.RuleModels.{RuleModel, FitsAt, HasShape, box_at, form_size};
+    ghost use Rattle.change_core.specs.RuleModels.{RuleModel, FitsAt, HasShape, KeepsPlaces, box_at, form_size};
     ghost use Rattle.change_core.specs.Reaches.{AllFit, reach_of};
     ghost use Rattle.change_core.specs.Meters.{ticked};
     ghost use Rattle.change_core.specs.Parts.{HoldsItems, items_in};
@@ -125,6 +125,16 @@ pub trait Rule {
         requires count { length args.now ≡ length (model self.now).selectors }
         requires marks { length grown.now ≡ length args.now }
         ensures { result ≡ (model self.now).grows args.now grown.now };
+
+    /// The result has the places of this argument, and of these may change what changed of the argument, as far as that is known without
+    /// the shape of the result: then a change of one place need not look for it.
+    fn keeps_places(&self, _args: &[Seen], _which: usize) -> bool
+        requires count { length _args.now ≡ length (model self.now).selectors }
+        requires below { _which < length _args.now }
+        ensures { IsTrue result → KeepsPlaces (model self.now) _args.now _which }
+    {
+        false
+    }
 
     /// A change of the argument makes the result anew, its shape too.
     fn selects(&self, which: usize) -> bool

@@ -1,17 +1,19 @@
 //! The change of a node, from the changes of its arguments.
 
-ghost use Rattle.std.specs.Prelude.{◌≡◌, ◌+◌, ◌≤◌, length, IfOk, OnOk, Ok, Some, true, false};
+ghost use Rattle.std.specs.Prelude.{◌≡◌, ◌+◌, ◌∷◌, [], is_ok, ◌≤◌, ◌<◌, length, IfOk, OnOk, Ok, Some, IfSome, IsTrue, true, false};
+ghost use Rattle.arrays_core.specs.Arrays.{IsArray};
 ghost use Rattle.arrays_core.specs.Shapes.{IsWithinLimits};
 ghost use Rattle.arrays_core.specs.declared.item.ItemType.{ItemType as TypeOfItems};
 ghost use Rattle.index_region.specs.Boxes.{box_size};
 ghost use Rattle.index_region.specs.Checks.{form_of};
 ghost use Rattle.change_core.specs.Growth.{last_place as place_behind};
-ghost use Rattle.change_core.specs.Reaches.{AllFit};
+ghost use Rattle.change_core.specs.Laws.{Each};
+ghost use Rattle.change_core.specs.Reaches.{AllFit, only_at};
 ghost use Rattle.change_core.specs.Meters.{ticked, most_ticks};
 ghost use Rattle.change_core.specs.RuleModels.{form_size};
 ghost use Rattle.index_region.specs.declared.delta.Delta.TheVariants.{Whole};
 ghost use Rattle.change_rules.specs.Evaluation.{evaluation};
-ghost use Rattle.change_rules.specs.Nodes.{views, moved, is_error, all_same as all_are_same, starts_anew as is_anew, node_delta, node_cost, reached_delta, reached_cost, node_grows, grown_delta, grown_cost, grown_in, grown_size};
+ghost use Rattle.change_rules.specs.Nodes.{views, moved, is_error, all_same as all_are_same, starts_anew as is_anew, moved_by as box_moved_by, is_patched_at_most, all_patched_at_most, node_delta, node_cost, reached_delta, reached_cost, node_grows, grown_delta, grown_cost, grown_in, grown_size};
 ghost use Rattle.change_rules.specs.Currency.{BringsUpToDate, HasAxis, IsRight};
 
 use crate::arguments::{
@@ -19,7 +21,7 @@ use crate::arguments::{
     views_are_arrays, views_of,
 };
 use crate::evaluation::evaluate;
-use crate::patch::patch_of;
+use crate::patch::{patch_of, patch_of_one};
 use arrays_core::{Array, Fault, Shape, outcome, shape_of, size};
 use change_core::{Meter, Reach, Rule, last_place};
 use index_region::{Delta, IndexBox, Seen, Tail};
@@ -253,6 +255,82 @@ fn tail_of_one<R: Rule>(
     Ok(())
 }
 
+/// That the only argument was patched, and its box.
+fn patched(delta: &Delta) -> Option<(usize, &IndexBox)>
+    ensures first { IfSome result (λ b. b.0 ≡ 0) }
+    ensures only { IfSome result (λ b. box_moved_by delta.now ≡ Some b.1.now) }
+    ensures patched { IfSome result (λ b. is_patched_at_most delta.now ≡ true) }
+{
+    match delta {
+        Delta::Patch(patch) => Some((0, patch.region())),
+        _ => None,
+    }
+}
+
+/// Which of two arguments was patched, and its box, where the other one is as it was.
+fn patched_alone<'a>(left: &'a Delta, right: &'a Delta) -> Option<(usize, &'a IndexBox)>
+    ensures below { IfSome result (λ b. b.0 < 2) }
+    ensures only { IfSome result (λ b. box_moved_by left.now ∷ box_moved_by right.now ∷ [] ≡ only_at 2 b.0 b.1.now) }
+    ensures left { IfSome result (λ b. is_patched_at_most left.now ≡ true) }
+    ensures right { IfSome result (λ b. is_patched_at_most right.now ≡ true) }
+{
+    match (left, right) {
+        (Delta::Patch(patch), Delta::Same) => Some((0, patch.region())),
+        (Delta::Same, Delta::Patch(patch)) => Some((1, patch.region())),
+        _ => None,
+    }
+}
+
+/// Which argument alone was patched, and its box, where there are at most two and the other one is as it was.
+fn only_patched<'c>(args: &[(Seen, &'c Delta)]) -> Option<(usize, &'c IndexBox)>
+    ensures below { IfSome result (λ b. b.0 < length args.now) }
+    ensures only { IfSome result (λ b. moved args.now ≡ only_at (length args.now) b.0 b.1.now) }
+    ensures patched { IfSome result (λ b. all_patched_at_most args.now ≡ true) }
+{
+    match args {
+        [(_, delta)] => patched(delta),
+        [(_, left), (_, right)] => patched_alone(left, right),
+        _ => None,
+    }
+}
+
+/// The change of a node that held an array, where one place of one argument alone changed and the result has the places of that: its one item is
+/// new, and nothing else need be looked at. Where that is not so it says no, and nothing is done.
+#[inline(always)]
+fn change_of_place<R: Rule>(
+    rule: &R,
+    seen: &[Seen],
+    args: &[(Seen, &Delta)],
+    old: &Result<Array, Fault>,
+    change: &mut Delta,
+    meter: &mut Meter,
+) -> bool
+    requires count { length args.now ≡ length (R.model rule.now).selectors }
+    requires fit { AllFit (views args.now) (moved args.now) }
+    requires sound { Each IsArray (views args.now) }
+    requires seen { seen.now ≡ views args.now }
+    requires some { all_are_same args.now ≡ false }
+    ensures delta { IsTrue result → change.new ≡ node_delta (R.model rule.now) args.now old.now }
+    ensures cost { IsTrue result → 1 ≡ node_cost (R.model rule.now) args.now old.now }
+    ensures ticks { meter.new.ticks ≤ meter.old.ticks + node_cost (R.model rule.now) args.now old.now }
+    ensures exact { IsTrue result → is_error change.new ≡ false → meter.new.ticks ≡ ticked meter.old.ticks 1 }
+    ensures rises { meter.old.ticks ≤ meter.new.ticks }
+    ensures joins { meter.new.joins ≡ meter.old.joins }
+    ensures none { result ≡ false → meter.new ≡ meter.old }
+{
+    if old.is_err() {
+        return false;
+    }
+    let Some((which, region)) = only_patched(args) else {
+        return false;
+    };
+    if region.size() != 1 || !rule.keeps_places(seen, which) {
+        return false;
+    }
+    patch_of_one(rule, seen, region.copy(), change, meter);
+    true
+}
+
 /// The change of a node, and what it costs. Views and boxes of up to three arguments take no memory.
 #[inline(always)]
 fn change_of<R: Rule>(
@@ -265,6 +343,7 @@ fn change_of<R: Rule>(
 ) -> Result<u32, AllocError>
     requires count { length args.now ≡ length (R.model rule.now).selectors }
     requires fit { AllFit (views args.now) (moved args.now) }
+    requires sound { Each IsArray (views args.now) }
     requires small { meter.old.ticks ≤ most_ticks }
     ensures delta { OnOk result (change.new ≡ node_delta (R.model rule.now) args.now old.now) }
     ensures cost { IfOk result (λ n. n ≡ node_cost (R.model rule.now) args.now old.now) }
@@ -280,11 +359,17 @@ fn change_of<R: Rule>(
     match args {
         [(a, d)] => {
             let seen = [a.again()];
+            if change_of_place(rule, &seen, args, old, change, meter) {
+                return Ok(1);
+            }
             let boxes = [moved_by(d)];
             change_from(alloc, rule, &seen, &boxes, args, old, change, meter)
         }
         [(a, d), (b, e)] => {
             let seen = [a.again(), b.again()];
+            if change_of_place(rule, &seen, args, old, change, meter) {
+                return Ok(1);
+            }
             let boxes = [moved_by(d), moved_by(e)];
             change_from(alloc, rule, &seen, &boxes, args, old, change, meter)
         }

@@ -50,7 +50,7 @@ fn are_small(args: &[Seen]) -> bool {
 }
 
 /// The patch of one place of the result, or the error there, put in place of another change. It takes no memory.
-fn patch_of_one<R: Rule>(
+pub(crate) fn patch_of_one<R: Rule>(
     rule: &R,
     args: &[Seen],
     region: IndexBox,

@@ -85,6 +85,15 @@ impl Announced for EachDyadic {
         }
     }
 
+    fn keeps_places(&self, args: &[Seen], which: usize) -> bool {
+        let (left, right) = (&args[0], &args[1]);
+        if which == 0 {
+            is_extended_to(left, right)
+        } else {
+            is_extended_to(right, left)
+        }
+    }
+
     fn selects(&self, _which: usize) -> bool {
         false
     }

@@ -54,6 +54,10 @@ impl Announced for EachMonadic {
         grown[0]
     }
 
+    fn keeps_places(&self, _args: &[Seen], _which: usize) -> bool {
+        true
+    }
+
     fn selects(&self, _which: usize) -> bool {
         false
     }

@@ -35,7 +35,7 @@ use Rattle.change_core.specs.Meters.{ticked}
 use Rattle.sum_rules.specs.LineSums.{array_of, length_along}
 use Rattle.sum_rules.specs.Totals.{AreFolds, HasAllJoins, StoodFor, is_by_trees, is_narrow, is_one_a_line, lines_of, total_rule}
 use Rattle.sum_rules.proofs.ChangedLines.{as_many_lines, fits_axes, line_there, now_is}
-use Rattle.sum_rules.proofs.OneAxis.{fit_some, met_fit}
+use Rattle.change_core.proofs.Regions.{fit_some, met_fit}
 
 -- the axis that is meant stays under a patch
 axis_before : (along : Along) (t : TreesValue) (p : PatchValue) (now : ArrayValue) (stood : StoodFor along t p now) → axis_at (length now.shape) along ≡ axis_at (length stood.before.shape) along

@@ -1,9 +1,9 @@
 -- One axis of boxes, shapes and index lists, and the others.
-use Rattle.std.proofs.Common.{◌≡◌, ℕ, zero, suc, ◌+◌, ◌*◌, ◌/◌, ◌%◌, ◌<◌, ◌≤◌, true, false, List, [], ◌∷◌, length, get_or, insert, remove, refl, ap, ◌∙◌, arith, min, max}
+use Rattle.std.proofs.Common.{◌≡◌, ℕ, zero, suc, ◌+◌, ◌*◌, ◌/◌, ◌%◌, ◌<◌, ◌≤◌, true, false, List, [], ◌∷◌, length, get_or, insert, remove, refl, ap, ◌∙◌, arith}
 use Rattle.std.proofs.Math.Nat.{div-eq_of_lt, mod-eq_of_lt}
-use Rattle.std.proofs.lemmas.Bool.{and_parts, and_from, leb-true, le-ltb, false≢true}
+use Rattle.std.proofs.lemmas.Bool.{and_parts, and_from, leb-true, false≢true}
 use Rattle.std.proofs.lemmas.Nat.{mod_below}
-use Rattle.index_region.specs.Boxes.{Interval, box_size, interval_length, is_within, walk_at, fits, met, is_empty}
+use Rattle.index_region.specs.Boxes.{Interval, box_size, interval_length, is_within, walk_at, fits}
 use Rattle.index_region.proofs.Walks.{rest_positive}
 
 -- the interval of a box on an axis
@@ -61,34 +61,3 @@ fits_axis (suc axis) (s ∷ region) (n ∷ shape) h inside =
     let parts = and_parts _ _ inside in
     let later = fits_axis axis region shape (omega (arith, h)) (and_parts _ _ inside).1 in
     record { rest = and_from _ _ parts.0 later.rest; low = later.low; high = later.high }
-
-lower : (i : ℕ) → 1 ≤ i → max 1 i ≡ i
-lower i h = omega arith
-
-upper : (i n : ℕ) → i ≤ n → min i n ≡ i
-upper i n h = omega arith
-
--- what lies in a shape of a box that fits it is the box
-pub met_fit : (shape : List ℕ) (region : List Interval) → fits region shape ≡ true → met shape region ≡ region
-met_fit [] [] h = refl
-met_fit [] (s ∷ region) h = absurd (false≢true h)
-met_fit (n ∷ shape) [] h = absurd (false≢true h)
-met_fit (n ∷ shape) (s ∷ region) h =
-    let parts = and_parts _ _ h in
-    let first = and_parts _ _ parts.0 in
-    let some : 1 ≤ s.0 = leb-true 1 s.0 (and_parts _ _ first.0).0 in
-    let on : s.1 ≤ n = leb-true s.1 n first.1 in
-    let low : max 1 s.0 ≡ s.0 = lower s.0 some in
-    let high : min s.1 n ≡ s.1 = upper s.1 n on in
-    let rest = met_fit shape region parts.1 in
-    λ i. (low i, high i) ∷ rest i
-
--- a box that fits has no empty interval
-pub fit_some : (region : List Interval) (shape : List ℕ) → fits region shape ≡ true → is_empty region ≡ false
-fit_some [] [] h = refl
-fit_some [] (n ∷ shape) h = absurd (false≢true h)
-fit_some (s ∷ region) [] h = absurd (false≢true h)
-fit_some (s ∷ region) (n ∷ shape) h =
-    let parts = and_parts _ _ h in
-    let order : s.0 ≤ s.1 = leb-true s.0 s.1 (and_parts _ _ (and_parts _ _ parts.0).0).1 in
-    rw (le-ltb s.1 s.0 order) (fit_some region shape parts.1)

@@ -35,7 +35,7 @@ both_ones (suc zero ∷ a) (suc (suc y) ∷ b) p q n = let no = factor_le (suc (
 both_ones (suc zero ∷ a) (suc zero ∷ b) p q n = let rest = both_ones a b (omega arith) (omega arith) (omega arith) in λ i. 1 ∷ rest i
 
 -- a shape of one place and no greater rank leaves the other as it is
-common_left : (a b : List ℕ) → size b ≡ 1 → length b ≤ length a → common a b ≡ Ok a
+pub common_left : (a b : List ℕ) → size b ≡ 1 → length b ≤ length a → common a b ≡ Ok a
 common_left a b one low =
     let single : (size b == 1) ≡ true = eq-eqb _ _ one in
     elim (cases_Bool (size a == 1)) [
@@ -46,7 +46,7 @@ common_left a b one low =
       | inr f ↦ cond-false _ _ _ f ∙ cond-true _ _ _ single
     ]
 
-common_right : (a b : List ℕ) → size a ≡ 1 → length a ≤ length b → common a b ≡ Ok b
+pub common_right : (a b : List ℕ) → size a ≡ 1 → length a ≤ length b → common a b ≡ Ok b
 common_right a b one low =
     cond-true _ _ _ (eq-eqb _ _ one) ∙ ap (λ (s : List ℕ). Ok s) (elim (cases_Bool (size b == 1)) [
       | inl t ↦ cond-true _ _ _ t ∙ elim (cases_Bool (nat_lt (length a) (length b))) [
