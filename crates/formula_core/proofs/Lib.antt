@@ -23,3 +23,4 @@ pub mod Planned
 pub mod Progressed
 pub mod Tallied
 pub mod AtRest
+mod Origins

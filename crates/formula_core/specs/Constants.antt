@@ -6,7 +6,8 @@ use Rattle.arrays_core.specs.declared.item.Item.{Item}
 use Rattle.arrays_core.specs.declared.item.Item.TheVariants.{Num, Char}
 use Rattle.arrays_core.specs.declared.item.ItemType.{ItemType}
 use Rattle.arrays_core.specs.declared.item.ItemType.TheVariants.{Nums, Chars}
-use Rattle.arrays_core.specs.declared.item.Kind.{Kind}
+use Rattle.arrays_core.specs.declared.fault.Fault.{Fault}
+use Rattle.arrays_core.specs.Outcomes.{given}
 use Rattle.arrays_core.specs.Arrays.{ArrayValue}
 use Rattle.index_region.specs.Arguments.{number_of}
 use Rattle.formula_core.specs.Meaning.{array_of}
@@ -21,11 +22,11 @@ literal_of_items Nums items = Numbers (map number_of items)
 literal_of_items Chars items = Text (map character_of items)
 
 -- a literal by the array that it gives, or as it was written, where it gives an error
-abbrev pub literal_in : Result ArrayValue (WrittenLiteral × Kind) → Literal
+abbrev pub literal_in : Result ArrayValue (WrittenLiteral × Fault) → Literal
 literal_in (Ok a) = literal_of_items a.item_type a.items
 literal_in (Err e) = literal_of e.0
 
 -- it gives that array, or that error
-abbrev pub IsGiven : Result ArrayValue (WrittenLiteral × Kind) → Type 0
+abbrev pub IsGiven : Result ArrayValue (WrittenLiteral × Fault) → Type 0
 IsGiven (Ok a) = array_of (literal_of_items a.item_type a.items) ≡ Ok a
-IsGiven (Err e) = array_of (literal_of e.0) ≡ Err e.1
+IsGiven (Err e) = given (array_of (literal_of e.0)) ≡ Err e.1

@@ -7,9 +7,10 @@ ghost use Rattle.formula_core.specs.Inputs.{IsAllOrNothing, IsInput};
 ghost use Rattle.formula_core.specs.Meaning.{array_of};
 
 use crate::input::Input;
+use crate::lent_fault::LentFault;
 use crate::literals::array_of;
 use apl_expr::Literal;
-use arrays_core::{ApplyFault, Array, Kind};
+use arrays_core::{ApplyFault, Array, Fault};
 use index_region::{Delta, Seen};
 use std::alloc::{AllocError, Global};
 use std::marker::Model;
@@ -17,7 +18,7 @@ use std::marker::Model;
 /// A literal of a formula, as the array that it gives; one that gives none, as it is longer than arrays are, stands beside its error.
 #[derive(Drop)]
 pub(crate) struct Constant {
-    gives: Result<Array, (Literal, Kind)>,
+    gives: Result<Array, (Literal, Fault)>,
 }
 
 impl Model for Constant {
@@ -44,7 +45,7 @@ impl Constant {
         match array_of(alloc, literal) {
             Ok(array) => Ok(Constant { gives: Ok(array) }),
             Err(ApplyFault::Kind(kind)) => Ok(Constant {
-                gives: Err((copy_of(alloc, literal)?, kind)),
+                gives: Err((copy_of(alloc, literal)?, kind.into())),
             }),
             Err(ApplyFault::NoMemory) => Err(AllocError),
         }
@@ -57,8 +58,8 @@ impl Constant {
     {
         match &self.gives {
             Ok(array) => Input::Good(Seen::plain(array), change),
-            Err((_, kind)) => Input::Bad {
-                fault: (*kind).into(),
+            Err((_, fault)) => Input::Bad {
+                fault: LentFault::of(fault),
                 changed: !matches!(change, Delta::Same),
             },
         }

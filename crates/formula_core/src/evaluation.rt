@@ -5,21 +5,24 @@ ghost use Rattle.std.specs.List.{Contains};
 ghost use Rattle.apl_expr.specs.Trees.{Const, Numbers, tree_of, position_of, positions_of, before_argument, between_arguments};
 ghost use Rattle.apl_expr.specs.declared.expr.Dyadic.TheVariants.{Scalar};
 ghost use Rattle.apl_expr.specs.declared.functions.Function2.TheVariants.{Dyad};
-ghost use Rattle.arrays_core.specs.Arrays.{ArrayValue, IsAnswerTo, scalar_of};
+ghost use Rattle.arrays_core.specs.Arrays.{ArrayValue, IsAnswerTo, IsArray, scalar_of};
 ghost use Rattle.arrays_core.specs.declared.item.Kind.{Kind as AKind};
 ghost use Rattle.change_core.specs.Meters.{ticked};
 ghost use Rattle.selection_fns.specs.Index.{index_whole};
 ghost use Rattle.index_region.specs.declared.delta.Delta.TheVariants.{Same};
 ghost use Rattle.formula_core.specs.Changes.{at_rest};
 ghost use Rattle.arrays_core.specs.Outcomes.{given};
-ghost use Rattle.formula_core.specs.Outcomes.{read};
+ghost use Rattle.formula_core.specs.Outcomes.{read, error_in};
 ghost use Rattle.formula_core.specs.Counts.{AreItemsCounted, ArePositionsCounted, IsTreeCounted};
+ghost use Rattle.formula_core.specs.Inputs.{IsInput};
 ghost use Rattle.formula_core.specs.Plans.{tree_cost, AreInputs, IsNameSound};
 ghost use Rattle.formula_core.specs.Operands.{outcome_of, array_in, position_in, positions_in, written_arrays};
 ghost use Rattle.formula_core.specs.Meaning.{eval, eval_positions, applied1, applied2, indexed};
 
 use crate::application::{of_both, of_right};
 use crate::input::Input;
+use crate::kept::unknown;
+use crate::lent_fault::LentFault;
 use crate::literals::array_of;
 use crate::positions::written_of;
 use apl_expr::{Dyadic, Expr, Function1, Function2, Literal, Sides};
@@ -413,20 +416,65 @@ fn as_operand<'a>(outcome: Result<Array, Fault>) -> Result<Operand<'a>, Fault>
     }
 }
 
-/// What each of these names shows, of which nothing changed.
+/// The errors that these names show, that of an absent name where one shows an array.
+pub(crate) fn errors_shown<S: Shows>(
+    alloc: Global,
+    names: &S,
+    references: &[Name],
+) -> Result<Vec<Fault>, AllocError>
+    ensures { IfOk result (λ errors. errors.items ≡ map (λ x. error_in (S.shows names.now x)) references.now) }
+{
+    let mut errors = Vec::new(alloc);
+    for reference in references {
+        errors.push(error_shown(names, *reference))?;
+    }
+    Ok(errors)
+}
+
+/// The error that a name shows.
+fn error_shown<S: Shows>(names: &S, name: Name) -> Fault
+    ensures { result ≡ error_in (S.shows names.now name) }
+{
+    match names.result_of(name) {
+        Ok(_) => unknown(),
+        Err(fault) => fault,
+    }
+}
+
+/// What each of these names shows, of which nothing changed. The errors that they show are lent.
 pub(crate) fn inputs_at_rest<'a, S: Shows>(
     alloc: Global,
     names: &'a S,
     references: &[Name],
+    errors: &'a [Fault],
     unchanged: &'a Delta,
 ) -> Result<Vec<Input<'a>>, AllocError>
-    requires { unchanged.now ≡ Same }
+    requires same { unchanged.now ≡ Same }
+    requires errors { errors.now ≡ map (λ x. error_in (S.shows names.now x)) references.now }
     ensures inputs { IfOk result (λ inputs. AreInputs (at_rest (S.shows names.entry.now)) references.now inputs.items) }
     ensures sound { IfOk result (λ inputs. (x : List ℕ) → Contains references.now x → IsNameSound (at_rest (S.shows names.entry.now)) x) }
 {
     let mut inputs = Vec::new(alloc);
-    for reference in references {
-        inputs.push(Input::of(&names.result_of(*reference), unchanged))?;
+    for place in 0..references.len() {
+        inputs.push(input_at_rest(names, references[place], &errors[place], unchanged))?;
     }
     Ok(inputs)
+}
+
+/// What a name shows, of which nothing changed.
+fn input_at_rest<'a, S: Shows>(
+    names: &'a S,
+    name: Name,
+    error: &'a Fault,
+    unchanged: &'a Delta,
+) -> Input<'a>
+    requires same { unchanged.now ≡ Same }
+    requires error { error.now ≡ error_in (S.shows names.now name) }
+    ensures input { IsInput (S.shows names.entry.now name) Same result }
+    ensures sound { IfOk (S.shows names.entry.now name) IsArray }
+{
+    match names.result_of(name) {
+        Ok(array) => Input::of(Ok(array), unchanged),
+        Err(_) => Input::of(Err(LentFault::of(error)), unchanged),
+    }
 }

@@ -17,9 +17,10 @@ ghost use Rattle.formula_core.specs.Progress.{operations_among, IsAtOperation, I
 ghost use Rattle.formula_core.specs.Stages.{IsBegun, IsDone, IsLiteralChange};
 ghost use Rattle.formula_core.specs.Tables.{applies, subtrees, tree_at};
 
-use crate::evaluation::{Shows, inputs_at_rest};
+use crate::evaluation::{Shows, errors_shown, inputs_at_rest};
 use crate::input::Input;
 use crate::kept::{Kept, NodeChange, adopt_all, unknown};
+use crate::lent_fault::LentFault;
 use crate::plan::Plan;
 use crate::stage::Stage;
 use crate::table::{Node, Operand, lower, room_for};
@@ -118,7 +119,17 @@ impl Formula {
         }
     }
 
-    /// The result that its expression was last given, lent as its last node holds it.
+    /// The same result, with its error lent.
+    pub fn lent(&self) -> Result<&Array, LentFault<'_>>
+        ensures { read result ≡ root_result self.now.nodes }
+    {
+        match self.held() {
+            Ok(array) => Ok(array),
+            Err(fault) => Err(LentFault::of(fault)),
+        }
+    }
+
+    /// The result that its expression was last given, as its last node holds it.
     fn held(&self) -> &Result<Array, Fault>
         ensures { result.now ≡ root_result self.now.nodes }
     {
@@ -308,7 +319,10 @@ impl Formula {
         ensures planned { IfOk result (IsPlanned self.now (at_rest (S.shows names.now))) }
     {
         let unchanged = Delta::Same;
-        let inputs = inputs_at_rest(self.alloc, names, self.references(), &unchanged)?;
+        let references = self.references();
+        let errors = errors_shown(self.alloc, names, references)?;
+        let errors = errors.as_slice();
+        let inputs = inputs_at_rest(self.alloc, names, references, errors, &unchanged)?;
         self.plan(inputs.as_slice(), &mut Meter::new())
     }
 

@@ -39,7 +39,7 @@ pub(crate) fn change_of_index(
             Ok(0)
         }
         (None, Input::Bad { fault, .. }) => {
-            *change = beside_error(*fault, all_stay(array, positions));
+            *change = beside_error(fault.fault(), all_stay(array, positions));
             Ok(0)
         }
         (None, Input::Good(array, delta)) => {
@@ -99,7 +99,7 @@ fn last_fault(positions: &[Option<Input>]) -> Option<Fault>
     let mut last = None;
     for position in positions {
         if let Some(Input::Bad { fault, .. }) = position {
-            last = Some(*fault);
+            last = Some(fault.fault());
         }
     }
     last

@@ -8,7 +8,7 @@ ghost use Rattle.formula_core.specs.Changes.{FitsIn};
 ghost use Rattle.formula_core.specs.Inputs.{shown, stays, delta_of, HasFit, IsInput};
 ghost use Rattle.formula_core.specs.Outcomes.{read};
 
-use crate::kept::unknown;
+use crate::lent_fault::LentFault;
 use arrays_core::{Array, Fault};
 use index_region::{Delta, Seen};
 use std::alloc::AllocError;
@@ -21,7 +21,7 @@ pub enum Input<'a> {
     /// An error in its place.
     Bad {
         /// The error.
-        fault: Fault,
+        fault: LentFault<'a>,
         /// There was something else before.
         changed: bool,
     },
@@ -31,7 +31,7 @@ impl Default for Input<'_> {
     /// What an absent name shows, as it did before.
     fn default() -> Self {
         Input::Bad {
-            fault: unknown(),
+            fault: LentFault::unknown(),
             changed: false,
         }
     }
@@ -45,7 +45,7 @@ impl<'a> Input<'a> {
         match self {
             Input::Good(array, delta) => Input::Good(array.again(), delta),
             Input::Bad { fault, changed } => Input::Bad {
-                fault: *fault,
+                fault: fault.again(),
                 changed: *changed,
             },
         }
@@ -83,7 +83,7 @@ impl<'a> Input<'a> {
     {
         match self {
             Input::Good(array, _) => Ok(Ok(array.copy()?)),
-            Input::Bad { fault, .. } => Ok(Err(*fault)),
+            Input::Bad { fault, .. } => Ok(Err(fault.fault())),
         }
     }
 
@@ -95,22 +95,22 @@ impl<'a> Input<'a> {
         ensures sound { IfOk (applied change.now held.now) IsArray }
     {
         match held {
-            Ok(array) => Input::of(&Ok(array), change),
-            Err(fault) => Input::of(&Err(*fault), change),
+            Ok(array) => Input::of(Ok(array), change),
+            Err(fault) => Input::of(Err(LentFault::of(fault)), change),
         }
     }
 
     /// What gave this before gives now, with the change of that.
-    pub fn of(held: &Result<&'a Array, Fault>, change: &'a Delta) -> Input<'a>
-        requires { FitsIn change.now (read held.now) }
-        ensures is { IsInput (applied change.now (read held.now)) change.now result }
-        ensures held { IfOk (read held.now) IsArray }
-        ensures sound { IfOk (applied change.now (read held.now)) IsArray }
+    pub fn of(held: Result<&'a Array, LentFault<'a>>, change: &'a Delta) -> Input<'a>
+        requires { FitsIn change.now (read held) }
+        ensures is { IsInput (applied change.now (read held.entry)) change.now result }
+        ensures held { IfOk (read held.entry) IsArray }
+        ensures sound { IfOk (applied change.now (read held.entry)) IsArray }
     {
-        let input = Input::with_change(held, change);
-        if let Ok(array) = held {
+        if let Ok(array) = &held {
             let _sound = array.shape();
         }
+        let input = Input::with_change(held, change);
         if let Input::Good(array, _) = &input {
             let _sound = array.shape();
         }
@@ -119,21 +119,21 @@ impl<'a> Input<'a> {
 
     /// What gave this before gives now, with the change of that, as `of` answers it; its contract does not say that what is
     /// patched or grew was an array.
-    fn with_change(held: &Result<&'a Array, Fault>, change: &'a Delta) -> Input<'a>
-        requires { FitsIn change.now (read held.now) }
-        ensures { IsInput (applied change.now (read held.now)) change.now result }
+    fn with_change(held: Result<&'a Array, LentFault<'a>>, change: &'a Delta) -> Input<'a>
+        requires { FitsIn change.now (read held) }
+        ensures { IsInput (applied change.now (read held.entry)) change.now result }
     {
         match (held, change) {
             (_, Delta::Whole(Ok(array))) => Input::Good(Seen::plain(array), change),
             (_, Delta::Whole(Err(fault))) => Input::Bad {
-                fault: *fault,
+                fault: LentFault::of(fault),
                 changed: true,
             },
             (Ok(array), Delta::Patch(patch)) => Input::Good(Seen::patched(array, patch), change),
             (Ok(array), Delta::Grown(tail)) => Input::Good(Seen::grown(array, tail), change),
             (Ok(array), Delta::Same) => Input::Good(Seen::plain(array), change),
             (Err(fault), _) => Input::Bad {
-                fault: *fault,
+                fault,
                 changed: !matches!(change, Delta::Same),
             },
         }

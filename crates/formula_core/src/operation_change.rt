@@ -44,7 +44,7 @@ fn change_of_right(
             operation.of_right(function, change, meter)
         }
         Input::Bad { fault, .. } => {
-            *change = beside_error(*fault, right.stays());
+            *change = beside_error(fault.fault(), right.stays());
             Ok(0)
         }
     }
@@ -112,7 +112,7 @@ fn change_of_total(
             }
         }
         Input::Bad { fault, .. } => {
-            *change = beside_error(*fault, right.stays());
+            *change = beside_error(fault.fault(), right.stays());
             Ok(0)
         }
     }
@@ -136,11 +136,11 @@ pub(crate) fn change_of_both(
     let stay = left.stays() && right.stays();
     match (left, right) {
         (_, Input::Bad { fault, .. }) => {
-            *change = beside_error(*fault, stay);
+            *change = beside_error(fault.fault(), stay);
             Ok(0)
         }
         (Input::Bad { fault, .. }, _) => {
-            *change = beside_error(*fault, stay);
+            *change = beside_error(fault.fault(), stay);
             Ok(0)
         }
         (Input::Good(left, of_left), Input::Good(right, of_right)) => {

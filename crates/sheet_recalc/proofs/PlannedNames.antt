@@ -35,7 +35,8 @@ use Rattle.formula_core.specs.declared.input.Input.{Input}
 use Rattle.formula_core.specs.declared.input.Input.TheVariants.{Good, Bad}
 use Rattle.formula_core.proofs.Rooted.{before_root, root_last}
 use Rattle.sheet_recalc.specs.Names.{Names, Binding, Formula, binding}
-use Rattle.sheet_recalc.specs.Meaning.{with_origin, arisen_in, shown_beside, val}
+use Rattle.formula_core.specs.Outcomes.{arisen_in}
+use Rattle.sheet_recalc.specs.Meaning.{with_origin, shown_beside, val}
 use Rattle.sheet_recalc.specs.Costs.{origin_delta, delta_by, binding_cost}
 use Rattle.sheet_recalc.specs.Entries.{names_of, binding_of}
 use Rattle.sheet_recalc.specs.Live.{IsRightEntry}

@@ -1,14 +1,10 @@
 -- What each name shows, worked out from scratch.
-use Rattle.std.specs.Prelude.{◌≡◌, ℕ, zero, suc, List, Option, Some, None, Ok, Err, is_some, length, if◌then◌else◌}
-use Rattle.arrays_core.specs.declared.fault.Fault.{Fault}
+use Rattle.std.specs.Prelude.{◌≡◌, ℕ, zero, suc, List, Option, Some, None, Ok, Err, length}
 use Rattle.arrays_core.specs.declared.item.Kind.TheVariants.{Value}
 use Rattle.arrays_core.specs.Outcomes.{Outcome, fault}
 use Rattle.formula_core.specs.Meaning.{eval}
+use Rattle.formula_core.specs.Outcomes.{arisen_in}
 use Rattle.sheet_recalc.specs.Names.{Names, Binding, Data, Formula, binding}
-
--- an error that arose in the formula of a name gets its origin there, and keeps one that it has
-abbrev pub arisen_in : List ℕ → Fault → Fault
-arisen_in name e = record { kind = e.kind; origin = if is_some e.origin then e.origin else Some name }
 
 -- an outcome in the formula of a name: an error gets its origin there
 abbrev pub with_origin : List ℕ → Outcome → Outcome

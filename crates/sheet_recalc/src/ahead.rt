@@ -17,13 +17,12 @@ ghost use Rattle.sheet_recalc.specs.ProposedSheet.{outline_of, proposed_change, 
 ghost use Rattle.sheet_recalc.specs.Planning.{IsAhead, HasItsPlan, NeedsNoPlan, IsPlanAt};
 ghost use Rattle.sheet_recalc.specs.Live.{plan_in};
 
-use crate::entry::arisen_in;
-use crate::evaluation::{Inputs, absent, shown};
+use crate::evaluation::{Inputs, lent};
 use crate::plans::Found;
 use crate::proposal::Proposal;
 use crate::proposed_sheet::ProposedSheet;
 use apl_tokens::Name;
-use formula_core::{Formula, Input, Plan};
+use formula_core::{Formula, Input, LentFault, Plan};
 use index_region::Delta;
 use smallvec::SmallVec;
 use std::alloc::{AllocError, Global};
@@ -38,10 +37,10 @@ pub(crate) struct Ahead<'a, 'b> {
 }
 
 /// The plan that stands beside a name, if there is one.
-fn plan_in(found: &Found, name: Name) -> Option<&Plan>
-    ensures { MatchOption result (plan_in found.now.entries name ≡ None) (λ plan. plan_in found.now.entries name ≡ Some plan.now) }
+fn plan_in<'a>(found: &'a Found, name: &Name) -> Option<&'a Plan>
+    ensures { MatchOption result (plan_in found.now.entries name.now ≡ None) (λ plan. plan_in found.now.entries name.now ≡ Some plan.now) }
 {
-    match found.get(&name) {
+    match found.get(name) {
         Some(plan) => plan.as_ref(),
         None => None,
     }
@@ -49,12 +48,12 @@ fn plan_in(found: &Found, name: Name) -> Option<&Plan>
 
 impl<'a, 'b> Ahead<'a, 'b> {
     /// What the names show that stand in the formula of a name.
-    pub(crate) fn inputs_of(
-        &self,
+    pub(crate) fn inputs_of<'c>(
+        &'c self,
         alloc: Global,
         name: Name,
-        formula: &Formula,
-    ) -> Result<Inputs<'_>, AllocError>
+        formula: &'c Formula,
+    ) -> Result<Inputs<'c>, AllocError>
         requires ahead { IsAhead self.now }
         requires held { entry_of (outline_of self.now.proposed.now) name ≡ Some (FormulaEntry formula.now) }
         requires done { (x : List ℕ) → Contains (names_in formula.now.tree) x → HasItsPlan (outline_of self.now.proposed.now) (plan_in self.now.found.now.entries) x }
@@ -69,14 +68,14 @@ impl<'a, 'b> Ahead<'a, 'b> {
         &'c self,
         name: Name,
         formula: &Formula,
-        one: Name,
+        one: &'c Name,
         place: usize,
         last: Option<&'c Formula>,
     ) -> [Input<'c>; 1]
         requires ahead { IsAhead self.now }
         requires held { entry_of (outline_of self.now.proposed.now) name ≡ Some (FormulaEntry formula.now) }
         requires done { (x : List ℕ) → Contains (names_in formula.now.tree) x → HasItsPlan (outline_of self.now.proposed.now) (plan_in self.now.found.now.entries) x }
-        requires names { names_in formula.now.tree ≡ one ∷ [] }
+        requires names { names_in formula.now.tree ≡ one.now ∷ [] }
         requires last { IfSome last (λ f. entry_of (outline_of self.now.proposed.now) (get_or (keys_of self.now.found.now.entries) place []) ≡ Some (FormulaEntry f.now)) }
         ensures { IsTold formula.now (proposed_change (outline_of self.now.proposed.now)) result }
     {
@@ -84,41 +83,45 @@ impl<'a, 'b> Ahead<'a, 'b> {
     }
 
     /// What a name shows, with what changed of it: if it is the one at this place, by the plan of its formula, which is told.
-    fn input_near<'c>(&'c self, name: Name, place: usize, last: Option<&'c Formula>) -> Input<'c>
+    fn input_near<'c>(&'c self, name: &'c Name, place: usize, last: Option<&'c Formula>) -> Input<'c>
         requires ahead { IsAhead self.now }
-        requires done { HasItsPlan (outline_of self.now.proposed.now) (plan_in self.now.found.now.entries) name }
+        requires done { HasItsPlan (outline_of self.now.proposed.now) (plan_in self.now.found.now.entries) name.now }
         requires last { IfSome last (λ f. entry_of (outline_of self.now.proposed.now) (get_or (keys_of self.now.found.now.entries) place []) ≡ Some (FormulaEntry f.now)) }
-        ensures input { IsInput ((proposed_change (outline_of self.now.proposed.now)).new name) ((proposed_change (outline_of self.now.proposed.now)).delta name) result }
-        ensures changed { IsNameChanged (proposed_change (outline_of self.now.proposed.now)) name }
-        ensures sound { IsNameSound (proposed_change (outline_of self.now.proposed.now)) name }
+        ensures input { IsInput ((proposed_change (outline_of self.now.proposed.now)).new name.now) ((proposed_change (outline_of self.now.proposed.now)).delta name.now) result }
+        ensures changed { IsNameChanged (proposed_change (outline_of self.now.proposed.now)) name.now }
+        ensures sound { IsNameSound (proposed_change (outline_of self.now.proposed.now)) name.now }
     {
         match (last, self.found.get_index(place)) {
-            (Some(formula), Some((there, Some(plan)))) if *there == name => {
-                self.by_plan(*there, formula, plan)
+            (Some(formula), Some((there, Some(plan)))) if there == name => {
+                self.by_plan(there, formula, plan)
             }
             _ => self.input_of(name),
         }
     }
 
     /// What the two names show that stand in the formula of a name. It takes no memory.
-    pub(crate) fn inputs_of_two(
-        &self,
+    pub(crate) fn inputs_of_two<'c>(
+        &'c self,
         name: Name,
         formula: &Formula,
-        one: Name,
-        two: Name,
-    ) -> [Input<'_>; 2]
+        one: &'c Name,
+        two: &'c Name,
+    ) -> [Input<'c>; 2]
         requires ahead { IsAhead self.now }
         requires held { entry_of (outline_of self.now.proposed.now) name ≡ Some (FormulaEntry formula.now) }
         requires done { (x : List ℕ) → Contains (names_in formula.now.tree) x → HasItsPlan (outline_of self.now.proposed.now) (plan_in self.now.found.now.entries) x }
-        requires names { names_in formula.now.tree ≡ one ∷ two ∷ [] }
+        requires names { names_in formula.now.tree ≡ one.now ∷ two.now ∷ [] }
         ensures { IsTold formula.now (proposed_change (outline_of self.now.proposed.now)) result }
     {
         [self.input_of(one), self.input_of(two)]
     }
 
     /// What each of these names shows, with what changed of it.
-    fn all_inputs(&self, alloc: Global, references: &[Name]) -> Result<Inputs<'_>, AllocError>
+    fn all_inputs<'c>(
+        &'c self,
+        alloc: Global,
+        references: &'c [Name],
+    ) -> Result<Inputs<'c>, AllocError>
         requires ahead { IsAhead self.now }
         requires done { (x : List ℕ) → Contains references.now x → HasItsPlan (outline_of self.now.proposed.now) (plan_in self.now.found.now.entries) x }
         ensures inputs { IfOk result (λ inputs. AreInputs (proposed_change (outline_of self.now.proposed.now)) references.now inputs.items) }
@@ -127,21 +130,21 @@ impl<'a, 'b> Ahead<'a, 'b> {
     {
         let mut inputs = SmallVec::new(alloc);
         for reference in references {
-            inputs.push(self.input_of(*reference))?;
+            inputs.push(self.input_of(reference))?;
         }
         Ok(inputs)
     }
 
     /// What a name shows, with what changed of it.
     #[inline(always)]
-    fn input_of(&self, name: Name) -> Input<'_>
+    fn input_of<'c>(&'c self, name: &'c Name) -> Input<'c>
         requires ahead { IsAhead self.now }
-        requires done { HasItsPlan (outline_of self.now.proposed.now) (plan_in self.now.found.now.entries) name }
-        ensures input { IsInput ((proposed_change (outline_of self.now.proposed.now)).new name) ((proposed_change (outline_of self.now.proposed.now)).delta name) result }
-        ensures changed { IsNameChanged (proposed_change (outline_of self.now.proposed.now)) name }
-        ensures sound { IsNameSound (proposed_change (outline_of self.now.proposed.now)) name }
+        requires done { HasItsPlan (outline_of self.now.proposed.now) (plan_in self.now.found.now.entries) name.now }
+        ensures input { IsInput ((proposed_change (outline_of self.now.proposed.now)).new name.now) ((proposed_change (outline_of self.now.proposed.now)).delta name.now) result }
+        ensures changed { IsNameChanged (proposed_change (outline_of self.now.proposed.now)) name.now }
+        ensures sound { IsNameSound (proposed_change (outline_of self.now.proposed.now)) name.now }
     {
-        if name == self.proposed.name && self.proposed.proposal.is_data() {
+        if *name == self.proposed.name && self.proposed.proposal.is_data() {
             return self.own();
         }
         match plan_in(self.found, name) {
@@ -152,45 +155,44 @@ impl<'a, 'b> Ahead<'a, 'b> {
 
     /// What a name shows by the plan of its formula.
     #[inline(always)]
-    fn planned<'c>(&'c self, name: Name, plan: &'c Plan) -> Input<'c>
+    fn planned<'c>(&'c self, name: &'c Name, plan: &'c Plan) -> Input<'c>
         requires ahead { IsAhead self.now }
-        requires plan { IsPlanAt (outline_of self.now.proposed.now) name plan.now }
-        ensures input { IsInput ((proposed_change (outline_of self.now.proposed.now)).new name) ((proposed_change (outline_of self.now.proposed.now)).delta name) result }
-        ensures changed { IsNameChanged (proposed_change (outline_of self.now.proposed.now)) name }
-        ensures sound { IsNameSound (proposed_change (outline_of self.now.proposed.now)) name }
+        requires plan { IsPlanAt (outline_of self.now.proposed.now) name.now plan.now }
+        ensures input { IsInput ((proposed_change (outline_of self.now.proposed.now)).new name.now) ((proposed_change (outline_of self.now.proposed.now)).delta name.now) result }
+        ensures changed { IsNameChanged (proposed_change (outline_of self.now.proposed.now)) name.now }
+        ensures sound { IsNameSound (proposed_change (outline_of self.now.proposed.now)) name.now }
     {
-        match self.proposed.formula_of(name) {
+        match self.proposed.formula_of(*name) {
             Some(formula) => self.by_plan(name, formula, plan),
             None => unreachable!(),
         }
     }
 
     /// What a name shows by the plan of its formula, which is this.
-    fn by_plan<'c>(&self, name: Name, formula: &'c Formula, plan: &'c Plan) -> Input<'c>
+    fn by_plan<'c>(&self, name: &'c Name, formula: &'c Formula, plan: &'c Plan) -> Input<'c>
         requires ahead { IsAhead self.now }
-        requires held { entry_of (outline_of self.now.proposed.now) name ≡ Some (FormulaEntry formula.now) }
-        requires plan { IsPlanAt (outline_of self.now.proposed.now) name plan.now }
-        ensures input { IsInput ((proposed_change (outline_of self.now.proposed.now)).new name) ((proposed_change (outline_of self.now.proposed.now)).delta name) result }
-        ensures changed { IsNameChanged (proposed_change (outline_of self.now.proposed.now)) name }
-        ensures sound { IsNameSound (proposed_change (outline_of self.now.proposed.now)) name }
+        requires held { entry_of (outline_of self.now.proposed.now) name.now ≡ Some (FormulaEntry formula.now) }
+        requires plan { IsPlanAt (outline_of self.now.proposed.now) name.now plan.now }
+        ensures input { IsInput ((proposed_change (outline_of self.now.proposed.now)).new name.now) ((proposed_change (outline_of self.now.proposed.now)).delta name.now) result }
+        ensures changed { IsNameChanged (proposed_change (outline_of self.now.proposed.now)) name.now }
+        ensures sound { IsNameSound (proposed_change (outline_of self.now.proposed.now)) name.now }
     {
-        let held = formula.result();
-        with_origin(name, Input::of(&held, plan.delta()))
+        with_origin(name, Input::of(formula.lent(), plan.delta()))
     }
 
     /// What a name shows that has no plan.
     #[inline(always)]
-    fn standing(&self, name: Name) -> Input<'_>
+    fn standing<'c>(&'c self, name: &'c Name) -> Input<'c>
         requires ahead { IsAhead self.now }
-        requires done { NeedsNoPlan (outline_of self.now.proposed.now) name }
-        ensures input { IsInput ((proposed_change (outline_of self.now.proposed.now)).new name) ((proposed_change (outline_of self.now.proposed.now)).delta name) result }
-        ensures changed { IsNameChanged (proposed_change (outline_of self.now.proposed.now)) name }
-        ensures sound { IsNameSound (proposed_change (outline_of self.now.proposed.now)) name }
+        requires done { NeedsNoPlan (outline_of self.now.proposed.now) name.now }
+        ensures input { IsInput ((proposed_change (outline_of self.now.proposed.now)).new name.now) ((proposed_change (outline_of self.now.proposed.now)).delta name.now) result }
+        ensures changed { IsNameChanged (proposed_change (outline_of self.now.proposed.now)) name.now }
+        ensures sound { IsNameSound (proposed_change (outline_of self.now.proposed.now)) name.now }
     {
-        if name == self.proposed.name {
+        if *name == self.proposed.name {
             return self.own();
         }
-        Input::of(&shown(self.proposed.entries, name), self.unchanged)
+        Input::of(lent(self.proposed.entries, name), self.unchanged)
     }
 
     /// What the name shows that is bound anew, where that is no formula, or removed.
@@ -204,10 +206,10 @@ impl<'a, 'b> Ahead<'a, 'b> {
     {
         match self.proposed.proposal {
             Proposal::Data(delta) => {
-                Input::of(&shown(self.proposed.entries, self.proposed.name), delta)
+                Input::of(lent(self.proposed.entries, &self.proposed.name), delta)
             }
             Proposal::Removed => Input::Bad {
-                fault: absent(),
+                fault: LentFault::unknown(),
                 changed: true,
             },
             Proposal::Formula(_) => unreachable!(),
@@ -216,13 +218,13 @@ impl<'a, 'b> Ahead<'a, 'b> {
 }
 
 /// What a name shows whose formula gives this: an error gets its origin there.
-fn with_origin(name: Name, input: Input<'_>) -> Input<'_>
-    ensures { (held : Outcome) (d : AnyDelta) → IsInput (applied d held) d input.entry → IsInput (with_origin name (applied d held)) (origin_delta name d) result }
+fn with_origin<'a>(name: &'a Name, input: Input<'a>) -> Input<'a>
+    ensures { (held : Outcome) (d : AnyDelta) → IsInput (applied d held) d input.entry → IsInput (with_origin name.now (applied d held)) (origin_delta name.now d) result }
 {
     match input {
         Input::Good(array, delta) => Input::Good(array, delta),
         Input::Bad { fault, changed } => Input::Bad {
-            fault: arisen_in(name, fault),
+            fault: fault.arisen_in(name),
             changed,
         },
     }

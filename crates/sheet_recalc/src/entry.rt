@@ -2,14 +2,14 @@
 
 ghost use Rattle.std.specs.Prelude.{◌≡◌};
 ghost use Rattle.formula_core.specs.Outcomes.{read};
-ghost use Rattle.sheet_recalc.specs.Meaning.{arisen_in};
+ghost use Rattle.formula_core.specs.Outcomes.{arisen_in};
 ghost use Rattle.sheet_recalc.specs.Entries.{binding_of, entry_outcome, adopting, patched_entry, grown_entry, FitsEntry, FitsBehind};
 ghost use Rattle.sheet_recalc.specs.Names.{referred};
 ghost use Rattle.sheet_recalc.specs.Live.{CanAdopt};
 
 use apl_tokens::Name;
 use arrays_core::{Array, Fault};
-use formula_core::{Formula, Plan};
+use formula_core::{Formula, LentFault, Plan};
 use index_region::{Patch, Tail};
 
 /// Data, or a formula with its results.
@@ -41,6 +41,19 @@ impl Entry {
             Entry::Formula(formula) => match formula.result() {
                 Ok(array) => Ok(array),
                 Err(fault) => Err(arisen_in(name, fault)),
+            },
+        }
+    }
+
+    /// The same with its error lent.
+    pub(crate) fn lent<'a>(&'a self, name: &'a Name) -> Result<&'a Array, LentFault<'a>>
+        ensures { read result ≡ entry_outcome name.now self.now }
+    {
+        match self {
+            Entry::Data(array) => Ok(array),
+            Entry::Formula(formula) => match formula.lent() {
+                Ok(array) => Ok(array),
+                Err(fault) => Err(fault.arisen_in(name)),
             },
         }
     }

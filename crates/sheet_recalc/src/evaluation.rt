@@ -12,7 +12,7 @@ ghost use Rattle.sheet_recalc.specs.Meaning.{val};
 use crate::entry::Entry;
 use apl_tokens::Name;
 use arrays_core::{Array, Fault, Kind};
-use formula_core::Input;
+use formula_core::{Input, LentFault};
 use indexmap::IndexMap;
 use smallvec::SmallVec;
 
@@ -28,6 +28,21 @@ pub(crate) fn shown(entries: &IndexMap<Name, Entry>, name: Name) -> Result<&Arra
     match entries.get(&name) {
         Some(entry) => entry.result(name),
         None => Err(absent()),
+    }
+}
+
+/// What a name shows, with its error lent; VALUE ERROR where it is absent.
+#[inline(always)]
+pub(crate) fn lent<'a>(
+    entries: &'a IndexMap<Name, Entry>,
+    name: &'a Name,
+) -> Result<&'a Array, LentFault<'a>>
+    requires { IsCurrent entries.now.entries }
+    ensures { read result ≡ val (names_of entries.now.entries) name.now }
+{
+    match entries.get(name) {
+        Some(entry) => entry.lent(name),
+        None => Err(LentFault::unknown()),
     }
 }
 

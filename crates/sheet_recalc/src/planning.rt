@@ -339,7 +339,7 @@ fn whole_plan(
     };
     match formula.references() {
         [one] => {
-            let input = ahead.input_of_one(name, formula, *one, place, last);
+            let input = ahead.input_of_one(name, formula, one, place, last);
             formula.plan(&input, meter)
         }
         _ => plan_of_many(alloc, &ahead, name, formula, meter),
@@ -366,7 +366,7 @@ fn plan_of_many(
         → meter.new.ticks ≡ ticked meter.old.ticks (tree_cost formula.now.is_new (proposed_change (outline_of ahead.now.proposed.now)) formula.now.tree)) }
 {
     if let [one, two] = formula.references() {
-        return formula.plan(&ahead.inputs_of_two(name, formula, *one, *two), meter);
+        return formula.plan(&ahead.inputs_of_two(name, formula, one, two), meter);
     }
     let inputs = ahead.inputs_of(alloc, name, formula)?;
     formula.plan(inputs.as_slice(), meter)

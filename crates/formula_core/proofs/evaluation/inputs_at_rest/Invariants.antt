@@ -1,11 +1,11 @@
-use Rattle.std.proofs.Common.{ℕ, List, take}
+use Rattle.std.proofs.Common.{ℕ, List, take, length, ◌≤◌}
 use Rattle.std.specs.List.{Contains}
 use Rattle.formula_core.specs.Changes.{at_rest}
 use Rattle.formula_core.specs.Plans.{AreInputs, IsNameSound}
 use Rattle.formula_core.proofs.evaluation.inputs_at_rest.Given as goal
 
-abbrev pub invariant-loop-reference : goal.invariant-loop-reference
-invariant-loop-reference g l = record {
-  inputs : AreInputs (at_rest (g.S.Shows.shows l.names)) (take l.reference-index l.references) l.inputs.items;
-  sound : (x : List ℕ) → Contains (take l.reference-index l.references) x → IsNameSound (at_rest (g.S.Shows.shows l.names)) x;
+abbrev pub invariant-loop-place : goal.invariant-loop-place
+invariant-loop-place g l = record {
+  inputs : AreInputs (at_rest (g.S.Shows.shows l.names)) (take l.place l.references) l.inputs.items;
+  sound : (x : List ℕ) → Contains (take l.place l.references) x → IsNameSound (at_rest (g.S.Shows.shows l.names)) x;
 }

@@ -43,7 +43,7 @@ returns-in-None-Bad-clause-change c =
     let first : last_error (c.args.array.now ∷ others) ≡ Some fault =
     subst (λ (i : Input). last_error (i ∷ others) ≡ Some fault) (sym c.in-None-Bad.is-1) (error_in_front fault c.in-None-Bad.changed-1 others (sym c.last_fault.ensures ∙ c.in-None-Bad.is-0)) in
     error_change (index_rule (map is_some c.args.positions.now)) (c.args.array.now ∷ others) c.args.held.now c.args.meter.now.ticks fault c.beside_error-in-None-Bad.result first
-    (rw (← c.all_stay-in-None-Bad.ensures) c.beside_error-in-None-Bad.ensures)
+    (rw (← c.all_stay-in-None-Bad.ensures, ← c.fault.ensures) c.beside_error-in-None-Bad.ensures)
 
 pub returns-in-None-Good-clause-change : goal.returns-in-None-Good-clause-change
 returns-in-None-Good-clause-change c =

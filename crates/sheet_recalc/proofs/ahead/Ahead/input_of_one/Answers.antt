@@ -10,5 +10,5 @@ returns c =
     let o = outline_of c.args.self.now.proposed.now in
     let change = proposed_change o in
     let i = c.input_near.ensures in
-    formula_told o c.requires.ahead.proposed c.args.name c.args.formula.now c.requires.held (c.args.one ∷ []) (c.input_near.result ∷ []) (sym c.requires.names) (i.input, tt)
-    (of_one (IsNameChanged change) c.args.one i.changed) (of_one (IsNameSound change) c.args.one i.sound)
+    formula_told o c.requires.ahead.proposed c.args.name c.args.formula.now c.requires.held (c.args.one.now ∷ []) (c.input_near.result ∷ []) (sym c.requires.names) (i.input, tt)
+    (of_one (IsNameChanged change) c.args.one.now i.changed) (of_one (IsNameSound change) c.args.one.now i.sound)
