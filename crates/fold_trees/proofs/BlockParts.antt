@@ -3,31 +3,15 @@ use Rattle.std.proofs.Common.{◌≡◌, ◌≢◌, ◌∙◌, ℕ, zero, suc, �
 use Rattle.std.proofs.lemmas.Nat.{pow_pos, pow-add, mod-mul-add}
 use Rattle.std.proofs.Math.Nat.{pow-le-pow_right}
 use Rattle.std.proofs.lemmas.Bool.{cases_lt}
-use Rattle.fold_trees.specs.declared.line_tree.Line.{Line}
-use Rattle.fold_trees.specs.LineTrees.{node_at, number_of, node_of, segment, IsKept, AreKeptIn}
-use Rattle.fold_trees.specs.LineBlocks.{line_of, nodes_end, AreKeptBehind, AreKeptFrom}
+use Rattle.operator_fns.specs.declared.line_tree.Line.{Line}
+use Rattle.operator_fns.specs.LineTrees.{slot_of, nth_node}
+use Rattle.operator_fns.specs.LineBlocks.{line_of}
+use Rattle.operator_fns.proofs.BlockParts.{half_or_same, double_or_less}
+use Rattle.operator_fns.proofs.BlockRows.{row_away}
+use Rattle.fold_trees.specs.LineTrees.{node_of, segment, IsKept, AreKeptIn}
+use Rattle.fold_trees.specs.LineBlocks.{nodes_end, AreKeptBehind, AreKeptFrom}
 use Rattle.fold_trees.proofs.LineNodes.{meetings_apart}
-use Rattle.fold_trees.proofs.BlockRows.{row_away, nodes_within}
-
--- powers of two
-pub half_or_same : (level at : ℕ) → 2 ^ level ≤ 2 ^ at → 2 * 2 ^ level ≤ 2 ^ at ⊎ 2 ^ level ≡ 2 ^ at
-half_or_same level at few = elim (cases_lt level at) [
-  | inl less ↦
-      let two : 0 < 2 = omega arith in
-      let more : 2 ^ suc level ≤ 2 ^ at = pow-le-pow_right two less in
-      let double : 2 ^ suc level ≡ 2 * 2 ^ level = grind arith in
-      inl (omega (arith, more, double))
-  | inr enough ↦
-      let two : 0 < 2 = omega arith in
-      let more : 2 ^ at ≤ 2 ^ level = pow-le-pow_right two enough in
-      inr (omega (arith, more, few))
-]
-
-pub double_or_less : (level at : ℕ) → 2 ^ at < 2 ^ level → 2 * 2 ^ at ≤ 2 ^ level
-double_or_less level at more = elim (half_or_same at level (omega (arith, more))) [
-  | inl double ↦ double
-  | inr same ↦ let no : ⊥ = omega (arith, same, more) in absurd no
-]
+use Rattle.fold_trees.proofs.BlockRows.{nodes_within}
 
 pub some_of : (place level : ℕ) → 1 ≤ place * (2 * 2 ^ level) + 2 ^ level
 some_of place level = let p = pow_pos level in omega (arith, p)
@@ -36,7 +20,7 @@ some_of place level = let p = pow_pos level in omega (arith, p)
 
 module _ {P : Type 0} (blank : P) (tells : P → List ℤ → Type 0) (first : Line) (numbers : List ℤ) (nodes after : List P) (at part from half : ℕ) (half_is : half ≡ 2 ^ at)
     (from_is : from ≡ part * (2 * half))
-    (others : (p : ℕ) → (p < node_at first (from + half) ⊎ node_at first (from + half) + first.step ≤ p) → get_or after p blank ≡ get_or nodes p blank) where
+    (others : (p : ℕ) → (p < nth_node first (from + half) ⊎ nth_node first (from + half) + first.step ≤ p) → get_or after p blank ≡ get_or nodes p blank) where
   begins : from ≡ part * (2 * 2 ^ at)
   begins = from_is ∙ ap (λ h. part * (2 * h)) half_is
 
@@ -49,10 +33,10 @@ module _ {P : Type 0} (blank : P) (tells : P → List ℤ → Type 0) (first : L
   stays column level place below apart =
       let k = place * (2 * 2 ^ level) + 2 ^ level in
       let some : 1 ≤ from + half = omega (arith, meets, some_of part at) in
-      others (node_at (line_of first column) k) (row_away first column k (from + half) below (some_of place level) some apart)
+      others (nth_node (line_of first column) k) (row_away first column k (from + half) below (some_of place level) some apart)
 
   pub kept_on : ((column : ℕ) → column < first.step
-      → tells (node_of blank (line_of first column) after (from + half)) (segment (number_of (line_of first column) numbers) from (min (2 * half) (first.count - from))))
+      → tells (node_of blank (line_of first column) after (from + half)) (segment (slot_of (line_of first column) numbers) from (min (2 * half) (first.count - from))))
       → AreKeptBehind blank tells from half first numbers nodes → AreKeptBehind blank tells from (2 * half) first numbers after
   kept_on told kept column below level place which inside = elim which [
     | inl behind ↦ old (λ e.
@@ -66,23 +50,23 @@ module _ {P : Type 0} (blank : P) (tells : P → List ℤ → Type 0) (first : L
           let meeting : place * (2 * 2 ^ level) + 2 ^ level ≡ from + half = omega (arith, here.0, same, half_is) in
           let long : 2 * 2 ^ level ≡ 2 * half = omega (arith, same, half_is) in
           let start : place * (2 * 2 ^ level) ≡ from = here.0 in
-          subst (λ s. tells s (segment (number_of (line_of first column) numbers) (place * (2 * 2 ^ level)) (min (2 * 2 ^ level) (first.count - place * (2 * 2 ^ level)))))
+          subst (λ s. tells s (segment (slot_of (line_of first column) numbers) (place * (2 * 2 ^ level)) (min (2 * 2 ^ level) (first.count - place * (2 * 2 ^ level)))))
           (sym (ap (node_of blank (line_of first column) after) meeting))
           (subst (tells (node_of blank (line_of first column) after (from + half)))
-          (sym (λ i. segment (number_of (line_of first column) numbers) (start i) (min (long i) (first.count - start i)))) (told column below))
+          (sym (λ i. segment (slot_of (line_of first column) numbers) (start i) (min (long i) (first.count - start i)))) (told column below))
     ]
   ]
     where
       old : place * (2 * 2 ^ level) + 2 ^ level ≢ from + half → (from < place * (2 * 2 ^ level) ⊎ place * (2 * 2 ^ level) ≡ from × 2 * 2 ^ level ≤ half)
           → tells (node_of blank (line_of first column) after (place * (2 * 2 ^ level) + 2 ^ level))
-          (segment (number_of (line_of first column) numbers) (place * (2 * 2 ^ level)) (min (2 * 2 ^ level) (first.count - place * (2 * 2 ^ level))))
+          (segment (slot_of (line_of first column) numbers) (place * (2 * 2 ^ level)) (min (2 * 2 ^ level) (first.count - place * (2 * 2 ^ level))))
       old apart one =
-          subst (λ s. tells s (segment (number_of (line_of first column) numbers) (place * (2 * 2 ^ level)) (min (2 * 2 ^ level) (first.count - place * (2 * 2 ^ level)))))
+          subst (λ s. tells s (segment (slot_of (line_of first column) numbers) (place * (2 * 2 ^ level)) (min (2 * 2 ^ level) (first.count - place * (2 * 2 ^ level)))))
           (sym (stays column level place below apart)) (kept column below level place one inside)
 
 -- a row of nodes of the block
 pub rows_outside : {P : Type 0} (blank : P) (first : Line) (meeting : ℕ) (nodes after : List P) → 1 ≤ meeting → meeting < first.count
-    → ((p : ℕ) → (p < node_at first meeting ⊎ node_at first meeting + first.step ≤ p) → get_or after p blank ≡ get_or nodes p blank)
+    → ((p : ℕ) → (p < nth_node first meeting ⊎ nth_node first meeting + first.step ≤ p) → get_or after p blank ≡ get_or nodes p blank)
     → (p : ℕ) → (p < first.node ⊎ nodes_end first ≤ p) → get_or after p blank ≡ get_or nodes p blank
 rows_outside blank first meeting nodes after low high others p away = others p (elim away [
   | inl before ↦ inl (omega (arith, before))
@@ -142,14 +126,14 @@ module _ {P : Type 0} (blank : P) (tells : P → List ℤ → Type 0) (from : �
   -- ---- the parts within the two halves
 
   pub kept_in_first : (half column : ℕ) → column < first.step → AreKeptBehind blank tells from half first numbers nodes
-      → AreKeptIn tells from half first.count (number_of (line_of first column) numbers) (node_of blank (line_of first column) nodes)
+      → AreKeptIn tells from half first.count (slot_of (line_of first column) numbers) (node_of blank (line_of first column) nodes)
   kept_in_first half column below kept level place low high inside = elim (cases_lt from (place * (2 * 2 ^ level))) [
     | inl behind ↦ kept column below level place (inl behind) inside
     | inr here ↦ kept column below level place (inr (omega (arith, low, here), omega (arith, low, here, high))) inside
   ]
 
   pub kept_in_second : (half column : ℕ) → column < first.step → 0 < half → AreKeptBehind blank tells from half first numbers nodes
-      → AreKeptIn tells (from + half) half first.count (number_of (line_of first column) numbers) (node_of blank (line_of first column) nodes)
+      → AreKeptIn tells (from + half) half first.count (slot_of (line_of first column) numbers) (node_of blank (line_of first column) nodes)
   kept_in_second half column below some kept level place low high inside = kept column below level place (inl (omega (arith, low, some))) inside
 
 -- what is kept stays with the nodes of the line
@@ -174,23 +158,23 @@ module _ {P : Type 0} (blank : P) (tells : P → List ℤ → Type 0) (from half
     (column : ℕ) (below : column < first.step) where
   -- a full part of the line is told by its node
   told_at : (start place : ℕ) → start ≡ place * (2 * 2 ^ low) → start + half ≤ first.count
-      → IsKept tells first.count (number_of (line_of first column) numbers) (node_of blank (line_of first column) nodes) (place * (2 * 2 ^ low)) (2 ^ low)
-      → tells (node_of blank (line_of first column) nodes (start + half / 2)) (segment (number_of (line_of first column) numbers) start half)
+      → IsKept tells first.count (slot_of (line_of first column) numbers) (node_of blank (line_of first column) nodes) (place * (2 * 2 ^ low)) (2 ^ low)
+      → tells (node_of blank (line_of first column) nodes (start + half / 2)) (segment (slot_of (line_of first column) numbers) start half)
   told_at start place is ends this =
       let p = pow_pos low in
       let meeting : place * (2 * 2 ^ low) + 2 ^ low ≡ start + half / 2 = omega (arith, is, half_is) in
       let long : min (2 * 2 ^ low) (first.count - place * (2 * 2 ^ low)) ≡ half = omega (arith, is, half_is, ends) in
-      subst (λ m. tells (node_of blank (line_of first column) nodes m) (segment (number_of (line_of first column) numbers) start half)) meeting
+      subst (λ m. tells (node_of blank (line_of first column) nodes m) (segment (slot_of (line_of first column) numbers) start half)) meeting
       (subst (tells (node_of blank (line_of first column) nodes (place * (2 * 2 ^ low) + 2 ^ low)))
-      (λ i. segment (number_of (line_of first column) numbers) (sym is i) (long i))
+      (λ i. segment (slot_of (line_of first column) numbers) (sym is i) (long i))
       (this (omega (arith, is, half_is, ends, p))))
 
-  pub half_told : tells (node_of blank (line_of first column) nodes (from + half / 2)) (segment (number_of (line_of first column) numbers) from half)
+  pub half_told : tells (node_of blank (line_of first column) nodes (from + half / 2)) (segment (slot_of (line_of first column) numbers) from half)
   half_told =
       let start : from ≡ 2 * part * (2 * 2 ^ low) = from_is ∙ ap (λ h. part * (2 * h)) half_is ∙ grind arith in
       told_at from (2 * part) start (omega (arith, full)) (kept column below low (2 * part) (inr (sym start, omega (arith, half_is))))
 
-  pub later_told : tells (node_of blank (line_of first column) nodes (from + half + half / 2)) (segment (number_of (line_of first column) numbers) (from + half) half)
+  pub later_told : tells (node_of blank (line_of first column) nodes (from + half + half / 2)) (segment (slot_of (line_of first column) numbers) (from + half) half)
   later_told =
       let start : from + half ≡ (2 * part + 1) * (2 * 2 ^ low) = (λ i. from_is i + half) ∙ (λ i. part * (2 * half_is i) + half_is i) ∙ grind arith in
       let p = pow_pos low in

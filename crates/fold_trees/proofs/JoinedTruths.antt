@@ -1,28 +1,16 @@
 -- The fold of a list of truth values and of a later one after it.
-use Rattle.std.proofs.Common.{◌≡◌, ◌<◌, List, [], ◌∷◌, ◌++◌, length, refl, ap, sym, ◌∙◌, arith, inl, inr, ℤ, pos, Bool, true, false, if◌then◌else◌, Result, Ok, Err, ◌⊎◌}
+use Rattle.std.proofs.Common.{◌≡◌, ◌<◌, List, [], ◌∷◌, ◌++◌, length, refl, ap, sym, ◌∙◌, arith, inl, inr, ℤ, pos, Bool, Result, Ok, Err, ◌⊎◌}
 use Rattle.std.specs.Prelude.{IfOk, IfErr}
-use Rattle.std.specs.Ordering.{int_eq}
 use Rattle.std.proofs.lemmas.List.{length-append}
 use Rattle.arrays_core.specs.declared.item.Kind.{Kind}
 use Rattle.arrays_core.specs.declared.item.Kind.TheVariants.{Domain}
 use Rattle.arrays_core.specs.Items.{and_then}
 use Rattle.scalar_fns.specs.Numbers.{as_truth, truth, on_truths, logical}
 use Rattle.scalar_fns.specs.Folds.{folded}
-use Rattle.fold_trees.specs.Parts.{truth_value}
 use Rattle.operator_fns.specs.LinearScan.{IsAssociative}
+use Rattle.operator_fns.proofs.Associates.{is_truth, domain_truth}
+use Rattle.fold_trees.specs.Parts.{truth_value}
 use Rattle.fold_trees.proofs.JoinedFolds.{both, joined}
-
-is_truth : (p : Bool) → as_truth (truth p) ≡ Ok p
-is_truth true = refl
-is_truth false = refl
-
-domain_truth : (a : ℤ) (k : Kind) → as_truth a ≡ Err k → k ≡ Domain
-domain_truth a k h = decide (int_eq a (pos 0)) (int_eq a (pos 1)) h
-  where
-    decide : (zero one : Bool) → (if zero then Ok false else (if one then Ok true else Err Domain)) ≡ Err k → k ≡ Domain
-    decide true one h = let no : ⊥ = cc in absurd no
-    decide false true h = let no : ⊥ = cc in absurd no
-    decide false false h = let same : Domain ≡ k = cc in sym same
 
 -- the fold of a list is this number, or the truth value that it is
 abbrev pub IsSo : Result ℤ Kind → ℤ → Type 0

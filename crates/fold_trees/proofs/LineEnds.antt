@@ -3,20 +3,19 @@ use Rattle.std.proofs.Common.{◌≡◌, ◌≢◌, ◌∙◌, ℕ, zero, suc, �
 use Rattle.std.proofs.lemmas.Nat.{pow_pos, pow-add, mod-mul-add, div-add-mod'}
 use Rattle.std.proofs.Math.Nat.{pow-le-pow_right}
 use Rattle.std.proofs.lemmas.Bool.{cases_lt}
-use Rattle.fold_trees.specs.declared.line_tree.Line.{Line}
-use Rattle.fold_trees.specs.LineTrees.{slot_at, node_at, node_of, segment, IsKept, AreKeptIn, AreKeptBeside, AreKeptUpTo}
-use Rattle.fold_trees.proofs.LineParts.{segment_split}
-use Rattle.fold_trees.proofs.LineNodes.{meetings_apart, node_here, node_other}
-use Rattle.fold_trees.proofs.BlockParts.{half_or_same, double_or_less, some_of}
+use Rattle.operator_fns.specs.declared.line_tree.Line.{Line}
+use Rattle.operator_fns.proofs.BlockParts.{half_or_same, double_or_less}
+use Rattle.operator_fns.specs.LineTrees.{nth_node}
+use Rattle.operator_fns.proofs.LineNodes.{node_here, node_other}
+use Rattle.fold_trees.specs.LineTrees.{node_of, segment, IsKept, AreKeptIn, AreKeptBeside, AreKeptUpTo}
+use Rattle.fold_trees.proofs.TreeSegments.{segment_split}
+use Rattle.fold_trees.proofs.LineNodes.{meetings_apart}
+use Rattle.fold_trees.proofs.BlockParts.{some_of}
 
 -- ---- where the nodes of a line lie whose numbers are neighbours
 
-pub near_node : (l : Line) (meeting : ℕ) → l.step ≡ 1 → node_at l meeting ≡ l.node + (meeting - 1)
+pub near_node : (l : Line) (meeting : ℕ) → l.step ≡ 1 → nth_node l meeting ≡ l.node + (meeting - 1)
 near_node l meeting near = ap (λ s. l.node + (meeting - 1) * s) near ∙ omega arith
-
--- and its numbers
-pub near_slot : (l : Line) (place : ℕ) → l.step ≡ 1 → slot_at l place ≡ l.slot + place
-near_slot l place near = ap (λ s. l.slot + place * s) near ∙ omega arith
 
 -- ---- one more part that ends at a place
 
@@ -61,16 +60,16 @@ module _ {P : Type 0} (blank : P) (tells : P → List ℤ → Type 0) (l : Line)
 
   -- where the nodes lie
   module _ (near : l.step ≡ 1) where
-    pub node_is : node_at l (end - half) ≡ l.node + (end - half) - 1
+    pub node_is : nth_node l (end - half) ≡ l.node + (end - half) - 1
     node_is = let p = pow_pos low in omega (arith, near_node l (end - half) near, end_is, half_is, p)
 
-    pub first_is : node_at l (from + half / 2) ≡ l.node + (end - half) - 1 - half / 2
+    pub first_is : nth_node l (from + half / 2) ≡ l.node + (end - half) - 1 - half / 2
     first_is = let p = pow_pos low in omega (arith, near_node l (from + half / 2) near, end_is, half_is, p)
 
-    pub second_is : node_at l (from + half + half / 2) ≡ l.node + (end - half) - 1 + half / 2
+    pub second_is : nth_node l (from + half + half / 2) ≡ l.node + (end - half) - 1 + half / 2
     second_is = let p = pow_pos low in omega (arith, near_node l (from + half + half / 2) near, end_is, half_is, p)
 
-  module _ (s : P) (apart : 0 < l.step) (inside : node_at l (end - half) < length nodes) (told : tells s (segment x from half ++ segment x (from + half) half)) where
+  module _ (s : P) (apart : 0 < l.step) (inside : nth_node l (end - half) < length nodes) (told : tells s (segment x from half ++ segment x (from + half) half)) where
     meets : end - half ≡ part * (2 * 2 ^ suc low) + 2 ^ suc low
     meets =
         let power : 2 ^ suc low ≡ 2 * 2 ^ low = grind arith in
@@ -78,7 +77,7 @@ module _ {P : Type 0} (blank : P) (tells : P → List ℤ → Type 0) (l : Line)
         omega (arith, end_is, place, power, half_is)
 
     after : ℕ → P
-    after = node_of blank l (set nodes (node_at l (end - half)) s)
+    after = node_of blank l (set nodes (nth_node l (end - half)) s)
 
     -- the nodes of parts that meet elsewhere stay
     stays : (level place : ℕ) → place * (2 * 2 ^ level) + 2 ^ level ≢ end - half
@@ -97,7 +96,7 @@ module _ {P : Type 0} (blank : P) (tells : P → List ℤ → Type 0) (l : Line)
     all_told : tells s (segment x from (half + half))
     all_told = subst (tells s) (sym (segment_split x from half half)) told
 
-    pub kept_up : AreKeptUpTo tells end (2 * half) l.count x (node_of blank l (set nodes (node_at l (end - half)) s))
+    pub kept_up : AreKeptUpTo tells end (2 * half) l.count x (node_of blank l (set nodes (nth_node l (end - half)) s))
     unfolding after
     kept_up level place which inside_line = elim which [
       | inl before ↦ old level place (λ e.

@@ -1,12 +1,16 @@
 -- What is kept of the parts of a line, while it is joined anew.
-use Rattle.std.proofs.Common.{◌≡◌, ◌≢◌, ℕ, suc, ◌+◌, ◌-◌, ◌*◌, ◌/◌, ◌%◌, ◌^◌, ◌<◌, ◌≤◌, ◌⊎◌, min, List, length, get_or, set, ap, sym, subst, ◌∙◌, arith, inl, inr, ℤ, pos}
-use Rattle.std.proofs.lemmas.Nat.{pow_pos, pow-add}
+use Rattle.std.proofs.Common.{◌≡◌, ◌≢◌, ℕ, suc, ◌+◌, ◌-◌, ◌*◌, ◌/◌, ◌%◌, ◌^◌, ◌<◌, ◌≤◌, ◌⊎◌, min, List, length, get_or, set, ap, sym, subst, ◌∙◌, arith, inl, inr, ℤ}
+use Rattle.std.proofs.lemmas.Nat.{pow_pos}
 use Rattle.std.proofs.Math.Nat.{pow-le-pow_right}
 use Rattle.std.proofs.lemmas.Bool.{cases_lt, cases_eq}
-use Rattle.std.proofs.lemmas.List.{get_or-set_same, get_or-set_other}
-use Rattle.fold_trees.specs.declared.line_tree.Line.{Line}
-use Rattle.fold_trees.specs.LineTrees.{slot_at, node_at, number_of, node_of, segment, IsKept, AreKept, AreKeptIn, AreKeptBeside, other_half, numbers_at, replaced, HasSlots}
-use Rattle.fold_trees.proofs.LineParts.{segment_same, IsClimb, climb_up, odd_block, even_block, replaced_here, replaced_other}
+use Rattle.std.proofs.lemmas.List.{get_or-set_other}
+use Rattle.operator_fns.specs.declared.line_tree.Line.{Line}
+use Rattle.operator_fns.specs.LineTrees.{slot_at, slot_of, other_half, replaced, HasSlots, nth_node}
+use Rattle.operator_fns.proofs.LineParts.{IsClimb, climb_up, odd_block, even_block, replaced_here, replaced_other}
+use Rattle.operator_fns.proofs.LineWrites.{steps_apart, put_here, put_other}
+use Rattle.operator_fns.proofs.LineNodes.{odd_multiples, node_here, node_other}
+use Rattle.fold_trees.specs.LineTrees.{node_of, segment, IsKept, AreKept, AreKeptIn, AreKeptBeside, numbers_at}
+use Rattle.fold_trees.proofs.TreeSegments.{segment_same}
 
 -- for the parts that a place is not in, and for those that are not wider than this
 abbrev pub AreKeptTo : {P : Type 0} → (P → List ℤ → Type 0) → (width at count : ℕ) → (ℕ → ℤ) → (ℕ → P) → Type 0
@@ -15,57 +19,16 @@ AreKeptTo tells width at count x node = (level place : ℕ) → (2 * 2 ^ level �
 
 -- ---- where the halves of a part meet
 
--- steps that are apart
-pub steps_apart : (a b step : ℕ) → 0 < step → a * step ≡ b * step → a ≡ b
-steps_apart a b step some e = elim (cases_lt a b) [
-  | inl less ↦
-      let more = b - a - 1 in
-      let is : b ≡ a + 1 + more = omega (arith, less) in
-      let all : b * step ≡ a * step + step + more * step = ap (λ k. k * step) is ∙ grind arith in
-      let no : ⊥ = omega (arith, all, e, some) in
-      absurd no
-  | inr enough ↦ elim (cases_lt b a) [
-    | inl less ↦
-        let more = a - b - 1 in
-        let is : a ≡ b + 1 + more = omega (arith, less) in
-        let all : a * step ≡ b * step + step + more * step = ap (λ k. k * step) is ∙ grind arith in
-        let no : ⊥ = omega (arith, all, e, some) in
-        absurd no
-    | inr rest ↦ omega (arith, enough, rest)
-  ]
-]
-
 -- another number at a place of a line
 pub number_set : (l : Line) (numbers : List ℤ) (place : ℕ) (z : ℤ) → HasSlots l (length numbers) → place < l.count
-    → (i : ℕ) → number_of l (set numbers (slot_at l place) z) i ≡ replaced (number_of l numbers) place z i
+    → (i : ℕ) → slot_of l (set numbers (slot_at l place) z) i ≡ replaced (slot_of l numbers) place z i
 number_set l numbers place z has inside i = elim (cases_eq i place) [
   | inl e ↦
-      ap (number_of l (set numbers (slot_at l place) z)) e
-      ∙ get_or-set_same numbers (slot_at l place) z (pos 0) (has.slot place inside)
-      ∙ sym (replaced_here (number_of l numbers) place z) ∙ sym (ap (replaced (number_of l numbers) place z) e)
-  | inr other ↦
-      get_or-set_other numbers (slot_at l place) (slot_at l i) z (pos 0) (λ e. other (steps_apart i place l.step has.apart (omega (arith, e))))
-      ∙ sym (replaced_other (number_of l numbers) place z i other)
+      ap (slot_of l (set numbers (slot_at l place) z)) e
+      ∙ put_here l numbers has place z inside
+      ∙ sym (replaced_here (slot_of l numbers) place z) ∙ sym (ap (replaced (slot_of l numbers) place z) e)
+  | inr other ↦ put_other l numbers has place z i other ∙ sym (replaced_other (slot_of l numbers) place z i other)
 ]
-
--- an odd multiple of a power of two is one of no other
-pub odd_multiples : (a b i j : ℕ) → (2 * a + 1) * 2 ^ i ≡ (2 * b + 1) * 2 ^ j → i ≡ j
-odd_multiples a b i j e = elim (cases_lt i j) [
-  | inl less ↦ absurd (uneven a b i j less e)
-  | inr enough ↦ elim (cases_lt j i) [
-    | inl less ↦ absurd (uneven b a j i less (sym e))
-    | inr rest ↦ omega (arith, enough, rest)
-  ]
-]
-  where
-    uneven : (a b i j : ℕ) → i < j → (2 * a + 1) * 2 ^ i ≡ (2 * b + 1) * 2 ^ j → ⊥
-    uneven a b i j less e =
-        let more = j - i - 1 in
-        let is : j ≡ suc more + i = omega (arith, less) in
-        let power : 2 ^ j ≡ 2 * 2 ^ more * 2 ^ i = ap (λ k. 2 ^ k) is ∙ pow-add 2 (suc more) i ∙ ap (λ p. p * 2 ^ i) (grind arith) in
-        let all : (2 * b + 1) * 2 ^ j ≡ 2 * ((2 * b + 1) * 2 ^ more) * 2 ^ i = ap (λ p. (2 * b + 1) * p) power ∙ grind arith in
-        let same = steps_apart (2 * a + 1) (2 * ((2 * b + 1) * 2 ^ more)) (2 ^ i) (pow_pos i) (e ∙ all) in
-        omega (arith, same)
 
 -- parts with one meeting
 pub meetings_apart : (level place other_level other : ℕ) → place * (2 * 2 ^ level) + 2 ^ level ≡ other * (2 * 2 ^ other_level) + 2 ^ other_level → level ≡ other_level
@@ -77,33 +40,23 @@ meetings_apart level place other_level other e =
 -- ---- a step up from a place
 
 module _ {P : Type 0} (blank : P) where
-  -- another node
-  pub node_here : (l : Line) (nodes : List P) (meeting : ℕ) (s : P) → node_at l meeting < length nodes → node_of blank l (set nodes (node_at l meeting) s) meeting ≡ s
-  node_here l nodes meeting s h = get_or-set_same nodes (node_at l meeting) s blank h
-
-  pub node_other : (l : Line) (nodes : List P) (m k : ℕ) (s : P) → 0 < l.step → 1 ≤ m → 1 ≤ k → k ≢ m → node_of blank l (set nodes (node_at l m) s) k ≡ node_of blank l nodes k
-  node_other l nodes m k s some h g other =
-      get_or-set_other nodes (node_at l m) (node_at l k) s blank (λ e. other (
-      let same = steps_apart (k - 1) (m - 1) l.step some (omega (arith, e)) in
-      omega (arith, same, h, g)))
-
   -- what is kept after a step: that of the wider part where the two halves of it meet, or nothing new where there is no second half
   abbrev pub IsStepUp : (l : Line) (nodes after : List P) (block width : ℕ) → P → Type 0
   IsStepUp l nodes after block width s =
-      (after ≡ set nodes (node_at l ((block / 2 * 2 + 1) * width)) s × node_at l ((block / 2 * 2 + 1) * width) < length nodes)
+      (after ≡ set nodes (nth_node l ((block / 2 * 2 + 1) * width)) s × nth_node l ((block / 2 * 2 + 1) * width) < length nodes)
       ⊎ (after ≡ nodes × block % 2 ≡ 0 × l.count ≤ block * width + width)
 
   -- another node takes the place of one, or none does
   pub others_stay : (l : Line) (nodes after before : List P) (block width : ℕ) (s : P) → IsStepUp l nodes after block width s → 1 ≤ (block / 2 * 2 + 1) * width
       → (after ≡ nodes ⊎ (block / 2 * 2 + 1) * width < l.count)
-      → ((p : ℕ) → ((meeting : ℕ) → 1 ≤ meeting → meeting < l.count → p ≢ node_at l meeting) → get_or nodes p blank ≡ get_or before p blank)
-      → (p : ℕ) → ((meeting : ℕ) → 1 ≤ meeting → meeting < l.count → p ≢ node_at l meeting) → get_or after p blank ≡ get_or before p blank
+      → ((p : ℕ) → ((meeting : ℕ) → 1 ≤ meeting → meeting < l.count → p ≢ nth_node l meeting) → get_or nodes p blank ≡ get_or before p blank)
+      → (p : ℕ) → ((meeting : ℕ) → 1 ≤ meeting → meeting < l.count → p ≢ nth_node l meeting) → get_or after p blank ≡ get_or before p blank
   others_stay l nodes after before block width s new some within stayed p apart = elim within [
     | inl none ↦ ap (λ (ns : List P). get_or ns p blank) none ∙ stayed p apart
     | inr below ↦ elim new [
       | inl set_so ↦
           ap (λ (ns : List P). get_or ns p blank) set_so.0
-          ∙ get_or-set_other nodes (node_at l ((block / 2 * 2 + 1) * width)) p s blank (apart ((block / 2 * 2 + 1) * width) some below)
+          ∙ get_or-set_other nodes (nth_node l ((block / 2 * 2 + 1) * width)) p s blank (apart ((block / 2 * 2 + 1) * width) some below)
           ∙ stayed p apart
       | inr none ↦ ap (λ (ns : List P). get_or ns p blank) none.0 ∙ stayed p apart
     ]
@@ -135,7 +88,7 @@ module _ {P : Type 0} (blank : P) (tells : P → List ℤ → Type 0) (l : Line)
   stays level place apart = elim new [
     | inl set_so ↦
         let m = place * (2 * 2 ^ level) + 2 ^ level in
-        ap (λ (ns : List P). node_of blank l ns m) (set_so.0 ∙ ap (λ k. set nodes (node_at l k) s) meeting_is)
+        ap (λ (ns : List P). node_of blank l ns m) (set_so.0 ∙ ap (λ k. set nodes (nth_node l k) s) meeting_is)
         ∙ node_other blank l nodes (block / 2 * (2 * half) + half) m s some (some_of (block / 2) climb.level) (some_of place level) apart
     | inr none ↦ ap (λ (ns : List P). node_of blank l ns (place * (2 * 2 ^ level) + 2 ^ level)) none.0
   ]

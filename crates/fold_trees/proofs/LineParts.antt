@@ -1,102 +1,15 @@
--- Parts of a line of numbers: their numbers, and where they begin.
-use Rattle.std.proofs.Common.{◌≡◌, ◌≢◌, ℕ, zero, suc, ◌+◌, ◌-◌, ◌*◌, ◌/◌, ◌%◌, ◌^◌, ◌<◌, ◌≤◌, min, refl, ap, sym, ◌∙◌, arith, inl, inr, ◌∷◌, ◌++◌, ℤ}
-use Rattle.std.specs.Int.{IsNextPowerOfTwo}
-use Rattle.std.proofs.lemmas.Nat.{pow_pos, pow-add}
-use Rattle.std.proofs.Math.Nat.{pow-le-pow_right}
-use Rattle.std.proofs.lemmas.Bool.{cases_lt, cases_eq, eq-eqb, ne_eqb, cond-true, cond-false}
-use Rattle.fold_trees.specs.LineTrees.{segment, IsPart, other_half, AreSameIn, numbers_at, replaced}
-
--- ---- the numbers of a part
-
-pub segment_split : (x : ℕ → ℤ) (from a b : ℕ) → segment x from (a + b) ≡ segment x from a ++ segment x (from + a) b
-segment_split x from zero b =
-    let here : from + zero ≡ from = omega arith in
-    let all : zero + b ≡ b = omega arith in
-    ap (segment x from) all ∙ sym (ap (λ k. segment x k b) here)
-segment_split x from (suc a) b =
-    let all : suc a + b ≡ suc (a + b) = omega arith in
-    let next : from + 1 + a ≡ from + suc a = omega arith in
-    ap (segment x from) all
-    ∙ ap (λ xs. x from ∷ xs) (segment_split x (from + 1) a b ∙ ap (λ k. segment x (from + 1) a ++ segment x k b) next)
-
-pub segment_same : (x y : ℕ → ℤ) (from count : ℕ) → ((i : ℕ) → from ≤ i → i < from + count → x i ≡ y i) → segment x from count ≡ segment y from count
-segment_same x y from zero same = refl
-segment_same x y from (suc count) same =
-    let here = same from (omega arith) (omega arith) in
-    let later = segment_same x y (from + 1) count (λ i low high. same i (omega (arith, low)) (omega (arith, high))) in
-    λ i. here i ∷ later i
-
--- ---- where a part begins
-
--- the least part that has so many numbers, where they are the first of a part
-pub record IsLeast (from width long p : ℕ) : Type 0 where
-  pub level : ℕ
-  pub place : ℕ
-  pub power : p ≡ 2 ^ level
-  pub from_is : from ≡ place * 2 ^ level
-  pub enough : long ≤ p
-  pub within : p ≤ width
-
-pub least_part : (from width long p : ℕ) → IsPart from width → 1 ≤ long → long ≤ width → IsNextPowerOfTwo long p → IsLeast from width long p
-least_part from width long p part some few next = elim (cases_lt part.level e) [
-  | inl above ↦
-      let below = e - 1 in
-      let up : e ≡ suc below = omega arith in
-      let double : 2 ^ suc below ≡ 2 * 2 ^ below = grind arith in
-      let p_is : p ≡ 2 * 2 ^ below = next.0.1 ∙ ap (λ k. 2 ^ k) up ∙ double in
-      let two : 0 < 2 = omega arith in
-      let more : 2 ^ part.level ≤ 2 ^ below = pow-le-pow_right two (omega arith) in
-      let positive = pow_pos below in
-      let width_is = part.width_is in
-      let half = next.2 in
-      let no : ⊥ = omega (arith, half, few) in
-      absurd no
-  | inr within ↦
-      let rest = part.level - e in
-      let all : part.level ≡ rest + e = omega arith in
-      let pieces : 2 ^ part.level ≡ 2 ^ rest * 2 ^ e = ap (λ k. 2 ^ k) all ∙ pow-add 2 rest e in
-      let two : 0 < 2 = omega arith in
-      let less : 2 ^ e ≤ 2 ^ part.level = pow-le-pow_right two within in
-      let width_is = part.width_is in
-      let p_is = next.0.1 in
-      record {
-        level = e;
-        place = part.place * 2 ^ rest;
-        power = next.0.1;
-        from_is = part.from_is ∙ ap (λ k. part.place * k) pieces ∙ grind arith;
-        enough = next.1;
-        within = omega arith;
-      }
-]
-  where
-    e : ℕ
-    e = next.0.0
+-- A part of a line of numbers, and the one twice as wide.
+use Rattle.std.proofs.Common.{◌≡◌, ℕ, zero, suc, ◌+◌, ◌-◌, ◌*◌, ◌/◌, ◌%◌, ◌^◌, ◌<◌, ◌≤◌, min, ap, sym, ◌∙◌, arith, ◌++◌, ℤ}
+use Rattle.operator_fns.proofs.LineParts.{odd_block, even_block}
+use Rattle.fold_trees.specs.LineTrees.{segment, numbers_at}
+use Rattle.fold_trees.proofs.TreeSegments.{segment_split}
 
 -- a power of two that has a half
 pub half_level : (level p : ℕ) → p ≡ 2 ^ level → 2 ≤ p → (less : ℕ) × (p ≡ 2 * 2 ^ less)
 half_level zero p is some = let no : ⊥ = omega (arith, is, some) in absurd no
 half_level (suc less) p is some = let double : 2 ^ suc less ≡ 2 * 2 ^ less = grind arith in (less, is ∙ double)
 
--- ---- a part and the one twice as wide
-
--- where it begins
-pub odd_block : (block width : ℕ) → block % 2 ≡ 1
-    → (block * width ≡ 2 * (block / 2 * width) + width) × (other_half block * width ≡ 2 * (block / 2 * width)) × (block / 2 * (2 * width) ≡ 2 * (block / 2 * width))
-odd_block block width odd =
-    let half = block / 2 in
-    let is : block ≡ 2 * half + 1 = omega (arith, odd) in
-    let before : block - 1 ≡ 2 * half = omega (arith, odd) in
-    let other : other_half block ≡ 2 * half = cond-false _ _ _ (ne_eqb (block % 2) 0 (λ e. let no : ⊥ = omega (arith, e, odd) in no)) ∙ before in
-    (ap (λ b. b * width) is ∙ grind arith, ap (λ b. b * width) other ∙ grind arith, grind arith)
-
-pub even_block : (block width : ℕ) → block % 2 ≡ 0
-    → (block * width ≡ 2 * (block / 2 * width)) × (other_half block * width ≡ 2 * (block / 2 * width) + width) × (block / 2 * (2 * width) ≡ 2 * (block / 2 * width))
-even_block block width even =
-    let half = block / 2 in
-    let is : block ≡ 2 * half = omega (arith, even) in
-    let behind : block + 1 ≡ 2 * half + 1 = omega (arith, even) in
-    (ap (λ b. b * width) is ∙ grind arith, ap (λ b. b * width) (cond-true _ _ _ (eq-eqb (block % 2) 0 even) ∙ behind) ∙ grind arith, grind arith)
-
+-- the numbers of a part and of the one twice as wide
 module _ (count : ℕ) (x : ℕ → ℤ) (block width : ℕ) where
   pub widen_odd : block % 2 ≡ 1 → block * width < count
       → segment x (block * width - width) (min width (count - (block * width - width))) ++ numbers_at count x block width ≡ numbers_at count x (block / 2) (2 * width)
@@ -131,76 +44,3 @@ module _ (count : ℕ) (x : ℕ → ℤ) (block width : ℕ) where
       let first : block * width ≡ start = omega (arith, at.0, at.2) in
       let all : min width (count - block * width) ≡ min (2 * width) (count - start) = omega (arith, at.0, at.2, some, last) in
       λ i. segment x (first i) (all i)
-
--- ---- the way up from a place
-
--- so far up: the block of the place
-pub record IsClimb (place block width : ℕ) : Type 0 where
-  pub level : ℕ
-  pub width_is : width ≡ 2 ^ level
-  pub low : block * width ≤ place
-  pub high : place < block * width + width
-
-pub climb_start : (place : ℕ) → IsClimb place place 1
-climb_start place = record { level = 0; width_is = refl; low = grind arith; high = grind arith }
-
-pub climb_up : (place block width : ℕ) → IsClimb place block width → IsClimb place (block / 2) (2 * width)
-climb_up place block width climb = record {
-  level = suc climb.level;
-  width_is = ap (λ w. 2 * w) climb.width_is ∙ grind arith;
-  low = within.0;
-  high = within.1;
-}
-  where
-    within : (block / 2 * (2 * width) ≤ place) × (place < block / 2 * (2 * width) + 2 * width)
-    within = elim (cases_eq (block % 2) 0) [
-      | inl even ↦ let at = even_block block width even in (omega (arith, at.0, at.2, climb.low), omega (arith, at.0, at.2, climb.high))
-      | inr odd ↦
-          let is : block % 2 ≡ 1 = omega (arith, odd) in
-          let at = odd_block block width is in
-          (omega (arith, at.0, at.2, climb.low), omega (arith, at.0, at.2, climb.high))
-    ]
-
-pub level_up : (place block width : ℕ) (climb : IsClimb place block width) → (climb_up place block width climb).level ≡ suc climb.level
-unfolding climb_up
-level_up place block width climb = refl
-
--- at its end the block is the whole line
-pub climb_end : (count place block width : ℕ) → IsClimb place block width → place < count → count ≤ width → block ≡ 0
-climb_end count place zero width climb h wide = refl
-climb_end count place (suc block) width climb h wide =
-    let more : suc block * width ≡ block * width + width = grind arith in
-    let no : ⊥ = omega (arith, more, climb.low, h, wide) in
-    absurd no
-
--- as many levels as the count less one has binary digits
-pub levels_within : (level digits count : ℕ) → 2 ^ level < 2 * count → count - 1 < 2 ^ digits → level ≤ digits
-levels_within level digits count few enough = elim (cases_lt digits level) [
-  | inl above ↦
-      let two : 0 < 2 = omega arith in
-      let more : 2 ^ suc digits ≤ 2 ^ level = pow-le-pow_right two above in
-      let double : 2 ^ suc digits ≡ 2 * 2 ^ digits = grind arith in
-      let no : ⊥ = omega (arith, more, double, few, enough) in
-      absurd no
-  | inr within ↦ within
-]
-
--- the number at the place, and those at others
-pub replaced_here : (x : ℕ → ℤ) (place : ℕ) (z : ℤ) → replaced x place z place ≡ z
-replaced_here x place z = cond-true _ _ _ (eq-eqb place place refl)
-
-pub replaced_other : (x : ℕ → ℤ) (place : ℕ) (z : ℤ) (i : ℕ) → i ≢ place → replaced x place z i ≡ x i
-replaced_other x place z i h = cond-false _ _ _ (ne_eqb i place h)
-
--- the other half has no number of the block
-pub other_half_same : (place block width : ℕ) (x : ℕ → ℤ) (z : ℤ) → IsClimb place block width → AreSameIn (other_half block * width) width x (replaced x place z)
-other_half_same place block width x z climb i low high = sym (replaced_other x place z i apart)
-  where
-    apart : i ≢ place
-    apart e = elim (cases_eq (block % 2) 0) [
-      | inl even ↦ let at = even_block block width even in omega (arith, at.0, at.1, low, high, e, climb.low, climb.high)
-      | inr odd ↦
-          let is : block % 2 ≡ 1 = omega (arith, odd) in
-          let at = odd_block block width is in
-          omega (arith, at.0, at.1, low, high, e, climb.low, climb.high)
-    ]

@@ -1,23 +1,9 @@
 -- Multiples of numbers, and their order.
-use borrow.Author.Differences.{up, down, product_is}
-use Rattle.std.proofs.Common.{◌≡◌, refl, ◌∙◌, ℕ, zero, suc, ◌+◌, ◌*◌, ◌≤◌, ap, arith, inl, inr, ◌⊎◌, ℤ, pos, negsuc, neg_ℤ, ◌*ℤ◌, ◌≤ℤ◌}
+use borrow.Author.Differences.{up, down}
+use Rattle.std.proofs.Common.{◌≡◌, refl, ◌∙◌, ℕ, zero, suc, ◌+◌, ◌≤◌, arith, inl, inr, ◌⊎◌, ℤ, pos, negsuc, neg_ℤ, ◌*ℤ◌, ◌≤ℤ◌}
 use Rattle.std.specs.Int.{int_min, int_max}
 use Rattle.std.proofs.Math.Nat.{mul-le-mul_right}
 use Rattle.std.proofs.lemmas.Int.{ints, clamps, by_lt_z}
-
-pub times_assoc : (a b c : ℤ) → (a *ℤ b) *ℤ c ≡ a *ℤ (b *ℤ c)
-times_assoc a b c =
-    let ab = product_is a b in
-    let bc = product_is b c in
-    let left1 = ap (λ n. n * up c) ab.0 in
-    let left2 = ap (λ n. n * down c) ab.0 in
-    let left3 = ap (λ n. n * up c) ab.1 in
-    let left4 = ap (λ n. n * down c) ab.1 in
-    let right1 = ap (λ n. up a * n) bc.0 in
-    let right2 = ap (λ n. down a * n) bc.0 in
-    let right3 = ap (λ n. up a * n) bc.1 in
-    let right4 = ap (λ n. down a * n) bc.1 in
-    omega (arith, ints)
 
 -- as many times as the difference from 0
 up_by : (a b : ℤ) (n : ℕ) → a ≤ℤ b → (a *ℤ pos n) ≤ℤ (b *ℤ pos n)

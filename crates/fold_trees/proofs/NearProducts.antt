@@ -4,14 +4,14 @@ use Rattle.std.specs.Int.{w64, w128}
 use Rattle.std.proofs.Math.Nat.{mul-le-mul}
 use Rattle.std.proofs.lemmas.Int.{ints, clamps, unsigned_abs-mul, fits_signed_from_abs}
 use Rattle.fold_trees.specs.declared.product.Product.{Product}
-use Rattle.fold_trees.specs.Products.{Products, join, told, Tells}
+use Rattle.fold_trees.specs.Products.{Products, joined_products, kept_products, TellsProducts}
 
 pub record AreNear (s : Products) : Type 0 where
   pub total : unsigned_abs s.total ≤ 2 ^ 63
   pub least : unsigned_abs s.least ≤ 2 ^ 63
   pub greatest : unsigned_abs s.greatest ≤ 2 ^ 63
 
-pub are_near : (s : Product) (m : Products) → Tells s m → AreNear (told s)
+pub are_near : (s : Product) (m : Products) → TellsProducts s m → AreNear (kept_products s)
 are_near s m h =
     let below = h.below in
     let above = h.above in
@@ -29,7 +29,7 @@ pub record IsWithin126 (s : Products) : Type 0 where
   pub low : neg_ℤ (pos (2 ^ 126)) ≤ℤ s.least
   pub high : s.greatest ≤ℤ pos (2 ^ 126)
 
-pub join_within : (a b : Products) → AreNear a → AreNear b → IsWithin126 (join a b)
+pub join_within : (a b : Products) → AreNear a → AreNear b → IsWithin126 (joined_products a b)
 join_within a b h k =
     let one = near_times a.least b.total h.least k.total in
     let other = near_times a.greatest b.total h.greatest k.total in
@@ -45,14 +45,14 @@ pub narrow_fits : (x y : ℤ) → unsigned_abs x ≤ 2147483647 → unsigned_abs
 narrow_fits x y h k = let most = narrow_times x y h k in fits_signed_from_abs w64 (x *ℤ y) (omega arith)
 
 pub narrow_least : (a b : Products) → unsigned_abs a.least ≤ 2147483647 → unsigned_abs a.greatest ≤ 2147483647 → unsigned_abs b.total ≤ 2147483647 → unsigned_abs b.least ≤ 2147483647
-    → neg_ℤ (pos 4611686014132420609) ≤ℤ (join a b).least
+    → neg_ℤ (pos 4611686014132420609) ≤ℤ (joined_products a b).least
 narrow_least a b h k t l =
     let one = narrow_times a.least b.total h t in
     let other = narrow_times a.greatest b.total k t in
     omega (arith, ints, clamps)
 
 pub narrow_greatest : (a b : Products) → unsigned_abs a.least ≤ 2147483647 → unsigned_abs a.greatest ≤ 2147483647 → unsigned_abs b.total ≤ 2147483647 → unsigned_abs b.greatest ≤ 2147483647
-    → (join a b).greatest ≤ℤ pos 4611686014132420609
+    → (joined_products a b).greatest ≤ℤ pos 4611686014132420609
 narrow_greatest a b h k t g =
     let one = narrow_times a.least b.total h t in
     let other = narrow_times a.greatest b.total k t in

@@ -1,29 +1,19 @@
 -- The products of the endings of a list tell its product from the right.
-use Rattle.std.proofs.Common.{◌≡◌, ◌^◌, ◌-◌, ◌<◌, length, List, [], ◌∷◌, refl, ap, sym, ◌∙◌, arith, inl, inr, Bool, true, false, ◌&&◌, if◌then◌else◌, ℤ, pos, negsuc, neg_ℤ, ◌-ℤ◌, ◌*ℤ◌, ◌≤ℤ◌, Ok, Err}
+use Rattle.std.proofs.Common.{◌≡◌, ◌^◌, ◌<◌, length, List, [], ◌∷◌, refl, ap, sym, ◌∙◌, arith, inl, inr, Bool, true, false, ◌&&◌, if◌then◌else◌, ℤ, pos, neg_ℤ, ◌-ℤ◌, ◌*ℤ◌, ◌≤ℤ◌, Ok, Err}
 use Rattle.std.specs.Int.{int_max, int_min}
 use Rattle.std.specs.List.{All}
 use Rattle.std.proofs.lemmas.Int.{ints, clamps}
 use Rattle.std.proofs.lemmas.List.Elements.{All-head, All-tail}
-use Rattle.std.proofs.lemmas.Bool.{lt-ltb, ltb-true, and_from, and_parts, cases_Bool, cond-true, cond-false}
+use Rattle.std.proofs.lemmas.Bool.{and_from, and_parts, cases_Bool, cond-true, cond-false}
 use Rattle.arrays_core.specs.declared.item.Kind.TheVariants.{Limit}
 use Rattle.arrays_core.specs.Items.{and_then}
 use Rattle.function_names.specs.declared.scalar.Scalar2.TheVariants.{Times}
 use Rattle.scalar_fns.specs.Numbers.{dyadic_on_numbers, number_or_limit, is_number}
 use Rattle.scalar_fns.specs.Folds.{folded}
-use Rattle.fold_trees.specs.Products.{Products, none, before, products_of, product_told}
+use Rattle.operator_fns.proofs.Endings.{Within}
+use Rattle.operator_fns.proofs.SumEndings.{in_64_bits, is_in_64_bits}
+use Rattle.fold_trees.specs.Products.{Products, products_of_none, before, products_of, product_told}
 use Rattle.fold_trees.proofs.JoinedProducts.{ordered_of}
-
-pub record Within (z : ℤ) : Type 0 where
-  pub low : negsuc (2 ^ 63 - 1) ≤ℤ z
-  pub high : z ≤ℤ pos (2 ^ 63 - 1)
-
-pub in_64_bits : (z : ℤ) → is_number z ≡ true → Within z
-in_64_bits (pos n) e = let below = ltb-true n (2 ^ 63) e in record { low = omega (arith, ints); high = omega (arith, ints) }
-in_64_bits (negsuc n) e = let below = ltb-true n (2 ^ 63) e in record { low = omega (arith, ints); high = omega (arith, ints) }
-
-pub is_in_64_bits : (z : ℤ) → Within z → is_number z ≡ true
-is_in_64_bits (pos n) h = lt-ltb n (2 ^ 63) (omega (arith, ints, h.high))
-is_in_64_bits (negsuc n) h = lt-ltb n (2 ^ 63) (omega (arith, ints, h.low))
 
 same_test : (p q : Bool) → (p ≡ true → q ≡ true) → (q ≡ true → p ≡ true) → p ≡ q
 same_test true true f g = refl
@@ -79,11 +69,11 @@ then_times : (p : Bool) (z t : ℤ) → and_then (if p then Ok t else Err Limit)
 then_times true z t = refl
 then_times false z t = refl
 
-one_number : (z : ℤ) → is_number z ≡ true → product_told (before z none) ≡ Ok z
+one_number : (z : ℤ) → is_number z ≡ true → product_told (before z products_of_none) ≡ Ok z
 one_number z e =
     let h = in_64_bits z e in
     let once : z *ℤ pos 1 ≡ z = omega (arith, ints) in
-    told_within (before z none)
+    told_within (before z products_of_none)
     (record { low = omega (arith, ints, clamps, h.low); high = omega (arith, ints, clamps, h.high) })
     (record { low = omega (arith, ints, clamps, h.low); high = omega (arith, ints, clamps, h.high) })
     ∙ ap Ok once

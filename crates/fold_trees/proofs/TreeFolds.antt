@@ -1,42 +1,31 @@
 -- The numbers of a line, and their fold.
-use Rattle.std.proofs.Common.{◌≡◌, ◌∙◌, ℕ, ◌/◌, ◌%◌, ◌<◌, ℤ, pos, List, [], ◌∷◌, length, get_or, set, map, refl, sym, ap, arith, inl, inr, Result, Ok, Err}
+use Rattle.std.proofs.Common.{◌≡◌, ◌∙◌, ℕ, ◌/◌, ◌%◌, ◌<◌, ℤ, pos, List, length, get_or, set, sym, ap, arith, inl, inr, Result}
 use Rattle.std.proofs.lemmas.Bool.{cases_eq}
 use Rattle.std.proofs.lemmas.List.{get_or-set_same, get_or-set_other}
-use Rattle.arrays_core.specs.declared.item.Item.TheVariants.{Num}
 use Rattle.arrays_core.specs.declared.item.Kind.{Kind}
-use Rattle.arrays_core.specs.Items.{and_then}
 use Rattle.function_names.specs.declared.scalar.Scalar2.{Scalar2}
 use Rattle.scalar_fns.specs.Folds.{folded}
-use Rattle.scalar_fns.specs.Items.{dyadic_on_items, number_item}
+use Rattle.scalar_fns.specs.Items.{number_item}
 use Rattle.scalar_fns.specs.Numbers.{dyadic_on_numbers}
-use Rattle.operator_fns.specs.RightFold.{fold_right}
 use Rattle.operator_fns.specs.SumTrees.{line_through, numbers_through, with_number, AreLines}
+use Rattle.operator_fns.proofs.Reduced.{number_items_folded}
 use Rattle.operator_fns.proofs.LineParts.{replaced_here, replaced_other}
 use Rattle.operator_fns.proofs.LinePlaces.{place_spot, spot_place}
-use Rattle.fold_trees.specs.LineTrees.{slot_at, number_of, segment, replaced}
+use Rattle.operator_fns.specs.LineTrees.{slot_at, slot_of, replaced}
+use Rattle.fold_trees.specs.LineTrees.{segment}
 use Rattle.fold_trees.specs.FoldTrees.{IsReductionBy}
 use Rattle.fold_trees.specs.PartTrees.{line_at}
-use Rattle.fold_trees.proofs.TreeSegments.{same_segment, listed_segment}
+use Rattle.fold_trees.proofs.TreeSegments.{segment_same, listed_segment}
 
--- a fold of items that are numbers
-pub fold_of_numbers : (f : Scalar2) (zs : List ℤ) → 0 < length zs → fold_right f (map (λ z. Num z) zs) ≡ number_item (folded (dyadic_on_numbers f) zs)
-fold_of_numbers f [] some = absurd (omega arith)
-fold_of_numbers f (x ∷ []) some = refl
-fold_of_numbers f (x ∷ y ∷ zs) some =
-    ap (λ r. and_then r (dyadic_on_items f (Num x))) (fold_of_numbers f (y ∷ zs) (omega arith)) ∙ moved (folded (dyadic_on_numbers f) (y ∷ zs))
-  where
-    moved : (r : Result ℤ Kind) → and_then (number_item r) (dyadic_on_items f (Num x)) ≡ number_item (and_then r (dyadic_on_numbers f x))
-    moved = elim [ Ok z ↦ refl | Err k ↦ refl ]
-
--- it is the reduction
+-- the fold of some numbers is their reduction
 pub reduction_of : (f : Scalar2) (zs : List ℤ) (r : Result ℤ Kind) → 0 < length zs → r ≡ folded (dyadic_on_numbers f) zs → IsReductionBy f zs r
-reduction_of f zs r some is = ap number_item is ∙ sym (fold_of_numbers f zs some)
+reduction_of f zs r some is = ap number_item is ∙ sym (number_items_folded f zs some)
 
 -- the numbers of the line that a place is on, where the one at this place is another
 pub line_with : (count step : ℕ) (numbers : List ℤ) (place : ℕ) (z : ℤ) → AreLines count step (length numbers) → place < length numbers
     → numbers_through (with_number (record { count = count; step = step; numbers = numbers }) place z) place
-    ≡ segment (replaced (number_of (line_at count step (line_through count step place)) numbers) (place / step % count) z) 0 count
-line_with count step numbers place z are inside = sym (listed_segment y 0 count) ∙ same_segment y (replaced x at z) 0 count (λ i low high. same i (omega (arith, high)))
+    ≡ segment (replaced (slot_of (line_at count step (line_through count step place)) numbers) (place / step % count) z) 0 count
+line_with count step numbers place z are inside = sym (listed_segment y 0 count) ∙ segment_same y (replaced x at z) 0 count (λ i low high. same i (omega (arith, high)))
   where
     line : ℕ
     line = line_through count step place
@@ -45,7 +34,7 @@ line_with count step numbers place z are inside = sym (listed_segment y 0 count)
     at = place / step % count
 
     x : ℕ → ℤ
-    x = number_of (line_at count step line) numbers
+    x = slot_of (line_at count step line) numbers
 
     y : ℕ → ℤ
     y i = get_or (set numbers place z) (slot_at (line_at count step line) i) (pos 0)

@@ -1,26 +1,13 @@
 -- All lines lie between one another, and each takes one more number.
-use Rattle.std.proofs.Common.{◌≡◌, ◌∙◌, ℕ, ◌+◌, ◌-◌, ◌*◌, ◌/◌, ◌%◌, ◌^◌, ◌<◌, ℤ, pos, List, ◌++◌, length, get_or, sym, ap, subst, arith}
+use Rattle.std.proofs.Common.{◌≡◌, ◌∙◌, ℕ, ◌+◌, ◌-◌, ◌*◌, ◌/◌, ◌^◌, ◌<◌, ℤ, pos, List, ◌++◌, length, get_or, sym, ap, subst, arith}
 use Rattle.std.proofs.lemmas.List.{length-append, get_or_append_left}
-use Rattle.operator_fns.specs.SumTrees.{AreLines}
-use Rattle.operator_fns.proofs.LineSpots.{spot, slot_within}
-use Rattle.operator_fns.proofs.LongerTrees.{in_first, one_block as one_sum_block, lines_in_block}
-use Rattle.fold_trees.specs.LineTrees.{slot_at, node_at, number_of, node_of, shorter, IsIn, AreKept}
+use Rattle.operator_fns.specs.LineTrees.{slot_at, slot_of, shorter, nth_node}
+use Rattle.operator_fns.proofs.LineSpots.{slot_within, nth_within}
+use Rattle.operator_fns.proofs.LongerTrees.{first_spot, one_block, lines_in_block}
+use Rattle.fold_trees.specs.LineTrees.{node_of, IsIn, AreKept}
 use Rattle.fold_trees.specs.PartTrees.{line_at, nodes_in_line, AreLineTrees}
-use Rattle.fold_trees.proofs.TreePlaces.{node_within, in_both}
+use Rattle.fold_trees.proofs.TreePlaces.{in_both}
 use Rattle.fold_trees.proofs.TreeTables.{kept_alike}
-
--- places of lines of the first block do not lie elsewhere where the lines are longer
-first_spot : (unit other step line place : ℕ) → 0 < step → line < step → spot unit step line place ≡ spot other step line place
-first_spot unit other step line place apart h =
-    let first = in_first step line apart h in
-    let same : 0 * (unit * step) + line % step + place * step ≡ 0 * (other * step) + line % step + place * step = grind arith in
-    (λ i. first i * (unit * step) + line % step + place * step) ∙ same ∙ sym (λ i. first i * (other * step) + line % step + place * step)
-
--- all numbers of one block of lines
-one_block : (count step numbers : ℕ) → 0 < count → 0 < step → numbers ≡ count * step → AreLines count step numbers
-one_block count step numbers some apart is =
-    let there : AreLines count step numbers = one_sum_block count step numbers some apart is in
-    record { some = there.some; apart = there.apart; whole = there.whole }
 
 -- both lists are long enough for each of them
 pub in_block : (count step numbers nodes line : ℕ) → 0 < count → 0 < step → numbers ≡ count * step → nodes ≡ nodes_in_line count * step → line < step → numbers < 2 ^ 62
@@ -37,7 +24,7 @@ module _ {P : Type 0} (blank : P) (tells : P → List ℤ → Type 0) (count ste
 
   -- the trees of one block of lines
   pub longer_trees : 0 < count → 0 < step → length numbers ≡ count * step → length nodes ≡ nodes_in_line count * step
-      → ((line : ℕ) → line < step → AreKept tells count (number_of (line_at count step line) numbers) (node_of blank (line_at count step line) nodes))
+      → ((line : ℕ) → line < step → AreKept tells count (slot_of (line_at count step line) numbers) (node_of blank (line_at count step line) nodes))
       → AreLineTrees blank tells count step numbers nodes
   longer_trees some apart slot_count node_count kept =
       let lines = lines_in_block count step (length numbers) some slot_count in
@@ -74,18 +61,18 @@ module _ {P : Type 0} (blank : P) (tells : P → List ℤ → Type 0) (count ste
 
   -- before the new numbers are taken, what is kept is that of the lines without them
   pub kept_without : (line : ℕ) → line < step
-      → AreKept tells (long - 1) (number_of (shorter (line_at long step line)) all) (node_of blank (shorter (line_at long step line)) (nodes ++ more))
+      → AreKept tells (long - 1) (slot_of (shorter (line_at long step line)) all) (node_of blank (shorter (line_at long step line)) (nodes ++ more))
   kept_without line h =
       let l = line_at count step line in
       let m = shorter (line_at long step line) in
       let there = old_line line h in
       let lines = old.lines in
-      subst (λ n. AreKept tells n (number_of m all) (node_of blank m (nodes ++ more))) (sym one_more)
-      (kept_alike tells count (number_of l numbers) (number_of m all) (node_of blank l nodes) (node_of blank m (nodes ++ more))
+      subst (λ n. AreKept tells n (slot_of m all) (node_of blank m (nodes ++ more))) (sym one_more)
+      (kept_alike tells count (slot_of l numbers) (slot_of m all) (node_of blank l nodes) (node_of blank m (nodes ++ more))
       (λ i p.
       ap (λ k. get_or all k (pos 0)) (first_spot long count step line i lines.apart h)
       ∙ get_or_append_left numbers new (pos 0) (slot_at l i) (slot_within count step (length numbers) lines line there i p))
       (λ meeting low high.
       ap (λ k. get_or (nodes ++ more) k blank) (first_spot (nodes_in_line long) (nodes_in_line count) step line (meeting - 1) lines.apart h)
-      ∙ get_or_append_left nodes more blank (node_at l meeting) (node_within count step (length numbers) lines line there (length nodes) old.sized meeting low high))
+      ∙ get_or_append_left nodes more blank (nth_node l meeting) (nth_within count step (length numbers) lines line there (nodes_in_line count) (length nodes) old.sized meeting low (omega (arith, high))))
       (old.kept line there))

@@ -6,19 +6,21 @@ use Rattle.std.proofs.lemmas.Nat.{mod_below}
 use Rattle.operator_fns.specs.SumTrees.{line_through, AreLines}
 use Rattle.operator_fns.proofs.LineParts.{replaced_here}
 use Rattle.operator_fns.proofs.LinePlaces.{place_spot}
-use Rattle.fold_trees.specs.declared.line_tree.Line.{Line}
-use Rattle.fold_trees.specs.LineTrees.{slot_at, node_at, number_of, node_of, replaced, AreKept}
+use Rattle.operator_fns.specs.declared.line_tree.Line.{Line}
+use Rattle.operator_fns.specs.LineTrees.{slot_at, slot_of, replaced, nth_node}
+use Rattle.operator_fns.proofs.LineSpots.{slots_apart}
+use Rattle.fold_trees.specs.LineTrees.{node_of, AreKept}
 use Rattle.fold_trees.specs.PartTrees.{line_at, nodes_in_line, AreLineTrees}
-use Rattle.fold_trees.proofs.TreePlaces.{slots_apart, nodes_apart}
+use Rattle.fold_trees.proofs.TreePlaces.{nodes_apart}
 use Rattle.fold_trees.proofs.TreeTables.{kept_alike}
 
 -- a number is put at a place of a line, and what is kept of its parts is joined anew; other numbers, and nodes of no place of it, stay
 pub record IsWritten {P : Type 0} (blank : P) (tells : P → List ℤ → Type 0) (l : Line) (place : ℕ) (z : ℤ) (numbers after : List ℤ)
     (nodes nodes_after : List P) : Type 0 where
-  pub numbers_are : (i : ℕ) → i < l.count → number_of l after i ≡ replaced (number_of l numbers) place z i
-  pub kept : AreKept tells l.count (number_of l after) (node_of blank l nodes_after)
+  pub numbers_are : (i : ℕ) → i < l.count → slot_of l after i ≡ replaced (slot_of l numbers) place z i
+  pub kept : AreKept tells l.count (slot_of l after) (node_of blank l nodes_after)
   pub other_slots : (p : ℕ) → p ≢ slot_at l place → get_or after p (pos 0) ≡ get_or numbers p (pos 0)
-  pub other_nodes : (p : ℕ) → ((meeting : ℕ) → 1 ≤ meeting → meeting < l.count → p ≢ node_at l meeting) → get_or nodes_after p blank ≡ get_or nodes p blank
+  pub other_nodes : (p : ℕ) → ((meeting : ℕ) → 1 ≤ meeting → meeting < l.count → p ≢ nth_node l meeting) → get_or nodes_after p blank ≡ get_or nodes p blank
   pub slot_count : length after ≡ length numbers
   pub node_count : length nodes_after ≡ length nodes
 
@@ -43,7 +45,7 @@ module _ {P : Type 0} (blank : P) (tells : P → List ℤ → Type 0) (count ste
       here =
           ap (λ k. get_or after k (pos 0)) (sym there)
           ∙ new.numbers_are at (mod_below (place / step) count trees.lines.some)
-          ∙ replaced_here (number_of (line_at count step line) numbers) at z
+          ∙ replaced_here (slot_of (line_at count step line) numbers) at z
 
       same : (k : ℕ) → k < length after → get_or after k (pos 0) ≡ get_or (set numbers place z) k (pos 0)
       same k h = elim (cases_eq k place) [
@@ -58,13 +60,13 @@ module _ {P : Type 0} (blank : P) (tells : P → List ℤ → Type 0) (count ste
     lines = subst (AreLines count step) (sym new.slot_count) trees.lines;
     sized = new.node_count ∙ trees.sized ∙ ap (λ n. n / count * nodes_in_line count) (sym new.slot_count);
     kept = λ k h. elim (cases_eq k line) [
-      | inl e ↦ subst (λ j. AreKept tells count (number_of (line_at count step j) after) (node_of blank (line_at count step j) nodes_after)) (sym e) new.kept
+      | inl e ↦ subst (λ j. AreKept tells count (slot_of (line_at count step j) after) (node_of blank (line_at count step j) nodes_after)) (sym e) new.kept
       | inr other ↦
           let l = line_at count step k in
           let within = mod_below (place / step) count trees.lines.some in
-          kept_alike tells count (number_of l numbers) (number_of l after) (node_of blank l nodes) (node_of blank l nodes_after)
+          kept_alike tells count (slot_of l numbers) (slot_of l after) (node_of blank l nodes) (node_of blank l nodes_after)
           (λ i p. new.other_slots (slot_at l i) (slots_apart count step k line i at trees.lines.apart p within other))
-          (λ m low high. new.other_nodes (node_at l m) (λ n low2 high2. nodes_apart count step k line m n trees.lines.apart low high low2 high2 other))
+          (λ m low high. new.other_nodes (nth_node l m) (λ n low2 high2. nodes_apart count step k line m n trees.lines.apart low high low2 high2 other))
           (trees.kept k (omega (arith, h, ap (λ n. n / count) new.slot_count)))
     ];
   }

@@ -3,8 +3,9 @@ use Rattle.std.specs.Prelude.{◌≡◌, ℕ, ◌+◌, ◌-◌, ◌*◌, ◌/◌
 use Rattle.arrays_core.specs.Growth.{IsRoomy, HasRoom}
 use Rattle.operator_fns.specs.Strides.{line_start}
 use Rattle.operator_fns.specs.SumTrees.{TreesValue, line_count, AreLines}
-use Rattle.fold_trees.specs.declared.line_tree.Line.{Line}
-use Rattle.fold_trees.specs.LineTrees.{number_of, node_of, AreKept}
+use Rattle.operator_fns.specs.declared.line_tree.Line.{Line}
+use Rattle.operator_fns.specs.LineTrees.{slot_of}
+use Rattle.fold_trees.specs.LineTrees.{node_of, AreKept}
 
 -- ---- how the trees of all lines are kept
 
@@ -24,7 +25,7 @@ line_at count step line = record {
 -- what is kept of the parts of each line tells of their numbers
 abbrev pub AreAllKept : {P : Type 0} → P → (P → List ℤ → Type 0) → (count step : ℕ) → List ℤ → List P → Type 0
 AreAllKept blank tells count step numbers nodes =
-    (line : ℕ) → line < length numbers / count → AreKept tells count (number_of (line_at count step line) numbers) (node_of blank (line_at count step line) nodes)
+    (line : ℕ) → line < length numbers / count → AreKept tells count (slot_of (line_at count step line) numbers) (node_of blank (line_at count step line) nodes)
 
 -- the trees of all lines, in a list of numbers and a list of nodes
 pub record AreLineTrees {P : Type 0} (blank : P) (tells : P → List ℤ → Type 0) (count step : ℕ) (numbers : List ℤ) (nodes : List P) : Type 0 where

@@ -15,8 +15,8 @@ pub record Products : Type 0 where
   pub greatest : ℤ
 
 -- of no numbers
-abbrev pub none : Products
-none = record { total = pos 1; least = pos 0; greatest = pos 1 }
+abbrev pub products_of_none : Products
+products_of_none = record { total = pos 1; least = pos 0; greatest = pos 1 }
 
 -- of a number and a list after it
 abbrev pub before : ℤ → Products → Products
@@ -28,12 +28,12 @@ before z s = record {
 
 -- of a list
 abbrev pub products_of : List ℤ → Products
-products_of [] = none
+products_of [] = products_of_none
 products_of (z ∷ rest) = before z (products_of rest)
 
 -- of one list after another: the endings of the earlier one go on with all of the later one
-abbrev pub join : (earlier later : Products) → Products
-join a b = record {
+abbrev pub joined_products : (earlier later : Products) → Products
+joined_products a b = record {
   total = a.total *ℤ b.total;
   least = int_min b.least (int_min (a.least *ℤ b.total) (a.greatest *ℤ b.total));
   greatest = int_max b.greatest (int_max (a.least *ℤ b.total) (a.greatest *ℤ b.total));
@@ -44,32 +44,32 @@ abbrev pub product_told : Products → Result ℤ Kind
 product_told s = if is_number s.least && is_number s.greatest then Ok s.total else Err Limit
 
 -- the products are in their order
-pub record IsOrdered (s : Products) : Type 0 where
+pub record AreOrdered (s : Products) : Type 0 where
   pub least_total : s.least ≤ℤ s.total
   pub total_greatest : s.total ≤ℤ s.greatest
   pub least_zero : s.least ≤ℤ pos 0
   pub zero_greatest : pos 0 ≤ℤ s.greatest
 
 -- neither all of them are within 64 bits nor all of them with the other sign: then no multiples of them are, but 0
-pub record IsFar (s : Products) : Type 0 where
+pub record AreFar (s : Products) : Type 0 where
   pub as_they_are : pos (2 ^ 63) ≤ℤ int_max s.greatest (neg_ℤ s.least -ℤ pos 1)
   pub negated : pos (2 ^ 63) ≤ℤ int_max (neg_ℤ s.least) (s.greatest -ℤ pos 1)
 
 -- ---- what is kept of them
 
 -- the products that are told by what is kept
-abbrev pub told : Product → Products
-told s = record { total = pos s.total -ℤ pos s.below; least = neg_ℤ (pos s.below); greatest = pos s.above }
+abbrev pub kept_products : Product → Products
+kept_products s = record { total = pos s.total -ℤ pos s.below; least = neg_ℤ (pos s.below); greatest = pos s.above }
 
 -- it tells these products; where they are too far from 0, others that are so too
-pub record Tells (s : Product) (m : Products) : Type 0 where
-  pub ordered : IsOrdered m
-  pub sound : IsOrdered (told s)
+pub record TellsProducts (s : Product) (m : Products) : Type 0 where
+  pub ordered : AreOrdered m
+  pub sound : AreOrdered (kept_products s)
   pub below : s.below ≤ 2 ^ 63
   pub above : s.above ≤ 2 ^ 63
-  pub is : told s ≡ m ⊎ IsFar m × IsFar (told s)
+  pub is : kept_products s ≡ m ⊎ AreFar m × AreFar (kept_products s)
 
 -- it tells the products of a list of numbers of 64 bits
 pub record IsKeptOf (xs : List ℤ) (s : Product) : Type 0 where
   pub numbers : All (λ z. is_number z ≡ true) xs
-  pub tells : Tells s (products_of xs)
+  pub tells : TellsProducts s (products_of xs)

@@ -2,56 +2,13 @@
 
 ghost use Rattle.std.specs.Prelude.{◌≡◌, ◌≢◌, pos, get_or, ℕ, ◌+◌, ◌-◌, ◌*◌, ◌/◌, ◌%◌, ◌^◌, ◌<◌, ◌≤◌, ◌++◌, ◌∷◌, [], min, ℤ, List, length, vec_len, vec_capacity, ◌⊎◌};
 ghost use Rattle.operator_fns.specs.SumTree.{IsWithinDigitsOf};
-ghost use Rattle.fold_trees.specs.LineTrees.{slot_at as slot_place, node_at as node_place, number_of, node_of, segment, HasSlots, IsIn, AreKept, AreKeptIn, AreKeptBeside, AreKeptUpTo, IsPart, AreSameIn, other_half, numbers_at, replaced, shorter};
-ghost use Rattle.fold_trees.specs.LineBlocks.{line_of, slots_end, nodes_end, HaveSlots, HaveNodes, AreKeptBehind, AreKeptFrom};
+ghost use Rattle.operator_fns.specs.LineTrees.{slot_at as slot_place, nth_node as node_place, slot_of, HasSlots, IsPart, AreSameIn, other_half, replaced, shorter};
+ghost use Rattle.operator_fns.specs.LineBlocks.{line_of, HaveSlots};
+ghost use Rattle.fold_trees.specs.LineTrees.{node_of, segment, IsIn, AreKept, AreKeptIn, AreKeptBeside, AreKeptUpTo, numbers_at};
+ghost use Rattle.fold_trees.specs.LineBlocks.{nodes_end, HaveNodes, AreKeptBehind, AreKeptFrom};
 
 use crate::part::Part;
-
-/// Where a line of numbers lies in a list, and what is kept of its parts in a list of nodes.
-#[derive(Clone, Copy)]
-pub(crate) struct Line {
-    /// How many numbers there are.
-    pub(crate) count: usize,
-    /// From one of them to the next in their list, and likewise from node to node.
-    pub(crate) step: usize,
-    /// Where the first one lies.
-    pub(crate) slot: usize,
-    /// The first node.
-    pub(crate) node: usize,
-}
-
-impl Line {
-    /// Where the number at a place lies.
-    pub(crate) fn slot_at(&self, place: usize) -> usize
-        requires { slot_place self.now place < 2 ^ 64 }
-        ensures { result ≡ slot_place self.now place }
-    {
-        self.slot + place * self.step
-    }
-
-    /// The node of two parts that meet at a place.
-    fn node_at(&self, meeting: usize) -> usize
-        requires some { 1 ≤ meeting }
-        requires fit { node_place self.now meeting < 2 ^ 64 }
-        ensures { result ≡ node_place self.now meeting }
-    {
-        self.node + (meeting - 1) * self.step
-    }
-
-    /// The line so many behind the first one of a block.
-    fn nth(&self, column: usize) -> Line
-        requires slot { self.now.slot + column < 2 ^ 64 }
-        requires node { self.now.node + column < 2 ^ 64 }
-        ensures { result ≡ line_of self.now column }
-    {
-        Line {
-            count: self.count,
-            step: self.step,
-            slot: self.slot + column,
-            node: self.node + column,
-        }
-    }
-}
+use operator_fns::Line;
 
 /// A line with the lists that it lies in.
 #[derive(Clone, Copy)]
@@ -67,23 +24,23 @@ impl<'a, P: Part> LineTree<'a, P> {
         requires inside { IsIn self.now.line (length self.now.numbers.now) (length self.now.nodes.now) }
         requires from { from < self.now.line.count }
         requires part { IsPart from width }
-        requires kept { AreKeptIn P.tells from width self.now.line.count (number_of self.now.line self.now.numbers.now) (node_of P.blank self.now.line self.now.nodes.now) }
-        ensures { P.tells result (segment (number_of self.now.line self.now.numbers.now) from (min width (self.now.line.count - from))) }
+        requires kept { AreKeptIn P.tells from width self.now.line.count (slot_of self.now.line self.now.numbers.now) (node_of P.blank self.now.line self.now.nodes.now) }
+        ensures { P.tells result (segment (slot_of self.now.line self.now.numbers.now) from (min width (self.now.line.count - from))) }
     {
         let long = width.min(self.line.count - from);
         if long == 1 {
             return P::of(self.numbers[self.line.slot_at(from)]);
         }
         let half = long.next_power_of_two() / 2;
-        self.nodes[self.line.node_at(from + half)]
+        self.nodes[self.line.nth_node(from + half)]
     }
 
     /// What is kept of all numbers.
     pub(crate) fn whole(&self) -> P
         requires inside { IsIn self.now.line (length self.now.numbers.now) (length self.now.nodes.now) }
         requires some { 0 < self.now.line.count }
-        requires kept { AreKept P.tells self.now.line.count (number_of self.now.line self.now.numbers.now) (node_of P.blank self.now.line self.now.nodes.now) }
-        ensures { P.tells result (segment (number_of self.now.line self.now.numbers.now) 0 self.now.line.count) }
+        requires kept { AreKept P.tells self.now.line.count (slot_of self.now.line self.now.numbers.now) (node_of P.blank self.now.line self.now.nodes.now) }
+        ensures { P.tells result (segment (slot_of self.now.line self.now.numbers.now) 0 self.now.line.count) }
     {
         self.part(0, self.line.count.next_power_of_two())
     }
@@ -95,9 +52,9 @@ impl<'a, P: Part> LineTree<'a, P> {
         requires from { block * width < self.now.line.count }
         requires short { width < self.now.line.count }
         requires level { (level : ℕ) × (width ≡ 2 ^ level) }
-        requires kept { AreKeptIn P.tells (other_half block * width) width self.now.line.count (number_of self.now.line self.now.numbers.now) (node_of P.blank self.now.line self.now.nodes.now) }
+        requires kept { AreKeptIn P.tells (other_half block * width) width self.now.line.count (slot_of self.now.line self.now.numbers.now) (node_of P.blank self.now.line self.now.nodes.now) }
         requires told { (xs : List ℤ) × P.tells kept.now xs }
-        ensures is { (x : ℕ → ℤ) → AreSameIn (other_half block * width) width (number_of self.now.line self.now.numbers.now) x
+        ensures is { (x : ℕ → ℤ) → AreSameIn (other_half block * width) width (slot_of self.now.line self.now.numbers.now) x
             → P.tells kept.now (numbers_at self.now.line.count x block width) → P.tells result.0 (numbers_at self.now.line.count x (block / 2) (2 * width)) }
         ensures joins { result.1 ≤ 1 }
         ensures none { result.1 ≡ 0 → (block % 2 ≡ 0) × (self.now.line.count ≤ block * width + width) }
@@ -118,8 +75,8 @@ impl<'a, P: Part> LineTree<'a, P> {
     pub(crate) fn with(&self, place: usize, number: i64) -> (P, u32)
         requires inside { IsIn self.now.line (length self.now.numbers.now) (length self.now.nodes.now) }
         requires place { place < self.now.line.count }
-        requires kept { AreKept P.tells self.now.line.count (number_of self.now.line self.now.numbers.now) (node_of P.blank self.now.line self.now.nodes.now) }
-        ensures is { P.tells result.0 (segment (replaced (number_of self.now.line self.now.numbers.now) place number) 0 self.now.line.count) }
+        requires kept { AreKept P.tells self.now.line.count (slot_of self.now.line self.now.numbers.now) (node_of P.blank self.now.line self.now.nodes.now) }
+        ensures is { P.tells result.0 (segment (replaced (slot_of self.now.line self.now.numbers.now) place number) 0 self.now.line.count) }
         ensures most { IsWithinDigitsOf (self.now.line.count - 1) result.1 }
         ensures least { 1 < self.now.line.count → 0 < result.1 }
     {
@@ -142,8 +99,8 @@ impl<'a, P: Part> LineTree<'a, P> {
 pub(crate) fn renew<P: Part>(numbers: &[i64], nodes: &mut [P], line: Line, place: usize)
     requires inside { IsIn line (length numbers.now) (length nodes.old) }
     requires place { place < line.count }
-    requires kept { AreKeptBeside P.tells place line.count (number_of line numbers.now) (node_of P.blank line nodes.old) }
-    ensures kept { AreKept P.tells line.count (number_of line numbers.now) (node_of P.blank line nodes.new) }
+    requires kept { AreKeptBeside P.tells place line.count (slot_of line numbers.now) (node_of P.blank line nodes.old) }
+    ensures kept { AreKept P.tells line.count (slot_of line numbers.now) (node_of P.blank line nodes.new) }
     ensures others { (p : ℕ) → ((meeting : ℕ) → 1 ≤ meeting → meeting < line.count → p ≢ node_place line meeting) → get_or nodes.new p P.blank ≡ get_or nodes.old p P.blank }
     ensures length { length nodes.new ≡ length nodes.old }
 {
@@ -159,7 +116,7 @@ pub(crate) fn renew<P: Part>(numbers: &[i64], nodes: &mut [P], line: Line, place
         .widened(block, width, &kept);
         kept = wider;
         if joined == 1 {
-            nodes[line.node_at((block / 2 * 2 + 1) * width)] = kept;
+            nodes[line.nth_node((block / 2 * 2 + 1) * width)] = kept;
         }
         block /= 2;
         width = 2 * width;
@@ -176,9 +133,9 @@ pub(crate) fn write<P: Part>(
 )
     requires inside { IsIn line (length numbers.old) (length nodes.old) }
     requires place { place < line.count }
-    requires kept { AreKept P.tells line.count (number_of line numbers.old) (node_of P.blank line nodes.old) }
-    ensures numbers { (i : ℕ) → i < line.count → number_of line numbers.new i ≡ replaced (number_of line numbers.old) place number i }
-    ensures kept { AreKept P.tells line.count (number_of line numbers.new) (node_of P.blank line nodes.new) }
+    requires kept { AreKept P.tells line.count (slot_of line numbers.old) (node_of P.blank line nodes.old) }
+    ensures numbers { (i : ℕ) → i < line.count → slot_of line numbers.new i ≡ replaced (slot_of line numbers.old) place number i }
+    ensures kept { AreKept P.tells line.count (slot_of line numbers.new) (node_of P.blank line nodes.new) }
     ensures other_slots { (p : ℕ) → p ≢ slot_place line place → get_or numbers.new p (pos 0) ≡ get_or numbers.old p (pos 0) }
     ensures other_nodes { (p : ℕ) → ((meeting : ℕ) → 1 ≤ meeting → meeting < line.count → p ≢ node_place line meeting) → get_or nodes.new p P.blank ≡ get_or nodes.old p P.blank }
     ensures slot_count { length numbers.new ≡ length numbers.old }
@@ -193,8 +150,8 @@ pub(crate) fn write<P: Part>(
 pub(crate) fn take_last<P: Part>(numbers: &[i64], nodes: &mut [P], line: Line)
     requires inside { IsIn line (length numbers.now) (length nodes.old) }
     requires more { 1 < line.count }
-    requires kept { AreKept P.tells (line.count - 1) (number_of (shorter line) numbers.now) (node_of P.blank (shorter line) nodes.old) }
-    ensures kept { AreKept P.tells line.count (number_of line numbers.now) (node_of P.blank line nodes.new) }
+    requires kept { AreKept P.tells (line.count - 1) (slot_of (shorter line) numbers.now) (node_of P.blank (shorter line) nodes.old) }
+    ensures kept { AreKept P.tells line.count (slot_of line numbers.now) (node_of P.blank line nodes.new) }
     ensures other_nodes { (p : ℕ) → ((meeting : ℕ) → 1 ≤ meeting → meeting < line.count → p ≢ node_place line meeting) → get_or nodes.new p P.blank ≡ get_or nodes.old p P.blank }
     ensures node_count { length nodes.new ≡ length nodes.old }
 {
@@ -243,8 +200,8 @@ fn push_pair<P: Part>(numbers: &[i64], nodes: &mut Vec<P>, line: Line, from: usi
     requires full { from + 2 < line.count }
     requires here { vec_len nodes.old ≡ line.node + from }
     requires room { line.node + from + 2 ≤ vec_capacity nodes.old }
-    requires kept { AreKeptIn P.tells 0 from line.count (number_of line numbers.now) (node_of P.blank line nodes.old.items) }
-    ensures kept { AreKeptIn P.tells 0 (from + 2) line.count (number_of line numbers.now) (node_of P.blank line nodes.new.items) }
+    requires kept { AreKeptIn P.tells 0 from line.count (slot_of line numbers.now) (node_of P.blank line nodes.old.items) }
+    ensures kept { AreKeptIn P.tells 0 (from + 2) line.count (slot_of line numbers.now) (node_of P.blank line nodes.new.items) }
     ensures others { (p : ℕ) → p < line.node → get_or nodes.new.items p P.blank ≡ get_or nodes.old.items p P.blank }
     ensures length { vec_len nodes.new ≡ line.node + from + 2 }
     ensures room { vec_capacity nodes.old ≤ vec_capacity nodes.new }
@@ -263,7 +220,7 @@ pub(crate) fn push_line<P: Part>(numbers: &[i64], nodes: &mut Vec<P>, line: Line
     requires some { 0 < line.count }
     requires here { vec_len nodes.old ≡ line.node }
     requires room { nodes_end line ≤ vec_capacity nodes.old }
-    ensures kept { AreKept P.tells line.count (number_of line numbers.now) (node_of P.blank line nodes.new.items) }
+    ensures kept { AreKept P.tells line.count (slot_of line numbers.now) (node_of P.blank line nodes.new.items) }
     ensures others { (p : ℕ) → p < line.node → get_or nodes.new.items p P.blank ≡ get_or nodes.old.items p P.blank }
     ensures length { vec_len nodes.new ≡ nodes_end line }
     ensures room { vec_capacity nodes.old ≤ vec_capacity nodes.new }
@@ -283,12 +240,12 @@ fn pairs_row<P: Part>(numbers: &[i64], nodes: &mut [P], first: Line, from: usize
     requires slots { HaveSlots first (length numbers.now) }
     requires nodes { HaveNodes first (length nodes.old) }
     requires full { from + 2 ≤ first.count }
-    ensures told { (column : ℕ) → column < first.step → P.tells (node_of P.blank (line_of first column) nodes.new (from + 1)) (segment (number_of (line_of first column) numbers.now) from 2) }
+    ensures told { (column : ℕ) → column < first.step → P.tells (node_of P.blank (line_of first column) nodes.new (from + 1)) (segment (slot_of (line_of first column) numbers.now) from 2) }
     ensures others { (p : ℕ) → (p < node_place first (from + 1) ⊎ node_place first (from + 1) + first.step ≤ p) → get_or nodes.new p P.blank ≡ get_or nodes.old p P.blank }
     ensures length { length nodes.new ≡ length nodes.old }
 {
     let row = first.slot_at(from);
-    let node = first.node_at(from + 1);
+    let node = first.nth_node(from + 1);
     for column in 0..first.step {
         let at = row + column;
         nodes[node + column] = P::of(numbers[at]).join(&P::of(numbers[at + first.step]));
@@ -307,9 +264,9 @@ fn halves_row<P: Part>(nodes: &mut [P], first: Line, from: usize, half: usize)
     ensures others { (p : ℕ) → (p < node_place first (from + half) ⊎ node_place first (from + half) + first.step ≤ p) → get_or nodes.new p P.blank ≡ get_or nodes.old p P.blank }
     ensures length { length nodes.new ≡ length nodes.old }
 {
-    let earlier = first.node_at(from + half / 2);
-    let later = first.node_at(from + half + half / 2);
-    let node = first.node_at(from + half);
+    let earlier = first.nth_node(from + half / 2);
+    let later = first.nth_node(from + half + half / 2);
+    let node = first.nth_node(from + half);
     for column in 0..first.step {
         nodes[node + column] = nodes[earlier + column].join(&nodes[later + column]);
     }
@@ -325,7 +282,7 @@ fn last_row<P: Part>(numbers: &[i64], nodes: &mut [P], first: Line, from: usize,
     requires short { from + half < first.count }
     requires kept { AreKeptBehind P.blank P.tells from half first numbers.now nodes.old }
     ensures told { (column : ℕ) → column < first.step
-        → P.tells (node_of P.blank (line_of first column) nodes.new (from + half)) (segment (number_of (line_of first column) numbers.now) from (min (2 * half) (first.count - from))) }
+        → P.tells (node_of P.blank (line_of first column) nodes.new (from + half)) (segment (slot_of (line_of first column) numbers.now) from (min (2 * half) (first.count - from))) }
     ensures others { (p : ℕ) → (p < node_place first (from + half) ⊎ node_place first (from + half) + first.step ≤ p) → get_or nodes.new p P.blank ≡ get_or nodes.old p P.blank }
     ensures length { length nodes.new ≡ length nodes.old }
 {
@@ -337,7 +294,7 @@ fn last_row<P: Part>(numbers: &[i64], nodes: &mut [P], first: Line, from: usize,
             nodes: &*nodes,
         };
         let both = tree.part(from, half).join(&tree.part(from + half, half));
-        nodes[line.node_at(from + half)] = both;
+        nodes[line.nth_node(from + half)] = both;
     }
 }
 
@@ -385,7 +342,7 @@ fn fill_from<P: Part>(numbers: &[i64], nodes: &mut [P], first: Line, from: usize
 pub(crate) fn fill_block<P: Part>(numbers: &[i64], nodes: &mut [P], first: Line)
     requires slots { HaveSlots first (length numbers.now) }
     requires nodes { HaveNodes first (length nodes.old) }
-    ensures kept { (column : ℕ) → column < first.step → AreKept P.tells first.count (number_of (line_of first column) numbers.now) (node_of P.blank (line_of first column) nodes.new) }
+    ensures kept { (column : ℕ) → column < first.step → AreKept P.tells first.count (slot_of (line_of first column) numbers.now) (node_of P.blank (line_of first column) nodes.new) }
     ensures others { (p : ℕ) → (p < first.node ⊎ nodes_end first ≤ p) → get_or nodes.new p P.blank ≡ get_or nodes.old p P.blank }
     ensures length { length nodes.new ≡ length nodes.old }
 {

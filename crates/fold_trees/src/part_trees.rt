@@ -3,15 +3,17 @@
 ghost use Rattle.std.specs.Prelude.{◌≡◌, ℕ, ◌+◌, ◌-◌, ◌*◌, ◌/◌, ◌%◌, ◌^◌, ◌<◌, ◌≤◌, ◌==◌, ◌++◌, ◌∷◌, [], length, vec_len, vec_capacity, IfOk};
 ghost use Rattle.arrays_core.specs.Growth.{IsRoomy, HasRoom};
 ghost use Rattle.operator_fns.specs.SumTree.{IsWithinDigitsOf};
-ghost use Rattle.operator_fns.specs.SumTrees.{FitBehind, FitNext, with_lines, with_places, line_through as line_of_place, line_count as lines_in, numbers_of_line, numbers_through, with_number, AreLines};
-ghost use Rattle.fold_trees.specs.LineTrees.{number_of, node_of, IsIn, AreKept, shorter};
+ghost use Rattle.operator_fns.specs.SumTrees.{FitBehind, FitNext, with_lines, with_places, line_count as lines_in, numbers_of_line, numbers_through, with_number, AreLines};
+ghost use Rattle.operator_fns.specs.LineTrees.{slot_of, shorter};
+ghost use Rattle.fold_trees.specs.LineTrees.{node_of, IsIn, AreKept};
 ghost use Rattle.fold_trees.specs.LineBlocks.{block_at};
 ghost use Rattle.fold_trees.specs.FoldTrees.{IsReductionBy};
 ghost use Rattle.fold_trees.specs.PartTrees.{line_at, nodes_in_line, AreAllKept, AreLineTrees};
 
-use crate::line_tree::{Line, LineTree, fill_block, push_line, take_last, write};
+use crate::line_tree::{LineTree, fill_block, push_line, take_last, write};
 use crate::part::Part;
 use arrays_core::{Kind, copied, repeated, room_between, room_of, roomy};
+use operator_fns::{Line, line_through};
 use std::alloc::{AllocError, Global};
 use std::marker::Model;
 use std::mem;
@@ -33,15 +35,6 @@ fn nth_line(count: usize, step: usize, line: usize) -> Line
     }
 }
 
-/// The line that a place of all numbers is on, lines and places counted from 0.
-fn line_through(count: usize, step: usize, place: usize) -> usize
-    requires some { 0 < count }
-    requires apart { 0 < step }
-    ensures { result ≡ line_of_place count step place }
-{
-    place / step / count * step + place % step
-}
-
 /// The tree of a line, lines counted from 0.
 fn nth_tree<'a, P: Part>(
     numbers: &'a [i64],
@@ -56,7 +49,7 @@ fn nth_tree<'a, P: Part>(
     ensures numbers { result.numbers.now ≡ numbers.now }
     ensures nodes { result.nodes.now ≡ nodes.now }
     ensures inside { IsIn result.line (length result.numbers.now) (length result.nodes.now) }
-    ensures kept { AreKept P.tells result.line.count (number_of result.line result.numbers.now) (node_of P.blank result.line result.nodes.now) }
+    ensures kept { AreKept P.tells result.line.count (slot_of result.line result.numbers.now) (node_of P.blank result.line result.nodes.now) }
 {
     let line = nth_line(count, step, line);
     LineTree {
@@ -136,8 +129,8 @@ fn take_places<P: Part>(numbers: &[i64], nodes: &mut [P], count: usize, step: us
     requires apart { 0 < step }
     requires slot_count { length numbers.now ≡ count * step }
     requires node_count { length nodes.old ≡ nodes_in_line count * step }
-    requires kept { (line : ℕ) → line < step → AreKept P.tells (count - 1) (number_of (shorter (line_at count step line)) numbers.now) (node_of P.blank (shorter (line_at count step line)) nodes.old) }
-    ensures kept { (line : ℕ) → line < step → AreKept P.tells count (number_of (line_at count step line) numbers.now) (node_of P.blank (line_at count step line) nodes.new) }
+    requires kept { (line : ℕ) → line < step → AreKept P.tells (count - 1) (slot_of (shorter (line_at count step line)) numbers.now) (node_of P.blank (shorter (line_at count step line)) nodes.old) }
+    ensures kept { (line : ℕ) → line < step → AreKept P.tells count (slot_of (line_at count step line) numbers.now) (node_of P.blank (line_at count step line) nodes.new) }
     ensures node_length { length nodes.new ≡ length nodes.old }
 {
     for line in 0..step {

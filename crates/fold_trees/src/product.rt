@@ -2,7 +2,7 @@
 
 ghost use Rattle.std.specs.Prelude.{◌≡◌, ◌^◌, ◌<◌, ◌≤◌, true, unsigned_abs, pos, ◌≤ℤ◌, neg_ℤ};
 ghost use Rattle.function_names.specs.declared.scalar.Scalar2.TheVariants.{Times};
-ghost use Rattle.fold_trees.specs.Products.{Products, IsOrdered, IsKeptOf, Tells, told, join as join_of, none as none_of, before as before_of, product_told};
+ghost use Rattle.fold_trees.specs.Products.{Products, AreOrdered, IsKeptOf, TellsProducts, kept_products, joined_products, products_of_none, before as before_of, product_told};
 
 use crate::part::Part;
 use arrays_core::Kind;
@@ -27,10 +27,10 @@ pub(crate) struct Product {
 impl Product {
     /// That of a list with this total, and with this least and greatest of 0 and the products of its endings.
     fn of_products(total: i128, least: i128, greatest: i128) -> Product
-        requires ordered { IsOrdered (record { total = total; least = least; greatest = greatest }) }
+        requires ordered { AreOrdered (record { total = total; least = least; greatest = greatest }) }
         requires low { neg_ℤ (pos (2 ^ 126)) ≤ℤ least }
         requires high { greatest ≤ℤ pos (2 ^ 126) }
-        ensures { Tells result (record { total = total; least = least; greatest = greatest }) }
+        ensures { TellsProducts result (record { total = total; least = least; greatest = greatest }) }
     {
         if least < -FARTHEST || greatest > FARTHEST || greatest - least == 2 * FARTHEST {
             return Product {
@@ -48,28 +48,28 @@ impl Product {
 
     /// The total that it tells.
     fn total(&self) -> i128
-        ensures { result ≡ (told self.now).total }
+        ensures { result ≡ (kept_products self.now).total }
     {
         i128::from(self.total) - i128::from(self.below)
     }
 
     /// The least product that it tells.
     fn least(&self) -> i128
-        ensures { result ≡ (told self.now).least }
+        ensures { result ≡ (kept_products self.now).least }
     {
         -i128::from(self.below)
     }
 
     /// The greatest product that it tells.
     fn greatest(&self) -> i128
-        ensures { result ≡ (told self.now).greatest }
+        ensures { result ≡ (kept_products self.now).greatest }
     {
         i128::from(self.above)
     }
 
     /// That of one number.
     fn single(number: i64) -> Product
-        ensures { Tells result (before_of number none_of) }
+        ensures { TellsProducts result (before_of number products_of_none) }
     {
         let size = number.unsigned_abs();
         if number < 0 {
@@ -103,9 +103,9 @@ impl Product {
 
     /// The total that it tells, which is near 0.
     fn near_total(&self) -> i64
-        requires sound { IsOrdered (told self.now) }
+        requires sound { AreOrdered (kept_products self.now) }
         requires near { (self.now.below < 2 ^ 31) × (self.now.above < 2 ^ 31) }
-        ensures is { result ≡ (told self.now).total }
+        ensures is { result ≡ (kept_products self.now).total }
         ensures near { unsigned_abs result ≤ 2147483647 }
     {
         self.total as i64 - self.below as i64
@@ -114,7 +114,7 @@ impl Product {
     /// The least product that it tells, which is near 0.
     fn near_least(&self) -> i64
         requires { (self.now.below < 2 ^ 31) × (self.now.above < 2 ^ 31) }
-        ensures is { result ≡ (told self.now).least }
+        ensures is { result ≡ (kept_products self.now).least }
         ensures near { unsigned_abs result ≤ 2147483647 }
     {
         -(self.below as i64)
@@ -123,7 +123,7 @@ impl Product {
     /// The greatest product that it tells, which is near 0.
     fn near_greatest(&self) -> i64
         requires { (self.now.below < 2 ^ 31) × (self.now.above < 2 ^ 31) }
-        ensures is { result ≡ (told self.now).greatest }
+        ensures is { result ≡ (kept_products self.now).greatest }
         ensures near { unsigned_abs result ≤ 2147483647 }
     {
         self.above as i64
@@ -131,10 +131,10 @@ impl Product {
 
     /// That of a list with this total, and with this least and greatest of 0 and the products of its endings, all of 62 bits.
     fn of_narrow(total: i64, least: i64, greatest: i64) -> Product
-        requires ordered { IsOrdered (record { total = total; least = least; greatest = greatest }) }
+        requires ordered { AreOrdered (record { total = total; least = least; greatest = greatest }) }
         requires low { neg_ℤ (pos 4611686014132420609) ≤ℤ least }
         requires high { greatest ≤ℤ pos 4611686014132420609 }
-        ensures { Tells result (record { total = total; least = least; greatest = greatest }) }
+        ensures { TellsProducts result (record { total = total; least = least; greatest = greatest }) }
     {
         Product {
             below: (-least) as u64,
@@ -145,11 +145,11 @@ impl Product {
 
     /// That of a list and of a later one after it, which tell what is near 0, worked out in 64 bits.
     fn join_near(&self, later: &Product) -> Product
-        requires here { (products : Products) × Tells self.now products }
+        requires here { (products : Products) × TellsProducts self.now products }
         requires near { (self.now.below < 2 ^ 31) × (self.now.above < 2 ^ 31) }
-        requires later { (products : Products) × Tells later.now products }
+        requires later { (products : Products) × TellsProducts later.now products }
         requires later_near { (later.now.below < 2 ^ 31) × (later.now.above < 2 ^ 31) }
-        ensures { (earlier : Products) → (rest : Products) → Tells self.now earlier → Tells later.now rest → Tells result (join_of earlier rest) }
+        ensures { (earlier : Products) → (rest : Products) → TellsProducts self.now earlier → TellsProducts later.now rest → TellsProducts result (joined_products earlier rest) }
     {
         let factor = later.near_total();
         let one = self.near_least() * factor;
@@ -162,9 +162,9 @@ impl Product {
     /// That of a list and of a later one after it, whatever they tell, worked out in 128 bits.
     #[inline(never)]
     fn join_wide(&self, later: &Product) -> Product
-        requires here { (products : Products) × Tells self.now products }
-        requires later { (products : Products) × Tells later.now products }
-        ensures { (earlier : Products) → (rest : Products) → Tells self.now earlier → Tells later.now rest → Tells result (join_of earlier rest) }
+        requires here { (products : Products) × TellsProducts self.now products }
+        requires later { (products : Products) × TellsProducts later.now products }
+        ensures { (earlier : Products) → (rest : Products) → TellsProducts self.now earlier → TellsProducts later.now rest → TellsProducts result (joined_products earlier rest) }
     {
         let factor = later.total();
         let one = self.least() * factor;
@@ -176,9 +176,9 @@ impl Product {
 
     /// That of a list and of a later one after it. Where the later one is far, so are both.
     fn followed_by(&self, later: &Product) -> Product
-        requires here { (products : Products) × Tells self.now products }
-        requires later { (products : Products) × Tells later.now products }
-        ensures { (earlier : Products) → (rest : Products) → Tells self.now earlier → Tells later.now rest → Tells result (join_of earlier rest) }
+        requires here { (products : Products) × TellsProducts self.now products }
+        requires later { (products : Products) × TellsProducts later.now products }
+        ensures { (earlier : Products) → (rest : Products) → TellsProducts self.now earlier → TellsProducts later.now rest → TellsProducts result (joined_products earlier rest) }
     {
         if later.is_far() {
             return *later;
@@ -202,8 +202,8 @@ impl Product {
     /// The product of the list from its last number to its first, or LIMIT where that leaves 64 bits on its way: where the product of an
     /// ending does.
     fn product(&self) -> Result<i64, Kind>
-        requires { (products : Products) × Tells self.now products }
-        ensures { (products : Products) → Tells self.now products → result ≡ product_told products }
+        requires { (products : Products) × TellsProducts self.now products }
+        ensures { (products : Products) → TellsProducts self.now products → result ≡ product_told products }
     {
         if self.above >= 1 << 63 {
             return Err(Kind::Limit);

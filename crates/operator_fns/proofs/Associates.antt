@@ -58,11 +58,11 @@ minimum = record {
   either = λ a b c. ap Ok (let e : int_min a (int_min b c) ≡ int_min (int_min a b) c = omega (arith, ints, clamps) in e);
 }
 
-is_truth : (p : Bool) → as_truth (truth p) ≡ Ok p
+pub is_truth : (p : Bool) → as_truth (truth p) ≡ Ok p
 is_truth true = refl
 is_truth false = refl
 
-domain_truth : (a : ℤ) (k : Kind) → as_truth a ≡ Err k → k ≡ Domain
+pub domain_truth : (a : ℤ) (k : Kind) → as_truth a ≡ Err k → k ≡ Domain
 domain_truth a k h = decide (int_eq a (pos 0)) (int_eq a (pos 1)) h
   where
     decide : (zero one : Bool) → (if zero then Ok false else (if one then Ok true else Err Domain)) ≡ Err k → k ≡ Domain

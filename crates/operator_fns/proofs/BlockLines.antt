@@ -10,7 +10,7 @@ use Rattle.operator_fns.specs.LineTrees.{slot_at, node_at, slot_of, number_of, n
 use Rattle.operator_fns.specs.LineBlocks.{line_of, nodes_end, block_at, HaveSlots, HaveNodes}
 use Rattle.operator_fns.specs.SumTrees.{line_at, number_kept, nodes_in_line, AreLines}
 use Rattle.operator_fns.proofs.LineParts.{number_before, number_odd, number_last}
-use Rattle.operator_fns.proofs.LineSpots.{blocks, slots_are, lines_are}
+use Rattle.operator_fns.proofs.LineSpots.{blocks, slots_are, lines_are, nodes_are, fewer_nodes}
 use Rattle.operator_fns.proofs.BlockRows.{slots_within, nodes_within, line_slot, line_node}
 
 -- ---- one line
@@ -81,23 +81,17 @@ module _ (count step slots : ℕ) (are : AreLines count step slots) where
             let wide : count * 1 ≤ count * step = mul-le count 1 count step (omega arith) (omega (arith, some)) in
             omega (arith, block_ends, wide, few)
 
+    -- so do its nodes, of which each line has so many
+    pub nodes_ends : (unit nodes : ℕ) → nodes ≡ slots / count * unit → block * (unit * step) + unit * step ≤ nodes
+    nodes_ends unit nodes sized =
+        let before = units_before (unit * step) block (blocks count step slots are) (omega (arith, h, block_count)) in
+        omega (arith, before, nodes_are count step slots are unit nodes sized)
+
     pub have_nodes : (nodes : ℕ) → nodes ≡ slots / count * nodes_in_line count → slots < 2 ^ 62 → HaveNodes (block_at count step block) nodes
-    have_nodes nodes sized few = record { fit = omega (arith, fewer, many, few); end = omega (arith, before, many) }
-      where
-        half : ℕ
-        half = (count - 1) / 2
-
-        many : nodes ≡ blocks count step slots are * ((count - 1) / 2 * step)
-        many = sized ∙ ap (λ n. n * nodes_in_line count) (lines_are count step slots are) ∙ grind arith
-
-        before : block * ((count - 1) / 2 * step) + (count - 1) / 2 * step ≤ blocks count step slots are * ((count - 1) / 2 * step)
-        before = units_before ((count - 1) / 2 * step) block (blocks count step slots are) (omega (arith, h, block_count))
-
-        fewer : blocks count step slots are * ((count - 1) / 2 * step) ≤ slots
-        fewer =
-            let unit = mul-le ((count - 1) / 2) step count step (omega arith) (omega arith) in
-            let all = mul-le (blocks count step slots are) ((count - 1) / 2 * step) (blocks count step slots are) (count * step) (omega arith) unit in
-            omega (arith, all, slots_are count step slots are)
+    have_nodes nodes sized few = record {
+      fit = omega (arith, few, fewer_nodes count step slots are (nodes_in_line count) nodes (omega arith) sized);
+      end = nodes_ends (nodes_in_line count) nodes sized;
+    }
 
 -- ---- the parts of a place among all numbers
 
@@ -197,7 +191,7 @@ block_kept count step slots now after block apart here others kept line high = e
       kept_stays count (number_of (line_at count step line) slots) (node_of (line_at count step line) now) (node_of (line_at count step line) after)
       (λ m two below.
       let row = nodes_within (block_at count step b) m two below in
-      let at = ap (λ l. node_at l m) is ∙ line_node (block_at count step b) (line % step) m in
+      let at = ap (λ l. node_at l m) is ∙ line_node (block_at count step b) (line % step) (m / 2) in
       others (node_at (line_at count step line) m) (inl (omega (arith, row, at, ends, mod_below line step apart))))
       (kept line low)
   | inr enough ↦
@@ -210,16 +204,16 @@ block_kept count step slots now after block apart here others kept line high = e
 
 -- ---- lines whose numbers are neighbours
 
--- where their nodes begin
-pub line_node_first : (count line : ℕ) → (line_at count 1 line).node ≡ line * nodes_in_line count
-line_node_first count line =
+-- where their nodes begin, if each has so many
+pub line_node_first : (unit line : ℕ) → line / 1 * (unit * 1) + line % 1 ≡ line * unit
+line_node_first unit line =
     let whole : line / 1 ≡ line = omega arith in
     let none : line % 1 ≡ 0 = omega arith in
-    (λ i. whole i * (nodes_in_line count * 1) + none i) ∙ grind arith
+    (λ i. whole i * (unit * 1) + none i) ∙ grind arith
 
 -- and end
 pub line_nodes_end : (count line : ℕ) → nodes_end (line_at count 1 line) ≡ (line + 1) * nodes_in_line count
-line_nodes_end count line = ap (λ n. n + (count - 1) / 2 * 1) (line_node_first count line) ∙ grind arith
+line_nodes_end count line = ap (λ n. n + (count - 1) / 2 * 1) (line_node_first (nodes_in_line count) line) ∙ grind arith
 
 -- what is kept of one more line
 pub line_kept : (count : ℕ) (slots : List ℤ) (now after : List Summary) (line : ℕ) → AreKept count (number_of (line_at count 1 line) slots) (node_of (line_at count 1 line) after)
@@ -230,7 +224,7 @@ line_kept count slots now after line here others kept other below = elim (cases_
   | inl less ↦
       let ends = units_before (nodes_in_line count) other line less in
       kept_stays count (number_of (line_at count 1 other) slots) (node_of (line_at count 1 other) now) (node_of (line_at count 1 other) after)
-      (λ m two high. others (node_at (line_at count 1 other) m) (omega (arith, line_node_first count other, ends, two, high)))
+      (λ m two high. others (node_at (line_at count 1 other) m) (omega (arith, line_node_first (nodes_in_line count) other, ends, two, high)))
       (kept other less)
   | inr enough ↦ let is : line ≡ other = omega (arith, below, enough) in subst (λ k. AreKept count (number_of (line_at count 1 k) slots) (node_of (line_at count 1 k) after)) is here
 ]

@@ -51,14 +51,11 @@ module _ (first : Line) (slots : List ℤ) (nodes after : List Summary) (at part
   stays : (column level place : ℕ) → column < first.step → place * (4 * 2 ^ level) + 2 * 2 ^ level ≢ from + half
       → node_of (line_of first column) after (place * (4 * 2 ^ level) + 2 * 2 ^ level) ≡ node_of (line_of first column) nodes (place * (4 * 2 ^ level) + 2 * 2 ^ level)
   stays column level place below apart =
-      let k = (2 * place + 1) * 2 ^ level in
-      let m = (2 * part + 1) * 2 ^ at in
+      let a = place * (4 * 2 ^ level) + 2 * 2 ^ level in
       let here = twice place (2 ^ level) in
-      let there : from + half ≡ 2 * m = meets ∙ twice part (2 ^ at) in
-      let away = row_away first column k m below (some_of place level) (some_of part at) (λ e. apart (here ∙ ap (λ j. 2 * j) e ∙ sym there)) in
-      ap (node_of (line_of first column) after) here
-      ∙ others (node_at (line_of first column) (2 * k)) (subst (λ b. node_at (line_of first column) (2 * k) < node_at first b ⊎ node_at first b + first.step ≤ node_at (line_of first column) (2 * k)) (sym there) away)
-      ∙ sym (ap (node_of (line_of first column) nodes) here)
+      let there : from + half ≡ 2 * ((2 * part + 1) * 2 ^ at) = meets ∙ twice part (2 ^ at) in
+      others (node_at (line_of first column) a)
+      (row_away first column (a / 2) ((from + half) / 2) below (omega (arith, here, some_of place level)) (omega (arith, there, some_of part at)) (λ e. apart (omega (arith, here, there, e))))
 
   pub kept_on : ((column : ℕ) → column < first.step → Tells (node_of (line_of first column) after (from + half)) (sums_from (number_of (line_of first column) slots) from (min (2 * half) (first.count - from))))
       → AreKeptBehind from half first slots nodes → AreKeptBehind from (2 * half) first slots after

@@ -4,17 +4,16 @@ use Rattle.std.specs.Int.{int_wrap}
 use Rattle.std.proofs.lemmas.Nat.{mul-le}
 use Rattle.std.proofs.lemmas.Bool.{cases_lt, cases_eq}
 use Rattle.std.proofs.lemmas.List.{get_or-set_same, get_or-set_other}
-use Rattle.operator_fns.specs.declared.summary.Summary.{Summary}
 use Rattle.operator_fns.specs.declared.line_tree.Line.{Line}
 use Rattle.operator_fns.specs.SumNodes.{single, join, sums_from}
-use Rattle.operator_fns.specs.LineTrees.{slot_at, node_at, slot_of, number_of, node_of, empty, IsIn}
+use Rattle.operator_fns.specs.LineTrees.{slot_at, nth_node, node_at, slot_of, number_of, IsIn}
 use Rattle.operator_fns.specs.LineBlocks.{line_of, slots_end, nodes_end, HaveSlots, HaveNodes}
 use Rattle.operator_fns.proofs.LineParts.{number_before, number_odd, sums_split, sums_two}
 
 -- ---- where they lie
 
 -- so many rows of a step
-rows_end : (row rows step : ℕ) → row < rows → row * step + step ≤ rows * step
+pub rows_end : (row rows step : ℕ) → row < rows → row * step + step ≤ rows * step
 rows_end row rows step below =
     let most = mul-le (row + 1) step rows step (omega (arith, below)) (omega arith) in
     let sum : (row + 1) * step ≡ row * step + step = grind arith in
@@ -39,8 +38,8 @@ node_row first nodes meeting has low high = omega (arith, nodes_within first mee
 pub line_slot : (first : Line) (column place : ℕ) → slot_at (line_of first column) place ≡ slot_at first place + column
 line_slot first column place = omega arith
 
-pub line_node : (first : Line) (column meeting : ℕ) → node_at (line_of first column) meeting ≡ node_at first meeting + column
-line_node first column meeting = omega arith
+pub line_node : (first : Line) (column k : ℕ) → nth_node (line_of first column) k ≡ nth_node first k + column
+line_node first column k = omega arith
 
 -- next row
 pub next_slot : (first : Line) (place more : ℕ) → slot_at first (place + more) ≡ slot_at first place + more * first.step
@@ -57,76 +56,73 @@ line_in first slots nodes column has have below = record {
   };
   nodes = record {
     fit = omega (arith, have.fit);
-    node = λ meeting low high. omega (arith, node_row first nodes meeting have low high, below, line_node first column meeting);
+    node = λ meeting low high. omega (arith, node_row first nodes meeting have low high, below, line_node first column (meeting / 2));
   };
 }
 
 -- nodes of other rows are outside a row
 pub row_away : (first : Line) (column k m : ℕ) → column < first.step → 1 ≤ k → 1 ≤ m → k ≢ m
-    → node_at (line_of first column) (2 * k) < node_at first (2 * m) ⊎ node_at first (2 * m) + first.step ≤ node_at (line_of first column) (2 * k)
+    → nth_node (line_of first column) k < nth_node first m ⊎ nth_node first m + first.step ≤ nth_node (line_of first column) k
 row_away first column k m below some one other =
-    let here : 2 * k / 2 ≡ k = omega arith in
-    let there : 2 * m / 2 ≡ m = omega arith in
-    let at = line_node first column (2 * k) in
+    let at = line_node first column k in
     elim (cases_lt k m) [
       | inl before ↦
           let row = rows_end (k - 1) (m - 1) first.step (omega (arith, before, some)) in
-          let first_row : (2 * k / 2 - 1) * first.step ≡ (k - 1) * first.step = ap (λ j. (j - 1) * first.step) here in
-          let second_row : (2 * m / 2 - 1) * first.step ≡ (m - 1) * first.step = ap (λ j. (j - 1) * first.step) there in
-          inl (omega (arith, row, first_row, second_row, at, below))
+          inl (omega (arith, row, at, below))
       | inr behind ↦
           let row = rows_end (m - 1) (k - 1) first.step (omega (arith, behind, other, one)) in
-          let first_row : (2 * k / 2 - 1) * first.step ≡ (k - 1) * first.step = ap (λ j. (j - 1) * first.step) here in
-          let second_row : (2 * m / 2 - 1) * first.step ≡ (m - 1) * first.step = ap (λ j. (j - 1) * first.step) there in
-          inr (omega (arith, row, first_row, second_row, at))
+          inr (omega (arith, row, at))
     ]
 
 -- in the same row and others, those of the lines from a column on are outside its first nodes
 pub column_away : (first : Line) (column k a b : ℕ) → column < first.step → k ≤ column
-    → node_at (line_of first column) a < node_at first b ⊎ node_at first b + k ≤ node_at (line_of first column) a
+    → nth_node (line_of first column) a < nth_node first b ⊎ nth_node first b + k ≤ nth_node (line_of first column) a
 column_away first column k a b below high =
     let at = line_node first column a in
-    elim (cases_lt (a / 2 - 1) (b / 2 - 1)) [
-      | inl before ↦ inl (omega (arith, rows_end (a / 2 - 1) (b / 2 - 1) first.step before, at, below))
+    elim (cases_lt (a - 1) (b - 1)) [
+      | inl before ↦ inl (omega (arith, rows_end (a - 1) (b - 1) first.step before, at, below))
       | inr behind ↦
-          let more = mul-le (b / 2 - 1) first.step (a / 2 - 1) first.step (omega (arith, behind)) (omega arith) in
+          let more = mul-le (b - 1) first.step (a - 1) first.step (omega (arith, behind)) (omega arith) in
           inr (omega (arith, more, at, high))
     ]
 
 -- ---- one line after another
 
--- a node of a row is told, and those before it in the row still are
-pub told_on : (P : ℕ → Summary → Type 0) (at : ℕ → ℕ) (base : ℕ) → ((column : ℕ) → at column ≡ base + column) → (nodes : List Summary) (k here : ℕ) (s : Summary) → here ≡ base + k
-    → here < length nodes → ((column : ℕ) → column < k → P column (get_or nodes (at column) empty)) → P k s
-    → (column : ℕ) → column < k + 1 → P column (get_or (set nodes here s) (at column) empty)
-told_on P at base is nodes k here s here_is inside told p column below = elim (cases_eq column k) [
-  | inl e ↦
-      let same : get_or (set nodes here s) (at k) empty ≡ s =
-      ap (λ i. get_or (set nodes here s) i empty) (is k ∙ sym here_is) ∙ get_or-set_same nodes here s empty inside in
-      subst (λ j. P j (get_or (set nodes here s) (at j) empty)) (sym e) (subst (P k) (sym same) p)
-  | inr other ↦
-      subst (P column) (sym (get_or-set_other nodes here (at column) s empty (λ f. other (omega (arith, f, is column, here_is))))) (told column (omega (arith, below, other)))
-]
+module _ {P : Type 0} (blank : P) where
+  -- a node of a row is told, and those before it in the row still are
+  pub told_on : (Told : ℕ → P → Type 0) (at : ℕ → ℕ) (base : ℕ) → ((column : ℕ) → at column ≡ base + column) → (nodes : List P) (k here : ℕ) (s : P) → here ≡ base + k
+      → here < length nodes → ((column : ℕ) → column < k → Told column (get_or nodes (at column) blank)) → Told k s
+      → (column : ℕ) → column < k + 1 → Told column (get_or (set nodes here s) (at column) blank)
+  told_on Told at base is nodes k here s here_is inside told p column below = elim (cases_eq column k) [
+    | inl e ↦
+        let same : get_or (set nodes here s) (at k) blank ≡ s =
+        ap (λ i. get_or (set nodes here s) i blank) (is k ∙ sym here_is) ∙ get_or-set_same nodes here s blank inside in
+        subst (λ j. Told j (get_or (set nodes here s) (at j) blank)) (sym e) (subst (Told k) (sym same) p)
+    | inr other ↦
+        subst (Told column) (sym (get_or-set_other nodes here (at column) s blank (λ f. other (omega (arith, f, is column, here_is)))))
+        (told column (omega (arith, below, other)))
+  ]
 
--- and the others stay
-pub others_on : (nodes before : List Summary) (base k here : ℕ) (s : Summary) → here ≡ base + k
-    → ((p : ℕ) → (p < base ⊎ base + k ≤ p) → get_or nodes p empty ≡ get_or before p empty)
-    → (p : ℕ) → (p < base ⊎ base + (k + 1) ≤ p) → get_or (set nodes here s) p empty ≡ get_or before p empty
-others_on nodes before base k here s here_is others p away =
-    get_or-set_other nodes here p s empty (λ e. elim away [
-      | inl low ↦ let no : ⊥ = omega (arith, low, e, here_is) in no
-      | inr high ↦ let no : ⊥ = omega (arith, high, e, here_is) in no
-    ])
-    ∙ others p (elim away [
-      | inl low ↦ inl low
-      | inr high ↦ inr (omega (arith, high))
-    ])
+  -- and the others stay
+  pub others_on : (nodes before : List P) (base k here : ℕ) (s : P) → here ≡ base + k
+      → ((p : ℕ) → (p < base ⊎ base + k ≤ p) → get_or nodes p blank ≡ get_or before p blank)
+      → (p : ℕ) → (p < base ⊎ base + (k + 1) ≤ p) → get_or (set nodes here s) p blank ≡ get_or before p blank
+  others_on nodes before base k here s here_is others p away =
+      get_or-set_other nodes here p s blank (λ e. elim away [
+        | inl low ↦ let no : ⊥ = omega (arith, low, e, here_is) in no
+        | inr high ↦ let no : ⊥ = omega (arith, high, e, here_is) in no
+      ])
+      ∙ others p (elim away [
+        | inl low ↦ inl low
+        | inr high ↦ inr (omega (arith, high))
+      ])
 
--- so do the nodes of the next line in all rows
-pub still : (first : Line) (k b : ℕ) (nodes before : List Summary) → k < first.step → ((p : ℕ) → (p < node_at first b ⊎ node_at first b + k ≤ p) → get_or nodes p empty ≡ get_or before p empty)
-    → (a base : ℕ) → base ≡ node_at first a → get_or nodes (base + k) empty ≡ node_of (line_of first k) before a
-still first k b nodes before below others a base is =
-    ap (λ p. get_or nodes p empty) (ap (λ n. n + k) is ∙ sym (line_node first k a)) ∙ others (node_at (line_of first k) a) (column_away first k k a b below (omega arith))
+  -- so do the nodes of the next line in all rows
+  pub still : (first : Line) (k b : ℕ) (nodes before : List P) → k < first.step
+      → ((p : ℕ) → (p < nth_node first b ⊎ nth_node first b + k ≤ p) → get_or nodes p blank ≡ get_or before p blank)
+      → (a base : ℕ) → base ≡ nth_node first a → get_or nodes (base + k) blank ≡ get_or before (nth_node (line_of first k) a) blank
+  still first k b nodes before below others a base is =
+      ap (λ p. get_or nodes p blank) (ap (λ n. n + k) is ∙ sym (line_node first k a)) ∙ others (nth_node (line_of first k) a) (column_away first k k a b below (omega arith))
 
 -- ---- four numbers of a line
 

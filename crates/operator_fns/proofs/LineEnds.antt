@@ -6,7 +6,7 @@ use Rattle.std.proofs.lemmas.Bool.{cases_lt}
 use Rattle.operator_fns.specs.declared.summary.Summary.{Summary}
 use Rattle.operator_fns.specs.declared.line_tree.Line.{Line}
 use Rattle.operator_fns.specs.SumNodes.{Tells, join, sums_from}
-use Rattle.operator_fns.specs.LineTrees.{slot_at, node_at, node_of, IsKept, AreKeptIn, AreKeptBeside, AreKeptUpTo}
+use Rattle.operator_fns.specs.LineTrees.{slot_at, node_at, node_of, empty, IsKept, AreKeptIn, AreKeptBeside, AreKeptUpTo}
 use Rattle.operator_fns.proofs.LineParts.{sums_split}
 use Rattle.operator_fns.proofs.LineNodes.{meetings_apart, node_here, node_other}
 use Rattle.operator_fns.proofs.BlockParts.{half_or_same, double_or_less, twice, some_of}
@@ -90,14 +90,11 @@ module _ (l : Line) (nodes : List Summary) (x : ℕ → ℤ) (end half low : ℕ
         → after (place * (4 * 2 ^ level) + 2 * 2 ^ level) ≡ node_of l nodes (place * (4 * 2 ^ level) + 2 * 2 ^ level)
     unfolding after
     stays level place other =
-        let k = (2 * place + 1) * 2 ^ level in
-        let m = (2 * part + 1) * 2 ^ suc low in
+        let a = place * (4 * 2 ^ level) + 2 * 2 ^ level in
         let here = twice place (2 ^ level) in
-        let there : end - half ≡ 2 * m = meets ∙ twice part (2 ^ suc low) in
-        ap (λ e. node_of l (set nodes (node_at l e) s) (place * (4 * 2 ^ level) + 2 * 2 ^ level)) there
-        ∙ ap (node_of l (set nodes (node_at l (2 * m)) s)) here
-        ∙ node_other l nodes m k s apart (some_of part (suc low)) (some_of place level) (λ e. other (here ∙ ap (λ j. 2 * j) e ∙ sym there))
-        ∙ sym (ap (node_of l nodes) here)
+        let there : end - half ≡ 2 * ((2 * part + 1) * 2 ^ suc low) = meets ∙ twice part (2 ^ suc low) in
+        node_other empty l nodes ((end - half) / 2) (a / 2) s apart (omega (arith, there, some_of part (suc low))) (omega (arith, here, some_of place level))
+        (λ e. other (omega (arith, here, there, e)))
 
     -- a part of this width has one meeting alone
     differ : (level place : ℕ) → 2 ^ level ≢ 2 ^ suc low → place * (4 * 2 ^ level) + 2 * 2 ^ level ≢ end - half
@@ -131,7 +128,7 @@ module _ (l : Line) (nodes : List Summary) (x : ℕ → ℤ) (end half low : ℕ
                 let start : place * (4 * 2 ^ level) ≡ from = omega (arith, here.0, same, half_is, power, end_is) in
                 let long : min (2 * (2 * 2 ^ level)) (l.count - place * (4 * 2 ^ level)) ≡ half + half = omega (arith, here.0, same, half_is, power, below) in
                 subst (λ s. Tells s (sums_from x (place * (4 * 2 ^ level)) (min (2 * (2 * 2 ^ level)) (l.count - place * (4 * 2 ^ level)))))
-                (sym (ap after meeting ∙ node_here l nodes (end - half) s inside))
+                (sym (ap after meeting ∙ node_here empty l nodes ((end - half) / 2) s inside))
                 (subst (Tells s) (sym (λ i. sums_from x (start i) (long i))) all_told)
           ]
     ]

@@ -1,12 +1,12 @@
 -- What is kept of the parts of a line, while it is joined anew.
-use Rattle.std.proofs.Common.{◌≡◌, ◌≢◌, ℕ, zero, suc, ◌+◌, ◌-◌, ◌*◌, ◌/◌, ◌%◌, ◌^◌, ◌<◌, ◌≤◌, ◌⊎◌, min, List, length, set, refl, ap, sym, subst, ◌∙◌, arith, inl, inr, ℤ}
+use Rattle.std.proofs.Common.{◌≡◌, ◌≢◌, ℕ, zero, suc, ◌+◌, ◌-◌, ◌*◌, ◌/◌, ◌%◌, ◌^◌, ◌<◌, ◌≤◌, ◌⊎◌, min, List, length, get_or, set, refl, ap, sym, subst, ◌∙◌, arith, inl, inr, ℤ}
 use Rattle.std.proofs.lemmas.Nat.{pow_pos, pow-add}
 use Rattle.std.proofs.Math.Nat.{pow-le-pow_right}
 use Rattle.std.proofs.lemmas.Bool.{cases_lt, cases_eq}
 use Rattle.std.proofs.lemmas.List.{get_or-set_same, get_or-set_other}
 use Rattle.operator_fns.specs.declared.summary.Summary.{Summary}
 use Rattle.operator_fns.specs.declared.line_tree.Line.{Line}
-use Rattle.operator_fns.specs.LineTrees.{node_at, node_of, empty, IsKept, AreKept, AreKeptIn, other_half, sums_at}
+use Rattle.operator_fns.specs.LineTrees.{nth_node, node_at, node_of, empty, IsKept, AreKept, AreKeptIn, other_half, sums_at}
 use Rattle.operator_fns.specs.SumNodes.{Tells, sums_from}
 use Rattle.operator_fns.proofs.LineParts.{IsClimb, climb_up, odd_block, even_block}
 use Rattle.operator_fns.proofs.LineWrites.{steps_apart}
@@ -44,17 +44,16 @@ meetings_apart level place other_level other e =
     let there : (2 * other + 1) * 2 ^ other_level * 2 ≡ other * (4 * 2 ^ other_level) + 2 * 2 ^ other_level = grind arith in
     odd_multiples place other level other_level (omega (arith, here, there, e))
 
--- another node
-pub node_here : (l : Line) (nodes : List Summary) (meeting : ℕ) (s : Summary) → node_at l meeting < length nodes → node_of l (set nodes (node_at l meeting) s) meeting ≡ s
-node_here l nodes meeting s h = get_or-set_same nodes (node_at l meeting) s empty h
+module _ {P : Type 0} (blank : P) (l : Line) (nodes : List P) where
+  -- another node
+  pub node_here : (k : ℕ) (s : P) → nth_node l k < length nodes → get_or (set nodes (nth_node l k) s) (nth_node l k) blank ≡ s
+  node_here k s h = get_or-set_same nodes (nth_node l k) s blank h
 
-pub node_other : (l : Line) (nodes : List Summary) (m k : ℕ) (s : Summary) → 0 < l.step → 1 ≤ m → 1 ≤ k → k ≢ m → node_of l (set nodes (node_at l (2 * m)) s) (2 * k) ≡ node_of l nodes (2 * k)
-node_other l nodes m k s some h g other =
-    get_or-set_other nodes (node_at l (2 * m)) (node_at l (2 * k)) s empty (λ e. other (
-    let halves : 2 * m / 2 ≡ m = omega arith in
-    let halves2 : 2 * k / 2 ≡ k = omega arith in
-    let same = steps_apart (2 * k / 2 - 1) (2 * m / 2 - 1) l.step some (omega (arith, e)) in
-    omega (arith, same, halves, halves2, h, g)))
+  pub node_other : (m k : ℕ) (s : P) → 0 < l.step → 1 ≤ m → 1 ≤ k → k ≢ m → get_or (set nodes (nth_node l m) s) (nth_node l k) blank ≡ get_or nodes (nth_node l k) blank
+  node_other m k s some h g other =
+      get_or-set_other nodes (nth_node l m) (nth_node l k) s blank (λ e. other (
+      let same = steps_apart (k - 1) (m - 1) l.step some (omega (arith, e)) in
+      omega (arith, same, h, g)))
 
 -- ---- a step up from a place
 
@@ -95,14 +94,13 @@ module _ (l : Line) (nodes after : List Summary) (x : ℕ → ℤ) (at block wid
   unfolding meeting half
   stays level place apart = elim new [
     | inl set_so ↦
+        let a = place * (4 * 2 ^ level) + 2 * 2 ^ level in
         let here = twice place (2 ^ level) in
         let there = meeting_is ∙ twice (block / 2) half in
         let first : 1 ≤ (2 * place + 1) * 2 ^ level = let p = pow_pos level in let e : (2 * place + 1) * 2 ^ level ≡ 2 * (place * 2 ^ level) + 2 ^ level = grind arith in omega (arith, p, e) in
         let second : 1 ≤ (2 * (block / 2) + 1) * half = let p = pow_pos low_level.0 in let e : (2 * (block / 2) + 1) * half ≡ 2 * (block / 2 * half) + half = grind arith in omega (arith, p, e) in
-        ap (λ (ns : List Summary). node_of l ns (place * (4 * 2 ^ level) + 2 * 2 ^ level)) (set_so.0 ∙ ap (λ m. set nodes (node_at l m) s) there)
-        ∙ ap (node_of l (set nodes (node_at l (2 * ((2 * (block / 2) + 1) * half))) s)) here
-        ∙ node_other l nodes ((2 * (block / 2) + 1) * half) ((2 * place + 1) * 2 ^ level) s some second first (λ e. apart (here ∙ ap (λ k. 2 * k) e ∙ sym (twice (block / 2) half)))
-        ∙ sym (ap (node_of l nodes) here)
+        ap (λ (ns : List Summary). node_of l ns a) set_so.0
+        ∙ node_other empty l nodes (meeting / 2) (a / 2) s some (omega (arith, there, second)) (omega (arith, here, first)) (λ e. apart (omega (arith, here, there, meeting_is, e)))
     | inr none ↦ ap (λ (ns : List Summary). node_of l ns (place * (4 * 2 ^ level) + 2 * 2 ^ level)) none.0
   ]
 
@@ -112,7 +110,7 @@ module _ (l : Line) (nodes after : List Summary) (x : ℕ → ℤ) (at block wid
   renewed level place e f inside = elim new [
     | inl set_so ↦
         subst (λ n. Tells n (sums_from x (place * (4 * unit)) (min (2 * (2 * unit)) (l.count - place * (4 * unit)))))
-        (sym (ap (node_of l after) (sym meets) ∙ ap (λ (ns : List Summary). node_of l ns meeting) set_so.0 ∙ node_here l nodes meeting s set_so.1))
+        (sym (ap (node_of l after) (sym meets) ∙ ap (λ (ns : List Summary). node_of l ns meeting) set_so.0 ∙ node_here empty l nodes (meeting / 2) s set_so.1))
         (subst (Tells s) (λ i. sums_from x (start i) (min (double i) (l.count - start i))) told)
     | inr none ↦
         let at = even_block block width none.1 in

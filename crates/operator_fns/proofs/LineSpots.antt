@@ -45,9 +45,13 @@ module _ (count step slots : ℕ) (are : AreLines count step slots) where
   pub all_slots : slots ≡ slots / count * count
   all_slots = slots_are ∙ grind arith ∙ ap (λ n. n * count) (sym lines_are)
 
-  pub fewer_nodes : (nodes : ℕ) → nodes ≡ slots / count * nodes_in_line count → nodes ≤ slots
-  fewer_nodes nodes sized =
-      let less = mul-le (slots / count) (nodes_in_line count) (slots / count) count (omega arith) (omega arith) in
+  -- nodes, of which each line has so many
+  pub nodes_are : (unit nodes : ℕ) → nodes ≡ slots / count * unit → nodes ≡ blocks * (unit * step)
+  nodes_are unit nodes sized = sized ∙ ap (λ n. n * unit) lines_are ∙ grind arith
+
+  pub fewer_nodes : (unit nodes : ℕ) → unit ≤ count → nodes ≡ slots / count * unit → nodes ≤ slots
+  fewer_nodes unit nodes few sized =
+      let less = mul-le (slots / count) unit (slots / count) count (omega arith) few in
       omega (arith, less, sized, all_slots)
 
   module _ (line : ℕ) (h : line < slots / count) where
@@ -65,11 +69,13 @@ module _ (count step slots : ℕ) (are : AreLines count step slots) where
     pub slot_within : (place : ℕ) → place < count → slot_at (line_at count step line) place < slots
     slot_within place p = let inside = spot_inside count step blocks line place are.apart line_below p in omega (arith, inside, slots_are)
 
+    pub nth_within : (unit nodes : ℕ) → nodes ≡ slots / count * unit → (k : ℕ) → 1 ≤ k → k ≤ unit → spot unit step line (k - 1) < nodes
+    nth_within unit nodes sized k low high =
+        let within = spot_inside unit step blocks line (k - 1) are.apart line_below (omega (arith, low, high)) in
+        omega (arith, within, nodes_are unit nodes sized)
+
     pub node_within : (nodes : ℕ) → nodes ≡ slots / count * nodes_in_line count → (meeting : ℕ) → 2 ≤ meeting → meeting < count → node_at (line_at count step line) meeting < nodes
-    node_within nodes sized meeting low high =
-        let within = spot_inside (nodes_in_line count) step blocks line (meeting / 2 - 1) are.apart line_below (omega (arith, low, high)) in
-        let many : nodes ≡ blocks * (nodes_in_line count * step) = sized ∙ ap (λ n. n * nodes_in_line count) lines_are ∙ grind arith in
-        omega (arith, within, many)
+    node_within nodes sized meeting low high = nth_within (nodes_in_line count) nodes sized (meeting / 2) (omega (arith, low)) (omega (arith, high))
 
     pub in_slots : slots < 2 ^ 62 → HasSlots (line_at count step line) slots
     in_slots few = record { few = count_few; apart = are.apart; fit = omega (arith, few); slot = slot_within }
@@ -83,7 +89,7 @@ module _ (count step slots : ℕ) (are : AreLines count step slots) where
     pub in_both : (nodes : ℕ) → nodes ≡ slots / count * nodes_in_line count → slots < 2 ^ 62 → IsIn (line_at count step line) slots nodes
     in_both nodes sized few = record {
       slots = in_slots few;
-      nodes = record { fit = omega (arith, few, fewer_nodes nodes sized); node = node_within nodes sized };
+      nodes = record { fit = omega (arith, few, fewer_nodes (nodes_in_line count) nodes (omega arith) sized); node = node_within nodes sized };
     }
 
 -- a slot of one line is none of another

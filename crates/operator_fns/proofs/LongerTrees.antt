@@ -19,7 +19,7 @@ pub in_first : (step line : ℕ) → 0 < step → line < step → line / step �
 in_first step line apart h = let below = div_below line step 1 apart (omega (arith, h)) in omega (arith, below)
 
 -- places of such lines do not lie elsewhere where these are longer
-first_spot : (unit other step line place : ℕ) → 0 < step → line < step → spot unit step line place ≡ spot other step line place
+pub first_spot : (unit other step line place : ℕ) → 0 < step → line < step → spot unit step line place ≡ spot other step line place
 first_spot unit other step line place apart h =
     let first = in_first step line apart h in
     let same : 0 * (unit * step) + line % step + place * step ≡ 0 * (other * step) + line % step + place * step = grind arith in

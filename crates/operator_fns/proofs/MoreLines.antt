@@ -6,7 +6,7 @@ use Rattle.std.proofs.lemmas.List.Elements.{All-append}
 use Rattle.std.proofs.lemmas.Nat.{div-add-mod', div-mul-add, mod-mul-add, mod_below, mul-le}
 use Rattle.operator_fns.specs.declared.summary.Summary.{Summary}
 use Rattle.operator_fns.specs.LineTrees.{slot_at, node_at, number_of, node_of, empty, AreKept}
-use Rattle.operator_fns.specs.SumTrees.{line_at, line_through, number_kept, numbers_kept, nodes_in_line, AreLineTrees}
+use Rattle.operator_fns.specs.SumTrees.{line_at, line_through, number_kept, numbers_kept, nodes_in_line, AreLines, AreLineTrees}
 use Rattle.operator_fns.proofs.KeptNumbers.{kept_count, kept_at}
 use Rattle.operator_fns.proofs.LinePlaces.{some_places, spot_line, spot_place, place_spot, line_within}
 use Rattle.operator_fns.proofs.LineSpots.{spot, blocks, slots_are, lines_are, all_slots, slot_within, node_within}
@@ -21,6 +21,32 @@ spot_behind unit step blocks line place some =
     let first = ap (λ k. k % step) parts ∙ mod-mul-add (blocks + line / step) step (line % step) low in
     (λ i. row i * (unit * step) + first i + place * step) ∙ grind arith
 
+-- the lines of two lists are whole lines of both
+module _ (count step slots more : ℕ) (old : AreLines count step slots) (new : AreLines count step more) where
+  pub whole_behind : (slots + more) % (count * step) ≡ 0
+  whole_behind =
+      let block = count * step in
+      let more_blocks = blocks count step more new in
+      let sum : blocks count step slots old * block + more_blocks * block ≡ (blocks count step slots old + more_blocks) * block + 0 = grind arith in
+      ap (λ n. n % block) (omega (arith, sum, slots_are count step slots old, slots_are count step more new))
+      ∙ mod-mul-add (blocks count step slots old + more_blocks) block 0 (some_places count step old.some old.apart)
+
+  pub lines_behind : (slots + more) / count ≡ slots / count + more / count
+  lines_behind =
+      let sum : slots / count * count + more / count * count ≡ (slots / count + more / count) * count + 0 = grind arith in
+      ap (λ n. n / count) (omega (arith, sum, all_slots count step slots old, all_slots count step more new))
+      ∙ div-mul-add (slots / count + more / count) count 0 old.some
+
+-- the spots of a line behind all these, where each line has so many
+pub spot_after : (count step slots : ℕ) → AreLines count step slots → (unit line place : ℕ)
+    → spot unit step (slots / count + line) place ≡ slots / count * unit + spot unit step line place
+spot_after count step slots are unit line place =
+    let lines = lines_are count step slots are in
+    let order : blocks count step slots are * (unit * step) ≡ blocks count step slots are * step * unit = grind arith in
+    ap (λ n. spot unit step (n + line) place) lines
+    ∙ spot_behind unit step (blocks count step slots are) line place are.apart
+    ∙ ap (λ n. n + spot unit step line place) (order ∙ ap (λ n. n * unit) (sym lines))
+
 module _ (count step : ℕ) (slots more : List ℤ) (nodes more_nodes : List Summary) (old : AreLineTrees count step slots nodes) (new : AreLineTrees count step more more_nodes) where
   old_lines : ℕ
   old_lines = length slots / count
@@ -28,39 +54,22 @@ module _ (count step : ℕ) (slots more : List ℤ) (nodes more_nodes : List Sum
   new_lines : ℕ
   new_lines = length more / count
 
-  old_blocks : ℕ
-  old_blocks = blocks count step (length slots) old.lines
-
-  old_are : old_lines ≡ old_blocks * step
-  unfolding old_lines old_blocks
-  old_are = lines_are count step (length slots) old.lines
-
   -- as many lines as both have
   all_lines : length (slots ++ more) / count ≡ old_lines + new_lines
   unfolding old_lines new_lines
-  all_lines =
-      let long = length-append slots more in
-      let sum : length slots / count * count + length more / count * count ≡ (length slots / count + length more / count) * count + 0 = grind arith in
-      let one = all_slots count step (length slots) old.lines in
-      let other = all_slots count step (length more) new.lines in
-      ap (λ n. n / count) (omega (arith, long, sum, one, other)) ∙ div-mul-add (length slots / count + length more / count) count 0 old.lines.some
+  all_lines = ap (λ n. n / count) (length-append slots more) ∙ lines_behind count step (length slots) (length more) old.lines new.lines
 
   -- where the slots and the nodes of the later lines lie
   slot_behind : (line place : ℕ) → slot_at (line_at count step (old_lines + line)) place ≡ length slots + slot_at (line_at count step line) place
-  unfolding old_lines old_blocks
+  unfolding old_lines
   slot_behind line place =
-      ap (λ n. spot count step (n + line) place) old_are
-      ∙ spot_behind count step old_blocks line place old.lines.apart
-      ∙ ap (λ n. n + spot count step line place) (sym (slots_are count step (length slots) old.lines))
+      spot_after count step (length slots) old.lines count line place ∙ ap (λ n. n + spot count step line place) (sym (all_slots count step (length slots) old.lines))
 
   node_behind : (line meeting : ℕ) → node_at (line_at count step (old_lines + line)) meeting ≡ length nodes + node_at (line_at count step line) meeting
-  unfolding old_lines old_blocks
+  unfolding old_lines
   node_behind line meeting =
-      let half = nodes_in_line count in
-      let many : length nodes ≡ old_blocks * (half * step) = old.sized ∙ ap (λ n. n * half) old_are ∙ grind arith in
-      ap (λ n. spot half step (n + line) (meeting / 2 - 1)) old_are
-      ∙ spot_behind half step old_blocks line (meeting / 2 - 1) old.lines.apart
-      ∙ ap (λ n. n + spot half step line (meeting / 2 - 1)) (sym many)
+      let unit = nodes_in_line count in
+      spot_after count step (length slots) old.lines unit line (meeting / 2 - 1) ∙ ap (λ n. n + spot unit step line (meeting / 2 - 1)) (sym old.sized)
 
   -- a place behind the old ones, as a spot
   slots_behind : (k : ℕ) → length slots + k ≡ spot count step (old_lines + line_through count step k) (k / step % count)
@@ -147,14 +156,7 @@ module _ (count step : ℕ) (slots more : List ℤ) (nodes more_nodes : List Sum
   }
     where
       whole : length (slots ++ more) % (count * step) ≡ 0
-      whole =
-          let block = count * step in
-          let more_blocks = blocks count step (length more) new.lines in
-          let sum : blocks count step (length slots) old.lines * block + more_blocks * block ≡ (blocks count step (length slots) old.lines + more_blocks) * block + 0 = grind arith in
-          let one = slots_are count step (length slots) old.lines in
-          let other = slots_are count step (length more) new.lines in
-          ap (λ n. n % block) (omega (arith, length-append slots more, sum, one, other))
-          ∙ mod-mul-add (blocks count step (length slots) old.lines + more_blocks) block 0 (some_places count step old.lines.some old.lines.apart)
+      whole = ap (λ n. n % (count * step)) (length-append slots more) ∙ whole_behind count step (length slots) (length more) old.lines new.lines
 
       first_nodes : (line : ℕ) → line < length slots / count → (meeting : ℕ) → 2 ≤ meeting → meeting < count
           → node_of (line_at count step line) (nodes ++ more_nodes) meeting ≡ node_of (line_at count step line) nodes meeting
@@ -168,23 +170,23 @@ module _ (count step : ℕ) (slots more : List ℤ) (nodes more_nodes : List Sum
 
 -- ---- how many slots and nodes there are in all
 
--- so many lines have few slots and nodes
-pub record AreFew (lines count : ℕ) : Type 0 where
+-- so many lines have few slots, and few nodes, of which each line has so many
+pub record AreFew (lines count unit : ℕ) : Type 0 where
   pub lines_few : lines < 2 ^ 63
   pub slots_few : lines * count < 2 ^ 63
-  pub nodes_few : lines * nodes_in_line count < 2 ^ 63
+  pub nodes_few : lines * unit < 2 ^ 63
 
-pub few_in_all : (old new count numbers : ℕ) → 0 < count → new ≡ numbers / count → old * count + numbers < 2 ^ 63 → AreFew (old + new) count
-few_in_all old new count numbers some many few =
+pub few_in_all : (old new count unit numbers : ℕ) → unit ≤ count → 0 < count → new ≡ numbers / count → old * count + numbers < 2 ^ 63 → AreFew (old + new) count unit
+few_in_all old new count unit numbers less some many few =
     let parts = div-add-mod' numbers count in
     let new_slots : new * count ≡ numbers / count * count = ap (λ n. n * count) many in
     let sum : (old + new) * count ≡ old * count + new * count = grind arith in
     let wide : (old + new) * 1 ≤ (old + new) * count = mul-le (old + new) 1 (old + new) count (omega arith) (omega (arith, some)) in
-    let half : (old + new) * nodes_in_line count ≤ (old + new) * count = mul-le (old + new) (nodes_in_line count) (old + new) count (omega arith) (omega arith) in
+    let fewer : (old + new) * unit ≤ (old + new) * count = mul-le (old + new) unit (old + new) count (omega arith) less in
     record {
       lines_few = omega (arith, parts, new_slots, sum, wide, few);
       slots_few = omega (arith, parts, new_slots, sum, few);
-      nodes_few = omega (arith, parts, new_slots, sum, half, few);
+      nodes_few = omega (arith, parts, new_slots, sum, fewer, few);
     }
 
 -- of lines of so many slots each, and of others behind them

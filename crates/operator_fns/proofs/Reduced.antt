@@ -56,17 +56,19 @@ folded_numbers f (z ∷ []) h = refl
 folded_numbers f (z ∷ y ∷ zs) h =
     ap (λ r. and_then r (dyadic_on_items f (Num z))) (folded_numbers f (y ∷ zs) (omega arith)) ∙ folded_one f z (folded (dyadic_on_numbers f) (y ∷ zs))
 
--- the fold of some items that are numbers
+-- the reduction of items that are numbers
+pub number_items_folded : (f : Scalar2) (zs : List ℤ) → 0 < length zs → fold_right f (map (λ z. Num z) zs) ≡ number_item (folded (dyadic_on_numbers f) zs)
+number_items_folded f zs some = some_folded f (map (λ z. Num z) zs) (omega (arith, some, length-map zs (λ z. Num z))) ∙ folded_numbers f zs some
+
+-- that of some of them
 pub numbers_folded : (f : Scalar2) (xs : List ℤ) (items : List Item) (first stride count : ℕ) → items ≡ map (λ z. Num z) xs → 1 ≤ count
     → fold_right f (strided (Num (pos 0)) items first stride count) ≡ number_item (folded (dyadic_on_numbers f) (strided (pos 0) xs first stride count))
 numbers_folded f xs items first stride count is h =
     let zs = strided (pos 0) xs first stride count in
     let m = length-strided (pos 0) xs first stride count in
-    let long = length-map zs (λ z. Num z) in
     ap (λ ys. fold_right f (strided (Num (pos 0)) ys first stride count)) is
     ∙ ap (fold_right f) (strided_numbers xs first stride count)
-    ∙ some_folded f (map (λ z. Num z) zs) (omega arith)
-    ∙ folded_numbers f zs (omega arith)
+    ∙ number_items_folded f zs (omega arith)
 
 -- ---- where lines begin
 -- the sizes of a shape and of it without an axis

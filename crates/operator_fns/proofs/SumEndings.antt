@@ -1,10 +1,9 @@
 -- The sums of the endings of a list tell its sum from the right.
-use Rattle.std.proofs.Common.{◌≡◌, ◌^◌, List, [], ◌∷◌, ◌++◌, map, refl, ap, sym, ◌∙◌, arith, inl, inr, true, ◌&&◌, ℤ, pos, negsuc, FitsSigned, Result, Ok, Err}
+use Rattle.std.proofs.Common.{◌≡◌, ◌^◌, List, [], ◌∷◌, ◌++◌, refl, ap, sym, ◌∙◌, arith, inl, inr, true, ◌&&◌, ℤ, pos, negsuc, FitsSigned, Result, Ok, Err}
 use Rattle.std.specs.Int.{int_max, int_min, w64}
 use Rattle.std.specs.List.{All}
 use Rattle.std.proofs.lemmas.Int.{ints, clamps}
 use Rattle.std.proofs.lemmas.Bool.{lt-ltb, ltb-true, and_from, and_parts, cases_Bool, cond-true, cond-false}
-use Rattle.arrays_core.specs.declared.item.Item.TheVariants.{Num}
 use Rattle.arrays_core.specs.declared.item.Kind.{Kind}
 use Rattle.arrays_core.specs.declared.item.Kind.TheVariants.{Limit}
 use Rattle.function_names.specs.declared.scalar.Scalar2.TheVariants.{Plus}
@@ -14,9 +13,8 @@ use Rattle.scalar_fns.specs.Folds.{folded}
 use Rattle.operator_fns.specs.SumTree.{IsReductionBySum}
 use Rattle.operator_fns.specs.SumNodes.{Sums, single, join, sums_of, sum_told}
 use Rattle.operator_fns.proofs.Endings.{Within, within_of, total, most, fewest, total_most, total_fewest, Fits, folded_sum, folded_fits, folded_error}
-use Rattle.operator_fns.proofs.Folds.{some_folded}
 use Rattle.operator_fns.proofs.JoinedSums.{join_assoc, join_none, none_join, ordered_single}
-use Rattle.operator_fns.proofs.Reduced.{folded_numbers}
+use Rattle.operator_fns.proofs.Reduced.{number_items_folded}
 
 -- it has the sum, and the least and the greatest sum of an ending
 pub record HasSums (s : Sums) (x : ℤ) (rest : List ℤ) : Type 0 where
@@ -36,11 +34,11 @@ has_sums x (y ∷ rest) =
     let below = total_fewest y rest in
     record { total = omega (arith, ints); least = omega (arith, ints, clamps); greatest = omega (arith, ints, clamps) }
 
-in_64_bits : (z : ℤ) → is_number z ≡ true → Within z
+pub in_64_bits : (z : ℤ) → is_number z ≡ true → Within z
 in_64_bits (pos n) e = let below = ltb-true n (2 ^ 63) e in record { low = omega (arith, ints); high = omega (arith, ints) }
 in_64_bits (negsuc n) e = let below = ltb-true n (2 ^ 63) e in record { low = omega (arith, ints); high = omega (arith, ints) }
 
-is_in_64_bits : (z : ℤ) → Within z → is_number z ≡ true
+pub is_in_64_bits : (z : ℤ) → Within z → is_number z ≡ true
 is_in_64_bits (pos n) h = lt-ltb n (2 ^ 63) (omega (arith, ints, h.high))
 is_in_64_bits (negsuc n) h = lt-ltb n (2 ^ 63) (omega (arith, ints, h.low))
 
@@ -85,8 +83,7 @@ pub told_reduction : (xs : List ℤ) → All (FitsSigned w64) xs → IsReduction
 told_reduction [] fit = refl
 told_reduction (x ∷ rest) fit =
     ap number_item (told_folded x rest (λ k d below. within_of _ (fit k d below)))
-    ∙ sym (folded_numbers Plus (x ∷ rest) (omega arith))
-    ∙ sym (some_folded Plus (map (λ z. Num z) (x ∷ rest)) (omega arith))
+    ∙ sym (number_items_folded Plus (x ∷ rest) (omega arith))
 
 -- the sums of a list and of one more number behind it
 pub sums_behind : (xs : List ℤ) (z : ℤ) → join (sums_of xs) (single z) ≡ sums_of (xs ++ z ∷ [])

@@ -56,7 +56,7 @@ from_right x (y ∷ rest) u all =
     let next = product_of_two x (product_on y rest) u later.unit in
     record { is = ap (λ r. and_then r (dyadic_on_numbers Times x)) later.is ∙ next.is; unit = next.unit }
 
-times_assoc : (a b c : ℤ) → (a *ℤ b) *ℤ c ≡ a *ℤ (b *ℤ c)
+pub times_assoc : (a b c : ℤ) → (a *ℤ b) *ℤ c ≡ a *ℤ (b *ℤ c)
 times_assoc a b c =
     let ab = product_is a b in
     let bc = product_is b c in

@@ -10,9 +10,13 @@ use Rattle.operator_fns.specs.SumNodes.{Sums, sums_from, Tells}
 abbrev pub slot_at : Line → ℕ → ℕ
 slot_at l place = l.slot + place * l.step
 
+-- a node of the line, counted from 1
+abbrev pub nth_node : Line → ℕ → ℕ
+nth_node l k = l.node + (k - 1) * l.step
+
 -- the node of two parts that meet at an even place
 abbrev pub node_at : Line → ℕ → ℕ
-node_at l meeting = l.node + (meeting / 2 - 1) * l.step
+node_at l meeting = nth_node l (meeting / 2)
 
 -- what lies in the slot of a place
 abbrev pub slot_of : Line → List ℤ → ℕ → ℤ

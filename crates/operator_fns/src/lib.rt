@@ -33,8 +33,9 @@ mod summary;
 mod unit_products;
 
 pub use inner_product::Inner;
+pub use line_tree::Line;
 pub use outer_product::Outer;
 pub use reduce::Reduce;
 pub use scan::Scan;
 pub use sum_tree::SumTree;
-pub use sum_trees::{NewPlaces, NewTrees, SumTrees};
+pub use sum_trees::{NewPlaces, NewTrees, SumTrees, line_through};

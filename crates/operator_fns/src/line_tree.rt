@@ -3,7 +3,7 @@
 ghost use Rattle.std.specs.Prelude.{◌≡◌, ◌≢◌, pos, get_or, ℕ, ◌+◌, ◌-◌, ◌*◌, ◌/◌, ◌%◌, ◌^◌, ◌<◌, ◌≤◌, ◌++◌, ◌∷◌, [], min, ℤ, List, length, vec_len, vec_capacity, FitsSigned, All, ◌⊎◌};
 ghost use Rattle.std.specs.Int.{w64};
 ghost use Rattle.operator_fns.specs.SumNodes.{Sums, Tells, sums_from, join as join_of};
-ghost use Rattle.operator_fns.specs.LineTrees.{slot_at as slot_place, node_at as node_place, slot_of, number_of, node_of, HasSlots, IsIn, AreKept, AreKeptIn, AreKeptBeside, AreKeptUpTo, ArePaired, IsPart, empty, AreSameIn, other_half, sums_at, replaced, shorter};
+ghost use Rattle.operator_fns.specs.LineTrees.{slot_at as slot_place, node_at as node_place, nth_node as node_counted, slot_of, number_of, node_of, HasSlots, IsIn, AreKept, AreKeptIn, AreKeptBeside, AreKeptUpTo, ArePaired, IsPart, empty, AreSameIn, other_half, sums_at, replaced, shorter};
 ghost use Rattle.operator_fns.specs.SumTree.{IsWithinDigitsOf};
 ghost use Rattle.operator_fns.specs.LineBlocks.{line_of, slots_end, nodes_end, HaveSlots, HaveNodes, AreKeptBehind, AreKeptFrom};
 
@@ -11,20 +11,20 @@ use crate::summary::Summary;
 
 /// Where a line of numbers lies in a list of slots, and what is kept of its parts in a list of nodes.
 #[derive(Clone, Copy)]
-pub(crate) struct Line {
+pub struct Line {
     /// How many numbers there are.
-    pub(crate) count: usize,
+    pub count: usize,
     /// From one of them to the next in their list, and likewise from node to node.
-    pub(crate) step: usize,
+    pub step: usize,
     /// The slot of the first.
-    pub(crate) slot: usize,
+    pub slot: usize,
     /// The first node.
-    pub(crate) node: usize,
+    pub node: usize,
 }
 
 impl Line {
     /// The slot of a place.
-    fn slot_at(&self, place: usize) -> usize
+    pub fn slot_at(&self, place: usize) -> usize
         requires { slot_place self.now place < 2 ^ 64 }
         ensures { result ≡ slot_place self.now place }
     {
@@ -37,11 +37,20 @@ impl Line {
         requires fit { node_place self.now meeting < 2 ^ 64 }
         ensures { result ≡ node_place self.now meeting }
     {
-        self.node + (meeting / 2 - 1) * self.step
+        self.nth_node(meeting / 2)
+    }
+
+    /// A node of the line, counted from 1.
+    pub fn nth_node(&self, node: usize) -> usize
+        requires some { 1 ≤ node }
+        requires fit { node_counted self.now node < 2 ^ 64 }
+        ensures { result ≡ node_counted self.now node }
+    {
+        self.node + (node - 1) * self.step
     }
 
     /// The line so many behind the first one of a block.
-    fn nth(&self, column: usize) -> Line
+    pub fn nth(&self, column: usize) -> Line
         requires slot { self.now.slot + column < 2 ^ 64 }
         requires node { self.now.node + column < 2 ^ 64 }
         ensures { result ≡ line_of self.now column }

@@ -34,7 +34,7 @@ fn nth_line(count: usize, step: usize, line: usize) -> Line
 }
 
 /// The line that a place of all numbers is on, lines and places counted from 0.
-fn line_through(count: usize, step: usize, place: usize) -> usize
+pub fn line_through(count: usize, step: usize, place: usize) -> usize
     requires some { 0 < count }
     requires apart { 0 < step }
     ensures { result ≡ line_of_place count step place }

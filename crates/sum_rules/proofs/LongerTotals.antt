@@ -34,8 +34,7 @@ use Rattle.operator_fns.specs.SumTrees.{TreesValue, line_count, numbers_of_line}
 use Rattle.operator_fns.specs.declared.reduce.Reduce.{Reduce}
 use Rattle.operator_fns.proofs.Placewise.{collected_same}
 use Rattle.operator_fns.specs.Laws.ReducedShapes.{reduce_facts}
-use Rattle.operator_fns.proofs.Reduced.{reduced_whole}
-use Rattle.fold_trees.proofs.TreeFolds.{fold_of_numbers}
+use Rattle.operator_fns.proofs.Reduced.{reduced_whole, number_items_folded}
 use Rattle.sum_rules.specs.LineSums.{StandFor, length_along, line_length, line_step}
 use Rattle.sum_rules.specs.Totals.{StoodBefore, AreJoinsWithin, longer_totals}
 use Rattle.sum_rules.proofs.KeptSums.{along_axis}
@@ -205,7 +204,7 @@ module _ (fold : Reduce) (t : TreesValue) (tail : TailValue) (now : ArrayValue) 
         let zs = strided (pos 0) xs (line_start s n place) s n in
         let long : length zs ≡ n = length-strided (pos 0) xs (line_start s n place) s n in
         let line = line_longer t numbers place some_apart old_places (omega (arith, below, places_are, items_are)) in
-        sym (ap (λ (l : List ℤ). fold_right f (map (λ (z : ℤ). Num z) l)) line ∙ fold_of_numbers f zs (omega (arith, long))) in
+        sym (ap (λ (l : List ℤ). fold_right f (map (λ (z : ℤ). Num z) l)) line ∙ number_items_folded f zs (omega (arith, long))) in
         reduced_whole f now xs items typed fold.along shape type 0 n s form (sym first) there (sym now_longer) step_is some
         ∙ collected_same Nums shape (λ index. given (places_before shape index)) (λ index. longer_total f t numbers (places_before shape index)) (λ index inside.
         alike (places_before shape index) (places_below shape index inside))

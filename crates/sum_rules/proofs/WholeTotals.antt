@@ -25,8 +25,7 @@ use Rattle.operator_fns.specs.SumTrees.{TreesValue, line_count, numbers_of_line}
 use Rattle.operator_fns.specs.declared.reduce.Reduce.{Reduce}
 use Rattle.operator_fns.proofs.Placewise.{collected_same}
 use Rattle.operator_fns.specs.Laws.ReducedShapes.{reduce_facts}
-use Rattle.operator_fns.proofs.Reduced.{lines_whole, reduced_whole}
-use Rattle.fold_trees.proofs.TreeFolds.{fold_of_numbers}
+use Rattle.operator_fns.proofs.Reduced.{lines_whole, reduced_whole, number_items_folded}
 use Rattle.sum_rules.specs.LineSums.{StandFor, SummedValue, summed}
 use Rattle.sum_rules.specs.Totals.{all_totals}
 use Rattle.sum_rules.proofs.KeptSums.{summed_is}
@@ -77,7 +76,7 @@ module _ (fold : Reduce) (a : ArrayValue) (s : SummedValue) (t : TreesValue) (is
       let alike = λ (place : ℕ).
       let zs = numbers_of_line t place in
       let long : length zs ≡ t.count = length-strided (pos 0) t.numbers (line_start t.step t.count place) t.step t.count in
-      sym (fold_of_numbers f zs (omega (arith, long, parts.0))) in
+      sym (number_items_folded f zs (omega (arith, long, parts.0))) in
       reduced_whole f a t.numbers (ap (λ (b : ArrayValue). b.items) stand.is) (ap (λ (b : ArrayValue). b.item_type) stand.is) fold.along shape type axis t.count t.step form refl stand.there stand.counted stand.apart stand.some
       ∙ collected_same Nums shape (λ index. given (places_before shape index)) (λ index. total_of_line f t (places_before shape index)) (λ index inside. alike (places_before shape index))
       ∙ ap (λ (rs : List (Result Item Kind)). with_items Nums shape (all_or_first_error rs)) (items_by_place shape (total_of_line f t))

@@ -1,15 +1,16 @@
 use Rattle.std.proofs.Common.{◌≡◌, ◌∙◌, ℕ, ◌+◌, ◌-◌, ◌*◌, ◌<◌, ◌≤◌, ◌⊎◌, get_or, min, sym, ap, subst, arith}
 use Rattle.std.proofs.lemmas.Nat.{pow_pos}
-use Rattle.fold_trees.specs.LineTrees.{number_of, node_of, node_at, segment}
-use Rattle.fold_trees.specs.LineBlocks.{line_of}
-use Rattle.fold_trees.proofs.LineParts.{segment_split}
+use Rattle.operator_fns.specs.LineTrees.{slot_of, nth_node}
+use Rattle.operator_fns.specs.LineBlocks.{line_of}
+use Rattle.fold_trees.specs.LineTrees.{node_of, segment}
+use Rattle.fold_trees.proofs.TreeSegments.{segment_split}
 use Rattle.fold_trees.proofs.BlockParts.{kept_on, rows_outside, quarter, half_told, later_told}
 use Rattle.fold_trees.proofs.line_tree.join_row.Goals as goal
 
 pub halves_row-requires-clause-told : goal.halves_row-requires-clause-told
 halves_row-requires-clause-told g c column below =
     let low = quarter c.args.half c.requires.half.0 c.requires.half.1 c.if-half-eq1.false in (
-      segment (number_of (line_of c.args.first column) c.args.numbers.now) c.args.from c.args.half,
+      segment (slot_of (line_of c.args.first column) c.args.numbers.now) c.args.from c.args.half,
       half_told g.P.Part.blank g.P.Part.tells c.args.from c.args.half low.0 c.requires.from.0 c.args.first c.args.numbers.now c.args.nodes.now low.1 c.requires.from.1
           (omega (arith, c.if-first-from.false, c.requires.short)) c.requires.kept column below,
     )
@@ -17,7 +18,7 @@ halves_row-requires-clause-told g c column below =
 pub halves_row-requires-clause-later : goal.halves_row-requires-clause-later
 halves_row-requires-clause-later g c column below =
     let low = quarter c.args.half c.requires.half.0 c.requires.half.1 c.if-half-eq1.false in (
-      segment (number_of (line_of c.args.first column) c.args.numbers.now) (c.args.from + c.args.half) c.args.half,
+      segment (slot_of (line_of c.args.first column) c.args.numbers.now) (c.args.from + c.args.half) c.args.half,
       later_told g.P.Part.blank g.P.Part.tells c.args.from c.args.half low.0 c.requires.from.0 c.args.first c.args.numbers.now c.args.nodes.now low.1 c.requires.from.1
           (omega (arith, c.if-first-from.false, c.requires.short)) c.requires.kept column below,
     )
@@ -39,11 +40,11 @@ returns-then-half-eq1-clause-kept g c =
     let one : 1 ≡ half = sym c.if-half-eq1.true in
     let long : 2 ≡ min (2 * half) (first.count - from) = omega (arith, one, c.if-first-from.false, c.requires.short) in
     let nodes = c.args.nodes.now in
-    let others = subst (λ h. (p : ℕ) → (p < node_at first (from + h) ⊎ node_at first (from + h) + first.step ≤ p) → get_or after p blank ≡ get_or nodes p blank) one
+    let others = subst (λ h. (p : ℕ) → (p < nth_node first (from + h) ⊎ nth_node first (from + h) + first.step ≤ p) → get_or after p blank ≡ get_or nodes p blank) one
     c.pairs_row.ensures.others in
     kept_on blank tells first numbers nodes after c.requires.half.0 c.requires.from.0 from half c.requires.half.1 c.requires.from.1 others
-    (λ column below. subst (tells (node_of blank (line_of first column) after (from + half))) (ap (segment (number_of (line_of first column) numbers) from) long)
-    (subst (λ h. tells (node_of blank (line_of first column) after (from + h)) (segment (number_of (line_of first column) numbers) from 2)) one
+    (λ column below. subst (tells (node_of blank (line_of first column) after (from + half))) (ap (segment (slot_of (line_of first column) numbers) from) long)
+    (subst (λ h. tells (node_of blank (line_of first column) after (from + h)) (segment (slot_of (line_of first column) numbers) from 2)) one
     (c.pairs_row.ensures.told column below)))
     c.requires.kept
 
@@ -62,7 +63,7 @@ returns-else-half-eq1-clause-kept g c =
     let long : half + half ≡ min (2 * half) (first.count - from) = omega (arith, full) in
     kept_on blank tells first numbers nodes after c.requires.half.0 c.requires.from.0 from half c.requires.half.1 c.requires.from.1 c.halves_row.ensures.others
     (λ column below.
-    let x = number_of (line_of first column) numbers in
+    let x = slot_of (line_of first column) numbers in
     subst (tells (node_of blank (line_of first column) after (from + half))) (sym (segment_split x from half half) ∙ ap (segment x from) long)
     (c.halves_row.ensures.told column below (segment x from half) (segment x (from + half) half)
     (half_told blank tells from half low.0 c.requires.from.0 first numbers nodes low.1 c.requires.from.1 full c.requires.kept column below)

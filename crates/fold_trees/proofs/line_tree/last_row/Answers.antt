@@ -1,11 +1,13 @@
 use Rattle.std.proofs.Common.{◌≡◌, ◌∙◌, ◌+◌, ◌-◌, ◌*◌, ◌/◌, ◌%◌, ◌<◌, ◌++◌, List, ℤ, min, length, sym, ap, subst, arith, rules}
 use Rattle.std.proofs.lemmas.Nat.{pow_pos}
 use Rattle.std.proofs.lemmas.List.{length-set}
-use Rattle.fold_trees.specs.declared.line_tree.Line.{Line}
-use Rattle.fold_trees.specs.LineTrees.{node_at, node_of, number_of, segment, numbers_at, AreKeptIn}
-use Rattle.fold_trees.specs.LineBlocks.{line_of}
+use Rattle.operator_fns.specs.declared.line_tree.Line.{Line}
+use Rattle.operator_fns.specs.LineTrees.{slot_of, nth_node}
+use Rattle.operator_fns.specs.LineBlocks.{line_of}
+use Rattle.operator_fns.proofs.BlockRows.{told_on, others_on, line_node, column_away}
+use Rattle.fold_trees.specs.LineTrees.{node_of, segment, numbers_at, AreKeptIn}
 use Rattle.fold_trees.proofs.LineParts.{widen_even}
-use Rattle.fold_trees.proofs.BlockRows.{node_row, line_node, column_away, told_on, others_on}
+use Rattle.fold_trees.proofs.BlockRows.{node_row}
 use Rattle.fold_trees.proofs.BlockParts.{kept_in_first, kept_in_second, kept_in_still}
 use Rattle.fold_trees.proofs.line_tree.last_row.Goals as goal
 use Rattle.fold_trees.proofs.line_tree.last_row.Given.{Over}
@@ -34,9 +36,9 @@ part-requires-clause-kept g c =
     let l = line_of first k in
     let tells = g.P.Part.tells in
     let blank = g.P.Part.blank in
-    subst (λ (m : Line). AreKeptIn tells from half m.count (number_of m numbers) (node_of blank m nodes)) (sym c.nth-line.ensures)
-    (kept_in_still tells from half first.count (number_of l numbers) (node_of blank l c.args.nodes.now) (node_of blank l nodes)
-    (λ a. c.loop-column.invariant.others (node_at l a) (column_away first k k a (from + half) below (omega arith)))
+    subst (λ (m : Line). AreKeptIn tells from half m.count (slot_of m numbers) (node_of blank m nodes)) (sym c.nth-line.ensures)
+    (kept_in_still tells from half first.count (slot_of l numbers) (node_of blank l c.args.nodes.now) (node_of blank l nodes)
+    (λ a. c.loop-column.invariant.others (nth_node l a) (column_away first k k a (from + half) below (omega arith)))
     (kept_in_first blank tells from first numbers c.args.nodes.now half k below c.requires.kept))
 
 pub part-requires-in-loop-column-clause-kept : goal.part-requires-in-loop-column-clause-kept
@@ -53,24 +55,24 @@ part-requires-in-loop-column-clause-kept g c =
     let blank = g.P.Part.blank in
     let p = pow_pos c.requires.half.0 in
     let some : 0 < half = omega (arith, p, c.requires.half.1) in
-    subst (λ (m : Line). AreKeptIn tells (from + half) half m.count (number_of m numbers) (node_of blank m nodes)) (sym c.nth-line.ensures)
-    (kept_in_still tells (from + half) half first.count (number_of l numbers) (node_of blank l c.args.nodes.now) (node_of blank l nodes)
-    (λ a. c.loop-column.invariant.others (node_at l a) (column_away first k k a (from + half) below (omega arith)))
+    subst (λ (m : Line). AreKeptIn tells (from + half) half m.count (slot_of m numbers) (node_of blank m nodes)) (sym c.nth-line.ensures)
+    (kept_in_still tells (from + half) half first.count (slot_of l numbers) (node_of blank l c.args.nodes.now) (node_of blank l nodes)
+    (λ a. c.loop-column.invariant.others (nth_node l a) (column_away first k k a (from + half) below (omega arith)))
     (kept_in_second blank tells from first numbers c.args.nodes.now half k below some c.requires.kept))
 
 -- the node of the line, and that it is one of the list
-here : (g : Over) (c : goal.After-node_at g) → c.node_at.result ≡ node_at c.args.first (c.args.from + c.args.half) + c.loop-column.column
+here : (g : Over) (c : goal.After-nth_node g) → c.nth_node.result ≡ nth_node c.args.first (c.args.from + c.args.half) + c.loop-column.column
 here g c =
-    c.node_at.ensures ∙ ap (λ (m : Line). node_at m (c.args.from + c.args.half)) c.nth-line.ensures ∙ line_node c.args.first c.loop-column.column (c.args.from + c.args.half)
+    c.nth_node.ensures ∙ ap (λ (m : Line). nth_node m (c.args.from + c.args.half)) c.nth-line.ensures ∙ line_node c.args.first c.loop-column.column (c.args.from + c.args.half)
 
-inside : (g : Over) (c : goal.After-node_at g) → c.node_at.result < length c.loop-column.nodes
+inside : (g : Over) (c : goal.After-nth_node g) → c.nth_node.result < length c.loop-column.nodes
 inside g c =
     let p = pow_pos c.requires.half.0 in
     let row = node_row c.args.first (length c.args.nodes.now) (c.args.from + c.args.half) c.requires.nodes (omega (arith, p, c.requires.half.1)) c.requires.short in
     omega (arith, row, here g c, c.loop-column-test.true, c.loop-column.invariant.sized)
 
-pub offset_bounds-nodes-node_at : goal.offset_bounds-nodes-node_at
-offset_bounds-nodes-node_at g c = let below = inside g c in search rules
+pub offset_bounds-nodes-nth_node : goal.offset_bounds-nodes-nth_node
+offset_bounds-nodes-nth_node g c = let below = inside g c in search rules
 
 pub loop-column-preserved : goal.loop-column-preserved
 loop-column-preserved g c =
@@ -88,13 +90,13 @@ loop-column-preserved g c =
     let below = c.loop-column-test.true in
     let line = c.nth-line.result in
     let l = line_of first k in
-    let x = number_of l numbers in
+    let x = slot_of l numbers in
     let count = first.count in
     let part = c.requires.from.0 in
     let is = c.nth-line.ensures in
-    let node = c.node_at.result in
-    let one : Line → List ℤ = λ m. segment (number_of m numbers) from (min half (m.count - from)) in
-    let other : Line → List ℤ = λ m. segment (number_of m numbers) (from + half) (min half (m.count - (from + half))) in
+    let node = c.nth_node.result in
+    let one : Line → List ℤ = λ m. segment (slot_of m numbers) from (min half (m.count - from)) in
+    let other : Line → List ℤ = λ m. segment (slot_of m numbers) (from + half) (min half (m.count - (from + half))) in
     let told : tells s (one line ++ other line) = c.join-both.ensures (one line) (other line) c.part.ensures c.part-in-loop-column.ensures in
     let even : 2 * part % 2 ≡ 0 = omega arith in
     let block : 2 * part / 2 ≡ part = omega arith in
@@ -107,9 +109,9 @@ loop-column-preserved g c =
     let made : tells s (segment x from (min (2 * half) (count - from))) =
     subst (tells s) all (subst (λ (m : Line). tells s (one m ++ other m)) is told) in
     record {
-      told = told_on blank (λ column t. tells t (segment (number_of (line_of first column) numbers) from (min (2 * half) (count - from))))
-          (λ column. node_at (line_of first column) (from + half)) (node_at first (from + half))
+      told = told_on blank (λ column t. tells t (segment (slot_of (line_of first column) numbers) from (min (2 * half) (count - from))))
+          (λ column. nth_node (line_of first column) (from + half)) (nth_node first (from + half))
           (λ column. line_node first column (from + half)) nodes k node s (here g c) (inside g c) inv.told made;
-      others = others_on blank nodes before (node_at first (from + half)) k node s (here g c) inv.others;
+      others = others_on blank nodes before (nth_node first (from + half)) k node s (here g c) inv.others;
       sized = length-set nodes node s ∙ inv.sized;
     }

@@ -1,8 +1,10 @@
 use Rattle.std.proofs.Common.{◌≡◌, ◌∙◌, ℕ, ◌+◌, ◌<◌, ◌++◌, ◌∷◌, [], length, drop, get_or, pos, ap, sym, subst, arith, rules, to_z, of_z, w64, FitsSigned}
 use Rattle.std.proofs.lemmas.Int.{to_z-of_z}
 use Rattle.std.proofs.lemmas.List.{take_at, length-append, get_or_append_left, get_or_push}
-use Rattle.fold_trees.specs.LineTrees.{slot_at, node_at, number_of, node_of, segment, AreKeptIn, AreKeptUpTo}
-use Rattle.fold_trees.proofs.LineEnds.{near_node, near_slot, pair_more}
+use Rattle.operator_fns.specs.LineTrees.{slot_at, slot_of, nth_node}
+use Rattle.operator_fns.proofs.LineEnds.{near_slot}
+use Rattle.fold_trees.specs.LineTrees.{node_of, segment, AreKeptIn, AreKeptUpTo}
+use Rattle.fold_trees.proofs.LineEnds.{near_node, pair_more}
 use Rattle.fold_trees.proofs.line_tree.push_pair.Goals as goal
 use Rattle.fold_trees.proofs.line_tree.push_pair.Goals.{After-deref_mut}
 use Rattle.fold_trees.proofs.line_tree.push_pair.Given.{Over}
@@ -25,7 +27,7 @@ before g c p below =
     ∙ get_or_append_left nodes (s ∷ []) blank p inside
 
 -- the part of the two
-made : (g : Over) (c : After-deref_mut g) → g.P.Part.tells c.join-pair.result (segment (number_of c.args.line c.args.numbers.now) c.args.from 2)
+made : (g : Over) (c : After-deref_mut g) → g.P.Part.tells c.join-pair.result (segment (slot_of c.args.line c.args.numbers.now) c.args.from 2)
 made g c =
     let line = c.args.line in
     let numbers = c.args.numbers.now in
@@ -36,13 +38,13 @@ made g c =
     let f1 : FitsSigned w64 (get_or numbers (at + 1) (pos 0)) = search rules in
     let a0 : at ≡ slot_at line from = omega (arith, near_slot line from near) in
     let a1 : at + 1 ≡ slot_at line (from + 1) = omega (arith, near_slot line (from + 1) near) in
-    let x0 : to_z w64 (of_z w64 (get_or numbers at (pos 0))) ≡ number_of line numbers from = to_z-of_z w64 _ f0 ∙ ap (λ p. get_or numbers p (pos 0)) a0 in
-    let x1 : to_z w64 (of_z w64 (get_or numbers (at + 1) (pos 0))) ≡ number_of line numbers (from + 1) = to_z-of_z w64 _ f1 ∙ ap (λ p. get_or numbers p (pos 0)) a1 in
+    let x0 : to_z w64 (of_z w64 (get_or numbers at (pos 0))) ≡ slot_of line numbers from = to_z-of_z w64 _ f0 ∙ ap (λ p. get_or numbers p (pos 0)) a0 in
+    let x1 : to_z w64 (of_z w64 (get_or numbers (at + 1) (pos 0))) ≡ slot_of line numbers (from + 1) = to_z-of_z w64 _ f1 ∙ ap (λ p. get_or numbers p (pos 0)) a1 in
     subst (g.P.Part.tells c.join-pair.result) (λ i. x0 i ∷ x1 i ∷ [])
     (c.join-pair.ensures (to_z w64 (of_z w64 (get_or numbers at (pos 0))) ∷ []) (to_z w64 (of_z w64 (get_or numbers (at + 1) (pos 0))) ∷ []) c.of.ensures c.of-2.ensures)
 
 kept : (g : Over) (c : After-deref_mut g)
-    → AreKeptUpTo g.P.Part.tells (c.args.from + 2) 2 c.args.line.count (number_of c.args.line c.args.numbers.now) (node_of g.P.Part.blank c.args.line c.deref_mut.result.now)
+    → AreKeptUpTo g.P.Part.tells (c.args.from + 2) 2 c.args.line.count (slot_of c.args.line c.args.numbers.now) (node_of g.P.Part.blank c.args.line c.deref_mut.result.now)
 kept g c =
     let blank = g.P.Part.blank in
     let tells = g.P.Part.tells in
@@ -51,25 +53,25 @@ kept g c =
     let s = c.join-pair.result in
     let nodes = c.args.nodes.now.items in
     let now = c.deref_mut.result.now in
-    let x = number_of line c.args.numbers.now in
+    let x = slot_of line c.args.numbers.now in
     let long : length nodes ≡ line.node + from = search rules in
     let longer : length (nodes ++ s ∷ []) ≡ length nodes + 1 = length-append nodes (s ∷ []) in
-    let at : node_at line (from + 1) ≡ line.node + from = omega (arith, near_node line (from + 1) c.requires.near) in
+    let at : nth_node line (from + 1) ≡ line.node + from = omega (arith, near_node line (from + 1) c.requires.near) in
     let here : node_of blank line now (from + 1) ≡ s =
     ap (λ k. get_or now k blank) at ∙ ap (λ ns. get_or ns (line.node + from) blank) (pushed g c)
     ∙ get_or_append_left (nodes ++ s ∷ []) (s ∷ []) blank (line.node + from) (omega (arith, long, longer))
     ∙ get_or_push nodes s blank (line.node + from) long in
     pair_more tells from line.count x (node_of blank line nodes) (node_of blank line now) c.requires.two (omega (arith, c.requires.full))
-    (λ meeting some below. before g c (node_at line meeting) (omega (arith, near_node line meeting c.requires.near, some, below)))
+    (λ meeting some below. before g c (nth_node line meeting) (omega (arith, near_node line meeting c.requires.near, some, below)))
     (subst (λ t. tells t (segment x from 2)) (sym here) (made g c)) c.requires.kept
 
 pub close_parts-requires-clause-kept : goal.close_parts-requires-clause-kept
-close_parts-requires-clause-kept g c = (number_of c.args.line c.args.numbers.now, kept g c)
+close_parts-requires-clause-kept g c = (slot_of c.args.line c.args.numbers.now, kept g c)
 
 pub returns-clause-kept : goal.returns-clause-kept
 returns-clause-kept g c =
     let line = c.args.line in
-    let x = number_of line c.args.numbers.now in
+    let x = slot_of line c.args.numbers.now in
     let nodes = c.close_parts.new.nodes in
     let long : length nodes ≡ c.push_node-2.new.nodes.len = c.close_parts.ensures.length ∙ c.deref_mut.ensures.len in
     subst (λ ns. AreKeptIn g.P.Part.tells 0 (c.args.from + 2) line.count x (node_of g.P.Part.blank line ns))

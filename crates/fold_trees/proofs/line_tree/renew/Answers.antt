@@ -1,8 +1,9 @@
 use Rattle.std.proofs.Common.{◌≡◌, ◌∙◌, ◌+◌, ◌-◌, ◌*◌, ◌/◌, ◌<◌, ◌≤◌, ◌⊎◌, ◌∷◌, [], set, min, sym, ap, subst, arith, inl, inr, refl, w64, get_or, pos, FitsSigned, rules}
 use Rattle.std.proofs.lemmas.Int.{to_z-of_z}
 use Rattle.std.proofs.lemmas.Nat.{pow_pos}
-use Rattle.fold_trees.specs.LineTrees.{number_of, node_of, segment}
-use Rattle.fold_trees.proofs.LineParts.{climb_start, climb_up}
+use Rattle.operator_fns.specs.LineTrees.{slot_of}
+use Rattle.operator_fns.proofs.LineParts.{climb_start, climb_up}
+use Rattle.fold_trees.specs.LineTrees.{node_of, segment}
 use Rattle.fold_trees.proofs.LineNodes.{IsStepUp, others_stay, step_up, kept_first, all_kept, kept_beside}
 use Rattle.fold_trees.proofs.line_tree.renew.Goals as goal
 use Rattle.fold_trees.proofs.line_tree.renew.Goals.{then-joined-eq1, else-joined-eq1}
@@ -12,7 +13,7 @@ loop-width-init g c =
     let line = c.args.line in
     let place = c.args.place in
     let numbers = c.args.numbers.now in
-    let x = number_of line numbers in
+    let x = slot_of line numbers in
     let start : place * 1 ≡ place = omega arith in
     let one : min 1 (line.count - place * 1) ≡ 1 = omega (arith, c.requires.place) in
     let f : FitsSigned w64 (get_or numbers c.slot_at.result (pos 0)) = search rules in
@@ -28,13 +29,13 @@ loop-width-init g c =
 pub widened-wider-requires-clause-kept : goal.widened-wider-requires-clause-kept
 widened-wider-requires-clause-kept g c =
     let inv = c.loop-width.invariant in
-    kept_beside g.P.Part.tells c.loop-width.width c.args.place c.loop-width.block c.args.line.count (number_of c.args.line c.args.numbers.now)
+    kept_beside g.P.Part.tells c.loop-width.width c.args.place c.loop-width.block c.args.line.count (slot_of c.args.line c.args.numbers.now)
     (node_of g.P.Part.blank c.args.line c.loop-width.nodes) inv.climb inv.kept
 
 pub loop-width-preserved : goal.loop-width-preserved
 loop-width-preserved g c =
     let line = c.args.line in
-    let x = number_of line c.args.numbers.now in
+    let x = slot_of line c.args.numbers.now in
     let block = c.loop-width.block in
     let width = c.loop-width.width in
     let nodes = c.loop-width.nodes in
@@ -51,7 +52,7 @@ loop-width-preserved g c =
     let new : IsStepUp g.P.Part.blank line nodes after block width c.widened-wider.result.0 = elim c.if-joined-eq1.branch [
       | then-joined-eq1 w ↦
           let inside = c.requires.inside.nodes.node meeting some (joined.one w.if-joined-eq1.true) in
-          inl (w.nodes-is ∙ ap (λ p. set nodes p c.widened-wider.result.0) w.node_at.ensures, omega (arith, inside, inv.sized))
+          inl (w.nodes-is ∙ ap (λ p. set nodes p c.widened-wider.result.0) w.nth_node.ensures, omega (arith, inside, inv.sized))
       | else-joined-eq1 w ↦
           let other = w.if-joined-eq1.false in
           let none = joined.none (omega (arith, other, joined.joins)) in
@@ -73,5 +74,5 @@ loop-width-preserved g c =
 pub returns-clause-kept : goal.returns-clause-kept
 returns-clause-kept g c =
     let inv = c.loop-width.invariant in
-    all_kept g.P.Part.tells c.loop-width.width c.args.place c.args.line.count (number_of c.args.line c.args.numbers.now) (node_of g.P.Part.blank c.args.line c.loop-width.nodes)
+    all_kept g.P.Part.tells c.loop-width.width c.args.place c.args.line.count (slot_of c.args.line c.args.numbers.now) (node_of g.P.Part.blank c.args.line c.loop-width.nodes)
     inv.climb.level inv.climb.width_is c.loop-width-test.false inv.kept

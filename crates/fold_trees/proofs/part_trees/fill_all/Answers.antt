@@ -1,9 +1,11 @@
 use Rattle.std.proofs.Common.{◌≡◌, ◌<◌, ◌≤◌, ◌*◌, ◌/◌, ◌^◌, ◌∙◌, ◌⊎◌, ℕ, length, get_or, rules, sym, subst, arith}
 use Rattle.operator_fns.proofs.BlockLines.{block_count, block_ends}
 use Rattle.operator_fns.proofs.LineSpots.{lines_are}
-use Rattle.fold_trees.specs.declared.line_tree.Line.{Line}
-use Rattle.fold_trees.specs.LineTrees.{number_of, node_of, AreKept}
-use Rattle.fold_trees.specs.LineBlocks.{line_of, nodes_end, HaveSlots, HaveNodes}
+use Rattle.operator_fns.specs.declared.line_tree.Line.{Line}
+use Rattle.operator_fns.specs.LineTrees.{slot_of}
+use Rattle.operator_fns.specs.LineBlocks.{line_of, HaveSlots}
+use Rattle.fold_trees.specs.LineTrees.{node_of, AreKept}
+use Rattle.fold_trees.specs.LineBlocks.{nodes_end, HaveNodes}
 use Rattle.fold_trees.proofs.TreeBlocks.{have_slots, have_nodes, block_kept}
 use Rattle.fold_trees.proofs.part_trees.fill_all.Goals as goal
 
@@ -40,7 +42,7 @@ loop-block-preserved g c =
     let told = c.fill_block.ensures in
     let is = c.nth_block.ensures in
     let here =
-    subst (λ (l : Line). (column : ℕ) → column < l.step → AreKept tells l.count (number_of (line_of l column) numbers) (node_of blank (line_of l column) after)) is
+    subst (λ (l : Line). (column : ℕ) → column < l.step → AreKept tells l.count (slot_of (line_of l column) numbers) (node_of blank (line_of l column) after)) is
     told.kept in
     let others = subst (λ (l : Line). (p : ℕ) → (p < l.node ⊎ nodes_end l ≤ p) → get_or after p blank ≡ get_or now p blank) is told.others in
     record {

@@ -1,11 +1,12 @@
 use Rattle.std.proofs.Common.{◌≡◌, ℕ, ◌*◌, ◌<◌, ◌≤◌, vec_len, vec_capacity}
-use Rattle.fold_trees.specs.LineTrees.{number_of, node_of, AreKept}
+use Rattle.operator_fns.specs.LineTrees.{slot_of}
+use Rattle.fold_trees.specs.LineTrees.{node_of, AreKept}
 use Rattle.fold_trees.specs.PartTrees.{line_at, nodes_in_line}
 use Rattle.fold_trees.proofs.part_trees.nodes_of_lines.Given as goal
 
 abbrev pub invariant-loop-line : goal.invariant-loop-line
 invariant-loop-line g l = record {
-  kept : (line : ℕ) → line < l.line → AreKept g.P.Part.tells l.count (number_of (line_at l.count 1 line) l.numbers) (node_of g.P.Part.blank (line_at l.count 1 line) l.nodes.items);
+  kept : (line : ℕ) → line < l.line → AreKept g.P.Part.tells l.count (slot_of (line_at l.count 1 line) l.numbers) (node_of g.P.Part.blank (line_at l.count 1 line) l.nodes.items);
   sized : vec_len l.nodes ≡ l.line * nodes_in_line l.count;
   room : vec_capacity l.initial.nodes ≤ vec_capacity l.nodes;
 }

@@ -1,6 +1,6 @@
 use Rattle.std.proofs.Common.{◌<◌, ◌^◌, length, rules, sym, subst, arith}
 use Rattle.operator_fns.proofs.LineSpots.{line_fits}
-use Rattle.fold_trees.specs.declared.line_tree.Line.{Line}
+use Rattle.operator_fns.specs.declared.line_tree.Line.{Line}
 use Rattle.fold_trees.specs.LineTrees.{IsIn}
 use Rattle.fold_trees.proofs.TreePlaces.{in_both}
 use Rattle.fold_trees.proofs.part_trees.nth_tree.Goals as goal

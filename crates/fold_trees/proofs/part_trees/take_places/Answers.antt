@@ -1,5 +1,5 @@
 use Rattle.std.proofs.Common.{◌∙◌, ◌<◌, ◌^◌, length, rules, sym, subst, arith}
-use Rattle.fold_trees.specs.declared.line_tree.Line.{Line}
+use Rattle.operator_fns.specs.declared.line_tree.Line.{Line}
 use Rattle.fold_trees.specs.LineTrees.{IsIn}
 use Rattle.fold_trees.proofs.TreeLonger.{in_block}
 use Rattle.fold_trees.proofs.TreeTaken.{IsTaken, taken_on}

@@ -1,10 +1,10 @@
-use Rattle.std.proofs.Common.{◌≡◌, ◌∙◌, ℕ, ◌+◌, ◌*◌, ◌<◌, length, get_or, pos, ap, subst, arith, rules, to_z, of_z, ◌-ℤ◌, w64, FitsSigned}
+use Rattle.std.proofs.Common.{◌≡◌, ◌∙◌, ℕ, ◌+◌, ◌*◌, ◌/◌, ◌<◌, length, get_or, pos, ap, subst, arith, rules, to_z, of_z, ◌-ℤ◌, w64, FitsSigned}
 use Rattle.std.specs.Int.{int_wrap}
 use Rattle.std.proofs.lemmas.Int.{to_z-of_z}
 use Rattle.std.proofs.lemmas.List.{length-set}
 use Rattle.operator_fns.specs.declared.summary.Summary.{Summary}
 use Rattle.operator_fns.specs.SumNodes.{Tells, sums_from, single, join}
-use Rattle.operator_fns.specs.LineTrees.{slot_at, node_at, slot_of, number_of}
+use Rattle.operator_fns.specs.LineTrees.{slot_at, node_at, slot_of, number_of, empty}
 use Rattle.operator_fns.specs.LineBlocks.{line_of}
 use Rattle.operator_fns.proofs.BlockRows.{slot_row, node_row, line_slot, line_node, next_slot, told_on, others_on, sums_four}
 use Rattle.operator_fns.proofs.line_tree.fours_row.Goals as goal
@@ -76,8 +76,8 @@ loop-column-preserved c =
     ∙ sums_four l slots from c.requires.even c.requires.full)
     c.of_four.ensures in
     record {
-      told = told_on (λ column (t : Summary). Tells t (sums_from (number_of (line_of first column) slots) from 4)) (λ column. node_at (line_of first column) (from + 2)) (node_at first (from + 2))
-          (λ column. line_node first column (from + 2)) nodes k node s here (inside c) inv.told made;
-      others = others_on nodes c.args.nodes.now (node_at first (from + 2)) k node s here inv.others;
+      told = told_on empty (λ column (t : Summary). Tells t (sums_from (number_of (line_of first column) slots) from 4)) (λ column. node_at (line_of first column) (from + 2)) (node_at first (from + 2))
+          (λ column. line_node first column ((from + 2) / 2)) nodes k node s here (inside c) inv.told made;
+      others = others_on empty nodes c.args.nodes.now (node_at first (from + 2)) k node s here inv.others;
       sized = length-set nodes node s ∙ inv.sized;
     }

@@ -2,7 +2,7 @@ use Rattle.std.proofs.Common.{◌∙◌, ℕ, ◌+◌, ◌/◌, ◌<◌, length,
 use Rattle.std.proofs.lemmas.List.{length-set}
 use Rattle.operator_fns.specs.declared.summary.Summary.{Summary}
 use Rattle.operator_fns.specs.SumNodes.{Sums, Tells, join}
-use Rattle.operator_fns.specs.LineTrees.{node_at, node_of}
+use Rattle.operator_fns.specs.LineTrees.{node_at, node_of, empty}
 use Rattle.operator_fns.specs.LineBlocks.{line_of}
 use Rattle.operator_fns.proofs.BlockRows.{node_row, line_node, still, told_on, others_on}
 use Rattle.operator_fns.proofs.line_tree.halves_row.Goals as goal
@@ -11,16 +11,16 @@ pub join-requires-clause-here : goal.join-requires-clause-here
 join-requires-clause-here c =
     let below = c.loop-column-test.true in
     let told = c.requires.told c.loop-column.column below in
-    let same = still c.args.first c.loop-column.column (c.args.from + c.args.half) c.loop-column.nodes c.args.nodes.now below c.loop-column.invariant.others
-    (c.args.from + c.args.half / 2) c.node_at-earlier.result c.node_at-earlier.ensures in
+    let same = still empty c.args.first c.loop-column.column ((c.args.from + c.args.half) / 2) c.loop-column.nodes c.args.nodes.now below c.loop-column.invariant.others
+    ((c.args.from + c.args.half / 2) / 2) c.node_at-earlier.result c.node_at-earlier.ensures in
     (told.0, subst (λ (s : Summary). Tells s told.0) (sym same) told.1)
 
 pub join-requires-clause-later : goal.join-requires-clause-later
 join-requires-clause-later c =
     let below = c.loop-column-test.true in
     let told = c.requires.later c.loop-column.column below in
-    let same = still c.args.first c.loop-column.column (c.args.from + c.args.half) c.loop-column.nodes c.args.nodes.now below c.loop-column.invariant.others
-    (c.args.from + c.args.half + c.args.half / 2) c.node_at-later.result c.node_at-later.ensures in
+    let same = still empty c.args.first c.loop-column.column ((c.args.from + c.args.half) / 2) c.loop-column.nodes c.args.nodes.now below c.loop-column.invariant.others
+    ((c.args.from + c.args.half + c.args.half / 2) / 2) c.node_at-later.result c.node_at-later.ensures in
     (told.0, subst (λ (s : Summary). Tells s told.0) (sym same) told.1)
 
 pub loop-column-preserved : goal.loop-column-preserved
@@ -38,15 +38,15 @@ loop-column-preserved c =
     let here = ap (λ (n : ℕ). n + k) c.node_at-node.ensures in
     let row = node_row first (length before) (from + half) c.requires.nodes (omega (arith, c.requires.wide)) (omega (arith, c.requires.full, c.requires.wide)) in
     let inside : node < length nodes = omega (arith, row, here, below, inv.sized) in
-    let same = still first k (from + half) nodes before below inv.others (from + half / 2) c.node_at-earlier.result c.node_at-earlier.ensures in
-    let same2 = still first k (from + half) nodes before below inv.others (from + half + half / 2) c.node_at-later.result c.node_at-later.ensures in
+    let same = still empty first k ((from + half) / 2) nodes before below inv.others ((from + half / 2) / 2) c.node_at-earlier.result c.node_at-earlier.ensures in
+    let same2 = still empty first k ((from + half) / 2) nodes before below inv.others ((from + half + half / 2) / 2) c.node_at-later.result c.node_at-later.ensures in
     record {
-      told = told_on (λ column (t : Summary). (earlier rest : Sums) → Tells (node_of (line_of first column) before (from + half / 2)) earlier
+      told = told_on empty (λ column (t : Summary). (earlier rest : Sums) → Tells (node_of (line_of first column) before (from + half / 2)) earlier
           → Tells (node_of (line_of first column) before (from + half + half / 2)) rest → Tells t (join earlier rest))
           (λ column. node_at (line_of first column) (from + half)) (node_at first (from + half))
-          (λ column. line_node first column (from + half)) nodes k node s here inside inv.told
+          (λ column. line_node first column ((from + half) / 2)) nodes k node s here inside inv.told
           (λ earlier rest h l. c.join.ensures earlier rest (subst (λ (t : Summary). Tells t earlier) (sym same) h) (subst (λ (t : Summary). Tells t rest) (sym same2) l));
-      others = others_on nodes before (node_at first (from + half)) k node s here inv.others;
+      others = others_on empty nodes before (node_at first (from + half)) k node s here inv.others;
       sized = length-set nodes node s ∙ inv.sized;
     }
 

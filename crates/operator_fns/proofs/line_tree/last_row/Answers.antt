@@ -4,7 +4,7 @@ use Rattle.std.proofs.lemmas.List.{length-set}
 use Rattle.operator_fns.specs.declared.summary.Summary.{Summary}
 use Rattle.operator_fns.specs.declared.line_tree.Line.{Line}
 use Rattle.operator_fns.specs.SumNodes.{Tells, join, sums_from}
-use Rattle.operator_fns.specs.LineTrees.{node_at, node_of, number_of, sums_at, AreKeptIn}
+use Rattle.operator_fns.specs.LineTrees.{node_at, node_of, number_of, empty, sums_at, AreKeptIn}
 use Rattle.operator_fns.specs.LineBlocks.{line_of}
 use Rattle.operator_fns.proofs.LineParts.{widen_even}
 use Rattle.operator_fns.proofs.BlockRows.{node_row, line_node, column_away, told_on, others_on}
@@ -35,7 +35,7 @@ part-requires-clause-kept c =
     let l = line_of first k in
     subst (λ (m : Line). AreKeptIn from half m.count (number_of m slots) (node_of m nodes)) (sym c.nth-line.ensures)
     (kept_in_still from half first.count (number_of l slots) (node_of l c.args.nodes.now) (node_of l nodes)
-    (λ a. c.loop-column.invariant.others (node_at l a) (column_away first k k a (from + half) below (omega arith)))
+    (λ a. c.loop-column.invariant.others (node_at l a) (column_away first k k (a / 2) ((from + half) / 2) below (omega arith)))
     (kept_in_first from half first slots c.args.nodes.now k below c.requires.kept))
 
 pub part-requires-in-loop-column-clause-kept : goal.part-requires-in-loop-column-clause-kept
@@ -52,7 +52,7 @@ part-requires-in-loop-column-clause-kept c =
     let some : 0 < half = omega (arith, p, c.requires.half.1) in
     subst (λ (m : Line). AreKeptIn (from + half) half m.count (number_of m slots) (node_of m nodes)) (sym c.nth-line.ensures)
     (kept_in_still (from + half) half first.count (number_of l slots) (node_of l c.args.nodes.now) (node_of l nodes)
-    (λ a. c.loop-column.invariant.others (node_at l a) (column_away first k k a (from + half) below (omega arith)))
+    (λ a. c.loop-column.invariant.others (node_at l a) (column_away first k k (a / 2) ((from + half) / 2) below (omega arith)))
     (kept_in_second from half first slots c.args.nodes.now k below some c.requires.kept))
 
 pub loop-column-preserved : goal.loop-column-preserved
@@ -74,7 +74,7 @@ loop-column-preserved c =
     let part = c.requires.from.0 in
     let is = c.nth-line.ensures in
     let node = c.node_at.result in
-    let here : node ≡ node_at first (from + half) + k = c.node_at.ensures ∙ ap (λ (m : Line). node_at m (from + half)) is ∙ line_node first k (from + half) in
+    let here : node ≡ node_at first (from + half) + k = c.node_at.ensures ∙ ap (λ (m : Line). node_at m (from + half)) is ∙ line_node first k ((from + half) / 2) in
     let p = pow_pos c.requires.half.0 in
     let row = node_row first (length before) (from + half) c.requires.nodes (omega (arith, p, c.requires.half.1)) c.requires.short in
     let inside : node < length nodes = omega (arith, row, here, below, inv.sized) in
@@ -91,9 +91,9 @@ loop-column-preserved c =
     let made : Tells s (sums_from x from (min (2 * half) (count - from))) =
     subst (Tells s) all (subst (λ (m : Line). Tells s (join (sums_from (number_of m slots) from (min half (m.count - from))) (sums_from (number_of m slots) (from + half) (min half (m.count - (from + half)))))) is told) in
     record {
-      told = told_on (λ column (t : Summary). Tells t (sums_from (number_of (line_of first column) slots) from (min (2 * half) (count - from))))
+      told = told_on empty (λ column (t : Summary). Tells t (sums_from (number_of (line_of first column) slots) from (min (2 * half) (count - from))))
           (λ column. node_at (line_of first column) (from + half)) (node_at first (from + half))
-          (λ column. line_node first column (from + half)) nodes k node s here inside inv.told made;
-      others = others_on nodes before (node_at first (from + half)) k node s here inv.others;
+          (λ column. line_node first column ((from + half) / 2)) nodes k node s here inside inv.told made;
+      others = others_on empty nodes before (node_at first (from + half)) k node s here inv.others;
       sized = length-set nodes node s ∙ inv.sized;
     }

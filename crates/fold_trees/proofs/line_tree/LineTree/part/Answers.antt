@@ -1,8 +1,10 @@
 use Rattle.std.proofs.Common.{◌≡◌, ◌≢◌, ◌∙◌, ◌+◌, ◌-◌, ◌*◌, ◌/◌, ◌^◌, ◌≤◌, ◌<◌, min, sym, ap, subst, get_or, length, arith}
 use Rattle.std.proofs.lemmas.List.{get_or_default}
 use Rattle.std.proofs.lemmas.Nat.{pow_pos}
-use Rattle.fold_trees.specs.LineTrees.{number_of, node_at, node_of, segment}
-use Rattle.fold_trees.proofs.LineParts.{least_part, half_level}
+use Rattle.operator_fns.specs.LineTrees.{slot_of, nth_node}
+use Rattle.operator_fns.proofs.LineParts.{least_part}
+use Rattle.fold_trees.specs.LineTrees.{node_of, segment}
+use Rattle.fold_trees.proofs.LineParts.{half_level}
 use Rattle.fold_trees.proofs.line_tree.LineTree.part.Goals as goal
 
 pub returns : goal.returns
@@ -10,7 +12,7 @@ returns g c =
     let tree = c.args.self.now in
     let from = c.args.from in
     let tells = g.P.Part.tells in
-    let x = number_of tree.line tree.numbers.now in
+    let x = slot_of tree.line tree.numbers.now in
     let node = node_of g.P.Part.blank tree.line tree.nodes.now in
     let next = c.next_power_of_two-half.ensures in
     let some = c.if-long-eq1.false in
@@ -37,8 +39,8 @@ returns g c =
     let kept = c.requires.kept more.0 p.place (omega (arith, at)) (omega (arith, at, size, within)) inside in
     let first : 1 ≤ p.place * (2 * unit) + unit = let q = pow_pos more.0 in omega (arith, q) in
     let there = c.requires.inside.nodes.node (p.place * (2 * unit) + unit) first inside in
-    let placed = c.node_at.ensures ∙ ap (node_at tree.line) half in
-    let listed : c.node_at.result < length tree.nodes.now = omega (arith, there, placed) in
+    let placed = c.nth_node.ensures ∙ ap (nth_node tree.line) half in
+    let listed : c.nth_node.result < length tree.nodes.now = omega (arith, there, placed) in
     subst (λ s. tells s (segment x from (min c.args.width (tree.line.count - from))))
-    (sym (get_or_default tree.nodes.now c.node_at.result c.index-self-node_at.result g.P.Part.blank listed ∙ ap (λ k. get_or tree.nodes.now k g.P.Part.blank) placed))
+    (sym (get_or_default tree.nodes.now c.nth_node.result c.index-self-nth_node.result g.P.Part.blank listed ∙ ap (λ k. get_or tree.nodes.now k g.P.Part.blank) placed))
     (subst (tells (node (p.place * (2 * unit) + unit))) (λ i. segment x (sym at i) (long i)) kept)

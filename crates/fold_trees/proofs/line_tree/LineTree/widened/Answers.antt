@@ -1,6 +1,9 @@
 use Rattle.std.proofs.Common.{◌≡◌, ◌∙◌, ◌+◌, ◌-◌, ◌*◌, ◌/◌, ◌%◌, ◌<◌, min, ap, subst, arith}
-use Rattle.fold_trees.specs.LineTrees.{number_of, segment, numbers_at}
-use Rattle.fold_trees.proofs.LineParts.{segment_same, odd_block, even_block, widen_odd, widen_even, widen_alone}
+use Rattle.operator_fns.specs.LineTrees.{slot_of}
+use Rattle.operator_fns.proofs.LineParts.{odd_block, even_block}
+use Rattle.fold_trees.specs.LineTrees.{segment, numbers_at}
+use Rattle.fold_trees.proofs.LineParts.{widen_odd, widen_even, widen_alone}
+use Rattle.fold_trees.proofs.TreeSegments.{segment_same}
 use Rattle.fold_trees.proofs.line_tree.LineTree.widened.Goals as goal
 
 pub part-requires-clause-part : goal.part-requires-clause-part
@@ -27,7 +30,7 @@ returns-then-block-eq1-clause-is g c x same told =
     let block = c.args.block in
     let width = c.args.width in
     let line = c.args.self.now.line in
-    let numbers = number_of line c.args.self.now.numbers.now in
+    let numbers = slot_of line c.args.self.now.numbers.now in
     let odd = c.if-block-eq1.true in
     let at = odd_block block width odd in
     let from = block * width - width in
@@ -54,7 +57,7 @@ returns-clause-is g c x same told =
     let block = c.args.block in
     let width = c.args.width in
     let line = c.args.self.now.line in
-    let numbers = number_of line c.args.self.now.numbers.now in
+    let numbers = slot_of line c.args.self.now.numbers.now in
     let some = c.if-block-eq1.false in
     let even : c.args.block % 2 ≡ 0 = omega (arith, some) in
     let at = even_block block width even in

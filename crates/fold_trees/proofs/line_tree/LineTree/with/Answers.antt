@@ -1,7 +1,8 @@
 use Rattle.std.proofs.Common.{◌≡◌, ◌∙◌, suc, ◌-◌, ◌*◌, ◌∷◌, [], min, sym, ap, subst, arith, inl, inr, refl, to_z, of_z, w64}
 use Rattle.std.proofs.lemmas.Int.{to_z-of_z}
-use Rattle.fold_trees.specs.LineTrees.{number_of, segment, replaced}
-use Rattle.fold_trees.proofs.LineParts.{climb_start, climb_up, level_up, climb_end, levels_within, replaced_here, other_half_same, even_block}
+use Rattle.operator_fns.specs.LineTrees.{slot_of, replaced}
+use Rattle.operator_fns.proofs.LineParts.{climb_start, climb_up, level_up, climb_end, levels_within, replaced_here, other_half_same, even_block}
+use Rattle.fold_trees.specs.LineTrees.{segment}
 use Rattle.fold_trees.proofs.line_tree.LineTree.with.Goals as goal
 
 pub loop-width-init : goal.loop-width-init
@@ -9,13 +10,13 @@ loop-width-init g c =
     let line = c.args.self.now.line in
     let place = c.args.place in
     let z = to_z w64 (of_z w64 c.args.number) in
-    let x = replaced (number_of line c.args.self.now.numbers.now) place z in
+    let x = replaced (slot_of line c.args.self.now.numbers.now) place z in
     let start : place * 1 ≡ place = omega arith in
     let one : min 1 (line.count - place * 1) ≡ 1 = omega (arith, c.requires.place) in
     record {
       climb = climb_start place;
       few = omega (arith, c.requires.place);
-      told = subst (g.P.Part.tells c.of-kept.result) (ap (λ y. y ∷ []) (sym (replaced_here (number_of line c.args.self.now.numbers.now) place z)) ∙ sym (λ i. segment x (start i) (one i)))
+      told = subst (g.P.Part.tells c.of-kept.result) (ap (λ y. y ∷ []) (sym (replaced_here (slot_of line c.args.self.now.numbers.now) place z)) ∙ sym (λ i. segment x (start i) (one i)))
           c.of-kept.ensures;
       most = omega arith;
       none = λ e. (start, inl refl);
@@ -37,7 +38,7 @@ loop-width-preserved g c =
     let block = c.loop-width.block in
     let width = c.loop-width.width in
     let z = to_z w64 (of_z w64 c.args.number) in
-    let numbers = number_of line c.args.self.now.numbers.now in
+    let numbers = slot_of line c.args.self.now.numbers.now in
     let inv = c.loop-width.invariant in
     let short = c.loop-width-test.true in
     let joined = c.widened-wider.ensures in
@@ -68,7 +69,7 @@ returns-clause-is g c =
     let width = c.loop-width.width in
     let z = to_z w64 (of_z w64 c.args.number) in
     let number : z ≡ c.args.number = to_z-of_z w64 c.args.number c.ranges.number in
-    let numbers = number_of line c.args.self.now.numbers.now in
+    let numbers = slot_of line c.args.self.now.numbers.now in
     let inv = c.loop-width.invariant in
     let wide = c.loop-width-test.false in
     let first = climb_end line.count place block width inv.climb c.requires.place wide in

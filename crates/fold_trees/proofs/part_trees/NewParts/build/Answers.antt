@@ -1,8 +1,8 @@
-use Rattle.std.proofs.Common.{◌<◌, ◌^◌, ◌≡◌, ◌+◌, ◌*◌, ◌/◌, ℕ, length, sym, ap, subst, vec_capacity}
+use Rattle.std.proofs.Common.{◌<◌, ◌^◌, ◌≡◌, ◌+◌, ◌*◌, ◌/◌, ℕ, length, refl, sym, ap, subst, arith, vec_capacity}
 use Rattle.arrays_core.specs.Growth.{HasRoom}
 use Rattle.operator_fns.specs.SumTrees.{TreesValue, line_count}
+use Rattle.operator_fns.proofs.MoreLines.{few_in_all}
 use Rattle.fold_trees.specs.PartTrees.{nodes_in_line}
-use Rattle.fold_trees.proofs.TreeMore.{few_in_all}
 use Rattle.fold_trees.proofs.part_trees.NewParts.build.Goals as goal
 
 pub invariant_of-result : goal.invariant_of-result
@@ -11,7 +11,7 @@ invariant_of-result g c =
     let old = c.args.old_lines in
     let count = c.args.count in
     let long = length c.args.numbers.now in
-    let few = few_in_all old count long c.requires.some c.requires.few in
+    let few = few_in_all old (long / count) count (nodes_in_line count) long (omega arith) c.requires.some refl c.requires.few in
     let same_count : count ≡ trees.count = sym (ap (λ (t : TreesValue). t.count) c.in_ok-trees.ensures) in
     let lines : long / count ≡ line_count trees = sym (ap (λ (t : TreesValue). line_count t) c.in_ok-trees.ensures) in
     record {

@@ -1,11 +1,10 @@
 use Rattle.std.proofs.Common.{◌≡◌, ◌∙◌, ℕ, ◌+◌, ◌*◌, ◌/◌, ◌<◌, ◌^◌, ◌++◌, ℤ, List, length, sym, ap, subst, arith, vec_capacity}
 use Rattle.arrays_core.specs.Growth.{HasRoom}
 use Rattle.operator_fns.specs.SumTrees.{TreesValue, NewTreesValue, line_count}
-use Rattle.operator_fns.proofs.LineSpots.{all_slots}
+use Rattle.operator_fns.proofs.LineSpots.{all_slots, fewer_nodes}
 use Rattle.operator_fns.proofs.MoreLines.{in_all}
 use Rattle.fold_trees.specs.PartTrees.{nodes_in_line, AreLineTrees}
 use Rattle.fold_trees.proofs.TreeMore.{more_trees}
-use Rattle.fold_trees.proofs.TreePlaces.{fewer_nodes}
 use Rattle.fold_trees.proofs.part_trees.PartTrees.grow.Given.{Over}
 use Rattle.fold_trees.proofs.part_trees.PartTrees.grow.Goals.{After-trees}
 use Rattle.fold_trees.proofs.part_trees.PartTrees.grow.Goals as goal
@@ -70,8 +69,8 @@ put_behind-requires-2-clause-few g c =
     let count = c.self.inside.count in
     let step = c.self.inside.step in
     let trees = new_trees g before in
-    let old = fewer_nodes count step (length c.self.inside.numbers.items) c.self.invariant.trees.lines (length c.self.inside.nodes.items) c.self.invariant.trees.sized in
-    let new = fewer_nodes count step (length c.trees.inside.numbers.items) trees.lines (length c.trees.inside.nodes.items) trees.sized in
+    let old = fewer_nodes count step (length c.self.inside.numbers.items) c.self.invariant.trees.lines (nodes_in_line count) (length c.self.inside.nodes.items) (omega arith) c.self.invariant.trees.sized in
+    let new = fewer_nodes count step (length c.trees.inside.numbers.items) trees.lines (nodes_in_line count) (length c.trees.inside.nodes.items) (omega arith) trees.sized in
     omega (arith, old, new, few_numbers g before)
 
 pub put_behind-requires-clause-room : goal.put_behind-requires-clause-room

@@ -2,7 +2,8 @@ use Rattle.std.proofs.Common.{◌≡◌, ◌∙◌, ◌+◌, ◌-◌, ◌*◌, �
 use Rattle.std.proofs.lemmas.List.{with_items_is}
 use Rattle.arrays_core.specs.Growth.{IsRoomy, HasRoom}
 use Rattle.operator_fns.specs.SumTrees.{TreesValue, NewPlacesValue}
-use Rattle.fold_trees.specs.LineTrees.{number_of, node_of, shorter, AreKept}
+use Rattle.operator_fns.specs.LineTrees.{slot_of, shorter}
+use Rattle.fold_trees.specs.LineTrees.{node_of, AreKept}
 use Rattle.fold_trees.specs.PartTrees.{line_at, nodes_in_line, AreLineTrees, AreTrees}
 use Rattle.fold_trees.proofs.TreeLonger.{all_long, held_nodes, nodes_long, kept_without, longer_trees}
 use Rattle.fold_trees.proofs.part_trees.PartTrees.lengthen.Given.{Over}
@@ -80,8 +81,8 @@ take_places-requires-clause-kept g c line h =
     let more = c.more.inside.numbers.items in
     let before = (goal.at.take_places-requires-clause-kept g c).After-more in
     let l = shorter (line_at (count + 1) step line) in
-    subst (λ (s : List ℤ). AreKept tells (count + 1 - 1) (number_of l s) (node_of blank l c.deref_mut.result.now)) (sym (numbers_are g c))
-    (subst (λ (n : List g.row.P.Denot). AreKept tells (count + 1 - 1) (number_of l (numbers ++ more)) (node_of blank l n)) (sym (nodes_are g c))
+    subst (λ (s : List ℤ). AreKept tells (count + 1 - 1) (slot_of l s) (node_of blank l c.deref_mut.result.now)) (sym (numbers_are g c))
+    (subst (λ (n : List g.row.P.Denot). AreKept tells (count + 1 - 1) (slot_of l (numbers ++ more)) (node_of blank l n)) (sym (nodes_are g c))
     (kept_without blank tells count step numbers more c.self.inside.nodes.items c.more.inside.more_nodes.items c.self.invariant.trees
     (between g before) (wide g before) line h))
 

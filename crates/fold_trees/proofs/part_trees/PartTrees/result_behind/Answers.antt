@@ -2,8 +2,9 @@ use Rattle.std.proofs.Common.{◌≡◌, ◌∙◌, ◌+◌, ◌/◌, ◌<◌, �
 use Rattle.std.proofs.lemmas.Int.{to_z-of_z}
 use Rattle.std.proofs.lemmas.List.{length-append}
 use Rattle.operator_fns.specs.SumTrees.{TreesValue, line_count, numbers_of_line}
-use Rattle.fold_trees.specs.declared.line_tree.Line.{Line}
-use Rattle.fold_trees.specs.LineTrees.{number_of, segment}
+use Rattle.operator_fns.specs.declared.line_tree.Line.{Line}
+use Rattle.operator_fns.specs.LineTrees.{slot_of}
+use Rattle.fold_trees.specs.LineTrees.{segment}
 use Rattle.fold_trees.specs.FoldTrees.{IsReductionBy}
 use Rattle.fold_trees.specs.PartTrees.{line_at}
 use Rattle.fold_trees.proofs.TreeFolds.{reduction_of}
@@ -31,10 +32,10 @@ returns g c =
     let tree = c.nth_tree-tree.result in
     let read = c.nth_tree-tree.ensures.numbers ∙ c.deref.ensures.value in
     let at = c.nth_tree-tree.ensures.line in
-    let x = number_of (line_at count step line) numbers in
+    let x = slot_of (line_at count step line) numbers in
     let before : tells c.whole.result (segment x 0 count) =
-    subst (λ (l : Line). tells c.whole.result (segment (number_of l numbers) 0 l.count)) at
-    (subst (λ (s : List ℤ). tells c.whole.result (segment (number_of tree.line s) 0 tree.line.count)) read c.whole.ensures) in
+    subst (λ (l : Line). tells c.whole.result (segment (slot_of l numbers) 0 l.count)) at
+    (subst (λ (s : List ℤ). tells c.whole.result (segment (slot_of tree.line s) 0 tree.line.count)) read c.whole.ensures) in
     let new : tells c.of.result (z ∷ []) = subst (λ (y : ℤ). tells c.of.result (y ∷ [])) (to_z-of_z w64 z c.ranges.number) c.of.ensures in
     let xs = segment x 0 count ++ z ∷ [] in
     let told = c.join.ensures (segment x 0 count) (z ∷ []) before new in

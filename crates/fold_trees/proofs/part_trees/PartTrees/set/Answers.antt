@@ -6,8 +6,9 @@ use Rattle.arrays_core.specs.Growth.{IsRoomy}
 use Rattle.operator_fns.specs.SumTrees.{TreesValue, line_through, with_number}
 use Rattle.operator_fns.proofs.LinePlaces.{line_within}
 use Rattle.operator_fns.proofs.LineSpots.{line_fits}
-use Rattle.fold_trees.specs.declared.line_tree.Line.{Line}
-use Rattle.fold_trees.specs.LineTrees.{number_of, node_of, IsIn, AreKept}
+use Rattle.operator_fns.specs.declared.line_tree.Line.{Line}
+use Rattle.operator_fns.specs.LineTrees.{slot_of}
+use Rattle.fold_trees.specs.LineTrees.{node_of, IsIn, AreKept}
 use Rattle.fold_trees.specs.PartTrees.{line_at, AreTrees}
 use Rattle.fold_trees.proofs.TreePlaces.{in_both}
 use Rattle.fold_trees.proofs.TreeWrites.{IsWritten, written_numbers, written_trees}
@@ -66,9 +67,9 @@ write-requires-clause-kept g c =
     let line = line_through count step c.args.place in
     let l = line_at count step line in
     let is = line_is g (goal.at.write-requires-clause-kept g c).After-nth_line-line in
-    subst (λ (l : Line). AreKept tells l.count (number_of l c.deref_mut.result.now) (node_of blank l c.deref_mut-2.result.now)) (sym is)
-    (subst (λ (s : List ℤ). AreKept tells count (number_of l s) (node_of blank l c.deref_mut-2.result.now)) (sym c.deref_mut.ensures.value)
-    (subst (λ (n : List g.row.P.Denot). AreKept tells count (number_of l numbers) (node_of blank l n)) (sym c.deref_mut-2.ensures.value)
+    subst (λ (l : Line). AreKept tells l.count (slot_of l c.deref_mut.result.now) (node_of blank l c.deref_mut-2.result.now)) (sym is)
+    (subst (λ (s : List ℤ). AreKept tells count (slot_of l s) (node_of blank l c.deref_mut-2.result.now)) (sym c.deref_mut.ensures.value)
+    (subst (λ (n : List g.row.P.Denot). AreKept tells count (slot_of l numbers) (node_of blank l n)) (sym c.deref_mut-2.ensures.value)
     (c.self.invariant.trees.kept line (is_below g (goal.at.write-requires-clause-kept g c).After-self))))
 
 -- ---- what is written

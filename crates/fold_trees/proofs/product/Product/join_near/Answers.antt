@@ -1,7 +1,7 @@
 use Rattle.std.proofs.Common.{◌≡◌, ◌≤◌, sym, subst, ◌∙◌, to_z, of_z, SFits, ℤ, pos, neg_ℤ, ◌*ℤ◌, ◌≤ℤ◌, unsigned_abs}
 use Rattle.std.specs.Int.{w64, int_min, int_max}
 use Rattle.std.proofs.lemmas.Int.{to_z-of_z}
-use Rattle.fold_trees.specs.Products.{Products, IsOrdered, Tells, told, join}
+use Rattle.fold_trees.specs.Products.{Products, AreOrdered, TellsProducts, kept_products, joined_products}
 use Rattle.fold_trees.proofs.JoinedProducts.{products_eq, ordered_join, tells_join}
 use Rattle.fold_trees.proofs.NearProducts.{narrow_fits, narrow_least, narrow_greatest}
 use Rattle.fold_trees.proofs.product.Product.join_near.Goals as goal
@@ -32,7 +32,7 @@ made : (c : goal.After-near_total) → record {
   total = to_z w64 (of_z w64 (to_z w64 (of_z w64 c.near_total.result) *ℤ to_z w64 (of_z w64 c.near_total-factor.result)));
   least = to_z w64 (of_z w64 c.min-least.result);
   greatest = to_z w64 (of_z w64 c.max-greatest.result);
-} ≡ join (told c.args.self.now) (told c.args.later.now)
+} ≡ joined_products (kept_products c.args.self.now) (kept_products c.args.later.now)
 made c =
     let factor : SFits w64 c.near_total-factor.result = record { sfits = c.near_total-factor.type_inv } in
     let one = times_read _ _ _ _ (record { sfits = c.near_least.type_inv }) factor c.near_least.ensures.is c.near_total-factor.ensures.is c.near_least.ensures.near c.near_total-factor.ensures.near in
@@ -48,12 +48,12 @@ made c =
 
 pub of_narrow-requires-clause-ordered : goal.of_narrow-requires-clause-ordered
 of_narrow-requires-clause-ordered c =
-    subst IsOrdered (sym (made c)) (ordered_join (told c.args.self.now) (told c.args.later.now) c.requires.here.1.sound c.requires.later.1.sound)
+    subst AreOrdered (sym (made c)) (ordered_join (kept_products c.args.self.now) (kept_products c.args.later.now) c.requires.here.1.sound c.requires.later.1.sound)
 
 pub of_narrow-requires-clause-low : goal.of_narrow-requires-clause-low
 of_narrow-requires-clause-low c =
     subst (λ (s : Products). neg_ℤ (pos 4611686014132420609) ≤ℤ s.least) (sym (made c))
-    (narrow_least (told c.args.self.now) (told c.args.later.now) (subst (λ z. unsigned_abs z ≤ 2147483647) c.near_least.ensures.is c.near_least.ensures.near)
+    (narrow_least (kept_products c.args.self.now) (kept_products c.args.later.now) (subst (λ z. unsigned_abs z ≤ 2147483647) c.near_least.ensures.is c.near_least.ensures.near)
     (subst (λ z. unsigned_abs z ≤ 2147483647) c.near_greatest.ensures.is c.near_greatest.ensures.near)
     (subst (λ z. unsigned_abs z ≤ 2147483647) c.near_total-factor.ensures.is c.near_total-factor.ensures.near)
     (subst (λ z. unsigned_abs z ≤ 2147483647) c.near_least-2.ensures.is c.near_least-2.ensures.near))
@@ -61,11 +61,11 @@ of_narrow-requires-clause-low c =
 pub of_narrow-requires-clause-high : goal.of_narrow-requires-clause-high
 of_narrow-requires-clause-high c =
     subst (λ (s : Products). s.greatest ≤ℤ pos 4611686014132420609) (sym (made c))
-    (narrow_greatest (told c.args.self.now) (told c.args.later.now) (subst (λ z. unsigned_abs z ≤ 2147483647) c.near_least.ensures.is c.near_least.ensures.near)
+    (narrow_greatest (kept_products c.args.self.now) (kept_products c.args.later.now) (subst (λ z. unsigned_abs z ≤ 2147483647) c.near_least.ensures.is c.near_least.ensures.near)
     (subst (λ z. unsigned_abs z ≤ 2147483647) c.near_greatest.ensures.is c.near_greatest.ensures.near)
     (subst (λ z. unsigned_abs z ≤ 2147483647) c.near_total-factor.ensures.is c.near_total-factor.ensures.near)
     (subst (λ z. unsigned_abs z ≤ 2147483647) c.near_greatest-2.ensures.is c.near_greatest-2.ensures.near))
 
 pub returns : goal.returns
 returns c earlier rest h k =
-    tells_join c.args.self.now c.args.later.now c.of_narrow.result earlier rest h k (subst (Tells c.of_narrow.result) (made c.before) c.of_narrow.ensures)
+    tells_join c.args.self.now c.args.later.now c.of_narrow.result earlier rest h k (subst (TellsProducts c.of_narrow.result) (made c.before) c.of_narrow.ensures)

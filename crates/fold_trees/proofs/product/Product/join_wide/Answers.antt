@@ -1,7 +1,7 @@
 use Rattle.std.proofs.Common.{◌≡◌, ◌^◌, ◌≤◌, sym, subst, ◌∙◌, to_z, of_z, SFits, ℤ, pos, neg_ℤ, ◌*ℤ◌, ◌≤ℤ◌, unsigned_abs}
 use Rattle.std.specs.Int.{w128, int_min, int_max}
 use Rattle.std.proofs.lemmas.Int.{to_z-of_z}
-use Rattle.fold_trees.specs.Products.{Products, IsOrdered, Tells, told, join}
+use Rattle.fold_trees.specs.Products.{Products, AreOrdered, TellsProducts, kept_products, joined_products}
 use Rattle.fold_trees.proofs.JoinedProducts.{products_eq, ordered_join, tells_join}
 use Rattle.fold_trees.proofs.NearProducts.{IsWithin126, are_near, times_fits, join_within}
 use Rattle.fold_trees.proofs.product.Product.join_wide.Goals as goal
@@ -45,10 +45,10 @@ made : (c : goal.After-total) → record {
   total = to_z w128 (of_z w128 (to_z w128 (of_z w128 c.total.result) *ℤ to_z w128 (of_z w128 c.total-factor.result)));
   least = to_z w128 (of_z w128 c.min-least.result);
   greatest = to_z w128 (of_z w128 c.max-greatest.result);
-} ≡ join (told c.args.self.now) (told c.args.later.now)
+} ≡ joined_products (kept_products c.args.self.now) (kept_products c.args.later.now)
 made c =
-    let a = told c.args.self.now in
-    let b = told c.args.later.now in
+    let a = kept_products c.args.self.now in
+    let b = kept_products c.args.later.now in
     let here = are_near c.args.self.now _ c.requires.here.1 in
     let later = are_near c.args.later.now _ c.requires.later.1 in
     let factor : SFits w128 c.total-factor.result = record { sfits = c.total-factor.type_inv } in
@@ -63,12 +63,12 @@ made c =
     (read _ _ (record { sfits = c.min-least.type_inv }) (c.min-least.ensures.value ∙ (λ i. int_min (low i) (min i))))
     (read _ _ (record { sfits = c.max-greatest.type_inv }) (c.max-greatest.ensures.value ∙ (λ i. int_max (high i) (max i))))
 
-within : (c : goal.After-total) → IsWithin126 (join (told c.args.self.now) (told c.args.later.now))
+within : (c : goal.After-total) → IsWithin126 (joined_products (kept_products c.args.self.now) (kept_products c.args.later.now))
 within c = join_within _ _ (are_near c.args.self.now _ c.requires.here.1) (are_near c.args.later.now _ c.requires.later.1)
 
 pub of_products-requires-clause-ordered : goal.of_products-requires-clause-ordered
 of_products-requires-clause-ordered c =
-    subst IsOrdered (sym (made c)) (ordered_join (told c.args.self.now) (told c.args.later.now) c.requires.here.1.sound c.requires.later.1.sound)
+    subst AreOrdered (sym (made c)) (ordered_join (kept_products c.args.self.now) (kept_products c.args.later.now) c.requires.here.1.sound c.requires.later.1.sound)
 
 pub of_products-requires-clause-low : goal.of_products-requires-clause-low
 of_products-requires-clause-low c = subst (λ (s : Products). neg_ℤ (pos (2 ^ 126)) ≤ℤ s.least) (sym (made c)) (within c).low
@@ -78,4 +78,4 @@ of_products-requires-clause-high c = subst (λ (s : Products). s.greatest ≤ℤ
 
 pub returns : goal.returns
 returns c earlier rest h k =
-    tells_join c.args.self.now c.args.later.now c.of_products.result earlier rest h k (subst (Tells c.of_products.result) (made c.before) c.of_products.ensures)
+    tells_join c.args.self.now c.args.later.now c.of_products.result earlier rest h k (subst (TellsProducts c.of_products.result) (made c.before) c.of_products.ensures)

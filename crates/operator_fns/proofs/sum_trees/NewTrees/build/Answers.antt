@@ -5,10 +5,10 @@ use Rattle.operator_fns.proofs.MoreLines.{AreFew, few_in_all}
 use Rattle.operator_fns.proofs.sum_trees.NewTrees.build.Goals.{After-len}
 use Rattle.operator_fns.proofs.sum_trees.NewTrees.build.Goals as goal
 
-are_few : (c : After-len) → AreFew (c.args.old_lines + c.len.result) c.args.count
+are_few : (c : After-len) → AreFew (c.args.old_lines + c.len.result) c.args.count (nodes_in_line c.args.count)
 are_few c =
     let many = c.len.ensures ∙ ap (λ (t : TreesValue). line_count t) c.in_ok-trees.ensures in
-    few_in_all c.args.old_lines c.len.result c.args.count (length c.args.numbers.now) c.requires.some many c.requires.few
+    few_in_all c.args.old_lines c.len.result c.args.count (nodes_in_line c.args.count) (length c.args.numbers.now) (omega arith) c.requires.some many c.requires.few
 
 pub overflow_add-lines : goal.overflow_add-lines
 overflow_add-lines c = let few = are_few (goal.at.overflow_add-lines c).After-len in record { fits = omega (arith, few.lines_few) }

@@ -90,8 +90,8 @@ few_nodes c =
     let count = c.self.inside.count in
     let step = c.self.inside.step in
     let trees = new_trees c in
-    let old = fewer_nodes count step (length c.self.inside.slots.items) c.self.invariant.trees.lines (length c.self.inside.nodes.items) c.self.invariant.trees.sized in
-    let new = fewer_nodes count step (length c.trees.inside.slots.items) trees.lines (length c.trees.inside.nodes.items) trees.sized in
+    let old = fewer_nodes count step (length c.self.inside.slots.items) c.self.invariant.trees.lines (nodes_in_line count) (length c.self.inside.nodes.items) (omega arith) c.self.invariant.trees.sized in
+    let new = fewer_nodes count step (length c.trees.inside.slots.items) trees.lines (nodes_in_line count) (length c.trees.inside.nodes.items) (omega arith) trees.sized in
     omega (arith, old, new, few_slots c)
 
 pub put_behind-requires-clause-few : goal.put_behind-requires-clause-few
