@@ -90,8 +90,10 @@ fn patch_delta(
     ensures { IfOk result (IsSumsDelta fold (Ok array.now) (PatchDelta patch.now) kept.now) }
 {
     let places = array.places() as usize;
-    if kept.is_some() && patch.region().size() <= places / PLACES_TO_ONE_NEW + 1 {
-        return Ok(SumsDelta::Patch(Box::new(alloc, patch.copy()?)?));
+    if let Some(sums) = kept {
+        if patch.region().size() <= places / PLACES_TO_ONE_NEW + 1 {
+            return Ok(SumsDelta::Patch(sums.boxed(alloc, patch.copy()?)?));
+        }
     }
     made_anew(alloc, fold, array)
 }
@@ -129,6 +131,7 @@ pub(crate) fn take_sums_delta(kept: &mut Option<LineSums>, change: SumsDelta)
         SumsDelta::Patch(patch) => {
             if let Some(sums) = kept {
                 sums.write(&patch);
+                sums.keep_box(patch);
             }
         }
         SumsDelta::Grown(lines) => {

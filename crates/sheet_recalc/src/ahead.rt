@@ -83,7 +83,12 @@ impl<'a, 'b> Ahead<'a, 'b> {
     }
 
     /// What a name shows, with what changed of it: if it is the one at this place, by the plan of its formula, which is told.
-    fn input_near<'c>(&'c self, name: &'c Name, place: usize, last: Option<&'c Formula>) -> Input<'c>
+    fn input_near<'c>(
+        &'c self,
+        name: &'c Name,
+        place: usize,
+        last: Option<&'c Formula>,
+    ) -> Input<'c>
         requires ahead { IsAhead self.now }
         requires done { HasItsPlan (outline_of self.now.proposed.now) (plan_in self.now.found.now.entries) name.now }
         requires last { IfSome last (λ f. entry_of (outline_of self.now.proposed.now) (get_or (keys_of self.now.found.now.entries) place []) ≡ Some (FormulaEntry f.now)) }
@@ -92,7 +97,7 @@ impl<'a, 'b> Ahead<'a, 'b> {
         ensures sound { IsNameSound (proposed_change (outline_of self.now.proposed.now)) name.now }
     {
         match (last, self.found.get_index(place)) {
-            (Some(formula), Some((there, Some(plan)))) if there == name => {
+            (Some(formula), Some((there, Some(plan)))) if *there == *name => {
                 self.by_plan(there, formula, plan)
             }
             _ => self.input_of(name),

@@ -19,6 +19,7 @@ use fold_trees::FoldTrees;
 use index_region::{Along, Patch, Seen};
 use operator_fns::Reduce;
 use std::alloc::{AllocError, Global};
+use std::cell::Cell;
 use std::marker::Model;
 
 /// A line with no more items is folded as fast without a tree.
@@ -81,7 +82,13 @@ fn sums_of(alloc: Global, fold: Reduce, array: &Array) -> Result<Option<LineSums
         Some(numbers) => {
             let trees = FoldTrees::build(alloc, fold.function, numbers, count, step)?;
             let shape = shape_of(alloc, axes);
-            let lines = Box::new(alloc, Lines { axis, shape, trees })?;
+            let lines = Lines {
+                axis,
+                shape,
+                trees,
+                room: Cell::new(None),
+            };
+            let lines = Box::new(alloc, lines)?;
             Ok(Some(LineSums { lines }))
         }
         None => unreachable!(),
@@ -140,6 +147,8 @@ struct Lines {
     axis: usize,
     shape: Shape,
     trees: FoldTrees,
+    /// A box for the next patch, kept from the last one.
+    room: Cell<Option<Box<Patch>>>,
 }
 
 /// The folds of the lines of an array of numbers along an axis by a function, as trees. They lie in a box, since most nodes of formulas have none.
@@ -180,6 +189,26 @@ impl LineSums {
         ensures lines { StandFor result.now.lines self.now.axis self.now.array }
     {
         &self.lines.trees
+    }
+
+    /// A patch in a box: the one that was kept, if there is one.
+    pub fn boxed(&self, alloc: Global, patch: Patch) -> Result<Box<Patch>, AllocError>
+        ensures { IfOk result (λ b. b.value ≡ patch) }
+    {
+        match self.lines.room.take() {
+            Some(mut room) => {
+                *room = patch;
+                Ok(room)
+            }
+            None => Ok(Box::new(alloc, patch)?),
+        }
+    }
+
+    /// Keeps the box of a patch for the next one.
+    pub fn keep_box(&mut self, patch: Box<Patch>)
+        ensures { self.new ≡ self.old }
+    {
+        self.lines.room.set(Some(patch));
     }
 
     /// Takes new items for the places of a box. It takes no memory.
