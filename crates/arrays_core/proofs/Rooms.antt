@@ -46,3 +46,7 @@ brought held items p lies capacity roomy room fewer next some short = elim room 
       absurd (omega (arith, enough, short))
   | inr roomy ↦ roomy some p next
 ]
+
+-- a larger piece has room too
+pub larger : (items capacity more : ℕ) → IsRoomy items capacity → capacity ≤ more → IsRoomy items more
+larger items capacity more lies under = λ some p next. let there = lies some p next in omega arith

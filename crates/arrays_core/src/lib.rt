@@ -13,7 +13,7 @@ pub use array::Array;
 pub use builder::ArrayBuilder;
 pub use fault::{ApplyFault, Fault, outcome};
 pub use item::{Item, ItemType, Kind};
-pub use room::{Room, copied, is_same_room, repeated, room_between, room_of, roomy};
+pub use room::{Room, copied, is_same_room, put_behind, repeated, room_between, room_of, roomy};
 pub use rule::{ItemRule, RowRule, collect, collect_rows};
 pub use shape::{
     LONGEST_AXIS, MOST_AXES, MOST_PLACES, Shape, advance, append_axes, index_in_row,

@@ -1,6 +1,6 @@
 //! The memory that the items of an array lie in, and the room for more behind them.
 
-ghost use Rattle.std.specs.Prelude.{◌≡◌, ◌≤◌, ◌<◌, ◌^◌, ◌↔◌, [], IfOk, IsOk, IsTrue, length, replicate, vec_capacity};
+ghost use Rattle.std.specs.Prelude.{◌≡◌, ◌+◌, ◌≤◌, ◌<◌, ◌^◌, ◌++◌, ◌↔◌, [], IfOk, IsOk, IsTrue, length, replicate, vec_len, vec_capacity};
 ghost use Rattle.std.specs.Int.{IsNextPowerOfTwo};
 ghost use Rattle.arrays_core.specs.Growth.{IsRoomy, IsSameRoom, HasRoom};
 
@@ -8,6 +8,7 @@ use crate::array::Ravel;
 use crate::item::ItemType;
 use std::alloc::{AllocError, Global};
 use std::marker::Model;
+use std::mem;
 
 /// No power of two that is greater fits.
 const GREATEST_POWER: usize = 1 << 63;
@@ -82,6 +83,36 @@ pub fn room_between<T: Drop>(
         return Ok(Vec::new(alloc));
     }
     Vec::with_capacity(alloc, room_of(places))
+}
+
+/// Puts items behind others, for which there is room. It takes no memory.
+fn move_behind<T: Drop>(items: &mut Vec<T>, mut more: Vec<T>)
+    requires { vec_len items.old + vec_len more ≤ vec_capacity items.old }
+    ensures items { items.new.items ≡ items.old.items ++ more.items }
+    ensures room { vec_capacity items.old ≤ vec_capacity items.new }
+{
+    match items.append(&mut more) {
+        Ok(()) => (),
+        Err(_) => unreachable!(),
+    }
+}
+
+/// Puts items behind others: where these lie if there is room for the next power of two as many, else all go into the
+/// room that is handed in. It takes no memory.
+pub fn put_behind<T: Drop>(items: &mut Vec<T>, more: Vec<T>, room: Vec<T>)
+    requires few { length items.old.items + length more.items ≤ 2 ^ 63 }
+    requires held { IsRoomy (length items.old.items) (vec_capacity items.old) }
+    requires empty { room.items ≡ [] }
+    requires room { HasRoom (length items.old.items) (length items.old.items + length more.items) (vec_capacity room) }
+    ensures items { items.new.items ≡ items.old.items ++ more.items }
+    ensures room { IsRoomy (length items.new.items) (vec_capacity items.new) }
+{
+    let all = items.len() + more.len();
+    if items.capacity() < room_of(all) {
+        let held = mem::replace(items, room);
+        move_behind(items, held);
+    }
+    move_behind(items, more);
 }
 
 /// Memory for the items of an array and more behind them, of which `Array::grow` makes use; none where there is room

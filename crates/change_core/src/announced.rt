@@ -45,6 +45,12 @@ pub trait Announced: Primitive {
         false
     }
 
+    /// An item of the result is made from few items of the arguments, however many these have: then what changes of the result is made from the
+    /// arguments as they are seen, without a copy of one that was patched. This says how a result is best made, and nothing of what it is.
+    fn reads_few_items(&self) -> bool {
+        false
+    }
+
     /// A change of the argument makes the result anew.
     fn selects(&self, which: usize) -> bool
         ensures { result ≡ get_or (selectors self.now) which false };
@@ -108,6 +114,10 @@ impl<P: Announced> Rule for P {
 
     fn keeps_places(&self, args: &[Seen], which: usize) -> bool {
         Announced::keeps_places(self, args, which)
+    }
+
+    fn reads_few_items(&self) -> bool {
+        Announced::reads_few_items(self)
     }
 
     fn item(&self, args: &[Seen], index: &[u32], meter: &mut Meter) -> Result<Item, Kind> {

@@ -136,6 +136,12 @@ pub trait Rule {
         false
     }
 
+    /// An item of the result is made from few items of the arguments, however many these have: then what changes of the result is made from the
+    /// arguments as they are seen, without a copy of one that was patched. This says how a result is best made, and nothing of what it is.
+    fn reads_few_items(&self) -> bool {
+        false
+    }
+
     /// A change of the argument makes the result anew, its shape too.
     fn selects(&self, which: usize) -> bool
         ensures { result ≡ get_or (model self.now).selectors which false };

@@ -18,7 +18,7 @@ use std::alloc::{AllocError, Global};
 const FEW_PLACES: u32 = 16;
 
 /// The items of a box of the result, whose shape and type are given. Where the box is all of the result, they are made
-/// as a whole.
+/// as a whole, unless each is made from few items of the arguments.
 fn items_of<R: Rule>(
     alloc: Global,
     rule: &R,
@@ -37,16 +37,17 @@ fn items_of<R: Rule>(
     ensures joins { meter.new.joins ≡ meter.old.joins }
 {
     let shape = form.0.as_slice();
-    if region.size() == size(shape) as usize {
+    if region.size() == size(shape) as usize && !rule.reads_few_items() {
         all_of(alloc, rule, args, meter)
     } else {
         rule.part(alloc, args, shape, form.1, region, meter)
     }
 }
 
-/// Each argument has so few items that going through it by its view is as quick as in one piece.
-fn are_small(args: &[Seen]) -> bool {
-    args.iter().all(|arg| arg.places() <= FEW_PLACES)
+/// One item that is all of the result is made as quickly from the arguments as they are seen as from their copies: few items of theirs are read, or
+/// each argument has few.
+fn goes_item_by_item<R: Rule>(rule: &R, args: &[Seen]) -> bool {
+    rule.reads_few_items() || args.iter().all(|arg| arg.places() <= FEW_PLACES)
 }
 
 /// The patch of one place of the result, or the error there, put in place of another change. It takes no memory.
@@ -74,7 +75,7 @@ pub(crate) fn patch_of_one<R: Rule>(
 }
 
 /// The patch of a box of the result, or the first error in it, put in place of another change. One place takes no memory where it
-/// is not all of the result, or where the arguments are small.
+/// is not all of the result, or where few items of the arguments are read.
 pub(crate) fn patch_of<R: Rule>(
     alloc: Global,
     rule: &R,
@@ -93,7 +94,7 @@ pub(crate) fn patch_of<R: Rule>(
     ensures rises { meter.old.ticks ≤ meter.new.ticks }
     ensures joins { meter.new.joins ≡ meter.old.joins }
 {
-    if region.size() == 1 && (size(form.0.as_slice()) > 1 || are_small(args)) {
+    if region.size() == 1 && (size(form.0.as_slice()) > 1 || goes_item_by_item(rule, args)) {
         patch_of_one(rule, args, region, change, meter);
         return Ok(());
     }

@@ -1,7 +1,7 @@
 //! The trees of all lines of an array along one axis, in a list of numbers and a list of nodes.
 
-ghost use Rattle.std.specs.Prelude.{◌≡◌, ℕ, ◌+◌, ◌-◌, ◌*◌, ◌/◌, ◌%◌, ◌^◌, ◌<◌, ◌≤◌, ◌==◌, ◌++◌, ◌∷◌, [], length, vec_len, vec_capacity, IfOk};
-ghost use Rattle.arrays_core.specs.Growth.{IsRoomy, HasRoom};
+ghost use Rattle.std.specs.Prelude.{◌≡◌, ℕ, ◌+◌, ◌-◌, ◌*◌, ◌/◌, ◌%◌, ◌^◌, ◌<◌, ◌≤◌, ◌==◌, ◌++◌, ◌∷◌, [], length, vec_capacity, IfOk};
+ghost use Rattle.arrays_core.specs.Growth.{IsRoomy};
 ghost use Rattle.operator_fns.specs.SumTree.{IsWithinDigitsOf};
 ghost use Rattle.operator_fns.specs.SumTrees.{FitBehind, FitNext, with_lines, with_places, line_count as lines_in, numbers_of_line, numbers_through, with_number, AreLines};
 ghost use Rattle.operator_fns.specs.LineTrees.{slot_of, shorter};
@@ -12,11 +12,10 @@ ghost use Rattle.fold_trees.specs.PartTrees.{line_at, nodes_in_line, AreAllKept,
 
 use crate::line_tree::{LineTree, fill_block, push_line, take_last, write};
 use crate::part::Part;
-use arrays_core::{Kind, copied, repeated, room_between, room_of, roomy};
+use arrays_core::{Kind, copied, put_behind, repeated, room_between, room_of, roomy};
 use operator_fns::{Line, line_through};
 use std::alloc::{AllocError, Global};
 use std::marker::Model;
-use std::mem;
 
 /// Where a line lies among those of so many numbers, lines counted from 0.
 fn nth_line(count: usize, step: usize, line: usize) -> Line
@@ -136,36 +135,6 @@ fn take_places<P: Part>(numbers: &[i64], nodes: &mut [P], count: usize, step: us
     for line in 0..step {
         take_last(numbers, nodes, nth_line(count, step, line));
     }
-}
-
-/// Puts items behind others, for which there is room. It takes no memory.
-fn append<T: Drop>(items: &mut Vec<T>, mut more: Vec<T>)
-    requires { vec_len items.old + vec_len more ≤ vec_capacity items.old }
-    ensures items { items.new.items ≡ items.old.items ++ more.items }
-    ensures room { vec_capacity items.old ≤ vec_capacity items.new }
-{
-    match items.append(&mut more) {
-        Ok(()) => (),
-        Err(_) => unreachable!(),
-    }
-}
-
-/// Puts items behind others: where these lie if there is room for the next power of two as many, else all go into the
-/// room that is handed in. It takes no memory.
-fn put_behind<T: Drop>(items: &mut Vec<T>, more: Vec<T>, room: Vec<T>)
-    requires few { length items.old.items + length more.items ≤ 2 ^ 63 }
-    requires held { IsRoomy (length items.old.items) (vec_capacity items.old) }
-    requires empty { room.items ≡ [] }
-    requires room { HasRoom (length items.old.items) (length items.old.items + length more.items) (vec_capacity room) }
-    ensures items { items.new.items ≡ items.old.items ++ more.items }
-    ensures room { IsRoomy (length items.new.items) (vec_capacity items.new) }
-{
-    let all = items.len() + more.len();
-    if items.capacity() < room_of(all) {
-        let held = mem::replace(items, room);
-        append(items, held);
-    }
-    append(items, more);
 }
 
 /// All lines of an array along one axis, with what is kept of the parts of each as a tree, so that one number can be replaced in as many

@@ -53,7 +53,6 @@ pub mod WrittenLines
 pub mod LongerLines
 pub mod LongerTables
 pub mod LongerTrees
-pub mod LineRooms
 pub mod MoreLines
 pub mod ListTrees
 pub mod VectorSums

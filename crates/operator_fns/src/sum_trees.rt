@@ -1,8 +1,8 @@
 //! The trees of sums of all lines of an array along one axis, in two lists.
 
-ghost use Rattle.std.specs.Prelude.{◌≡◌, ℕ, ◌+◌, ◌-◌, ◌*◌, ◌/◌, ◌%◌, ◌^◌, ◌<◌, ◌≤◌, ◌==◌, ◌++◌, ◌∷◌, [], length, vec_len, vec_capacity, All, FitsSigned, IfOk};
+ghost use Rattle.std.specs.Prelude.{◌≡◌, ℕ, ◌+◌, ◌-◌, ◌*◌, ◌/◌, ◌%◌, ◌^◌, ◌<◌, ◌≤◌, ◌==◌, ◌++◌, ◌∷◌, [], length, vec_capacity, All, FitsSigned, IfOk};
 ghost use Rattle.std.specs.Int.{w64};
-ghost use Rattle.arrays_core.specs.Growth.{IsRoomy, HasRoom};
+ghost use Rattle.arrays_core.specs.Growth.{IsRoomy};
 ghost use Rattle.operator_fns.specs.LineTrees.{slot_of, number_of, node_of, IsIn, AreKept, shorter};
 ghost use Rattle.operator_fns.specs.LineBlocks.{block_at};
 ghost use Rattle.operator_fns.specs.SumTree.{IsReductionBySum, IsWithinDigitsOf};
@@ -11,10 +11,9 @@ ghost use Rattle.operator_fns.specs.SumTrees.{FitBehind, FitNext, with_lines, wi
 use crate::line_tree::{Line, LineTree, fill_block, pair_block, push_line, take_last, write};
 use crate::sum_tree::read_all;
 use crate::summary::Summary;
-use arrays_core::{Kind, copied, repeated, room_between, room_of, roomy};
+use arrays_core::{Kind, copied, put_behind, repeated, room_between, room_of, roomy};
 use std::alloc::{AllocError, Global};
 use std::marker::Model;
-use std::mem;
 
 /// Where a line lies among those of so many numbers, lines counted from 0.
 fn nth_line(count: usize, step: usize, line: usize) -> Line
@@ -153,36 +152,6 @@ fn take_places(slots: &mut [i64], nodes: &mut [Summary], count: usize, step: usi
     for line in 0..step {
         take_last(slots, nodes, nth_line(count, step, line));
     }
-}
-
-/// Puts items behind others, for which there is room. It takes no memory.
-fn append<T: Drop>(items: &mut Vec<T>, mut more: Vec<T>)
-    requires { vec_len items.old + vec_len more ≤ vec_capacity items.old }
-    ensures items { items.new.items ≡ items.old.items ++ more.items }
-    ensures room { vec_capacity items.old ≤ vec_capacity items.new }
-{
-    match items.append(&mut more) {
-        Ok(()) => (),
-        Err(_) => unreachable!(),
-    }
-}
-
-/// Puts items behind others: where these lie if there is room for the next power of two as many, else all go into the
-/// room that is handed in. It takes no memory.
-fn put_behind<T: Drop>(items: &mut Vec<T>, more: Vec<T>, room: Vec<T>)
-    requires few { length items.old.items + length more.items ≤ 2 ^ 63 }
-    requires held { IsRoomy (length items.old.items) (vec_capacity items.old) }
-    requires empty { room.items ≡ [] }
-    requires room { HasRoom (length items.old.items) (length items.old.items + length more.items) (vec_capacity room) }
-    ensures items { items.new.items ≡ items.old.items ++ more.items }
-    ensures room { IsRoomy (length items.new.items) (vec_capacity items.new) }
-{
-    let all = items.len() + more.len();
-    if items.capacity() < room_of(all) {
-        let held = mem::replace(items, room);
-        append(items, held);
-    }
-    append(items, more);
 }
 
 /// The sums of all lines of an array along one axis, each kept as a tree, so that one number can be replaced in as many

@@ -154,6 +154,10 @@ impl<'w> Announced for Index<'w> {
         first_alone(grown) && first_empty(self.written) && args[0].shape().len() >= 2
     }
 
+    fn reads_few_items(&self) -> bool {
+        true
+    }
+
     fn selects(&self, _which: usize) -> bool {
         false
     }

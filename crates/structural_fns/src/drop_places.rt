@@ -222,6 +222,10 @@ impl Announced for DropPlaces {
         false
     }
 
+    fn reads_few_items(&self) -> bool {
+        true
+    }
+
     fn selects(&self, which: usize) -> bool {
         which == 0
     }

@@ -156,6 +156,10 @@ impl Announced for Reshape {
         false
     }
 
+    fn reads_few_items(&self) -> bool {
+        true
+    }
+
     fn selects(&self, which: usize) -> bool {
         which == 0
     }

@@ -248,6 +248,10 @@ impl Announced for Take {
         false
     }
 
+    fn reads_few_items(&self) -> bool {
+        true
+    }
+
     fn selects(&self, which: usize) -> bool {
         which == 0
     }

@@ -2,10 +2,9 @@ use Rattle.std.proofs.Common.{◌≡◌, ◌∙◌, ◌+◌, ◌<◌, ◌≤◌,
 use Rattle.std.specs.Int.{IsNextPowerOfTwo}
 use Rattle.std.proofs.lemmas.List.{length-append}
 use Rattle.arrays_core.specs.Growth.{IsRoomy}
-use Rattle.arrays_core.proofs.Rooms.{brought, roomy_of}
-use Rattle.operator_fns.proofs.LineRooms.{larger}
-use Rattle.operator_fns.proofs.sum_trees.put_behind.Goals.{then-capacity-room_of, else-capacity-room_of}
-use Rattle.operator_fns.proofs.sum_trees.put_behind.Goals as goal
+use Rattle.arrays_core.proofs.Rooms.{brought, larger, roomy_of}
+use Rattle.arrays_core.proofs.room.put_behind.Goals.{then-capacity-room_of, else-capacity-room_of}
+use Rattle.arrays_core.proofs.room.put_behind.Goals as goal
 
 pub returns-clause-room : goal.returns-clause-room
 returns-clause-room g c =
@@ -22,7 +21,7 @@ returns-clause-room g c =
           let room : IsRoomy all p = λ some. roomy_of all p (next some) some in
           let there : IsRoomy all (vec_capacity c.args.room) = λ some q other. let most = room some q other in
           let enough = brought held all p (vec_capacity c.args.items.now) (vec_capacity c.args.room) c.requires.held c.requires.room (omega arith) (next some) some small in omega (arith, most, enough) in
-          larger all _ _ there (omega (arith, ap vec_capacity w.replace-held.ensures.after, w.append.ensures.room, ap vec_capacity w.items-is))
+          larger all _ _ there (omega (arith, ap vec_capacity w.replace-held.ensures.after, w.move_behind.ensures.room, ap vec_capacity w.items-is))
       | else-capacity-room_of w ↦
           larger all p _ (λ some. roomy_of all p (next some) some) (omega (arith, w.if-capacity-room_of.false, c.capacity.ensures, ap vec_capacity w.items-is))
     ] in
@@ -30,6 +29,6 @@ returns-clause-room g c =
       | then-capacity-room_of w ↦ search rules
       | else-capacity-room_of w ↦ search rules
     ] in
-    let many : all ≡ length c.append-2.new.items.items =
-    sym (ap length c.append-2.ensures.items ∙ length-append c.if-capacity-room_of.items.items c.args.more.items ∙ ap (λ n. n + length c.args.more.items) (ap length old)) in
-    subst (λ (n : ℕ). IsRoomy n (vec_capacity c.append-2.new.items)) many (larger all _ _ kept c.append-2.ensures.room)
+    let many : all ≡ length c.move_behind-2.new.items.items =
+    sym (ap length c.move_behind-2.ensures.items ∙ length-append c.if-capacity-room_of.items.items c.args.more.items ∙ ap (λ n. n + length c.args.more.items) (ap length old)) in
+    subst (λ (n : ℕ). IsRoomy n (vec_capacity c.move_behind-2.new.items)) many (larger all _ _ kept c.move_behind-2.ensures.room)
