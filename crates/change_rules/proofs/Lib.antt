@@ -2,7 +2,7 @@ pub mod Walked
 pub mod PatchRight
 pub mod Refreshed
 pub mod Nodes
-mod OnePlace
+mod KeptPlace
 pub mod GrownRight
 pub mod NodeRight
 pub mod Right

@@ -1,11 +1,12 @@
 -- The change of a node, from the changes of its arguments.
-use Rattle.std.specs.Prelude.{ℕ, List, [], ◌&&◌, Bool, true, false, ◌||◌, not, Option, Some, None, Result, Ok, Err, if◌then◌else◌, map, is_ok}
+use Rattle.std.specs.Prelude.{ℕ, List, [], ◌∷◌, ◌&&◌, Bool, true, false, ◌||◌, not, Option, Some, None, Result, Ok, Err, if◌then◌else◌, map, is_ok}
 use Rattle.std.specs.Borrow.{Bor}
 use Rattle.std.specs.List.{list_all, list_any}
 use Rattle.arrays_core.specs.declared.item.Item.{Item}
 use Rattle.arrays_core.specs.declared.item.ItemType.{ItemType}
 use Rattle.arrays_core.specs.declared.item.Kind.{Kind}
 use Rattle.arrays_core.specs.Arrays.{ArrayValue}
+use Rattle.arrays_core.specs.Items.{type_of}
 use Rattle.arrays_core.specs.Shapes.{size}
 use Rattle.index_region.specs.declared.delta.Delta.{Delta}
 use Rattle.index_region.specs.declared.delta.Delta.TheVariants.{Same, Patch, Grown, Whole}
@@ -18,6 +19,7 @@ use Rattle.change_core.specs.Growth.{last_place}
 use Rattle.change_core.specs.Reaches.{reach_of}
 use Rattle.change_core.specs.RuleModels.{RuleModel, form_size}
 use Rattle.arrays_core.specs.Outcomes.{Outcome, fault, given}
+use Rattle.change_rules.specs.declared.one_place.OnePlace.{OnePlace}
 use Rattle.change_rules.specs.Evaluation.{evaluation}
 
 -- an argument as it is handed in: the array that it is now, and what changed of it
@@ -85,6 +87,14 @@ starts_anew args old = list_any (λ a. is_whole a.1.now) args || not (is_ok old)
 abbrev pub patch_delta : ItemType → List Interval → Result (List Item) Kind → Delta
 patch_delta item_type region (Ok items) = Patch (record { region = region; item_type = item_type; items = items })
 patch_delta item_type region (Err kind) = Whole (Err (fault kind))
+
+-- a patch of one place of a result, or the error there
+abbrev pub place_delta : List Interval → Result Item Kind → Delta
+place_delta region (Ok item) = Patch (record { region = region; item_type = type_of item; items = item ∷ [] })
+place_delta region (Err kind) = Whole (Err (fault kind))
+
+abbrev pub delta_of_place : OnePlace → Delta
+delta_of_place p = place_delta p.region p.given
 
 -- nothing, a patch of the box, or the whole, by what may change of the result; or the error of the checks
 abbrev pub delta_in : Result Form Kind → (List ℕ → Result Item Kind) → Reach → Delta

@@ -4,8 +4,10 @@
 mod arguments;
 mod evaluation;
 mod node;
+mod one_place;
 mod patch;
 
 pub use change_core::{Meter, Reach, Rule, reach_covers};
 pub use index_region::{Delta, Patch, Seen, Tail};
 pub use node::{refresh, refresh_with_cost};
+pub use one_place::{OnePlace, refreshed_place};

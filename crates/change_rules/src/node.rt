@@ -21,7 +21,8 @@ use crate::arguments::{
     views_are_arrays, views_of,
 };
 use crate::evaluation::evaluate;
-use crate::patch::{patch_of, patch_of_one};
+use crate::one_place::refreshed_place;
+use crate::patch::patch_of;
 use arrays_core::{Array, Fault, Shape, outcome, shape_of, size};
 use change_core::{Meter, Reach, Rule, last_place};
 use index_region::{Delta, IndexBox, Seen, Tail};
@@ -255,82 +256,6 @@ fn tail_of_one<R: Rule>(
     Ok(())
 }
 
-/// That the only argument was patched, and its box.
-fn patched(delta: &Delta) -> Option<(usize, &IndexBox)>
-    ensures first { IfSome result (λ b. b.0 ≡ 0) }
-    ensures only { IfSome result (λ b. box_moved_by delta.now ≡ Some b.1.now) }
-    ensures patched { IfSome result (λ b. is_patched_at_most delta.now ≡ true) }
-{
-    match delta {
-        Delta::Patch(patch) => Some((0, patch.region())),
-        _ => None,
-    }
-}
-
-/// Which of two arguments was patched, and its box, where the other one is as it was.
-fn patched_alone<'a>(left: &'a Delta, right: &'a Delta) -> Option<(usize, &'a IndexBox)>
-    ensures below { IfSome result (λ b. b.0 < 2) }
-    ensures only { IfSome result (λ b. box_moved_by left.now ∷ box_moved_by right.now ∷ [] ≡ only_at 2 b.0 b.1.now) }
-    ensures left { IfSome result (λ b. is_patched_at_most left.now ≡ true) }
-    ensures right { IfSome result (λ b. is_patched_at_most right.now ≡ true) }
-{
-    match (left, right) {
-        (Delta::Patch(patch), Delta::Same) => Some((0, patch.region())),
-        (Delta::Same, Delta::Patch(patch)) => Some((1, patch.region())),
-        _ => None,
-    }
-}
-
-/// Which argument alone was patched, and its box, where there are at most two and the other one is as it was.
-fn only_patched<'c>(args: &[(Seen, &'c Delta)]) -> Option<(usize, &'c IndexBox)>
-    ensures below { IfSome result (λ b. b.0 < length args.now) }
-    ensures only { IfSome result (λ b. moved args.now ≡ only_at (length args.now) b.0 b.1.now) }
-    ensures patched { IfSome result (λ b. all_patched_at_most args.now ≡ true) }
-{
-    match args {
-        [(_, delta)] => patched(delta),
-        [(_, left), (_, right)] => patched_alone(left, right),
-        _ => None,
-    }
-}
-
-/// The change of a node that held an array, where one place of one argument alone changed and the result has the places of that: its one item is
-/// new, and nothing else need be looked at. Where that is not so it says no, and nothing is done.
-#[inline(always)]
-fn change_of_place<R: Rule>(
-    rule: &R,
-    seen: &[Seen],
-    args: &[(Seen, &Delta)],
-    old: &Result<Array, Fault>,
-    change: &mut Delta,
-    meter: &mut Meter,
-) -> bool
-    requires count { length args.now ≡ length (R.model rule.now).selectors }
-    requires fit { AllFit (views args.now) (moved args.now) }
-    requires sound { Each IsArray (views args.now) }
-    requires seen { seen.now ≡ views args.now }
-    requires some { all_are_same args.now ≡ false }
-    ensures delta { IsTrue result → change.new ≡ node_delta (R.model rule.now) args.now old.now }
-    ensures cost { IsTrue result → 1 ≡ node_cost (R.model rule.now) args.now old.now }
-    ensures ticks { meter.new.ticks ≤ meter.old.ticks + node_cost (R.model rule.now) args.now old.now }
-    ensures exact { IsTrue result → is_error change.new ≡ false → meter.new.ticks ≡ ticked meter.old.ticks 1 }
-    ensures rises { meter.old.ticks ≤ meter.new.ticks }
-    ensures joins { meter.new.joins ≡ meter.old.joins }
-    ensures none { result ≡ false → meter.new ≡ meter.old }
-{
-    if old.is_err() {
-        return false;
-    }
-    let Some((which, region)) = only_patched(args) else {
-        return false;
-    };
-    if region.size() != 1 || !rule.keeps_places(seen, which) {
-        return false;
-    }
-    patch_of_one(rule, seen, region.copy(), change, meter);
-    true
-}
-
 /// The change of a node, and what it costs. Views and boxes of up to three arguments take no memory.
 #[inline(always)]
 fn change_of<R: Rule>(
@@ -356,20 +281,18 @@ fn change_of<R: Rule>(
         *change = Delta::Same;
         return Ok(0);
     }
+    if let Some(place) = refreshed_place(rule, args, old, meter) {
+        *change = place.delta();
+        return Ok(1);
+    }
     match args {
         [(a, d)] => {
             let seen = [a.again()];
-            if change_of_place(rule, &seen, args, old, change, meter) {
-                return Ok(1);
-            }
             let boxes = [moved_by(d)];
             change_from(alloc, rule, &seen, &boxes, args, old, change, meter)
         }
         [(a, d), (b, e)] => {
             let seen = [a.again(), b.again()];
-            if change_of_place(rule, &seen, args, old, change, meter) {
-                return Ok(1);
-            }
             let boxes = [moved_by(d), moved_by(e)];
             change_from(alloc, rule, &seen, &boxes, args, old, change, meter)
         }

@@ -9,6 +9,7 @@ ghost use Rattle.change_core.specs.Parts.{HoldsItems, items_in};
 ghost use Rattle.change_rules.specs.Nodes.{is_error, patch_delta};
 
 use crate::evaluation::all_of;
+use crate::one_place::OnePlace;
 use arrays_core::{ApplyFault, Array, ItemType, Shape, outcome, size};
 use change_core::{Meter, Rule};
 use index_region::{Delta, IndexBox, Patch, Seen};
@@ -50,30 +51,6 @@ fn goes_item_by_item<R: Rule>(rule: &R, args: &[Seen]) -> bool {
     rule.reads_few_items() || args.iter().all(|arg| arg.places() <= FEW_PLACES)
 }
 
-/// The patch of one place of the result, or the error there, put in place of another change. It takes no memory.
-pub(crate) fn patch_of_one<R: Rule>(
-    rule: &R,
-    args: &[Seen],
-    region: IndexBox,
-    change: &mut Delta,
-    meter: &mut Meter,
-)
-    requires count { length args.now ≡ length (R.model rule.now).selectors }
-    requires one { box_size region ≡ 1 }
-    requires checked { (f : Form) × ((R.model rule.now).form args.now ≡ Ok f) × IsTrue (fits region f.shape) }
-    ensures delta { (f : Form) → (R.model rule.now).form args.now ≡ Ok f → change.new ≡ patch_delta f.item_type region (items_in ((R.model rule.now).item args.now) region) }
-    ensures ticks { meter.new.ticks ≤ meter.old.ticks + 1 }
-    ensures exact { is_error change.new ≡ false → meter.new.ticks ≡ ticked meter.old.ticks 1 }
-    ensures rises { meter.old.ticks ≤ meter.new.ticks }
-    ensures joins { meter.new.joins ≡ meter.old.joins }
-{
-    let index = region.index_at(0);
-    match rule.item(args, index.as_slice(), meter) {
-        Ok(item) => *change = Delta::Patch(Patch::one(region, item)),
-        Err(kind) => *change = Delta::Whole(Err(kind.into())),
-    }
-}
-
 /// The patch of a box of the result, or the first error in it, put in place of another change. One place takes no memory where it
 /// is not all of the result, or where few items of the arguments are read.
 pub(crate) fn patch_of<R: Rule>(
@@ -95,7 +72,8 @@ pub(crate) fn patch_of<R: Rule>(
     ensures joins { meter.new.joins ≡ meter.old.joins }
 {
     if region.size() == 1 && (size(form.0.as_slice()) > 1 || goes_item_by_item(rule, args)) {
-        patch_of_one(rule, args, region, change, meter);
+        let place = OnePlace::of(rule, args, region, meter);
+        *change = place.delta();
         return Ok(());
     }
     match outcome(items_of(alloc, rule, args, form, &region, meter))? {

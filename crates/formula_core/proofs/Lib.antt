@@ -24,3 +24,4 @@ pub mod Progressed
 pub mod Tallied
 pub mod AtRest
 mod Origins
+pub mod Places

@@ -4,6 +4,8 @@ use Rattle.arrays_core.specs.declared.item.Kind.TheVariants.{Value}
 use Rattle.index_region.specs.declared.delta.Delta.{Delta}
 use Rattle.index_region.specs.declared.delta.Delta.TheVariants.{Same, Patch, Grown, Whole}
 use Rattle.change_rules.specs.Currency.{applied}
+use Rattle.change_rules.specs.declared.one_place.OnePlace.{OnePlace}
+use Rattle.change_rules.specs.Nodes.{delta_of_place}
 use Rattle.sum_rules.specs.LineSums.{SummedValue}
 use Rattle.apl_expr.specs.Trees.{Tree}
 use Rattle.formula_core.specs.declared.kept.Kept.{Kept}
@@ -46,6 +48,10 @@ AreNew nodes = All (λ k. holding k ≡ not_worked_out) nodes
 -- nothing changes of a node
 abbrev pub no_change : NodeChange
 no_change = record { delta = Same; sums = sums.Same }
+
+-- one place is all that changes of a node, or the error there
+abbrev pub place_change : OnePlace → NodeChange
+place_change p = record { delta = delta_of_place p; sums = sums.Same }
 
 -- nothing changes, or items of what is held
 abbrev pub lent_delta : Delta → Bool

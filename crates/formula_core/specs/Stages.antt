@@ -10,6 +10,7 @@ use Rattle.index_region.specs.declared.delta.Delta.{Delta}
 use Rattle.index_region.specs.declared.delta.Delta.TheVariants.{Same}
 use Rattle.change_core.specs.Meters.{ticked}
 use Rattle.change_rules.specs.Currency.{applied}
+use Rattle.change_rules.specs.declared.one_place.OnePlace.{OnePlace}
 use Rattle.change_rules.specs.Nodes.{is_whole, is_error}
 use Rattle.sum_rules.specs.LineSums.{SummedValue}
 use Rattle.sum_rules.specs.Totals.{total_rule}
@@ -21,7 +22,7 @@ use Rattle.formula_core.specs.declared.table.Operand.TheVariants as operand
 use Rattle.formula_core.specs.Meaning.{array_of, eval}
 use Rattle.arrays_core.specs.Outcomes.{Outcome, fault, given}
 use Rattle.formula_core.specs.Tables.{tree_at, tree_of_node, trees_after, subtrees, IsTable}
-use Rattle.formula_core.specs.Holdings.{Holding, holding_at, holdings_of, nodes_of, not_worked_out, no_change, taking, IsFit}
+use Rattle.formula_core.specs.Holdings.{Holding, holding_at, holdings_of, nodes_of, not_worked_out, no_change, place_change, taking, IsFit}
 use Rattle.formula_core.specs.Formulas.{FormulaValue}
 use Rattle.formula_core.specs.Changes.{Change, change, arguments, operation_cost, IsNameChanged}
 use Rattle.formula_core.specs.Inputs.{shown, delta_of, IsInput}
@@ -40,6 +41,12 @@ pub record IsDone (is_new : Bool) (c : Change) (t : Tree) (held : Holding) (d : 
   pub fit : IsFit d held
   pub sound_held : IfOk held.result IsArray
   pub sound_new : IfOk (eval t c.new) IsArray
+
+-- this one place is all that changes of the node of a tree, which joins no sums
+pub record IsOnePlace (is_new : Bool) (c : Change) (t : Tree) (held : Holding) (p : OnePlace) : Type 0 where
+  pub done : IsDone is_new c t held (place_change p)
+  pub cost : 1 ≡ node_cost_at is_new c t
+  pub joins : least_joins is_new c t ≡ 0
 
 -- the names changed so, the nodes are those of these trees and held what they gave, and each that has a change is done
 pub record IsStaged (c : Change) (names : List (List ℕ)) (trees : List Tree) (s : Stage) : Type 0 where

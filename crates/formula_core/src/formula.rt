@@ -1,10 +1,11 @@
 //! A formula: an expression as a table of nodes, with the result that each node was last given.
 
-ghost use Rattle.std.specs.Prelude.{◌≡◌, ◌+◌, ◌≤◌, ◌<◌, ℕ, List, true, false, [], length, get_or, take, map, min, IfOk, OnOk, OnErr, MatchBool};
+ghost use Rattle.std.specs.Prelude.{◌≡◌, ◌+◌, ◌≤◌, ◌<◌, ℕ, List, true, false, [], length, get_or, take, map, min, IfOk, IfSome, OnOk, OnErr, MatchBool};
 ghost use Rattle.std.specs.List.{Contains, count_by};
 ghost use Rattle.apl_expr.specs.Trees.{tree_of};
 ghost use Rattle.change_core.specs.Meters.{ticked};
 ghost use Rattle.change_rules.specs.Nodes.{is_error};
+ghost use Rattle.index_region.specs.Boxes.{box_size};
 ghost use Rattle.index_region.specs.declared.delta.Delta.TheVariants.{Same};
 ghost use Rattle.formula_core.specs.Outcomes.{read};
 ghost use Rattle.formula_core.specs.Meaning.{eval, names_in};
@@ -14,7 +15,7 @@ ghost use Rattle.formula_core.specs.Formulas.{new_formula, root_result, operatio
 ghost use Rattle.formula_core.specs.Joins.{most_joins, least_joins, tree_joins, tree_least_joins};
 ghost use Rattle.formula_core.specs.Plans.{tree_cost, node_cost_at, IsComputed, AllComputed, IsPlanOf, IsTold, IsPlanned};
 ghost use Rattle.formula_core.specs.Progress.{operations_among, IsAtOperation, IsPlannedTo};
-ghost use Rattle.formula_core.specs.Stages.{IsBegun, IsDone, IsLiteralChange};
+ghost use Rattle.formula_core.specs.Stages.{IsBegun, IsDone, IsLiteralChange, IsOnePlace};
 ghost use Rattle.formula_core.specs.Tables.{applies, subtrees, tree_at};
 
 use crate::evaluation::{Shows, errors_shown, inputs_at_rest};
@@ -28,6 +29,7 @@ use apl_expr::Expr;
 use apl_tokens::Name;
 use arrays_core::{Array, Fault};
 use change_core::{Count, Meter};
+use change_rules::OnePlace;
 use index_region::Delta;
 use std::alloc::{AllocError, Global};
 use std::cell::Cell;
@@ -219,12 +221,77 @@ impl Formula {
         ensures err_meter { OnErr result (meter.new ≡ meter.old) }
     {
         let mut own = Meter::new();
+        let Some(place) = self.next_place(plan.changes.as_slice(), inputs, &mut own) else {
+            return self.advance_by_rule(plan, inputs, meter);
+        };
+        plan.changes.push(NodeChange::at(place))?;
+        plan.cost.add(1);
+        meter.include(&own);
+        Ok(())
+    }
+
+    /// One function more, as `advance` says, by its rule. It stands alone, since a change takes room that need not be cleared where one place is all that
+    /// changes.
+    #[inline(never)]
+    fn advance_by_rule(
+        &self,
+        plan: &mut Plan,
+        inputs: &[Input],
+        meter: &mut Meter,
+    ) -> Result<(), AllocError>
+        requires left { operations_among self.now plan.old.changes < operations self.now.tree }
+        requires planned { (c : Change) × (IsTold self.now c inputs.now × IsPlannedTo self.now c plan.old) }
+        ensures one { OnOk result (operations_among self.now plan.new.changes ≡ operations_among self.now plan.old.changes + 1) }
+        ensures planned { OnOk result ((c : Change) → IsTold self.now c inputs.now → IsPlannedTo self.now c plan.old → IsPlannedTo self.now c plan.new) }
+        ensures ticks { OnOk result ((c : Change) → IsTold self.now c inputs.now → IsPlannedTo self.now c plan.old
+            → meter.new.ticks ≤ meter.old.ticks + node_cost_at self.now.is_new c (tree_at (subtrees self.now.tree) (length plan.old.changes))) }
+        ensures exact { OnOk result ((c : Change) → IsTold self.now c inputs.now → IsPlannedTo self.now c plan.old → IsComputed self.now.is_new c (tree_at (subtrees self.now.tree) (length plan.old.changes))
+            → meter.new.ticks ≡ ticked meter.old.ticks (node_cost_at self.now.is_new c (tree_at (subtrees self.now.tree) (length plan.old.changes)))) }
+        ensures rises { meter.old.ticks ≤ meter.new.ticks }
+        ensures cost { OnOk result ((c : Change) → IsTold self.now c inputs.now → IsPlannedTo self.now c plan.old
+            → plan.new.cost ≡ ticked plan.old.cost (node_cost_at self.now.is_new c (tree_at (subtrees self.now.tree) (length plan.old.changes)))) }
+        ensures joins { OnOk result ((c : Change) → IsTold self.now c inputs.now → IsPlannedTo self.now c plan.old
+            → meter.new.joins ≤ meter.old.joins + most_joins self.now.is_new c (tree_at (subtrees self.now.tree) (length plan.old.changes))) }
+        ensures joined { OnOk result ((c : Change) → IsTold self.now c inputs.now → IsPlannedTo self.now c plan.old → IsComputed self.now.is_new c (tree_at (subtrees self.now.tree) (length plan.old.changes))
+            → ticked meter.old.joins (least_joins self.now.is_new c (tree_at (subtrees self.now.tree) (length plan.old.changes))) ≤ meter.new.joins) }
+        ensures err { OnErr result (plan.new ≡ plan.old) }
+        ensures err_meter { OnErr result (meter.new ≡ meter.old) }
+    {
+        let mut own = Meter::new();
         let mut change = NodeChange::none();
         let items = self.next(plan.changes.as_slice(), inputs, &mut change, &mut own)?;
         plan.changes.push(change)?;
         plan.cost.add(items);
         meter.include(&own);
         Ok(())
+    }
+
+    /// The one place that changes of the node that comes next after those that have these changes, where that is known at once.
+    #[inline(always)]
+    fn next_place(
+        &self,
+        changes: &[NodeChange],
+        inputs: &[Input],
+        meter: &mut Meter,
+    ) -> Option<OnePlace>
+        requires below { length changes.now < length self.now.nodes }
+        requires begun { (c : Change) × (IsTold self.now c inputs.now × ((cost : ℕ) × IsBegun self.now c changes.now cost)) }
+        ensures one { IfSome result (λ p. box_size p.region ≡ 1) }
+        ensures next { IfSome result (λ p. (c : Change) → IsTold self.now c inputs.now → (cost : ℕ) → IsBegun self.now c changes.now cost
+            → IsOnePlace self.now.is_new c (tree_at (subtrees self.now.tree) (length changes.now)) (get_or self.now.nodes (length changes.now) not_worked_out) p) }
+        ensures ticks { IfSome result (λ p. meter.new.ticks ≡ ticked meter.old.ticks 1) }
+        ensures joins { meter.new.joins ≡ meter.old.joins }
+    {
+        let of_literals = of_literals(self.is_new);
+        let stage = Stage {
+            alloc: self.alloc,
+            is_new: self.is_new,
+            inputs,
+            nodes: self.nodes.as_slice(),
+            changes,
+            of_literals: &of_literals,
+        };
+        stage.next_place(meter)
     }
 
     /// What changes of the literal or name that comes next after those that have these changes.

@@ -2,14 +2,16 @@
 
 ghost use Rattle.std.specs.Prelude.{◌≡◌, true, length, None, Err};
 ghost use Rattle.arrays_core.specs.declared.item.Kind.TheVariants.{Value};
+ghost use Rattle.index_region.specs.Boxes.{box_size};
 ghost use Rattle.change_rules.specs.Currency.{applied};
 ghost use Rattle.formula_core.specs.Changes.{FitsIn, each_with};
 ghost use Rattle.arrays_core.specs.Outcomes.{fault};
-ghost use Rattle.formula_core.specs.Holdings.{holding, holdings_of, can_be_lent, no_change, node_taking, IsFit, AllChangesFit};
+ghost use Rattle.formula_core.specs.Holdings.{holding, holdings_of, can_be_lent, no_change, place_change, node_taking, IsFit, AllChangesFit};
 
 use crate::sums::{SumsDelta, take_sums_delta};
 use crate::table::Node;
 use arrays_core::{Array, Fault, Kind};
+use change_rules::OnePlace;
 use index_region::Delta;
 use sum_rules::LineSums;
 
@@ -76,6 +78,18 @@ impl NodeChange {
     {
         NodeChange {
             delta: Delta::Same,
+            sums: SumsDelta::Same,
+        }
+    }
+
+    /// The change of a node of which one place is all that changes, or that has the error there.
+    #[inline(always)]
+    pub(crate) fn at(place: OnePlace) -> NodeChange
+        requires { box_size place.region ≡ 1 }
+        ensures { result ≡ place_change place }
+    {
+        NodeChange {
+            delta: place.delta(),
             sums: SumsDelta::Same,
         }
     }

@@ -1,6 +1,11 @@
 //! The change of an operation, from what its operands give.
 
-ghost use Rattle.std.specs.Prelude.{◌≡◌, [], ◌∷◌, Some, None, Err, if◌then◌else◌};
+ghost use Rattle.std.specs.Prelude.{◌≡◌, [], ◌∷◌, Some, None, Ok, Err, IfSome, IsNone, if◌then◌else◌};
+ghost use Rattle.index_region.specs.Boxes.{box_size};
+ghost use Rattle.change_core.specs.Meters.{ticked};
+ghost use Rattle.change_rules.specs.Nodes.{delta_of_place};
+ghost use Rattle.scalar_fns.specs.EachMonadic.{each_monadic_rule};
+ghost use Rattle.scalar_fns.specs.EachDyadic.{each_dyadic_rule};
 ghost use Rattle.index_region.specs.declared.delta.Delta.TheVariants.{Same, Whole as WholeDelta};
 ghost use Rattle.sum_rules.specs.Totals.{total_rule};
 ghost use Rattle.formula_core.specs.Inputs.{shown, delta_of, HasFit, IsOperationChange};
@@ -14,8 +19,11 @@ use crate::sums::{SumsDelta, total_of};
 use apl_expr::{Function1, Function2};
 use arrays_core::{Array, Fault};
 use change_core::Meter;
+use change_rules::OnePlace;
+use function_names::{Scalar1, Scalar2};
 use index_region::Delta;
 use operator_fns::Reduce;
+use scalar_fns::{EachDyadic, EachMonadic};
 use std::alloc::{AllocError, Global};
 use sum_rules::{LineSums, fold_totals_with_cost, read_totals_with_cost, refresh_totals_with_cost};
 
@@ -152,6 +160,69 @@ pub(crate) fn change_of_both(
             };
             operation.of_both(function, change, meter)
         }
+    }
+}
+
+/// The one place that changes of a scalar function of its argument, where that is known at once; where it is not, nothing is done. So it is with the
+/// next call.
+#[inline(always)]
+pub(crate) fn place_of_each(
+    alloc: Global,
+    function: Scalar1,
+    right: &Input,
+    held: &Result<Array, Fault>,
+    meter: &mut Meter,
+) -> Option<OnePlace>
+    requires { HasFit right.now }
+    ensures one { IfSome result (λ p. box_size p.region ≡ 1) }
+    ensures change { IfSome result (λ p. IsOperationChange (each_monadic_rule function) (right.now ∷ []) held.now meter.old.ticks meter.new.ticks (Ok (delta_of_place p, 1))) }
+    ensures ticks { IfSome result (λ p. meter.new.ticks ≡ ticked meter.old.ticks 1) }
+    ensures joins { meter.new.joins ≡ meter.old.joins }
+    ensures none { IsNone result → meter.new ≡ meter.old }
+{
+    match right {
+        Input::Good(array, delta) => {
+            let args = [(array.again(), *delta)];
+            let operation = Operation {
+                alloc,
+                args: &args,
+                held,
+            };
+            operation.place_by(&EachMonadic { function }, meter)
+        }
+        Input::Bad { .. } => None,
+    }
+}
+
+/// The one place that changes of a scalar function of its two arguments.
+#[inline(always)]
+pub(crate) fn place_of_pairs(
+    alloc: Global,
+    function: Scalar2,
+    left: &Input,
+    right: &Input,
+    held: &Result<Array, Fault>,
+    meter: &mut Meter,
+) -> Option<OnePlace>
+    requires left { HasFit left.now }
+    requires right { HasFit right.now }
+    ensures one { IfSome result (λ p. box_size p.region ≡ 1) }
+    ensures change { IfSome result (λ p. IsOperationChange (each_dyadic_rule function) (left.now ∷ right.now ∷ []) held.now meter.old.ticks meter.new.ticks (Ok (delta_of_place p, 1))) }
+    ensures ticks { IfSome result (λ p. meter.new.ticks ≡ ticked meter.old.ticks 1) }
+    ensures joins { meter.new.joins ≡ meter.old.joins }
+    ensures none { IsNone result → meter.new ≡ meter.old }
+{
+    match (left, right) {
+        (Input::Good(left, of_left), Input::Good(right, of_right)) => {
+            let args = [(left.again(), *of_left), (right.again(), *of_right)];
+            let operation = Operation {
+                alloc,
+                args: &args,
+                held,
+            };
+            operation.place_by(&EachDyadic { function }, meter)
+        }
+        _ => None,
     }
 }
 

@@ -1,8 +1,10 @@
 //! The change of an operation, from the changes of its arguments.
 
-ghost use Rattle.std.specs.Prelude.{◌≡◌, suc, length};
+ghost use Rattle.std.specs.Prelude.{◌≡◌, suc, length, Ok, IfSome, IsNone};
+ghost use Rattle.index_region.specs.Boxes.{box_size};
+ghost use Rattle.change_core.specs.Meters.{ticked};
 ghost use Rattle.change_core.specs.Reaches.{AllFit};
-ghost use Rattle.change_rules.specs.Nodes.{views, moved};
+ghost use Rattle.change_rules.specs.Nodes.{views, moved, delta_of_place};
 ghost use Rattle.change_rules.specs.Currency.{HasAxis};
 ghost use Rattle.selection_fns.specs.Index.{count_written, index_rule};
 ghost use Rattle.formula_core.specs.Rules.{monadic_rule, dyadic_rule, right_rule, both_rule, with_change, IsRefreshed};
@@ -10,7 +12,7 @@ ghost use Rattle.formula_core.specs.Rules.{monadic_rule, dyadic_rule, right_rule
 use apl_expr::{Dyadic, Function1, Function2, Monadic};
 use arrays_core::{Array, Fault};
 use change_core::{Meter, Rule};
-use change_rules::refresh_with_cost;
+use change_rules::{OnePlace, refresh_with_cost, refreshed_place};
 use index_region::{Delta, Seen};
 use operator_fns::{Inner, Outer, Reduce, Scan};
 use scalar_fns::{EachDyadic, EachMonadic};
@@ -48,6 +50,20 @@ impl<'a> Operation<'a> {
         ensures joins { meter.new.joins ≡ meter.old.joins }
     {
         refresh_with_cost(self.alloc, rule, self.args, self.held, change, meter)
+    }
+
+    /// The one place that changes of it by this rule, where that is known at once. Where it is not, nothing is done.
+    #[inline(always)]
+    pub(crate) fn place_by<R: Rule>(&self, rule: &R, meter: &mut Meter) -> Option<OnePlace>
+        requires count { length self.now.args.now ≡ length (R.model rule.now).selectors }
+        requires fit { AllFit (views self.now.args.now) (moved self.now.args.now) }
+        ensures one { IfSome result (λ p. box_size p.region ≡ 1) }
+        ensures refreshed { IfSome result (λ p. IsRefreshed (R.model rule.now) self.now.args.now self.now.held.now meter.old.ticks meter.new.ticks (Ok (delta_of_place p, 1))) }
+        ensures ticks { IfSome result (λ p. meter.new.ticks ≡ ticked meter.old.ticks 1) }
+        ensures joins { meter.new.joins ≡ meter.old.joins }
+        ensures none { IsNone result → meter.new ≡ meter.old }
+    {
+        refreshed_place(rule, self.args, self.held, meter)
     }
 
     /// The change of a function of one argument.

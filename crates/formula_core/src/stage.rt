@@ -1,10 +1,11 @@
 //! What the next change of a formula is worked out from.
 
-ghost use Rattle.std.specs.Prelude.{◌≡◌, ◌+◌, ◌≤◌, ◌<◌, ℕ, List, true, false, length, map, get_or, IfOk, OnOk};
+ghost use Rattle.std.specs.Prelude.{◌≡◌, ◌+◌, ◌≤◌, ◌<◌, ℕ, List, true, false, length, map, get_or, None, Ok, IfOk, OnOk, IfSome, IsNone};
 ghost use Rattle.std.specs.Option.{option_map};
 ghost use Rattle.apl_expr.specs.Trees.{Tree, Const, Name};
 ghost use Rattle.change_core.specs.Meters.{ticked};
-ghost use Rattle.change_rules.specs.Nodes.{is_error};
+ghost use Rattle.index_region.specs.Boxes.{box_size};
+ghost use Rattle.change_rules.specs.Nodes.{is_error, delta_of_place};
 ghost use Rattle.formula_core.specs.Meaning.{eval};
 ghost use Rattle.formula_core.specs.Changes.{Change, IsNameChanged};
 ghost use Rattle.arrays_core.specs.declared.item.Kind.TheVariants.{Value};
@@ -15,20 +16,22 @@ ghost use Rattle.formula_core.specs.Holdings.{holdings_of, not_worked_out, AllCh
 ghost use Rattle.formula_core.specs.Joins.{most_joins, least_joins};
 ghost use Rattle.formula_core.specs.Plans.{node_change, node_cost_at};
 ghost use Rattle.formula_core.specs.Rules.{with_change};
-ghost use Rattle.formula_core.specs.Stages.{IsStaged, StagedBy, IsKeptBy, IsMadeBy, IsTaken, IsReady, AreReady, IsStep, IsJoined, IsDone, IsSumsStep, IsLiteralChange};
-ghost use Rattle.formula_core.specs.Sums.{summed_at};
+ghost use Rattle.formula_core.specs.Stages.{IsStaged, StagedBy, IsKeptBy, IsMadeBy, IsTaken, IsReady, AreReady, IsStep, IsJoined, IsDone, IsSumsStep, IsLiteralChange, IsOnePlace};
+ghost use Rattle.formula_core.specs.Sums.{summed_at, totalled};
 ghost use Rattle.formula_core.specs.Tables.{IsOperand, AreOperands, IsNode, tree_at, tree_of_index, tree_of_operand, tree_of_node};
 
 use crate::constant::Constant;
 use crate::index_change::change_of_index;
 use crate::input::{Input, outcome_is_array, outcomes_are_arrays};
 use crate::kept::{Kept, NodeChange};
-use crate::operation_change::{change_of_both, change_of_monad};
+use crate::operation_change::{change_of_both, change_of_monad, place_of_each, place_of_pairs};
 use crate::positions::Positions;
 use crate::sums::{SumsDelta, sums_delta};
 use crate::table::{Node, Operand};
+use apl_expr::{Dyadic, Function1, Function2, Monadic};
 use arrays_core::{Array, Fault};
 use change_core::Meter;
+use change_rules::OnePlace;
 use index_region::Delta;
 use smallvec::SmallVec;
 use std::alloc::{AllocError, Global};
@@ -102,8 +105,66 @@ impl<'a> Stage<'a> {
         Ok(positions)
     }
 
-    /// What changes of the next node, put in place of another change, and what it costs.
+    /// The one place that changes of a node that held this, where the node applies a scalar function and that is known at once. Where it is not, nothing is
+    /// done.
     #[inline(always)]
+    fn place_of(
+        &self,
+        node: &'a Node,
+        held: &Result<Array, Fault>,
+        meter: &mut Meter,
+    ) -> Option<OnePlace>
+        requires node { IsNode (length self.now.inputs.now) (length self.now.changes.now) node.now }
+        requires staged { StagedBy self.now }
+        requires old { self.now.is_new ≡ false }
+        requires literals { IsLiteralChange self.now.is_new self.now.of_literals.now }
+        ensures one { IfSome result (λ p. box_size p.region ≡ 1) }
+        ensures step { IfSome result (λ p. (c : Change) → (names : List (List ℕ)) → (trees : List Tree) → IsStaged c names trees self.now → held.now ≡ eval (tree_of_node names trees node.now) c.old
+            → IsStep self.now.is_new c (tree_of_node names trees node.now) meter.old.ticks meter.new.ticks (Ok (delta_of_place p, 1))) }
+        ensures unsummed { IfSome result (λ p. totalled node.now ≡ None) }
+        ensures unjoined { IfSome result (λ p. (c : Change) → (names : List (List ℕ)) → (trees : List Tree) → least_joins self.now.is_new c (tree_of_node names trees node.now) ≡ 0) }
+        ensures ticks { IfSome result (λ p. meter.new.ticks ≡ ticked meter.old.ticks 1) }
+        ensures joins { meter.new.joins ≡ meter.old.joins }
+        ensures none { IsNone result → meter.new ≡ meter.old }
+    {
+        match node {
+            Node::Monad(Function1::Monad(Monadic::Scalar(function)), right) => {
+                let right = self.operand(right);
+                place_of_each(self.alloc, *function, &right, held, meter)
+            }
+            Node::Dyad(Function2::Dyad(Dyadic::Scalar(function)), left, right) => {
+                let left = self.operand(left);
+                let right = self.operand(right);
+                place_of_pairs(self.alloc, *function, &left, &right, held, meter)
+            }
+            _ => None,
+        }
+    }
+
+    /// The one place that changes of the next node of a formula that holds results, where that is known at once: a scalar function of two arguments asks for
+    /// no more than the item there. Where it is not known, nothing is done.
+    #[inline(always)]
+    pub(crate) fn next_place(&self, meter: &mut Meter) -> Option<OnePlace>
+        requires below { length self.now.changes.now < length self.now.nodes.now }
+        requires staged { StagedBy self.now }
+        requires literals { IsLiteralChange self.now.is_new self.now.of_literals.now }
+        ensures one { IfSome result (λ p. box_size p.region ≡ 1) }
+        ensures next { IfSome result (λ p. (c : Change) → (names : List (List ℕ)) → (trees : List Tree) → IsStaged c names trees self.now
+            → IsOnePlace self.now.is_new c (tree_at trees (length self.now.changes.now)) (get_or (holdings_of self.now.nodes.now) (length self.now.changes.now) not_worked_out) p) }
+        ensures ticks { IfSome result (λ p. meter.new.ticks ≡ ticked meter.old.ticks 1) }
+        ensures joins { meter.new.joins ≡ meter.old.joins }
+        ensures none { IsNone result → meter.new ≡ meter.old }
+    {
+        if self.is_new {
+            return None;
+        }
+        let kept = &self.nodes[self.changes.len()];
+        outcome_is_array(&kept.result);
+        self.place_of(&kept.node, &kept.result, meter)
+    }
+
+    /// What changes of the next node, put in place of another change, and what it costs.
+    #[inline(never)]
     pub(crate) fn next(&self, change: &mut NodeChange, meter: &mut Meter) -> Result<u32, AllocError>
         requires below { length self.now.changes.now < length self.now.nodes.now }
         requires staged { StagedBy self.now }

@@ -1,4 +1,4 @@
-use Rattle.std.proofs.Common.{arith}
+use Rattle.std.proofs.Common.{◌∙◌, arith}
 use Rattle.change_core.proofs.Filling.{few_places}
 use Rattle.index_region.specs.Checks.{form_of}
 use Rattle.change_rules.proofs.Items.{as_many, given_items}
@@ -7,8 +7,8 @@ use Rattle.change_rules.proofs.patch.patch_of.Goals as goal
 pub size-requires : goal.size-requires
 size-requires g c = omega (arith, few_places c.args.region c.args.form.now.0.items c.requires.fit c.requires.checked.2)
 
-pub returns-then-are_small-clause-delta : goal.returns-then-are_small-clause-delta
-returns-then-are_small-clause-delta g c = c.patch_of_one.ensures.delta (form_of c.args.form.now.0.items c.args.form.now.1) c.requires.checked.0
+pub returns-then-goes_item_by_item-clause-delta : goal.returns-then-goes_item_by_item-clause-delta
+returns-then-goes_item_by_item-clause-delta g c = c.delta.ensures ∙ c.of-place.ensures.delta (form_of c.args.form.now.0.items c.args.form.now.1) c.requires.checked.0
 
 pub of-requires : goal.of-requires
 of-requires g c =

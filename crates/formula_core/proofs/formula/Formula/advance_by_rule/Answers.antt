@@ -11,7 +11,7 @@ use Rattle.formula_core.specs.Stages.{IsBegun, IsDone}
 use Rattle.formula_core.specs.Tables.{subtrees, tree_at}
 use Rattle.formula_core.proofs.Progressed.{node_left, among_more, applies_later, begun_one, counted_whole}
 use Rattle.formula_core.proofs.Tallied.{joined_whole}
-use Rattle.formula_core.proofs.formula.Formula.advance.Goals as goal
+use Rattle.formula_core.proofs.formula.Formula.advance_by_rule.Goals as goal
 
 pub next-requires-clause-below : goal.next-requires-clause-below
 next-requires-clause-below c =

@@ -57,14 +57,14 @@ module _ (args : List Argument) (which : ℕ) (region : List Interval)
 
     module _ (old : Outcome) (some : all_same args ≡ false) (ok : is_ok old ≡ true) (patched : all_patched_at_most args ≡ true) where
       -- it is the patch of the box
-      pub place_delta : (d : Delta) → ((f : Form) → p.form seen ≡ Ok f → d ≡ patch_delta f.item_type region (items_in (p.item seen) region)) → d ≡ node_delta p args old
-      place_delta d is =
+      pub kept_delta : (d : Delta) → ((f : Form) → p.form seen ≡ Ok f → d ≡ patch_delta f.item_type region (items_in (p.item seen) region)) → d ≡ node_delta p args old
+      kept_delta d is =
           is form (ap p.form is_seen ∙ keeps_views.0.1)
           ∙ ap (λ (v : List ArrayValue). patch_delta form.item_type region (items_in (p.item v) region)) is_seen
           ∙ sym (ap (λ (r : Result Form Kind). delta_in r (p.item (views args)) (reach_of p (views args) (moved args))) keeps_views.0.1 ∙ ap (delta_in (Ok form) (p.item (views args))) reach)
           ∙ delta_reached p args old some ok patched
 
-      pub place_cost : box_size region ≡ 1 → 1 ≡ node_cost p args old
-      place_cost one =
+      pub kept_cost : box_size region ≡ 1 → 1 ≡ node_cost p args old
+      kept_cost one =
           sym (ap (λ (r : Result Form Kind). size_in r (reach_of p (views args) (moved args))) keeps_views.0.1 ∙ ap (size_in (Ok form)) reach ∙ one)
           ∙ cost_reached p args old some ok patched
