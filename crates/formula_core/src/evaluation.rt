@@ -4,6 +4,8 @@ ghost use Rattle.std.specs.Prelude.{◌≡◌, ◌+◌, ◌≤◌, [], ◌∷◌
 ghost use Rattle.std.specs.List.{Contains};
 ghost use Rattle.apl_expr.specs.Trees.{Const, Numbers, tree_of, position_of, positions_of, before_argument, between_arguments};
 ghost use Rattle.apl_expr.specs.declared.expr.Dyadic.TheVariants.{Scalar};
+ghost use Rattle.apl_expr.specs.declared.expr.Monadic.TheVariants.{Scalar as EachScalar};
+ghost use Rattle.apl_expr.specs.declared.functions.Function1.TheVariants.{Monad};
 ghost use Rattle.apl_expr.specs.declared.functions.Function2.TheVariants.{Dyad};
 ghost use Rattle.arrays_core.specs.Arrays.{ArrayValue, IsAnswerTo, IsArray, scalar_of};
 ghost use Rattle.arrays_core.specs.declared.item.Kind.{Kind as AKind};
@@ -25,11 +27,11 @@ use crate::kept::unknown;
 use crate::lent_fault::LentFault;
 use crate::literals::array_of;
 use crate::positions::written_of;
-use apl_expr::{Dyadic, Expr, Function1, Function2, Literal, Sides};
+use apl_expr::{Dyadic, Expr, Function1, Function2, Literal, Monadic, Sides};
 use apl_tokens::Name;
 use arrays_core::{ApplyFault, Array, Fault, outcome, size};
 use change_core::Meter;
-use function_names::Scalar2;
+use function_names::{Scalar1, Scalar2};
 use index_region::{Delta, Seen};
 use scalar_fns::{apply_to_left, apply_to_right};
 use selection_fns::Index;
@@ -202,7 +204,7 @@ fn between<'a, S: Shows>(
     ensures value { IfOk result (λ operand. outcome_of operand ≡ eval (between_arguments function (tree_of sides.now.left) (tree_of sides.now.right)) (S.shows names.entry.now)) }
     ensures counted { IsTreeCounted (S.shows names.entry.now) (between_arguments function (tree_of sides.now.left) (tree_of sides.now.right)) meter.old.ticks meter.new.ticks result }
 {
-    if let Some(scalar) = scalar_in(function) {
+    if let Some(scalar) = scalar_between(function) {
         if let Some(number) = number_of(&sides.right) {
             let left = argument(alloc, &sides.left, names, meter)?;
             let given = apply_to_number(alloc, scalar, left, number)?;
@@ -220,9 +222,20 @@ fn between<'a, S: Shows>(
     Ok(counted(given, meter))
 }
 
-/// The scalar function that it is, if it is one.
+/// The scalar function of one argument that it is, if it is one.
 #[inline(always)]
-fn scalar_in(function: Function2) -> Option<Scalar2>
+pub(crate) fn scalar_before(function: Function1) -> Option<Scalar1>
+    ensures { IfSome result (λ scalar. function ≡ Monad (EachScalar scalar)) }
+{
+    match function {
+        Function1::Monad(Monadic::Scalar(scalar)) => Some(scalar),
+        _ => None,
+    }
+}
+
+/// The scalar function of two arguments that it is, if it is one.
+#[inline(always)]
+pub(crate) fn scalar_between(function: Function2) -> Option<Scalar2>
     ensures { IfSome result (λ scalar. function ≡ Dyad (Scalar scalar)) }
 {
     match function {

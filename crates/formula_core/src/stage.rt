@@ -21,6 +21,7 @@ ghost use Rattle.formula_core.specs.Sums.{summed_at, totalled};
 ghost use Rattle.formula_core.specs.Tables.{IsOperand, AreOperands, IsNode, tree_at, tree_of_index, tree_of_operand, tree_of_node};
 
 use crate::constant::Constant;
+use crate::evaluation::{scalar_before, scalar_between};
 use crate::index_change::change_of_index;
 use crate::input::{Input, outcome_is_array, outcomes_are_arrays};
 use crate::kept::{Kept, NodeChange};
@@ -28,7 +29,6 @@ use crate::operation_change::{change_of_both, change_of_monad, place_of_each, pl
 use crate::positions::Positions;
 use crate::sums::{SumsDelta, sums_delta};
 use crate::table::{Node, Operand};
-use apl_expr::{Dyadic, Function1, Function2, Monadic};
 use arrays_core::{Array, Fault};
 use change_core::Meter;
 use change_rules::OnePlace;
@@ -128,14 +128,20 @@ impl<'a> Stage<'a> {
         ensures none { IsNone result → meter.new ≡ meter.old }
     {
         match node {
-            Node::Monad(Function1::Monad(Monadic::Scalar(function)), right) => {
+            Node::Monad(function, right) => {
+                let Some(function) = scalar_before(*function) else {
+                    return None;
+                };
                 let right = self.operand(right);
-                place_of_each(self.alloc, *function, &right, held, meter)
+                place_of_each(self.alloc, function, &right, held, meter)
             }
-            Node::Dyad(Function2::Dyad(Dyadic::Scalar(function)), left, right) => {
+            Node::Dyad(function, left, right) => {
+                let Some(function) = scalar_between(*function) else {
+                    return None;
+                };
                 let left = self.operand(left);
                 let right = self.operand(right);
-                place_of_pairs(self.alloc, *function, &left, &right, held, meter)
+                place_of_pairs(self.alloc, function, &left, &right, held, meter)
             }
             _ => None,
         }
