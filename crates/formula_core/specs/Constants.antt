@@ -1,5 +1,6 @@
 -- A literal of a formula, by what it gives.
 use Rattle.std.specs.Prelude.{◌≡◌, ℕ, List, Result, Ok, Err, map}
+use Rattle.std.specs.Global.{Box}
 use Rattle.apl_expr.specs.declared.expr.Literal.{Literal as WrittenLiteral}
 use Rattle.apl_expr.specs.Trees.{Literal, Numbers, Text, literal_of}
 use Rattle.arrays_core.specs.declared.item.Item.{Item}
@@ -22,11 +23,11 @@ literal_of_items Nums items = Numbers (map number_of items)
 literal_of_items Chars items = Text (map character_of items)
 
 -- a literal by the array that it gives, or as it was written, where it gives an error
-abbrev pub literal_in : Result ArrayValue (WrittenLiteral × Fault) → Literal
+abbrev pub literal_in : Result ArrayValue (Box (WrittenLiteral × Fault)) → Literal
 literal_in (Ok a) = literal_of_items a.item_type a.items
-literal_in (Err e) = literal_of e.0
+literal_in (Err e) = literal_of e.value.0
 
 -- it gives that array, or that error
-abbrev pub IsGiven : Result ArrayValue (WrittenLiteral × Fault) → Type 0
+abbrev pub IsGiven : Result ArrayValue (Box (WrittenLiteral × Fault)) → Type 0
 IsGiven (Ok a) = array_of (literal_of_items a.item_type a.items) ≡ Ok a
-IsGiven (Err e) = given (array_of (literal_of e.0)) ≡ Err e.1
+IsGiven (Err e) = given (array_of (literal_of e.value.0)) ≡ Err e.value.1

@@ -15,10 +15,11 @@ use index_region::{Delta, Seen};
 use std::alloc::{AllocError, Global};
 use std::marker::Model;
 
-/// A literal of a formula, as the array that it gives; one that gives none, as it is longer than arrays are, stands beside its error.
+/// A literal of a formula, as the array that it gives; one that gives none, as it is longer than arrays are, stands beside its error, in a box: no
+/// other literal keeps room for it.
 #[derive(Drop)]
 pub(crate) struct Constant {
-    gives: Result<Array, (Literal, Fault)>,
+    gives: Result<Array, Box<(Literal, Fault)>>,
 }
 
 impl Model for Constant {
@@ -45,7 +46,7 @@ impl Constant {
         match array_of(alloc, literal) {
             Ok(array) => Ok(Constant { gives: Ok(array) }),
             Err(ApplyFault::Kind(kind)) => Ok(Constant {
-                gives: Err((copy_of(alloc, literal)?, kind.into())),
+                gives: Err(Box::new(alloc, (copy_of(alloc, literal)?, kind.into()))?),
             }),
             Err(ApplyFault::NoMemory) => Err(AllocError),
         }
@@ -58,8 +59,8 @@ impl Constant {
     {
         match &self.gives {
             Ok(array) => Input::Good(Seen::plain(array), change),
-            Err((_, fault)) => Input::Bad {
-                fault: LentFault::of(fault),
+            Err(refused) => Input::Bad {
+                fault: LentFault::of(&refused.1),
                 changed: !matches!(change, Delta::Same),
             },
         }
