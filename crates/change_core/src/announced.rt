@@ -45,10 +45,10 @@ pub trait Announced: Primitive {
         false
     }
 
-    /// An item of the result is made from few items of the arguments, however many these have: then what changes of the result is made from the
-    /// arguments as they are seen, without a copy of one that was patched. This says how a result is best made, and nothing of what it is.
-    fn reads_few_items(&self) -> bool {
-        false
+    /// An item of the result may be made from many items of the arguments. Where that is not so, what changes of the result is made from the arguments as
+    /// they are seen, without a copy of one that was patched. This says how a result is best made, and nothing of what it is.
+    fn reads_many_items(&self) -> bool {
+        true
     }
 
     /// A change of the argument makes the result anew.
@@ -116,8 +116,8 @@ impl<P: Announced> Rule for P {
         Announced::keeps_places(self, args, which)
     }
 
-    fn reads_few_items(&self) -> bool {
-        Announced::reads_few_items(self)
+    fn reads_many_items(&self) -> bool {
+        Announced::reads_many_items(self)
     }
 
     fn item(&self, args: &[Seen], index: &[u32], meter: &mut Meter) -> Result<Item, Kind> {

@@ -136,10 +136,10 @@ pub trait Rule {
         false
     }
 
-    /// An item of the result is made from few items of the arguments, however many these have: then what changes of the result is made from the
-    /// arguments as they are seen, without a copy of one that was patched. This says how a result is best made, and nothing of what it is.
-    fn reads_few_items(&self) -> bool {
-        false
+    /// An item of the result may be made from many items of the arguments. Where that is not so, what changes of the result is made from the arguments as
+    /// they are seen, without a copy of one that was patched. This says how a result is best made, and nothing of what it is.
+    fn reads_many_items(&self) -> bool {
+        true
     }
 
     /// A change of the argument makes the result anew, its shape too.

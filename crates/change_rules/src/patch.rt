@@ -38,7 +38,7 @@ fn items_of<R: Rule>(
     ensures joins { meter.new.joins ≡ meter.old.joins }
 {
     let shape = form.0.as_slice();
-    if region.size() == size(shape) as usize && !rule.reads_few_items() {
+    if region.size() == size(shape) as usize && rule.reads_many_items() {
         all_of(alloc, rule, args, meter)
     } else {
         rule.part(alloc, args, shape, form.1, region, meter)
@@ -48,7 +48,7 @@ fn items_of<R: Rule>(
 /// One item that is all of the result is made as quickly from the arguments as they are seen as from their copies: few items of theirs are read, or
 /// each argument has few.
 fn goes_item_by_item<R: Rule>(rule: &R, args: &[Seen]) -> bool {
-    rule.reads_few_items() || args.iter().all(|arg| arg.places() <= FEW_PLACES)
+    !rule.reads_many_items() || args.iter().all(|arg| arg.places() <= FEW_PLACES)
 }
 
 /// The patch of a box of the result, or the first error in it, put in place of another change. One place takes no memory where it

@@ -154,8 +154,8 @@ impl<'w> Announced for Index<'w> {
         first_alone(grown) && first_empty(self.written) && args[0].shape().len() >= 2
     }
 
-    fn reads_few_items(&self) -> bool {
-        true
+    fn reads_many_items(&self) -> bool {
+        false
     }
 
     fn selects(&self, _which: usize) -> bool {

@@ -222,8 +222,8 @@ impl Announced for DropPlaces {
         false
     }
 
-    fn reads_few_items(&self) -> bool {
-        true
+    fn reads_many_items(&self) -> bool {
+        false
     }
 
     fn selects(&self, which: usize) -> bool {

@@ -8,8 +8,8 @@ use Rattle.change_rules.proofs.patch.items_of.Goals as goal
 pub size-requires : goal.size-requires
 size-requires g c = omega (arith, few_places c.args.region.now c.args.form.now.0.items c.requires.fit c.requires.checked.2)
 
-pub returns-then-not-reads_few_items-clause-items : goal.returns-then-not-reads_few_items-clause-items
-returns-then-not-reads_few_items-clause-items g c =
+pub returns-then-reads_many_items-clause-items : goal.returns-then-reads_many_items-clause-items
+returns-then-reads_many_items-clause-items g c =
     let model = g.R.Rule.model c.args.rule.now in
     let shape = c.args.form.now.0.items in
     let many : box_size c.args.region.now ≡ size shape = sym c.size.ensures ∙ c.if-size.true ∙ c.size-2.ensures ∙ ap size c.as_slice-shape.ensures in
