@@ -1,6 +1,6 @@
 //! The change of a node, from the changes of its arguments.
 
-ghost use Rattle.std.specs.Prelude.{◌≡◌, ◌+◌, ◌∷◌, [], is_ok, ◌≤◌, ◌<◌, length, IfOk, OnOk, Ok, Some, IfSome, IsTrue, true, false};
+ghost use Rattle.std.specs.Prelude.{◌≡◌, ◌+◌, is_ok, ◌≤◌, ◌<◌, length, IfOk, OnOk, Ok, Some, false};
 ghost use Rattle.arrays_core.specs.Arrays.{IsArray};
 ghost use Rattle.arrays_core.specs.Shapes.{IsWithinLimits};
 ghost use Rattle.arrays_core.specs.declared.item.ItemType.{ItemType as TypeOfItems};
@@ -8,12 +8,12 @@ ghost use Rattle.index_region.specs.Boxes.{box_size};
 ghost use Rattle.index_region.specs.Checks.{form_of};
 ghost use Rattle.change_core.specs.Growth.{last_place as place_behind};
 ghost use Rattle.change_core.specs.Laws.{Each};
-ghost use Rattle.change_core.specs.Reaches.{AllFit, only_at};
+ghost use Rattle.change_core.specs.Reaches.{AllFit};
 ghost use Rattle.change_core.specs.Meters.{ticked, most_ticks};
 ghost use Rattle.change_core.specs.RuleModels.{form_size};
 ghost use Rattle.index_region.specs.declared.delta.Delta.TheVariants.{Whole};
 ghost use Rattle.change_rules.specs.Evaluation.{evaluation};
-ghost use Rattle.change_rules.specs.Nodes.{views, moved, is_error, all_same as all_are_same, starts_anew as is_anew, moved_by as box_moved_by, is_patched_at_most, all_patched_at_most, node_delta, node_cost, reached_delta, reached_cost, node_grows, grown_delta, grown_cost, grown_in, grown_size};
+ghost use Rattle.change_rules.specs.Nodes.{views, moved, is_error, all_same as all_are_same, node_delta, node_cost, reached_delta, reached_cost, node_grows, grown_delta, grown_cost, grown_in, grown_size};
 ghost use Rattle.change_rules.specs.Currency.{BringsUpToDate, HasAxis, IsRight};
 
 use crate::arguments::{
@@ -21,7 +21,6 @@ use crate::arguments::{
     views_are_arrays, views_of,
 };
 use crate::evaluation::evaluate;
-use crate::one_place::refreshed_place;
 use crate::patch::patch_of;
 use arrays_core::{Array, Fault, Shape, outcome, shape_of, size};
 use change_core::{Meter, Reach, Rule, last_place};
@@ -280,10 +279,6 @@ fn change_of<R: Rule>(
     if all_same(args) {
         *change = Delta::Same;
         return Ok(0);
-    }
-    if let Some(place) = refreshed_place(rule, args, old, meter) {
-        *change = place.delta();
-        return Ok(1);
     }
     match args {
         [(a, d)] => {

@@ -3,7 +3,6 @@
 ghost use Rattle.std.specs.Prelude.{◌≡◌, ◌+◌, ◌≤◌, length, false, Ok, IsTrue, IfOk, OnOk};
 ghost use Rattle.index_region.specs.Answers.{IsFormAnswerTo};
 ghost use Rattle.index_region.specs.Boxes.{box_size, fits};
-ghost use Rattle.index_region.specs.Checks.{Form};
 ghost use Rattle.change_core.specs.Meters.{ticked};
 ghost use Rattle.change_core.specs.Parts.{HoldsItems, items_in};
 ghost use Rattle.change_rules.specs.Nodes.{is_error, patch_delta};

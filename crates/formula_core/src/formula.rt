@@ -220,13 +220,13 @@ impl Formula {
         ensures err { OnErr result (plan.new ≡ plan.old) }
         ensures err_meter { OnErr result (meter.new ≡ meter.old) }
     {
-        let mut own = Meter::new();
-        let Some(place) = self.next_place(plan.changes.as_slice(), inputs, &mut own) else {
+        let mut counted = Meter::new();
+        let Some(place) = self.next_place(plan.changes.as_slice(), inputs, &mut counted) else {
             return self.advance_by_rule(plan, inputs, meter);
         };
         plan.changes.push(NodeChange::at(place))?;
         plan.cost.add(1);
-        meter.include(&own);
+        meter.include(&counted);
         Ok(())
     }
 
@@ -282,14 +282,17 @@ impl Formula {
         ensures ticks { IfSome result (λ p. meter.new.ticks ≡ ticked meter.old.ticks 1) }
         ensures joins { meter.new.joins ≡ meter.old.joins }
     {
-        let of_literals = of_literals(self.is_new);
+        if self.is_new {
+            return None;
+        }
+        let unchanged = Delta::Same;
         let stage = Stage {
             alloc: self.alloc,
-            is_new: self.is_new,
+            is_new: false,
             inputs,
             nodes: self.nodes.as_slice(),
             changes,
-            of_literals: &of_literals,
+            of_literals: &unchanged,
         };
         stage.next_place(meter)
     }

@@ -1,6 +1,6 @@
 //! What the next change of a formula is worked out from.
 
-ghost use Rattle.std.specs.Prelude.{◌≡◌, ◌+◌, ◌≤◌, ◌<◌, ℕ, List, true, false, length, map, get_or, None, Ok, IfOk, OnOk, IfSome, IsNone};
+ghost use Rattle.std.specs.Prelude.{◌≡◌, ◌+◌, ◌≤◌, ◌<◌, ℕ, List, false, length, map, get_or, None, Ok, IfOk, OnOk, IfSome, IsNone};
 ghost use Rattle.std.specs.Option.{option_map};
 ghost use Rattle.apl_expr.specs.Trees.{Tree, Const, Name};
 ghost use Rattle.change_core.specs.Meters.{ticked};
@@ -128,15 +128,15 @@ impl<'a> Stage<'a> {
         ensures none { IsNone result → meter.new ≡ meter.old }
     {
         match node {
-            Node::Monad(function, right) => {
-                let Some(function) = scalar_before(*function) else {
+            Node::Monad(applied, right) => {
+                let Some(function) = scalar_before(*applied) else {
                     return None;
                 };
                 let right = self.operand(right);
                 place_of_each(self.alloc, function, &right, held, meter)
             }
-            Node::Dyad(function, left, right) => {
-                let Some(function) = scalar_between(*function) else {
+            Node::Dyad(applied, left, right) => {
+                let Some(function) = scalar_between(*applied) else {
                     return None;
                 };
                 let left = self.operand(left);
@@ -151,6 +151,7 @@ impl<'a> Stage<'a> {
     /// no more than the item there. Where it is not known, nothing is done.
     #[inline(always)]
     pub(crate) fn next_place(&self, meter: &mut Meter) -> Option<OnePlace>
+        requires old { self.now.is_new ≡ false }
         requires below { length self.now.changes.now < length self.now.nodes.now }
         requires staged { StagedBy self.now }
         requires literals { IsLiteralChange self.now.is_new self.now.of_literals.now }
@@ -161,12 +162,9 @@ impl<'a> Stage<'a> {
         ensures joins { meter.new.joins ≡ meter.old.joins }
         ensures none { IsNone result → meter.new ≡ meter.old }
     {
-        if self.is_new {
-            return None;
-        }
-        let kept = &self.nodes[self.changes.len()];
-        outcome_is_array(&kept.result);
-        self.place_of(&kept.node, &kept.result, meter)
+        let next = &self.nodes[self.changes.len()];
+        outcome_is_array(&next.result);
+        self.place_of(&next.node, &next.result, meter)
     }
 
     /// What changes of the next node, put in place of another change, and what it costs.

@@ -55,7 +55,7 @@ returns-clause-ticks c = λ change told planned.
     let was : c.plan.inside.changes.items ≡ c.args.plan.now.changes = ap (λ (p : PlanValue). p.changes) c.plan.view_is in
     let seen = subst (λ (ds : List NodeChange). IsBegun f change ds c.args.plan.now.cost) (sym (c.as_slice.ensures.value ∙ was)) planned.begun in
     let next = subst (λ (ds : List NodeChange). IsOnePlace f.is_new change (tree_at (subtrees f.tree) (length ds)) (get_or f.nodes (length ds) not_worked_out) c.in-Some.place) (c.as_slice.ensures.value ∙ was) (c.in-Some.ensures.next change told c.args.plan.now.cost seen) in
-    omega (arith, next.cost, c.in-Some.ensures.ticks, ap (λ (m : MeterValue). m.ticks) c.include.ensures.exact, ap (λ (m : MeterValue). m.ticks) c.new-own.ensures)
+    omega (arith, next.cost, c.in-Some.ensures.ticks, ap (λ (m : MeterValue). m.ticks) c.include.ensures.exact, ap (λ (m : MeterValue). m.ticks) c.new-counted.ensures)
 
 pub returns-clause-exact : goal.returns-clause-exact
 returns-clause-exact c = λ change told planned computed.
@@ -63,7 +63,7 @@ returns-clause-exact c = λ change told planned computed.
     let was : c.plan.inside.changes.items ≡ c.args.plan.now.changes = ap (λ (p : PlanValue). p.changes) c.plan.view_is in
     let seen = subst (λ (ds : List NodeChange). IsBegun f change ds c.args.plan.now.cost) (sym (c.as_slice.ensures.value ∙ was)) planned.begun in
     let next = subst (λ (ds : List NodeChange). IsOnePlace f.is_new change (tree_at (subtrees f.tree) (length ds)) (get_or f.nodes (length ds) not_worked_out) c.in-Some.place) (c.as_slice.ensures.value ∙ was) (c.in-Some.ensures.next change told c.args.plan.now.cost seen) in
-    let none : c.new-own.result.ticks ≡ 0 = ap (λ (m : MeterValue). m.ticks) c.new-own.ensures in
+    let none : c.new-counted.result.ticks ≡ 0 = ap (λ (m : MeterValue). m.ticks) c.new-counted.ensures in
     let own : c.next_place.new.meter.ticks ≡ 1 = c.in-Some.ensures.ticks ∙ ap (λ n. ticked n 1) none in
     ap (λ (m : MeterValue). m.ticks) c.include.ensures.exact ∙ ap (ticked c.args.meter.now.ticks) (own ∙ next.cost)
 
@@ -77,7 +77,7 @@ returns-clause-cost c = λ change told planned.
 
 pub returns-clause-joins : goal.returns-clause-joins
 returns-clause-joins c = λ change told planned.
-    omega (arith, c.next_place.ensures.joins, ap (λ (m : MeterValue). m.joins) c.include.ensures.exact, ap (λ (m : MeterValue). m.joins) c.new-own.ensures)
+    omega (arith, c.next_place.ensures.joins, ap (λ (m : MeterValue). m.joins) c.include.ensures.exact, ap (λ (m : MeterValue). m.joins) c.new-counted.ensures)
 
 pub returns-clause-joined : goal.returns-clause-joined
 returns-clause-joined c = λ change told planned computed.
@@ -85,4 +85,4 @@ returns-clause-joined c = λ change told planned computed.
     let was : c.plan.inside.changes.items ≡ c.args.plan.now.changes = ap (λ (p : PlanValue). p.changes) c.plan.view_is in
     let seen = subst (λ (ds : List NodeChange). IsBegun f change ds c.args.plan.now.cost) (sym (c.as_slice.ensures.value ∙ was)) planned.begun in
     let next = subst (λ (ds : List NodeChange). IsOnePlace f.is_new change (tree_at (subtrees f.tree) (length ds)) (get_or f.nodes (length ds) not_worked_out) c.in-Some.place) (c.as_slice.ensures.value ∙ was) (c.in-Some.ensures.next change told c.args.plan.now.cost seen) in
-    omega (arith, next.joins, c.next_place.ensures.joins, ap (λ (m : MeterValue). m.joins) c.include.ensures.exact, ap (λ (m : MeterValue). m.joins) c.new-own.ensures)
+    omega (arith, next.joins, c.next_place.ensures.joins, ap (λ (m : MeterValue). m.joins) c.include.ensures.exact, ap (λ (m : MeterValue). m.joins) c.new-counted.ensures)

@@ -1,4 +1,4 @@
-use Rattle.std.proofs.Common.{◌≡◌, ◌<◌, ◌∙◌, List, Bool, ap, refl, subst, length, get_or, arith}
+use Rattle.std.proofs.Common.{◌≡◌, ◌<◌, ◌∙◌, List, Bool, false, ap, sym, refl, subst, length, get_or, arith}
 use Rattle.std.proofs.lemmas.Option.{IfSome_then}
 use Rattle.formula_core.specs.declared.kept.Kept.{Kept}
 use Rattle.formula_core.specs.Formulas.{FormulaValue}
@@ -28,7 +28,7 @@ next_place-requires-clause-staged c =
         (
           subtrees f.tree,
           staged_by f c.self.inside.names.items c.self.inside.nodes.items c.self.invariant (ap (λ (v : FormulaValue). v.tree) c.self.view_is) (ap (λ (v : FormulaValue). v.nodes) c.self.view_is)
-              w.0 c.args.inputs.now w.1.0 c.args.changes.now w.1.1.0 w.1.1.1 _ (ap (λ (v : FormulaValue). v.is_new) c.self.view_is) refl c.as_slice.ensures.value refl,
+              w.0 c.args.inputs.now w.1.0 c.args.changes.now w.1.1.0 w.1.1.1 _ (sym c.if-self.false ∙ ap (λ (v : FormulaValue). v.is_new) c.self.view_is) refl c.as_slice.ensures.value refl,
         ),
       ),
     )
@@ -36,12 +36,12 @@ next_place-requires-clause-staged c =
 pub returns-clause-next : goal.returns-clause-next
 returns-clause-next c =
     let f = c.args.self.now in
-    let is_new = ap (λ (v : FormulaValue). v.is_new) c.self.view_is in
+    let is_new = sym c.if-self.false ∙ ap (λ (v : FormulaValue). v.is_new) c.self.view_is in
     let nodes_are = ap (λ (v : FormulaValue). v.nodes) c.self.view_is in
     let place = length c.args.changes.now in
     IfSome_then c.next_place.result c.next_place.ensures.next
     (λ p next change told cost begun.
     let staged = staged_by f c.self.inside.names.items c.self.inside.nodes.items c.self.invariant (ap (λ (v : FormulaValue). v.tree) c.self.view_is) nodes_are change c.args.inputs.now told c.args.changes.now cost begun _ is_new refl c.as_slice.ensures.value refl in
     subst (λ (b : Bool). IsOnePlace b change (tree_at (subtrees f.tree) place) (get_or f.nodes place not_worked_out) p) is_new
-    (subst (λ (hs : List Holding). IsOnePlace c.self.inside.is_new change (tree_at (subtrees f.tree) place) (get_or hs place not_worked_out) p) (ap holdings_of c.as_slice.ensures.value ∙ nodes_are)
+    (subst (λ (hs : List Holding). IsOnePlace false change (tree_at (subtrees f.tree) place) (get_or hs place not_worked_out) p) (ap holdings_of c.as_slice.ensures.value ∙ nodes_are)
     (next change (names_in f.tree) (subtrees f.tree) staged)))

@@ -18,5 +18,5 @@ returns-clause-next c =
     let at = get_or_default s.nodes.now (length s.changes.now) k c.index-self-self.result c.requires.below in
     of_four c.place_of.result c.place_of.ensures.one c.place_of.ensures.unsummed c.place_of.ensures.unjoined c.place_of.ensures.step
     (λ p one none joins step change names trees staged.
-    next_place change names trees s staged c.requires.below k at c.if-self.false p _ _ one c.outcome_is_array.ensures none (joins change names trees)
-    (step change names trees staged (held_result change names trees s staged c.requires.below k at c.if-self.false)))
+    next_place change names trees s staged c.requires.below k at c.requires.old p _ _ one c.outcome_is_array.ensures none (joins change names trees)
+    (step change names trees staged (held_result change names trees s staged c.requires.below k at c.requires.old)))
