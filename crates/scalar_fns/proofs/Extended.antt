@@ -1,11 +1,12 @@
 -- Items of arrays that are extended to a common shape.
-use Rattle.std.proofs.Common.{◌≡◌, ◌∙◌, ℕ, List, Some, true, get_or, nat_eq, inl, inr, ap, refl, arith}
-use Rattle.std.proofs.lemmas.Bool.{cases_Bool, eqb-true}
+use Rattle.std.proofs.Common.{◌≡◌, ◌∙◌, ℕ, List, Some, true, length, get_or, nat_eq, inl, inr, ap, sym, refl, arith}
+use Rattle.std.specs.Prelude.{◌≢◌, IsTrue}
+use Rattle.std.proofs.lemmas.Bool.{cases_Bool, eqb-true, false≢true}
 use Rattle.arrays_core.specs.Arrays.{ArrayValue, item_of, item_if_there}
 use Rattle.arrays_core.specs.declared.item.Item.{Item}
 use Rattle.arrays_core.specs.Items.{fill}
 use Rattle.arrays_core.specs.Shapes.{size, is_index_of, places_before}
-use Rattle.arrays_core.proofs.Shapes.{places_below}
+use Rattle.arrays_core.proofs.Shapes.{as_long, places_below}
 use Rattle.scalar_fns.specs.ScalarExtension.{extended}
 
 -- at an index list of its own an array has its item there, also where it has one alone
@@ -26,3 +27,14 @@ found a index item is = elim (cases_Bool (is_index_of a.shape index)) [
       same ∙ there a index inside
   | inr outside ↦ absurd (let h = rw outside at is in cc)
 ]
+
+-- an array of another rank has one item, and gives it everywhere
+module _ (a : ArrayValue) (index : List ℕ) (within : size a.shape ≢ 1 → IsTrue (is_index_of a.shape index)) (other : length a.shape ≡ length index → ⊥) where
+  pub one_alone : size a.shape ≡ 1
+  one_alone = elim (cases_Bool (nat_eq (size a.shape) 1)) [
+    | inl one ↦ eqb-true _ _ one
+    | inr more ↦ absurd (other (sym (as_long a.shape index (within (λ (e : size a.shape ≡ 1). false≢true (sym more ∙ ap (λ (n : ℕ). nat_eq n 1) e))))))
+  ]
+
+  pub alone : get_or a.items 0 (fill a.item_type) ≡ extended a index
+  alone = rw one_alone refl

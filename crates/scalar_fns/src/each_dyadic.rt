@@ -31,7 +31,10 @@ fn extended_item(array: &Seen, index: &[u32]) -> Item
     ensures { result ≡ extended array.now index.now }
 {
     // The shape says that there is one item a place.
-    let _one_item_a_place = array.shape();
+    let shape = array.shape();
+    if shape.len() != index.len() {
+        return array.item(1);
+    }
     match array.at(index) {
         Some(item) => item,
         None => array.item(1),
