@@ -20,7 +20,7 @@ ghost use Rattle.formula_core.specs.Tables.{applies, subtrees, tree_at};
 
 use crate::evaluation::{Shows, errors_shown, inputs_at_rest};
 use crate::input::Input;
-use crate::kept::{Kept, NodeChange, adopt_all, unknown};
+use crate::kept::{Kept, NodeChange, adopt_all, push_place, unknown};
 use crate::lent_fault::LentFault;
 use crate::plan::Plan;
 use crate::stage::Stage;
@@ -224,7 +224,7 @@ impl Formula {
         let Some(place) = self.next_place(plan.changes.as_slice(), inputs, &mut counted) else {
             return self.advance_by_rule(plan, inputs, meter);
         };
-        plan.changes.push(NodeChange::at(place))?;
+        push_place(&mut plan.changes, place)?;
         plan.cost.add(1);
         meter.include(&counted);
         Ok(())

@@ -1,18 +1,20 @@
 //! A node with what it keeps, and what changes of that.
 
-ghost use Rattle.std.specs.Prelude.{◌≡◌, true, length, None, Err};
+ghost use Rattle.std.specs.Prelude.{◌≡◌, ◌++◌, ◌∷◌, [], true, length, None, Err, OnOk, OnErr};
 ghost use Rattle.arrays_core.specs.declared.item.Kind.TheVariants.{Value};
 ghost use Rattle.index_region.specs.Boxes.{box_size};
 ghost use Rattle.change_rules.specs.Currency.{applied};
 ghost use Rattle.formula_core.specs.Changes.{FitsIn, each_with};
 ghost use Rattle.arrays_core.specs.Outcomes.{fault};
+ghost use Rattle.formula_core.specs.declared.sums.SumsDelta.TheVariants.{Same as Stays};
 ghost use Rattle.formula_core.specs.Holdings.{holding, holdings_of, can_be_lent, no_change, place_change, node_taking, IsFit, AllChangesFit};
 
 use crate::sums::{SumsDelta, take_sums_delta};
 use crate::table::Node;
 use arrays_core::{Array, Fault, Kind};
 use change_rules::OnePlace;
-use index_region::Delta;
+use index_region::{Delta, Patch};
+use std::alloc::AllocError;
 use sum_rules::LineSums;
 
 /// A node of a formula with what it keeps.
@@ -82,14 +84,13 @@ impl NodeChange {
         }
     }
 
-    /// The change of a node of which one place is all that changes, or that has the error there.
+    /// The change of a node that keeps no sums, or whose sums stay.
     #[inline(always)]
-    pub(crate) fn at(place: OnePlace) -> NodeChange
-        requires { box_size place.region ≡ 1 }
-        ensures { result ≡ place_change place }
+    fn of(delta: Delta) -> NodeChange
+        ensures { result ≡ record { delta = delta; sums = Stays } }
     {
         NodeChange {
-            delta: place.delta(),
+            delta,
             sums: SumsDelta::Same,
         }
     }
@@ -103,6 +104,21 @@ impl NodeChange {
             (Delta::Same | Delta::Patch(_), SumsDelta::Same)
         )
     }
+}
+
+/// Puts the change of a node of which one place is all that changes, or that has the error there, behind those of others. A change is large, and so
+/// each kind of it is made where it is put.
+#[inline(always)]
+pub(crate) fn push_place(changes: &mut Vec<NodeChange>, place: OnePlace) -> Result<(), AllocError>
+    requires { box_size place.region ≡ 1 }
+    ensures pushed { OnOk result (changes.new.items ≡ changes.old.items ++ place_change place ∷ []) }
+    ensures err { OnErr result (changes.new ≡ changes.old) }
+{
+    match place.given {
+        Ok(item) => changes.push(NodeChange::of(Delta::Patch(Patch::one(place.region, item))))?,
+        Err(kind) => changes.push(NodeChange::of(Delta::Whole(Err(kind.into()))))?,
+    }
+    Ok(())
 }
 
 /// The error of what was not worked out yet.

@@ -2,10 +2,10 @@ use Rattle.std.proofs.Common.{◌≡◌, ◌∙◌, ◌<◌, ◌≤◌, ◌+◌,
 use Rattle.change_core.specs.Meters.{ticked, MeterValue}
 use Rattle.formula_core.specs.declared.kept.NodeChange.{NodeChange}
 use Rattle.formula_core.specs.Formulas.{is_operation, operations}
-use Rattle.formula_core.specs.Holdings.{not_worked_out}
+use Rattle.formula_core.specs.Holdings.{not_worked_out, place_change}
 use Rattle.formula_core.specs.Plans.{PlanValue}
 use Rattle.formula_core.specs.Progress.{operations_among}
-use Rattle.formula_core.specs.Stages.{IsBegun, IsDone, IsOnePlace}
+use Rattle.formula_core.specs.Stages.{IsBegun, IsOnePlace}
 use Rattle.formula_core.specs.Tables.{subtrees, tree_at}
 use Rattle.formula_core.proofs.Progressed.{node_left, among_more, applies_later, begun_one}
 use Rattle.formula_core.proofs.formula.Formula.advance.Goals as goal
@@ -26,7 +26,7 @@ returns-clause-one c =
     let below : length inner < length f.nodes = node_left f inner left all in
     let one : is_operation (tree_at (subtrees f.tree) (length inner)) ≡ true =
     subst (λ (ds : List NodeChange). is_operation (tree_at (subtrees f.tree) (length ds)) ≡ true) (sym was) (c.requires.planned.1.1.next (subst (λ (ds : List NodeChange). length ds < length f.nodes) was below)) in
-    among_more f inner c.push.new.self.items c.at.result c.in_ok-push.ensures.items (omega (arith, below, all)) one ∙ ap (λ (ds : List NodeChange). operations_among f ds + 1) was
+    among_more f inner c.push_place.new.changes.items (place_change c.in-Some.place) c.in_ok-push_place.ensures.pushed (omega (arith, below, all)) one ∙ ap (λ (ds : List NodeChange). operations_among f ds + 1) was
 
 pub returns-clause-planned : goal.returns-clause-planned
 returns-clause-planned c = λ change told planned.
@@ -38,15 +38,14 @@ returns-clause-planned c = λ change told planned.
     let left = subst (λ (ds : List NodeChange). operations_among f ds < operations f.tree) (sym was) c.requires.left in
     let seen : IsBegun f change c.as_slice.result.now cost = subst (λ (ds : List NodeChange). IsBegun f change ds cost) (sym c.as_slice.ensures.value) begun in
     let next = subst (λ (ds : List NodeChange). IsOnePlace f.is_new change (tree_at (subtrees f.tree) (length ds)) (get_or f.nodes (length ds) not_worked_out) c.in-Some.place) c.as_slice.ensures.value (c.in-Some.ensures.next change told cost seen) in
-    let done = subst (λ (d : NodeChange). IsDone f.is_new change (tree_at (subtrees f.tree) (length inner)) (get_or f.nodes (length inner) not_worked_out) d) (sym c.at.ensures) next.done in
-    let more = begun_one f change inner c.push.new.self.items c.at.result cost 1 begun left c.in_ok-push.ensures.items next.cost done in
+    let more = begun_one f change inner c.push_place.new.changes.items (place_change c.in-Some.place) cost 1 begun left c.in_ok-push_place.ensures.pushed next.cost next.done in
     let total : c.add.new.self ≡ ticked cost 1 = c.add.ensures.exact ∙ ap (λ (p : PlanValue). ticked p.cost 1) c.plan.view_is in
     record {
-      begun = subst (λ k. IsBegun f change c.push.new.self.items k) (sym total) more;
+      begun = subst (λ k. IsBegun f change c.push_place.new.changes.items k) (sym total) more;
       next = λ under.
           let below : length inner < length (subtrees f.tree) = omega (arith, node_left f inner left planned.begun.known, planned.begun.known) in
           let at = planned.next (subst (λ (ds : List NodeChange). length ds < length f.nodes) was (node_left f inner left planned.begun.known)) in
-          applies_later f.tree (length inner) (length c.push.new.self.items) below (subst (λ (ds : List NodeChange). is_operation (tree_at (subtrees f.tree) (length ds)) ≡ true) (sym was) at) (omega (arith, under, planned.begun.known));
+          applies_later f.tree (length inner) (length c.push_place.new.changes.items) below (subst (λ (ds : List NodeChange). is_operation (tree_at (subtrees f.tree) (length ds)) ≡ true) (sym was) at) (omega (arith, under, planned.begun.known));
     }
 
 pub returns-clause-ticks : goal.returns-clause-ticks
