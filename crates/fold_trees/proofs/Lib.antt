@@ -4,15 +4,7 @@ pub mod Multiples
 pub mod JoinedProducts
 pub mod ProductEndings
 pub mod NearProducts
-pub mod LineParts
-pub mod LineNodes
-pub mod LineEnds
-pub mod BlockRows
-pub mod BlockParts
-pub mod TreeSegments
-pub mod TreePlaces
-pub mod TreeTables
-pub mod TreeBlocks
+pub mod PairEnds
 pub mod TreeWrites
 pub mod TreeTaken
 pub mod TreeLonger

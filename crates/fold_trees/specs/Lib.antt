@@ -4,6 +4,4 @@ pub mod FoldTrees
 pub mod FoldKinds
 pub mod Parts
 pub mod Products
-pub mod LineTrees
-pub mod LineBlocks
 pub mod PartTrees

@@ -2,10 +2,8 @@
 
 ghost use Rattle.std.specs.Prelude.{◌≡◌, ◌≢◌, pos, get_or, ℕ, ◌+◌, ◌-◌, ◌*◌, ◌/◌, ◌%◌, ◌^◌, ◌<◌, ◌≤◌, ◌++◌, ◌∷◌, [], min, ℤ, List, length, vec_len, vec_capacity, ◌⊎◌};
 ghost use Rattle.operator_fns.specs.SumTree.{IsWithinDigitsOf};
-ghost use Rattle.operator_fns.specs.LineTrees.{slot_at as slot_place, nth_node as node_place, slot_of, HasSlots, IsPart, AreSameIn, other_half, replaced, shorter};
-ghost use Rattle.operator_fns.specs.LineBlocks.{line_of, HaveSlots};
-ghost use Rattle.fold_trees.specs.LineTrees.{node_of, segment, IsIn, AreKept, AreKeptIn, AreKeptBeside, AreKeptUpTo, numbers_at};
-ghost use Rattle.fold_trees.specs.LineBlocks.{nodes_end, HaveNodes, AreKeptBehind, AreKeptFrom};
+ghost use Rattle.operator_fns.specs.LineTrees.{slot_at as slot_place, nth_node as node_place, slot_of, HasSlots, IsPart, AreSameIn, other_half, replaced, shorter, segment, numbers_of_block, from_two, IsIn, node_of, AreKept, AreKeptIn, AreKeptBeside, AreKeptUpTo};
+ghost use Rattle.operator_fns.specs.LineBlocks.{line_of, HaveSlots, nodes_end, HaveNodes, AreKeptBehind, AreKeptFrom};
 
 use crate::part::Part;
 use operator_fns::Line;
@@ -21,10 +19,10 @@ pub(crate) struct LineTree<'a, P> {
 impl<'a, P: Part> LineTree<'a, P> {
     /// What is kept of the part that begins at a place and has this width, or ends with the line.
     fn part(&self, from: usize, width: usize) -> P
-        requires inside { IsIn self.now.line (length self.now.numbers.now) (length self.now.nodes.now) }
+        requires inside { IsIn from_two self.now.line (length self.now.numbers.now) (length self.now.nodes.now) }
         requires from { from < self.now.line.count }
         requires part { IsPart from width }
-        requires kept { AreKeptIn P.tells from width self.now.line.count (slot_of self.now.line self.now.numbers.now) (node_of P.blank self.now.line self.now.nodes.now) }
+        requires kept { AreKeptIn from_two P.tells from width self.now.line.count (slot_of self.now.line self.now.numbers.now) (node_of from_two P.blank self.now.line self.now.nodes.now) }
         ensures { P.tells result (segment (slot_of self.now.line self.now.numbers.now) from (min width (self.now.line.count - from))) }
     {
         let long = width.min(self.line.count - from);
@@ -37,9 +35,9 @@ impl<'a, P: Part> LineTree<'a, P> {
 
     /// What is kept of all numbers.
     pub(crate) fn whole(&self) -> P
-        requires inside { IsIn self.now.line (length self.now.numbers.now) (length self.now.nodes.now) }
+        requires inside { IsIn from_two self.now.line (length self.now.numbers.now) (length self.now.nodes.now) }
         requires some { 0 < self.now.line.count }
-        requires kept { AreKept P.tells self.now.line.count (slot_of self.now.line self.now.numbers.now) (node_of P.blank self.now.line self.now.nodes.now) }
+        requires kept { AreKept from_two P.tells self.now.line.count (slot_of self.now.line self.now.numbers.now) (node_of from_two P.blank self.now.line self.now.nodes.now) }
         ensures { P.tells result (segment (slot_of self.now.line self.now.numbers.now) 0 self.now.line.count) }
     {
         self.part(0, self.line.count.next_power_of_two())
@@ -48,14 +46,14 @@ impl<'a, P: Part> LineTree<'a, P> {
     /// What is to be kept of the part twice as wide as a block of which this is, and how many parts were joined for it: none where
     /// the line ends with that block, else one more.
     fn widened(&self, block: usize, width: usize, kept: &P) -> (P, u32)
-        requires inside { IsIn self.now.line (length self.now.numbers.now) (length self.now.nodes.now) }
+        requires inside { IsIn from_two self.now.line (length self.now.numbers.now) (length self.now.nodes.now) }
         requires from { block * width < self.now.line.count }
         requires short { width < self.now.line.count }
         requires level { (level : ℕ) × (width ≡ 2 ^ level) }
-        requires kept { AreKeptIn P.tells (other_half block * width) width self.now.line.count (slot_of self.now.line self.now.numbers.now) (node_of P.blank self.now.line self.now.nodes.now) }
+        requires kept { AreKeptIn from_two P.tells (other_half block * width) width self.now.line.count (slot_of self.now.line self.now.numbers.now) (node_of from_two P.blank self.now.line self.now.nodes.now) }
         requires told { (xs : List ℤ) × P.tells kept.now xs }
         ensures is { (x : ℕ → ℤ) → AreSameIn (other_half block * width) width (slot_of self.now.line self.now.numbers.now) x
-            → P.tells kept.now (numbers_at self.now.line.count x block width) → P.tells result.0 (numbers_at self.now.line.count x (block / 2) (2 * width)) }
+            → P.tells kept.now (numbers_of_block self.now.line.count x block width) → P.tells result.0 (numbers_of_block self.now.line.count x (block / 2) (2 * width)) }
         ensures joins { result.1 ≤ 1 }
         ensures none { result.1 ≡ 0 → (block % 2 ≡ 0) × (self.now.line.count ≤ block * width + width) }
         ensures one { result.1 ≡ 1 → (block / 2 * 2 + 1) * width < self.now.line.count }
@@ -73,9 +71,9 @@ impl<'a, P: Part> LineTree<'a, P> {
     /// What is to be kept of all numbers where the one at a place is another, and how many parts were joined for it: at most as many
     /// as the count less one has binary digits.
     pub(crate) fn with(&self, place: usize, number: i64) -> (P, u32)
-        requires inside { IsIn self.now.line (length self.now.numbers.now) (length self.now.nodes.now) }
+        requires inside { IsIn from_two self.now.line (length self.now.numbers.now) (length self.now.nodes.now) }
         requires place { place < self.now.line.count }
-        requires kept { AreKept P.tells self.now.line.count (slot_of self.now.line self.now.numbers.now) (node_of P.blank self.now.line self.now.nodes.now) }
+        requires kept { AreKept from_two P.tells self.now.line.count (slot_of self.now.line self.now.numbers.now) (node_of from_two P.blank self.now.line self.now.nodes.now) }
         ensures is { P.tells result.0 (segment (replaced (slot_of self.now.line self.now.numbers.now) place number) 0 self.now.line.count) }
         ensures most { IsWithinDigitsOf (self.now.line.count - 1) result.1 }
         ensures least { 1 < self.now.line.count → 0 < result.1 }
@@ -97,10 +95,10 @@ impl<'a, P: Part> LineTree<'a, P> {
 
 /// Joins anew what is kept of the parts that a place is in.
 pub(crate) fn renew<P: Part>(numbers: &[i64], nodes: &mut [P], line: Line, place: usize)
-    requires inside { IsIn line (length numbers.now) (length nodes.old) }
+    requires inside { IsIn from_two line (length numbers.now) (length nodes.old) }
     requires place { place < line.count }
-    requires kept { AreKeptBeside P.tells place line.count (slot_of line numbers.now) (node_of P.blank line nodes.old) }
-    ensures kept { AreKept P.tells line.count (slot_of line numbers.now) (node_of P.blank line nodes.new) }
+    requires kept { AreKeptBeside from_two P.tells place line.count (slot_of line numbers.now) (node_of from_two P.blank line nodes.old) }
+    ensures kept { AreKept from_two P.tells line.count (slot_of line numbers.now) (node_of from_two P.blank line nodes.new) }
     ensures others { (p : ℕ) → ((meeting : ℕ) → 1 ≤ meeting → meeting < line.count → p ≢ node_place line meeting) → get_or nodes.new p P.blank ≡ get_or nodes.old p P.blank }
     ensures length { length nodes.new ≡ length nodes.old }
 {
@@ -131,11 +129,11 @@ pub(crate) fn write<P: Part>(
     place: usize,
     number: i64,
 )
-    requires inside { IsIn line (length numbers.old) (length nodes.old) }
+    requires inside { IsIn from_two line (length numbers.old) (length nodes.old) }
     requires place { place < line.count }
-    requires kept { AreKept P.tells line.count (slot_of line numbers.old) (node_of P.blank line nodes.old) }
+    requires kept { AreKept from_two P.tells line.count (slot_of line numbers.old) (node_of from_two P.blank line nodes.old) }
     ensures numbers { (i : ℕ) → i < line.count → slot_of line numbers.new i ≡ replaced (slot_of line numbers.old) place number i }
-    ensures kept { AreKept P.tells line.count (slot_of line numbers.new) (node_of P.blank line nodes.new) }
+    ensures kept { AreKept from_two P.tells line.count (slot_of line numbers.new) (node_of from_two P.blank line nodes.new) }
     ensures other_slots { (p : ℕ) → p ≢ slot_place line place → get_or numbers.new p (pos 0) ≡ get_or numbers.old p (pos 0) }
     ensures other_nodes { (p : ℕ) → ((meeting : ℕ) → 1 ≤ meeting → meeting < line.count → p ≢ node_place line meeting) → get_or nodes.new p P.blank ≡ get_or nodes.old p P.blank }
     ensures slot_count { length numbers.new ≡ length numbers.old }
@@ -148,10 +146,10 @@ pub(crate) fn write<P: Part>(
 /// Takes one more number for a line, the one that lies behind its others, and joins anew what is kept of the parts that it is in. The
 /// line is told with that number; what is kept until then is that of the line without it.
 pub(crate) fn take_last<P: Part>(numbers: &[i64], nodes: &mut [P], line: Line)
-    requires inside { IsIn line (length numbers.now) (length nodes.old) }
+    requires inside { IsIn from_two line (length numbers.now) (length nodes.old) }
     requires more { 1 < line.count }
-    requires kept { AreKept P.tells (line.count - 1) (slot_of (shorter line) numbers.now) (node_of P.blank (shorter line) nodes.old) }
-    ensures kept { AreKept P.tells line.count (slot_of line numbers.now) (node_of P.blank line nodes.new) }
+    requires kept { AreKept from_two P.tells (line.count - 1) (slot_of (shorter line) numbers.now) (node_of from_two P.blank (shorter line) nodes.old) }
+    ensures kept { AreKept from_two P.tells line.count (slot_of line numbers.now) (node_of from_two P.blank line nodes.new) }
     ensures other_nodes { (p : ℕ) → ((meeting : ℕ) → 1 ≤ meeting → meeting < line.count → p ≢ node_place line meeting) → get_or nodes.new p P.blank ≡ get_or nodes.old p P.blank }
     ensures node_count { length nodes.new ≡ length nodes.old }
 {
@@ -166,8 +164,8 @@ fn close_parts<P: Part>(nodes: &mut [P], line: Line, end: usize)
     requires some { 0 < end }
     requires below { end < line.count }
     requires nodes { node_place line end < length nodes.old }
-    requires kept { (x : ℕ → ℤ) × AreKeptUpTo P.tells end 2 line.count x (node_of P.blank line nodes.old) }
-    ensures kept { (x : ℕ → ℤ) → AreKeptUpTo P.tells end 2 line.count x (node_of P.blank line nodes.old) → AreKeptIn P.tells 0 end line.count x (node_of P.blank line nodes.new) }
+    requires kept { (x : ℕ → ℤ) × AreKeptUpTo from_two P.tells end 2 line.count x (node_of from_two P.blank line nodes.old) }
+    ensures kept { (x : ℕ → ℤ) → AreKeptUpTo from_two P.tells end 2 line.count x (node_of from_two P.blank line nodes.old) → AreKeptIn from_two P.tells 0 end line.count x (node_of from_two P.blank line nodes.new) }
     ensures others { (p : ℕ) → p < line.node → get_or nodes.new p P.blank ≡ get_or nodes.old p P.blank }
     ensures length { length nodes.new ≡ length nodes.old }
 {
@@ -200,8 +198,8 @@ fn push_pair<P: Part>(numbers: &[i64], nodes: &mut Vec<P>, line: Line, from: usi
     requires full { from + 2 < line.count }
     requires here { vec_len nodes.old ≡ line.node + from }
     requires room { line.node + from + 2 ≤ vec_capacity nodes.old }
-    requires kept { AreKeptIn P.tells 0 from line.count (slot_of line numbers.now) (node_of P.blank line nodes.old.items) }
-    ensures kept { AreKeptIn P.tells 0 (from + 2) line.count (slot_of line numbers.now) (node_of P.blank line nodes.new.items) }
+    requires kept { AreKeptIn from_two P.tells 0 from line.count (slot_of line numbers.now) (node_of from_two P.blank line nodes.old.items) }
+    ensures kept { AreKeptIn from_two P.tells 0 (from + 2) line.count (slot_of line numbers.now) (node_of from_two P.blank line nodes.new.items) }
     ensures others { (p : ℕ) → p < line.node → get_or nodes.new.items p P.blank ≡ get_or nodes.old.items p P.blank }
     ensures length { vec_len nodes.new ≡ line.node + from + 2 }
     ensures room { vec_capacity nodes.old ≤ vec_capacity nodes.new }
@@ -219,10 +217,10 @@ pub(crate) fn push_line<P: Part>(numbers: &[i64], nodes: &mut Vec<P>, line: Line
     requires near { line.step ≡ 1 }
     requires some { 0 < line.count }
     requires here { vec_len nodes.old ≡ line.node }
-    requires room { nodes_end line ≤ vec_capacity nodes.old }
-    ensures kept { AreKept P.tells line.count (slot_of line numbers.now) (node_of P.blank line nodes.new.items) }
+    requires room { nodes_end from_two line ≤ vec_capacity nodes.old }
+    ensures kept { AreKept from_two P.tells line.count (slot_of line numbers.now) (node_of from_two P.blank line nodes.new.items) }
     ensures others { (p : ℕ) → p < line.node → get_or nodes.new.items p P.blank ≡ get_or nodes.old.items p P.blank }
-    ensures length { vec_len nodes.new ≡ nodes_end line }
+    ensures length { vec_len nodes.new ≡ nodes_end from_two line }
     ensures room { vec_capacity nodes.old ≤ vec_capacity nodes.new }
 {
     let last = line.count - 1;
@@ -238,9 +236,9 @@ pub(crate) fn push_line<P: Part>(numbers: &[i64], nodes: &mut Vec<P>, line: Line
 /// Joins two numbers that are neighbours, for each line of a block.
 fn pairs_row<P: Part>(numbers: &[i64], nodes: &mut [P], first: Line, from: usize)
     requires slots { HaveSlots first (length numbers.now) }
-    requires nodes { HaveNodes first (length nodes.old) }
+    requires nodes { HaveNodes from_two first (length nodes.old) }
     requires full { from + 2 ≤ first.count }
-    ensures told { (column : ℕ) → column < first.step → P.tells (node_of P.blank (line_of first column) nodes.new (from + 1)) (segment (slot_of (line_of first column) numbers.now) from 2) }
+    ensures told { (column : ℕ) → column < first.step → P.tells (node_of from_two P.blank (line_of first column) nodes.new (from + 1)) (segment (slot_of (line_of first column) numbers.now) from 2) }
     ensures others { (p : ℕ) → (p < node_place first (from + 1) ⊎ node_place first (from + 1) + first.step ≤ p) → get_or nodes.new p P.blank ≡ get_or nodes.old p P.blank }
     ensures length { length nodes.new ≡ length nodes.old }
 {
@@ -254,13 +252,13 @@ fn pairs_row<P: Part>(numbers: &[i64], nodes: &mut [P], first: Line, from: usize
 
 /// Joins the nodes of the two halves of the part that begins at a place, where both are of two numbers and more, for each line of a block.
 fn halves_row<P: Part>(nodes: &mut [P], first: Line, from: usize, half: usize)
-    requires nodes { HaveNodes first (length nodes.old) }
+    requires nodes { HaveNodes from_two first (length nodes.old) }
     requires wide { 2 ≤ half }
     requires full { from + 2 * half ≤ first.count }
-    requires told { (column : ℕ) → column < first.step → (xs : List ℤ) × P.tells (node_of P.blank (line_of first column) nodes.old (from + half / 2)) xs }
-    requires later { (column : ℕ) → column < first.step → (xs : List ℤ) × P.tells (node_of P.blank (line_of first column) nodes.old (from + half + half / 2)) xs }
-    ensures told { (column : ℕ) → column < first.step → (earlier rest : List ℤ) → P.tells (node_of P.blank (line_of first column) nodes.old (from + half / 2)) earlier
-        → P.tells (node_of P.blank (line_of first column) nodes.old (from + half + half / 2)) rest → P.tells (node_of P.blank (line_of first column) nodes.new (from + half)) (earlier ++ rest) }
+    requires told { (column : ℕ) → column < first.step → (xs : List ℤ) × P.tells (node_of from_two P.blank (line_of first column) nodes.old (from + half / 2)) xs }
+    requires later { (column : ℕ) → column < first.step → (xs : List ℤ) × P.tells (node_of from_two P.blank (line_of first column) nodes.old (from + half + half / 2)) xs }
+    ensures told { (column : ℕ) → column < first.step → (earlier rest : List ℤ) → P.tells (node_of from_two P.blank (line_of first column) nodes.old (from + half / 2)) earlier
+        → P.tells (node_of from_two P.blank (line_of first column) nodes.old (from + half + half / 2)) rest → P.tells (node_of from_two P.blank (line_of first column) nodes.new (from + half)) (earlier ++ rest) }
     ensures others { (p : ℕ) → (p < node_place first (from + half) ⊎ node_place first (from + half) + first.step ≤ p) → get_or nodes.new p P.blank ≡ get_or nodes.old p P.blank }
     ensures length { length nodes.new ≡ length nodes.old }
 {
@@ -276,13 +274,13 @@ fn halves_row<P: Part>(nodes: &mut [P], first: Line, from: usize, half: usize)
 #[inline(never)]
 fn last_row<P: Part>(numbers: &[i64], nodes: &mut [P], first: Line, from: usize, half: usize)
     requires slots { HaveSlots first (length numbers.now) }
-    requires nodes { HaveNodes first (length nodes.old) }
+    requires nodes { HaveNodes from_two first (length nodes.old) }
     requires half { (level : ℕ) × (half ≡ 2 ^ level) }
     requires from { (place : ℕ) × (from ≡ place * (2 * half)) }
     requires short { from + half < first.count }
-    requires kept { AreKeptBehind P.blank P.tells from half first numbers.now nodes.old }
+    requires kept { AreKeptBehind from_two P.blank P.tells slot_of from half first numbers.now nodes.old }
     ensures told { (column : ℕ) → column < first.step
-        → P.tells (node_of P.blank (line_of first column) nodes.new (from + half)) (segment (slot_of (line_of first column) numbers.now) from (min (2 * half) (first.count - from))) }
+        → P.tells (node_of from_two P.blank (line_of first column) nodes.new (from + half)) (segment (slot_of (line_of first column) numbers.now) from (min (2 * half) (first.count - from))) }
     ensures others { (p : ℕ) → (p < node_place first (from + half) ⊎ node_place first (from + half) + first.step ≤ p) → get_or nodes.new p P.blank ≡ get_or nodes.old p P.blank }
     ensures length { length nodes.new ≡ length nodes.old }
 {
@@ -302,13 +300,13 @@ fn last_row<P: Part>(numbers: &[i64], nodes: &mut [P], first: Line, from: usize,
 /// narrower ones that begin there is.
 fn join_row<P: Part>(numbers: &[i64], nodes: &mut [P], first: Line, from: usize, half: usize)
     requires slots { HaveSlots first (length numbers.now) }
-    requires nodes { HaveNodes first (length nodes.old) }
+    requires nodes { HaveNodes from_two first (length nodes.old) }
     requires half { (level : ℕ) × (half ≡ 2 ^ level) }
     requires from { (place : ℕ) × (from ≡ place * (2 * half)) }
     requires short { from + half < first.count }
-    requires kept { AreKeptBehind P.blank P.tells from half first numbers.now nodes.old }
-    ensures kept { AreKeptBehind P.blank P.tells from (2 * half) first numbers.now nodes.new }
-    ensures others { (p : ℕ) → (p < first.node ⊎ nodes_end first ≤ p) → get_or nodes.new p P.blank ≡ get_or nodes.old p P.blank }
+    requires kept { AreKeptBehind from_two P.blank P.tells slot_of from half first numbers.now nodes.old }
+    ensures kept { AreKeptBehind from_two P.blank P.tells slot_of from (2 * half) first numbers.now nodes.new }
+    ensures others { (p : ℕ) → (p < first.node ⊎ nodes_end from_two first ≤ p) → get_or nodes.new p P.blank ≡ get_or nodes.old p P.blank }
     ensures length { length nodes.new ≡ length nodes.old }
 {
     if first.count - from < 2 * half {
@@ -323,12 +321,12 @@ fn join_row<P: Part>(numbers: &[i64], nodes: &mut [P], first: Line, from: usize,
 /// Joins what is kept of all parts that begin at a place, for each line of a block, where that of the parts behind it is.
 fn fill_from<P: Part>(numbers: &[i64], nodes: &mut [P], first: Line, from: usize)
     requires slots { HaveSlots first (length numbers.now) }
-    requires nodes { HaveNodes first (length nodes.old) }
+    requires nodes { HaveNodes from_two first (length nodes.old) }
     requires two { from % 2 ≡ 0 }
     requires below { from < first.count }
-    requires kept { AreKeptFrom P.blank P.tells (from + 2) first numbers.now nodes.old }
-    ensures kept { AreKeptFrom P.blank P.tells from first numbers.now nodes.new }
-    ensures others { (p : ℕ) → (p < first.node ⊎ nodes_end first ≤ p) → get_or nodes.new p P.blank ≡ get_or nodes.old p P.blank }
+    requires kept { AreKeptFrom from_two P.blank P.tells slot_of (from + 2) first numbers.now nodes.old }
+    ensures kept { AreKeptFrom from_two P.blank P.tells slot_of from first numbers.now nodes.new }
+    ensures others { (p : ℕ) → (p < first.node ⊎ nodes_end from_two first ≤ p) → get_or nodes.new p P.blank ≡ get_or nodes.old p P.blank }
     ensures length { length nodes.new ≡ length nodes.old }
 {
     let mut half = 1;
@@ -341,9 +339,9 @@ fn fill_from<P: Part>(numbers: &[i64], nodes: &mut [P], first: Line, from: usize
 /// Joins what is kept of all parts of each line of a block, from the last ones to the first.
 pub(crate) fn fill_block<P: Part>(numbers: &[i64], nodes: &mut [P], first: Line)
     requires slots { HaveSlots first (length numbers.now) }
-    requires nodes { HaveNodes first (length nodes.old) }
-    ensures kept { (column : ℕ) → column < first.step → AreKept P.tells first.count (slot_of (line_of first column) numbers.now) (node_of P.blank (line_of first column) nodes.new) }
-    ensures others { (p : ℕ) → (p < first.node ⊎ nodes_end first ≤ p) → get_or nodes.new p P.blank ≡ get_or nodes.old p P.blank }
+    requires nodes { HaveNodes from_two first (length nodes.old) }
+    ensures kept { (column : ℕ) → column < first.step → AreKept from_two P.tells first.count (slot_of (line_of first column) numbers.now) (node_of from_two P.blank (line_of first column) nodes.new) }
+    ensures others { (p : ℕ) → (p < first.node ⊎ nodes_end from_two first ≤ p) → get_or nodes.new p P.blank ≡ get_or nodes.old p P.blank }
     ensures length { length nodes.new ≡ length nodes.old }
 {
     let mut pairs = first.count.div_ceil(2);

@@ -4,11 +4,10 @@ ghost use Rattle.std.specs.Prelude.{◌≡◌, ℕ, ◌+◌, ◌-◌, ◌*◌, �
 ghost use Rattle.arrays_core.specs.Growth.{IsRoomy};
 ghost use Rattle.operator_fns.specs.SumTree.{IsWithinDigitsOf};
 ghost use Rattle.operator_fns.specs.SumTrees.{FitBehind, FitNext, with_lines, with_places, line_count as lines_in, numbers_of_line, numbers_through, with_number, AreLines};
-ghost use Rattle.operator_fns.specs.LineTrees.{slot_of, shorter};
-ghost use Rattle.fold_trees.specs.LineTrees.{node_of, IsIn, AreKept};
-ghost use Rattle.fold_trees.specs.LineBlocks.{block_at};
+ghost use Rattle.operator_fns.specs.LineBlocks.{block_at, line_at, AreAllKept};
+ghost use Rattle.operator_fns.specs.LineTrees.{slot_of, shorter, from_two, IsIn, node_of, AreKept, nodes_in_line};
 ghost use Rattle.fold_trees.specs.FoldTrees.{IsReductionBy};
-ghost use Rattle.fold_trees.specs.PartTrees.{line_at, nodes_in_line, AreAllKept, AreLineTrees};
+ghost use Rattle.fold_trees.specs.PartTrees.{AreLineTrees};
 
 use crate::line_tree::{LineTree, fill_block, push_line, take_last, write};
 use crate::part::Part;
@@ -22,7 +21,7 @@ fn nth_line(count: usize, step: usize, line: usize) -> Line
     requires some { 0 < count }
     requires apart { 0 < step }
     requires fit { line / step * (count * step) + count * step < 2 ^ 64 }
-    ensures { result ≡ line_at count step line }
+    ensures { result ≡ line_at from_two count step line }
 {
     let block = line / step;
     let first = line % step;
@@ -44,11 +43,11 @@ fn nth_tree<'a, P: Part>(
 ) -> LineTree<'a, P>
     requires trees { AreLineTrees P.blank P.tells count step numbers.now nodes.now }
     requires line { line < length numbers.now / count }
-    ensures line { result.line ≡ line_at count step line }
+    ensures line { result.line ≡ line_at from_two count step line }
     ensures numbers { result.numbers.now ≡ numbers.now }
     ensures nodes { result.nodes.now ≡ nodes.now }
-    ensures inside { IsIn result.line (length result.numbers.now) (length result.nodes.now) }
-    ensures kept { AreKept P.tells result.line.count (slot_of result.line result.numbers.now) (node_of P.blank result.line result.nodes.now) }
+    ensures inside { IsIn from_two result.line (length result.numbers.now) (length result.nodes.now) }
+    ensures kept { AreKept from_two P.tells result.line.count (slot_of result.line result.numbers.now) (node_of from_two P.blank result.line result.nodes.now) }
 {
     let line = nth_line(count, step, line);
     LineTree {
@@ -62,7 +61,7 @@ fn nth_tree<'a, P: Part>(
 fn nth_block(count: usize, step: usize, block: usize) -> Line
     requires some { 0 < count }
     requires fit { block * (count * step) + count * step < 2 ^ 64 }
-    ensures { result ≡ block_at count step block }
+    ensures { result ≡ block_at from_two count step block }
 {
     Line {
         count,
@@ -75,8 +74,8 @@ fn nth_block(count: usize, step: usize, block: usize) -> Line
 /// Joins what is kept of all parts of all lines.
 fn fill_all<P: Part>(numbers: &[i64], nodes: &mut [P], count: usize, step: usize)
     requires lines { AreLines count step (length numbers.now) }
-    requires sized { length nodes.old ≡ length numbers.now / count * nodes_in_line count }
-    ensures kept { AreAllKept P.blank P.tells count step numbers.now nodes.new }
+    requires sized { length nodes.old ≡ length numbers.now / count * nodes_in_line from_two count }
+    ensures kept { AreAllKept from_two P.blank P.tells slot_of count step numbers.now nodes.new }
     ensures length { length nodes.new ≡ length nodes.old }
 {
     for block in 0..numbers.len() / count / step {
@@ -91,8 +90,8 @@ fn nodes_of_lines<P: Part>(
     count: usize,
 ) -> Result<Vec<P>, AllocError>
     requires lines { AreLines count 1 (length numbers.now) }
-    ensures kept { IfOk result (λ v. AreAllKept P.blank P.tells count 1 numbers.now v.items) }
-    ensures sized { IfOk result (λ v. length v.items ≡ length numbers.now / count * nodes_in_line count) }
+    ensures kept { IfOk result (λ v. AreAllKept from_two P.blank P.tells slot_of count 1 numbers.now v.items) }
+    ensures sized { IfOk result (λ v. length v.items ≡ length numbers.now / count * nodes_in_line from_two count) }
     ensures roomy { IfOk result (λ v. IsRoomy (length v.items) (vec_capacity v)) }
 {
     let lines = numbers.len() / count;
@@ -111,8 +110,8 @@ fn nodes_of_blocks<P: Part>(
     step: usize,
 ) -> Result<Vec<P>, AllocError>
     requires lines { AreLines count step (length numbers.now) }
-    ensures kept { IfOk result (λ v. AreAllKept P.blank P.tells count step numbers.now v.items) }
-    ensures sized { IfOk result (λ v. length v.items ≡ length numbers.now / count * nodes_in_line count) }
+    ensures kept { IfOk result (λ v. AreAllKept from_two P.blank P.tells slot_of count step numbers.now v.items) }
+    ensures sized { IfOk result (λ v. length v.items ≡ length numbers.now / count * nodes_in_line from_two count) }
     ensures roomy { IfOk result (λ v. IsRoomy (length v.items) (vec_capacity v)) }
 {
     let node_count = numbers.len() / count * (count - 1);
@@ -127,9 +126,9 @@ fn take_places<P: Part>(numbers: &[i64], nodes: &mut [P], count: usize, step: us
     requires more { 1 < count }
     requires apart { 0 < step }
     requires slot_count { length numbers.now ≡ count * step }
-    requires node_count { length nodes.old ≡ nodes_in_line count * step }
-    requires kept { (line : ℕ) → line < step → AreKept P.tells (count - 1) (slot_of (shorter (line_at count step line)) numbers.now) (node_of P.blank (shorter (line_at count step line)) nodes.old) }
-    ensures kept { (line : ℕ) → line < step → AreKept P.tells count (slot_of (line_at count step line) numbers.now) (node_of P.blank (line_at count step line) nodes.new) }
+    requires node_count { length nodes.old ≡ nodes_in_line from_two count * step }
+    requires kept { (line : ℕ) → line < step → AreKept from_two P.tells (count - 1) (slot_of (shorter (line_at from_two count step line)) numbers.now) (node_of from_two P.blank (shorter (line_at from_two count step line)) nodes.old) }
+    ensures kept { (line : ℕ) → line < step → AreKept from_two P.tells count (slot_of (line_at from_two count step line) numbers.now) (node_of from_two P.blank (line_at from_two count step line) nodes.new) }
     ensures node_length { length nodes.new ≡ length nodes.old }
 {
     for line in 0..step {
@@ -279,14 +278,14 @@ pub(crate) struct NewParts<P: Part> {
 
 impl<P: Part> Model for NewParts<P> {
     ghost use Rattle.std.specs.Prelude.{vec_capacity};
-    ghost use Rattle.operator_fns.specs.SumTrees.{NewTreesValue};
-    ghost use Rattle.fold_trees.specs.PartTrees.{AreRooms};
+    ghost use Rattle.operator_fns.specs.LineTrees.{from_two};
+    ghost use Rattle.operator_fns.specs.SumTrees.{NewTreesValue, AreRooms};
 
     ghost Value = { NewTreesValue };
 
     ghost view = { λ n. record { count = n.trees.count; step = n.trees.step; old_lines = n.old_lines; numbers = n.trees.numbers } };
 
-    ghost invariant = { λ n. AreRooms n.old_lines n.trees n.slots.items n.nodes.items (vec_capacity n.slots) (vec_capacity n.nodes) };
+    ghost invariant = { λ n. AreRooms from_two n.old_lines n.trees n.slots.items n.nodes.items (vec_capacity n.slots) (vec_capacity n.nodes) };
 }
 
 impl<P: Part> NewParts<P> {

@@ -1,52 +1,24 @@
 -- The blocks of lines among all lines.
-use Rattle.std.proofs.Common.{◌≡◌, ◌∙◌, ℕ, ◌+◌, ◌-◌, ◌*◌, ◌/◌, ◌%◌, ◌^◌, ◌<◌, ◌≤◌, ◌⊎◌, min, List, get_or, ap, sym, subst, arith, inl, inr, ℤ, ◌-ℤ◌, pos, w64}
-use Rattle.std.specs.Int.{int_wrap}
-use Rattle.std.proofs.lemmas.Nat.{pow_pos, div-add-mod', div-mul-add, mod-mul-add, mul-add-lt, div_below, mod_below, mul-le}
-use Rattle.std.proofs.lemmas.Bool.{cases_lt, cases_eq}
-use Rattle.operator_fns.specs.declared.summary.Summary.{Summary}
+use Rattle.std.proofs.Common.{◌≡◌, ◌∙◌, ℕ, ◌+◌, ◌-◌, ◌*◌, ◌/◌, ◌%◌, ◌^◌, ◌<◌, ◌≤◌, ◌⊎◌, List, get_or, ap, sym, subst, arith, inl, inr, ℤ, pos, refl}
+use Rattle.std.proofs.lemmas.Nat.{div-add-mod', div-mul-add, mod-mul-add, mul-add-lt, div_below, mod_below, mul-le}
+use Rattle.std.proofs.lemmas.Bool.{cases_lt}
 use Rattle.operator_fns.specs.declared.line_tree.Line.{Line}
-use Rattle.operator_fns.specs.SumNodes.{Tells, sums_from}
-use Rattle.operator_fns.specs.LineTrees.{slot_at, node_at, slot_of, number_of, node_of, empty, AreKept}
-use Rattle.operator_fns.specs.LineBlocks.{line_of, nodes_end, block_at, HaveSlots, HaveNodes}
-use Rattle.operator_fns.specs.SumTrees.{line_at, number_kept, nodes_in_line, AreLines}
-use Rattle.operator_fns.proofs.LineParts.{number_before, number_odd, number_last}
+use Rattle.operator_fns.specs.LineTrees.{Halves, from_four, slot_at, nth_node, slot_of, number_of, node_of, AreKept, nodes_in_line}
+use Rattle.operator_fns.specs.LineBlocks.{line_of, HaveSlots, nodes_end, block_at, line_at, HaveNodes}
+use Rattle.operator_fns.specs.SumTrees.{number_kept, AreLines}
+use Rattle.operator_fns.proofs.LineTables.{numbers_alike}
 use Rattle.operator_fns.proofs.LineSpots.{blocks, slots_are, lines_are, nodes_are, fewer_nodes}
-use Rattle.operator_fns.proofs.BlockRows.{slots_within, nodes_within, line_slot, line_node}
-
--- ---- one line
-
--- where the slots of a line stay, its numbers do
-numbers_stay : (l : Line) (before after : List ℤ) → ((i : ℕ) → i < l.count → slot_of l after i ≡ slot_of l before i) → (i : ℕ) → i < l.count → number_of l after i ≡ number_of l before i
-numbers_stay l before after same i h = elim (cases_lt (i + 1) l.count) [
-  | inl more ↦ elim (cases_eq (i % 2) 0) [
-    | inl even ↦
-        let here = same i h in
-        let next = same (i + 1) more in
-        number_before l after i even more ∙ (λ k. int_wrap w64 (here k -ℤ next k)) ∙ sym (number_before l before i even more)
-    | inr odd ↦ let is : i % 2 ≡ 1 = omega (arith, odd) in number_odd l after i is ∙ same i h ∙ sym (number_odd l before i is)
-  ]
-  | inr last ↦ number_last l after i last ∙ same i h ∙ sym (number_last l before i last)
-]
-
--- where its nodes stay, what is kept of its parts does
-pub kept_stays : (count : ℕ) (x : ℕ → ℤ) (m n : ℕ → Summary) → ((meeting : ℕ) → 2 ≤ meeting → meeting < count → n meeting ≡ m meeting) → AreKept count x m → AreKept count x n
-kept_stays count x m n nodes kept level place inside =
-    let from = place * (4 * 2 ^ level) in
-    let half = 2 * 2 ^ level in
-    let some = pow_pos level in
-    subst (λ s. Tells s (sums_from x from (min (2 * half) (count - from)))) (sym (nodes (from + half) (omega (arith, some)) inside)) (kept level place inside)
+use Rattle.operator_fns.proofs.Halves.{AreHalves}
+use Rattle.operator_fns.proofs.LineNodes.{kept_alike}
+use Rattle.operator_fns.proofs.BlockRows.{slots_within, line_slot}
 
 -- ---- a line and its block
 
-pub line_in_block : (count step block column : ℕ) → column < step → line_at count step (block * step + column) ≡ line_of (block_at count step block) column
-line_in_block count step block column below =
+pub line_in_block : (f : Halves) (count step block column : ℕ) → column < step → line_at f count step (block * step + column) ≡ line_of (block_at f count step block) column
+line_in_block f count step block column below =
     let d = div-mul-add block step column below in
     let m = mod-mul-add block step column below in
-    λ i. record { count = count; step = step; slot = d i * (count * step) + m i; node = d i * ((count - 1) / 2 * step) + m i }
-
-pub line_is : (count step line : ℕ) → 0 < step → line_at count step line ≡ line_of (block_at count step (line / step)) (line % step)
-line_is count step line apart =
-    ap (line_at count step) (sym (div-add-mod' line step)) ∙ line_in_block count step (line / step) (line % step) (mod_below line step apart)
+    λ i. record { count = count; step = step; slot = d i * (count * step) + m i; node = d i * (nodes_in_line f count * step) + m i }
 
 -- a block before another one ends where that begins, or before
 pub units_before : (unit a b : ℕ) → a < b → a * unit + unit ≤ b * unit
@@ -67,8 +39,8 @@ module _ (count step slots : ℕ) (are : AreLines count step slots) where
         let before = units_before (count * step) block (blocks count step slots are) (omega (arith, h, block_count)) in
         omega (arith, before, slots_are count step slots are)
 
-    pub have_slots : slots < 2 ^ 62 → HaveSlots (block_at count step block) slots
-    have_slots few = record {
+    pub have_slots : (f : Halves) → slots < 2 ^ 62 → HaveSlots (block_at f count step block) slots
+    have_slots f few = record {
       few = count_few;
       apart = are.apart;
       fit = few;
@@ -87,10 +59,10 @@ module _ (count step slots : ℕ) (are : AreLines count step slots) where
         let before = units_before (unit * step) block (blocks count step slots are) (omega (arith, h, block_count)) in
         omega (arith, before, nodes_are count step slots are unit nodes sized)
 
-    pub have_nodes : (nodes : ℕ) → nodes ≡ slots / count * nodes_in_line count → slots < 2 ^ 62 → HaveNodes (block_at count step block) nodes
-    have_nodes nodes sized few = record {
-      fit = omega (arith, few, fewer_nodes count step slots are (nodes_in_line count) nodes (omega arith) sized);
-      end = nodes_ends (nodes_in_line count) nodes sized;
+    pub have_nodes : (f : Halves) → AreHalves f → (nodes : ℕ) → nodes ≡ slots / count * nodes_in_line f count → slots < 2 ^ 62 → HaveNodes f (block_at f count step block) nodes
+    have_nodes f halves nodes sized few = record {
+      fit = omega (arith, few, fewer_nodes count step slots are (nodes_in_line f count) nodes (omega (arith, halves.fewer (count - 1))) sized);
+      end = nodes_ends (nodes_in_line f count) nodes sized;
     }
 
 -- ---- the parts of a place among all numbers
@@ -114,10 +86,10 @@ module _ (count step p : ℕ) (some : 0 < count) (apart : 0 < step) where
   pub place_is : p ≡ p / (count * step) * (count * step) + (p / step % count * step + p % step)
   place_is = parts ∙ ap (λ b. b * (count * step) + (p / step % count * step + p % step)) (sym block_is)
 
-  pub kept_is : (slots : List ℤ) → number_kept count step slots p ≡ number_of (line_of (block_at count step (p / (count * step))) (p % step)) slots (p / step % count)
-  kept_is slots = ap (λ l. number_of l slots (p / step % count)) (line_in_block count step (p / (count * step)) (p % step) (mod_below p step apart))
+  pub kept_is : (slots : List ℤ) → number_kept count step slots p ≡ number_of (line_of (block_at from_four count step (p / (count * step))) (p % step)) slots (p / step % count)
+  kept_is slots = ap (λ l. number_of l slots (p / step % count)) (line_in_block from_four count step (p / (count * step)) (p % step) (mod_below p step apart))
 
-  pub slot_is : slot_at (line_of (block_at count step (p / (count * step))) (p % step)) (p / step % count) ≡ p
+  pub slot_is : slot_at (line_of (block_at from_four count step (p / (count * step))) (p % step)) (p / step % count) ≡ p
   slot_is = omega (arith, place_is)
 
   -- which block it is
@@ -141,7 +113,7 @@ module _ (count step p : ℕ) (some : 0 < count) (apart : 0 < step) where
 -- ---- one block after another
 
 module _ (count step : ℕ) (before now after : List ℤ) (block : ℕ) (some : 0 < count) (apart : 0 < step)
-    (numbers : (column : ℕ) → column < step → (i : ℕ) → i < count → number_of (line_of (block_at count step block) column) after i ≡ slot_of (line_of (block_at count step block) column) now i)
+    (numbers : (column : ℕ) → column < step → (i : ℕ) → i < count → number_of (line_of (block_at from_four count step block) column) after i ≡ slot_of (line_of (block_at from_four count step block) column) now i)
     (others : (p : ℕ) → (p < block * (count * step) ⊎ block * (count * step) + count * step ≤ p) → get_or after p (pos 0) ≡ get_or now p (pos 0))
     (done : (p : ℕ) → p < block * (count * step) → number_kept count step now p ≡ get_or before p (pos 0))
     (rest : (p : ℕ) → block * (count * step) ≤ p → get_or now p (pos 0) ≡ get_or before p (pos 0)) where
@@ -154,14 +126,14 @@ module _ (count step : ℕ) (before now after : List ℤ) (block : ℕ) (some : 
   done_on p high = elim (cases_lt p (block * (count * step))) [
     | inl low ↦
         let b = p / (count * step) in
-        let l = line_of (block_at count step b) (p % step) in
+        let l = line_of (block_at from_four count step b) (p % step) in
         let less = before_block count step p some apart block low in
         let ends = units_before (count * step) b block less in
         kept_is count step p some apart after
-        ∙ numbers_stay l now after
+        ∙ numbers_alike l now after
         (λ i h.
-        let row = slots_within (block_at count step b) i h in
-        let at = line_slot (block_at count step b) (p % step) i in
+        let row = slots_within (block_at from_four count step b) i h in
+        let at = line_slot (block_at from_four count step b) (p % step) i in
         others (slot_at l i) (inl (omega (arith, row, at, ends, mod_below p step apart))))
         (p / step % count) (mod_below (p / step) count some)
         ∙ sym (kept_is count step p some apart now)
@@ -169,40 +141,21 @@ module _ (count step : ℕ) (before now after : List ℤ) (block : ℕ) (some : 
     | inr here ↦
         let is = in_block count step p some apart block here high in
         kept_is count step p some apart after
-        ∙ ap (λ b. number_of (line_of (block_at count step b) (p % step)) after (p / step % count)) is
+        ∙ ap (λ b. number_of (line_of (block_at from_four count step b) (p % step)) after (p / step % count)) is
         ∙ numbers (p % step) (mod_below p step apart) (p / step % count) (mod_below (p / step) count some)
-        ∙ sym (ap (λ b. slot_of (line_of (block_at count step b) (p % step)) now (p / step % count)) is)
+        ∙ sym (ap (λ b. slot_of (line_of (block_at from_four count step b) (p % step)) now (p / step % count)) is)
         ∙ ap (λ q. get_or now q (pos 0)) (slot_is count step p some apart)
         ∙ rest p here
   ]
 
--- what is kept of the lines of one more block
-pub block_kept : (count step : ℕ) (slots : List ℤ) (now after : List Summary) (block : ℕ) → 0 < step
-    → ((column : ℕ) → column < step → AreKept count (number_of (line_of (block_at count step block) column) slots) (node_of (line_of (block_at count step block) column) after))
-    → ((p : ℕ) → (p < block * ((count - 1) / 2 * step) ⊎ block * ((count - 1) / 2 * step) + (count - 1) / 2 * step ≤ p) → get_or after p empty ≡ get_or now p empty)
-    → ((line : ℕ) → line < block * step → AreKept count (number_of (line_at count step line) slots) (node_of (line_at count step line) now))
-    → (line : ℕ) → line < (block + 1) * step → AreKept count (number_of (line_at count step line) slots) (node_of (line_at count step line) after)
-block_kept count step slots now after block apart here others kept line high = elim (cases_lt line (block * step)) [
-  | inl low ↦
-      let b = line / step in
-      let less : b < block = div_below line step block apart low in
-      let ends = units_before ((count - 1) / 2 * step) b block less in
-      let is = line_is count step line apart in
-      kept_stays count (number_of (line_at count step line) slots) (node_of (line_at count step line) now) (node_of (line_at count step line) after)
-      (λ m two below.
-      let row = nodes_within (block_at count step b) m two below in
-      let at = ap (λ l. node_at l m) is ∙ line_node (block_at count step b) (line % step) (m / 2) in
-      others (node_at (line_at count step line) m) (inl (omega (arith, row, at, ends, mod_below line step apart))))
-      (kept line low)
-  | inr enough ↦
-      let sum : (block + 1) * step ≡ block * step + step = grind arith in
-      let column = line - block * step in
-      let below : column < step = omega (arith, enough, high, sum) in
-      let is : line ≡ block * step + column = omega (arith, enough) in
-      subst (λ l. AreKept count (number_of l slots) (node_of l after)) (sym (ap (line_at count step) is ∙ line_in_block count step block column below)) (here column below)
-]
-
--- ---- lines whose numbers are neighbours
+-- the node of a line before a block lies before those of the block
+node_before : (f : Halves) → AreHalves f → (count step line block meeting : ℕ) → 0 < step → line < block * step → f.half 0 ≤ meeting → meeting < count
+    → nth_node (line_at f count step line) (f.nth meeting) < block * (nodes_in_line f count * step)
+node_before f halves count step line block meeting apart low one below =
+    let some = halves.counted meeting one in
+    let row = units_before step (f.nth meeting - 1) (nodes_in_line f count) (omega (arith, some, halves.within meeting count below)) in
+    let ends = units_before (nodes_in_line f count * step) (line / step) block (div_below line step block apart low) in
+    omega (arith, row, ends, mod_below line step apart)
 
 -- where their nodes begin, if each has so many
 pub line_node_first : (unit line : ℕ) → line / 1 * (unit * 1) + line % 1 ≡ line * unit
@@ -212,19 +165,42 @@ line_node_first unit line =
     (λ i. whole i * (unit * 1) + none i) ∙ grind arith
 
 -- and end
-pub line_nodes_end : (count line : ℕ) → nodes_end (line_at count 1 line) ≡ (line + 1) * nodes_in_line count
-line_nodes_end count line = ap (λ n. n + (count - 1) / 2 * 1) (line_node_first (nodes_in_line count) line) ∙ grind arith
+pub line_nodes_end : (f : Halves) (count line : ℕ) → nodes_end f (line_at f count 1 line) ≡ (line + 1) * nodes_in_line f count
+line_nodes_end f count line = ap (λ n. n + nodes_in_line f count * 1) (line_node_first (nodes_in_line f count) line) ∙ grind arith
 
--- what is kept of one more line
-pub line_kept : (count : ℕ) (slots : List ℤ) (now after : List Summary) (line : ℕ) → AreKept count (number_of (line_at count 1 line) slots) (node_of (line_at count 1 line) after)
-    → ((p : ℕ) → p < line * nodes_in_line count → get_or after p empty ≡ get_or now p empty)
-    → ((other : ℕ) → other < line → AreKept count (number_of (line_at count 1 other) slots) (node_of (line_at count 1 other) now))
-    → (other : ℕ) → other < line + 1 → AreKept count (number_of (line_at count 1 other) slots) (node_of (line_at count 1 other) after)
-line_kept count slots now after line here others kept other below = elim (cases_lt other line) [
-  | inl less ↦
-      let ends = units_before (nodes_in_line count) other line less in
-      kept_stays count (number_of (line_at count 1 other) slots) (node_of (line_at count 1 other) now) (node_of (line_at count 1 other) after)
-      (λ m two high. others (node_at (line_at count 1 other) m) (omega (arith, line_node_first (nodes_in_line count) other, ends, two, high)))
-      (kept other less)
-  | inr enough ↦ let is : line ≡ other = omega (arith, below, enough) in subst (λ k. AreKept count (number_of (line_at count 1 k) slots) (node_of (line_at count 1 k) after)) is here
-]
+module _ {P : Type 0} (f : Halves) (halves : AreHalves f) (blank : P) (tells : P → List ℤ → Type 0) (number : Line → List ℤ → ℕ → ℤ) where
+  -- what is kept of the lines of one more block
+  pub block_kept : (count step : ℕ) (slots : List ℤ) (now after : List P) (block : ℕ) → 0 < step
+      → ((column : ℕ) → column < step → AreKept f tells count (number (line_of (block_at f count step block) column) slots) (node_of f blank (line_of (block_at f count step block) column) after))
+      → ((p : ℕ) → (p < block * (nodes_in_line f count * step) ⊎ block * (nodes_in_line f count * step) + nodes_in_line f count * step ≤ p) → get_or after p blank ≡ get_or now p blank)
+      → ((line : ℕ) → line < block * step → AreKept f tells count (number (line_at f count step line) slots) (node_of f blank (line_at f count step line) now))
+      → (line : ℕ) → line < (block + 1) * step → AreKept f tells count (number (line_at f count step line) slots) (node_of f blank (line_at f count step line) after)
+  block_kept count step slots now after block apart here others kept line high = elim (cases_lt line (block * step)) [
+    | inl low ↦
+        let l = line_at f count step line in
+        kept_alike f halves tells count (number l slots) (number l slots) (node_of f blank l now) (node_of f blank l after) (λ i p. refl)
+        (λ m one below. others (nth_node l (f.nth m)) (inl (node_before f halves count step line block m apart low one below))) (kept line low)
+    | inr enough ↦
+        let sum : (block + 1) * step ≡ block * step + step = grind arith in
+        let column = line - block * step in
+        let below : column < step = omega (arith, enough, high, sum) in
+        let is : line ≡ block * step + column = omega (arith, enough) in
+        let lies = ap (line_at f count step) is ∙ line_in_block f count step block column below in
+        subst (λ l. AreKept f tells count (number l slots) (node_of f blank l after)) (sym lies) (here column below)
+  ]
+
+  -- and of one more line whose numbers are neighbours
+  pub line_kept : (count : ℕ) (slots : List ℤ) (now after : List P) (line : ℕ) → AreKept f tells count (number (line_at f count 1 line) slots) (node_of f blank (line_at f count 1 line) after)
+      → ((p : ℕ) → p < line * nodes_in_line f count → get_or after p blank ≡ get_or now p blank)
+      → ((other : ℕ) → other < line → AreKept f tells count (number (line_at f count 1 other) slots) (node_of f blank (line_at f count 1 other) now))
+      → (other : ℕ) → other < line + 1 → AreKept f tells count (number (line_at f count 1 other) slots) (node_of f blank (line_at f count 1 other) after)
+  line_kept count slots now after line here others kept other below = elim (cases_lt other line) [
+    | inl less ↦
+        let l = line_at f count 1 other in
+        let ends = units_before (nodes_in_line f count) other line less in
+        kept_alike f halves tells count (number l slots) (number l slots) (node_of f blank l now) (node_of f blank l after) (λ i p. refl)
+        (λ m one high. others (nth_node l (f.nth m)) (omega (arith, line_node_first (nodes_in_line f count) other, ends, halves.counted m one, halves.within m count high))) (kept other less)
+    | inr enough ↦
+        let is : line ≡ other = omega (arith, below, enough) in
+        subst (λ k. AreKept f tells count (number (line_at f count 1 k) slots) (node_of f blank (line_at f count 1 k) after)) is here
+  ]

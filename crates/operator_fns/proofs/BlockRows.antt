@@ -1,13 +1,14 @@
 -- The slots and the nodes of a block of lines, row by row.
-use Rattle.std.proofs.Common.{◌≡◌, ◌≢◌, ◌∙◌, ℕ, ◌+◌, ◌-◌, ◌*◌, ◌/◌, ◌%◌, ◌<◌, ◌≤◌, ◌⊎◌, List, length, get_or, set, ap, sym, subst, arith, inl, inr, ℤ, ◌-ℤ◌, w64}
+use Rattle.std.proofs.Common.{◌≡◌, ◌≢◌, ◌∙◌, ℕ, ◌+◌, ◌-◌, ◌*◌, ◌%◌, ◌<◌, ◌≤◌, ◌⊎◌, List, length, get_or, set, ap, sym, subst, arith, inl, inr, ℤ, ◌-ℤ◌, w64}
 use Rattle.std.specs.Int.{int_wrap}
 use Rattle.std.proofs.lemmas.Nat.{mul-le}
 use Rattle.std.proofs.lemmas.Bool.{cases_lt, cases_eq}
-use Rattle.std.proofs.lemmas.List.{get_or-set_same, get_or-set_other}
+use Rattle.std.proofs.lemmas.List.{get_or-set_same, get_or-set_other, get_or_read}
 use Rattle.operator_fns.specs.declared.line_tree.Line.{Line}
 use Rattle.operator_fns.specs.SumNodes.{single, join, sums_from}
-use Rattle.operator_fns.specs.LineTrees.{slot_at, nth_node, node_at, slot_of, number_of, IsIn}
-use Rattle.operator_fns.specs.LineBlocks.{line_of, slots_end, nodes_end, HaveSlots, HaveNodes}
+use Rattle.operator_fns.specs.LineTrees.{Halves, slot_at, nth_node, slot_of, number_of, node_of, IsIn}
+use Rattle.operator_fns.specs.LineBlocks.{line_of, slots_end, HaveSlots, nodes_end, HaveNodes}
+use Rattle.operator_fns.proofs.Halves.{AreHalves}
 use Rattle.operator_fns.proofs.LineParts.{number_before, number_odd, sums_split, sums_two}
 
 -- ---- where they lie
@@ -26,14 +27,6 @@ slot_row first slots place has below = omega (arith, rows_end place first.count 
 pub slots_within : (first : Line) (place : ℕ) → place < first.count → slot_at first place + first.step ≤ slots_end first
 slots_within first place below = omega (arith, rows_end place first.count first.step below)
 
--- and the nodes of a meeting
-pub nodes_within : (first : Line) (meeting : ℕ) → 2 ≤ meeting → meeting < first.count → node_at first meeting + first.step ≤ nodes_end first
-nodes_within first meeting low high =
-    omega (arith, rows_end (meeting / 2 - 1) ((first.count - 1) / 2) first.step (omega (arith, low, high)))
-
-pub node_row : (first : Line) (nodes meeting : ℕ) → HaveNodes first nodes → 2 ≤ meeting → meeting < first.count → node_at first meeting + first.step ≤ nodes
-node_row first nodes meeting has low high = omega (arith, nodes_within first meeting low high, has.end)
-
 -- those of one line
 pub line_slot : (first : Line) (column place : ℕ) → slot_at (line_of first column) place ≡ slot_at first place + column
 line_slot first column place = omega arith
@@ -45,20 +38,31 @@ line_node first column k = omega arith
 pub next_slot : (first : Line) (place more : ℕ) → slot_at first (place + more) ≡ slot_at first place + more * first.step
 next_slot first place more = let e : (place + more) * first.step ≡ place * first.step + more * first.step = grind arith in omega (arith, e)
 
--- each line lies in the lists
-pub line_in : (first : Line) (slots nodes column : ℕ) → HaveSlots first slots → HaveNodes first nodes → column < first.step → IsIn (line_of first column) slots nodes
-line_in first slots nodes column has have below = record {
-  slots = record {
-    few = has.few;
-    apart = has.apart;
-    fit = omega (arith, has.fit);
-    slot = λ place h. omega (arith, slot_row first slots place has h, below, line_slot first column place);
-  };
-  nodes = record {
-    fit = omega (arith, have.fit);
-    node = λ meeting low high. omega (arith, node_row first nodes meeting have low high, below, line_node first column (meeting / 2));
-  };
-}
+module _ (h : Halves) (are : AreHalves h) where
+  -- the nodes of a meeting
+  pub nodes_within : (first : Line) (meeting : ℕ) → h.half 0 ≤ meeting → meeting < first.count → nth_node first (h.nth meeting) + first.step ≤ nodes_end h first
+  nodes_within first meeting low high =
+      let some = are.counted meeting low in
+      let most = are.within meeting first.count high in
+      omega (arith, rows_end (h.nth meeting - 1) (h.nth (first.count - 1)) first.step (omega (arith, some, most)))
+
+  pub node_row : (first : Line) (nodes meeting : ℕ) → HaveNodes h first nodes → h.half 0 ≤ meeting → meeting < first.count → nth_node first (h.nth meeting) + first.step ≤ nodes
+  node_row first nodes meeting has low high = omega (arith, nodes_within first meeting low high, has.end)
+
+  -- each line lies in the lists
+  pub line_in : (first : Line) (slots nodes column : ℕ) → HaveSlots first slots → HaveNodes h first nodes → column < first.step → IsIn h (line_of first column) slots nodes
+  line_in first slots nodes column has have below = record {
+    slots = record {
+      few = has.few;
+      apart = has.apart;
+      fit = omega (arith, has.fit);
+      slot = λ place p. omega (arith, slot_row first slots place has p, below, line_slot first column place);
+    };
+    nodes = record {
+      fit = omega (arith, have.fit);
+      node = λ meeting low high. omega (arith, node_row first nodes meeting have low high, below, line_node first column (h.nth meeting));
+    };
+  }
 
 -- nodes of other rows are outside a row
 pub row_away : (first : Line) (column k m : ℕ) → column < first.step → 1 ≤ k → 1 ≤ m → k ≢ m
@@ -123,6 +127,14 @@ module _ {P : Type 0} (blank : P) where
       → (a base : ℕ) → base ≡ nth_node first a → get_or nodes (base + k) blank ≡ get_or before (nth_node (line_of first k) a) blank
   still first k b nodes before below others a base is =
       ap (λ p. get_or nodes p blank) (ap (λ n. n + k) is ∙ sym (line_node first k a)) ∙ others (nth_node (line_of first k) a) (column_away first k k a b below (omega arith))
+
+-- what is read there is what lay there before
+pub read_before : {P : Type 0} (h : Halves) (are : AreHalves h) (blank : P) (first : Line) (k b : ℕ) (nodes before : List P) → HaveNodes h first (length before) → length nodes ≡ length before
+    → k < first.step → ((p : ℕ) → (p < nth_node first b ⊎ nth_node first b + k ≤ p) → get_or nodes p blank ≡ get_or before p blank)
+    → (a base : ℕ) (v : P) → h.half 0 ≤ a → a < first.count → base ≡ nth_node first (h.nth a) → v ≡ get_or nodes (base + k) v → v ≡ node_of h blank (line_of first k) before a
+read_before h are blank first k b nodes before has sized below others a base v low high is read =
+    let row = node_row h are first (length before) a has low high in
+    get_or_read nodes (base + k) v (omega (arith, row, is, sized, below)) read blank ∙ still blank first k b nodes before below others (h.nth a) base is
 
 -- ---- four numbers of a line
 

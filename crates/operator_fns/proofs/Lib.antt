@@ -37,13 +37,16 @@ pub mod SumEndings
 pub mod JoinedSums
 pub mod FourSums
 pub mod Wrapping
+pub mod Segments
 pub mod LineParts
 pub mod LineWrites
+pub mod Halves
 pub mod BlockRows
 pub mod BlockParts
 pub mod BlockPairs
 pub mod LineNodes
 pub mod LineEnds
+pub mod FourEnds
 pub mod LineSpots
 pub mod LinePlaces
 pub mod BlockLines

@@ -1,48 +1,18 @@
 -- What is kept of the parts of a line, while it is joined anew.
-use Rattle.std.proofs.Common.{◌≡◌, ◌≢◌, ℕ, zero, suc, ◌+◌, ◌-◌, ◌*◌, ◌/◌, ◌%◌, ◌^◌, ◌<◌, ◌≤◌, ◌⊎◌, min, List, length, get_or, set, refl, ap, sym, subst, ◌∙◌, arith, inl, inr, ℤ}
-use Rattle.std.proofs.lemmas.Nat.{pow_pos, pow-add}
-use Rattle.std.proofs.Math.Nat.{pow-le-pow_right}
+use Rattle.std.proofs.Common.{◌≡◌, ◌≢◌, ◌∙◌, ℕ, ◌+◌, ◌-◌, ◌*◌, ◌/◌, ◌%◌, ◌<◌, ◌≤◌, ◌⊎◌, min, List, length, get_or, set, ap, sym, subst, arith, inl, inr, ℤ}
 use Rattle.std.proofs.lemmas.Bool.{cases_lt, cases_eq}
 use Rattle.std.proofs.lemmas.List.{get_or-set_same, get_or-set_other}
-use Rattle.operator_fns.specs.declared.summary.Summary.{Summary}
 use Rattle.operator_fns.specs.declared.line_tree.Line.{Line}
-use Rattle.operator_fns.specs.LineTrees.{nth_node, node_at, node_of, empty, IsKept, AreKept, AreKeptIn, other_half, sums_at}
-use Rattle.operator_fns.specs.SumNodes.{Tells, sums_from}
+use Rattle.operator_fns.specs.LineTrees.{Halves, nth_node, node_of, segment, numbers_of_block, IsKept, AreKept, AreKeptIn, AreKeptBeside, other_half}
 use Rattle.operator_fns.proofs.LineParts.{IsClimb, climb_up, odd_block, even_block}
 use Rattle.operator_fns.proofs.LineWrites.{steps_apart}
+use Rattle.operator_fns.proofs.Segments.{segment_same}
+use Rattle.operator_fns.proofs.Halves.{AreHalves, half_some, half_grows, half_doubled, half_below, meetings_apart, nth_some, nths_apart}
 
 -- for the parts that a place is not in, and for those that are not wider than this
-abbrev pub AreKeptTo : (width at count : ℕ) → (ℕ → ℤ) → (ℕ → Summary) → Type 0
-AreKeptTo width at count x node = (level place : ℕ) → (4 * 2 ^ level ≤ width ⊎ (at < place * (4 * 2 ^ level) ⊎ place * (4 * 2 ^ level) + 4 * 2 ^ level ≤ at))
-    → IsKept count x node (place * (4 * 2 ^ level)) (2 * 2 ^ level)
-
--- ---- where the halves of a part meet
-
--- an odd multiple of a power of two is one of no other
-pub odd_multiples : (a b i j : ℕ) → (2 * a + 1) * 2 ^ i ≡ (2 * b + 1) * 2 ^ j → i ≡ j
-odd_multiples a b i j e = elim (cases_lt i j) [
-  | inl less ↦ absurd (uneven a b i j less e)
-  | inr enough ↦ elim (cases_lt j i) [
-    | inl less ↦ absurd (uneven b a j i less (sym e))
-    | inr rest ↦ omega (arith, enough, rest)
-  ]
-]
-  where
-    uneven : (a b i j : ℕ) → i < j → (2 * a + 1) * 2 ^ i ≡ (2 * b + 1) * 2 ^ j → ⊥
-    uneven a b i j less e =
-        let more = j - i - 1 in
-        let is : j ≡ suc more + i = omega (arith, less) in
-        let power : 2 ^ j ≡ 2 * 2 ^ more * 2 ^ i = ap (λ k. 2 ^ k) is ∙ pow-add 2 (suc more) i ∙ ap (λ p. p * 2 ^ i) (grind arith) in
-        let all : (2 * b + 1) * 2 ^ j ≡ 2 * ((2 * b + 1) * 2 ^ more) * 2 ^ i = ap (λ p. (2 * b + 1) * p) power ∙ grind arith in
-        let same = steps_apart (2 * a + 1) (2 * ((2 * b + 1) * 2 ^ more)) (2 ^ i) (pow_pos i) (e ∙ all) in
-        omega (arith, same)
-
--- parts with one meeting
-pub meetings_apart : (level place other_level other : ℕ) → place * (4 * 2 ^ level) + 2 * 2 ^ level ≡ other * (4 * 2 ^ other_level) + 2 * 2 ^ other_level → level ≡ other_level
-meetings_apart level place other_level other e =
-    let here : (2 * place + 1) * 2 ^ level * 2 ≡ place * (4 * 2 ^ level) + 2 * 2 ^ level = grind arith in
-    let there : (2 * other + 1) * 2 ^ other_level * 2 ≡ other * (4 * 2 ^ other_level) + 2 * 2 ^ other_level = grind arith in
-    odd_multiples place other level other_level (omega (arith, here, there, e))
+abbrev pub AreKeptTo : {P : Type 0} → Halves → (P → List ℤ → Type 0) → (width at count : ℕ) → (ℕ → ℤ) → (ℕ → P) → Type 0
+AreKeptTo h tells width at count x node = (level place : ℕ) → (2 * h.half level ≤ width ⊎ (at < place * (2 * h.half level) ⊎ place * (2 * h.half level) + 2 * h.half level ≤ at))
+    → IsKept tells count x node (place * (2 * h.half level)) (h.half level)
 
 module _ {P : Type 0} (blank : P) (l : Line) (nodes : List P) where
   -- another node
@@ -57,61 +27,58 @@ module _ {P : Type 0} (blank : P) (l : Line) (nodes : List P) where
 
 -- ---- a step up from a place
 
--- what is kept after a step: the wider part's summary where the two halves of it meet, or nothing new where there is no second half
-abbrev pub IsStepUp : (l : Line) (nodes after : List Summary) (block width : ℕ) → Summary → Type 0
-IsStepUp l nodes after block width s =
-    (after ≡ set nodes (node_at l ((block / 2 * 2 + 1) * width)) s × node_at l ((block / 2 * 2 + 1) * width) < length nodes)
+-- what is kept after a step: that of the wider part where the two halves of it meet, or nothing new where there is no second half
+abbrev pub IsStepUp : {P : Type 0} → Halves → (l : Line) (nodes after : List P) (block width : ℕ) → P → Type 0
+IsStepUp h l nodes after block width s =
+    (after ≡ set nodes (nth_node l (h.nth ((block / 2 * 2 + 1) * width))) s × nth_node l (h.nth ((block / 2 * 2 + 1) * width)) < length nodes)
     ⊎ (after ≡ nodes × block % 2 ≡ 0 × l.count ≤ block * width + width)
 
-module _ (l : Line) (nodes after : List Summary) (x : ℕ → ℤ) (at block width : ℕ) (s : Summary) (climb : IsClimb at block width) (wide : 2 ≤ width) (some : 0 < l.step)
-    (kept : AreKeptTo width at l.count x (node_of l nodes)) (told : Tells s (sums_at l.count x (block / 2) (2 * width))) (new : IsStepUp l nodes after block width s) where
-  low_level : (below : ℕ) × climb.level ≡ suc below
-  low_level = pick climb.level climb.width_is
-    where
-      pick : (level : ℕ) → width ≡ 2 ^ level → (below : ℕ) × level ≡ suc below
-      pick zero e = let no : ⊥ = omega (arith, e, wide) in absurd no
-      pick (suc below) e = (below, refl)
+-- another node takes the place of one, or none does
+pub others_stay : {P : Type 0} (h : Halves) (blank : P) (l : Line) (nodes after before : List P) (block width : ℕ) (s : P) → IsStepUp h l nodes after block width s → h.half 0 ≤ (block / 2 * 2 + 1) * width
+    → (after ≡ nodes ⊎ (block / 2 * 2 + 1) * width < l.count)
+    → ((p : ℕ) → ((meeting : ℕ) → h.half 0 ≤ meeting → meeting < l.count → p ≢ nth_node l (h.nth meeting)) → get_or nodes p blank ≡ get_or before p blank)
+    → (p : ℕ) → ((meeting : ℕ) → h.half 0 ≤ meeting → meeting < l.count → p ≢ nth_node l (h.nth meeting)) → get_or after p blank ≡ get_or before p blank
+others_stay {P = P} h blank l nodes after before block width s new some within stayed p apart = elim within [
+  | inl none ↦ ap (λ (ns : List P). get_or ns p blank) none ∙ stayed p apart
+  | inr below ↦ elim new [
+    | inl set_so ↦
+        ap (λ (ns : List P). get_or ns p blank) set_so.0
+        ∙ get_or-set_other nodes (nth_node l (h.nth ((block / 2 * 2 + 1) * width))) p s blank (apart ((block / 2 * 2 + 1) * width) some below)
+        ∙ stayed p apart
+    | inr none ↦ ap (λ (ns : List P). get_or ns p blank) none.0 ∙ stayed p apart
+  ]
+]
 
-  half : ℕ
-  half = 2 ^ low_level.0
-
-  width_is : width ≡ 2 * half
-  unfolding half
-  width_is = climb.width_is ∙ ap (λ k. 2 ^ k) low_level.1 ∙ grind arith
-
+module _ {P : Type 0} (h : Halves) (are : AreHalves h) (blank : P) (tells : P → List ℤ → Type 0) (l : Line) (nodes after : List P) (x : ℕ → ℤ) (at block width top : ℕ) (s : P)
+    (climb : IsClimb at block width) (width_is : width ≡ h.half top) (some : 0 < l.step) (kept : AreKeptTo h tells width at l.count x (node_of h blank l nodes))
+    (told : tells s (numbers_of_block l.count x (block / 2) (2 * width))) (new : IsStepUp h l nodes after block width s) where
   meeting : ℕ
   meeting = (block / 2 * 2 + 1) * width
 
-  meeting_is : meeting ≡ block / 2 * (4 * half) + 2 * half
-  unfolding meeting half
+  meeting_is : meeting ≡ block / 2 * (2 * h.half top) + h.half top
+  unfolding meeting
   meeting_is = ap (λ w. (block / 2 * 2 + 1) * w) width_is ∙ grind arith
 
-  twice : (place unit : ℕ) → place * (4 * unit) + 2 * unit ≡ 2 * ((2 * place + 1) * unit)
-  twice place unit = grind arith
-
-  stays : (level place : ℕ) → place * (4 * 2 ^ level) + 2 * 2 ^ level ≢ block / 2 * (4 * half) + 2 * half
-      → node_of l after (place * (4 * 2 ^ level) + 2 * 2 ^ level) ≡ node_of l nodes (place * (4 * 2 ^ level) + 2 * 2 ^ level)
-  unfolding meeting half
+  stays : (level place : ℕ) → place * (2 * h.half level) + h.half level ≢ block / 2 * (2 * h.half top) + h.half top
+      → node_of h blank l after (place * (2 * h.half level) + h.half level) ≡ node_of h blank l nodes (place * (2 * h.half level) + h.half level)
+  unfolding meeting
   stays level place apart = elim new [
     | inl set_so ↦
-        let a = place * (4 * 2 ^ level) + 2 * 2 ^ level in
-        let here = twice place (2 ^ level) in
-        let there = meeting_is ∙ twice (block / 2) half in
-        let first : 1 ≤ (2 * place + 1) * 2 ^ level = let p = pow_pos level in let e : (2 * place + 1) * 2 ^ level ≡ 2 * (place * 2 ^ level) + 2 ^ level = grind arith in omega (arith, p, e) in
-        let second : 1 ≤ (2 * (block / 2) + 1) * half = let p = pow_pos low_level.0 in let e : (2 * (block / 2) + 1) * half ≡ 2 * (block / 2 * half) + half = grind arith in omega (arith, p, e) in
-        ap (λ (ns : List Summary). node_of l ns a) set_so.0
-        ∙ node_other empty l nodes (meeting / 2) (a / 2) s some (omega (arith, there, second)) (omega (arith, here, first)) (λ e. apart (omega (arith, here, there, meeting_is, e)))
-    | inr none ↦ ap (λ (ns : List Summary). node_of l ns (place * (4 * 2 ^ level) + 2 * 2 ^ level)) none.0
+        let m = place * (2 * h.half level) + h.half level in
+        ap (λ (ns : List P). node_of h blank l ns m) (set_so.0 ∙ ap (λ k. set nodes (nth_node l (h.nth k)) s) meeting_is)
+        ∙ node_other blank l nodes (h.nth (block / 2 * (2 * h.half top) + h.half top)) (h.nth m) s some (nth_some h are top (block / 2)) (nth_some h are level place)
+        (nths_apart h are level place top (block / 2) apart)
+    | inr none ↦ ap (λ (ns : List P). node_of h blank l ns (place * (2 * h.half level) + h.half level)) none.0
   ]
 
   -- the step's own part
-  renewed : (level place : ℕ) → suc level ≡ climb.level → place ≡ block / 2 → IsKept l.count x (node_of l after) (place * (4 * 2 ^ level)) (2 * 2 ^ level)
-  unfolding meeting half
+  renewed : (level place : ℕ) → level ≡ top → place ≡ block / 2 → IsKept tells l.count x (node_of h blank l after) (place * (2 * h.half level)) (h.half level)
+  unfolding meeting
   renewed level place e f inside = elim new [
     | inl set_so ↦
-        subst (λ n. Tells n (sums_from x (place * (4 * unit)) (min (2 * (2 * unit)) (l.count - place * (4 * unit)))))
-        (sym (ap (node_of l after) (sym meets) ∙ ap (λ (ns : List Summary). node_of l ns meeting) set_so.0 ∙ node_here empty l nodes (meeting / 2) s set_so.1))
-        (subst (Tells s) (λ i. sums_from x (start i) (min (double i) (l.count - start i))) told)
+        subst (λ n. tells n (segment x (place * (2 * unit)) (min (2 * unit) (l.count - place * (2 * unit)))))
+        (sym (ap (node_of h blank l after) (sym meets) ∙ ap (λ (ns : List P). node_of h blank l ns meeting) set_so.0 ∙ node_here blank l nodes (h.nth meeting) s set_so.1))
+        (subst (tells s) (λ i. segment x (start i) (min (double i) (l.count - start i))) told)
     | inr none ↦
         let at = even_block block width none.1 in
         let no : ⊥ = omega (arith, at.0, at.2, start, w, none.2, inside) in
@@ -119,119 +86,141 @@ module _ (l : Line) (nodes after : List Summary) (x : ℕ → ℤ) (at block wid
   ]
     where
       unit : ℕ
-      unit = 2 ^ level
+      unit = h.half level
 
-      w : width ≡ 2 * unit
-      w = climb.width_is ∙ sym (ap (λ k. 2 ^ k) e) ∙ grind arith
+      w : width ≡ unit
+      w = width_is ∙ sym (ap (λ k. h.half k) e)
 
-      double : 2 * width ≡ 2 * (2 * unit)
+      double : 2 * width ≡ 2 * unit
       double = ap (λ k. 2 * k) w
 
-      start : block / 2 * (2 * width) ≡ place * (4 * unit)
-      start = (λ i. sym f i * (2 * w i)) ∙ grind arith
+      start : block / 2 * (2 * width) ≡ place * (2 * unit)
+      start = λ i. sym f i * (2 * w i)
 
-      meets : meeting ≡ place * (4 * unit) + 2 * unit
+      meets : meeting ≡ place * (2 * unit) + unit
       meets = (λ i. (sym f i * 2 + 1) * w i) ∙ grind arith
 
   -- a part of the same width elsewhere has not the place
-  elsewhere : (level place : ℕ) → suc level ≡ climb.level → place ≢ block / 2 → at < place * (4 * 2 ^ level) ⊎ place * (4 * 2 ^ level) + 4 * 2 ^ level ≤ at
+  elsewhere : (level place : ℕ) → level ≡ top → place ≢ block / 2 → at < place * (2 * h.half level) ⊎ place * (2 * h.half level) + 2 * h.half level ≤ at
   elsewhere level place e other = elim (cases_lt place (block / 2)) [
     | inl less ↦
         let more = block / 2 - place - 1 in
         let is : block / 2 ≡ place + 1 + more = omega (arith, less) in
-        let all : block / 2 * (4 * unit) ≡ place * (4 * unit) + 4 * unit + more * (4 * unit) = ap (λ k. k * (4 * unit)) is ∙ grind arith in
+        let all : block / 2 * (2 * unit) ≡ place * (2 * unit) + 2 * unit + more * (2 * unit) = ap (λ k. k * (2 * unit)) is ∙ grind arith in
         inr (omega (arith, all, start, up.low))
     | inr enough ↦
         let more = place - block / 2 - 1 in
         let is : place ≡ block / 2 + 1 + more = omega (arith, enough, other) in
-        let all : place * (4 * unit) ≡ block / 2 * (4 * unit) + 4 * unit + more * (4 * unit) = ap (λ k. k * (4 * unit)) is ∙ grind arith in
+        let all : place * (2 * unit) ≡ block / 2 * (2 * unit) + 2 * unit + more * (2 * unit) = ap (λ k. k * (2 * unit)) is ∙ grind arith in
         inl (omega (arith, all, start, w, up.high))
   ]
     where
       unit : ℕ
-      unit = 2 ^ level
+      unit = h.half level
 
       up : IsClimb at (block / 2) (2 * width)
       up = climb_up at block width climb
 
-      w : width ≡ 2 * unit
-      w = climb.width_is ∙ sym (ap (λ k. 2 ^ k) e) ∙ grind arith
+      w : width ≡ unit
+      w = width_is ∙ sym (ap (λ k. h.half k) e)
 
-      start : block / 2 * (2 * width) ≡ block / 2 * (4 * unit)
-      start = ap (λ k. block / 2 * (2 * k)) w ∙ grind arith
+      start : block / 2 * (2 * width) ≡ block / 2 * (2 * unit)
+      start = ap (λ k. block / 2 * (2 * k)) w
 
-  -- a part that is not wider than the step's, and of another width, is narrower than its half
-  narrower : (level : ℕ) → suc level ≢ climb.level → 4 * 2 ^ level ≤ 2 * width → 4 * 2 ^ level ≤ width
-  narrower level differ few = elim (cases_lt (suc level) climb.level) [
-    | inl less ↦
-        let two : 0 < 2 = omega arith in
-        let more : 2 ^ suc (suc level) ≤ 2 ^ climb.level = pow-le-pow_right two less in
-        let double : 2 ^ suc (suc level) ≡ 4 * 2 ^ level = grind arith in
-        let is = climb.width_is in
-        omega (arith, more, double, is)
+  -- a part that is not wider than the step's, and of another width, is not wider than its half
+  narrower : (level : ℕ) → level ≢ top → 2 * h.half level ≤ 2 * width → 2 * h.half level ≤ width
+  narrower level differ few = elim (cases_lt level top) [
+    | inl less ↦ omega (arith, half_doubled h are level top less, width_is)
     | inr enough ↦
-        let two : 0 < 2 = omega arith in
-        let above : suc climb.level ≤ suc level = omega (arith, enough, differ) in
-        let more : 2 ^ suc climb.level ≤ 2 ^ suc level = pow-le-pow_right two above in
-        let double : 2 ^ suc level ≡ 2 * 2 ^ level = grind arith in
-        let double_width : 2 ^ suc climb.level ≡ 2 * 2 ^ climb.level = grind arith in
-        let is = climb.width_is in
-        let positive = pow_pos climb.level in
-        let no : ⊥ = omega (arith, more, double, double_width, is, few, positive) in
+        let no : ⊥ = omega (arith, half_doubled h are top level (omega (arith, enough, differ)), width_is, few, half_some h are top) in
         absurd no
   ]
 
-  pub step_up : AreKeptTo (2 * width) at l.count x (node_of l after)
-  unfolding half
-  step_up level place h = elim (cases_eq (suc level) climb.level) [
+  pub step_up : AreKeptTo h tells (2 * width) at l.count x (node_of h blank l after)
+  step_up level place where_it_is = elim (cases_eq level top) [
     | inl e ↦ elim (cases_eq place (block / 2)) [
       | inl f ↦ renewed level place e f
       | inr other ↦ λ inside.
-          let unit = 2 ^ level in
-          let w : half ≡ unit = ap (λ k. 2 ^ k) (omega (arith, e, low_level.1)) in
-          let apart : place * (4 * unit) + 2 * unit ≢ block / 2 * (4 * half) + 2 * half = λ same.
-          let there : block / 2 * (4 * half) ≡ block / 2 * (4 * unit) = ap (λ k. block / 2 * (4 * k)) w in
-          let positive : 0 < 4 * unit = let p = pow_pos level in omega (arith, p) in
-          other (steps_apart place (block / 2) (4 * unit) positive (omega (arith, same, there, w))) in
-          subst (λ n. Tells n (sums_from x (place * (4 * unit)) (min (2 * (2 * unit)) (l.count - place * (4 * unit))))) (sym (stays level place apart))
+          let unit = h.half level in
+          let w : h.half top ≡ unit = ap (λ k. h.half k) (sym e) in
+          let apart : place * (2 * unit) + unit ≢ block / 2 * (2 * h.half top) + h.half top = λ same.
+          let there : block / 2 * (2 * h.half top) ≡ block / 2 * (2 * unit) = ap (λ k. block / 2 * (2 * k)) w in
+          let positive : 0 < 2 * unit = omega (arith, half_some h are level) in
+          other (steps_apart place (block / 2) (2 * unit) positive (omega (arith, same, there, w))) in
+          subst (λ n. tells n (segment x (place * (2 * unit)) (min (2 * unit) (l.count - place * (2 * unit))))) (sym (stays level place apart))
           (kept level place (inr (elsewhere level place e other)) inside)
     ]
     | inr differ ↦ λ inside.
-        let unit = 2 ^ level in
-        let apart : place * (4 * unit) + 2 * unit ≢ block / 2 * (4 * half) + 2 * half = λ same. differ (ap (λ k. suc k) (meetings_apart level place low_level.0 (block / 2) same) ∙ sym low_level.1) in
-        let old : 4 * unit ≤ width ⊎ (at < place * (4 * unit) ⊎ place * (4 * unit) + 4 * unit ≤ at) = elim h [
+        let unit = h.half level in
+        let apart : place * (2 * unit) + unit ≢ block / 2 * (2 * h.half top) + h.half top = λ same. differ (meetings_apart h are level place top (block / 2) same) in
+        let old : 2 * unit ≤ width ⊎ (at < place * (2 * unit) ⊎ place * (2 * unit) + 2 * unit ≤ at) = elim where_it_is [
           | inl few ↦ inl (narrower level differ few)
           | inr beside ↦ inr beside
         ] in
-        subst (λ n. Tells n (sums_from x (place * (4 * unit)) (min (2 * (2 * unit)) (l.count - place * (4 * unit))))) (sym (stays level place apart))
+        subst (λ n. tells n (segment x (place * (2 * unit)) (min (2 * unit) (l.count - place * (2 * unit))))) (sym (stays level place apart))
         (kept level place old inside)
   ]
 
--- at the end of the way up all is kept
-pub all_kept : (width at count : ℕ) (x : ℕ → ℤ) (node : ℕ → Summary) → (level : ℕ) → width ≡ 2 ^ level → count ≤ width → AreKeptTo width at count x node → AreKept count x node
-all_kept width at count x node top is wide kept level place inside = kept level place (inl few) inside
-  where
-    few : 4 * 2 ^ level ≤ width
-    few = elim (cases_lt (suc level) top) [
-      | inl less ↦
-          let two : 0 < 2 = omega arith in
-          let more : 2 ^ suc (suc level) ≤ 2 ^ top = pow-le-pow_right two less in
-          let double : 2 ^ suc (suc level) ≡ 4 * 2 ^ level = grind arith in
-          omega (arith, more, double, is)
-      | inr enough ↦
-          let two : 0 < 2 = omega arith in
-          let more : 2 ^ top ≤ 2 ^ suc level = pow-le-pow_right two enough in
-          let double : 2 ^ suc level ≡ 2 * 2 ^ level = grind arith in
-          let no : ⊥ = omega (arith, more, double, is, wide, inside) in
-          absurd no
-    ]
+module _ {P : Type 0} (h : Halves) (are : AreHalves h) (tells : P → List ℤ → Type 0) where
+  -- before the way up
+  pub kept_first : (at count : ℕ) (x : ℕ → ℤ) (node : ℕ → P) → AreKeptBeside h tells at count x node → AreKeptTo h tells (h.half 0) at count x node
+  kept_first at count x node kept level place where_it_is = kept level place (elim where_it_is [
+    | inl few ↦ let no : ⊥ = omega (arith, few, half_grows h are 0 level (omega arith), half_some h are 0) in absurd no
+    | inr beside ↦ beside
+  ])
 
--- the parts of the other half have not the place
-pub kept_beside : (width at block count : ℕ) (x : ℕ → ℤ) (node : ℕ → Summary) → IsClimb at block width → AreKeptTo width at count x node → AreKeptIn (other_half block * width) width count x node
-kept_beside width at block count x node climb kept level place low high = kept level place (inr beside)
-  where
-    beside : at < place * (4 * 2 ^ level) ⊎ place * (4 * 2 ^ level) + 4 * 2 ^ level ≤ at
-    beside = elim (cases_eq (block % 2) 0) [
-      | inl even ↦ let a = even_block block width even in inl (omega (arith, a.0, a.1, low, climb.high))
-      | inr odd ↦ let is : block % 2 ≡ 1 = omega (arith, odd) in let a = odd_block block width is in inr (omega (arith, a.0, a.1, high, climb.low))
-    ]
+  -- at the end of the way up all is kept
+  pub all_kept : (width at count top : ℕ) (x : ℕ → ℤ) (node : ℕ → P) → width ≡ h.half top → count ≤ width → AreKeptTo h tells width at count x node → AreKept h tells count x node
+  all_kept width at count top x node is wide kept level place inside =
+      kept level place (inl (omega (arith, half_doubled h are level top (half_below h are level top (omega (arith, is, wide, inside))), is))) inside
+
+  -- the parts of the other half have not the place
+  pub kept_beside : (width at block count : ℕ) (x : ℕ → ℤ) (node : ℕ → P) → IsClimb at block width → AreKeptTo h tells width at count x node
+      → AreKeptIn h tells (other_half block * width) width count x node
+  kept_beside width at block count x node climb kept level place low high = kept level place (inr beside)
+    where
+      beside : at < place * (2 * h.half level) ⊎ place * (2 * h.half level) + 2 * h.half level ≤ at
+      beside = elim (cases_eq (block % 2) 0) [
+        | inl even ↦ let a = even_block block width even in inl (omega (arith, a.0, a.1, low, climb.high))
+        | inr odd ↦ let is : block % 2 ≡ 1 = omega (arith, odd) in let a = odd_block block width is in inr (omega (arith, a.0, a.1, high, climb.low))
+      ]
+
+  -- what is kept beside a place, where another number lies there
+  pub kept_replaced : (at count : ℕ) (x y : ℕ → ℤ) (node : ℕ → P) → ((i : ℕ) → i < count → i ≢ at → y i ≡ x i) → AreKept h tells count x node
+      → AreKeptBeside h tells at count y node
+  kept_replaced at count x y node stays kept level place beside inside =
+      let from = place * (2 * h.half level) in
+      let half = h.half level in
+      let long = min (2 * half) (count - from) in
+      let same = segment_same x y from long (λ i low high.
+      let below : i < count = omega (arith, low, high) in
+      let apart : i ≢ at = λ e. elim beside [
+        | inl after ↦ omega (arith, after, low, e)
+        | inr before ↦ omega (arith, before, high, e)
+      ] in
+      sym (stays i below apart)) in
+      subst (tells (node (from + half))) same (kept level place inside)
+
+  -- where a line has one more number, the parts without it are those of the shorter line
+  pub kept_longer : (count : ℕ) (x y : ℕ → ℤ) (node : ℕ → P) → ((i : ℕ) → i < count - 1 → y i ≡ x i) → AreKept h tells (count - 1) x node → AreKeptBeside h tells (count - 1) count y node
+  kept_longer count x y node same kept level place beside inside = elim beside [
+    | inl after ↦ let no : ⊥ = omega (arith, after, inside) in absurd no
+    | inr before ↦
+        let from = place * (2 * h.half level) in
+        let half = h.half level in
+        let whole : min (2 * half) (count - 1 - from) ≡ min (2 * half) (count - from) = omega (arith, before) in
+        let long = min (2 * half) (count - from) in
+        let alike = segment_same x y from long (λ i low high. sym (same i (omega (arith, low, high, before)))) in
+        subst (tells (node (from + half))) (ap (segment x from) whole ∙ alike) (kept level place (omega (arith, before, half_some h are level)))
+  ]
+
+  -- where the numbers and the nodes of a line stay, what is kept of its parts does
+  pub kept_alike : (count : ℕ) (x y : ℕ → ℤ) (m n : ℕ → P) → ((i : ℕ) → i < count → y i ≡ x i)
+      → ((meeting : ℕ) → h.half 0 ≤ meeting → meeting < count → n meeting ≡ m meeting) → AreKept h tells count x m → AreKept h tells count y n
+  kept_alike count x y m n same nodes kept level place inside =
+      let from = place * (2 * h.half level) in
+      let half = h.half level in
+      let long = min (2 * half) (count - from) in
+      let alike = segment_same x y from long (λ i low high. sym (same i (omega (arith, low, high)))) in
+      subst (λ s. tells s (segment y from long)) (sym (nodes (from + half) (omega (arith, half_grows h are 0 level (omega arith))) inside))
+      (subst (tells (m (from + half))) alike (kept level place inside))

@@ -1,38 +1,31 @@
 -- Parts of a line of numbers: their sums, and where they begin.
-use Rattle.std.proofs.Common.{◌≡◌, ◌≢◌, ℕ, zero, suc, ◌+◌, ◌-◌, ◌*◌, ◌/◌, ◌%◌, ◌^◌, ◌<◌, ◌≤◌, min, refl, ap, sym, ◌∙◌, arith, inl, inr, List, ℤ, ◌-ℤ◌, ◌&&◌, nat_lt, w64}
+use Rattle.std.proofs.Common.{◌≡◌, ◌≢◌, ℕ, zero, suc, ◌+◌, ◌-◌, ◌*◌, ◌/◌, ◌%◌, ◌^◌, ◌<◌, ◌≤◌, min, refl, ap, sym, ◌∙◌, arith, inl, inr, List, [], ◌∷◌, ◌++◌, ℤ, ◌-ℤ◌, ◌&&◌, nat_lt, w64}
 use Rattle.std.specs.Int.{IsNextPowerOfTwo, int_wrap}
 use Rattle.std.proofs.lemmas.Nat.{pow_pos, pow-add}
 use Rattle.std.proofs.Math.Nat.{pow-le-pow_right}
 use Rattle.std.proofs.lemmas.Bool.{cases_lt, cases_eq, and_from, eq-eqb, ne_eqb, lt-ltb, le-ltb, cond-true, cond-false}
-use Rattle.operator_fns.specs.SumNodes.{none, single, join, IsOrdered, sums_from}
+use Rattle.operator_fns.specs.SumNodes.{single, join, IsOrdered, sums_of, sums_from}
 use Rattle.operator_fns.specs.declared.line_tree.Line.{Line}
-use Rattle.operator_fns.specs.LineTrees.{IsPart, slot_of, number_of, other_half, AreSameIn, sums_at, replaced}
+use Rattle.operator_fns.specs.LineTrees.{IsPart, slot_of, number_of, other_half, AreSameIn, replaced, segment, numbers_of_block}
+use Rattle.operator_fns.proofs.Segments.{segment_split, segment_same}
 use Rattle.operator_fns.proofs.JoinedSums.{join_assoc, join_none, none_join, ordered_join, ordered_single, ordered_none}
 
 -- ---- the sums of a part
 
-pub ordered_from : (x : ℕ → ℤ) (from count : ℕ) → IsOrdered (sums_from x from count)
-ordered_from x from zero = ordered_none
-ordered_from x from (suc count) = ordered_join (single (x from)) (sums_from x (from + 1) count) (ordered_single (x from)) (ordered_from x (from + 1) count)
+ordered_of : (xs : List ℤ) → IsOrdered (sums_of xs)
+ordered_of [] = ordered_none
+ordered_of (z ∷ rest) = ordered_join (single z) (sums_of rest) (ordered_single z) (ordered_of rest)
+
+-- of one list after another
+pub sums_joined : (xs ys : List ℤ) → sums_of (xs ++ ys) ≡ join (sums_of xs) (sums_of ys)
+sums_joined [] ys = sym (none_join (sums_of ys) (ordered_of ys))
+sums_joined (z ∷ rest) ys = ap (join (single z)) (sums_joined rest ys) ∙ sym (join_assoc (single z) (sums_of rest) (sums_of ys))
 
 pub sums_split : (x : ℕ → ℤ) (from a b : ℕ) → sums_from x from (a + b) ≡ join (sums_from x from a) (sums_from x (from + a) b)
-sums_split x from zero b =
-    let here : from + zero ≡ from = omega arith in
-    let all : zero + b ≡ b = omega arith in
-    ap (sums_from x from) all ∙ sym (none_join (sums_from x from b) (ordered_from x from b)) ∙ sym (ap (λ k. join none (sums_from x k b)) here)
-sums_split x from (suc a) b =
-    let all : suc a + b ≡ suc (a + b) = omega arith in
-    let next : from + 1 + a ≡ from + suc a = omega arith in
-    ap (sums_from x from) all
-    ∙ ap (join (single (x from))) (sums_split x (from + 1) a b ∙ ap (λ k. join (sums_from x (from + 1) a) (sums_from x k b)) next)
-    ∙ sym (join_assoc (single (x from)) (sums_from x (from + 1) a) (sums_from x (from + suc a) b))
+sums_split x from a b = ap sums_of (segment_split x from a b) ∙ sums_joined (segment x from a) (segment x (from + a) b)
 
 pub sums_same : (x y : ℕ → ℤ) (from count : ℕ) → ((i : ℕ) → from ≤ i → i < from + count → x i ≡ y i) → sums_from x from count ≡ sums_from y from count
-sums_same x y from zero same = refl
-sums_same x y from (suc count) same =
-    let here = same from (omega arith) (omega arith) in
-    let later = sums_same x y (from + 1) count (λ i low high. same i (omega (arith, low)) (omega (arith, high))) in
-    λ i. join (single (here i)) (later i)
+sums_same x y from count same = ap sums_of (segment_same x y from count same)
 
 pub sums_one : (x : ℕ → ℤ) (from : ℕ) → sums_from x from 1 ≡ single (x from)
 sums_one x from = join_none (single (x from)) (ordered_single (x from))
@@ -86,6 +79,11 @@ least_part from width long p part some few next = elim (cases_lt part.level e) [
     e : ℕ
     e = next.0.0
 
+-- a power of two that has a half
+pub half_level : (level p : ℕ) → p ≡ 2 ^ level → 2 ≤ p → (less : ℕ) × (p ≡ 2 * 2 ^ less)
+half_level zero p is some = let no : ⊥ = omega (arith, is, some) in absurd no
+half_level (suc less) p is some = let double : 2 ^ suc less ≡ 2 * 2 ^ less = grind arith in (less, is ∙ double)
+
 -- a power of two whose half is 1
 pub one_level : (level p : ℕ) → p ≡ 2 ^ level → p / 2 ≡ 1 → level ≡ 1
 one_level zero p is half = let no : ⊥ = omega (arith, is, half) in absurd no
@@ -97,10 +95,10 @@ one_level (suc (suc more)) p is half =
     absurd no
 
 -- one whose half is more
-pub more_levels : (level p : ℕ) → p ≡ 2 ^ level → 2 ≤ p → (p / 2 ≡ 1 → ⊥) → (less : ℕ) × (p ≡ 4 * 2 ^ less) × (level ≡ suc (suc less))
+pub more_levels : (level p : ℕ) → p ≡ 2 ^ level → 2 ≤ p → (p / 2 ≡ 1 → ⊥) → (less : ℕ) × (p ≡ 2 * (2 * 2 ^ less)) × (level ≡ suc (suc less))
 more_levels zero p is some half = let no : ⊥ = omega (arith, is, some) in absurd no
 more_levels (suc zero) p is some half = let one : p / 2 ≡ 1 = omega (arith, is) in absurd (half one)
-more_levels (suc (suc more)) p is some half = let double : 2 ^ suc (suc more) ≡ 4 * 2 ^ more = grind arith in (more, is ∙ double, refl)
+more_levels (suc (suc more)) p is some half = let double : 2 ^ suc (suc more) ≡ 2 * (2 * 2 ^ more) = grind arith in (more, is ∙ double, refl)
 
 -- ---- the numbers of a line
 
@@ -137,9 +135,10 @@ even_block block width even =
     let behind : block + 1 ≡ 2 * half + 1 = omega (arith, even) in
     (ap (λ b. b * width) is ∙ grind arith, ap (λ b. b * width) (cond-true _ _ _ (eq-eqb (block % 2) 0 even) ∙ behind) ∙ grind arith, grind arith)
 
+-- the numbers of a part and of the one twice as wide
 module _ (count : ℕ) (x : ℕ → ℤ) (block width : ℕ) where
   pub widen_odd : block % 2 ≡ 1 → block * width < count
-      → join (sums_from x (block * width - width) (min width (count - (block * width - width)))) (sums_at count x block width) ≡ sums_at count x (block / 2) (2 * width)
+      → segment x (block * width - width) (min width (count - (block * width - width))) ++ numbers_of_block count x block width ≡ numbers_of_block count x (block / 2) (2 * width)
   widen_odd odd below =
       let at = odd_block block width odd in
       let start = block / 2 * (2 * width) in
@@ -147,12 +146,12 @@ module _ (count : ℕ) (x : ℕ → ℤ) (block width : ℕ) where
       let whole : min width (count - (block * width - width)) ≡ width = omega (arith, at.0, below) in
       let next : block * width ≡ start + width = omega (arith, at.0, at.2) in
       let all : width + min width (count - block * width) ≡ min (2 * width) (count - start) = omega (arith, at.0, at.2, below) in
-      (λ i. join (sums_from x (first i) (whole i)) (sums_from x (next i) (min width (count - block * width))))
-      ∙ sym (sums_split x start width (min width (count - block * width)))
-      ∙ ap (sums_from x start) all
+      (λ i. segment x (first i) (whole i) ++ segment x (next i) (min width (count - block * width)))
+      ∙ sym (segment_split x start width (min width (count - block * width)))
+      ∙ ap (segment x start) all
 
   pub widen_even : block % 2 ≡ 0 → block * width + width < count
-      → join (sums_at count x block width) (sums_from x (block * width + width) (min width (count - (block * width + width)))) ≡ sums_at count x (block / 2) (2 * width)
+      → numbers_of_block count x block width ++ segment x (block * width + width) (min width (count - (block * width + width))) ≡ numbers_of_block count x (block / 2) (2 * width)
   widen_even even below =
       let at = even_block block width even in
       let start = block / 2 * (2 * width) in
@@ -160,17 +159,17 @@ module _ (count : ℕ) (x : ℕ → ℤ) (block width : ℕ) where
       let whole : min width (count - block * width) ≡ width = omega (arith, below) in
       let next : block * width + width ≡ start + width = omega (arith, at.0, at.2) in
       let all : width + min width (count - (block * width + width)) ≡ min (2 * width) (count - start) = omega (arith, at.0, at.2, below) in
-      (λ i. join (sums_from x (first i) (whole i)) (sums_from x (next i) (min width (count - (block * width + width)))))
-      ∙ sym (sums_split x start width (min width (count - (block * width + width))))
-      ∙ ap (sums_from x start) all
+      (λ i. segment x (first i) (whole i) ++ segment x (next i) (min width (count - (block * width + width))))
+      ∙ sym (segment_split x start width (min width (count - (block * width + width))))
+      ∙ ap (segment x start) all
 
-  pub widen_alone : block % 2 ≡ 0 → block * width < count → count ≤ block * width + width → sums_at count x block width ≡ sums_at count x (block / 2) (2 * width)
+  pub widen_alone : block % 2 ≡ 0 → block * width < count → count ≤ block * width + width → numbers_of_block count x block width ≡ numbers_of_block count x (block / 2) (2 * width)
   widen_alone even some last =
       let at = even_block block width even in
       let start = block / 2 * (2 * width) in
       let first : block * width ≡ start = omega (arith, at.0, at.2) in
       let all : min width (count - block * width) ≡ min (2 * width) (count - start) = omega (arith, at.0, at.2, some, last) in
-      λ i. sums_from x (first i) (all i)
+      λ i. segment x (first i) (all i)
 
 -- ---- the way up from a place
 
@@ -259,12 +258,12 @@ even_start from width part wide = pick part.level part.width_is part.from_is
         omega (arith, at, double)
 
 -- one of more than two has four or eight and so on
-pub two_levels : (from width : ℕ) (part : IsPart from width) → 1 < width → (width ≡ 2 → ⊥) → (less : ℕ) × (width ≡ 4 * 2 ^ less) × (from ≡ part.place * (4 * 2 ^ less))
+pub two_levels : (from width : ℕ) (part : IsPart from width) → 1 < width → (width ≡ 2 → ⊥) → (less : ℕ) × (width ≡ 2 * (2 * 2 ^ less)) × (from ≡ part.place * (2 * (2 * 2 ^ less)))
 two_levels from width part wide other = pick part.level part.width_is part.from_is
   where
-    pick : (level : ℕ) → width ≡ 2 ^ level → from ≡ part.place * 2 ^ level → (less : ℕ) × (width ≡ 4 * 2 ^ less) × (from ≡ part.place * (4 * 2 ^ less))
+    pick : (level : ℕ) → width ≡ 2 ^ level → from ≡ part.place * 2 ^ level → (less : ℕ) × (width ≡ 2 * (2 * 2 ^ less)) × (from ≡ part.place * (2 * (2 * 2 ^ less)))
     pick zero is at = let no : ⊥ = omega (arith, is, wide) in absurd no
     pick (suc zero) is at = let two : width ≡ 2 = omega (arith, is) in absurd (other two)
     pick (suc (suc less)) is at =
-        let four : 2 ^ suc (suc less) ≡ 4 * 2 ^ less = grind arith in
+        let four : 2 ^ suc (suc less) ≡ 2 * (2 * 2 ^ less) = grind arith in
         (less, is ∙ four, at ∙ ap (λ k. part.place * k) four)

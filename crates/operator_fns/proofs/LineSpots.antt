@@ -1,8 +1,10 @@
 -- Where the slots and the nodes of different lines lie.
 use Rattle.std.proofs.Common.{◌≡◌, ◌≢◌, ◌∙◌, ℕ, ◌+◌, ◌-◌, ◌*◌, ◌/◌, ◌%◌, ◌^◌, ◌<◌, ◌≤◌, sym, ap, arith}
 use Rattle.std.proofs.lemmas.Nat.{div-add-mod', div-mul-add, same_from_place, mul-add-lt, div_below, mod_below, mul-le}
-use Rattle.operator_fns.specs.LineTrees.{slot_at, node_at, HasSlots, IsIn}
-use Rattle.operator_fns.specs.SumTrees.{line_at, nodes_in_line, AreLines}
+use Rattle.operator_fns.specs.LineTrees.{Halves, nth_node, HasSlots, IsIn, nodes_in_line}
+use Rattle.operator_fns.specs.SumTrees.{AreLines}
+use Rattle.operator_fns.specs.LineBlocks.{line_at}
+use Rattle.operator_fns.proofs.Halves.{AreHalves}
 
 -- the spot of a place of a line among lines that have so many each
 abbrev pub spot : (unit step line place : ℕ) → ℕ
@@ -66,7 +68,7 @@ module _ (count step slots : ℕ) (are : AreLines count step slots) where
         let sum : (line / step + 1) * (count * step) ≡ line / step * (count * step) + count * step = grind arith in
         omega (arith, most, sum, slots_are)
 
-    pub slot_within : (place : ℕ) → place < count → slot_at (line_at count step line) place < slots
+    pub slot_within : (place : ℕ) → place < count → spot count step line place < slots
     slot_within place p = let inside = spot_inside count step blocks line place are.apart line_below p in omega (arith, inside, slots_are)
 
     pub nth_within : (unit nodes : ℕ) → nodes ≡ slots / count * unit → (k : ℕ) → 1 ≤ k → k ≤ unit → spot unit step line (k - 1) < nodes
@@ -74,11 +76,8 @@ module _ (count step slots : ℕ) (are : AreLines count step slots) where
         let within = spot_inside unit step blocks line (k - 1) are.apart line_below (omega (arith, low, high)) in
         omega (arith, within, nodes_are unit nodes sized)
 
-    pub node_within : (nodes : ℕ) → nodes ≡ slots / count * nodes_in_line count → (meeting : ℕ) → 2 ≤ meeting → meeting < count → node_at (line_at count step line) meeting < nodes
-    node_within nodes sized meeting low high = nth_within (nodes_in_line count) nodes sized (meeting / 2) (omega (arith, low)) (omega (arith, high))
-
-    pub in_slots : slots < 2 ^ 62 → HasSlots (line_at count step line) slots
-    in_slots few = record { few = count_few; apart = are.apart; fit = omega (arith, few); slot = slot_within }
+    pub in_slots : (f : Halves) → slots < 2 ^ 62 → HasSlots (line_at f count step line) slots
+    in_slots f few = record { few = count_few; apart = are.apart; fit = omega (arith, few); slot = slot_within }
       where
         count_few : count < 2 ^ 62
         count_few =
@@ -86,17 +85,29 @@ module _ (count step slots : ℕ) (are : AreLines count step slots) where
             let wide : count * 1 ≤ count * step = mul-le count 1 count step (omega arith) (omega (arith, some)) in
             omega (arith, line_fits, wide, few)
 
-    pub in_both : (nodes : ℕ) → nodes ≡ slots / count * nodes_in_line count → slots < 2 ^ 62 → IsIn (line_at count step line) slots nodes
-    in_both nodes sized few = record {
-      slots = in_slots few;
-      nodes = record { fit = omega (arith, few, fewer_nodes (nodes_in_line count) nodes (omega arith) sized); node = node_within nodes sized };
-    }
+-- both lists are long enough for a line
+module _ (f : Halves) (halves : AreHalves f) (count step slots : ℕ) (are : AreLines count step slots) (line : ℕ) (h : line < slots / count)
+    (nodes : ℕ) (sized : nodes ≡ slots / count * nodes_in_line f count) where
+  pub node_within : (meeting : ℕ) → f.half 0 ≤ meeting → meeting < count → nth_node (line_at f count step line) (f.nth meeting) < nodes
+  node_within meeting low high =
+      nth_within count step slots are line h (nodes_in_line f count) nodes sized (f.nth meeting) (halves.counted meeting low) (halves.within meeting count high)
+
+  pub in_both : slots < 2 ^ 62 → IsIn f (line_at f count step line) slots nodes
+  in_both few = record {
+    slots = in_slots count step slots are line h f few;
+    nodes = record {
+      fit = omega (arith, few, fewer_nodes count step slots are (nodes_in_line f count) nodes (omega (arith, halves.fewer (count - 1))) sized);
+      node = node_within;
+    };
+  }
 
 -- a slot of one line is none of another
-pub slots_apart : (count step a b i j : ℕ) → 0 < step → i < count → j < count → a ≢ b → slot_at (line_at count step a) i ≢ slot_at (line_at count step b) j
+pub slots_apart : (count step a b i j : ℕ) → 0 < step → i < count → j < count → a ≢ b → spot count step a i ≢ spot count step b j
 slots_apart count step a b i j some p q apart e = apart (same_line count step a b i j some p q e)
 
 -- and a node of one line none of another
-pub nodes_apart : (count step a b m n : ℕ) → 0 < step → 2 ≤ m → m < count → 2 ≤ n → n < count → a ≢ b → node_at (line_at count step a) m ≢ node_at (line_at count step b) n
-nodes_apart count step a b m n some low high low2 high2 apart e =
-    apart (same_line (nodes_in_line count) step a b (m / 2 - 1) (n / 2 - 1) some (omega (arith, low, high)) (omega (arith, low2, high2)) e)
+pub nodes_apart : (f : Halves) → AreHalves f → (count step a b m n : ℕ) → 0 < step → f.half 0 ≤ m → m < count → f.half 0 ≤ n → n < count → a ≢ b
+    → nth_node (line_at f count step a) (f.nth m) ≢ nth_node (line_at f count step b) (f.nth n)
+nodes_apart f halves count step a b m n some low high low2 high2 apart e =
+    apart (same_line (nodes_in_line f count) step a b (f.nth m - 1) (f.nth n - 1) some (omega (arith, halves.counted m low, halves.within m count high))
+    (omega (arith, halves.counted n low2, halves.within n count high2)) e)

@@ -1,14 +1,11 @@
--- The numbers of a line, and what is kept of its parts, where its slots and its nodes stay.
-use Rattle.std.proofs.Common.{◌≡◌, ◌∙◌, ℕ, zero, suc, ◌+◌, ◌-◌, ◌*◌, ◌%◌, ◌^◌, ◌<◌, ◌≤◌, min, ℤ, ◌-ℤ◌, w64, List, ◌∷◌, map, sym, subst, arith, refl, inl, inr}
+-- The numbers of a line where its slots stay.
+use Rattle.std.proofs.Common.{◌≡◌, ◌∙◌, ℕ, zero, suc, ◌+◌, ◌%◌, ◌<◌, ◌≤◌, ℤ, ◌-ℤ◌, w64, List, ◌∷◌, map, sym, arith, refl, inl, inr}
 use Rattle.std.specs.List.{range_with_len}
 use Rattle.std.specs.Int.{int_wrap}
 use Rattle.std.proofs.lemmas.Bool.{cases_lt, cases_eq}
-use Rattle.operator_fns.specs.declared.summary.Summary.{Summary}
 use Rattle.operator_fns.specs.declared.line_tree.Line.{Line}
-use Rattle.operator_fns.specs.SumNodes.{Tells, sums_from}
-use Rattle.operator_fns.specs.LineTrees.{slot_of, number_of, AreKept}
-use Rattle.operator_fns.proofs.LineParts.{number_before, number_odd, number_last, sums_same}
-use Rattle.std.proofs.lemmas.Nat.{pow_pos}
+use Rattle.operator_fns.specs.LineTrees.{slot_of, number_of}
+use Rattle.operator_fns.proofs.LineParts.{number_before, number_odd, number_last}
 
 -- lists of the same at each place
 pub same_over : {X : Type 0} (f g : ℕ → X) (from n : ℕ) → ((i : ℕ) → from ≤ i → i < from + n → f i ≡ g i) → map f (range_with_len from n) ≡ map g (range_with_len from n)
@@ -37,14 +34,3 @@ numbers_moved l m before after long same i h = elim (cases_lt (i + 1) l.count) [
 -- where they stay, its numbers do
 pub numbers_alike : (l : Line) (before after : List ℤ) → ((i : ℕ) → i < l.count → slot_of l after i ≡ slot_of l before i) → (i : ℕ) → i < l.count → number_of l after i ≡ number_of l before i
 numbers_alike l before after = numbers_moved l l before after refl
-
--- where its numbers and its nodes stay, what is kept of its parts does
-pub kept_alike : (count : ℕ) (x y : ℕ → ℤ) (m n : ℕ → Summary) → ((i : ℕ) → i < count → y i ≡ x i) → ((meeting : ℕ) → 2 ≤ meeting → meeting < count → n meeting ≡ m meeting)
-    → AreKept count x m → AreKept count y n
-kept_alike count x y m n same nodes kept level place inside =
-    let from = place * (4 * 2 ^ level) in
-    let half = 2 * 2 ^ level in
-    let long = min (2 * half) (count - from) in
-    let some = pow_pos level in
-    let alike = sums_same x y from long (λ i low high. sym (same i (omega (arith, low, high)))) in
-    subst (λ s. Tells s (sums_from y from long)) (sym (nodes (from + half) (omega (arith, some)) inside)) (subst (Tells (m (from + half))) alike (kept level place inside))

@@ -7,9 +7,10 @@ use Rattle.std.proofs.lemmas.List.{ext_get_or, length-set, get_or-set_same, get_
 use Rattle.std.proofs.lemmas.List.FromFn.{length-map-range_with_len, get_or-map-range_with_len}
 use Rattle.operator_fns.specs.SumNodes.{single, join, sums_of, sums_from}
 use Rattle.operator_fns.specs.declared.line_tree.Line.{Line}
-use Rattle.operator_fns.specs.LineTrees.{one_line, slot_at, slot_of, number_of, numbers_in, replaced, HasSlots, HasNodes, IsTree}
+use Rattle.operator_fns.specs.LineTrees.{slot_at, slot_of, number_of, replaced, HasSlots, from_four, HasNodes}
 use Rattle.operator_fns.specs.declared.summary.Summary.{Summary}
 use Rattle.operator_fns.proofs.LineParts.{number_before, number_odd, number_last, replaced_here, replaced_other}
+use Rattle.operator_fns.specs.SumTree.{one_line, numbers_in, IsTree}
 
 -- the sums of a list by its places
 pub sums_listed : (x : ℕ → ℤ) (from count : ℕ) → sums_from x from count ≡ sums_of (map x (range_with_len from count))
@@ -33,7 +34,7 @@ numbers_are x count xs long same =
 pub slots_of_one : (count : ℕ) → count < 2 ^ 62 → HasSlots (one_line count) count
 slots_of_one count few = record { few = few; apart = omega arith; fit = omega (arith, few); slot = λ place h. omega (arith, h) }
 
-pub nodes_of_one : (count nodes : ℕ) → count < 2 ^ 62 → nodes ≡ (count - 1) / 2 → HasNodes (one_line count) nodes
+pub nodes_of_one : (count nodes : ℕ) → count < 2 ^ 62 → nodes ≡ (count - 1) / 2 → HasNodes from_four (one_line count) nodes
 nodes_of_one count nodes few is = record { fit = omega (arith, few, is); node = λ meeting some h. omega (arith, some, h, is) }
 
 -- each number fits 64 bits

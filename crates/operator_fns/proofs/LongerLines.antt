@@ -1,14 +1,11 @@
 -- A line that takes one more number.
-use Rattle.std.proofs.Common.{◌≡◌, ◌∙◌, ℕ, ◌+◌, ◌-◌, ◌*◌, ◌%◌, ◌^◌, ◌<◌, min, List, length, set, refl, ap, sym, subst, arith, inl, inr, ℤ, pos, ◌+ℤ◌, ◌-ℤ◌, FitsSigned, w64, to_z, of_z, get_or}
+use Rattle.std.proofs.Common.{◌≡◌, ◌∙◌, ℕ, ◌+◌, ◌-◌, ◌%◌, ◌<◌, List, length, set, refl, ap, sym, arith, inl, inr, ℤ, pos, ◌+ℤ◌, ◌-ℤ◌, FitsSigned, w64, to_z, of_z, get_or}
 use Rattle.std.specs.Int.{int_wrap}
 use Rattle.std.specs.List.{All}
 use Rattle.std.proofs.lemmas.Bool.{cases_eq}
-use Rattle.std.proofs.lemmas.Nat.{pow_pos}
-use Rattle.operator_fns.specs.declared.summary.Summary.{Summary}
 use Rattle.operator_fns.specs.declared.line_tree.Line.{Line}
-use Rattle.operator_fns.specs.SumNodes.{Tells, sums_from}
-use Rattle.operator_fns.specs.LineTrees.{slot_at, slot_of, number_of, shorter, HasSlots, AreKept, AreKeptBeside}
-use Rattle.operator_fns.proofs.LineParts.{number_before, number_odd, number_last, sums_same}
+use Rattle.operator_fns.specs.LineTrees.{slot_at, slot_of, number_of, shorter, HasSlots}
+use Rattle.operator_fns.proofs.LineParts.{number_before, number_odd, number_last}
 use Rattle.operator_fns.proofs.LineWrites.{put_here, put_other}
 use Rattle.operator_fns.proofs.Wrapping.{other_of_two, sum_left}
 
@@ -61,17 +58,3 @@ module _ (l : Line) (before : List ℤ) (has : HasSlots l (length before)) (fit 
         number_longer l before after i below (put_other l before has (l.count - 1 - 1) sum i other)
         (λ even. (omega (arith, below, other, odd, even), put_other l before has (l.count - 1 - 1) sum (i + 1) (λ f. let no : ⊥ = omega (arith, f, even, odd, more) in no)))
   ]
-
--- what is kept of the parts without the last place is that of the shorter line
-pub kept_longer : (count : ℕ) (x y : ℕ → ℤ) (node : ℕ → Summary) → ((i : ℕ) → i < count - 1 → y i ≡ x i) → AreKept (count - 1) x node → AreKeptBeside (count - 1) count y node
-kept_longer count x y node same kept level place beside inside = elim beside [
-  | inl after ↦ let no : ⊥ = omega (arith, after, inside) in absurd no
-  | inr before ↦
-      let from = place * (4 * 2 ^ level) in
-      let half = 2 * 2 ^ level in
-      let some = pow_pos level in
-      let whole : min (2 * half) (count - 1 - from) ≡ min (2 * half) (count - from) = omega (arith, before) in
-      let long = min (2 * half) (count - from) in
-      let alike = sums_same x y from long (λ i low high. sym (same i (omega (arith, low, high, before)))) in
-      subst (Tells (node (from + half))) (ap (sums_from x from) whole ∙ alike) (kept level place (omega (arith, before, some)))
-]

@@ -5,12 +5,16 @@ use Rattle.std.proofs.lemmas.Bool.{cases_lt}
 use Rattle.std.proofs.lemmas.List.{ext_get_or, length-append, get_or_append_left, get_or-append_right}
 use Rattle.std.proofs.lemmas.Nat.{div_below, mod_below, div-mul-add, mod-mul-add}
 use Rattle.operator_fns.specs.declared.summary.Summary.{Summary}
-use Rattle.operator_fns.specs.LineTrees.{slot_at, node_at, slot_of, number_of, node_of, shorter, empty, AreKept}
-use Rattle.operator_fns.specs.SumTrees.{line_at, line_through, number_kept, numbers_kept, nodes_in_line, AreLines, AreLineTrees}
+use Rattle.operator_fns.specs.LineTrees.{slot_at, node_at, slot_of, number_of, shorter, from_four, node_of, AreKept, nodes_in_line}
+use Rattle.operator_fns.specs.SumTrees.{line_through, number_kept, numbers_kept, AreLines, AreLineTrees}
 use Rattle.operator_fns.proofs.KeptNumbers.{kept_count, kept_at, kept_on_line}
 use Rattle.operator_fns.proofs.LinePlaces.{place_spot, some_places, line_within}
 use Rattle.operator_fns.proofs.LineSpots.{spot, slot_within, node_within}
-use Rattle.operator_fns.proofs.LineTables.{numbers_moved, kept_alike}
+use Rattle.operator_fns.proofs.LineTables.{numbers_moved}
+use Rattle.operator_fns.proofs.Halves.{are_from_four}
+use Rattle.operator_fns.proofs.LineNodes.{kept_alike}
+use Rattle.operator_fns.specs.LineBlocks.{line_at}
+use Rattle.operator_fns.specs.SumNodes.{empty, TellsSums}
 
 -- ---- where the lines lie
 
@@ -43,8 +47,8 @@ lines_in_block count step slots some is =
     ap (λ n. n / count) whole ∙ div-mul-add step count 0 some
 
 -- as many nodes as such lines have
-pub held_nodes : (count step : ℕ) (slots : List ℤ) (nodes : List Summary) → AreLineTrees count step slots nodes → length slots ≡ count * step → length nodes ≡ nodes_in_line count * step
-held_nodes count step slots nodes trees is = trees.sized ∙ ap (λ n. n * nodes_in_line count) (lines_in_block count step (length slots) trees.lines.some is) ∙ grind arith
+pub held_nodes : (count step : ℕ) (slots : List ℤ) (nodes : List Summary) → AreLineTrees count step slots nodes → length slots ≡ count * step → length nodes ≡ nodes_in_line from_four count * step
+held_nodes count step slots nodes trees is = trees.sized ∙ ap (λ n. n * nodes_in_line from_four count) (lines_in_block count step (length slots) trees.lines.some is) ∙ grind arith
 
 module _ (count step : ℕ) (slots numbers : List ℤ) (nodes more : List Summary) (old : AreLineTrees count step slots nodes) (between : length slots ≡ count * step)
     (wide : length numbers ≡ step) where
@@ -66,31 +70,31 @@ module _ (count step : ℕ) (slots numbers : List ℤ) (nodes more : List Summar
   -- ---- before the new numbers are taken
 
   -- the numbers of a line
-  first_numbers : (line : ℕ) → line < step → (i : ℕ) → i < count → number_of (shorter (line_at long step line)) all i ≡ number_of (line_at count step line) slots i
-  first_numbers line h = numbers_moved (line_at count step line) (shorter (line_at long step line)) slots all one_more (λ i p.
+  first_numbers : (line : ℕ) → line < step → (i : ℕ) → i < count → number_of (shorter (line_at from_four long step line)) all i ≡ number_of (line_at from_four count step line) slots i
+  first_numbers line h = numbers_moved (line_at from_four count step line) (shorter (line_at from_four long step line)) slots all one_more (λ i p.
       ap (λ k. get_or all k (pos 0)) (first_spot long count step line i old.lines.apart h)
-      ∙ get_or_append_left slots numbers (pos 0) (slot_at (line_at count step line) i) (slot_within count step (length slots) old.lines line (old_line line h) i p))
+      ∙ get_or_append_left slots numbers (pos 0) (slot_at (line_at from_four count step line) i) (slot_within count step (length slots) old.lines line (old_line line h) i p))
 
   -- and its nodes
   first_nodes : (line : ℕ) → line < step → (meeting : ℕ) → 2 ≤ meeting → meeting < count
-      → node_of (shorter (line_at long step line)) (nodes ++ more) meeting ≡ node_of (line_at count step line) nodes meeting
+      → node_of from_four empty (shorter (line_at from_four long step line)) (nodes ++ more) meeting ≡ node_of from_four empty (line_at from_four count step line) nodes meeting
   first_nodes line h meeting low high =
-      ap (λ k. get_or (nodes ++ more) k empty) (first_spot (nodes_in_line long) (nodes_in_line count) step line (meeting / 2 - 1) old.lines.apart h)
-      ∙ get_or_append_left nodes more empty (node_at (line_at count step line) meeting) (node_within count step (length slots) old.lines line (old_line line h) (length nodes) old.sized meeting low high)
+      ap (λ k. get_or (nodes ++ more) k empty) (first_spot (nodes_in_line from_four long) (nodes_in_line from_four count) step line (meeting / 2 - 1) old.lines.apart h)
+      ∙ get_or_append_left nodes more empty (node_at (line_at from_four count step line) meeting) (node_within from_four are_from_four count step (length slots) old.lines line (old_line line h) (length nodes) old.sized meeting low high)
 
   -- what is kept is that of the lines without them
-  pub kept_without : (line : ℕ) → line < step → AreKept (long - 1) (number_of (shorter (line_at long step line)) all) (node_of (shorter (line_at long step line)) (nodes ++ more))
+  pub kept_without : (line : ℕ) → line < step → AreKept from_four TellsSums (long - 1) (number_of (shorter (line_at from_four long step line)) all) (node_of from_four empty (shorter (line_at from_four long step line)) (nodes ++ more))
   kept_without line h =
-      subst (λ n. AreKept n (number_of (shorter (line_at long step line)) all) (node_of (shorter (line_at long step line)) (nodes ++ more))) (sym one_more)
-      (kept_alike count (number_of (line_at count step line) slots) (number_of (shorter (line_at long step line)) all) (node_of (line_at count step line) nodes)
-      (node_of (shorter (line_at long step line)) (nodes ++ more)) (first_numbers line h) (first_nodes line h) (old.kept line (old_line line h)))
+      subst (λ n. AreKept from_four TellsSums n (number_of (shorter (line_at from_four long step line)) all) (node_of from_four empty (shorter (line_at from_four long step line)) (nodes ++ more))) (sym one_more)
+      (kept_alike from_four are_from_four TellsSums count (number_of (line_at from_four count step line) slots) (number_of (shorter (line_at from_four long step line)) all) (node_of from_four empty (line_at from_four count step line) nodes)
+      (node_of from_four empty (shorter (line_at from_four long step line)) (nodes ++ more)) (first_numbers line h) (first_nodes line h) (old.kept line (old_line line h)))
 
   -- as many nodes as the longer lines have
-  pub nodes_long : length more ≡ (nodes_in_line long - nodes_in_line count) * length numbers → length (nodes ++ more) ≡ nodes_in_line long * step
+  pub nodes_long : length more ≡ (nodes_in_line from_four long - nodes_in_line from_four count) * length numbers → length (nodes ++ more) ≡ nodes_in_line from_four long * step
   nodes_long is =
-      let rest = nodes_in_line long - nodes_in_line count in
-      let whole : nodes_in_line long ≡ nodes_in_line count + rest = omega arith in
-      let sum : (nodes_in_line count + rest) * step ≡ nodes_in_line count * step + rest * step = grind arith in
+      let rest = nodes_in_line from_four long - nodes_in_line from_four count in
+      let whole : nodes_in_line from_four long ≡ nodes_in_line from_four count + rest = omega arith in
+      let sum : (nodes_in_line from_four count + rest) * step ≡ nodes_in_line from_four count * step + rest * step = grind arith in
       let held = held_nodes count step slots nodes old between in
       let added = is ∙ ap (λ n. rest * n) wide in
       omega (arith, length-append nodes more, held, added, sum) ∙ ap (λ n. n * step) (sym whole)
@@ -98,8 +102,8 @@ module _ (count step : ℕ) (slots numbers : List ℤ) (nodes more : List Summar
   -- ---- when all have
 
   module _ (after : List ℤ) (same_count : length after ≡ length all)
-      (kept_numbers : (line i : ℕ) → line < step → i < long - 1 → number_of (line_at long step line) after i ≡ number_of (shorter (line_at long step line)) all i)
-      (last : (line : ℕ) → line < step → number_of (line_at long step line) after (long - 1) ≡ slot_of (line_at long step line) all (long - 1)) where
+      (kept_numbers : (line i : ℕ) → line < step → i < long - 1 → number_of (line_at from_four long step line) after i ≡ number_of (shorter (line_at from_four long step line)) all i)
+      (last : (line : ℕ) → line < step → number_of (line_at from_four long step line) after (long - 1) ≡ slot_of (line_at from_four long step line) all (long - 1)) where
     after_long : length after ≡ long * step
     after_long = same_count ∙ all_long
 
@@ -117,12 +121,12 @@ module _ (count step : ℕ) (slots numbers : List ℤ) (nodes more : List Summar
         let line = line_through long step k in
         let place = k / step % long in
         let on = on_line k h in
-        let at : slot_at (line_at count step line) place ≡ k = first_spot count long step line place old.lines.apart on ∙ place_spot long step some_long old.lines.apart k in
+        let at : slot_at (line_at from_four count step line) place ≡ k = first_spot count long step line place old.lines.apart on ∙ place_spot long step some_long old.lines.apart k in
         let within = slot_within count step (length slots) old.lines line (old_line line on) place below in
         kept_numbers line place on (omega (arith, below))
         ∙ first_numbers line on place below
         ∙ sym (kept_on_line count step slots old.lines line place (old_line line on) below)
-        ∙ sym (get_or_append_left (numbers_kept count step slots) numbers (pos 0) (slot_at (line_at count step line) place) (omega (arith, within, kept_count count step slots)))
+        ∙ sym (get_or_append_left (numbers_kept count step slots) numbers (pos 0) (slot_at (line_at from_four count step line) place) (omega (arith, within, kept_count count step slots)))
         ∙ ap (λ n. get_or (numbers_kept count step slots ++ numbers) n (pos 0)) at
 
     -- its new one
@@ -131,11 +135,11 @@ module _ (count step : ℕ) (slots numbers : List ℤ) (nodes more : List Summar
         let line = line_through long step k in
         let on = on_line k h in
         let place : k / step % long ≡ long - 1 = let low = mod_below (k / step) long some_long in omega (arith, low, above) in
-        let at : slot_at (line_at long step line) (long - 1) ≡ k = ap (λ i. slot_at (line_at long step line) i) (sym place) ∙ place_spot long step some_long old.lines.apart k in
+        let at : slot_at (line_at from_four long step line) (long - 1) ≡ k = ap (λ i. slot_at (line_at from_four long step line) i) (sym place) ∙ place_spot long step some_long old.lines.apart k in
         let behind : length slots ≤ k =
         let first : (long - 1) * step ≡ count * step = ap (λ n. n * step) one_more in
         omega (arith, at, first, between) in
-        ap (λ i. number_of (line_at long step line) after i) place
+        ap (λ i. number_of (line_at from_four long step line) after i) place
         ∙ last line on
         ∙ ap (λ n. get_or all n (pos 0)) at
         ∙ get_or-append_right slots numbers (length slots) k (pos 0) refl behind
@@ -160,14 +164,14 @@ module _ (count step : ℕ) (slots numbers : List ℤ) (nodes more : List Summar
             ]
 
 -- and what is kept of their parts
-pub longer_trees : (count step : ℕ) (slots : List ℤ) (nodes : List Summary) → 0 < count → 0 < step → length slots ≡ count * step → length nodes ≡ nodes_in_line count * step
-    → All (FitsSigned w64) slots → ((line : ℕ) → line < step → AreKept count (number_of (line_at count step line) slots) (node_of (line_at count step line) nodes))
+pub longer_trees : (count step : ℕ) (slots : List ℤ) (nodes : List Summary) → 0 < count → 0 < step → length slots ≡ count * step → length nodes ≡ nodes_in_line from_four count * step
+    → All (FitsSigned w64) slots → ((line : ℕ) → line < step → AreKept from_four TellsSums count (number_of (line_at from_four count step line) slots) (node_of from_four empty (line_at from_four count step line) nodes))
     → AreLineTrees count step slots nodes
 longer_trees count step slots nodes some apart slot_count node_count fit kept =
     let lines = lines_in_block count step (length slots) some slot_count in
     record {
       lines = one_block count step (length slots) some apart slot_count;
       fit = fit;
-      sized = node_count ∙ grind arith ∙ ap (λ n. n * nodes_in_line count) (sym lines);
+      sized = node_count ∙ grind arith ∙ ap (λ n. n * nodes_in_line from_four count) (sym lines);
       kept = λ line h. kept line (omega (arith, h, lines));
     }

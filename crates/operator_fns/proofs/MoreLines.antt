@@ -5,12 +5,16 @@ use Rattle.std.proofs.lemmas.List.{ext_get_or, length-append, get_or_append_left
 use Rattle.std.proofs.lemmas.List.Elements.{All-append}
 use Rattle.std.proofs.lemmas.Nat.{div-add-mod', div-mul-add, mod-mul-add, mod_below, mul-le}
 use Rattle.operator_fns.specs.declared.summary.Summary.{Summary}
-use Rattle.operator_fns.specs.LineTrees.{slot_at, node_at, number_of, node_of, empty, AreKept}
-use Rattle.operator_fns.specs.SumTrees.{line_at, line_through, number_kept, numbers_kept, nodes_in_line, AreLines, AreLineTrees}
+use Rattle.operator_fns.specs.LineTrees.{slot_at, node_at, number_of, from_four, node_of, AreKept, nodes_in_line}
+use Rattle.operator_fns.specs.SumTrees.{line_through, number_kept, numbers_kept, AreLines, AreLineTrees}
 use Rattle.operator_fns.proofs.KeptNumbers.{kept_count, kept_at}
 use Rattle.operator_fns.proofs.LinePlaces.{some_places, spot_line, spot_place, place_spot, line_within}
 use Rattle.operator_fns.proofs.LineSpots.{spot, blocks, slots_are, lines_are, all_slots, slot_within, node_within}
-use Rattle.operator_fns.proofs.LineTables.{numbers_alike, numbers_moved, kept_alike}
+use Rattle.operator_fns.proofs.LineTables.{numbers_alike, numbers_moved}
+use Rattle.operator_fns.proofs.Halves.{are_from_four}
+use Rattle.operator_fns.proofs.LineNodes.{kept_alike}
+use Rattle.operator_fns.specs.LineBlocks.{line_at}
+use Rattle.operator_fns.specs.SumNodes.{empty, TellsSums}
 
 -- the spots of a line behind whole blocks
 pub spot_behind : (unit step blocks line place : ℕ) → 0 < step → spot unit step (blocks * step + line) place ≡ blocks * (unit * step) + spot unit step line place
@@ -60,15 +64,15 @@ module _ (count step : ℕ) (slots more : List ℤ) (nodes more_nodes : List Sum
   all_lines = ap (λ n. n / count) (length-append slots more) ∙ lines_behind count step (length slots) (length more) old.lines new.lines
 
   -- where the slots and the nodes of the later lines lie
-  slot_behind : (line place : ℕ) → slot_at (line_at count step (old_lines + line)) place ≡ length slots + slot_at (line_at count step line) place
+  slot_behind : (line place : ℕ) → slot_at (line_at from_four count step (old_lines + line)) place ≡ length slots + slot_at (line_at from_four count step line) place
   unfolding old_lines
   slot_behind line place =
       spot_after count step (length slots) old.lines count line place ∙ ap (λ n. n + spot count step line place) (sym (all_slots count step (length slots) old.lines))
 
-  node_behind : (line meeting : ℕ) → node_at (line_at count step (old_lines + line)) meeting ≡ length nodes + node_at (line_at count step line) meeting
+  node_behind : (line meeting : ℕ) → node_at (line_at from_four count step (old_lines + line)) meeting ≡ length nodes + node_at (line_at from_four count step line) meeting
   unfolding old_lines
   node_behind line meeting =
-      let unit = nodes_in_line count in
+      let unit = nodes_in_line from_four count in
       spot_after count step (length slots) old.lines unit line (meeting / 2 - 1) ∙ ap (λ n. n + spot unit step line (meeting / 2 - 1)) (sym old.sized)
 
   -- a place behind the old ones, as a spot
@@ -76,14 +80,14 @@ module _ (count step : ℕ) (slots more : List ℤ) (nodes more_nodes : List Sum
   slots_behind k = ap (λ n. length slots + n) (sym (place_spot count step old.lines.some old.lines.apart k)) ∙ sym (slot_behind (line_through count step k) (k / step % count))
 
   -- the numbers of both
-  first_numbers : (line : ℕ) → line < old_lines → (i : ℕ) → i < count → number_of (line_at count step line) (slots ++ more) i ≡ number_of (line_at count step line) slots i
+  first_numbers : (line : ℕ) → line < old_lines → (i : ℕ) → i < count → number_of (line_at from_four count step line) (slots ++ more) i ≡ number_of (line_at from_four count step line) slots i
   unfolding old_lines
-  first_numbers line h = numbers_alike (line_at count step line) slots (slots ++ more) (λ i p.
-      get_or_append_left slots more (pos 0) (slot_at (line_at count step line) i) (slot_within count step (length slots) old.lines line h i p))
+  first_numbers line h = numbers_alike (line_at from_four count step line) slots (slots ++ more) (λ i p.
+      get_or_append_left slots more (pos 0) (slot_at (line_at from_four count step line) i) (slot_within count step (length slots) old.lines line h i p))
 
-  later_numbers : (line i : ℕ) → i < count → number_of (line_at count step (old_lines + line)) (slots ++ more) i ≡ number_of (line_at count step line) more i
-  later_numbers line = numbers_moved (line_at count step line) (line_at count step (old_lines + line)) more (slots ++ more) refl (λ i p.
-      ap (λ k. get_or (slots ++ more) k (pos 0)) (slot_behind line i) ∙ get_or-append-add slots more (slot_at (line_at count step line) i) (pos 0))
+  later_numbers : (line i : ℕ) → i < count → number_of (line_at from_four count step (old_lines + line)) (slots ++ more) i ≡ number_of (line_at from_four count step line) more i
+  later_numbers line = numbers_moved (line_at from_four count step line) (line_at from_four count step (old_lines + line)) more (slots ++ more) refl (λ i p.
+      ap (λ k. get_or (slots ++ more) k (pos 0)) (slot_behind line i) ∙ get_or-append-add slots more (slot_at (line_at from_four count step line) i) (pos 0))
 
   -- its line, and where on it
   line_behind : (k : ℕ) → line_through count step (length slots + k) ≡ old_lines + line_through count step k
@@ -125,7 +129,7 @@ module _ (count step : ℕ) (slots more : List ℤ) (nodes more_nodes : List Sum
                 let is : k ≡ length slots + j = omega (arith, after) in
                 kept_at count step (slots ++ more) k within
                 ∙ ap (number_kept count step (slots ++ more)) is
-                ∙ (λ i. number_of (line_at count step (line_behind j i)) (slots ++ more) (place_behind j i))
+                ∙ (λ i. number_of (line_at from_four count step (line_behind j i)) (slots ++ more) (place_behind j i))
                 ∙ later_numbers (line_through count step j) (j / step % count) (mod_below (j / step) count old.lines.some)
                 ∙ sym (kept_at count step more j (omega (arith, within, length-append slots more, after)))
                 ∙ sym (get_or-append_right first later (length slots) k (pos 0) old_count after)
@@ -141,17 +145,17 @@ module _ (count step : ℕ) (slots more : List ℤ) (nodes more_nodes : List Sum
       whole = whole;
     };
     fit = All-append (FitsSigned w64) slots more old.fit new.fit;
-    sized = length-append nodes more_nodes ∙ (λ i. old.sized i + new.sized i) ∙ grind arith ∙ ap (λ n. n * nodes_in_line count) (sym all_lines);
+    sized = length-append nodes more_nodes ∙ (λ i. old.sized i + new.sized i) ∙ grind arith ∙ ap (λ n. n * nodes_in_line from_four count) (sym all_lines);
     kept = λ k h. elim (cases_lt k (length slots / count)) [
       | inl before ↦
-          kept_alike count (number_of (line_at count step k) slots) (number_of (line_at count step k) (slots ++ more)) (node_of (line_at count step k) nodes)
-          (node_of (line_at count step k) (nodes ++ more_nodes)) (first_numbers k before) (first_nodes k before) (old.kept k before)
+          kept_alike from_four are_from_four TellsSums count (number_of (line_at from_four count step k) slots) (number_of (line_at from_four count step k) (slots ++ more)) (node_of from_four empty (line_at from_four count step k) nodes)
+          (node_of from_four empty (line_at from_four count step k) (nodes ++ more_nodes)) (first_numbers k before) (first_nodes k before) (old.kept k before)
       | inr after ↦
           let j = k - length slots / count in
           let is : k ≡ length slots / count + j = omega (arith, after) in
-          subst (λ n. AreKept count (number_of (line_at count step n) (slots ++ more)) (node_of (line_at count step n) (nodes ++ more_nodes))) (sym is)
-          (kept_alike count (number_of (line_at count step j) more) (number_of (line_at count step (length slots / count + j)) (slots ++ more)) (node_of (line_at count step j) more_nodes)
-          (node_of (line_at count step (length slots / count + j)) (nodes ++ more_nodes)) (later_numbers j) (later_nodes j) (new.kept j (omega (arith, h, all_lines, after))))
+          subst (λ n. AreKept from_four TellsSums count (number_of (line_at from_four count step n) (slots ++ more)) (node_of from_four empty (line_at from_four count step n) (nodes ++ more_nodes))) (sym is)
+          (kept_alike from_four are_from_four TellsSums count (number_of (line_at from_four count step j) more) (number_of (line_at from_four count step (length slots / count + j)) (slots ++ more)) (node_of from_four empty (line_at from_four count step j) more_nodes)
+          (node_of from_four empty (line_at from_four count step (length slots / count + j)) (nodes ++ more_nodes)) (later_numbers j) (later_nodes j) (new.kept j (omega (arith, h, all_lines, after))))
     ];
   }
     where
@@ -159,14 +163,14 @@ module _ (count step : ℕ) (slots more : List ℤ) (nodes more_nodes : List Sum
       whole = ap (λ n. n % (count * step)) (length-append slots more) ∙ whole_behind count step (length slots) (length more) old.lines new.lines
 
       first_nodes : (line : ℕ) → line < length slots / count → (meeting : ℕ) → 2 ≤ meeting → meeting < count
-          → node_of (line_at count step line) (nodes ++ more_nodes) meeting ≡ node_of (line_at count step line) nodes meeting
+          → node_of from_four empty (line_at from_four count step line) (nodes ++ more_nodes) meeting ≡ node_of from_four empty (line_at from_four count step line) nodes meeting
       first_nodes line h meeting low high =
-          get_or_append_left nodes more_nodes empty (node_at (line_at count step line) meeting) (node_within count step (length slots) old.lines line h (length nodes) old.sized meeting low high)
+          get_or_append_left nodes more_nodes empty (node_at (line_at from_four count step line) meeting) (node_within from_four are_from_four count step (length slots) old.lines line h (length nodes) old.sized meeting low high)
 
       later_nodes : (line meeting : ℕ) → 2 ≤ meeting → meeting < count
-          → node_of (line_at count step (length slots / count + line)) (nodes ++ more_nodes) meeting ≡ node_of (line_at count step line) more_nodes meeting
+          → node_of from_four empty (line_at from_four count step (length slots / count + line)) (nodes ++ more_nodes) meeting ≡ node_of from_four empty (line_at from_four count step line) more_nodes meeting
       later_nodes line meeting low high =
-          ap (λ k. get_or (nodes ++ more_nodes) k empty) (node_behind line meeting) ∙ get_or-append-add nodes more_nodes (node_at (line_at count step line) meeting) empty
+          ap (λ k. get_or (nodes ++ more_nodes) k empty) (node_behind line meeting) ∙ get_or-append-add nodes more_nodes (node_at (line_at from_four count step line) meeting) empty
 
 -- ---- how many slots and nodes there are in all
 

@@ -6,18 +6,22 @@ use Rattle.std.proofs.lemmas.List.{ext_get_or, length-set, get_or-set_same, get_
 use Rattle.std.proofs.lemmas.Nat.{mod_below}
 use Rattle.operator_fns.specs.declared.summary.Summary.{Summary}
 use Rattle.operator_fns.specs.declared.line_tree.Line.{Line}
-use Rattle.operator_fns.specs.LineTrees.{slot_at, node_at, number_of, node_of, empty, replaced, AreKept}
-use Rattle.operator_fns.specs.SumTrees.{line_at, line_through, number_kept, numbers_kept, nodes_in_line, AreLines, AreLineTrees}
+use Rattle.operator_fns.specs.LineTrees.{slot_at, node_at, number_of, replaced, from_four, node_of, AreKept, nodes_in_line}
+use Rattle.operator_fns.specs.SumTrees.{line_through, number_kept, numbers_kept, AreLines, AreLineTrees}
 use Rattle.operator_fns.proofs.KeptNumbers.{kept_count, kept_at}
 use Rattle.operator_fns.proofs.LineParts.{replaced_here, replaced_other}
 use Rattle.operator_fns.proofs.LinePlaces.{place_spot}
 use Rattle.operator_fns.proofs.LineSpots.{spot, slots_apart, nodes_apart}
-use Rattle.operator_fns.proofs.LineTables.{numbers_alike, kept_alike}
+use Rattle.operator_fns.proofs.LineTables.{numbers_alike}
+use Rattle.operator_fns.proofs.Halves.{are_from_four}
+use Rattle.operator_fns.proofs.LineNodes.{kept_alike}
+use Rattle.operator_fns.specs.LineBlocks.{line_at}
+use Rattle.operator_fns.specs.SumNodes.{empty, TellsSums}
 
 -- a number is put at a place of a line, and what is kept of its parts is joined anew; slots and nodes of no place of it stay
 pub record IsWritten (l : Line) (place : ℕ) (z : ℤ) (slots after : List ℤ) (nodes nodes_after : List Summary) : Type 0 where
   pub numbers : (i : ℕ) → i < l.count → number_of l after i ≡ replaced (number_of l slots) place z i
-  pub kept : AreKept l.count (number_of l after) (node_of l nodes_after)
+  pub kept : AreKept from_four TellsSums l.count (number_of l after) (node_of from_four empty l nodes_after)
   pub other_slots : (p : ℕ) → ((i : ℕ) → i < l.count → p ≢ slot_at l i) → get_or after p (pos 0) ≡ get_or slots p (pos 0)
   pub other_nodes : (p : ℕ) → ((meeting : ℕ) → 2 ≤ meeting → meeting < l.count → p ≢ node_at l meeting) → get_or nodes_after p empty ≡ get_or nodes p empty
   pub slot_count : length after ≡ length slots
@@ -25,7 +29,7 @@ pub record IsWritten (l : Line) (place : ℕ) (z : ℤ) (slots after : List ℤ)
   pub fit : All (FitsSigned w64) after
 
 module _ (count step : ℕ) (slots after : List ℤ) (nodes nodes_after : List Summary) (place : ℕ) (z : ℤ) (trees : AreLineTrees count step slots nodes)
-    (inside : place < length slots) (new : IsWritten (line_at count step (line_through count step place)) (place / step % count) z slots after nodes nodes_after) where
+    (inside : place < length slots) (new : IsWritten (line_at from_four count step (line_through count step place)) (place / step % count) z slots after nodes nodes_after) where
   -- where the place lies
   abbrev line : ℕ
   line = line_through count step place
@@ -37,9 +41,9 @@ module _ (count step : ℕ) (slots after : List ℤ) (nodes nodes_after : List S
   same_lines = ap (λ n. n / count) new.slot_count
 
   -- the other lines stay
-  elsewhere : (k : ℕ) → k ≢ line → (i : ℕ) → i < count → number_of (line_at count step k) after i ≡ number_of (line_at count step k) slots i
-  elsewhere k other = numbers_alike (line_at count step k) slots after
-      (λ i p. new.other_slots (slot_at (line_at count step k) i) (λ j q. slots_apart count step k line i j trees.lines.apart p q other))
+  elsewhere : (k : ℕ) → k ≢ line → (i : ℕ) → i < count → number_of (line_at from_four count step k) after i ≡ number_of (line_at from_four count step k) slots i
+  elsewhere k other = numbers_alike (line_at from_four count step k) slots after
+      (λ i p. new.other_slots (slot_at (line_at from_four count step k) i) (λ j q. slots_apart count step k line i j trees.lines.apart p q other))
 
   -- the numbers of all lines
   pub written_numbers : numbers_kept count step after ≡ set (numbers_kept count step slots) place z
@@ -57,10 +61,10 @@ module _ (count step : ℕ) (slots after : List ℤ) (nodes nodes_after : List S
         | inl on ↦
             let beside : k / step % count ≢ at = λ e.
             apart (sym (place_spot count step trees.lines.some trees.lines.apart k) ∙ (λ i. spot count step (on i) (e i)) ∙ place_spot count step trees.lines.some trees.lines.apart place) in
-            ap (λ j. number_of (line_at count step j) after (k / step % count)) on
+            ap (λ j. number_of (line_at from_four count step j) after (k / step % count)) on
             ∙ new.numbers (k / step % count) (mod_below (k / step) count trees.lines.some)
-            ∙ replaced_other (number_of (line_at count step line) slots) at z (k / step % count) beside
-            ∙ sym (ap (λ j. number_of (line_at count step j) slots (k / step % count)) on)
+            ∙ replaced_other (number_of (line_at from_four count step line) slots) at z (k / step % count) beside
+            ∙ sym (ap (λ j. number_of (line_at from_four count step j) slots (k / step % count)) on)
         | inr other ↦ elsewhere (line_through count step k) other (k / step % count) (mod_below (k / step) count trees.lines.some)
       ]
 
@@ -72,7 +76,7 @@ module _ (count step : ℕ) (slots after : List ℤ) (nodes nodes_after : List S
             | inl e ↦
                 ap (number_kept count step after) e
                 ∙ new.numbers at (mod_below (place / step) count trees.lines.some)
-                ∙ replaced_here (number_of (line_at count step line) slots) at z
+                ∙ replaced_here (number_of (line_at from_four count step line) slots) at z
                 ∙ sym (get_or-set_same old place z (pos 0) (omega (arith, inside, kept_count count step slots)))
                 ∙ sym (ap (λ j. get_or (set old place z) j (pos 0)) e)
             | inr apart ↦ kept k apart ∙ sym (kept_at count step slots k (omega (arith, within, new.slot_count))) ∙ sym (get_or-set_other old place k z (pos 0) apart)
@@ -83,13 +87,13 @@ module _ (count step : ℕ) (slots after : List ℤ) (nodes nodes_after : List S
   written_trees = record {
     lines = subst (AreLines count step) (sym new.slot_count) trees.lines;
     fit = new.fit;
-    sized = new.node_count ∙ trees.sized ∙ ap (λ n. n * nodes_in_line count) (sym same_lines);
+    sized = new.node_count ∙ trees.sized ∙ ap (λ n. n * nodes_in_line from_four count) (sym same_lines);
     kept = λ k h. elim (cases_eq k line) [
-      | inl e ↦ subst (λ j. AreKept count (number_of (line_at count step j) after) (node_of (line_at count step j) nodes_after)) (sym e) new.kept
+      | inl e ↦ subst (λ j. AreKept from_four TellsSums count (number_of (line_at from_four count step j) after) (node_of from_four empty (line_at from_four count step j) nodes_after)) (sym e) new.kept
       | inr other ↦
-          kept_alike count (number_of (line_at count step k) slots) (number_of (line_at count step k) after) (node_of (line_at count step k) nodes) (node_of (line_at count step k) nodes_after)
+          kept_alike from_four are_from_four TellsSums count (number_of (line_at from_four count step k) slots) (number_of (line_at from_four count step k) after) (node_of from_four empty (line_at from_four count step k) nodes) (node_of from_four empty (line_at from_four count step k) nodes_after)
           (elsewhere k other)
-          (λ m low high. new.other_nodes (node_at (line_at count step k) m) (λ n low2 high2. nodes_apart count step k line m n trees.lines.apart low high low2 high2 other))
+          (λ m low high. new.other_nodes (node_at (line_at from_four count step k) m) (λ n low2 high2. nodes_apart from_four are_from_four count step k line m n trees.lines.apart low high low2 high2 other))
           (trees.kept k (omega (arith, h, same_lines)))
     ];
   }

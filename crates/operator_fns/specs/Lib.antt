@@ -4,6 +4,8 @@ pub mod Reduce
 pub mod Scan
 pub mod OuterProduct
 pub mod InnerProduct
+pub mod LineTrees
+pub mod LineBlocks
 pub mod SumTree
 pub mod SumTrees
 -- What proofs and bodies use.
@@ -19,8 +21,6 @@ pub mod RowByColumn
 pub mod ResultTable
 pub mod Sum
 pub mod SumNodes
-pub mod LineTrees
-pub mod LineBlocks
 -- What changes of results.
 pub mod Growth
 pub mod BoxLines

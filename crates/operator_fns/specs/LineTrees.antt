@@ -1,10 +1,7 @@
 -- Where a line of numbers lies, and what is kept of its parts.
-use Rattle.std.specs.Prelude.{◌≡◌, ℕ, ◌+◌, ◌-◌, ◌*◌, ◌/◌, ◌%◌, ◌^◌, ◌<◌, ◌≤◌, min, nat_eq, nat_lt, ℤ, pos, ◌+ℤ◌, ◌-ℤ◌, List, length, map, FitsSigned, All, get_or, ◌&&◌, if◌then◌else◌, ◌⊎◌}
+use Rattle.std.specs.Prelude.{◌≡◌, ℕ, zero, suc, ◌+◌, ◌-◌, ◌*◌, ◌/◌, ◌%◌, ◌^◌, ◌<◌, ◌≤◌, min, nat_eq, nat_lt, ℤ, pos, ◌+ℤ◌, ◌-ℤ◌, List, [], ◌∷◌, FitsSigned, get_or, ◌&&◌, if◌then◌else◌, ◌⊎◌}
 use Rattle.std.specs.Int.{int_wrap, w64}
-use Rattle.std.specs.List.{range_with_len}
-use Rattle.operator_fns.specs.declared.summary.Summary.{Summary}
 use Rattle.operator_fns.specs.declared.line_tree.Line.{Line}
-use Rattle.operator_fns.specs.SumNodes.{Sums, sums_from, Tells}
 
 -- the slot of a place
 abbrev pub slot_at : Line → ℕ → ℕ
@@ -35,14 +32,6 @@ pub record ArePaired (l : Line) (before after : List ℤ) (place : ℕ) : Type 0
   pub second : (i : ℕ) → i % 2 ≡ 1 → slot_of l after i ≡ slot_of l before i
   pub rest : (i : ℕ) → place ≤ i → slot_of l after i ≡ slot_of l before i
 
--- of no numbers
-abbrev pub empty : Summary
-empty = record { below = 0; above = 0; total = 0 }
-
--- what is kept of two parts that meet at an even place
-abbrev pub node_of : Line → List Summary → ℕ → Summary
-node_of l nodes meeting = get_or nodes (node_at l meeting) empty
-
 -- a list of so many slots is long enough for the line
 pub record HasSlots (l : Line) (slots : ℕ) : Type 0 where
   pub few : l.count < 2 ^ 62
@@ -50,45 +39,12 @@ pub record HasSlots (l : Line) (slots : ℕ) : Type 0 where
   pub fit : slots < 2 ^ 64
   pub slot : (place : ℕ) → place < l.count → slot_at l place < slots
 
--- and one of so many nodes
-pub record HasNodes (l : Line) (nodes : ℕ) : Type 0 where
-  pub fit : nodes < 2 ^ 64
-  pub node : (meeting : ℕ) → 2 ≤ meeting → meeting < l.count → node_at l meeting < nodes
-
--- both are
-pub record IsIn (l : Line) (slot_count node_count : ℕ) : Type 0 where
-  pub slots : HasSlots l slot_count
-  pub nodes : HasNodes l node_count
-
 -- a part has a power of two as its width, and begins at a multiple of that
 pub record IsPart (from width : ℕ) : Type 0 where
   pub level : ℕ
   pub place : ℕ
   pub width_is : width ≡ 2 ^ level
   pub from_is : from ≡ place * 2 ^ level
-
--- what is kept for a part whose second half has numbers tells the sums of the part
-abbrev pub IsKept : (count : ℕ) → (ℕ → ℤ) → (ℕ → Summary) → (from half : ℕ) → Type 0
-IsKept count x node from half = from + half < count → Tells (node (from + half)) (sums_from x from (min (2 * half) (count - from)))
-
--- for all parts of four numbers and more
-abbrev pub AreKept : (count : ℕ) → (ℕ → ℤ) → (ℕ → Summary) → Type 0
-AreKept count x node = (level place : ℕ) → IsKept count x node (place * (4 * 2 ^ level)) (2 * 2 ^ level)
-
--- for those within a part
-abbrev pub AreKeptIn : (from width count : ℕ) → (ℕ → ℤ) → (ℕ → Summary) → Type 0
-AreKeptIn from width count x node = (level place : ℕ) → from ≤ place * (4 * 2 ^ level) → place * (4 * 2 ^ level) + 4 * 2 ^ level ≤ from + width
-    → IsKept count x node (place * (4 * 2 ^ level)) (2 * 2 ^ level)
-
--- for those that a place is not in
-abbrev pub AreKeptBeside : (at count : ℕ) → (ℕ → ℤ) → (ℕ → Summary) → Type 0
-AreKeptBeside at count x node = (level place : ℕ) → (at < place * (4 * 2 ^ level) ⊎ place * (4 * 2 ^ level) + 4 * 2 ^ level ≤ at) → IsKept count x node (place * (4 * 2 ^ level)) (2 * 2 ^ level)
-
--- for those that end before a place, and for those that end there and are no wider than this
-abbrev pub AreKeptUpTo : (end width count : ℕ) → (ℕ → ℤ) → (ℕ → Summary) → Type 0
-AreKeptUpTo end width count x node = (level place : ℕ)
-    → (place * (4 * 2 ^ level) + 4 * 2 ^ level < end ⊎ place * (4 * 2 ^ level) + 4 * 2 ^ level ≡ end × 4 * 2 ^ level ≤ width)
-    → IsKept count x node (place * (4 * 2 ^ level)) (2 * 2 ^ level)
 
 -- the other half of the part twice as wide, parts of one width counted from 0
 abbrev pub other_half : ℕ → ℕ
@@ -98,10 +54,6 @@ other_half block = if nat_eq (block % 2) 0 then block + 1 else block - 1
 abbrev pub AreSameIn : (from width : ℕ) → (x y : ℕ → ℤ) → Type 0
 AreSameIn from width x y = (i : ℕ) → from ≤ i → i < from + width → x i ≡ y i
 
--- the sums of the part at a block that has this width, or ends with the line
-abbrev pub sums_at : (count : ℕ) → (ℕ → ℤ) → (block width : ℕ) → Sums
-sums_at count x block width = sums_from x (block * width) (min width (count - block * width))
-
 -- the numbers where the one at a place is another
 abbrev pub replaced : (ℕ → ℤ) → (place : ℕ) → ℤ → ℕ → ℤ
 replaced x place number i = if nat_eq i place then number else x i
@@ -110,19 +62,70 @@ replaced x place number i = if nat_eq i place then number else x i
 abbrev pub shorter : Line → Line
 shorter l = record { count = l.count - 1; step = l.step; slot = l.slot; node = l.node }
 
--- ---- a list that is by itself
+-- ---- the parts that have a node
 
--- where it lies
-abbrev pub one_line : ℕ → Line
-one_line count = record { count = count; step = 1; slot = 0; node = 0 }
+-- how many numbers lie below half a node, level by level, and which node of a line, counted from 1, is that of two parts that meet at a place
+pub record Halves : Type 0 where
+  pub half : ℕ → ℕ
+  pub nth : ℕ → ℕ
 
--- its numbers
-abbrev pub numbers_in : List ℤ → List ℤ
-numbers_in slots = map (number_of (one_line (length slots)) slots) (range_with_len 0 (length slots))
+-- parts of two numbers and more have one
+abbrev pub from_two : Halves
+from_two = record { half = λ level. 2 ^ level; nth = λ meeting. meeting }
 
--- what is kept of it
-pub record IsTree (slots : List ℤ) (nodes : List Summary) : Type 0 where
-  pub few : length slots < 2 ^ 62
-  pub fit : All (FitsSigned w64) slots
-  pub sized : length nodes ≡ (length slots - 1) / 2
-  pub kept : AreKept (length slots) (number_of (one_line (length slots)) slots) (node_of (one_line (length slots)) nodes)
+-- parts of four numbers and more have one
+abbrev pub from_four : Halves
+from_four = record { half = λ level. 2 * 2 ^ level; nth = λ meeting. meeting / 2 }
+
+-- how many nodes a line of so many numbers has
+abbrev pub nodes_in_line : Halves → ℕ → ℕ
+nodes_in_line h count = h.nth (count - 1)
+
+-- what is kept of two parts that meet at a place
+abbrev pub node_of : {P : Type 0} → Halves → P → Line → List P → ℕ → P
+node_of h blank l nodes meeting = get_or nodes (nth_node l (h.nth meeting)) blank
+
+-- a list of so many nodes is long enough for the line
+pub record HasNodes (h : Halves) (l : Line) (nodes : ℕ) : Type 0 where
+  pub fit : nodes < 2 ^ 64
+  pub node : (meeting : ℕ) → h.half 0 ≤ meeting → meeting < l.count → nth_node l (h.nth meeting) < nodes
+
+-- the lists of its slots and of its nodes are
+pub record IsIn (h : Halves) (l : Line) (slot_count node_count : ℕ) : Type 0 where
+  pub slots : HasSlots l slot_count
+  pub nodes : HasNodes h l node_count
+
+-- ---- what is kept of them, told by a relation between it and numbers
+
+-- so many numbers from a place on
+abbrev pub segment : (ℕ → ℤ) → (from count : ℕ) → List ℤ
+segment x from zero = []
+segment x from (suc count) = x from ∷ segment x (from + 1) count
+
+-- the numbers of the part at a block that has this width, or ends with the line
+abbrev pub numbers_of_block : (count : ℕ) → (ℕ → ℤ) → (block width : ℕ) → List ℤ
+numbers_of_block count x block width = segment x (block * width) (min width (count - block * width))
+
+-- what is kept for a part whose second half has numbers tells of the numbers of the part
+abbrev pub IsKept : {P : Type 0} → (P → List ℤ → Type 0) → (count : ℕ) → (ℕ → ℤ) → (ℕ → P) → (from half : ℕ) → Type 0
+IsKept tells count x node from half = from + half < count → tells (node (from + half)) (segment x from (min (2 * half) (count - from)))
+
+-- for all parts that have a node
+abbrev pub AreKept : {P : Type 0} → Halves → (P → List ℤ → Type 0) → (count : ℕ) → (ℕ → ℤ) → (ℕ → P) → Type 0
+AreKept h tells count x node = (level place : ℕ) → IsKept tells count x node (place * (2 * h.half level)) (h.half level)
+
+-- for those within a part
+abbrev pub AreKeptIn : {P : Type 0} → Halves → (P → List ℤ → Type 0) → (from width count : ℕ) → (ℕ → ℤ) → (ℕ → P) → Type 0
+AreKeptIn h tells from width count x node = (level place : ℕ) → from ≤ place * (2 * h.half level) → place * (2 * h.half level) + 2 * h.half level ≤ from + width
+    → IsKept tells count x node (place * (2 * h.half level)) (h.half level)
+
+-- for those that a place is not in
+abbrev pub AreKeptBeside : {P : Type 0} → Halves → (P → List ℤ → Type 0) → (at count : ℕ) → (ℕ → ℤ) → (ℕ → P) → Type 0
+AreKeptBeside h tells at count x node = (level place : ℕ) → (at < place * (2 * h.half level) ⊎ place * (2 * h.half level) + 2 * h.half level ≤ at)
+    → IsKept tells count x node (place * (2 * h.half level)) (h.half level)
+
+-- for those that end before a place, and for those that end there and are no wider than this
+abbrev pub AreKeptUpTo : {P : Type 0} → Halves → (P → List ℤ → Type 0) → (end width count : ℕ) → (ℕ → ℤ) → (ℕ → P) → Type 0
+AreKeptUpTo h tells end width count x node = (level place : ℕ)
+    → (place * (2 * h.half level) + 2 * h.half level < end ⊎ place * (2 * h.half level) + 2 * h.half level ≡ end × 2 * h.half level ≤ width)
+    → IsKept tells count x node (place * (2 * h.half level)) (h.half level)

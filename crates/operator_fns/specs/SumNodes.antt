@@ -1,10 +1,11 @@
 -- What a tree of sums keeps of the parts of a list, and where.
-use Rattle.std.specs.Prelude.{◌≡◌, ℕ, zero, suc, ◌+◌, ◌^◌, ℤ, pos, ◌+ℤ◌, ◌-ℤ◌, ◌≤ℤ◌, neg_ℤ, List, [], ◌∷◌, ◌&&◌, if◌then◌else◌, Result, Ok, Err, ◌⊎◌}
+use Rattle.std.specs.Prelude.{◌≡◌, ℕ, ◌^◌, ℤ, pos, ◌+ℤ◌, ◌-ℤ◌, ◌≤ℤ◌, neg_ℤ, List, [], ◌∷◌, ◌&&◌, if◌then◌else◌, Result, Ok, Err, ◌⊎◌}
 use Rattle.std.specs.Int.{int_max, int_min}
 use Rattle.arrays_core.specs.declared.item.Kind.{Kind}
 use Rattle.arrays_core.specs.declared.item.Kind.TheVariants.{Limit}
 use Rattle.scalar_fns.specs.Numbers.{is_number}
 use Rattle.operator_fns.specs.declared.summary.Summary.{Summary}
+use Rattle.operator_fns.specs.LineTrees.{segment, numbers_of_block}
 
 -- ---- the sums of the endings of a list, that of no numbers among them
 
@@ -61,7 +62,20 @@ pub record Tells (s : Summary) (m : Sums) : Type 0 where
   pub sound : IsOrdered (told s)
   pub is : told s ≡ m ⊎ IsFar m × IsFar (told s)
 
--- the sums of so many numbers from a place on
+-- it tells the sums of a list
+abbrev pub TellsSums : Summary → List ℤ → Type 0
+TellsSums s xs = Tells s (sums_of xs)
+
+-- of no numbers
+abbrev pub empty : Summary
+empty = record { below = 0; above = 0; total = 0 }
+
+-- ---- the sums of the parts of a line
+
+-- of so many numbers from a place on
 abbrev pub sums_from : (ℕ → ℤ) → (from count : ℕ) → Sums
-sums_from x from zero = none
-sums_from x from (suc count) = join (single (x from)) (sums_from x (from + 1) count)
+sums_from x from count = sums_of (segment x from count)
+
+-- of the part at a block that has this width, or ends with the line
+abbrev pub sums_at : (count : ℕ) → (ℕ → ℤ) → (block width : ℕ) → Sums
+sums_at count x block width = sums_of (numbers_of_block count x block width)

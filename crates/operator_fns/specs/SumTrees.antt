@@ -4,10 +4,11 @@ use Rattle.std.specs.List.{range_with_len}
 use Rattle.std.specs.Int.{w64}
 use Rattle.arrays_core.specs.Growth.{IsRoomy, HasRoom}
 use Rattle.operator_fns.specs.declared.summary.Summary.{Summary}
-use Rattle.operator_fns.specs.declared.line_tree.Line.{Line}
 use Rattle.scalar_fns.specs.Folds.{strided}
 use Rattle.operator_fns.specs.Strides.{line_start}
-use Rattle.operator_fns.specs.LineTrees.{number_of, node_of, AreKept}
+use Rattle.operator_fns.specs.SumNodes.{empty, TellsSums}
+use Rattle.operator_fns.specs.LineTrees.{Halves, from_four, number_of, nodes_in_line}
+use Rattle.operator_fns.specs.LineBlocks.{line_at, AreAllKept}
 
 -- ---- the lines of an array along one axis
 
@@ -43,22 +44,9 @@ with_lines t numbers = record { count = t.count; step = t.step; numbers = t.numb
 
 -- ---- how they are kept
 
--- how many nodes a line of so many numbers has
-abbrev pub nodes_in_line : ℕ → ℕ
-nodes_in_line count = (count - 1) / 2
-
--- where a line lies
-abbrev pub line_at : (count step line : ℕ) → Line
-line_at count step line = record {
-  count = count;
-  step = step;
-  slot = line_start step count line;
-  node = line / step * (nodes_in_line count * step) + line % step;
-}
-
 -- the number at a place of all lines whose numbers are kept in a list of slots
 abbrev pub number_kept : (count step : ℕ) → List ℤ → (place : ℕ) → ℤ
-number_kept count step slots place = number_of (line_at count step (line_through count step place)) slots (place / step % count)
+number_kept count step slots place = number_of (line_at from_four count step (line_through count step place)) slots (place / step % count)
 
 -- all of them
 abbrev pub numbers_kept : (count step : ℕ) → List ℤ → List ℤ
@@ -72,16 +60,12 @@ pub record AreLines (count step slots : ℕ) : Type 0 where
   pub apart : 0 < step
   pub whole : slots % (count * step) ≡ 0
 
--- what is kept of the parts of each line tells their sums
-abbrev pub AreAllKept : (count step : ℕ) → List ℤ → List Summary → Type 0
-AreAllKept count step slots nodes = (line : ℕ) → line < length slots / count → AreKept count (number_of (line_at count step line) slots) (node_of (line_at count step line) nodes)
-
 -- the trees of all lines, in a list of slots and a list of nodes
 pub record AreLineTrees (count step : ℕ) (slots : List ℤ) (nodes : List Summary) : Type 0 where
   pub lines : AreLines count step (length slots)
   pub fit : All (FitsSigned w64) slots
-  pub sized : length nodes ≡ length slots / count * nodes_in_line count
-  pub kept : AreAllKept count step slots nodes
+  pub sized : length nodes ≡ length slots / count * nodes_in_line from_four count
+  pub kept : AreAllKept from_four empty TellsSums number_of count step slots nodes
 
 -- and the two lists lie in pieces of memory of these capacities, each with room for the next power of two as many
 pub record AreTrees (count step : ℕ) (slots : List ℤ) (nodes : List Summary) (slot_capacity node_capacity : ℕ) : Type 0 where
@@ -106,12 +90,12 @@ pub record FitBehind (t : TreesValue) (more : NewTreesValue) : Type 0 where
 
 -- two empty lists that lie in pieces of memory of these capacities, where the slots or the nodes of so many old lines and of these behind them need others
 -- than those of the old ones lie in
-pub record AreRooms (old_lines : ℕ) (more : TreesValue) (slots : List ℤ) (nodes : List Summary) (slot_capacity node_capacity : ℕ) : Type 0 where
+pub record AreRooms {P : Type 0} (h : Halves) (old_lines : ℕ) (more : TreesValue) (slots : List ℤ) (nodes : List P) (slot_capacity node_capacity : ℕ) : Type 0 where
   pub no_slots : slots ≡ []
   pub no_nodes : nodes ≡ []
   pub few : (old_lines + line_count more) * more.count < 2 ^ 63
   pub slot_room : HasRoom (old_lines * more.count) ((old_lines + line_count more) * more.count) slot_capacity
-  pub node_room : HasRoom (old_lines * nodes_in_line more.count) ((old_lines + line_count more) * nodes_in_line more.count) node_capacity
+  pub node_room : HasRoom (old_lines * nodes_in_line h more.count) ((old_lines + line_count more) * nodes_in_line h more.count) node_capacity
 
 -- ---- one more place of each line
 
@@ -134,9 +118,9 @@ with_places t numbers = record { count = t.count + 1; step = t.step; numbers = t
 -- the nodes of the longer lines need others than those of the old ones lie in
 pub record AreNextRooms (count : ℕ) (numbers slots : List ℤ) (more nodes : List Summary) (slot_capacity node_capacity : ℕ) : Type 0 where
   pub fit : All (FitsSigned w64) numbers
-  pub more_nodes : length more ≡ (nodes_in_line (count + 1) - nodes_in_line count) * length numbers
+  pub more_nodes : length more ≡ (nodes_in_line from_four (count + 1) - nodes_in_line from_four count) * length numbers
   pub no_slots : slots ≡ []
   pub no_nodes : nodes ≡ []
   pub few : (count + 1) * length numbers < 2 ^ 63
   pub slot_room : HasRoom (count * length numbers) ((count + 1) * length numbers) slot_capacity
-  pub node_room : HasRoom (nodes_in_line count * length numbers) (nodes_in_line (count + 1) * length numbers) node_capacity
+  pub node_room : HasRoom (nodes_in_line from_four count * length numbers) (nodes_in_line from_four (count + 1) * length numbers) node_capacity

@@ -2,10 +2,10 @@
 
 ghost use Rattle.std.specs.Prelude.{◌≡◌, ◌≢◌, pos, get_or, ℕ, ◌+◌, ◌-◌, ◌*◌, ◌/◌, ◌%◌, ◌^◌, ◌<◌, ◌≤◌, ◌++◌, ◌∷◌, [], min, ℤ, List, length, vec_len, vec_capacity, FitsSigned, All, ◌⊎◌};
 ghost use Rattle.std.specs.Int.{w64};
-ghost use Rattle.operator_fns.specs.SumNodes.{Sums, Tells, sums_from, join as join_of};
-ghost use Rattle.operator_fns.specs.LineTrees.{slot_at as slot_place, node_at as node_place, nth_node as node_counted, slot_of, number_of, node_of, HasSlots, IsIn, AreKept, AreKeptIn, AreKeptBeside, AreKeptUpTo, ArePaired, IsPart, empty, AreSameIn, other_half, sums_at, replaced, shorter};
+ghost use Rattle.operator_fns.specs.SumNodes.{Sums, Tells, join as join_of, sums_from, sums_at, empty, TellsSums};
+ghost use Rattle.operator_fns.specs.LineTrees.{slot_at as slot_place, node_at as node_place, nth_node as node_counted, slot_of, number_of, HasSlots, ArePaired, IsPart, AreSameIn, other_half, replaced, shorter, from_four, IsIn, node_of, AreKept, AreKeptIn, AreKeptBeside, AreKeptUpTo};
 ghost use Rattle.operator_fns.specs.SumTree.{IsWithinDigitsOf};
-ghost use Rattle.operator_fns.specs.LineBlocks.{line_of, slots_end, nodes_end, HaveSlots, HaveNodes, AreKeptBehind, AreKeptFrom};
+ghost use Rattle.operator_fns.specs.LineBlocks.{line_of, slots_end, HaveSlots, nodes_end, HaveNodes, AreKeptBehind, AreKeptFrom};
 
 use crate::summary::Summary;
 
@@ -75,7 +75,7 @@ pub(crate) struct LineTree<'a> {
 impl<'a> LineTree<'a> {
     /// The number at a place.
     pub(crate) fn number(&self, place: usize) -> i64
-        requires inside { IsIn self.now.line (length self.now.slots.now) (length self.now.nodes.now) }
+        requires inside { IsIn from_four self.now.line (length self.now.slots.now) (length self.now.nodes.now) }
         requires place { place < self.now.line.count }
         ensures { result ≡ number_of self.now.line self.now.slots.now place }
     {
@@ -88,11 +88,11 @@ impl<'a> LineTree<'a> {
 
     /// The summary of the part that begins at a place and has this width, of two numbers or more.
     fn full_part(&self, from: usize, width: usize) -> Summary
-        requires inside { IsIn self.now.line (length self.now.slots.now) (length self.now.nodes.now) }
+        requires inside { IsIn from_four self.now.line (length self.now.slots.now) (length self.now.nodes.now) }
         requires full { from + width ≤ self.now.line.count }
         requires wide { 1 < width }
         requires part { IsPart from width }
-        requires kept { AreKeptIn from width self.now.line.count (number_of self.now.line self.now.slots.now) (node_of self.now.line self.now.nodes.now) }
+        requires kept { AreKeptIn from_four TellsSums from width self.now.line.count (number_of self.now.line self.now.slots.now) (node_of from_four empty self.now.line self.now.nodes.now) }
         ensures { Tells result (sums_from (number_of self.now.line self.now.slots.now) from width) }
     {
         if width == 2 {
@@ -104,10 +104,10 @@ impl<'a> LineTree<'a> {
 
     /// The summary of the part that begins at a place and has this width, or ends with the line.
     fn part(&self, from: usize, width: usize) -> Summary
-        requires inside { IsIn self.now.line (length self.now.slots.now) (length self.now.nodes.now) }
+        requires inside { IsIn from_four self.now.line (length self.now.slots.now) (length self.now.nodes.now) }
         requires from { from < self.now.line.count }
         requires part { IsPart from width }
-        requires kept { AreKeptIn from width self.now.line.count (number_of self.now.line self.now.slots.now) (node_of self.now.line self.now.nodes.now) }
+        requires kept { AreKeptIn from_four TellsSums from width self.now.line.count (number_of self.now.line self.now.slots.now) (node_of from_four empty self.now.line self.now.nodes.now) }
         ensures { Tells result (sums_from (number_of self.now.line self.now.slots.now) from (min width (self.now.line.count - from))) }
     {
         let long = width.min(self.line.count - from);
@@ -127,9 +127,9 @@ impl<'a> LineTree<'a> {
 
     /// The summary of all numbers.
     pub(crate) fn whole(&self) -> Summary
-        requires inside { IsIn self.now.line (length self.now.slots.now) (length self.now.nodes.now) }
+        requires inside { IsIn from_four self.now.line (length self.now.slots.now) (length self.now.nodes.now) }
         requires some { 0 < self.now.line.count }
-        requires kept { AreKept self.now.line.count (number_of self.now.line self.now.slots.now) (node_of self.now.line self.now.nodes.now) }
+        requires kept { AreKept from_four TellsSums self.now.line.count (number_of self.now.line self.now.slots.now) (node_of from_four empty self.now.line self.now.nodes.now) }
         ensures { Tells result (sums_from (number_of self.now.line self.now.slots.now) 0 self.now.line.count) }
     {
         self.part(0, self.line.count.next_power_of_two())
@@ -138,11 +138,11 @@ impl<'a> LineTree<'a> {
     /// The summary of the part twice as wide as a block that has this summary, and how many summaries were joined for it: none where
     /// the line ends with that block, else one more.
     fn widened(&self, block: usize, width: usize, summary: &Summary) -> (Summary, u32)
-        requires inside { IsIn self.now.line (length self.now.slots.now) (length self.now.nodes.now) }
+        requires inside { IsIn from_four self.now.line (length self.now.slots.now) (length self.now.nodes.now) }
         requires from { block * width < self.now.line.count }
         requires short { width < self.now.line.count }
         requires level { (level : ℕ) × (width ≡ 2 ^ level) }
-        requires kept { AreKeptIn (other_half block * width) width self.now.line.count (number_of self.now.line self.now.slots.now) (node_of self.now.line self.now.nodes.now) }
+        requires kept { AreKeptIn from_four TellsSums (other_half block * width) width self.now.line.count (number_of self.now.line self.now.slots.now) (node_of from_four empty self.now.line self.now.nodes.now) }
         requires told { (sums : Sums) × Tells summary.now sums }
         ensures is { (x : ℕ → ℤ) → AreSameIn (other_half block * width) width (number_of self.now.line self.now.slots.now) x
             → Tells summary.now (sums_at self.now.line.count x block width) → Tells result.0 (sums_at self.now.line.count x (block / 2) (2 * width)) }
@@ -163,9 +163,9 @@ impl<'a> LineTree<'a> {
     /// The summary of all numbers where the one at a place is another, and how many summaries were joined for it: at most as many as
     /// the count less one has binary digits.
     pub(crate) fn with(&self, place: usize, number: i64) -> (Summary, u32)
-        requires inside { IsIn self.now.line (length self.now.slots.now) (length self.now.nodes.now) }
+        requires inside { IsIn from_four self.now.line (length self.now.slots.now) (length self.now.nodes.now) }
         requires place { place < self.now.line.count }
-        requires kept { AreKept self.now.line.count (number_of self.now.line self.now.slots.now) (node_of self.now.line self.now.nodes.now) }
+        requires kept { AreKept from_four TellsSums self.now.line.count (number_of self.now.line self.now.slots.now) (node_of from_four empty self.now.line self.now.nodes.now) }
         ensures is { Tells result.0 (sums_from (replaced (number_of self.now.line self.now.slots.now) place number) 0 self.now.line.count) }
         ensures most { IsWithinDigitsOf (self.now.line.count - 1) result.1 }
         ensures least { 1 < self.now.line.count → 0 < result.1 }
@@ -211,10 +211,10 @@ fn put(slots: &mut [i64], line: Line, place: usize, number: i64)
 
 /// Joins anew what is kept of the parts that a place is in.
 fn renew(slots: &[i64], nodes: &mut [Summary], line: Line, place: usize)
-    requires inside { IsIn line (length slots.now) (length nodes.old) }
+    requires inside { IsIn from_four line (length slots.now) (length nodes.old) }
     requires place { place < line.count }
-    requires kept { AreKeptBeside place line.count (number_of line slots.now) (node_of line nodes.old) }
-    ensures kept { AreKept line.count (number_of line slots.now) (node_of line nodes.new) }
+    requires kept { AreKeptBeside from_four TellsSums place line.count (number_of line slots.now) (node_of from_four empty line nodes.old) }
+    ensures kept { AreKept from_four TellsSums line.count (number_of line slots.now) (node_of from_four empty line nodes.new) }
     ensures others { (p : ℕ) → ((meeting : ℕ) → 2 ≤ meeting → meeting < line.count → p ≢ node_place line meeting) → get_or nodes.new p empty ≡ get_or nodes.old p empty }
     ensures length { length nodes.new ≡ length nodes.old }
 {
@@ -242,8 +242,8 @@ fn close_parts(nodes: &mut [Summary], line: Line, end: usize, width: usize)
     requires width { (level : ℕ) × (width ≡ 4 * 2 ^ level) }
     requires within { width ≤ end }
     requires nodes { node_place line end < length nodes.old }
-    requires kept { (x : ℕ → ℤ) × AreKeptUpTo end width line.count x (node_of line nodes.old) }
-    ensures kept { (x : ℕ → ℤ) → AreKeptUpTo end width line.count x (node_of line nodes.old) → AreKeptIn 0 end line.count x (node_of line nodes.new) }
+    requires kept { (x : ℕ → ℤ) × AreKeptUpTo from_four TellsSums end width line.count x (node_of from_four empty line nodes.old) }
+    ensures kept { (x : ℕ → ℤ) → AreKeptUpTo from_four TellsSums end width line.count x (node_of from_four empty line nodes.old) → AreKeptIn from_four TellsSums 0 end line.count x (node_of from_four empty line nodes.new) }
     ensures others { (p : ℕ) → p < line.node → get_or nodes.new p empty ≡ get_or nodes.old p empty }
     ensures length { length nodes.new ≡ length nodes.old }
 {
@@ -288,8 +288,8 @@ fn push_four(slots: &[i64], nodes: &mut Vec<Summary>, line: Line, from: usize)
     requires full { from + 4 < line.count }
     requires here { vec_len nodes.old ≡ line.node + from / 2 }
     requires room { line.node + from / 2 + 2 ≤ vec_capacity nodes.old }
-    requires kept { AreKeptIn 0 from line.count (number_of line slots.now) (node_of line nodes.old.items) }
-    ensures kept { AreKeptIn 0 (from + 4) line.count (number_of line slots.now) (node_of line nodes.new.items) }
+    requires kept { AreKeptIn from_four TellsSums 0 from line.count (number_of line slots.now) (node_of from_four empty line nodes.old.items) }
+    ensures kept { AreKeptIn from_four TellsSums 0 (from + 4) line.count (number_of line slots.now) (node_of from_four empty line nodes.new.items) }
     ensures others { (p : ℕ) → p < line.node → get_or nodes.new.items p empty ≡ get_or nodes.old.items p empty }
     ensures length { vec_len nodes.new ≡ line.node + from / 2 + 2 }
     ensures room { vec_capacity nodes.old ≤ vec_capacity nodes.new }
@@ -310,8 +310,8 @@ fn push_eight(slots: &[i64], nodes: &mut Vec<Summary>, line: Line, from: usize)
     requires full { from + 8 < line.count }
     requires here { vec_len nodes.old ≡ line.node + from / 2 }
     requires room { line.node + from / 2 + 4 ≤ vec_capacity nodes.old }
-    requires kept { AreKeptIn 0 from line.count (number_of line slots.now) (node_of line nodes.old.items) }
-    ensures kept { AreKeptIn 0 (from + 8) line.count (number_of line slots.now) (node_of line nodes.new.items) }
+    requires kept { AreKeptIn from_four TellsSums 0 from line.count (number_of line slots.now) (node_of from_four empty line nodes.old.items) }
+    ensures kept { AreKeptIn from_four TellsSums 0 (from + 8) line.count (number_of line slots.now) (node_of from_four empty line nodes.new.items) }
     ensures others { (p : ℕ) → p < line.node → get_or nodes.new.items p empty ≡ get_or nodes.old.items p empty }
     ensures length { vec_len nodes.new ≡ line.node + from / 2 + 4 }
     ensures room { vec_capacity nodes.old ≤ vec_capacity nodes.new }
@@ -332,8 +332,8 @@ fn push_fours(slots: &[i64], nodes: &mut Vec<Summary>, line: Line)
     requires near { line.step ≡ 1 }
     requires some { 0 < line.count }
     requires here { vec_len nodes.old ≡ line.node }
-    requires room { nodes_end line ≤ vec_capacity nodes.old }
-    ensures kept { AreKeptIn 0 (4 * ((line.count - 1) / 4)) line.count (number_of line slots.now) (node_of line nodes.new.items) }
+    requires room { nodes_end from_four line ≤ vec_capacity nodes.old }
+    ensures kept { AreKeptIn from_four TellsSums 0 (4 * ((line.count - 1) / 4)) line.count (number_of line slots.now) (node_of from_four empty line nodes.new.items) }
     ensures others { (p : ℕ) → p < line.node → get_or nodes.new.items p empty ≡ get_or nodes.old.items p empty }
     ensures length { vec_len nodes.new ≡ line.node + 2 * ((line.count - 1) / 4) }
     ensures room { vec_capacity nodes.old ≤ vec_capacity nodes.new }
@@ -353,10 +353,10 @@ pub(crate) fn push_line(slots: &[i64], nodes: &mut Vec<Summary>, line: Line)
     requires near { line.step ≡ 1 }
     requires some { 0 < line.count }
     requires here { vec_len nodes.old ≡ line.node }
-    requires room { nodes_end line ≤ vec_capacity nodes.old }
-    ensures kept { AreKept line.count (number_of line slots.now) (node_of line nodes.new.items) }
+    requires room { nodes_end from_four line ≤ vec_capacity nodes.old }
+    ensures kept { AreKept from_four TellsSums line.count (number_of line slots.now) (node_of from_four empty line nodes.new.items) }
     ensures others { (p : ℕ) → p < line.node → get_or nodes.new.items p empty ≡ get_or nodes.old.items p empty }
-    ensures length { vec_len nodes.new ≡ nodes_end line }
+    ensures length { vec_len nodes.new ≡ nodes_end from_four line }
     ensures room { vec_capacity nodes.old ≤ vec_capacity nodes.new }
 {
     push_fours(slots, nodes, line);
@@ -370,10 +370,10 @@ pub(crate) fn push_line(slots: &[i64], nodes: &mut Vec<Summary>, line: Line)
 /// Joins what is kept of the part of four numbers that begins at a place, for each line of a block.
 fn fours_row(slots: &[i64], nodes: &mut [Summary], first: Line, from: usize)
     requires slots { HaveSlots first (length slots.now) }
-    requires nodes { HaveNodes first (length nodes.old) }
+    requires nodes { HaveNodes from_four first (length nodes.old) }
     requires even { from % 2 ≡ 0 }
     requires full { from + 4 ≤ first.count }
-    ensures told { (column : ℕ) → column < first.step → Tells (node_of (line_of first column) nodes.new (from + 2)) (sums_from (number_of (line_of first column) slots.now) from 4) }
+    ensures told { (column : ℕ) → column < first.step → Tells (node_of from_four empty (line_of first column) nodes.new (from + 2)) (sums_from (number_of (line_of first column) slots.now) from 4) }
     ensures others { (p : ℕ) → (p < node_place first (from + 2) ⊎ node_place first (from + 2) + first.step ≤ p) → get_or nodes.new p empty ≡ get_or nodes.old p empty }
     ensures length { length nodes.new ≡ length nodes.old }
 {
@@ -390,13 +390,13 @@ fn fours_row(slots: &[i64], nodes: &mut [Summary], first: Line, from: usize)
 
 /// Joins the nodes of the two halves of the part that begins at a place, where both are of four numbers and more, for each line of a block.
 fn halves_row(nodes: &mut [Summary], first: Line, from: usize, half: usize)
-    requires nodes { HaveNodes first (length nodes.old) }
+    requires nodes { HaveNodes from_four first (length nodes.old) }
     requires wide { 4 ≤ half }
     requires full { from + 2 * half ≤ first.count }
-    requires told { (column : ℕ) → column < first.step → (sums : Sums) × Tells (node_of (line_of first column) nodes.old (from + half / 2)) sums }
-    requires later { (column : ℕ) → column < first.step → (sums : Sums) × Tells (node_of (line_of first column) nodes.old (from + half + half / 2)) sums }
-    ensures told { (column : ℕ) → column < first.step → (earlier rest : Sums) → Tells (node_of (line_of first column) nodes.old (from + half / 2)) earlier
-        → Tells (node_of (line_of first column) nodes.old (from + half + half / 2)) rest → Tells (node_of (line_of first column) nodes.new (from + half)) (join_of earlier rest) }
+    requires told { (column : ℕ) → column < first.step → (sums : Sums) × Tells (node_of from_four empty (line_of first column) nodes.old (from + half / 2)) sums }
+    requires later { (column : ℕ) → column < first.step → (sums : Sums) × Tells (node_of from_four empty (line_of first column) nodes.old (from + half + half / 2)) sums }
+    ensures told { (column : ℕ) → column < first.step → (earlier rest : Sums) → Tells (node_of from_four empty (line_of first column) nodes.old (from + half / 2)) earlier
+        → Tells (node_of from_four empty (line_of first column) nodes.old (from + half + half / 2)) rest → Tells (node_of from_four empty (line_of first column) nodes.new (from + half)) (join_of earlier rest) }
     ensures others { (p : ℕ) → (p < node_place first (from + half) ⊎ node_place first (from + half) + first.step ≤ p) → get_or nodes.new p empty ≡ get_or nodes.old p empty }
     ensures length { length nodes.new ≡ length nodes.old }
 {
@@ -412,13 +412,13 @@ fn halves_row(nodes: &mut [Summary], first: Line, from: usize, half: usize)
 #[inline(never)]
 fn last_row(slots: &[i64], nodes: &mut [Summary], first: Line, from: usize, half: usize)
     requires slots { HaveSlots first (length slots.now) }
-    requires nodes { HaveNodes first (length nodes.old) }
+    requires nodes { HaveNodes from_four first (length nodes.old) }
     requires half { (level : ℕ) × (half ≡ 2 * 2 ^ level) }
     requires from { (place : ℕ) × (from ≡ place * (2 * half)) }
     requires short { from + half < first.count }
-    requires kept { AreKeptBehind from half first slots.now nodes.old }
+    requires kept { AreKeptBehind from_four empty TellsSums number_of from half first slots.now nodes.old }
     ensures told { (column : ℕ) → column < first.step
-        → Tells (node_of (line_of first column) nodes.new (from + half)) (sums_from (number_of (line_of first column) slots.now) from (min (2 * half) (first.count - from))) }
+        → Tells (node_of from_four empty (line_of first column) nodes.new (from + half)) (sums_from (number_of (line_of first column) slots.now) from (min (2 * half) (first.count - from))) }
     ensures others { (p : ℕ) → (p < node_place first (from + half) ⊎ node_place first (from + half) + first.step ≤ p) → get_or nodes.new p empty ≡ get_or nodes.old p empty }
     ensures length { length nodes.new ≡ length nodes.old }
 {
@@ -434,13 +434,13 @@ fn last_row(slots: &[i64], nodes: &mut [Summary], first: Line, from: usize, half
 /// narrower ones that begin there is.
 fn join_row(slots: &[i64], nodes: &mut [Summary], first: Line, from: usize, half: usize)
     requires slots { HaveSlots first (length slots.now) }
-    requires nodes { HaveNodes first (length nodes.old) }
+    requires nodes { HaveNodes from_four first (length nodes.old) }
     requires half { (level : ℕ) × (half ≡ 2 * 2 ^ level) }
     requires from { (place : ℕ) × (from ≡ place * (2 * half)) }
     requires short { from + half < first.count }
-    requires kept { AreKeptBehind from half first slots.now nodes.old }
-    ensures kept { AreKeptBehind from (2 * half) first slots.now nodes.new }
-    ensures others { (p : ℕ) → (p < first.node ⊎ nodes_end first ≤ p) → get_or nodes.new p empty ≡ get_or nodes.old p empty }
+    requires kept { AreKeptBehind from_four empty TellsSums number_of from half first slots.now nodes.old }
+    ensures kept { AreKeptBehind from_four empty TellsSums number_of from (2 * half) first slots.now nodes.new }
+    ensures others { (p : ℕ) → (p < first.node ⊎ nodes_end from_four first ≤ p) → get_or nodes.new p empty ≡ get_or nodes.old p empty }
     ensures length { length nodes.new ≡ length nodes.old }
 {
     if first.count - from < 2 * half {
@@ -455,12 +455,12 @@ fn join_row(slots: &[i64], nodes: &mut [Summary], first: Line, from: usize, half
 /// Joins what is kept of all parts that begin at a place, for each line of a block, where that of the parts behind it is.
 fn fill_from(slots: &[i64], nodes: &mut [Summary], first: Line, from: usize)
     requires slots { HaveSlots first (length slots.now) }
-    requires nodes { HaveNodes first (length nodes.old) }
+    requires nodes { HaveNodes from_four first (length nodes.old) }
     requires four { from % 4 ≡ 0 }
     requires below { from < first.count }
-    requires kept { AreKeptFrom (from + 4) first slots.now nodes.old }
-    ensures kept { AreKeptFrom from first slots.now nodes.new }
-    ensures others { (p : ℕ) → (p < first.node ⊎ nodes_end first ≤ p) → get_or nodes.new p empty ≡ get_or nodes.old p empty }
+    requires kept { AreKeptFrom from_four empty TellsSums number_of (from + 4) first slots.now nodes.old }
+    ensures kept { AreKeptFrom from_four empty TellsSums number_of from first slots.now nodes.new }
+    ensures others { (p : ℕ) → (p < first.node ⊎ nodes_end from_four first ≤ p) → get_or nodes.new p empty ≡ get_or nodes.old p empty }
     ensures length { length nodes.new ≡ length nodes.old }
 {
     let mut half = 2;
@@ -473,9 +473,9 @@ fn fill_from(slots: &[i64], nodes: &mut [Summary], first: Line, from: usize)
 /// Joins what is kept of all parts of each line of a block, from the last ones to the first.
 pub(crate) fn fill_block(slots: &[i64], nodes: &mut [Summary], first: Line)
     requires slots { HaveSlots first (length slots.now) }
-    requires nodes { HaveNodes first (length nodes.old) }
-    ensures kept { (column : ℕ) → column < first.step → AreKept first.count (number_of (line_of first column) slots.now) (node_of (line_of first column) nodes.new) }
-    ensures others { (p : ℕ) → (p < first.node ⊎ nodes_end first ≤ p) → get_or nodes.new p empty ≡ get_or nodes.old p empty }
+    requires nodes { HaveNodes from_four first (length nodes.old) }
+    ensures kept { (column : ℕ) → column < first.step → AreKept from_four TellsSums first.count (number_of (line_of first column) slots.now) (node_of from_four empty (line_of first column) nodes.new) }
+    ensures others { (p : ℕ) → (p < first.node ⊎ nodes_end from_four first ≤ p) → get_or nodes.new p empty ≡ get_or nodes.old p empty }
     ensures length { length nodes.new ≡ length nodes.old }
 {
     let mut fours = first.count.div_ceil(4);
@@ -554,13 +554,13 @@ pub(crate) fn pair_block(slots: &mut [i64], first: Line)
 
 /// Puts another number at a place of a line, and joins anew what is kept of the parts that the place is in.
 pub(crate) fn write(slots: &mut [i64], nodes: &mut [Summary], line: Line, place: usize, number: i64)
-    requires inside { IsIn line (length slots.old) (length nodes.old) }
+    requires inside { IsIn from_four line (length slots.old) (length nodes.old) }
     requires place { place < line.count }
     requires fit { All (FitsSigned w64) slots.old }
-    requires kept { AreKept line.count (number_of line slots.old) (node_of line nodes.old) }
+    requires kept { AreKept from_four TellsSums line.count (number_of line slots.old) (node_of from_four empty line nodes.old) }
     ensures numbers { (i : ℕ) → i < line.count → number_of line slots.new i ≡ replaced (number_of line slots.old) place number i }
     ensures fit { All (FitsSigned w64) slots.new }
-    ensures kept { AreKept line.count (number_of line slots.new) (node_of line nodes.new) }
+    ensures kept { AreKept from_four TellsSums line.count (number_of line slots.new) (node_of from_four empty line nodes.new) }
     ensures other_slots { (p : ℕ) → ((i : ℕ) → i < line.count → p ≢ slot_place line i) → get_or slots.new p (pos 0) ≡ get_or slots.old p (pos 0) }
     ensures other_nodes { (p : ℕ) → ((meeting : ℕ) → 2 ≤ meeting → meeting < line.count → p ≢ node_place line meeting) → get_or nodes.new p empty ≡ get_or nodes.old p empty }
     ensures slot_count { length slots.new ≡ length slots.old }
@@ -593,14 +593,14 @@ fn pair_last(slots: &mut [i64], line: Line)
 /// Takes one more number for a line, the one in the slot behind those of its others, and joins anew what is kept of the parts that it is in. The
 /// line is told with that number; what is kept until then is that of the line without it.
 pub(crate) fn take_last(slots: &mut [i64], nodes: &mut [Summary], line: Line)
-    requires inside { IsIn line (length slots.old) (length nodes.old) }
+    requires inside { IsIn from_four line (length slots.old) (length nodes.old) }
     requires more { 1 < line.count }
     requires fit { All (FitsSigned w64) slots.old }
-    requires kept { AreKept (line.count - 1) (number_of (shorter line) slots.old) (node_of (shorter line) nodes.old) }
+    requires kept { AreKept from_four TellsSums (line.count - 1) (number_of (shorter line) slots.old) (node_of from_four empty (shorter line) nodes.old) }
     ensures numbers { (i : ℕ) → i < line.count - 1 → number_of line slots.new i ≡ number_of (shorter line) slots.old i }
     ensures last { number_of line slots.new (line.count - 1) ≡ slot_of line slots.old (line.count - 1) }
     ensures fit { All (FitsSigned w64) slots.new }
-    ensures kept { AreKept line.count (number_of line slots.new) (node_of line nodes.new) }
+    ensures kept { AreKept from_four TellsSums line.count (number_of line slots.new) (node_of from_four empty line nodes.new) }
     ensures other_slots { (p : ℕ) → ((i : ℕ) → i < line.count → p ≢ slot_place line i) → get_or slots.new p (pos 0) ≡ get_or slots.old p (pos 0) }
     ensures other_nodes { (p : ℕ) → ((meeting : ℕ) → 2 ≤ meeting → meeting < line.count → p ≢ node_place line meeting) → get_or nodes.new p empty ≡ get_or nodes.old p empty }
     ensures slot_count { length slots.new ≡ length slots.old }

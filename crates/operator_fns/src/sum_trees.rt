@@ -3,10 +3,11 @@
 ghost use Rattle.std.specs.Prelude.{◌≡◌, ℕ, ◌+◌, ◌-◌, ◌*◌, ◌/◌, ◌%◌, ◌^◌, ◌<◌, ◌≤◌, ◌==◌, ◌++◌, ◌∷◌, [], length, vec_capacity, All, FitsSigned, IfOk};
 ghost use Rattle.std.specs.Int.{w64};
 ghost use Rattle.arrays_core.specs.Growth.{IsRoomy};
-ghost use Rattle.operator_fns.specs.LineTrees.{slot_of, number_of, node_of, IsIn, AreKept, shorter};
-ghost use Rattle.operator_fns.specs.LineBlocks.{block_at};
+ghost use Rattle.operator_fns.specs.SumNodes.{empty, TellsSums};
+ghost use Rattle.operator_fns.specs.LineTrees.{slot_of, number_of, shorter, from_four, IsIn, node_of, AreKept, nodes_in_line};
+ghost use Rattle.operator_fns.specs.LineBlocks.{block_at, line_at, AreAllKept};
 ghost use Rattle.operator_fns.specs.SumTree.{IsReductionBySum, IsWithinDigitsOf};
-ghost use Rattle.operator_fns.specs.SumTrees.{FitBehind, FitNext, with_lines, with_places, line_at, line_through as line_of_place, nodes_in_line, numbers_kept, line_count as lines_in, numbers_of_line, numbers_through, with_number, AreLines, AreAllKept, AreLineTrees};
+ghost use Rattle.operator_fns.specs.SumTrees.{FitBehind, FitNext, with_lines, with_places, line_through as line_of_place, numbers_kept, line_count as lines_in, numbers_of_line, numbers_through, with_number, AreLines, AreLineTrees};
 
 use crate::line_tree::{Line, LineTree, fill_block, pair_block, push_line, take_last, write};
 use crate::sum_tree::read_all;
@@ -20,7 +21,7 @@ fn nth_line(count: usize, step: usize, line: usize) -> Line
     requires some { 0 < count }
     requires apart { 0 < step }
     requires fit { line / step * (count * step) + count * step < 2 ^ 64 }
-    ensures { result ≡ line_at count step line }
+    ensures { result ≡ line_at from_four count step line }
 {
     let block = line / step;
     let first = line % step;
@@ -51,11 +52,11 @@ fn nth_tree<'a>(
 ) -> LineTree<'a>
     requires trees { AreLineTrees count step slots.now nodes.now }
     requires line { line < length slots.now / count }
-    ensures line { result.line ≡ line_at count step line }
+    ensures line { result.line ≡ line_at from_four count step line }
     ensures slots { result.slots.now ≡ slots.now }
     ensures nodes { result.nodes.now ≡ nodes.now }
-    ensures inside { IsIn result.line (length result.slots.now) (length result.nodes.now) }
-    ensures kept { AreKept result.line.count (number_of result.line result.slots.now) (node_of result.line result.nodes.now) }
+    ensures inside { IsIn from_four result.line (length result.slots.now) (length result.nodes.now) }
+    ensures kept { AreKept from_four TellsSums result.line.count (number_of result.line result.slots.now) (node_of from_four empty result.line result.nodes.now) }
 {
     let line = nth_line(count, step, line);
     LineTree { line, slots, nodes }
@@ -65,7 +66,7 @@ fn nth_tree<'a>(
 fn nth_block(count: usize, step: usize, block: usize) -> Line
     requires some { 0 < count }
     requires fit { block * (count * step) + count * step < 2 ^ 64 }
-    ensures { result ≡ block_at count step block }
+    ensures { result ≡ block_at from_four count step block }
 {
     Line {
         count,
@@ -91,8 +92,8 @@ fn pair_all(slots: &mut [i64], count: usize, step: usize)
 /// Joins what is kept of all parts of all lines.
 fn fill_all(slots: &[i64], nodes: &mut [Summary], count: usize, step: usize)
     requires lines { AreLines count step (length slots.now) }
-    requires sized { length nodes.old ≡ length slots.now / count * nodes_in_line count }
-    ensures kept { AreAllKept count step slots.now nodes.new }
+    requires sized { length nodes.old ≡ length slots.now / count * nodes_in_line from_four count }
+    ensures kept { AreAllKept from_four empty TellsSums number_of count step slots.now nodes.new }
     ensures length { length nodes.new ≡ length nodes.old }
 {
     for block in 0..slots.len() / count / step {
@@ -103,8 +104,8 @@ fn fill_all(slots: &[i64], nodes: &mut [Summary], count: usize, step: usize)
 /// What is kept of the parts of lines whose numbers are neighbours. AllocError where memory for it is refused.
 fn nodes_of_lines(alloc: Global, slots: &[i64], count: usize) -> Result<Vec<Summary>, AllocError>
     requires lines { AreLines count 1 (length slots.now) }
-    ensures kept { IfOk result (λ v. AreAllKept count 1 slots.now v.items) }
-    ensures sized { IfOk result (λ v. length v.items ≡ length slots.now / count * nodes_in_line count) }
+    ensures kept { IfOk result (λ v. AreAllKept from_four empty TellsSums number_of count 1 slots.now v.items) }
+    ensures sized { IfOk result (λ v. length v.items ≡ length slots.now / count * nodes_in_line from_four count) }
     ensures roomy { IfOk result (λ v. IsRoomy (length v.items) (vec_capacity v)) }
 {
     let lines = slots.len() / count;
@@ -123,8 +124,8 @@ fn nodes_of_blocks(
     step: usize,
 ) -> Result<Vec<Summary>, AllocError>
     requires lines { AreLines count step (length slots.now) }
-    ensures kept { IfOk result (λ v. AreAllKept count step slots.now v.items) }
-    ensures sized { IfOk result (λ v. length v.items ≡ length slots.now / count * nodes_in_line count) }
+    ensures kept { IfOk result (λ v. AreAllKept from_four empty TellsSums number_of count step slots.now v.items) }
+    ensures sized { IfOk result (λ v. length v.items ≡ length slots.now / count * nodes_in_line from_four count) }
     ensures roomy { IfOk result (λ v. IsRoomy (length v.items) (vec_capacity v)) }
 {
     let node_count = slots.len() / count * ((count - 1) / 2);
@@ -139,13 +140,13 @@ fn take_places(slots: &mut [i64], nodes: &mut [Summary], count: usize, step: usi
     requires more { 1 < count }
     requires apart { 0 < step }
     requires slot_count { length slots.old ≡ count * step }
-    requires node_count { length nodes.old ≡ nodes_in_line count * step }
+    requires node_count { length nodes.old ≡ nodes_in_line from_four count * step }
     requires fit { All (FitsSigned w64) slots.old }
-    requires kept { (line : ℕ) → line < step → AreKept (count - 1) (number_of (shorter (line_at count step line)) slots.old) (node_of (shorter (line_at count step line)) nodes.old) }
-    ensures numbers { (line i : ℕ) → line < step → i < count - 1 → number_of (line_at count step line) slots.new i ≡ number_of (shorter (line_at count step line)) slots.old i }
-    ensures last { (line : ℕ) → line < step → number_of (line_at count step line) slots.new (count - 1) ≡ slot_of (line_at count step line) slots.old (count - 1) }
+    requires kept { (line : ℕ) → line < step → AreKept from_four TellsSums (count - 1) (number_of (shorter (line_at from_four count step line)) slots.old) (node_of from_four empty (shorter (line_at from_four count step line)) nodes.old) }
+    ensures numbers { (line i : ℕ) → line < step → i < count - 1 → number_of (line_at from_four count step line) slots.new i ≡ number_of (shorter (line_at from_four count step line)) slots.old i }
+    ensures last { (line : ℕ) → line < step → number_of (line_at from_four count step line) slots.new (count - 1) ≡ slot_of (line_at from_four count step line) slots.old (count - 1) }
     ensures fit { All (FitsSigned w64) slots.new }
-    ensures kept { (line : ℕ) → line < step → AreKept count (number_of (line_at count step line) slots.new) (node_of (line_at count step line) nodes.new) }
+    ensures kept { (line : ℕ) → line < step → AreKept from_four TellsSums count (number_of (line_at from_four count step line) slots.new) (node_of from_four empty (line_at from_four count step line) nodes.new) }
     ensures slot_length { length slots.new ≡ length slots.old }
     ensures node_length { length nodes.new ≡ length nodes.old }
 {
@@ -298,13 +299,14 @@ pub struct NewTrees {
 
 impl Model for NewTrees {
     ghost use Rattle.std.specs.Prelude.{vec_capacity};
+    ghost use Rattle.operator_fns.specs.LineTrees.{from_four};
     ghost use Rattle.operator_fns.specs.SumTrees.{NewTreesValue, AreRooms};
 
     ghost Value = { NewTreesValue };
 
     ghost view = { λ n. record { count = n.trees.count; step = n.trees.step; old_lines = n.old_lines; numbers = n.trees.numbers } };
 
-    ghost invariant = { λ n. AreRooms n.old_lines n.trees n.slots.items n.nodes.items (vec_capacity n.slots) (vec_capacity n.nodes) };
+    ghost invariant = { λ n. AreRooms from_four n.old_lines n.trees n.slots.items n.nodes.items (vec_capacity n.slots) (vec_capacity n.nodes) };
 }
 
 impl NewTrees {

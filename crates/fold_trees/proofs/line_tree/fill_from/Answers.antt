@@ -1,13 +1,15 @@
 use Rattle.std.proofs.Common.{◌∙◌, suc, ◌*◌, ◌/◌, refl, ap, arith, inl, inr}
 use Rattle.std.proofs.lemmas.Nat.{div-add-mod'}
-use Rattle.fold_trees.proofs.BlockParts.{begin_from, end_from}
+use Rattle.operator_fns.specs.LineTrees.{from_two, slot_of}
+use Rattle.operator_fns.proofs.Halves.{are_from_two}
+use Rattle.operator_fns.proofs.BlockParts.{begin_from, end_from}
 use Rattle.fold_trees.proofs.line_tree.fill_from.Goals as goal
 
 pub loop-half-init : goal.loop-half-init
 loop-half-init g c = record {
   half = (0, refl);
   whole = (c.args.from, grind arith);
-  kept = begin_from g.P.Part.blank g.P.Part.tells c.args.from c.args.first c.args.numbers.now c.args.nodes.now c.requires.two c.requires.kept;
+  kept = begin_from from_two are_from_two g.P.Part.blank g.P.Part.tells slot_of c.args.from c.args.first c.args.numbers.now c.args.nodes.now c.requires.two c.requires.kept;
   others = λ p away. refl;
   sized = refl;
 }
@@ -33,11 +35,11 @@ loop-half-preserved g c =
 pub returns-else-from-half-eq0-clause-kept : goal.returns-else-from-half-eq0-clause-kept
 returns-else-from-half-eq0-clause-kept g c =
     let inv = c.loop-half.invariant in
-    end_from g.P.Part.blank g.P.Part.tells c.args.from c.args.first c.args.numbers.now c.loop-half.nodes c.loop-half.half inv.half.0 inv.half.1
+    end_from from_two are_from_two g.P.Part.blank g.P.Part.tells slot_of c.args.from c.args.first c.args.numbers.now c.loop-half.nodes c.loop-half.half inv.half.0 inv.half.1
     (inr c.if-from-half-eq0.false) inv.kept
 
 pub returns-after-loop-half-clause-kept : goal.returns-after-loop-half-clause-kept
 returns-after-loop-half-clause-kept g c =
     let inv = c.loop-half.invariant in
-    end_from g.P.Part.blank g.P.Part.tells c.args.from c.args.first c.args.numbers.now c.loop-half.nodes c.loop-half.half inv.half.0 inv.half.1
+    end_from from_two are_from_two g.P.Part.blank g.P.Part.tells slot_of c.args.from c.args.first c.args.numbers.now c.loop-half.nodes c.loop-half.half inv.half.0 inv.half.1
     (inl (omega (arith, c.loop-half-test.false))) inv.kept

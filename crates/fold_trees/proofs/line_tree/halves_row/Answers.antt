@@ -1,32 +1,31 @@
 use Rattle.std.proofs.Common.{◌≡◌, ◌∙◌, ℕ, ◌+◌, ◌/◌, ◌<◌, ◌++◌, List, ℤ, length, sym, ap, subst, arith, rules}
 use Rattle.std.proofs.lemmas.List.{length-set}
 use Rattle.operator_fns.specs.LineBlocks.{line_of}
-use Rattle.operator_fns.proofs.BlockRows.{told_on, others_on, line_node}
-use Rattle.operator_fns.specs.LineTrees.{nth_node}
-use Rattle.fold_trees.specs.LineTrees.{node_of}
-use Rattle.fold_trees.proofs.BlockRows.{node_row, read_before}
+use Rattle.operator_fns.proofs.Halves.{are_from_two}
+use Rattle.operator_fns.proofs.BlockRows.{told_on, others_on, line_node, node_row, read_before}
+use Rattle.operator_fns.specs.LineTrees.{nth_node, from_two, node_of}
 use Rattle.fold_trees.proofs.line_tree.halves_row.Goals as goal
 use Rattle.fold_trees.proofs.line_tree.halves_row.Given.{Over}
 
 -- the node of the line is one of the list
 inside : (g : Over) (c : goal.After-join g) → c.nth_node-node.result + c.loop-column.column < length c.loop-column.nodes
 inside g c =
-    let row = node_row c.args.first (length c.args.nodes.now) (c.args.from + c.args.half) c.requires.nodes
+    let row = node_row from_two are_from_two c.args.first (length c.args.nodes.now) (c.args.from + c.args.half) c.requires.nodes
     (omega (arith, c.requires.wide)) (omega (arith, c.requires.full, c.requires.wide)) in
     omega (arith, row, c.nth_node-node.ensures, c.loop-column-test.true, c.loop-column.invariant.sized)
 
 -- what is read of the earlier half and of the later one
 earlier_is : (g : Over) (c : goal.After-index-nodes-later g)
-    → c.index-nodes-earlier.result ≡ node_of g.P.Part.blank (line_of c.args.first c.loop-column.column) c.args.nodes.now (c.args.from + c.args.half / 2)
+    → c.index-nodes-earlier.result ≡ node_of from_two g.P.Part.blank (line_of c.args.first c.loop-column.column) c.args.nodes.now (c.args.from + c.args.half / 2)
 earlier_is g c =
-    read_before g.P.Part.blank c.args.first c.loop-column.column (c.args.from + c.args.half) c.loop-column.nodes c.args.nodes.now c.requires.nodes c.loop-column.invariant.sized
+    read_before from_two are_from_two g.P.Part.blank c.args.first c.loop-column.column (c.args.from + c.args.half) c.loop-column.nodes c.args.nodes.now c.requires.nodes c.loop-column.invariant.sized
     c.loop-column-test.true c.loop-column.invariant.others (c.args.from + c.args.half / 2) c.nth_node-earlier.result c.index-nodes-earlier.result
     (omega (arith, c.requires.wide)) (omega (arith, c.requires.wide, c.requires.full)) c.nth_node-earlier.ensures c.index-nodes-earlier.is
 
 later_is : (g : Over) (c : goal.After-index-nodes-later g)
-    → c.index-nodes-later.result ≡ node_of g.P.Part.blank (line_of c.args.first c.loop-column.column) c.args.nodes.now (c.args.from + c.args.half + c.args.half / 2)
+    → c.index-nodes-later.result ≡ node_of from_two g.P.Part.blank (line_of c.args.first c.loop-column.column) c.args.nodes.now (c.args.from + c.args.half + c.args.half / 2)
 later_is g c =
-    read_before g.P.Part.blank c.args.first c.loop-column.column (c.args.from + c.args.half) c.loop-column.nodes c.args.nodes.now c.requires.nodes c.loop-column.invariant.sized
+    read_before from_two are_from_two g.P.Part.blank c.args.first c.loop-column.column (c.args.from + c.args.half) c.loop-column.nodes c.args.nodes.now c.requires.nodes c.loop-column.invariant.sized
     c.loop-column-test.true c.loop-column.invariant.others (c.args.from + c.args.half + c.args.half / 2) c.nth_node-later.result c.index-nodes-later.result
     (omega (arith, c.requires.wide)) (omega (arith, c.requires.wide, c.requires.full)) c.nth_node-later.ensures c.index-nodes-later.is
 
@@ -58,8 +57,8 @@ loop-column-preserved g c =
     let node = c.nth_node-node.result + k in
     let here = ap (λ (n : ℕ). n + k) c.nth_node-node.ensures in
     record {
-      told = told_on blank (λ column t. (earlier rest : List ℤ) → tells (node_of blank (line_of first column) before (from + half / 2)) earlier
-          → tells (node_of blank (line_of first column) before (from + half + half / 2)) rest → tells t (earlier ++ rest))
+      told = told_on blank (λ column t. (earlier rest : List ℤ) → tells (node_of from_two blank (line_of first column) before (from + half / 2)) earlier
+          → tells (node_of from_two blank (line_of first column) before (from + half + half / 2)) rest → tells t (earlier ++ rest))
           (λ column. nth_node (line_of first column) (from + half)) (nth_node first (from + half))
           (λ column. line_node first column (from + half)) nodes k node s here (inside g c) inv.told
           (λ earlier rest h l. c.join.ensures earlier rest

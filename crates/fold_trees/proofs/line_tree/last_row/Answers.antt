@@ -2,13 +2,12 @@ use Rattle.std.proofs.Common.{◌≡◌, ◌∙◌, ◌+◌, ◌-◌, ◌*◌, �
 use Rattle.std.proofs.lemmas.Nat.{pow_pos}
 use Rattle.std.proofs.lemmas.List.{length-set}
 use Rattle.operator_fns.specs.declared.line_tree.Line.{Line}
-use Rattle.operator_fns.specs.LineTrees.{slot_of, nth_node}
+use Rattle.operator_fns.specs.LineTrees.{slot_of, nth_node, segment, numbers_of_block, from_two, node_of, AreKeptIn}
 use Rattle.operator_fns.specs.LineBlocks.{line_of}
-use Rattle.operator_fns.proofs.BlockRows.{told_on, others_on, line_node, column_away}
-use Rattle.fold_trees.specs.LineTrees.{node_of, segment, numbers_at, AreKeptIn}
-use Rattle.fold_trees.proofs.LineParts.{widen_even}
-use Rattle.fold_trees.proofs.BlockRows.{node_row}
-use Rattle.fold_trees.proofs.BlockParts.{kept_in_first, kept_in_second, kept_in_still}
+use Rattle.operator_fns.proofs.BlockRows.{told_on, others_on, line_node, column_away, node_row}
+use Rattle.operator_fns.proofs.LineParts.{widen_even}
+use Rattle.operator_fns.proofs.Halves.{are_from_two}
+use Rattle.operator_fns.proofs.BlockParts.{kept_in_first, kept_in_second, kept_in_still}
 use Rattle.fold_trees.proofs.line_tree.last_row.Goals as goal
 use Rattle.fold_trees.proofs.line_tree.last_row.Given.{Over}
 
@@ -36,10 +35,10 @@ part-requires-clause-kept g c =
     let l = line_of first k in
     let tells = g.P.Part.tells in
     let blank = g.P.Part.blank in
-    subst (λ (m : Line). AreKeptIn tells from half m.count (slot_of m numbers) (node_of blank m nodes)) (sym c.nth-line.ensures)
-    (kept_in_still tells from half first.count (slot_of l numbers) (node_of blank l c.args.nodes.now) (node_of blank l nodes)
+    subst (λ (m : Line). AreKeptIn from_two tells from half m.count (slot_of m numbers) (node_of from_two blank m nodes)) (sym c.nth-line.ensures)
+    (kept_in_still from_two tells from half first.count (slot_of l numbers) (node_of from_two blank l c.args.nodes.now) (node_of from_two blank l nodes)
     (λ a. c.loop-column.invariant.others (nth_node l a) (column_away first k k a (from + half) below (omega arith)))
-    (kept_in_first blank tells from first numbers c.args.nodes.now half k below c.requires.kept))
+    (kept_in_first from_two are_from_two blank tells slot_of from first numbers c.args.nodes.now half k below c.requires.kept))
 
 pub part-requires-in-loop-column-clause-kept : goal.part-requires-in-loop-column-clause-kept
 part-requires-in-loop-column-clause-kept g c =
@@ -55,10 +54,10 @@ part-requires-in-loop-column-clause-kept g c =
     let blank = g.P.Part.blank in
     let p = pow_pos c.requires.half.0 in
     let some : 0 < half = omega (arith, p, c.requires.half.1) in
-    subst (λ (m : Line). AreKeptIn tells (from + half) half m.count (slot_of m numbers) (node_of blank m nodes)) (sym c.nth-line.ensures)
-    (kept_in_still tells (from + half) half first.count (slot_of l numbers) (node_of blank l c.args.nodes.now) (node_of blank l nodes)
+    subst (λ (m : Line). AreKeptIn from_two tells (from + half) half m.count (slot_of m numbers) (node_of from_two blank m nodes)) (sym c.nth-line.ensures)
+    (kept_in_still from_two tells (from + half) half first.count (slot_of l numbers) (node_of from_two blank l c.args.nodes.now) (node_of from_two blank l nodes)
     (λ a. c.loop-column.invariant.others (nth_node l a) (column_away first k k a (from + half) below (omega arith)))
-    (kept_in_second blank tells from first numbers c.args.nodes.now half k below some c.requires.kept))
+    (kept_in_second from_two are_from_two blank tells slot_of from first numbers c.args.nodes.now half k below some c.requires.kept))
 
 -- the node of the line, and that it is one of the list
 here : (g : Over) (c : goal.After-nth_node g) → c.nth_node.result ≡ nth_node c.args.first (c.args.from + c.args.half) + c.loop-column.column
@@ -68,7 +67,7 @@ here g c =
 inside : (g : Over) (c : goal.After-nth_node g) → c.nth_node.result < length c.loop-column.nodes
 inside g c =
     let p = pow_pos c.requires.half.0 in
-    let row = node_row c.args.first (length c.args.nodes.now) (c.args.from + c.args.half) c.requires.nodes (omega (arith, p, c.requires.half.1)) c.requires.short in
+    let row = node_row from_two are_from_two c.args.first (length c.args.nodes.now) (c.args.from + c.args.half) c.requires.nodes (omega (arith, p, c.requires.half.1)) c.requires.short in
     omega (arith, row, here g c, c.loop-column-test.true, c.loop-column.invariant.sized)
 
 pub offset_bounds-nodes-nth_node : goal.offset_bounds-nodes-nth_node
@@ -104,7 +103,7 @@ loop-column-preserved g c =
     let next : from + half ≡ 2 * part * half + half = omega (arith, start) in
     let all = (λ i. segment x (start i) (min half (count - start i)) ++ segment x (next i) (min half (count - next i)))
     ∙ widen_even count x (2 * part) half even (omega (arith, next, c.requires.short))
-    ∙ ap (λ b. numbers_at count x b (2 * half)) block
+    ∙ ap (λ b. numbers_of_block count x b (2 * half)) block
     ∙ sym (ap (λ f. segment x f (min (2 * half) (count - f))) c.requires.from.1) in
     let made : tells s (segment x from (min (2 * half) (count - from))) =
     subst (tells s) all (subst (λ (m : Line). tells s (one m ++ other m)) is told) in

@@ -1,18 +1,17 @@
 use Rattle.std.proofs.Common.{◌≡◌, ◌∙◌, ℕ, ◌+◌, ◌<◌, ◌∷◌, [], length, get_or, pos, ap, subst, arith, rules, to_z, of_z, w64, FitsSigned}
 use Rattle.std.proofs.lemmas.Int.{to_z-of_z}
 use Rattle.std.proofs.lemmas.List.{length-set}
-use Rattle.operator_fns.specs.LineTrees.{slot_at, slot_of, nth_node}
+use Rattle.operator_fns.specs.LineTrees.{from_two, slot_at, slot_of, nth_node, segment}
 use Rattle.operator_fns.specs.LineBlocks.{line_of}
-use Rattle.operator_fns.proofs.BlockRows.{line_slot, next_slot, told_on, others_on, line_node}
-use Rattle.fold_trees.specs.LineTrees.{segment}
-use Rattle.fold_trees.proofs.BlockRows.{node_row}
+use Rattle.operator_fns.proofs.Halves.{are_from_two}
+use Rattle.operator_fns.proofs.BlockRows.{line_slot, next_slot, told_on, others_on, line_node, node_row}
 use Rattle.fold_trees.proofs.line_tree.pairs_row.Goals as goal
 use Rattle.fold_trees.proofs.line_tree.pairs_row.Given.{Over}
 
 -- the node of the line is one of the list
 inside : (g : Over) (c : goal.After-join g) → c.nth_node-node.result + c.loop-column.column < length c.loop-column.nodes
 inside g c =
-    let row = node_row c.args.first (length c.args.nodes.now) (c.args.from + 1) c.requires.nodes (omega arith) (omega (arith, c.requires.full)) in
+    let row = node_row from_two are_from_two c.args.first (length c.args.nodes.now) (c.args.from + 1) c.requires.nodes (omega arith) (omega (arith, c.requires.full)) in
     omega (arith, row, c.nth_node-node.ensures, c.loop-column-test.true, c.loop-column.invariant.sized)
 
 pub offset_bounds-nodes-node : goal.offset_bounds-nodes-node

@@ -1,8 +1,8 @@
 use Rattle.std.proofs.Common.{◌≡◌, ◌∙◌, ℕ, ◌+◌, ◌-◌, ◌*◌, ◌/◌, ◌<◌, ◌∷◌, [], length, drop, get_or, ap, sym, subst, arith, rules}
 use Rattle.std.proofs.lemmas.List.{take_at, get_or_append_left}
-use Rattle.operator_fns.specs.LineTrees.{slot_of, nth_node}
-use Rattle.fold_trees.specs.LineTrees.{node_of, AreKept}
-use Rattle.fold_trees.proofs.LineEnds.{near_node, kept_beside_last}
+use Rattle.operator_fns.specs.LineTrees.{slot_of, nth_node, from_two, node_of, AreKept}
+use Rattle.operator_fns.proofs.Halves.{are_from_two}
+use Rattle.operator_fns.proofs.LineEnds.{near_node, kept_beside_last}
 use Rattle.fold_trees.proofs.line_tree.push_line.Goals as goal
 use Rattle.fold_trees.proofs.line_tree.push_line.Goals.{After-deref_mut, then-last-eq1, else-last-eq1}
 use Rattle.fold_trees.proofs.line_tree.push_line.Given.{Over}
@@ -28,8 +28,8 @@ pairs g c = omega (arith, c.loop-pair-test.false, c.loop-pair.auto.pair-end)
 pub renew-requires-clause-kept : goal.renew-requires-clause-kept
 renew-requires-clause-kept g c =
     let line = c.args.line in
-    kept_beside_last g.P.Part.tells c.loop-pair.pair line.count (slot_of line c.args.numbers.now) (node_of g.P.Part.blank line c.loop-pair.nodes.items)
-    (node_of g.P.Part.blank line c.deref_mut.result.now) c.requires.some (pairs g c)
+    kept_beside_last from_two are_from_two g.P.Part.tells (2 * c.loop-pair.pair) line.count (slot_of line c.args.numbers.now) (node_of from_two g.P.Part.blank line c.loop-pair.nodes.items)
+    (node_of from_two g.P.Part.blank line c.deref_mut.result.now) c.requires.some (omega arith) (omega (arith, pairs g c))
     (λ meeting some below. before g c (nth_node line meeting) (omega (arith, near_node line meeting c.requires.near, some, below)))
     c.loop-pair.invariant.kept
 
@@ -38,7 +38,7 @@ returns-clause-kept g c =
     let line = c.args.line in
     let nodes = c.renew.new.nodes in
     let long : length nodes ≡ c.if-last-eq1.nodes.len = c.renew.ensures.length ∙ c.deref_mut.ensures.len in
-    subst (λ ns. AreKept g.P.Part.tells line.count (slot_of line c.args.numbers.now) (node_of g.P.Part.blank line ns))
+    subst (λ ns. AreKept from_two g.P.Part.tells line.count (slot_of line c.args.numbers.now) (node_of from_two g.P.Part.blank line ns))
     (sym (take_at nodes (drop (length nodes) c.if-last-eq1.nodes.items) c.if-last-eq1.nodes.len long)) c.renew.ensures.kept
 
 pub returns-clause-others : goal.returns-clause-others

@@ -1,10 +1,9 @@
 use Rattle.std.proofs.Common.{◌≡◌, ◌∙◌, ℕ, ◌+◌, ◌<◌, ◌++◌, ◌∷◌, [], length, drop, get_or, pos, ap, sym, subst, arith, rules, to_z, of_z, w64, FitsSigned}
 use Rattle.std.proofs.lemmas.Int.{to_z-of_z}
 use Rattle.std.proofs.lemmas.List.{take_at, length-append, get_or_append_left, get_or_push}
-use Rattle.operator_fns.specs.LineTrees.{slot_at, slot_of, nth_node}
-use Rattle.operator_fns.proofs.LineEnds.{near_slot}
-use Rattle.fold_trees.specs.LineTrees.{node_of, segment, AreKeptIn, AreKeptUpTo}
-use Rattle.fold_trees.proofs.LineEnds.{near_node, pair_more}
+use Rattle.operator_fns.specs.LineTrees.{slot_at, slot_of, nth_node, segment, from_two, node_of, AreKeptIn, AreKeptUpTo}
+use Rattle.operator_fns.proofs.Halves.{are_from_two}
+use Rattle.operator_fns.proofs.LineEnds.{near_slot, near_node, least_more}
 use Rattle.fold_trees.proofs.line_tree.push_pair.Goals as goal
 use Rattle.fold_trees.proofs.line_tree.push_pair.Goals.{After-deref_mut}
 use Rattle.fold_trees.proofs.line_tree.push_pair.Given.{Over}
@@ -44,7 +43,7 @@ made g c =
     (c.join-pair.ensures (to_z w64 (of_z w64 (get_or numbers at (pos 0))) ∷ []) (to_z w64 (of_z w64 (get_or numbers (at + 1) (pos 0))) ∷ []) c.of.ensures c.of-2.ensures)
 
 kept : (g : Over) (c : After-deref_mut g)
-    → AreKeptUpTo g.P.Part.tells (c.args.from + 2) 2 c.args.line.count (slot_of c.args.line c.args.numbers.now) (node_of g.P.Part.blank c.args.line c.deref_mut.result.now)
+    → AreKeptUpTo from_two g.P.Part.tells (c.args.from + 2) 2 c.args.line.count (slot_of c.args.line c.args.numbers.now) (node_of from_two g.P.Part.blank c.args.line c.deref_mut.result.now)
 kept g c =
     let blank = g.P.Part.blank in
     let tells = g.P.Part.tells in
@@ -57,11 +56,11 @@ kept g c =
     let long : length nodes ≡ line.node + from = search rules in
     let longer : length (nodes ++ s ∷ []) ≡ length nodes + 1 = length-append nodes (s ∷ []) in
     let at : nth_node line (from + 1) ≡ line.node + from = omega (arith, near_node line (from + 1) c.requires.near) in
-    let here : node_of blank line now (from + 1) ≡ s =
+    let here : node_of from_two blank line now (from + 1) ≡ s =
     ap (λ k. get_or now k blank) at ∙ ap (λ ns. get_or ns (line.node + from) blank) (pushed g c)
     ∙ get_or_append_left (nodes ++ s ∷ []) (s ∷ []) blank (line.node + from) (omega (arith, long, longer))
     ∙ get_or_push nodes s blank (line.node + from) long in
-    pair_more tells from line.count x (node_of blank line nodes) (node_of blank line now) c.requires.two (omega (arith, c.requires.full))
+    least_more from_two are_from_two tells from line.count x (node_of from_two blank line nodes) (node_of from_two blank line now) c.requires.two (omega (arith, c.requires.full))
     (λ meeting some below. before g c (nth_node line meeting) (omega (arith, near_node line meeting c.requires.near, some, below)))
     (subst (λ t. tells t (segment x from 2)) (sym here) (made g c)) c.requires.kept
 
@@ -74,7 +73,7 @@ returns-clause-kept g c =
     let x = slot_of line c.args.numbers.now in
     let nodes = c.close_parts.new.nodes in
     let long : length nodes ≡ c.push_node-2.new.nodes.len = c.close_parts.ensures.length ∙ c.deref_mut.ensures.len in
-    subst (λ ns. AreKeptIn g.P.Part.tells 0 (c.args.from + 2) line.count x (node_of g.P.Part.blank line ns))
+    subst (λ ns. AreKeptIn from_two g.P.Part.tells 0 (c.args.from + 2) line.count x (node_of from_two g.P.Part.blank line ns))
     (sym (take_at nodes (drop (length nodes) c.push_node-2.new.nodes.items) c.push_node-2.new.nodes.len long))
     (c.close_parts.ensures.kept x (kept g (goal.at.returns-clause-kept g c).After-deref_mut))
 

@@ -3,9 +3,10 @@ use Rattle.std.specs.Int.{int_wrap}
 use Rattle.std.proofs.lemmas.Int.{to_z-of_z}
 use Rattle.std.proofs.lemmas.List.{length-set}
 use Rattle.operator_fns.specs.declared.summary.Summary.{Summary}
-use Rattle.operator_fns.specs.SumNodes.{Tells, sums_from, single, join}
-use Rattle.operator_fns.specs.LineTrees.{slot_at, node_at, slot_of, number_of, empty}
+use Rattle.operator_fns.specs.SumNodes.{Tells, single, join, sums_from, empty}
+use Rattle.operator_fns.specs.LineTrees.{from_four, slot_at, node_at, slot_of, number_of}
 use Rattle.operator_fns.specs.LineBlocks.{line_of}
+use Rattle.operator_fns.proofs.Halves.{are_from_four}
 use Rattle.operator_fns.proofs.BlockRows.{slot_row, node_row, line_slot, line_node, next_slot, told_on, others_on, sums_four}
 use Rattle.operator_fns.proofs.line_tree.fours_row.Goals as goal
 
@@ -30,7 +31,7 @@ bounds-slots-at-in-loop-column-3 c =
 -- the node of the line is one of the list
 inside : (c : goal.After-of_four) → c.node_at-node.result + c.loop-column.column < length c.loop-column.nodes
 inside c =
-    let row = node_row c.args.first (length c.args.nodes.now) (c.args.from + 2) c.requires.nodes (omega arith) (omega (arith, c.requires.full)) in
+    let row = node_row from_four are_from_four c.args.first (length c.args.nodes.now) (c.args.from + 2) c.requires.nodes (omega arith) (omega (arith, c.requires.full)) in
     omega (arith, row, c.node_at-node.ensures, c.loop-column-test.true, c.loop-column.invariant.sized)
 
 pub overflow_add-node : goal.overflow_add-node

@@ -1,9 +1,10 @@
 use Rattle.std.proofs.Common.{◌∙◌, ℕ, ◌+◌, ◌/◌, ◌<◌, length, sym, ap, subst, arith}
 use Rattle.std.proofs.lemmas.List.{length-set}
 use Rattle.operator_fns.specs.declared.summary.Summary.{Summary}
-use Rattle.operator_fns.specs.SumNodes.{Sums, Tells, join}
-use Rattle.operator_fns.specs.LineTrees.{node_at, node_of, empty}
+use Rattle.operator_fns.specs.SumNodes.{Sums, Tells, join, empty}
+use Rattle.operator_fns.specs.LineTrees.{node_at, from_four, node_of}
 use Rattle.operator_fns.specs.LineBlocks.{line_of}
+use Rattle.operator_fns.proofs.Halves.{are_from_four}
 use Rattle.operator_fns.proofs.BlockRows.{node_row, line_node, still, told_on, others_on}
 use Rattle.operator_fns.proofs.line_tree.halves_row.Goals as goal
 
@@ -36,13 +37,13 @@ loop-column-preserved c =
     let below = c.loop-column-test.true in
     let node = c.node_at-node.result + k in
     let here = ap (λ (n : ℕ). n + k) c.node_at-node.ensures in
-    let row = node_row first (length before) (from + half) c.requires.nodes (omega (arith, c.requires.wide)) (omega (arith, c.requires.full, c.requires.wide)) in
+    let row = node_row from_four are_from_four first (length before) (from + half) c.requires.nodes (omega (arith, c.requires.wide)) (omega (arith, c.requires.full, c.requires.wide)) in
     let inside : node < length nodes = omega (arith, row, here, below, inv.sized) in
     let same = still empty first k ((from + half) / 2) nodes before below inv.others ((from + half / 2) / 2) c.node_at-earlier.result c.node_at-earlier.ensures in
     let same2 = still empty first k ((from + half) / 2) nodes before below inv.others ((from + half + half / 2) / 2) c.node_at-later.result c.node_at-later.ensures in
     record {
-      told = told_on empty (λ column (t : Summary). (earlier rest : Sums) → Tells (node_of (line_of first column) before (from + half / 2)) earlier
-          → Tells (node_of (line_of first column) before (from + half + half / 2)) rest → Tells t (join earlier rest))
+      told = told_on empty (λ column (t : Summary). (earlier rest : Sums) → Tells (node_of from_four empty (line_of first column) before (from + half / 2)) earlier
+          → Tells (node_of from_four empty (line_of first column) before (from + half + half / 2)) rest → Tells t (join earlier rest))
           (λ column. node_at (line_of first column) (from + half)) (node_at first (from + half))
           (λ column. line_node first column ((from + half) / 2)) nodes k node s here inside inv.told
           (λ earlier rest h l. c.join.ensures earlier rest (subst (λ (t : Summary). Tells t earlier) (sym same) h) (subst (λ (t : Summary). Tells t rest) (sym same2) l));

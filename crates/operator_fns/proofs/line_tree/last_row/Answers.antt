@@ -1,13 +1,14 @@
-use Rattle.std.proofs.Common.{◌≡◌, ◌∙◌, suc, ◌+◌, ◌-◌, ◌*◌, ◌/◌, ◌%◌, ◌<◌, min, length, sym, ap, subst, arith}
+use Rattle.std.proofs.Common.{◌≡◌, ◌∙◌, suc, ◌+◌, ◌-◌, ◌*◌, ◌/◌, ◌%◌, ◌<◌, ◌++◌, min, length, sym, ap, subst, arith}
 use Rattle.std.proofs.lemmas.Nat.{pow_pos}
 use Rattle.std.proofs.lemmas.List.{length-set}
 use Rattle.operator_fns.specs.declared.summary.Summary.{Summary}
 use Rattle.operator_fns.specs.declared.line_tree.Line.{Line}
-use Rattle.operator_fns.specs.SumNodes.{Tells, join, sums_from}
-use Rattle.operator_fns.specs.LineTrees.{node_at, node_of, number_of, empty, sums_at, AreKeptIn}
+use Rattle.operator_fns.specs.SumNodes.{Tells, join, sums_of, sums_from, empty, TellsSums}
+use Rattle.operator_fns.specs.LineTrees.{node_at, number_of, segment, numbers_of_block, from_four, node_of, AreKeptIn}
 use Rattle.operator_fns.specs.LineBlocks.{line_of}
-use Rattle.operator_fns.proofs.LineParts.{widen_even}
+use Rattle.operator_fns.proofs.LineParts.{sums_joined, widen_even}
 use Rattle.operator_fns.proofs.BlockRows.{node_row, line_node, column_away, told_on, others_on}
+use Rattle.operator_fns.proofs.Halves.{are_from_four}
 use Rattle.operator_fns.proofs.BlockParts.{kept_in_first, kept_in_second, kept_in_still}
 use Rattle.operator_fns.proofs.line_tree.last_row.Goals as goal
 
@@ -33,10 +34,10 @@ part-requires-clause-kept c =
     let k = c.loop-column.column in
     let below = c.loop-column-test.true in
     let l = line_of first k in
-    subst (λ (m : Line). AreKeptIn from half m.count (number_of m slots) (node_of m nodes)) (sym c.nth-line.ensures)
-    (kept_in_still from half first.count (number_of l slots) (node_of l c.args.nodes.now) (node_of l nodes)
+    subst (λ (m : Line). AreKeptIn from_four TellsSums from half m.count (number_of m slots) (node_of from_four empty m nodes)) (sym c.nth-line.ensures)
+    (kept_in_still from_four TellsSums from half first.count (number_of l slots) (node_of from_four empty l c.args.nodes.now) (node_of from_four empty l nodes)
     (λ a. c.loop-column.invariant.others (node_at l a) (column_away first k k (a / 2) ((from + half) / 2) below (omega arith)))
-    (kept_in_first from half first slots c.args.nodes.now k below c.requires.kept))
+    (kept_in_first from_four are_from_four empty TellsSums number_of from first slots c.args.nodes.now half k below c.requires.kept))
 
 pub part-requires-in-loop-column-clause-kept : goal.part-requires-in-loop-column-clause-kept
 part-requires-in-loop-column-clause-kept c =
@@ -50,10 +51,10 @@ part-requires-in-loop-column-clause-kept c =
     let l = line_of first k in
     let p = pow_pos c.requires.half.0 in
     let some : 0 < half = omega (arith, p, c.requires.half.1) in
-    subst (λ (m : Line). AreKeptIn (from + half) half m.count (number_of m slots) (node_of m nodes)) (sym c.nth-line.ensures)
-    (kept_in_still (from + half) half first.count (number_of l slots) (node_of l c.args.nodes.now) (node_of l nodes)
+    subst (λ (m : Line). AreKeptIn from_four TellsSums (from + half) half m.count (number_of m slots) (node_of from_four empty m nodes)) (sym c.nth-line.ensures)
+    (kept_in_still from_four TellsSums (from + half) half first.count (number_of l slots) (node_of from_four empty l c.args.nodes.now) (node_of from_four empty l nodes)
     (λ a. c.loop-column.invariant.others (node_at l a) (column_away first k k (a / 2) ((from + half) / 2) below (omega arith)))
-    (kept_in_second from half first slots c.args.nodes.now k below some c.requires.kept))
+    (kept_in_second from_four are_from_four empty TellsSums number_of from first slots c.args.nodes.now half k below some c.requires.kept))
 
 pub loop-column-preserved : goal.loop-column-preserved
 loop-column-preserved c =
@@ -76,7 +77,7 @@ loop-column-preserved c =
     let node = c.node_at.result in
     let here : node ≡ node_at first (from + half) + k = c.node_at.ensures ∙ ap (λ (m : Line). node_at m (from + half)) is ∙ line_node first k ((from + half) / 2) in
     let p = pow_pos c.requires.half.0 in
-    let row = node_row first (length before) (from + half) c.requires.nodes (omega (arith, p, c.requires.half.1)) c.requires.short in
+    let row = node_row from_four are_from_four first (length before) (from + half) c.requires.nodes (omega (arith, p, c.requires.half.1)) c.requires.short in
     let inside : node < length nodes = omega (arith, row, here, below, inv.sized) in
     let told : Tells s (join (sums_from (number_of line slots) from (min half (line.count - from))) (sums_from (number_of line slots) (from + half) (min half (line.count - (from + half))))) =
     c.join-both.ensures (sums_from (number_of line slots) from (min half (line.count - from))) (sums_from (number_of line slots) (from + half) (min half (line.count - (from + half)))) c.part.ensures c.part-in-loop-column.ensures in
@@ -84,10 +85,11 @@ loop-column-preserved c =
     let block : 2 * part / 2 ≡ part = omega arith in
     let start : from ≡ 2 * part * half = c.requires.from.1 ∙ grind arith in
     let next : from + half ≡ 2 * part * half + half = omega (arith, start) in
-    let all = (λ i. join (sums_from x (start i) (min half (count - start i))) (sums_from x (next i) (min half (count - next i))))
+    let numbers = (λ i. segment x (start i) (min half (count - start i)) ++ segment x (next i) (min half (count - next i)))
     ∙ widen_even count x (2 * part) half even (omega (arith, next, c.requires.short))
-    ∙ ap (λ b. sums_at count x b (2 * half)) block
-    ∙ sym (ap (λ f. sums_from x f (min (2 * half) (count - f))) c.requires.from.1) in
+    ∙ ap (λ b. numbers_of_block count x b (2 * half)) block
+    ∙ sym (ap (λ f. segment x f (min (2 * half) (count - f))) c.requires.from.1) in
+    let all = sym (sums_joined (segment x from (min half (count - from))) (segment x (from + half) (min half (count - (from + half))))) ∙ ap sums_of numbers in
     let made : Tells s (sums_from x from (min (2 * half) (count - from))) =
     subst (Tells s) all (subst (λ (m : Line). Tells s (join (sums_from (number_of m slots) from (min half (m.count - from))) (sums_from (number_of m slots) (from + half) (min half (m.count - (from + half)))))) is told) in
     record {

@@ -1,7 +1,9 @@
 use Rattle.std.proofs.Common.{◌<◌, ◌^◌, length, rules, sym, subst, arith}
 use Rattle.operator_fns.specs.declared.line_tree.Line.{Line}
-use Rattle.operator_fns.specs.LineTrees.{IsIn, AreKept, number_of, node_of}
+use Rattle.operator_fns.specs.LineTrees.{number_of, from_four, IsIn, node_of, AreKept}
+use Rattle.operator_fns.proofs.Halves.{are_from_four}
 use Rattle.operator_fns.proofs.LineSpots.{in_both, line_fits}
+use Rattle.operator_fns.specs.SumNodes.{empty, TellsSums}
 use Rattle.operator_fns.proofs.sum_trees.nth_tree.Goals as goal
 
 pub nth_line-line-requires-clause-fit : goal.nth_line-line-requires-clause-fit
@@ -16,10 +18,10 @@ returns-clause-inside c =
     let slots = length c.args.slots.now in
     let nodes = length c.args.nodes.now in
     let small : slots < 2 ^ 62 = search rules in
-    subst (λ (l : Line). IsIn l slots nodes) (sym c.nth_line-line.ensures)
-    (in_both c.args.count c.args.step slots c.requires.trees.lines c.args.line c.requires.line nodes c.requires.trees.sized small)
+    subst (λ (l : Line). IsIn from_four l slots nodes) (sym c.nth_line-line.ensures)
+    (in_both from_four are_from_four c.args.count c.args.step slots c.requires.trees.lines c.args.line c.requires.line nodes c.requires.trees.sized small)
 
 pub returns-clause-kept : goal.returns-clause-kept
 returns-clause-kept c =
-    subst (λ (l : Line). AreKept l.count (number_of l c.args.slots.now) (node_of l c.args.nodes.now)) (sym c.nth_line-line.ensures)
+    subst (λ (l : Line). AreKept from_four TellsSums l.count (number_of l c.args.slots.now) (node_of from_four empty l c.args.nodes.now)) (sym c.nth_line-line.ensures)
     (c.requires.trees.kept c.args.line c.requires.line)

@@ -1,6 +1,6 @@
 use Rattle.std.proofs.Common.{◌≡◌, ◌<◌, ◌≤◌, ◌*◌, ◌/◌, ◌^◌, ◌∙◌, ◌⊎◌, ℕ, length, get_or, pos, rules, sym, subst, arith}
 use Rattle.operator_fns.specs.declared.line_tree.Line.{Line}
-use Rattle.operator_fns.specs.LineTrees.{slot_of, number_of}
+use Rattle.operator_fns.specs.LineTrees.{from_four, slot_of, number_of}
 use Rattle.operator_fns.specs.LineBlocks.{line_of, slots_end, HaveSlots}
 use Rattle.operator_fns.specs.SumTrees.{number_kept}
 use Rattle.operator_fns.proofs.ListTrees.{numbers_are}
@@ -19,7 +19,7 @@ pub pair_block-requires-clause-slots : goal.pair_block-requires-clause-slots
 pair_block-requires-clause-slots c =
     let slots = length c.args.slots.now in
     let small : slots < 2 ^ 62 = search rules in
-    let has = have_slots c.args.count c.args.step slots c.requires.lines c.loop-block.block c.loop-block-test.true small in
+    let has = have_slots c.args.count c.args.step slots c.requires.lines c.loop-block.block c.loop-block-test.true from_four small in
     subst (HaveSlots c.nth_block.result) (sym c.loop-block.invariant.sized) (subst (λ (l : Line). HaveSlots l slots) (sym c.nth_block.ensures) has)
 
 pub loop-block-preserved : goal.loop-block-preserved

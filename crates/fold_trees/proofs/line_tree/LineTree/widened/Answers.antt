@@ -1,9 +1,7 @@
 use Rattle.std.proofs.Common.{◌≡◌, ◌∙◌, ◌+◌, ◌-◌, ◌*◌, ◌/◌, ◌%◌, ◌<◌, min, ap, subst, arith}
-use Rattle.operator_fns.specs.LineTrees.{slot_of}
-use Rattle.operator_fns.proofs.LineParts.{odd_block, even_block}
-use Rattle.fold_trees.specs.LineTrees.{segment, numbers_at}
-use Rattle.fold_trees.proofs.LineParts.{widen_odd, widen_even, widen_alone}
-use Rattle.fold_trees.proofs.TreeSegments.{segment_same}
+use Rattle.operator_fns.specs.LineTrees.{slot_of, segment, numbers_of_block}
+use Rattle.operator_fns.proofs.LineParts.{odd_block, even_block, widen_odd, widen_even, widen_alone}
+use Rattle.operator_fns.proofs.Segments.{segment_same}
 use Rattle.fold_trees.proofs.line_tree.LineTree.widened.Goals as goal
 
 pub part-requires-clause-part : goal.part-requires-clause-part
@@ -37,7 +35,7 @@ returns-then-block-eq1-clause-is g c x same told =
     let long = min width (line.count - from) in
     let alike = segment_same numbers x from long (λ i low high. same i (omega (arith, at.0, at.1, low)) (omega (arith, at.0, at.1, high, c.requires.from))) in
     subst (g.P.Part.tells c.join.result) (widen_odd line.count x block width odd c.requires.from)
-    (c.join.ensures (segment x from long) (numbers_at line.count x block width) (subst (g.P.Part.tells c.part.result) alike c.part.ensures) told)
+    (c.join.ensures (segment x from long) (numbers_of_block line.count x block width) (subst (g.P.Part.tells c.part.result) alike c.part.ensures) told)
 
 pub returns-then-self-from-clause-is : goal.returns-then-self-from-clause-is
 returns-then-self-from-clause-is g c x same told =
@@ -67,4 +65,4 @@ returns-clause-is g c x same told =
     let long = min width (line.count - from) in
     let alike = segment_same numbers x from long (λ i low high. same i (omega (arith, at.0, at.1, low)) (omega (arith, at.0, at.1, high, below))) in
     subst (g.P.Part.tells c.join-2.result) (widen_even line.count x block width even below)
-    (c.join-2.ensures (numbers_at line.count x block width) (segment x from long) told (subst (g.P.Part.tells c.part-2.result) alike c.part-2.ensures))
+    (c.join-2.ensures (numbers_of_block line.count x block width) (segment x from long) told (subst (g.P.Part.tells c.part-2.result) alike c.part-2.ensures))

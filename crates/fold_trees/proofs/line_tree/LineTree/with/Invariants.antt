@@ -1,14 +1,13 @@
 use Rattle.std.proofs.Common.{◌≡◌, ◌+◌, ◌-◌, ◌*◌, ◌<◌, ◌≤◌, ◌⊎◌}
-use Rattle.operator_fns.specs.LineTrees.{slot_of, replaced}
+use Rattle.operator_fns.specs.LineTrees.{slot_of, replaced, numbers_of_block}
 use Rattle.operator_fns.proofs.LineParts.{IsClimb}
-use Rattle.fold_trees.specs.LineTrees.{numbers_at}
 use Rattle.fold_trees.proofs.line_tree.LineTree.with.Given as goal
 
 abbrev pub invariant-loop-width : goal.invariant-loop-width
 invariant-loop-width g l = record {
   climb : IsClimb l.place l.block l.width;
   few : l.width < 2 * l.self.line.count;
-  told : g.P.Part.tells l.kept (numbers_at l.self.line.count (replaced (slot_of l.self.line l.self.numbers.now) l.place l.number) l.block l.width);
+  told : g.P.Part.tells l.kept (numbers_of_block l.self.line.count (replaced (slot_of l.self.line l.self.numbers.now) l.place l.number) l.block l.width);
   most : l.joins ≤ climb.level;
   none : l.joins ≡ 0 → (l.block * l.width ≡ l.place) × (l.width ≡ 1 ⊎ l.self.line.count ≤ l.place + 1);
 }

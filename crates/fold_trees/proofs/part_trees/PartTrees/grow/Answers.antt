@@ -3,10 +3,11 @@ use Rattle.arrays_core.specs.Growth.{HasRoom}
 use Rattle.operator_fns.specs.SumTrees.{TreesValue, NewTreesValue, line_count}
 use Rattle.operator_fns.proofs.LineSpots.{all_slots, fewer_nodes}
 use Rattle.operator_fns.proofs.MoreLines.{in_all}
-use Rattle.fold_trees.specs.PartTrees.{nodes_in_line, AreLineTrees}
+use Rattle.fold_trees.specs.PartTrees.{AreLineTrees}
 use Rattle.fold_trees.proofs.TreeMore.{more_trees}
 use Rattle.fold_trees.proofs.part_trees.PartTrees.grow.Given.{Over}
 use Rattle.fold_trees.proofs.part_trees.PartTrees.grow.Goals.{After-trees}
+use Rattle.operator_fns.specs.LineTrees.{from_two, nodes_in_line}
 use Rattle.fold_trees.proofs.part_trees.PartTrees.grow.Goals as goal
 
 -- ---- the new lines are as long as the old ones, their neighbours as far apart, and the room is for them
@@ -69,8 +70,8 @@ put_behind-requires-2-clause-few g c =
     let count = c.self.inside.count in
     let step = c.self.inside.step in
     let trees = new_trees g before in
-    let old = fewer_nodes count step (length c.self.inside.numbers.items) c.self.invariant.trees.lines (nodes_in_line count) (length c.self.inside.nodes.items) (omega arith) c.self.invariant.trees.sized in
-    let new = fewer_nodes count step (length c.trees.inside.numbers.items) trees.lines (nodes_in_line count) (length c.trees.inside.nodes.items) (omega arith) trees.sized in
+    let old = fewer_nodes count step (length c.self.inside.numbers.items) c.self.invariant.trees.lines (nodes_in_line from_two count) (length c.self.inside.nodes.items) (omega arith) c.self.invariant.trees.sized in
+    let new = fewer_nodes count step (length c.trees.inside.numbers.items) trees.lines (nodes_in_line from_two count) (length c.trees.inside.nodes.items) (omega arith) trees.sized in
     omega (arith, old, new, few_numbers g before)
 
 pub put_behind-requires-clause-room : goal.put_behind-requires-clause-room
@@ -93,11 +94,11 @@ put_behind-requires-2-clause-room g c =
     let trees = new_trees g before in
     let nodes = length c.self.inside.nodes.items in
     let more = length c.trees.inside.nodes.items in
-    let old_nodes = c.self.invariant.trees.sized ∙ ap (λ n. n * nodes_in_line count) (sym (old_count g before)) in
-    let new_nodes = trees.sized ∙ ap (λ n. n * nodes_in_line count) (sym (new_count g before)) in
+    let old_nodes = c.self.invariant.trees.sized ∙ ap (λ n. n * nodes_in_line from_two count) (sym (old_count g before)) in
+    let new_nodes = trees.sized ∙ ap (λ n. n * nodes_in_line from_two count) (sym (new_count g before)) in
     subst (λ n. HasRoom n (nodes + more) capacity) (sym old_nodes)
-    (subst (λ n. HasRoom (old * nodes_in_line count) n capacity) (in_all old new nodes more (nodes_in_line count) old_nodes new_nodes)
-    (subst (λ n. HasRoom (old * nodes_in_line n) ((old + new) * nodes_in_line n) capacity) (seen_count g before) c.more.invariant.node_room))
+    (subst (λ n. HasRoom (old * nodes_in_line from_two count) n capacity) (in_all old new nodes more (nodes_in_line from_two count) old_nodes new_nodes)
+    (subst (λ n. HasRoom (old * nodes_in_line from_two n) ((old + new) * nodes_in_line from_two n) capacity) (seen_count g before) c.more.invariant.node_room))
 
 -- ---- the lists of both
 

@@ -2,12 +2,12 @@ use Rattle.std.proofs.Common.{◌≡◌, ◌∙◌, ◌+◌, ◌-◌, ◌*◌, �
 use Rattle.std.proofs.lemmas.List.{with_items_is}
 use Rattle.arrays_core.specs.Growth.{IsRoomy, HasRoom}
 use Rattle.operator_fns.specs.SumTrees.{TreesValue, NewPlacesValue}
-use Rattle.operator_fns.specs.LineTrees.{slot_of, shorter}
-use Rattle.fold_trees.specs.LineTrees.{node_of, AreKept}
-use Rattle.fold_trees.specs.PartTrees.{line_at, nodes_in_line, AreLineTrees, AreTrees}
+use Rattle.operator_fns.specs.LineTrees.{slot_of, shorter, from_two, node_of, AreKept, nodes_in_line}
+use Rattle.fold_trees.specs.PartTrees.{AreLineTrees, AreTrees}
 use Rattle.fold_trees.proofs.TreeLonger.{all_long, held_nodes, nodes_long, kept_without, longer_trees}
 use Rattle.fold_trees.proofs.part_trees.PartTrees.lengthen.Given.{Over}
 use Rattle.fold_trees.proofs.part_trees.PartTrees.lengthen.Goals.{After-more, After-deref_mut}
+use Rattle.operator_fns.specs.LineBlocks.{line_at}
 use Rattle.fold_trees.proofs.part_trees.PartTrees.lengthen.Goals as goal
 
 -- ---- the numbers are those of one more place of each line, and the room is for them
@@ -21,18 +21,18 @@ wide g c = ap (λ (n : NewPlacesValue). length n.numbers) c.more.view_is ∙ c.r
 between : (g : Over) (c : After-more g) → length c.self.inside.numbers.items ≡ c.self.inside.count * c.self.inside.step
 between g c = ap (λ (t : TreesValue). length t.numbers) c.self.view_is ∙ c.requires.between ∙ sym (ap (λ (t : TreesValue). t.count * t.step) c.self.view_is)
 
-held : (g : Over) (c : After-more g) → length c.self.inside.nodes.items ≡ nodes_in_line c.self.inside.count * c.self.inside.step
+held : (g : Over) (c : After-more g) → length c.self.inside.nodes.items ≡ nodes_in_line from_two c.self.inside.count * c.self.inside.step
 held g c =
     held_nodes g.P.Part.blank g.P.Part.tells c.self.inside.count c.self.inside.step c.self.inside.numbers.items c.self.inside.nodes.items c.self.invariant.trees (between g c)
 
-old_nodes : (g : Over) (c : After-more g) → nodes_in_line c.more.inside.count * length c.more.inside.numbers.items ≡ length c.self.inside.nodes.items
-old_nodes g c = (λ i. nodes_in_line (same_count g c i) * wide g c i) ∙ sym (held g c)
+old_nodes : (g : Over) (c : After-more g) → nodes_in_line from_two c.more.inside.count * length c.more.inside.numbers.items ≡ length c.self.inside.nodes.items
+old_nodes g c = (λ i. nodes_in_line from_two (same_count g c i) * wide g c i) ∙ sym (held g c)
 
 nodes_in_all : (g : Over) (c : After-more g)
     → c.more.inside.count * length c.more.inside.numbers.items ≡ length c.self.inside.nodes.items + length c.more.inside.more_nodes.items
 nodes_in_all g c =
     let step = c.self.inside.step in
-    let before = nodes_in_line c.self.inside.count in
+    let before = nodes_in_line from_two c.self.inside.count in
     let some = c.self.invariant.trees.lines.some in
     let whole : c.self.inside.count ≡ before + 1 = omega (arith, some) in
     let sum : (before + 1) * step ≡ before * step + step = grind arith in
@@ -44,7 +44,7 @@ put_behind-requires-2-clause-room g c =
     let before = (goal.at.put_behind-requires-2-clause-room g c).After-more in
     let capacity = vec_capacity c.more.inside.nodes in
     subst (λ n. HasRoom n (length c.self.inside.nodes.items + length c.more.inside.more_nodes.items) capacity) (old_nodes g before)
-    (subst (λ n. HasRoom (nodes_in_line c.more.inside.count * length c.more.inside.numbers.items) n capacity) (nodes_in_all g before) c.more.invariant.node_room)
+    (subst (λ n. HasRoom (nodes_in_line from_two c.more.inside.count * length c.more.inside.numbers.items) n capacity) (nodes_in_all g before) c.more.invariant.node_room)
 
 -- ---- the lists with the new numbers and nodes
 
@@ -61,7 +61,7 @@ numbers_long g c =
     ∙ all_long g.P.Part.blank g.P.Part.tells c.self.inside.count c.self.inside.step c.self.inside.numbers.items c.more.inside.numbers.items c.self.inside.nodes.items
     c.more.inside.more_nodes.items c.self.invariant.trees (between g before) (wide g before)
 
-nodes_count : (g : Over) (c : After-deref_mut g) → length c.deref_mut.result.now ≡ nodes_in_line (c.self.inside.count + 1) * c.self.inside.step
+nodes_count : (g : Over) (c : After-deref_mut g) → length c.deref_mut.result.now ≡ nodes_in_line from_two (c.self.inside.count + 1) * c.self.inside.step
 nodes_count g c =
     let before = (goal.at-After-deref_mut g c).After-more in
     ap (λ (l : List g.row.P.Denot). length l) (nodes_are g c)
@@ -80,9 +80,9 @@ take_places-requires-clause-kept g c line h =
     let numbers = c.self.inside.numbers.items in
     let more = c.more.inside.numbers.items in
     let before = (goal.at.take_places-requires-clause-kept g c).After-more in
-    let l = shorter (line_at (count + 1) step line) in
-    subst (λ (s : List ℤ). AreKept tells (count + 1 - 1) (slot_of l s) (node_of blank l c.deref_mut.result.now)) (sym (numbers_are g c))
-    (subst (λ (n : List g.row.P.Denot). AreKept tells (count + 1 - 1) (slot_of l (numbers ++ more)) (node_of blank l n)) (sym (nodes_are g c))
+    let l = shorter (line_at from_two (count + 1) step line) in
+    subst (λ (s : List ℤ). AreKept from_two tells (count + 1 - 1) (slot_of l s) (node_of from_two blank l c.deref_mut.result.now)) (sym (numbers_are g c))
+    (subst (λ (n : List g.row.P.Denot). AreKept from_two tells (count + 1 - 1) (slot_of l (numbers ++ more)) (node_of from_two blank l n)) (sym (nodes_are g c))
     (kept_without blank tells count step numbers more c.self.inside.nodes.items c.more.inside.more_nodes.items c.self.invariant.trees
     (between g before) (wide g before) line h))
 

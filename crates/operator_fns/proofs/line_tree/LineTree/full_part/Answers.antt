@@ -2,8 +2,8 @@ use Rattle.std.proofs.Common.{◌≡◌, ◌∙◌, ◌+◌, ◌-◌, ◌*◌, �
 use Rattle.std.specs.Int.{int_wrap}
 use Rattle.std.proofs.lemmas.Nat.{pow_pos}
 use Rattle.std.proofs.lemmas.Int.{to_z-of_z}
-use Rattle.operator_fns.specs.SumNodes.{Tells, single, join, sums_from}
-use Rattle.operator_fns.specs.LineTrees.{number_of, node_of}
+use Rattle.operator_fns.specs.SumNodes.{Tells, single, join, sums_from, empty}
+use Rattle.operator_fns.specs.LineTrees.{number_of, from_four, node_of}
 use Rattle.operator_fns.proofs.LineParts.{number_before, number_odd, sums_two, two_levels, even_start}
 use Rattle.operator_fns.proofs.line_tree.LineTree.full_part.Goals as goal
 
@@ -58,17 +58,17 @@ returns c =
     let from = c.args.from in
     let width = c.args.width in
     let x = number_of tree.line tree.slots.now in
-    let node = node_of tree.line tree.nodes.now in
+    let node = node_of from_four empty tree.line tree.nodes.now in
     let other = c.if-width-eq2.false in
     let levels = two_levels from width c.requires.part c.requires.wide other in
     let unit = 2 ^ levels.0 in
     let place = c.requires.part.place in
-    let size : width ≡ 4 * unit = levels.1 in
-    let at : from ≡ place * (4 * unit) = levels.2 in
-    let half : from + width / 2 ≡ place * (4 * unit) + 2 * unit = omega (arith, size, at) in
-    let long : min (2 * (2 * unit)) (tree.line.count - place * (4 * unit)) ≡ width = omega (arith, size, at, c.requires.full) in
+    let size : width ≡ 2 * (2 * unit) = levels.1 in
+    let at : from ≡ place * (2 * (2 * unit)) = levels.2 in
+    let half : from + width / 2 ≡ place * (2 * (2 * unit)) + 2 * unit = omega (arith, size, at) in
+    let long : min (2 * (2 * unit)) (tree.line.count - place * (2 * (2 * unit))) ≡ width = omega (arith, size, at, c.requires.full) in
     let positive = c.requires.wide in
     let kept = c.requires.kept levels.0 place (omega (arith, at)) (omega (arith, at, size)) (omega (arith, at, size, c.requires.full, positive)) in
     subst (λ s. Tells s (sums_from x from width)) (sym (ap (λ k. get_or tree.nodes.now k (record { below = 0; above = 0; total = 0 })) c.node_at.ensures ∙ ap node half))
-    (subst (λ n. Tells (node (place * (4 * unit) + 2 * unit)) (sums_from x from n)) long
-    (subst (λ f. Tells (node (place * (4 * unit) + 2 * unit)) (sums_from x f (min (2 * (2 * unit)) (tree.line.count - place * (4 * unit))))) (sym at) kept))
+    (subst (λ n. Tells (node (place * (2 * (2 * unit)) + 2 * unit)) (sums_from x from n)) long
+    (subst (λ f. Tells (node (place * (2 * (2 * unit)) + 2 * unit)) (sums_from x f (min (2 * (2 * unit)) (tree.line.count - place * (2 * (2 * unit)))))) (sym at) kept))

@@ -1,8 +1,8 @@
 use Rattle.std.proofs.Common.{◌≡◌, ◌≢◌, ◌∙◌, ◌+◌, ◌-◌, ◌*◌, ◌/◌, ◌%◌, ◌^◌, ◌≤◌, min, sym, ap, subst, pos, get_or, arith, rules, slice_index_or, w64, FitsSigned, ◌-ℤ◌}
 use Rattle.std.specs.Int.{int_wrap}
 use Rattle.std.proofs.lemmas.Int.{to_z-of_z}
-use Rattle.operator_fns.specs.SumNodes.{Tells, single, join, sums_from}
-use Rattle.operator_fns.specs.LineTrees.{number_of, node_of}
+use Rattle.operator_fns.specs.SumNodes.{Tells, single, join, sums_from, empty}
+use Rattle.operator_fns.specs.LineTrees.{number_of, from_four, node_of}
 use Rattle.operator_fns.proofs.LineParts.{number_before, number_odd, sums_one, sums_two, least_part, one_level, more_levels}
 use Rattle.std.proofs.lemmas.Nat.{pow_pos}
 use Rattle.operator_fns.proofs.line_tree.LineTree.part.Goals as goal
@@ -55,7 +55,7 @@ returns c =
     let tree = c.args.self.now in
     let from = c.args.from in
     let x = number_of tree.line tree.slots.now in
-    let node = node_of tree.line tree.nodes.now in
+    let node = node_of from_four empty tree.line tree.nodes.now in
     let next = c.next_power_of_two-half.ensures in
     let some = c.if-long-eq1.false in
     let long_is = c.min-long.ensures in
@@ -70,15 +70,15 @@ returns c =
     omega (arith, long_is, one, next.lower_bound, below, width_is, positive) in
     let more = more_levels p.level c.next_power_of_two-half.result p.power two c.if-half-eq1.false in
     let unit = 2 ^ more.0 in
-    let size : c.next_power_of_two-half.result ≡ 4 * unit = more.1 in
-    let at : from ≡ p.place * (4 * unit) = p.from_is ∙ ap (λ k. p.place * k) (sym p.power ∙ size) in
-    let half : from + c.next_power_of_two-half.result / 2 ≡ p.place * (4 * unit) + 2 * unit = omega (arith, size, at) in
+    let size : c.next_power_of_two-half.result ≡ 2 * (2 * unit) = more.1 in
+    let at : from ≡ p.place * (2 * (2 * unit)) = p.from_is ∙ ap (λ k. p.place * k) (sym p.power ∙ size) in
+    let half : from + c.next_power_of_two-half.result / 2 ≡ p.place * (2 * (2 * unit)) + 2 * unit = omega (arith, size, at) in
     let within = p.within in
     let enough = p.enough in
     let upper = next.upper_bound in
-    let long : min (2 * (2 * unit)) (tree.line.count - p.place * (4 * unit)) ≡ min c.args.width (tree.line.count - from) = omega (arith, size, at, within, enough, long_is, below) in
+    let long : min (2 * (2 * unit)) (tree.line.count - p.place * (2 * (2 * unit))) ≡ min c.args.width (tree.line.count - from) = omega (arith, size, at, within, enough, long_is, below) in
     let kept = c.requires.kept more.0 p.place (omega (arith, at)) (omega (arith, at, size, within)) (omega (arith, at, size, upper, long_is, two, enough, below)) in
     subst (λ s. Tells s (sums_from x from (min c.args.width (tree.line.count - from))))
     (sym (ap (λ k. get_or tree.nodes.now k (record { below = 0; above = 0; total = 0 })) c.node_at.ensures ∙ ap node half))
-    (subst (λ n. Tells (node (p.place * (4 * unit) + 2 * unit)) (sums_from x from n)) long
-    (subst (λ f. Tells (node (p.place * (4 * unit) + 2 * unit)) (sums_from x f (min (2 * (2 * unit)) (tree.line.count - p.place * (4 * unit))))) (sym at) kept))
+    (subst (λ n. Tells (node (p.place * (2 * (2 * unit)) + 2 * unit)) (sums_from x from n)) long
+    (subst (λ f. Tells (node (p.place * (2 * (2 * unit)) + 2 * unit)) (sums_from x f (min (2 * (2 * unit)) (tree.line.count - p.place * (2 * (2 * unit)))))) (sym at) kept))

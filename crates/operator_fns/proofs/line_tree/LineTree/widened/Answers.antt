@@ -1,7 +1,7 @@
-use Rattle.std.proofs.Common.{◌≡◌, ◌∙◌, ◌+◌, ◌-◌, ◌*◌, ◌/◌, ◌%◌, ◌<◌, min, ap, subst, arith}
-use Rattle.operator_fns.specs.SumNodes.{Tells, sums_from}
-use Rattle.operator_fns.specs.LineTrees.{number_of, sums_at}
-use Rattle.operator_fns.proofs.LineParts.{sums_same, odd_block, even_block, widen_odd, widen_even, widen_alone}
+use Rattle.std.proofs.Common.{◌≡◌, ◌∙◌, ◌+◌, ◌-◌, ◌*◌, ◌/◌, ◌%◌, ◌<◌, min, sym, ap, subst, arith}
+use Rattle.operator_fns.specs.SumNodes.{Tells, TellsSums, sums_of, sums_from, sums_at}
+use Rattle.operator_fns.specs.LineTrees.{number_of, segment, numbers_of_block}
+use Rattle.operator_fns.proofs.LineParts.{sums_same, sums_joined, odd_block, even_block, widen_odd, widen_even, widen_alone}
 use Rattle.operator_fns.proofs.line_tree.LineTree.widened.Goals as goal
 
 pub part-requires-clause-part : goal.part-requires-clause-part
@@ -34,14 +34,14 @@ returns-then-block-eq1-clause-is c x same told =
     let from = block * width - width in
     let long = min width (line.count - from) in
     let alike = sums_same numbers x from long (λ i low high. same i (omega (arith, at.0, at.1, low)) (omega (arith, at.0, at.1, high, c.requires.from))) in
-    subst (Tells c.join.result) (widen_odd line.count x block width odd c.requires.from)
+    subst (Tells c.join.result) (sym (sums_joined (segment x from long) (numbers_of_block line.count x block width)) ∙ ap sums_of (widen_odd line.count x block width odd c.requires.from))
     (c.join.ensures (sums_from x from long) (sums_at line.count x block width) (subst (Tells c.part.result) alike c.part.ensures) told)
 
 pub returns-then-self-from-clause-is : goal.returns-then-self-from-clause-is
 returns-then-self-from-clause-is c x same told =
     let some = c.if-block-eq1.false in
     let even : c.args.block % 2 ≡ 0 = omega (arith, some) in
-    subst (Tells c.args.summary.now) (widen_alone c.args.self.now.line.count x c.args.block c.args.width even c.requires.from c.if-self-from.true) told
+    subst (TellsSums c.args.summary.now) (widen_alone c.args.self.now.line.count x c.args.block c.args.width even c.requires.from c.if-self-from.true) told
 
 pub part-requires-2-clause-kept : goal.part-requires-2-clause-kept
 part-requires-2-clause-kept c level place low high =
@@ -64,5 +64,5 @@ returns-clause-is c x same told =
     let from = block * width + width in
     let long = min width (line.count - from) in
     let alike = sums_same numbers x from long (λ i low high. same i (omega (arith, at.0, at.1, low)) (omega (arith, at.0, at.1, high, below))) in
-    subst (Tells c.join-2.result) (widen_even line.count x block width even below)
+    subst (Tells c.join-2.result) (sym (sums_joined (numbers_of_block line.count x block width) (segment x from long)) ∙ ap sums_of (widen_even line.count x block width even below))
     (c.join-2.ensures (sums_at line.count x block width) (sums_from x from long) told (subst (Tells c.part-2.result) alike c.part-2.ensures))

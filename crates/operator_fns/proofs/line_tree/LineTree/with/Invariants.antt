@@ -1,6 +1,6 @@
 use Rattle.std.proofs.Common.{◌≡◌, ◌+◌, ◌-◌, ◌*◌, ◌<◌, ◌≤◌, ◌⊎◌}
-use Rattle.operator_fns.specs.SumNodes.{Tells}
-use Rattle.operator_fns.specs.LineTrees.{number_of, replaced, sums_at}
+use Rattle.operator_fns.specs.SumNodes.{Tells, sums_at}
+use Rattle.operator_fns.specs.LineTrees.{number_of, replaced}
 use Rattle.operator_fns.proofs.LineParts.{IsClimb}
 use Rattle.operator_fns.proofs.line_tree.LineTree.with.Given as goal
 

@@ -1,9 +1,10 @@
 use Rattle.std.proofs.Common.{◌≡◌, ◌∙◌, ◌+◌, ◌*◌, ◌<◌, ℕ, ap, sym, subst, length, get_or, drop, List, ℤ, pos, arith}
 use Rattle.std.proofs.lemmas.List.{take_at}
 use Rattle.operator_fns.specs.declared.line_tree.Line.{Line}
-use Rattle.operator_fns.specs.LineTrees.{one_line, slot_of, number_of, numbers_in}
+use Rattle.operator_fns.specs.LineTrees.{slot_of, number_of}
 use Rattle.operator_fns.specs.LineBlocks.{line_of}
 use Rattle.operator_fns.proofs.ListTrees.{numbers_are}
+use Rattle.operator_fns.specs.SumTree.{one_line, numbers_in}
 use Rattle.operator_fns.proofs.sum_tree.SumTree.build.Goals as goal
 
 pub returns : goal.returns

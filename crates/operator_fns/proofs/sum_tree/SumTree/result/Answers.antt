@@ -1,7 +1,7 @@
 use Rattle.std.proofs.Common.{◌≡◌, ◌∙◌, ap, sym, subst, length, List, ℤ}
-use Rattle.operator_fns.specs.SumTree.{IsReductionBySum}
+use Rattle.operator_fns.specs.SumTree.{IsReductionBySum, one_line, numbers_in}
 use Rattle.operator_fns.specs.SumNodes.{Tells, sums_of, sums_from}
-use Rattle.operator_fns.specs.LineTrees.{one_line, number_of, numbers_in}
+use Rattle.operator_fns.specs.LineTrees.{number_of}
 use Rattle.operator_fns.proofs.SumEndings.{told_reduction}
 use Rattle.operator_fns.proofs.ListTrees.{sums_listed, numbers_fit}
 use Rattle.operator_fns.proofs.sum_tree.SumTree.result.Goals as goal

@@ -2,9 +2,9 @@ use Rattle.std.proofs.Common.{◌≡◌, ◌∙◌, ◌++◌, ◌∷◌, [], ap,
 use Rattle.std.specs.List.{All}
 use Rattle.std.proofs.lemmas.List.Elements.{All-append, All-cons, All-nil}
 use Rattle.std.proofs.lemmas.Int.{to_z-of_z}
-use Rattle.operator_fns.specs.SumTree.{IsReductionBySum}
-use Rattle.operator_fns.specs.SumNodes.{Tells, single, sums_of, sums_from, sum_told}
-use Rattle.operator_fns.specs.LineTrees.{one_line, number_of, numbers_in}
+use Rattle.operator_fns.specs.SumTree.{IsReductionBySum, one_line, numbers_in}
+use Rattle.operator_fns.specs.SumNodes.{Tells, single, sums_of, sum_told, sums_from}
+use Rattle.operator_fns.specs.LineTrees.{number_of}
 use Rattle.operator_fns.proofs.SumEndings.{told_reduction, sums_behind}
 use Rattle.operator_fns.proofs.ListTrees.{sums_listed, numbers_fit}
 use Rattle.operator_fns.proofs.sum_tree.SumTree.result_behind.Goals as goal

@@ -2,9 +2,9 @@ use Rattle.std.proofs.Common.{◌≡◌, ◌∙◌, ap, sym, subst, length, set,
 use Rattle.std.proofs.lemmas.Int.{to_z-of_z}
 use Rattle.std.proofs.lemmas.List.Elements.{All-set}
 use Rattle.operator_fns.specs.declared.line_tree.Line.{Line}
-use Rattle.operator_fns.specs.SumTree.{IsReductionBySum}
+use Rattle.operator_fns.specs.SumTree.{IsReductionBySum, one_line, numbers_in}
 use Rattle.operator_fns.specs.SumNodes.{Tells, sums_of, sums_from}
-use Rattle.operator_fns.specs.LineTrees.{one_line, number_of, numbers_in, replaced}
+use Rattle.operator_fns.specs.LineTrees.{number_of, replaced}
 use Rattle.operator_fns.proofs.SumEndings.{told_reduction}
 use Rattle.operator_fns.proofs.ListTrees.{length_numbers, sums_listed, numbers_fit, list_replaced}
 use Rattle.operator_fns.proofs.sum_tree.SumTree.result_with.Goals as goal

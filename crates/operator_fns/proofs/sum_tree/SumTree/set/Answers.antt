@@ -4,8 +4,10 @@ use Rattle.std.specs.List.{range_with_len}
 use Rattle.std.proofs.lemmas.List.{take_at, length-set}
 use Rattle.operator_fns.specs.declared.summary.Summary.{Summary}
 use Rattle.operator_fns.specs.declared.line_tree.Line.{Line}
-use Rattle.operator_fns.specs.LineTrees.{one_line, number_of, node_of, numbers_in, replaced, AreKept}
+use Rattle.operator_fns.specs.LineTrees.{number_of, replaced, from_four, node_of, AreKept}
 use Rattle.operator_fns.proofs.ListTrees.{length_numbers, number_at, list_replaced, numbers_are, tree_from}
+use Rattle.operator_fns.specs.SumNodes.{empty, TellsSums}
+use Rattle.operator_fns.specs.SumTree.{one_line, numbers_in}
 use Rattle.operator_fns.proofs.sum_tree.SumTree.set.Goals as goal
 
 pub write-requires-clause-place : goal.write-requires-clause-place
@@ -34,7 +36,7 @@ invariant_of-self c =
       few = omega (arith, slot_count, tree.few);
       fit = wrote.fit;
       sized = omega (arith, node_count, slot_count, tree.sized);
-      kept = subst (λ (l : Line). AreKept l.count (number_of l new_slots) (node_of l new_nodes)) lined wrote.kept;
+      kept = subst (λ (l : Line). AreKept from_four TellsSums l.count (number_of l new_slots) (node_of from_four empty l new_nodes)) lined wrote.kept;
     })
 
 pub returns : goal.returns

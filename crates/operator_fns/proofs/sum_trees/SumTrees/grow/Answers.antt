@@ -1,11 +1,12 @@
 use Rattle.std.proofs.Common.{◌≡◌, ◌∙◌, ◌+◌, ◌*◌, ◌/◌, ◌<◌, ◌^◌, ◌++◌, ℤ, List, length, sym, ap, subst, arith, vec_capacity}
 use Rattle.arrays_core.specs.Growth.{HasRoom}
 use Rattle.operator_fns.specs.declared.summary.Summary.{Summary}
-use Rattle.operator_fns.specs.SumTrees.{TreesValue, NewTreesValue, line_count, nodes_in_line, numbers_kept, with_lines, AreLineTrees}
+use Rattle.operator_fns.specs.SumTrees.{TreesValue, NewTreesValue, line_count, numbers_kept, with_lines, AreLineTrees}
 use Rattle.operator_fns.proofs.KeptNumbers.{kept_count}
 use Rattle.operator_fns.proofs.LineSpots.{all_slots, fewer_nodes}
 use Rattle.operator_fns.proofs.MoreLines.{in_all, more_numbers, more_trees}
 use Rattle.operator_fns.proofs.sum_trees.SumTrees.grow.Goals.{After-trees}
+use Rattle.operator_fns.specs.LineTrees.{from_four, nodes_in_line}
 use Rattle.operator_fns.proofs.sum_trees.SumTrees.grow.Goals as goal
 
 -- ---- the new lines are as long as the old ones, their neighbours as far apart, and the room is for them
@@ -74,11 +75,11 @@ node_room c =
     let new = line_count c.more.inside.trees in
     let capacity = vec_capacity c.more.inside.nodes in
     let trees = new_trees c in
-    let held = c.self.invariant.trees.sized ∙ ap (λ n. n * nodes_in_line count) (sym (old_count c)) in
-    let more = trees.sized ∙ ap (λ n. n * nodes_in_line count) (sym (new_count c)) in
+    let held = c.self.invariant.trees.sized ∙ ap (λ n. n * nodes_in_line from_four count) (sym (old_count c)) in
+    let more = trees.sized ∙ ap (λ n. n * nodes_in_line from_four count) (sym (new_count c)) in
     subst (λ n. HasRoom n (length c.self.inside.nodes.items + length c.trees.inside.nodes.items) capacity) (sym held)
-    (subst (λ n. HasRoom (old * nodes_in_line count) n capacity) (in_all old new (length c.self.inside.nodes.items) (length c.trees.inside.nodes.items) (nodes_in_line count) held more)
-    (subst (λ n. HasRoom (old * nodes_in_line n) ((old + new) * nodes_in_line n) capacity) (seen_count c) c.more.invariant.node_room))
+    (subst (λ n. HasRoom (old * nodes_in_line from_four count) n capacity) (in_all old new (length c.self.inside.nodes.items) (length c.trees.inside.nodes.items) (nodes_in_line from_four count) held more)
+    (subst (λ n. HasRoom (old * nodes_in_line from_four n) ((old + new) * nodes_in_line from_four n) capacity) (seen_count c) c.more.invariant.node_room))
 
 few_slots : (c : After-trees) → length c.self.inside.slots.items + length c.trees.inside.slots.items < 2 ^ 63
 few_slots c =
@@ -90,8 +91,8 @@ few_nodes c =
     let count = c.self.inside.count in
     let step = c.self.inside.step in
     let trees = new_trees c in
-    let old = fewer_nodes count step (length c.self.inside.slots.items) c.self.invariant.trees.lines (nodes_in_line count) (length c.self.inside.nodes.items) (omega arith) c.self.invariant.trees.sized in
-    let new = fewer_nodes count step (length c.trees.inside.slots.items) trees.lines (nodes_in_line count) (length c.trees.inside.nodes.items) (omega arith) trees.sized in
+    let old = fewer_nodes count step (length c.self.inside.slots.items) c.self.invariant.trees.lines (nodes_in_line from_four count) (length c.self.inside.nodes.items) (omega arith) c.self.invariant.trees.sized in
+    let new = fewer_nodes count step (length c.trees.inside.slots.items) trees.lines (nodes_in_line from_four count) (length c.trees.inside.nodes.items) (omega arith) trees.sized in
     omega (arith, old, new, few_slots c)
 
 pub put_behind-requires-clause-few : goal.put_behind-requires-clause-few

@@ -5,11 +5,13 @@ use Rattle.std.proofs.lemmas.List.{with_items_is}
 use Rattle.std.proofs.lemmas.List.Elements.{All-append}
 use Rattle.arrays_core.specs.Growth.{IsRoomy, HasRoom}
 use Rattle.operator_fns.specs.declared.summary.Summary.{Summary}
-use Rattle.operator_fns.specs.LineTrees.{number_of, node_of, shorter, slot_of, AreKept}
-use Rattle.operator_fns.specs.SumTrees.{TreesValue, NewPlacesValue, line_at, nodes_in_line, numbers_kept, with_places, AreTrees}
+use Rattle.operator_fns.specs.LineTrees.{number_of, shorter, slot_of, from_four, node_of, AreKept, nodes_in_line}
+use Rattle.operator_fns.specs.SumTrees.{TreesValue, NewPlacesValue, numbers_kept, with_places, AreTrees}
 use Rattle.operator_fns.proofs.KeptNumbers.{kept_count}
 use Rattle.operator_fns.proofs.LongerTrees.{all_long, held_nodes, nodes_long, kept_without, longer_numbers, longer_trees}
 use Rattle.operator_fns.proofs.sum_trees.SumTrees.lengthen.Goals.{After-more, After-deref_mut-2, After-take_places}
+use Rattle.operator_fns.specs.LineBlocks.{line_at}
+use Rattle.operator_fns.specs.SumNodes.{empty, TellsSums}
 use Rattle.operator_fns.proofs.sum_trees.SumTrees.lengthen.Goals as goal
 
 -- ---- the numbers are those of one more place of each line, and the room is for them
@@ -34,17 +36,17 @@ slots_in_all c =
     let sum : (c.more.inside.count + 1) * long ≡ c.more.inside.count * long + long = grind arith in
     sum ∙ ap (λ n. n + long) (held_slots c)
 
-old_nodes : (c : After-more) → nodes_in_line c.more.inside.count * length c.more.inside.numbers.items ≡ length c.self.inside.nodes.items
+old_nodes : (c : After-more) → nodes_in_line from_four c.more.inside.count * length c.more.inside.numbers.items ≡ length c.self.inside.nodes.items
 old_nodes c =
-    (λ i. nodes_in_line (same_count c i) * wide c i)
+    (λ i. nodes_in_line from_four (same_count c i) * wide c i)
     ∙ sym (held_nodes c.self.inside.count c.self.inside.step c.self.inside.slots.items c.self.inside.nodes.items c.self.invariant.trees (between c))
 
-nodes_in_all : (c : After-more) → nodes_in_line (c.more.inside.count + 1) * length c.more.inside.numbers.items ≡ length c.self.inside.nodes.items + length c.more.inside.more_nodes.items
+nodes_in_all : (c : After-more) → nodes_in_line from_four (c.more.inside.count + 1) * length c.more.inside.numbers.items ≡ length c.self.inside.nodes.items + length c.more.inside.more_nodes.items
 nodes_in_all c =
     let long = length c.more.inside.numbers.items in
-    let held = nodes_in_line c.more.inside.count in
-    let rest = nodes_in_line (c.more.inside.count + 1) - held in
-    let whole : nodes_in_line (c.more.inside.count + 1) ≡ held + rest = omega arith in
+    let held = nodes_in_line from_four c.more.inside.count in
+    let rest = nodes_in_line from_four (c.more.inside.count + 1) - held in
+    let whole : nodes_in_line from_four (c.more.inside.count + 1) ≡ held + rest = omega arith in
     let sum : (held + rest) * long ≡ held * long + rest * long = grind arith in
     ap (λ n. n * long) whole ∙ sum ∙ (λ i. old_nodes c i + sym c.more.invariant.more_nodes i)
 
@@ -65,12 +67,12 @@ put_behind-requires-2-clause-room c =
     let before = (goal.at.put_behind-requires-2-clause-room c).After-more in
     let capacity = vec_capacity c.more.inside.nodes in
     subst (λ n. HasRoom n (length c.self.inside.nodes.items + length c.more.inside.more_nodes.items) capacity) (old_nodes before)
-    (subst (λ n. HasRoom (nodes_in_line c.more.inside.count * length c.more.inside.numbers.items) n capacity) (nodes_in_all before) c.more.invariant.node_room)
+    (subst (λ n. HasRoom (nodes_in_line from_four c.more.inside.count * length c.more.inside.numbers.items) n capacity) (nodes_in_all before) c.more.invariant.node_room)
 
 -- ---- the lists with the new slots and nodes
 
-more_nodes_are : (c : After-more) → length c.more.inside.more_nodes.items ≡ (nodes_in_line (c.self.inside.count + 1) - nodes_in_line c.self.inside.count) * length c.more.inside.numbers.items
-more_nodes_are c = c.more.invariant.more_nodes ∙ ap (λ n. (nodes_in_line (n + 1) - nodes_in_line n) * length c.more.inside.numbers.items) (same_count c)
+more_nodes_are : (c : After-more) → length c.more.inside.more_nodes.items ≡ (nodes_in_line from_four (c.self.inside.count + 1) - nodes_in_line from_four c.self.inside.count) * length c.more.inside.numbers.items
+more_nodes_are c = c.more.invariant.more_nodes ∙ ap (λ n. (nodes_in_line from_four (n + 1) - nodes_in_line from_four n) * length c.more.inside.numbers.items) (same_count c)
 
 slots_are : (c : After-deref_mut-2) → c.deref_mut.result.now ≡ c.self.inside.slots.items ++ c.more.inside.numbers.items
 slots_are c = c.deref_mut.ensures.value ∙ c.put_behind.ensures.items
@@ -85,7 +87,7 @@ slots_long c =
     ∙ all_long c.self.inside.count c.self.inside.step c.self.inside.slots.items c.more.inside.numbers.items c.self.inside.nodes.items c.more.inside.more_nodes.items c.self.invariant.trees (between before)
     (wide before)
 
-nodes_count : (c : After-deref_mut-2) → length c.deref_mut-2.result.now ≡ nodes_in_line (c.self.inside.count + 1) * c.self.inside.step
+nodes_count : (c : After-deref_mut-2) → length c.deref_mut-2.result.now ≡ nodes_in_line from_four (c.self.inside.count + 1) * c.self.inside.step
 nodes_count c =
     let before = (goal.at-After-deref_mut-2 c).After-more in
     ap (λ (l : List Summary). length l) (nodes_are c)
@@ -108,9 +110,9 @@ take_places-requires-clause-kept c line h =
     let count = c.self.inside.count in
     let step = c.self.inside.step in
     let before = (goal.at.take_places-requires-clause-kept c).After-more in
-    let l = shorter (line_at (count + 1) step line) in
-    subst (λ (s : List ℤ). AreKept (count + 1 - 1) (number_of l s) (node_of l c.deref_mut-2.result.now)) (sym (slots_are c))
-    (subst (λ (n : List Summary). AreKept (count + 1 - 1) (number_of l (c.self.inside.slots.items ++ c.more.inside.numbers.items)) (node_of l n)) (sym (nodes_are c))
+    let l = shorter (line_at from_four (count + 1) step line) in
+    subst (λ (s : List ℤ). AreKept from_four TellsSums (count + 1 - 1) (number_of l s) (node_of from_four empty l c.deref_mut-2.result.now)) (sym (slots_are c))
+    (subst (λ (n : List Summary). AreKept from_four TellsSums (count + 1 - 1) (number_of l (c.self.inside.slots.items ++ c.more.inside.numbers.items)) (node_of from_four empty l n)) (sym (nodes_are c))
     (kept_without count step c.self.inside.slots.items c.more.inside.numbers.items c.self.inside.nodes.items c.more.inside.more_nodes.items c.self.invariant.trees (between before) (wide before) line h))
 
 -- ---- when all lines have taken theirs
@@ -155,8 +157,8 @@ returns c =
     let are = slots_are before in
     let all = longer_numbers count step slots numbers c.self.inside.nodes.items c.more.inside.more_nodes.items c.self.invariant.trees (between first) (wide first) after
     (told.slot_length ∙ ap (λ (l : List ℤ). length l) are)
-    (λ line i h p. told.numbers line i h p ∙ ap (λ (l : List ℤ). number_of (shorter (line_at (count + 1) step line)) l i) are)
-    (λ line h. told.last line h ∙ ap (λ (l : List ℤ). slot_of (line_at (count + 1) step line) l (count + 1 - 1)) are) in
+    (λ line i h p. told.numbers line i h p ∙ ap (λ (l : List ℤ). number_of (shorter (line_at from_four (count + 1) step line)) l i) are)
+    (λ line h. told.last line h ∙ ap (λ (l : List ℤ). slot_of (line_at from_four (count + 1) step line) l (count + 1 - 1)) are) in
     let numbers_are = ap (numbers_kept (count + 1) step) (slots_kept (goal.at.returns c).After-take_places) ∙ all
     ∙ ap (λ (ns : List ℤ). numbers_kept count step slots ++ ns) (ap (λ (n : NewPlacesValue). n.numbers) c.more.view_is) in
     let made = λ (ns : List ℤ). let t : TreesValue = record { count = count + 1; step = step; numbers = ns } in t in

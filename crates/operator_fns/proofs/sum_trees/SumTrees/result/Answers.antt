@@ -2,12 +2,13 @@ use Rattle.std.proofs.Common.{◌∙◌, ◌/◌, ◌<◌, ℤ, List, length, ap
 use Rattle.std.specs.List.{All}
 use Rattle.operator_fns.specs.declared.line_tree.Line.{Line}
 use Rattle.operator_fns.specs.SumTree.{IsReductionBySum}
-use Rattle.operator_fns.specs.SumNodes.{Tells, sums_from, sum_told}
-use Rattle.operator_fns.specs.LineTrees.{number_of, HasSlots}
-use Rattle.operator_fns.specs.SumTrees.{TreesValue, line_at, line_count, numbers_of_line}
+use Rattle.operator_fns.specs.SumNodes.{Tells, sum_told, sums_from}
+use Rattle.operator_fns.specs.LineTrees.{number_of, HasSlots, from_four}
+use Rattle.operator_fns.specs.SumTrees.{TreesValue, line_count, numbers_of_line}
 use Rattle.operator_fns.proofs.KeptNumbers.{seen, kept_count, kept_line, line_sums}
 use Rattle.operator_fns.proofs.ListTrees.{line_fits}
 use Rattle.operator_fns.proofs.SumEndings.{told_reduction}
+use Rattle.operator_fns.specs.LineBlocks.{line_at}
 use Rattle.operator_fns.proofs.sum_trees.SumTrees.result.Goals as goal
 
 pub nth_tree-tree-requires-clause-line : goal.nth_tree-tree-requires-clause-line
@@ -31,14 +32,14 @@ returns c =
     let inside : line < length slots / count = omega (arith, c.requires, many, is) in
     let read = c.nth_tree-tree.ensures.slots ∙ c.deref.ensures.value in
     let at = c.nth_tree-tree.ensures.line in
-    let told : Tells c.whole.result (sums_from (number_of (line_at count step line) slots) 0 count) =
+    let told : Tells c.whole.result (sums_from (number_of (line_at from_four count step line) slots) 0 count) =
     subst (λ (l : Line). Tells c.whole.result (sums_from (number_of l slots) 0 l.count)) at
     (subst (λ (s : List ℤ). Tells c.whole.result (sums_from (number_of tree.line s) 0 tree.line.count)) read c.whole.ensures) in
-    let has : HasSlots (line_at count step line) (length slots) =
+    let has : HasSlots (line_at from_four count step line) (length slots) =
     subst (λ (l : Line). HasSlots l (length slots)) at (subst (λ (s : List ℤ). HasSlots tree.line (length s)) read c.nth_tree-tree.ensures.inside.slots) in
     let lines = c.self.invariant.trees.lines in
     let numbers = numbers_of_line (seen count step slots) line in
     let fit : All (FitsSigned w64) numbers =
-    subst (All (FitsSigned w64)) (sym (kept_line count step slots lines line inside)) (line_fits (line_at count step line) slots c.self.invariant.trees.fit has) in
+    subst (All (FitsSigned w64)) (sym (kept_line count step slots lines line inside)) (line_fits (line_at from_four count step line) slots c.self.invariant.trees.fit has) in
     let sum = c.sum.ensures _ told ∙ ap sum_told (line_sums count step slots lines line inside) in
     subst (λ (t : TreesValue). IsReductionBySum (numbers_of_line t line) c.sum.result) c.self.view_is (subst (IsReductionBySum numbers) (sym sum) (told_reduction numbers fit))

@@ -5,13 +5,16 @@ use Rattle.std.specs.Vec.{with_items}
 use Rattle.arrays_core.specs.Growth.{IsRoomy}
 use Rattle.operator_fns.specs.declared.summary.Summary.{Summary}
 use Rattle.operator_fns.specs.declared.line_tree.Line.{Line}
-use Rattle.operator_fns.specs.LineTrees.{number_of, node_of, IsIn, AreKept}
-use Rattle.operator_fns.specs.SumTrees.{TreesValue, line_at, line_through, numbers_kept, with_number, AreTrees}
+use Rattle.operator_fns.specs.LineTrees.{number_of, from_four, IsIn, node_of, AreKept}
+use Rattle.operator_fns.specs.SumTrees.{TreesValue, line_through, numbers_kept, with_number, AreTrees}
+use Rattle.operator_fns.proofs.Halves.{are_from_four}
 use Rattle.operator_fns.proofs.KeptNumbers.{seen, kept_count}
 use Rattle.operator_fns.proofs.LinePlaces.{line_within}
 use Rattle.operator_fns.proofs.LineSpots.{in_both, line_fits}
 use Rattle.operator_fns.proofs.WrittenLines.{IsWritten, written_numbers, written_trees}
 use Rattle.operator_fns.proofs.sum_trees.SumTrees.set.Goals.{After-self, After-nth_line-line, After-write}
+use Rattle.operator_fns.specs.LineBlocks.{line_at}
+use Rattle.operator_fns.specs.SumNodes.{empty, TellsSums}
 use Rattle.operator_fns.proofs.sum_trees.SumTrees.set.Goals as goal
 
 -- ---- where the place lies
@@ -25,8 +28,8 @@ is_inside c =
 is_below : (c : After-self) → line_through c.self.inside.count c.self.inside.step c.args.place < length c.self.inside.slots.items / c.self.inside.count
 is_below c = line_within c.self.inside.count c.self.inside.step (length c.self.inside.slots.items) c.self.invariant.trees.lines c.args.place (is_inside c)
 
-line_is : (c : After-nth_line-line) → c.nth_line-line.result ≡ line_at c.self.inside.count c.self.inside.step (line_through c.self.inside.count c.self.inside.step c.args.place)
-line_is c = c.nth_line-line.ensures ∙ ap (line_at c.self.inside.count c.self.inside.step) c.line_through-line.ensures
+line_is : (c : After-nth_line-line) → c.nth_line-line.result ≡ line_at from_four c.self.inside.count c.self.inside.step (line_through c.self.inside.count c.self.inside.step c.args.place)
+line_is c = c.nth_line-line.ensures ∙ ap (line_at from_four c.self.inside.count c.self.inside.step) c.line_through-line.ensures
 
 pub nth_line-line-requires-clause-fit : goal.nth_line-line-requires-clause-fit
 nth_line-line-requires-clause-fit c =
@@ -48,10 +51,10 @@ write-requires-clause-inside c =
     let trees = c.self.invariant.trees in
     let line = line_through count step c.args.place in
     let small : length slots < 2 ^ 62 = search rules in
-    subst (λ (l : Line). IsIn l (length c.deref_mut.result.now) (length c.deref_mut-2.result.now)) (sym (line_is (goal.at.write-requires-clause-inside c).After-nth_line-line))
-    (subst (λ (s : List ℤ). IsIn (line_at count step line) (length s) (length c.deref_mut-2.result.now)) (sym c.deref_mut.ensures.value)
-    (subst (λ (n : List Summary). IsIn (line_at count step line) (length slots) (length n)) (sym c.deref_mut-2.ensures.value)
-    (in_both count step (length slots) trees.lines line (is_below (goal.at.write-requires-clause-inside c).After-self) (length nodes) trees.sized small)))
+    subst (λ (l : Line). IsIn from_four l (length c.deref_mut.result.now) (length c.deref_mut-2.result.now)) (sym (line_is (goal.at.write-requires-clause-inside c).After-nth_line-line))
+    (subst (λ (s : List ℤ). IsIn from_four (line_at from_four count step line) (length s) (length c.deref_mut-2.result.now)) (sym c.deref_mut.ensures.value)
+    (subst (λ (n : List Summary). IsIn from_four (line_at from_four count step line) (length slots) (length n)) (sym c.deref_mut-2.ensures.value)
+    (in_both from_four are_from_four count step (length slots) trees.lines line (is_below (goal.at.write-requires-clause-inside c).After-self) (length nodes) trees.sized small)))
 
 pub write-requires-clause-kept : goal.write-requires-clause-kept
 write-requires-clause-kept c =
@@ -59,15 +62,15 @@ write-requires-clause-kept c =
     let step = c.self.inside.step in
     let slots = c.self.inside.slots.items in
     let line = line_through count step c.args.place in
-    let l = line_at count step line in
-    subst (λ (l : Line). AreKept l.count (number_of l c.deref_mut.result.now) (node_of l c.deref_mut-2.result.now)) (sym (line_is (goal.at.write-requires-clause-kept c).After-nth_line-line))
-    (subst (λ (s : List ℤ). AreKept count (number_of l s) (node_of l c.deref_mut-2.result.now)) (sym c.deref_mut.ensures.value)
-    (subst (λ (n : List Summary). AreKept count (number_of l slots) (node_of l n)) (sym c.deref_mut-2.ensures.value)
+    let l = line_at from_four count step line in
+    subst (λ (l : Line). AreKept from_four TellsSums l.count (number_of l c.deref_mut.result.now) (node_of from_four empty l c.deref_mut-2.result.now)) (sym (line_is (goal.at.write-requires-clause-kept c).After-nth_line-line))
+    (subst (λ (s : List ℤ). AreKept from_four TellsSums count (number_of l s) (node_of from_four empty l c.deref_mut-2.result.now)) (sym c.deref_mut.ensures.value)
+    (subst (λ (n : List Summary). AreKept from_four TellsSums count (number_of l slots) (node_of from_four empty l n)) (sym c.deref_mut-2.ensures.value)
     (c.self.invariant.trees.kept line (is_below (goal.at.write-requires-clause-kept c).After-self))))
 
 -- ---- what is written
 
-is_written : (c : After-write) → IsWritten (line_at c.self.inside.count c.self.inside.step (line_through c.self.inside.count c.self.inside.step c.args.place)) (c.args.place / c.self.inside.step % c.self.inside.count)
+is_written : (c : After-write) → IsWritten (line_at from_four c.self.inside.count c.self.inside.step (line_through c.self.inside.count c.self.inside.step c.args.place)) (c.args.place / c.self.inside.step % c.self.inside.count)
     c.args.number c.self.inside.slots.items c.write.new.slots c.self.inside.nodes.items c.write.new.nodes
 is_written c =
     let count = c.self.inside.count in
@@ -88,8 +91,8 @@ is_written c =
       node_count = told.node_count;
       fit = told.fit;
     } in
-    subst (λ (n : List Summary). IsWritten (line_at count step line) place z c.self.inside.slots.items after n nodes_after) c.deref_mut-2.ensures.value
-    (subst (λ (s : List ℤ). IsWritten (line_at count step line) place z s after c.deref_mut-2.result.now nodes_after) c.deref_mut.ensures.value
+    subst (λ (n : List Summary). IsWritten (line_at from_four count step line) place z c.self.inside.slots.items after n nodes_after) c.deref_mut-2.ensures.value
+    (subst (λ (s : List ℤ). IsWritten (line_at from_four count step line) place z s after c.deref_mut-2.result.now nodes_after) c.deref_mut.ensures.value
     (subst (λ (l : Line). IsWritten l place z c.deref_mut.result.now after c.deref_mut-2.result.now nodes_after) (line_is (goal.at-After-write c).After-nth_line-line)
     (subst (λ (y : ℤ). IsWritten c.nth_line-line.result place y c.deref_mut.result.now after c.deref_mut-2.result.now nodes_after) number raw)))
 

@@ -1,7 +1,7 @@
 -- So many numbers from a place on.
 use Rattle.std.proofs.Common.{◌≡◌, ◌∙◌, ℕ, zero, suc, ◌+◌, ◌<◌, ◌≤◌, ℤ, List, ◌∷◌, ◌++◌, map, length, refl, sym, ap, arith}
 use Rattle.std.specs.List.{range_with_len}
-use Rattle.fold_trees.specs.LineTrees.{segment}
+use Rattle.operator_fns.specs.LineTrees.{segment}
 
 -- those of two pieces
 pub segment_split : (x : ℕ → ℤ) (from a b : ℕ) → segment x from (a + b) ≡ segment x from a ++ segment x (from + a) b
