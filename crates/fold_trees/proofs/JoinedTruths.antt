@@ -68,16 +68,16 @@ module _ (g : Bool → Bool → Bool) (law : IsAssociative (logical g)) where
   kept (Err k) q r h i good bad = no_truth r k bad (h k refl)
 
   -- it is the one number of a list, or the fold of more numbers, as `IsTruthFold`
-  abbrev pub IsKept : ℤ → List ℤ → Type 0
-  IsKept z xs = (xs ≡ z ∷ []) ⊎ ((1 < length xs) × (folded (logical g) xs ≡ truth_value z))
+  abbrev pub IsTruthKept : ℤ → List ℤ → Type 0
+  IsTruthKept z xs = (xs ≡ z ∷ []) ⊎ ((1 < length xs) × (folded (logical g) xs ≡ truth_value z))
 
-  some : (z : ℤ) (xs : List ℤ) → IsKept z xs → 0 < length xs
+  some : (z : ℤ) (xs : List ℤ) → IsTruthKept z xs → 0 < length xs
   some z xs h = elim h [
     | inl one ↦ omega (arith, ap length one)
     | inr more ↦ omega (arith, more.0)
   ]
 
-  is_so : (z : ℤ) (xs : List ℤ) → IsKept z xs → IsSo (folded (logical g) xs) z
+  is_so : (z : ℤ) (xs : List ℤ) → IsTruthKept z xs → IsSo (folded (logical g) xs) z
   is_so z xs h = elim h [
     | inl one ↦ inl (ap (folded (logical g)) one)
     | inr more ↦ inr more.1
@@ -86,7 +86,7 @@ module _ (g : Bool → Bool → Bool) (law : IsAssociative (logical g)) where
   -- what is given for two numbers, or no truth value in place of an error, is kept of both
   pub joined_truths : (xs ys : List ℤ) (a b r : ℤ) {left right result : ℤ} → left ≡ a → right ≡ b → r ≡ result
       → IfOk (logical g left right) (λ z. result ≡ z) → IfErr (logical g left right) (λ k. result ≡ pos 2)
-      → IsKept a xs → IsKept b ys → IsKept r (xs ++ ys)
+      → IsTruthKept a xs → IsTruthKept b ys → IsTruthKept r (xs ++ ys)
   joined_truths xs ys a b r {left} {right} {result} here later is good bad h k =
       let first = some a xs h in
       let last = some b ys k in

@@ -4,7 +4,7 @@ use Rattle.std.proofs.lemmas.List.{length-append, get_or_append_left}
 use Rattle.operator_fns.specs.LineTrees.{slot_at, slot_of, shorter, nth_node, from_two, IsIn, node_of, AreKept, nodes_in_line}
 use Rattle.operator_fns.proofs.LineSpots.{slot_within, nth_within, in_both}
 use Rattle.operator_fns.proofs.LongerTrees.{first_spot, one_block, lines_in_block}
-use Rattle.fold_trees.specs.PartTrees.{AreLineTrees}
+use Rattle.fold_trees.specs.PartTrees.{ArePartTrees}
 use Rattle.operator_fns.proofs.Halves.{are_from_two}
 use Rattle.operator_fns.proofs.LineNodes.{kept_alike}
 use Rattle.operator_fns.specs.LineBlocks.{line_at}
@@ -19,13 +19,13 @@ in_block count step numbers nodes line some apart is sized h few =
 
 module _ {P : Type 0} (blank : P) (tells : P → List ℤ → Type 0) (count step : ℕ) (numbers : List ℤ) (nodes : List P) where
   -- as many nodes as such lines have
-  pub held_nodes : AreLineTrees blank tells count step numbers nodes → length numbers ≡ count * step → length nodes ≡ nodes_in_line from_two count * step
+  pub held_nodes : ArePartTrees blank tells count step numbers nodes → length numbers ≡ count * step → length nodes ≡ nodes_in_line from_two count * step
   held_nodes trees is = trees.sized ∙ ap (λ n. n * nodes_in_line from_two count) (lines_in_block count step (length numbers) trees.lines.some is) ∙ grind arith
 
   -- the trees of one block of lines
   pub longer_trees : 0 < count → 0 < step → length numbers ≡ count * step → length nodes ≡ nodes_in_line from_two count * step
       → ((line : ℕ) → line < step → AreKept from_two tells count (slot_of (line_at from_two count step line) numbers) (node_of from_two blank (line_at from_two count step line) nodes))
-      → AreLineTrees blank tells count step numbers nodes
+      → ArePartTrees blank tells count step numbers nodes
   longer_trees some apart slot_count node_count kept =
       let lines = lines_in_block count step (length numbers) some slot_count in
       record {
@@ -35,7 +35,7 @@ module _ {P : Type 0} (blank : P) (tells : P → List ℤ → Type 0) (count ste
       }
 
 module _ {P : Type 0} (blank : P) (tells : P → List ℤ → Type 0) (count step : ℕ) (numbers new : List ℤ) (nodes more : List P)
-    (old : AreLineTrees blank tells count step numbers nodes) (between : length numbers ≡ count * step) (wide : length new ≡ step) where
+    (old : ArePartTrees blank tells count step numbers nodes) (between : length numbers ≡ count * step) (wide : length new ≡ step) where
   abbrev long : ℕ
   long = count + 1
 

@@ -6,13 +6,13 @@ use Rattle.operator_fns.specs.SumTrees.{AreLines}
 use Rattle.operator_fns.specs.LineTrees.{slot_at, slot_of, nth_node, from_two, node_of, AreKept, nodes_in_line}
 use Rattle.operator_fns.proofs.LineSpots.{spot, all_slots, slot_within, nth_within}
 use Rattle.operator_fns.proofs.MoreLines.{spot_after, whole_behind, lines_behind}
-use Rattle.fold_trees.specs.PartTrees.{AreLineTrees}
+use Rattle.fold_trees.specs.PartTrees.{ArePartTrees}
 use Rattle.operator_fns.proofs.Halves.{are_from_two}
 use Rattle.operator_fns.proofs.LineNodes.{kept_alike}
 use Rattle.operator_fns.specs.LineBlocks.{line_at}
 
 module _ {P : Type 0} (blank : P) (tells : P → List ℤ → Type 0) (count step : ℕ) (numbers more : List ℤ) (nodes more_nodes : List P)
-    (old : AreLineTrees blank tells count step numbers nodes) (new : AreLineTrees blank tells count step more more_nodes) where
+    (old : ArePartTrees blank tells count step numbers nodes) (new : ArePartTrees blank tells count step more more_nodes) where
   abbrev there : AreLines count step (length numbers)
   there = old.lines
 
@@ -51,7 +51,7 @@ module _ {P : Type 0} (blank : P) (tells : P → List ℤ → Type 0) (count ste
       (λ n low high. ap (λ k. get_or (nodes ++ more_nodes) k blank) (node_behind line n) ∙ get_or-append-add nodes more_nodes (nth_node l n) blank)
       (new.kept line h)
 
-  pub more_trees : AreLineTrees blank tells count step (numbers ++ more) (nodes ++ more_nodes)
+  pub more_trees : ArePartTrees blank tells count step (numbers ++ more) (nodes ++ more_nodes)
   more_trees =
       let long = length-append numbers more in
       let beside = new.lines in

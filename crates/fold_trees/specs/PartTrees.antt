@@ -8,14 +8,14 @@ use Rattle.operator_fns.specs.LineBlocks.{AreAllKept}
 -- ---- how the trees of all lines are kept
 
 -- the trees of all lines, in a list of numbers and a list of nodes
-pub record AreLineTrees {P : Type 0} (blank : P) (tells : P → List ℤ → Type 0) (count step : ℕ) (numbers : List ℤ) (nodes : List P) : Type 0 where
+pub record ArePartTrees {P : Type 0} (blank : P) (tells : P → List ℤ → Type 0) (count step : ℕ) (numbers : List ℤ) (nodes : List P) : Type 0 where
   pub lines : AreLines count step (length numbers)
   pub sized : length nodes ≡ length numbers / count * nodes_in_line from_two count
   pub kept : AreAllKept from_two blank tells slot_of count step numbers nodes
 
 -- and the two lists lie in pieces of memory of these capacities, each with room for the next power of two as many
-pub record AreTrees {P : Type 0} (blank : P) (tells : P → List ℤ → Type 0) (count step : ℕ) (numbers : List ℤ) (nodes : List P) (slot_capacity node_capacity : ℕ) : Type 0 where
-  pub trees : AreLineTrees blank tells count step numbers nodes
+pub record AreRoomyPartTrees {P : Type 0} (blank : P) (tells : P → List ℤ → Type 0) (count step : ℕ) (numbers : List ℤ) (nodes : List P) (slot_capacity node_capacity : ℕ) : Type 0 where
+  pub trees : ArePartTrees blank tells count step numbers nodes
   pub slot_room : IsRoomy (length numbers) slot_capacity
   pub node_room : IsRoomy (length nodes) node_capacity
 
@@ -23,7 +23,7 @@ pub record AreTrees {P : Type 0} (blank : P) (tells : P → List ℤ → Type 0)
 
 -- the nodes that lines of so many numbers have more with one more number, and two empty lists that lie in pieces of memory of these capacities, where the numbers
 -- or the nodes of the longer lines need others than those of the old ones lie in
-pub record AreNextRooms {P : Type 0} (count : ℕ) (numbers slots : List ℤ) (more nodes : List P) (slot_capacity node_capacity : ℕ) : Type 0 where
+pub record AreNextPartRooms {P : Type 0} (count : ℕ) (numbers slots : List ℤ) (more nodes : List P) (slot_capacity node_capacity : ℕ) : Type 0 where
   pub more_nodes : length more ≡ length numbers
   pub no_slots : slots ≡ []
   pub no_nodes : nodes ≡ []

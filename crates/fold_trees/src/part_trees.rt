@@ -7,7 +7,7 @@ ghost use Rattle.operator_fns.specs.SumTrees.{FitBehind, FitNext, with_lines, wi
 ghost use Rattle.operator_fns.specs.LineBlocks.{block_at, line_at, AreAllKept};
 ghost use Rattle.operator_fns.specs.LineTrees.{slot_of, shorter, from_two, IsIn, node_of, AreKept, nodes_in_line};
 ghost use Rattle.fold_trees.specs.FoldTrees.{IsReductionBy};
-ghost use Rattle.fold_trees.specs.PartTrees.{AreLineTrees};
+ghost use Rattle.fold_trees.specs.PartTrees.{ArePartTrees};
 
 use crate::line_tree::{LineTree, fill_block, push_line, take_last, write};
 use crate::part::Part;
@@ -41,7 +41,7 @@ fn nth_tree<'a, P: Part>(
     step: usize,
     line: usize,
 ) -> LineTree<'a, P>
-    requires trees { AreLineTrees P.blank P.tells count step numbers.now nodes.now }
+    requires trees { ArePartTrees P.blank P.tells count step numbers.now nodes.now }
     requires line { line < length numbers.now / count }
     ensures line { result.line ≡ line_at from_two count step line }
     ensures numbers { result.numbers.now ≡ numbers.now }
@@ -150,13 +150,13 @@ pub(crate) struct PartTrees<P: Part> {
 impl<P: Part> Model for PartTrees<P> {
     ghost use Rattle.std.specs.Prelude.{vec_capacity};
     ghost use Rattle.operator_fns.specs.SumTrees.{TreesValue};
-    ghost use Rattle.fold_trees.specs.PartTrees.{AreTrees};
+    ghost use Rattle.fold_trees.specs.PartTrees.{AreRoomyPartTrees};
 
     ghost Value = { TreesValue };
 
     ghost view = { λ t. record { count = t.count; step = t.step; numbers = t.numbers.items } };
 
-    ghost invariant = { λ t. AreTrees P.blank P.tells t.count t.step t.numbers.items t.nodes.items (vec_capacity t.numbers) (vec_capacity t.nodes) };
+    ghost invariant = { λ t. AreRoomyPartTrees P.blank P.tells t.count t.step t.numbers.items t.nodes.items (vec_capacity t.numbers) (vec_capacity t.nodes) };
 }
 
 impl<P: Part> PartTrees<P> {
@@ -332,13 +332,13 @@ pub(crate) struct NextParts<P: Part> {
 impl<P: Part> Model for NextParts<P> {
     ghost use Rattle.std.specs.Prelude.{vec_capacity};
     ghost use Rattle.operator_fns.specs.SumTrees.{NewPlacesValue};
-    ghost use Rattle.fold_trees.specs.PartTrees.{AreNextRooms};
+    ghost use Rattle.fold_trees.specs.PartTrees.{AreNextPartRooms};
 
     ghost Value = { NewPlacesValue };
 
     ghost view = { λ n. record { count = n.count; numbers = n.numbers.items } };
 
-    ghost invariant = { λ n. AreNextRooms n.count n.numbers.items n.slots.items n.more_nodes.items n.nodes.items (vec_capacity n.slots) (vec_capacity n.nodes) };
+    ghost invariant = { λ n. AreNextPartRooms n.count n.numbers.items n.slots.items n.more_nodes.items n.nodes.items (vec_capacity n.slots) (vec_capacity n.nodes) };
 }
 
 impl<P: Part> NextParts<P> {

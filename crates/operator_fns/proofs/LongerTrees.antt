@@ -6,7 +6,7 @@ use Rattle.std.proofs.lemmas.List.{ext_get_or, length-append, get_or_append_left
 use Rattle.std.proofs.lemmas.Nat.{div_below, mod_below, div-mul-add, mod-mul-add}
 use Rattle.operator_fns.specs.declared.summary.Summary.{Summary}
 use Rattle.operator_fns.specs.LineTrees.{slot_at, node_at, slot_of, number_of, shorter, from_four, node_of, AreKept, nodes_in_line}
-use Rattle.operator_fns.specs.SumTrees.{line_through, number_kept, numbers_kept, AreLines, AreLineTrees}
+use Rattle.operator_fns.specs.SumTrees.{line_through, number_kept, numbers_kept, AreLines, AreSumTrees}
 use Rattle.operator_fns.proofs.KeptNumbers.{kept_count, kept_at, kept_on_line}
 use Rattle.operator_fns.proofs.LinePlaces.{place_spot, some_places, line_within}
 use Rattle.operator_fns.proofs.LineSpots.{spot, slot_within, node_within}
@@ -47,10 +47,10 @@ lines_in_block count step slots some is =
     ap (λ n. n / count) whole ∙ div-mul-add step count 0 some
 
 -- as many nodes as such lines have
-pub held_nodes : (count step : ℕ) (slots : List ℤ) (nodes : List Summary) → AreLineTrees count step slots nodes → length slots ≡ count * step → length nodes ≡ nodes_in_line from_four count * step
+pub held_nodes : (count step : ℕ) (slots : List ℤ) (nodes : List Summary) → AreSumTrees count step slots nodes → length slots ≡ count * step → length nodes ≡ nodes_in_line from_four count * step
 held_nodes count step slots nodes trees is = trees.sized ∙ ap (λ n. n * nodes_in_line from_four count) (lines_in_block count step (length slots) trees.lines.some is) ∙ grind arith
 
-module _ (count step : ℕ) (slots numbers : List ℤ) (nodes more : List Summary) (old : AreLineTrees count step slots nodes) (between : length slots ≡ count * step)
+module _ (count step : ℕ) (slots numbers : List ℤ) (nodes more : List Summary) (old : AreSumTrees count step slots nodes) (between : length slots ≡ count * step)
     (wide : length numbers ≡ step) where
   abbrev long : ℕ
   long = count + 1
@@ -166,7 +166,7 @@ module _ (count step : ℕ) (slots numbers : List ℤ) (nodes more : List Summar
 -- and what is kept of their parts
 pub longer_trees : (count step : ℕ) (slots : List ℤ) (nodes : List Summary) → 0 < count → 0 < step → length slots ≡ count * step → length nodes ≡ nodes_in_line from_four count * step
     → All (FitsSigned w64) slots → ((line : ℕ) → line < step → AreKept from_four TellsSums count (number_of (line_at from_four count step line) slots) (node_of from_four empty (line_at from_four count step line) nodes))
-    → AreLineTrees count step slots nodes
+    → AreSumTrees count step slots nodes
 longer_trees count step slots nodes some apart slot_count node_count fit kept =
     let lines = lines_in_block count step (length slots) some slot_count in
     record {

@@ -6,7 +6,7 @@ use Rattle.std.proofs.lemmas.List.Elements.{All-append}
 use Rattle.std.proofs.lemmas.Nat.{div-add-mod', div-mul-add, mod-mul-add, mod_below, mul-le}
 use Rattle.operator_fns.specs.declared.summary.Summary.{Summary}
 use Rattle.operator_fns.specs.LineTrees.{slot_at, node_at, number_of, from_four, node_of, AreKept, nodes_in_line}
-use Rattle.operator_fns.specs.SumTrees.{line_through, number_kept, numbers_kept, AreLines, AreLineTrees}
+use Rattle.operator_fns.specs.SumTrees.{line_through, number_kept, numbers_kept, AreLines, AreSumTrees}
 use Rattle.operator_fns.proofs.KeptNumbers.{kept_count, kept_at}
 use Rattle.operator_fns.proofs.LinePlaces.{some_places, spot_line, spot_place, place_spot, line_within}
 use Rattle.operator_fns.proofs.LineSpots.{spot, blocks, slots_are, lines_are, all_slots, slot_within, node_within}
@@ -51,7 +51,7 @@ spot_after count step slots are unit line place =
     ∙ spot_behind unit step (blocks count step slots are) line place are.apart
     ∙ ap (λ n. n + spot unit step line place) (order ∙ ap (λ n. n * unit) (sym lines))
 
-module _ (count step : ℕ) (slots more : List ℤ) (nodes more_nodes : List Summary) (old : AreLineTrees count step slots nodes) (new : AreLineTrees count step more more_nodes) where
+module _ (count step : ℕ) (slots more : List ℤ) (nodes more_nodes : List Summary) (old : AreSumTrees count step slots nodes) (new : AreSumTrees count step more more_nodes) where
   old_lines : ℕ
   old_lines = length slots / count
 
@@ -136,7 +136,7 @@ module _ (count step : ℕ) (slots more : List ℤ) (nodes more_nodes : List Sum
           ]
 
   -- what is kept of the parts of both
-  pub more_trees : AreLineTrees count step (slots ++ more) (nodes ++ more_nodes)
+  pub more_trees : AreSumTrees count step (slots ++ more) (nodes ++ more_nodes)
   unfolding old_lines new_lines
   more_trees = record {
     lines = record {

@@ -91,21 +91,21 @@ mod_other p q s some low high e =
         ]
 
 -- the lines of the next numbers
-abbrev pub AreKept : {A : Type 0} → (A → ℤ → ℤ → Result ℤ Kind) → (A → ℤ → Result ℤ Kind) → A → List ℤ → (stride count place : ℕ) → List A → Type 0
-AreKept step gives none zs stride count place lines = (q : ℕ) → place ≤ q → q < place + stride → 0 < depth stride count q
+abbrev pub AreFoldsKept : {A : Type 0} → (A → ℤ → ℤ → Result ℤ Kind) → (A → ℤ → Result ℤ Kind) → A → List ℤ → (stride count place : ℕ) → List A → Type 0
+AreFoldsKept step gives none zs stride count place lines = (q : ℕ) → place ≤ q → q < place + stride → 0 < depth stride count q
     → Keeps step gives (step none) (run_to (pos 0) zs stride count (q - stride)) (get_or lines (q % stride) none)
 
 -- the line of the next number alone
-pub record IsKept {A : Type 0} (step : A → ℤ → ℤ → Result ℤ Kind) (gives : A → ℤ → Result ℤ Kind) (none : A) (zs : List ℤ) (stride count place : ℕ) (line : A) : Type 0 where
+pub record IsFoldKept {A : Type 0} (step : A → ℤ → ℤ → Result ℤ Kind) (gives : A → ℤ → Result ℤ Kind) (none : A) (zs : List ℤ) (stride count place : ℕ) (line : A) : Type 0 where
   pub same : step line ≡ step none
   pub fresh : depth stride count place ≡ 0 → IsFresh (gives line)
   pub told : 0 < depth stride count place → Tells (step none) (gives line) (run_to (pos 0) zs stride count (place - stride))
 
 module _ {A : Type 0} (step : A → ℤ → ℤ → Result ℤ Kind) (gives : A → ℤ → Result ℤ Kind) (none : A) (zs : List ℤ) (stride count : ℕ) (apart : 0 < stride) (some : 1 ≤ count) where
-  pub line_kept : (place block_place column : ℕ) (lines : List A) (line : A) → AreKept step gives none zs stride count place lines → IsFresh (gives none)
+  pub line_kept : (place block_place column : ℕ) (lines : List A) (line : A) → AreFoldsKept step gives none zs stride count place lines → IsFresh (gives none)
       → block_place ≡ place % (count * stride) → column ≡ place % stride
       → (nat_lt block_place stride ≡ true → line ≡ none) → (nat_lt block_place stride ≡ false → line ≡ get_or lines column none)
-      → IsKept step gives none zs stride count place line
+      → IsFoldKept step gives none zs stride count place line
   line_kept place block_place column lines line kept fresh here at first later =
       elim (cases_lt block_place stride) [
         | inl h ↦
@@ -130,7 +130,7 @@ module _ {A : Type 0} (step : A → ℤ → ℤ → Result ℤ Kind) (gives : A 
       ]
 
   -- one number more
-  module _ (place column : ℕ) (lines : List A) (line after : A) (kept : AreKept step gives none zs stride count place lines) (it : IsKept step gives none zs stride count place line)
+  module _ (place column : ℕ) (lines : List A) (line after : A) (kept : AreFoldsKept step gives none zs stride count place lines) (it : IsFoldKept step gives none zs stride count place line)
       (fits : FitsSigned w64 (get_or zs place (pos 0))) (closed : IsClosed (step none)) (same : step after ≡ step line)
       (next : Continues (step line (get_or zs place (pos 0))) (gives line) (gives after)) where
     pub after_keeps : Keeps step gives (step none) (run_to (pos 0) zs stride count place) after
@@ -140,7 +140,7 @@ module _ {A : Type 0} (step : A → ℤ → ℤ → Result ℤ Kind) (gives : A 
           (subst (λ f. Continues (f (get_or zs place (pos 0))) (gives line) (gives after)) it.same next);
     }
 
-    pub more_kept : column ≡ place % stride → length lines ≡ stride → AreKept step gives none zs stride count (place + 1) (set lines column after)
+    pub more_kept : column ≡ place % stride → length lines ≡ stride → AreFoldsKept step gives none zs stride count (place + 1) (set lines column after)
     more_kept at long q low high deep =
         elim (cases_lt q (place + stride)) [
           | inl near ↦
@@ -168,14 +168,14 @@ beside_depth count place first some begins low near =
     ap (λ n. n % count) one ∙ ap (λ n. n % count) (sym whole) ∙ sym (mod-add-mod first count (place - first)) ∙ ap (λ n. n % count) from ∙ mod-eq_of_lt inside
 
 module _ {A : Type 0} (step : A → ℤ → ℤ → Result ℤ Kind) (gives : A → ℤ → Result ℤ Kind) (none : A) (zs : List ℤ) (count : ℕ) (some : 1 ≤ count) (first : ℕ) (begins : first % count ≡ 0) where
-  pub line_begun : IsFresh (gives none) → IsKept step gives none zs 1 count first none
+  pub line_begun : IsFresh (gives none) → IsFoldKept step gives none zs 1 count first none
   line_begun fresh =
       let top = beside_depth count first first some begins (omega arith) (omega arith) in
       record { same = refl; fresh = λ d. fresh; told = λ d. absurd (omega (arith, top, d)) }
 
-  pub line_goes_on : (place : ℕ) (line after : A) → first ≤ place → place + 1 < first + count → IsKept step gives none zs 1 count place line → FitsSigned w64 (get_or zs place (pos 0))
+  pub line_goes_on : (place : ℕ) (line after : A) → first ≤ place → place + 1 < first + count → IsFoldKept step gives none zs 1 count place line → FitsSigned w64 (get_or zs place (pos 0))
       → IsClosed (step none) → step after ≡ step line → Continues (step line (get_or zs place (pos 0))) (gives line) (gives after)
-      → IsKept step gives none zs 1 count (place + 1) after
+      → IsFoldKept step gives none zs 1 count (place + 1) after
   line_goes_on place line after low near it fits closed same next =
       let deep = beside_depth count (place + 1) first some begins (omega arith) near in
       let back : place + 1 - 1 ≡ place = omega arith in

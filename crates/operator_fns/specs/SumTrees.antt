@@ -61,15 +61,15 @@ pub record AreLines (count step slots : ℕ) : Type 0 where
   pub whole : slots % (count * step) ≡ 0
 
 -- the trees of all lines, in a list of slots and a list of nodes
-pub record AreLineTrees (count step : ℕ) (slots : List ℤ) (nodes : List Summary) : Type 0 where
+pub record AreSumTrees (count step : ℕ) (slots : List ℤ) (nodes : List Summary) : Type 0 where
   pub lines : AreLines count step (length slots)
   pub fit : All (FitsSigned w64) slots
   pub sized : length nodes ≡ length slots / count * nodes_in_line from_four count
   pub kept : AreAllKept from_four empty TellsSums number_of count step slots nodes
 
 -- and the two lists lie in pieces of memory of these capacities, each with room for the next power of two as many
-pub record AreTrees (count step : ℕ) (slots : List ℤ) (nodes : List Summary) (slot_capacity node_capacity : ℕ) : Type 0 where
-  pub trees : AreLineTrees count step slots nodes
+pub record AreRoomySumTrees (count step : ℕ) (slots : List ℤ) (nodes : List Summary) (slot_capacity node_capacity : ℕ) : Type 0 where
+  pub trees : AreSumTrees count step slots nodes
   pub slot_room : IsRoomy (length slots) slot_capacity
   pub node_room : IsRoomy (length nodes) node_capacity
 
@@ -116,7 +116,7 @@ with_places t numbers = record { count = t.count + 1; step = t.step; numbers = t
 
 -- the nodes that lines of so many numbers have more with one more number, and two empty lists that lie in pieces of memory of these capacities, where the slots or
 -- the nodes of the longer lines need others than those of the old ones lie in
-pub record AreNextRooms (count : ℕ) (numbers slots : List ℤ) (more nodes : List Summary) (slot_capacity node_capacity : ℕ) : Type 0 where
+pub record AreNextSumRooms (count : ℕ) (numbers slots : List ℤ) (more nodes : List Summary) (slot_capacity node_capacity : ℕ) : Type 0 where
   pub fit : All (FitsSigned w64) numbers
   pub more_nodes : length more ≡ (nodes_in_line from_four (count + 1) - nodes_in_line from_four count) * length numbers
   pub no_slots : slots ≡ []

@@ -7,7 +7,7 @@ use Rattle.arrays_core.specs.Items.{all_or_first_error}
 use Rattle.scalar_fns.proofs.Errors.{list_error}
 use Rattle.operator_fns.specs.Prefixes.{right_rule}
 use Rattle.operator_fns.proofs.LeftScans.{one_more, first_error, results_end}
-use Rattle.operator_fns.proofs.Prefixes.{IsKept, line_kept, more_kept, fold_here}
+use Rattle.operator_fns.proofs.Prefixes.{IsFoldKept, line_kept, more_kept, fold_here}
 use Rattle.operator_fns.proofs.prefix.folds_apart.Goals as goal
 
 pub returns-in_err-result-clause-is : goal.returns-in_err-result-clause-is
@@ -23,7 +23,7 @@ returns-in_err-result-clause-is g c =
     let read : to_z w64 (of_z w64 (get_or zs k (pos 0))) ≡ get_or zs k (pos 0) = to_z-of_z w64 _ fit in
     let value = c.deref.ensures.value in
     let line = c.line_so_far-line.result in
-    let it : IsKept step gives none zs c.args.lines.now.stride c.args.lines.now.count k line = line_kept step gives none zs c.args.lines.now.stride c.args.lines.now.count c.args.lines.now.apart c.args.lines.now.some k c.loop-place.block_place c.loop-place.column c.loop-place.kept.items line
+    let it : IsFoldKept step gives none zs c.args.lines.now.stride c.args.lines.now.count k line = line_kept step gives none zs c.args.lines.now.stride c.args.lines.now.count c.args.lines.now.apart c.args.lines.now.some k c.loop-place.block_place c.loop-place.column c.loop-place.kept.items line
     before.kept c.requires.fresh before.here before.column c.line_so_far-line.ensures.first (λ h. rw (value) at (c.line_so_far-line.ensures.later h)) in
     let given : rule k ≡ Err c.in_err-result.field-0.0 = fold_here (step none) zs c.args.lines.now.stride c.args.lines.now.count c.args.lines.now.apart c.args.lines.now.some k (gives line) fit it.fresh it.told
     ∙ sym (rw read at c.in_err-result.ensures.is) in
@@ -47,7 +47,7 @@ loop-place-preserved g c =
     let read : to_z w64 (of_z w64 (get_or zs k (pos 0))) ≡ get_or zs k (pos 0) = to_z-of_z w64 _ fit in
     let value = c.deref.ensures.value in
     let line = c.line_so_far-line.result in
-    let it : IsKept step gives none zs c.args.lines.now.stride c.args.lines.now.count k line = line_kept step gives none zs c.args.lines.now.stride c.args.lines.now.count c.args.lines.now.apart c.args.lines.now.some k c.loop-place.block_place c.loop-place.column c.loop-place.kept.items line
+    let it : IsFoldKept step gives none zs c.args.lines.now.stride c.args.lines.now.count k line = line_kept step gives none zs c.args.lines.now.stride c.args.lines.now.count c.args.lines.now.apart c.args.lines.now.some k c.loop-place.block_place c.loop-place.column c.loop-place.kept.items line
     before.kept c.requires.fresh before.here before.column c.line_so_far-line.ensures.first (λ h. rw (value) at (c.line_so_far-line.ensures.later h)) in
     let z = c.in_ok-result.result in
     let given : rule k ≡ Ok z = fold_here (step none) zs c.args.lines.now.stride c.args.lines.now.count c.args.lines.now.apart c.args.lines.now.some k (gives line) fit it.fresh it.told

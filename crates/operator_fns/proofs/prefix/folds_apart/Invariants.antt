@@ -1,7 +1,7 @@
 use Rattle.std.proofs.Common.{◌≡◌, ◌*◌, ◌%◌, length}
 use Rattle.operator_fns.specs.LinearScan.{AreResultsTo}
 use Rattle.operator_fns.specs.Prefixes.{right_rule}
-use Rattle.operator_fns.proofs.Prefixes.{AreKept}
+use Rattle.operator_fns.proofs.Prefixes.{AreFoldsKept}
 use Rattle.operator_fns.proofs.prefix.folds_apart.Given as goal
 
 abbrev pub invariant-loop-place : goal.invariant-loop-place
@@ -10,5 +10,5 @@ invariant-loop-place g l = record {
   here : l.block_place ≡ l.place % (l.lines.count * l.stride);
   column : l.column ≡ l.place % l.stride;
   long : length l.kept.items ≡ l.stride;
-  kept : AreKept g.P.Prefix.step g.P.Prefix.gives l.none l.numbers l.stride l.lines.count l.place l.kept.items;
+  kept : AreFoldsKept g.P.Prefix.step g.P.Prefix.gives l.none l.numbers l.stride l.lines.count l.place l.kept.items;
 }

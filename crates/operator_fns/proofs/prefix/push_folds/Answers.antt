@@ -4,7 +4,7 @@ use Rattle.scalar_fns.proofs.Errors.{passed_on}
 use Rattle.operator_fns.specs.LinearScan.{AreResultsTo}
 use Rattle.operator_fns.specs.Prefixes.{right_rule}
 use Rattle.operator_fns.proofs.LeftScans.{one_more, first_error}
-use Rattle.operator_fns.proofs.Prefixes.{IsKept, line_begun, line_goes_on, fold_here}
+use Rattle.operator_fns.proofs.Prefixes.{IsFoldKept, line_begun, line_goes_on, fold_here}
 use Rattle.operator_fns.proofs.prefix.push_folds.Goals as goal
 
 pub loop-place-init : goal.loop-place-init
@@ -34,7 +34,7 @@ returns-in_err-result-clause-first g c =
     let fit : SFits w64 (get_or zs k (pos 0)) = search rules in
     let read : to_z w64 (of_z w64 (get_or zs k (pos 0))) ≡ get_or zs k (pos 0) = to_z-of_z w64 _ fit in
     let line = c.loop-place.line in
-    let it : IsKept step gives none zs 1 c.args.count k line = before.kept near in
+    let it : IsFoldKept step gives none zs 1 c.args.count k line = before.kept near in
     let given : rule k ≡ Err c.in_err-result.field-0.0 = fold_here (step none) zs 1 c.args.count (omega arith) c.requires.some k (gives line) fit it.fresh it.told
     ∙ sym (rw read at c.in_err-result.ensures.is) in
     rw (passed_on c.from_residual.result c.in_err-result.field-0.0 c.from_residual.ensures)
@@ -58,7 +58,7 @@ loop-place-preserved g c =
     let fit : SFits w64 (get_or zs k (pos 0)) = search rules in
     let read : to_z w64 (of_z w64 (get_or zs k (pos 0))) ≡ get_or zs k (pos 0) = to_z-of_z w64 _ fit in
     let line = c.loop-place.line in
-    let it : IsKept step gives none zs 1 c.args.count k line = before.kept near in
+    let it : IsFoldKept step gives none zs 1 c.args.count k line = before.kept near in
     let z = c.in_ok-result.result in
     let given : rule k ≡ Ok z = fold_here (step none) zs 1 c.args.count (omega arith) c.requires.some k (gives line) fit it.fresh it.told
     ∙ sym (rw read at c.in_ok-result.ensures.is) in

@@ -3,7 +3,7 @@ use Rattle.std.proofs.lemmas.List.{with_items_is}
 use Rattle.arrays_core.specs.Growth.{IsRoomy, HasRoom}
 use Rattle.operator_fns.specs.SumTrees.{TreesValue, NewPlacesValue}
 use Rattle.operator_fns.specs.LineTrees.{slot_of, shorter, from_two, node_of, AreKept, nodes_in_line}
-use Rattle.fold_trees.specs.PartTrees.{AreLineTrees, AreTrees}
+use Rattle.fold_trees.specs.PartTrees.{ArePartTrees, AreRoomyPartTrees}
 use Rattle.fold_trees.proofs.TreeLonger.{all_long, held_nodes, nodes_long, kept_without, longer_trees}
 use Rattle.fold_trees.proofs.part_trees.PartTrees.lengthen.Given.{Over}
 use Rattle.fold_trees.proofs.part_trees.PartTrees.lengthen.Goals.{After-more, After-deref_mut}
@@ -103,9 +103,9 @@ invariant_of-self g c =
     let node_count = told.node_length ∙ ap (λ (l : List g.row.P.Denot). length l) c.deref_mut.ensures.value in
     let trees = longer_trees blank tells (count + 1) step c.deref.result.now after (omega arith) c.self.invariant.trees.lines.apart (numbers_long g before)
     (told.node_length ∙ nodes_count g before) told.kept in
-    let whole : AreTrees blank tells (count + 1) step numbers.items after (vec_capacity numbers) (vec_capacity nodes) = record {
-      trees = subst (λ (l : List ℤ). AreLineTrees blank tells (count + 1) step l after) c.deref.ensures.value trees;
+    let whole : AreRoomyPartTrees blank tells (count + 1) step numbers.items after (vec_capacity numbers) (vec_capacity nodes) = record {
+      trees = subst (λ (l : List ℤ). ArePartTrees blank tells (count + 1) step l after) c.deref.ensures.value trees;
       slot_room = c.put_behind.ensures.room;
       node_room = subst (λ n. IsRoomy n (vec_capacity nodes)) (sym node_count) c.put_behind-2.ensures.room;
     } in
-    subst (λ (l : List g.row.P.Denot). AreTrees blank tells (count + 1) step numbers.items l (vec_capacity numbers) (vec_capacity nodes)) (sym nodes_kept) whole
+    subst (λ (l : List g.row.P.Denot). AreRoomyPartTrees blank tells (count + 1) step numbers.items l (vec_capacity numbers) (vec_capacity nodes)) (sym nodes_kept) whole

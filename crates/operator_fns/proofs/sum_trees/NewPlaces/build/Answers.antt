@@ -2,7 +2,7 @@ use Rattle.std.proofs.Common.{◌≡◌, ◌∙◌, ◌+◌, ◌-◌, ◌*◌, �
 use Rattle.std.proofs.lemmas.List.{length-replicate}
 use Rattle.arrays_core.specs.Growth.{HasRoom}
 use Rattle.operator_fns.specs.declared.summary.Summary.{Summary}
-use Rattle.operator_fns.specs.SumTrees.{AreNextRooms}
+use Rattle.operator_fns.specs.SumTrees.{AreNextSumRooms}
 use Rattle.operator_fns.specs.LineTrees.{from_four, nodes_in_line}
 use Rattle.operator_fns.proofs.sum_trees.NewPlaces.build.Goals as goal
 
@@ -19,7 +19,7 @@ invariant_of-result c =
     let all : count * step + step ≡ (count + 1) * step = grind arith in
     let new_nodes : length more ≡ (nodes_in_line from_four (count + 1) - nodes_in_line from_four count) * step =
     ap (λ (l : List Summary). length l) c.in_ok-more_nodes.ensures ∙ length-replicate ((count / 2 - (count - 1) / 2) * step) c.of.result ∙ ap (λ n. (n - nodes_in_line from_four count) * step) half in
-    let rooms : AreNextRooms count numbers slots.items more nodes.items (vec_capacity slots) (vec_capacity nodes) = record {
+    let rooms : AreNextSumRooms count numbers slots.items more nodes.items (vec_capacity slots) (vec_capacity nodes) = record {
       fit = c.read_all.ensures;
       more_nodes = new_nodes;
       no_slots = c.in_ok-slots.ensures.empty;
@@ -28,4 +28,4 @@ invariant_of-result c =
       slot_room = subst (λ n. HasRoom (count * step) n (vec_capacity slots)) all c.in_ok-slots.ensures.room;
       node_room = subst (λ n. HasRoom (nodes_in_line from_four count * step) (n * step) (vec_capacity nodes)) half c.in_ok-nodes.ensures.room;
     } in
-    subst (λ (l : List ℤ). AreNextRooms count l slots.items more nodes.items (vec_capacity slots) (vec_capacity nodes)) (sym c.in_ok-numbers.ensures) rooms
+    subst (λ (l : List ℤ). AreNextSumRooms count l slots.items more nodes.items (vec_capacity slots) (vec_capacity nodes)) (sym c.in_ok-numbers.ensures) rooms

@@ -1,7 +1,7 @@
 use Rattle.std.proofs.Common.{◌≡◌, ◌∙◌, ◌+◌, ◌*◌, ◌/◌, ◌<◌, ◌^◌, ◌++◌, ℤ, List, length, sym, ap, subst, arith, vec_capacity}
 use Rattle.arrays_core.specs.Growth.{HasRoom}
 use Rattle.operator_fns.specs.declared.summary.Summary.{Summary}
-use Rattle.operator_fns.specs.SumTrees.{TreesValue, NewTreesValue, line_count, numbers_kept, with_lines, AreLineTrees}
+use Rattle.operator_fns.specs.SumTrees.{TreesValue, NewTreesValue, line_count, numbers_kept, with_lines, AreSumTrees}
 use Rattle.operator_fns.proofs.KeptNumbers.{kept_count}
 use Rattle.operator_fns.proofs.LineSpots.{all_slots, fewer_nodes}
 use Rattle.operator_fns.proofs.MoreLines.{in_all, more_numbers, more_trees}
@@ -21,10 +21,10 @@ same_step : (c : After-trees) → c.trees.inside.step ≡ c.self.inside.step
 same_step c =
     ap (λ (t : TreesValue). t.step) c.trees.view_is ∙ ap (λ (n : NewTreesValue). n.step) c.more.view_is ∙ c.requires.step ∙ sym (ap (λ (t : TreesValue). t.step) c.self.view_is)
 
-new_trees : (c : After-trees) → AreLineTrees c.self.inside.count c.self.inside.step c.trees.inside.slots.items c.trees.inside.nodes.items
+new_trees : (c : After-trees) → AreSumTrees c.self.inside.count c.self.inside.step c.trees.inside.slots.items c.trees.inside.nodes.items
 new_trees c =
-    subst (λ step. AreLineTrees c.self.inside.count step c.trees.inside.slots.items c.trees.inside.nodes.items) (same_step c)
-    (subst (λ count. AreLineTrees count c.trees.inside.step c.trees.inside.slots.items c.trees.inside.nodes.items) (same_count c) c.trees.invariant.trees)
+    subst (λ step. AreSumTrees c.self.inside.count step c.trees.inside.slots.items c.trees.inside.nodes.items) (same_step c)
+    (subst (λ count. AreSumTrees count c.trees.inside.step c.trees.inside.slots.items c.trees.inside.nodes.items) (same_count c) c.trees.invariant.trees)
 
 new_numbers : (c : After-trees) → numbers_kept c.self.inside.count c.self.inside.step c.trees.inside.slots.items ≡ c.more.inside.trees.numbers
 new_numbers c =
@@ -117,8 +117,8 @@ invariant_of-self c =
     let more_nodes = c.trees.inside.nodes.items in
     let all = more_trees count step slots more nodes more_nodes c.self.invariant.trees (new_trees (goal.at.invariant_of-self c).After-trees) in
     record {
-      trees = subst (λ (l : List ℤ). AreLineTrees count step l c.put_behind-2.new.items.items) (sym c.put_behind.ensures.items)
-          (subst (λ (l : List Summary). AreLineTrees count step (slots ++ more) l) (sym c.put_behind-2.ensures.items) all);
+      trees = subst (λ (l : List ℤ). AreSumTrees count step l c.put_behind-2.new.items.items) (sym c.put_behind.ensures.items)
+          (subst (λ (l : List Summary). AreSumTrees count step (slots ++ more) l) (sym c.put_behind-2.ensures.items) all);
       slot_room = c.put_behind.ensures.room;
       node_room = c.put_behind-2.ensures.room;
     }

@@ -6,7 +6,7 @@ use Rattle.std.proofs.lemmas.List.Elements.{All-append}
 use Rattle.arrays_core.specs.Growth.{IsRoomy, HasRoom}
 use Rattle.operator_fns.specs.declared.summary.Summary.{Summary}
 use Rattle.operator_fns.specs.LineTrees.{number_of, shorter, slot_of, from_four, node_of, AreKept, nodes_in_line}
-use Rattle.operator_fns.specs.SumTrees.{TreesValue, NewPlacesValue, numbers_kept, with_places, AreTrees}
+use Rattle.operator_fns.specs.SumTrees.{TreesValue, NewPlacesValue, numbers_kept, with_places, AreRoomySumTrees}
 use Rattle.operator_fns.proofs.KeptNumbers.{kept_count}
 use Rattle.operator_fns.proofs.LongerTrees.{all_long, held_nodes, nodes_long, kept_without, longer_numbers, longer_trees}
 use Rattle.operator_fns.proofs.sum_trees.SumTrees.lengthen.Goals.{After-more, After-deref_mut-2, After-take_places}
@@ -136,13 +136,13 @@ invariant_of-self c =
     let done = (goal.at.invariant_of-self c).After-take_places in
     let slot_count = told.slot_length ∙ ap (λ (l : List ℤ). length l) c.deref_mut.ensures.value in
     let node_count = told.node_length ∙ ap (λ (l : List Summary). length l) c.deref_mut-2.ensures.value in
-    let whole : AreTrees (count + 1) step after nodes_after (vec_capacity slot_list) (vec_capacity node_list) = record {
+    let whole : AreRoomySumTrees (count + 1) step after nodes_after (vec_capacity slot_list) (vec_capacity node_list) = record {
       trees = longer_trees (count + 1) step after nodes_after (omega arith) c.self.invariant.trees.lines.apart (told.slot_length ∙ slots_long before) (told.node_length ∙ nodes_count before) told.fit told.kept;
       slot_room = subst (λ n. IsRoomy n (vec_capacity slot_list)) (sym slot_count) c.put_behind.ensures.room;
       node_room = subst (λ n. IsRoomy n (vec_capacity node_list)) (sym node_count) c.put_behind-2.ensures.room;
     } in
-    subst (λ (l : List ℤ). AreTrees (count + 1) step l (with_items node_list nodes_after).items (vec_capacity slot_list) (vec_capacity node_list)) (sym (slots_kept done))
-    (subst (λ (l : List Summary). AreTrees (count + 1) step after l (vec_capacity slot_list) (vec_capacity node_list)) (sym (nodes_kept done)) whole)
+    subst (λ (l : List ℤ). AreRoomySumTrees (count + 1) step l (with_items node_list nodes_after).items (vec_capacity slot_list) (vec_capacity node_list)) (sym (slots_kept done))
+    (subst (λ (l : List Summary). AreRoomySumTrees (count + 1) step after l (vec_capacity slot_list) (vec_capacity node_list)) (sym (nodes_kept done)) whole)
 
 pub returns : goal.returns
 returns c =
