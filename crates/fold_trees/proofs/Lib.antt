@@ -8,5 +8,4 @@ pub mod PairEnds
 pub mod TreeWrites
 pub mod TreeTaken
 pub mod TreeLonger
-pub mod TreeMore
 pub mod TreeFolds

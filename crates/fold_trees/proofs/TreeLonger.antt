@@ -1,10 +1,10 @@
 -- All lines lie between one another, and each takes one more number.
 use Rattle.std.proofs.Common.{◌≡◌, ◌∙◌, ℕ, ◌+◌, ◌-◌, ◌*◌, ◌/◌, ◌^◌, ◌<◌, ℤ, pos, List, ◌++◌, length, get_or, sym, ap, subst, arith}
 use Rattle.std.proofs.lemmas.List.{length-append, get_or_append_left}
+use Rattle.operator_fns.specs.SumTrees.{AreLineTrees}
 use Rattle.operator_fns.specs.LineTrees.{slot_at, slot_of, shorter, nth_node, from_two, IsIn, node_of, AreKept, nodes_in_line}
 use Rattle.operator_fns.proofs.LineSpots.{slot_within, nth_within, in_both}
-use Rattle.operator_fns.proofs.LongerTrees.{first_spot, one_block, lines_in_block}
-use Rattle.fold_trees.specs.PartTrees.{ArePartTrees}
+use Rattle.operator_fns.proofs.LongerTrees.{first_spot, one_block, lines_in_block, held_nodes}
 use Rattle.operator_fns.proofs.Halves.{are_from_two}
 use Rattle.operator_fns.proofs.LineNodes.{kept_alike}
 use Rattle.operator_fns.specs.LineBlocks.{line_at}
@@ -17,25 +17,8 @@ in_block count step numbers nodes line some apart is sized h few =
     let whole = sized ∙ grind arith ∙ ap (λ n. n * nodes_in_line from_two count) (sym lines) in
     in_both from_two are_from_two count step numbers (one_block count step numbers some apart is) line (omega (arith, h, lines)) nodes whole few
 
-module _ {P : Type 0} (blank : P) (tells : P → List ℤ → Type 0) (count step : ℕ) (numbers : List ℤ) (nodes : List P) where
-  -- as many nodes as such lines have
-  pub held_nodes : ArePartTrees blank tells count step numbers nodes → length numbers ≡ count * step → length nodes ≡ nodes_in_line from_two count * step
-  held_nodes trees is = trees.sized ∙ ap (λ n. n * nodes_in_line from_two count) (lines_in_block count step (length numbers) trees.lines.some is) ∙ grind arith
-
-  -- the trees of one block of lines
-  pub longer_trees : 0 < count → 0 < step → length numbers ≡ count * step → length nodes ≡ nodes_in_line from_two count * step
-      → ((line : ℕ) → line < step → AreKept from_two tells count (slot_of (line_at from_two count step line) numbers) (node_of from_two blank (line_at from_two count step line) nodes))
-      → ArePartTrees blank tells count step numbers nodes
-  longer_trees some apart slot_count node_count kept =
-      let lines = lines_in_block count step (length numbers) some slot_count in
-      record {
-        lines = one_block count step (length numbers) some apart slot_count;
-        sized = node_count ∙ grind arith ∙ ap (λ n. n * nodes_in_line from_two count) (sym lines);
-        kept = λ line h. kept line (omega (arith, h, lines));
-      }
-
 module _ {P : Type 0} (blank : P) (tells : P → List ℤ → Type 0) (count step : ℕ) (numbers new : List ℤ) (nodes more : List P)
-    (old : ArePartTrees blank tells count step numbers nodes) (between : length numbers ≡ count * step) (wide : length new ≡ step) where
+    (old : AreLineTrees from_two blank tells slot_of count step numbers nodes) (between : length numbers ≡ count * step) (wide : length new ≡ step) where
   abbrev long : ℕ
   long = count + 1
 
@@ -57,7 +40,7 @@ module _ {P : Type 0} (blank : P) (tells : P → List ℤ → Type 0) (count ste
       let some = old.lines.some in
       let sum : (nodes_in_line from_two count + 1) * step ≡ nodes_in_line from_two count * step + step = grind arith in
       let whole : nodes_in_line from_two count + 1 ≡ nodes_in_line from_two long = omega (arith, some) in
-      omega (arith, length-append nodes more, held_nodes blank tells count step numbers nodes old between, is, wide, sum) ∙ ap (λ n. n * step) whole
+      omega (arith, length-append nodes more, held_nodes from_two blank tells slot_of count step numbers nodes old between, is, wide, sum) ∙ ap (λ n. n * step) whole
 
   -- before the new numbers are taken, what is kept is that of the lines without them
   pub kept_without : (line : ℕ) → line < step

@@ -3,14 +3,13 @@ use Rattle.std.proofs.Common.{◌≡◌, ◌≢◌, ◌∙◌, ℕ, ◌*◌, ◌
 use Rattle.std.proofs.lemmas.Bool.{cases_eq}
 use Rattle.std.proofs.lemmas.List.{ext_get_or, length-set, get_or-set_same, get_or-set_other}
 use Rattle.std.proofs.lemmas.Nat.{mod_below}
-use Rattle.operator_fns.specs.SumTrees.{line_through, AreLines}
+use Rattle.operator_fns.specs.SumTrees.{line_through, AreLines, AreLineTrees}
 use Rattle.operator_fns.proofs.LineParts.{replaced_here, replaced_other}
 use Rattle.operator_fns.proofs.LineWrites.{put_here, put_other}
 use Rattle.operator_fns.proofs.LinePlaces.{place_spot}
 use Rattle.operator_fns.specs.declared.line_tree.Line.{Line}
 use Rattle.operator_fns.specs.LineTrees.{slot_at, slot_of, replaced, HasSlots, nth_node, from_two, node_of, AreKept, nodes_in_line}
 use Rattle.operator_fns.proofs.LineSpots.{nodes_apart, slots_apart}
-use Rattle.fold_trees.specs.PartTrees.{ArePartTrees}
 use Rattle.operator_fns.proofs.Halves.{are_from_two}
 use Rattle.operator_fns.proofs.LineNodes.{kept_alike}
 use Rattle.operator_fns.specs.LineBlocks.{line_at}
@@ -37,7 +36,7 @@ pub record IsWritten {P : Type 0} (blank : P) (tells : P → List ℤ → Type 0
   pub node_count : length nodes_after ≡ length nodes
 
 module _ {P : Type 0} (blank : P) (tells : P → List ℤ → Type 0) (count step : ℕ) (numbers after : List ℤ) (nodes nodes_after : List P) (place : ℕ) (z : ℤ)
-    (trees : ArePartTrees blank tells count step numbers nodes) (inside : place < length numbers)
+    (trees : AreLineTrees from_two blank tells slot_of count step numbers nodes) (inside : place < length numbers)
     (new : IsWritten blank tells (line_at from_two count step (line_through count step place)) (place / step % count) z numbers after nodes nodes_after) where
   -- where the place lies
   abbrev line : ℕ
@@ -67,7 +66,7 @@ module _ {P : Type 0} (blank : P) (tells : P → List ℤ → Type 0) (count ste
       ]
 
   -- and what is kept of their parts
-  pub written_trees : ArePartTrees blank tells count step after nodes_after
+  pub written_trees : AreLineTrees from_two blank tells slot_of count step after nodes_after
   written_trees = record {
     lines = subst (AreLines count step) (sym new.slot_count) trees.lines;
     sized = new.node_count ∙ trees.sized ∙ ap (λ n. n / count * nodes_in_line from_two count) (sym new.slot_count);

@@ -1,21 +1,12 @@
 -- The trees of all lines of an array along one axis, in a list of numbers and a list of nodes.
-use Rattle.std.specs.Prelude.{◌≡◌, ℕ, ◌+◌, ◌*◌, ◌/◌, ◌^◌, ◌<◌, ℤ, List, [], length}
+use Rattle.std.specs.Prelude.{◌≡◌, ℕ, ◌+◌, ◌*◌, ◌^◌, ◌<◌, ℤ, List, [], length}
 use Rattle.arrays_core.specs.Growth.{IsRoomy, HasRoom}
-use Rattle.operator_fns.specs.SumTrees.{AreLines}
+use Rattle.operator_fns.specs.SumTrees.{AreLineTrees}
 use Rattle.operator_fns.specs.LineTrees.{from_two, slot_of, nodes_in_line}
-use Rattle.operator_fns.specs.LineBlocks.{AreAllKept}
 
--- ---- how the trees of all lines are kept
-
--- the trees of all lines, in a list of numbers and a list of nodes
-pub record ArePartTrees {P : Type 0} (blank : P) (tells : P → List ℤ → Type 0) (count step : ℕ) (numbers : List ℤ) (nodes : List P) : Type 0 where
-  pub lines : AreLines count step (length numbers)
-  pub sized : length nodes ≡ length numbers / count * nodes_in_line from_two count
-  pub kept : AreAllKept from_two blank tells slot_of count step numbers nodes
-
--- and the two lists lie in pieces of memory of these capacities, each with room for the next power of two as many
-pub record AreRoomyPartTrees {P : Type 0} (blank : P) (tells : P → List ℤ → Type 0) (count step : ℕ) (numbers : List ℤ) (nodes : List P) (slot_capacity node_capacity : ℕ) : Type 0 where
-  pub trees : ArePartTrees blank tells count step numbers nodes
+-- the trees of all lines, in a list of numbers and a list of nodes that lie in pieces of memory of these capacities, each with room for the next power of two as many
+pub record ArePartTrees {P : Type 0} (blank : P) (tells : P → List ℤ → Type 0) (count step : ℕ) (numbers : List ℤ) (nodes : List P) (slot_capacity node_capacity : ℕ) : Type 0 where
+  pub trees : AreLineTrees from_two blank tells slot_of count step numbers nodes
   pub slot_room : IsRoomy (length numbers) slot_capacity
   pub node_room : IsRoomy (length nodes) node_capacity
 

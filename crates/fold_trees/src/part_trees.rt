@@ -3,11 +3,10 @@
 ghost use Rattle.std.specs.Prelude.{◌≡◌, ℕ, ◌+◌, ◌-◌, ◌*◌, ◌/◌, ◌%◌, ◌^◌, ◌<◌, ◌≤◌, ◌==◌, ◌++◌, ◌∷◌, [], length, vec_capacity, IfOk};
 ghost use Rattle.arrays_core.specs.Growth.{IsRoomy};
 ghost use Rattle.operator_fns.specs.SumTree.{IsWithinDigitsOf};
-ghost use Rattle.operator_fns.specs.SumTrees.{FitBehind, FitNext, with_lines, with_places, line_count as lines_in, numbers_of_line, numbers_through, with_number, AreLines};
+ghost use Rattle.operator_fns.specs.SumTrees.{FitBehind, FitNext, with_lines, with_places, line_count as lines_in, numbers_of_line, numbers_through, with_number, AreLines, AreLineTrees};
 ghost use Rattle.operator_fns.specs.LineBlocks.{block_at, line_at, AreAllKept};
 ghost use Rattle.operator_fns.specs.LineTrees.{slot_of, shorter, from_two, IsIn, node_of, AreKept, nodes_in_line};
 ghost use Rattle.fold_trees.specs.FoldTrees.{IsReductionBy};
-ghost use Rattle.fold_trees.specs.PartTrees.{ArePartTrees};
 
 use crate::line_tree::{LineTree, fill_block, push_line, take_last, write};
 use crate::part::Part;
@@ -41,7 +40,7 @@ fn nth_tree<'a, P: Part>(
     step: usize,
     line: usize,
 ) -> LineTree<'a, P>
-    requires trees { ArePartTrees P.blank P.tells count step numbers.now nodes.now }
+    requires trees { AreLineTrees from_two P.blank P.tells slot_of count step numbers.now nodes.now }
     requires line { line < length numbers.now / count }
     ensures line { result.line ≡ line_at from_two count step line }
     ensures numbers { result.numbers.now ≡ numbers.now }
@@ -150,13 +149,13 @@ pub(crate) struct PartTrees<P: Part> {
 impl<P: Part> Model for PartTrees<P> {
     ghost use Rattle.std.specs.Prelude.{vec_capacity};
     ghost use Rattle.operator_fns.specs.SumTrees.{TreesValue};
-    ghost use Rattle.fold_trees.specs.PartTrees.{AreRoomyPartTrees};
+    ghost use Rattle.fold_trees.specs.PartTrees.{ArePartTrees};
 
     ghost Value = { TreesValue };
 
     ghost view = { λ t. record { count = t.count; step = t.step; numbers = t.numbers.items } };
 
-    ghost invariant = { λ t. AreRoomyPartTrees P.blank P.tells t.count t.step t.numbers.items t.nodes.items (vec_capacity t.numbers) (vec_capacity t.nodes) };
+    ghost invariant = { λ t. ArePartTrees P.blank P.tells t.count t.step t.numbers.items t.nodes.items (vec_capacity t.numbers) (vec_capacity t.nodes) };
 }
 
 impl<P: Part> PartTrees<P> {

@@ -57,6 +57,7 @@ pub mod LongerLines
 pub mod LongerTables
 pub mod LongerTrees
 pub mod MoreLines
+pub mod MoreTrees
 pub mod ListTrees
 pub mod VectorSums
 pub mod FlaggedSums

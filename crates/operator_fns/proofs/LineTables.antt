@@ -17,9 +17,16 @@ same_over f g from (suc n) same =
 
 -- ---- one line
 
+-- numbers are read from the slots of their line alone
+abbrev pub ReadsSlots : (Line → List ℤ → ℕ → ℤ) → Type 0
+ReadsSlots number = (l m : Line) (before after : List ℤ) → m.count ≡ l.count → ((i : ℕ) → i < l.count → slot_of m after i ≡ slot_of l before i)
+    → (i : ℕ) → i < l.count → number m after i ≡ number l before i
+
+pub slots_read : ReadsSlots slot_of
+slots_read l m before after long same = same
+
 -- where the slots of a line are those of another one, so are its numbers
-pub numbers_moved : (l m : Line) (before after : List ℤ) → m.count ≡ l.count → ((i : ℕ) → i < l.count → slot_of m after i ≡ slot_of l before i)
-    → (i : ℕ) → i < l.count → number_of m after i ≡ number_of l before i
+pub numbers_moved : ReadsSlots number_of
 numbers_moved l m before after long same i h = elim (cases_lt (i + 1) l.count) [
   | inl more ↦ elim (cases_eq (i % 2) 0) [
     | inl even ↦

@@ -1,12 +1,12 @@
 -- All lines lie between one another, and each takes one more number.
-use Rattle.std.proofs.Common.{◌≡◌, ◌∙◌, ℕ, ◌+◌, ◌-◌, ◌*◌, ◌/◌, ◌%◌, ◌<◌, ◌≤◌, ℤ, pos, List, ◌++◌, length, get_or, refl, sym, ap, subst, arith, inl, inr, FitsSigned, w64}
-use Rattle.std.specs.List.{All}
+use Rattle.std.proofs.Common.{◌≡◌, ◌∙◌, ℕ, ◌+◌, ◌-◌, ◌*◌, ◌/◌, ◌%◌, ◌<◌, ◌≤◌, ℤ, pos, List, ◌++◌, length, get_or, refl, sym, ap, subst, arith, inl, inr}
 use Rattle.std.proofs.lemmas.Bool.{cases_lt}
 use Rattle.std.proofs.lemmas.List.{ext_get_or, length-append, get_or_append_left, get_or-append_right}
 use Rattle.std.proofs.lemmas.Nat.{div_below, mod_below, div-mul-add, mod-mul-add}
 use Rattle.operator_fns.specs.declared.summary.Summary.{Summary}
-use Rattle.operator_fns.specs.LineTrees.{slot_at, node_at, slot_of, number_of, shorter, from_four, node_of, AreKept, nodes_in_line}
-use Rattle.operator_fns.specs.SumTrees.{line_through, number_kept, numbers_kept, AreLines, AreSumTrees}
+use Rattle.operator_fns.specs.declared.line_tree.Line.{Line}
+use Rattle.operator_fns.specs.LineTrees.{Halves, slot_at, node_at, slot_of, number_of, shorter, from_four, node_of, AreKept, nodes_in_line}
+use Rattle.operator_fns.specs.SumTrees.{line_through, number_kept, numbers_kept, AreLines, AreLineTrees}
 use Rattle.operator_fns.proofs.KeptNumbers.{kept_count, kept_at, kept_on_line}
 use Rattle.operator_fns.proofs.LinePlaces.{place_spot, some_places, line_within}
 use Rattle.operator_fns.proofs.LineSpots.{spot, slot_within, node_within}
@@ -46,11 +46,24 @@ lines_in_block count step slots some is =
     let whole : slots ≡ step * count + 0 = is ∙ grind arith in
     ap (λ n. n / count) whole ∙ div-mul-add step count 0 some
 
--- as many nodes as such lines have
-pub held_nodes : (count step : ℕ) (slots : List ℤ) (nodes : List Summary) → AreSumTrees count step slots nodes → length slots ≡ count * step → length nodes ≡ nodes_in_line from_four count * step
-held_nodes count step slots nodes trees is = trees.sized ∙ ap (λ n. n * nodes_in_line from_four count) (lines_in_block count step (length slots) trees.lines.some is) ∙ grind arith
+module _ {P : Type 0} (h : Halves) (blank : P) (tells : P → List ℤ → Type 0) (number : Line → List ℤ → ℕ → ℤ) (count step : ℕ) (slots : List ℤ) (nodes : List P) where
+  -- as many nodes as such lines have
+  pub held_nodes : AreLineTrees h blank tells number count step slots nodes → length slots ≡ count * step → length nodes ≡ nodes_in_line h count * step
+  held_nodes trees is = trees.sized ∙ ap (λ n. n * nodes_in_line h count) (lines_in_block count step (length slots) trees.lines.some is) ∙ grind arith
 
-module _ (count step : ℕ) (slots numbers : List ℤ) (nodes more : List Summary) (old : AreSumTrees count step slots nodes) (between : length slots ≡ count * step)
+  -- the trees of one block of lines
+  pub longer_trees : 0 < count → 0 < step → length slots ≡ count * step → length nodes ≡ nodes_in_line h count * step
+      → ((line : ℕ) → line < step → AreKept h tells count (number (line_at h count step line) slots) (node_of h blank (line_at h count step line) nodes))
+      → AreLineTrees h blank tells number count step slots nodes
+  longer_trees some apart slot_count node_count kept =
+      let lines = lines_in_block count step (length slots) some slot_count in
+      record {
+        lines = one_block count step (length slots) some apart slot_count;
+        sized = node_count ∙ grind arith ∙ ap (λ n. n * nodes_in_line h count) (sym lines);
+        kept = λ line below. kept line (omega (arith, below, lines));
+      }
+
+module _ (count step : ℕ) (slots numbers : List ℤ) (nodes more : List Summary) (old : AreLineTrees from_four empty TellsSums number_of count step slots nodes) (between : length slots ≡ count * step)
     (wide : length numbers ≡ step) where
   abbrev long : ℕ
   long = count + 1
@@ -95,7 +108,7 @@ module _ (count step : ℕ) (slots numbers : List ℤ) (nodes more : List Summar
       let rest = nodes_in_line from_four long - nodes_in_line from_four count in
       let whole : nodes_in_line from_four long ≡ nodes_in_line from_four count + rest = omega arith in
       let sum : (nodes_in_line from_four count + rest) * step ≡ nodes_in_line from_four count * step + rest * step = grind arith in
-      let held = held_nodes count step slots nodes old between in
+      let held = held_nodes from_four empty TellsSums number_of count step slots nodes old between in
       let added = is ∙ ap (λ n. rest * n) wide in
       omega (arith, length-append nodes more, held, added, sum) ∙ ap (λ n. n * step) (sym whole)
 
@@ -162,16 +175,3 @@ module _ (count step : ℕ) (slots numbers : List ℤ) (nodes more : List Summar
               | inl below ↦ had k within below
               | inr above ↦ new k within above
             ]
-
--- and what is kept of their parts
-pub longer_trees : (count step : ℕ) (slots : List ℤ) (nodes : List Summary) → 0 < count → 0 < step → length slots ≡ count * step → length nodes ≡ nodes_in_line from_four count * step
-    → All (FitsSigned w64) slots → ((line : ℕ) → line < step → AreKept from_four TellsSums count (number_of (line_at from_four count step line) slots) (node_of from_four empty (line_at from_four count step line) nodes))
-    → AreSumTrees count step slots nodes
-longer_trees count step slots nodes some apart slot_count node_count fit kept =
-    let lines = lines_in_block count step (length slots) some slot_count in
-    record {
-      lines = one_block count step (length slots) some apart slot_count;
-      fit = fit;
-      sized = node_count ∙ grind arith ∙ ap (λ n. n * nodes_in_line from_four count) (sym lines);
-      kept = λ line h. kept line (omega (arith, h, lines));
-    }

@@ -1,18 +1,15 @@
 -- Lines behind others.
-use Rattle.std.proofs.Common.{◌≡◌, ◌∙◌, ℕ, ◌+◌, ◌-◌, ◌*◌, ◌/◌, ◌%◌, ◌^◌, ◌<◌, ◌≤◌, ℤ, pos, List, ◌++◌, length, get_or, sym, ap, subst, arith, refl, inl, inr, FitsSigned, w64}
+use Rattle.std.proofs.Common.{◌≡◌, ◌∙◌, ℕ, ◌+◌, ◌-◌, ◌*◌, ◌/◌, ◌%◌, ◌^◌, ◌<◌, ◌≤◌, ℤ, pos, List, ◌++◌, length, get_or, sym, ap, arith, refl, inl, inr}
 use Rattle.std.proofs.lemmas.Bool.{cases_lt}
 use Rattle.std.proofs.lemmas.List.{ext_get_or, length-append, get_or_append_left, get_or-append-add, get_or-append_right}
-use Rattle.std.proofs.lemmas.List.Elements.{All-append}
 use Rattle.std.proofs.lemmas.Nat.{div-add-mod', div-mul-add, mod-mul-add, mod_below, mul-le}
 use Rattle.operator_fns.specs.declared.summary.Summary.{Summary}
-use Rattle.operator_fns.specs.LineTrees.{slot_at, node_at, number_of, from_four, node_of, AreKept, nodes_in_line}
-use Rattle.operator_fns.specs.SumTrees.{line_through, number_kept, numbers_kept, AreLines, AreSumTrees}
+use Rattle.operator_fns.specs.LineTrees.{slot_at, number_of, from_four}
+use Rattle.operator_fns.specs.SumTrees.{line_through, number_kept, numbers_kept, AreLines, AreLineTrees}
 use Rattle.operator_fns.proofs.KeptNumbers.{kept_count, kept_at}
 use Rattle.operator_fns.proofs.LinePlaces.{some_places, spot_line, spot_place, place_spot, line_within}
-use Rattle.operator_fns.proofs.LineSpots.{spot, blocks, slots_are, lines_are, all_slots, slot_within, node_within}
+use Rattle.operator_fns.proofs.LineSpots.{spot, blocks, slots_are, lines_are, all_slots, slot_within}
 use Rattle.operator_fns.proofs.LineTables.{numbers_alike, numbers_moved}
-use Rattle.operator_fns.proofs.Halves.{are_from_four}
-use Rattle.operator_fns.proofs.LineNodes.{kept_alike}
 use Rattle.operator_fns.specs.LineBlocks.{line_at}
 use Rattle.operator_fns.specs.SumNodes.{empty, TellsSums}
 
@@ -51,7 +48,7 @@ spot_after count step slots are unit line place =
     ∙ spot_behind unit step (blocks count step slots are) line place are.apart
     ∙ ap (λ n. n + spot unit step line place) (order ∙ ap (λ n. n * unit) (sym lines))
 
-module _ (count step : ℕ) (slots more : List ℤ) (nodes more_nodes : List Summary) (old : AreSumTrees count step slots nodes) (new : AreSumTrees count step more more_nodes) where
+module _ (count step : ℕ) (slots more : List ℤ) (nodes more_nodes : List Summary) (old : AreLineTrees from_four empty TellsSums number_of count step slots nodes) (new : AreLineTrees from_four empty TellsSums number_of count step more more_nodes) where
   old_lines : ℕ
   old_lines = length slots / count
 
@@ -63,17 +60,11 @@ module _ (count step : ℕ) (slots more : List ℤ) (nodes more_nodes : List Sum
   unfolding old_lines new_lines
   all_lines = ap (λ n. n / count) (length-append slots more) ∙ lines_behind count step (length slots) (length more) old.lines new.lines
 
-  -- where the slots and the nodes of the later lines lie
+  -- where the slots of the later lines lie
   slot_behind : (line place : ℕ) → slot_at (line_at from_four count step (old_lines + line)) place ≡ length slots + slot_at (line_at from_four count step line) place
   unfolding old_lines
   slot_behind line place =
       spot_after count step (length slots) old.lines count line place ∙ ap (λ n. n + spot count step line place) (sym (all_slots count step (length slots) old.lines))
-
-  node_behind : (line meeting : ℕ) → node_at (line_at from_four count step (old_lines + line)) meeting ≡ length nodes + node_at (line_at from_four count step line) meeting
-  unfolding old_lines
-  node_behind line meeting =
-      let unit = nodes_in_line from_four count in
-      spot_after count step (length slots) old.lines unit line (meeting / 2 - 1) ∙ ap (λ n. n + spot unit step line (meeting / 2 - 1)) (sym old.sized)
 
   -- a place behind the old ones, as a spot
   slots_behind : (k : ℕ) → length slots + k ≡ spot count step (old_lines + line_through count step k) (k / step % count)
@@ -134,43 +125,6 @@ module _ (count step : ℕ) (slots more : List ℤ) (nodes more_nodes : List Sum
                 ∙ sym (kept_at count step more j (omega (arith, within, length-append slots more, after)))
                 ∙ sym (get_or-append_right first later (length slots) k (pos 0) old_count after)
           ]
-
-  -- what is kept of the parts of both
-  pub more_trees : AreSumTrees count step (slots ++ more) (nodes ++ more_nodes)
-  unfolding old_lines new_lines
-  more_trees = record {
-    lines = record {
-      some = old.lines.some;
-      apart = old.lines.apart;
-      whole = whole;
-    };
-    fit = All-append (FitsSigned w64) slots more old.fit new.fit;
-    sized = length-append nodes more_nodes ∙ (λ i. old.sized i + new.sized i) ∙ grind arith ∙ ap (λ n. n * nodes_in_line from_four count) (sym all_lines);
-    kept = λ k h. elim (cases_lt k (length slots / count)) [
-      | inl before ↦
-          kept_alike from_four are_from_four TellsSums count (number_of (line_at from_four count step k) slots) (number_of (line_at from_four count step k) (slots ++ more)) (node_of from_four empty (line_at from_four count step k) nodes)
-          (node_of from_four empty (line_at from_four count step k) (nodes ++ more_nodes)) (first_numbers k before) (first_nodes k before) (old.kept k before)
-      | inr after ↦
-          let j = k - length slots / count in
-          let is : k ≡ length slots / count + j = omega (arith, after) in
-          subst (λ n. AreKept from_four TellsSums count (number_of (line_at from_four count step n) (slots ++ more)) (node_of from_four empty (line_at from_four count step n) (nodes ++ more_nodes))) (sym is)
-          (kept_alike from_four are_from_four TellsSums count (number_of (line_at from_four count step j) more) (number_of (line_at from_four count step (length slots / count + j)) (slots ++ more)) (node_of from_four empty (line_at from_four count step j) more_nodes)
-          (node_of from_four empty (line_at from_four count step (length slots / count + j)) (nodes ++ more_nodes)) (later_numbers j) (later_nodes j) (new.kept j (omega (arith, h, all_lines, after))))
-    ];
-  }
-    where
-      whole : length (slots ++ more) % (count * step) ≡ 0
-      whole = ap (λ n. n % (count * step)) (length-append slots more) ∙ whole_behind count step (length slots) (length more) old.lines new.lines
-
-      first_nodes : (line : ℕ) → line < length slots / count → (meeting : ℕ) → 2 ≤ meeting → meeting < count
-          → node_of from_four empty (line_at from_four count step line) (nodes ++ more_nodes) meeting ≡ node_of from_four empty (line_at from_four count step line) nodes meeting
-      first_nodes line h meeting low high =
-          get_or_append_left nodes more_nodes empty (node_at (line_at from_four count step line) meeting) (node_within from_four are_from_four count step (length slots) old.lines line h (length nodes) old.sized meeting low high)
-
-      later_nodes : (line meeting : ℕ) → 2 ≤ meeting → meeting < count
-          → node_of from_four empty (line_at from_four count step (length slots / count + line)) (nodes ++ more_nodes) meeting ≡ node_of from_four empty (line_at from_four count step line) more_nodes meeting
-      later_nodes line meeting low high =
-          ap (λ k. get_or (nodes ++ more_nodes) k empty) (node_behind line meeting) ∙ get_or-append-add nodes more_nodes (node_at (line_at from_four count step line) meeting) empty
 
 -- ---- how many slots and nodes there are in all
 

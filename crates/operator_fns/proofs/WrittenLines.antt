@@ -7,7 +7,7 @@ use Rattle.std.proofs.lemmas.Nat.{mod_below}
 use Rattle.operator_fns.specs.declared.summary.Summary.{Summary}
 use Rattle.operator_fns.specs.declared.line_tree.Line.{Line}
 use Rattle.operator_fns.specs.LineTrees.{slot_at, node_at, number_of, replaced, from_four, node_of, AreKept, nodes_in_line}
-use Rattle.operator_fns.specs.SumTrees.{line_through, number_kept, numbers_kept, AreLines, AreSumTrees}
+use Rattle.operator_fns.specs.SumTrees.{line_through, number_kept, numbers_kept, AreLines, AreLineTrees}
 use Rattle.operator_fns.proofs.KeptNumbers.{kept_count, kept_at}
 use Rattle.operator_fns.proofs.LineParts.{replaced_here, replaced_other}
 use Rattle.operator_fns.proofs.LinePlaces.{place_spot}
@@ -28,7 +28,7 @@ pub record IsWritten (l : Line) (place : ℕ) (z : ℤ) (slots after : List ℤ)
   pub node_count : length nodes_after ≡ length nodes
   pub fit : All (FitsSigned w64) after
 
-module _ (count step : ℕ) (slots after : List ℤ) (nodes nodes_after : List Summary) (place : ℕ) (z : ℤ) (trees : AreSumTrees count step slots nodes)
+module _ (count step : ℕ) (slots after : List ℤ) (nodes nodes_after : List Summary) (place : ℕ) (z : ℤ) (trees : AreLineTrees from_four empty TellsSums number_of count step slots nodes)
     (inside : place < length slots) (new : IsWritten (line_at from_four count step (line_through count step place)) (place / step % count) z slots after nodes nodes_after) where
   -- where the place lies
   abbrev line : ℕ
@@ -83,10 +83,9 @@ module _ (count step : ℕ) (slots after : List ℤ) (nodes nodes_after : List S
           ]
 
   -- and what is kept of their parts
-  pub written_trees : AreSumTrees count step after nodes_after
+  pub written_trees : AreLineTrees from_four empty TellsSums number_of count step after nodes_after
   written_trees = record {
     lines = subst (AreLines count step) (sym new.slot_count) trees.lines;
-    fit = new.fit;
     sized = new.node_count ∙ trees.sized ∙ ap (λ n. n * nodes_in_line from_four count) (sym same_lines);
     kept = λ k h. elim (cases_eq k line) [
       | inl e ↦ subst (λ j. AreKept from_four TellsSums count (number_of (line_at from_four count step j) after) (node_of from_four empty (line_at from_four count step j) nodes_after)) (sym e) new.kept

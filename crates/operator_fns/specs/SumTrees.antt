@@ -4,6 +4,7 @@ use Rattle.std.specs.List.{range_with_len}
 use Rattle.std.specs.Int.{w64}
 use Rattle.arrays_core.specs.Growth.{IsRoomy, HasRoom}
 use Rattle.operator_fns.specs.declared.summary.Summary.{Summary}
+use Rattle.operator_fns.specs.declared.line_tree.Line.{Line}
 use Rattle.scalar_fns.specs.Folds.{strided}
 use Rattle.operator_fns.specs.Strides.{line_start}
 use Rattle.operator_fns.specs.SumNodes.{empty, TellsSums}
@@ -60,16 +61,16 @@ pub record AreLines (count step slots : ℕ) : Type 0 where
   pub apart : 0 < step
   pub whole : slots % (count * step) ≡ 0
 
--- the trees of all lines, in a list of slots and a list of nodes
-pub record AreSumTrees (count step : ℕ) (slots : List ℤ) (nodes : List Summary) : Type 0 where
+-- the trees of all lines, in a list of slots and a list of nodes, where it is told what a node is and how the numbers of a line are read from its slots
+pub record AreLineTrees {P : Type 0} (h : Halves) (blank : P) (tells : P → List ℤ → Type 0) (number : Line → List ℤ → ℕ → ℤ) (count step : ℕ) (slots : List ℤ) (nodes : List P) : Type 0 where
   pub lines : AreLines count step (length slots)
-  pub fit : All (FitsSigned w64) slots
-  pub sized : length nodes ≡ length slots / count * nodes_in_line from_four count
-  pub kept : AreAllKept from_four empty TellsSums number_of count step slots nodes
+  pub sized : length nodes ≡ length slots / count * nodes_in_line h count
+  pub kept : AreAllKept h blank tells number count step slots nodes
 
--- and the two lists lie in pieces of memory of these capacities, each with room for the next power of two as many
-pub record AreRoomySumTrees (count step : ℕ) (slots : List ℤ) (nodes : List Summary) (slot_capacity node_capacity : ℕ) : Type 0 where
-  pub trees : AreSumTrees count step slots nodes
+-- those of sums, where the two lists lie in pieces of memory of these capacities, each with room for the next power of two as many
+pub record AreSumTrees (count step : ℕ) (slots : List ℤ) (nodes : List Summary) (slot_capacity node_capacity : ℕ) : Type 0 where
+  pub trees : AreLineTrees from_four empty TellsSums number_of count step slots nodes
+  pub fit : All (FitsSigned w64) slots
   pub slot_room : IsRoomy (length slots) slot_capacity
   pub node_room : IsRoomy (length nodes) node_capacity
 

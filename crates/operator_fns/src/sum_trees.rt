@@ -7,7 +7,7 @@ ghost use Rattle.operator_fns.specs.SumNodes.{empty, TellsSums};
 ghost use Rattle.operator_fns.specs.LineTrees.{slot_of, number_of, shorter, from_four, IsIn, node_of, AreKept, nodes_in_line};
 ghost use Rattle.operator_fns.specs.LineBlocks.{block_at, line_at, AreAllKept};
 ghost use Rattle.operator_fns.specs.SumTree.{IsReductionBySum, IsWithinDigitsOf};
-ghost use Rattle.operator_fns.specs.SumTrees.{FitBehind, FitNext, with_lines, with_places, line_through as line_of_place, numbers_kept, line_count as lines_in, numbers_of_line, numbers_through, with_number, AreLines, AreSumTrees};
+ghost use Rattle.operator_fns.specs.SumTrees.{FitBehind, FitNext, with_lines, with_places, line_through as line_of_place, numbers_kept, line_count as lines_in, numbers_of_line, numbers_through, with_number, AreLines, AreLineTrees};
 
 use crate::line_tree::{Line, LineTree, fill_block, pair_block, push_line, take_last, write};
 use crate::sum_tree::read_all;
@@ -50,7 +50,7 @@ fn nth_tree<'a>(
     step: usize,
     line: usize,
 ) -> LineTree<'a>
-    requires trees { AreSumTrees count step slots.now nodes.now }
+    requires trees { AreLineTrees from_four empty TellsSums number_of count step slots.now nodes.now }
     requires line { line < length slots.now / count }
     ensures line { result.line ≡ line_at from_four count step line }
     ensures slots { result.slots.now ≡ slots.now }
@@ -168,13 +168,13 @@ pub struct SumTrees {
 
 impl Model for SumTrees {
     ghost use Rattle.std.specs.Prelude.{vec_capacity};
-    ghost use Rattle.operator_fns.specs.SumTrees.{TreesValue, numbers_kept, AreRoomySumTrees};
+    ghost use Rattle.operator_fns.specs.SumTrees.{TreesValue, numbers_kept, AreSumTrees};
 
     ghost Value = { TreesValue };
 
     ghost view = { λ t. record { count = t.count; step = t.step; numbers = numbers_kept t.count t.step t.slots.items } };
 
-    ghost invariant = { λ t. AreRoomySumTrees t.count t.step t.slots.items t.nodes.items (vec_capacity t.slots) (vec_capacity t.nodes) };
+    ghost invariant = { λ t. AreSumTrees t.count t.step t.slots.items t.nodes.items (vec_capacity t.slots) (vec_capacity t.nodes) };
 }
 
 impl SumTrees {

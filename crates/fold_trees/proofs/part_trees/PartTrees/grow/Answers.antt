@@ -1,13 +1,14 @@
 use Rattle.std.proofs.Common.{◌≡◌, ◌∙◌, ℕ, ◌+◌, ◌*◌, ◌/◌, ◌<◌, ◌^◌, ◌++◌, ℤ, List, length, sym, ap, subst, arith, vec_capacity}
 use Rattle.arrays_core.specs.Growth.{HasRoom}
-use Rattle.operator_fns.specs.SumTrees.{TreesValue, NewTreesValue, line_count}
+use Rattle.operator_fns.specs.SumTrees.{TreesValue, NewTreesValue, line_count, AreLineTrees}
 use Rattle.operator_fns.proofs.LineSpots.{all_slots, fewer_nodes}
 use Rattle.operator_fns.proofs.MoreLines.{in_all}
-use Rattle.fold_trees.specs.PartTrees.{ArePartTrees}
-use Rattle.fold_trees.proofs.TreeMore.{more_trees}
+use Rattle.operator_fns.proofs.Halves.{are_from_two}
+use Rattle.operator_fns.proofs.LineTables.{slots_read}
+use Rattle.operator_fns.proofs.MoreTrees.{more_trees}
 use Rattle.fold_trees.proofs.part_trees.PartTrees.grow.Given.{Over}
 use Rattle.fold_trees.proofs.part_trees.PartTrees.grow.Goals.{After-trees}
-use Rattle.operator_fns.specs.LineTrees.{from_two, nodes_in_line}
+use Rattle.operator_fns.specs.LineTrees.{from_two, nodes_in_line, slot_of}
 use Rattle.fold_trees.proofs.part_trees.PartTrees.grow.Goals as goal
 
 -- ---- the new lines are as long as the old ones, their neighbours as far apart, and the room is for them
@@ -24,14 +25,14 @@ same_step g c =
     ∙ sym (ap (λ (t : TreesValue). t.step) c.self.view_is)
 
 new_trees : (g : Over) (c : After-trees g)
-    → ArePartTrees g.P.Part.blank g.P.Part.tells c.self.inside.count c.self.inside.step c.trees.inside.numbers.items c.trees.inside.nodes.items
+    → AreLineTrees from_two g.P.Part.blank g.P.Part.tells slot_of c.self.inside.count c.self.inside.step c.trees.inside.numbers.items c.trees.inside.nodes.items
 new_trees g c =
     let blank = g.P.Part.blank in
     let tells = g.P.Part.tells in
     let numbers = c.trees.inside.numbers.items in
     let nodes = c.trees.inside.nodes.items in
-    subst (λ (step : ℕ). ArePartTrees blank tells c.self.inside.count step numbers nodes) (same_step g c)
-    (subst (λ (count : ℕ). ArePartTrees blank tells count c.trees.inside.step numbers nodes) (same_count g c) c.trees.invariant.trees)
+    subst (λ (step : ℕ). AreLineTrees from_two blank tells slot_of c.self.inside.count step numbers nodes) (same_step g c)
+    (subst (λ (count : ℕ). AreLineTrees from_two blank tells slot_of count c.trees.inside.step numbers nodes) (same_count g c) c.trees.invariant.trees)
 
 old_count : (g : Over) (c : After-trees g) → c.more.inside.old_lines ≡ length c.self.inside.numbers.items / c.self.inside.count
 old_count g c = ap (λ (n : NewTreesValue). n.old_lines) c.more.view_is ∙ c.requires.old_lines ∙ sym (ap (λ (t : TreesValue). line_count t) c.self.view_is)
@@ -112,10 +113,10 @@ invariant_of-self g c =
     let nodes = c.self.inside.nodes.items in
     let more = c.trees.inside.numbers.items in
     let more_nodes = c.trees.inside.nodes.items in
-    let all = more_trees blank tells count step numbers more nodes more_nodes c.self.invariant.trees (new_trees g (goal.at.invariant_of-self g c).After-trees) in
+    let all = more_trees from_two are_from_two blank tells slot_of slots_read count step numbers more nodes more_nodes c.self.invariant.trees (new_trees g (goal.at.invariant_of-self g c).After-trees) in
     record {
-      trees = subst (λ (l : List ℤ). ArePartTrees blank tells count step l c.put_behind-2.new.items.items) (sym c.put_behind.ensures.items)
-          (subst (λ (l : List g.row.P.Denot). ArePartTrees blank tells count step (numbers ++ more) l) (sym c.put_behind-2.ensures.items) all);
+      trees = subst (λ (l : List ℤ). AreLineTrees from_two blank tells slot_of count step l c.put_behind-2.new.items.items) (sym c.put_behind.ensures.items)
+          (subst (λ (l : List g.row.P.Denot). AreLineTrees from_two blank tells slot_of count step (numbers ++ more) l) (sym c.put_behind-2.ensures.items) all);
       slot_room = c.put_behind.ensures.room;
       node_room = c.put_behind-2.ensures.room;
     }

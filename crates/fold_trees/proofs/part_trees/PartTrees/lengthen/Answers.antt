@@ -1,10 +1,11 @@
 use Rattle.std.proofs.Common.{◌≡◌, ◌∙◌, ◌+◌, ◌-◌, ◌*◌, ◌++◌, ℤ, List, length, sym, ap, subst, arith, vec_capacity}
 use Rattle.std.proofs.lemmas.List.{with_items_is}
 use Rattle.arrays_core.specs.Growth.{IsRoomy, HasRoom}
-use Rattle.operator_fns.specs.SumTrees.{TreesValue, NewPlacesValue}
+use Rattle.operator_fns.specs.SumTrees.{TreesValue, NewPlacesValue, AreLineTrees}
 use Rattle.operator_fns.specs.LineTrees.{slot_of, shorter, from_two, node_of, AreKept, nodes_in_line}
-use Rattle.fold_trees.specs.PartTrees.{ArePartTrees, AreRoomyPartTrees}
-use Rattle.fold_trees.proofs.TreeLonger.{all_long, held_nodes, nodes_long, kept_without, longer_trees}
+use Rattle.fold_trees.specs.PartTrees.{ArePartTrees}
+use Rattle.operator_fns.proofs.LongerTrees.{held_nodes, longer_trees}
+use Rattle.fold_trees.proofs.TreeLonger.{all_long, nodes_long, kept_without}
 use Rattle.fold_trees.proofs.part_trees.PartTrees.lengthen.Given.{Over}
 use Rattle.fold_trees.proofs.part_trees.PartTrees.lengthen.Goals.{After-more, After-deref_mut}
 use Rattle.operator_fns.specs.LineBlocks.{line_at}
@@ -23,7 +24,7 @@ between g c = ap (λ (t : TreesValue). length t.numbers) c.self.view_is ∙ c.re
 
 held : (g : Over) (c : After-more g) → length c.self.inside.nodes.items ≡ nodes_in_line from_two c.self.inside.count * c.self.inside.step
 held g c =
-    held_nodes g.P.Part.blank g.P.Part.tells c.self.inside.count c.self.inside.step c.self.inside.numbers.items c.self.inside.nodes.items c.self.invariant.trees (between g c)
+    held_nodes from_two g.P.Part.blank g.P.Part.tells slot_of c.self.inside.count c.self.inside.step c.self.inside.numbers.items c.self.inside.nodes.items c.self.invariant.trees (between g c)
 
 old_nodes : (g : Over) (c : After-more g) → nodes_in_line from_two c.more.inside.count * length c.more.inside.numbers.items ≡ length c.self.inside.nodes.items
 old_nodes g c = (λ i. nodes_in_line from_two (same_count g c i) * wide g c i) ∙ sym (held g c)
@@ -101,11 +102,11 @@ invariant_of-self g c =
     let before = (goal.at.invariant_of-self g c).After-deref_mut in
     let nodes_kept = with_items_is nodes after (told.node_length ∙ c.deref_mut.ensures.len) in
     let node_count = told.node_length ∙ ap (λ (l : List g.row.P.Denot). length l) c.deref_mut.ensures.value in
-    let trees = longer_trees blank tells (count + 1) step c.deref.result.now after (omega arith) c.self.invariant.trees.lines.apart (numbers_long g before)
+    let trees = longer_trees from_two blank tells slot_of (count + 1) step c.deref.result.now after (omega arith) c.self.invariant.trees.lines.apart (numbers_long g before)
     (told.node_length ∙ nodes_count g before) told.kept in
-    let whole : AreRoomyPartTrees blank tells (count + 1) step numbers.items after (vec_capacity numbers) (vec_capacity nodes) = record {
-      trees = subst (λ (l : List ℤ). ArePartTrees blank tells (count + 1) step l after) c.deref.ensures.value trees;
+    let whole : ArePartTrees blank tells (count + 1) step numbers.items after (vec_capacity numbers) (vec_capacity nodes) = record {
+      trees = subst (λ (l : List ℤ). AreLineTrees from_two blank tells slot_of (count + 1) step l after) c.deref.ensures.value trees;
       slot_room = c.put_behind.ensures.room;
       node_room = subst (λ n. IsRoomy n (vec_capacity nodes)) (sym node_count) c.put_behind-2.ensures.room;
     } in
-    subst (λ (l : List g.row.P.Denot). AreRoomyPartTrees blank tells (count + 1) step numbers.items l (vec_capacity numbers) (vec_capacity nodes)) (sym nodes_kept) whole
+    subst (λ (l : List g.row.P.Denot). ArePartTrees blank tells (count + 1) step numbers.items l (vec_capacity numbers) (vec_capacity nodes)) (sym nodes_kept) whole

@@ -9,7 +9,7 @@ use Rattle.operator_fns.proofs.LinePlaces.{line_within}
 use Rattle.operator_fns.proofs.LineSpots.{line_fits, in_both}
 use Rattle.operator_fns.specs.declared.line_tree.Line.{Line}
 use Rattle.operator_fns.specs.LineTrees.{slot_of, from_two, IsIn, node_of, AreKept}
-use Rattle.fold_trees.specs.PartTrees.{AreRoomyPartTrees}
+use Rattle.fold_trees.specs.PartTrees.{ArePartTrees}
 use Rattle.fold_trees.proofs.TreeWrites.{IsWritten, written_numbers, written_trees}
 use Rattle.fold_trees.proofs.part_trees.PartTrees.set.Given.{Over}
 use Rattle.fold_trees.proofs.part_trees.PartTrees.set.Goals.{After-self, After-nth_line-line, After-write}
@@ -124,13 +124,13 @@ invariant_of-self g c =
     let new = is_written g done in
     let trees = written_trees blank tells count step numbers.items after nodes.items nodes_after c.args.place c.args.number c.self.invariant.trees
     (is_inside g (goal.at.invariant_of-self g c).After-self) new in
-    let whole : AreRoomyPartTrees blank tells count step after nodes_after (vec_capacity numbers) (vec_capacity nodes) = record {
+    let whole : ArePartTrees blank tells count step after nodes_after (vec_capacity numbers) (vec_capacity nodes) = record {
       trees = trees;
       slot_room = subst (λ n. IsRoomy n (vec_capacity numbers)) (sym new.slot_count) c.self.invariant.slot_room;
       node_room = subst (λ n. IsRoomy n (vec_capacity nodes)) (sym new.node_count) c.self.invariant.node_room;
     } in
-    subst (λ (l : List ℤ). AreRoomyPartTrees blank tells count step l (with_items nodes nodes_after).items (vec_capacity numbers) (vec_capacity nodes)) (sym (numbers_kept g done))
-    (subst (λ (l : List g.row.P.Denot). AreRoomyPartTrees blank tells count step after l (vec_capacity numbers) (vec_capacity nodes)) (sym (nodes_kept g done)) whole)
+    subst (λ (l : List ℤ). ArePartTrees blank tells count step l (with_items nodes nodes_after).items (vec_capacity numbers) (vec_capacity nodes)) (sym (numbers_kept g done))
+    (subst (λ (l : List g.row.P.Denot). ArePartTrees blank tells count step after l (vec_capacity numbers) (vec_capacity nodes)) (sym (nodes_kept g done)) whole)
 
 pub returns : goal.returns
 returns g c =

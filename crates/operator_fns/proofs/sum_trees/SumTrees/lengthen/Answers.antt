@@ -6,7 +6,7 @@ use Rattle.std.proofs.lemmas.List.Elements.{All-append}
 use Rattle.arrays_core.specs.Growth.{IsRoomy, HasRoom}
 use Rattle.operator_fns.specs.declared.summary.Summary.{Summary}
 use Rattle.operator_fns.specs.LineTrees.{number_of, shorter, slot_of, from_four, node_of, AreKept, nodes_in_line}
-use Rattle.operator_fns.specs.SumTrees.{TreesValue, NewPlacesValue, numbers_kept, with_places, AreRoomySumTrees}
+use Rattle.operator_fns.specs.SumTrees.{TreesValue, NewPlacesValue, numbers_kept, with_places, AreSumTrees}
 use Rattle.operator_fns.proofs.KeptNumbers.{kept_count}
 use Rattle.operator_fns.proofs.LongerTrees.{all_long, held_nodes, nodes_long, kept_without, longer_numbers, longer_trees}
 use Rattle.operator_fns.proofs.sum_trees.SumTrees.lengthen.Goals.{After-more, After-deref_mut-2, After-take_places}
@@ -39,7 +39,7 @@ slots_in_all c =
 old_nodes : (c : After-more) → nodes_in_line from_four c.more.inside.count * length c.more.inside.numbers.items ≡ length c.self.inside.nodes.items
 old_nodes c =
     (λ i. nodes_in_line from_four (same_count c i) * wide c i)
-    ∙ sym (held_nodes c.self.inside.count c.self.inside.step c.self.inside.slots.items c.self.inside.nodes.items c.self.invariant.trees (between c))
+    ∙ sym (held_nodes from_four empty TellsSums number_of c.self.inside.count c.self.inside.step c.self.inside.slots.items c.self.inside.nodes.items c.self.invariant.trees (between c))
 
 nodes_in_all : (c : After-more) → nodes_in_line from_four (c.more.inside.count + 1) * length c.more.inside.numbers.items ≡ length c.self.inside.nodes.items + length c.more.inside.more_nodes.items
 nodes_in_all c =
@@ -103,7 +103,7 @@ take_places-requires-clause-node_count c = nodes_count c
 pub take_places-requires-clause-fit : goal.take_places-requires-clause-fit
 take_places-requires-clause-fit c =
     subst (All (FitsSigned w64)) (sym (slots_are c))
-    (All-append (FitsSigned w64) c.self.inside.slots.items c.more.inside.numbers.items c.self.invariant.trees.fit c.more.invariant.fit)
+    (All-append (FitsSigned w64) c.self.inside.slots.items c.more.inside.numbers.items c.self.invariant.fit c.more.invariant.fit)
 
 pub take_places-requires-clause-kept : goal.take_places-requires-clause-kept
 take_places-requires-clause-kept c line h =
@@ -136,13 +136,14 @@ invariant_of-self c =
     let done = (goal.at.invariant_of-self c).After-take_places in
     let slot_count = told.slot_length ∙ ap (λ (l : List ℤ). length l) c.deref_mut.ensures.value in
     let node_count = told.node_length ∙ ap (λ (l : List Summary). length l) c.deref_mut-2.ensures.value in
-    let whole : AreRoomySumTrees (count + 1) step after nodes_after (vec_capacity slot_list) (vec_capacity node_list) = record {
-      trees = longer_trees (count + 1) step after nodes_after (omega arith) c.self.invariant.trees.lines.apart (told.slot_length ∙ slots_long before) (told.node_length ∙ nodes_count before) told.fit told.kept;
+    let whole : AreSumTrees (count + 1) step after nodes_after (vec_capacity slot_list) (vec_capacity node_list) = record {
+      trees = longer_trees from_four empty TellsSums number_of (count + 1) step after nodes_after (omega arith) c.self.invariant.trees.lines.apart (told.slot_length ∙ slots_long before) (told.node_length ∙ nodes_count before) told.kept;
+      fit = told.fit;
       slot_room = subst (λ n. IsRoomy n (vec_capacity slot_list)) (sym slot_count) c.put_behind.ensures.room;
       node_room = subst (λ n. IsRoomy n (vec_capacity node_list)) (sym node_count) c.put_behind-2.ensures.room;
     } in
-    subst (λ (l : List ℤ). AreRoomySumTrees (count + 1) step l (with_items node_list nodes_after).items (vec_capacity slot_list) (vec_capacity node_list)) (sym (slots_kept done))
-    (subst (λ (l : List Summary). AreRoomySumTrees (count + 1) step after l (vec_capacity slot_list) (vec_capacity node_list)) (sym (nodes_kept done)) whole)
+    subst (λ (l : List ℤ). AreSumTrees (count + 1) step l (with_items node_list nodes_after).items (vec_capacity slot_list) (vec_capacity node_list)) (sym (slots_kept done))
+    (subst (λ (l : List Summary). AreSumTrees (count + 1) step after l (vec_capacity slot_list) (vec_capacity node_list)) (sym (nodes_kept done)) whole)
 
 pub returns : goal.returns
 returns c =

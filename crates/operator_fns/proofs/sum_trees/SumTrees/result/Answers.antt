@@ -40,6 +40,6 @@ returns c =
     let lines = c.self.invariant.trees.lines in
     let numbers = numbers_of_line (seen count step slots) line in
     let fit : All (FitsSigned w64) numbers =
-    subst (All (FitsSigned w64)) (sym (kept_line count step slots lines line inside)) (line_fits (line_at from_four count step line) slots c.self.invariant.trees.fit has) in
+    subst (All (FitsSigned w64)) (sym (kept_line count step slots lines line inside)) (line_fits (line_at from_four count step line) slots c.self.invariant.fit has) in
     let sum = c.sum.ensures _ told ∙ ap sum_told (line_sums count step slots lines line inside) in
     subst (λ (t : TreesValue). IsReductionBySum (numbers_of_line t line) c.sum.result) c.self.view_is (subst (IsReductionBySum numbers) (sym sum) (told_reduction numbers fit))

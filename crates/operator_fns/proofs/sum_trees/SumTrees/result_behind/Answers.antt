@@ -48,7 +48,7 @@ returns c =
     let lines = c.self.invariant.trees.lines in
     let numbers = numbers_of_line (seen count step slots) line in
     let fit : All (FitsSigned w64) numbers =
-    subst (All (FitsSigned w64)) (sym (kept_line count step slots lines line inside)) (line_fits (line_at from_four count step line) slots c.self.invariant.trees.fit has) in
+    subst (All (FitsSigned w64)) (sym (kept_line count step slots lines line inside)) (line_fits (line_at from_four count step line) slots c.self.invariant.fit has) in
     let last : All (FitsSigned w64) (z ∷ []) = All-cons (FitsSigned w64) z [] c.ranges.number (All-nil (FitsSigned w64)) in
     let fits = All-append (FitsSigned w64) numbers (z ∷ []) fit last in
     let sum = c.sum.ensures _ told ∙ ap sum_told (ap (λ s. join s (single z)) (line_sums count step slots lines line inside) ∙ sums_behind numbers z) in

@@ -52,7 +52,7 @@ returns-clause-result c =
     let numbers = numbers_through (seen count step slots) c.args.place in
     let fit : All (FitsSigned w64) numbers =
     subst (All (FitsSigned w64)) (sym (kept_line count step slots lines line (line_within count step (length slots) lines c.args.place inside)))
-    (line_fits (line_at from_four count step line) slots c.self.invariant.trees.fit has) in
+    (line_fits (line_at from_four count step line) slots c.self.invariant.fit has) in
     let made = numbers_through (with_number (seen count step slots) c.args.place z) c.args.place in
     let fits : All (FitsSigned w64) made =
     subst (All (FitsSigned w64)) (sym (line_set count step slots lines c.args.place z inside)) (All-set (FitsSigned w64) numbers place z c.ranges.number fit) in

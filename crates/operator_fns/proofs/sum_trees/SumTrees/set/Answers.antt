@@ -6,7 +6,7 @@ use Rattle.arrays_core.specs.Growth.{IsRoomy}
 use Rattle.operator_fns.specs.declared.summary.Summary.{Summary}
 use Rattle.operator_fns.specs.declared.line_tree.Line.{Line}
 use Rattle.operator_fns.specs.LineTrees.{number_of, from_four, IsIn, node_of, AreKept}
-use Rattle.operator_fns.specs.SumTrees.{TreesValue, line_through, numbers_kept, with_number, AreRoomySumTrees}
+use Rattle.operator_fns.specs.SumTrees.{TreesValue, line_through, numbers_kept, with_number, AreSumTrees}
 use Rattle.operator_fns.proofs.Halves.{are_from_four}
 use Rattle.operator_fns.proofs.KeptNumbers.{seen, kept_count}
 use Rattle.operator_fns.proofs.LinePlaces.{line_within}
@@ -112,13 +112,14 @@ invariant_of-self c =
     let nodes_after = c.write.new.nodes in
     let new = is_written (goal.at.invariant_of-self c).After-write in
     let trees = written_trees count step slot_list.items after node_list.items nodes_after c.args.place c.args.number c.self.invariant.trees (is_inside (goal.at.invariant_of-self c).After-self) new in
-    let whole : AreRoomySumTrees count step after nodes_after (vec_capacity slot_list) (vec_capacity node_list) = record {
+    let whole : AreSumTrees count step after nodes_after (vec_capacity slot_list) (vec_capacity node_list) = record {
       trees = trees;
+      fit = new.fit;
       slot_room = subst (λ n. IsRoomy n (vec_capacity slot_list)) (sym new.slot_count) c.self.invariant.slot_room;
       node_room = subst (λ n. IsRoomy n (vec_capacity node_list)) (sym new.node_count) c.self.invariant.node_room;
     } in
-    subst (λ (l : List ℤ). AreRoomySumTrees count step l (with_items node_list nodes_after).items (vec_capacity slot_list) (vec_capacity node_list)) (sym (slots_kept (goal.at.invariant_of-self c).After-write))
-    (subst (λ (l : List Summary). AreRoomySumTrees count step after l (vec_capacity slot_list) (vec_capacity node_list)) (sym (nodes_kept (goal.at.invariant_of-self c).After-write)) whole)
+    subst (λ (l : List ℤ). AreSumTrees count step l (with_items node_list nodes_after).items (vec_capacity slot_list) (vec_capacity node_list)) (sym (slots_kept (goal.at.invariant_of-self c).After-write))
+    (subst (λ (l : List Summary). AreSumTrees count step after l (vec_capacity slot_list) (vec_capacity node_list)) (sym (nodes_kept (goal.at.invariant_of-self c).After-write)) whole)
 
 pub returns : goal.returns
 returns c =
