@@ -5,13 +5,13 @@ use Rattle.std.proofs.lemmas.List.{ext_get_or, length-append, get_or_append_left
 use Rattle.std.proofs.lemmas.Nat.{div_below, mod_below, div-mul-add, mod-mul-add}
 use Rattle.operator_fns.specs.declared.summary.Summary.{Summary}
 use Rattle.operator_fns.specs.declared.line_tree.Line.{Line}
-use Rattle.operator_fns.specs.LineTrees.{Halves, slot_at, node_at, slot_of, number_of, shorter, from_four, node_of, AreKept, nodes_in_line}
+use Rattle.operator_fns.specs.LineTrees.{Halves, slot_at, nth_node, slot_of, number_of, shorter, from_four, node_of, AreKept, nodes_in_line}
 use Rattle.operator_fns.specs.SumTrees.{line_through, number_kept, numbers_kept, AreLines, AreLineTrees}
 use Rattle.operator_fns.proofs.KeptNumbers.{kept_count, kept_at, kept_on_line}
 use Rattle.operator_fns.proofs.LinePlaces.{place_spot, some_places, line_within}
 use Rattle.operator_fns.proofs.LineSpots.{spot, slot_within, node_within}
-use Rattle.operator_fns.proofs.LineTables.{numbers_moved}
-use Rattle.operator_fns.proofs.Halves.{are_from_four}
+use Rattle.operator_fns.proofs.LineTables.{ReadsSlots, numbers_moved}
+use Rattle.operator_fns.proofs.Halves.{AreHalves, are_from_four}
 use Rattle.operator_fns.proofs.LineNodes.{kept_alike}
 use Rattle.operator_fns.specs.LineBlocks.{line_at}
 use Rattle.operator_fns.specs.SumNodes.{empty, TellsSums}
@@ -63,6 +63,43 @@ module _ {P : Type 0} (h : Halves) (blank : P) (tells : P → List ℤ → Type 
         kept = λ line below. kept line (omega (arith, below, lines));
       }
 
+-- as many slots as the longer lines have
+pub all_long : (count step : ℕ) (slots numbers : List ℤ) → length slots ≡ count * step → length numbers ≡ step → length (slots ++ numbers) ≡ (count + 1) * step
+all_long count step slots numbers between wide =
+    let sum : count * step + step ≡ (count + 1) * step = grind arith in
+    omega (arith, length-append slots numbers, between, wide, sum)
+
+-- ---- before the new numbers are taken
+
+module _ {P : Type 0} (h : Halves) (are : AreHalves h) (blank : P) (tells : P → List ℤ → Type 0) (number : Line → List ℤ → ℕ → ℤ) (reads : ReadsSlots number) (count step : ℕ)
+    (slots numbers : List ℤ) (nodes more : List P) (old : AreLineTrees h blank tells number count step slots nodes) (between : length slots ≡ count * step) where
+  there : (line : ℕ) → line < step → line < length slots / count
+  there line below = omega (arith, below, lines_in_block count step (length slots) old.lines.some between)
+
+  -- the numbers of a line
+  pub numbers_without : (line : ℕ) → line < step → (i : ℕ) → i < count → number (shorter (line_at h (count + 1) step line)) (slots ++ numbers) i ≡ number (line_at h count step line) slots i
+  numbers_without line below = reads (line_at h count step line) (shorter (line_at h (count + 1) step line)) slots (slots ++ numbers) (omega arith) (λ i p.
+      ap (λ k. get_or (slots ++ numbers) k (pos 0)) (first_spot (count + 1) count step line i old.lines.apart below)
+      ∙ get_or_append_left slots numbers (pos 0) (slot_at (line_at h count step line) i) (slot_within count step (length slots) old.lines line (there line below) i p))
+
+  -- and its nodes
+  nodes_without : (line : ℕ) → line < step → (meeting : ℕ) → h.half 0 ≤ meeting → meeting < count
+      → node_of h blank (shorter (line_at h (count + 1) step line)) (nodes ++ more) meeting ≡ node_of h blank (line_at h count step line) nodes meeting
+  nodes_without line below meeting low high =
+      ap (λ k. get_or (nodes ++ more) k blank) (first_spot (nodes_in_line h (count + 1)) (nodes_in_line h count) step line (h.nth meeting - 1) old.lines.apart below)
+      ∙ get_or_append_left nodes more blank (nth_node (line_at h count step line) (h.nth meeting))
+      (node_within h are count step (length slots) old.lines line (there line below) (length nodes) old.sized meeting low high)
+
+  -- what is kept is that of the lines without them
+  pub kept_without : (line : ℕ) → line < step
+      → AreKept h tells (count + 1 - 1) (number (shorter (line_at h (count + 1) step line)) (slots ++ numbers)) (node_of h blank (shorter (line_at h (count + 1) step line)) (nodes ++ more))
+  kept_without line below =
+      let l = line_at h count step line in
+      let m = shorter (line_at h (count + 1) step line) in
+      subst (λ n. AreKept h tells n (number m (slots ++ numbers)) (node_of h blank m (nodes ++ more))) (omega arith)
+      (kept_alike h are tells count (number l slots) (number m (slots ++ numbers)) (node_of h blank l nodes) (node_of h blank m (nodes ++ more)) (numbers_without line below)
+      (nodes_without line below) (old.kept line (there line below)))
+
 module _ (count step : ℕ) (slots numbers : List ℤ) (nodes more : List Summary) (old : AreLineTrees from_four empty TellsSums number_of count step slots nodes) (between : length slots ≡ count * step)
     (wide : length numbers ≡ step) where
   abbrev long : ℕ
@@ -77,30 +114,9 @@ module _ (count step : ℕ) (slots numbers : List ℤ) (nodes more : List Summar
   old_line : (line : ℕ) → line < step → line < length slots / count
   old_line line h = omega (arith, h, lines_in_block count step (length slots) old.lines.some between)
 
-  pub all_long : length all ≡ long * step
-  all_long = let sum : count * step + step ≡ long * step = grind arith in omega (arith, length-append slots numbers, between, wide, sum)
-
-  -- ---- before the new numbers are taken
-
-  -- the numbers of a line
+  -- the numbers of a line without the new ones
   first_numbers : (line : ℕ) → line < step → (i : ℕ) → i < count → number_of (shorter (line_at from_four long step line)) all i ≡ number_of (line_at from_four count step line) slots i
-  first_numbers line h = numbers_moved (line_at from_four count step line) (shorter (line_at from_four long step line)) slots all one_more (λ i p.
-      ap (λ k. get_or all k (pos 0)) (first_spot long count step line i old.lines.apart h)
-      ∙ get_or_append_left slots numbers (pos 0) (slot_at (line_at from_four count step line) i) (slot_within count step (length slots) old.lines line (old_line line h) i p))
-
-  -- and its nodes
-  first_nodes : (line : ℕ) → line < step → (meeting : ℕ) → 2 ≤ meeting → meeting < count
-      → node_of from_four empty (shorter (line_at from_four long step line)) (nodes ++ more) meeting ≡ node_of from_four empty (line_at from_four count step line) nodes meeting
-  first_nodes line h meeting low high =
-      ap (λ k. get_or (nodes ++ more) k empty) (first_spot (nodes_in_line from_four long) (nodes_in_line from_four count) step line (meeting / 2 - 1) old.lines.apart h)
-      ∙ get_or_append_left nodes more empty (node_at (line_at from_four count step line) meeting) (node_within from_four are_from_four count step (length slots) old.lines line (old_line line h) (length nodes) old.sized meeting low high)
-
-  -- what is kept is that of the lines without them
-  pub kept_without : (line : ℕ) → line < step → AreKept from_four TellsSums (long - 1) (number_of (shorter (line_at from_four long step line)) all) (node_of from_four empty (shorter (line_at from_four long step line)) (nodes ++ more))
-  kept_without line h =
-      subst (λ n. AreKept from_four TellsSums n (number_of (shorter (line_at from_four long step line)) all) (node_of from_four empty (shorter (line_at from_four long step line)) (nodes ++ more))) (sym one_more)
-      (kept_alike from_four are_from_four TellsSums count (number_of (line_at from_four count step line) slots) (number_of (shorter (line_at from_four long step line)) all) (node_of from_four empty (line_at from_four count step line) nodes)
-      (node_of from_four empty (shorter (line_at from_four long step line)) (nodes ++ more)) (first_numbers line h) (first_nodes line h) (old.kept line (old_line line h)))
+  first_numbers = numbers_without from_four are_from_four empty TellsSums number_of numbers_moved count step slots numbers nodes more old between
 
   -- as many nodes as the longer lines have
   pub nodes_long : length more ≡ (nodes_in_line from_four long - nodes_in_line from_four count) * length numbers → length (nodes ++ more) ≡ nodes_in_line from_four long * step
@@ -118,7 +134,7 @@ module _ (count step : ℕ) (slots numbers : List ℤ) (nodes more : List Summar
       (kept_numbers : (line i : ℕ) → line < step → i < long - 1 → number_of (line_at from_four long step line) after i ≡ number_of (shorter (line_at from_four long step line)) all i)
       (last : (line : ℕ) → line < step → number_of (line_at from_four long step line) after (long - 1) ≡ slot_of (line_at from_four long step line) all (long - 1)) where
     after_long : length after ≡ long * step
-    after_long = same_count ∙ all_long
+    after_long = same_count ∙ all_long count step slots numbers between wide
 
     some_long : 0 < long
     some_long = omega arith

@@ -1,4 +1,4 @@
--- The trees of sums of all lines of an array along one axis, in two lists.
+-- The trees of all lines of an array along one axis, in two lists, and those of sums.
 use Rattle.std.specs.Prelude.{◌≡◌, ℕ, ◌+◌, ◌-◌, ◌*◌, ◌/◌, ◌%◌, ◌^◌, ◌<◌, ℤ, pos, List, [], ◌++◌, length, set, map, All, FitsSigned}
 use Rattle.std.specs.List.{range_with_len}
 use Rattle.std.specs.Int.{w64}

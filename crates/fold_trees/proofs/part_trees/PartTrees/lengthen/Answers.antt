@@ -4,8 +4,10 @@ use Rattle.arrays_core.specs.Growth.{IsRoomy, HasRoom}
 use Rattle.operator_fns.specs.SumTrees.{TreesValue, NewPlacesValue, AreLineTrees}
 use Rattle.operator_fns.specs.LineTrees.{slot_of, shorter, from_two, node_of, AreKept, nodes_in_line}
 use Rattle.fold_trees.specs.PartTrees.{ArePartTrees}
-use Rattle.operator_fns.proofs.LongerTrees.{held_nodes, longer_trees}
-use Rattle.fold_trees.proofs.TreeLonger.{all_long, nodes_long, kept_without}
+use Rattle.operator_fns.proofs.Halves.{are_from_two}
+use Rattle.operator_fns.proofs.LineTables.{slots_read}
+use Rattle.operator_fns.proofs.LongerTrees.{all_long, held_nodes, kept_without, longer_trees}
+use Rattle.fold_trees.proofs.TreeLonger.{nodes_long}
 use Rattle.fold_trees.proofs.part_trees.PartTrees.lengthen.Given.{Over}
 use Rattle.fold_trees.proofs.part_trees.PartTrees.lengthen.Goals.{After-more, After-deref_mut}
 use Rattle.operator_fns.specs.LineBlocks.{line_at}
@@ -59,8 +61,7 @@ numbers_long : (g : Over) (c : After-deref_mut g) → length c.deref.result.now 
 numbers_long g c =
     let before = (goal.at-After-deref_mut g c).After-more in
     ap (λ (l : List ℤ). length l) (numbers_are g c)
-    ∙ all_long g.P.Part.blank g.P.Part.tells c.self.inside.count c.self.inside.step c.self.inside.numbers.items c.more.inside.numbers.items c.self.inside.nodes.items
-    c.more.inside.more_nodes.items c.self.invariant.trees (between g before) (wide g before)
+    ∙ all_long c.self.inside.count c.self.inside.step c.self.inside.numbers.items c.more.inside.numbers.items (between g before) (wide g before)
 
 nodes_count : (g : Over) (c : After-deref_mut g) → length c.deref_mut.result.now ≡ nodes_in_line from_two (c.self.inside.count + 1) * c.self.inside.step
 nodes_count g c =
@@ -84,8 +85,8 @@ take_places-requires-clause-kept g c line h =
     let l = shorter (line_at from_two (count + 1) step line) in
     subst (λ (s : List ℤ). AreKept from_two tells (count + 1 - 1) (slot_of l s) (node_of from_two blank l c.deref_mut.result.now)) (sym (numbers_are g c))
     (subst (λ (n : List g.row.P.Denot). AreKept from_two tells (count + 1 - 1) (slot_of l (numbers ++ more)) (node_of from_two blank l n)) (sym (nodes_are g c))
-    (kept_without blank tells count step numbers more c.self.inside.nodes.items c.more.inside.more_nodes.items c.self.invariant.trees
-    (between g before) (wide g before) line h))
+    (kept_without from_two are_from_two blank tells slot_of slots_read count step numbers more c.self.inside.nodes.items c.more.inside.more_nodes.items c.self.invariant.trees
+    (between g before) line h))
 
 -- ---- when all lines have taken theirs
 

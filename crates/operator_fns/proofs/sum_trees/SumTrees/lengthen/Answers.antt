@@ -8,6 +8,8 @@ use Rattle.operator_fns.specs.declared.summary.Summary.{Summary}
 use Rattle.operator_fns.specs.LineTrees.{number_of, shorter, slot_of, from_four, node_of, AreKept, nodes_in_line}
 use Rattle.operator_fns.specs.SumTrees.{TreesValue, NewPlacesValue, numbers_kept, with_places, AreSumTrees}
 use Rattle.operator_fns.proofs.KeptNumbers.{kept_count}
+use Rattle.operator_fns.proofs.Halves.{are_from_four}
+use Rattle.operator_fns.proofs.LineTables.{numbers_moved}
 use Rattle.operator_fns.proofs.LongerTrees.{all_long, held_nodes, nodes_long, kept_without, longer_numbers, longer_trees}
 use Rattle.operator_fns.proofs.sum_trees.SumTrees.lengthen.Goals.{After-more, After-deref_mut-2, After-take_places}
 use Rattle.operator_fns.specs.LineBlocks.{line_at}
@@ -84,7 +86,7 @@ slots_long : (c : After-deref_mut-2) → length c.deref_mut.result.now ≡ (c.se
 slots_long c =
     let before = (goal.at-After-deref_mut-2 c).After-more in
     ap (λ (l : List ℤ). length l) (slots_are c)
-    ∙ all_long c.self.inside.count c.self.inside.step c.self.inside.slots.items c.more.inside.numbers.items c.self.inside.nodes.items c.more.inside.more_nodes.items c.self.invariant.trees (between before)
+    ∙ all_long c.self.inside.count c.self.inside.step c.self.inside.slots.items c.more.inside.numbers.items (between before)
     (wide before)
 
 nodes_count : (c : After-deref_mut-2) → length c.deref_mut-2.result.now ≡ nodes_in_line from_four (c.self.inside.count + 1) * c.self.inside.step
@@ -113,7 +115,7 @@ take_places-requires-clause-kept c line h =
     let l = shorter (line_at from_four (count + 1) step line) in
     subst (λ (s : List ℤ). AreKept from_four TellsSums (count + 1 - 1) (number_of l s) (node_of from_four empty l c.deref_mut-2.result.now)) (sym (slots_are c))
     (subst (λ (n : List Summary). AreKept from_four TellsSums (count + 1 - 1) (number_of l (c.self.inside.slots.items ++ c.more.inside.numbers.items)) (node_of from_four empty l n)) (sym (nodes_are c))
-    (kept_without count step c.self.inside.slots.items c.more.inside.numbers.items c.self.inside.nodes.items c.more.inside.more_nodes.items c.self.invariant.trees (between before) (wide before) line h))
+    (kept_without from_four are_from_four empty TellsSums number_of numbers_moved count step c.self.inside.slots.items c.more.inside.numbers.items c.self.inside.nodes.items c.more.inside.more_nodes.items c.self.invariant.trees (between before) line h))
 
 -- ---- when all lines have taken theirs
 
