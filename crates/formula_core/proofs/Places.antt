@@ -1,5 +1,5 @@
 -- One place is all that changes of a node.
-use Rattle.std.proofs.Common.{◌≡◌, ◌∙◌, ℕ, ◌<◌, List, [], ◌∷◌, length, get_or, Bool, true, false, Option, Some, None, Result, Ok, Err, IfOk, IfSome, refl, sym, ap, subst}
+use Rattle.std.proofs.Common.{◌≡◌, ◌∙◌, ℕ, ◌<◌, List, [], ◌∷◌, length, get_or, false, Option, Some, None, Result, Ok, Err, IfOk, IfSome, refl, sym, ap, subst}
 use Rattle.std.specs.Borrow.{Bor}
 use Rattle.std.specs.declared.alloc.AllocError.{AllocError}
 use Rattle.std.proofs.lemmas.List.Elements.{All-cons, All-nil}
@@ -16,7 +16,6 @@ use Rattle.change_core.specs.RuleModels.{RuleModel}
 use Rattle.change_rules.specs.declared.one_place.OnePlace.{OnePlace}
 use Rattle.change_rules.specs.Currency.{applied}
 use Rattle.change_rules.specs.Nodes.{place_delta, delta_of_place}
-use Rattle.formula_core.specs.declared.input.Input.{Input}
 use Rattle.formula_core.specs.declared.input.Input.TheVariants.{Good}
 use Rattle.formula_core.specs.declared.kept.Kept.{Kept}
 use Rattle.formula_core.specs.declared.stage.Stage.{Stage}

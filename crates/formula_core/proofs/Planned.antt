@@ -1,11 +1,11 @@
 -- A plan is made node by node.
 use Rattle.std.proofs.Common.{◌≡◌, ℕ, suc, ◌+◌, ◌<◌, List, [], ◌∷◌, ◌++◌, length, map, take, get_or, Bool, true, false, IfOk, refl, sym, ap, ◌∙◌, subst, arith, inl, inr}
 use Rattle.std.specs.List.{sum_by}
-use Rattle.std.proofs.lemmas.Bool.{cases_lt, false≢true}
+use Rattle.std.proofs.lemmas.Bool.{cases_lt}
 use Rattle.std.proofs.lemmas.List.{length-append, length-map, get_or_append_left, get_or-map, take_all}
 use Rattle.std.proofs.lemmas.List.Sums.{sum_by_more}
 use Rattle.std.proofs.Math.Seq.{get_or-append_seam}
-use Rattle.apl_expr.specs.Trees.{Tree, Const, Numbers, literal_of}
+use Rattle.apl_expr.specs.Trees.{Tree, Const, Numbers}
 use Rattle.arrays_core.specs.Arrays.{IsArray}
 use Rattle.index_region.specs.declared.delta.Delta.{Delta}
 use Rattle.change_core.specs.Meters.{ticked}
@@ -15,7 +15,6 @@ use Rattle.formula_core.specs.declared.kept.Kept.{Kept}
 use Rattle.formula_core.specs.declared.kept.NodeChange.{NodeChange}
 use Rattle.formula_core.specs.declared.stage.Stage.{Stage}
 use Rattle.formula_core.specs.declared.table.Node.{Node}
-use Rattle.formula_core.specs.declared.table.Node.TheVariants as node
 use Rattle.formula_core.specs.Meaning.{eval, names_in}
 use Rattle.arrays_core.specs.Outcomes.{Outcome}
 use Rattle.formula_core.specs.Tables.{subtrees, tree_at, tree_of_node, trees_after, IsNode, IsTable}

@@ -112,7 +112,7 @@ impl NodeChange {
 pub(crate) fn push_place(changes: &mut Vec<NodeChange>, place: OnePlace) -> Result<(), AllocError>
     requires { box_size place.region ≡ 1 }
     ensures pushed { OnOk result (changes.new.items ≡ changes.old.items ++ place_change place ∷ []) }
-    ensures err { OnErr result (changes.new ≡ changes.old) }
+    ensures err { OnErr result (changes.new.items ≡ changes.old.items) }
 {
     match place.given {
         Ok(item) => changes.push(NodeChange::of(Delta::Patch(Patch::one(place.region, item))))?,

@@ -1,4 +1,4 @@
-use Rattle.std.proofs.Common.{◌≡◌, ◌∙◌, ◌<◌, ◌≤◌, ◌+◌, List, sym, ap, subst, length, get_or, arith, true, false}
+use Rattle.std.proofs.Common.{◌≡◌, ◌∙◌, ◌<◌, ◌+◌, List, sym, ap, subst, length, get_or, arith, true}
 use Rattle.change_core.specs.Meters.{ticked, MeterValue}
 use Rattle.formula_core.specs.declared.kept.NodeChange.{NodeChange}
 use Rattle.formula_core.specs.Formulas.{is_operation, operations}

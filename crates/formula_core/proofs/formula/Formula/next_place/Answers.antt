@@ -1,4 +1,4 @@
-use Rattle.std.proofs.Common.{◌≡◌, ◌<◌, ◌∙◌, List, Bool, false, ap, sym, refl, subst, length, get_or, arith}
+use Rattle.std.proofs.Common.{◌∙◌, List, Bool, false, ap, sym, refl, subst, length, get_or, arith}
 use Rattle.std.proofs.lemmas.Option.{IfSome_then}
 use Rattle.formula_core.specs.declared.kept.Kept.{Kept}
 use Rattle.formula_core.specs.Formulas.{FormulaValue}

@@ -1,4 +1,4 @@
-use Rattle.std.proofs.Common.{Ok, List, [], get_or, Option, refl, sym, subst, ap, ◌∙◌}
+use Rattle.std.proofs.Common.{List, [], get_or, Option, refl, sym, subst, ap, ◌∙◌}
 use Rattle.apl_expr.specs.Trees.{Const, Name}
 use Rattle.formula_core.specs.declared.table.Node.{Node}
 use Rattle.formula_core.specs.declared.table.Operand.{Operand}

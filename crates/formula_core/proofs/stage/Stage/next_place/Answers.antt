@@ -1,4 +1,4 @@
-use Rattle.std.proofs.Common.{◌≡◌, length, get_or}
+use Rattle.std.proofs.Common.{length, get_or}
 use Rattle.std.proofs.lemmas.List.{get_or_default}
 use Rattle.formula_core.proofs.Places.{of_four, held_result, next_place}
 use Rattle.formula_core.proofs.Planned.{next_node}
