@@ -2,7 +2,6 @@
 
 ghost use Rattle.std.specs.Prelude.{◌≡◌};
 ghost use Rattle.formula_core.specs.Outcomes.{read};
-ghost use Rattle.formula_core.specs.Outcomes.{arisen_in};
 ghost use Rattle.sheet_recalc.specs.Entries.{binding_of, entry_outcome, adopting, patched_entry, grown_entry, FitsEntry, FitsBehind};
 ghost use Rattle.sheet_recalc.specs.Names.{referred};
 ghost use Rattle.sheet_recalc.specs.Live.{CanAdopt};
@@ -38,9 +37,9 @@ impl Entry {
     {
         match self {
             Entry::Data(array) => Ok(array),
-            Entry::Formula(formula) => match formula.result() {
+            Entry::Formula(formula) => match formula.lent() {
                 Ok(array) => Ok(array),
-                Err(fault) => Err(arisen_in(name, fault)),
+                Err(fault) => Err(fault.arisen_in(&name).fault()),
             },
         }
     }
@@ -89,15 +88,5 @@ impl Entry {
             Entry::Data(array) => tail.write_behind(array),
             Entry::Formula(_) => drop(tail),
         }
-    }
-}
-
-/// An error that arose in the formula of a name: it gets its origin there, and keeps one that it has.
-pub(crate) fn arisen_in(name: Name, fault: Fault) -> Fault
-    ensures { result ≡ arisen_in name fault }
-{
-    Fault {
-        kind: fault.kind,
-        origin: fault.origin.or(Some(name)),
     }
 }
