@@ -71,9 +71,9 @@ module _ (c : Change) (names : List (List ℕ)) (trees : List Tree) (s : Stage) 
       let fit = (next_fits c names trees s staged below k is (delta_of_place p) step.delta sound).1 in
       record {
         done =
-        next_done c names trees s staged below k is (place_change p) step.delta
-        (record { right = was ∙ (unsummed names trees k.node none c.old ∙ sym (unsummed names trees k.node none c.new)); fit = tt })
-        sound (place_sound p k.result one sound fit);
+            next_done c names trees s staged below k is (place_change p) step.delta
+            (record { right = was ∙ (unsummed names trees k.node none c.old ∙ sym (unsummed names trees k.node none c.new)); fit = tt })
+            sound (place_sound p k.result one sound fit);
         cost = subst (λ (t : Tree). 1 ≡ node_cost_at s.is_new c t) (sym at) step.cost;
         joins = subst (λ (t : Tree). least_joins s.is_new c t ≡ 0) (sym at) joins;
       }

@@ -1,5 +1,5 @@
 -- Entries, the names that they stand for, and what they show.
-use Rattle.std.proofs.Common.{◌≡◌, ℕ, ◌+◌, ◌-◌, ◌<◌, ◌≤◌, Bool, true, false, cond, List, [], ◌∷◌, ◌++◌, length, take, get_or, ⊎_elim, Option, Some, None, Ok, Err, IsSome, is_some, refl, sym, ap, ◌∙◌, subst, arith, if◌then◌else◌}
+use Rattle.std.proofs.Common.{◌≡◌, ℕ, ◌+◌, ◌-◌, ◌<◌, ◌≤◌, Bool, true, false, cond, List, [], ◌∷◌, ◌++◌, length, take, get_or, ⊎_elim, ◌⊎◌, Option, Some, None, Ok, Err, IsSome, IfSome, is_some, refl, sym, ap, ◌∙◌, subst, arith, if◌then◌else◌}
 use Rattle.std.specs.Str.{bytes_eq}
 use Rattle.std.specs.Map.{lookup, keys_of, set_value}
 use Rattle.std.specs.Option.{option_map, unwrap_or}
@@ -12,13 +12,14 @@ use Rattle.std.proofs.lemmas.Map.Views.{Contains-keys_from_lookup}
 use Rattle.indexmap.specs.IndexMap.{insert_entry}
 use Rattle.arrays_core.specs.Arrays.{ArrayValue}
 use Rattle.arrays_core.specs.declared.item.Kind.TheVariants.{Value}
-use Rattle.dep_order.specs.Reachability.{Chain, IsAcyclic}
+use Rattle.dep_order.specs.Reachability.{Chain, IsAcyclic, Reaches}
+use Rattle.dep_order.specs.Users.{Uses, EachFollowsUsers, HasNothing}
 use Rattle.arrays_core.specs.Outcomes.{Outcome, fault}
 use Rattle.formula_core.specs.Plans.{PlanValue}
 use Rattle.sheet_recalc.specs.Names.{Names, Data, binding, put, without, Refers}
 use Rattle.sheet_recalc.specs.Meaning.{shown_beside, val, val_at}
 use Rattle.sheet_recalc.specs.Entries.{names_of, binding_of, entry_outcome, shown_by, adopting}
-use Rattle.sheet_recalc.specs.Live.{IsRightEntry, IsCurrent, IsLive, CanAdopt, AreRightOnceTaken, IsAdopting, entry_after, plan_in}
+use Rattle.sheet_recalc.specs.Live.{IsRightEntry, IsCurrent, IsLive, IsReach, CanAdopt, AreRightOnceTaken, IsAdopting, entry_after, plan_in}
 use Rattle.sheet_recalc.specs.declared.entry.Entry.{Entry}
 use Rattle.sheet_recalc.specs.declared.entry.Entry.TheVariants as entry
 use Rattle.sheet_recalc.proofs.NameEquality.{names_equal, equal-true, equal-same}
@@ -289,6 +290,29 @@ taken_next names es es' found found' place some keys taken now before = record {
 pub current_at_end : (names : Names) (es : List (List ℕ × Entry)) (found : List (List ℕ × Option PlanValue)) (place : ℕ) → place ≡ 0 → AreTaken names es found place → IsCurrent es
 current_at_end names es found place end now = λ q e h.
     subst (λ ns. IsRightEntry (val ns) q e) (sym now.adopting.names_are) (now.adopting.rest q e h (now.rest q (subst (λ n. Contains (take n (keys_of found)) q → ⊥) (sym end) (contains_none q))))
+
+-- and no plan is left
+pub nothing_at_end : (names : Names) (es : List (List ℕ × Entry)) (found : List (List ℕ × Option PlanValue)) (place : ℕ) → place ≡ 0 → AreTaken names es found place → HasNothing bytes_eq found
+nothing_at_end names es found place end now = λ a v there. sym (ap (λ o. unwrap_or o None) there) ∙ now.rest a (subst (λ n. Contains (take n (keys_of found)) a → ⊥) (sym end) (contains_none a))
+
+-- what a name reaches is the same while the table and the names that were found stay
+pub reach_kept : {S : Type 0} (users users' : List (List ℕ × IndexSet (List ℕ) S)) (name : List ℕ) (found found' : List (List ℕ × Option PlanValue))
+    → users' ≡ users → keys_of found' ≡ keys_of found → HasNothing bytes_eq found' → IsReach users name found → IsReach users' name found'
+reach_kept {S} users users' name found found' same keys none reach =
+    let back = sym keys in
+    record {
+      distinct = subst (λ ks. IsDistinct bytes_eq ks) back reach.distinct;
+      closed = subst (λ ks. EachFollowsUsers bytes_eq users' ks) back (subst (λ us. EachFollowsUsers bytes_eq us (keys_of found)) (sym same) reach.closed);
+      named = subst (λ ks. Contains ks name) back reach.named;
+      sound = λ a there. subst (λ us. (a ≡ name) ⊎ Reaches (Uses bytes_eq us) a name) (sym same) (reach.sound a (subst (λ ks. Contains ks a) keys there));
+      none = none;
+    }
+
+-- after an edit that is known of the name
+pub reached_after : {S : Type 0} (users : List (List ℕ × IndexSet (List ℕ) S)) (name : List ℕ) (found : List (List ℕ × Option PlanValue)) (edit : Bool) (edited : Option (List ℕ))
+    → edited ≡ (if edit then Some name else None) → (edit ≡ true → IsReach users name found) → IfSome edited (λ n. IsReach users n found)
+reached_after users name found true edited is reach = subst (λ (e : Option (List ℕ)). IfSome e (λ n. IsReach users n found)) (sym is) (reach refl)
+reached_after users name found false edited is reach = subst (λ (e : Option (List ℕ)). IfSome e (λ n. IsReach users n found)) (sym is) tt
 
 -- ---- plans that were made for entries after a change can be taken by these
 

@@ -1,7 +1,8 @@
 -- What the entries of a sheet keep.
-use Rattle.std.specs.Prelude.{◌≡◌, ◌≤◌, ℕ, List, [], ◌↔◌, Option, Some, None, Ok, if◌then◌else◌}
+use Rattle.std.specs.Prelude.{◌≡◌, ◌≤◌, ℕ, List, [], ◌↔◌, ◌⊎◌, Option, Some, None, Ok, IfSome, if◌then◌else◌}
+use Rattle.std.specs.List.{Contains, IsDistinct}
 use Rattle.std.specs.Str.{bytes_eq}
-use Rattle.std.specs.Map.{lookup}
+use Rattle.std.specs.Map.{lookup, keys_of}
 use Rattle.std.specs.Option.{unwrap_or}
 use Rattle.arrays_core.specs.Outcomes.{Outcome}
 use Rattle.formula_core.specs.Formulas.{IsHeld, root_result}
@@ -10,7 +11,8 @@ use Rattle.sheet_recalc.specs.Names.{Names, Refers, IsSheet}
 use Rattle.sheet_recalc.specs.Meaning.{val, with_origin}
 use Rattle.sheet_recalc.specs.NameOrder.{IsKeptOrder}
 use Rattle.indexmap.specs.IndexSet.{IndexSet}
-use Rattle.dep_order.specs.Users.{Uses, HasNoEmptyBut}
+use Rattle.dep_order.specs.Reachability.{Reaches}
+use Rattle.dep_order.specs.Users.{Uses, EachFollowsUsers, HasNoEmptyBut, HasNothing}
 use Rattle.sheet_recalc.specs.Entries.{names_of, adopting}
 use Rattle.sheet_recalc.specs.declared.entry.Entry.{Entry}
 use Rattle.sheet_recalc.specs.declared.entry.Entry.TheVariants as entry
@@ -37,14 +39,29 @@ pub record IsLive {S : Type 0} (entries : List (List ℕ × Entry)) (users : Lis
   pub used : HasNoEmptyBut bytes_eq users []
   pub current : IsCurrent entries
 
--- what a sheet keeps: its entries, and what its last change cost, with the items that were computed in it, which are no more
-pub record IsKeptBySheet {S : Type 0} (entries : List (List ℕ × Entry)) (users : List (List ℕ × IndexSet (List ℕ) S)) (cost ticks : ℕ) : Type 0 where
+-- these are a name and all that reach it, each once, after all that refer to it, and no plan stands beside one
+pub record IsReach {S : Type 0} (users : List (List ℕ × IndexSet (List ℕ) S)) (name : List ℕ) (found : List (List ℕ × Option PlanValue)) : Type 0 where
+  pub distinct : IsDistinct bytes_eq (keys_of found)
+  pub closed : EachFollowsUsers bytes_eq users (keys_of found)
+  pub named : Contains (keys_of found) name
+  pub sound : (a : List ℕ) → Contains (keys_of found) a → (a ≡ name) ⊎ Reaches (Uses bytes_eq users) a name
+  pub none : HasNothing bytes_eq found
+
+-- what a sheet keeps: its entries, and what its last change cost, with the items that were computed in it, which are no more; and what the name reaches
+-- whose data was edited last
+pub record IsKeptBySheet {S : Type 0} (entries : List (List ℕ × Entry)) (users : List (List ℕ × IndexSet (List ℕ) S)) (cost ticks : ℕ) (edited : Option (List ℕ)) (found : List (List ℕ × Option PlanValue)) : Type 0 where
   pub live : IsLive entries users
   pub few : ticks ≤ cost
+  pub reached : IfSome edited (λ name. IsReach users name found)
 
 -- the plan that stands beside a name, if there is one
 abbrev pub plan_in : List (List ℕ × Option PlanValue) → List ℕ → Option PlanValue
 plan_in found q = unwrap_or (lookup (bytes_eq q) found) None
+
+-- the names stay, and no plan stands beside one any more
+pub record AreEmptied (before after : List (List ℕ × Option PlanValue)) : Type 0 where
+  pub names : keys_of after ≡ keys_of before
+  pub none : HasNothing bytes_eq after
 
 -- the entry is a formula of which the plan was made
 abbrev pub CanAdopt : Entry → PlanValue → Type 0

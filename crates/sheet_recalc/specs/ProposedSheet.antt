@@ -3,7 +3,7 @@ use Rattle.std.specs.Prelude.{◌≡◌, ℕ, List, [], ◌⊎◌, Bool, true, f
 use Rattle.std.specs.List.{Contains}
 use Rattle.std.specs.Option.{option_map}
 use Rattle.index_region.specs.declared.delta.Delta.{Delta}
-use Rattle.index_region.specs.declared.delta.Delta.TheVariants.{Whole}
+use Rattle.index_region.specs.declared.delta.Delta.TheVariants.{Same, Patch, Grown, Whole}
 use Rattle.change_rules.specs.Currency.{applied}
 use Rattle.dep_order.specs.Follows.{Follows}
 use Rattle.dep_order.specs.Reachability.{Reaches}
@@ -42,6 +42,15 @@ abbrev pub is_data : Proposal → Bool
 is_data (proposed.Data delta) = true
 is_data (proposed.Formula f) = false
 is_data proposed.Removed = false
+
+-- it writes items into data, or puts a row behind it
+abbrev pub is_edit : Proposal → Bool
+is_edit (proposed.Data (Patch patch)) = true
+is_edit (proposed.Data (Grown tail)) = true
+is_edit (proposed.Data Same) = false
+is_edit (proposed.Data (Whole outcome)) = false
+is_edit (proposed.Formula f) = false
+is_edit proposed.Removed = false
 
 -- an array as an entry; an error is none
 abbrev pub data_entry : Outcome → Option Entry

@@ -1,6 +1,6 @@
 //! The part of a change that takes no memory.
 
-ghost use Rattle.std.specs.Prelude.{◌≡◌, ◌<◌, ℕ, List, [], Some, None, length, get_or, if◌then◌else◌};
+ghost use Rattle.std.specs.Prelude.{◌≡◌, ◌<◌, ℕ, List, [], Some, None, length, get_or, true, if◌then◌else◌};
 ghost use Rattle.std.specs.Str.{bytes_eq};
 ghost use Rattle.std.specs.Map.{lookup, keys_of, set_value};
 ghost use Rattle.indexmap.specs.IndexMap.{spare, insert_entry};
@@ -13,9 +13,9 @@ ghost use Rattle.sheet_recalc.specs.Entries.{names_of, binding_of, adopting, Has
 ghost use Rattle.sheet_recalc.specs.declared.entry.Entry.{Entry as EntryValue};
 ghost use Rattle.sheet_recalc.specs.declared.entry.Entry.TheVariants.{Data as DataEntry};
 ghost use Rattle.dep_order.specs.Users.{HasRoomFor, HasNoEmptyBut};
-ghost use Rattle.sheet_recalc.specs.Live.{TellsUsers, IsCurrent, AreRightOnceTaken, IsAdopting, CanAdopt, plan_in};
+ghost use Rattle.sheet_recalc.specs.Live.{TellsUsers, IsCurrent, AreRightOnceTaken, AreEmptied, IsAdopting, CanAdopt, plan_in};
 ghost use Rattle.sheet_recalc.specs.Pending.{outline_at, Brings, IsBrought, IsReadyToMake};
-ghost use Rattle.sheet_recalc.specs.ProposedSheet.{proposed_names};
+ghost use Rattle.sheet_recalc.specs.ProposedSheet.{is_edit, proposed_names};
 
 use crate::entry::Entry;
 use crate::growth::Growth;
@@ -45,6 +45,7 @@ pub(crate) fn make(
     ensures current { IsCurrent entries.new.entries }
     ensures tells { TellsUsers (proposed_names (outline_at (record { entries = entries.old; users = users.old }) name proposal)) users.new.entries }
     ensures used { HasNoEmptyBut bytes_eq users.new.entries [] }
+    ensures edit { is_edit proposal ≡ true → (users.new.entries ≡ users.old.entries) × AreEmptied found.old.entries found.new.entries }
 {
     match proposal {
         Proposal::Formula(formula) => {
@@ -179,6 +180,7 @@ fn commit_patch(entries: &mut IndexMap<Name, Entry>, name: Name, patch: &Patch, 
         → AreRightOnceTaken entries.old.entries name (Some (DataEntry (patched a patch.now))) (put (names_of entries.old.entries) name (Data (patched a patch.now))) (plan_in found.old.entries) }
     ensures names { (a : ArrayValue) → HasData entries.old.entries name a → names_of entries.new.entries ≡ put (names_of entries.old.entries) name (Data (patched a patch.now)) }
     ensures current { IsCurrent entries.new.entries }
+    ensures found { AreEmptied found.old.entries found.new.entries }
 {
     write_patch(entries, name, patch);
     adopt_all(entries, found);
@@ -201,6 +203,7 @@ fn commit_row(entries: &mut IndexMap<Name, Entry>, name: Name, tail: Tail, found
         → AreRightOnceTaken entries.old.entries name (Some (DataEntry (grown_by a tail.items))) (put (names_of entries.old.entries) name (Data (grown_by a tail.items))) (plan_in found.old.entries) }
     ensures names { (a : ArrayValue) → HasData entries.old.entries name a → names_of entries.new.entries ≡ put (names_of entries.old.entries) name (Data (grown_by a tail.items)) }
     ensures current { IsCurrent entries.new.entries }
+    ensures found { AreEmptied found.old.entries found.new.entries }
 {
     put_behind(entries, name, tail);
     adopt_all(entries, found);
@@ -227,18 +230,18 @@ fn references_of(entries: &IndexMap<Name, Entry>, name: Name) -> &[Name]
     }
 }
 
-/// Gives each formula that has a plan its new results, and takes the plans out of the map.
+/// Gives each formula that has a plan its new results, and takes the plans out of the map, whose names stay.
 fn adopt_all(entries: &mut IndexMap<Name, Entry>, found: &mut Found)
     requires { IsAdopting (names_of entries.old.entries) entries.old.entries (plan_in found.old.entries) }
     ensures names { names_of entries.new.entries ≡ names_of entries.old.entries }
     ensures current { IsCurrent entries.new.entries }
+    ensures found { AreEmptied found.old.entries found.new.entries }
 {
     let mut place = found.len();
     while place > 0 {
         place -= 1;
         adopt_at(entries, found, place);
     }
-    found.truncate(0);
 }
 
 /// Gives the formula of the name at a place its new results, if it has a plan, which is taken out from where it lies.

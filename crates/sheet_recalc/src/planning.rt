@@ -1,6 +1,6 @@
 //! The plans of a change, made a function at a time, in an order in which each formula comes after all that it refers to.
 
-ghost use Rattle.std.specs.Prelude.{◌≡◌, ◌+◌, ◌≤◌, ◌<◌, ◌∷◌, ◌++◌, ℕ, [], true, false, length, get_or, take, IfOk, IfSome, IfErr, OnOk, OnErr, Some, None, List, MatchBool};
+ghost use Rattle.std.specs.Prelude.{◌≡◌, ◌+◌, ◌≤◌, ◌<◌, ◌∷◌, ◌++◌, ℕ, [], true, false, length, get_or, take, IfOk, IfSome, IfErr, OnOk, OnErr, Some, None, List, IsTrue, MatchBool};
 ghost use Rattle.std.specs.List.{Contains, sum_by};
 ghost use Rattle.std.specs.Map.{keys_of};
 ghost use Rattle.change_core.specs.Meters.{ticked};
@@ -15,7 +15,7 @@ ghost use Rattle.sheet_recalc.specs.ProposedSheet.{outline_of, is_data, proposed
 ghost use Rattle.sheet_recalc.specs.Changes.{HasRoomForName, IsFullFor, CannotBecome};
 ghost use Rattle.sheet_recalc.specs.Costs.{AreAllThatReach, IsNodeCost};
 ghost use Rattle.sheet_recalc.specs.Entries.{names_of};
-ghost use Rattle.sheet_recalc.specs.Live.{IsLive, IsCurrent, plan_in};
+ghost use Rattle.sheet_recalc.specs.Live.{IsLive, IsCurrent, IsReach, plan_in};
 ghost use Rattle.sheet_recalc.specs.Planning.{IsProposalAt, IsProposed, ArePlans, HasItsPlan, IsAhead, IsPlanning, AllWait, IsOnTheWay, CanBe, waiting_names, functions_at};
 ghost use Rattle.sheet_recalc.specs.declared.entry.Entry.TheVariants.{Formula as FormulaEntry};
 
@@ -35,31 +35,48 @@ use index_region::Delta;
 use indexmap::IndexMap;
 use std::alloc::{AllocError, Global};
 
+/// What a change reaches, put into a map that is lent for its memory. Where the map is known to hold that, nothing is looked for.
+#[inline(always)]
+fn reach(
+    proposed: &ProposedSheet<'_>,
+    users: &Users<Name>,
+    is_known: bool,
+    found: &mut Found,
+) -> Result<(), AllocError>
+    requires live { IsLive proposed.now.entries.now.entries users.now.entries }
+    requires known { IsTrue is_known → IsReach users.now.entries proposed.now.name found.old.entries }
+    ensures { OnOk result (IsReach users.now.entries proposed.now.name found.new.entries) }
+{
+    if is_known {
+        return Ok(());
+    }
+    affected(users, proposed.name, proposed.entries.len(), found)
+}
+
 /// What a change reaches, of which no plan is made yet and no function counted, where this was spent before, or why it is refused: the
-/// name would reach itself, or there is no room for it. It takes the place of the plans that are lent, in their memory.
+/// name would reach itself, or there is no room for it. It takes the place of the plans that are lent, in their memory; or it is known that these
+/// have it.
 pub(crate) fn begun(
     alloc: Global,
     proposed: &ProposedSheet<'_>,
     users: &Users<Name>,
     spent: u64,
+    is_known: bool,
     plans: &mut Plans,
 ) -> Result<(), Refusal>
+    requires known { IsTrue is_known → IsReach users.now.entries proposed.now.name plans.old.found.entries }
     requires live { IsLive proposed.now.entries.now.entries users.now.entries }
     requires proposal { IsProposalAt proposed.now.entries.now.entries proposed.now.name proposed.now.proposal.now }
     ensures proposed { OnOk result (IsProposed (outline_of proposed.now)) }
     ensures way { OnOk result ((ticks : ℕ) → ticks ≡ spent → IsPlanning (outline_of proposed.now) spent plans.new ticks) }
     ensures first { OnOk result (AllWait plans.new) }
+    ensures reached { OnOk result (IsReach users.now.entries proposed.now.name plans.new.found.entries) }
     ensures all { OnOk result (AreAllThatReach (proposed_names (outline_of proposed.now)) proposed.now.name (keys_of plans.new.found.entries)) }
     ensures can { OnOk result (CanBe (outline_of proposed.now)) }
     ensures refused { IfErr result (CannotBecome (names_of proposed.now.entries.now.entries) (proposed_names (outline_of proposed.now)) proposed.now.name) }
 {
     shown_is_sound(proposed);
-    affected(
-        users,
-        proposed.name,
-        proposed.entries.len(),
-        &mut plans.found,
-    )?;
+    reach(proposed, users, is_known, &mut plans.found)?;
     if let Some(reference) = first_found(&plans.found, proposed.proposal.references()) {
         let cycle = cycle_through(alloc, proposed, &plans.found, reference)?;
         return Err(Refusal::Cycle(cycle));
@@ -281,6 +298,7 @@ pub(crate) fn plan_all(
     requires proposed { IsProposed (outline_of proposed.now) }
     requires way { (base : ℕ) × IsPlanning (outline_of proposed.now) base plans.old meter.old.ticks }
     ensures way { OnOk result ((base : ℕ) → IsPlanning (outline_of proposed.now) base plans.old meter.old.ticks → IsPlanning (outline_of proposed.now) base plans.new meter.new.ticks) }
+    ensures keys { keys_of plans.new.found.entries ≡ keys_of plans.old.found.entries }
     ensures all { OnOk result (plans.new.waiting ≡ 0) }
     ensures left { plans.new.left ≡ plans.old.left }
     ensures current { plans.new.current ≡ plans.old.current }

@@ -1,7 +1,7 @@
 //! What a name is to be bound to.
 
-ghost use Rattle.std.specs.Prelude.{◌≡◌};
-ghost use Rattle.sheet_recalc.specs.ProposedSheet.{is_data, proposed_references};
+ghost use Rattle.std.specs.Prelude.{◌≡◌, Some, None, if◌then◌else◌};
+ghost use Rattle.sheet_recalc.specs.ProposedSheet.{is_data, is_edit, proposed_references};
 
 use apl_tokens::Name;
 use formula_core::Formula;
@@ -24,6 +24,16 @@ impl Proposal {
         ensures { result ≡ is_data self.now }
     {
         matches!(self, Proposal::Data(_))
+    }
+
+    /// The name that it is for, where it writes items into data or puts a row behind it: who refers to whom stays then.
+    pub(crate) fn edited(&self, name: Name) -> Option<Name>
+        ensures { result ≡ (if is_edit self.now then Some name else None) }
+    {
+        match self {
+            Proposal::Data(Delta::Patch(_) | Delta::Grown(_)) => Some(name),
+            _ => None,
+        }
     }
 
     /// The names that stand in it.

@@ -1,6 +1,6 @@
 //! The sheet.
 
-ghost use Rattle.std.specs.Prelude.{◌≡◌, ◌+◌, ◌-◌, ◌<◌, ◌≤◌, ℕ, List, min, true, [], IfOk, IfErr, OnOk, OnErr, Ok, Some, None, IsSome, is_some, if◌then◌else◌};
+ghost use Rattle.std.specs.Prelude.{◌≡◌, ◌+◌, ◌-◌, ◌<◌, ◌≤◌, ℕ, List, min, true, [], IfOk, IfErr, IsTrue, OnOk, OnErr, Ok, Some, None, IsSome, is_some, if◌then◌else◌};
 ghost use Rattle.std.specs.Map.{keys_of};
 ghost use Rattle.std.specs.Option.{option_map};
 ghost use Rattle.apl_expr.specs.Trees.{tree_of, literal_of};
@@ -58,8 +58,22 @@ pub struct Sheet {
     cost: u64,
     /// How many items of results were computed in it.
     ticks: u64,
-    /// Room for the plans of the next change, kept from the last one that was made. What it holds is of no account.
-    room: Cell<Plans>,
+    /// The name whose data the last change edited, if it was such a one.
+    edited: Option<Name>,
+    /// Room for the plans of the next change, kept from the last one that was made, with what that name reaches: the next edit of it reaches the same.
+    room: Plans,
+    /// Room for the plans of the next change that is laid out, kept from the last one. What it holds is of no account.
+    lent: Cell<Plans>,
+}
+
+/// A name is told, and it is this one.
+fn is_this(told: &Option<Name>, name: Name) -> bool
+    ensures { IsTrue result → told.now ≡ Some name }
+{
+    match told {
+        Some(other) => *other == name,
+        None => false,
+    }
 }
 
 impl Model for Sheet {
@@ -80,7 +94,7 @@ impl Model for Sheet {
 
     ghost view = { λ s. record { names = names_of s.entries.entries; cost = s.cost; ticks = s.ticks; tables = record { entries = s.entries; users = s.users } } };
 
-    ghost invariant = { λ s. IsKeptBySheet s.entries.entries s.users.entries s.cost s.ticks };
+    ghost invariant = { λ s. IsKeptBySheet s.entries.entries s.users.entries s.cost s.ticks s.edited s.room.found.entries };
 }
 
 impl Shows for Sheet {
@@ -109,7 +123,9 @@ impl Sheet {
             users: IndexMap::new(alloc),
             cost: 0,
             ticks: 0,
-            room: Cell::new(Plans::none(alloc)),
+            edited: None,
+            room: Plans::none(alloc),
+            lent: Cell::new(Plans::none(alloc)),
         }
     }
 
@@ -305,7 +321,8 @@ impl Sheet {
             &mut plans.found,
             growth,
         );
-        self.room.set(plans);
+        self.edited = None;
+        self.lent.set(plans);
     }
 
     /// Works out what a name is to be bound to as a proposal says, formula by formula, where finding that has cost so much and the meter shows so
@@ -331,8 +348,11 @@ impl Sheet {
             proposal: &proposal,
         };
         // The plans are made where they lie.
-        let plans = self.room.get_mut();
-        begun(self.alloc, &proposed, &self.users, spent, plans)?;
+        let plans = &mut self.room;
+        let edited = proposal.edited(name);
+        let is_known = is_this(&self.edited, name);
+        self.edited = None;
+        begun(self.alloc, &proposed, &self.users, spent, is_known, plans)?;
         let growth = growth_for(self.alloc, &self.entries, &self.users, &proposal)?;
         let mut meter = meter;
         plan_all(self.alloc, &proposed, plans, &mut meter)?;
@@ -346,6 +366,7 @@ impl Sheet {
             &mut plans.found,
             growth,
         );
+        self.edited = edited;
         Ok(())
     }
 
@@ -529,8 +550,8 @@ impl Sheet {
             name,
             proposal: &proposal,
         };
-        let mut plans = self.room.replace(Plans::none(self.alloc));
-        begun(self.alloc, &proposed, &self.users, spent, &mut plans)?;
+        let mut plans = self.lent.replace(Plans::none(self.alloc));
+        begun(self.alloc, &proposed, &self.users, spent, false, &mut plans)?;
         let growth = growth_for(self.alloc, &self.entries, &self.users, &proposal)?;
         Ok(Pending {
             name,

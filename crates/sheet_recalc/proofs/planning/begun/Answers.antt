@@ -17,28 +17,18 @@ use Rattle.sheet_recalc.proofs.Binding.{rebound_own}
 use Rattle.std.proofs.lemmas.List.{length-map}
 use Rattle.sheet_recalc.proofs.planning.begun.Goals as goal
 
-pub affected-requires : goal.affected-requires
-affected-requires c =
-    let es = c.args.proposed.now.entries.now.entries in
-    record {
-      exact = equal-true;
-      within = λ a via chain.
-          let low = within (names_of es) c.args.users.now.entries c.requires.live.tells c.requires.live.order (name_order (names_of es) c.requires.live.order c.requires.live.kept) c.args.proposed.now.name a via chain in
-          omega (arith, low, c.len.ensures.len, length-map {B = List ℕ × Binding} es (λ (e : List ℕ × Entry). (e.0, binding_of e.1)));
-    }
-
 pub first_found-requires : goal.first_found-requires
 first_found-requires c = equal-true
 
 pub cycle_through-requires : goal.cycle_through-requires
 cycle_through-requires c =
     let o = outline_of c.args.proposed.now in
-    let f = c.in_ok-affected.ensures in
+    let f = c.in_ok-reach.ensures in
     let b = option_map binding_of (own_entry o) in
     let hit = c.in-Some.ensures in
     let referred = c.references.ensures ∙ (sym (references_made (val (names_of o.entries) o.name) o.proposal) ∙ ap (λ (d : Option Binding). option_map_or referred d []) (sym (rebound_own (names_of o.entries) o.name b))) in
     record {
-      reaching = reaching_new o.entries c.args.users.now.entries c.requires.live o.name b (keys_of c.affected.new.found.entries) f.closed f.named f.sound f.distinct;
+      reaching = reaching_new o.entries c.args.users.now.entries c.requires.live o.name b (keys_of c.reach.new.found.entries) f.closed f.named f.sound f.distinct;
       refers = referred_refers (proposed_names o) o.name c.in-Some.reference (subst (λ (rs : List (List ℕ)). Contains rs c.in-Some.reference) referred hit.0);
       hit = hit.1;
     }
@@ -46,41 +36,41 @@ cycle_through-requires c =
 pub returns-then-not-has_room-clause-refused : goal.returns-then-not-has_room-clause-refused
 returns-then-not-has_room-clause-refused c =
     let o = outline_of c.args.proposed.now in
-    let f = c.in_ok-affected.ensures in
+    let f = c.in_ok-reach.ensures in
     let apart = λ (d : List ℕ) (stands : Contains (proposed_references o.proposal) d). c.in_default.ensures d (subst (λ (rs : List (List ℕ)). Contains rs d) (sym c.references.ensures) stands) in
-    (ready_acyclic o c.args.users.now.entries c.requires.live (keys_of c.affected.new.found.entries) f.closed f.named f.sound f.distinct apart, rw c.if-not-has_room.true at c.has_room.ensures)
+    (ready_acyclic o c.args.users.now.entries c.requires.live (keys_of c.reach.new.found.entries) f.closed f.named f.sound f.distinct apart, rw c.if-not-has_room.true at c.has_room.ensures)
 
 pub returns-clause-way : goal.returns-clause-way
 returns-clause-way c = λ ticks even.
     let o = outline_of c.args.proposed.now in
-    let f = c.in_ok-affected.ensures in
-    let keys = keys_of c.affected.new.found.entries in
+    let f = c.in_ok-reach.ensures in
+    let keys = keys_of c.reach.new.found.entries in
     let users = c.args.users.now.entries in
     let live = c.requires.live in
     let apart = λ (d : List ℕ) (stands : Contains (proposed_references o.proposal) d). c.in_default.ensures d (subst (λ (rs : List (List ℕ)). Contains rs d) (sym c.references.ensures) stands) in
     let ready = ready_proposed o users live keys f.closed f.named f.sound f.distinct apart c.requires.proposal c.shown_is_sound.ensures in
     let affected = ready_affected o users live keys f.closed f.named f.sound f.distinct apart in
     let costs = ready_cost o users live keys f.closed f.named f.sound f.distinct apart in
-    let plans : Plans = record { found = c.affected.new.found; waiting = c.len-plans.result; current = None; left = 0; cost = c.args.spent } in
+    let plans : Plans = record { found = c.reach.new.found; waiting = c.len-plans.result; current = None; left = 0; cost = c.args.spent } in
     first_way o ready c.args.spent plans ticks c.len-plans.ensures.len refl c.ranges.spent.fits f.distinct affected f.none costs even
 
 pub returns-clause-can : goal.returns-clause-can
 returns-clause-can c =
     let o = outline_of c.args.proposed.now in
-    let f = c.in_ok-affected.ensures in
+    let f = c.in_ok-reach.ensures in
     let apart = λ (d : List ℕ) (stands : Contains (proposed_references o.proposal) d). c.in_default.ensures d (subst (λ (rs : List (List ℕ)). Contains rs d) (sym c.references.ensures) stands) in
-    ready_names o c.args.users.now.entries c.requires.live (keys_of c.affected.new.found.entries) f.closed f.named f.sound f.distinct apart (rw c.if-not-has_room.false at c.has_room.ensures)
+    ready_names o c.args.users.now.entries c.requires.live (keys_of c.reach.new.found.entries) f.closed f.named f.sound f.distinct apart (rw c.if-not-has_room.false at c.has_room.ensures)
 
 pub returns-clause-proposed : goal.returns-clause-proposed
 returns-clause-proposed c =
     let o = outline_of c.args.proposed.now in
-    let f = c.in_ok-affected.ensures in
+    let f = c.in_ok-reach.ensures in
     let apart = λ (d : List ℕ) (stands : Contains (proposed_references o.proposal) d). c.in_default.ensures d (subst (λ (rs : List (List ℕ)). Contains rs d) (sym c.references.ensures) stands) in
-    ready_proposed o c.args.users.now.entries c.requires.live (keys_of c.affected.new.found.entries) f.closed f.named f.sound f.distinct apart c.requires.proposal c.shown_is_sound.ensures
+    ready_proposed o c.args.users.now.entries c.requires.live (keys_of c.reach.new.found.entries) f.closed f.named f.sound f.distinct apart c.requires.proposal c.shown_is_sound.ensures
 
 pub returns-clause-all : goal.returns-clause-all
 returns-clause-all c =
     let o = outline_of c.args.proposed.now in
-    let f = c.in_ok-affected.ensures in
+    let f = c.in_ok-reach.ensures in
     let apart = λ (d : List ℕ) (stands : Contains (proposed_references o.proposal) d). c.in_default.ensures d (subst (λ (rs : List (List ℕ)). Contains rs d) (sym c.references.ensures) stands) in
-    ready_all o c.args.users.now.entries c.requires.live (keys_of c.affected.new.found.entries) f.closed f.named f.sound f.distinct apart
+    ready_all o c.args.users.now.entries c.requires.live (keys_of c.reach.new.found.entries) f.closed f.named f.sound f.distinct apart

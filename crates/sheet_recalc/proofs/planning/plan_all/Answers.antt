@@ -14,6 +14,7 @@ next_name-requires c = (c.loop-name.invariant.way c.requires.way.0 c.requires.wa
 pub loop-name-preserved-in_default-formula_of : goal.loop-name-preserved-in_default-formula_of
 loop-name-preserved-in_default-formula_of c = record {
   way = λ base way. passed_over (outline_of c.args.proposed.now) c.requires.proposed base c.loop-name.meter.ticks c.loop-name.plans c.in-Some.name (c.loop-name.invariant.way base way) c.in-Some.ensures.0 c.in-Some.ensures.1 c.in_default-formula_of.ensures;
+  keys = c.loop-name.invariant.keys;
   left = c.loop-name.invariant.left;
   current = c.loop-name.invariant.current;
   last = tt;
@@ -38,6 +39,7 @@ loop-name-preserved c =
           planned_way (outline_of c.args.proposed.now) c.requires.proposed base c.loop-name.meter.ticks w c.keep.new.self c.in-Some.name p c.whole_plan.new.meter.ticks (c.loop-name.invariant.way base way) c.in-Some.ensures.0 c.in-Some.ensures.1
           c.in-Some-formula_of.formula.now c.in-Some-formula_of.ensures made.of made.planned made.ticks made.all c.keep.ensures.waiting c.keep.ensures.keys
           (λ q. c.keep.ensures.plans q ∙ ap (λ k. cond (bytes_eq k q) (Some p) (plan_in w.found.entries q)) c.in-Some.ensures.2) c.keep.ensures.cost;
+      keys = c.keep.ensures.keys ∙ c.loop-name.invariant.keys;
       left = c.keep.ensures.left ∙ c.loop-name.invariant.left;
       current = c.keep.ensures.current ∙ c.loop-name.invariant.current;
       last =

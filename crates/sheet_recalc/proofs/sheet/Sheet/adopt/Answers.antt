@@ -22,6 +22,7 @@ invariant_of-self c =
     record {
       live = live_after c.make.new.entries.entries c.make.new.users.entries (names_after before c.args.pending) c.make.ensures.names all.ready.sheet all.ready.kept c.make.ensures.tells c.make.ensures.used c.make.ensures.current;
       few = all.few;
+      reached = tt;
     }
 
 pub returns-clause-made : goal.returns-clause-made
