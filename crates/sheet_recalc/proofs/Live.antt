@@ -1,5 +1,5 @@
 -- Entries, the names that they stand for, and what they show.
-use Rattle.std.proofs.Common.{◌≡◌, ℕ, ◌+◌, ◌-◌, ◌<◌, ◌≤◌, Bool, true, false, cond, List, [], ◌∷◌, ◌++◌, length, take, get_or, ⊎_elim, ◌⊎◌, Option, Some, None, Ok, Err, IsSome, IfSome, is_some, refl, sym, ap, ◌∙◌, subst, arith, if◌then◌else◌}
+use Rattle.std.proofs.Common.{◌≡◌, ℕ, zero, suc, ◌+◌, ◌-◌, ◌<◌, ◌≤◌, Bool, true, false, cond, List, [], ◌∷◌, ◌++◌, length, take, get_or, slice_get, ⊎_elim, ◌⊎◌, Option, Some, None, Ok, Err, IsSome, IfSome, is_some, refl, sym, ap, ◌∙◌, subst, arith, if◌then◌else◌}
 use Rattle.std.specs.Str.{bytes_eq}
 use Rattle.std.specs.Map.{lookup, keys_of, set_value}
 use Rattle.std.specs.Option.{option_map, unwrap_or}
@@ -9,7 +9,7 @@ use Rattle.std.proofs.lemmas.Bool.{false≢true}
 use Rattle.std.proofs.lemmas.List.{take_all, take_more, length-map}
 use Rattle.std.proofs.lemmas.List.Elements.{Contains-push_cases}
 use Rattle.std.proofs.lemmas.Map.Views.{Contains-keys_from_lookup}
-use Rattle.indexmap.specs.IndexMap.{insert_entry}
+use Rattle.indexmap.specs.IndexMap.{insert_entry, set_value_at}
 use Rattle.arrays_core.specs.Arrays.{ArrayValue}
 use Rattle.arrays_core.specs.declared.item.Kind.TheVariants.{Value}
 use Rattle.dep_order.specs.Reachability.{Chain, IsAcyclic, Reaches}
@@ -92,6 +92,14 @@ names_of_adopting name p found (e ∷ es) h = by (bytes_eq name e.0) refl (names
     by false is rest =
         let there : lookup (bytes_eq name) es ≡ Some found = rw is at h in
         rw is (ap (λ ns. (e.0, binding_of e.1) ∷ ns) (rest there))
+
+-- so does one that stands at a place
+pub names_of_adopting_at : (p : PlanValue) (found : Entry) (k : List ℕ) (es : List (List ℕ × Entry)) (i : ℕ) → slice_get es i ≡ Some (k, found) → names_of (set_value_at es i (adopting found p)) ≡ names_of es
+names_of_adopting_at p found k [] i h = let never : None ≡ Some (k, found) = h in absurd cc
+names_of_adopting_at p found k (e ∷ es) zero h =
+    let same : e ≡ (k, found) = cc in
+    ap (λ b. (e.0, b) ∷ names_of es) (adopting_binding found p ∙ ap (λ (x : List ℕ × Entry). binding_of x.1) (sym same))
+names_of_adopting_at p found k (e ∷ es) (suc i) h = ap (λ ns. (e.0, binding_of e.1) ∷ ns) (names_of_adopting_at p found k es i h)
 
 -- a name bound to data shows it
 pub val_data : (names : Names) (q : List ℕ) (a : ArrayValue) → binding names q ≡ Some (Data a) → val names q ≡ Ok a
@@ -186,14 +194,14 @@ module _ (names : Names) (es es' : List (List ℕ × Entry)) (plans plans' : Lis
     pub can_now : CanAdopt e p
     can_now = now.can name e p found this_plan
 
-    module _ (written : es' ≡ set_value (bytes_eq name) es (adopting e p))
+    module _ (written : names_of es' ≡ names_of es)
         (changed : (q : List ℕ) → lookup (bytes_eq q) es' ≡ cond (bytes_eq name q) (Some (adopting e p)) (lookup (bytes_eq q) es)) where
       was_there : (q : List ℕ) (f : Entry) → bytes_eq name q ≡ false → lookup (bytes_eq q) es' ≡ Some f → lookup (bytes_eq q) es ≡ Some f
       was_there q f is h = rw is at (sym (changed q) ∙ h)
 
       pub adopting_some : IsAdopting names es' plans'
       adopting_some = record {
-        names_are = ap names_of written ∙ names_of_adopting name p e es found ∙ now.names_are;
+        names_are = written ∙ now.names_are;
         can = λ q f r there left. let is = other_left q r left in now.can q f r (was_there q f is there) (was_left q (Some r) is left);
         right = λ q f r there left. let is = other_left q r left in now.right q f r (was_there q f is there) (was_left q (Some r) is left);
         rest = rest;
@@ -233,7 +241,7 @@ module _ (names : Names) (es es' : List (List ℕ × Entry)) (plans plans' : Lis
 -- by its entry, or by none
 pub adopting_either : (names : Names) (es es' : List (List ℕ × Entry)) (plans plans' : List ℕ → Option PlanValue) (name : List ℕ) (p : PlanValue)
     → plans name ≡ Some p → ((q : List ℕ) → plans' q ≡ cond (bytes_eq name q) None (plans q)) → IsAdopting names es plans
-    → ((e : Entry) → lookup (bytes_eq name) es ≡ Some e → (es' ≡ set_value (bytes_eq name) es (adopting e p)) × ((q : List ℕ) → lookup (bytes_eq q) es' ≡ cond (bytes_eq name q) (Some (adopting e p)) (lookup (bytes_eq q) es)))
+    → ((e : Entry) → lookup (bytes_eq name) es ≡ Some e → (names_of es' ≡ names_of es) × ((q : List ℕ) → lookup (bytes_eq q) es' ≡ cond (bytes_eq name q) (Some (adopting e p)) (lookup (bytes_eq q) es)))
     → (lookup (bytes_eq name) es ≡ None → es' ≡ es) → IsAdopting names es' plans'
 adopting_either names es es' plans plans' name p this taken now present absent = by (lookup (bytes_eq name) es) refl
   where

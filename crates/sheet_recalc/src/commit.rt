@@ -1,6 +1,6 @@
 //! The part of a change that takes no memory.
 
-ghost use Rattle.std.specs.Prelude.{◌≡◌, ◌<◌, ℕ, List, [], Some, None, length, get_or, true, if◌then◌else◌};
+ghost use Rattle.std.specs.Prelude.{◌≡◌, ◌<◌, ℕ, List, [], Some, None, length, get_or, slice_get, true, IsTrue, if◌then◌else◌};
 ghost use Rattle.std.specs.Str.{bytes_eq};
 ghost use Rattle.std.specs.Map.{lookup, keys_of, set_value};
 ghost use Rattle.indexmap.specs.IndexMap.{spare, insert_entry};
@@ -19,7 +19,7 @@ ghost use Rattle.sheet_recalc.specs.ProposedSheet.{is_edit, proposed_names};
 
 use crate::entry::Entry;
 use crate::growth::Growth;
-use crate::plans::Found;
+use crate::plans::{Found, hint_at};
 use crate::proposal::Proposal;
 use apl_tokens::Name;
 use dep_order::{Users, give_sets, refer, take_larger};
@@ -36,6 +36,7 @@ pub(crate) fn make(
     name: Name,
     proposal: Proposal,
     found: &mut Found,
+    places: &[usize],
     growth: Option<Box<Growth>>,
 )
     requires ready { IsReadyToMake (record { entries = entries.old; users = users.old }) name proposal found.old.entries growth }
@@ -50,17 +51,17 @@ pub(crate) fn make(
     match proposal {
         Proposal::Formula(formula) => {
             let entry = Entry::Formula(formula);
-            commit_with(entries, users, name, entry, found, growth);
+            commit_with(entries, users, name, entry, found, places, growth);
         }
         Proposal::Data(Delta::Whole(Ok(array))) => {
             let entry = Entry::Data(array);
-            commit_with(entries, users, name, entry, found, growth);
+            commit_with(entries, users, name, entry, found, places, growth);
         }
-        Proposal::Data(Delta::Patch(patch)) => commit_patch(entries, name, &patch, found),
-        Proposal::Data(Delta::Grown(tail)) => commit_row(entries, name, tail, found),
+        Proposal::Data(Delta::Patch(patch)) => commit_patch(entries, name, &patch, found, places),
+        Proposal::Data(Delta::Grown(tail)) => commit_row(entries, name, tail, found, places),
         Proposal::Data(Delta::Same) => {}
         Proposal::Data(Delta::Whole(Err(_))) => {}
-        Proposal::Removed => commit_removal(entries, users, name, found),
+        Proposal::Removed => commit_removal(entries, users, name, found, places),
     }
 }
 
@@ -71,6 +72,7 @@ fn commit_with(
     name: Name,
     entry: Entry,
     found: &mut Found,
+    places: &[usize],
     growth: Option<Box<Growth>>,
 )
     requires planned { AreRightOnceTaken entries.old.entries name (Some entry) (put (names_of entries.old.entries) name (binding_of entry)) (plan_in found.old.entries) }
@@ -83,8 +85,16 @@ fn commit_with(
     ensures used { HasNoEmptyBut bytes_eq users.new.entries [] }
 {
     match growth {
-        Some(growth) => commit_brought(entries, users, name, entry, found, Box::into_inner(growth)),
-        None => commit(entries, users, name, entry, found),
+        Some(growth) => commit_brought(
+            entries,
+            users,
+            name,
+            entry,
+            found,
+            places,
+            Box::into_inner(growth),
+        ),
+        None => commit(entries, users, name, entry, found, places),
     }
 }
 
@@ -95,6 +105,7 @@ fn commit_brought(
     name: Name,
     entry: Entry,
     found: &mut Found,
+    places: &[usize],
     growth: Growth,
 )
     requires planned { AreRightOnceTaken entries.old.entries name (Some entry) (put (names_of entries.old.entries) name (binding_of entry)) (plan_in found.old.entries) }
@@ -109,7 +120,7 @@ fn commit_brought(
     take_larger(entries, growth.entries, 1);
     take_larger(users, growth.users, growth.sets.len());
     give_sets(users, growth.sets);
-    commit(entries, users, name, entry, found);
+    commit(entries, users, name, entry, found, places);
 }
 
 /// Puts an entry under a name, in the room that was made for it, and gives each formula its new results.
@@ -119,6 +130,7 @@ fn commit(
     name: Name,
     entry: Entry,
     found: &mut Found,
+    places: &[usize],
 )
     requires room { 0 < spare entries.old }
     requires planned { AreRightOnceTaken entries.old.entries name (Some entry) (put (names_of entries.old.entries) name (binding_of entry)) (plan_in found.old.entries) }
@@ -132,7 +144,7 @@ fn commit(
 {
     refer_anew(entries, users, name, &entry);
     let _before = entries.insert(name, entry).unwrap();
-    adopt_all(entries, found);
+    adopt_all(entries, found, places);
 }
 
 /// The table where a name is to be bound to this entry. Where the same names stand in it as in what stood there, the table stays.
@@ -157,6 +169,7 @@ fn commit_removal(
     users: &mut Users<Name>,
     name: Name,
     found: &mut Found,
+    places: &[usize],
 )
     requires planned { AreRightOnceTaken entries.old.entries name None (without (names_of entries.old.entries) name) (plan_in found.old.entries) }
     requires tells { TellsUsers (names_of entries.old.entries) users.old.entries }
@@ -170,11 +183,17 @@ fn commit_removal(
     // The length brings the fact that no two names are equal, so that one entry is all that goes.
     let _unique = entries.len();
     let _removed = entries.shift_remove(&name);
-    adopt_all(entries, found);
+    adopt_all(entries, found, places);
 }
 
 /// Writes new items into the data of a name, where it lies, and gives each formula its new results.
-fn commit_patch(entries: &mut IndexMap<Name, Entry>, name: Name, patch: &Patch, found: &mut Found)
+fn commit_patch(
+    entries: &mut IndexMap<Name, Entry>,
+    name: Name,
+    patch: &Patch,
+    found: &mut Found,
+    places: &[usize],
+)
     requires data { (a : ArrayValue) × HasData entries.old.entries name a × FitsPatch a patch.now }
     requires planned { (a : ArrayValue) → HasData entries.old.entries name a
         → AreRightOnceTaken entries.old.entries name (Some (DataEntry (patched a patch.now))) (put (names_of entries.old.entries) name (Data (patched a patch.now))) (plan_in found.old.entries) }
@@ -183,7 +202,7 @@ fn commit_patch(entries: &mut IndexMap<Name, Entry>, name: Name, patch: &Patch, 
     ensures found { AreEmptied found.old.entries found.new.entries }
 {
     write_patch(entries, name, patch);
-    adopt_all(entries, found);
+    adopt_all(entries, found, places);
 }
 
 /// Writes new items into the data of a name.
@@ -197,7 +216,13 @@ fn write_patch(entries: &mut IndexMap<Name, Entry>, name: Name, patch: &Patch)
 }
 
 /// Puts a row behind the data of a name, where it lies, and gives each formula its new results.
-fn commit_row(entries: &mut IndexMap<Name, Entry>, name: Name, tail: Tail, found: &mut Found)
+fn commit_row(
+    entries: &mut IndexMap<Name, Entry>,
+    name: Name,
+    tail: Tail,
+    found: &mut Found,
+    places: &[usize],
+)
     requires data { (a : ArrayValue) × HasData entries.old.entries name a × FitsTail a tail }
     requires planned { (a : ArrayValue) → HasData entries.old.entries name a
         → AreRightOnceTaken entries.old.entries name (Some (DataEntry (grown_by a tail.items))) (put (names_of entries.old.entries) name (Data (grown_by a tail.items))) (plan_in found.old.entries) }
@@ -206,7 +231,7 @@ fn commit_row(entries: &mut IndexMap<Name, Entry>, name: Name, tail: Tail, found
     ensures found { AreEmptied found.old.entries found.new.entries }
 {
     put_behind(entries, name, tail);
-    adopt_all(entries, found);
+    adopt_all(entries, found, places);
 }
 
 /// Puts items behind the data of a name.
@@ -231,7 +256,7 @@ fn references_of(entries: &IndexMap<Name, Entry>, name: Name) -> &[Name]
 }
 
 /// Gives each formula that has a plan its new results, and takes the plans out of the map, whose names stay.
-fn adopt_all(entries: &mut IndexMap<Name, Entry>, found: &mut Found)
+fn adopt_all(entries: &mut IndexMap<Name, Entry>, found: &mut Found, places: &[usize])
     requires { IsAdopting (names_of entries.old.entries) entries.old.entries (plan_in found.old.entries) }
     ensures names { names_of entries.new.entries ≡ names_of entries.old.entries }
     ensures current { IsCurrent entries.new.entries }
@@ -240,13 +265,13 @@ fn adopt_all(entries: &mut IndexMap<Name, Entry>, found: &mut Found)
     let mut place = found.len();
     while place > 0 {
         place -= 1;
-        adopt_at(entries, found, place);
+        adopt_at(entries, found, place, places);
     }
 }
 
 /// Gives the formula of the name at a place its new results, if it has a plan, which is taken out from where it lies.
 #[inline(always)]
-fn adopt_at(entries: &mut IndexMap<Name, Entry>, found: &mut Found, place: usize)
+fn adopt_at(entries: &mut IndexMap<Name, Entry>, found: &mut Found, place: usize, places: &[usize])
     requires place { place < length found.old.entries }
     requires adopting { (names : Names) × IsAdopting names entries.old.entries (plan_in found.old.entries) }
     ensures keys { keys_of found.new.entries ≡ keys_of found.old.entries }
@@ -261,13 +286,40 @@ fn adopt_at(entries: &mut IndexMap<Name, Entry>, found: &mut Found, place: usize
         return;
     };
     if let Some(plan) = lies.take() {
-        adopt_one(entries, name, plan);
+        adopt_one(entries, name, hint_at(places, place), plan);
     }
 }
 
-/// Gives the formula of a name its new results.
+/// The entry of a name stands at this place.
 #[inline(always)]
-fn adopt_one(entries: &mut IndexMap<Name, Entry>, name: Name, plan: Plan)
+fn stands_at(entries: &IndexMap<Name, Entry>, place: usize, name: Name) -> bool
+    ensures { IsTrue result → (e : EntryValue) × ((slice_get entries.now.entries place ≡ Some (name, e)) × (lookup (bytes_eq name) entries.now.entries ≡ Some e)) }
+{
+    match entries.get_index(place) {
+        Some((there, _)) => *there == name,
+        None => false,
+    }
+}
+
+/// Gives the formula of a name its new results. If the name stands at the place that is told, it is not looked for.
+#[inline(always)]
+fn adopt_one(entries: &mut IndexMap<Name, Entry>, name: Name, hint: usize, plan: Plan)
+    requires { (e : EntryValue) → lookup (bytes_eq name) entries.old.entries ≡ Some e → CanAdopt e plan }
+    ensures present { (e : EntryValue) → lookup (bytes_eq name) entries.old.entries ≡ Some e → (names_of entries.new.entries ≡ names_of entries.old.entries)
+        × ((q : List ℕ) → lookup (bytes_eq q) entries.new.entries ≡ (if bytes_eq name q then Some (adopting e plan) else lookup (bytes_eq q) entries.old.entries)) }
+    ensures absent { lookup (bytes_eq name) entries.old.entries ≡ None → entries.new.entries ≡ entries.old.entries }
+{
+    if !stands_at(entries, hint, name) {
+        return adopt_by_name(entries, name, plan);
+    }
+    match entries.get_index_mut(hint) {
+        Some(entry) => entry.adopt(plan),
+        None => drop(plan),
+    }
+}
+
+/// Gives the formula of a name, which is looked for, its new results.
+fn adopt_by_name(entries: &mut IndexMap<Name, Entry>, name: Name, plan: Plan)
     requires { (e : EntryValue) → lookup (bytes_eq name) entries.old.entries ≡ Some e → CanAdopt e plan }
     ensures present { (e : EntryValue) → lookup (bytes_eq name) entries.old.entries ≡ Some e → (entries.new.entries ≡ set_value (bytes_eq name) entries.old.entries (adopting e plan))
         × ((q : List ℕ) → lookup (bytes_eq q) entries.new.entries ≡ (if bytes_eq name q then Some (adopting e plan) else lookup (bytes_eq q) entries.old.entries)) }

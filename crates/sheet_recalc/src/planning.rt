@@ -77,6 +77,7 @@ pub(crate) fn begun(
 {
     shown_is_sound(proposed);
     reach(proposed, users, is_known, &mut plans.found)?;
+    plans.places.resize(plans.found.len(), 0)?;
     if let Some(reference) = first_found(&plans.found, proposed.proposal.references()) {
         let cycle = cycle_through(alloc, proposed, &plans.found, reference)?;
         return Err(Refusal::Cycle(cycle));
@@ -163,7 +164,7 @@ pub(crate) fn settle(
             plans.current = Some(plan);
             return Ok(());
         }
-        plans.keep(plan);
+        plans.keep(plan, 0);
     }
     Ok(())
 }
@@ -305,7 +306,7 @@ pub(crate) fn plan_all(
 {
     let mut last = None;
     while let Some(name) = plans.next_name() {
-        let Some(formula) = proposed.formula_of(name) else {
+        let Some((formula, place)) = proposed.placed_formula(name, plans.hint()) else {
             plans.waiting -= 1;
             last = None;
             continue;
@@ -320,7 +321,7 @@ pub(crate) fn plan_all(
             formula,
             meter,
         )?;
-        plans.keep(plan);
+        plans.keep(plan, place);
         last = Some(formula);
     }
     Ok(())

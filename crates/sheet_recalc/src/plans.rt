@@ -27,6 +27,9 @@ pub(crate) struct Plans {
     pub(crate) left: u128,
     /// What the whole plans cost, with what was spent before; the greatest number of 64 bits where it is more.
     pub(crate) cost: u64,
+    /// For each name that is reached, the place at which it stood in the sheet when it was looked for last. It most likely stands there still, so that is
+    /// looked at first; nothing need hold of it.
+    pub(crate) places: Vec<usize>,
 }
 
 impl Plans {
@@ -38,6 +41,7 @@ impl Plans {
             current: None,
             left: 0,
             cost: 0,
+            places: Vec::new(alloc),
         }
     }
 
@@ -57,8 +61,14 @@ impl Plans {
         }
     }
 
-    /// The last name that waits has its plan.
-    pub(crate) fn keep(&mut self, plan: Plan)
+    /// The place at which the last name that waits most likely stands in the sheet.
+    #[inline(always)]
+    pub(crate) fn hint(&self) -> usize {
+        hint_at(self.places.as_slice(), self.waiting.saturating_sub(1))
+    }
+
+    /// The last name that waits has its plan. It stands at this place in the sheet, as far as that is known.
+    pub(crate) fn keep(&mut self, plan: Plan, place: usize)
         requires waits { 0 < self.old.waiting }
         requires few { self.old.waiting ≤ length self.old.found.entries }
         ensures waiting { self.new.waiting ≡ self.old.waiting - 1 }
@@ -70,8 +80,26 @@ impl Plans {
     {
         self.cost = self.cost.saturating_add(plan.cost());
         self.waiting -= 1;
-        if let Some(place) = self.found.get_index_mut(self.waiting) {
-            *place = Some(plan);
+        note_at(&mut self.places, self.waiting, place);
+        if let Some(lies) = self.found.get_index_mut(self.waiting) {
+            *lies = Some(plan);
         }
+    }
+}
+
+/// The place at which a name most likely stands in the sheet, the first where that is not known.
+#[inline(always)]
+pub(crate) fn hint_at(places: &[usize], which: usize) -> usize {
+    match places.get(which) {
+        Some(place) => *place,
+        None => 0,
+    }
+}
+
+/// Notes a place for a name.
+#[inline(always)]
+fn note_at(places: &mut Vec<usize>, which: usize, place: usize) {
+    if let Some(there) = places.get_mut(which) {
+        *there = place;
     }
 }

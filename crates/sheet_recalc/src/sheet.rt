@@ -319,6 +319,7 @@ impl Sheet {
             name,
             proposal,
             &mut plans.found,
+            plans.places.as_slice(),
             growth,
         );
         self.edited = None;
@@ -364,6 +365,7 @@ impl Sheet {
             name,
             proposal,
             &mut plans.found,
+            plans.places.as_slice(),
             growth,
         );
         self.edited = edited;

@@ -51,7 +51,7 @@ returns-clause-way c = λ ticks even.
     let ready = ready_proposed o users live keys f.closed f.named f.sound f.distinct apart c.requires.proposal c.shown_is_sound.ensures in
     let affected = ready_affected o users live keys f.closed f.named f.sound f.distinct apart in
     let costs = ready_cost o users live keys f.closed f.named f.sound f.distinct apart in
-    let plans : Plans = record { found = c.reach.new.found; waiting = c.len-plans.result; current = None; left = 0; cost = c.args.spent } in
+    let plans : Plans = record { found = c.reach.new.found; waiting = c.len-plans.result; current = None; left = 0; cost = c.args.spent; places = c.resize.new.self } in
     first_way o ready c.args.spent plans ticks c.len-plans.ensures.len refl c.ranges.spent.fits f.distinct affected f.none costs even
 
 pub returns-clause-can : goal.returns-clause-can
