@@ -10,6 +10,7 @@ ghost use Rattle.formula_core.specs.Plans.{IsPlanOf, IsPlanned, IsComputed, AllC
 ghost use Rattle.formula_core.specs.Progress.{operations_among, IsPlannedTo};
 ghost use Rattle.formula_core.specs.Tables.{subtrees, tree_at};
 ghost use Rattle.arrays_core.specs.Arrays.{IsArray};
+ghost use Rattle.index_region.specs.declared.delta.Delta.TheVariants.{Same};
 ghost use Rattle.sheet_recalc.specs.Meaning.{val};
 ghost use Rattle.sheet_recalc.specs.ProposedSheet.{outline_of, is_data, proposed_names, proposed_change, entry_of};
 ghost use Rattle.sheet_recalc.specs.Changes.{HasRoomForName, IsFullFor, CannotBecome};
@@ -304,6 +305,27 @@ pub(crate) fn plan_all(
     ensures left { plans.new.left ≡ plans.old.left }
     ensures current { plans.new.current ≡ plans.old.current }
 {
+    plan_each(alloc, proposed, &Delta::Same, plans, meter)
+}
+
+/// Makes all plans, a formula at a time. What changes of a name that shows what it did is told: nothing.
+#[inline(always)]
+fn plan_each(
+    alloc: Global,
+    proposed: &ProposedSheet<'_>,
+    unchanged: &Delta,
+    plans: &mut Plans,
+    meter: &mut Meter,
+) -> Result<(), AllocError>
+    requires unchanged { unchanged.now ≡ Same }
+    requires proposed { IsProposed (outline_of proposed.now) }
+    requires way { (base : ℕ) × IsPlanning (outline_of proposed.now) base plans.old meter.old.ticks }
+    ensures way { OnOk result ((base : ℕ) → IsPlanning (outline_of proposed.now) base plans.old meter.old.ticks → IsPlanning (outline_of proposed.now) base plans.new meter.new.ticks) }
+    ensures keys { keys_of plans.new.found.entries ≡ keys_of plans.old.found.entries }
+    ensures all { OnOk result (plans.new.waiting ≡ 0) }
+    ensures left { plans.new.left ≡ plans.old.left }
+    ensures current { plans.new.current ≡ plans.old.current }
+{
     let mut last = None;
     while let Some(name) = plans.next_name() {
         let Some((formula, place)) = proposed.placed_formula(name, plans.hint()) else {
@@ -319,6 +341,7 @@ pub(crate) fn plan_all(
             last,
             name,
             formula,
+            unchanged,
             meter,
         )?;
         plans.keep(plan, place);
@@ -337,8 +360,10 @@ fn whole_plan(
     last: Option<&Formula>,
     name: Name,
     formula: &Formula,
+    unchanged: &Delta,
     meter: &mut Meter,
 ) -> Result<Plan, AllocError>
+    requires unchanged { unchanged.now ≡ Same }
     requires proposed { IsProposed (outline_of proposed.now) }
     requires plans { ArePlans (outline_of proposed.now) (plan_in found.now.entries) }
     requires held { entry_of (outline_of proposed.now) name ≡ Some (FormulaEntry formula.now) }
@@ -350,11 +375,10 @@ fn whole_plan(
     ensures all { OnOk result (AllComputed formula.now.is_new (proposed_change (outline_of proposed.now)) formula.now.tree
         → meter.new.ticks ≡ ticked meter.old.ticks (tree_cost formula.now.is_new (proposed_change (outline_of proposed.now)) formula.now.tree)) }
 {
-    let unchanged = Delta::Same;
     let ahead = Ahead {
         proposed,
         found,
-        unchanged: &unchanged,
+        unchanged,
     };
     match formula.references() {
         [one] => {

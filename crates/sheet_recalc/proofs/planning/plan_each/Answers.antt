@@ -6,7 +6,7 @@ use Rattle.sheet_recalc.specs.ProposedSheet.{outline_of, entry_of}
 use Rattle.sheet_recalc.specs.Planning.{waiting_names}
 use Rattle.sheet_recalc.proofs.Working.{reads_done}
 use Rattle.sheet_recalc.proofs.Forward.{passed_over, planned_way}
-use Rattle.sheet_recalc.proofs.planning.plan_all.Goals as goal
+use Rattle.sheet_recalc.proofs.planning.plan_each.Goals as goal
 
 pub next_name-requires : goal.next_name-requires
 next_name-requires c = (c.loop-name.invariant.way c.requires.way.0 c.requires.way.1).made.few

@@ -3,7 +3,7 @@ use Rattle.std.specs.Map.{keys_of}
 use Rattle.sheet_recalc.specs.ProposedSheet.{outline_of, entry_of}
 use Rattle.sheet_recalc.specs.declared.entry.Entry.TheVariants as entry
 use Rattle.sheet_recalc.specs.Planning.{IsPlanning}
-use Rattle.sheet_recalc.proofs.planning.plan_all.Given as goal
+use Rattle.sheet_recalc.proofs.planning.plan_each.Given as goal
 
 abbrev pub invariant-loop-name : goal.invariant-loop-name
 invariant-loop-name l = record {
