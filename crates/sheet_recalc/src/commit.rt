@@ -286,31 +286,31 @@ fn adopt_at(entries: &mut IndexMap<Name, Entry>, found: &mut Found, place: usize
         return;
     };
     if let Some(plan) = lies.take() {
-        adopt_one(entries, name, hint_at(places, place), plan);
+        adopt_one(entries, &name, hint_at(places, place), plan);
     }
 }
 
 /// The entry of a name stands at this place.
 #[inline(always)]
-fn stands_at(entries: &IndexMap<Name, Entry>, place: usize, name: Name) -> bool
-    ensures { IsTrue result → (e : EntryValue) × ((slice_get entries.now.entries place ≡ Some (name, e)) × (lookup (bytes_eq name) entries.now.entries ≡ Some e)) }
+fn stands_at(entries: &IndexMap<Name, Entry>, place: usize, name: &Name) -> bool
+    ensures { IsTrue result → (e : EntryValue) × ((slice_get entries.now.entries place ≡ Some (name.now, e)) × (lookup (bytes_eq name.now) entries.now.entries ≡ Some e)) }
 {
     match entries.get_index(place) {
-        Some((there, _)) => *there == name,
+        Some((there, _)) => *there == *name,
         None => false,
     }
 }
 
 /// Gives the formula of a name its new results. If the name stands at the place that is told, it is not looked for.
 #[inline(always)]
-fn adopt_one(entries: &mut IndexMap<Name, Entry>, name: Name, hint: usize, plan: Plan)
-    requires { (e : EntryValue) → lookup (bytes_eq name) entries.old.entries ≡ Some e → CanAdopt e plan }
-    ensures present { (e : EntryValue) → lookup (bytes_eq name) entries.old.entries ≡ Some e → (names_of entries.new.entries ≡ names_of entries.old.entries)
-        × ((q : List ℕ) → lookup (bytes_eq q) entries.new.entries ≡ (if bytes_eq name q then Some (adopting e plan) else lookup (bytes_eq q) entries.old.entries)) }
-    ensures absent { lookup (bytes_eq name) entries.old.entries ≡ None → entries.new.entries ≡ entries.old.entries }
+fn adopt_one(entries: &mut IndexMap<Name, Entry>, name: &Name, hint: usize, plan: Plan)
+    requires { (e : EntryValue) → lookup (bytes_eq name.now) entries.old.entries ≡ Some e → CanAdopt e plan }
+    ensures present { (e : EntryValue) → lookup (bytes_eq name.now) entries.old.entries ≡ Some e → (names_of entries.new.entries ≡ names_of entries.old.entries)
+        × ((q : List ℕ) → lookup (bytes_eq q) entries.new.entries ≡ (if bytes_eq name.now q then Some (adopting e plan) else lookup (bytes_eq q) entries.old.entries)) }
+    ensures absent { lookup (bytes_eq name.now) entries.old.entries ≡ None → entries.new.entries ≡ entries.old.entries }
 {
     if !stands_at(entries, hint, name) {
-        return adopt_by_name(entries, name, plan);
+        return adopt_by_name(entries, *name, plan);
     }
     match entries.get_index_mut(hint) {
         Some(entry) => entry.adopt(plan),

@@ -19,13 +19,13 @@ held_at es i k e at = slice_get-map (λ (x : List ℕ × Entry). x.1) es i ∙ a
 pub returns-then-not-stands_at-clause-present : goal.returns-then-not-stands_at-clause-present
 returns-then-not-stands_at-clause-present c = λ e there.
     let done = c.adopt_by_name.ensures.present e there in
-    (ap names_of done.0 ∙ names_of_adopting c.args.name c.args.plan e c.args.entries.now.entries there, done.1)
+    (ap names_of done.0 ∙ names_of_adopting c.args.name.now c.args.plan e c.args.entries.now.entries there, done.1)
 
 pub adopt-requires : goal.adopt-requires
 adopt-requires c =
     let es = c.args.entries.now.entries in
     let h = c.stands_at.ensures c.if-not-stands_at.false in
-    let same : Some c.in-Some.entry.now ≡ Some h.0 = c.in-Some.ensures.value ∙ held_at es c.args.hint c.args.name h.0 h.1.0 in
+    let same : Some c.in-Some.entry.now ≡ Some h.0 = c.in-Some.ensures.value ∙ held_at es c.args.hint c.args.name.now h.0 h.1.0 in
     let this : c.in-Some.entry.now ≡ h.0 = cc in
     subst (λ (e : Entry). CanAdopt e c.args.plan) (sym this) (c.requires h.0 h.1.1)
 
@@ -33,7 +33,7 @@ pub returns-in-Some-clause-present : goal.returns-in-Some-clause-present
 returns-in-Some-clause-present c = λ e there.
     let es = c.args.entries.now.entries in
     let i = c.args.hint in
-    let name = c.args.name in
+    let name = c.args.name.now in
     let p = c.args.plan in
     let w = c.adopt.new.self in
     let h = c.stands_at.ensures c.if-not-stands_at.false in
@@ -52,5 +52,5 @@ pub returns-in-None-clause-present : goal.returns-in-None-clause-present
 returns-in-None-clause-present c = λ e there.
     let es = c.args.entries.now.entries in
     let h = c.stands_at.ensures c.if-not-stands_at.false in
-    let never : None ≡ Some h.0 = c.in-None.ensures.value ∙ held_at es c.args.hint c.args.name h.0 h.1.0 in
+    let never : None ≡ Some h.0 = c.in-None.ensures.value ∙ held_at es c.args.hint c.args.name.now h.0 h.1.0 in
     absurd cc

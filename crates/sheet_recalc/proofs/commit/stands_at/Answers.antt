@@ -8,7 +8,7 @@ pub returns-in-Some : goal.returns-in-Some
 returns-in-Some c = λ yes.
     let es = c.args.entries.now.entries in
     let v = c.in-Some.field-0-1.now in
-    let same = equal-true c.in-Some.there.now c.args.name (sym c.eq.ensures ∙ yes) in (
+    let same = equal-true c.in-Some.there.now c.args.name.now (sym c.eq.ensures ∙ yes) in (
       v,
       (
         subst (λ k. slice_get es c.args.place ≡ Some (k, v)) same (sym c.in-Some.ensures.entry),
