@@ -156,6 +156,7 @@ pub(crate) fn settle(
     ensures left { plans.new.left ≡ plans.old.left }
 {
     while let Some(name) = plans.next_name() {
+        let name = *name;
         let Some(formula) = proposed.formula_of(name) else {
             plans.waiting -= 1;
             continue;
@@ -242,6 +243,7 @@ pub(crate) fn apply_next(
     let Some(name) = plans.next_name() else {
         return Ok(());
     };
+    let name = *name;
     let Some(formula) = proposed.formula_of(name) else {
         return Ok(());
     };
@@ -339,7 +341,7 @@ fn plan_each(
             &plans.found,
             plans.waiting,
             last,
-            name,
+            *name,
             formula,
             unchanged,
             meter,

@@ -46,17 +46,18 @@ impl Plans {
     }
 
     /// The last name that waits for its plan.
-    pub(crate) fn next_name(&self) -> Option<Name>
+    #[inline(always)]
+    pub(crate) fn next_name(&self) -> Option<&Name>
         requires { self.now.waiting ≤ length self.now.found.entries }
         ensures { MatchOption result (self.now.waiting ≡ 0)
-            (λ name. (0 < self.now.waiting) × (waiting_names self.now ≡ take (self.now.waiting - 1) (keys_of self.now.found.entries) ++ name ∷ [])
-            × (get_or (keys_of self.now.found.entries) (self.now.waiting - 1) [] ≡ name)) }
+            (λ name. (0 < self.now.waiting) × (waiting_names self.now ≡ take (self.now.waiting - 1) (keys_of self.now.found.entries) ++ name.now ∷ [])
+            × (get_or (keys_of self.now.found.entries) (self.now.waiting - 1) [] ≡ name.now)) }
     {
         if self.waiting == 0 {
             return None;
         }
         match self.found.get_index(self.waiting - 1) {
-            Some((name, _)) => Some(*name),
+            Some((name, _)) => Some(name),
             None => None,
         }
     }

@@ -39,16 +39,16 @@ impl<'a> ProposedSheet<'a> {
     /// The formula that a name is bound to, with the place at which the name stands in the sheet. It is looked for at a place that is told, and else by the
     /// name; the place that is told is answered where the name is bound anew.
     #[inline(always)]
-    pub(crate) fn placed_formula(&self, name: Name, hint: usize) -> Option<(&'a Formula, usize)>
-        ensures { MatchOption result ((f : FormulaValue) → entry_of (outline_of self.now) name ≡ Some (FormulaEntry f) → ⊥) (λ p. entry_of (outline_of self.now) name ≡ Some (FormulaEntry p.0.now)) }
+    pub(crate) fn placed_formula(&self, name: &Name, hint: usize) -> Option<(&'a Formula, usize)>
+        ensures { MatchOption result ((f : FormulaValue) → entry_of (outline_of self.now) name.now ≡ Some (FormulaEntry f) → ⊥) (λ p. entry_of (outline_of self.now) name.now ≡ Some (FormulaEntry p.0.now)) }
     {
-        if name != self.name {
+        if *name != self.name {
             if let Some((there, Entry::Formula(formula))) = self.entries.get_index(hint) {
-                if *there == name {
+                if *there == *name {
                     return Some((formula, hint));
                 }
             }
-            return match self.entries.get_full(&name) {
+            return match self.entries.get_full(name) {
                 Some((place, _, Entry::Formula(formula))) => Some((formula, place)),
                 _ => None,
             };

@@ -17,7 +17,7 @@ taken-requires-clause-way c = (c.requires.way.0, c.requires.way.1, c.loop-name.i
 pub loop-name-preserved-in_default-formula_of : goal.loop-name-preserved-in_default-formula_of
 loop-name-preserved-in_default-formula_of c = record {
   way = λ base ticks way.
-      skipped (outline_of c.args.proposed.now) c.requires.proposed base ticks c.loop-name.plans c.in-Some.name (c.loop-name.invariant.way base ticks way) c.in-Some.ensures.0 c.in-Some.ensures.1 c.in_default-formula_of.ensures;
+      skipped (outline_of c.args.proposed.now) c.requires.proposed base ticks c.loop-name.plans c.in-Some.name.now (c.loop-name.invariant.way base ticks way) c.in-Some.ensures.0 c.in-Some.ensures.1 c.in_default-formula_of.ensures;
   left = c.loop-name.invariant.left;
 }
 
@@ -25,14 +25,14 @@ pub returns-then-not-is_whole-clause-settled : goal.returns-then-not-is_whole-cl
 returns-then-not-is_whole-clause-settled c = λ base ticks way.
     let new = c.taken.new.plans in
     let names : waiting_names new ≡ waiting_names c.loop-name.plans = λ i. take (c.taken.ensures.waiting i) (keys_of (c.taken.ensures.found i).entries) in
-    stopped_way (outline_of c.args.proposed.now) c.requires.proposed base ticks new c.in-Some.name (take (c.loop-name.plans.waiting - 1) (keys_of c.loop-name.plans.found.entries)) c.in_ok-plan.plan
+    stopped_way (outline_of c.args.proposed.now) c.requires.proposed base ticks new c.in-Some.name.now (take (c.loop-name.plans.waiting - 1) (keys_of c.loop-name.plans.found.entries)) c.in_ok-plan.plan
     (c.in_ok-plan.ensures.way base ticks (c.loop-name.invariant.way base ticks way)) (names ∙ c.in-Some.ensures.1) c.in-Some-formula_of.formula.now c.in-Some-formula_of.ensures c.if-not-is_whole.ensures
 
 pub loop-name-preserved : goal.loop-name-preserved
 loop-name-preserved c =
     let old = c.loop-name.plans in
     let new = c.taken.new.plans in
-    let name = c.in-Some.name in
+    let name = c.in-Some.name.now in
     let waits : new.waiting ≡ old.waiting = c.taken.ensures.waiting in
     let founds : new.found ≡ old.found = c.taken.ensures.found in
     let names : waiting_names new ≡ waiting_names old = λ i. take (waits i) (keys_of (founds i).entries) in
