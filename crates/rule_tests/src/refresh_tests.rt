@@ -5,8 +5,8 @@ ghost use Rattle.index_region.specs.declared.delta.Delta.TheVariants.{Same};
 
 use crate::fixtures::{patch_of, vector};
 use arrays_core::{Array, Fault, Item};
-use change_rules::{Delta, Meter, Seen, refresh};
-use scalar_fns::{EachDyadic, Scalar2};
+use change_rules::{Delta, Meter, Seen, refresh, refreshed_place};
+use scalar_fns::{EachDyadic, EachMonadic, Scalar1, Scalar2};
 use std::alloc::Global;
 
 /// The change of a product where the left argument changed and the right one is as it was.
@@ -34,6 +34,27 @@ fn product_with<'a>(
         (Seen::plain(right.0), right.1),
     ];
     refresh(alloc, &rule, &args, old, meter).ok()
+}
+
+/// The one place that changes of the negatives of numbers that changed, as a change.
+fn negatives_at_once(
+    numbers: (&Array, &Delta),
+    old: &Result<Array, Fault>,
+    meter: &mut Meter,
+) -> Option<Delta> {
+    let (array, moved) = numbers;
+    let Delta::Patch(patch) = moved else {
+        return None;
+    };
+    if !patch.region().lies_in(array.shape().as_slice()) || patch.item_type() != array.item_type() {
+        return None;
+    }
+    let rule = EachMonadic {
+        function: Scalar1::Negative,
+    };
+    let args = [(Seen::patched(array, patch), moved)];
+    let place = refreshed_place(&rule, &args, old, meter)?;
+    Some(place.delta())
 }
 
 /// The change of the doubles of numbers that changed.
@@ -76,4 +97,18 @@ fn doubles_one_place(rt: HostRuntime) {
     let delta = doubles_with_seven(rt.alloc(), &old, &mut meter);
     assert_eq!(rt; meter.ticks(), 1);
     assert!(rt; is_number_at(delta, 2, 14));
+}
+
+#[test]
+fn one_place_is_told_at_once(rt: HostRuntime) {
+    let mut meter = Meter::new();
+    let numbers = vector(rt.alloc(), &[1, 2, 3]).expect(&rt, "a vector");
+    let old = Ok(vector(rt.alloc(), &[-1, -2, -3]).expect(&rt, "a vector"));
+    let one = patch_of(rt.alloc(), &numbers, &[(2, 2)], &[7]).expect(&rt, "a patch");
+    let delta = negatives_at_once((&numbers, &Delta::Patch(one)), &old, &mut meter);
+    assert!(rt; is_number_at(delta, 2, -7));
+    assert_eq!(rt; meter.ticks(), 1);
+    let two = patch_of(rt.alloc(), &numbers, &[(2, 3)], &[7, 8]).expect(&rt, "a patch");
+    assert!(rt; negatives_at_once((&numbers, &Delta::Patch(two)), &old, &mut meter).is_none());
+    assert_eq!(rt; meter.ticks(), 1);
 }
