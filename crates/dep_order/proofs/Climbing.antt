@@ -1,7 +1,7 @@
 -- Going up from a node to those that refer to it.
 use Rattle.std.proofs.Common.{◌≡◌, ℕ, ◌-◌, ◌<◌, ◌⊎◌, inl, inr, Bool, List, [], ◌∷◌, ◌++◌, sym, subst, arith}
 use Rattle.std.proofs.lemmas.List.{length-append}
-use Rattle.indexmap.specs.IndexSet.{IndexSet}
+use Rattle.std.specs.Prelude.{Vec}
 use Rattle.dep_order.specs.Reachability.{Chain, Reaches}
 use Rattle.dep_order.specs.Users.{Uses, IsWithin}
 
@@ -9,7 +9,7 @@ pub chain_join : {A : Type 0} (Refers : A → A → Type 0) (a : A) (xs : List A
 chain_join Refers a [] b ys c p q = (p, q)
 chain_join Refers a (x ∷ xs) b ys c p q = (p.0, chain_join Refers x xs b ys c p.1 q)
 
-module _ {N S : Type 0} (eq : N → N → Bool) (table : List (N × IndexSet N S)) where
+module _ {N S : Type 0} (eq : N → N → Bool) (table : List (N × Vec N S)) where
   pub within_first : (height : ℕ) (node user : N) → IsWithin eq table height node → Uses eq table user node → 0 < height
   within_first height node user within u = within user [] u
 

@@ -1,12 +1,10 @@
--- Entries that move into an empty map, and keys into an empty set, stay as they are.
+-- Entries that move into an empty map stay as they are.
 use Rattle.std.proofs.Common.{◌≡◌, Bool, false, List, [], ◌∷◌, ◌++◌, refl, sym, ap, ◌∙◌, subst}
 use Rattle.std.specs.Cmp.{IsEquivalence}
 use Rattle.std.specs.Map.{keys_of}
-use Rattle.std.specs.List.{IsDistinct, AllByRecursion, list_any}
+use Rattle.std.specs.List.{IsDistinct, AllByRecursion}
 use Rattle.std.proofs.lemmas.List.{append_assoc, append-nil}
 use Rattle.indexmap.specs.IndexMap.{insert_entry, insert_all}
-use Rattle.indexmap.specs.IndexSet.{insert_key}
-use Rattle.indexmap.specs.IndexSet as set
 
 module _ {K : Type 0} (eq : K → K → Bool) (laws : IsEquivalence eq) where
   -- no key of these is equal to one of those
@@ -25,21 +23,6 @@ module _ {K : Type 0} (eq : K → K → Bool) (laws : IsEquivalence eq) where
   new_none : (xs : List K) → AllNew [] xs
   new_none [] = tt
   new_none (x ∷ xs) = (tt, new_none xs)
-
-  -- keys
-  not_any : (done : List K) (x : K) → AllByRecursion (λ y. eq y x ≡ false) done → list_any (eq x) done ≡ false
-  not_any [] x all = refl
-  not_any (y ∷ done) x all = rw (laws.symm x y, all.0) (not_any done x all.1)
-
-  keys_behind : (done xs : List K) → IsDistinct eq xs → AllNew done xs → set.insert_all eq done xs ≡ done ++ xs
-  unfolding IsDistinct
-  keys_behind done [] distinct new = sym (append-nil done)
-  keys_behind done (x ∷ xs) distinct new =
-      let put_in : insert_key eq done x ≡ done ++ x ∷ [] = rw (not_any done x new.0) refl in
-      ap (λ ks. set.insert_all eq ks xs) put_in ∙ (keys_behind (done ++ x ∷ []) xs distinct.1 (new_push done x xs new.1 distinct.0) ∙ append_assoc done (x ∷ []) xs)
-
-  pub keys_moved : (xs : List K) → IsDistinct eq xs → set.insert_all eq [] xs ≡ xs
-  keys_moved xs distinct = keys_behind [] xs distinct (new_none xs)
 
   -- entries
   module _ {V : Type 0} where

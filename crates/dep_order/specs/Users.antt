@@ -1,9 +1,8 @@
--- A table of who refers to whom: for each node, the set of those that refer to it.
-use Rattle.std.specs.Prelude.{◌≡◌, ℕ, ◌<◌, ◌⊎◌, Bool, true, List, [], length, Option, Some, None, IsSome}
+-- A table of who refers to whom: for each node, the list of those that refer to it.
+use Rattle.std.specs.Prelude.{◌≡◌, ℕ, ◌<◌, ◌⊎◌, ◌++◌, ◌∷◌, Bool, true, List, [], length, Option, Some, None, IsSome, Vec, vec_capacity}
 use Rattle.std.specs.Map.{lookup}
 use Rattle.std.specs.List.{Contains}
 use Rattle.std.specs.Option.{unwrap_or, option_map}
-use Rattle.indexmap.specs.IndexSet.{IndexSet, spare}
 use Rattle.dep_order.specs.Reachability.{Chain}
 use Rattle.dep_order.specs.Follows.{Follows}
 
@@ -12,31 +11,43 @@ abbrev pub IsExact : {N : Type 0} → (N → N → Bool) → Type 0
 IsExact {N} eq = (a b : N) → eq a b ≡ true → a ≡ b
 
 -- the nodes that refer to this one, by the table
-abbrev pub users_of : {N S : Type 0} → (N → N → Bool) → List (N × IndexSet N S) → N → List N
-users_of {N} {S} eq table node = unwrap_or (option_map (λ (s : IndexSet N S). s.keys) (lookup (eq node) table)) []
+abbrev pub users_of : {N S : Type 0} → (N → N → Bool) → List (N × Vec N S) → N → List N
+users_of {N} {S} eq table node = unwrap_or (option_map (λ (s : Vec N S). s.items) (lookup (eq node) table)) []
 
 -- by the table, a refers to b
-abbrev pub Uses : {N S : Type 0} → (N → N → Bool) → List (N × IndexSet N S) → N → N → Type 0
+abbrev pub Uses : {N S : Type 0} → (N → N → Bool) → List (N × Vec N S) → N → N → Type 0
 Uses eq table a b = Contains (users_of eq table b) a
 
 -- each chain of references to this node is shorter than the height
-abbrev pub IsWithin : {N S : Type 0} → (N → N → Bool) → List (N × IndexSet N S) → ℕ → N → Type 0
+abbrev pub IsWithin : {N S : Type 0} → (N → N → Bool) → List (N × Vec N S) → ℕ → N → Type 0
 IsWithin {N} eq table height node = (a : N) (via : List N) → Chain (Uses eq table) a via node → length via < height
 
 -- each node stands after all that refer to it
-abbrev pub EachFollowsUsers : {N S : Type 0} → (N → N → Bool) → List (N × IndexSet N S) → List N → Type 0
+abbrev pub EachFollowsUsers : {N S : Type 0} → (N → N → Bool) → List (N × Vec N S) → List N → Type 0
 EachFollowsUsers eq table found = Follows (λ a b. Uses eq table b a) (λ x. ⊥) found
 
--- each of these has its set, with room for one more
-abbrev pub HasRoomFor : {N S : Type 0} → (N → N → Bool) → List (N × IndexSet N S) → List N → Type 0
-HasRoomFor {N} {S} eq table references = (b : N) → Contains references b → (s : IndexSet N S) × (lookup (eq b) table ≡ Some s) × (0 < spare s)
+-- a list has room for one more
+abbrev pub HasRoom : {N S : Type 0} → Vec N S → Type 0
+HasRoom those = length those.items < vec_capacity those
 
--- each of these has its set, with room for one more or with the node in it
-abbrev pub IsReadyFor : {N S : Type 0} → (N → N → Bool) → List (N × IndexSet N S) → N → List N → Type 0
-IsReadyFor {N} {S} eq table node references = (b : N) → Contains references b → (s : IndexSet N S) × (lookup (eq b) table ≡ Some s) × ((0 < spare s) ⊎ Contains s.keys node)
+-- this node is the last of them
+abbrev pub EndsWith : {N : Type 0} → List N → N → Type 0
+EndsWith {N} nodes node = (before : List N) × (nodes ≡ before ++ node ∷ [])
 
--- no set of the table is empty, but for those of these nodes
-abbrev pub HasNoEmptyBut : {N S : Type 0} → (N → N → Bool) → List (N × IndexSet N S) → List N → Type 0
+-- the list has room for one more, or ends with the node
+abbrev pub IsReady : {N S : Type 0} → Vec N S → N → Type 0
+IsReady those node = HasRoom those ⊎ EndsWith those.items node
+
+-- each of these has its list, with room for one more
+abbrev pub HasRoomFor : {N S : Type 0} → (N → N → Bool) → List (N × Vec N S) → List N → Type 0
+HasRoomFor {N} {S} eq table references = (b : N) → Contains references b → (s : Vec N S) × (lookup (eq b) table ≡ Some s) × HasRoom s
+
+-- each of these has its list, with room for one more or with the node at its end
+abbrev pub IsReadyFor : {N S : Type 0} → (N → N → Bool) → List (N × Vec N S) → N → List N → Type 0
+IsReadyFor {N} {S} eq table node references = (b : N) → Contains references b → (s : Vec N S) × (lookup (eq b) table ≡ Some s) × IsReady s node
+
+-- no list of the table is empty, but for those of these nodes
+abbrev pub HasNoEmptyBut : {N S : Type 0} → (N → N → Bool) → List (N × Vec N S) → List N → Type 0
 HasNoEmptyBut {N} eq table references = (b : N) → IsSome (lookup (eq b) table) → Contains references b ⊎ ((a : N) × Uses eq table a b)
 
 -- no node of the list has anything beside it

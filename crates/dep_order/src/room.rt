@@ -3,13 +3,21 @@
 ghost use Rattle.std.specs.Prelude.{◌≡◌, ◌+◌, ◌^◌, ◌≤◌, ◌<◌, ◌↔◌, ◌++◌, List, [], ◌∷◌, IsTrue, IfOk, OnOk, MatchOption, length};
 ghost use Rattle.std.specs.List.{Contains};
 ghost use Rattle.indexmap.specs.IndexMap.{spare};
-ghost use Rattle.dep_order.specs.Users.{Uses, users_of, IsExact, HasRoomFor, HasNoEmptyBut};
-ghost use Rattle.dep_order.specs.Room.{FindRoom, IsLarger, AreSetsFor, HasRoomAt};
+ghost use Rattle.dep_order.specs.Users.{Uses, users_of, IsExact, HasRoomFor, HasNoEmptyBut, HasRoom};
+ghost use Rattle.dep_order.specs.Room.{FindRoom, IsLarger, AreListsFor, HasRoomAt};
 
 use crate::users::Users;
-use indexmap::{IndexMap, IndexSet};
+use indexmap::IndexMap;
 use std::alloc::{AllocError, Global};
 use std::hash::Hash;
+
+// Room for twice as many as there are, and for so many more at least.
+fn grown_to(len: usize, more: usize) -> usize
+    requires { len + more < 2 ^ 64 }
+    ensures { len + more ≤ result }
+{
+    len.saturating_add(len).max(len + more)
+}
 
 /// A larger map, empty, where one has no room for so many more entries.
 pub fn larger_map<K: Eq + Hash, V>(
@@ -24,8 +32,7 @@ pub fn larger_map<K: Eq + Hash, V>(
     if more <= map.capacity() - len {
         return Ok(None);
     }
-    let capacity = len.saturating_add(len).saturating_add(more);
-    Ok(Some(IndexMap::with_capacity(alloc, capacity)?))
+    Ok(Some(IndexMap::with_capacity(alloc, grown_to(len, more))?))
 }
 
 /// The map moves into the larger one, if there is one. No memory is asked for.
@@ -47,44 +54,44 @@ pub fn take_larger<K: Eq + Hash + Drop, V: Drop>(
     }
 }
 
-/// The sets that a table lacks for one more user of each of these nodes: empty ones, large enough for those that are there.
-pub fn sets_for<N: Eq + Hash + Copy>(
+/// The lists that a table lacks for one more user of each of these nodes: empty ones, large enough for those that are there.
+pub fn lists_for<N: Eq + Hash + Copy>(
     alloc: Global,
     users: &Users<N>,
     references: &[N],
 ) -> Result<Users<N>, AllocError>
     requires exact { IsExact N.eq }
-    ensures { IfOk result (λ sets. AreSetsFor N.eq users.now.entries references.now sets.entries) }
+    ensures { IfOk result (λ lists. AreListsFor N.eq users.now.entries references.now lists.entries) }
 {
-    let mut sets = IndexMap::new(alloc);
+    let mut lists = IndexMap::new(alloc);
     for reference in references {
-        add_set(alloc, users, &mut sets, *reference)?;
+        add_list(alloc, users, &mut lists, *reference)?;
     }
-    Ok(sets)
+    Ok(lists)
 }
 
-// One more set, unless the table has room there.
-fn add_set<N: Eq + Hash + Copy>(
+// One more list, unless the table has room there.
+fn add_list<N: Eq + Hash + Copy>(
     alloc: Global,
     users: &Users<N>,
-    sets: &mut Users<N>,
+    lists: &mut Users<N>,
     reference: N,
 ) -> Result<(), AllocError>
     requires exact { IsExact N.eq }
-    ensures { OnOk result ((references : List N) → AreSetsFor N.eq users.now.entries references sets.old.entries → AreSetsFor N.eq users.now.entries (references ++ reference ∷ []) sets.new.entries) }
+    ensures { OnOk result ((references : List N) → AreListsFor N.eq users.now.entries references lists.old.entries → AreListsFor N.eq users.now.entries (references ++ reference ∷ []) lists.new.entries) }
 {
-    if sets.contains_key(&reference) {
+    if lists.contains_key(&reference) {
         return Ok(());
     }
     let Some(count) = users_without_room(users, reference) else {
         return Ok(());
     };
-    let set = IndexSet::with_capacity(alloc, count + count + 1)?;
-    sets.insert(reference, set)?;
+    let list = Vec::with_capacity(alloc, grown_to(count, 1))?;
+    lists.insert(reference, list)?;
     Ok(())
 }
 
-/// Each of these nodes has its set in the table, with room for one more user; where that is so, nothing need be brought along.
+/// Each of these nodes has its list in the table, with room for one more user; where that is so, nothing need be brought along.
 pub fn has_room_for<N: Eq + Hash + Copy>(users: &Users<N>, references: &[N]) -> bool
     ensures { IsTrue result → HasRoomFor N.eq users.now.entries references.now }
 {
@@ -96,11 +103,14 @@ pub fn has_room_for<N: Eq + Hash + Copy>(users: &Users<N>, references: &[N]) -> 
     true
 }
 
-// The node has its set, with room for one more user.
+// The node has its list, with room for one more user.
 fn has_room_at<N: Eq + Hash + Copy>(users: &Users<N>, node: N) -> bool
     ensures { IsTrue result → (references : List N) → HasRoomFor N.eq users.now.entries references → HasRoomFor N.eq users.now.entries (references ++ node ∷ []) }
 {
-    users_without_room(users, node).is_none()
+    match users_without_room(users, node) {
+        Some(_) => false,
+        None => true,
+    }
 }
 
 // How many nodes refer to a node, where there is no room for one more.
@@ -119,40 +129,45 @@ fn users_without_room<N: Eq + Hash + Copy>(users: &Users<N>, node: N) -> Option<
     }
 }
 
-/// Each set takes the place of the one that has no room, and its nodes. No memory is asked for.
-pub fn give_sets<N: Eq + Hash + Copy>(users: &mut Users<N>, mut sets: Users<N>)
+/// Each list takes the place of the one that has no room, and its nodes. No memory is asked for.
+pub fn give_lists<N: Eq + Hash + Copy>(users: &mut Users<N>, mut lists: Users<N>)
     requires exact { IsExact N.eq }
-    requires sets { (references : List N) × AreSetsFor N.eq users.old.entries references sets.entries }
-    requires room { length sets.entries ≤ spare users.old }
-    ensures room { (references : List N) → AreSetsFor N.eq users.old.entries references sets.entries → HasRoomFor N.eq users.new.entries references }
+    requires lists { (references : List N) × AreListsFor N.eq users.old.entries references lists.entries }
+    requires room { length lists.entries ≤ spare users.old }
+    ensures room { (references : List N) → AreListsFor N.eq users.old.entries references lists.entries → HasRoomFor N.eq users.new.entries references }
     ensures same { (a b : N) → Uses N.eq users.new.entries a b ↔ Uses N.eq users.old.entries a b }
-    ensures used { (references : List N) → AreSetsFor N.eq users.old.entries references sets.entries → HasNoEmptyBut N.eq users.old.entries references → HasNoEmptyBut N.eq users.new.entries references }
+    ensures used { (references : List N) → AreListsFor N.eq users.old.entries references lists.entries → HasNoEmptyBut N.eq users.old.entries references → HasNoEmptyBut N.eq users.new.entries references }
 {
-    while let Some(given) = sets.pop() {
-        give_set(users, given.0, given.1);
+    while let Some(given) = lists.pop() {
+        give_list(users, given.0, given.1);
     }
 }
 
-// A larger set takes the place of the one that the table has for a node, and its nodes.
-fn give_set<N: Eq + Hash + Copy>(users: &mut Users<N>, node: N, mut set: IndexSet<N>)
+// A larger list takes the place of the one that the table has for a node, and its nodes.
+fn give_list<N: Eq + Hash + Copy>(users: &mut Users<N>, node: N, list: Vec<N>)
     requires exact { IsExact N.eq }
-    requires larger { IsLarger set (users_of N.eq users.old.entries node) }
+    requires larger { IsLarger list (users_of N.eq users.old.entries node) }
     requires room { 0 < spare users.old }
     ensures own { HasRoomFor N.eq users.new.entries (node ∷ []) }
     ensures kept { (references : List N) → HasRoomFor N.eq users.old.entries references → HasRoomFor N.eq users.new.entries references }
-    ensures lists { (b : N) → users_of N.eq users.new.entries b ≡ users_of N.eq users.old.entries b }
+    ensures stay { (b : N) → users_of N.eq users.new.entries b ≡ users_of N.eq users.old.entries b }
     ensures used { (references : List N) → Contains references node → HasNoEmptyBut N.eq users.old.entries references → HasNoEmptyBut N.eq users.new.entries references }
     ensures spare { spare users.old ≤ spare users.new + 1 }
 {
     match users.get_mut(&node) {
-        Some(those) => {
-            // The length brings the fact that no node stands in it twice.
-            let _unique = those.len();
-            set.append(those).unwrap();
-            *those = set;
-        }
+        Some(those) => take_place(those, list),
         None => {
-            let _none = users.insert(node, set).unwrap();
+            let _none = users.insert(node, list).unwrap();
         }
     }
+}
+
+// A larger list, which is empty, takes the place of one, and its nodes.
+fn take_place<N: Drop>(those: &mut Vec<N>, mut larger: Vec<N>)
+    requires { IsLarger larger those.old.items }
+    ensures nodes { those.new.items ≡ those.old.items }
+    ensures room { HasRoom those.new }
+{
+    larger.append(those).unwrap();
+    *those = larger;
 }

@@ -1,16 +1,16 @@
 //! Who refers to whom, kept from change to change: what a change of a node reaches is found by this table, and no other node is looked at.
-ghost use Rattle.std.specs.Prelude.{◌≡◌, ◌⊎◌, ◌↔◌, List, [], ◌∷◌, OnOk, OnErr, MatchBool, MatchOption};
+ghost use Rattle.std.specs.Prelude.{◌≡◌, ◌≤◌, ◌⊎◌, ◌↔◌, List, [], ◌∷◌, OnOk, OnErr, MatchBool, MatchOption, filter, length, not, vec_capacity};
 ghost use Rattle.std.specs.List.{Contains, IsDistinct};
 ghost use Rattle.std.specs.Map.{keys_of};
 ghost use Rattle.dep_order.specs.Reachability.{Reaches};
-ghost use Rattle.dep_order.specs.Users.{Uses, users_of, IsExact, IsWithin, EachFollowsUsers, HasRoomFor, IsReadyFor, HasNoEmptyBut, HasNothing};
+ghost use Rattle.dep_order.specs.Users.{Uses, users_of, IsExact, IsWithin, EachFollowsUsers, HasRoomFor, IsReadyFor, HasNoEmptyBut, HasNothing, EndsWith, IsReady};
 
-use indexmap::{IndexMap, IndexSet};
+use indexmap::IndexMap;
 use std::alloc::AllocError;
 use std::hash::Hash;
 
-/// For each node that others refer to, those others.
-pub type Users<N> = IndexMap<N, IndexSet<N>>;
+/// For each node that others refer to, those others, in a list: most nodes have few of them.
+pub type Users<N> = IndexMap<N, Vec<N>>;
 
 /// A node and all that reach it, by one reference or by a chain of them: each once, after all that refer to it, with a place for
 /// what is to be found out of it. No chain of references to the node is to be longer than the height. They are put into a map that is
@@ -122,11 +122,20 @@ fn forget<N: Eq + Hash + Copy>(users: &mut Users<N>, node: N, reference: N)
     ensures used { (references : List N) → Contains references reference → HasNoEmptyBut N.eq users.old.entries references → HasNoEmptyBut N.eq users.new.entries references }
 {
     if let Some(those) = users.get_mut(&reference) {
-        let _found = those.swap_remove(&node);
+        take_out(those, node);
     }
 }
 
-// The node refers to this one, in the room that was made for it.
+// A node stands in a list no longer.
+fn take_out<N: Eq + Hash + Copy>(those: &mut Vec<N>, node: N)
+    ensures nodes { those.new.items ≡ filter (λ other. not (N.eq other node)) those.old.items }
+    ensures room { vec_capacity those.new ≡ vec_capacity those.old }
+    ensures fewer { length those.new.items ≤ length those.old.items }
+{
+    those.retain(|other| *other != node);
+}
+
+// The node refers to this one, in the room that was made for it. Where it does so twice, it is the last of the list already.
 fn note<N: Eq + Hash + Copy>(users: &mut Users<N>, node: N, reference: N)
     requires exact { IsExact N.eq }
     requires ready { IsReadyFor N.eq users.old.entries node (reference ∷ []) }
@@ -135,11 +144,26 @@ fn note<N: Eq + Hash + Copy>(users: &mut Users<N>, node: N, reference: N)
     ensures used { (references : List N) → HasNoEmptyBut N.eq users.old.entries references → HasNoEmptyBut N.eq users.new.entries references }
 {
     if let Some(those) = users.get_mut(&reference) {
-        let _added = those.insert(node).unwrap();
+        put_last(those, node);
     }
 }
 
-// Takes the sets of these nodes out of the table, where they are empty.
+// A node is the last of a list, in which there is room for it unless it was so.
+fn put_last<N: Eq + Hash + Copy>(those: &mut Vec<N>, node: N)
+    requires exact { IsExact N.eq }
+    requires ready { IsReady those.old node }
+    ensures last { EndsWith those.new.items node }
+    ensures nodes { (a : N) → Contains those.new.items a ↔ (Contains those.old.items a ⊎ (a ≡ node)) }
+{
+    if let Some(last) = those.last() {
+        if *last == node {
+            return;
+        }
+    }
+    those.push_reserved(node);
+}
+
+// Takes the lists of these nodes out of the table, where they are empty.
 fn drop_unused<N: Eq + Hash + Copy>(users: &mut Users<N>, references: &[N])
     requires { IsExact N.eq }
     ensures same { (a b : N) → Uses N.eq users.new.entries a b ↔ Uses N.eq users.old.entries a b }
@@ -150,7 +174,7 @@ fn drop_unused<N: Eq + Hash + Copy>(users: &mut Users<N>, references: &[N])
     }
 }
 
-// Takes the set of a node out of the table, if it is empty.
+// Takes the list of a node out of the table, if it is empty.
 fn drop_if_unused<N: Eq + Hash + Copy>(users: &mut Users<N>, reference: N)
     requires { IsExact N.eq }
     ensures same { (a b : N) → Uses N.eq users.new.entries a b ↔ Uses N.eq users.old.entries a b }

@@ -4,7 +4,7 @@ use Rattle.arrays_core.specs.Arrays.{ArrayValue}
 use Rattle.index_region.specs.declared.delta.Delta.{Delta}
 use Rattle.index_region.specs.declared.delta.Delta.TheVariants.{Whole}
 use Rattle.change_core.specs.Meters.{ticked}
-use Rattle.indexmap.specs.IndexSet.{IndexSet}
+use Rattle.std.specs.Prelude.{Vec}
 use Rattle.apl_expr.specs.Trees.{Tree}
 use Rattle.sheet_recalc.specs.Names.{Names, Data, Formula, binding, put}
 use Rattle.sheet_recalc.specs.Live.{TellsUsers}
@@ -37,7 +37,7 @@ pub formulas_alone : (cost total : ℕ) → total ≡ ticked 0 cost → total �
 formulas_alone cost total is = omega (arith, is)
 
 -- where other data is put under a name that holds data, each name refers to what it did
-pub table_kept : {S : Type 0} (names : Names) (name : List ℕ) (a b : ArrayValue) (users : List (List ℕ × IndexSet (List ℕ) S)) → binding names name ≡ Some (Data a) → TellsUsers names users → TellsUsers (put names name (Data b)) users
+pub table_kept : {S : Type 0} (names : Names) (name : List ℕ) (a b : ArrayValue) (users : List (List ℕ × Vec (List ℕ) S)) → binding names name ≡ Some (Data a) → TellsUsers names users → TellsUsers (put names name (Data b)) users
 table_kept {S} names name a b users held tells x y = (
   (λ u. let r = (tells x y).0 u in (r.0, rebound_same names name (Some (Data b)) x (apart r.0 r.1) ∙ r.1, r.2)),
   (λ r. (tells x y).1 (r.0, sym (rebound_same names name (Some (Data b)) x (apart_now r.0 r.1)) ∙ r.1, r.2)),

@@ -7,7 +7,7 @@ use Rattle.std.proofs.lemmas.List.{get_or_default}
 use Rattle.std.proofs.lemmas.Map.Steps.{length-le_from_keys}
 use Rattle.std.proofs.lemmas.Map.Views.{Contains-from_any, list_any-from_Contains}
 use Rattle.std.proofs.lemmas.List.Elements.{Contains-append_left, Contains-append_right, Contains-append_cases}
-use Rattle.indexmap.specs.IndexSet.{IndexSet}
+use Rattle.std.specs.Prelude.{Vec}
 use Rattle.dep_order.specs.Reachability.{Chain}
 use Rattle.sheet_recalc.specs.Names.{Names, binding, Refers}
 use Rattle.sheet_recalc.specs.Meaning.{shown_beside, val}
@@ -117,7 +117,7 @@ name_order names order o = record {
 }
 
 -- no chain of references is longer than the names are many
-module _ {S : Type 0} (names : Names) (table : List (List ℕ × IndexSet (List ℕ) S)) (tells : TellsUsers names table) (order : List (List ℕ)) (o : IsNameOrder names order) where
+module _ {S : Type 0} (names : Names) (table : List (List ℕ × Vec (List ℕ) S)) (tells : TellsUsers names table) (order : List (List ℕ)) (o : IsNameOrder names order) where
   falls : (i : ℕ) (via : List (List ℕ)) (b : List ℕ) → i < length order → Chain (Uses bytes_eq table) (slice_index_or order i []) via b → length via ≤ i
   falls i [] b h c = omega arith
   falls i (x ∷ via) b h c =

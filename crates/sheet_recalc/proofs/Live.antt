@@ -1,19 +1,19 @@
 -- Entries, the names that they stand for, and what they show.
-use Rattle.std.proofs.Common.{◌≡◌, ℕ, zero, suc, ◌+◌, ◌-◌, ◌<◌, ◌≤◌, Bool, true, false, cond, List, [], ◌∷◌, ◌++◌, length, take, get_or, slice_get, ⊎_elim, ◌⊎◌, Option, Some, None, Ok, Err, IsSome, IfSome, is_some, refl, sym, ap, ◌∙◌, subst, arith, if◌then◌else◌}
+use Rattle.std.proofs.Common.{◌≡◌, ℕ, zero, suc, ◌+◌, ◌-◌, ◌<◌, ◌≤◌, Bool, true, false, cond, List, [], ◌∷◌, ◌++◌, length, take, get_or, slice_get, ⊎_elim, ◌⊎◌, Option, Some, None, Ok, Err, IsSome, is_some, refl, sym, ap, ◌∙◌, subst, arith, not, if◌then◌else◌}
 use Rattle.std.specs.Str.{bytes_eq}
 use Rattle.std.specs.Map.{lookup, keys_of, set_value}
 use Rattle.std.specs.Option.{option_map, unwrap_or}
 use Rattle.std.specs.List.{IsDistinct, Contains}
-use Rattle.indexmap.specs.IndexSet.{IndexSet}
+use Rattle.std.specs.Prelude.{Vec}
 use Rattle.std.proofs.lemmas.Bool.{false≢true}
-use Rattle.std.proofs.lemmas.List.{take_all, take_more, length-map}
+use Rattle.std.proofs.lemmas.List.{take_all, take_more, length-map, same_from_push}
 use Rattle.std.proofs.lemmas.List.Elements.{Contains-push_cases}
 use Rattle.std.proofs.lemmas.Map.Views.{Contains-keys_from_lookup}
 use Rattle.indexmap.specs.IndexMap.{insert_entry, set_value_at}
 use Rattle.arrays_core.specs.Arrays.{ArrayValue}
 use Rattle.arrays_core.specs.declared.item.Kind.TheVariants.{Value}
 use Rattle.dep_order.specs.Reachability.{Chain, IsAcyclic, Reaches}
-use Rattle.dep_order.specs.Users.{Uses, EachFollowsUsers, HasNothing}
+use Rattle.dep_order.specs.Users.{Uses, EndsWith, EachFollowsUsers, HasNothing}
 use Rattle.arrays_core.specs.Outcomes.{Outcome, fault}
 use Rattle.formula_core.specs.Plans.{PlanValue}
 use Rattle.sheet_recalc.specs.Names.{Names, Data, binding, put, without, Refers}
@@ -124,9 +124,9 @@ live_none = record {
         by [] c = false≢true (ap is_some c.1)
         by (x ∷ xs) c = false≢true (ap is_some c.0.1)
 
-pub live_empty : {S : Type 0} (es : List (List ℕ × Entry)) (users : List (List ℕ × IndexSet (List ℕ) S)) → es ≡ [] → users ≡ [] → IsLive es users
+pub live_empty : {S : Type 0} (es : List (List ℕ × Entry)) (users : List (List ℕ × Vec (List ℕ) S)) → es ≡ [] → users ≡ [] → IsLive es users
 live_empty {S} es users none empty =
-    subst (λ (fs : List (List ℕ × Entry)). IsLive fs users) (sym none) (subst (λ (us : List (List ℕ × IndexSet (List ℕ) S)). IsLive [] us) (sym empty) (live_none {S = S}))
+    subst (λ (fs : List (List ℕ × Entry)). IsLive fs users) (sym none) (subst (λ (us : List (List ℕ × Vec (List ℕ) S)). IsLive [] us) (sym empty) (live_none {S = S}))
 
 -- an entry that is right shows what its name shows
 pub right_shows : (names : List ℕ → Outcome) (q : List ℕ) (e : Entry) → IsRightEntry names q e → entry_outcome q e ≡ names q
@@ -304,7 +304,7 @@ pub nothing_at_end : (names : Names) (es : List (List ℕ × Entry)) (found : Li
 nothing_at_end names es found place end now = λ a v there. sym (ap (λ o. unwrap_or o None) there) ∙ now.rest a (subst (λ n. Contains (take n (keys_of found)) a → ⊥) (sym end) (contains_none a))
 
 -- what a name reaches is the same while the table and the names that were found stay
-pub reach_kept : {S : Type 0} (users users' : List (List ℕ × IndexSet (List ℕ) S)) (name : List ℕ) (found found' : List (List ℕ × Option PlanValue))
+pub reach_kept : {S : Type 0} (users users' : List (List ℕ × Vec (List ℕ) S)) (name : List ℕ) (found found' : List (List ℕ × Option PlanValue))
     → users' ≡ users → keys_of found' ≡ keys_of found → HasNothing bytes_eq found' → IsReach users name found → IsReach users' name found'
 reach_kept {S} users users' name found found' same keys none reach =
     let back = sym keys in
@@ -316,11 +316,37 @@ reach_kept {S} users users' name found found' same keys none reach =
       none = none;
     }
 
--- after an edit that is known of the name
-pub reached_after : {S : Type 0} (users : List (List ℕ × IndexSet (List ℕ) S)) (name : List ℕ) (found : List (List ℕ × Option PlanValue)) (edit : Bool) (edited : Option (List ℕ))
-    → edited ≡ (if edit then Some name else None) → (edit ≡ true → IsReach users name found) → IfSome edited (λ n. IsReach users n found)
-reached_after users name found true edited is reach = subst (λ (e : Option (List ℕ)). IfSome e (λ n. IsReach users n found)) (sym is) (reach refl)
-reached_after users name found false edited is reach = subst (λ (e : Option (List ℕ)). IfSome e (λ n. IsReach users n found)) (sym is) tt
+-- where one name is found, no plan stands beside another
+pub none_beside : (found : List (List ℕ × Option PlanValue)) (only name : List ℕ) → length (keys_of found) ≡ 1 → only ≡ get_or (keys_of found) 0 only → not (bytes_eq name only) ≡ true → plan_in found name ≡ None
+none_beside [] only name one is apart = absurd (omega (arith, one))
+none_beside (e ∷ []) only name one is apart = by (bytes_eq name e.0) refl (subst (λ (q : List ℕ). not (bytes_eq name q) ≡ true) is apart)
+  where
+    by : (t : Bool) → bytes_eq name e.0 ≡ t → not (bytes_eq name e.0) ≡ true → plan_in (e ∷ []) name ≡ None
+    by true same other = let never : false ≡ true = rw same at other in absurd (false≢true never)
+    by false same other = rw same refl
+none_beside (e ∷ f ∷ found) only name one is apart = absurd (omega (arith, one))
+
+-- a list ends with the name that stands last
+pub ends_with_last : (names : List (List ℕ)) (name : List ℕ) → Some name ≡ slice_get names (length names - 1) → EndsWith names name
+ends_with_last [] name is = let never : Some name ≡ None = is in absurd cc
+ends_with_last (x ∷ []) name is = let same : Some name ≡ Some x = is in let this : name ≡ x = cc in ([], subst (λ (q : List ℕ). x ∷ [] ≡ q ∷ []) (sym this) refl)
+ends_with_last (x ∷ y ∷ names) name is =
+    let here : length (x ∷ y ∷ names) - 1 ≡ suc (length names) = omega arith in
+    let behind : length (y ∷ names) - 1 ≡ length names = omega arith in
+    let there : Some name ≡ slice_get (y ∷ names) (length names) = rw here at is in
+    let rest = ends_with_last (y ∷ names) name (rw behind there) in
+    (x ∷ rest.0, ap (λ (xs : List (List ℕ)). x ∷ xs) rest.1)
+
+-- the last name of a list is one
+ends_once : (names : List (List ℕ)) (a b : List ℕ) → EndsWith names a → EndsWith names b → b ≡ a
+ends_once names a b one other = sym (same_from_push one.0 other.0 a b (sym one.1 ∙ other.1)).1
+
+-- what an edit of the last name reaches is known after an edit of this name, if it is the last
+pub reached_after : {S : Type 0} (users : List (List ℕ × Vec (List ℕ) S)) (name : List ℕ) (found : List (List ℕ × Option PlanValue)) (edited : Bool)
+    → (edited ≡ true → EndsWith (keys_of found) name × IsReach users name found) → edited ≡ true → (n : List ℕ) → EndsWith (keys_of found) n → IsReach users n found
+reached_after users name found edited known is n ends =
+    let there = known is in
+    subst (λ q. IsReach users q found) (sym (ends_once (keys_of found) name n there.0 ends)) there.1
 
 -- ---- plans that were made for entries after a change can be taken by these
 

@@ -9,7 +9,7 @@ use Rattle.change_rules.specs.Currency.{applied}
 use Rattle.dep_order.specs.Reachability.{Reaches, IsAcyclic}
 use Rattle.dep_order.specs.Users.{Uses, EachFollowsUsers}
 use Rattle.arrays_core.specs.Outcomes.{Outcome}
-use Rattle.indexmap.specs.IndexSet.{IndexSet}
+use Rattle.std.specs.Prelude.{Vec}
 use Rattle.index_region.specs.declared.delta.Delta.{Delta}
 use Rattle.sheet_recalc.specs.Names.{Names, Binding, rebound, referred, Refers, most_names}
 use Rattle.sheet_recalc.specs.Meaning.{val}
@@ -48,7 +48,7 @@ few_rebound : (names : Names) (name : List ℕ) (b : Option Binding) → length 
 few_rebound names name (Some b) few room = few_put names name b few room
 few_rebound names name None few room = omega (arith, few_others name names, few)
 
-module _ {S : Type 0} (o : Outline) (users : List (List ℕ × IndexSet (List ℕ) S)) (live : IsLive o.entries users)
+module _ {S : Type 0} (o : Outline) (users : List (List ℕ × Vec (List ℕ) S)) (live : IsLive o.entries users)
     (found : List (List ℕ)) (closed : EachFollowsUsers bytes_eq users found) (named : Contains found o.name) (sound : (a : List ℕ) → Contains found a → (a ≡ o.name) ⊎ Reaches (Uses bytes_eq users) a o.name)
     (distinct : IsDistinct bytes_eq found) (apart : (c : List ℕ) → Contains (proposed_references o.proposal) c → Contains found c → ⊥) where
   abbrev new : Names

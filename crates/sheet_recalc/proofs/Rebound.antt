@@ -2,7 +2,7 @@
 use Rattle.std.proofs.Common.{◌≡◌, ◌≢◌, ℕ, ◌⊎◌, ◌↔◌, inl, inr, List, [], ◌∷◌, Option, Some, None, refl, sym, ◌∙◌, subst, arith, ⊎_elim}
 use Rattle.std.specs.Str.{bytes_eq}
 use Rattle.std.specs.List.{Contains, IsDistinct}
-use Rattle.indexmap.specs.IndexSet.{IndexSet}
+use Rattle.std.specs.Prelude.{Vec}
 use Rattle.dep_order.specs.Reachability.{Chain, Reaches, IsAcyclic}
 use Rattle.std.specs.Option.{option_map_or}
 use Rattle.sheet_recalc.specs.Names.{Names, Binding, Data, Formula, binding, put, rebound, Refers, referred, referred_by, IsSheet}
@@ -42,7 +42,7 @@ referred_refers names a c = by (binding names a) refl
     by None is h = absurd (contains_none c h)
     by (Some b) is h = refers_to names a b c is h
 
-module _ {S : Type 0} (es : List (List ℕ × Entry)) (users : List (List ℕ × IndexSet (List ℕ) S)) (live : IsLive es users) (name : List ℕ) (b : Option Binding)
+module _ {S : Type 0} (es : List (List ℕ × Entry)) (users : List (List ℕ × Vec (List ℕ) S)) (live : IsLive es users) (name : List ℕ) (b : Option Binding)
     (found : List (List ℕ)) (closed : EachFollowsUsers bytes_eq users found) (named : Contains found name) (sound : (a : List ℕ) → Contains found a → (a ≡ name) ⊎ Reaches (Uses bytes_eq users) a name)
     (distinct : IsDistinct bytes_eq found) where
   abbrev old : Names
@@ -110,7 +110,7 @@ module _ {S : Type 0} (es : List (List ℕ × Entry)) (users : List (List ℕ ×
     shown_still q apart = unaffected old new name same found closed_old named has_order.0 (name_order new has_order.0 has_order.1) (λ x. val_is old live.order (name_order old live.order live.kept) x) q apart
 
 -- the table, once the name refers to what it is bound to now, and no longer to what stood before
-pub table_after : {S : Type 0} (old : Names) (name : List ℕ) (b : Option Binding) (users after : List (List ℕ × IndexSet (List ℕ) S)) → TellsUsers old users
+pub table_after : {S : Type 0} (old : Names) (name : List ℕ) (b : Option Binding) (users after : List (List ℕ × Vec (List ℕ) S)) → TellsUsers old users
     → ((x y : List ℕ) → Uses bytes_eq after x y ↔ ((Uses bytes_eq users x y × ((x ≡ name) → Contains (referred_by old name) y → ⊥)) ⊎ ((x ≡ name) × Contains (option_map_or referred b []) y)))
     → TellsUsers (rebound old name b) after
 table_after {S} old name b users after tells change x y = (to, from)
@@ -130,7 +130,7 @@ table_after {S} old name b users after tells change x y = (to, from)
         (λ apart. (change x y).1 (inl ((tells x y).1 (r.0, sym (rebound_same old name b x apart) ∙ r.1, r.2), λ e. absurd (apart e))))
 
 -- the table stays where a name refers to what it referred to
-pub table_stays : {S : Type 0} (old : Names) (name : List ℕ) (b : Binding) (users : List (List ℕ × IndexSet (List ℕ) S)) → TellsUsers old users → referred_by old name ≡ referred b → TellsUsers (put old name b) users
+pub table_stays : {S : Type 0} (old : Names) (name : List ℕ) (b : Binding) (users : List (List ℕ × Vec (List ℕ) S)) → TellsUsers old users → referred_by old name ≡ referred b → TellsUsers (put old name b) users
 table_stays {S} old name b users tells same = table_after old name (Some b) users users tells (λ x y. (
   λ u. cases_name ((Uses bytes_eq users x y × ((x ≡ name) → Contains (referred_by old name) y → ⊥)) ⊎ ((x ≡ name) × Contains (referred b) y)) name x
       (λ e. inr (e, subst (λ zs. Contains zs y) same (refers_referred old name y (subst (λ z. Refers old z y) e ((tells x y).0 u)))))
@@ -138,14 +138,14 @@ table_stays {S} old name b users tells same = table_after old name (Some b) user
   ⊎_elim (λ l. l.0) (λ r. (tells x y).1 (subst (λ z. Refers old z y) (sym r.0) (referred_refers old name y (subst (λ zs. Contains zs y) (sym same) r.1)))),
 ))
 
--- and no set of it is empty, as the name is in those of what it refers to
-pub used_still : {S : Type 0} (old : Names) (name : List ℕ) (b : Binding) (users : List (List ℕ × IndexSet (List ℕ) S)) → TellsUsers old users → referred_by old name ≡ referred b
+-- and no list of it is empty, as the name is in those of what it refers to
+pub used_still : {S : Type 0} (old : Names) (name : List ℕ) (b : Binding) (users : List (List ℕ × Vec (List ℕ) S)) → TellsUsers old users → referred_by old name ≡ referred b
     → HasNoEmptyBut bytes_eq users (referred b) → HasNoEmptyBut bytes_eq users []
 used_still old name b users tells same used y some = ⊎_elim
     (λ c. inr (name, (tells name y).1 (referred_refers old name y (subst (λ zs. Contains zs y) (sym same) c)))) (λ r. inr r) (used y some)
 
 -- what the entries keep, after a change
-pub live_after : {S : Type 0} (es : List (List ℕ × Entry)) (users : List (List ℕ × IndexSet (List ℕ) S)) (new : Names) → names_of es ≡ new → IsSheet new → HasOrder new → TellsUsers new users → HasNoEmptyBut bytes_eq users [] → IsCurrent es → IsLive es users
+pub live_after : {S : Type 0} (es : List (List ℕ × Entry)) (users : List (List ℕ × Vec (List ℕ) S)) (new : Names) → names_of es ≡ new → IsSheet new → HasOrder new → TellsUsers new users → HasNoEmptyBut bytes_eq users [] → IsCurrent es → IsLive es users
 live_after {S} es users names is sheet order tells used current = record {
   sheet = subst IsSheet (sym is) sheet;
   order = order.0;
@@ -156,7 +156,7 @@ live_after {S} es users names is sheet order tells used current = record {
 }
 
 -- the same entries with a table that says the same
-pub live_same : {S : Type 0} (es after : List (List ℕ × Entry)) (users now : List (List ℕ × IndexSet (List ℕ) S)) → IsLive es users → after ≡ es → ((a b : List ℕ) → Uses bytes_eq now a b ↔ Uses bytes_eq users a b) → HasNoEmptyBut bytes_eq now [] → IsLive after now
+pub live_same : {S : Type 0} (es after : List (List ℕ × Entry)) (users now : List (List ℕ × Vec (List ℕ) S)) → IsLive es users → after ≡ es → ((a b : List ℕ) → Uses bytes_eq now a b ↔ Uses bytes_eq users a b) → HasNoEmptyBut bytes_eq now [] → IsLive after now
 live_same {S} es after users now live is same used = subst (λ (fs : List (List ℕ × Entry)). IsLive fs now) (sym is) (record {
   sheet = live.sheet;
   order = live.order;

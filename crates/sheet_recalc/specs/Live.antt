@@ -1,5 +1,5 @@
 -- What the entries of a sheet keep.
-use Rattle.std.specs.Prelude.{◌≡◌, ◌≤◌, ℕ, List, [], ◌↔◌, ◌⊎◌, Option, Some, None, Ok, IfSome, if◌then◌else◌}
+use Rattle.std.specs.Prelude.{◌≡◌, ◌≤◌, ℕ, List, [], ◌↔◌, ◌⊎◌, Bool, true, Option, Some, None, Ok, Vec, if◌then◌else◌}
 use Rattle.std.specs.List.{Contains, IsDistinct}
 use Rattle.std.specs.Str.{bytes_eq}
 use Rattle.std.specs.Map.{lookup, keys_of}
@@ -10,9 +10,8 @@ use Rattle.formula_core.specs.Plans.{PlanValue, IsPlanOf}
 use Rattle.sheet_recalc.specs.Names.{Names, Refers, IsSheet}
 use Rattle.sheet_recalc.specs.Meaning.{val, with_origin}
 use Rattle.sheet_recalc.specs.NameOrder.{IsKeptOrder}
-use Rattle.indexmap.specs.IndexSet.{IndexSet}
 use Rattle.dep_order.specs.Reachability.{Reaches}
-use Rattle.dep_order.specs.Users.{Uses, EachFollowsUsers, HasNoEmptyBut, HasNothing}
+use Rattle.dep_order.specs.Users.{Uses, EndsWith, EachFollowsUsers, HasNoEmptyBut, HasNothing}
 use Rattle.sheet_recalc.specs.Entries.{names_of, adopting}
 use Rattle.sheet_recalc.specs.declared.entry.Entry.{Entry}
 use Rattle.sheet_recalc.specs.declared.entry.Entry.TheVariants as entry
@@ -27,11 +26,11 @@ abbrev pub IsCurrent : List (List ℕ × Entry) → Type 0
 IsCurrent entries = (q : List ℕ) (e : Entry) → lookup (bytes_eq q) entries ≡ Some e → IsRightEntry (val (names_of entries)) q e
 
 -- the table tells exactly who refers to whom
-abbrev pub TellsUsers : {S : Type 0} → Names → List (List ℕ × IndexSet (List ℕ) S) → Type 0
+abbrev pub TellsUsers : {S : Type 0} → Names → List (List ℕ × Vec (List ℕ) S) → Type 0
 TellsUsers names users = (a b : List ℕ) → Uses bytes_eq users a b ↔ Refers names a b
 
--- the names have an order, the table tells who refers to whom and no set of it is empty, and each entry shows what its name shows from scratch
-pub record IsLive {S : Type 0} (entries : List (List ℕ × Entry)) (users : List (List ℕ × IndexSet (List ℕ) S)) : Type 0 where
+-- the names have an order, the table tells who refers to whom and no list of it is empty, and each entry shows what its name shows from scratch
+pub record IsLive {S : Type 0} (entries : List (List ℕ × Entry)) (users : List (List ℕ × Vec (List ℕ) S)) : Type 0 where
   pub sheet : IsSheet (names_of entries)
   pub order : List (List ℕ)
   pub kept : IsKeptOrder (names_of entries) order
@@ -40,19 +39,19 @@ pub record IsLive {S : Type 0} (entries : List (List ℕ × Entry)) (users : Lis
   pub current : IsCurrent entries
 
 -- these are a name and all that reach it, each once, after all that refer to it, and no plan stands beside one
-pub record IsReach {S : Type 0} (users : List (List ℕ × IndexSet (List ℕ) S)) (name : List ℕ) (found : List (List ℕ × Option PlanValue)) : Type 0 where
+pub record IsReach {S : Type 0} (users : List (List ℕ × Vec (List ℕ) S)) (name : List ℕ) (found : List (List ℕ × Option PlanValue)) : Type 0 where
   pub distinct : IsDistinct bytes_eq (keys_of found)
   pub closed : EachFollowsUsers bytes_eq users (keys_of found)
   pub named : Contains (keys_of found) name
   pub sound : (a : List ℕ) → Contains (keys_of found) a → (a ≡ name) ⊎ Reaches (Uses bytes_eq users) a name
   pub none : HasNothing bytes_eq found
 
--- what a sheet keeps: its entries, and what its last change cost, with the items that were computed in it, which are no more; and what the name reaches
--- whose data was edited last
-pub record IsKeptBySheet {S : Type 0} (entries : List (List ℕ × Entry)) (users : List (List ℕ × IndexSet (List ℕ) S)) (cost ticks : ℕ) (edited : Option (List ℕ)) (found : List (List ℕ × Option PlanValue)) : Type 0 where
+-- what a sheet keeps: its entries, and what its last change cost, with the items that were computed in it, which are no more; and where that was an
+-- edit of the last name that is found, what an edit of this name reaches
+pub record IsKeptBySheet {S : Type 0} (entries : List (List ℕ × Entry)) (users : List (List ℕ × Vec (List ℕ) S)) (cost ticks : ℕ) (edited : Bool) (found : List (List ℕ × Option PlanValue)) : Type 0 where
   pub live : IsLive entries users
   pub few : ticks ≤ cost
-  pub reached : IfSome edited (λ name. IsReach users name found)
+  pub reached : edited ≡ true → (name : List ℕ) → EndsWith (keys_of found) name → IsReach users name found
 
 -- the plan that stands beside a name, if there is one
 abbrev pub plan_in : List (List ℕ × Option PlanValue) → List ℕ → Option PlanValue

@@ -3,7 +3,7 @@ use Rattle.std.specs.Prelude.{◌≡◌, ◌≤◌, ◌<◌, ◌+◌, ℕ, List,
 use Rattle.std.specs.Str.{bytes_eq}
 use Rattle.std.specs.Map.{keys_of}
 use Rattle.indexmap.specs.IndexMap.{spare}
-use Rattle.dep_order.specs.Room.{FindRoom, AreSetsFor}
+use Rattle.dep_order.specs.Room.{FindRoom, AreListsFor}
 use Rattle.dep_order.specs.Users.{HasRoomFor}
 use Rattle.change_core.specs.Meters.{ticked}
 use Rattle.index_region.specs.declared.delta.Delta.TheVariants.{Whole}
@@ -38,8 +38,8 @@ names_after t p = proposed_names (outline_for t p)
 -- the room that the tables lack for one more entry, in whose formula these names stand
 pub record Brings (t : Tables) (references : List (List ℕ)) (g : Growth) : Type 0 where
   pub entries : FindRoom 1 (length t.entries.entries) (spare t.entries) g.entries
-  pub users : FindRoom (length g.sets.entries) (length t.users.entries) (spare t.users) g.users
-  pub sets : AreSetsFor bytes_eq t.users.entries references g.sets.entries
+  pub users : FindRoom (length g.lists.entries) (length t.users.entries) (spare t.users) g.users
+  pub lists : AreListsFor bytes_eq t.users.entries references g.lists.entries
 
 -- nothing lacks: there is room for one more entry, and for one more user of each of these names
 pub record NothingLacks (t : Tables) (references : List (List ℕ)) : Type 0 where

@@ -1,8 +1,8 @@
 -- How the names of a sheet lie: their entries, and who refers to whom, each with room for more. No answer tells of it.
 use Rattle.std.specs.Prelude.{ℕ, List}
-use Rattle.std.proofs.Common.{BuildHasherDefault, FoldHasher}
+use Rattle.std.proofs.Common.{BuildHasherDefault, FoldHasher, Global}
 use Rattle.indexmap.specs.IndexMap.{IndexMap}
-use Rattle.indexmap.specs.IndexSet.{IndexSet}
+use Rattle.std.specs.Prelude.{Vec}
 use Rattle.sheet_recalc.specs.declared.entry.Entry.{Entry}
 
 abbrev pub Hasher : Type 0
@@ -10,4 +10,4 @@ Hasher = BuildHasherDefault FoldHasher
 
 pub record Tables : Type 0 where
   pub entries : IndexMap (List ℕ) Entry Hasher
-  pub users : IndexMap (List ℕ) (IndexSet (List ℕ) Hasher) Hasher
+  pub users : IndexMap (List ℕ) (Vec (List ℕ) Global) Hasher

@@ -36,10 +36,15 @@ pub(crate) struct Ahead<'a, 'b> {
     pub(crate) unchanged: &'b Delta,
 }
 
-/// The plan that stands beside a name, if there is one.
+/// The plan that stands beside a name, if there is one. Where there is one name, that is compared.
 fn plan_in<'a>(found: &'a Found, name: &Name) -> Option<&'a Plan>
     ensures { MatchOption result (plan_in found.now.entries name.now ≡ None) (λ plan. plan_in found.now.entries name.now ≡ Some plan.now) }
 {
+    if let [only] = found.keys().as_slice() {
+        if *name != *only {
+            return None;
+        }
+    }
     match found.get(name) {
         Some(plan) => plan.as_ref(),
         None => None,

@@ -22,7 +22,7 @@ use crate::growth::Growth;
 use crate::plans::{Found, hint_at};
 use crate::proposal::Proposal;
 use apl_tokens::Name;
-use dep_order::{Users, give_sets, refer, take_larger};
+use dep_order::{Users, give_lists, refer, take_larger};
 use formula_core::Plan;
 use index_region::{Delta, Patch, Tail};
 use indexmap::IndexMap;
@@ -118,8 +118,8 @@ fn commit_brought(
     ensures used { HasNoEmptyBut bytes_eq users.new.entries [] }
 {
     take_larger(entries, growth.entries, 1);
-    take_larger(users, growth.users, growth.sets.len());
-    give_sets(users, growth.sets);
+    take_larger(users, growth.users, growth.lists.len());
+    give_lists(users, growth.lists);
     commit(entries, users, name, entry, found, places);
 }
 
@@ -135,7 +135,7 @@ fn commit(
     requires room { 0 < spare entries.old }
     requires planned { AreRightOnceTaken entries.old.entries name (Some entry) (put (names_of entries.old.entries) name (binding_of entry)) (plan_in found.old.entries) }
     requires tells { TellsUsers (names_of entries.old.entries) users.old.entries }
-    requires sets { HasRoomFor bytes_eq users.old.entries (referred (binding_of entry)) }
+    requires lists { HasRoomFor bytes_eq users.old.entries (referred (binding_of entry)) }
     requires used { HasNoEmptyBut bytes_eq users.old.entries (referred (binding_of entry)) }
     ensures names { names_of entries.new.entries ≡ put (names_of entries.old.entries) name (binding_of entry) }
     ensures current { IsCurrent entries.new.entries }
@@ -150,7 +150,7 @@ fn commit(
 /// The table where a name is to be bound to this entry. Where the same names stand in it as in what stood there, the table stays.
 fn refer_anew(entries: &IndexMap<Name, Entry>, users: &mut Users<Name>, name: Name, entry: &Entry)
     requires tells { TellsUsers (names_of entries.now.entries) users.old.entries }
-    requires sets { HasRoomFor bytes_eq users.old.entries (referred (binding_of entry.now)) }
+    requires lists { HasRoomFor bytes_eq users.old.entries (referred (binding_of entry.now)) }
     requires used { HasNoEmptyBut bytes_eq users.old.entries (referred (binding_of entry.now)) }
     ensures tells { TellsUsers (put (names_of entries.now.entries) name (binding_of entry.now)) users.new.entries }
     ensures used { HasNoEmptyBut bytes_eq users.new.entries [] }

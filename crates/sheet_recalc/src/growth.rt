@@ -8,17 +8,17 @@ ghost use Rattle.sheet_recalc.specs.Pending.{IsBrought, HasPlace};
 use crate::entry::Entry;
 use crate::proposal::Proposal;
 use apl_tokens::Name;
-use dep_order::{Users, has_room_for, larger_map, sets_for};
+use dep_order::{Users, has_room_for, larger_map, lists_for};
 use index_region::Delta;
 use indexmap::IndexMap;
 use std::alloc::{AllocError, Global};
 
-/// What a sheet lacks for one more entry: larger tables where its own are full, and sets of users.
+/// What a sheet lacks for one more entry: larger tables where its own are full, and lists of users.
 #[derive(Drop)]
 pub(crate) struct Growth {
     pub(crate) entries: Option<IndexMap<Name, Entry>>,
     pub(crate) users: Option<Users<Name>>,
-    pub(crate) sets: Users<Name>,
+    pub(crate) lists: Users<Name>,
 }
 
 /// What the sheet lacks for what a proposal puts under its name; nothing where that takes no room. Nothing is copied. It lies in a box of its
@@ -64,11 +64,11 @@ fn all_that_lacks(
 ) -> Result<Option<Box<Growth>>, AllocError>
     ensures { IfOk result (IsBrought (record { entries = entries.now; users = users.now }) references.now) }
 {
-    let sets = sets_for(alloc, users, references)?;
+    let lists = lists_for(alloc, users, references)?;
     let growth = Growth {
         entries: larger_map(alloc, entries, 1)?,
-        users: larger_map(alloc, users, sets.len())?,
-        sets,
+        users: larger_map(alloc, users, lists.len())?,
+        lists,
     };
     Ok(Some(Box::new(alloc, growth)?))
 }

@@ -1,8 +1,9 @@
 //! The plans of a change, as far as they are made.
 
-ghost use Rattle.std.specs.Prelude.{◌≡◌, ◌+◌, ◌-◌, ◌<◌, ◌≤◌, ◌∷◌, ◌++◌, ℕ, [], List, Some, MatchOption, length, min, take, get_or, if◌then◌else◌};
+ghost use Rattle.std.specs.Prelude.{◌≡◌, ◌+◌, ◌-◌, ◌<◌, ◌≤◌, ◌∷◌, ◌++◌, ℕ, [], List, true, Some, IsTrue, MatchOption, length, min, take, get_or, if◌then◌else◌};
 ghost use Rattle.std.specs.Str.{bytes_eq};
 ghost use Rattle.std.specs.Map.{keys_of};
+ghost use Rattle.dep_order.specs.Users.{EndsWith};
 ghost use Rattle.sheet_recalc.specs.Live.{plan_in};
 ghost use Rattle.sheet_recalc.specs.Planning.{waiting_names};
 
@@ -42,6 +43,17 @@ impl Plans {
             left: 0,
             cost: 0,
             places: Vec::new(alloc),
+        }
+    }
+
+    /// They keep what an edit of this name reaches: the change that they were made for was an edit, of the last name that it found.
+    #[inline(always)]
+    pub(crate) fn keep_reach(&self, of_edit: bool, name: &Name) -> bool
+        ensures { IsTrue result → (of_edit ≡ true) × EndsWith (keys_of self.now.found.entries) name.now }
+    {
+        match self.found.keys().as_slice().last() {
+            Some(last) => of_edit && *last == *name,
+            None => false,
         }
     }
 

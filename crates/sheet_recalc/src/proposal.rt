@@ -1,6 +1,6 @@
 //! What a name is to be bound to.
 
-ghost use Rattle.std.specs.Prelude.{◌≡◌, Some, None, if◌then◌else◌};
+ghost use Rattle.std.specs.Prelude.{◌≡◌};
 ghost use Rattle.sheet_recalc.specs.ProposedSheet.{is_data, is_edit, proposed_references};
 
 use apl_tokens::Name;
@@ -26,14 +26,11 @@ impl Proposal {
         matches!(self, Proposal::Data(_))
     }
 
-    /// The name that it is for, where it writes items into data or puts a row behind it: who refers to whom stays then.
-    pub(crate) fn edited(&self, name: Name) -> Option<Name>
-        ensures { result ≡ (if is_edit self.now then Some name else None) }
+    /// It writes items into data or puts a row behind it: who refers to whom stays then.
+    pub(crate) fn is_edit(&self) -> bool
+        ensures { result ≡ is_edit self.now }
     {
-        match self {
-            Proposal::Data(Delta::Patch(_) | Delta::Grown(_)) => Some(name),
-            _ => None,
-        }
+        matches!(self, Proposal::Data(Delta::Patch(_) | Delta::Grown(_)))
     }
 
     /// The names that stand in it.

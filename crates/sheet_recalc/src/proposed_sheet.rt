@@ -37,7 +37,7 @@ impl<'a> ProposedSheet<'a> {
     }
 
     /// The formula that a name is bound to, with the place at which the name stands in the sheet. It is looked for at a place that is told, and else by the
-    /// name; the place that is told is answered where the name is bound anew.
+    /// name; where that is bound anew, the answer is the place at which a new name will stand.
     #[inline(always)]
     pub(crate) fn placed_formula(&self, name: &Name, hint: usize) -> Option<(&'a Formula, usize)>
         ensures { MatchOption result ((f : FormulaValue) → entry_of (outline_of self.now) name.now ≡ Some (FormulaEntry f) → ⊥) (λ p. entry_of (outline_of self.now) name.now ≡ Some (FormulaEntry p.0.now)) }
@@ -54,7 +54,7 @@ impl<'a> ProposedSheet<'a> {
             };
         }
         match self.proposal {
-            Proposal::Formula(formula) => Some((formula, hint)),
+            Proposal::Formula(formula) => Some((formula, self.entries.len())),
             Proposal::Data(_) | Proposal::Removed => None,
         }
     }

@@ -1,6 +1,6 @@
 //! The sheet.
 
-ghost use Rattle.std.specs.Prelude.{◌≡◌, ◌+◌, ◌-◌, ◌<◌, ◌≤◌, ℕ, List, min, true, [], IfOk, IfErr, IsTrue, OnOk, OnErr, Ok, Some, None, IsSome, is_some, if◌then◌else◌};
+ghost use Rattle.std.specs.Prelude.{◌≡◌, ◌+◌, ◌-◌, ◌<◌, ◌≤◌, ℕ, List, min, true, [], IfOk, IfErr, OnOk, OnErr, Ok, Some, None, IsSome, is_some, if◌then◌else◌};
 ghost use Rattle.std.specs.Map.{keys_of};
 ghost use Rattle.std.specs.Option.{option_map};
 ghost use Rattle.apl_expr.specs.Trees.{tree_of, literal_of};
@@ -58,22 +58,13 @@ pub struct Sheet {
     cost: u64,
     /// How many items of results were computed in it.
     ticks: u64,
-    /// The name whose data the last change edited, if it was such a one.
-    edited: Option<Name>,
-    /// Room for the plans of the next change, kept from the last one that was made, with what that name reaches: the next edit of it reaches the same.
+    /// The last change edited the data of the last name in `room`.
+    edited: bool,
+    /// Room for the plans of the next change, kept from the last one that was made, with what that reached: where it was an edit, the next edit of the
+    /// same name reaches the same.
     room: Plans,
     /// Room for the plans of the next change that is laid out, kept from the last one. What it holds is of no account.
     lent: Cell<Plans>,
-}
-
-/// A name is told, and it is this one.
-fn is_this(told: &Option<Name>, name: Name) -> bool
-    ensures { IsTrue result → told.now ≡ Some name }
-{
-    match told {
-        Some(other) => *other == name,
-        None => false,
-    }
 }
 
 impl Model for Sheet {
@@ -85,9 +76,9 @@ impl Model for Sheet {
     ghost use Rattle.apl_expr.specs.Laws.Codes.{coded_tree};
     ghost use Rattle.sheet_recalc.specs.Laws.Codes.{coded_binding};
     ghost use Rattle.sheet_recalc.specs.contracts.entry.Entry as entry_row;
-    ghost use Rattle.indexmap.specs.Layout.{hash_map_code, hash_set_code};
+    ghost use Rattle.indexmap.specs.Layout.{hash_map_code};
 
-    ghost coded = { Prim.hlevel (codes, coded_tree, coded_binding, entry_row.the_row.coded, hash_map_code, hash_set_code) };
+    ghost coded = { Prim.hlevel (codes, coded_tree, coded_binding, entry_row.the_row.coded, hash_map_code) };
 
     ghost use Rattle.sheet_recalc.specs.Entries.{names_of};
     ghost use Rattle.sheet_recalc.specs.Live.{IsKeptBySheet};
@@ -123,7 +114,7 @@ impl Sheet {
             users: IndexMap::new(alloc),
             cost: 0,
             ticks: 0,
-            edited: None,
+            edited: false,
             room: Plans::none(alloc),
             lent: Cell::new(Plans::none(alloc)),
         }
@@ -322,7 +313,7 @@ impl Sheet {
             plans.places.as_slice(),
             growth,
         );
-        self.edited = None;
+        self.edited = false;
         self.lent.set(plans);
     }
 
@@ -350,9 +341,9 @@ impl Sheet {
         };
         // The plans are made where they lie.
         let plans = &mut self.room;
-        let edited = proposal.edited(name);
-        let is_known = is_this(&self.edited, name);
-        self.edited = None;
+        let is_edit = proposal.is_edit();
+        let is_known = plans.keep_reach(self.edited, &name);
+        self.edited = false;
         begun(self.alloc, &proposed, &self.users, spent, is_known, plans)?;
         let growth = growth_for(self.alloc, &self.entries, &self.users, &proposal)?;
         let mut meter = meter;
@@ -368,7 +359,7 @@ impl Sheet {
             plans.places.as_slice(),
             growth,
         );
-        self.edited = edited;
+        self.edited = self.room.keep_reach(is_edit, &name);
         Ok(())
     }
 

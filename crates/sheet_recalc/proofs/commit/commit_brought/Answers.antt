@@ -1,7 +1,7 @@
 use Rattle.std.proofs.Common.{sym, ap, subst, List, ℕ, inr, ⊎_elim}
 use Rattle.std.specs.Str.{bytes_eq}
 use Rattle.dep_order.specs.Users.{HasNoEmptyBut}
-use Rattle.dep_order.specs.Room.{AreSetsFor}
+use Rattle.dep_order.specs.Room.{AreListsFor}
 use Rattle.dep_order.proofs.Following.{contains_none}
 use Rattle.sheet_recalc.specs.Names.{Names, put, referred}
 use Rattle.sheet_recalc.specs.Entries.{names_of, binding_of}
@@ -13,17 +13,17 @@ pub commit-requires-clause-tells : goal.commit-requires-clause-tells
 commit-requires-clause-tells c =
     let told = subst (λ (es : List (List ℕ × Entry)). TellsUsers (names_of es) c.take_larger-2.new.map.entries) (sym c.take_larger.ensures.entries)
     (subst (λ (us : List (List ℕ × _)). TellsUsers (names_of c.args.entries.now.entries) us) (sym c.take_larger-2.ensures.entries) c.requires.tells) in
-    λ a b. ((λ u. (told a b).0 ((c.give_sets.ensures.same a b).0 u)), (λ r. (c.give_sets.ensures.same a b).1 ((told a b).1 r)))
+    λ a b. ((λ u. (told a b).0 ((c.give_lists.ensures.same a b).0 u)), (λ r. (c.give_lists.ensures.same a b).1 ((told a b).1 r)))
 
-pub commit-requires-clause-sets : goal.commit-requires-clause-sets
-commit-requires-clause-sets c =
+pub commit-requires-clause-lists : goal.commit-requires-clause-lists
+commit-requires-clause-lists c =
     let references = referred (binding_of c.args.entry) in
-    c.give_sets.ensures.room references (subst (λ (us : List (List ℕ × _)). AreSetsFor bytes_eq us references c.args.growth.sets.entries) (sym c.take_larger-2.ensures.entries) c.requires.brings.sets)
+    c.give_lists.ensures.room references (subst (λ (us : List (List ℕ × _)). AreListsFor bytes_eq us references c.args.growth.lists.entries) (sym c.take_larger-2.ensures.entries) c.requires.brings.lists)
 
 pub commit-requires-clause-used : goal.commit-requires-clause-used
 commit-requires-clause-used c =
     let references = referred (binding_of c.args.entry) in
-    c.give_sets.ensures.used references (subst (λ (us : List (List ℕ × _)). AreSetsFor bytes_eq us references c.args.growth.sets.entries) (sym c.take_larger-2.ensures.entries) c.requires.brings.sets)
+    c.give_lists.ensures.used references (subst (λ (us : List (List ℕ × _)). AreListsFor bytes_eq us references c.args.growth.lists.entries) (sym c.take_larger-2.ensures.entries) c.requires.brings.lists)
     (subst (λ (us : List (List ℕ × _)). HasNoEmptyBut bytes_eq us references) (sym c.take_larger-2.ensures.entries) (λ b there. ⊎_elim (λ l. absurd (contains_none b l)) (λ r. inr r) (c.requires.used b there)))
 
 pub returns-clause-tells : goal.returns-clause-tells

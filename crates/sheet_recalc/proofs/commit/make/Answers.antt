@@ -1,7 +1,7 @@
 use Rattle.std.proofs.Common.{◌≡◌, ◌∙◌, ℕ, List, refl, sym, ap, subst, Some, Option, Ok, Err}
 use Rattle.std.specs.Prelude.{Box}
 use Rattle.std.specs.Option.{option_map}
-use Rattle.indexmap.specs.IndexSet.{IndexSet}
+use Rattle.std.specs.Prelude.{Vec}
 use Rattle.change_rules.specs.Currency.{applied}
 use Rattle.arrays_core.specs.Growth.{grown_by}
 use Rattle.index_region.specs.Patches.{PatchValue, patched}
@@ -90,7 +90,7 @@ module _ {A : Type 0} (t : Tables) (name : List ℕ) (p : Proposal) (found : Lis
   makes_names new made =
       made held.0 held.1 ∙ sym (ap (λ (e : Option Entry). rebound (names_of es) name (option_map binding_of e)) (own held.0 held.1))
 
-  makes_table : {S : Type 0} (users : List (List ℕ × IndexSet (List ℕ) S)) → TellsUsers (names_of es) users → TellsUsers (proposed_names (outline_at t name p)) users
+  makes_table : {S : Type 0} (users : List (List ℕ × Vec (List ℕ) S)) → TellsUsers (names_of es) users → TellsUsers (proposed_names (outline_at t name p)) users
   makes_table users tells =
       let there : binding (names_of es) name ≡ Some (Data held.0) = binding_of_name es name ∙ ap (option_map binding_of) held.1 in
       subst (λ (e : Option Entry). TellsUsers (rebound (names_of es) name (option_map binding_of e)) users) (sym (own held.0 held.1))

@@ -1,4 +1,5 @@
 use Rattle.std.proofs.Common.{◌≡◌, ◌∙◌, sym, ap, subst}
+use Rattle.std.proofs.lemmas.Bool.{false≢true}
 use Rattle.sheet_recalc.specs.Names.{Names, SheetValue}
 use Rattle.sheet_recalc.specs.Entries.{names_of}
 use Rattle.sheet_recalc.specs.Tables.{Tables}
@@ -22,7 +23,7 @@ invariant_of-self c =
     record {
       live = live_after c.make.new.entries.entries c.make.new.users.entries (names_after before c.args.pending) c.make.ensures.names all.ready.sheet all.ready.kept c.make.ensures.tells c.make.ensures.used c.make.ensures.current;
       few = all.few;
-      reached = tt;
+      reached = λ is. absurd (false≢true is);
     }
 
 pub returns-clause-made : goal.returns-clause-made

@@ -1,4 +1,4 @@
-use Rattle.std.proofs.Common.{◌≡◌, ◌∙◌, ◌<◌, ℕ, List, Option, IfSome, refl, sym, ap, subst, false, arith}
+use Rattle.std.proofs.Common.{◌≡◌, ◌∙◌, ◌<◌, refl, sym, ap, subst, false, arith}
 use Rattle.std.proofs.lemmas.Result.{err_from_is_err_and}
 use Rattle.sheet_recalc.specs.Names.{Names, SheetValue}
 use Rattle.sheet_recalc.specs.Tables.{Tables}
@@ -8,10 +8,8 @@ use Rattle.sheet_recalc.specs.Costs.{HasCost, HasTicks}
 use Rattle.sheet_recalc.specs.Planning.{IsProposalAt}
 use Rattle.sheet_recalc.specs.ProposedSheet.{names_with}
 use Rattle.sheet_recalc.specs.Pending.{IsLaidOut, IsProposedOn, names_after}
-use Rattle.sheet_recalc.specs.Live.{IsReach}
 use Rattle.sheet_recalc.specs.declared.pending.Pending.{Pending}
 use Rattle.sheet_recalc.proofs.Making.{laid_out, none_left, all_ready, still_pending}
-use Rattle.sheet_recalc.specs.ProposedSheet.{is_edit}
 use Rattle.sheet_recalc.proofs.Live.{reach_kept, reached_after}
 use Rattle.sheet_recalc.proofs.Rebound.{live_after}
 use Rattle.sheet_recalc.proofs.Stepped.{whole_cost, whole_ticks}
@@ -22,7 +20,7 @@ begun-requires-clause-proposal c =
     subst (λ (t : Tables). IsProposalAt t.entries.entries c.args.name c.args.proposal) (sym (ap (λ (s : SheetValue). s.tables) c.self.view_is)) c.requires.proposal
 
 pub begun-requires-clause-known : goal.begun-requires-clause-known
-begun-requires-clause-known c = λ yes. subst (λ (e : Option (List ℕ)). IfSome e (λ name. IsReach c.self.inside.users.entries name c.self.inside.room.found.entries)) (c.is_this-is_known.ensures yes) c.self.invariant.reached
+begun-requires-clause-known c = λ yes. let known = c.keep_reach-is_known.ensures yes in c.self.invariant.reached known.0 c.args.name known.1
 
 pub returns-in_err-begun-clause-refused : goal.returns-in_err-begun-clause-refused
 returns-in_err-begun-clause-refused c =
@@ -59,11 +57,14 @@ invariant_of-self-2 c =
       live = live_after c.make.new.entries.entries c.make.new.users.entries (names_after t p) c.make.ensures.names all.ready.sheet all.ready.kept c.make.ensures.tells c.make.ensures.used c.make.ensures.current;
       few = all.few;
       reached =
-          reached_after c.make.new.users.entries c.args.name c.make.new.found.entries (is_edit c.args.proposal) c.edited-edited.result c.edited-edited.ensures
-          (λ is.
-          let edit = c.make.ensures.edit is in
-          let keys = edit.1.names ∙ done.keys in
-          reach_kept c.self.inside.users.entries c.make.new.users.entries c.args.name c.begun.new.plans.found.entries c.make.new.found.entries edit.0 keys edit.1.none begun.reached);
+          reached_after c.make.new.users.entries c.args.name c.make.new.found.entries c.keep_reach-self-inside.result
+          (λ yes.
+          let known = c.keep_reach-self-inside.ensures yes in
+          let edit = c.make.ensures.edit (sym c.is_edit-is_edit.ensures ∙ known.0) in
+          let keys = edit.1.names ∙ done.keys in (
+            known.1,
+            reach_kept c.self.inside.users.entries c.make.new.users.entries c.args.name c.begun.new.plans.found.entries c.make.new.found.entries edit.0 keys edit.1.none begun.reached,
+          ));
     }
 
 pub returns-clause-made : goal.returns-clause-made
