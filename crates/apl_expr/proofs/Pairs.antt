@@ -1,22 +1,24 @@
--- The tree of a function between two operands of one token each.
-use Rattle.std.proofs.Common.{◌≡◌, ℕ, ◌≤◌, ◌<◌, Some, List, [], ◌∷◌, length, get_or, sym, subst, arith}
-use Rattle.apl_tokens.specs.Lexemes.{Lexeme, Sign, lexeme, lexemes}
+-- The tree of a function between an operand of one token and an operand.
+use Rattle.std.proofs.Common.{◌≡◌, ◌∙◌, ℕ, ◌<◌, Some, List, [], ◌∷◌, length, map, sym, ap, subst, arith}
+use Rattle.std.specs.Prelude.{ℤ}
+use Rattle.apl_tokens.specs.Lexemes.{Lexeme, Number, Sign, lexeme, lexemes}
 use Rattle.apl_tokens.specs.declared.token.Spanned.{Spanned}
 use Rattle.apl_expr.specs.declared.functions.Function2.{Function2}
-use Rattle.apl_expr.specs.Grammar.{IsExpr, operand, duo, IsWrittenOperand, plain2, IsTreeOf}
+use Rattle.apl_expr.specs.Grammar.{IsNums, one, more, IsExpr, operand, duo, IsWrittenOperand, nums, plain2, IsTreeOf}
 use Rattle.apl_expr.specs.Symbols.{dyadic_of}
-use Rattle.apl_expr.specs.Trees.{Tree, between_arguments}
+use Rattle.apl_expr.specs.Trees.{Tree, Numbers, Const, between_arguments}
 
--- a list of three
-three_items : (xs : List Spanned) (x y z : Spanned) → 3 ≤ length xs → length xs < 4 → x ≡ get_or xs 0 x → y ≡ get_or xs 1 y → z ≡ get_or xs 2 z → xs ≡ x ∷ y ∷ z ∷ []
-three_items [] x y z some few p q r = absurd (omega arith)
-three_items (a ∷ []) x y z some few p q r = absurd (omega arith)
-three_items (a ∷ b ∷ []) x y z some few p q r = absurd (omega arith)
-three_items (a ∷ b ∷ d ∷ []) x y z some few p q r = λ i. sym p i ∷ sym q i ∷ sym r i ∷ []
-three_items (a ∷ b ∷ d ∷ e ∷ xs) x y z some few p q r = absurd (omega arith)
+-- numbers that stand side by side are an operand
+numbers_read : (n : ℤ) (ns : List ℤ) → IsNums (map (λ z. Number z) (n ∷ ns)) (n ∷ ns) []
+numbers_read n [] = one
+numbers_read n (m ∷ ns) = more (numbers_read m ns)
 
-pub pair_tree : (xs : List Spanned) (x y z : Spanned) (c : ℕ) (f : Function2) (a e : Tree) → 3 ≤ length xs → length xs < 4 → x ≡ get_or xs 0 x → y ≡ get_or xs 1 y → z ≡ get_or xs 2 z → lexeme y.token ≡ Sign c → dyadic_of c ≡ Some f
-    → ((ts : List Lexeme) → IsWrittenOperand (lexeme x.token ∷ ts) a ts) → ((ts : List Lexeme) → IsWrittenOperand (lexeme z.token ∷ ts) e ts) → IsTreeOf (lexemes xs) (between_arguments f a e)
-pair_tree xs x y z c f a e some few p q r sign function first last =
-    subst (λ (us : List Spanned). IsTreeOf (lexemes us) (between_arguments f a e)) (sym (three_items xs x y z some few p q r))
-    (subst (λ (l : Lexeme). IsExpr (lexeme x.token ∷ l ∷ lexeme z.token ∷ []) (between_arguments f a e) []) (sym sign) (duo (first _) (plain2 function) (operand (last []))))
+pub strand_read : (ts : List Lexeme) (ns : List ℤ) → 0 < length ts → ts ≡ map (λ z. Number z) ns → IsWrittenOperand ts (Const (Numbers ns)) []
+strand_read ts [] some is = absurd (omega (arith, some, ap (λ (xs : List Lexeme). length xs) is))
+strand_read ts (n ∷ ns) some is = subst (λ (xs : List Lexeme). IsWrittenOperand xs (Const (Numbers (n ∷ ns))) []) (sym is) (nums (numbers_read n ns))
+
+pub pair_tree : (xs after rest : List Spanned) (x y : Spanned) (c : ℕ) (f : Function2) (a e : Tree) → xs ≡ x ∷ after → after ≡ y ∷ rest → lexeme y.token ≡ Sign c → dyadic_of c ≡ Some f
+    → ((ts : List Lexeme) → IsWrittenOperand (lexeme x.token ∷ ts) a ts) → IsWrittenOperand (lexemes rest) e [] → IsTreeOf (lexemes xs) (between_arguments f a e)
+pair_tree xs after rest x y c f a e is then sign function first last =
+    subst (λ (us : List Spanned). IsTreeOf (lexemes us) (between_arguments f a e)) (sym (is ∙ ap (λ (us : List Spanned). x ∷ us) then))
+    (subst (λ (l : Lexeme). IsExpr (lexeme x.token ∷ l ∷ lexemes rest) (between_arguments f a e) []) (sym sign) (duo (first _) (plain2 function) (operand last)))

@@ -2,8 +2,9 @@
 //! for a bracket that closes.
 
 ghost use Rattle.std.specs.Prelude.{◌≡◌, ◌≤◌, Some, List, [], ◌∷◌, ◌++◌, length, IfOk, IfSome, map, true};
-ghost use Rattle.apl_tokens.specs.Lexemes.{Lexeme, lexeme, lexemes};
+ghost use Rattle.apl_tokens.specs.Lexemes.{Lexeme, Number, lexeme, lexemes};
 ghost use Rattle.apl_expr.specs.Grammar.{IsWrittenOperand, IsTreeOf};
+ghost use Rattle.apl_expr.specs.Limits.{most_height};
 ghost use Rattle.apl_expr.specs.Machine.{first, settle, position_ended, closed, skipped, ends_position, begin, next, after_reference, step, finish, run, state, Index, Inside, Nothing, Position, Strand};
 ghost use Rattle.apl_expr.specs.Parsing.{stack, reading_of, Settles, Steps, Gives, IsParsed};
 ghost use Rattle.apl_expr.specs.Symbols.{indexed_of};
@@ -366,13 +367,54 @@ fn leaf(token: &Token) -> Option<Plain>
     }
 }
 
-/// The tree of a function between two operands, each of which is one token, where the tokens are that: the most usual expression.
+/// The numbers that these tokens are, if each of them is one.
+fn numbers(alloc: Global, tokens: &[Spanned]) -> Result<Option<Vec<i64>>, AllocError>
+    ensures { IfOk result (λ found. IfSome found (λ v. lexemes tokens.now ≡ map (λ z. Number z) v.items)) }
+{
+    let mut numbers = Vec::with_capacity(alloc, tokens.len())?;
+    for spanned in tokens {
+        match &spanned.token {
+            Token::Num(number) => numbers.push(*number)?,
+            _ => return Ok(None),
+        }
+    }
+    Ok(Some(numbers))
+}
+
+/// An operand that is all of these tokens: a number or a name, or numbers that stand side by side. Any other is left to the machine.
+#[inline(always)]
+fn operand(alloc: Global, tokens: &[Spanned]) -> Result<Option<Plain>, AllocError>
+    ensures { IfOk result (λ found. IfSome found (λ e. IsWrittenOperand (lexemes tokens.now) (tree_of e.expr) [])) }
+{
+    let Some((first, after)) = tokens.split_first() else {
+        return Ok(None);
+    };
+    let Some((second, _)) = after.split_first() else {
+        return Ok(leaf(&first.token));
+    };
+    let (Token::Num(_), Token::Num(_)) = (&first.token, &second.token) else {
+        return Ok(None);
+    };
+    match numbers(alloc, tokens)? {
+        Some(numbers) => Ok(Some(Plain::constant(literal(numbers)))),
+        None => Ok(None),
+    }
+}
+
+/// The tree of a function between a number or a name and an operand, where the tokens are that, and no more than a tree may be high: the most usual
+/// expression.
 #[inline(always)]
 fn pair(alloc: Global, tokens: &[Spanned]) -> Result<Option<Plain>, AllocError>
-    ensures short { IfOk result (λ found. IfSome found (λ e. length tokens.now ≤ 3)) }
+    ensures short { IfOk result (λ found. IfSome found (λ e. length tokens.now ≤ most_height)) }
     ensures tree { IfOk result (λ found. IfSome found (λ e. IsTreeOf (lexemes tokens.now) (tree_of e.expr))) }
 {
-    let [first, second, third] = tokens else {
+    if tokens.len() > MOST_HEIGHT as usize {
+        return Ok(None);
+    }
+    let Some((first, after)) = tokens.split_first() else {
+        return Ok(None);
+    };
+    let Some((second, rest)) = after.split_first() else {
         return Ok(None);
     };
     let Token::Mark(sign) = &second.token else {
@@ -384,7 +426,7 @@ fn pair(alloc: Global, tokens: &[Spanned]) -> Result<Option<Plain>, AllocError>
     let Some(left) = leaf(&first.token) else {
         return Ok(None);
     };
-    let Some(right) = leaf(&third.token) else {
+    let Some(right) = operand(alloc, rest)? else {
         return Ok(None);
     };
     Ok(Some(Plain::dyad(alloc, function, left, right)?))

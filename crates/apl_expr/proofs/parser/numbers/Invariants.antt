@@ -1,0 +1,6 @@
+use Rattle.std.proofs.Common.{◌≡◌, take, map}
+use Rattle.apl_tokens.specs.Lexemes.{Number, lexemes}
+use Rattle.apl_expr.proofs.parser.numbers.Given as goal
+
+abbrev pub invariant-loop-spanned : goal.invariant-loop-spanned
+invariant-loop-spanned l = lexemes (take l.spanned-index l.tokens) ≡ map (λ z. Number z) l.numbers.items
