@@ -5,8 +5,9 @@ ghost use Rattle.arrays_core.specs.Building.{listed};
 ghost use Rattle.arrays_core.specs.Items.{fill, type_of};
 ghost use Rattle.arrays_core.specs.Shapes.{size as size_of, IsWithinLimits};
 
-use crate::array::{Array, Ravel};
+use crate::array::Array;
 use crate::item::{Item, ItemType};
+use crate::item_list::ItemList;
 use crate::room::room_of;
 use crate::shape::Shape;
 use std::alloc::{AllocError, Global};
@@ -130,7 +131,7 @@ fn repeat_to<T: Copy + Drop>(items: &mut Vec<T>, places: usize) -> Result<(), Al
 /// behind the other.
 #[derive(Drop)]
 pub struct ArrayBuilder {
-    ravel: Ravel,
+    list: ItemList,
 }
 
 impl Model for ArrayBuilder {
@@ -138,9 +139,9 @@ impl Model for ArrayBuilder {
 
     ghost Value = { BuilderValue };
 
-    ghost use Rattle.arrays_core.specs.Ravels.{ravel_items, ravel_type};
+    ghost use Rattle.arrays_core.specs.Ravels.{list_items, list_type};
 
-    ghost view = { λ b. record { item_type = ravel_type b.ravel; items = ravel_items b.ravel } };
+    ghost view = { λ b. record { item_type = list_type b.list; items = list_items b.list } };
 }
 
 impl ArrayBuilder {
@@ -152,8 +153,8 @@ impl ArrayBuilder {
     ) -> Result<ArrayBuilder, AllocError>
         ensures { IfOk result (λ b. b ≡ record { item_type = item_type; items = [] }) }
     {
-        let ravel = Ravel::with_capacity(alloc, item_type, room_of(places))?;
-        Ok(ArrayBuilder { ravel })
+        let list = ItemList::with_capacity(alloc, item_type, room_of(places))?;
+        Ok(ArrayBuilder { list })
     }
 
     /// Puts an item behind the others, so many times.
@@ -162,12 +163,12 @@ impl ArrayBuilder {
         ensures items { OnOk result (self.new.items ≡ self.old.items ++ listed count (λ k. item)) }
         ensures typed { self.new.item_type ≡ self.old.item_type }
     {
-        match &mut self.ravel {
-            Ravel::Nums(items) => match item {
+        match &mut self.list {
+            ItemList::Nums(items) => match item {
                 Item::Num(number) => extend_with(items, number, count),
                 Item::Char(_) => unreachable!(),
             },
-            Ravel::Chars(items) => match item {
+            ItemList::Chars(items) => match item {
                 Item::Num(_) => unreachable!(),
                 Item::Char(character) => extend_with(items, character, count),
             },
@@ -182,12 +183,12 @@ impl ArrayBuilder {
         ensures items { OnOk result (self.new.items ≡ self.old.items ++ listed count (λ k. get_or array.now.items (first + k) (fill array.now.item_type))) }
         ensures typed { self.new.item_type ≡ self.old.item_type }
     {
-        match &mut self.ravel {
-            Ravel::Nums(items) => match array.numbers() {
+        match &mut self.list {
+            ItemList::Nums(items) => match array.numbers() {
                 Some(from) => extend_run(items, from, first as usize, count as usize),
                 None => unreachable!(),
             },
-            Ravel::Chars(items) => match array.characters() {
+            ItemList::Chars(items) => match array.characters() {
                 Some(from) => extend_run(items, from, first as usize, count as usize),
                 None => unreachable!(),
             },
@@ -203,12 +204,12 @@ impl ArrayBuilder {
         ensures items { OnOk result (self.new.items ≡ self.old.items ++ listed count (λ k. get_or array.now.items (last - k) (fill array.now.item_type))) }
         ensures typed { self.new.item_type ≡ self.old.item_type }
     {
-        match &mut self.ravel {
-            Ravel::Nums(items) => match array.numbers() {
+        match &mut self.list {
+            ItemList::Nums(items) => match array.numbers() {
                 Some(from) => extend_back(items, from, last as usize, count as usize),
                 None => unreachable!(),
             },
-            Ravel::Chars(items) => match array.characters() {
+            ItemList::Chars(items) => match array.characters() {
                 Some(from) => extend_back(items, from, last as usize, count as usize),
                 None => unreachable!(),
             },
@@ -230,12 +231,12 @@ impl ArrayBuilder {
         ensures typed { self.new.item_type ≡ self.old.item_type }
     {
         let (first, step, count) = (first as usize, step as usize, count as usize);
-        match &mut self.ravel {
-            Ravel::Nums(items) => match array.numbers() {
+        match &mut self.list {
+            ItemList::Nums(items) => match array.numbers() {
                 Some(from) => extend_steps(items, from, first, step, count),
                 None => unreachable!(),
             },
-            Ravel::Chars(items) => match array.characters() {
+            ItemList::Chars(items) => match array.characters() {
                 Some(from) => extend_steps(items, from, first, step, count),
                 None => unreachable!(),
             },
@@ -256,12 +257,12 @@ impl ArrayBuilder {
         ensures items { OnOk result (self.new.items ≡ self.old.items ++ listed (length indices.now) (λ k. get_or array.now.items (before + unsigned_abs (get_or indices.now k (pos 0)) - 1) (fill array.now.item_type))) }
         ensures typed { self.new.item_type ≡ self.old.item_type }
     {
-        match &mut self.ravel {
-            Ravel::Nums(items) => match array.numbers() {
+        match &mut self.list {
+            ItemList::Nums(items) => match array.numbers() {
                 Some(from) => extend_at(items, from, before as usize, indices),
                 None => unreachable!(),
             },
-            Ravel::Chars(items) => match array.characters() {
+            ItemList::Chars(items) => match array.characters() {
                 Some(from) => extend_at(items, from, before as usize, indices),
                 None => unreachable!(),
             },
@@ -281,12 +282,12 @@ impl ArrayBuilder {
         ensures items { OnOk result (self.new.items ≡ self.old.items ++ listed (length places.now) (λ k. get_or array.now.items (first + get_or places.now k 0) (fill array.now.item_type))) }
         ensures typed { self.new.item_type ≡ self.old.item_type }
     {
-        match &mut self.ravel {
-            Ravel::Nums(items) => match array.numbers() {
+        match &mut self.list {
+            ItemList::Nums(items) => match array.numbers() {
                 Some(from) => extend_places(items, from, first as usize, places),
                 None => unreachable!(),
             },
-            Ravel::Chars(items) => match array.characters() {
+            ItemList::Chars(items) => match array.characters() {
                 Some(from) => extend_places(items, from, first as usize, places),
                 None => unreachable!(),
             },
@@ -300,9 +301,9 @@ impl ArrayBuilder {
         ensures items { OnOk result (self.new.items ≡ listed places (λ k. get_or self.old.items (k % length self.old.items) (fill self.old.item_type))) }
         ensures typed { self.new.item_type ≡ self.old.item_type }
     {
-        match &mut self.ravel {
-            Ravel::Nums(items) => repeat_to(items, places as usize),
-            Ravel::Chars(items) => repeat_to(items, places as usize),
+        match &mut self.list {
+            ItemList::Nums(items) => repeat_to(items, places as usize),
+            ItemList::Chars(items) => repeat_to(items, places as usize),
         }
     }
 
@@ -312,7 +313,7 @@ impl ArrayBuilder {
         ensures items { OnOk result (self.new.items ≡ self.old.items ++ item ∷ []) }
         ensures typed { self.new.item_type ≡ self.old.item_type }
     {
-        self.ravel.push(item)
+        self.list.push(item)
     }
 
     /// The array of a shape that has as many places as there are items. It takes memory only where there are more than
@@ -322,6 +323,6 @@ impl ArrayBuilder {
         requires one_item_a_place { length self.items ≡ size_of shape.now.items }
         ensures { IfOk result (λ a. a ≡ record { item_type = self.item_type; shape = shape.now.items; items = self.items }) }
     {
-        Array::of_ravel(shape, self.ravel)
+        Array::of_list(shape, self.list)
     }
 }

@@ -5,6 +5,8 @@ mod array;
 mod builder;
 mod fault;
 mod item;
+mod item_list;
+mod ravel;
 mod room;
 mod rule;
 mod shape;

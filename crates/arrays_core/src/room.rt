@@ -4,8 +4,8 @@ ghost use Rattle.std.specs.Prelude.{◌≡◌, ◌+◌, ◌≤◌, ◌<◌, ◌^
 ghost use Rattle.std.specs.Int.{IsNextPowerOfTwo};
 ghost use Rattle.arrays_core.specs.Growth.{IsRoomy, IsSameRoom, HasRoom};
 
-use crate::array::Ravel;
 use crate::item::ItemType;
+use crate::item_list::ItemList;
 use std::alloc::{AllocError, Global};
 use std::marker::Model;
 use std::mem;
@@ -119,19 +119,19 @@ pub fn put_behind<T: Drop>(items: &mut Vec<T>, more: Vec<T>, room: Vec<T>)
 /// for them where its items lie. Contracts see the type and how many items there is room for.
 #[derive(Drop)]
 pub struct Room {
-    pub(crate) ravel: Ravel,
+    pub(crate) list: ItemList,
 }
 
 impl Model for Room {
     ghost use Rattle.std.specs.Prelude.{◌≡◌, []};
     ghost use Rattle.arrays_core.specs.Growth.{RoomValue};
-    ghost use Rattle.arrays_core.specs.Ravels.{ravel_items, ravel_type, ravel_capacity};
+    ghost use Rattle.arrays_core.specs.Ravels.{list_items, list_type, list_capacity};
 
     ghost Value = { RoomValue };
 
-    ghost view = { λ r. record { item_type = ravel_type r.ravel; places = ravel_capacity r.ravel } };
+    ghost view = { λ r. record { item_type = list_type r.list; places = list_capacity r.list } };
 
-    ghost invariant = { λ r. ravel_items r.ravel ≡ [] };
+    ghost invariant = { λ r. list_items r.list ≡ [] };
 }
 
 impl Room {
@@ -139,11 +139,11 @@ impl Room {
     pub fn none(alloc: Global, item_type: ItemType) -> Room
         ensures { result ≡ record { item_type = item_type; places = 0 } }
     {
-        let ravel = match item_type {
-            ItemType::Nums => Ravel::Nums(Vec::new(alloc)),
-            ItemType::Chars => Ravel::Chars(Vec::new(alloc)),
+        let list = match item_type {
+            ItemType::Nums => ItemList::Nums(Vec::new(alloc)),
+            ItemType::Chars => ItemList::Chars(Vec::new(alloc)),
         };
-        Room { ravel }
+        Room { list }
     }
 
     /// Room for so many items of a type, of which an array holds so many: none where these lie in a piece of memory that is as large, and then
@@ -160,10 +160,10 @@ impl Room {
         ensures taken { IsSameRoom held places → IsOk result }
         ensures same { IsSameRoom held places → IfOk result (λ r. r.places ≡ 0) }
     {
-        let ravel = match item_type {
-            ItemType::Nums => Ravel::Nums(room_between(alloc, held, places)?),
-            ItemType::Chars => Ravel::Chars(room_between(alloc, held, places)?),
+        let list = match item_type {
+            ItemType::Nums => ItemList::Nums(room_between(alloc, held, places)?),
+            ItemType::Chars => ItemList::Chars(room_between(alloc, held, places)?),
         };
-        Ok(Room { ravel })
+        Ok(Room { list })
     }
 }

@@ -1,7 +1,7 @@
 use Rattle.std.proofs.Common.{ap, sym, ◌∙◌, pos}
 use Rattle.arrays_core.specs.declared.item.Item.TheVariants.{Num, Char}
 use Rattle.arrays_core.specs.Items.{fill}
-use Rattle.arrays_core.specs.Ravels.{ravel_items, ravel_type}
+use Rattle.arrays_core.specs.Ravels.{list_items, list_type}
 use Rattle.arrays_core.proofs.Building.{put_again}
 use Rattle.arrays_core.proofs.builder.ArrayBuilder.repeat_to.Goals.{in-Nums, in-Chars}
 use Rattle.arrays_core.proofs.builder.ArrayBuilder.repeat_to.Goals as goal
@@ -11,10 +11,10 @@ returns-clause-items c =
     elim c.match-self.branch [
       | in-Nums w ↦
           put_again (λ z. Num z) _ _ w.repeat_to.new.items.items w.in-Nums.items.items _ _ c.args.places (pos 0) _
-          w.repeat_to.ensures w.result-is (ap (λ i. ravel_items i.ravel) w.self-inside-is) (ap (λ v. v.items) (sym c.self.view_is) ∙ ap ravel_items w.in-Nums.is)
-          (ap (λ v. fill v.item_type) (sym c.self.view_is) ∙ ap (λ r. fill (ravel_type r)) w.in-Nums.is)
+          w.repeat_to.ensures w.result-is (ap (λ i. list_items i.list) w.self-inside-is) (ap (λ v. v.items) (sym c.self.view_is) ∙ ap list_items w.in-Nums.is)
+          (ap (λ v. fill v.item_type) (sym c.self.view_is) ∙ ap (λ r. fill (list_type r)) w.in-Nums.is)
       | in-Chars w ↦
           put_again (λ z. Char z) _ _ w.repeat_to-in-Chars.new.items.items w.in-Chars.items.items _ _ c.args.places 32 _
-          w.repeat_to-in-Chars.ensures w.result-is (ap (λ i. ravel_items i.ravel) w.self-inside-is) (ap (λ v. v.items) (sym c.self.view_is) ∙ ap ravel_items w.in-Chars.is)
-          (ap (λ v. fill v.item_type) (sym c.self.view_is) ∙ ap (λ r. fill (ravel_type r)) w.in-Chars.is)
+          w.repeat_to-in-Chars.ensures w.result-is (ap (λ i. list_items i.list) w.self-inside-is) (ap (λ v. v.items) (sym c.self.view_is) ∙ ap list_items w.in-Chars.is)
+          (ap (λ v. fill v.item_type) (sym c.self.view_is) ∙ ap (λ r. fill (list_type r)) w.in-Chars.is)
     ]
