@@ -9,7 +9,7 @@ use Rattle.apl_expr.specs.Symbols.{dyadic_of}
 use Rattle.apl_expr.specs.Trees.{Tree, Numbers, Const, between_arguments}
 
 -- numbers that stand side by side are an operand
-numbers_read : (n : ℤ) (ns : List ℤ) → IsNums (map (λ z. Number z) (n ∷ ns)) (n ∷ ns) []
+pub numbers_read : (n : ℤ) (ns : List ℤ) → IsNums (map (λ z. Number z) (n ∷ ns)) (n ∷ ns) []
 numbers_read n [] = one
 numbers_read n (m ∷ ns) = more (numbers_read m ns)
 

@@ -1,17 +1,26 @@
--- The edit of a cell by a number and a row of one number, read from the bytes of a line, are lines of the grammar.
-use Rattle.std.proofs.Common.{ℕ, ◌*◌, ◌<◌, ◌≤◌, List, [], ◌∷◌, ◌++◌, length, Ok, refl, sym, subst, arith, length-append, lit≤}
-use Rattle.std.specs.Prelude.{ℤ}
+-- The edit of a cell by a number and a row of numbers, read from the bytes of a line, are lines of the grammar.
+use Rattle.std.proofs.Common.{ℕ, ◌*◌, ◌<◌, ◌≤◌, List, [], ◌∷◌, ◌++◌, length, Ok, refl, sym, ap, subst, arith, true, ◌≡◌, ◌+◌, length-append, lit<}
+use Rattle.std.specs.Prelude.{ℤ, Some}
+use Rattle.std.proofs.lemmas.List.{length-map}
 use Rattle.smallvec.specs.SmallVec.{SmallVec}
 use Rattle.apl_tokens.specs.declared.name.Name.{Name}
 use Rattle.apl_tokens.specs.Lexemes.{Lexeme, Number, Sign}
 use Rattle.apl_tokens.specs.Signs.{right_bracket, left_arrow}
-use Rattle.apl_tokens.specs.NumberEdits.{position_lexemes, edit_lexemes, row_lexemes, Says}
+use Rattle.apl_tokens.specs.NumberEdits.{position_lexemes, edit_lexemes, numbers_in, AreSeveral, row_lexemes, Says}
+use Rattle.apl_tokens.specs.declared.row_edit.RowNumbers.{RowNumbers}
+use Rattle.apl_tokens.specs.declared.row_edit.RowNumbers.TheVariants.{One, Several}
 use Rattle.apl_expr.specs.declared.command.Change.TheVariants as changed
 use Rattle.apl_expr.specs.declared.command.Command.TheVariants as command
+use Rattle.apl_expr.specs.declared.expr.Literal.{Literal}
 use Rattle.apl_expr.specs.declared.expr.Literal.TheVariants.{Num}
+use Rattle.apl_expr.specs.Limits.{most_tokens}
+use Rattle.apl_expr.specs.Trees.{Numbers, literal_of, is_plain}
+use Rattle.apl_expr.specs.Trees as trees
+use Rattle.apl_expr.specs.Lines as lines
 use Rattle.apl_expr.specs.Grammar.{one}
 use Rattle.apl_expr.specs.Lines.{IsCellPositions, last, further, nums_lit, cell, row, change, IsCommand}
 use Rattle.apl_expr.specs.Answers.{TokensAnswer}
+use Rattle.apl_expr.proofs.Pairs.{numbers_read}
 
 positions_are : (ps : List ℤ) (ts : List Lexeme) → 0 < length ps → IsCellPositions (position_lexemes ps ++ ts) ps ts
 positions_are [] ts some = absurd (omega (arith, some))
@@ -33,9 +42,17 @@ module _ (name : Name) (ps : SmallVec ℤ) (k : ℤ) (some : 0 < length ps.items
   pub edit_answers : (cs : List ℕ) → Says 0 cs (edit_lexemes name ps.items k) → TokensAnswer cs (Ok (command.Change (changed.Cell name ps (Num k))))
   edit_answers cs says = (says.0, says.1, subst (λ (ts : List Lexeme). IsCommand ts (Ok (command.Change (changed.Cell name ps (Num k))))) (sym says.2) edit_is)
 
--- a row of one number
-row_is : (name : Name) (k : ℤ) → IsCommand (row_lexemes name k) (Ok (command.Change (changed.Row name (Num k))))
-row_is name k = (lit≤ tt, change (row (nums_lit one) refl), λ no. no, refl)
+-- a row of numbers
+row_is : (name : Name) (ns : List ℤ) (l : Literal) → 0 < length ns → 3 + length ns ≤ most_tokens → literal_of l ≡ Numbers ns → is_plain l ≡ true → IsCommand (row_lexemes name ns) (Ok (command.Change (changed.Row name l)))
+row_is name [] l some few is plain = absurd (omega (arith, some))
+row_is name (n ∷ ns) l some few is plain =
+    let size = length-map ns (λ (k : ℤ). Number k) in
+    (omega (arith, size, few), change (row (nums_lit (numbers_read n ns)) (ap (λ (m : trees.Literal). Some (lines.Row name m)) (sym is))), λ no. no, plain)
 
-pub row_answers : (name : Name) (k : ℤ) (cs : List ℕ) → Says 0 cs (row_lexemes name k) → TokensAnswer cs (Ok (command.Change (changed.Row name (Num k))))
-row_answers name k cs says = (says.0, says.1, subst (λ (ts : List Lexeme). IsCommand ts (Ok (command.Change (changed.Row name (Num k))))) (sym says.2) (row_is name k))
+some_numbers : (r : RowNumbers) → AreSeveral r → 0 < length (numbers_in r)
+some_numbers (One n) several = lit< tt
+some_numbers (Several ns) several = omega (arith, several)
+
+pub row_answers : (name : Name) (r : RowNumbers) (l : Literal) → 3 + length (numbers_in r) ≤ most_tokens → literal_of l ≡ Numbers (numbers_in r) → (AreSeveral r → is_plain l ≡ true) → (cs : List ℕ) → Says 0 cs (row_lexemes name (numbers_in r)) × AreSeveral r → TokensAnswer cs (Ok (command.Change (changed.Row name l)))
+row_answers name r l few is plain cs says =
+    (says.0.0, says.0.1, subst (λ (ts : List Lexeme). IsCommand ts (Ok (command.Change (changed.Row name l)))) (sym says.0.2) (row_is name (numbers_in r) l (some_numbers r says.1) few is (plain says.1)))

@@ -1,11 +1,12 @@
 //! Lines: what each asks for.
 
-ghost use Rattle.std.specs.Prelude.{◌≡◌, ◌+◌, ◌<◌, ◌≤◌, ◌∷◌, ℕ, List, length, None, Some, Ok, MatchOption};
+ghost use Rattle.std.specs.Prelude.{◌≡◌, true, ◌+◌, ◌<◌, ◌≤◌, ◌∷◌, ℕ, List, length, None, Some, Ok, MatchOption};
 ghost use Rattle.std.specs.Str.{chars};
 ghost use Rattle.apl_tokens.specs.Lexemes.{lexemes, Named, Sign};
-ghost use Rattle.apl_tokens.specs.NumberEdits.{IsNumberEdit, IsNumberRow};
+ghost use Rattle.apl_tokens.specs.NumberEdits.{IsNumberEdit, IsNumberRow, AreSeveral, numbers_in};
 ghost use Rattle.apl_tokens.specs.Signs.{left_arrow, right_parenthesis, left_bracket};
 ghost use Rattle.apl_expr.specs.Limits.{most_tokens};
+ghost use Rattle.apl_expr.specs.Trees.{Numbers, literal_of, is_plain};
 ghost use Rattle.apl_expr.specs.Lines.{data_word, row_word, erase_word, names_word, cost_word, csv_word, open_word, step_word, commit_word, drop_word, IsCommand};
 ghost use Rattle.apl_expr.specs.Fronts.{name_before, name_first, only_name, number_first, only_number, command_word};
 ghost use Rattle.apl_expr.specs.Changes.{IsNoChange, IsChangeOf, IsChangeIn};
@@ -17,10 +18,13 @@ use crate::fault::{LineFault, ParseFault};
 use crate::limits::MOST_TOKENS;
 use crate::parser::parse;
 use apl_tokens::{
-    CellPositions, Name, NumberEdit, NumberRow, Spanned, Token, TokenFault, number_edit,
-    number_row, tokens_into,
+    CellPositions, Name, NumberEdit, NumberRow, RowNumbers, Spanned, Token, TokenFault,
+    number_edit, number_row, tokens_into,
 };
 use std::alloc::Global;
+
+/// How many tokens stand before the numbers of a row: `)`, `ROW` and the name.
+const TOKENS_BEFORE_A_ROW: usize = 3;
 
 /// A change of the sheet that a line asks for.
 #[derive(Debug, Drop)]
@@ -457,12 +461,25 @@ fn cell_of(edit: NumberEdit) -> Command
     Command::Change(Change::Cell(edit.name, edit.positions, Literal::Num(edit.number)))
 }
 
+/// The literal of the numbers of a row.
+#[inline(always)]
+fn literal_of_row(numbers: RowNumbers) -> Literal
+    ensures numbers { literal_of result ≡ Numbers (numbers_in numbers) }
+    ensures plain { AreSeveral numbers → is_plain result ≡ true }
+{
+    match numbers {
+        RowNumbers::One(number) => Literal::Num(number),
+        RowNumbers::Several(numbers) => Literal::Nums(numbers),
+    }
+}
+
 /// The command of a row that was read from the bytes of a text.
 #[inline(always)]
 fn row_of(row: NumberRow) -> Command
+    requires { 3 + length (numbers_in row.numbers) ≤ most_tokens }
     ensures { (cs : List ℕ) → IsNumberRow cs row → IsAnswered cs (Ok result) }
 {
-    Command::Change(Change::Row(row.name, Literal::Num(row.number)))
+    Command::Change(Change::Row(row.name, literal_of_row(row.numbers)))
 }
 
 /// Puts what a line of text asks for that is no edit of a cell by a number, or was not read as one.
@@ -474,7 +491,7 @@ fn row_or_tokens(
 ) -> Result<(), LineFault>
     ensures { IsAnswered (chars text.now) (put_in result command.new) }
 {
-    match number_row(text) {
+    match number_row(alloc, text, MOST_TOKENS - TOKENS_BEFORE_A_ROW) {
         Some(row) => {
             *command = row_of(row);
             Ok(())
@@ -490,8 +507,8 @@ fn row_or_tokens(
 /// more than 512 nodes is `Limit`. `DATA`, `ROW`, `ERASE`, `NAMES`, `COST`, `CSV`, `OPEN`, `STEP`, `COMMIT` and `DROP` are
 /// words only after `)`, and ordinary names elsewhere.
 ///
-/// The most usual edit, of an item by a number and without blanks, is read from the bytes of the text, and takes no memory; so is a row of one
-/// number, with one blank at each place.
+/// The most usual edit, of an item by a number and without blanks, is read from the bytes of the text, and takes no memory; so is a row of numbers,
+/// with one blank at each place, and it takes none but for several numbers, which lie in one list.
 pub fn line(alloc: Global, text: &str) -> Result<Command, LineFault>
     ensures { IsAnswered (chars text.now) result }
 {

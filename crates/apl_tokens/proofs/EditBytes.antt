@@ -12,8 +12,8 @@ use Rattle.apl_tokens.specs.Signs.{space, right_parenthesis, high_minus, delta, 
 use Rattle.apl_tokens.specs.Lexemes.{Lexeme, Number, Named, Sign}
 use Rattle.apl_tokens.specs.Characters.{is_letter, is_name_part, joins_number, sign_of, decimal_from, signed, fits_number}
 use Rattle.apl_tokens.specs.Scans.{spanned, Ends, IsRun, stop, more, IsNumber, plain, minus, Scans, done, blank, sign, number, word}
-use Rattle.apl_tokens.specs.NumberEdits.{Says, position_lexemes, edit_lexemes, row_lexemes}
-use Rattle.apl_tokens.specs.Reading.{ReadsBefore, Reads, EndsNumber, EndsName, minus_bytes, open_positions}
+use Rattle.apl_tokens.specs.NumberEdits.{Says, position_lexemes, edit_lexemes, number_lexemes, row_lexemes}
+use Rattle.apl_tokens.specs.Reading.{ReadsBefore, Reads, EndsNumber, EndsName, minus_bytes, GoesOn, open_positions}
 
 -- bytes of ASCII are characters
 ascii_front : (xs us : List ℕ) → IsAscii xs → chars (xs ++ us) ≡ xs ++ chars us
@@ -206,12 +206,26 @@ front_read : (vs : List ℕ) → Reads (codes ")ROW " ++ vs) vs (Sign right_pare
 unfolding sign_of
 front_read vs = both_read (λ cs. Unit {0}) (λ cs. Unit {0}) (codes ")ROW " ++ vs) (codes "ROW " ++ vs) vs (Sign right_parenthesis ∷ []) (Named (codes "ROW") ∷ []) (byte_sign (codes ")ROW " ++ vs) (codes "ROW " ++ vs) right_parenthesis refl (lit< tt) refl) tt (word_read vs)
 
-module _ (name : List ℕ) (k : ℤ) (text after_word after_name rest : List ℕ) where
-  pub row_read : text ≡ codes ")ROW " ++ after_word → ReadsBefore EndsName after_word (space ∷ after_name) (Named name ∷ []) → ReadsBefore EndsNumber after_name rest (Number k ∷ []) → length rest ≡ 0 → Says 0 (chars text) (row_lexemes name k)
-  row_read begun named numbered none =
-      let no_more : chars rest ≡ [] = ap chars (nothing_left rest none) ∙ chars-nil in
-      let tail : ReadsBefore EndsNumber after_word rest (Named name ∷ Number k ∷ []) = both_read (λ cs. Unit {0}) EndsNumber after_word after_name rest (Named name ∷ []) (Number k ∷ []) (name_and_blank name after_word after_name named) tt numbered in
-      let whole : ReadsBefore EndsNumber text rest (row_lexemes name k) = both_read (λ cs. Unit {0}) EndsNumber text after_word rest (Sign right_parenthesis ∷ Named (codes "ROW") ∷ []) (Named name ∷ Number k ∷ []) (subst (λ (bs : List ℕ). Reads bs after_word (Sign right_parenthesis ∷ Named (codes "ROW") ∷ [])) (sym begun) (front_read after_word)) tt tail in
-      let ends : EndsNumber (chars rest) = subst (λ (cs : List ℕ). EndsNumber cs) (sym no_more) (tt, tt) in
-      let over : Says ((whole.reads 0).0) (chars rest) [] = subst (λ (cs : List ℕ). Says ((whole.reads 0).0) cs []) (sym no_more) ([], done, refl) in
-      (whole.reads 0).1 [] ends over
+-- numbers, each behind a blank
+numbers_and_one : (ns : List ℤ) (k : ℤ) → number_lexemes ns ++ Number k ∷ [] ≡ number_lexemes (ns ++ k ∷ [])
+numbers_and_one [] k = refl
+numbers_and_one (n ∷ ns) k = ap (λ (ls : List Lexeme). Number n ∷ ls) (numbers_and_one ns k)
+
+pub one_more_number : (us vs ws after : List ℕ) (ms ns qs : List ℤ) (k : ℤ) → GoesOn us ms vs ns → vs ≡ space ∷ ws → ReadsBefore EndsNumber ws after (Number k ∷ []) → qs ≡ ns ++ k ∷ [] → GoesOn us ms after qs
+one_more_number us vs ws after ms ns qs k goes separate reads longer =
+    λ bs begun.
+    subst (λ (ls : List Lexeme). ReadsBefore EndsNumber bs after ls) (numbers_and_one ns k ∙ ap number_lexemes (sym longer))
+    (both_read EndsNumber EndsNumber bs vs after (number_lexemes ns) (Number k ∷ []) (goes bs begun) (subst (λ (cs : List ℕ). EndsNumber cs) (sym (ap chars separate ∙ ascii_next space ws (lit< tt))) (refl, refl))
+    (both_read (λ cs. Unit {0}) EndsNumber vs ws after [] (Number k ∷ []) (subst (λ (cs : List ℕ). Reads cs ws []) (sym separate) (reads_blank ws)) tt reads))
+
+pub one_number : (text rest : List ℕ) (k : ℤ) → ReadsBefore EndsNumber text rest (Number k ∷ []) → length rest ≡ 0 → ReadsBefore EndsNumber text [] (Number k ∷ [])
+one_number text rest k reads none = subst (λ (bs : List ℕ). ReadsBefore EndsNumber text bs (Number k ∷ [])) (nothing_left rest none) reads
+
+module _ (name : List ℕ) (ns : List ℤ) (text after_word after_name : List ℕ) where
+  pub row_read : text ≡ codes ")ROW " ++ after_word → ReadsBefore EndsName after_word (space ∷ after_name) (Named name ∷ []) → ReadsBefore EndsNumber after_name [] (number_lexemes ns) → Says 0 (chars text) (row_lexemes name ns)
+  row_read begun named numbered =
+      let tail : ReadsBefore EndsNumber after_word [] (Named name ∷ number_lexemes ns) = both_read (λ cs. Unit {0}) EndsNumber after_word after_name [] (Named name ∷ []) (number_lexemes ns) (name_and_blank name after_word after_name named) tt numbered in
+      let whole : ReadsBefore EndsNumber text [] (row_lexemes name ns) = both_read (λ cs. Unit {0}) EndsNumber text after_word [] (Sign right_parenthesis ∷ Named (codes "ROW") ∷ []) (Named name ∷ number_lexemes ns) (subst (λ (bs : List ℕ). Reads bs after_word (Sign right_parenthesis ∷ Named (codes "ROW") ∷ [])) (sym begun) (front_read after_word)) tt tail in
+      let ends : EndsNumber (chars []) = subst (λ (cs : List ℕ). EndsNumber cs) (sym chars-nil) (tt, tt) in
+      let over : Says ((whole.reads 0).0) (chars []) [] = subst (λ (cs : List ℕ). Says ((whole.reads 0).0) cs []) (sym chars-nil) ([], done, refl) in
+      subst (λ (ls : List Lexeme). Says 0 (chars text) ls) (append-nil (row_lexemes name ns)) ((whole.reads 0).1 [] ends over)

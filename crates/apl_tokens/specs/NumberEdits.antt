@@ -1,10 +1,12 @@
--- The edit of a cell by a number, `NAME[positions]←number`, and a row of one number, `)ROW NAME number`, as the tokens of a line.
+-- The edit of a cell by a number, `NAME[positions]←number`, and a row of numbers, `)ROW NAME numbers`, as the tokens of a line.
 use Rattle.std.specs.Prelude.{◌≡◌, ℕ, ◌<◌, ◌≤◌, ℤ, Ok, List, [], ◌∷◌, ◌++◌, length, map, codes}
 use Rattle.apl_tokens.specs.Signs.{left_bracket, right_bracket, semicolon, left_arrow, right_parenthesis}
 use Rattle.apl_tokens.specs.Lexemes.{Lexeme, Number, Named, Sign}
 use Rattle.apl_tokens.specs.Scans.{Scans, SpannedLexeme}
 use Rattle.apl_tokens.specs.declared.cell_edit.NumberEdit.{NumberEdit}
 use Rattle.apl_tokens.specs.declared.row_edit.NumberRow.{NumberRow}
+use Rattle.apl_tokens.specs.declared.row_edit.RowNumbers.{RowNumbers}
+use Rattle.apl_tokens.specs.declared.row_edit.RowNumbers.TheVariants.{One, Several}
 
 -- the positions, with `;` between them
 abbrev pub position_lexemes : List ℤ → List Lexeme
@@ -24,10 +26,24 @@ Says n cs ls = (ts : List SpannedLexeme) × Scans n cs (Ok ts) × (map (λ (t : 
 abbrev pub IsNumberEdit : List ℕ → NumberEdit → Type 0
 IsNumberEdit cs e = Says 0 cs (edit_lexemes e.name e.positions.items e.number) × (0 < length e.positions.items) × (length e.positions.items ≤ 4)
 
--- `)`, the word, the name and the number
-abbrev pub row_lexemes : List ℕ → ℤ → List Lexeme
-row_lexemes name n = Sign right_parenthesis ∷ Named (codes "ROW") ∷ Named name ∷ Number n ∷ []
+-- the numbers of a row
+abbrev pub numbers_in : RowNumbers → List ℤ
+numbers_in (One n) = n ∷ []
+numbers_in (Several ns) = ns.items
+
+-- several are more than one
+abbrev pub AreSeveral : RowNumbers → Type 0
+AreSeveral (One n) = Unit {0}
+AreSeveral (Several ns) = 1 < length ns.items
+
+-- the numbers, one after the other
+abbrev pub number_lexemes : List ℤ → List Lexeme
+number_lexemes ns = map (λ (n : ℤ). Number n) ns
+
+-- `)`, the word, the name and the numbers
+abbrev pub row_lexemes : List ℕ → List ℤ → List Lexeme
+row_lexemes name ns = Sign right_parenthesis ∷ Named (codes "ROW") ∷ Named name ∷ number_lexemes ns
 
 -- the tokens of the characters are this row
 abbrev pub IsNumberRow : List ℕ → NumberRow → Type 0
-IsNumberRow cs r = Says 0 cs (row_lexemes r.name r.number)
+IsNumberRow cs r = Says 0 cs (row_lexemes r.name (numbers_in r.numbers)) × AreSeveral r.numbers

@@ -6,7 +6,7 @@ use Rattle.apl_tokens.specs.Signs.{semicolon}
 use Rattle.apl_tokens.specs.Lexemes.{Lexeme, Number, Sign}
 use Rattle.apl_tokens.specs.Characters.{is_name_part, joins_number}
 use Rattle.apl_tokens.specs.Scans.{Ends}
-use Rattle.apl_tokens.specs.NumberEdits.{Says}
+use Rattle.apl_tokens.specs.NumberEdits.{Says, number_lexemes}
 
 -- where the characters of the bytes us meet C, those of the bytes bs say these lexemes and then what those of us say
 pub record ReadsBefore (C : List ℕ → Type 0) (bs us : List ℕ) (ls : List Lexeme) : Type 0 where
@@ -23,6 +23,10 @@ EndsName cs = Ends is_name_part cs
 -- the characters do not go on with a number
 abbrev pub EndsNumber : List ℕ → Type 0
 EndsNumber cs = Ends is_ascii_digit cs × Ends joins_number cs
+
+-- behind bytes that say the numbers ms the bytes us go on, up to vs, so that they say the numbers ns
+abbrev pub GoesOn : (us : List ℕ) → (ms : List ℤ) → (vs : List ℕ) → (ns : List ℤ) → Type 0
+GoesOn us ms vs ns = (bs : List ℕ) → ReadsBefore EndsNumber bs us (number_lexemes ms) → ReadsBefore EndsNumber bs vs (number_lexemes ns)
 
 -- the positions, each with `;` after it
 abbrev pub open_positions : List ℤ → List Lexeme

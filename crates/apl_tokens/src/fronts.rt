@@ -4,13 +4,13 @@ ghost use Rattle.std.specs.Prelude.{◌≡◌, ◌≤◌, true, [], ◌∷◌, �
 ghost use Rattle.std.specs.Char.{is_ascii_digit};
 ghost use Rattle.std.specs.List.{list_all};
 ghost use Rattle.std.specs.Str.{IsAscii};
-ghost use Rattle.apl_tokens.specs.Characters.{is_name_part};
+ghost use Rattle.apl_tokens.specs.Characters.{is_name_part, decimal_from};
 ghost use Rattle.apl_tokens.specs.Lexemes.{Named, Number, Sign};
-ghost use Rattle.apl_tokens.specs.Signs.{left_arrow};
+ghost use Rattle.apl_tokens.specs.Signs.{left_arrow, space};
 ghost use Rattle.apl_tokens.specs.Reading.{ReadsBefore, Reads, EndsName, EndsNumber, minus_bytes};
 
 use crate::name::Name;
-use crate::numbers::number_of_digits;
+use crate::numbers::with_sign;
 
 /// The name at the front of a line, and the bytes after what ends it.
 #[derive(Clone, Copy)]
@@ -33,18 +33,23 @@ fn count_parts(text: &[u8]) -> usize
     text.len()
 }
 
-/// How many digits stand at the front.
-fn count_digits(text: &[u8]) -> usize
-    ensures within { result ≤ length text.now }
-    ensures digits { list_all is_ascii_digit (take result text.now) ≡ true }
-    ensures ascii { IsAscii (take result text.now) }
+/// What the digits at the front spell, and how many there are, where that fits: that of no digits is 0.
+#[inline(always)]
+fn magnitude_front(text: &[u8]) -> Option<(u64, usize)>
+    ensures within { IfSome result (λ front. front.1 ≤ length text.now) }
+    ensures digits { IfSome result (λ front. list_all is_ascii_digit (take front.1 text.now) ≡ true) }
+    ensures ascii { IfSome result (λ front. IsAscii (take front.1 text.now)) }
+    ensures spelled { IfSome result (λ front. front.0 ≡ decimal_from 0 (take front.1 text.now)) }
 {
+    let mut magnitude: u64 = 0;
     for (index, byte) in text.iter().enumerate() {
         if !byte.is_ascii_digit() {
-            return index;
+            return Some((magnitude, index));
         }
+        let value = u64::from(*byte - b'0');
+        magnitude = magnitude.checked_mul(10)?.checked_add(value)?;
     }
-    text.len()
+    Some((magnitude, text.len()))
 }
 
 /// What comes after this byte, where it stands at the front.
@@ -53,6 +58,13 @@ fn after_byte(text: &[u8], byte: u8) -> Option<&[u8]>
 {
     let (first, rest) = text.split_first()?;
     if *first == byte { Some(rest) } else { None }
+}
+
+/// What comes after a blank, where it stands at the front.
+pub(crate) fn after_blank(text: &[u8]) -> Option<&[u8]>
+    ensures { IfSome result (λ rest. text.now ≡ space ∷ rest.now) }
+{
+    after_byte(text, b' ')
 }
 
 /// What comes after a high minus, where it stands at the front.
@@ -87,12 +99,12 @@ pub(crate) fn name_front(text: &[u8], end: u8) -> Option<Front<'_>>
 fn digits_front(text: &[u8], is_negative: bool) -> Option<(i64, &[u8])>
     ensures { IfSome result (λ front. ReadsBefore EndsNumber (minus_bytes is_negative ++ text.now) front.1.now (Number front.0 ∷ [])) }
 {
-    let count = count_digits(text);
+    let (magnitude, count) = magnitude_front(text)?;
     if count == 0 {
         return None;
     }
-    let (digits, rest) = text.split_at(count);
-    let number = number_of_digits(is_negative, digits)?;
+    let (_, rest) = text.split_at(count);
+    let number = with_sign(is_negative, magnitude)?;
     Some((number, rest))
 }
 

@@ -4,7 +4,8 @@ ghost use Rattle.std.specs.Prelude.{◌≡◌, true, false, MatchOption};
 ghost use Rattle.apl_tokens.specs.Characters.{decimal_from, signed, fits_number};
 
 /// The number with this sign and magnitude, where it is one of 64 bits.
-fn with_sign(is_negative: bool, magnitude: u64) -> Option<i64>
+#[inline(always)]
+pub(crate) fn with_sign(is_negative: bool, magnitude: u64) -> Option<i64>
     ensures { MatchOption result (fits_number is_negative magnitude ≡ false) (λ n. (fits_number is_negative magnitude ≡ true) × (n ≡ signed is_negative magnitude)) }
 {
     if is_negative {

@@ -1,6 +1,8 @@
 //! Tokens of each kind, and what faults say.
 
-use apl_tokens::{NumberEdit, Token, TokenFault, number_edit, number_row, tokens};
+use apl_tokens::{
+    NumberEdit, NumberRow, RowNumbers, Token, TokenFault, number_edit, number_row, tokens,
+};
 use std::alloc::Global;
 
 /// The tokens of a line, written out.
@@ -81,28 +83,66 @@ fn reads_the_edit_of_an_item(rt: HostRuntime) {
     }
 }
 
-/// The row of one number that a line is read as, but for its name.
-fn row_of(line: &str, name: &str) -> Option<i64> {
-    let row = number_row(line)?;
-    if row.name.text() == name {
-        Some(row.number)
-    } else {
-        None
+/// The row of `D` that a line is read as, of at most four numbers, is of these numbers: one as such, and several where there is room for this many.
+fn is_row(row: &Option<NumberRow>, numbers: &[i64], room: usize) -> bool {
+    match row {
+        Some(row) if row.name.text() == "D" => match &row.numbers {
+            RowNumbers::One(number) => room == 0 && numbers == [*number].as_slice(),
+            RowNumbers::Several(several) => {
+                several.capacity() == room && several.as_slice() == numbers
+            }
+        },
+        _ => false,
     }
 }
 
 #[test]
-fn reads_a_row_of_one_number(rt: HostRuntime) {
-    assert!(rt; row_of(")ROW D 7", "D") == Some(7));
-    assert!(rt; row_of(")ROW D_2 ¯12", "D_2") == Some(-12));
+fn reads_a_row_of_numbers(rt: HostRuntime) {
+    let alloc = rt.alloc();
+    assert!(rt; is_row(&number_row(alloc, ")ROW D 7", 4), &[7], 0));
+    assert!(rt; is_row(&number_row(alloc, ")ROW D ¯12 3", 4), &[-12, 3], 2));
+    assert!(rt;
+        is_row(
+            &number_row(
+                alloc,
+                ")ROW D 0 ¯9223372036854775808 9223372036854775807",
+                4
+            ),
+            &[0, i64::MIN, i64::MAX],
+            4
+        )
+    );
+    assert!(rt;
+        is_row(
+            &number_row(alloc, ")ROW D 1 2 ¯3 007", 4),
+            &[1, 2, -3, 7],
+            4
+        )
+    );
+}
+
+#[test]
+fn leaves_other_rows_to_the_tokens(rt: HostRuntime) {
     for line in [
         ")ROW D  7",
         ") ROW D 7",
-        ")ROW D 7 8",
         ")ROW D 'a'",
         ")ROW 7 7",
+        ")ROW D",
+        ")ROW D ",
+        ")ROW D 7 ",
+        ")ROW D 7 8 ",
+        ")ROW D 7  8",
+        ")ROW D 7\t8",
+        ")ROW D 7 8 ⍝ 9",
+        ")ROW D 7 - 8",
+        ")ROW D 7 ¯",
+        ")ROW D 7 9223372036854775808",
+        ")ROW D ¯9223372036854775809 8",
+        ")ROW D 7 8a",
+        ")ROW D 1 2 3 4 5",
     ] {
-        assert!(rt; row_of(line, "D").is_none(), "{line}");
+        assert!(rt; number_row(rt.alloc(), line, 4).is_none(), "{line}");
     }
 }
 
