@@ -19,7 +19,10 @@ fn grown_to(len: usize, more: usize) -> usize
     len.saturating_add(len).max(len + more)
 }
 
-/// A larger map, empty, where one has no room for so many more entries.
+/// The least room of a map.
+const FEWEST_ENTRIES: usize = 8;
+
+/// A larger map, empty, where one has no room for so many more entries. A map is made larger than it is asked to be, and so it gives back the rest.
 pub fn larger_map<K: Eq + Hash, V>(
     alloc: Global,
     map: &IndexMap<K, V>,
@@ -32,7 +35,10 @@ pub fn larger_map<K: Eq + Hash, V>(
     if more <= map.capacity() - len {
         return Ok(None);
     }
-    Ok(Some(IndexMap::with_capacity(alloc, grown_to(len, more))?))
+    let room = grown_to(len, more).max(FEWEST_ENTRIES);
+    let mut larger = IndexMap::with_capacity(alloc, room)?;
+    larger.shrink_to(room);
+    Ok(Some(larger))
 }
 
 /// The map moves into the larger one, if there is one. No memory is asked for.
