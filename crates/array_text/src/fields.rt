@@ -3,8 +3,8 @@
 ghost use Rattle.std.specs.Prelude.{◌≡◌, ◌<◌, ◌≤◌, ◌^◌, length, IfSome};
 ghost use Rattle.std.specs.List.{list_all, prefix_len};
 ghost use Rattle.std.specs.Char.{is_ascii_digit};
-ghost use Rattle.apl_tokens.specs.Characters.{is_blank as blank_at, decimal_from};
-ghost use Rattle.array_text.specs.Tables.{sign_and_rest, digits_number as number_of_some_digits, unsigned_number as number_without_sign, field_number as number_of_field};
+ghost use Rattle.apl_tokens.specs.Characters.{is_blank, decimal_from};
+ghost use Rattle.array_text.specs.Tables.{sign_and_rest, digits_number, unsigned_number, field_number};
 
 use apl_tokens::number_of_digits;
 
@@ -13,14 +13,14 @@ const FEW_DIGITS: usize = 18;
 
 /// Whether a byte is a blank: a space or a tab.
 fn is_blank(byte: u8) -> bool
-    ensures { result ≡ blank_at byte }
+    ensures { result ≡ is_blank byte }
 {
     byte == b' ' || byte == b'\t'
 }
 
 /// The count of blanks at the front.
 fn blanks_at(bytes: &[u8]) -> usize
-    ensures is { result ≡ prefix_len blank_at bytes.now }
+    ensures is { result ≡ prefix_len is_blank bytes.now }
     ensures within { result ≤ length bytes.now }
 {
     for (offset, byte) in bytes.iter().enumerate() {
@@ -46,7 +46,7 @@ fn digits_at(bytes: &[u8]) -> usize
 
 /// Whether all bytes are blanks.
 fn are_blanks(bytes: &[u8]) -> bool
-    ensures { result ≡ list_all blank_at bytes.now }
+    ensures { result ≡ list_all is_blank bytes.now }
 {
     bytes.iter().all(|byte| is_blank(*byte))
 }
@@ -70,7 +70,7 @@ fn without_sign(bytes: &[u8]) -> (bool, &[u8])
 /// The number that these digits spell, if there are any and it is in range.
 #[tactic(auto, unfolding(crate::specs::Tables::digits_number))]
 fn digits_number(is_negative: bool, digits: &[u8]) -> Option<i64>
-    ensures { result ≡ number_of_some_digits is_negative digits.now }
+    ensures { result ≡ digits_number is_negative digits.now }
 {
     if digits.is_empty() {
         return None;
@@ -102,7 +102,7 @@ fn few_digits(bytes: &[u8]) -> Option<u64>
 /// fields have, are gone over once.
 #[tactic(auto, using(crate::proofs::Decimals::few_alone), unfolding(crate::specs::Tables::unsigned_number))]
 fn unsigned_number(is_negative: bool, bytes: &[u8]) -> Option<i64>
-    ensures { result ≡ number_without_sign is_negative bytes.now }
+    ensures { result ≡ unsigned_number is_negative bytes.now }
 {
     if let Some(magnitude) = few_digits(bytes) {
         let number = magnitude as i64;
@@ -118,7 +118,7 @@ fn unsigned_number(is_negative: bool, bytes: &[u8]) -> Option<i64>
 /// The number that a field spells, if it spells one.
 #[tactic(auto, unfolding(crate::specs::Tables::field_number))]
 pub(crate) fn field_number(field: &[u8]) -> Option<i64>
-    ensures { result ≡ number_of_field field.now }
+    ensures { result ≡ field_number field.now }
 {
     let (is_negative, bytes) = without_sign(&field[blanks_at(field)..]);
     unsigned_number(is_negative, bytes)

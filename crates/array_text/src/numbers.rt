@@ -1,7 +1,7 @@
 //! The text of an array of numbers.
 
 ghost use Rattle.std.specs.Prelude.{◌≡◌, ◌+◌, ◌*◌, ◌<◌, ◌≤◌, ◌++◌, length, IfOk, OnOk, string_bytes};
-ghost use Rattle.array_text.specs.Text.{number_text, number_width, right_justified, number_line, column_width, column_widths as widths_of, number_row, number_plane};
+ghost use Rattle.array_text.specs.Text.{number_text, number_width, right_justified, number_line, column_width, column_widths, number_row, number_plane};
 
 use crate::planes::Printed;
 use crate::spacing::{push_blank_between, push_blanks};
@@ -53,7 +53,7 @@ fn column_widths(
     numbers: &[i64],
 ) -> Result<Vec<usize>, AllocError>
     requires { length numbers.now ≡ rows * columns }
-    ensures { IfOk result (λ v. v.items ≡ widths_of rows columns numbers.now) }
+    ensures { IfOk result (λ v. v.items ≡ column_widths rows columns numbers.now) }
 {
     let mut widths = Vec::with_capacity(alloc, columns)?;
     for column in 0..columns {

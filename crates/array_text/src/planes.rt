@@ -1,7 +1,7 @@
 //! The text of an array of any rank, from how a line and a matrix of its items are written.
 
 ghost use Rattle.std.specs.Prelude.{◌≡◌, ◌*◌, ◌^◌, ◌<◌, ◌++◌, ℕ, List, length, OnOk, string_bytes};
-ghost use Rattle.arrays_core.specs.Shapes.{size as size_of, IsWithinLimits};
+ghost use Rattle.arrays_core.specs.Shapes.{size, IsWithinLimits};
 ghost use Rattle.array_text.specs.Text.{planes, text_by_rank};
 
 use crate::spacing::push_line_between;
@@ -70,7 +70,7 @@ pub(crate) fn push_items<T: Printed>(
     items: &[T],
 ) -> Result<(), AllocError>
     requires within { IsWithinLimits axes.now }
-    requires long { length items.now ≡ size_of axes.now }
+    requires long { length items.now ≡ size axes.now }
     ensures { OnOk result (string_bytes out.new ≡ string_bytes out.old ++ text_by_rank T.line T.plane axes.now items.now) }
 {
     if axes.len() < 2 {

@@ -5,7 +5,7 @@ ghost use Rattle.csv.specs.Records.{fields_of};
 ghost use Rattle.arrays_core.specs.declared.item.Item.TheVariants.{Num};
 ghost use Rattle.arrays_core.specs.declared.item.ItemType.TheVariants.{Nums};
 ghost use Rattle.array_text.specs.Reading.{AreLeft, AreRead};
-ghost use Rattle.array_text.specs.Tables.{Fields, IsReadOf, IsTableRead, bad_field_fault, columns_of, fields_read, first_bad, first_fault, is_matrix_within as within_limits, numbers_of, record_fault, records_of, rows_of as rows_by_records};
+ghost use Rattle.array_text.specs.Tables.{Fields, IsReadOf, IsTableRead, bad_field_fault, columns_of, fields_read, first_bad, first_fault, is_matrix_within, numbers_of, record_fault, records_of, rows_of};
 
 use crate::fields::field_number;
 use crate::records::{read_next, reader_of};
@@ -22,14 +22,14 @@ const MOST_RECORDS: u64 = MOST_PLACES + 2;
 
 /// Whether a table of numbers may have `rows` rows and `columns` columns.
 fn is_matrix_within(rows: u64, columns: usize) -> bool
-    ensures { result ≡ within_limits rows columns }
+    ensures { result ≡ is_matrix_within rows columns }
 {
     rows <= MOST_PLACES && columns as u64 <= MOST_PLACES && rows * columns as u64 <= MOST_PLACES
 }
 
 /// The count of rows of a table with `count` records: a header is no row.
 fn rows_of(header: bool, count: u64) -> u64
-    ensures { result ≡ rows_by_records header count }
+    ensures { result ≡ rows_of header count }
 {
     if header {
         count.saturating_sub(1)
@@ -40,7 +40,7 @@ fn rows_of(header: bool, count: u64) -> u64
 
 /// The matrix of these numbers.
 fn matrix(alloc: Global, rows: u64, columns: usize, numbers: Vec<i64>) -> Result<Array, AllocError>
-    requires within { within_limits rows columns ≡ true }
+    requires within { is_matrix_within rows columns ≡ true }
     requires full { vec_len numbers ≡ rows * columns }
     ensures { IfOk result (λ a. a ≡ record {
       item_type = Nums;

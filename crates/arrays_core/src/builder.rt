@@ -3,7 +3,7 @@
 ghost use Rattle.std.specs.Prelude.{◌≡◌, ◌≤◌, ◌<◌, ◌+◌, ◌-◌, ◌*◌, ◌%◌, ◌++◌, ◌∷◌, [], ℕ, pos, unsigned_abs, IfOk, OnOk, length, get_or};
 ghost use Rattle.arrays_core.specs.Building.{listed};
 ghost use Rattle.arrays_core.specs.Items.{fill, type_of};
-ghost use Rattle.arrays_core.specs.Shapes.{size as size_of, IsWithinLimits};
+ghost use Rattle.arrays_core.specs.Shapes.{size, IsWithinLimits};
 
 use crate::array::Array;
 use crate::item::{Item, ItemType};
@@ -320,7 +320,7 @@ impl ArrayBuilder {
     /// were announced.
     pub fn into_array(self, shape: &Shape) -> Result<Array, AllocError>
         requires within { IsWithinLimits shape.now.items }
-        requires one_item_a_place { length self.items ≡ size_of shape.now.items }
+        requires one_item_a_place { length self.items ≡ size shape.now.items }
         ensures { IfOk result (λ a. a ≡ record { item_type = self.item_type; shape = shape.now.items; items = self.items }) }
     {
         Array::of_list(shape, self.list)

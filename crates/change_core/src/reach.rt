@@ -3,7 +3,7 @@
 ghost use Rattle.std.specs.Prelude.{◌≡◌, ◌≤◌, ℕ, List, length, Some};
 ghost use Rattle.arrays_core.specs.Limits.{most_axes};
 ghost use Rattle.index_region.specs.Boxes.{join_boxes};
-ghost use Rattle.change_core.specs.Reaches.{bounded, as_reach as reach_of_box};
+ghost use Rattle.change_core.specs.Reaches.{bounded, as_reach};
 ghost use Rattle.change_core.specs.Growth.{last_place};
 ghost use Rattle.change_core.specs.Laws.{ReachCovers, ReachLies};
 
@@ -55,7 +55,7 @@ pub fn last_place(shape: &[u32]) -> Option<IndexBox>
 
 /// The reach of a box, if there is one.
 pub(crate) fn as_reach(region: Option<IndexBox>) -> Reach
-    ensures { result ≡ reach_of_box region }
+    ensures { result ≡ as_reach region }
 {
     match region {
         None => Reach::Unmoved,

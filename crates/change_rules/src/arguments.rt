@@ -1,7 +1,7 @@
 //! The arguments of a node as they are handed in: each as it is now, with what changed of it.
 
 ghost use Rattle.std.specs.Prelude.{◌≡◌, IfOk, is_ok, not, ◌||◌};
-ghost use Rattle.change_rules.specs.Nodes.{views, moved, moved_by as box_moved_by, all_same as all_are_same, starts_anew as anew, is_whole, is_grown, is_grown_at_most, all_patched_at_most, marks};
+ghost use Rattle.change_rules.specs.Nodes.{views, moved, moved_by, all_same, starts_anew, is_whole, is_grown, is_grown_at_most, all_patched_at_most, marks};
 ghost use Rattle.std.specs.List.{list_all, list_any};
 ghost use Rattle.arrays_core.specs.Arrays.{IsArray};
 ghost use Rattle.change_core.specs.Laws.{Each};
@@ -50,7 +50,7 @@ pub(crate) fn moves_of(
 
 /// The changed box of an argument.
 pub(crate) fn moved_by(delta: &Delta) -> Option<IndexBox>
-    ensures { result ≡ box_moved_by delta.now }
+    ensures { result ≡ moved_by delta.now }
 {
     match delta {
         Delta::Patch(patch) => Some(patch.region().copy()),
@@ -59,7 +59,7 @@ pub(crate) fn moved_by(delta: &Delta) -> Option<IndexBox>
 }
 
 pub(crate) fn all_same(args: &[(Seen, &Delta)]) -> bool
-    ensures { result ≡ all_are_same args.now }
+    ensures { result ≡ all_same args.now }
 {
     args.iter().all(|(_, delta)| matches!(delta, Delta::Same))
 }
@@ -73,7 +73,7 @@ fn any_whole(args: &[(Seen, &Delta)]) -> bool
 
 /// An argument is another array, or the node held an error.
 pub(crate) fn starts_anew(args: &[(Seen, &Delta)], old: &Result<Array, Fault>) -> bool
-    ensures { result ≡ anew args.now old.now }
+    ensures { result ≡ starts_anew args.now old.now }
 {
     any_whole(args) || old.is_err()
 }

@@ -6,14 +6,14 @@ ghost use Rattle.arrays_core.specs.Shapes.{IsWithinLimits};
 ghost use Rattle.arrays_core.specs.declared.item.ItemType.{ItemType as TypeOfItems};
 ghost use Rattle.index_region.specs.Boxes.{box_size};
 ghost use Rattle.index_region.specs.Checks.{form_of};
-ghost use Rattle.change_core.specs.Growth.{last_place as place_behind};
+ghost use Rattle.change_core.specs.Growth.{last_place};
 ghost use Rattle.change_core.specs.Laws.{Each};
 ghost use Rattle.change_core.specs.Reaches.{AllFit};
 ghost use Rattle.change_core.specs.Meters.{ticked, most_ticks};
 ghost use Rattle.change_core.specs.RuleModels.{form_size};
 ghost use Rattle.index_region.specs.declared.delta.Delta.TheVariants.{Whole};
 ghost use Rattle.change_rules.specs.Evaluation.{evaluation};
-ghost use Rattle.change_rules.specs.Nodes.{views, moved, is_error, all_same as all_are_same, node_delta, node_cost, reached_delta, reached_cost, node_grows, grown_delta, grown_cost, grown_in, grown_size};
+ghost use Rattle.change_rules.specs.Nodes.{views, moved, is_error, all_same, node_delta, node_cost, reached_delta, reached_cost, node_grows, grown_delta, grown_cost, grown_in, grown_size};
 ghost use Rattle.change_rules.specs.Currency.{BringsUpToDate, HasAxis, IsRight};
 
 use crate::arguments::{
@@ -87,7 +87,7 @@ fn change_from<R: Rule>(
     requires fit { AllFit (views args.now) (moved args.now) }
     requires seen { seen.now ≡ views args.now }
     requires boxes { boxes.now ≡ moved args.now }
-    requires some { all_are_same args.now ≡ false }
+    requires some { all_same args.now ≡ false }
     requires small { meter.old.ticks ≤ most_ticks }
     ensures delta { OnOk result (change.new ≡ node_delta (R.model rule.now) args.now old.now) }
     ensures cost { IfOk result (λ n. n ≡ node_cost (R.model rule.now) args.now old.now) }
@@ -240,7 +240,7 @@ fn tail_of_one<R: Rule>(
     requires inline { shape.capacity ≡ 4 }
     requires within { IsWithinLimits shape.items }
     requires checked { (t : TypeOfItems) × ((R.model rule.now).form seen.now ≡ Ok (form_of shape.items t)) }
-    requires last { place_behind shape.items ≡ Some region.now }
+    requires last { last_place shape.items ≡ Some region.now }
     ensures delta { OnOk result (change.new ≡ grown_in ((R.model rule.now).form seen.now) ((R.model rule.now).item seen.now)) }
     ensures ticks { meter.new.ticks ≤ meter.old.ticks + 1 }
     ensures exact { OnOk result (is_error change.new ≡ false → meter.new.ticks ≡ ticked meter.old.ticks 1) }
@@ -306,7 +306,7 @@ fn change_of_more<R: Rule>(
 ) -> Result<u32, AllocError>
     requires count { length args.now ≡ length (R.model rule.now).selectors }
     requires fit { AllFit (views args.now) (moved args.now) }
-    requires some { all_are_same args.now ≡ false }
+    requires some { all_same args.now ≡ false }
     requires small { meter.old.ticks ≤ most_ticks }
     ensures delta { OnOk result (change.new ≡ node_delta (R.model rule.now) args.now old.now) }
     ensures cost { IfOk result (λ n. n ≡ node_cost (R.model rule.now) args.now old.now) }

@@ -9,7 +9,7 @@ ghost use Rattle.change_core.specs.Laws.{Each};
 ghost use Rattle.change_core.specs.Meters.{ticked};
 ghost use Rattle.change_core.specs.Parts.{items_in};
 ghost use Rattle.change_core.specs.Reaches.{AllFit, only_at};
-ghost use Rattle.change_rules.specs.Nodes.{views, moved, moved_by as box_moved_by, all_same as all_are_same, is_same, is_patched_at_most, all_patched_at_most, patch_delta, delta_of_place, node_delta, node_cost};
+ghost use Rattle.change_rules.specs.Nodes.{views, moved, moved_by, all_same, is_same, is_patched_at_most, all_patched_at_most, patch_delta, delta_of_place, node_delta, node_cost};
 
 use crate::arguments::views_are_arrays;
 use arrays_core::{Array, Fault, Item, Kind};
@@ -63,7 +63,7 @@ impl OnePlace {
 /// That the only argument was patched, and its box.
 fn patched(delta: &Delta) -> Option<(usize, &IndexBox)>
     ensures first { IfSome result (λ b. b.0 ≡ 0) }
-    ensures only { IfSome result (λ b. box_moved_by delta.now ≡ Some b.1.now) }
+    ensures only { IfSome result (λ b. moved_by delta.now ≡ Some b.1.now) }
     ensures patched { IfSome result (λ b. is_patched_at_most delta.now ≡ true) }
     ensures some { IfSome result (λ b. is_same delta.now ≡ false) }
 {
@@ -76,7 +76,7 @@ fn patched(delta: &Delta) -> Option<(usize, &IndexBox)>
 /// Which of two arguments was patched, and its box, where the other one is as it was.
 fn patched_alone<'a>(left: &'a Delta, right: &'a Delta) -> Option<(usize, &'a IndexBox)>
     ensures below { IfSome result (λ b. b.0 < 2) }
-    ensures only { IfSome result (λ b. box_moved_by left.now ∷ box_moved_by right.now ∷ [] ≡ only_at 2 b.0 b.1.now) }
+    ensures only { IfSome result (λ b. moved_by left.now ∷ moved_by right.now ∷ [] ≡ only_at 2 b.0 b.1.now) }
     ensures left { IfSome result (λ b. is_patched_at_most left.now ≡ true) }
     ensures right { IfSome result (λ b. is_patched_at_most right.now ≡ true) }
     ensures some { IfSome result (λ b. list_all is_same (left.now ∷ right.now ∷ []) ≡ false) }
@@ -93,7 +93,7 @@ fn only_patched<'c>(args: &[(Seen, &'c Delta)]) -> Option<(usize, &'c IndexBox)>
     ensures below { IfSome result (λ b. b.0 < length args.now) }
     ensures only { IfSome result (λ b. moved args.now ≡ only_at (length args.now) b.0 b.1.now) }
     ensures patched { IfSome result (λ b. all_patched_at_most args.now ≡ true) }
-    ensures some { IfSome result (λ b. all_are_same args.now ≡ false) }
+    ensures some { IfSome result (λ b. all_same args.now ≡ false) }
 {
     match args {
         [(_, delta)] => patched(delta),

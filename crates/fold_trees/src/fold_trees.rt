@@ -2,8 +2,8 @@
 
 ghost use Rattle.std.specs.Prelude.{◌≡◌, ◌+◌, ◌-◌, ◌*◌, ◌%◌, ◌^◌, ◌<◌, ◌==◌, ◌++◌, ◌∷◌, [], true, length, IfOk};
 ghost use Rattle.operator_fns.specs.SumTree.{IsWithinDigitsOf};
-ghost use Rattle.operator_fns.specs.SumTrees.{line_count as lines_in, numbers_of_line, with_lines, with_number, with_places, numbers_through};
-ghost use Rattle.fold_trees.specs.FoldTrees.{has_trees as has_such, AreFoldedBehind, AreFoldedNext, IsReductionBy};
+ghost use Rattle.operator_fns.specs.SumTrees.{line_count, numbers_of_line, with_lines, with_number, with_places, numbers_through};
+ghost use Rattle.fold_trees.specs.FoldTrees.{has_trees, AreFoldedBehind, AreFoldedNext, IsReductionBy};
 
 use crate::extremes::{Greatest, Least};
 use crate::part_trees::{NewParts, NextParts, PartTrees};
@@ -17,7 +17,7 @@ use std::marker::Model;
 
 /// Whether folds by a function can be kept as trees: what is kept of two parts tells what is to be kept of both together.
 pub fn has_trees(function: Scalar2) -> bool
-    ensures { result ≡ has_such function }
+    ensures { result ≡ has_trees function }
 {
     match function {
         Scalar2::Plus
@@ -89,7 +89,7 @@ impl FoldTrees {
         count: usize,
         step: usize,
     ) -> Result<FoldTrees, AllocError>
-        requires function { has_such function ≡ true }
+        requires function { has_trees function ≡ true }
         requires some { 0 < count }
         requires apart { 0 < step }
         requires whole { length numbers.now % (count * step) ≡ 0 }
@@ -110,7 +110,7 @@ impl FoldTrees {
     /// The function by which the lines are folded.
     pub fn function(&self) -> Scalar2
         ensures is { result ≡ self.now.function }
-        ensures one { has_such result ≡ true }
+        ensures one { has_trees result ≡ true }
     {
         match &self.trees {
             Trees::Sum(_) => Scalar2::Plus,
@@ -124,7 +124,7 @@ impl FoldTrees {
 
     /// How many lines there are.
     pub fn len(&self) -> usize
-        ensures { result ≡ lines_in self.now.lines }
+        ensures { result ≡ line_count self.now.lines }
     {
         match &self.trees {
             Trees::Sum(trees) => trees.len(),
@@ -138,14 +138,14 @@ impl FoldTrees {
 
     /// Whether there are no lines.
     pub fn is_empty(&self) -> bool
-        ensures { result ≡ (lines_in self.now.lines == 0) }
+        ensures { result ≡ (line_count self.now.lines == 0) }
     {
         self.len() == 0
     }
 
     /// The fold of the numbers of a line, lines counted from 0, from the last to the first, or the error that it meets.
     pub fn result(&self, line: usize) -> Result<i64, Kind>
-        requires { line < lines_in self.now.lines }
+        requires { line < line_count self.now.lines }
         ensures { IsReductionBy self.now.function (numbers_of_line self.now.lines line) result }
     {
         match &self.trees {
@@ -161,7 +161,7 @@ impl FoldTrees {
     /// The fold of the numbers of a line and of one more behind them, from the last to the first, or the error that it meets. It takes one
     /// join of parts. Lines are counted from 0.
     pub fn result_behind(&self, line: usize, number: i64) -> Result<i64, Kind>
-        requires { line < lines_in self.now.lines }
+        requires { line < line_count self.now.lines }
         ensures { IsReductionBy self.now.function (numbers_of_line self.now.lines line ++ number ∷ []) result }
     {
         match &self.trees {
@@ -269,7 +269,7 @@ impl NewFolds {
         step: usize,
         old: usize,
     ) -> Result<NewFolds, AllocError>
-        requires function { has_such function ≡ true }
+        requires function { has_trees function ≡ true }
         requires some { 0 < count }
         requires apart { 0 < step }
         requires whole { length numbers.now % (count * step) ≡ 0 }
@@ -317,7 +317,7 @@ impl NextFolds {
         numbers: &[i64],
         count: usize,
     ) -> Result<NextFolds, AllocError>
-        requires function { has_such function ≡ true }
+        requires function { has_trees function ≡ true }
         requires some { 0 < count }
         requires few { (count + 1) * length numbers.now < 2 ^ 63 }
         ensures { IfOk result (λ n. n ≡ record { function = function; places = record { count = count; numbers = numbers.now } }) }

@@ -2,7 +2,7 @@
 
 ghost use Rattle.std.specs.Prelude.{◌≡◌, ◌≢◌, pos, get_or, ℕ, ◌+◌, ◌-◌, ◌*◌, ◌/◌, ◌%◌, ◌^◌, ◌<◌, ◌≤◌, ◌++◌, ◌∷◌, [], min, ℤ, List, length, vec_len, vec_capacity, ◌⊎◌};
 ghost use Rattle.operator_fns.specs.SumTree.{IsWithinDigitsOf};
-ghost use Rattle.operator_fns.specs.LineTrees.{slot_at as slot_place, nth_node as node_place, slot_of, HasSlots, IsPart, AreSameIn, other_half, replaced, shorter, segment, numbers_of_block, from_two, IsIn, node_of, AreKept, AreKeptIn, AreKeptBeside, AreKeptUpTo};
+ghost use Rattle.operator_fns.specs.LineTrees.{slot_at, nth_node, slot_of, HasSlots, IsPart, AreSameIn, other_half, replaced, shorter, segment, numbers_of_block, from_two, IsIn, node_of, AreKept, AreKeptIn, AreKeptBeside, AreKeptUpTo};
 ghost use Rattle.operator_fns.specs.LineBlocks.{line_of, HaveSlots, nodes_end, HaveNodes, AreKeptBehind, AreKeptFrom};
 
 use crate::part::Part;
@@ -99,7 +99,7 @@ pub(crate) fn renew<P: Part>(numbers: &[i64], nodes: &mut [P], line: Line, place
     requires place { place < line.count }
     requires kept { AreKeptBeside from_two P.tells place line.count (slot_of line numbers.now) (node_of from_two P.blank line nodes.old) }
     ensures kept { AreKept from_two P.tells line.count (slot_of line numbers.now) (node_of from_two P.blank line nodes.new) }
-    ensures others { (p : ℕ) → ((meeting : ℕ) → 1 ≤ meeting → meeting < line.count → p ≢ node_place line meeting) → get_or nodes.new p P.blank ≡ get_or nodes.old p P.blank }
+    ensures others { (p : ℕ) → ((meeting : ℕ) → 1 ≤ meeting → meeting < line.count → p ≢ nth_node line meeting) → get_or nodes.new p P.blank ≡ get_or nodes.old p P.blank }
     ensures length { length nodes.new ≡ length nodes.old }
 {
     let mut block = place;
@@ -134,8 +134,8 @@ pub(crate) fn write<P: Part>(
     requires kept { AreKept from_two P.tells line.count (slot_of line numbers.old) (node_of from_two P.blank line nodes.old) }
     ensures numbers { (i : ℕ) → i < line.count → slot_of line numbers.new i ≡ replaced (slot_of line numbers.old) place number i }
     ensures kept { AreKept from_two P.tells line.count (slot_of line numbers.new) (node_of from_two P.blank line nodes.new) }
-    ensures other_slots { (p : ℕ) → p ≢ slot_place line place → get_or numbers.new p (pos 0) ≡ get_or numbers.old p (pos 0) }
-    ensures other_nodes { (p : ℕ) → ((meeting : ℕ) → 1 ≤ meeting → meeting < line.count → p ≢ node_place line meeting) → get_or nodes.new p P.blank ≡ get_or nodes.old p P.blank }
+    ensures other_slots { (p : ℕ) → p ≢ slot_at line place → get_or numbers.new p (pos 0) ≡ get_or numbers.old p (pos 0) }
+    ensures other_nodes { (p : ℕ) → ((meeting : ℕ) → 1 ≤ meeting → meeting < line.count → p ≢ nth_node line meeting) → get_or nodes.new p P.blank ≡ get_or nodes.old p P.blank }
     ensures slot_count { length numbers.new ≡ length numbers.old }
     ensures node_count { length nodes.new ≡ length nodes.old }
 {
@@ -150,7 +150,7 @@ pub(crate) fn take_last<P: Part>(numbers: &[i64], nodes: &mut [P], line: Line)
     requires more { 1 < line.count }
     requires kept { AreKept from_two P.tells (line.count - 1) (slot_of (shorter line) numbers.now) (node_of from_two P.blank (shorter line) nodes.old) }
     ensures kept { AreKept from_two P.tells line.count (slot_of line numbers.now) (node_of from_two P.blank line nodes.new) }
-    ensures other_nodes { (p : ℕ) → ((meeting : ℕ) → 1 ≤ meeting → meeting < line.count → p ≢ node_place line meeting) → get_or nodes.new p P.blank ≡ get_or nodes.old p P.blank }
+    ensures other_nodes { (p : ℕ) → ((meeting : ℕ) → 1 ≤ meeting → meeting < line.count → p ≢ nth_node line meeting) → get_or nodes.new p P.blank ≡ get_or nodes.old p P.blank }
     ensures node_count { length nodes.new ≡ length nodes.old }
 {
     renew(numbers, nodes, line, line.count - 1);
@@ -163,7 +163,7 @@ fn close_parts<P: Part>(nodes: &mut [P], line: Line, end: usize)
     requires near { line.step ≡ 1 }
     requires some { 0 < end }
     requires below { end < line.count }
-    requires nodes { node_place line end < length nodes.old }
+    requires nodes { nth_node line end < length nodes.old }
     requires kept { (x : ℕ → ℤ) × AreKeptUpTo from_two P.tells end 2 line.count x (node_of from_two P.blank line nodes.old) }
     ensures kept { (x : ℕ → ℤ) → AreKeptUpTo from_two P.tells end 2 line.count x (node_of from_two P.blank line nodes.old) → AreKeptIn from_two P.tells 0 end line.count x (node_of from_two P.blank line nodes.new) }
     ensures others { (p : ℕ) → p < line.node → get_or nodes.new p P.blank ≡ get_or nodes.old p P.blank }
@@ -239,7 +239,7 @@ fn pairs_row<P: Part>(numbers: &[i64], nodes: &mut [P], first: Line, from: usize
     requires nodes { HaveNodes from_two first (length nodes.old) }
     requires full { from + 2 ≤ first.count }
     ensures told { (column : ℕ) → column < first.step → P.tells (node_of from_two P.blank (line_of first column) nodes.new (from + 1)) (segment (slot_of (line_of first column) numbers.now) from 2) }
-    ensures others { (p : ℕ) → (p < node_place first (from + 1) ⊎ node_place first (from + 1) + first.step ≤ p) → get_or nodes.new p P.blank ≡ get_or nodes.old p P.blank }
+    ensures others { (p : ℕ) → (p < nth_node first (from + 1) ⊎ nth_node first (from + 1) + first.step ≤ p) → get_or nodes.new p P.blank ≡ get_or nodes.old p P.blank }
     ensures length { length nodes.new ≡ length nodes.old }
 {
     let row = first.slot_at(from);
@@ -259,7 +259,7 @@ fn halves_row<P: Part>(nodes: &mut [P], first: Line, from: usize, half: usize)
     requires later { (column : ℕ) → column < first.step → (xs : List ℤ) × P.tells (node_of from_two P.blank (line_of first column) nodes.old (from + half + half / 2)) xs }
     ensures told { (column : ℕ) → column < first.step → (earlier rest : List ℤ) → P.tells (node_of from_two P.blank (line_of first column) nodes.old (from + half / 2)) earlier
         → P.tells (node_of from_two P.blank (line_of first column) nodes.old (from + half + half / 2)) rest → P.tells (node_of from_two P.blank (line_of first column) nodes.new (from + half)) (earlier ++ rest) }
-    ensures others { (p : ℕ) → (p < node_place first (from + half) ⊎ node_place first (from + half) + first.step ≤ p) → get_or nodes.new p P.blank ≡ get_or nodes.old p P.blank }
+    ensures others { (p : ℕ) → (p < nth_node first (from + half) ⊎ nth_node first (from + half) + first.step ≤ p) → get_or nodes.new p P.blank ≡ get_or nodes.old p P.blank }
     ensures length { length nodes.new ≡ length nodes.old }
 {
     let earlier = first.nth_node(from + half / 2);
@@ -281,7 +281,7 @@ fn last_row<P: Part>(numbers: &[i64], nodes: &mut [P], first: Line, from: usize,
     requires kept { AreKeptBehind from_two P.blank P.tells slot_of from half first numbers.now nodes.old }
     ensures told { (column : ℕ) → column < first.step
         → P.tells (node_of from_two P.blank (line_of first column) nodes.new (from + half)) (segment (slot_of (line_of first column) numbers.now) from (min (2 * half) (first.count - from))) }
-    ensures others { (p : ℕ) → (p < node_place first (from + half) ⊎ node_place first (from + half) + first.step ≤ p) → get_or nodes.new p P.blank ≡ get_or nodes.old p P.blank }
+    ensures others { (p : ℕ) → (p < nth_node first (from + half) ⊎ nth_node first (from + half) + first.step ≤ p) → get_or nodes.new p P.blank ≡ get_or nodes.old p P.blank }
     ensures length { length nodes.new ≡ length nodes.old }
 {
     for column in 0..first.step {

@@ -3,7 +3,7 @@
 ghost use Rattle.std.specs.Prelude.{◌≡◌, ℕ, ◌+◌, ◌-◌, ◌*◌, ◌/◌, ◌%◌, ◌^◌, ◌<◌, ◌≤◌, ◌==◌, ◌++◌, ◌∷◌, [], length, vec_capacity, IfOk};
 ghost use Rattle.arrays_core.specs.Growth.{IsRoomy};
 ghost use Rattle.operator_fns.specs.SumTree.{IsWithinDigitsOf};
-ghost use Rattle.operator_fns.specs.SumTrees.{FitBehind, FitNext, with_lines, with_places, line_count as lines_in, numbers_of_line, numbers_through, with_number, AreLines, AreLineTrees};
+ghost use Rattle.operator_fns.specs.SumTrees.{FitBehind, FitNext, with_lines, with_places, line_count, numbers_of_line, numbers_through, with_number, AreLines, AreLineTrees};
 ghost use Rattle.operator_fns.specs.LineBlocks.{block_at, line_at, AreAllKept};
 ghost use Rattle.operator_fns.specs.LineTrees.{slot_of, shorter, from_two, IsIn, node_of, AreKept, nodes_in_line};
 ghost use Rattle.fold_trees.specs.FoldTrees.{IsReductionBy};
@@ -187,14 +187,14 @@ impl<P: Part> PartTrees<P> {
 
     /// How many lines there are.
     pub(crate) fn len(&self) -> usize
-        ensures { result ≡ lines_in self.now }
+        ensures { result ≡ line_count self.now }
     {
         self.numbers.len() / self.count
     }
 
     /// The fold of the numbers of a line, lines counted from 0, from the last to the first, or the error that it meets.
     pub(crate) fn result(&self, line: usize) -> Result<i64, Kind>
-        requires { line < lines_in self.now }
+        requires { line < line_count self.now }
         ensures { IsReductionBy P.function (numbers_of_line self.now line) result }
     {
         let tree = nth_tree(&self.numbers, &self.nodes, self.count, self.step, line);
@@ -207,7 +207,7 @@ impl<P: Part> PartTrees<P> {
     /// The fold of the numbers of a line and of one more behind them, from the last to the first, or the error that it meets. It takes one
     /// join of parts.
     pub(crate) fn result_behind(&self, line: usize, number: i64) -> Result<i64, Kind>
-        requires { line < lines_in self.now }
+        requires { line < line_count self.now }
         ensures { IsReductionBy P.function (numbers_of_line self.now line ++ number ∷ []) result }
     {
         let tree = nth_tree(&self.numbers, &self.nodes, self.count, self.step, line);

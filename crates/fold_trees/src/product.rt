@@ -2,7 +2,7 @@
 
 ghost use Rattle.std.specs.Prelude.{◌≡◌, ◌^◌, ◌<◌, ◌≤◌, true, unsigned_abs, pos, ◌≤ℤ◌, neg_ℤ};
 ghost use Rattle.function_names.specs.declared.scalar.Scalar2.TheVariants.{Times};
-ghost use Rattle.fold_trees.specs.Products.{Products, AreOrdered, IsKeptOf, TellsProducts, kept_products, joined_products, products_of_none, before as before_of, product_told};
+ghost use Rattle.fold_trees.specs.Products.{Products, AreOrdered, IsKeptOf, TellsProducts, kept_products, joined_products, products_of_none, before, product_told};
 
 use crate::part::Part;
 use arrays_core::Kind;
@@ -69,7 +69,7 @@ impl Product {
 
     /// That of one number.
     fn single(number: i64) -> Product
-        ensures { TellsProducts result (before_of number products_of_none) }
+        ensures { TellsProducts result (before number products_of_none) }
     {
         let size = number.unsigned_abs();
         if number < 0 {

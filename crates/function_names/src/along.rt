@@ -1,7 +1,7 @@
 //! Axes along which functions work.
 
 ghost use Rattle.std.specs.Prelude.{◌≡◌, ◌<◌, IsTrue};
-ghost use Rattle.function_names.specs.Axes.{is_axis as has_axis, axis_at as axis_meant};
+ghost use Rattle.function_names.specs.Axes.{is_axis, axis_at};
 
 /// The axis that a function works along: the first or the last, or one that is written, counted from 1.
 #[derive(Clone, Copy, PartialEq, Eq, Debug)]
@@ -18,7 +18,7 @@ impl Along {
     /// There is such an axis among `rank` axes; where there is not, the function is AXIS ERROR. An array
     /// without axes has a first and a last one for functions that leave it as it is.
     pub fn is_axis(self, rank: u32) -> bool
-        ensures { result ≡ has_axis rank self }
+        ensures { result ≡ is_axis rank self }
     {
         match self {
             Along::First => true,
@@ -29,8 +29,8 @@ impl Along {
 
     /// The axis that is meant, counted from 0.
     pub fn axis_at(self, rank: u32) -> usize
-        requires { IsTrue (has_axis rank self) }
-        ensures is { result ≡ axis_meant rank self }
+        requires { IsTrue (is_axis rank self) }
+        ensures is { result ≡ axis_at rank self }
         ensures below { 0 < rank → result < rank }
     {
         match self {

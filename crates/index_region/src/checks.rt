@@ -1,7 +1,7 @@
 //! The check of a result's shape.
 
 ghost use Rattle.std.specs.Prelude.{◌≡◌};
-ghost use Rattle.index_region.specs.Checks.{limited as limited_form};
+ghost use Rattle.index_region.specs.Checks.{limited};
 ghost use Rattle.index_region.specs.Answers.{IsFormAnswerTo};
 
 use arrays_core::{ItemType, Kind, Shape, is_within_limits};
@@ -9,7 +9,7 @@ use arrays_core::{ItemType, Kind, Shape, is_within_limits};
 /// The last check of each function, of its result's shape: LIMIT beyond the limits of arrays.
 pub fn limited(shape: Shape, item_type: ItemType) -> Result<(Shape, ItemType), Kind>
     requires { shape.capacity ≡ 4 }
-    ensures { IsFormAnswerTo (limited_form shape.items item_type) result }
+    ensures { IsFormAnswerTo (limited shape.items item_type) result }
 {
     if is_within_limits(shape.as_slice()) {
         Ok((shape, item_type))

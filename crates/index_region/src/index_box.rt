@@ -3,8 +3,8 @@
 ghost use Rattle.std.specs.Prelude.{◌≡◌, ◌+◌, ◌-◌, ◌≤◌, ◌<◌, ◌^◌, ℕ, List, length, IsTrue, IfSome, Some, None, if◌then◌else◌, true, map, ◌&&◌, nat_le};
 ghost use Rattle.std.specs.List.{list_all};
 ghost use Rattle.arrays_core.specs.Limits.{most_axes};
-ghost use Rattle.arrays_core.specs.Shapes.{IsWithinLimits, is_index_of, size as size_of};
-ghost use Rattle.index_region.specs.Boxes.{fits, is_box, box_size, box_offset, is_within, hull_of as hull, meet_of as meet, met, unless_empty, walk_at, cover as covering, cover_between};
+ghost use Rattle.arrays_core.specs.Shapes.{IsWithinLimits, is_index_of, size};
+ghost use Rattle.index_region.specs.Boxes.{fits, is_box, box_size, box_offset, is_within, hull_of as hull, meet_of as meet, met, unless_empty, walk_at, cover, cover_between};
 ghost use Rattle.index_region.specs.BoxLaws.{AllWalksAreInOrder, HullsAreLeast, CoversAreLeast};
 
 use crate::index_list::IndexList;
@@ -73,8 +73,8 @@ impl IndexBox {
         requires within { IsWithinLimits shape.now.items }
         requires low { 1 ≤ first }
         requires order { first ≤ last }
-        requires high { last ≤ size_of shape.now.items }
-        ensures { result ≡ covering shape.now.items (first - 1) (last - 1) }
+        requires high { last ≤ size shape.now.items }
+        ensures { result ≡ cover shape.now.items (first - 1) (last - 1) }
     {
         let from = index_of_position(shape, first);
         let to = index_of_position(shape, last);

@@ -2,7 +2,7 @@
 
 ghost use Rattle.std.specs.Prelude.{◌≡◌, ◌≤◌, ◌<◌, ◌+◌, ◌++◌, ◌∷◌, [], ℕ, List, length, take, map, set, insert, remove, get_or};
 ghost use Rattle.arrays_core.specs.Limits.{most_axes};
-ghost use Rattle.index_region.specs.Boxes.{whole_of, is_empty as has_empty, met as part_in, hull_of as hull, meet_of as meet};
+ghost use Rattle.index_region.specs.Boxes.{whole_of, is_empty, met, hull_of, meet_of};
 
 use arrays_core::MOST_AXES;
 use std::marker::Model;
@@ -152,7 +152,7 @@ impl Intervals {
 
     /// An interval is empty.
     pub fn is_empty(&self) -> bool
-        ensures { result ≡ has_empty self.now }
+        ensures { result ≡ is_empty self.now }
     {
         self.as_slice().iter().any(|(first, last)| *last < *first)
     }
@@ -160,7 +160,7 @@ impl Intervals {
     /// What of them lies in a shape; an axis without an interval is whole.
     pub fn met(&self, axes: &[u32]) -> Intervals
         requires { length axes.now ≤ most_axes }
-        ensures { result ≡ part_in axes.now self.now }
+        ensures { result ≡ met axes.now self.now }
     {
         let intervals = self.as_slice();
         let mut inside = Intervals::none();
@@ -187,7 +187,7 @@ fn interval_on(intervals: &[(u32, u32)], axis: usize, length: u32) -> (u32, u32)
 pub(crate) fn hull_of(ours: &[(u32, u32)], theirs: &[(u32, u32)]) -> Intervals
     requires few { length ours.now ≤ most_axes }
     requires as_many { length ours.now ≡ length theirs.now }
-    ensures { result ≡ hull ours.now theirs.now }
+    ensures { result ≡ hull_of ours.now theirs.now }
 {
     let mut intervals = Intervals::none();
     for axis in 0..ours.len() {
@@ -201,7 +201,7 @@ pub(crate) fn hull_of(ours: &[(u32, u32)], theirs: &[(u32, u32)]) -> Intervals
 pub(crate) fn meet_of(ours: &[(u32, u32)], theirs: &[(u32, u32)]) -> Intervals
     requires few { length ours.now ≤ most_axes }
     requires as_many { length ours.now ≡ length theirs.now }
-    ensures { result ≡ meet ours.now theirs.now }
+    ensures { result ≡ meet_of ours.now theirs.now }
 {
     let mut intervals = Intervals::none();
     for axis in 0..ours.len() {

@@ -6,7 +6,7 @@ ghost use Rattle.index_region.specs.Tails.{FitsTail};
 ghost use Rattle.index_region.specs.Laid.{seen, IsLaid};
 ghost use Rattle.arrays_core.specs.Growth.{grown_by};
 ghost use Rattle.arrays_core.specs.Arrays.{ArrayValue, IsArray, item_of, item_if_there};
-ghost use Rattle.arrays_core.specs.Shapes.{size as size_of, IsWithinLimits};
+ghost use Rattle.arrays_core.specs.Shapes.{size, IsWithinLimits};
 ghost use Rattle.arrays_core.specs.declared.item.Item.TheVariants.{Num, Char};
 ghost use Rattle.arrays_core.specs.declared.item.ItemType.TheVariants.{Nums, Chars};
 ghost use Rattle.arrays_core.specs.Items.{fill, type_of};
@@ -65,7 +65,7 @@ fn at_patched(array: &Array, patch: &Patch, index: &[u32]) -> Option<Item>
 fn item_patched(array: &Array, patch: &Patch, position: u32) -> Item
     requires fits { FitsPatch array.now patch.now }
     requires low { 1 ≤ position }
-    requires high { position ≤ size_of array.now.shape }
+    requires high { position ≤ size array.now.shape }
     ensures is { result ≡ get_or (patched array.now patch.now).items (position - 1) (fill array.now.item_type) }
     ensures typed { type_of result ≡ array.now.item_type }
 {
@@ -190,7 +190,7 @@ impl<'a> Seen<'a> {
     /// How many items there are.
     pub fn places(&self) -> u32
         ensures is { result ≡ length self.now.items }
-        ensures size { result ≡ size_of self.now.shape }
+        ensures size { result ≡ size self.now.shape }
         ensures sound { IsArray self.now }
     {
         size(self.shape().as_slice())
@@ -268,11 +268,11 @@ impl<'a> Seen<'a> {
     /// The items of a run of places, after `skipped` places, as an array of another shape that has as many.
     pub fn part(&self, skipped: u32, shape: &Shape) -> Result<Array, AllocError>
         requires within { IsWithinLimits shape.now.items }
-        requires inside { skipped + size_of shape.now.items ≤ length self.now.items }
+        requires inside { skipped + size shape.now.items ≤ length self.now.items }
         ensures { IfOk result (λ a. a ≡ record {
           item_type = self.now.item_type;
           shape = shape.now.items;
-          items = take (size_of shape.now.items) (drop skipped self.now.items);
+          items = take (size shape.now.items) (drop skipped self.now.items);
         }) }
     {
         match self.array() {
@@ -285,7 +285,7 @@ impl<'a> Seen<'a> {
     /// as many.
     pub fn joined(&self, other: &Seen, shape: &Shape) -> Result<Array, AllocError>
         requires within { IsWithinLimits shape.now.items }
-        requires one_item_a_place { length self.now.items + length other.now.items ≡ size_of shape.now.items }
+        requires one_item_a_place { length self.now.items + length other.now.items ≡ size shape.now.items }
         requires typed { self.now.item_type ≡ other.now.item_type }
         ensures { IfOk result (λ a. a ≡ record {
           item_type = self.now.item_type;
@@ -307,7 +307,7 @@ impl<'a> Seen<'a> {
     /// shape that has as many; fill where there is no such place.
     pub fn picked(&self, before: &[u32], shape: &Shape) -> Result<Array, AllocError>
         requires within { IsWithinLimits shape.now.items }
-        requires one_item_a_place { length before.now ≡ size_of shape.now.items }
+        requires one_item_a_place { length before.now ≡ size shape.now.items }
         ensures { IfOk result (λ a. a ≡ record {
           item_type = self.now.item_type;
           shape = shape.now.items;

@@ -3,7 +3,7 @@
 ghost use Rattle.std.specs.Prelude.{◌≡◌, Ok, true};
 ghost use Rattle.arrays_core.specs.Items.{type_of};
 ghost use Rattle.index_region.specs.Arguments.{has_items};
-ghost use Rattle.index_region.specs.Sources.{item_from as item_of_source};
+ghost use Rattle.index_region.specs.Sources.{item_from};
 ghost use Rattle.index_region.specs.Answers.{IsSourceIn, source_value};
 
 use crate::seen::Seen;
@@ -24,7 +24,7 @@ pub fn item_from<'a>(left: &Seen<'a>, right: &Seen<'a>, item_type: ItemType, sou
     requires inside { IsSourceIn left.now right.now source }
     requires left_typed { has_items left.now ≡ true → left.now.item_type ≡ item_type }
     requires right_typed { has_items right.now ≡ true → right.now.item_type ≡ item_type }
-    ensures is { Ok result ≡ item_of_source left.now right.now item_type (source_value source) }
+    ensures is { Ok result ≡ item_from left.now right.now item_type (source_value source) }
     ensures typed { type_of result ≡ item_type }
 {
     match source {

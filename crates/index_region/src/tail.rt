@@ -4,7 +4,7 @@ ghost use Rattle.std.specs.Prelude.{◌≡◌, ◌-◌, ◌<◌, ◌≤◌, ◌�
 ghost use Rattle.arrays_core.specs.Growth.{grown_by, HasRoom};
 ghost use Rattle.arrays_core.specs.Items.{fill, type_of};
 ghost use Rattle.arrays_core.specs.Limits.{most_places};
-ghost use Rattle.arrays_core.specs.Shapes.{IsWithinLimits, size as size_of};
+ghost use Rattle.arrays_core.specs.Shapes.{IsWithinLimits, size};
 ghost use Rattle.arrays_core.specs.declared.item.Item.TheVariants.{Num};
 ghost use Rattle.arrays_core.specs.declared.item.ItemType.TheVariants.{Nums, Chars};
 ghost use Rattle.index_region.specs.Tails.{FitsTail, IsTail, IsRoomBehind};

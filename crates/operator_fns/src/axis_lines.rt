@@ -2,7 +2,7 @@
 
 ghost use Rattle.std.specs.Prelude.{◌≡◌, ◌<◌, ◌≤◌, ◌+◌, ◌*◌, ◌%◌, length, map, drop, get_or, remove};
 ghost use Rattle.arrays_core.specs.declared.item.Item.TheVariants.{Num};
-ghost use Rattle.arrays_core.specs.Shapes.{size as size_of};
+ghost use Rattle.arrays_core.specs.Shapes.{size};
 
 use crate::right_fold::stride;
 use index_region::Seen;
@@ -33,9 +33,9 @@ impl<'a> AxisLines<'a> {
         requires some { 0 < length numbers.now }
         requires there { axis < length array.now.shape }
         ensures numbers { result.numbers.now ≡ numbers.now }
-        ensures stride { result.stride ≡ size_of (drop (axis + 1) array.now.shape) }
+        ensures stride { result.stride ≡ size (drop (axis + 1) array.now.shape) }
         ensures count { result.count ≡ get_or array.now.shape axis 0 }
-        ensures places { result.places ≡ size_of (remove array.now.shape axis) }
+        ensures places { result.places ≡ size (remove array.now.shape axis) }
     {
         let axes = array.shape();
         let count = axes[axis] as usize;

@@ -2,8 +2,8 @@
 
 ghost use Rattle.std.specs.Prelude.{◌≡◌, ◌<◌, true, length};
 ghost use Rattle.arrays_core.specs.declared.item.ItemType.TheVariants.{Nums};
-ghost use Rattle.arrays_core.specs.Arrays.{collect as collected, IsAnswerTo};
-ghost use Rattle.arrays_core.specs.Shapes.{size as size_of, places_before, IsWithinLimits};
+ghost use Rattle.arrays_core.specs.Arrays.{collect, IsAnswerTo};
+ghost use Rattle.arrays_core.specs.Shapes.{size, places_before, IsWithinLimits};
 ghost use Rattle.function_names.specs.declared.scalar.Scalar2.TheVariants.{Plus as Sum, Times as Product};
 ghost use Rattle.scalar_fns.specs.Numbers.{dyadic_on_numbers};
 ghost use Rattle.scalar_fns.specs.Items.{number_item};
@@ -95,8 +95,8 @@ fn products_by<F: TwoNumbers, G: TwoNumbers>(
     shape: &Shape,
 ) -> Result<Array, ApplyFault>
     requires within { IsWithinLimits shape.now.items }
-    requires fits { IsGridOf grid (size_of shape.now.items) (length left.now) (length right.now) }
-    ensures { IsAnswerTo (collected Nums shape.now.items (λ index. number_item (cell (F.gives fold.now) (G.gives each.now) left.now right.now grid (places_before shape.now.items index)))) result }
+    requires fits { IsGridOf grid (size shape.now.items) (length left.now) (length right.now) }
+    ensures { IsAnswerTo (collect Nums shape.now.items (λ index. number_item (cell (F.gives fold.now) (G.gives each.now) left.now right.now grid (places_before shape.now.items index)))) result }
 {
     let rule = Cells {
         fold,
@@ -119,13 +119,13 @@ struct Pairs<'a> {
     grid: Grid,
     shape: &'a Shape,
     ghost within: { IsWithinLimits shape.now.items },
-    ghost fits: { IsGridOf grid (size_of shape.now.items) (length left.now) (length right.now) },
+    ghost fits: { IsGridOf grid (size shape.now.items) (length left.now) (length right.now) },
 }
 
 impl<'a> WithFunction for Pairs<'a> {
     type Output = Result<Array, ApplyFault>;
 
-    ghost makes = { λ p gives result. IsAnswerTo (collected Nums p.shape.now.items (λ index. number_item (cell (dyadic_on_numbers p.fold) gives p.left.now p.right.now p.grid (places_before p.shape.now.items index)))) result };
+    ghost makes = { λ p gives result. IsAnswerTo (collect Nums p.shape.now.items (λ index. number_item (cell (dyadic_on_numbers p.fold) gives p.left.now p.right.now p.grid (places_before p.shape.now.items index)))) result };
 
     fn with<G: TwoNumbers + Copy>(self, each: G) -> Result<Array, ApplyFault> {
         let met = MetNumbers {
@@ -150,8 +150,8 @@ fn sums_of_products(
     shape: &Shape,
 ) -> Result<Array, ApplyFault>
     requires within { IsWithinLimits shape.now.items }
-    requires fits { IsGridOf grid (size_of shape.now.items) (length left.now) (length right.now) }
-    ensures { IsAnswerTo (collected Nums shape.now.items (λ index. number_item (cell (dyadic_on_numbers Sum) (dyadic_on_numbers Product) left.now right.now grid (places_before shape.now.items index)))) result }
+    requires fits { IsGridOf grid (size shape.now.items) (length left.now) (length right.now) }
+    ensures { IsAnswerTo (collect Nums shape.now.items (λ index. number_item (cell (dyadic_on_numbers Sum) (dyadic_on_numbers Product) left.now right.now grid (places_before shape.now.items index)))) result }
 {
     let places = size(shape.as_slice()) as usize;
     if !grid.is_plain(places) || !add_up(left, right, grid.count) {
@@ -173,8 +173,8 @@ pub(crate) fn grid_products(
     shape: &Shape,
 ) -> Result<Array, ApplyFault>
     requires within { IsWithinLimits shape.now.items }
-    requires fits { IsGridOf grid (size_of shape.now.items) (length left.now) (length right.now) }
-    ensures { IsAnswerTo (collected Nums shape.now.items (λ index. number_item (cell (dyadic_on_numbers fold) (dyadic_on_numbers each) left.now right.now grid (places_before shape.now.items index)))) result }
+    requires fits { IsGridOf grid (size shape.now.items) (length left.now) (length right.now) }
+    ensures { IsAnswerTo (collect Nums shape.now.items (λ index. number_item (cell (dyadic_on_numbers fold) (dyadic_on_numbers each) left.now right.now grid (places_before shape.now.items index)))) result }
 {
     match (fold, each) {
         (Scalar2::Plus, Scalar2::Times) => sums_of_products(alloc, left, right, grid, shape),

@@ -6,13 +6,13 @@ ghost use Rattle.arrays_core.specs.Limits.{most_places};
 ghost use Rattle.arrays_core.specs.declared.item.Item.TheVariants.{Num};
 ghost use Rattle.arrays_core.specs.Arrays.{IsAnswerTo, IsArray};
 ghost use Rattle.arrays_core.specs.Items.{fill};
-ghost use Rattle.arrays_core.specs.Shapes.{is_index_of as is_below};
+ghost use Rattle.arrays_core.specs.Shapes.{is_index_of};
 ghost use Rattle.index_region.specs.ArgumentLists.{of_two_arguments};
 ghost use Rattle.index_region.specs.Answers.{IsFormAnswerTo, IsPlaceOf, HasTypeOf};
 ghost use Rattle.change_core.specs.Sourced.{uses_of_two};
 ghost use Rattle.change_core.proofs.Growing.{never_grows};
 ghost use Rattle.scalar_fns.specs.ScalarExtension.{extended};
-ghost use Rattle.operator_fns.specs.InnerProduct.{row_rank as rank_of_rows, row_length as length_of_row, column_length as length_of_column, inner_length as length_of_inner, inner_form, inner_item, inner_whole, row_use, column_use};
+ghost use Rattle.operator_fns.specs.InnerProduct.{row_rank, row_length, column_length, inner_length, inner_form, inner_item, inner_whole, row_use, column_use};
 ghost use Rattle.operator_fns.specs.RowByColumn.{entry, IsInside, grid_of};
 ghost use Rattle.operator_fns.specs.Laws.InnerProduct.{inner_tight};
 
@@ -30,7 +30,7 @@ use std::alloc::Global;
 
 /// How many axes are not folded along: all but the last.
 fn row_rank(array: &Seen) -> usize
-    ensures { result ≡ rank_of_rows array.now }
+    ensures { result ≡ row_rank array.now }
 {
     array.shape().len().saturating_sub(1)
 }
@@ -48,7 +48,7 @@ fn column_axes<'a>(array: &'a Seen<'a>) -> &'a [u32]
 
 /// How long a row is: the last axis; a scalar is a row of its one item.
 fn row_length(array: &Seen) -> u32
-    ensures { result ≡ length_of_row array.now }
+    ensures { result ≡ row_length array.now }
 {
     match array.shape().last() {
         Some(length) => *length,
@@ -58,7 +58,7 @@ fn row_length(array: &Seen) -> u32
 
 /// How long a column is: the first axis; a scalar is a column of its one item.
 fn column_length(array: &Seen) -> u32
-    ensures { result ≡ length_of_column array.now }
+    ensures { result ≡ column_length array.now }
 {
     match array.shape().first() {
         Some(length) => *length,
@@ -68,7 +68,7 @@ fn column_length(array: &Seen) -> u32
 
 /// How many items of a row and of a column meet: one item on a side extends to the other's length.
 fn inner_length(left: &Seen, right: &Seen) -> u32
-    ensures { result ≡ length_of_inner left.now right.now }
+    ensures { result ≡ inner_length left.now right.now }
 {
     if left.places() == 1 {
         column_length(right)
@@ -79,9 +79,9 @@ fn inner_length(left: &Seen, right: &Seen) -> u32
 
 /// Where the row at an index list of the other axes lies; one item is each item of its row.
 fn row_line(array: &Seen, row: &[u32], count: u32) -> StridedLine
-    requires inside { IsTrue (is_below (take (rank_of_rows array.now) array.now.shape) row.now) }
+    requires inside { IsTrue (is_index_of (take (row_rank array.now) array.now.shape) row.now) }
     requires some { 1 ≤ count }
-    requires long { length array.now.items ≢ 1 → length_of_row array.now ≡ count }
+    requires long { length array.now.items ≢ 1 → row_length array.now ≡ count }
     ensures is { (k : ℕ) → k < count → entry (fill array.now.item_type) array.now.items result k ≡ extended array.now (row.now ++ (k + 1) ∷ []) }
     ensures there { IsInside result count (length array.now.items) }
     ensures few { length array.now.items ≤ most_places }
@@ -102,9 +102,9 @@ fn row_line(array: &Seen, row: &[u32], count: u32) -> StridedLine
 
 /// Where the column at an index list of the other axes lies; one item is each item of its column.
 fn column_line(array: &Seen, column: &[u32], count: u32) -> StridedLine
-    requires inside { IsTrue (is_below (drop 1 array.now.shape) column.now) }
+    requires inside { IsTrue (is_index_of (drop 1 array.now.shape) column.now) }
     requires some { 1 ≤ count }
-    requires long { length array.now.items ≢ 1 → length_of_column array.now ≡ count }
+    requires long { length array.now.items ≢ 1 → column_length array.now ≡ count }
     ensures is { (k : ℕ) → k < count → entry (fill array.now.item_type) array.now.items result k ≡ extended array.now ((k + 1) ∷ column.now) }
     ensures there { IsInside result count (length array.now.items) }
     ensures few { length array.now.items ≤ most_places }

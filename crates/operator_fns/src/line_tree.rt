@@ -2,8 +2,8 @@
 
 ghost use Rattle.std.specs.Prelude.{◌≡◌, ◌≢◌, pos, get_or, ℕ, ◌+◌, ◌-◌, ◌*◌, ◌/◌, ◌%◌, ◌^◌, ◌<◌, ◌≤◌, ◌++◌, ◌∷◌, [], min, ℤ, List, length, vec_len, vec_capacity, FitsSigned, All, ◌⊎◌};
 ghost use Rattle.std.specs.Int.{w64};
-ghost use Rattle.operator_fns.specs.SumNodes.{Sums, Tells, join as join_of, sums_from, sums_at, empty, TellsSums};
-ghost use Rattle.operator_fns.specs.LineTrees.{slot_at as slot_place, node_at as node_place, nth_node as node_counted, slot_of, number_of, HasSlots, ArePaired, IsPart, AreSameIn, other_half, replaced, shorter, from_four, IsIn, node_of, AreKept, AreKeptIn, AreKeptBeside, AreKeptUpTo};
+ghost use Rattle.operator_fns.specs.SumNodes.{Sums, Tells, join, sums_from, sums_at, empty, TellsSums};
+ghost use Rattle.operator_fns.specs.LineTrees.{slot_at, node_at, nth_node, slot_of, number_of, HasSlots, ArePaired, IsPart, AreSameIn, other_half, replaced, shorter, from_four, IsIn, node_of, AreKept, AreKeptIn, AreKeptBeside, AreKeptUpTo};
 ghost use Rattle.operator_fns.specs.SumTree.{IsWithinDigitsOf};
 ghost use Rattle.operator_fns.specs.LineBlocks.{line_of, slots_end, HaveSlots, nodes_end, HaveNodes, AreKeptBehind, AreKeptFrom};
 
@@ -25,8 +25,8 @@ pub struct Line {
 impl Line {
     /// The slot of a place.
     pub fn slot_at(&self, place: usize) -> usize
-        requires { slot_place self.now place < 2 ^ 64 }
-        ensures { result ≡ slot_place self.now place }
+        requires { slot_at self.now place < 2 ^ 64 }
+        ensures { result ≡ slot_at self.now place }
     {
         self.slot + place * self.step
     }
@@ -34,8 +34,8 @@ impl Line {
     /// The node of two parts that meet at an even place.
     fn node_at(&self, meeting: usize) -> usize
         requires some { 2 ≤ meeting }
-        requires fit { node_place self.now meeting < 2 ^ 64 }
-        ensures { result ≡ node_place self.now meeting }
+        requires fit { node_at self.now meeting < 2 ^ 64 }
+        ensures { result ≡ node_at self.now meeting }
     {
         self.nth_node(meeting / 2)
     }
@@ -43,8 +43,8 @@ impl Line {
     /// A node of the line, counted from 1.
     pub fn nth_node(&self, node: usize) -> usize
         requires some { 1 ≤ node }
-        requires fit { node_counted self.now node < 2 ^ 64 }
-        ensures { result ≡ node_counted self.now node }
+        requires fit { nth_node self.now node < 2 ^ 64 }
+        ensures { result ≡ nth_node self.now node }
     {
         self.node + (node - 1) * self.step
     }
@@ -192,7 +192,7 @@ fn put(slots: &mut [i64], line: Line, place: usize, number: i64)
     requires place { place < line.count }
     ensures numbers { (i : ℕ) → i < line.count → number_of line slots.new i ≡ replaced (number_of line slots.old) place number i }
     ensures fit { All (FitsSigned w64) slots.new }
-    ensures others { (p : ℕ) → ((i : ℕ) → i < line.count → p ≢ slot_place line i) → get_or slots.new p (pos 0) ≡ get_or slots.old p (pos 0) }
+    ensures others { (p : ℕ) → ((i : ℕ) → i < line.count → p ≢ slot_at line i) → get_or slots.new p (pos 0) ≡ get_or slots.old p (pos 0) }
     ensures length { length slots.new ≡ length slots.old }
 {
     let here = line.slot_at(place);
@@ -215,7 +215,7 @@ fn renew(slots: &[i64], nodes: &mut [Summary], line: Line, place: usize)
     requires place { place < line.count }
     requires kept { AreKeptBeside from_four TellsSums place line.count (number_of line slots.now) (node_of from_four empty line nodes.old) }
     ensures kept { AreKept from_four TellsSums line.count (number_of line slots.now) (node_of from_four empty line nodes.new) }
-    ensures others { (p : ℕ) → ((meeting : ℕ) → 2 ≤ meeting → meeting < line.count → p ≢ node_place line meeting) → get_or nodes.new p empty ≡ get_or nodes.old p empty }
+    ensures others { (p : ℕ) → ((meeting : ℕ) → 2 ≤ meeting → meeting < line.count → p ≢ node_at line meeting) → get_or nodes.new p empty ≡ get_or nodes.old p empty }
     ensures length { length nodes.new ≡ length nodes.old }
 {
     let mut block = place / 2;
@@ -241,7 +241,7 @@ fn close_parts(nodes: &mut [Summary], line: Line, end: usize, width: usize)
     requires below { end < line.count }
     requires width { (level : ℕ) × (width ≡ 4 * 2 ^ level) }
     requires within { width ≤ end }
-    requires nodes { node_place line end < length nodes.old }
+    requires nodes { node_at line end < length nodes.old }
     requires kept { (x : ℕ → ℤ) × AreKeptUpTo from_four TellsSums end width line.count x (node_of from_four empty line nodes.old) }
     ensures kept { (x : ℕ → ℤ) → AreKeptUpTo from_four TellsSums end width line.count x (node_of from_four empty line nodes.old) → AreKeptIn from_four TellsSums 0 end line.count x (node_of from_four empty line nodes.new) }
     ensures others { (p : ℕ) → p < line.node → get_or nodes.new p empty ≡ get_or nodes.old p empty }
@@ -374,7 +374,7 @@ fn fours_row(slots: &[i64], nodes: &mut [Summary], first: Line, from: usize)
     requires even { from % 2 ≡ 0 }
     requires full { from + 4 ≤ first.count }
     ensures told { (column : ℕ) → column < first.step → Tells (node_of from_four empty (line_of first column) nodes.new (from + 2)) (sums_from (number_of (line_of first column) slots.now) from 4) }
-    ensures others { (p : ℕ) → (p < node_place first (from + 2) ⊎ node_place first (from + 2) + first.step ≤ p) → get_or nodes.new p empty ≡ get_or nodes.old p empty }
+    ensures others { (p : ℕ) → (p < node_at first (from + 2) ⊎ node_at first (from + 2) + first.step ≤ p) → get_or nodes.new p empty ≡ get_or nodes.old p empty }
     ensures length { length nodes.new ≡ length nodes.old }
 {
     let step = first.step;
@@ -396,8 +396,8 @@ fn halves_row(nodes: &mut [Summary], first: Line, from: usize, half: usize)
     requires told { (column : ℕ) → column < first.step → (sums : Sums) × Tells (node_of from_four empty (line_of first column) nodes.old (from + half / 2)) sums }
     requires later { (column : ℕ) → column < first.step → (sums : Sums) × Tells (node_of from_four empty (line_of first column) nodes.old (from + half + half / 2)) sums }
     ensures told { (column : ℕ) → column < first.step → (earlier rest : Sums) → Tells (node_of from_four empty (line_of first column) nodes.old (from + half / 2)) earlier
-        → Tells (node_of from_four empty (line_of first column) nodes.old (from + half + half / 2)) rest → Tells (node_of from_four empty (line_of first column) nodes.new (from + half)) (join_of earlier rest) }
-    ensures others { (p : ℕ) → (p < node_place first (from + half) ⊎ node_place first (from + half) + first.step ≤ p) → get_or nodes.new p empty ≡ get_or nodes.old p empty }
+        → Tells (node_of from_four empty (line_of first column) nodes.old (from + half + half / 2)) rest → Tells (node_of from_four empty (line_of first column) nodes.new (from + half)) (join earlier rest) }
+    ensures others { (p : ℕ) → (p < node_at first (from + half) ⊎ node_at first (from + half) + first.step ≤ p) → get_or nodes.new p empty ≡ get_or nodes.old p empty }
     ensures length { length nodes.new ≡ length nodes.old }
 {
     let earlier = first.node_at(from + half / 2);
@@ -419,7 +419,7 @@ fn last_row(slots: &[i64], nodes: &mut [Summary], first: Line, from: usize, half
     requires kept { AreKeptBehind from_four empty TellsSums number_of from half first slots.now nodes.old }
     ensures told { (column : ℕ) → column < first.step
         → Tells (node_of from_four empty (line_of first column) nodes.new (from + half)) (sums_from (number_of (line_of first column) slots.now) from (min (2 * half) (first.count - from))) }
-    ensures others { (p : ℕ) → (p < node_place first (from + half) ⊎ node_place first (from + half) + first.step ≤ p) → get_or nodes.new p empty ≡ get_or nodes.old p empty }
+    ensures others { (p : ℕ) → (p < node_at first (from + half) ⊎ node_at first (from + half) + first.step ≤ p) → get_or nodes.new p empty ≡ get_or nodes.old p empty }
     ensures length { length nodes.new ≡ length nodes.old }
 {
     for column in 0..first.step {
@@ -561,8 +561,8 @@ pub(crate) fn write(slots: &mut [i64], nodes: &mut [Summary], line: Line, place:
     ensures numbers { (i : ℕ) → i < line.count → number_of line slots.new i ≡ replaced (number_of line slots.old) place number i }
     ensures fit { All (FitsSigned w64) slots.new }
     ensures kept { AreKept from_four TellsSums line.count (number_of line slots.new) (node_of from_four empty line nodes.new) }
-    ensures other_slots { (p : ℕ) → ((i : ℕ) → i < line.count → p ≢ slot_place line i) → get_or slots.new p (pos 0) ≡ get_or slots.old p (pos 0) }
-    ensures other_nodes { (p : ℕ) → ((meeting : ℕ) → 2 ≤ meeting → meeting < line.count → p ≢ node_place line meeting) → get_or nodes.new p empty ≡ get_or nodes.old p empty }
+    ensures other_slots { (p : ℕ) → ((i : ℕ) → i < line.count → p ≢ slot_at line i) → get_or slots.new p (pos 0) ≡ get_or slots.old p (pos 0) }
+    ensures other_nodes { (p : ℕ) → ((meeting : ℕ) → 2 ≤ meeting → meeting < line.count → p ≢ node_at line meeting) → get_or nodes.new p empty ≡ get_or nodes.old p empty }
     ensures slot_count { length slots.new ≡ length slots.old }
     ensures node_count { length nodes.new ≡ length nodes.old }
 {
@@ -579,7 +579,7 @@ fn pair_last(slots: &mut [i64], line: Line)
     ensures numbers { (i : ℕ) → i < line.count - 1 → number_of line slots.new i ≡ number_of (shorter line) slots.old i }
     ensures last { number_of line slots.new (line.count - 1) ≡ slot_of line slots.old (line.count - 1) }
     ensures fit { All (FitsSigned w64) slots.new }
-    ensures others { (p : ℕ) → ((i : ℕ) → i < line.count → p ≢ slot_place line i) → get_or slots.new p (pos 0) ≡ get_or slots.old p (pos 0) }
+    ensures others { (p : ℕ) → ((i : ℕ) → i < line.count → p ≢ slot_at line i) → get_or slots.new p (pos 0) ≡ get_or slots.old p (pos 0) }
     ensures length { length slots.new ≡ length slots.old }
 {
     let place = line.count - 1;
@@ -601,8 +601,8 @@ pub(crate) fn take_last(slots: &mut [i64], nodes: &mut [Summary], line: Line)
     ensures last { number_of line slots.new (line.count - 1) ≡ slot_of line slots.old (line.count - 1) }
     ensures fit { All (FitsSigned w64) slots.new }
     ensures kept { AreKept from_four TellsSums line.count (number_of line slots.new) (node_of from_four empty line nodes.new) }
-    ensures other_slots { (p : ℕ) → ((i : ℕ) → i < line.count → p ≢ slot_place line i) → get_or slots.new p (pos 0) ≡ get_or slots.old p (pos 0) }
-    ensures other_nodes { (p : ℕ) → ((meeting : ℕ) → 2 ≤ meeting → meeting < line.count → p ≢ node_place line meeting) → get_or nodes.new p empty ≡ get_or nodes.old p empty }
+    ensures other_slots { (p : ℕ) → ((i : ℕ) → i < line.count → p ≢ slot_at line i) → get_or slots.new p (pos 0) ≡ get_or slots.old p (pos 0) }
+    ensures other_nodes { (p : ℕ) → ((meeting : ℕ) → 2 ≤ meeting → meeting < line.count → p ≢ node_at line meeting) → get_or nodes.new p empty ≡ get_or nodes.old p empty }
     ensures slot_count { length slots.new ≡ length slots.old }
     ensures node_count { length nodes.new ≡ length nodes.old }
 {

@@ -4,7 +4,7 @@ ghost use Rattle.std.specs.Prelude.{◌≡◌, ◌<◌, Ok, Err, pos, length, ma
 ghost use Rattle.std.specs.List.{range_with_len};
 ghost use Rattle.arrays_core.specs.declared.item.ItemType.TheVariants.{Nums};
 ghost use Rattle.arrays_core.specs.Items.{all_or_first_error};
-ghost use Rattle.arrays_core.specs.Shapes.{size as size_of, IsWithinLimits};
+ghost use Rattle.arrays_core.specs.Shapes.{size, IsWithinLimits};
 ghost use Rattle.arrays_core.specs.Arrays.{with_items, IsAnswerTo};
 ghost use Rattle.scalar_fns.specs.Numbers.{dyadic_on_numbers};
 ghost use Rattle.scalar_fns.specs.Folds.{folded};
@@ -120,7 +120,7 @@ impl<'a, G: TwoNumbers> MetNumbers<'a, G> {
     /// The array of these numbers.
     pub(crate) fn array(&self, alloc: Global, shape: &Shape) -> Result<Array, ApplyFault>
         requires within { IsWithinLimits shape.now.items }
-        requires shaped { size_of shape.now.items ≡ self.now.places }
+        requires shaped { size shape.now.items ≡ self.now.places }
         ensures { IsAnswerTo (with_items Nums shape.now.items (number_items (all_or_first_error (map (cell (dyadic_on_numbers self.now.fold) (G.gives self.now.each) self.now.left.now self.now.right.now self.now.grid) (range_with_len 0 self.now.places))))) result }
     {
         let numbers = self.cells(alloc)?;

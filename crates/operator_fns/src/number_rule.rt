@@ -5,8 +5,8 @@ ghost use Rattle.std.specs.List.{range_with_len};
 ghost use Rattle.arrays_core.specs.declared.item.ItemType.TheVariants.{Nums};
 ghost use Rattle.arrays_core.specs.declared.item.Kind.{Kind as AKind};
 ghost use Rattle.arrays_core.specs.Items.{all_or_first_error};
-ghost use Rattle.arrays_core.specs.Shapes.{size as size_of, places_before, IsWithinLimits};
-ghost use Rattle.arrays_core.specs.Arrays.{collect as collected, with_items, IsAnswerTo};
+ghost use Rattle.arrays_core.specs.Shapes.{size, places_before, IsWithinLimits};
+ghost use Rattle.arrays_core.specs.Arrays.{collect, with_items, IsAnswerTo};
 ghost use Rattle.scalar_fns.specs.Items.{number_item};
 ghost use Rattle.scalar_fns.specs.NumberLists.{number_items, IsListAnswerTo};
 
@@ -42,8 +42,8 @@ fn numbers_of<R: NumberRule>(alloc: Global, rule: &R, places: usize) -> Result<V
 /// The array of the list of a rule's numbers.
 fn array_of<R: NumberRule>(alloc: Global, rule: &R, shape: &Shape) -> Result<Array, ApplyFault>
     requires within { IsWithinLimits shape.now.items }
-    requires shaped { size_of shape.now.items ≡ R.places rule.now }
-    ensures { IsAnswerTo (with_items Nums shape.now.items (number_items (all_or_first_error (map (R.number rule.now) (range_with_len 0 (size_of shape.now.items)))))) result }
+    requires shaped { size shape.now.items ≡ R.places rule.now }
+    ensures { IsAnswerTo (with_items Nums shape.now.items (number_items (all_or_first_error (map (R.number rule.now) (range_with_len 0 (size shape.now.items)))))) result }
 {
     let numbers = numbers_of(alloc, rule, size(shape.as_slice()) as usize)?;
     Ok(Array::from_numbers(shape, numbers)?)
@@ -56,8 +56,8 @@ pub(crate) fn collect_numbers<R: NumberRule>(
     shape: &Shape,
 ) -> Result<Array, ApplyFault>
     requires within { IsWithinLimits shape.now.items }
-    requires shaped { size_of shape.now.items ≡ R.places rule.now }
-    ensures { IsAnswerTo (collected Nums shape.now.items (λ index. number_item (R.number rule.now (places_before shape.now.items index)))) result }
+    requires shaped { size shape.now.items ≡ R.places rule.now }
+    ensures { IsAnswerTo (collect Nums shape.now.items (λ index. number_item (R.number rule.now (places_before shape.now.items index)))) result }
 {
     array_of(alloc, rule, shape)
 }

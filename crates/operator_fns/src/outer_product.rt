@@ -7,12 +7,12 @@ ghost use Rattle.arrays_core.specs.declared.item.Item.TheVariants.{Num};
 ghost use Rattle.arrays_core.specs.declared.item.ItemType.TheVariants.{Nums};
 ghost use Rattle.arrays_core.specs.Items.{all_or_first_error};
 ghost use Rattle.arrays_core.specs.Arrays.{with_items, IsAnswerTo, IsArray};
-ghost use Rattle.arrays_core.specs.Shapes.{size as size_of, IsWithinLimits};
+ghost use Rattle.arrays_core.specs.Shapes.{size, IsWithinLimits};
 ghost use Rattle.index_region.specs.ArgumentLists.{of_two_arguments};
 ghost use Rattle.index_region.specs.Answers.{IsFormAnswerTo, IsPlaceOf, HasTypeOf};
 ghost use Rattle.change_core.specs.Sourced.{uses_of_two};
 ghost use Rattle.scalar_fns.specs.NumberLists.{number_items, IsListAnswerTo};
-ghost use Rattle.operator_fns.specs.ResultTable.{table as table_of, with_results, LeavesOrFails};
+ghost use Rattle.operator_fns.specs.ResultTable.{table, with_results, LeavesOrFails};
 ghost use Rattle.operator_fns.specs.OuterProduct.{outer_form, outer_item, outer_whole, front_use, back_use};
 ghost use Rattle.operator_fns.specs.Laws.OuterProduct.{outer_tight};
 ghost use Rattle.operator_fns.specs.Laws.OuterProductGrowth.{outer_growing};
@@ -52,7 +52,7 @@ fn table_numbers<S: TwoNumbers>(
     right: &[i64],
 ) -> Result<Vec<i64>, ApplyFault>
     requires few { length left.now * length right.now ≤ most_places }
-    ensures is { IsListAnswerTo (all_or_first_error (table_of (S.gives step.now) left.now right.now)) result }
+    ensures is { IsListAnswerTo (all_or_first_error (table (S.gives step.now) left.now right.now)) result }
     ensures long { IfOk result (λ v. vec_len v ≡ length left.now * length right.now) }
 {
     let mut numbers = Vec::with_capacity(alloc, room_of(left.len() * right.len()))?;
@@ -70,13 +70,13 @@ struct Table<'a> {
     right: &'a [i64],
     shape: &'a Shape,
     ghost within: { IsWithinLimits shape.now.items },
-    ghost whole: { size_of shape.now.items ≡ length left.now * length right.now },
+    ghost whole: { size shape.now.items ≡ length left.now * length right.now },
 }
 
 impl<'a> WithFunction for Table<'a> {
     type Output = Result<Array, ApplyFault>;
 
-    ghost makes = { λ t gives result. IsAnswerTo (with_items Nums t.shape.now.items (number_items (all_or_first_error (table_of gives t.left.now t.right.now)))) result };
+    ghost makes = { λ t gives result. IsAnswerTo (with_items Nums t.shape.now.items (number_items (all_or_first_error (table gives t.left.now t.right.now)))) result };
 
     fn with<S: TwoNumbers + Copy>(self, step: S) -> Result<Array, ApplyFault> {
         let numbers = table_numbers(self.alloc, &step, self.left, self.right)?;

@@ -5,7 +5,7 @@ ghost use Rattle.std.proofs.Common.{rules};
 ghost use Rattle.arrays_core.specs.declared.item.Item.TheVariants.{Num};
 ghost use Rattle.arrays_core.specs.declared.item.ItemType.TheVariants.{Nums};
 ghost use Rattle.arrays_core.specs.Arrays.{IsAnswerTo};
-ghost use Rattle.arrays_core.specs.Shapes.{size as size_of, IsWithinLimits};
+ghost use Rattle.arrays_core.specs.Shapes.{size, IsWithinLimits};
 ghost use Rattle.index_region.specs.ArgumentLists.{of_one_argument};
 ghost use Rattle.index_region.specs.Answers.{IsFormAnswerTo, IsPlaceOf, HasTypeOf};
 ghost use Rattle.change_core.specs.Sourced.{uses_of_one};
@@ -71,7 +71,7 @@ impl<'a> NumberRule for Totals<'a> {
 /// The array of the sums of the lines.
 fn sums(alloc: Global, lines: &AxisLines, shape: &Shape) -> Result<Array, ApplyFault>
     requires within { IsWithinLimits shape.now.items }
-    requires shaped { size_of shape.now.items ≡ lines.now.places }
+    requires shaped { size shape.now.items ≡ lines.now.places }
     ensures { IsAnswerTo (line_folds (dyadic_on_numbers Sum) lines.now shape.now.items) result }
 {
     if lines.stride == 1 {
@@ -90,7 +90,7 @@ fn folds_by<S: RowFold>(
     shape: &Shape,
 ) -> Result<Array, ApplyFault>
     requires within { IsWithinLimits shape.now.items }
-    requires shaped { size_of shape.now.items ≡ lines.now.places }
+    requires shaped { size shape.now.items ≡ lines.now.places }
     ensures { IsAnswerTo (line_folds (S.gives step.now) lines.now shape.now.items) result }
 {
     let each = LineFolds {
@@ -114,7 +114,7 @@ struct Foldable<'a> {
     lines: AxisLines<'a>,
     shape: &'a Shape,
     ghost within: { IsWithinLimits shape.now.items },
-    ghost shaped: { size_of shape.now.items ≡ lines.places },
+    ghost shaped: { size shape.now.items ≡ lines.places },
 }
 
 impl<'a> WithFunction for Foldable<'a> {
@@ -135,7 +135,7 @@ fn folds(
     shape: &Shape,
 ) -> Result<Array, ApplyFault>
     requires within { IsWithinLimits shape.now.items }
-    requires shaped { size_of shape.now.items ≡ lines.now.places }
+    requires shaped { size shape.now.items ≡ lines.now.places }
     ensures { IsAnswerTo (line_folds (dyadic_on_numbers function) lines.now shape.now.items) result }
 {
     if function == Scalar2::Plus {

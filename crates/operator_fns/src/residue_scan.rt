@@ -7,7 +7,7 @@ ghost use Rattle.scalar_fns.specs.Numbers.{dyadic_on_numbers};
 ghost use Rattle.scalar_fns.specs.Folds.{folded};
 ghost use Rattle.operator_fns.specs.AxisLines.{scans_of};
 ghost use Rattle.operator_fns.specs.LinearScan.{scanned};
-ghost use Rattle.operator_fns.specs.ResidueScan.{reach_of as reach_by, reach_at, place_before as place_ahead, are_one_sided as are_sided, is_low, is_high, IsBeside, AreDivisors, IsDivisor, AreTheSame, LeadsTo, from, rank};
+ghost use Rattle.operator_fns.specs.ResidueScan.{reach_of, reach_at, place_before, are_one_sided, is_low, is_high, IsBeside, AreDivisors, IsDivisor, AreTheSame, LeadsTo, from, rank};
 
 use crate::axis_lines::AxisLines;
 use arrays_core::room_of;
@@ -29,7 +29,7 @@ pub(crate) struct Divisor {
 
 /// How far from 0 a number is as a divisor.
 fn reach_of(number: i64) -> u64
-    ensures is { result ≡ reach_by number }
+    ensures is { result ≡ reach_of number }
     ensures some { 0 < result }
 {
     if number == 0 {
@@ -55,7 +55,7 @@ fn are_high(numbers: &[i64]) -> bool
 
 /// None of the numbers is above 0, or none is below.
 pub(crate) fn are_one_sided(numbers: &[i64]) -> bool
-    ensures { result ≡ are_sided numbers.now }
+    ensures { result ≡ are_one_sided numbers.now }
 {
     are_high(numbers) || are_low(numbers)
 }
@@ -68,13 +68,13 @@ struct SidedLines<'a> {
     count: usize,
     ghost some: { 1 ≤ count },
     ghost apart: { 0 < stride },
-    ghost sided: { IsTrue (are_sided numbers.now) },
+    ghost sided: { IsTrue (are_one_sided numbers.now) },
 }
 
 impl<'a> SidedLines<'a> {
     /// The place before one on its line.
     fn place_before(&self, place: usize) -> Option<usize>
-        ensures is { result ≡ place_ahead self.now.stride self.now.count place }
+        ensures is { result ≡ place_before self.now.stride self.now.count place }
         ensures before { rank result ≤ place }
     {
         if place / self.stride % self.count == 0 {
@@ -197,7 +197,7 @@ impl<'a> SidedLines<'a> {
 /// The residues of the first numbers of each line, where none of them is below 0, or none above. A number that is nearer to 0
 /// than a divisor is its own residue by it, so only those divisors are looked at that make it less than half as far from 0.
 pub(crate) fn running_residues(alloc: Global, lines: &AxisLines) -> Result<Vec<i64>, AllocError>
-    requires sided { IsTrue (are_sided lines.now.numbers.now) }
+    requires sided { IsTrue (are_one_sided lines.now.numbers.now) }
     ensures is { IfOk result (λ v. scans_of (dyadic_on_numbers ByResidue) lines.now ≡ Ok v.items) }
     ensures long { IfOk result (λ v. vec_len v ≡ length lines.now.numbers.now) }
 {

@@ -5,11 +5,11 @@ ghost use Rattle.arrays_core.specs.Limits.{most_places};
 ghost use Rattle.arrays_core.specs.Items.{fill, type_of};
 ghost use Rattle.arrays_core.specs.declared.item.Item.TheVariants.{Num};
 ghost use Rattle.arrays_core.specs.declared.item.ItemType.TheVariants.{Nums};
-ghost use Rattle.arrays_core.specs.Shapes.{is_index_of as is_below, size as size_of, IsWithinLimits};
+ghost use Rattle.arrays_core.specs.Shapes.{is_index_of, size, IsWithinLimits};
 ghost use Rattle.scalar_fns.specs.Identities.{identity_of};
 ghost use Rattle.scalar_fns.specs.Folds.{strided};
-ghost use Rattle.index_region.specs.Arguments.{numbers as numbers_of};
-ghost use Rattle.operator_fns.specs.RightFold.{identity_item as item_of_identity, fold_right, line};
+ghost use Rattle.index_region.specs.Arguments.{numbers};
+ghost use Rattle.operator_fns.specs.RightFold.{identity_item, fold_right, line};
 
 use arrays_core::{Item, Kind, position, size, with_axis};
 use index_region::Seen;
@@ -18,7 +18,7 @@ use std::alloc::{AllocError, Global};
 
 /// What a fold of no items gives: the identity of the function, or DOMAIN where it has none.
 pub(crate) fn identity_item(function: Scalar2) -> Result<Item, Kind>
-    ensures is { result ≡ item_of_identity (identity_of function) }
+    ensures is { result ≡ identity_item (identity_of function) }
     ensures typed { IfOk result (λ x. type_of x ≡ Nums) }
 {
     match identity(function) {
@@ -55,8 +55,8 @@ pub(crate) fn fold_items(
 pub(crate) fn stride(axes: &[u32], axis: usize) -> u32
     requires within { IsWithinLimits axes.now }
     requires there { axis < length axes.now }
-    requires some { 0 < size_of axes.now }
-    ensures is { result ≡ size_of (drop (axis + 1) axes.now) }
+    requires some { 0 < size axes.now }
+    ensures is { result ≡ size (drop (axis + 1) axes.now) }
     ensures apart { 0 < result }
 {
     let (_, later) = axes.split_at(axis + 1);
@@ -75,7 +75,7 @@ fn numbers_apart(
     requires low { 1 ≤ first }
     requires few { length array.now.items ≤ most_places }
     requires high { first + (count - 1) * stride ≤ length array.now.items }
-    ensures { IfOk result (λ v. v.items ≡ strided (pos 0) (numbers_of array.now) (first - 1) stride count) }
+    ensures { IfOk result (λ v. v.items ≡ strided (pos 0) (numbers array.now) (first - 1) stride count) }
 {
     let mut numbers = Vec::with_capacity(alloc, count as usize)?;
     for before in 0..count {
@@ -94,7 +94,7 @@ pub(crate) fn line_numbers(
 ) -> Result<Vec<i64>, AllocError>
     requires typed { array.now.item_type ≡ Nums }
     requires there { axis < length array.now.shape }
-    requires inside { IsTrue (is_below (remove array.now.shape axis) index.now) }
+    requires inside { IsTrue (is_index_of (remove array.now.shape axis) index.now) }
     requires some { 1 ≤ count }
     requires few { count ≤ get_or array.now.shape axis 0 }
     ensures { IfOk result (λ v. map (λ z. Num z) v.items ≡ take count (line array.now axis index.now)) }
@@ -115,7 +115,7 @@ pub(crate) fn fold_line(
     count: u32,
 ) -> Result<Item, Kind>
     requires there { axis < length array.now.shape }
-    requires inside { IsTrue (is_below (remove array.now.shape axis) index.now) }
+    requires inside { IsTrue (is_index_of (remove array.now.shape axis) index.now) }
     requires some { 1 ≤ count }
     requires few { count ≤ get_or array.now.shape axis 0 }
     ensures is { result ≡ fold_right function (take count (line array.now axis index.now)) }

@@ -6,7 +6,7 @@ ghost use Rattle.arrays_core.specs.declared.item.Item.TheVariants.{Num};
 ghost use Rattle.arrays_core.specs.declared.item.ItemType.TheVariants.{Nums};
 ghost use Rattle.arrays_core.specs.Arrays.{with_items, IsAnswerTo};
 ghost use Rattle.arrays_core.specs.Limits.{longest_axis};
-ghost use Rattle.arrays_core.specs.Shapes.{size as size_of, IsWithinLimits};
+ghost use Rattle.arrays_core.specs.Shapes.{size, IsWithinLimits};
 ghost use Rattle.index_region.specs.ArgumentLists.{of_one_argument};
 ghost use Rattle.index_region.specs.Answers.{IsFormAnswerTo, IsPlaceOf, HasTypeOf};
 ghost use Rattle.function_names.specs.Axes.{axis_at};
@@ -40,7 +40,7 @@ fn scans(
     shape: &Shape,
 ) -> Result<Array, ApplyFault>
     requires within { IsWithinLimits shape.now.items }
-    requires long { size_of shape.now.items ≡ length lines.now.numbers.now }
+    requires long { size shape.now.items ≡ length lines.now.numbers.now }
     ensures { IsAnswerTo (with_items Nums shape.now.items (number_items (scans_of (dyadic_on_numbers function) lines.now))) result }
 {
     let folds = number_folds(alloc, function, lines)?;

@@ -3,7 +3,7 @@
 ghost use Rattle.std.specs.Prelude.{◌≡◌, ◌<◌, ◌≤◌, ◌-◌, ◌/◌, ◌^◌, ◌==◌, ◌++◌, ◌∷◌, [], ℕ, ℤ, List, All, FitsSigned, length, IfOk, slice_set};
 ghost use Rattle.std.specs.Int.{w64};
 ghost use Rattle.operator_fns.specs.SumNodes.{empty, TellsSums};
-ghost use Rattle.operator_fns.specs.SumTree.{IsReductionBySum, IsWithinDigitsOf, one_line as line_of_all};
+ghost use Rattle.operator_fns.specs.SumTree.{IsReductionBySum, IsWithinDigitsOf, one_line};
 ghost use Rattle.operator_fns.specs.LineTrees.{number_of, from_four, node_of, AreKept};
 
 use crate::line_tree::{Line, LineTree, pair_block, push_line, write};
@@ -14,7 +14,7 @@ use std::marker::Model;
 
 /// Where the numbers of a list of so many lie that is by itself.
 fn one_line(count: usize) -> Line
-    ensures { result ≡ line_of_all count }
+    ensures { result ≡ one_line count }
 {
     Line {
         count,
@@ -46,7 +46,7 @@ fn copied(alloc: Global, numbers: &[i64]) -> Result<Vec<i64>, AllocError>
 /// What is kept of the parts of a list that is by itself. AllocError where memory for it is refused.
 fn nodes_of(alloc: Global, slots: &[i64]) -> Result<Vec<Summary>, AllocError>
     requires { length slots.now < 2 ^ 62 }
-    ensures kept { IfOk result (λ v. AreKept from_four TellsSums (length slots.now) (number_of (line_of_all (length slots.now)) slots.now) (node_of from_four empty (line_of_all (length slots.now)) v.items)) }
+    ensures kept { IfOk result (λ v. AreKept from_four TellsSums (length slots.now) (number_of (one_line (length slots.now)) slots.now) (node_of from_four empty (one_line (length slots.now)) v.items)) }
     ensures sized { IfOk result (λ v. length v.items ≡ (length slots.now - 1) / 2) }
 {
     let mut nodes = Vec::with_capacity(alloc, slots.len().saturating_sub(1) / 2)?;

@@ -7,7 +7,7 @@ ghost use Rattle.operator_fns.specs.SumNodes.{empty, TellsSums};
 ghost use Rattle.operator_fns.specs.LineTrees.{slot_of, number_of, shorter, from_four, IsIn, node_of, AreKept, nodes_in_line};
 ghost use Rattle.operator_fns.specs.LineBlocks.{block_at, line_at, AreAllKept};
 ghost use Rattle.operator_fns.specs.SumTree.{IsReductionBySum, IsWithinDigitsOf};
-ghost use Rattle.operator_fns.specs.SumTrees.{FitBehind, FitNext, with_lines, with_places, line_through as line_of_place, numbers_kept, line_count as lines_in, numbers_of_line, numbers_through, with_number, AreLines, AreLineTrees};
+ghost use Rattle.operator_fns.specs.SumTrees.{FitBehind, FitNext, with_lines, with_places, line_through, numbers_kept, line_count, numbers_of_line, numbers_through, with_number, AreLines, AreLineTrees};
 
 use crate::line_tree::{Line, LineTree, fill_block, pair_block, push_line, take_last, write};
 use crate::sum_tree::read_all;
@@ -37,7 +37,7 @@ fn nth_line(count: usize, step: usize, line: usize) -> Line
 pub fn line_through(count: usize, step: usize, place: usize) -> usize
     requires some { 0 < count }
     requires apart { 0 < step }
-    ensures { result ≡ line_of_place count step place }
+    ensures { result ≡ line_through count step place }
 {
     place / step / count * step + place % step
 }
@@ -208,21 +208,21 @@ impl SumTrees {
 
     /// How many lines there are.
     pub fn len(&self) -> usize
-        ensures { result ≡ lines_in self.now }
+        ensures { result ≡ line_count self.now }
     {
         self.slots.len() / self.count
     }
 
     /// Whether there are no lines.
     pub fn is_empty(&self) -> bool
-        ensures { result ≡ (lines_in self.now == 0) }
+        ensures { result ≡ (line_count self.now == 0) }
     {
         self.len() == 0
     }
 
     /// The sum of the numbers of a line from the last to the first, or LIMIT where it leaves 64 bits on its way.
     pub fn result(&self, line: usize) -> Result<i64, Kind>
-        requires { line < lines_in self.now }
+        requires { line < line_count self.now }
         ensures { IsReductionBySum (numbers_of_line self.now line) result }
     {
         let tree = nth_tree(&self.slots, &self.nodes, self.count, self.step, line);
@@ -232,7 +232,7 @@ impl SumTrees {
     /// The sum of the numbers of a line and of one more behind them, from the last to the first, or LIMIT where it leaves 64 bits on its
     /// way. It takes one join of summaries.
     pub fn result_behind(&self, line: usize, number: i64) -> Result<i64, Kind>
-        requires { line < lines_in self.now }
+        requires { line < line_count self.now }
         ensures { IsReductionBySum (numbers_of_line self.now line ++ number ∷ []) result }
     {
         let tree = nth_tree(&self.slots, &self.nodes, self.count, self.step, line);

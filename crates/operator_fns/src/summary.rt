@@ -2,7 +2,7 @@
 
 ghost use Rattle.std.specs.Prelude.{◌≡◌, ◌+◌, ◌^◌, ◌<◌, ◌≤◌, true, unsigned_abs, ℤ, pos, ◌+ℤ◌, ◌-ℤ◌, ◌≤ℤ◌, neg_ℤ};
 ghost use Rattle.std.specs.Int.{int_wrap, w64};
-ghost use Rattle.operator_fns.specs.SumNodes.{Sums, IsOrdered, Tells, told, none as none_of, single as single_of, join as join_of, sum_told};
+ghost use Rattle.operator_fns.specs.SumNodes.{Sums, IsOrdered, Tells, told, none, single, join, sum_told};
 
 use arrays_core::Kind;
 
@@ -41,7 +41,7 @@ fn sum_of_two(left: i64, right: i64, sum: i64) -> i128
 impl Summary {
     /// That of no numbers.
     pub(crate) fn none() -> Summary
-        ensures { Tells result none_of }
+        ensures { Tells result none }
     {
         Summary {
             below: 0,
@@ -52,7 +52,7 @@ impl Summary {
 
     /// That of one number.
     pub(crate) fn of(number: i64) -> Summary
-        ensures { Tells result (single_of number) }
+        ensures { Tells result (single number) }
     {
         let size = number.unsigned_abs();
         if number < 0 {
@@ -72,7 +72,7 @@ impl Summary {
 
     /// That of two numbers: of the second one, and of one before it of which the sum with it is given, as far as 64 bits hold that.
     pub(crate) fn of_pair(sum: i64, right: i64) -> Summary
-        ensures { Tells result (join_of (single_of (int_wrap w64 (sum -ℤ right))) (single_of right)) }
+        ensures { Tells result (join (single (int_wrap w64 (sum -ℤ right))) (single right)) }
     {
         if let Some(_left) = sum.checked_sub(right) {
             return Summary::of_narrow(sum, sum.min(right).min(0), sum.max(right).max(0));
@@ -86,7 +86,7 @@ impl Summary {
     /// That of four numbers: of the second and the fourth one, and of those before them of which the sums with them are given, as far
     /// as 64 bits hold these.
     pub(crate) fn of_four(sum: i64, right: i64, later: i64, last: i64) -> Summary
-        ensures { Tells result (join_of (join_of (single_of (int_wrap w64 (sum -ℤ right))) (single_of right)) (join_of (single_of (int_wrap w64 (later -ℤ last))) (single_of last))) }
+        ensures { Tells result (join (join (single (int_wrap w64 (sum -ℤ right))) (single right)) (join (single (int_wrap w64 (later -ℤ last))) (single last))) }
     {
         let first_near = sum.unsigned_abs() < NEAR && right.unsigned_abs() < NEAR;
         let later_near = later.unsigned_abs() < NEAR && last.unsigned_abs() < NEAR;
@@ -110,7 +110,7 @@ impl Summary {
     #[cold]
     #[inline(never)]
     fn of_far(sum: i64, right: i64, later: i64, last: i64) -> Summary
-        ensures { Tells result (join_of (join_of (single_of (int_wrap w64 (sum -ℤ right))) (single_of right)) (join_of (single_of (int_wrap w64 (later -ℤ last))) (single_of last))) }
+        ensures { Tells result (join (join (single (int_wrap w64 (sum -ℤ right))) (single right)) (join (single (int_wrap w64 (later -ℤ last))) (single last))) }
     {
         Summary::of_pair(sum, right).join(&Summary::of_pair(later, last))
     }
@@ -121,7 +121,7 @@ impl Summary {
         requires right { unsigned_abs right < 2 ^ 61 }
         requires later { unsigned_abs later < 2 ^ 61 }
         requires last { unsigned_abs last < 2 ^ 61 }
-        ensures { Tells result (join_of (join_of (single_of (int_wrap w64 (sum -ℤ right))) (single_of right)) (join_of (single_of (int_wrap w64 (later -ℤ last))) (single_of last))) }
+        ensures { Tells result (join (join (single (int_wrap w64 (sum -ℤ right))) (single right)) (join (single (int_wrap w64 (later -ℤ last))) (single last))) }
     {
         let three = right + later;
         let total = sum + later;
@@ -194,7 +194,7 @@ impl Summary {
     pub(crate) fn join(&self, later: &Summary) -> Summary
         requires here { (sums : Sums) × Tells self.now sums }
         requires later { (sums : Sums) × Tells later.now sums }
-        ensures { (earlier : Sums) → (rest : Sums) → Tells self.now earlier → Tells later.now rest → Tells result (join_of earlier rest) }
+        ensures { (earlier : Sums) → (rest : Sums) → Tells self.now earlier → Tells later.now rest → Tells result (join earlier rest) }
     {
         if self.is_near() && later.is_near() {
             return self.join_near(later);
@@ -218,7 +218,7 @@ impl Summary {
     fn join_far(&self, later: &Summary) -> Summary
         requires here { (sums : Sums) × Tells self.now sums }
         requires later { (sums : Sums) × Tells later.now sums }
-        ensures { (earlier : Sums) → (rest : Sums) → Tells self.now earlier → Tells later.now rest → Tells result (join_of earlier rest) }
+        ensures { (earlier : Sums) → (rest : Sums) → Tells self.now earlier → Tells later.now rest → Tells result (join earlier rest) }
     {
         let shift = later.total();
         let least = (self.least() + shift).min(later.least());
@@ -239,7 +239,7 @@ impl Summary {
         requires near { (self.now.below < 2 ^ 61) × (self.now.above < 2 ^ 61) }
         requires later_sound { IsOrdered (told later.now) }
         requires later_near { (later.now.below < 2 ^ 61) × (later.now.above < 2 ^ 61) }
-        ensures { told result ≡ join_of (told self.now) (told later.now) }
+        ensures { told result ≡ join (told self.now) (told later.now) }
     {
         let below = later.below + self.below.saturating_sub(later.total);
         let up = self.above + later.total;

@@ -2,7 +2,7 @@
 
 ghost use Rattle.std.specs.Prelude.{◌≡◌, ◌≢◌, IsTrue};
 ghost use Rattle.std.proofs.Common.{rules};
-ghost use Rattle.arrays_core.specs.Shapes.{size as size_of, is_index_of};
+ghost use Rattle.arrays_core.specs.Shapes.{size, is_index_of};
 ghost use Rattle.scalar_fns.specs.ScalarExtension.{extended};
 ghost use Rattle.index_region.specs.ArgumentLists.{of_two_arguments};
 ghost use Rattle.scalar_fns.specs.EachDyadic.{each_dyadic_form, each_dyadic_item, each_dyadic_rule};
@@ -27,7 +27,7 @@ pub struct EachDyadic {
 
 /// The item of an array at an index list of the common shape.
 fn extended_item(array: &Seen, index: &[u32]) -> Item
-    requires { size_of array.now.shape ≢ 1 → IsTrue (is_index_of array.now.shape index.now) }
+    requires { size array.now.shape ≢ 1 → IsTrue (is_index_of array.now.shape index.now) }
     ensures { result ≡ extended array.now index.now }
 {
     // The shape says that there is one item a place.

@@ -3,7 +3,7 @@
 ghost use Rattle.std.specs.Prelude.{◌≡◌, ◌≢◌, ◌<◌, ◌≤◌, ℕ, pos, length, get_or, Ok, IfOk, vec_len};
 ghost use Rattle.arrays_core.specs.Items.{all_or_first_error};
 ghost use Rattle.function_names.specs.declared.scalar.Scalar2.TheVariants as two;
-ghost use Rattle.scalar_fns.specs.Numbers.{dyadic_on_numbers, power as power_of};
+ghost use Rattle.scalar_fns.specs.Numbers.{dyadic_on_numbers, power};
 ghost use Rattle.scalar_fns.specs.NumberLists.{dyadic_results, paired_length, IsListAnswerTo};
 
 use crate::kernels::{OneNumber, Power};
@@ -23,7 +23,7 @@ struct PowersOf {
     powers: [i64; KEPT],
     count: usize,
     ghost few: { count ≤ 64 },
-    ghost is: { (k : ℕ) → k < count → power_of base (pos k) ≡ Ok (get_or powers k (pos 0)) },
+    ghost is: { (k : ℕ) → k < count → power base (pos k) ≡ Ok (get_or powers k (pos 0)) },
 }
 
 impl PowersOf {

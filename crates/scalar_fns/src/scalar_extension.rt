@@ -1,7 +1,7 @@
 //! Scalar functions of arrays.
 
 ghost use Rattle.std.specs.Prelude.{◌≡◌, ◌≤◌, ◌≢◌, IsTrue, List, ℕ, Ok, false, length, replicate};
-ghost use Rattle.arrays_core.specs.Shapes.{size as size_of, is_index_of, IsWithinLimits, IsShapeAnswerTo};
+ghost use Rattle.arrays_core.specs.Shapes.{size, is_index_of, IsWithinLimits, IsShapeAnswerTo};
 ghost use Rattle.arrays_core.specs.Arrays.{IsAnswerTo, IsArray, item_of, scalar_of, with_items};
 ghost use Rattle.arrays_core.specs.declared.item.ItemType.TheVariants.{Nums};
 ghost use Rattle.scalar_fns.specs.ScalarExtension.{common, extended, monadic_on_array, dyadic_on_arrays};
@@ -52,7 +52,7 @@ pub fn common_shape(left: &Shape, right: &Shape) -> Result<Shape, Kind>
 
 /// The item of an array at an index list of the common shape.
 fn item_at_extended(array: &Array, index: &[u32]) -> Item
-    requires one { size_of array.now.shape ≢ 1 → IsTrue (is_index_of array.now.shape index.now) }
+    requires one { size array.now.shape ≢ 1 → IsTrue (is_index_of array.now.shape index.now) }
     ensures { result ≡ extended array.now index.now }
 {
     let shape = array.shape();
@@ -70,8 +70,8 @@ struct Pairs<'a> {
     left: &'a Array,
     right: &'a Array,
     shape: &'a Shape,
-    ghost left_fits: { size_of left.now.shape ≢ 1 → left.now.shape ≡ shape.now.items },
-    ghost right_fits: { size_of right.now.shape ≢ 1 → right.now.shape ≡ shape.now.items },
+    ghost left_fits: { size left.now.shape ≢ 1 → left.now.shape ≡ shape.now.items },
+    ghost right_fits: { size right.now.shape ≢ 1 → right.now.shape ≡ shape.now.items },
 }
 
 impl<'a> ItemRule for Pairs<'a> {
@@ -118,7 +118,7 @@ fn apply_to_numbers(
     numbers: &[i64],
 ) -> Result<Array, ApplyFault>
     requires within { IsWithinLimits shape.now.items }
-    requires long { length numbers.now ≡ size_of shape.now.items }
+    requires long { length numbers.now ≡ size shape.now.items }
     ensures { IsAnswerTo
         (with_items Nums shape.now.items (number_items (all_or_first_error (monadic_results function numbers.now)))) result }
 {
@@ -136,7 +136,7 @@ fn apply_to_number_lists(
 ) -> Result<Array, ApplyFault>
     requires within { IsWithinLimits shape.now.items }
     requires fit { length left.now ≢ 1 → length right.now ≢ 1 → length left.now ≡ length right.now }
-    requires long { paired_length left.now right.now ≡ size_of shape.now.items }
+    requires long { paired_length left.now right.now ≡ size shape.now.items }
     ensures { IsAnswerTo
         (with_items Nums shape.now.items (number_items (all_or_first_error (dyadic_results function left.now right.now)))) result }
 {
@@ -147,7 +147,7 @@ fn apply_to_number_lists(
 /// The answer for items that are all different: a character never equals a number.
 fn unequal_items(alloc: Global, equal: bool, shape: &Shape) -> Result<Array, ApplyFault>
     requires { IsWithinLimits shape.now.items }
-    ensures { IsAnswerTo (answers_of shape.now.items (replicate (size_of shape.now.items) (told equal false))) result }
+    ensures { IsAnswerTo (answers_of shape.now.items (replicate (size shape.now.items) (told equal false))) result }
 {
     let places = size(shape.as_slice()) as usize;
     let answers = repeated(alloc, tell(equal, false), places)?;

@@ -6,16 +6,16 @@ ghost use Rattle.arrays_core.specs.declared.item.Item.TheVariants.{Num};
 ghost use Rattle.arrays_core.specs.declared.item.ItemType.TheVariants.{Nums};
 ghost use Rattle.arrays_core.specs.declared.item.Kind.TheVariants.{Length, Limit};
 ghost use Rattle.arrays_core.specs.Items.{and_then};
-ghost use Rattle.arrays_core.specs.Shapes.{is_index_of, size as size_of, IsWithinLimits};
+ghost use Rattle.arrays_core.specs.Shapes.{is_index_of, size, IsWithinLimits};
 ghost use Rattle.arrays_core.specs.Arrays.{collect, IsAnswerTo};
 ghost use Rattle.index_region.specs.ArgumentLists.{of_two_arguments};
-ghost use Rattle.index_region.specs.Axes.{places_along as places_on};
+ghost use Rattle.index_region.specs.Axes.{places_along};
 ghost use Rattle.index_region.specs.Arguments.{has_one_item};
 ghost use Rattle.index_region.specs.Answers.{IsPlaceOf};
 ghost use Rattle.change_core.proofs.Growing.{never_grows};
 ghost use Rattle.scalar_fns.specs.Numbers.{number_or_limit};
 ghost use Rattle.scalar_fns.specs.Items.{number_item};
-ghost use Rattle.search_fns.specs.Decode.{decode_form, decode_item, decode_whole, digit_count as count_of_digits, radix_at as radix_of, digit_at as digit_of, decode_rule};
+ghost use Rattle.search_fns.specs.Decode.{decode_form, decode_item, decode_whole, digit_count, radix_at, digit_at, decode_rule};
 ghost use Rattle.search_fns.specs.DecodedRows.{HaveRadices, AreDecoded, HasLimit};
 ghost use Rattle.search_fns.specs.Laws.Decode.{decode_tight};
 
@@ -41,7 +41,7 @@ pub struct Decode;
 
 /// How many digits each number has.
 fn digit_count(radices: &Seen, array: &Seen) -> u32
-    ensures { result ≡ count_of_digits radices.now array.now }
+    ensures { result ≡ digit_count radices.now array.now }
 {
     if radices.places() == 1 {
         places_along(array.shape().as_slice(), 0)
@@ -55,7 +55,7 @@ fn radix_at(radices: &Seen, k: u32) -> i64
     requires list { length radices.now.shape ≤ 1 }
     requires low { 1 ≤ k }
     requires high { length radices.now.items ≢ 1 → k ≤ length radices.now.items }
-    ensures { result ≡ radix_of radices.now k }
+    ensures { result ≡ radix_at radices.now k }
 {
     if radices.places() == 1 {
         radices.number(1)
@@ -79,8 +79,8 @@ fn index_along(axis: u32, k: u32) -> u32
 fn digit_at(array: &Seen, index: &[u32], k: u32) -> i64
     requires inside { IsTrue (is_index_of (drop 1 array.now.shape) index.now) }
     requires low { 1 ≤ k }
-    requires high { places_on array.now.shape 0 ≢ 1 → k ≤ places_on array.now.shape 0 }
-    ensures { result ≡ digit_of array.now index.now k }
+    requires high { places_along array.now.shape 0 ≢ 1 → k ≤ places_along array.now.shape 0 }
+    ensures { result ≡ digit_at array.now index.now k }
 {
     let shape = array.shape();
     if shape.len() == 0 {
@@ -94,7 +94,7 @@ fn digit_at(array: &Seen, index: &[u32], k: u32) -> i64
 
 /// The check of the lengths: LENGTH where radices are not as many as digits, and neither is one.
 fn check_length(radices: &Seen, array: &Seen) -> Result<(), Kind>
-    ensures { result ≡ if has_one_item radices.now || (nat_eq (places_on array.now.shape 0) 1 || nat_eq (length radices.now.items) (places_on array.now.shape 0)) then Ok tt else Err Length }
+    ensures { result ≡ if has_one_item radices.now || (nat_eq (places_along array.now.shape 0) 1 || nat_eq (length radices.now.items) (places_along array.now.shape 0)) then Ok tt else Err Length }
 {
     let places = places_along(array.shape().as_slice(), 0);
     if radices.places() != 1 && places != 1 && radices.places() != places {
@@ -107,8 +107,8 @@ fn check_length(radices: &Seen, array: &Seen) -> Result<(), Kind>
 fn with_digit(radices: &Seen, array: &Seen, index: &[u32], value: i64, k: u32) -> Result<i64, Kind>
     requires place { IsPlaceOf (decode_form radices.now array.now) index.now }
     requires low { 1 ≤ k }
-    requires high { k ≤ count_of_digits radices.now array.now }
-    ensures { result ≡ and_then (number_or_limit (value *ℤ radix_of radices.now k)) (λ product. number_or_limit (product +ℤ digit_of array.now index.now k)) }
+    requires high { k ≤ digit_count radices.now array.now }
+    ensures { result ≡ and_then (number_or_limit (value *ℤ radix_at radices.now k)) (λ product. number_or_limit (product +ℤ digit_at array.now index.now k)) }
 {
     one_more(value, radix_at(radices, k), digit_at(array, index, k))
 }
@@ -130,7 +130,7 @@ fn decoded_at(radices: &Seen, array: &Seen, index: &[u32]) -> Result<i64, Kind>
 fn add_rows(numbers: &mut [i64], radices: &Seen, array: &Seen, digits: &[i64]) -> Result<(), Kind>
     requires radices { HaveRadices radices.now array.now }
     requires digits { array.now.items ≡ map (λ z. Num z) digits.now }
-    requires none { numbers.old ≡ replicate (size_of (drop 1 array.now.shape)) (pos 0) }
+    requires none { numbers.old ≡ replicate (size (drop 1 array.now.shape)) (pos 0) }
     ensures long { length numbers.new ≡ length numbers.old }
     ensures is { OnOk result (AreDecoded radices.now array.now numbers.new) }
     ensures beyond { IfErr result (λ kind. (kind ≡ Limit) × HasLimit radices.now array.now) }

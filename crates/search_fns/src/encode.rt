@@ -8,7 +8,7 @@ ghost use Rattle.index_region.specs.Arguments.{numbers};
 ghost use Rattle.index_region.specs.Answers.{IsPlaceOf};
 ghost use Rattle.change_core.proofs.Growing.{never_grows};
 ghost use Rattle.scalar_fns.specs.Items.{number_item};
-ghost use Rattle.search_fns.specs.Encode.{carried as carried_number, digit as digit_of, encode_form, encode_item, encode_whole, encode_rule};
+ghost use Rattle.search_fns.specs.Encode.{carried, digit, encode_form, encode_item, encode_whole, encode_rule};
 ghost use Rattle.search_fns.specs.Laws.Encode.{encode_tight};
 
 use crate::digits::digits_at_once;
@@ -33,7 +33,7 @@ pub struct Encode;
 
 /// What a radix leaves to the radices before it.
 pub(crate) fn carried(radix: i64, number: i64) -> Result<i64, Kind>
-    ensures { result ≡ carried_number radix number }
+    ensures { result ≡ carried radix number }
 {
     if radix == 0 {
         return Ok(0);
@@ -46,7 +46,7 @@ pub(crate) fn carried(radix: i64, number: i64) -> Result<i64, Kind>
 fn digit(radices: &Seen, place: u32, number: i64) -> Result<i64, Kind>
     requires low { 1 ≤ place }
     requires high { place ≤ length radices.now.items }
-    ensures { result ≡ digit_of (numbers radices.now) place number }
+    ensures { result ≡ digit (numbers radices.now) place number }
 {
     let mut rest = number;
     for before in (place..radices.places()).rev() {

@@ -3,8 +3,8 @@
 ghost use Rattle.std.specs.Prelude.{◌≡◌, ◌≤◌, ◌<◌, ◌+◌, ◌*◌, Ok, OnOk, IfOk, length};
 ghost use Rattle.arrays_core.specs.Arrays.{IsArray};
 ghost use Rattle.index_region.specs.Arguments.{numbers};
-ghost use Rattle.scalar_fns.specs.Numbers.{residue as residue_of};
-ghost use Rattle.search_fns.specs.Encode.{carried as carried_number};
+ghost use Rattle.scalar_fns.specs.Numbers.{residue};
+ghost use Rattle.search_fns.specs.Encode.{carried};
 ghost use Rattle.search_fns.specs.EncodedRows.{AreCarried, AreDigits, HasRow};
 
 use crate::encode::carried;
@@ -26,8 +26,8 @@ fn put_row(digits: &mut [i64], before: usize, radix: i64, rests: &[i64])
 
 /// The digit of a number by a radix, from what the radix leaves of it to the radices before it.
 fn digit_beside(radix: i64, number: i64, left: i64) -> i64
-    requires { carried_number radix number ≡ Ok left }
-    ensures { result ≡ residue_of radix number }
+    requires { carried radix number ≡ Ok left }
+    ensures { result ≡ residue radix number }
 {
     number.wrapping_sub(radix.wrapping_mul(left))
 }

@@ -7,7 +7,7 @@ ghost use Rattle.arrays_core.specs.Arrays.{IsAnswerTo};
 ghost use Rattle.arrays_core.specs.Shapes.{size};
 ghost use Rattle.index_region.specs.ArgumentLists.{of_two_arguments};
 ghost use Rattle.change_core.proofs.Growing.{never_grows};
-ghost use Rattle.scalar_fns.specs.Numbers.{truth as truth_of};
+ghost use Rattle.scalar_fns.specs.Numbers.{truth};
 ghost use Rattle.search_fns.specs.SameItem.{same_item};
 ghost use Rattle.search_fns.specs.Member.{member_form, member_item, member_whole, member_rule};
 ghost use Rattle.search_fns.specs.Laws.Member.{member_tight};
@@ -36,7 +36,7 @@ fn is_member(array: &Seen, item: Item) -> bool
 /// No item of an array is an item of an array of the other type.
 fn no_members(alloc: Global, array: &Seen, sought: &Seen) -> Result<Vec<i64>, AllocError>
     requires { array.now.item_type ≢ sought.now.item_type }
-    ensures { IfOk result (λ v. v.items ≡ map (λ x. truth_of (list_any (same_item x) array.now.items)) sought.now.items) }
+    ensures { IfOk result (λ v. v.items ≡ map (λ x. truth (list_any (same_item x) array.now.items)) sought.now.items) }
 {
     // The number of places says that each item is of the type of its array.
     let _one_type = array.places();
@@ -49,7 +49,7 @@ fn are_members_of_array(
     array: &Array,
     sought: &Array,
 ) -> Result<Vec<i64>, AllocError>
-    ensures { IfOk result (λ v. v.items ≡ map (λ x. truth_of (list_any (same_item x) array.now.items)) sought.now.items) }
+    ensures { IfOk result (λ v. v.items ≡ map (λ x. truth (list_any (same_item x) array.now.items)) sought.now.items) }
 {
     if let (Some(items), Some(numbers)) = (array.numbers(), sought.numbers()) {
         return members_of(alloc, items, numbers);
@@ -63,7 +63,7 @@ fn are_members_of_array(
 /// Whether each item that is sought is one of an array, as both are seen. Where one of the two has a patch or a tail, both are
 /// copied first.
 fn are_members(alloc: Global, array: &Seen, sought: &Seen) -> Result<Vec<i64>, AllocError>
-    ensures is { IfOk result (λ v. v.items ≡ map (λ x. truth_of (list_any (same_item x) array.now.items)) sought.now.items) }
+    ensures is { IfOk result (λ v. v.items ≡ map (λ x. truth (list_any (same_item x) array.now.items)) sought.now.items) }
     ensures long { length sought.now.items ≡ size sought.now.shape }
 {
     // The number of places says that there is one item for each place of the shape.

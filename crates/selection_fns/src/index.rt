@@ -11,7 +11,7 @@ ghost use Rattle.arrays_core.specs.Shapes.{is_index_of, places_before};
 ghost use Rattle.index_region.specs.Checks.{Form};
 ghost use Rattle.index_region.specs.Arguments.{number_of, numbers};
 ghost use Rattle.index_region.specs.Answers.{IsFormAnswerTo, IsPlaceOf, IsRowIn, IsSourceIn, source_value};
-ghost use Rattle.selection_fns.specs.Index.{written_positions, count_written, of_array_and_positions, is_on_axis, is_on as is_position_on, are_on as are_positions_on, are_numbers as are_positions_numbers, indexed_shape, source_index, positions_checked, index_form, index_source, index_item, index_whole};
+ghost use Rattle.selection_fns.specs.Index.{written_positions, count_written, of_array_and_positions, is_on_axis, is_on, are_on, are_numbers, indexed_shape, source_index, positions_checked, index_form, index_source, index_item, index_whole};
 
 use crate::index_places::places_of;
 use arrays_core::{
@@ -29,7 +29,7 @@ const LONG_ROW: u32 = 256;
 fn are_numbers(written: &[bool], positions: &[Seen]) -> bool
     requires few { length written.now ≤ most_axes }
     requires long { length positions.now ≡ count_written written.now }
-    ensures { result ≡ list_all are_positions_numbers (written_positions written.now positions.now) }
+    ensures { result ≡ list_all are_numbers (written_positions written.now positions.now) }
 {
     if written.is_empty() {
         return true;
@@ -78,7 +78,7 @@ fn are_on(axes: &[u32], written: &[bool], positions: &[Seen]) -> bool
     requires few { length written.now ≤ most_axes }
     requires one_an_axis { length written.now ≡ length axes.now }
     requires long { length positions.now ≡ count_written written.now }
-    ensures { result ≡ are_positions_on axes.now (written_positions written.now positions.now) }
+    ensures { result ≡ are_on axes.now (written_positions written.now positions.now) }
 {
     if written.is_empty() {
         return true;
@@ -181,7 +181,7 @@ fn append_source_index(
     requires room { length at.old.items + length written.now ≤ most_axes }
     requires one_an_axis { length written.now ≡ length axes.now }
     requires long { length positions.now ≡ count_written written.now }
-    requires on { IsTrue (are_positions_on axes.now (written_positions written.now positions.now)) }
+    requires on { IsTrue (are_on axes.now (written_positions written.now positions.now)) }
     requires inside { IsTrue (is_index_of (indexed_shape axes.now (written_positions written.now positions.now)) index.now) }
     ensures items { at.new.items ≡ at.old.items ++ source_index (written_positions written.now positions.now) index.now }
     ensures inside { IsTrue (is_index_of axes.now (source_index (written_positions written.now positions.now) index.now)) }

@@ -7,10 +7,10 @@ ghost use Rattle.arrays_core.specs.Items.{fill};
 ghost use Rattle.arrays_core.specs.declared.item.Item.TheVariants.{Num};
 ghost use Rattle.arrays_core.specs.declared.item.ItemType.TheVariants.{Nums};
 ghost use Rattle.arrays_core.specs.Limits.{most_places};
-ghost use Rattle.arrays_core.specs.Shapes.{size as size_of, IsWithinLimits};
+ghost use Rattle.arrays_core.specs.Shapes.{size, IsWithinLimits};
 ghost use Rattle.index_region.specs.Arguments.{numbers};
-ghost use Rattle.selection_fns.specs.Index.{written_positions, count_written, is_on_axis, are_on as are_positions_on, indexed_shape};
-ghost use Rattle.selection_fns.specs.IndexPlaces.{sums as all_sums, row_places, all_places, ArePlacesOf};
+ghost use Rattle.selection_fns.specs.Index.{written_positions, count_written, is_on_axis, are_on, indexed_shape};
+ghost use Rattle.selection_fns.specs.IndexPlaces.{sums, row_places, all_places, ArePlacesOf};
 
 use crate::numbers::numbers_of;
 use arrays_core::{Array, ArrayBuilder, Shape, room_of, size};
@@ -41,7 +41,7 @@ fn with_pairs(list: Vec<u32>, first: &[u32], second: &[u32]) -> Vec<u32>
     requires two { length second.now ≡ 2 }
     requires fit { (i j : ℕ) → i < length first.now → j < length second.now → get_or first.now i 0 + get_or second.now j 0 < 2 ^ 32 }
     requires room { vec_len list + length first.now * 2 ≤ vec_capacity list }
-    ensures { result.items ≡ list.items ++ all_sums first.now second.now }
+    ensures { result.items ≡ list.items ++ sums first.now second.now }
 {
     let mut list = list;
     let (one, other) = (second[0], second[1]);
@@ -56,7 +56,7 @@ fn with_pairs(list: Vec<u32>, first: &[u32], second: &[u32]) -> Vec<u32>
 fn sums(alloc: Global, first: &[u32], second: &[u32]) -> Result<Vec<u32>, AllocError>
     requires few { length first.now * length second.now ≤ most_places }
     requires fit { (i j : ℕ) → i < length first.now → j < length second.now → get_or first.now i 0 + get_or second.now j 0 < 2 ^ 32 }
-    ensures { IfOk result (λ list. list.items ≡ all_sums first.now second.now) }
+    ensures { IfOk result (λ list. list.items ≡ sums first.now second.now) }
 {
     let mut list = Vec::with_capacity(alloc, first.len() * second.len())?;
     if second.len() == 1 {
@@ -127,7 +127,7 @@ fn numbers_at(
 ) -> Result<Vec<i64>, AllocError>
     requires few { length heads.now * length row.now ≤ most_places }
     requires inside { (i j : ℕ) → i < length heads.now → j < length row.now → get_or heads.now i 0 + get_or row.now j 0 < length numbers.now }
-    ensures { IfOk result (λ list. list.items ≡ map (λ k. get_or numbers.now k (pos 0)) (all_sums heads.now row.now)) }
+    ensures { IfOk result (λ list. list.items ≡ map (λ k. get_or numbers.now k (pos 0)) (sums heads.now row.now)) }
 {
     let mut list = Vec::with_capacity(alloc, room_of(heads.len() * row.len()))?;
     for k in 0..heads.len() {
@@ -194,7 +194,7 @@ impl Places {
         requires some { 0 < length (all_places self) }
         requires few { length offsets.items * length (all_places self) ≤ most_places }
         requires fit { (i j : ℕ) → i < length offsets.items → j < length (all_places self) → get_or offsets.items i 0 + get_or (all_places self) j 0 < 2 ^ 32 }
-        ensures { IfOk result (λ p. all_places p ≡ all_sums offsets.items (all_places self)) }
+        ensures { IfOk result (λ p. all_places p ≡ sums offsets.items (all_places self)) }
     {
         let Places { heads, row } = self;
         match row {
@@ -244,7 +244,7 @@ impl Places {
         shape: &Shape,
     ) -> Result<Array, AllocError>
         requires within { IsWithinLimits shape.now.items }
-        requires one_item_a_place { length (all_places self.now) ≡ size_of shape.now.items }
+        requires one_item_a_place { length (all_places self.now) ≡ size shape.now.items }
         requires some { 0 < length (all_places self.now) }
         requires inside { (k : ℕ) → k < length (all_places self.now) → get_or (all_places self.now) k 0 < length array.now.items }
         ensures { IfOk result (λ a. a ≡ record {
@@ -304,9 +304,9 @@ pub(crate) fn places_of(
     requires within { IsWithinLimits axes.now }
     requires one_an_axis { length written.now ≡ length axes.now }
     requires long { length positions.now ≡ count_written written.now }
-    requires on { IsTrue (are_positions_on axes.now (written_positions written.now positions.now)) }
-    requires some { 0 < size_of (indexed_shape axes.now (written_positions written.now positions.now)) }
-    requires few { size_of (indexed_shape axes.now (written_positions written.now positions.now)) ≤ most_places }
+    requires on { IsTrue (are_on axes.now (written_positions written.now positions.now)) }
+    requires some { 0 < size (indexed_shape axes.now (written_positions written.now positions.now)) }
+    requires few { size (indexed_shape axes.now (written_positions written.now positions.now)) ≤ most_places }
     ensures { IfOk result (λ p. ArePlacesOf axes.now (written_positions written.now positions.now) (all_places p)) }
 {
     if written.is_empty() {

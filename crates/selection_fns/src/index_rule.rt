@@ -6,10 +6,10 @@ ghost use Rattle.arrays_core.specs.Limits.{most_axes};
 ghost use Rattle.index_region.specs.Boxes.{join_boxes};
 ghost use Rattle.change_core.specs.Places.{lies_in};
 ghost use Rattle.change_core.specs.RuleModels.{FitsAt, box_at};
-ghost use Rattle.selection_fns.specs.Index.{count_written, written_positions, index_rule, position_box as box_in_position, position_uses, indexed_box as box_in_result};
-ghost use Rattle.selection_fns.specs.Growth.{first_alone as is_first_alone, first_empty as is_first_empty, index_grows};
+ghost use Rattle.selection_fns.specs.Index.{count_written, written_positions, index_rule, position_box, position_uses, indexed_box};
+ghost use Rattle.selection_fns.specs.Growth.{first_alone, first_empty, index_grows};
 ghost use Rattle.selection_fns.specs.Laws.IndexGrowth.{index_growing};
-ghost use Rattle.selection_fns.specs.PositionAxes.{count_axes, axes_before as axes_before_position};
+ghost use Rattle.selection_fns.specs.PositionAxes.{count_axes, axes_before};
 ghost use Rattle.selection_fns.specs.Laws.Index.{index_tight, length-selectors};
 
 use crate::index::Index;
@@ -41,7 +41,7 @@ fn names_place_of(interval: (u32, u32), index: i64) -> bool
 
 /// The least box of the places of a position whose indices name a place of an interval.
 fn places_naming(position: &Seen, interval: (u32, u32)) -> Option<IndexBox>
-    ensures is { result ≡ box_in_position position.now interval }
+    ensures is { result ≡ position_box position.now interval }
     ensures long { IfSome result (λ b. length b ≡ length position.now.shape) }
 {
     let shape = position.shape();
@@ -61,7 +61,7 @@ fn indexed_box(written: &[bool], positions: &[Seen], intervals: &[(u32, u32)]) -
     requires long { length positions.now ≡ count_written written.now }
     requires one_an_axis { length intervals.now ≡ length written.now }
     requires few { count_axes (written_positions written.now positions.now) ≤ most_axes }
-    ensures is { result ≡ box_in_result (written_positions written.now positions.now) intervals.now }
+    ensures is { result ≡ indexed_box (written_positions written.now positions.now) intervals.now }
     ensures axes { IfSome result (λ b. length b ≡ count_axes (written_positions written.now positions.now)) }
 {
     if written.is_empty() {
@@ -81,7 +81,7 @@ fn indexed_box(written: &[bool], positions: &[Seen], intervals: &[(u32, u32)]) -
 fn axes_before(written: &[bool], positions: &[Seen], which: usize) -> usize
     requires long { length positions.now ≡ count_written written.now }
     requires few { count_axes (written_positions written.now positions.now) ≤ most_axes }
-    ensures is { result ≡ axes_before_position (written_positions written.now positions.now) which }
+    ensures is { result ≡ axes_before (written_positions written.now positions.now) which }
     ensures within { result ≤ count_axes (written_positions written.now positions.now) }
 {
     if written.is_empty() {
@@ -128,7 +128,7 @@ fn none_marked(marks: &[bool]) -> bool
 
 /// The first argument is marked, and no other.
 fn first_alone(marks: &[bool]) -> bool
-    ensures { result ≡ is_first_alone marks.now }
+    ensures { result ≡ first_alone marks.now }
 {
     match marks {
         [true, others @ ..] => none_marked(others),
@@ -138,7 +138,7 @@ fn first_alone(marks: &[bool]) -> bool
 
 /// The first position is empty.
 fn first_empty(written: &[bool]) -> bool
-    ensures { result ≡ is_first_empty written.now }
+    ensures { result ≡ first_empty written.now }
 {
     matches!(written, [false, ..])
 }

@@ -10,11 +10,11 @@ ghost use Rattle.arrays_core.specs.Shapes.{is_index_of, IsWithinLimits};
 ghost use Rattle.index_region.specs.Checks.{form_of, Form};
 ghost use Rattle.index_region.specs.ArgumentLists.{of_two_arguments};
 ghost use Rattle.index_region.specs.Arguments.{numbers, none_negative};
-ghost use Rattle.function_names.specs.Axes.{axis_at as axis_meant};
-ghost use Rattle.index_region.specs.Axes.{places_along as places_on};
+ghost use Rattle.function_names.specs.Axes.{axis_at};
+ghost use Rattle.index_region.specs.Axes.{places_along};
 ghost use Rattle.index_region.specs.Sources.{Place};
 ghost use Rattle.index_region.specs.Answers.{IsFormAnswerTo, IsPlaceOf, IsSourceIn, source_value};
-ghost use Rattle.selection_fns.specs.Replicate.{is_bit as is_bit_of, IsMask, times, counts_checked, maker as maker_of, copied_place as place_copied, replicate_form, replicate_source, replicate_item, replicate_whole};
+ghost use Rattle.selection_fns.specs.Replicate.{is_bit, IsMask, times, counts_checked, maker, copied_place, replicate_form, replicate_source, replicate_item, replicate_whole};
 
 use crate::axes::{LONGEST_AXIS, places_along};
 use crate::kept::kept_numbers;
@@ -29,7 +29,7 @@ use std::alloc::{AllocError, Global};
 /// No copy, or one.
 #[inline]
 fn is_bit(count: i64) -> bool
-    ensures { result ≡ is_bit_of count }
+    ensures { result ≡ is_bit count }
 {
     0 <= count && count <= 1
 }
@@ -185,7 +185,7 @@ fn replicated_shape(alloc: Global, axes: &[u32], axis: usize, places: u32) -> Sh
 fn maker(counts: &Seen, copy: u32) -> u32
     requires low { 1 ≤ copy }
     requires high { copy ≤ sum (map unsigned_abs (numbers counts.now)) }
-    ensures { result ≡ maker_of (map unsigned_abs (numbers counts.now)) copy }
+    ensures { result ≡ maker (map unsigned_abs (numbers counts.now)) copy }
 {
     let mut left = copy;
     for place in 0..counts.places() {
@@ -202,7 +202,7 @@ fn maker(counts: &Seen, copy: u32) -> u32
 fn maker_of_each(count: u64, places: u32, copy: u32) -> u32
     requires low { 1 ≤ copy }
     requires high { copy ≤ places * count }
-    ensures { result ≡ maker_of (replicate places count) copy }
+    ensures { result ≡ maker (replicate places count) copy }
 {
     (u64::from(copy - 1) / count) as u32 + 1
 }
@@ -211,7 +211,7 @@ fn maker_of_each(count: u64, places: u32, copy: u32) -> u32
 fn copied_place(counts: &Seen, places: u32, copy: u32) -> u32
     requires low { 1 ≤ copy }
     requires high { copy ≤ sum (times counts.now places) }
-    ensures { result ≡ place_copied counts.now places copy }
+    ensures { result ≡ copied_place counts.now places copy }
 {
     if places == 1 {
         return 1;
@@ -246,7 +246,7 @@ fn before_copies_of_one_count(
     requires total { total ≡ places * count }
     requires within { total ≤ longest_axis }
     ensures long { IfOk result (λ before. length before.items ≡ total) }
-    ensures is { IfOk result (λ before. (i : ℕ) → i < total → get_or before.items i 0 + 1 ≡ maker_of (replicate places count) (i + 1)) }
+    ensures is { IfOk result (λ before. (i : ℕ) → i < total → get_or before.items i 0 + 1 ≡ maker (replicate places count) (i + 1)) }
 {
     let mut before = Vec::with_capacity(alloc, total as usize)?;
     for place in 0..places {
@@ -265,7 +265,7 @@ fn before_copies_of_counts(
     requires within { total ≤ longest_axis }
     requires few { length counts.now ≤ longest_axis }
     ensures long { IfOk result (λ before. length before.items ≡ total) }
-    ensures is { IfOk result (λ before. (i : ℕ) → i < total → get_or before.items i 0 + 1 ≡ maker_of (map unsigned_abs counts.now) (i + 1)) }
+    ensures is { IfOk result (λ before. (i : ℕ) → i < total → get_or before.items i 0 + 1 ≡ maker (map unsigned_abs counts.now) (i + 1)) }
 {
     let mut before = Vec::with_capacity(alloc, total as usize)?;
     for place in 0..counts.len() {
@@ -281,12 +281,12 @@ fn before_copies_of_counts(
 /// How many places come before that of each copy, where each place has one copy or none. Each place is written where the
 /// next copy stands, and its count says whether it stays there.
 fn before_copies_of_mask(alloc: Global, counts: &[i64], total: u32) -> Result<Vec<u32>, AllocError>
-    requires mask { IsTrue (list_all is_bit_of counts.now) }
+    requires mask { IsTrue (list_all is_bit counts.now) }
     requires total { total ≡ sum (map unsigned_abs counts.now) }
     requires within { total ≤ longest_axis }
     requires few { length counts.now ≤ longest_axis }
     ensures long { IfOk result (λ before. length before.items ≡ total) }
-    ensures is { IfOk result (λ before. (i : ℕ) → i < total → get_or before.items i 0 + 1 ≡ maker_of (map unsigned_abs counts.now) (i + 1)) }
+    ensures is { IfOk result (λ before. (i : ℕ) → i < total → get_or before.items i 0 + 1 ≡ maker (map unsigned_abs counts.now) (i + 1)) }
 {
     let mut before = vec![in alloc; 0; total as usize + 1]?;
     let mut copies = 0;
@@ -305,12 +305,12 @@ fn before_copies_of_list(
     total: u32,
     is_mask: bool,
 ) -> Result<Vec<u32>, AllocError>
-    requires mask { IsTrue is_mask → IsTrue (list_all is_bit_of counts.now) }
+    requires mask { IsTrue is_mask → IsTrue (list_all is_bit counts.now) }
     requires total { total ≡ sum (map unsigned_abs counts.now) }
     requires within { total ≤ longest_axis }
     requires few { length counts.now ≤ longest_axis }
     ensures long { IfOk result (λ before. length before.items ≡ total) }
-    ensures is { IfOk result (λ before. (i : ℕ) → i < total → get_or before.items i 0 + 1 ≡ maker_of (map unsigned_abs counts.now) (i + 1)) }
+    ensures is { IfOk result (λ before. (i : ℕ) → i < total → get_or before.items i 0 + 1 ≡ maker (map unsigned_abs counts.now) (i + 1)) }
 {
     if is_mask {
         before_copies_of_mask(alloc, counts, total)
@@ -331,7 +331,7 @@ fn before_each_copy(
     requires total { total ≡ sum (times counts.now places) }
     requires within { total ≤ longest_axis }
     ensures long { IfOk result (λ before. length before.items ≡ total) }
-    ensures is { IfOk result (λ before. (i : ℕ) → i < total → get_or before.items i 0 + 1 ≡ place_copied counts.now places (i + 1)) }
+    ensures is { IfOk result (λ before. (i : ℕ) → i < total → get_or before.items i 0 + 1 ≡ copied_place counts.now places (i + 1)) }
     ensures few { length counts.now.items ≤ longest_axis }
 {
     let is_single = counts.places() == 1;
@@ -352,8 +352,8 @@ fn before_each_copy(
 fn copied_index(alloc: Global, counts: &Seen, axes: &[u32], axis: usize, index: &[u32]) -> Shape
     requires rank { length axes.now ≤ most_axes }
     requires there { axis < length axes.now }
-    requires inside { IsTrue (is_index_of (insert (remove axes.now axis) axis (sum (times counts.now (places_on axes.now axis)))) index.now) }
-    ensures is { result.items ≡ set index.now axis (place_copied counts.now (places_on axes.now axis) (get_or index.now axis 1)) }
+    requires inside { IsTrue (is_index_of (insert (remove axes.now axis) axis (sum (times counts.now (places_along axes.now axis)))) index.now) }
+    ensures is { result.items ≡ set index.now axis (copied_place counts.now (places_along axes.now axis) (get_or index.now axis 1)) }
     ensures inline { result.capacity ≡ 4 }
 {
     let mut at = shape_of(alloc, index);
@@ -522,8 +522,8 @@ struct CopyRule<'a, 'b, 'c> {
     before: &'a [u32],
     shape: &'a Shape,
     ghost form: { replicate_form replicate.along counts.now array.now ≡ Ok (form_of shape.now.items array.now.item_type) },
-    ghost long: { length before.now ≡ sum (times counts.now (places_on array.now.shape (axis_meant (max 1 (length array.now.shape)) replicate.along))) },
-    ghost is: { (i : ℕ) → i < length before.now → get_or before.now i 0 + 1 ≡ place_copied counts.now (places_on array.now.shape (axis_meant (max 1 (length array.now.shape)) replicate.along)) (i + 1) },
+    ghost long: { length before.now ≡ sum (times counts.now (places_along array.now.shape (axis_at (max 1 (length array.now.shape)) replicate.along))) },
+    ghost is: { (i : ℕ) → i < length before.now → get_or before.now i 0 + 1 ≡ copied_place counts.now (places_along array.now.shape (axis_at (max 1 (length array.now.shape)) replicate.along)) (i + 1) },
     ghost within: { All (λ n. n ≤ longest_axis) before.now },
     ghost rank: { 1 < length array.now.shape },
 }

@@ -6,7 +6,7 @@ ghost use Rattle.arrays_core.specs.Limits.{longest_axis};
 ghost use Rattle.index_region.specs.Arguments.{numbers};
 ghost use Rattle.index_region.specs.Boxes.{fits};
 ghost use Rattle.change_core.specs.RuleModels.{HasShape};
-ghost use Rattle.selection_fns.specs.Replicate.{times, replicate_form, replicate_rule, replicate_box, copies_before as copies_of_first, copied_interval as interval_of_copies};
+ghost use Rattle.selection_fns.specs.Replicate.{times, replicate_form, replicate_rule, replicate_box, copies_before, copied_interval};
 ghost use Rattle.change_core.proofs.Growing.{never_grows};
 ghost use Rattle.selection_fns.specs.Laws.Replicate.{replicate_tight};
 
@@ -44,7 +44,7 @@ fn copies_before(counts: &Seen, places: u32, first: u32) -> u32
     requires within { first ≤ places }
     requires one_a_place { length counts.now.items ≢ 1 → length counts.now.items ≡ places }
     requires few { sum (times counts.now places) ≤ longest_axis }
-    ensures { result ≡ copies_of_first counts.now places first }
+    ensures { result ≡ copies_before counts.now places first }
 {
     if counts.places() == 1 {
         copies_of_one_count(counts.number(1).unsigned_abs(), places, first)
@@ -60,7 +60,7 @@ fn copied_interval(counts: &Seen, places: u32, copies: u32, interval: (u32, u32)
     requires high { interval.1 ≤ places }
     requires one_a_place { places ≢ 1 → length counts.now.items ≢ 1 → length counts.now.items ≡ places }
     requires few { sum (times counts.now places) ≤ longest_axis }
-    ensures { result ≡ interval_of_copies counts.now places copies interval }
+    ensures { result ≡ copied_interval counts.now places copies interval }
 {
     if places == 1 {
         return (1, copies);

@@ -10,7 +10,7 @@ ghost use Rattle.index_region.specs.declared.delta.Delta.TheVariants.{Patch as I
 ghost use Rattle.sheet_recalc.specs.Names.{binding, Data};
 ghost use Rattle.sheet_recalc.specs.Entries.{names_of, HasData};
 ghost use Rattle.sheet_recalc.specs.Cells.{cell_put, index_of_number, index_of_numbers, is_on_axis, literal_items, item_put, IsDataAnswer, IsOnlyItem};
-ghost use Rattle.sheet_recalc.specs.Costs.{cell_patch as patch_of_cell, cell_delta};
+ghost use Rattle.sheet_recalc.specs.Costs.{cell_patch, cell_delta};
 
 use crate::entry::Entry;
 use crate::refusal::Refusal;
@@ -78,7 +78,7 @@ fn patch_with(array: &Array, index: &Shape, literal: &Literal) -> Result<Patch, 
 fn patch_at(shape: &Shape, index: &Shape, item: Item) -> Patch
     requires within { IsWithinLimits shape.now.items }
     requires inside { is_index_of shape.now.items index.now.items ≡ true }
-    ensures { result ≡ patch_of_cell index.now.items item }
+    ensures { result ≡ cell_patch index.now.items item }
 {
     Patch::one(IndexBox::at(shape.as_slice(), index.as_slice()), item)
 }

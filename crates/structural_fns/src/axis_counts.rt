@@ -3,7 +3,7 @@
 ghost use Rattle.std.specs.Prelude.{◌≡◌, ◌≤◌, All, IfOk, IfErr, List, ℕ, length};
 ghost use Rattle.arrays_core.specs.Limits.{most_axes, longest_axis};
 ghost use Rattle.index_region.specs.Checks.{limited};
-ghost use Rattle.structural_fns.specs.AxisCounts.{counted_shape as shape_counted, counted_form, uncounted as index_uncounted, counted_box as box_counted};
+ghost use Rattle.structural_fns.specs.AxisCounts.{counted_shape, counted_form, uncounted, counted_box};
 
 use arrays_core::{Kind, Shape, shape_of};
 use index_region::{IndexBox, Intervals, Seen};
@@ -13,7 +13,7 @@ use index_region::{IndexBox, Intervals, Seen};
 pub(crate) fn check_axis_counts(counts: &Seen, array: &Seen) -> Result<(), Kind>
     ensures passed { IfOk result (λ _. (shape : List ℕ) → counted_form shape counts.now array.now ≡ limited shape array.now.item_type) }
     ensures failed { IfErr result (λ kind. (shape : List ℕ) → counted_form shape counts.now array.now ≡ Err kind) }
-    ensures long { IfOk result (λ _. length counts.now.items ≡ length (shape_counted counts.now array.now)) }
+    ensures long { IfOk result (λ _. length counts.now.items ≡ length (counted_shape counts.now array.now)) }
 {
     if counts.shape().len() > 1 {
         return Err(Kind::Rank);
@@ -31,7 +31,7 @@ pub(crate) fn check_axis_counts(counts: &Seen, array: &Seen) -> Result<(), Kind>
 /// The shape that the counts are for: of a scalar, an axis of one place for each count.
 pub(crate) fn counted_shape(counts: &Seen, array: &Seen) -> Shape
     requires { length counts.now.items ≤ most_axes }
-    ensures is { result.items ≡ shape_counted counts.now array.now }
+    ensures is { result.items ≡ counted_shape counts.now array.now }
     ensures within { All (λ n. n ≤ longest_axis) result.items }
     ensures inline { result.capacity ≡ 4 }
 {
@@ -48,7 +48,7 @@ pub(crate) fn counted_shape(counts: &Seen, array: &Seen) -> Shape
 /// The index list of the array itself, from one of the shape that the counts are for.
 pub(crate) fn uncounted(array: &Seen, index: Shape) -> Shape
     requires { index.capacity ≡ 4 }
-    ensures is { result.items ≡ index_uncounted array.now index.items }
+    ensures is { result.items ≡ uncounted array.now index.items }
     ensures inline { result.capacity ≡ 4 }
 {
     let shape = array.shape();
@@ -62,7 +62,7 @@ pub(crate) fn uncounted(array: &Seen, index: Shape) -> Shape
 /// The intervals of a box on the axes of that shape: of a scalar, its one place on each.
 pub(crate) fn counted_box(counts: &Seen, array: &Seen, region: &IndexBox) -> Intervals
     requires { length counts.now.items ≤ most_axes }
-    ensures { result ≡ box_counted counts.now array.now region.now }
+    ensures { result ≡ counted_box counts.now array.now region.now }
 {
     if array.shape().is_empty() {
         Intervals::whole(counted_shape(counts, array).as_slice())

@@ -14,7 +14,7 @@ ghost use Rattle.index_region.specs.ArgumentLists.{of_two_arguments};
 ghost use Rattle.index_region.specs.Answers.{IsPlaceOf, IsSourceIn, source_value};
 ghost use Rattle.index_region.specs.Boxes.{fits};
 ghost use Rattle.change_core.proofs.Growing.{never_grows};
-ghost use Rattle.structural_fns.specs.Catenate.{joined_rank as rank_joined, joined_places as places_joined, other_axes as axes_other, ranks_join as do_ranks_join, axes_agree as do_axes_agree, types_join as do_types_join, joined_type as type_joined, joined_shape as shape_joined, sides_checked, in_side as index_in_side, in_side_of_row, catenate_form, catenate_source, catenate_item, catenate_whole, side_box as box_of_side, catenate_rule, IsSide};
+ghost use Rattle.structural_fns.specs.Catenate.{joined_rank, joined_places, other_axes, ranks_join, axes_agree, types_join, joined_type, joined_shape, sides_checked, in_side, in_side_of_row, catenate_form, catenate_source, catenate_item, catenate_whole, side_box, catenate_rule, IsSide};
 ghost use Rattle.structural_fns.specs.Laws.Catenate.{catenate_tight};
 
 use crate::even_steps::extend_evenly;
@@ -31,7 +31,7 @@ use std::alloc::{AllocError, Global};
 
 /// The rank of the result: the greater one, and at least 1.
 fn joined_rank(left: &Seen, right: &Seen) -> usize
-    ensures is { result ≡ rank_joined left.now right.now }
+    ensures is { result ≡ joined_rank left.now right.now }
     ensures low { 1 ≤ result }
     ensures high { result ≤ most_axes }
 {
@@ -42,7 +42,7 @@ fn joined_rank(left: &Seen, right: &Seen) -> usize
 /// How many places a side takes along the axis.
 fn joined_places(side: &Seen, rank: usize, axis: usize) -> u32
     requires { axis < rank }
-    ensures is { result ≡ places_joined rank axis side.now }
+    ensures is { result ≡ joined_places rank axis side.now }
     ensures within { result ≤ longest_axis }
 {
     let axes = side.shape().as_slice();
@@ -52,7 +52,7 @@ fn joined_places(side: &Seen, rank: usize, axis: usize) -> u32
 /// The other axes of a side; an array of one rank less has no axis to leave out.
 fn other_axes(side: &Seen, rank: usize, axis: usize) -> Shape
     requires { axis < rank }
-    ensures is { result.items ≡ axes_other rank axis side.now }
+    ensures is { result.items ≡ other_axes rank axis side.now }
     ensures inline { result.capacity ≡ 4 }
 {
     let shape = side.shape();
@@ -66,7 +66,7 @@ fn other_axes(side: &Seen, rank: usize, axis: usize) -> Shape
 
 /// A scalar joins any array; else the ranks differ by at most 1.
 fn ranks_join(left: &Seen, right: &Seen) -> bool
-    ensures { result ≡ do_ranks_join left.now right.now }
+    ensures { result ≡ ranks_join left.now right.now }
 {
     let (left, right) = (left.shape().len(), right.shape().len());
     if left == 0 || right == 0 {
@@ -78,7 +78,7 @@ fn ranks_join(left: &Seen, right: &Seen) -> bool
 /// A scalar is repeated over the other axes; else these are the same.
 fn axes_agree(left: &Seen, right: &Seen, rank: usize, axis: usize) -> bool
     requires { axis < rank }
-    ensures { result ≡ do_axes_agree rank axis left.now right.now }
+    ensures { result ≡ axes_agree rank axis left.now right.now }
 {
     if left.shape().is_empty() || right.shape().is_empty() {
         return true;
@@ -89,7 +89,7 @@ fn axes_agree(left: &Seen, right: &Seen, rank: usize, axis: usize) -> bool
 
 /// The types are the same, or one side is without items.
 fn types_join(left: &Seen, right: &Seen) -> bool
-    ensures { result ≡ do_types_join left.now right.now }
+    ensures { result ≡ types_join left.now right.now }
 {
     if left.places() == 0 || right.places() == 0 {
         return true;
@@ -99,7 +99,7 @@ fn types_join(left: &Seen, right: &Seen) -> bool
 
 /// The type of the side that has items; with none, the left one's.
 fn joined_type(left: &Seen, right: &Seen) -> ItemType
-    ensures { result ≡ type_joined left.now right.now }
+    ensures { result ≡ joined_type left.now right.now }
 {
     if left.places() == 0 && right.places() > 0 {
         right.item_type()
@@ -113,7 +113,7 @@ fn check_sides(left: &Seen, right: &Seen, rank: usize, axis: usize) -> Result<()
     requires { axis < rank }
     ensures passed { IfOk result (λ _. (rest : Result Form AKind) → sides_checked rank axis left.now right.now rest ≡ rest) }
     ensures failed { IfErr result (λ kind. (rest : Result Form AKind) → sides_checked rank axis left.now right.now rest ≡ Err kind) }
-    ensures ranks { IfOk result (λ _. IsTrue (do_ranks_join left.now right.now)) }
+    ensures ranks { IfOk result (λ _. IsTrue (ranks_join left.now right.now)) }
 {
     if !ranks_join(left, right) {
         return Err(Kind::Rank);
@@ -130,7 +130,7 @@ fn check_sides(left: &Seen, right: &Seen, rank: usize, axis: usize) -> Result<()
 /// The other axes, of the side that is no scalar where one is.
 fn shared_axes(left: &Seen, right: &Seen, rank: usize, axis: usize) -> Shape
     requires { axis < rank }
-    ensures is { result.items ≡ axes_other rank axis (if is_scalar left.now then right.now else left.now) }
+    ensures is { result.items ≡ other_axes rank axis (if is_scalar left.now then right.now else left.now) }
     ensures inline { result.capacity ≡ 4 }
 {
     if left.shape().is_empty() {
@@ -143,10 +143,10 @@ fn shared_axes(left: &Seen, right: &Seen, rank: usize, axis: usize) -> Shape
 /// The shape of the result.
 fn joined_shape(left: &Seen, right: &Seen, rank: usize, axis: usize) -> Shape
     requires there { axis < rank }
-    requires greatest { rank ≡ rank_joined left.now right.now }
+    requires greatest { rank ≡ joined_rank left.now right.now }
     requires high { rank ≤ most_axes }
-    requires ranks { IsTrue (do_ranks_join left.now right.now) }
-    ensures is { result.items ≡ shape_joined rank axis left.now right.now }
+    requires ranks { IsTrue (ranks_join left.now right.now) }
+    ensures is { result.items ≡ joined_shape rank axis left.now right.now }
     ensures inline { result.capacity ≡ 4 }
 {
     let places = joined_places(left, rank, axis) + joined_places(right, rank, axis);
@@ -159,7 +159,7 @@ fn in_side(side: &Seen, rank: usize, axis: usize, index: &[u32], i: u32) -> Shap
     requires there { axis < rank }
     requires long { length index.now ≡ rank }
     requires high { rank ≤ most_axes }
-    ensures is { result.items ≡ index_in_side rank axis side.now index.now i }
+    ensures is { result.items ≡ in_side rank axis side.now index.now i }
     ensures inline { result.capacity ≡ 4 }
 {
     let shape = side.shape();
@@ -229,9 +229,9 @@ fn is_run(side: &Seen, rank: usize) -> bool
 fn joined_runs(left: &Seen, right: &Seen, shape: &Shape) -> Result<Array, AllocError>
     requires within { IsWithinLimits shape.now.items }
     requires one_item_a_place { length left.now.items + length right.now.items ≡ size shape.now.items }
-    requires types { IsTrue (do_types_join left.now right.now) }
+    requires types { IsTrue (types_join left.now right.now) }
     ensures { IfOk result (λ a. a ≡ record {
-      item_type = type_joined left.now right.now;
+      item_type = joined_type left.now right.now;
       shape = shape.now.items;
       items = left.now.items ++ right.now.items;
     }) }
@@ -384,7 +384,7 @@ fn side_box(side: &Seen, shape: &[u32], axis: usize, before: u32, region: &Index
     requires near { IsSide side.now (length shape.now) }
     requires within { before ≤ longest_axis }
     requires fit { IsTrue (fits region.now side.now.shape) }
-    ensures { Some result ≡ box_of_side shape.now axis before side.now region.now }
+    ensures { Some result ≡ side_box shape.now axis before side.now region.now }
 {
     let rank = side.shape().len();
     if rank == 0 {

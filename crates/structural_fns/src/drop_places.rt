@@ -4,15 +4,15 @@ ghost use Rattle.std.specs.Prelude.{◌≡◌, ◌≤◌, ◌+◌, ℤ, pos, uns
 ghost use Rattle.std.proofs.Common.{rules};
 ghost use Rattle.arrays_core.specs.Limits.{most_axes, longest_axis};
 ghost use Rattle.arrays_core.specs.Arrays.{ArrayValue, IsAnswerTo, IsArray};
-ghost use Rattle.arrays_core.specs.Shapes.{IsWithinLimits, is_index_of as is_below};
+ghost use Rattle.arrays_core.specs.Shapes.{IsWithinLimits, is_index_of};
 ghost use Rattle.index_region.specs.ArgumentLists.{of_two_arguments};
 ghost use Rattle.index_region.specs.Arguments.{numbers};
 ghost use Rattle.index_region.specs.Answers.{IsPlaceOf, IsSourceIn, source_value};
 ghost use Rattle.index_region.specs.Checks.{form_of};
 ghost use Rattle.change_core.specs.Ways.{images};
 ghost use Rattle.change_core.proofs.Growing.{never_grows};
-ghost use Rattle.structural_fns.specs.AxisCounts.{counted_shape as shape_counted, uncounted as index_uncounted};
-ghost use Rattle.structural_fns.specs.Drop.{drop_form, drop_source, drop_item, drop_whole, dropped_shape as shape_dropped, kept_place as place_kept, kept_places as places_kept, kept, kept_axes, drop_rule};
+ghost use Rattle.structural_fns.specs.AxisCounts.{counted_shape, uncounted};
+ghost use Rattle.structural_fns.specs.Drop.{drop_form, drop_source, drop_item, drop_whole, dropped_shape, kept_place, kept_places, kept, kept_axes, drop_rule};
 ghost use Rattle.structural_fns.specs.Laws.Drop.{drop_tight};
 
 use crate::axis_counts::{check_axis_counts, counted_box, counted_shape, uncounted};
@@ -31,7 +31,7 @@ use std::alloc::{AllocError, Global};
 fn dropped_shape(counts: &Seen, axes: &[u32]) -> Shape
     requires long { length counts.now.items ≡ length axes.now }
     requires rank { length axes.now ≤ most_axes }
-    ensures is { result.items ≡ shape_dropped axes.now (numbers counts.now) }
+    ensures is { result.items ≡ dropped_shape axes.now (numbers counts.now) }
     ensures inline { result.capacity ≡ 4 }
 {
     let mut shape = SmallVec::new(*counts.shape().allocator());
@@ -46,7 +46,7 @@ fn dropped_shape(counts: &Seen, axes: &[u32]) -> Shape
 /// Where a place of what is left of an axis stands on the axis.
 fn kept_place(count: i64, i: u32) -> u32
     requires { i + unsigned_abs count ≤ longest_axis }
-    ensures { result ≡ place_kept count i }
+    ensures { result ≡ kept_place count i }
 {
     if count >= 0 {
         i + count.unsigned_abs() as u32
@@ -57,10 +57,10 @@ fn kept_place(count: i64, i: u32) -> u32
 
 /// The places of an index list of what is left on each axis.
 fn kept_places(counts: &Seen, array: &Seen, index: &[u32]) -> Shape
-    requires long { length counts.now.items ≡ length (shape_counted counts.now array.now) }
-    requires within { IsWithinLimits (shape_dropped (shape_counted counts.now array.now) (numbers counts.now)) }
-    requires inside { IsTrue (is_below (shape_dropped (shape_counted counts.now array.now) (numbers counts.now)) index.now) }
-    ensures is { result.items ≡ places_kept (numbers counts.now) index.now }
+    requires long { length counts.now.items ≡ length (counted_shape counts.now array.now) }
+    requires within { IsWithinLimits (dropped_shape (counted_shape counts.now array.now) (numbers counts.now)) }
+    requires inside { IsTrue (is_index_of (dropped_shape (counted_shape counts.now array.now) (numbers counts.now)) index.now) }
+    ensures is { result.items ≡ kept_places (numbers counts.now) index.now }
     ensures inline { result.capacity ≡ 4 }
 {
     let mut places = SmallVec::new(*array.shape().allocator());
@@ -97,8 +97,8 @@ impl DropPlaces {
     /// The index list of the array whose item stands at an index list of the result. It takes no memory.
     fn place_of(self, counts: &Seen, array: &Seen, index: &[u32]) -> Shape
         requires { IsPlaceOf (drop_form counts.now array.now) index.now }
-        ensures is { result.items ≡ index_uncounted array.now (places_kept (numbers counts.now) index.now) }
-        ensures inside { IsTrue (is_below array.now.shape result.items) }
+        ensures is { result.items ≡ uncounted array.now (kept_places (numbers counts.now) index.now) }
+        ensures inside { IsTrue (is_index_of array.now.shape result.items) }
         ensures inline { result.capacity ≡ 4 }
     {
         uncounted(array, kept_places(counts, array, index))

@@ -9,10 +9,10 @@ ghost use Rattle.arrays_core.specs.Shapes.{places_before};
 ghost use Rattle.index_region.specs.ArgumentLists.{of_two_arguments};
 ghost use Rattle.index_region.specs.Arguments.{numbers};
 ghost use Rattle.index_region.specs.Answers.{IsPlaceOf, IsSourceIn, IsFormAnswerTo, source_value};
-ghost use Rattle.index_region.specs.Checks.{limited as limited_form};
-ghost use Rattle.change_core.specs.Ways.{meet_at as meet_on_axis, meets as meets_on_axes};
+ghost use Rattle.index_region.specs.Checks.{limited};
+ghost use Rattle.change_core.specs.Ways.{meet_at, meets};
 ghost use Rattle.change_core.proofs.Growing.{never_grows};
-ghost use Rattle.structural_fns.specs.DyadicTranspose.{axes_to, greatest as greatest_of, least as least_of, all_positive as positive_all, occurs as does_occur, are_axes as do_name_axes, lengths_at, transposed_shape as shape_transposed, gathered as index_gathered, transpose_by_form, transpose_by_source, transpose_by_item, transpose_by_whole, axes_from_zero, transpose_by_rule};
+ghost use Rattle.structural_fns.specs.DyadicTranspose.{axes_to, greatest, least as least_of, all_positive, occurs, are_axes, lengths_at, transposed_shape, gathered, transpose_by_form, transpose_by_source, transpose_by_item, transpose_by_whole, axes_from_zero, transpose_by_rule};
 ghost use Rattle.structural_fns.specs.LeastLength.{least_with};
 ghost use Rattle.structural_fns.specs.Laws.DyadicTranspose.{transpose_by_tight};
 
@@ -30,7 +30,7 @@ use std::alloc::{AllocError, Global};
 
 /// No entry is below 1.
 fn all_positive(axes: &Seen) -> bool
-    ensures { result ≡ positive_all (numbers axes.now) }
+    ensures { result ≡ all_positive (numbers axes.now) }
 {
     for place in 0..axes.places() {
         if axes.number(place + 1) < 1 {
@@ -52,7 +52,7 @@ fn entry(axes: &Seen, place: u32) -> u64
 
 /// The greatest entry.
 fn greatest(axes: &Seen) -> u64
-    ensures { result ≡ greatest_of (axes_to axes.now) }
+    ensures { result ≡ greatest (axes_to axes.now) }
 {
     let mut greatest = 0;
     for place in 0..axes.places() {
@@ -63,7 +63,7 @@ fn greatest(axes: &Seen) -> u64
 
 /// An entry names the axis.
 fn occurs(axes: &Seen, axis: u64) -> bool
-    ensures { result ≡ does_occur (axes_to axes.now) axis }
+    ensures { result ≡ occurs (axes_to axes.now) axis }
 {
     for place in 0..axes.places() {
         if entry(axes, place) == axis {
@@ -76,7 +76,7 @@ fn occurs(axes: &Seen, axis: u64) -> bool
 /// No entry is below 1, and each axis from 1 to the greatest entry is named. The walk ends at the first
 /// axis that is not, so it takes at most one turn more than there are entries.
 fn are_axes(axes: &Seen) -> bool
-    ensures { result ≡ do_name_axes (numbers axes.now) }
+    ensures { result ≡ are_axes (numbers axes.now) }
 {
     if !all_positive(axes) {
         return false;
@@ -118,9 +118,9 @@ fn least_length(axes: &Seen, lengths: &[u32], axis: u64) -> u32
 /// The shape of the result, or LIMIT where it has more axes than an array may have.
 fn transposed_shape(axes: &Seen, lengths: &[u32]) -> Result<Shape, Kind>
     requires { length lengths.now ≡ length axes.now.items }
-    ensures is { IfOk result (λ shape. shape.items ≡ shape_transposed (axes_to axes.now) lengths.now) }
+    ensures is { IfOk result (λ shape. shape.items ≡ transposed_shape (axes_to axes.now) lengths.now) }
     ensures inline { IfOk result (λ shape. shape.capacity ≡ 4) }
-    ensures beyond { IfErr result (λ kind. (t : AType) → limited_form (shape_transposed (axes_to axes.now) lengths.now) t ≡ Err kind) }
+    ensures beyond { IfErr result (λ kind. (t : AType) → limited (transposed_shape (axes_to axes.now) lengths.now) t ≡ Err kind) }
 {
     let rank = greatest(axes);
     if rank > u64::from(MOST_AXES) {
@@ -136,7 +136,7 @@ fn transposed_shape(axes: &Seen, lengths: &[u32]) -> Result<Shape, Kind>
 /// The index of each axis: that of the axis that it goes to.
 fn gathered(alloc: Global, axes: &Seen, index: &[u32]) -> Shape
     requires { length axes.now.items ≤ most_axes }
-    ensures is { result.items ≡ index_gathered (axes_to axes.now) index.now }
+    ensures is { result.items ≡ gathered (axes_to axes.now) index.now }
     ensures inline { result.capacity ≡ 4 }
 {
     let mut at = SmallVec::new(alloc);
@@ -180,7 +180,7 @@ impl DyadicTranspose {
     fn place_in_row(self, axes: &Seen, array: &Seen, row: &[u32], index: u32) -> u32
         requires rank { length row.now < most_axes }
         requires place { IsPlaceOf (transpose_by_form axes.now array.now) (row.now ++ index ∷ []) }
-        ensures is { result ≡ places_before array.now.shape (index_gathered (axes_to axes.now) (row.now ++ index ∷ [])) }
+        ensures is { result ≡ places_before array.now.shape (gathered (axes_to axes.now) (row.now ++ index ∷ [])) }
         ensures sound { IsArray array.now }
     {
         let shape = array.shape();
@@ -262,7 +262,7 @@ fn axis_to(axes: &Seen, axis: usize) -> u64
 fn meet_at(axes: &Seen, intervals: &[(u32, u32)], axis: usize, places: u32) -> (u32, u32)
     requires few { length intervals.now ≤ most_axes }
     requires as_many { length intervals.now ≡ length axes.now.items }
-    ensures { result ≡ meet_on_axis axis places (axes_from_zero axes.now) intervals.now }
+    ensures { result ≡ meet_at axis places (axes_from_zero axes.now) intervals.now }
 {
     let mut first = 1;
     let mut last = places;
@@ -280,7 +280,7 @@ fn meets(axes: &Seen, intervals: &[(u32, u32)], shape: &[u32]) -> Intervals
     requires few { length intervals.now ≤ most_axes }
     requires as_many { length intervals.now ≡ length axes.now.items }
     requires rank { length shape.now ≤ most_axes }
-    ensures { result ≡ meets_on_axes (axes_from_zero axes.now) intervals.now 0 shape.now }
+    ensures { result ≡ meets (axes_from_zero axes.now) intervals.now 0 shape.now }
 {
     let mut met = Intervals::none();
     for (axis, places) in shape.iter().enumerate() {

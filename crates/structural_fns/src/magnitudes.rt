@@ -3,7 +3,7 @@
 ghost use Rattle.std.specs.Prelude.{◌≡◌, IfOk, IfErr, false};
 ghost use Rattle.arrays_core.specs.declared.item.Kind.TheVariants.{Limit};
 ghost use Rattle.index_region.specs.Checks.{is_within_limits};
-ghost use Rattle.structural_fns.specs.Reshape.{magnitudes as magnitudes_of};
+ghost use Rattle.structural_fns.specs.Reshape.{magnitudes};
 
 use crate::limits::{LONGEST_AXIS, MOST_AXES};
 use arrays_core::{Kind, Shape};
@@ -13,10 +13,10 @@ use smallvec::SmallVec;
 /// The magnitudes of the numbers of an argument, as the lengths of axes, or LIMIT where these are
 /// beyond the limits of arrays. It takes no memory.
 pub(crate) fn magnitudes(counts: &Seen) -> Result<Shape, Kind>
-    ensures is { IfOk result (λ axes. axes.items ≡ magnitudes_of counts.now) }
+    ensures is { IfOk result (λ axes. axes.items ≡ magnitudes counts.now) }
     ensures inline { IfOk result (λ axes. axes.capacity ≡ 4) }
     ensures kind { IfErr result (λ kind. kind ≡ Limit) }
-    ensures beyond { IfErr result (λ _. is_within_limits (magnitudes_of counts.now) ≡ false) }
+    ensures beyond { IfErr result (λ _. is_within_limits (magnitudes counts.now) ≡ false) }
 {
     if counts.places() > MOST_AXES {
         return Err(Kind::Limit);

@@ -3,12 +3,12 @@
 ghost use Rattle.std.specs.Prelude.{◌≡◌, ◌≤◌, IsTrue, IfOk, length, ◌∷◌, [], ◌-◌};
 ghost use Rattle.std.proofs.Common.{rules};
 ghost use Rattle.arrays_core.specs.Arrays.{ArrayValue, IsAnswerTo};
-ghost use Rattle.arrays_core.specs.Shapes.{IsWithinLimits, is_index_of, size as size_of};
+ghost use Rattle.arrays_core.specs.Shapes.{IsWithinLimits, is_index_of, size};
 ghost use Rattle.index_region.specs.ArgumentLists.{of_two_arguments};
 ghost use Rattle.index_region.specs.Answers.{IsPlaceOf, IsSourceIn, source_value};
 ghost use Rattle.change_core.specs.Places.{cover_in};
 ghost use Rattle.change_core.proofs.Growing.{never_grows};
-ghost use Rattle.structural_fns.specs.Reshape.{magnitudes as magnitudes_of, again_under, reshape_form, reshape_source, reshape_item, reshape_whole, reshape_rule};
+ghost use Rattle.structural_fns.specs.Reshape.{magnitudes, again_under, reshape_form, reshape_source, reshape_item, reshape_whole, reshape_rule};
 ghost use Rattle.structural_fns.specs.Laws.Reshape.{reshape_tight};
 
 use crate::magnitudes::magnitudes;
@@ -40,7 +40,7 @@ fn source_in(shape: &Shape, array: &Seen, index: &[u32]) -> Source
 /// The items of an array again and again under a shape that has as many places or more; fill where there is none.
 fn recycled(alloc: Global, array: &Seen, shape: &Shape) -> Result<Array, AllocError>
     requires within { IsWithinLimits shape.now.items }
-    requires more { length array.now.items ≤ size_of shape.now.items }
+    requires more { length array.now.items ≤ size shape.now.items }
     ensures { IfOk result (λ a. a ≡ again_under array.now shape.now.items) }
 {
     let (places, round) = (size(shape.as_slice()), array.places());
@@ -67,7 +67,7 @@ impl Reshape {
     pub fn source_of(&self, args: &[Seen], index: &[u32]) -> Source
         requires count { length args.now ≡ 2 }
         requires place { IsPlaceOf (of_two_arguments reshape_form args.now) index.now }
-        ensures is { (a b : ArrayValue) → args.now ≡ a ∷ b ∷ [] → source_value result ≡ reshape_source (magnitudes_of a) b index.now }
+        ensures is { (a b : ArrayValue) → args.now ≡ a ∷ b ∷ [] → source_value result ≡ reshape_source (magnitudes a) b index.now }
         ensures inside { (a b : ArrayValue) → args.now ≡ a ∷ b ∷ [] → IsSourceIn a b result }
     {
         self.source(&args[0], &args[1], index)
@@ -76,7 +76,7 @@ impl Reshape {
     /// Where the item at an index list of the result comes from, of these two arguments.
     fn source(self, counts: &Seen, array: &Seen, index: &[u32]) -> Source
         requires { IsPlaceOf (reshape_form counts.now array.now) index.now }
-        ensures is { source_value result ≡ reshape_source (magnitudes_of counts.now) array.now index.now }
+        ensures is { source_value result ≡ reshape_source (magnitudes counts.now) array.now index.now }
         ensures inside { IsSourceIn counts.now array.now result }
     {
         match magnitudes(counts) {

@@ -11,7 +11,7 @@ ghost use Rattle.index_region.specs.ArgumentLists.{of_one_argument};
 ghost use Rattle.index_region.specs.Answers.{IsPlaceOf, IsSourceIn, source_value};
 ghost use Rattle.index_region.specs.Boxes.{fits};
 ghost use Rattle.change_core.proofs.Growing.{never_grows};
-ghost use Rattle.structural_fns.specs.Reverse.{reverse_form, reverse_source, reverse_item, reverse_whole, reversed as interval_reversed, reverse_rule};
+ghost use Rattle.structural_fns.specs.Reverse.{reverse_form, reverse_source, reverse_item, reverse_whole, reversed, reverse_rule};
 ghost use Rattle.structural_fns.specs.Laws.Reverse.{reverse_tight};
 
 use arrays_core::{
@@ -141,7 +141,7 @@ impl RowPrimitive for Reverse {
 /// The intervals of a box, of which that of an axis is counted from its other end.
 fn reversed_on(axes: &[u32], axis: usize, region: &IndexBox) -> Intervals
     requires { IsTrue (fits region.now axes.now) }
-    ensures { result ≡ set region.now axis (interval_reversed (places_along axes.now axis) (get_or region.now axis (0, 0))) }
+    ensures { result ≡ set region.now axis (reversed (places_along axes.now axis) (get_or region.now axis (0, 0))) }
 {
     let intervals = region.intervals().copy();
     if axis >= axes.len() {

@@ -5,15 +5,15 @@ ghost use Rattle.std.proofs.Common.{rules};
 ghost use Rattle.arrays_core.specs.Limits.{most_axes, longest_axis};
 ghost use Rattle.arrays_core.specs.declared.item.Kind.{Kind as AKind};
 ghost use Rattle.arrays_core.specs.Arrays.{ArrayValue, IsAnswerTo};
-ghost use Rattle.arrays_core.specs.Shapes.{is_index_of, size as size_of};
+ghost use Rattle.arrays_core.specs.Shapes.{is_index_of, size};
 ghost use Rattle.arrays_core.specs.Building.{with_row};
 ghost use Rattle.index_region.specs.Checks.{Form};
 ghost use Rattle.function_names.specs.Axes.{axis_at};
-ghost use Rattle.index_region.specs.Axes.{places_along as length_along};
+ghost use Rattle.index_region.specs.Axes.{places_along};
 ghost use Rattle.index_region.specs.ArgumentLists.{of_two_arguments};
 ghost use Rattle.index_region.specs.Answers.{IsPlaceOf, IsRowIn, IsSourceIn, source_value};
 ghost use Rattle.change_core.proofs.Growing.{never_grows};
-ghost use Rattle.structural_fns.specs.Rotate.{lines_checked, rotate_form, rotation, rotated_place as place_rotated, rotate_source, rotate_item, rotate_whole, rotate_rule};
+ghost use Rattle.structural_fns.specs.Rotate.{lines_checked, rotate_form, rotation, rotated_place, rotate_source, rotate_item, rotate_whole, rotate_rule};
 ghost use Rattle.structural_fns.specs.Laws.Rotate.{rotate_tight};
 
 use arrays_core::{
@@ -69,7 +69,7 @@ fn rotated_place(axis: u32, amount: i64, i: u32) -> u32
     requires low { 1 ≤ i }
     requires high { i ≤ axis }
     requires within { axis ≤ longest_axis }
-    ensures { result ≡ place_rotated axis amount i }
+    ensures { result ≡ rotated_place axis amount i }
 {
     let place = i128::from(i) + i128::from(amount) - 1;
     place.rem_euclid(i128::from(axis)) as u32 + 1
@@ -81,7 +81,7 @@ fn rotated(alloc: Global, axes: &[u32], axis: usize, amount: i64, index: &[u32])
     requires axes_in { All (λ n. n ≤ longest_axis) axes.now }
     requires there { 0 < length axes.now → axis < length axes.now }
     requires in_range { IsTrue (is_index_of axes.now index.now) }
-    ensures is { result.items ≡ set index.now axis (place_rotated (length_along axes.now axis) amount (get_or index.now axis 1)) }
+    ensures is { result.items ≡ set index.now axis (rotated_place (places_along axes.now axis) amount (get_or index.now axis 1)) }
     ensures inline { result.capacity ≡ 4 }
 {
     let mut at = shape_of(alloc, index);
@@ -106,7 +106,7 @@ impl Rotate {
     fn place_of(self, amounts: &Seen, array: &Seen, index: &[u32]) -> Shape
         requires { IsPlaceOf (rotate_form self.along amounts.now array.now) index.now }
         ensures is { let axis = axis_at (length array.now.shape) self.along in
-            result.items ≡ set index.now axis (place_rotated (length_along array.now.shape axis) (rotation axis amounts.now index.now) (get_or index.now axis 1)) }
+            result.items ≡ set index.now axis (rotated_place (places_along array.now.shape axis) (rotation axis amounts.now index.now) (get_or index.now axis 1)) }
         ensures inside { IsTrue (is_index_of array.now.shape result.items) }
         ensures inline { result.capacity ≡ 4 }
     {
@@ -173,7 +173,7 @@ impl Rotate {
     ) -> Result<(), AllocError>
         requires row { IsRowIn (rotate_form self.along amounts.now array.now) row.now count items.old.item_type }
         requires other { axis_at (length array.now.shape) self.along ≢ length row.now }
-        requires one { size_of amounts.now.shape ≡ 1 }
+        requires one { size amounts.now.shape ≡ 1 }
         ensures items { OnOk result (with_row items.old.items (λ i. rotate_item self.along amounts.now array.now (row.now ++ i ∷ [])) count ≡ Ok items.new.items) }
         ensures typed { items.new.item_type ≡ items.old.item_type }
     {

@@ -5,7 +5,7 @@ ghost use Rattle.std.proofs.Common.{rules};
 ghost use Rattle.arrays_core.specs.Limits.{most_axes, longest_axis};
 ghost use Rattle.arrays_core.specs.Building.{with_row};
 ghost use Rattle.arrays_core.specs.Arrays.{ArrayValue, IsAnswerTo};
-ghost use Rattle.arrays_core.specs.Shapes.{IsWithinLimits, is_index_of as is_below, size as size_of};
+ghost use Rattle.arrays_core.specs.Shapes.{IsWithinLimits, is_index_of, size};
 ghost use Rattle.index_region.specs.ArgumentLists.{of_two_arguments};
 ghost use Rattle.index_region.specs.Arguments.{numbers};
 ghost use Rattle.index_region.specs.Answers.{IsPlaceOf, IsSourceIn, source_value};
@@ -13,8 +13,8 @@ ghost use Rattle.index_region.specs.Checks.{form_of};
 ghost use Rattle.index_region.specs.Boxes.{fits};
 ghost use Rattle.change_core.specs.Ways.{images};
 ghost use Rattle.change_core.proofs.Growing.{never_grows};
-ghost use Rattle.structural_fns.specs.Reshape.{magnitudes as magnitudes_of, magnitudes};
-ghost use Rattle.structural_fns.specs.Take.{take_form, take_source, take_item, take_whole, taken_place as place_taken, taken_places as places_taken, AreOnLastAxis, taken, taken_axes, take_rule};
+ghost use Rattle.structural_fns.specs.Reshape.{magnitudes};
+ghost use Rattle.structural_fns.specs.Take.{take_form, take_source, take_item, take_whole, taken_place, taken_places, AreOnLastAxis, taken, taken_axes, take_rule};
 ghost use Rattle.structural_fns.specs.Laws.Take.{take_tight};
 
 use crate::axis_counts::{check_axis_counts, counted_box, counted_shape, uncounted};
@@ -35,7 +35,7 @@ fn taken_place(axis: u32, count: i64, i: u32) -> u32
     requires axis_within { axis ≤ longest_axis }
     requires count_within { unsigned_abs count ≤ longest_axis }
     requires index_within { i ≤ longest_axis }
-    ensures { result ≡ place_taken axis count i }
+    ensures { result ≡ taken_place axis count i }
 {
     if count >= 0 {
         i
@@ -48,9 +48,9 @@ fn taken_place(axis: u32, count: i64, i: u32) -> u32
 fn taken_places(counts: &Seen, axes: &[u32], index: &[u32]) -> Shape
     requires long { length counts.now.items ≡ length axes.now }
     requires axes_within { All (λ n. n ≤ longest_axis) axes.now }
-    requires within { IsWithinLimits (magnitudes_of counts.now) }
-    requires inside { IsTrue (is_below (magnitudes_of counts.now) index.now) }
-    ensures is { result.items ≡ places_taken axes.now (numbers counts.now) index.now }
+    requires within { IsWithinLimits (magnitudes counts.now) }
+    requires inside { IsTrue (is_index_of (magnitudes counts.now) index.now) }
+    ensures is { result.items ≡ taken_places axes.now (numbers counts.now) index.now }
     ensures inline { result.capacity ≡ 4 }
 {
     let mut places = SmallVec::new(*counts.shape().allocator());
@@ -72,7 +72,7 @@ fn has_places(counts: &Seen, vector: &Seen) -> bool
 fn taken_run(counts: &Seen, vector: &Seen, shape: &Shape) -> Result<Array, AllocError>
     requires form { take_form counts.now vector.now ≡ Ok (form_of shape.now.items vector.now.item_type) }
     requires one_axis { length vector.now.shape ≡ 1 }
-    requires there { size_of shape.now.items ≤ length vector.now.items }
+    requires there { size shape.now.items ≤ length vector.now.items }
     ensures { IfOk result (λ a. take_whole counts.now vector.now ≡ Ok a) }
 {
     let first = taken_place(vector.places(), counts.number(1), 1);

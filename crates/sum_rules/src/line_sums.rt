@@ -5,12 +5,12 @@ ghost use Rattle.arrays_core.specs.declared.item.Item.TheVariants.{Num};
 ghost use Rattle.arrays_core.specs.declared.item.ItemType.TheVariants.{Nums};
 ghost use Rattle.arrays_core.specs.Arrays.{IsArray};
 ghost use Rattle.arrays_core.specs.Items.{type_of};
-ghost use Rattle.arrays_core.specs.Shapes.{size as size_of, IsWithinLimits};
-ghost use Rattle.function_names.specs.Axes.{is_axis as has_axis, axis_at as axis_meant};
+ghost use Rattle.arrays_core.specs.Shapes.{size, IsWithinLimits};
+ghost use Rattle.function_names.specs.Axes.{is_axis, axis_at};
 ghost use Rattle.index_region.specs.Patches.{FitsPatch, patched};
 ghost use Rattle.operator_fns.specs.SumTrees.{with_number};
-ghost use Rattle.fold_trees.specs.FoldTrees.{has_trees as has_such};
-ghost use Rattle.sum_rules.specs.LineSums.{length_along as long_along, line_length as length_of_lines, line_step as step_of_lines, keeps_sums as is_kept, summed, array_of, patched_sums, grown_sums, StandFor};
+ghost use Rattle.fold_trees.specs.FoldTrees.{has_trees};
+ghost use Rattle.sum_rules.specs.LineSums.{length_along, line_length, line_step, keeps_sums, summed, array_of, patched_sums, grown_sums, StandFor};
 ghost use Rattle.sum_rules.specs.NewLines.{FitsSums, FitsTrees, trees_grown};
 
 use crate::new_lines::{Growth, NewLines};
@@ -27,7 +27,7 @@ const MOST_WITHOUT_TREE: u32 = 3;
 
 /// How long the lines along an axis are, axes counted from 0; 0 where there is no such axis.
 pub(crate) fn line_length(axis: usize, shape: &[u32]) -> u32
-    ensures { result ≡ length_of_lines axis shape.now }
+    ensures { result ≡ line_length axis shape.now }
 {
     match shape.get(axis) {
         Some(count) => *count,
@@ -38,9 +38,9 @@ pub(crate) fn line_length(axis: usize, shape: &[u32]) -> u32
 /// How far the neighbours of a line lie apart.
 pub(crate) fn line_step(axis: usize, shape: &[u32]) -> u32
     requires within { IsWithinLimits shape.now }
-    requires some { 0 < size_of shape.now }
+    requires some { 0 < size shape.now }
     requires there { axis < length shape.now }
-    ensures { result ≡ step_of_lines axis shape.now }
+    ensures { result ≡ line_step axis shape.now }
 {
     size(&shape[axis + 1..])
 }
@@ -48,7 +48,7 @@ pub(crate) fn line_step(axis: usize, shape: &[u32]) -> u32
 /// How long the lines along the axis are that is written; 0 where there is no such axis.
 pub(crate) fn length_along(along: Along, shape: &[u32]) -> u32
     requires { IsWithinLimits shape.now }
-    ensures { result ≡ long_along along shape.now }
+    ensures { result ≡ length_along along shape.now }
 {
     let rank = shape.len() as u32;
     if !along.is_axis(rank) {
@@ -60,7 +60,7 @@ pub(crate) fn length_along(along: Along, shape: &[u32]) -> u32
 /// The folds of the lines of an array along this axis are worth keeping: it is of numbers, there are some, and its lines are long
 /// enough.
 pub fn keeps_sums(along: Along, array: &Seen) -> bool
-    ensures { result ≡ is_kept along array.now }
+    ensures { result ≡ keeps_sums along array.now }
 {
     array.item_type() == ItemType::Nums
         && array.places() > 0
@@ -69,8 +69,8 @@ pub fn keeps_sums(along: Along, array: &Seen) -> bool
 
 /// The folds of the lines of an array whose lines are long enough.
 fn sums_of(alloc: Global, fold: Reduce, array: &Array) -> Result<Option<LineSums>, AllocError>
-    requires function { has_such fold.function ≡ true }
-    requires kept { is_kept fold.along array.now ≡ true }
+    requires function { has_trees fold.function ≡ true }
+    requires kept { keeps_sums fold.along array.now ≡ true }
     ensures { IfOk result (λ s. s ≡ summed fold array.now) }
 {
     let shape = array.shape();
@@ -171,7 +171,7 @@ impl LineSums {
     /// The folds of the lines of an array of numbers along an axis; none for characters, where there are no numbers or no such axis, or
     /// where a line has no more than 3 items, which are folded as fast without a tree.
     pub fn of(alloc: Global, fold: Reduce, array: &Seen) -> Result<Option<LineSums>, AllocError>
-        requires { has_such fold.function ≡ true }
+        requires { has_trees fold.function ≡ true }
         ensures { IfOk result (λ s. s ≡ summed fold array.now) }
     {
         if !keeps_sums(fold.along, array) {

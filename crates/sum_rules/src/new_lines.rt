@@ -2,8 +2,8 @@
 
 ghost use Rattle.std.specs.Prelude.{◌≡◌, ◌<◌, true, length, drop, IfOk};
 ghost use Rattle.arrays_core.specs.declared.item.ItemType.TheVariants.{Nums};
-ghost use Rattle.arrays_core.specs.Shapes.{size as size_of, IsWithinLimits};
-ghost use Rattle.fold_trees.specs.FoldTrees.{has_trees as has_such};
+ghost use Rattle.arrays_core.specs.Shapes.{size, IsWithinLimits};
+ghost use Rattle.fold_trees.specs.FoldTrees.{has_trees};
 ghost use Rattle.sum_rules.specs.NewLines.{function_of, new_numbers, AreNew};
 
 use crate::line_sums::{line_length, line_step};
@@ -51,11 +51,11 @@ impl NewLines {
         axis: usize,
         tail: &Tail,
     ) -> Result<NewLines, AllocError>
-        requires function { has_such function ≡ true }
+        requires function { has_trees function ≡ true }
         requires numbers { tail.now.item_type ≡ Nums }
-        requires some { 0 < size_of tail.now.shape }
+        requires some { 0 < size tail.now.shape }
         requires there { axis < length tail.now.shape }
-        requires one_place { length tail.now.items ≡ size_of (drop 1 tail.now.shape) }
+        requires one_place { length tail.now.items ≡ size (drop 1 tail.now.shape) }
         ensures { IfOk result (λ l. l ≡ record { function = function; axis = axis; tail = tail.now }) }
     {
         let shape = shape_of(alloc, tail.shape().as_slice());
@@ -80,11 +80,11 @@ fn growth_of(
     shape: &[u32],
     numbers: &[i64],
 ) -> Result<Growth, AllocError>
-    requires function { has_such function ≡ true }
+    requires function { has_trees function ≡ true }
     requires within { IsWithinLimits shape.now }
-    requires some { 0 < size_of shape.now }
+    requires some { 0 < size shape.now }
     requires there { axis < length shape.now }
-    requires one_place { length numbers.now ≡ size_of (drop 1 shape.now) }
+    requires one_place { length numbers.now ≡ size (drop 1 shape.now) }
     ensures function { IfOk result (λ g. function_of g ≡ function) }
     ensures numbers { IfOk result (λ g. new_numbers g ≡ numbers.now) }
     ensures new { IfOk result (AreNew axis shape.now) }

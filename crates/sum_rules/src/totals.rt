@@ -4,11 +4,11 @@ ghost use Rattle.std.specs.Prelude.{◌≡◌, ◌-◌, ◌+◌, ◌≤◌, ◌<
 ghost use Rattle.arrays_core.specs.declared.item.Item.TheVariants.{Num};
 ghost use Rattle.arrays_core.specs.Arrays.{with_items, IsAnswerTo};
 ghost use Rattle.arrays_core.specs.Items.{all_or_first_error, type_of};
-ghost use Rattle.arrays_core.specs.Shapes.{size as size_of, IsWithinLimits};
+ghost use Rattle.arrays_core.specs.Shapes.{size, IsWithinLimits};
 ghost use Rattle.arrays_core.specs.declared.item.ItemType.TheVariants.{Nums};
 ghost use Rattle.index_region.specs.declared.delta.Delta.TheVariants.{Whole};
 ghost use Rattle.index_region.specs.Arguments.{number_of};
-ghost use Rattle.function_names.specs.Axes.{is_axis as has_axis, axis_at as axis_meant};
+ghost use Rattle.function_names.specs.Axes.{is_axis, axis_at};
 ghost use Rattle.index_region.specs.Boxes.{box_size, is_within};
 ghost use Rattle.index_region.specs.Patches.{FitsPatch, patched};
 ghost use Rattle.operator_fns.specs.Reduce.{reduce_item};
@@ -22,8 +22,8 @@ ghost use Rattle.change_core.specs.RuleModels.{form_size};
 ghost use Rattle.change_rules.specs.Evaluation.{evaluation};
 ghost use Rattle.change_rules.specs.Nodes.{views, moved, is_error, node_delta, node_cost, reached_delta, reached_cost, patch_delta};
 ghost use Rattle.change_rules.specs.Currency.{BringsUpToDate, HasAxis, IsRight};
-ghost use Rattle.sum_rules.specs.LineSums.{StandFor, array_of, length_along as long_along};
-ghost use Rattle.sum_rules.specs.Totals.{total_rule, longer_totals, StoodFor, StoodBefore, IsSummedUp, IsSummedByLines, AreJoinsWithin, AreJoinsFrom, AreFoldsWithin, AreFolds, HasJoins, HasAllJoins, is_one_a_line as has_one_a_line, lines_of, row_sums};
+ghost use Rattle.sum_rules.specs.LineSums.{StandFor, array_of, length_along};
+ghost use Rattle.sum_rules.specs.Totals.{total_rule, longer_totals, StoodFor, StoodBefore, IsSummedUp, IsSummedByLines, AreJoinsWithin, AreJoinsFrom, AreFoldsWithin, AreFolds, HasJoins, HasAllJoins, is_one_a_line, lines_of, row_sums};
 
 use crate::line_sums::length_along;
 use crate::line_totals::{LineTotals, TreeALine};
@@ -39,7 +39,7 @@ use std::alloc::{AllocError, Global};
 
 /// The box has one place on an axis, axes counted from 0.
 fn is_one_a_line(axis: usize, region: &IndexBox) -> bool
-    ensures { result ≡ has_one_a_line axis region.now }
+    ensures { result ≡ is_one_a_line axis region.now }
 {
     match region.as_slice().get(axis) {
         Some((first, last)) => first == last,
@@ -76,17 +76,17 @@ fn line_total<S: LineTotals>(
     meter: &mut Meter,
 ) -> Result<Item, Kind>
     requires function { S.function sums.now ≡ fold.function }
-    requires on_axis { has_axis (length shape.now.items) fold.along ≡ true }
-    requires lines { StandFor (S.trees sums.now) (axis_meant (length shape.now.items) fold.along) (array_of shape.now.items (S.trees sums.now).numbers) }
+    requires on_axis { is_axis (length shape.now.items) fold.along ≡ true }
+    requires lines { StandFor (S.trees sums.now) (axis_at (length shape.now.items) fold.along) (array_of shape.now.items (S.trees sums.now).numbers) }
     requires fit { FitsPatch (array_of shape.now.items (S.trees sums.now).numbers) patch.now }
-    requires one { has_one_a_line (axis_meant (length shape.now.items) fold.along) patch.now.region ≡ true }
+    requires one { is_one_a_line (axis_at (length shape.now.items) fold.along) patch.now.region ≡ true }
     requires inside { IsTrue (is_within patch.now.region index.now) }
-    ensures total { result ≡ reduce_item fold.function fold.along (patched (array_of shape.now.items (S.trees sums.now).numbers) patch.now) (remove index.now (axis_meant (length shape.now.items) fold.along)) }
+    ensures total { result ≡ reduce_item fold.function fold.along (patched (array_of shape.now.items (S.trees sums.now).numbers) patch.now) (remove index.now (axis_at (length shape.now.items) fold.along)) }
     ensures typed { IfOk result (λ total. type_of total ≡ Nums) }
     ensures ticks { meter.new.ticks ≡ ticked meter.old.ticks 1 }
     ensures rises { meter.old.ticks ≤ meter.new.ticks }
-    ensures joins { AreJoinsWithin 1 (long_along fold.along shape.now.items) meter.old.joins meter.new.joins }
-    ensures least { AreJoinsFrom 1 (long_along fold.along shape.now.items) meter.old.joins meter.new.joins }
+    ensures joins { AreJoinsWithin 1 (length_along fold.along shape.now.items) meter.old.joins meter.new.joins }
+    ensures least { AreJoinsFrom 1 (length_along fold.along shape.now.items) meter.old.joins meter.new.joins }
 {
     // The type of the items says that the patch has one item for each place.
     let _one_item_a_place = patch.item_type();
@@ -108,16 +108,16 @@ fn new_totals<S: LineTotals>(
     meter: &mut Meter,
 ) -> Result<Array, ApplyFault>
     requires function { S.function sums.now ≡ fold.function }
-    requires on_axis { has_axis (length shape.now.items) fold.along ≡ true }
-    requires lines { StandFor (S.trees sums.now) (axis_meant (length shape.now.items) fold.along) (array_of shape.now.items (S.trees sums.now).numbers) }
+    requires on_axis { is_axis (length shape.now.items) fold.along ≡ true }
+    requires lines { StandFor (S.trees sums.now) (axis_at (length shape.now.items) fold.along) (array_of shape.now.items (S.trees sums.now).numbers) }
     requires fit { FitsPatch (array_of shape.now.items (S.trees sums.now).numbers) patch.now }
-    requires one { has_one_a_line (axis_meant (length shape.now.items) fold.along) patch.now.region ≡ true }
-    ensures totals { HoldsItems Nums (items_in (reduce_item fold.function fold.along (patched (array_of shape.now.items (S.trees sums.now).numbers) patch.now)) (lines_of (axis_meant (length shape.now.items) fold.along) patch.now.region)) result }
+    requires one { is_one_a_line (axis_at (length shape.now.items) fold.along) patch.now.region ≡ true }
+    ensures totals { HoldsItems Nums (items_in (reduce_item fold.function fold.along (patched (array_of shape.now.items (S.trees sums.now).numbers) patch.now)) (lines_of (axis_at (length shape.now.items) fold.along) patch.now.region)) result }
     ensures ticks { meter.new.ticks ≤ meter.old.ticks + box_size patch.now.region }
     ensures exact { IfOk result (λ _. meter.new.ticks ≡ ticked meter.old.ticks (box_size patch.now.region)) }
     ensures rises { meter.old.ticks ≤ meter.new.ticks }
-    ensures joins { AreJoinsWithin (box_size patch.now.region) (long_along fold.along shape.now.items) meter.old.joins meter.new.joins }
-    ensures least { IfOk result (λ _. AreJoinsFrom (box_size patch.now.region) (long_along fold.along shape.now.items) meter.old.joins meter.new.joins) }
+    ensures joins { AreJoinsWithin (box_size patch.now.region) (length_along fold.along shape.now.items) meter.old.joins meter.new.joins }
+    ensures least { IfOk result (λ _. AreJoinsFrom (box_size patch.now.region) (length_along fold.along shape.now.items) meter.old.joins meter.new.joins) }
 {
     let region = patch.region();
     let lines = region.size();
@@ -146,15 +146,15 @@ fn change_by_trees<S: LineTotals>(
 ) -> Result<u32, AllocError>
     requires function { S.function sums.now ≡ fold.function }
     requires lines { StoodFor fold.along (S.trees sums.now) patch.now array.now }
-    requires one { has_one_a_line (axis_meant (length array.now.shape) fold.along) patch.now.region ≡ true }
+    requires one { is_one_a_line (axis_at (length array.now.shape) fold.along) patch.now.region ≡ true }
     requires small { meter.old.ticks ≤ most_ticks }
     ensures delta { OnOk result (change.new ≡ reached_delta (total_rule fold) (array.now ∷ []) (Some patch.now.region ∷ [])) }
     ensures cost { IfOk result (λ n. n ≡ reached_cost (total_rule fold) (array.now ∷ []) (Some patch.now.region ∷ [])) }
     ensures ticks { meter.new.ticks ≤ meter.old.ticks + reached_cost (total_rule fold) (array.now ∷ []) (Some patch.now.region ∷ []) }
     ensures exact { IfOk result (λ n. is_error change.new ≡ false → meter.new.ticks ≡ ticked meter.old.ticks n) }
     ensures rises { meter.old.ticks ≤ meter.new.ticks }
-    ensures joins { AreJoinsWithin (box_size patch.now.region) (long_along fold.along array.now.shape) meter.old.joins meter.new.joins }
-    ensures least { OnOk result (is_error change.new ≡ false → AreJoinsFrom (box_size patch.now.region) (long_along fold.along array.now.shape) meter.old.joins meter.new.joins) }
+    ensures joins { AreJoinsWithin (box_size patch.now.region) (length_along fold.along array.now.shape) meter.old.joins meter.new.joins }
+    ensures least { OnOk result (is_error change.new ≡ false → AreJoinsFrom (box_size patch.now.region) (length_along fold.along array.now.shape) meter.old.joins meter.new.joins) }
 {
     let args = [array.again()];
     let form = match fold.shape(&args) {
@@ -191,14 +191,14 @@ fn patch_of_one<S: LineTotals>(
 )
     requires function { S.function sums.now ≡ fold.function }
     requires lines { StoodFor fold.along (S.trees sums.now) patch.now array.now }
-    requires one { has_one_a_line (axis_meant (length array.now.shape) fold.along) patch.now.region ≡ true }
-    requires region { region ≡ lines_of (axis_meant (length array.now.shape) fold.along) patch.now.region }
+    requires one { is_one_a_line (axis_at (length array.now.shape) fold.along) patch.now.region ≡ true }
+    requires region { region ≡ lines_of (axis_at (length array.now.shape) fold.along) patch.now.region }
     requires single { box_size region ≡ 1 }
     ensures delta { change.new ≡ patch_delta Nums region (items_in (reduce_item fold.function fold.along array.now) region) }
     ensures ticks { meter.new.ticks ≡ ticked meter.old.ticks 1 }
     ensures rises { meter.old.ticks ≤ meter.new.ticks }
-    ensures joins { AreJoinsWithin 1 (long_along fold.along array.now.shape) meter.old.joins meter.new.joins }
-    ensures least { AreJoinsFrom 1 (long_along fold.along array.now.shape) meter.old.joins meter.new.joins }
+    ensures joins { AreJoinsWithin 1 (length_along fold.along array.now.shape) meter.old.joins meter.new.joins }
+    ensures least { AreJoinsFrom 1 (length_along fold.along array.now.shape) meter.old.joins meter.new.joins }
 {
     let index = patch.region().index_at(0);
     match line_total(fold, array.shape(), sums, patch, index.as_slice(), meter) {
@@ -220,14 +220,14 @@ fn patch_of<S: LineTotals>(
 ) -> Result<(), AllocError>
     requires function { S.function sums.now ≡ fold.function }
     requires lines { StoodFor fold.along (S.trees sums.now) patch.now array.now }
-    requires one { has_one_a_line (axis_meant (length array.now.shape) fold.along) patch.now.region ≡ true }
-    requires region { region ≡ lines_of (axis_meant (length array.now.shape) fold.along) patch.now.region }
+    requires one { is_one_a_line (axis_at (length array.now.shape) fold.along) patch.now.region ≡ true }
+    requires region { region ≡ lines_of (axis_at (length array.now.shape) fold.along) patch.now.region }
     ensures delta { OnOk result (change.new ≡ patch_delta Nums region (items_in (reduce_item fold.function fold.along array.now) region)) }
     ensures ticks { meter.new.ticks ≤ meter.old.ticks + box_size patch.now.region }
     ensures exact { OnOk result (is_error change.new ≡ false → meter.new.ticks ≡ ticked meter.old.ticks (box_size patch.now.region)) }
     ensures rises { meter.old.ticks ≤ meter.new.ticks }
-    ensures joins { AreJoinsWithin (box_size patch.now.region) (long_along fold.along array.now.shape) meter.old.joins meter.new.joins }
-    ensures least { OnOk result (is_error change.new ≡ false → AreJoinsFrom (box_size patch.now.region) (long_along fold.along array.now.shape) meter.old.joins meter.new.joins) }
+    ensures joins { AreJoinsWithin (box_size patch.now.region) (length_along fold.along array.now.shape) meter.old.joins meter.new.joins }
+    ensures least { OnOk result (is_error change.new ≡ false → AreJoinsFrom (box_size patch.now.region) (length_along fold.along array.now.shape) meter.old.joins meter.new.joins) }
 {
     if region.size() == 1 {
         patch_of_one(fold, region, array, sums, patch, change, meter);
@@ -250,7 +250,7 @@ fn totals_behind<S: LineTotals>(
     meter: &mut Meter,
 ) -> Result<Array, ApplyFault>
     requires within { IsWithinLimits shape.now.items }
-    requires places { size_of shape.now.items ≡ length numbers.now }
+    requires places { size shape.now.items ≡ length numbers.now }
     requires some { 0 < length numbers.now }
     requires lines { line_count (S.trees sums.now) ≡ length numbers.now }
     ensures totals { IsAnswerTo (with_items Nums shape.now.items (all_or_first_error (longer_totals (S.function sums.now) (S.trees sums.now) numbers.now))) result }
@@ -286,14 +286,14 @@ fn change_by_growth<S: LineTotals>(
 ) -> Result<u32, AllocError>
     requires function { S.function sums.now ≡ fold.function }
     requires lines { StoodBefore fold.along (S.trees sums.now) tail.now array.now }
-    requires first { axis_meant (length array.now.shape) fold.along ≡ 0 }
+    requires first { axis_at (length array.now.shape) fold.along ≡ 0 }
     ensures delta { OnOk result (change.new ≡ Whole (evaluation (total_rule fold) (array.now ∷ []))) }
     ensures cost { IfOk result (λ n. n ≡ form_size ((total_rule fold).form (array.now ∷ []))) }
     ensures ticks { meter.new.ticks ≤ meter.old.ticks + form_size ((total_rule fold).form (array.now ∷ [])) }
     ensures exact { IfOk result (λ n. is_error change.new ≡ false → meter.new.ticks ≡ ticked meter.old.ticks n) }
     ensures rises { meter.old.ticks ≤ meter.new.ticks }
-    ensures joins { AreJoinsWithin (length tail.now.items) (long_along fold.along array.now.shape) meter.old.joins meter.new.joins }
-    ensures least { OnOk result (is_error change.new ≡ false → AreJoinsFrom (length tail.now.items) (long_along fold.along array.now.shape) meter.old.joins meter.new.joins) }
+    ensures joins { AreJoinsWithin (length tail.now.items) (length_along fold.along array.now.shape) meter.old.joins meter.new.joins }
+    ensures least { OnOk result (is_error change.new ≡ false → AreJoinsFrom (length tail.now.items) (length_along fold.along array.now.shape) meter.old.joins meter.new.joins) }
 {
     let form = match fold.shape(&[array.again()]) {
         Ok(form) => form,
@@ -327,8 +327,8 @@ pub fn fold_totals_with_cost(
     ensures ticks { meter.new.ticks ≤ meter.old.ticks + node_cost (total_rule fold) (arg.entry ∷ []) old.now }
     ensures exact { IfOk result (λ n. is_error change.new ≡ false → meter.new.ticks ≡ ticked meter.old.ticks n) }
     ensures rises { meter.old.ticks ≤ meter.new.ticks }
-    ensures joins { AreFoldsWithin (node_cost (total_rule fold) (arg.entry ∷ []) old.now) (long_along fold.along arg.entry.0.shape) meter.old.joins meter.new.joins }
-    ensures folds { IfOk result (λ n. is_error change.new ≡ false → AreFolds n (long_along fold.along arg.entry.0.shape) meter.old.joins meter.new.joins) }
+    ensures joins { AreFoldsWithin (node_cost (total_rule fold) (arg.entry ∷ []) old.now) (length_along fold.along arg.entry.0.shape) meter.old.joins meter.new.joins }
+    ensures folds { IfOk result (λ n. is_error change.new ≡ false → AreFolds n (length_along fold.along arg.entry.0.shape) meter.old.joins meter.new.joins) }
     ensures right { OnOk result (IsRight (total_rule fold) (views (arg.entry ∷ [])) change.new) }
     ensures whole { OnOk result (BringsUpToDate (total_rule fold) (arg.entry ∷ []) old.now change.new) }
 {

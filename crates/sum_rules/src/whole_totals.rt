@@ -4,14 +4,14 @@ ghost use Rattle.std.specs.Prelude.{◌≡◌, ◌+◌, ◌≤◌, ◌<◌, ◌�
 ghost use Rattle.arrays_core.specs.declared.item.ItemType.TheVariants.{Nums};
 ghost use Rattle.arrays_core.specs.Arrays.{with_items, IsAnswerTo};
 ghost use Rattle.arrays_core.specs.Items.{all_or_first_error};
-ghost use Rattle.arrays_core.specs.Shapes.{size as size_of, IsWithinLimits};
+ghost use Rattle.arrays_core.specs.Shapes.{size, IsWithinLimits};
 ghost use Rattle.index_region.specs.declared.delta.Delta.TheVariants.{Whole};
 ghost use Rattle.operator_fns.specs.SumTrees.{line_count};
 ghost use Rattle.change_core.specs.Meters.{ticked};
 ghost use Rattle.change_core.specs.RuleModels.{form_size};
 ghost use Rattle.change_rules.specs.Evaluation.{evaluation};
 ghost use Rattle.change_rules.specs.Nodes.{is_error};
-ghost use Rattle.sum_rules.specs.LineSums.{summed, length_along as long_along};
+ghost use Rattle.sum_rules.specs.LineSums.{summed, length_along};
 ghost use Rattle.sum_rules.specs.Totals.{total_rule, all_totals, AreFoldsWithin, AreFolds};
 
 use crate::line_sums::{LineSums, length_along};
@@ -30,11 +30,11 @@ fn totals_of_all(
     meter: &mut Meter,
 ) -> Result<Array, ApplyFault>
     requires within { IsWithinLimits shape.now.items }
-    requires places { size_of shape.now.items ≡ line_count trees.now.lines }
+    requires places { size shape.now.items ≡ line_count trees.now.lines }
     requires some { 0 < line_count trees.now.lines }
     ensures totals { IsAnswerTo (with_items Nums shape.now.items (all_or_first_error (all_totals trees.now.function trees.now.lines))) result }
-    ensures ticks { meter.new.ticks ≤ meter.old.ticks + size_of shape.now.items }
-    ensures exact { IfOk result (λ _. meter.new.ticks ≡ ticked meter.old.ticks (size_of shape.now.items)) }
+    ensures ticks { meter.new.ticks ≤ meter.old.ticks + size shape.now.items }
+    ensures exact { IfOk result (λ _. meter.new.ticks ≡ ticked meter.old.ticks (size shape.now.items)) }
     ensures rises { meter.old.ticks ≤ meter.new.ticks }
     ensures joins { meter.new.joins ≡ meter.old.joins }
 {
@@ -99,8 +99,8 @@ pub fn read_totals_with_cost(
     ensures ticks { meter.new.ticks ≤ meter.old.ticks + form_size ((total_rule fold).form (array.now ∷ [])) }
     ensures exact { IfOk result (λ n. is_error change.new ≡ false → meter.new.ticks ≡ ticked meter.old.ticks n) }
     ensures rises { meter.old.ticks ≤ meter.new.ticks }
-    ensures joins { AreFoldsWithin (form_size ((total_rule fold).form (array.now ∷ []))) (long_along fold.along array.now.shape) meter.old.joins meter.new.joins }
-    ensures folds { IfOk result (λ n. is_error change.new ≡ false → AreFolds n (long_along fold.along array.now.shape) meter.old.joins meter.new.joins) }
+    ensures joins { AreFoldsWithin (form_size ((total_rule fold).form (array.now ∷ []))) (length_along fold.along array.now.shape) meter.old.joins meter.new.joins }
+    ensures folds { IfOk result (λ n. is_error change.new ≡ false → AreFolds n (length_along fold.along array.now.shape) meter.old.joins meter.new.joins) }
 {
     let long = length_along(fold.along, array.shape().as_slice());
     let mut own = Meter::new();
