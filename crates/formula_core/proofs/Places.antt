@@ -1,5 +1,5 @@
 -- One place is all that changes of a node.
-use Rattle.std.proofs.Common.{◌≡◌, ◌∙◌, ℕ, ◌<◌, List, [], ◌∷◌, length, get_or, false, Option, Some, None, Result, Ok, Err, IfOk, IfSome, refl, sym, ap, subst}
+use Rattle.std.proofs.Common.{◌≡◌, ◌∙◌, ℕ, ◌<◌, List, [], ◌∷◌, length, get_or, false, Option, Some, None, Result, Ok, Err, IfOk, IfSome, refl, sym, ap, arith}
 use Rattle.std.specs.Borrow.{Bor}
 use Rattle.std.specs.declared.alloc.AllocError.{AllocError}
 use Rattle.std.proofs.lemmas.List.Elements.{All-cons, All-nil}
@@ -13,6 +13,7 @@ use Rattle.index_region.specs.declared.delta.Delta.{Delta}
 use Rattle.index_region.specs.Boxes.{Interval, box_size}
 use Rattle.index_region.proofs.Patched.{patched_sound}
 use Rattle.change_core.specs.RuleModels.{RuleModel}
+use Rattle.change_core.specs.Meters.{MeterValue}
 use Rattle.change_rules.specs.declared.one_place.OnePlace.{OnePlace}
 use Rattle.change_rules.specs.Currency.{applied}
 use Rattle.change_rules.specs.Nodes.{place_delta, delta_of_place}
@@ -25,12 +26,11 @@ use Rattle.formula_core.specs.Holdings.{Holding, holdings_of, not_worked_out, pl
 use Rattle.formula_core.specs.Inputs.{IsOperationChange}
 use Rattle.formula_core.specs.Joins.{least_joins}
 use Rattle.formula_core.specs.Meaning.{eval}
-use Rattle.formula_core.specs.Plans.{node_cost_at}
 use Rattle.formula_core.specs.Rules.{IsRefreshed}
-use Rattle.formula_core.specs.Stages.{IsStaged, IsStep, IsOnePlace}
+use Rattle.formula_core.specs.Stages.{IsStaged, IsStep, IsNodeStep}
 use Rattle.formula_core.specs.Sums.{summed_at, totalled}
 use Rattle.formula_core.specs.Tables.{tree_at, tree_of_node}
-use Rattle.formula_core.proofs.Planned.{next_tree, next_held, next_fits, next_done}
+use Rattle.formula_core.proofs.Planned.{next_held, next_fits, next_step}
 use Rattle.formula_core.proofs.Summed.{summed_by, totalled_summed}
 
 -- what it makes of an array is an array
@@ -62,21 +62,16 @@ module _ (c : Change) (names : List (List ℕ)) (trees : List Tree) (s : Stage) 
   held_result = ap (λ (h : Holding). h.result) (next_held c names trees s staged below k is old)
 
   -- the place is all that changes of the next node
-  pub next_place : (p : OnePlace) (before after : ℕ) → box_size p.region ≡ 1 → IfOk k.result IsArray → totalled k.node ≡ None → least_joins s.is_new c (tree_of_node names trees k.node) ≡ 0
-      → IsStep s.is_new c (tree_of_node names trees k.node) before after (Ok (delta_of_place p, 1))
-      → IsOnePlace s.is_new c (tree_at trees (length s.changes.now)) (get_or (holdings_of s.nodes.now) (length s.changes.now) not_worked_out) p
-  next_place p before after one sound none joins step =
-      let at = next_tree c names trees s staged below k is in
+  pub next_place : (p : OnePlace) (before after : MeterValue) → box_size p.region ≡ 1 → IfOk k.result IsArray → totalled k.node ≡ None → least_joins s.is_new c (tree_of_node names trees k.node) ≡ 0
+      → after.joins ≡ before.joins → IsStep s.is_new c (tree_of_node names trees k.node) before.ticks after.ticks (Ok (delta_of_place p, 1))
+      → IsNodeStep s.is_new c (tree_at trees (length s.changes.now)) (get_or (holdings_of s.nodes.now) (length s.changes.now) not_worked_out) (place_change p) 1 before after
+  next_place p before after one sound none joins same step =
       let was = ap (λ (h : Holding). h.sums) (next_held c names trees s staged below k is old) in
       let fit = (next_fits c names trees s staged below k is (delta_of_place p) step.delta sound).1 in
-      record {
-        done =
-            next_done c names trees s staged below k is (place_change p) step.delta
-            (record { right = was ∙ (unsummed names trees k.node none c.old ∙ sym (unsummed names trees k.node none c.new)); fit = tt })
-            sound (place_sound p k.result one sound fit);
-        cost = subst (λ (t : Tree). 1 ≡ node_cost_at s.is_new c t) (sym at) step.cost;
-        joins = subst (λ (t : Tree). least_joins s.is_new c t ≡ 0) (sym at) joins;
-      }
+      next_step c names trees s staged below k is (place_change p) 1 before after step
+      (record { most = omega (arith, same); least = λ right. omega (arith, same, joins) })
+      (record { right = was ∙ (unsummed names trees k.node none c.old ∙ sym (unsummed names trees k.node none c.new)); fit = tt })
+      sound (place_sound p k.result one sound fit)
 
 -- four facts of the value, if there is one
 pub of_four : {X : Type 0} (r : Option X) {P Q R S T : X → Type 0} → IfSome r P → IfSome r Q → IfSome r R → IfSome r S → ((x : X) → P x → Q x → R x → S x → T x) → IfSome r T

@@ -1,5 +1,5 @@
 -- A plan is made node by node.
-use Rattle.std.proofs.Common.{◌≡◌, ℕ, suc, ◌+◌, ◌<◌, List, [], ◌∷◌, ◌++◌, length, map, take, get_or, Bool, true, false, IfOk, refl, sym, ap, ◌∙◌, subst, arith, inl, inr}
+use Rattle.std.proofs.Common.{◌≡◌, ℕ, suc, ◌+◌, ◌<◌, List, [], ◌∷◌, ◌++◌, length, map, take, get_or, Bool, true, false, IfOk, Ok, refl, sym, ap, ◌∙◌, subst, arith, inl, inr}
 use Rattle.std.specs.List.{sum_by}
 use Rattle.std.proofs.lemmas.Bool.{cases_lt}
 use Rattle.std.proofs.lemmas.List.{length-append, length-map, get_or_append_left, get_or-map, take_all}
@@ -8,7 +8,7 @@ use Rattle.std.proofs.Math.Seq.{get_or-append_seam}
 use Rattle.apl_expr.specs.Trees.{Tree, Const, Numbers}
 use Rattle.arrays_core.specs.Arrays.{IsArray}
 use Rattle.index_region.specs.declared.delta.Delta.{Delta}
-use Rattle.change_core.specs.Meters.{ticked}
+use Rattle.change_core.specs.Meters.{ticked, MeterValue}
 use Rattle.change_rules.specs.Currency.{applied}
 use Rattle.formula_core.specs.declared.input.Input.{Input}
 use Rattle.formula_core.specs.declared.kept.Kept.{Kept}
@@ -22,7 +22,7 @@ use Rattle.formula_core.specs.Changes.{Change, FitsIn}
 use Rattle.formula_core.specs.Holdings.{Holding, holding, holding_at, holdings_of, nodes_of, not_worked_out, no_change, taking, adopted}
 use Rattle.formula_core.specs.Formulas.{FormulaValue, IsTableOf, new_formula, root_of}
 use Rattle.formula_core.specs.Plans.{PlanValue, node_change, node_cost_at, IsPlanOf, IsTold, IsPlanned}
-use Rattle.formula_core.specs.Stages.{IsDone, IsStaged, IsSumsStep, IsBegun}
+use Rattle.formula_core.specs.Stages.{IsDone, IsStaged, IsSumsStep, IsBegun, IsNodeStep, IsStep, IsJoined}
 use Rattle.formula_core.proofs.Placed.{tree_next, node_at}
 use Rattle.formula_core.proofs.Steps.{inputs_long, change_fits}
 use Rattle.formula_core.proofs.Tabled.{trees_long}
@@ -64,17 +64,25 @@ module _ (c : Change) (names : List (List ℕ)) (trees : List Tree) (s : Stage) 
       subst (λ (e : Delta). (applied e k.result ≡ eval t c.new) × FitsIn e k.result) (sym made)
       (change_fits c names trees s staged s.is_new refl k.node next_node k.result (λ old. ap (λ (h : Holding). h.result) (next_held old)) sound)
 
-  pub next_done : (d : NodeChange) → d.delta ≡ node_change s.is_new c t → IsSumsStep c t k.sums d.sums → IfOk k.result IsArray → IfOk (applied d.delta k.result) IsArray
-      → IsDone s.is_new c (tree_at trees place) (get_or (holdings_of s.nodes.now) place not_worked_out) d
-  next_done d made sums sound_held sound_new =
-      let fits = next_fits d.delta made sound_held in
+  pub next_step : (d : NodeChange) (items : ℕ) (before after : MeterValue) → IsStep s.is_new c t before.ticks after.ticks (Ok (d.delta, items)) → IsJoined s.is_new c t before.joins after.joins (Ok (d.delta, items))
+      → IsSumsStep c t k.sums d.sums → IfOk k.result IsArray → IfOk (applied d.delta k.result) IsArray
+      → IsNodeStep s.is_new c (tree_at trees place) (get_or (holdings_of s.nodes.now) place not_worked_out) d items before after
+  next_step d items before after step joined sums sound_held sound_new =
+      let fits = next_fits d.delta step.delta sound_held in
       let result = fits.0 in
       let sums_are = sums.right in
       let right : taking d (holding k) ≡ holding_at c.new t = λ i. record { result = result i; sums = sums_are i } in
       let there : get_or (holdings_of s.nodes.now) place not_worked_out ≡ holding k = get_or-map holding s.nodes.now place k not_worked_out below ∙ ap holding is in
-      subst (λ (u : Tree). IsDone s.is_new c u (get_or (holdings_of s.nodes.now) place not_worked_out) d) (sym next_tree)
-      (subst (λ (h : Holding). IsDone s.is_new c t h d) (sym there)
-      (record { is = made; right = right; fit = record { delta = fits.1; sums = sums.fit }; sound_held = sound_held; sound_new = subst (λ (o : Outcome). IfOk o IsArray) fits.0 sound_new }))
+      subst (λ (u : Tree). IsNodeStep s.is_new c u (get_or (holdings_of s.nodes.now) place not_worked_out) d items before after) (sym next_tree)
+      (subst (λ (h : Holding). IsNodeStep s.is_new c t h d items before after) (sym there)
+      (record {
+        done = record { is = step.delta; right = right; fit = record { delta = fits.1; sums = sums.fit }; sound_held = sound_held; sound_new = subst (λ (o : Outcome). IfOk o IsArray) fits.0 sound_new };
+        cost = step.cost;
+        ticks = step.ticks;
+        least = step.least;
+        joins = joined.most;
+        joined = joined.least;
+      }))
 
 -- a formula, by its nodes
 module _ (f : FormulaValue) (names : List (List ℕ)) (nodes : List Kept) (table : IsTableOf names (nodes_of nodes) (root_of names (nodes_of nodes))) (root : root_of names (nodes_of nodes) ≡ f.tree) (held : holdings_of nodes ≡ f.nodes) where
@@ -116,6 +124,17 @@ module _ (f : FormulaValue) (names : List (List ℕ)) (nodes : List Kept) (table
             (subst (λ (ds : List NodeChange). IsDone f.is_new c (tree_at (subtrees f.tree) k) (get_or f.nodes k not_worked_out) (get_or ds k no_change)) (sym changes_are)
             (begun.done k (omega (arith, below, as_many)))));
       }
+
+  -- what comes next of the nodes comes next of the formula
+  pub stepped_by : (c : Change) (inputs : List Input) → IsTold f c inputs → (changes : List NodeChange) (cost : ℕ) → IsBegun f c changes cost
+      → (s : Stage) → s.is_new ≡ f.is_new → s.inputs.now ≡ inputs → s.nodes.now ≡ nodes → s.changes.now ≡ changes → (d : NodeChange) (items : ℕ) (before after : MeterValue)
+      → ((ns : List (List ℕ)) (ts : List Tree) → IsStaged c ns ts s → IsNodeStep s.is_new c (tree_at ts (length s.changes.now)) (get_or (holdings_of s.nodes.now) (length s.changes.now) not_worked_out) d items before after)
+      → IsNodeStep f.is_new c (tree_at (subtrees f.tree) (length changes)) (get_or f.nodes (length changes) not_worked_out) d items before after
+  stepped_by c inputs told changes cost begun s is_new inputs_are nodes_are changes_are d items before after step =
+      subst (λ (b : Bool). IsNodeStep b c (tree_at (subtrees f.tree) (length changes)) (get_or f.nodes (length changes) not_worked_out) d items before after) is_new
+      (subst (λ (hs : List Holding). IsNodeStep s.is_new c (tree_at (subtrees f.tree) (length changes)) (get_or hs (length changes) not_worked_out) d items before after) (ap holdings_of nodes_are ∙ held)
+      (subst (λ (ds : List NodeChange). IsNodeStep s.is_new c (tree_at (subtrees f.tree) (length ds)) (get_or (holdings_of s.nodes.now) (length ds) not_worked_out) d items before after) changes_are
+      (step (names_in f.tree) (subtrees f.tree) (staged_by c inputs told changes cost begun s is_new inputs_are nodes_are changes_are))))
 
 -- one more node is done
 pub begun_more : (f : FormulaValue) (c : Change) (changes new : List NodeChange) (d : NodeChange) (cost items now : ℕ) → IsBegun f c changes cost → length changes < length f.nodes → new ≡ changes ++ d ∷ []

@@ -1,23 +1,23 @@
 -- A plan comes forward.
-use Rattle.std.proofs.Common.{◌≡◌, ◌<◌, ◌+◌, ◌≤◌, ℕ, zero, suc, All, List, [], ◌∷◌, ◌++◌, Bool, true, false, cond, refl, sym, ap, ◌∙◌, length, take, get_or, arith, ◌⊎◌, inl, inr}
+use Rattle.std.proofs.Common.{◌≡◌, ◌<◌, ◌+◌, ◌≤◌, ℕ, zero, suc, All, List, [], ◌∷◌, ◌++◌, Bool, true, false, cond, refl, sym, ap, ◌∙◌, subst, length, take, get_or, arith, ◌⊎◌, inl, inr}
 use Rattle.std.specs.List.{count_by, sum_by}
 use Rattle.std.proofs.lemmas.Bool.{false≢true, cases_lt}
 use Rattle.std.proofs.lemmas.List.{length-append, take_all, take-take}
 use Rattle.std.proofs.lemmas.List.Elements.{All-nil, All-append, All-push}
 use Rattle.std.proofs.lemmas.List.Sums.{sum_by_more, sum_by_more_le, sum_by-take-le, count_by_more_yes, count_by_more_no}
 use Rattle.apl_expr.specs.Trees.{Tree, Const, Name, Monad, Dyad, Index, Reduce, Scan, Outer, Inner, Numbers, Positions, NoPositions, Empty, Filled}
-use Rattle.change_core.specs.Meters.{ticked}
+use Rattle.change_core.specs.Meters.{ticked, MeterValue}
 use Rattle.change_rules.specs.Nodes.{is_error}
 use Rattle.index_region.specs.declared.delta.Delta.{Delta}
+use Rattle.formula_core.specs.declared.input.Input.{Input}
 use Rattle.formula_core.specs.declared.kept.NodeChange.{NodeChange}
 use Rattle.formula_core.specs.declared.table.Node.{Node}
 use Rattle.formula_core.specs.declared.table.Node.TheVariants as node
 use Rattle.formula_core.specs.Changes.{Change}
 use Rattle.formula_core.specs.Formulas.{FormulaValue, is_operation, operations}
-use Rattle.formula_core.specs.Holdings.{not_worked_out}
-use Rattle.formula_core.specs.Plans.{node_change, node_cost_at, tree_cost, IsComputed}
-use Rattle.formula_core.specs.Progress.{operations_among, IsAtOperation}
-use Rattle.formula_core.specs.Stages.{IsBegun, IsDone}
+use Rattle.formula_core.specs.Plans.{PlanValue, node_change, node_cost_at, tree_cost, IsComputed, IsTold}
+use Rattle.formula_core.specs.Progress.{operations_among, IsAtOperation, IsPlannedTo}
+use Rattle.formula_core.specs.Stages.{IsBegun, IsOneMore}
 use Rattle.formula_core.specs.Tables.{applies, inside, inside_positions, subtrees, tree_at, tree_of_node, tree_of_operand}
 use Rattle.formula_core.proofs.Applied.{operation_before, operation_between}
 use Rattle.formula_core.proofs.Planned.{begun_more}
@@ -162,12 +162,29 @@ module _ (is_new : Bool) (c : Change) (t : Tree) where
   pub cost_within : (k start now : ℕ) → now ≤ start + sum_by (node_cost_at is_new c) (take k (subtrees t)) → now ≤ start + tree_cost is_new c t
   cost_within k start now h = omega (arith, h, sum_by-take-le (node_cost_at is_new c) (subtrees t) k)
 
--- one operation more is done
-module _ (f : FormulaValue) (c : Change) (changes new : List NodeChange) (d : NodeChange) (cost items : ℕ) (begun : IsBegun f c changes cost) (left : operations_among f changes < operations f.tree)
-    (is : new ≡ changes ++ d ∷ []) (costs : items ≡ node_cost_at f.is_new c (tree_at (subtrees f.tree) (length changes)))
-    (done : IsDone f.is_new c (tree_at (subtrees f.tree) (length changes)) (get_or f.nodes (length changes) not_worked_out) d) where
-  pub begun_one : IsBegun f c new (ticked cost items)
-  begun_one = begun_more f c changes new d cost items (ticked cost items) begun (node_left f changes left begun.known) is refl costs done
+-- the next node has its change
+pub more_of : (f : FormulaValue) (c : Change) (inputs : List Input) (old changes new : List NodeChange) (cost items : ℕ) (before after : MeterValue) → changes ≡ old
+    → ((x : Change) → IsTold f x inputs → (k : ℕ) → IsBegun f x changes k → IsOneMore f x changes new items before after)
+    → IsTold f c inputs → IsBegun f c old cost → IsOneMore f c old new items before after
+more_of f c inputs old changes new cost items before after is more told begun =
+    subst (λ (ds : List NodeChange). IsOneMore f c ds new items before after) is (more c told cost (subst (λ (ds : List NodeChange). IsBegun f c ds cost) (sym is) begun))
+
+module _ (f : FormulaValue) (c : Change) (p : PlanValue) (new : List NodeChange) (items : ℕ) (before after : MeterValue)
+    (left : operations_among f p.changes < operations f.tree) (planned : IsPlannedTo f c p) (more : IsOneMore f c p.changes new items before after) where
+  below : length p.changes < length f.nodes
+  below = node_left f p.changes left planned.begun.known
+
+  under : length p.changes < length (subtrees f.tree)
+  under = omega (arith, below, planned.begun.known)
+
+  pub one_more : operations_among f new ≡ operations_among f p.changes + 1
+  one_more = among_more f p.changes new more.change more.pushed under (planned.next below)
+
+  pub planned_more : (cost : ℕ) → cost ≡ ticked p.cost items → IsPlannedTo f c (record { changes = new; cost = cost })
+  planned_more cost is = record {
+    begun = begun_more f c p.changes new more.change p.cost items cost planned.begun below more.pushed is more.step.cost more.step.done;
+    next = λ rest. applies_later f.tree (length p.changes) (length new) under (planned.next below) (omega (arith, rest, planned.begun.known));
+  }
 
 -- where no item of a node fails, its cost is counted whole
 counted_by : (failed : Bool) (start cost own after : ℕ) → (failed ≡ true → cost ≡ 0) → (failed ≡ false → ticked 0 cost ≤ own) → own ≤ cost → after ≡ ticked start own → after ≡ ticked start cost

@@ -1,5 +1,5 @@
 -- What the next change of a formula is worked out from, and the change of its node.
-use Rattle.std.specs.Prelude.{◌≡◌, ◌+◌, ◌≤◌, ◌<◌, ℕ, List, [], ◌∷◌, Bool, true, false, Option, Some, None, Result, IfOk, length, map, take, get_or}
+use Rattle.std.specs.Prelude.{◌≡◌, ◌+◌, ◌≤◌, ◌<◌, ℕ, List, [], ◌∷◌, ◌++◌, Bool, true, false, Option, Some, None, Result, IfOk, length, map, take, get_or}
 use Rattle.std.specs.declared.alloc.AllocError.{AllocError}
 use Rattle.std.specs.List.{Contains, sum_by}
 use Rattle.apl_expr.specs.Trees.{Tree}
@@ -8,9 +8,8 @@ use Rattle.arrays_core.specs.declared.item.Kind.TheVariants.{Value}
 use Rattle.operator_fns.specs.declared.reduce.Reduce.{Reduce}
 use Rattle.index_region.specs.declared.delta.Delta.{Delta}
 use Rattle.index_region.specs.declared.delta.Delta.TheVariants.{Same}
-use Rattle.change_core.specs.Meters.{ticked}
+use Rattle.change_core.specs.Meters.{ticked, MeterValue}
 use Rattle.change_rules.specs.Currency.{applied}
-use Rattle.change_rules.specs.declared.one_place.OnePlace.{OnePlace}
 use Rattle.change_rules.specs.Nodes.{is_whole, is_error}
 use Rattle.sum_rules.specs.LineSums.{SummedValue}
 use Rattle.sum_rules.specs.Totals.{total_rule}
@@ -22,7 +21,7 @@ use Rattle.formula_core.specs.declared.table.Operand.TheVariants as operand
 use Rattle.formula_core.specs.Meaning.{array_of, eval}
 use Rattle.arrays_core.specs.Outcomes.{Outcome, fault, given}
 use Rattle.formula_core.specs.Tables.{tree_at, tree_of_node, trees_after, subtrees, IsTable}
-use Rattle.formula_core.specs.Holdings.{Holding, holding_at, holdings_of, nodes_of, not_worked_out, no_change, place_change, taking, IsFit}
+use Rattle.formula_core.specs.Holdings.{Holding, holding_at, holdings_of, nodes_of, not_worked_out, no_change, taking, IsFit}
 use Rattle.formula_core.specs.Formulas.{FormulaValue}
 use Rattle.formula_core.specs.Changes.{Change, change, arguments, operation_cost, IsNameChanged}
 use Rattle.formula_core.specs.Inputs.{shown, delta_of, IsInput}
@@ -42,11 +41,14 @@ pub record IsDone (is_new : Bool) (c : Change) (t : Tree) (held : Holding) (d : 
   pub sound_held : IfOk held.result IsArray
   pub sound_new : IfOk (eval t c.new) IsArray
 
--- this one place is all that changes of the node of a tree, which joins no sums
-pub record IsOnePlace (is_new : Bool) (c : Change) (t : Tree) (held : Holding) (p : OnePlace) : Type 0 where
-  pub done : IsDone is_new c t held (place_change p)
-  pub cost : 1 ≡ node_cost_at is_new c t
-  pub joins : least_joins is_new c t ≡ 0
+-- the change of the node of a tree, what it costs, and how far the meter rises by it
+pub record IsNodeStep (is_new : Bool) (c : Change) (t : Tree) (held : Holding) (d : NodeChange) (items : ℕ) (before after : MeterValue) : Type 0 where
+  pub done : IsDone is_new c t held d
+  pub cost : items ≡ node_cost_at is_new c t
+  pub ticks : after.ticks ≤ before.ticks + node_cost_at is_new c t
+  pub least : is_error d.delta ≡ false → ticked before.ticks items ≤ after.ticks
+  pub joins : after.joins ≤ before.joins + most_joins is_new c t
+  pub joined : is_error d.delta ≡ false → ticked before.joins (least_joins is_new c t) ≤ after.joins
 
 -- the names changed so, the nodes are those of these trees and held what they gave, and each that has a change is done
 pub record IsStaged (c : Change) (names : List (List ℕ)) (trees : List Tree) (s : Stage) : Type 0 where
@@ -115,6 +117,12 @@ pub record IsBegun (f : FormulaValue) (c : Change) (changes : List NodeChange) (
   pub few : length changes ≤ length f.nodes
   pub done : (k : ℕ) → k < length changes → IsDone f.is_new c (tree_at (subtrees f.tree) k) (get_or f.nodes k not_worked_out) (get_or changes k no_change)
   pub costs : cost ≡ ticked 0 (sum_by (node_cost_at f.is_new c) (take (length changes) (subtrees f.tree)))
+
+-- so the next node of the formula has its change, behind those of the nodes before it
+pub record IsOneMore (f : FormulaValue) (c : Change) (changes new : List NodeChange) (items : ℕ) (before after : MeterValue) : Type 0 where
+  pub change : NodeChange
+  pub pushed : new ≡ changes ++ change ∷ []
+  pub step : IsNodeStep f.is_new c (tree_at (subtrees f.tree) (length changes)) (get_or f.nodes (length changes) not_worked_out) change items before after
 
 -- how many sums are joined for the totals along an axis of what an input gives
 pub record AreTotalsJoined (fold : Reduce) (right : Input) (held : Outcome) (before after : ℕ) (r : Result (Delta × ℕ) AllocError) : Type 0 where

@@ -1,21 +1,20 @@
 //! A formula: an expression as a table of nodes, with the result that each node was last given.
 
-ghost use Rattle.std.specs.Prelude.{◌≡◌, ◌+◌, ◌≤◌, ◌<◌, ℕ, List, true, false, [], length, get_or, take, map, min, IfOk, IfSome, OnOk, OnErr, MatchBool};
+ghost use Rattle.std.specs.Prelude.{◌≡◌, ◌+◌, ◌≤◌, ◌<◌, ℕ, List, true, false, [], length, get_or, take, map, min, IfOk, IfSome, IsNone, OnOk, OnErr, MatchBool};
 ghost use Rattle.std.specs.List.{Contains, count_by};
 ghost use Rattle.apl_expr.specs.Trees.{tree_of};
 ghost use Rattle.change_core.specs.Meters.{ticked};
-ghost use Rattle.change_rules.specs.Nodes.{is_error};
 ghost use Rattle.index_region.specs.Boxes.{box_size};
 ghost use Rattle.index_region.specs.declared.delta.Delta.TheVariants.{Same};
 ghost use Rattle.formula_core.specs.Outcomes.{read};
 ghost use Rattle.formula_core.specs.Meaning.{eval, names_in};
 ghost use Rattle.formula_core.specs.Changes.{Change, at_rest};
-ghost use Rattle.formula_core.specs.Holdings.{nodes_of, not_worked_out, adopted, AreNew};
+ghost use Rattle.formula_core.specs.Holdings.{nodes_of, not_worked_out, place_change, adopted, AreNew};
 ghost use Rattle.formula_core.specs.Formulas.{new_formula, root_result, operations, IsHeld, IsTableOf};
 ghost use Rattle.formula_core.specs.Joins.{most_joins, least_joins, tree_joins, tree_least_joins};
 ghost use Rattle.formula_core.specs.Plans.{tree_cost, node_cost_at, IsComputed, AllComputed, IsPlanOf, IsTold, IsPlanned};
 ghost use Rattle.formula_core.specs.Progress.{operations_among, IsAtOperation, IsPlannedTo};
-ghost use Rattle.formula_core.specs.Stages.{IsBegun, IsDone, IsLiteralChange, IsOnePlace};
+ghost use Rattle.formula_core.specs.Stages.{IsBegun, IsLiteralChange, IsNodeStep, IsOneMore};
 ghost use Rattle.formula_core.specs.Tables.{applies, subtrees, tree_at};
 
 use crate::evaluation::{Shows, errors_shown, inputs_at_rest};
@@ -188,8 +187,7 @@ impl Formula {
         if self.nodes[0].node.applies() {
             return Ok(plan);
         }
-        let change = self.next_leaf(plan.changes.as_slice(), inputs)?;
-        plan.changes.push(change)?;
+        let _items = self.push_by_rule(&mut plan.changes, inputs, &mut Meter::new())?;
         Ok(plan)
     }
 
@@ -221,49 +219,60 @@ impl Formula {
         ensures err_meter { OnErr result (meter.new ≡ meter.old) }
     {
         let mut counted = Meter::new();
-        let Some(place) = self.next_place(plan.changes.as_slice(), inputs, &mut counted) else {
-            return self.advance_by_rule(plan, inputs, meter);
-        };
-        push_place(&mut plan.changes, place)?;
-        plan.cost.add(1);
+        let items = self.push_next(&mut plan.changes, inputs, &mut counted)?;
+        plan.cost.add(items);
         meter.include(&counted);
         Ok(())
     }
 
-    /// One function more, as `advance` says, by its rule. It stands alone, since a change takes room that need not be cleared where one place is all that
-    /// changes.
-    #[inline(never)]
-    fn advance_by_rule(
+    /// Puts what changes of the node that comes next behind what changes of those before it, and tells what it costs.
+    #[inline(always)]
+    fn push_next(
         &self,
-        plan: &mut Plan,
+        changes: &mut Vec<NodeChange>,
         inputs: &[Input],
         meter: &mut Meter,
-    ) -> Result<(), AllocError>
-        requires left { operations_among self.now plan.old.changes < operations self.now.tree }
-        requires planned { (c : Change) × (IsTold self.now c inputs.now × IsPlannedTo self.now c plan.old) }
-        ensures one { OnOk result (operations_among self.now plan.new.changes ≡ operations_among self.now plan.old.changes + 1) }
-        ensures planned { OnOk result ((c : Change) → IsTold self.now c inputs.now → IsPlannedTo self.now c plan.old → IsPlannedTo self.now c plan.new) }
-        ensures ticks { OnOk result ((c : Change) → IsTold self.now c inputs.now → IsPlannedTo self.now c plan.old
-            → meter.new.ticks ≤ meter.old.ticks + node_cost_at self.now.is_new c (tree_at (subtrees self.now.tree) (length plan.old.changes))) }
-        ensures exact { OnOk result ((c : Change) → IsTold self.now c inputs.now → IsPlannedTo self.now c plan.old → IsComputed self.now.is_new c (tree_at (subtrees self.now.tree) (length plan.old.changes))
-            → meter.new.ticks ≡ ticked meter.old.ticks (node_cost_at self.now.is_new c (tree_at (subtrees self.now.tree) (length plan.old.changes)))) }
-        ensures rises { meter.old.ticks ≤ meter.new.ticks }
-        ensures cost { OnOk result ((c : Change) → IsTold self.now c inputs.now → IsPlannedTo self.now c plan.old
-            → plan.new.cost ≡ ticked plan.old.cost (node_cost_at self.now.is_new c (tree_at (subtrees self.now.tree) (length plan.old.changes)))) }
-        ensures joins { OnOk result ((c : Change) → IsTold self.now c inputs.now → IsPlannedTo self.now c plan.old
-            → meter.new.joins ≤ meter.old.joins + most_joins self.now.is_new c (tree_at (subtrees self.now.tree) (length plan.old.changes))) }
-        ensures joined { OnOk result ((c : Change) → IsTold self.now c inputs.now → IsPlannedTo self.now c plan.old → IsComputed self.now.is_new c (tree_at (subtrees self.now.tree) (length plan.old.changes))
-            → ticked meter.old.joins (least_joins self.now.is_new c (tree_at (subtrees self.now.tree) (length plan.old.changes))) ≤ meter.new.joins) }
-        ensures err { OnErr result (plan.new ≡ plan.old) }
-        ensures err_meter { OnErr result (meter.new ≡ meter.old) }
+    ) -> Result<u32, AllocError>
+        requires below { length changes.old.items < length self.now.nodes }
+        requires begun { (c : Change) × (IsTold self.now c inputs.now × ((cost : ℕ) × IsBegun self.now c changes.old.items cost)) }
+        ensures more { IfOk result (λ n. (c : Change) → IsTold self.now c inputs.now → (cost : ℕ) → IsBegun self.now c changes.old.items cost
+            → IsOneMore self.now c changes.old.items changes.new.items n meter.old meter.new) }
+        ensures err { OnErr result (changes.new.items ≡ changes.old.items) }
     {
-        let mut own = Meter::new();
+        let Some(place) = self.next_place(changes.as_slice(), inputs, meter) else {
+            return self.push_by_rule(changes, inputs, meter);
+        };
+        push_place(changes, place)?;
+        Ok(1)
+    }
+
+    /// The same by the rule of the node. It stands alone, since a change takes room that need not be cleared where one place is all that changes.
+    #[inline(never)]
+    fn push_by_rule(
+        &self,
+        changes: &mut Vec<NodeChange>,
+        inputs: &[Input],
+        meter: &mut Meter,
+    ) -> Result<u32, AllocError>
+        requires below { length changes.old.items < length self.now.nodes }
+        requires begun { (c : Change) × (IsTold self.now c inputs.now × ((cost : ℕ) × IsBegun self.now c changes.old.items cost)) }
+        ensures more { IfOk result (λ n. (c : Change) → IsTold self.now c inputs.now → (cost : ℕ) → IsBegun self.now c changes.old.items cost
+            → IsOneMore self.now c changes.old.items changes.new.items n meter.old meter.new) }
+        ensures err { OnErr result (changes.new.items ≡ changes.old.items) }
+    {
+        let of_literals = of_literals(self.is_new);
+        let stage = Stage {
+            alloc: self.alloc,
+            is_new: self.is_new,
+            inputs,
+            nodes: self.nodes.as_slice(),
+            changes: changes.as_slice(),
+            of_literals: &of_literals,
+        };
         let mut change = NodeChange::none();
-        let items = self.next(plan.changes.as_slice(), inputs, &mut change, &mut own)?;
-        plan.changes.push(change)?;
-        plan.cost.add(items);
-        meter.include(&own);
-        Ok(())
+        let items = stage.next(&mut change, meter)?;
+        changes.push(change)?;
+        Ok(items)
     }
 
     /// The one place that changes of the node that comes next after those that have these changes, where that is known at once.
@@ -277,10 +286,10 @@ impl Formula {
         requires below { length changes.now < length self.now.nodes }
         requires begun { (c : Change) × (IsTold self.now c inputs.now × ((cost : ℕ) × IsBegun self.now c changes.now cost)) }
         ensures one { IfSome result (λ p. box_size p.region ≡ 1) }
-        ensures next { IfSome result (λ p. (c : Change) → IsTold self.now c inputs.now → (cost : ℕ) → IsBegun self.now c changes.now cost
-            → IsOnePlace self.now.is_new c (tree_at (subtrees self.now.tree) (length changes.now)) (get_or self.now.nodes (length changes.now) not_worked_out) p) }
-        ensures ticks { IfSome result (λ p. meter.new.ticks ≡ ticked meter.old.ticks 1) }
-        ensures joins { meter.new.joins ≡ meter.old.joins }
+        ensures step { IfSome result (λ p. (c : Change) → IsTold self.now c inputs.now → (cost : ℕ) → IsBegun self.now c changes.now cost
+            → IsNodeStep self.now.is_new c (tree_at (subtrees self.now.tree) (length changes.now)) (get_or self.now.nodes (length changes.now) not_worked_out)
+            (place_change p) 1 meter.old meter.new) }
+        ensures none { IsNone result → meter.new ≡ meter.old }
     {
         if self.is_new {
             return None;
@@ -295,55 +304,6 @@ impl Formula {
             of_literals: &unchanged,
         };
         stage.next_place(meter)
-    }
-
-    /// What changes of the literal or name that comes next after those that have these changes.
-    fn next_leaf(&self, changes: &[NodeChange], inputs: &[Input]) -> Result<NodeChange, AllocError>
-        requires below { length changes.now < length self.now.nodes }
-        requires begun { (c : Change) × (IsTold self.now c inputs.now × ((cost : ℕ) × IsBegun self.now c changes.now cost)) }
-        ensures { IfOk result (λ d. (c : Change) → IsTold self.now c inputs.now → (cost : ℕ) → IsBegun self.now c changes.now cost
-            → IsDone self.now.is_new c (tree_at (subtrees self.now.tree) (length changes.now)) (get_or self.now.nodes (length changes.now) not_worked_out) d) }
-    {
-        let mut change = NodeChange::none();
-        let _items = self.next(changes, inputs, &mut change, &mut Meter::new())?;
-        Ok(change)
-    }
-
-    /// What changes of the node that comes next after those that have these changes, put in place of another change, and what it costs: a change is large,
-    /// and so it is not handed from call to call.
-    #[inline(always)]
-    fn next(
-        &self,
-        changes: &[NodeChange],
-        inputs: &[Input],
-        change: &mut NodeChange,
-        meter: &mut Meter,
-    ) -> Result<u32, AllocError>
-        requires below { length changes.now < length self.now.nodes }
-        requires begun { (c : Change) × (IsTold self.now c inputs.now × ((cost : ℕ) × IsBegun self.now c changes.now cost)) }
-        ensures done { OnOk result ((c : Change) → IsTold self.now c inputs.now → (cost : ℕ) → IsBegun self.now c changes.now cost
-            → IsDone self.now.is_new c (tree_at (subtrees self.now.tree) (length changes.now)) (get_or self.now.nodes (length changes.now) not_worked_out) change.new) }
-        ensures cost { IfOk result (λ n. (c : Change) → IsTold self.now c inputs.now → (cost : ℕ) → IsBegun self.now c changes.now cost
-            → n ≡ node_cost_at self.now.is_new c (tree_at (subtrees self.now.tree) (length changes.now))) }
-        ensures ticks { (c : Change) → IsTold self.now c inputs.now → (cost : ℕ) → IsBegun self.now c changes.now cost
-            → meter.new.ticks ≤ meter.old.ticks + node_cost_at self.now.is_new c (tree_at (subtrees self.now.tree) (length changes.now)) }
-        ensures least { IfOk result (λ n. is_error change.new.delta ≡ false → ticked meter.old.ticks n ≤ meter.new.ticks) }
-        ensures rises { meter.old.ticks ≤ meter.new.ticks }
-        ensures joins { (c : Change) → IsTold self.now c inputs.now → (cost : ℕ) → IsBegun self.now c changes.now cost
-            → meter.new.joins ≤ meter.old.joins + most_joins self.now.is_new c (tree_at (subtrees self.now.tree) (length changes.now)) }
-        ensures joined { OnOk result ((c : Change) → IsTold self.now c inputs.now → (cost : ℕ) → IsBegun self.now c changes.now cost → is_error change.new.delta ≡ false
-            → ticked meter.old.joins (least_joins self.now.is_new c (tree_at (subtrees self.now.tree) (length changes.now))) ≤ meter.new.joins) }
-    {
-        let of_literals = of_literals(self.is_new);
-        let stage = Stage {
-            alloc: self.alloc,
-            is_new: self.is_new,
-            inputs,
-            nodes: self.nodes.as_slice(),
-            changes,
-            of_literals: &of_literals,
-        };
-        stage.next(change, meter)
     }
 
     /// Takes the results of a plan that was made of it as it is. No memory is asked for: patches are written where the

@@ -1,22 +1,22 @@
 //! What the next change of a formula is worked out from.
 
-ghost use Rattle.std.specs.Prelude.{◌≡◌, ◌+◌, ◌≤◌, ◌<◌, ℕ, List, false, length, map, get_or, None, Ok, IfOk, OnOk, IfSome, IsNone};
+ghost use Rattle.std.specs.Prelude.{◌≡◌, ◌≤◌, ◌<◌, ℕ, List, false, length, map, get_or, None, Ok, IfOk, OnOk, IfSome, IsNone};
 ghost use Rattle.std.specs.Option.{option_map};
 ghost use Rattle.apl_expr.specs.Trees.{Tree, Const, Name};
 ghost use Rattle.change_core.specs.Meters.{ticked};
 ghost use Rattle.index_region.specs.Boxes.{box_size};
-ghost use Rattle.change_rules.specs.Nodes.{is_error, delta_of_place};
+ghost use Rattle.change_rules.specs.Nodes.{delta_of_place};
 ghost use Rattle.formula_core.specs.Meaning.{eval};
 ghost use Rattle.formula_core.specs.Changes.{Change, IsNameChanged};
 ghost use Rattle.arrays_core.specs.declared.item.Kind.TheVariants.{Value};
 ghost use Rattle.arrays_core.specs.Outcomes.{fault};
 ghost use Rattle.formula_core.specs.declared.input.Input.TheVariants.{Bad};
 ghost use Rattle.formula_core.specs.Inputs.{HasFit, AllHaveFit, IsInput};
-ghost use Rattle.formula_core.specs.Holdings.{holdings_of, not_worked_out, AllChangesFit};
-ghost use Rattle.formula_core.specs.Joins.{most_joins, least_joins};
-ghost use Rattle.formula_core.specs.Plans.{node_change, node_cost_at};
+ghost use Rattle.formula_core.specs.Holdings.{holdings_of, not_worked_out, place_change, AllChangesFit};
+ghost use Rattle.formula_core.specs.Joins.{least_joins};
+ghost use Rattle.formula_core.specs.Plans.{node_change};
 ghost use Rattle.formula_core.specs.Rules.{with_change};
-ghost use Rattle.formula_core.specs.Stages.{IsStaged, StagedBy, IsKeptBy, IsMadeBy, IsTaken, IsReady, AreReady, IsStep, IsJoined, IsDone, IsSumsStep, IsLiteralChange, IsOnePlace};
+ghost use Rattle.formula_core.specs.Stages.{IsStaged, StagedBy, IsKeptBy, IsMadeBy, IsTaken, IsReady, AreReady, IsStep, IsJoined, IsNodeStep, IsSumsStep, IsLiteralChange};
 ghost use Rattle.formula_core.specs.Sums.{summed_at, totalled};
 ghost use Rattle.formula_core.specs.Tables.{IsOperand, AreOperands, IsNode, tree_at, tree_of_index, tree_of_operand, tree_of_node};
 
@@ -156,10 +156,9 @@ impl<'a> Stage<'a> {
         requires staged { StagedBy self.now }
         requires literals { IsLiteralChange self.now.is_new self.now.of_literals.now }
         ensures one { IfSome result (λ p. box_size p.region ≡ 1) }
-        ensures next { IfSome result (λ p. (c : Change) → (names : List (List ℕ)) → (trees : List Tree) → IsStaged c names trees self.now
-            → IsOnePlace self.now.is_new c (tree_at trees (length self.now.changes.now)) (get_or (holdings_of self.now.nodes.now) (length self.now.changes.now) not_worked_out) p) }
-        ensures ticks { IfSome result (λ p. meter.new.ticks ≡ ticked meter.old.ticks 1) }
-        ensures joins { meter.new.joins ≡ meter.old.joins }
+        ensures step { IfSome result (λ p. (c : Change) → (names : List (List ℕ)) → (trees : List Tree) → IsStaged c names trees self.now
+            → IsNodeStep self.now.is_new c (tree_at trees (length self.now.changes.now)) (get_or (holdings_of self.now.nodes.now) (length self.now.changes.now) not_worked_out)
+            (place_change p) 1 meter.old meter.new) }
         ensures none { IsNone result → meter.new ≡ meter.old }
     {
         let next = &self.nodes[self.changes.len()];
@@ -173,18 +172,9 @@ impl<'a> Stage<'a> {
         requires below { length self.now.changes.now < length self.now.nodes.now }
         requires staged { StagedBy self.now }
         requires literals { IsLiteralChange self.now.is_new self.now.of_literals.now }
-        ensures done { OnOk result ((c : Change) → (names : List (List ℕ)) → (trees : List Tree) → IsStaged c names trees self.now
-            → IsDone self.now.is_new c (tree_at trees (length self.now.changes.now)) (get_or (holdings_of self.now.nodes.now) (length self.now.changes.now) not_worked_out) change.new) }
-        ensures cost { IfOk result (λ n. (c : Change) → (names : List (List ℕ)) → (trees : List Tree) → IsStaged c names trees self.now
-            → n ≡ node_cost_at self.now.is_new c (tree_at trees (length self.now.changes.now))) }
-        ensures ticks { (c : Change) → (names : List (List ℕ)) → (trees : List Tree) → IsStaged c names trees self.now
-            → meter.new.ticks ≤ meter.old.ticks + node_cost_at self.now.is_new c (tree_at trees (length self.now.changes.now)) }
-        ensures least { IfOk result (λ n. is_error change.new.delta ≡ false → ticked meter.old.ticks n ≤ meter.new.ticks) }
-        ensures rises { meter.old.ticks ≤ meter.new.ticks }
-        ensures joins { (c : Change) → (names : List (List ℕ)) → (trees : List Tree) → IsStaged c names trees self.now
-            → meter.new.joins ≤ meter.old.joins + most_joins self.now.is_new c (tree_at trees (length self.now.changes.now)) }
-        ensures joined { OnOk result ((c : Change) → (names : List (List ℕ)) → (trees : List Tree) → IsStaged c names trees self.now → is_error change.new.delta ≡ false
-            → ticked meter.old.joins (least_joins self.now.is_new c (tree_at trees (length self.now.changes.now))) ≤ meter.new.joins) }
+        ensures { IfOk result (λ n. (c : Change) → (names : List (List ℕ)) → (trees : List Tree) → IsStaged c names trees self.now
+            → IsNodeStep self.now.is_new c (tree_at trees (length self.now.changes.now)) (get_or (holdings_of self.now.nodes.now) (length self.now.changes.now) not_worked_out)
+            change.new n meter.old meter.new) }
     {
         let kept = &self.nodes[self.changes.len()];
         outcome_is_array(&kept.result);

@@ -1,12 +1,10 @@
-use Rattle.std.proofs.Common.{◌∙◌, List, Bool, false, ap, sym, refl, subst, length, get_or, arith}
+use Rattle.std.proofs.Common.{◌∙◌, List, ap, sym, refl, length, arith}
 use Rattle.std.proofs.lemmas.Option.{IfSome_then}
 use Rattle.formula_core.specs.declared.kept.Kept.{Kept}
 use Rattle.formula_core.specs.Formulas.{FormulaValue}
-use Rattle.formula_core.specs.Holdings.{Holding, holdings_of, not_worked_out}
 use Rattle.formula_core.specs.Meaning.{names_in}
-use Rattle.formula_core.specs.Stages.{IsOnePlace}
-use Rattle.formula_core.specs.Tables.{subtrees, tree_at}
-use Rattle.formula_core.proofs.Planned.{counted, staged_by}
+use Rattle.formula_core.specs.Tables.{subtrees}
+use Rattle.formula_core.proofs.Planned.{counted, staged_by, stepped_by}
 use Rattle.formula_core.proofs.formula.Formula.next_place.Goals as goal
 
 pub next_place-requires-clause-below : goal.next_place-requires-clause-below
@@ -33,15 +31,9 @@ next_place-requires-clause-staged c =
       ),
     )
 
-pub returns-clause-next : goal.returns-clause-next
-returns-clause-next c =
-    let f = c.args.self.now in
-    let is_new = sym c.if-self.false ∙ ap (λ (v : FormulaValue). v.is_new) c.self.view_is in
-    let nodes_are = ap (λ (v : FormulaValue). v.nodes) c.self.view_is in
-    let place = length c.args.changes.now in
-    IfSome_then c.next_place.result c.next_place.ensures.next
-    (λ p next change told cost begun.
-    let staged = staged_by f c.self.inside.names.items c.self.inside.nodes.items c.self.invariant (ap (λ (v : FormulaValue). v.tree) c.self.view_is) nodes_are change c.args.inputs.now told c.args.changes.now cost begun _ is_new refl c.as_slice.ensures.value refl in
-    subst (λ (b : Bool). IsOnePlace b change (tree_at (subtrees f.tree) place) (get_or f.nodes place not_worked_out) p) is_new
-    (subst (λ (hs : List Holding). IsOnePlace false change (tree_at (subtrees f.tree) place) (get_or hs place not_worked_out) p) (ap holdings_of c.as_slice.ensures.value ∙ nodes_are)
-    (next change (names_in f.tree) (subtrees f.tree) staged)))
+pub returns-clause-step : goal.returns-clause-step
+returns-clause-step c =
+    IfSome_then c.next_place.result c.next_place.ensures.step
+    (λ p step change told cost begun.
+    stepped_by c.args.self.now c.self.inside.names.items c.self.inside.nodes.items c.self.invariant (ap (λ (v : FormulaValue). v.tree) c.self.view_is) (ap (λ (v : FormulaValue). v.nodes) c.self.view_is)
+    change c.args.inputs.now told c.args.changes.now cost begun _ (sym c.if-self.false ∙ ap (λ (v : FormulaValue). v.is_new) c.self.view_is) refl c.as_slice.ensures.value refl _ 1 _ _ (step change))
